@@ -1,0 +1,5 @@
+pub mod Packing
+pub mod Agreeing
+pub mod Masks
+pub mod Turning
+pub mod Locking

@@ -1,0 +1,43 @@
+-- What a need asks of each resource, when two needs conflict, and a need as a word.
+use Rattle.std.specs.Prelude.{ℕ, zero, suc, ◌<◌}
+use Rattle.std.specs.Int.{bit_at}
+use Rattle.tk_book.specs.Wants.{Wants}
+use Rattle.tk_book.specs.Words.{packed}
+
+pub data Access : Type 0 where
+  nothing : Access
+  reads : Access
+  writes : Access
+
+-- by the bits of the two masks: a write stands over a read
+abbrev pub access_of : ℕ → ℕ → Access
+access_of zero zero = nothing
+access_of (suc r) zero = reads
+access_of r (suc w) = writes
+
+-- what the need asks of resource i
+abbrev pub access : Wants → ℕ → Access
+access n i = access_of (bit_at n.reads i) (bit_at n.writes i)
+
+-- one of them writes what the other reads or writes
+abbrev pub Clash : Access → Access → Type 0
+Clash writes reads = Unit {0}
+Clash writes writes = Unit {0}
+Clash reads writes = Unit {0}
+Clash a b = ⊥
+
+abbrev pub Conflict : Wants → Wants → Type 0
+Conflict n m = (r : ℕ) × (r < 16) × Clash (access n r) (access m r)
+
+abbrev pub weight : Access → ℕ
+weight nothing = 0
+weight reads = 1
+weight writes = 15
+
+-- 15 for a write, 1 for a read, else 0
+abbrev pub lane : Wants → ℕ → ℕ
+lane n i = weight (access n i)
+
+-- the sixteen lanes as one word
+abbrev pub word_of : Wants → ℕ
+word_of n = packed 16 (lane n)

@@ -1,0 +1,89 @@
+//! What each seat holds, with no limit on their number.
+ghost use Rattle.std.specs.Prelude.{◌≡◌, ◌↔◌, IsTrue, IsFalse, IfOk, None, Some, replicate, slice_set};
+ghost use Rattle.std.specs.Prelude.{ℕ, ◌≤◌, All, is_some, count_by, sum_by};
+ghost use Rattle.tk_book.specs.Wants.{Wants};
+ghost use Rattle.tk_lanes.specs.Lanes.{Admits};
+ghost use Rattle.tk_book.specs.Needs.{word_of};
+ghost use Rattle.tk_book.specs.Held.{Agree, Lawful, MayTake, held_word};
+
+use crate::needs::Need;
+use std::alloc::{AllocError, Global};
+use std::marker::Model;
+
+/// One need or none for each seat, of which no two conflict.
+#[derive(Drop)]
+pub struct Holdings {
+    seats: Vec<Option<Need>>,
+}
+
+impl Model for Holdings {
+    ghost use Rattle.std.specs.Prelude.{List, Option};
+    ghost use Rattle.tk_book.specs.Wants.{Wants};
+
+    ghost Value = { List (Option Wants) };
+
+    ghost use Rattle.tk_book.specs.Held.{Lawful};
+
+    ghost view = { λ h. h.seats.items };
+
+    ghost invariant = { λ h. Lawful h.seats.items };
+}
+
+impl Holdings {
+    /// Seats that hold nothing.
+    pub fn new(alloc: Global, seats: usize) -> Result<Holdings, AllocError>
+        ensures { IfOk result (λ h. h ≡ replicate seats None) }
+    {
+        Ok(Holdings {
+            seats: Vec::from_elem(alloc, None, seats)?,
+        })
+    }
+
+    /// Gives `need` to the seat. It is refused where there is no such seat, where the seat holds a need, and where
+    /// another seat holds a need that conflicts with it.
+    pub fn grant(&mut self, seat: usize, need: Need) -> bool
+        ensures exactly { IsTrue result ↔ MayTake self.old seat need }
+        ensures granted { IsTrue result → self.new ≡ slice_set self.old seat (Some need) }
+        ensures refused { IsFalse result → self.new ≡ self.old }
+        ensures lawful { Lawful self.new }
+    {
+        if seat >= self.seats.len() || self.seats[seat].is_some() {
+            return false;
+        }
+        for held in &self.seats {
+            if let Some(other) = held {
+                if !need.is_compatible(*other) {
+                    return false;
+                }
+            }
+        }
+        self.seats[seat] = Some(need);
+        true
+    }
+
+    /// The seat holds nothing any more. Nothing changes where there is no such seat.
+    pub fn release(&mut self, seat: usize)
+        ensures empty { self.new ≡ slice_set self.old seat None }
+        ensures lawful { Lawful self.new }
+    {
+        if seat < self.seats.len() {
+            self.seats[seat] = None;
+        }
+    }
+
+    /// The sum of the words of what is held, where at most fourteen seats hold something. It admits a need exactly
+    /// where no seat's need conflicts with it.
+    pub fn word(&self) -> u64
+        requires few { count_by is_some self.now ≤ 14 }
+        ensures value { result ≡ sum_by held_word self.now }
+        ensures exactly { (n : Wants) → Admits result (word_of n) ↔ All (Agree (Some n)) self.now }
+    {
+        let mut word = 0;
+        for held in &self.seats {
+            if let Some(need) = held {
+                word += need.word();
+            }
+        }
+        word
+    }
+}

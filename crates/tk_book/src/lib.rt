@@ -1,0 +1,10 @@
+// What units of work need of sixteen resources, and the book in which workers take and give them back.
+#![tactic(auto)]
+
+mod books;
+mod grants;
+mod needs;
+
+pub use books::{Book, BookFault, BookSeat, Busy, MAX_SEATS};
+pub use grants::Holdings;
+pub use needs::Need;

@@ -1,0 +1,11 @@
+use Rattle.std.proofs.Common.{◌≡◌, ◌≤◌, sym, ◌∙◌, refl, arith, subst}
+use Rattle.std.proofs.lemmas.Result.{err_from_is_err_and}
+use Rattle.tk_ids.specs.IdText.{id_text}
+use Rattle.tk_ids.proofs.TableLemmas.{added_refused, grown, IsGrown}
+use Rattle.tk_ids.proofs.tables.Table.add.Goals as goal
+
+pub returns-in_err-id : goal.returns-in_err-id
+returns-in_err-id c =
+    let p = err_from_is_err_and c.from_residual.result c.from_residual.ensures.1 in
+    let invariant = c.self.invariant in
+    rw (p.1, p.2) (added_refused c.self.inside.by_text.entries c.args.self.now c.args.parent c.args.segment.now c.args.name.now c.args.dtype _ invariant.0 c.self.view_is c.in_err-id.ensures)

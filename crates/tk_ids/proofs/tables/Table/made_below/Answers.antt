@@ -1,0 +1,11 @@
+use Rattle.std.proofs.Common.{◌≡◌, ◌∷◌, ◌++◌, [], Some, option_map, slice_get, ap, sym, ◌∙◌}
+use Rattle.tk_ids.specs.Table.{id_below}
+use Rattle.tk_ids.proofs.tables.Table.made_below.Goals as goal
+
+pub returns-in_ok-descriptor-in-Some : goal.returns-in_ok-descriptor-in-Some
+returns-in_ok-descriptor-in-Some c =
+    let segment = c.args.segment.now in (
+      c.in_ok-descriptor-in-Some.descriptor.now.id ++ segment ∷ [],
+      ap (λ parent. id_below c.args.self.now parent segment) c.in-Some.is ∙ sym (ap (option_map (λ d. d.id ++ segment ∷ [])) c.in_ok-descriptor-in-Some.ensures),
+      c.append.ensures,
+    )

@@ -1,0 +1,41 @@
+-- What reading a text answers.
+use Rattle.std.specs.Prelude.{◌≡◌, ℕ, ◌<◌, List, [], ◌⊎◌, length, take, Result, Ok, Err}
+use Rattle.tk_ids.specs.declared.ids.IdFault.{IdFault}
+use Rattle.tk_ids.specs.declared.ids.IdFault.TheVariants.{Empty, BadSegment, BadEscape, TooLong, Memory}
+use Rattle.tk_ids.specs.Prefix.{IsLongestFront}
+use Rattle.tk_ids.specs.IdText.{Pair, IsId, IsIdText, id_text, FitsLimits, EndsInEscape}
+
+-- a text that is no id's and isn't empty, which goes along with an id's text for `at` bytes and no more
+pub record IsBadAt (text : List ℕ) (at : ℕ) : Type 0 where
+  pub some : 0 < length text
+  pub no_id : ¬ IsIdText text
+  pub front : IsLongestFront IsIdText text at
+
+-- the answer to a text; want of memory may come at any
+abbrev pub IsReadAs : List ℕ → Result (List Pair) IdFault → Type 0
+IsReadAs text (Ok id) = IsId id × (text ≡ id_text id) × FitsLimits id
+IsReadAs text (Err Empty) = text ≡ []
+IsReadAs text (Err (BadSegment at)) = IsBadAt text at × ¬ EndsInEscape (take at text)
+IsReadAs text (Err (BadEscape at)) = IsBadAt text at × EndsInEscape (take at text)
+IsReadAs text (Err TooLong) = (id : List Pair) × IsId id × (text ≡ id_text id) × ¬ FitsLimits id
+IsReadAs text (Err Memory) = Unit {0}
+
+-- the fault of a text that goes wrong behind this front
+abbrev pub IsFaultBehind : List ℕ → IdFault → Type 0
+IsFaultBehind front (BadSegment at) = (at ≡ length front) × ¬ EndsInEscape front
+IsFaultBehind front (BadEscape at) = (at ≡ length front) × EndsInEscape front
+IsFaultBehind front _ = ⊥
+
+-- what making a segment of a tag and a value answers; want of memory may come at any
+abbrev pub IsSegmentOf : List ℕ → List ℕ → Result Pair IdFault → Type 0
+IsSegmentOf tag value (Ok s) = (s ≡ record { tag = tag; value = value }) × (0 < length tag) × (0 < length value)
+IsSegmentOf tag value (Err Empty) = (tag ≡ []) ⊎ (value ≡ [])
+IsSegmentOf tag value (Err Memory) = Unit {0}
+IsSegmentOf tag value (Err _) = ⊥
+
+-- what making an id of these segments answers; want of memory may come at any
+abbrev pub IsMadeOf : List Pair → Result (List Pair) IdFault → Type 0
+IsMadeOf segments (Ok id) = (id ≡ segments) × FitsLimits segments
+IsMadeOf segments (Err TooLong) = ¬ FitsLimits segments
+IsMadeOf segments (Err Memory) = Unit {0}
+IsMadeOf segments (Err _) = ⊥

@@ -1,0 +1,82 @@
+-- The table of descriptors, as a list.
+use Rattle.std.specs.Prelude.{◌≡◌, ℕ, ◌≤◌, ◌<◌, List, [], ◌∷◌, ◌++◌, length, map, Option, Some, None, option_map, slice_get, Result, Ok, Err}
+use Rattle.tk_ids.specs.declared.tables.TheConstants.{MAX_DESCRIPTORS}
+use Rattle.std.specs.List.{AllByRecursion}
+use Rattle.tk_ids.specs.declared.ids.IdFault.{IdFault}
+use Rattle.tk_ids.specs.declared.ids.IdFault.TheVariants as id_faults
+use Rattle.tk_ids.specs.declared.tables.DType.{DType}
+use Rattle.tk_ids.specs.declared.tables.DType.TheVariants.{Container, Test, Both}
+use Rattle.tk_ids.specs.declared.tables.Descriptor.{Descriptor}
+use Rattle.tk_ids.specs.declared.tables.TableFault.{TableFault}
+use Rattle.tk_ids.specs.declared.tables.TableFault.TheVariants.{NoParent, Twice, Full, Id, Memory}
+use Rattle.tk_ids.specs.IdText.{Pair, IsId, id_text, FitsLimits, front_of}
+
+abbrev pub IsTest : DType → Type 0
+IsTest Container = ⊥
+IsTest Test = Unit {0}
+IsTest Both = Unit {0}
+
+abbrev pub IsContainer : DType → Type 0
+IsContainer Container = Unit {0}
+IsContainer Test = ⊥
+IsContainer Both = Unit {0}
+
+abbrev pub ids_of : List Descriptor → List (List Pair)
+ids_of table = map (λ d. d.id) table
+
+-- some descriptor has the id
+abbrev pub HasId : List Descriptor → List Pair → Type 0
+HasId table id = (key : ℕ) × (slice_get (ids_of table) key ≡ Some id)
+
+-- no two descriptors have one id
+abbrev pub AreDifferent : List Descriptor → Type 0
+AreDifferent table = (j k : ℕ) (id : List Pair) → slice_get (ids_of table) j ≡ Some id → slice_get (ids_of table) k ≡ Some id → j ≡ k
+
+-- the id of a child of this parent, or of a root; none where there is no such parent
+abbrev pub id_below : List Descriptor → Option ℕ → Pair → Option (List Pair)
+id_below table None segment = Some (segment ∷ [])
+id_below table (Some parent) segment = option_map (λ d. d.id ++ segment ∷ []) (slice_get table parent)
+
+-- what making that id answers, at a table that may be full; want of memory may come at any
+abbrev pub IsIdBelow : List Descriptor → Option ℕ → Pair → Result (List Pair) TableFault → Type 0
+IsIdBelow table parent segment (Ok id) = (id_below table parent segment ≡ Some id) × FitsLimits id
+IsIdBelow table parent segment (Err NoParent) = id_below table parent segment ≡ None
+IsIdBelow table parent segment (Err Twice) = ⊥
+IsIdBelow table parent segment (Err Full) = (id : List Pair) × (id_below table parent segment ≡ Some id) × ¬ (FitsLimits id) × (length table ≡ MAX_DESCRIPTORS)
+IsIdBelow table parent segment (Err (Id id_faults.TooLong)) = (id : List Pair) × (id_below table parent segment ≡ Some id) × ¬ (FitsLimits id) × (length table < MAX_DESCRIPTORS)
+IsIdBelow table parent segment (Err (Id _)) = ⊥
+IsIdBelow table parent segment (Err Memory) = Unit {0}
+
+-- What adding a descriptor answers, and the table after it. Want of memory may come at any.
+abbrev pub IsAddedAs : List Descriptor → List Descriptor → Option ℕ → Pair → List ℕ → DType → Result ℕ TableFault → Type 0
+IsAddedAs old new parent segment name dtype (Ok key) =
+    (id : List Pair) × (id_below old parent segment ≡ Some id) × FitsLimits id × ¬ (HasId old id) × (length old < MAX_DESCRIPTORS) × (key ≡ length old) × (new ≡ old ++ record { id = id; name = name; dtype = dtype } ∷ [])
+IsAddedAs old new parent segment name dtype (Err NoParent) = (id_below old parent segment ≡ None) × (new ≡ old)
+IsAddedAs old new parent segment name dtype (Err Twice) = (id : List Pair) × (id_below old parent segment ≡ Some id) × HasId old id × (new ≡ old)
+IsAddedAs old new parent segment name dtype (Err Full) = (id : List Pair) × (id_below old parent segment ≡ Some id) × ¬ (HasId old id) × (length old ≡ MAX_DESCRIPTORS) × (new ≡ old)
+IsAddedAs old new parent segment name dtype (Err (Id id_faults.TooLong)) = (id : List Pair) × (id_below old parent segment ≡ Some id) × ¬ (FitsLimits id) × (length old < MAX_DESCRIPTORS) × (new ≡ old)
+IsAddedAs old new parent segment name dtype (Err (Id _)) = ⊥
+IsAddedAs old new parent segment name dtype (Err Memory) = new ≡ old
+
+-- the entries of the table's map: each descriptor by the text of its id
+abbrev pub IsKept : List ℕ × Descriptor → Type 0
+IsKept e = (e.0 ≡ id_text e.1.id) × IsId e.1.id × FitsLimits e.1.id
+
+-- the id is a root's, or a descriptor has the id without its last segment
+abbrev pub HasParent : List Descriptor → List Pair → Type 0
+HasParent table id = 1 < length id → HasId table (front_of id)
+
+-- the descriptor may stand behind these
+pub record TakesNext (table : List Descriptor) (d : Descriptor) : Type 0 where
+  pub parent : HasParent table d.id
+  pub absent : ¬ HasId table d.id
+  pub room : length table < MAX_DESCRIPTORS
+
+-- What putting a descriptor at the end answers, and the table after it. Want of memory may come at any.
+abbrev pub IsInsertedAs : List Descriptor → List Descriptor → Descriptor → Result ℕ TableFault → Type 0
+IsInsertedAs old new d (Ok key) = TakesNext old d × (key ≡ length old) × (new ≡ old ++ d ∷ [])
+IsInsertedAs old new d (Err NoParent) = ¬ HasParent old d.id × (new ≡ old)
+IsInsertedAs old new d (Err Twice) = HasParent old d.id × HasId old d.id × (new ≡ old)
+IsInsertedAs old new d (Err Full) = HasParent old d.id × ¬ (HasId old d.id) × (length old ≡ MAX_DESCRIPTORS) × (new ≡ old)
+IsInsertedAs old new d (Err (Id _)) = ⊥
+IsInsertedAs old new d (Err Memory) = new ≡ old

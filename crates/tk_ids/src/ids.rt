@@ -1,0 +1,305 @@
+//! Unique ids.
+ghost use Rattle.std.specs.Prelude.{◌≡◌, ℕ, List, MatchOption, IfOk, IfErr, IsOk, OnOk, length, [], ◌∷◌, ◌++◌, ◌<◌, ◌⊎◌, IsTrue, ◌↔◌};
+ghost use Rattle.tk_ids.specs.IdText.{EndsInEscape};
+ghost use Rattle.tk_ids.specs.Answer.{IsFaultBehind};
+
+use crate::reading::{Place, Reader};
+use crate::texts::Text;
+use crate::writing::push_segment;
+use std::alloc::{AllocError, AllocFailed, Global};
+use std::marker::Model;
+
+/// Why there is no id.
+#[derive(Debug, Clone, Copy, PartialEq, Eq)]
+pub enum IdFault {
+    /// A text is empty that may not be.
+    Empty,
+    /// The text is no id's from here on.
+    BadSegment(usize),
+    /// The text is no id's from here on, within an escape.
+    BadEscape(usize),
+    /// The text is longer than `MAX_BYTES`, or has more segments than `MAX_SEGMENTS`.
+    TooLong,
+    /// Memory was refused.
+    Memory,
+}
+
+impl<T: Drop> From<AllocFailed<T>> for IdFault {
+    ghost use Rattle.tk_ids.specs.declared.ids.IdFault.TheVariants.{Memory};
+
+    ghost from_gives = { λ _ e. e ≡ Memory };
+
+    fn from(_: AllocFailed<T>) -> IdFault {
+        IdFault::Memory
+    }
+}
+
+impl From<AllocError> for IdFault {
+    ghost use Rattle.tk_ids.specs.declared.ids.IdFault.TheVariants.{Memory};
+
+    ghost from_gives = { λ _ e. e ≡ Memory };
+
+    fn from(_: AllocError) -> IdFault {
+        IdFault::Memory
+    }
+}
+
+/// How many bytes the text of an id has at most.
+pub const MAX_BYTES: usize = 4096;
+
+/// How many segments an id has at most.
+pub const MAX_SEGMENTS: usize = 64;
+
+/// A tag and a value, neither of them empty.
+#[derive(Debug, Drop)]
+pub struct Segment {
+    tag: Text,
+    value: Text,
+}
+
+impl Model for Segment {
+    ghost use Rattle.tk_ids.specs.IdText.{Pair, IsPart};
+
+    ghost Value = { Pair };
+
+    ghost view = { λ s. record { tag = s.tag; value = s.value } };
+
+    ghost invariant = { λ s. IsPart s.tag × IsPart s.value };
+}
+
+impl Segment {
+    ghost use Rattle.tk_ids.specs.IdText.{IsPart};
+    ghost use Rattle.tk_ids.specs.Answer.{IsSegmentOf};
+
+    pub(crate) fn of_parts(tag: Text, value: Text) -> Segment
+        requires tag { IsPart tag }
+        requires value { IsPart value }
+        ensures { result ≡ record { tag = tag; value = value } }
+    {
+        Segment { tag, value }
+    }
+
+    /// A segment with this tag and this value.
+    pub fn new(alloc: Global, tag: &str, value: &str) -> Result<Segment, IdFault>
+        ensures { IsSegmentOf tag.now value.now result }
+    {
+        if tag.is_empty() || value.is_empty() {
+            return Err(IdFault::Empty);
+        }
+        Ok(Segment {
+            tag: Text::copy(alloc, tag)?,
+            value: Text::copy(alloc, value)?,
+        })
+    }
+
+    /// Another segment with the same tag and value.
+    pub fn try_clone(&self) -> Result<Segment, AllocError>
+        ensures { IfOk result (λ s. s ≡ self.now) }
+    {
+        Ok(Segment {
+            tag: self.tag.try_clone()?,
+            value: self.value.try_clone()?,
+        })
+    }
+
+    pub fn tag(&self) -> &str
+        ensures value { result.now ≡ self.now.tag }
+        ensures part { IsPart result.now }
+    {
+        self.tag.as_str()
+    }
+
+    pub fn value(&self) -> &str
+        ensures value { result.now ≡ self.now.value }
+        ensures part { IsPart result.now }
+    {
+        self.value.as_str()
+    }
+}
+
+/// The path of a descriptor from its root: one segment or more.
+#[derive(Debug, Drop)]
+pub struct UniqueId {
+    text: Text,
+    segments: Vec<Segment>,
+}
+
+impl Model for UniqueId {
+    ghost use Rattle.std.specs.Prelude.{◌≡◌, List};
+    ghost use Rattle.tk_ids.specs.IdText.{Pair, IsId, id_text, FitsLimits};
+
+    ghost Value = { List Pair };
+
+    ghost view = { λ u. u.segments.items };
+
+    ghost invariant = { λ u. IsId u.segments.items × (u.text ≡ id_text u.segments.items) × FitsLimits u.segments.items };
+}
+
+/// The same segments once more.
+fn copies(alloc: Global, segments: &[Segment]) -> Result<Vec<Segment>, AllocError>
+    ensures { IfOk result (λ v. v.items ≡ segments.now) }
+{
+    let mut copied = Vec::new(alloc);
+    for segment in segments {
+        copied.push(segment.try_clone()?)?;
+    }
+    Ok(copied)
+}
+
+/// Whether a text ends within an escape.
+fn ends_in_escape(front: &[u8]) -> bool
+    ensures { IsTrue result ↔ EndsInEscape front.now }
+{
+    let n = front.len();
+    (n >= 1 && front[n - 1] == b'%') || (n >= 2 && front[n - 2] == b'%')
+}
+
+/// The fault of a text that goes wrong behind this front.
+fn fault_behind(front: &[u8]) -> IdFault
+    ensures { IsFaultBehind front.now result }
+{
+    if ends_in_escape(front) {
+        IdFault::BadEscape(front.len())
+    } else {
+        IdFault::BadSegment(front.len())
+    }
+}
+
+impl UniqueId {
+    ghost use Rattle.tk_ids.specs.IdText.{IsId, id_text, IsEngine, FitsLimits, front_of};
+    ghost use Rattle.tk_ids.specs.Answer.{IsReadAs, IsMadeOf};
+
+    /// The id that a text spells.
+    pub fn read(alloc: Global, text: &str) -> Result<UniqueId, IdFault>
+        ensures { IsReadAs text.now result }
+    {
+        let bytes = text.as_bytes();
+        if bytes.is_empty() {
+            return Err(IdFault::Empty);
+        }
+        let mut reader = Reader::new(alloc);
+        for (at, byte) in bytes.iter().enumerate() {
+            match reader.feed(alloc, *byte)? {
+                Some(next) => reader = next,
+                None => return Err(fault_behind(&bytes[..at])),
+            }
+        }
+        let Reader { segments, place } = reader;
+        if !matches!(place, Place::Behind) {
+            return Err(fault_behind(bytes));
+        }
+        if bytes.len() > MAX_BYTES || segments.len() > MAX_SEGMENTS {
+            return Err(IdFault::TooLong);
+        }
+        let text = Text::copy(alloc, text)?;
+        Ok(UniqueId { text, segments })
+    }
+
+    /// The id's text.
+    pub fn write(&self) -> Result<Text, AllocError>
+        ensures text { IfOk result (λ t. t ≡ id_text self.now) }
+        // What every id is.
+        ensures id { IsId self.now }
+        ensures fits { FitsLimits self.now }
+    {
+        self.text.try_clone()
+    }
+
+    /// The id's text, as it is kept.
+    pub fn as_text(&self) -> &Text
+        ensures text { result.now ≡ id_text self.now }
+        // What every id is.
+        ensures id { IsId self.now }
+        ensures fits { FitsLimits self.now }
+    {
+        &self.text
+    }
+
+    /// The segments, from the root's on.
+    pub fn segments(&self) -> &[Segment]
+        ensures { result.now ≡ self.now }
+    {
+        self.segments.as_slice()
+    }
+
+    /// Whether the id is one segment with the tag `engine`.
+    pub fn is_engine(&self) -> bool
+        ensures { IsTrue result ↔ IsEngine self.now }
+    {
+        match self.segments.as_slice() {
+            [segment] => segment.tag() == "engine",
+            _ => false,
+        }
+    }
+
+    /// Another id with the same segments.
+    pub fn try_clone(&self, alloc: Global) -> Result<UniqueId, AllocError>
+        ensures { IfOk result (λ id. id ≡ self.now) }
+    {
+        Ok(UniqueId {
+            text: self.text.try_clone()?,
+            segments: copies(alloc, self.segments.as_slice())?,
+        })
+    }
+
+    /// The id without its last segment, where it has more than one.
+    pub fn parent(&self, alloc: Global) -> Result<Option<UniqueId>, AllocError>
+        ensures { IfOk result (λ parent. MatchOption parent (length self.now ≡ 1) (λ p. (1 < length self.now) × (p ≡ front_of self.now))) }
+    {
+        let segments = self.segments.as_slice();
+        let count = segments.len() - 1;
+        if count == 0 {
+            return Ok(None);
+        }
+        let mut last = Vec::new(alloc);
+        push_segment(&mut last, &segments[count])?;
+        let bytes = self.text.as_str().as_bytes();
+        let front = Vec::from_slice(alloc, &bytes[..bytes.len() - last.len() - 1])?;
+        let segments = copies(alloc, &segments[..count])?;
+        Ok(Some(UniqueId {
+            text: Text::from_utf8(front),
+            segments,
+        }))
+    }
+
+    /// The id of one segment.
+    pub fn of(alloc: Global, segment: &Segment) -> Result<UniqueId, IdFault>
+        ensures { IsMadeOf (segment.now ∷ []) result }
+    {
+        let mut bytes = Vec::new(alloc);
+        push_segment(&mut bytes, segment)?;
+        if bytes.len() > MAX_BYTES {
+            return Err(IdFault::TooLong);
+        }
+        let mut segments = Vec::new(alloc);
+        segments.push(segment.try_clone()?)?;
+        Ok(UniqueId {
+            text: Text::from_utf8(bytes),
+            segments,
+        })
+    }
+
+    /// The text of the id with one segment more.
+    fn text_with(&self, alloc: Global, segment: &Segment) -> Result<Text, AllocError>
+        ensures text { IfOk result (λ t. t ≡ id_text (self.now ++ segment.now ∷ [])) }
+        ensures id { OnOk result (IsId (self.now ++ segment.now ∷ [])) }
+    {
+        let mut bytes = Vec::from_slice(alloc, self.text.as_str().as_bytes())?;
+        bytes.push(b'/')?;
+        push_segment(&mut bytes, segment)?;
+        Ok(Text::from_utf8(bytes))
+    }
+
+    /// The id with one segment more.
+    pub fn append(&self, alloc: Global, segment: &Segment) -> Result<UniqueId, IdFault>
+        ensures { IsMadeOf (self.now ++ segment.now ∷ []) result }
+    {
+        let text = self.text_with(alloc, segment)?;
+        if text.len() > MAX_BYTES || self.segments.len() >= MAX_SEGMENTS {
+            return Err(IdFault::TooLong);
+        }
+        let mut segments = copies(alloc, self.segments.as_slice())?;
+        segments.push(segment.try_clone()?)?;
+        Ok(UniqueId { text, segments })
+    }
+}

@@ -1,0 +1,258 @@
+//! The table of static descriptors.
+ghost use Rattle.std.specs.Prelude.{◌≡◌, ◌↔◌, ℕ, List, [], length, IsTrue, IfOk, IfSome, IfNone, Some, slice_get, None, MatchOption, ◌≤◌, ◌<◌, ◌∷◌, ◌++◌, OnOk, OnErr};
+ghost use Rattle.std.specs.Option.{option_copied};
+ghost use Rattle.tk_ids.specs.declared.tables.TheConstants.{MAX_DESCRIPTORS};
+
+use crate::ids::{IdFault, Segment, UniqueId};
+use crate::texts::Text;
+use indexmap::IndexMap;
+use std::alloc::{AllocError, AllocFailed, Global};
+use std::marker::Model;
+
+/// What a descriptor may have in it.
+#[derive(Clone, Copy, PartialEq, Eq, Debug)]
+pub enum DType {
+    Container,
+    Test,
+    Both,
+}
+
+impl DType {
+    ghost use Rattle.tk_ids.specs.Table.{IsTest, IsContainer};
+
+    pub fn is_test(self) -> bool
+        ensures { IsTrue result ↔ IsTest self }
+    {
+        matches!(self, DType::Test | DType::Both)
+    }
+
+    pub fn is_container(self) -> bool
+        ensures { IsTrue result ↔ IsContainer self }
+    {
+        matches!(self, DType::Container | DType::Both)
+    }
+}
+
+/// A test or a container.
+#[derive(Debug, Drop)]
+pub struct Descriptor {
+    pub id: UniqueId,
+    pub name: Text,
+    pub dtype: DType,
+}
+
+impl Descriptor {
+    /// Another descriptor with the same contents.
+    pub fn try_clone(&self, alloc: Global) -> Result<Descriptor, AllocError>
+        ensures { IfOk result (λ d. d ≡ self.now) }
+    {
+        Ok(Descriptor {
+            id: self.id.try_clone(alloc)?,
+            name: self.name.try_clone()?,
+            dtype: self.dtype,
+        })
+    }
+}
+
+/// Why a descriptor isn't added.
+#[derive(Clone, Copy, Debug, PartialEq, Eq)]
+pub enum TableFault {
+    /// There is no such parent.
+    NoParent,
+    /// The id is there.
+    Twice,
+    /// There are `MAX_DESCRIPTORS` descriptors.
+    Full,
+    /// There is no such id.
+    Id(IdFault),
+    /// Memory was refused.
+    Memory,
+}
+
+impl<T: Drop> From<AllocFailed<T>> for TableFault {
+    ghost use Rattle.tk_ids.specs.declared.tables.TableFault.TheVariants.{Memory};
+
+    ghost from_gives = { λ _ e. e ≡ Memory };
+
+    fn from(_: AllocFailed<T>) -> TableFault {
+        TableFault::Memory
+    }
+}
+
+impl From<AllocError> for TableFault {
+    ghost use Rattle.tk_ids.specs.declared.tables.TableFault.TheVariants.{Memory};
+
+    ghost from_gives = { λ _ e. e ≡ Memory };
+
+    fn from(_: AllocError) -> TableFault {
+        TableFault::Memory
+    }
+}
+
+/// How many descriptors a table has at most.
+pub const MAX_DESCRIPTORS: usize = 65536;
+
+/// Descriptors with different ids. A descriptor's key is its place.
+#[derive(Drop)]
+pub struct Table {
+    by_text: IndexMap<Text, Descriptor>,
+}
+
+impl Model for Table {
+    ghost use Rattle.std.specs.Prelude.{◌≤◌, List, length};
+    ghost use Rattle.std.specs.List.{AllByRecursion};
+    ghost use Rattle.indexmap.specs.IndexMap.{values};
+    ghost use Rattle.tk_ids.specs.declared.tables.TheConstants.{MAX_DESCRIPTORS};
+    ghost use Rattle.tk_ids.specs.declared.tables.Descriptor.{Descriptor};
+
+    ghost Value = { List Descriptor };
+
+    ghost use Rattle.tk_ids.specs.Table.{IsKept};
+
+    ghost view = { λ t. values t.by_text };
+
+    ghost invariant = { λ t. AllByRecursion IsKept t.by_text.entries × (length t.by_text.entries ≤ MAX_DESCRIPTORS) };
+}
+
+impl Table {
+    ghost use Rattle.tk_ids.specs.Table.{ids_of, HasId, AreDifferent, id_below, IsIdBelow, IsAddedAs, HasParent, IsInsertedAs};
+    ghost use Rattle.tk_ids.specs.IdText.{Pair};
+    ghost use Rattle.tk_ids.specs.Answer.{IsMadeOf};
+
+    /// A table with no descriptor.
+    pub fn new(alloc: Global) -> Table
+        ensures { result ≡ [] }
+    {
+        Table {
+            by_text: IndexMap::new(alloc),
+        }
+    }
+
+    pub fn len(&self) -> usize
+        ensures len { result ≡ length self.now }
+        ensures limit { result ≤ MAX_DESCRIPTORS }
+    {
+        self.by_text.len()
+    }
+
+    /// The descriptor with this key.
+    pub fn get(&self, key: u32) -> Option<&Descriptor>
+        ensures { option_copied result ≡ slice_get self.now key }
+    {
+        let (_, descriptor) = self.by_text.get_index(key as usize)?;
+        Some(descriptor)
+    }
+
+    /// The key of the descriptor with this id.
+    pub fn find(&self, id: &UniqueId) -> Option<u32>
+        ensures found { IfSome result (λ key. slice_get (ids_of self.now) key ≡ Some id.now) }
+        ensures none { IfNone result (¬ HasId self.now id.now) }
+        ensures different { AreDifferent self.now }
+    {
+        let index = self.by_text.get_index_of(id.as_text())?;
+        Some(index as u32)
+    }
+
+    /// The id of a child of this parent, or of a root; nothing where there is no such parent.
+    fn made_below(
+        &self,
+        alloc: Global,
+        parent: Option<u32>,
+        segment: &Segment,
+    ) -> Option<Result<UniqueId, IdFault>>
+        ensures { MatchOption result (id_below self.now parent segment.now ≡ None)
+            (λ made. (id : List Pair) × (id_below self.now parent segment.now ≡ Some id) × IsMadeOf id made) }
+    {
+        match parent {
+            None => Some(UniqueId::of(alloc, segment)),
+            Some(key) => {
+                let descriptor = self.get(key)?;
+                Some(descriptor.id.append(alloc, segment))
+            }
+        }
+    }
+
+    /// The same, with the fault of the table.
+    fn id_below(
+        &self,
+        alloc: Global,
+        parent: Option<u32>,
+        segment: &Segment,
+    ) -> Result<UniqueId, TableFault>
+        ensures { IsIdBelow self.now parent segment.now result }
+    {
+        match self.made_below(alloc, parent, segment) {
+            None => Err(TableFault::NoParent),
+            Some(Ok(id)) => Ok(id),
+            Some(Err(IdFault::Memory)) => Err(TableFault::Memory),
+            Some(Err(_)) if self.len() >= MAX_DESCRIPTORS => Err(TableFault::Full),
+            Some(Err(fault)) => Err(TableFault::Id(fault)),
+        }
+    }
+
+    /// Puts a descriptor with a new id at the end.
+    fn push(&mut self, descriptor: Descriptor) -> Result<(), AllocError>
+        requires absent { ¬ HasId self.old descriptor.id }
+        requires room { length self.old < MAX_DESCRIPTORS }
+        ensures ok { OnOk result (self.new ≡ self.old ++ descriptor ∷ []) }
+        ensures err { OnErr result (self.new ≡ self.old) }
+    {
+        let text = descriptor.id.write()?;
+        self.by_text.insert(text, descriptor)?;
+        Ok(())
+    }
+
+    /// Adds a descriptor below its parent, or as a root, and gives its key.
+    pub fn add(
+        &mut self,
+        alloc: Global,
+        parent: Option<u32>,
+        segment: &Segment,
+        name: &str,
+        dtype: DType,
+    ) -> Result<u32, TableFault>
+        ensures { IsAddedAs self.old self.new parent segment.now name.now dtype result }
+    {
+        let _entries = &self.by_text;
+        let id = self.id_below(alloc, parent, segment)?;
+        if self.find(&id).is_some() {
+            return Err(TableFault::Twice);
+        }
+        let key = self.len();
+        if key >= MAX_DESCRIPTORS {
+            return Err(TableFault::Full);
+        }
+        let name = Text::copy(alloc, name)?;
+        self.push(Descriptor { id, name, dtype })?;
+        Ok(key as u32)
+    }
+
+    /// Whether the id is a root's, or the table has the id above it.
+    fn has_parent(&self, alloc: Global, id: &UniqueId) -> Result<bool, AllocError>
+        ensures { IfOk result (λ has. IsTrue has ↔ HasParent self.now id.now) }
+    {
+        match id.parent(alloc)? {
+            None => Ok(true),
+            Some(parent) => Ok(self.find(&parent).is_some()),
+        }
+    }
+
+    /// Puts a descriptor at the end, and gives its key.
+    pub fn insert(&mut self, alloc: Global, descriptor: Descriptor) -> Result<u32, TableFault>
+        ensures { IsInsertedAs self.old self.new descriptor result }
+    {
+        let _entries = &self.by_text;
+        if !self.has_parent(alloc, &descriptor.id)? {
+            return Err(TableFault::NoParent);
+        }
+        if self.find(&descriptor.id).is_some() {
+            return Err(TableFault::Twice);
+        }
+        let key = self.len();
+        if key >= MAX_DESCRIPTORS {
+            return Err(TableFault::Full);
+        }
+        self.push(descriptor)?;
+        Ok(key as u32)
+    }
+}

@@ -1,0 +1,35 @@
+//! Writing the text of an id.
+ghost use Rattle.std.specs.Prelude.{◌≡◌, ◌++◌, OnOk};
+ghost use Rattle.tk_ids.specs.IdText.{escaped, segment_text, IsSegment};
+
+use crate::ids::Segment;
+use crate::reading::digits_of_byte;
+use std::alloc::AllocError;
+
+/// Writes a tag or a value with its escapes.
+fn push_escaped(out: &mut Vec<u8>, text: &str) -> Result<(), AllocError>
+    ensures { OnOk result (out.new.items ≡ out.old.items ++ escaped text.now) }
+{
+    for byte in text.as_bytes() {
+        match digits_of_byte(*byte) {
+            None => out.push(*byte)?,
+            Some((first, second)) => out.extend_from_slice(&[b'%', first, second])?,
+        }
+    }
+    Ok(())
+}
+
+/// Writes `[tag:value]`.
+pub(crate) fn push_segment(out: &mut Vec<u8>, segment: &Segment) -> Result<(), AllocError>
+    ensures ok { OnOk result (out.new.items ≡ out.old.items ++ segment_text segment.now) }
+    // What every segment is.
+    ensures segment { IsSegment segment.now }
+{
+    let (tag, value) = (segment.tag(), segment.value());
+    out.push(b'[')?;
+    push_escaped(out, tag)?;
+    out.push(b':')?;
+    push_escaped(out, value)?;
+    out.push(b']')?;
+    Ok(())
+}

@@ -1,0 +1,10 @@
+pub mod Blocks
+pub mod Counts
+pub mod Lanes
+pub mod Nibbles
+pub mod Picking
+pub mod Places
+pub mod Search
+pub mod Views
+pub mod Words
+pub mod Writes

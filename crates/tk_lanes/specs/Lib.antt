@@ -1,0 +1,5 @@
+pub mod Bits
+pub mod Flags
+pub mod Lanes
+pub mod Lists
+pub mod Picks

@@ -1,0 +1,150 @@
+//! A set of positions of a column, which a contract sees as one flag for each position.
+ghost use Rattle.std.specs.Prelude.{◌≡◌, ◌≤◌, ◌<◌, ◌^◌, ◌*◌, ◌==◌, ◌&&◌, not, true, length, map, replicate, take, drop, count_by, IfOk, IfSome, MatchOption};
+ghost use Rattle.std.specs.Simd.Lanes.{zip2};
+ghost use Rattle.std.specs.List.{items_where_true};
+ghost use Rattle.tk_lanes.specs.Bits.{shares_bit};
+ghost use Rattle.tk_lanes.specs.Lists.{places};
+ghost use Rattle.tk_lanes.specs.Flags.{IsNextSet, IsNoneSet};
+
+use std::alloc::{AllocError, Global};
+use std::marker::Model;
+
+#[derive(Drop)]
+pub struct Flags {
+    words: Vec<u64>,
+    len: usize,
+}
+
+impl Model for Flags {
+    ghost use Rattle.std.specs.Prelude.{Bool, List, ◌≤◌, ◌^◌};
+    ghost use Rattle.tk_lanes.specs.Bits.{first_bits, HoldsFlags};
+
+    ghost Value = { List Bool };
+
+    ghost view = { λ f. first_bits f.len f.words.items };
+
+    ghost invariant = { λ f. (HoldsFlags (first_bits f.len f.words.items) f.words.items) × (f.len ≤ 2 ^ 32) };
+}
+
+impl Flags {
+    /// Which bytes of a column equal the value.
+    pub fn of_byte(alloc: Global, column: &[u8], value: u8) -> Result<Flags, AllocError>
+        requires { length column.now ≤ 2 ^ 32 }
+        ensures { IfOk result (λ flags. flags ≡ map (λ x. x == value) column.now) }
+    {
+        let len = column.len();
+        let mut words = Vec::from_elem(alloc, 0u64, len.div_ceil(64))?;
+        crate::mask_byte(column, value, &mut words);
+        Ok(Flags { words, len })
+    }
+
+    /// Which bytes of a column have a common one bit with the value.
+    pub fn of_flag(alloc: Global, column: &[u8], value: u8) -> Result<Flags, AllocError>
+        requires { length column.now ≤ 2 ^ 32 }
+        ensures { IfOk result (λ flags. flags ≡ map (λ x. shares_bit x value) column.now) }
+    {
+        let len = column.len();
+        let mut words = Vec::from_elem(alloc, 0u64, len.div_ceil(64))?;
+        crate::mask_flag(column, value, &mut words);
+        Ok(Flags { words, len })
+    }
+
+    /// Which numbers of a column equal the value.
+    pub fn of_number(alloc: Global, column: &[u32], value: u32) -> Result<Flags, AllocError>
+        requires { length column.now ≤ 2 ^ 32 }
+        ensures { IfOk result (λ flags. flags ≡ map (λ x. x == value) column.now) }
+    {
+        let len = column.len();
+        let mut words = Vec::from_elem(alloc, 0u64, len.div_ceil(64))?;
+        crate::mask_u32(column, value, &mut words);
+        Ok(Flags { words, len })
+    }
+
+    /// A set flag for each of so many positions.
+    pub fn all(alloc: Global, len: usize) -> Result<Flags, AllocError>
+        requires { len ≤ 2 ^ 32 }
+        ensures { IfOk result (λ flags. flags ≡ replicate len true) }
+    {
+        let mut words = Vec::from_elem(alloc, 0u64, len.div_ceil(64))?;
+        crate::not_into(&mut words, len);
+        Ok(Flags { words, len })
+    }
+
+    pub fn len(&self) -> usize
+        ensures value { result ≡ length self.now }
+        ensures bound { result ≤ 2 ^ 32 }
+    {
+        self.len
+    }
+
+    /// How many flags are set.
+    pub fn count(&self) -> usize
+        ensures { result ≡ count_by (λ flag. flag) self.now }
+    {
+        crate::ones(&self.words)
+    }
+
+    /// Keeps the flags that the other has too.
+    pub fn and(&mut self, other: &Flags)
+        requires { length self.old ≡ length other.now }
+        ensures { self.new ≡ zip2 ◌&&◌ self.old other.now }
+    {
+        crate::and_into(&mut self.words, &other.words);
+    }
+
+    /// Turns each flag over.
+    pub fn invert(&mut self)
+        ensures { self.new ≡ map not self.old }
+    {
+        crate::not_into(&mut self.words, self.len);
+    }
+
+    /// The first position from the given one on whose flag is set.
+    pub fn first_from(&self, from: usize) -> Option<usize>
+        ensures value { MatchOption result (IsNoneSet from self.now) (IsNextSet from self.now) }
+        ensures bound { IfSome result (λ at. (at < length self.now) × (at < 2 ^ 32)) }
+    {
+        crate::first_from(&self.words, from)
+    }
+
+    /// The bytes of the column at the set flags among the 64 from the given block on, at the front
+    /// of a buffer, and how many they are.
+    pub fn gather(&self, column: &[u8], block: usize, buffer: &mut [u8; 64]) -> usize
+        requires size { length column.now ≡ length self.now }
+        requires within { 64 * block < length self.now }
+        ensures count { result ≤ 64 }
+        ensures picked { take result buffer.new ≡ items_where_true (take 64 (drop (64 * block) self.now)) (take 64 (drop (64 * block) column.now)) }
+    {
+        let start = 64 * block;
+        let end = (start + 64).min(self.len);
+        crate::gather(&column[start..end], &self.words[block..block + 1], buffer)
+    }
+
+    /// The positions whose flags are set, in increasing order.
+    pub fn places(&self, alloc: Global) -> Result<Vec<usize>, AllocError>
+        ensures { IfOk result (λ list. list.items ≡ places (λ flag. flag) self.now) }
+    {
+        let mut list = Vec::new(alloc);
+        let mut from = 0;
+        'places: while let Some(place) = self.first_from(from) {
+            list.push(place)?;
+            from = place + 1;
+        }
+        Ok(list)
+    }
+
+    /// How many of the bytes of a column at set flags equal the value. It takes no memory.
+    pub fn count_byte(&self, column: &[u8], value: u8) -> usize
+        requires { length column.now ≡ length self.now }
+        ensures value { result ≡ count_by (λ x. x == value) (items_where_true self.now column.now) }
+        ensures bound { result ≤ 2 ^ 32 }
+    {
+        let mut buffer = [0u8; 64];
+        let mut total = 0;
+        for block in 0..self.len().div_ceil(64) {
+            let kept = self.gather(column, block, &mut buffer);
+            total += crate::count_byte(&buffer[..kept], value);
+        }
+        total
+    }
+}

@@ -1,0 +1,19 @@
+//! Vector kernels over columns of bytes and numbers, and over masks of bits; and flags, a mask
+//! with its length, which a contract sees as a list of truth values.
+#![tactic(auto)]
+
+mod admission;
+mod columns;
+mod flag_lists;
+mod gathering;
+mod masks;
+mod parts;
+
+pub use admission::admits;
+pub use columns::{count_byte, mask_byte, mask_flag, mask_u32};
+pub use flag_lists::Flags;
+pub use gathering::gather;
+pub use masks::{and_into, first_from, not_into, ones, or_into};
+
+#[cfg(test)]
+mod tests;

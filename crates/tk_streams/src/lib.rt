@@ -1,0 +1,14 @@
+//! Sources and targets of bytes, over memory and over readers and writers of std.
+#![tactic(auto)]
+
+mod device_streams;
+mod memory_streams;
+mod streams;
+#[cfg(test)]
+mod tests;
+mod transfers;
+
+pub use device_streams::{StdSource, StdTarget};
+pub use memory_streams::{ByteSource, ByteTarget};
+pub use streams::{Broken, Source, Target};
+pub use transfers::{LoadFault, load, write_all};

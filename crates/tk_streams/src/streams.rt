@@ -1,0 +1,47 @@
+//! Where bytes come from and go to.
+ghost use Rattle.std.specs.Prelude.{◌≡◌, ℕ, List, Bool, true, Option, is_err, IsErr};
+ghost use Rattle.tk_streams.specs.Stream.{ReadTakes, WriteAdds};
+
+/// A device failed. It stays so.
+#[derive(Clone, Copy, Debug, PartialEq, Eq)]
+pub struct Broken;
+
+/// Where bytes come from.
+pub trait Source {
+    /// The bytes that reads will give from here on, where they are known.
+    ghost remaining: { Self → Option (List ℕ) };
+
+    /// Whether a call has answered `Broken`.
+    ghost broken: { Self → Bool };
+
+    /// Reads into the front of the buffer, and answers how many bytes it read. At a buffer that is
+    /// not empty, 0 is the end of the input.
+    fn read_some(&mut self, buffer: &mut [u8]) -> Result<usize, Broken>
+        ensures bytes { ReadTakes (remaining self.old) (remaining self.new) result buffer.new }
+        ensures broken { broken self.new ≡ is_err result }
+        ensures stays_broken { broken self.old ≡ true → IsErr result };
+
+    /// Whether a call has answered `Broken`.
+    fn is_broken(&self) -> bool
+        ensures { result ≡ broken self.now };
+}
+
+/// Where bytes go to.
+pub trait Target {
+    /// The bytes that it took so far, where they are known.
+    ghost contents: { Self → Option (List ℕ) };
+
+    /// Whether a call has answered `Broken`.
+    ghost broken: { Self → Bool };
+
+    /// Writes the front of the bytes, and answers how many it wrote: at least one, unless there are
+    /// none.
+    fn write_some(&mut self, bytes: &[u8]) -> Result<usize, Broken>
+        ensures bytes { WriteAdds (contents self.old) (contents self.new) result bytes.now }
+        ensures broken { broken self.new ≡ is_err result }
+        ensures stays_broken { broken self.old ≡ true → IsErr result };
+
+    /// Whether a call has answered `Broken`.
+    fn is_broken(&self) -> bool
+        ensures { result ≡ broken self.now };
+}

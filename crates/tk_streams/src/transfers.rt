@@ -1,0 +1,69 @@
+//! Reading to the end of a source, and writing all of a text.
+ghost use Rattle.std.specs.Prelude.{◌≡◌, ◌<◌, ◌≤◌, ◌++◌, ℕ, List, [], length, take, true, false, Option, Some, None, IfSome, IfOk, OnOk, OnErr, IsErrOf, IsErr, ◌^◌};
+ghost use Rattle.std.specs.Io.KnownBytes.{Consumes, Appends, IsAtEnd};
+ghost use Rattle.tk_streams.specs.Stream.{IsLoaded, AppendsFront};
+ghost use Rattle.tk_streams.specs.declared.transfers.LoadFault.TheVariants.{Memory};
+
+use crate::streams::{Broken, Source, Target};
+use std::alloc::{AllocError, Global};
+
+/// Why a source was not read to its end.
+#[derive(Clone, Copy, Debug, PartialEq, Eq)]
+pub enum LoadFault {
+    /// There are more bytes than the limit.
+    TooLarge,
+    /// The source is broken.
+    Device,
+    /// A growth was refused.
+    Memory,
+}
+
+impl From<AllocError> for LoadFault {
+    ghost from_gives = { λ _ e. e ≡ Memory };
+
+    fn from(_e: AllocError) -> LoadFault {
+        LoadFault::Memory
+    }
+}
+
+/// How many bytes are asked for at a time.
+const CHUNK: usize = 65_536;
+
+/// All bytes to the end of the source, where there are no more of them than the limit. It stops
+/// reading once there are more.
+pub fn load<S: Source>(alloc: Global, source: &mut S, limit: usize) -> Result<Vec<u8>, LoadFault>
+    ensures ok { IfOk result (λ bytes. IsLoaded (S.remaining source.old) (S.remaining source.new) bytes.items) }
+    ensures within { IfOk result (λ bytes. length bytes.items ≤ limit) }
+    ensures ready { OnOk result (S.broken source.new ≡ false) }
+    ensures too_large { IsErrOf result LoadFault.TooLarge → IfSome (S.remaining source.old) (λ bytes. limit < length bytes) }
+    ensures device { IsErrOf result LoadFault.Device → S.broken source.new ≡ true }
+{
+    let mut bytes = Vec::new(alloc);
+    let mut chunk = [0u8; CHUNK];
+    loop {
+        let Ok(count) = source.read_some(&mut chunk) else {
+            return Err(LoadFault::Device);
+        };
+        if count == 0 {
+            return Ok(bytes);
+        }
+        if count > limit - bytes.len() {
+            return Err(LoadFault::TooLarge);
+        }
+        bytes.extend_from_slice(&chunk[..count])?;
+    }
+}
+
+/// Writes all of the bytes. At `Broken` a front of them was written.
+pub fn write_all<T: Target>(target: &mut T, bytes: &[u8]) -> Result<(), Broken>
+    ensures ok { OnOk result (Appends (T.contents target.old) (T.contents target.new) bytes.now) }
+    ensures err { OnErr result (AppendsFront (T.contents target.old) (T.contents target.new) bytes.now) }
+    ensures broken { OnErr result (T.broken target.new ≡ true) }
+{
+    let mut rest = bytes;
+    while !rest.is_empty() {
+        let count = target.write_some(rest)?;
+        rest = &rest[count..];
+    }
+    Ok(())
+}
