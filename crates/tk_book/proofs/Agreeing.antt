@@ -1,13 +1,12 @@
 -- Needs that conflict are too heavy for one lane, and needs that do not fit sixteen lanes where at most fifteen seats hold one.
-use Rattle.std.proofs.Common.{◌≡◌, ℕ, zero, suc, ◌+◌, ◌*◌, ◌^◌, ◌<◌, ◌≤◌, ◌↔◌, Option, Some, None, List, [], ◌∷◌, length, get_or, All, sum_by, is_some, count_by, cond, set, length-set, get_or-set_same, get_or-set_other, refl, sym, subst, ap, ◌∙◌, arith}
+use Rattle.std.proofs.Common.{◌≡◌, ℕ, zero, suc, ◌+◌, ◌^◌, ◌<◌, ◌≤◌, ◌↔◌, Option, Some, None, List, [], ◌∷◌, length, get_or, All, sum_by, is_some, count_by, cond, set, length-set, get_or-set_same, get_or-set_other, refl, sym, subst, ap, ◌∙◌, arith}
 use mathlib.Core.Logic.{dite}
 use native.Mathlib.Decide.{ℕ_discrete}
-use Rattle.std.specs.List.{AllPairs}
 use Rattle.std.proofs.lemmas.List.Sums.{sum_by-cons}
 use Rattle.tk_book.specs.Wants.{Wants}
 use Rattle.tk_lanes.specs.Lanes.{lane_at, Admits}
 use Rattle.tk_book.specs.Words.{packed}
-use Rattle.tk_book.specs.Needs.{Access, nothing, reads, writes, access, Clash, Conflict, weight, lane, word_of}
+use Rattle.tk_book.specs.Needs.{Access, nothing, reads, writes, access, Clash, weight, lane, word_of}
 use Rattle.tk_book.specs.Held.{Agree, Lawful, held_lane, held_word}
 use Rattle.tk_book.proofs.Packing.{packed-lt, packed-lane, packed-sum, packed-none}
 use Rattle.std.proofs.lemmas.List.Elements.{All-head, All-tail}
@@ -64,7 +63,7 @@ clash_sym reads nothing c = absurd c
 clash_sym reads reads c = absurd c
 clash_sym writes nothing c = absurd c
 
-agree_sym : (a b : Option Wants) → Agree a b → Agree b a
+pub agree_sym : (a b : Option Wants) → Agree a b → Agree b a
 agree_sym (Some n) (Some m) h = λ c. h (c.0, c.1, clash_sym (access m c.0) (access n c.0) c.2)
 agree_sym (Some n) None h = tt
 agree_sym None (Some m) h = tt
@@ -74,11 +73,11 @@ agree_sym None None h = tt
 pub set_lawful : (held : List (Option Wants)) (seat : ℕ) (n : Wants) → Lawful held → All (Agree (Some n)) held → Lawful (set held seat (Some n))
 set_lawful held seat n lawful fits i j d lt within = let len = length-set held seat (Some n) in let in_j : j < length held = omega arith in
     dite (ℕ_discrete i seat)
-      (λ e. subst (λ (p : Option Wants × Option Wants). Agree p.0 p.1) (λ k. (sym (ap (λ (x : ℕ). get_or (set held seat (Some n)) x d) e ∙ get_or-set_same held seat (Some n) d (omega arith)) k, sym (get_or-set_other held seat j (Some n) d (λ f. omega arith)) k)) (fits j d in_j))
-      (λ ne. dite (ℕ_discrete j seat)
-        (λ e. subst (λ (p : Option Wants × Option Wants). Agree p.0 p.1) (λ k. (sym (get_or-set_other held seat i (Some n) d ne) k, sym (ap (λ (x : ℕ). get_or (set held seat (Some n)) x d) e ∙ get_or-set_same held seat (Some n) d (omega arith)) k))
-          (agree_sym (Some n) (get_or held i d) (fits i d (omega arith))))
-        (λ nf. subst (λ (p : Option Wants × Option Wants). Agree p.0 p.1) (λ k. (sym (get_or-set_other held seat i (Some n) d ne) k, sym (get_or-set_other held seat j (Some n) d nf) k)) (lawful i j d lt in_j)))
+    (λ e. subst (λ (p : Option Wants × Option Wants). Agree p.0 p.1) (λ k. (sym (ap (λ (x : ℕ). get_or (set held seat (Some n)) x d) e ∙ get_or-set_same held seat (Some n) d (omega arith)) k, sym (get_or-set_other held seat j (Some n) d (λ f. omega arith)) k)) (fits j d in_j))
+    (λ ne. dite (ℕ_discrete j seat)
+    (λ e. subst (λ (p : Option Wants × Option Wants). Agree p.0 p.1) (λ k. (sym (get_or-set_other held seat i (Some n) d ne) k, sym (ap (λ (x : ℕ). get_or (set held seat (Some n)) x d) e ∙ get_or-set_same held seat (Some n) d (omega arith)) k))
+    (agree_sym (Some n) (get_or held i d) (fits i d (omega arith))))
+    (λ nf. subst (λ (p : Option Wants × Option Wants). Agree p.0 p.1) (λ k. (sym (get_or-set_other held seat i (Some n) d ne) k, sym (get_or-set_other held seat j (Some n) d nf) k)) (lawful i j d lt in_j)))
 
 clash_or_light : (a b : Access) → (Clash a b → ⊥) → (a ≡ writes → weight b ≡ 0) × (weight b ≤ 15) × (a ≡ reads → weight b ≤ 1)
 clash_or_light writes nothing n = ((λ _. refl), omega arith, λ e. omega arith)
@@ -128,12 +127,16 @@ held_packed : (h : Option Wants) → held_word h ≡ packed 16 (held_lane h)
 held_packed None = sym (packed-none 16)
 held_packed (Some n) = refl
 
-sum_packed : (held : List (Option Wants)) → sum_by held_word held ≡ packed 16 (λ r. sum_by (λ h. held_lane h r) held)
+pub sum_packed : (held : List (Option Wants)) → sum_by held_word held ≡ packed 16 (λ r. sum_by (λ h. held_lane h r) held)
 sum_packed held = same held ∙ packed-sum 16 held_lane held
   where
     same : (l : List (Option Wants)) → sum_by held_word l ≡ sum_by (λ h. packed 16 (held_lane h)) l
     same [] = refl
     same (h ∷ hs) = let a = held_packed h in omega (arith, sum_by-cons held_word h hs, sum_by-cons (λ z. packed 16 (held_lane z)) h hs, same hs)
+
+-- a lane of the sum of what is held is the sum of the lanes
+pub sum_lane : (held : List (Option Wants)) → ((r : ℕ) → r < 16 → sum_by (λ h. held_lane h r) held ≤ 15) → (r : ℕ) → r < 16 → lane_at (sum_by held_word held) r ≡ sum_by (λ h. held_lane h r) held
+sum_lane held few r lt = ap (λ (w : ℕ). lane_at w r) (sum_packed held) ∙ packed-lane 16 (λ r. sum_by (λ h. held_lane h r) held) few r lt
 
 pub sum_fits : (held : List (Option Wants)) → Lawful held → count_by is_some held ≤ 15 → sum_by held_word held < 2 ^ 64
 sum_fits held lawful few = let e = sum_packed held in let p : packed 16 (λ r. sum_by (λ h. held_lane h r) held) < 2 ^ 64 = packed-lt 16 (λ r. sum_by (λ h. held_lane h r) held) (lawful_lanes held lawful few) in omega arith
@@ -144,9 +147,11 @@ pub admits_exactly : (held : List (Option Wants)) (n : Wants) → Lawful held �
 admits_exactly held n lawful few = (to, from)
   where
     here : (r : ℕ) → r < 16 → lane_at (sum_by held_word held) r ≡ sum_by (λ h. held_lane h r) held
-    here r lt = ap (λ (w : ℕ). lane_at w r) (sum_packed held) ∙ packed-lane 16 (λ r. sum_by (λ h. held_lane h r) held) (λ i l. lawful_lanes held lawful (omega arith) i l) r lt
+    here r lt = sum_lane held (λ i l. lawful_lanes held lawful (omega arith) i l) r lt
+
     to : Admits (sum_by held_word held) (word_of n) → All (Agree (Some n)) held
     to room k d within = agree (Some n) (get_or held k d) (λ r lt. let a = room r lt in let h = here r lt in let w = word_lane n r lt in let o = sum_one (λ h. held_lane h r) held k d within in omega arith)
+
     from : All (Agree (Some n)) held → Admits (sum_by held_word held) (word_of n)
     from fits r lt = let h = here r lt in let w = word_lane n r lt in let f = sum_by-cons (λ h. cond (is_some h) 1 0) (Some n) held in let s = sum_by-cons (λ h. held_lane h r) (Some n) held in
         let all = lawful_lanes (Some n ∷ held) (joined fits) (omega arith) r lt in omega arith

@@ -1,12 +1,12 @@
 -- What the bits of two masks say of a resource, and of two needs.
-use Rattle.std.proofs.Common.{◌≡◌, ℕ, zero, suc, ◌+◌, ◌-◌, ◌*◌, ◌/◌, ◌^◌, ◌<◌, ◌≤◌, min, max, ◌↔◌, IsTrue, eqb, eqb-true, eq-eqb, bit_and, bit_or, w16, refl, sym, ap, ◌∙◌, subst, arith}
-use Rattle.std.specs.Int.{bit_at, bit_not}
+use Rattle.std.proofs.Common.{◌≡◌, ℕ, zero, suc, ◌+◌, ◌-◌, ◌*◌, ◌^◌, ◌<◌, ◌≤◌, min, max, ◌↔◌, IsTrue, eqb, eqb-true, eq-eqb, bit_and, bit_or, w16, refl, sym, ap, ◌∙◌, arith}
+use Rattle.std.specs.Int.{bit_at}
 use Rattle.std.proofs.lemmas.Nat.{and_le_l}
 use Rattle.std.proofs.lemmas.Nat.Bits.{bit_at_and, bit_at_or, bit_at_not, bit_at-lt, bit_at-zero, same_from_bits_below}
 use Rattle.std.proofs.Math.Pow.{pow_mono}
 use Rattle.tk_book.specs.Wants.{Wants}
 use Rattle.tk_book.specs.Words.{packed}
-use Rattle.tk_book.specs.Needs.{Access, nothing, reads, writes, access, access_of, Clash, Conflict, weight, lane, word_of}
+use Rattle.tk_book.specs.Needs.{access_of, Clash, Conflict, weight, lane, word_of}
 use Rattle.tk_book.proofs.Packing.{packed-same, packed-lt}
 use Rattle.tk_book.proofs.Agreeing.{lane_le}
 
@@ -60,14 +60,14 @@ beside (suc ar) (suc aw) (suc br) (suc bw) n = absurd (n tt)
 pub no_conflict : (a b : Wants) → bit_and a.writes (bit_or b.reads b.writes) ≡ 0 → bit_and a.reads b.writes ≡ 0 → Conflict a b → ⊥
 no_conflict a b p q c = let r : ℕ = c.0 in
     let h : min (bit_at a.writes r) (max (bit_at b.reads r) (bit_at b.writes r)) ≡ 0 =
-      ap (λ (x : ℕ). min (bit_at a.writes r) x) (sym (bit_at_or b.reads b.writes r)) ∙ sym (bit_at_and a.writes (bit_or b.reads b.writes) r) ∙ ap (λ (x : ℕ). bit_at x r) p ∙ bit_at-zero r in
+    ap (λ (x : ℕ). min (bit_at a.writes r) x) (sym (bit_at_or b.reads b.writes r)) ∙ sym (bit_at_and a.writes (bit_or b.reads b.writes) r) ∙ ap (λ (x : ℕ). bit_at x r) p ∙ bit_at-zero r in
     let k : min (bit_at a.reads r) (bit_at b.writes r) ≡ 0 = sym (bit_at_and a.reads b.writes r) ∙ ap (λ (x : ℕ). bit_at x r) q ∙ bit_at-zero r in
     apart (bit_at a.reads r) (bit_at a.writes r) (bit_at b.reads r) (bit_at b.writes r) h k c.2
 
 pub no_bits : (a b : Wants) → a.reads < 2 ^ 16 → a.writes < 2 ^ 16 → (Conflict a b → ⊥) → (bit_and a.writes (bit_or b.reads b.writes) ≡ 0) × (bit_and a.reads b.writes ≡ 0)
 no_bits a b fr fw n = let at = λ (r : ℕ) (lt : r < 16). beside (bit_at a.reads r) (bit_at a.writes r) (bit_at b.reads r) (bit_at b.writes r) (λ c. n (r, lt, c)) in (
   same_from_bits_below 16 (bit_and a.writes (bit_or b.reads b.writes)) 0 (let le = and_le_l a.writes (bit_or b.reads b.writes) in omega arith) (omega arith)
-    (λ r lt. bit_at_and a.writes (bit_or b.reads b.writes) r ∙ ap (λ (x : ℕ). min (bit_at a.writes r) x) (bit_at_or b.reads b.writes r) ∙ (at r lt).0 ∙ sym (bit_at-zero r)),
+      (λ r lt. bit_at_and a.writes (bit_or b.reads b.writes) r ∙ ap (λ (x : ℕ). min (bit_at a.writes r) x) (bit_at_or b.reads b.writes r) ∙ (at r lt).0 ∙ sym (bit_at-zero r)),
   same_from_bits_below 16 (bit_and a.reads b.writes) 0 (let le = and_le_l a.reads b.writes in omega arith) (omega arith) (λ r lt. bit_at_and a.reads b.writes r ∙ (at r lt).1 ∙ sym (bit_at-zero r)),
 )
 
@@ -81,7 +81,7 @@ one_lane n done word value lt so_far is = go (done + 1) refl
     go (suc k) e = let s : done ≡ k = omega arith in
         let first : lane n (15 - done) ≡ lane n (16 - suc k + 0) = ap (lane n) (omega arith) in
         let rest : packed done (λ i. lane n (16 - done + i)) ≡ packed k (λ i. lane n (16 - suc k + suc i)) =
-          ap (λ (j : ℕ). packed j (λ i. lane n (16 - done + i))) s ∙ packed-same k (λ i. lane n (16 - done + i)) (λ i. lane n (16 - suc k + suc i)) (λ i l. ap (lane n) (omega arith)) in omega arith
+        ap (λ (j : ℕ). packed j (λ i. lane n (16 - done + i))) s ∙ packed-same k (λ i. lane n (16 - done + i)) (λ i. lane n (16 - suc k + suc i)) (λ i l. ap (lane n) (omega arith)) in omega arith
 
 -- the weight of a resource that is not written
 pub read_weight : (r w : ℕ) → w < 2 → (w ≡ 1 → ⊥) → r ≡ 1 → 1 ≡ weight (access_of r w)

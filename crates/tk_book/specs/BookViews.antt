@@ -1,5 +1,5 @@
 -- The fields behind a book and its seats.
-use Rattle.std.specs.Prelude.{◌≡◌, ◌<◌, ◌≤◌, []}
+use Rattle.std.specs.Prelude.{◌≡◌, ◌<◌, [], ◌∷◌}
 use Rattle.tk_book.specs.declared.books.Book.TheInside as book
 use Rattle.tk_book.specs.declared.books.BookSeat.TheInside as seat
 use Rattle.tk_book.specs.Books.{BookName, Holder}
@@ -7,16 +7,16 @@ use Rattle.tk_book.specs.Books.{BookName, Holder}
 abbrev pub name_of : book.Inside → BookName
 name_of b = record { table = b.table.shared.table_id; seats = b.table.shared.key }
 
+-- a table of one word, with a seat at least
 pub record IsBook (b : book.Inside) : Type 0 where
   pub one_word : b.table.shared.table_id.words ≡ 1
   pub no_slot : b.table.shared.table_id.slots ≡ 0
   pub some_seat : 0 < b.table.shared.key
-  pub few_seats : b.table.shared.key ≤ 15
 
 abbrev pub holder_of : seat.Inside → Holder
 holder_of s = record { book = record { table = s.seat.table_id; seats = s.seat.me.0.seats }; holds = s.held; read = s.seat.me.0.seen }
 
+-- one seat of the table, whose view has what it holds
 pub record IsHolder (s : seat.Inside) : Type 0 where
-  pub one_part : s.seat.me.0.parts ≡ 1
+  pub one : s.seat.me.0.held ≡ s.held ∷ []
   pub no_slot : s.seat.me.1 ≡ []
-  pub held_same : s.seat.me.0.held ≡ s.held

@@ -1,5 +1,4 @@
 pub use Rattle.tk_lanes.specs.Lanes
-
 pub mod Wants
 pub mod Words
 pub mod Needs
@@ -7,4 +6,5 @@ pub mod Held
 pub mod Books
 pub mod BookViews
 pub mod Booked
-pub mod Busies
+pub mod Steps
+pub mod Tries

@@ -1,92 +1,26 @@
 //! What the seats of a book hold of sixteen resources, as one word.
-ghost use Rattle.std.specs.Prelude.{◌≡◌, ℕ, ◌+◌, ◌<◌, ◌≤◌, ◌⊎◌, ◌↔◌, [], ◌∷◌, ◌++◌, Some, None, length, All, IfOk, IfErr, IsSome};
-ghost use Rattle.tk_lanes.specs.Lanes.{lane_at, Admits};
+ghost use Rattle.std.specs.Prelude.{◌≡◌, ℕ, ◌<◌, ◌≤◌, ◌⊎◌, ◌↔◌, [], ◌∷◌, ◌++◌, length, map, replicate, sum_by, All, IfOk, IfErr, IsSome};
+ghost use Rattle.tk_lanes.specs.Lanes.{lane_at};
 ghost use Rattle.tk_book.specs.Needs.{word_of};
-ghost use Rattle.tk_book.specs.Held.{held_lane};
+ghost use Rattle.tk_book.specs.Held.{Lawful, held_lane, held_word};
 ghost use Rattle.tk_book.specs.Books.{empty};
 ghost use Rattle.tk_book.specs.Booked.{noted};
-ghost use Rattle.tk_book.specs.Busies.{WasBusy};
+ghost use Rattle.tk_book.specs.Tries.{WasFree, WasBusy, WasFreeAtLast};
 ghost use Rattle.tk_book.specs.declared.books.BookFault.TheVariants.{Seats};
 
-use atomic_table::{Join, Play, Seat, Split, Table, TableRule};
-use crossbeam_utils::Backoff;
 use crate::needs::Need;
-use tk_lanes::admits;
+use crate::rules::{Gives, Locking, Looks, Noted, Takes};
+use atomic_table::{Seat, Table};
+use crossbeam_utils::Backoff;
 use std::alloc::{AllocError, Global};
-use std::collections::LinkedList;
 use std::marker::Model;
 use std::sync::Wait;
+use tk_lanes::admits;
 
-/// How many seats a book may have.
+/// How many seats a book may have. Up to fifteen readers have room in one lane.
 pub const MAX_SEATS: usize = 8;
 
-/// What a seat knows: what it holds, and the words that it read. No value of it is made.
-#[derive(Drop)]
-pub struct Noted {
-    seats: usize,
-    parts: usize,
-    held: Option<Need>,
-    seen: LinkedList<u64>,
-}
-
-/// The rule of the lock word.
-pub struct Locking;
-
-impl TableRule<Need, Noted, usize> for Locking {
-    ghost use Rattle.std.specs.Prelude.{None, []};
-    ghost use Rattle.tk_book.specs.Booked.{Booked, noted};
-
-    ghost holds = { Booked };
-
-    ghost first = { λ seats. noted seats seats None [] };
-}
-
-/// A load.
-pub struct Looks;
-
-impl Play<Need, Noted> for Looks {
-    ghost use Rattle.tk_book.specs.Booked.{Looked};
-
-    ghost then = { Looked };
-}
-
-/// A compare-exchange.
-pub struct Takes;
-
-impl Play<Need, Noted> for Takes {
-    ghost use Rattle.tk_book.specs.Booked.{Took};
-
-    ghost then = { Took };
-}
-
-/// A subtraction.
-pub struct Gives;
-
-impl Play<Need, Noted> for Gives {
-    ghost use Rattle.tk_book.specs.Booked.{Gave};
-
-    ghost then = { Gave };
-}
-
-impl Split<Noted> for Locking {
-    ghost use Rattle.std.specs.Prelude.{None, [], ◌-◌};
-    ghost use Rattle.tk_book.specs.Booked.{noted};
-
-    ghost left = { λ v. noted v.seats (v.parts - 1) None [] };
-
-    ghost right = { λ v. noted v.seats 1 None [] };
-}
-
-impl Join<Noted> for Locking {
-    ghost use Rattle.std.specs.Prelude.{None, [], ◌+◌};
-    ghost use Rattle.tk_book.specs.Booked.{noted};
-
-    ghost both = { λ v w. noted v.seats (v.parts + w.parts) None [] };
-
-    ghost spent = { noted 0 0 None [] };
-}
-
-/// A word that at most fifteen seats take resources by.
+/// A word by which several seats take resources and give them back.
 #[derive(Drop)]
 pub struct Book {
     table: Table<Need, Noted, usize, Locking, Global>,
@@ -128,12 +62,14 @@ impl Model for BookSeat {
 pub enum Busy {
     /// The word that was read has no room for it.
     Held(u64),
-    /// The word had room, and was another when it was to be exchanged.
+    /// The word that was read had room, and another was found when it was to be exchanged.
     Moved(u64, u64),
 }
 
+/// Why a book was not opened.
 #[derive(Debug, Drop)]
 pub enum BookFault {
+    /// No seat, or more than `MAX_SEATS`.
     Seats,
     Memory,
 }
@@ -145,9 +81,10 @@ fn set_out(
     mut first: Seat<Need, Noted>,
     count: usize,
 ) -> Result<Vec<BookSeat>, AllocError>
-    requires count { (0 < count) × (count ≡ first.me.0.parts) }
-    requires seat { (first.table_id ≡ table.now.shared.table_id) × (first.me ≡ (noted table.now.shared.key first.me.0.parts None [], [])) }
+    requires count { 0 < count }
     requires table { 0 < table.now.shared.table_id.words }
+    requires of_this { first.table_id ≡ table.now.shared.table_id }
+    requires whole { first.me ≡ (noted table.now.shared.key (replicate count None) [], []) }
     ensures { IfOk result (λ all. (length all.items ≡ count) × All (λ s. s ≡ empty (record { table = table.now.shared.table_id; seats = table.now.shared.key })) all.items) }
 {
     let mut all = Vec::with_capacity(alloc, count)?;
@@ -165,7 +102,9 @@ fn set_out(
 impl Book {
     /// A book of which nothing is held, with its seats.
     pub fn open(alloc: Global, seats: usize) -> Result<(Book, Vec<BookSeat>), BookFault>
-        ensures ok { IfOk result (λ r. (r.0.seats ≡ seats) × (length r.1.items ≡ seats) × All (λ s. s ≡ empty r.0) r.1.items) }
+        ensures book { IfOk result (λ r. r.0.seats ≡ seats) }
+        ensures all { IfOk result (λ r. length r.1.items ≡ seats) }
+        ensures seats { IfOk result (λ r. All (λ s. s ≡ empty r.0) r.1.items) }
         ensures in_range { IfOk result (λ _. (0 < seats) × (seats ≤ MAX_SEATS)) }
         ensures fault { IfErr result (λ f. (f ≡ Seats) ↔ ((seats ≡ 0) ⊎ (MAX_SEATS < seats))) }
     {
@@ -186,21 +125,20 @@ impl Book {
         requires of_this { seat.old.book ≡ self.now }
         requires empty { seat.old.holds ≡ None }
         ensures book { seat.new.book ≡ seat.old.book }
-        ensures ok { IfOk result (λ _. (seat.new.holds ≡ Some need) × ((x : ℕ) × Admits x (word_of need) × (seat.new.read ≡ seat.old.read ++ x ∷ []))) }
-        ensures busy { IfErr result (λ b. (seat.new.holds ≡ None) × WasBusy seat.old.read seat.new.read (word_of need) b) }
+        ensures held { IfOk result (λ _. seat.new.holds ≡ Some need) }
+        ensures free { IfOk result (λ _. WasFree seat.old.read seat.new.read (word_of need)) }
+        ensures empty { IfErr result (λ _. seat.new.holds ≡ None) }
+        ensures busy { IfErr result (WasBusy seat.old.read seat.new.read (word_of need)) }
     {
         let seen = self.table.shared.load::<Looks>(&mut seat.seat, 0);
         let word = need.word();
         if !admits(seen, word) {
             return Err(Busy::Held(seen));
         }
-        let found = self.table.shared.compare_exchange_with::<Takes>(
-            &mut seat.seat,
-            0,
-            seen,
-            seen + word,
-            &need,
-        );
+        let found = self
+            .table
+            .shared
+            .compare_exchange_with::<Takes>(&mut seat.seat, 0, seen, seen + word, &need);
         if found == seen {
             seat.held = Some(need);
             Ok(())
@@ -209,12 +147,13 @@ impl Book {
         }
     }
 
-    /// Takes the need, as soon as it can.
+    /// Takes the need, as soon as it can. It yields the processor between tries.
     pub fn acquire<R: Wait>(&self, rt: &R, seat: &mut BookSeat, need: Need)
         requires of_this { seat.old.book ≡ self.now }
         requires empty { seat.old.holds ≡ None }
         ensures book { seat.new.book ≡ seat.old.book }
         ensures held { seat.new.holds ≡ Some need }
+        ensures free { WasFreeAtLast seat.old.read seat.new.read (word_of need) }
     {
         let backoff = Backoff::new();
         for _ in rt.forever() {
@@ -231,7 +170,8 @@ impl Book {
         requires of_this { seat.old.book ≡ self.now }
         requires holds { IsSome seat.old.holds }
         ensures book { seat.new.book ≡ seat.old.book }
-        ensures empty { (seat.new.holds ≡ None) × (seat.new.read ≡ seat.old.read) }
+        ensures empty { seat.new.holds ≡ None }
+        ensures read { seat.new.read ≡ seat.old.read }
     {
         let Some(need) = seat.held else {
             unreachable!()
@@ -245,19 +185,30 @@ impl Book {
     /// The word as it is now. Its lanes are at least the seat's own.
     pub fn look(&self, seat: &mut BookSeat) -> u64
         requires of_this { seat.old.book ≡ self.now }
-        ensures book { (seat.new.book ≡ seat.old.book) × (seat.new.holds ≡ seat.old.holds) }
+        ensures book { seat.new.book ≡ seat.old.book }
+        ensures holds { seat.new.holds ≡ seat.old.holds }
         ensures read { seat.new.read ≡ seat.old.read ++ result ∷ [] }
         ensures own { (r : ℕ) → r < 16 → held_lane seat.old.holds r ≤ lane_at result r }
     {
         self.table.shared.load::<Looks>(&mut seat.seat, 0)
     }
 
-    /// The last word.
-    pub fn close(self, mut seats: Vec<BookSeat>) -> u64
+    /// The last word, where no seat holds anything.
+    pub fn close(self, seats: Vec<BookSeat>) -> u64
         requires all { length seats.items ≡ self.seats }
         requires of_this { All (λ s. s.book ≡ self) seats.items }
         requires empty { All (λ s. s.holds ≡ None) seats.items }
         ensures { result ≡ 0 }
+    {
+        self.settle(seats)
+    }
+
+    /// The last word, where seats may still hold needs. It is the sum of these, of which no two conflict.
+    pub fn settle(self, mut seats: Vec<BookSeat>) -> u64
+        requires all { length seats.items ≡ self.seats }
+        requires of_this { All (λ s. s.book ≡ self) seats.items }
+        ensures word { result ≡ sum_by held_word (map (λ s. s.holds) seats.items) }
+        ensures lawful { Lawful (map (λ s. s.holds) seats.items) }
     {
         let Book { table } = self;
         let Some(last) = seats.pop() else {
@@ -265,7 +216,10 @@ impl Book {
         };
         let BookSeat { mut seat, held: _ } = last;
         while let Some(next) = seats.pop() {
-            let BookSeat { seat: other, held: _ } = next;
+            let BookSeat {
+                seat: other,
+                held: _,
+            } = next;
             table.shared.join_seat::<Locking>(&mut seat, other);
         }
         let closed = table.close_with(seat);

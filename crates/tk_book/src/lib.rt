@@ -3,8 +3,13 @@
 
 mod books;
 mod grants;
+pub mod laws;
 mod needs;
+mod rules;
 
 pub use books::{Book, BookFault, BookSeat, Busy, MAX_SEATS};
 pub use grants::Holdings;
 pub use needs::Need;
+
+#[cfg(test)]
+mod tests;

@@ -8,9 +8,6 @@ use Rattle.tk_ids.specs.declared.ids.IdFault.TheVariants.{Empty, BadSegment, Bad
 use Rattle.tk_ids.specs.Prefix.{IsLongestFront}
 use Rattle.tk_ids.specs.IdText.{Pair, IsId, IsIdText, IsEngine, id_text, FitsLimits, EndsInEscape}
 use Rattle.tk_ids.specs.Reading.{State, Behind, step}
-use Rattle.tk_ids.specs.declared.reading.Place.{Place}
-use Rattle.tk_ids.specs.declared.reading.Place.TheVariants as places
-use Rattle.tk_ids.specs.Reader.{state_of}
 use Rattle.tk_ids.specs.Answer.{IsBadAt, IsReadAs, IsFaultBehind}
 use Rattle.tk_ids.proofs.ReadingLemmas.{HasRead, stuck_longest, stuck_refutes, end_is, one_text}
 
@@ -38,13 +35,6 @@ fault_is text front n (BadEscape at) bad is h =
 fault_is text front n Empty bad is h = absurd h
 fault_is text front n TooLong bad is h = absurd h
 fault_is text front n Memory bad is h = absurd h
-
--- a reader is behind a segment only at that place
-pub behind_place : (segments done : List Pair) (place : Place) → state_of segments place ≡ Behind done → place ≡ places.Behind
-behind_place segments done places.Before e = cc
-behind_place segments done (places.Tag part) e = cc
-behind_place segments done (places.Value tag part) e = cc
-behind_place segments done places.Behind e = refl
 
 pub id_text_some : (id : List Pair) → IsId id → 0 < length (id_text id)
 id_text_some [] ok = absurd (omega (arith, ok.0))

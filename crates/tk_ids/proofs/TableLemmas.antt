@@ -1,6 +1,6 @@
 -- The table's map, by the texts of ids.
 use Rattle.std.specs.Prelude.{bytes_eq, slice_get}
-use Rattle.std.proofs.Common.{◌≡◌, ◌≢◌, ℕ, zero, suc, ◌+◌, ◌<◌, ◌≤◌, Bool, true, false, cond, ltb, List, [], ◌∷◌, ◌++◌, length, map, get_or, Option, Some, None, option_map, refl, sym, ap, ◌∙◌, subst, arith, ⊎_elim, Err, Result}
+use Rattle.std.proofs.Common.{◌≡◌, ◌≢◌, ◌↔◌, IsTrue, is_some, ℕ, zero, suc, ◌+◌, ◌<◌, ◌≤◌, Bool, true, false, cond, ltb, List, [], ◌∷◌, ◌++◌, length, map, get_or, Option, Some, None, option_map, refl, sym, ap, ◌∙◌, subst, arith, ⊎_elim, Err, Result}
 use Rattle.std.specs.List.{AllByRecursion, IsDistinct, position, position_or_len}
 use Rattle.std.proofs.lemmas.Option.{same_Some, none-some, slice_get-get_or, slice_get_within, get_or_from_slice_get}
 use Rattle.std.proofs.lemmas.List.Quantifiers.{position-Some}
@@ -97,13 +97,19 @@ kept_fits [] k id all e = absurd (none-some id e)
 kept_fits (x ∷ es) zero id all e = subst FitsLimits (same_Some x.1.id id e) all.0.2
 kept_fits (x ∷ es) (suc k) id all e = kept_fits es k id all.1 e
 
+-- an id beyond the limits is in no table
+too_long_absent : (es : List (List ℕ × Descriptor)) (table : List Descriptor) (id : List Pair) → AllByRecursion IsKept es → descriptors es ≡ table → ¬ (FitsLimits id) → ¬ (HasId table id)
+too_long_absent es table id all view long has =
+    long (kept_fits es has.0 id all (subst (λ d. slice_get (ids_of d) has.0 ≡ Some id) (sym view) has.1))
+
 -- what making the id refuses, adding refuses
 pub added_refused : (es : List (List ℕ × Descriptor)) (table : List Descriptor) (parent : Option ℕ) (segment : Pair) (name : List ℕ) (dtype : DType) (fault : TableFault) → AllByRecursion IsKept es → descriptors es ≡ table → IsIdBelow table parent segment (Err fault) → IsAddedAs table table parent segment name dtype (Err fault)
 added_refused es table parent segment name dtype NoParent all view h = (h, refl)
 added_refused es table parent segment name dtype Twice all view h = absurd h
 added_refused es table parent segment name dtype Full all view h =
-    (h.0, h.1, λ has. h.2 (kept_fits es has.0 h.0 all (subst (λ d. slice_get (ids_of d) has.0 ≡ Some h.0) (sym view) has.1)), h.3, refl)
-added_refused es table parent segment name dtype (Id id_faults.TooLong) all view h = (h.0, h.1, h.2, h.3, refl)
+    (h.0, h.1, too_long_absent es table h.0 all view h.2, h.3, refl)
+added_refused es table parent segment name dtype (Id id_faults.TooLong) all view h =
+    (h.0, h.1, too_long_absent es table h.0 all view h.2, h.2, h.3, refl)
 added_refused es table parent segment name dtype (Id id_faults.Empty) all view h = absurd h
 added_refused es table parent segment name dtype (Id (id_faults.BadSegment n)) all view h = absurd h
 added_refused es table parent segment name dtype (Id (id_faults.BadEscape n)) all view h = absurd h
@@ -125,3 +131,10 @@ grown es table d t all view absent ok =
       count = ap length new ∙ (let same : length es ≡ length table = sym (length-map es (λ e. e.1)) ∙ ap length view in simp length-append (omega arith));
       view = ap descriptors new ∙ map-append (λ e. e.1) es ((t, d) ∷ []) ∙ ap (λ l. l ++ d ∷ []) view;
     }
+
+-- the map has a text exactly where some descriptor has the id of that text
+pub has_text_exact : (es : List (List ℕ × Descriptor)) (table : List Descriptor) (id : List Pair) (t : List ℕ) → AllByRecursion IsKept es → descriptors es ≡ table → t ≡ id_text id → IsId id → IsTrue (is_some (position (bytes_eq t) (texts es))) ↔ HasId table id
+has_text_exact es table id t all view is ok =
+    elim (position (bytes_eq t) (texts es)) as (λ o. position (bytes_eq t) (texts es) ≡ o → IsTrue (is_some o) ↔ HasId table id)
+    [ None ↦ λ e. (λ yes. absurd (false≢true yes), λ has. absurd (find_none es table id t all view is e has))
+    | Some k ↦ λ e. (λ _. (k, find_some es table id t k all view is ok e), λ _. refl) ] refl

@@ -54,7 +54,7 @@ IsAddedAs old new parent segment name dtype (Ok key) =
 IsAddedAs old new parent segment name dtype (Err NoParent) = (id_below old parent segment ≡ None) × (new ≡ old)
 IsAddedAs old new parent segment name dtype (Err Twice) = (id : List Pair) × (id_below old parent segment ≡ Some id) × HasId old id × (new ≡ old)
 IsAddedAs old new parent segment name dtype (Err Full) = (id : List Pair) × (id_below old parent segment ≡ Some id) × ¬ (HasId old id) × (length old ≡ MAX_DESCRIPTORS) × (new ≡ old)
-IsAddedAs old new parent segment name dtype (Err (Id id_faults.TooLong)) = (id : List Pair) × (id_below old parent segment ≡ Some id) × ¬ (FitsLimits id) × (length old < MAX_DESCRIPTORS) × (new ≡ old)
+IsAddedAs old new parent segment name dtype (Err (Id id_faults.TooLong)) = (id : List Pair) × (id_below old parent segment ≡ Some id) × ¬ (HasId old id) × ¬ (FitsLimits id) × (length old < MAX_DESCRIPTORS) × (new ≡ old)
 IsAddedAs old new parent segment name dtype (Err (Id _)) = ⊥
 IsAddedAs old new parent segment name dtype (Err Memory) = new ≡ old
 

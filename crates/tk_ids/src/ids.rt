@@ -3,7 +3,7 @@ ghost use Rattle.std.specs.Prelude.{◌≡◌, ℕ, List, MatchOption, IfOk, IfE
 ghost use Rattle.tk_ids.specs.IdText.{EndsInEscape};
 ghost use Rattle.tk_ids.specs.Answer.{IsFaultBehind};
 
-use crate::reading::{Place, Reader};
+use crate::reading::Reader;
 use crate::texts::Text;
 use crate::writing::push_segment;
 use std::alloc::{AllocError, AllocFailed, Global};
@@ -117,11 +117,17 @@ impl Segment {
     }
 }
 
+/// What an id keeps: its segments, and its text beside them.
+#[derive(Debug, Drop)]
+struct Path {
+    text: Text,
+    segments: Vec<Segment>,
+}
+
 /// The path of a descriptor from its root: one segment or more.
 #[derive(Debug, Drop)]
 pub struct UniqueId {
-    text: Text,
-    segments: Vec<Segment>,
+    path: Box<Path>,
 }
 
 impl Model for UniqueId {
@@ -130,9 +136,9 @@ impl Model for UniqueId {
 
     ghost Value = { List Pair };
 
-    ghost view = { λ u. u.segments.items };
+    ghost view = { λ u. u.path.value.segments.items };
 
-    ghost invariant = { λ u. IsId u.segments.items × (u.text ≡ id_text u.segments.items) × FitsLimits u.segments.items };
+    ghost invariant = { λ u. IsId u.path.value.segments.items × (u.path.value.text ≡ id_text u.path.value.segments.items) × FitsLimits u.path.value.segments.items };
 }
 
 /// The same segments once more.
@@ -169,6 +175,18 @@ impl UniqueId {
     ghost use Rattle.tk_ids.specs.IdText.{IsId, id_text, IsEngine, FitsLimits, front_of};
     ghost use Rattle.tk_ids.specs.Answer.{IsReadAs, IsMadeOf};
 
+    /// The id of these segments, with its text.
+    fn of_parts(alloc: Global, text: Text, segments: Vec<Segment>) -> Result<UniqueId, AllocError>
+        requires id { IsId segments.items }
+        requires text { text ≡ id_text segments.items }
+        requires fits { FitsLimits segments.items }
+        ensures { IfOk result (λ id. id ≡ segments.items) }
+    {
+        Ok(UniqueId {
+            path: Box::new(alloc, Path { text, segments })?,
+        })
+    }
+
     /// The id that a text spells.
     pub fn read(alloc: Global, text: &str) -> Result<UniqueId, IdFault>
         ensures { IsReadAs text.now result }
@@ -179,20 +197,18 @@ impl UniqueId {
         }
         let mut reader = Reader::new(alloc);
         for (at, byte) in bytes.iter().enumerate() {
-            match reader.feed(alloc, *byte)? {
-                Some(next) => reader = next,
-                None => return Err(fault_behind(&bytes[..at])),
+            if !reader.feed(alloc, *byte)? {
+                return Err(fault_behind(&bytes[..at]));
             }
         }
-        let Reader { segments, place } = reader;
-        if !matches!(place, Place::Behind) {
+        let Some(segments) = reader.finish() else {
             return Err(fault_behind(bytes));
-        }
+        };
         if bytes.len() > MAX_BYTES || segments.len() > MAX_SEGMENTS {
             return Err(IdFault::TooLong);
         }
         let text = Text::copy(alloc, text)?;
-        Ok(UniqueId { text, segments })
+        Ok(UniqueId::of_parts(alloc, text, segments)?)
     }
 
     /// The id's text.
@@ -202,7 +218,7 @@ impl UniqueId {
         ensures id { IsId self.now }
         ensures fits { FitsLimits self.now }
     {
-        self.text.try_clone()
+        self.path.text.try_clone()
     }
 
     /// The id's text, as it is kept.
@@ -212,21 +228,21 @@ impl UniqueId {
         ensures id { IsId self.now }
         ensures fits { FitsLimits self.now }
     {
-        &self.text
+        &self.path.text
     }
 
     /// The segments, from the root's on.
     pub fn segments(&self) -> &[Segment]
         ensures { result.now ≡ self.now }
     {
-        self.segments.as_slice()
+        self.path.segments.as_slice()
     }
 
     /// Whether the id is one segment with the tag `engine`.
     pub fn is_engine(&self) -> bool
         ensures { IsTrue result ↔ IsEngine self.now }
     {
-        match self.segments.as_slice() {
+        match self.segments() {
             [segment] => segment.tag() == "engine",
             _ => false,
         }
@@ -236,30 +252,39 @@ impl UniqueId {
     pub fn try_clone(&self, alloc: Global) -> Result<UniqueId, AllocError>
         ensures { IfOk result (λ id. id ≡ self.now) }
     {
-        Ok(UniqueId {
-            text: self.text.try_clone()?,
-            segments: copies(alloc, self.segments.as_slice())?,
-        })
+        let text = self.as_text().try_clone()?;
+        let segments = copies(alloc, self.segments())?;
+        UniqueId::of_parts(alloc, text, segments)
     }
 
-    /// The id without its last segment, where it has more than one.
-    pub fn parent(&self, alloc: Global) -> Result<Option<UniqueId>, AllocError>
-        ensures { IfOk result (λ parent. MatchOption parent (length self.now ≡ 1) (λ p. (1 < length self.now) × (p ≡ front_of self.now))) }
+    /// The text of the id without its last segment, where it has more than one.
+    pub(crate) fn front_text(&self, alloc: Global) -> Result<Option<Text>, AllocError>
+        ensures { IfOk result (λ front. MatchOption front (length self.now ≡ 1)
+            (λ text. (1 < length self.now) × IsId (front_of self.now) × FitsLimits (front_of self.now) × (text ≡ id_text (front_of self.now)))) }
     {
-        let segments = self.segments.as_slice();
+        let text = self.as_text();
+        let segments = self.segments();
         let count = segments.len() - 1;
         if count == 0 {
             return Ok(None);
         }
         let mut last = Vec::new(alloc);
         push_segment(&mut last, &segments[count])?;
-        let bytes = self.text.as_str().as_bytes();
+        let bytes = text.as_str().as_bytes();
         let front = Vec::from_slice(alloc, &bytes[..bytes.len() - last.len() - 1])?;
-        let segments = copies(alloc, &segments[..count])?;
-        Ok(Some(UniqueId {
-            text: Text::from_utf8(front),
-            segments,
-        }))
+        Ok(Some(Text::from_utf8(front)))
+    }
+
+    /// The id without its last segment, where it has more than one.
+    pub fn parent(&self, alloc: Global) -> Result<Option<UniqueId>, AllocError>
+        ensures { IfOk result (λ parent. MatchOption parent (length self.now ≡ 1) (λ p. (1 < length self.now) × (p ≡ front_of self.now))) }
+    {
+        let Some(text) = self.front_text(alloc)? else {
+            return Ok(None);
+        };
+        let segments = self.segments();
+        let segments = copies(alloc, &segments[..segments.len() - 1])?;
+        Ok(Some(UniqueId::of_parts(alloc, text, segments)?))
     }
 
     /// The id of one segment.
@@ -273,10 +298,7 @@ impl UniqueId {
         }
         let mut segments = Vec::new(alloc);
         segments.push(segment.try_clone()?)?;
-        Ok(UniqueId {
-            text: Text::from_utf8(bytes),
-            segments,
-        })
+        Ok(UniqueId::of_parts(alloc, Text::from_utf8(bytes), segments)?)
     }
 
     /// The text of the id with one segment more.
@@ -284,7 +306,7 @@ impl UniqueId {
         ensures text { IfOk result (λ t. t ≡ id_text (self.now ++ segment.now ∷ [])) }
         ensures id { OnOk result (IsId (self.now ++ segment.now ∷ [])) }
     {
-        let mut bytes = Vec::from_slice(alloc, self.text.as_str().as_bytes())?;
+        let mut bytes = Vec::from_slice(alloc, self.as_text().as_str().as_bytes())?;
         bytes.push(b'/')?;
         push_segment(&mut bytes, segment)?;
         Ok(Text::from_utf8(bytes))
@@ -295,11 +317,11 @@ impl UniqueId {
         ensures { IsMadeOf (self.now ++ segment.now ∷ []) result }
     {
         let text = self.text_with(alloc, segment)?;
-        if text.len() > MAX_BYTES || self.segments.len() >= MAX_SEGMENTS {
+        if text.len() > MAX_BYTES || self.segments().len() >= MAX_SEGMENTS {
             return Err(IdFault::TooLong);
         }
-        let mut segments = copies(alloc, self.segments.as_slice())?;
+        let mut segments = copies(alloc, self.segments())?;
         segments.push(segment.try_clone()?)?;
-        Ok(UniqueId { text, segments })
+        Ok(UniqueId::of_parts(alloc, text, segments)?)
     }
 }

@@ -1,5 +1,5 @@
 //! Reading the text of an id, byte by byte.
-ghost use Rattle.std.specs.Prelude.{◌≡◌, ℕ, List, [], IfOk, if◌then◌else◌, Some, None, IsUtf8, ◌∷◌, ◌++◌, option_map};
+ghost use Rattle.std.specs.Prelude.{◌≡◌, ◌≢◌, ℕ, List, [], IfOk, OnOk, MatchOption, if◌then◌else◌, Some, None, IsUtf8, ◌∷◌, ◌++◌};
 ghost use Rattle.tk_ids.specs.Reading.{byte_of, is_first_digit, part_step, ends_at};
 ghost use Rattle.tk_ids.specs.IdText.{digits_of};
 
@@ -72,6 +72,14 @@ impl Part {
         }
     }
 
+    /// Forgets what was read.
+    fn clear(&mut self)
+        ensures { self.new ≡ ([], Escape.Plain) }
+    {
+        self.bytes.clear();
+        self.escape = Escape::Plain;
+    }
+
     /// Whether the part is whole, and this byte ends it.
     fn ends(&self, stop: u8, byte: u8) -> bool
         ensures { result ≡ ends_at stop self.now byte }
@@ -111,13 +119,15 @@ impl Part {
         Ok(true)
     }
 
-    /// The text of a whole part.
-    fn into_text(self) -> Text
-        requires { IsUtf8 self.0 }
-        ensures { result ≡ self.0 }
+    /// The text of a whole part, which is then empty again.
+    fn take(&mut self, alloc: Global) -> Result<Text, AllocError>
+        requires { IsUtf8 self.old.0 }
+        ensures text { IfOk result (λ text. text ≡ self.old.0) }
+        ensures empty { OnOk result (self.new ≡ ([], Escape.Plain)) }
     {
-        let Part { bytes, escape: _ } = self;
-        Text::from_utf8(bytes)
+        let text = Text::from_utf8(Vec::from_slice(alloc, self.bytes.as_slice())?);
+        self.clear();
+        Ok(text)
     }
 }
 
@@ -126,68 +136,94 @@ impl Part {
 pub(crate) enum Place {
     /// Before its `[`.
     Before,
-    Tag(Part),
+    Tag,
     /// In its value. The tag is read.
-    Value(Text, Part),
+    Value(Text),
     /// Behind its `]`.
     Behind,
 }
 
-/// An id, as far as its text is read.
+/// An id, as far as its text is read: its whole segments, and the tag or value at hand.
 #[derive(Drop)]
 pub(crate) struct Reader {
-    pub(crate) segments: Vec<Segment>,
-    pub(crate) place: Place,
+    segments: Vec<Segment>,
+    place: Place,
+    part: Part,
+}
+
+impl Model for Reader {
+    ghost use Rattle.tk_ids.specs.Reading.{State};
+    ghost use Rattle.tk_ids.specs.Reader.{state_of};
+
+    ghost Value = { State };
+
+    ghost view = { λ r. state_of r.segments.items r.place r.part };
 }
 
 impl Reader {
-    ghost use Rattle.tk_ids.specs.Reading.{step, Before};
-    ghost use Rattle.tk_ids.specs.Reader.{state_of, GoesOnAsText, IsSound};
+    ghost use Rattle.tk_ids.specs.Reading.{step, Before, Behind};
+    ghost use Rattle.tk_ids.specs.Reader.{GoesOnAsText, IsSound};
+    ghost use Rattle.tk_ids.specs.IdText.{Pair};
 
     pub(crate) fn new(alloc: Global) -> Reader
-        ensures { state_of result.segments.items result.place ≡ Before [] }
+        ensures { result ≡ Before [] }
     {
         Reader {
             segments: Vec::new(alloc),
             place: Place::Before,
+            part: Part::new(alloc),
         }
     }
 
-    /// The reader behind one more byte, or nothing where the byte may not stand there.
-    pub(crate) fn feed(self, alloc: Global, byte: u8) -> Result<Option<Reader>, AllocError>
-        requires sound { IsSound (state_of self.segments.items self.place) }
-        requires text { GoesOnAsText (state_of self.segments.items self.place) (byte ∷ []) }
-        ensures { IfOk result (λ next. step (state_of self.segments.items self.place) byte
-            ≡ option_map (λ r. state_of r.segments.items r.place) next) }
+    /// Takes one more byte, and tells whether it may stand there.
+    pub(crate) fn feed(&mut self, alloc: Global, byte: u8) -> Result<bool, AllocError>
+        requires sound { IsSound self.old }
+        requires text { GoesOnAsText self.old (byte ∷ []) }
+        ensures { IfOk result
+            (λ fed. step self.old byte ≡ (if fed then Some self.new else None)) }
     {
-        let Reader {
-            mut segments,
-            place,
-        } = self;
-        let place = match place {
-            Place::Before if byte == b'[' => Place::Tag(Part::new(alloc)),
-            Place::Tag(mut part) => {
-                if part.ends(b':', byte) {
-                    Place::Value(part.into_text(), Part::new(alloc))
-                } else if part.feed(byte)? {
-                    Place::Tag(part)
-                } else {
-                    return Ok(None);
+        match &self.place {
+            Place::Before => {
+                if byte != b'[' {
+                    return Ok(false);
+                }
+                self.part.clear();
+                self.place = Place::Tag;
+            }
+            Place::Tag => {
+                if !self.part.ends(b':', byte) {
+                    return self.part.feed(byte);
+                }
+                self.place = Place::Value(self.part.take(alloc)?);
+            }
+            Place::Value(_) => {
+                if !self.part.ends(b']', byte) {
+                    return self.part.feed(byte);
+                }
+                let value = self.part.take(alloc)?;
+                match std::mem::replace(&mut self.place, Place::Behind) {
+                    Place::Value(tag) => self.segments.push(Segment::of_parts(tag, value))?,
+                    _ => unreachable!(),
                 }
             }
-            Place::Value(tag, mut part) => {
-                if part.ends(b']', byte) {
-                    segments.push(Segment::of_parts(tag, part.into_text()))?;
-                    Place::Behind
-                } else if part.feed(byte)? {
-                    Place::Value(tag, part)
-                } else {
-                    return Ok(None);
+            Place::Behind => {
+                if byte != b'/' {
+                    return Ok(false);
                 }
+                self.place = Place::Before;
             }
-            Place::Behind if byte == b'/' => Place::Before,
-            _ => return Ok(None),
-        };
-        Ok(Some(Reader { segments, place }))
+        }
+        Ok(true)
+    }
+
+    /// The segments, where the text ends behind one.
+    pub(crate) fn finish(self) -> Option<Vec<Segment>>
+        ensures { MatchOption result ((done : List Pair) → self ≢ Behind done)
+            (λ segments. self ≡ Behind segments.items) }
+    {
+        match self.place {
+            Place::Behind => Some(self.segments),
+            _ => None,
+        }
     }
 }

@@ -1,5 +1,5 @@
 //! The table of static descriptors.
-ghost use Rattle.std.specs.Prelude.{◌≡◌, ◌↔◌, ℕ, List, [], length, IsTrue, IfOk, IfSome, IfNone, Some, slice_get, None, MatchOption, ◌≤◌, ◌<◌, ◌∷◌, ◌++◌, OnOk, OnErr};
+ghost use Rattle.std.specs.Prelude.{◌≡◌, ◌↔◌, ℕ, List, [], length, IsTrue, false, IfOk, IfSome, IfNone, Some, slice_get, None, MatchOption, ◌≤◌, ◌<◌, ◌∷◌, ◌++◌, OnOk, OnErr};
 ghost use Rattle.std.specs.Option.{option_copied};
 ghost use Rattle.tk_ids.specs.declared.tables.TheConstants.{MAX_DESCRIPTORS};
 
@@ -116,7 +116,7 @@ impl Model for Table {
 
 impl Table {
     ghost use Rattle.tk_ids.specs.Table.{ids_of, HasId, AreDifferent, id_below, IsIdBelow, IsAddedAs, HasParent, IsInsertedAs};
-    ghost use Rattle.tk_ids.specs.IdText.{Pair};
+    ghost use Rattle.tk_ids.specs.IdText.{Pair, IsId, id_text};
     ghost use Rattle.tk_ids.specs.Answer.{IsMadeOf};
 
     /// A table with no descriptor.
@@ -128,11 +128,20 @@ impl Table {
         }
     }
 
+    /// How many descriptors there are.
     pub fn len(&self) -> usize
         ensures len { result ≡ length self.now }
         ensures limit { result ≤ MAX_DESCRIPTORS }
     {
         self.by_text.len()
+    }
+
+    /// Whether there are `MAX_DESCRIPTORS` descriptors.
+    pub fn is_full(&self) -> bool
+        ensures full { IsTrue result → length self.now ≡ MAX_DESCRIPTORS }
+        ensures room { result ≡ false → length self.now < MAX_DESCRIPTORS }
+    {
+        self.len() >= MAX_DESCRIPTORS
     }
 
     /// The descriptor with this key.
@@ -185,7 +194,7 @@ impl Table {
             None => Err(TableFault::NoParent),
             Some(Ok(id)) => Ok(id),
             Some(Err(IdFault::Memory)) => Err(TableFault::Memory),
-            Some(Err(_)) if self.len() >= MAX_DESCRIPTORS => Err(TableFault::Full),
+            Some(Err(_)) if self.is_full() => Err(TableFault::Full),
             Some(Err(fault)) => Err(TableFault::Id(fault)),
         }
     }
@@ -218,22 +227,29 @@ impl Table {
         if self.find(&id).is_some() {
             return Err(TableFault::Twice);
         }
-        let key = self.len();
-        if key >= MAX_DESCRIPTORS {
+        if self.is_full() {
             return Err(TableFault::Full);
         }
         let name = Text::copy(alloc, name)?;
+        let key = self.len() as u32;
         self.push(Descriptor { id, name, dtype })?;
-        Ok(key as u32)
+        Ok(key)
+    }
+
+    /// Whether some descriptor has the id with this text.
+    fn has_text(&self, text: &Text) -> bool
+        ensures { (id : List Pair) → IsId id → text.now ≡ id_text id → IsTrue result ↔ HasId self.now id }
+    {
+        self.by_text.get_index_of(text).is_some()
     }
 
     /// Whether the id is a root's, or the table has the id above it.
     fn has_parent(&self, alloc: Global, id: &UniqueId) -> Result<bool, AllocError>
         ensures { IfOk result (λ has. IsTrue has ↔ HasParent self.now id.now) }
     {
-        match id.parent(alloc)? {
+        match id.front_text(alloc)? {
             None => Ok(true),
-            Some(parent) => Ok(self.find(&parent).is_some()),
+            Some(text) => Ok(self.has_text(&text)),
         }
     }
 
@@ -248,11 +264,11 @@ impl Table {
         if self.find(&descriptor.id).is_some() {
             return Err(TableFault::Twice);
         }
-        let key = self.len();
-        if key >= MAX_DESCRIPTORS {
+        if self.is_full() {
             return Err(TableFault::Full);
         }
+        let key = self.len() as u32;
         self.push(descriptor)?;
-        Ok(key as u32)
+        Ok(key)
     }
 }

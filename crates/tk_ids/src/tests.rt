@@ -1,6 +1,5 @@
-//! The worked examples of ids and tables.
-use crate::ids::{IdFault, Segment, UniqueId};
-use crate::tables::{DType, Table, TableFault};
+//! Worked examples of ids and tables.
+use crate::{DType, Descriptor, IdFault, Segment, Table, TableFault, Text, UniqueId};
 use std::alloc::{AllocError, Global};
 use std::test::Fail;
 
@@ -8,32 +7,34 @@ fn fault_of(alloc: Global, text: &str) -> Option<IdFault> {
     UniqueId::read(alloc, text).err()
 }
 
-fn row_five(alloc: Global) -> Result<UniqueId, IdFault> {
+/// An engine and a test whose value has three characters that are escaped.
+fn escaped_id(alloc: Global) -> Result<UniqueId, IdFault> {
     let engine = Segment::new(alloc, "engine", "e")?;
     let test = Segment::new(alloc, "t", "a/b:c%")?;
     UniqueId::of(alloc, &engine)?.append(alloc, &test)
 }
 
 #[test]
-fn writes(rt: HostRuntime) -> Result<(), Fail> {
-    let text = row_five(rt.alloc())?.write()?;
+fn writes_escapes(rt: HostRuntime) -> Result<(), Fail> {
+    let text = escaped_id(rt.alloc())?.write()?;
     assert_eq!(rt; text.as_str(), "[engine:e]/[t:a%2Fb%3Ac%25]");
     Ok(())
 }
 
 #[test]
-fn reads(rt: HostRuntime) -> Result<(), Fail> {
-    let id = UniqueId::read(rt.alloc(), "[engine:e]/[t:a%2Fb%3Ac%25]")?;
+fn reads_escapes(rt: HostRuntime) -> Result<(), Fail> {
+    let id = UniqueId::read(rt.alloc(), "[engine:e]/[t:%25%2B%5B%5D%3A%2F]")?;
     assert_eq!(rt; id.segments().len(), 2);
-    assert_eq!(rt; id.segments()[1].value(), "a/b:c%");
+    assert_eq!(rt; id.segments()[1].value(), "%+[]:/");
     Ok(())
 }
 
 #[test]
-fn refuses_escapes(rt: HostRuntime) {
+fn refuses_other_escapes(rt: HostRuntime) {
     let alloc = rt.alloc();
     assert_eq!(rt; fault_of(alloc, "[engine:a%2fb]"), Some(IdFault::BadEscape(11)));
     assert_eq!(rt; fault_of(alloc, "[engine:%41]"), Some(IdFault::BadEscape(9)));
+    assert_eq!(rt; fault_of(alloc, "[engine:%"), Some(IdFault::BadEscape(9)));
 }
 
 #[test]
@@ -42,6 +43,15 @@ fn refuses_segments(rt: HostRuntime) {
     assert_eq!(rt; fault_of(alloc, "[engine:]"), Some(IdFault::BadSegment(8)));
     assert_eq!(rt; fault_of(alloc, "[engine:e"), Some(IdFault::BadSegment(9)));
     assert_eq!(rt; fault_of(alloc, ""), Some(IdFault::Empty));
+}
+
+/// Two bytes a character before the fault and behind it: positions count bytes.
+#[test]
+fn counts_bytes(rt: HostRuntime) {
+    let alloc = rt.alloc();
+    assert_eq!(rt; fault_of(alloc, "[ä:b]ö"), Some(IdFault::BadSegment(6)));
+    assert_eq!(rt; fault_of(alloc, "[ä:%ö]"), Some(IdFault::BadEscape(5)));
+    assert_eq!(rt; fault_of(alloc, "[ä:%2ö]"), Some(IdFault::BadEscape(6)));
 }
 
 /// `head`, then `unit` so many times, then `tail`.
@@ -72,9 +82,26 @@ fn keeps_the_limit_of_bytes(rt: HostRuntime) -> Result<(), Fail> {
 #[test]
 fn keeps_the_limit_of_segments(rt: HostRuntime) -> Result<(), Fail> {
     let most = repeated(rt.alloc(), "[a:b]", "/[a:b]", 63, "")?;
-    let id = UniqueId::read(rt.alloc(), most.as_str())?;
-    let segment = Segment::new(rt.alloc(), "a", "b")?;
-    assert_eq!(rt; id.append(rt.alloc(), &segment).err(), Some(IdFault::TooLong));
+    assert_eq!(rt; fault_of(rt.alloc(), most.as_str()), None);
+    let more = repeated(rt.alloc(), "[a:b]", "/[a:b]", 64, "")?;
+    assert_eq!(rt; fault_of(rt.alloc(), more.as_str()), Some(IdFault::TooLong));
+    Ok(())
+}
+
+/// Appends one segment more than an id may have.
+fn appends_too_many(alloc: Global) -> Result<Option<IdFault>, IdFault> {
+    let segment = Segment::new(alloc, "a", "b")?;
+    let mut id = UniqueId::of(alloc, &segment)?;
+    for _ in 0..63 {
+        id = id.append(alloc, &segment)?;
+    }
+    Ok(id.append(alloc, &segment).err())
+}
+
+#[test]
+fn refuses_a_segment_too_many(rt: HostRuntime) -> Result<(), Fail> {
+    let fault = appends_too_many(rt.alloc())?;
+    assert_eq!(rt; fault, Some(IdFault::TooLong));
     Ok(())
 }
 
@@ -95,9 +122,32 @@ fn add(
 fn adds(rt: HostRuntime) {
     let alloc = rt.alloc();
     let mut table = Table::new(alloc);
-    assert!(rt; matches!(add(alloc, &mut table, Some(3), "a"), Err(TableFault::NoParent)));
-    assert!(rt; matches!(add(alloc, &mut table, None, "a"), Ok(0)));
-    assert!(rt; matches!(add(alloc, &mut table, None, "a"), Err(TableFault::Twice)));
+    assert_eq!(rt; add(alloc, &mut table, Some(3), "a"), Err(TableFault::NoParent));
+    assert_eq!(rt; add(alloc, &mut table, None, "a"), Ok(0));
+    assert_eq!(rt; add(alloc, &mut table, None, "a"), Err(TableFault::Twice));
+    assert_eq!(rt; add(alloc, &mut table, Some(0), "a"), Ok(1));
+}
+
+/// Inserts a container with the id of this text.
+fn insert(alloc: Global, table: &mut Table, text: &str) -> Result<u32, TableFault> {
+    match UniqueId::read(alloc, text) {
+        Ok(id) => {
+            let name = Text::copy(alloc, "one")?;
+            let dtype = DType::Container;
+            table.insert(alloc, Descriptor { id, name, dtype })
+        }
+        Err(fault) => Err(TableFault::Id(fault)),
+    }
+}
+
+#[test]
+fn inserts(rt: HostRuntime) {
+    let alloc = rt.alloc();
+    let mut table = Table::new(alloc);
+    assert_eq!(rt; insert(alloc, &mut table, "[t:a]/[t:b]"), Err(TableFault::NoParent));
+    assert_eq!(rt; insert(alloc, &mut table, "[t:a]"), Ok(0));
+    assert_eq!(rt; insert(alloc, &mut table, "[t:a]/[t:b]"), Ok(1));
+    assert_eq!(rt; insert(alloc, &mut table, "[t:a]"), Err(TableFault::Twice));
 }
 
 /// A table with so many roots.
@@ -114,6 +164,28 @@ fn roots(alloc: Global, count: u32) -> Result<Table, AllocError> {
 fn fills(rt: HostRuntime) -> Result<(), Fail> {
     let mut table = roots(rt.alloc(), 65536)?;
     assert_eq!(rt; table.len(), 65536);
-    assert!(rt; matches!(add(rt.alloc(), &mut table, None, "x"), Err(TableFault::Full)));
+    assert_eq!(rt; add(rt.alloc(), &mut table, None, "x"), Err(TableFault::Full));
+    assert_eq!(rt; add(rt.alloc(), &mut table, None, "1"), Err(TableFault::Twice));
+    Ok(())
+}
+
+/// The key of the root with this value, and of the same root in a table without it.
+#[test]
+fn finds(rt: HostRuntime) -> Result<(), Fail> {
+    let table = roots(rt.alloc(), 5)?;
+    let last = UniqueId::read(rt.alloc(), "[t:4]")?;
+    assert_eq!(rt; table.find(&last), Some(4));
+    let absent = UniqueId::read(rt.alloc(), "[t:5]")?;
+    assert_eq!(rt; table.find(&absent), None);
+    Ok(())
+}
+
+#[test]
+fn gives_parents(rt: HostRuntime) -> Result<(), Fail> {
+    let id = escaped_id(rt.alloc())?;
+    match id.parent(rt.alloc())? {
+        Some(parent) => assert_eq!(rt; parent.as_text().as_str(), "[engine:e]"),
+        None => assert!(rt; false, "an id of two segments has a parent"),
+    }
     Ok(())
 }

@@ -1,9 +1,10 @@
 -- One word of a mask, and the flags and items that stand for it.
-use Rattle.std.proofs.Common.{◌≡◌, ℕ, zero, suc, ◌+◌, ◌-◌, ◌*◌, ◌/◌, ◌%◌, ◌<◌, ◌≤◌, min, ◌==◌, Bool, true, false, not, cond, List, [], ◌∷◌, ◌++◌, length, take, drop, map, replicate, get_or, count_by, refl, sym, ap, ap₂, ◌∙◌, subst, ⊎_elim, arith}
+use Rattle.std.proofs.Common.{◌≡◌, ℕ, zero, suc, ◌+◌, ◌-◌, ◌*◌, ◌/◌, ◌%◌, ◌<◌, ◌≤◌, min, ◌==◌, Bool, true, false, not, cond, List, [], ◌∷◌, ◌++◌, length, take, drop, replicate, get_or, count_by, refl, sym, ap, ap₂, ◌∙◌, subst, ⊎_elim, arith}
 use Rattle.std.specs.Int.{bit_at}
 use Rattle.std.proofs.lemmas.Nat.Bits.{bit_at-zero}
 use Rattle.std.specs.List.{items_where_true}
-use Rattle.std.proofs.lemmas.List.{length-take, length-drop, get_or-take, get_or-drop, get_or_past, take-append-le, take_all, same_lists, length-replicate}
+use Rattle.std.proofs.lemmas.List.{length-take, length-drop, get_or-take, get_or-drop, get_or_past, take-append-le, take_all, length-replicate}
+use Rattle.std.proofs.lemmas.Slice.{drop-append-drop}
 use Rattle.std.proofs.lemmas.List.Sums.{sum_by-cons, count_by-le-length}
 use Rattle.std.proofs.lemmas.Bool.{cases_lt}
 use Rattle.tk_lanes.specs.Bits.{has_bit, first_bits, set_bits, words_for, HoldsFlags, IsClearFrom}
@@ -29,7 +30,7 @@ block_held flags words k one holds lt is =
           let at : k + 0 ≡ (64 * k + i) / 64 = omega arith in
           let pos : 0 < one = omega arith in
           let here : get_or word (i / 64) 0 ≡ get_or words ((64 * k + i) / 64) 0 =
-              ap (λ j. get_or word j 0) zero_ ∙ get_or-take one (drop k words) 0 0 pos ∙ get_or-drop k words 0 0 ∙ ap (λ j. get_or words j 0) at in
+          ap (λ j. get_or word j 0) zero_ ∙ get_or-take one (drop k words) 0 0 pos ∙ get_or-drop k words 0 0 ∙ ap (λ j. get_or words j 0) at in
           ap₂ (λ w j. bit_at w j == 1) here (sym low) ∙ holds.bits (64 * k + i) ∙ sym (get_or-drop (64 * k) flags i false) ∙ sym (get_or-take 64 (drop (64 * k) flags) i false small))
           (λ (past : 64 ≤ i).
           let out : length word ≤ i / 64 = omega (arith, long_word) in
@@ -95,6 +96,14 @@ gathered flags words column part buffer new count m holds same long counted is =
     ∙ take-append-le count (items_where_true flags part) (drop count buffer) (omega arith)
     ∙ take_all count (items_where_true flags part) (omega arith)
 
+pub gathered_rest : (flags : List Bool) (words column part : List ℕ) (buffer new : List ℕ) (count m : ℕ) → HoldsFlags flags words → length flags ≡ length part → m ≡ length part
+    → count ≡ set_bits words → new ≡ items_where_true (first_bits m words) part ++ drop count buffer → drop count new ≡ drop count buffer
+gathered_rest flags words column part buffer new count m holds same long counted is =
+    let flagged : first_bits m words ≡ flags = first_bits_held flags words m holds (same ∙ sym long) in
+    let size : length (items_where_true flags part) ≡ count = length-items_where_true flags part same ∙ sym (set_bits_held flags words holds) ∙ sym counted in
+    ap (drop count) (is ∙ ap (λ f. items_where_true f part ++ drop count buffer) flagged)
+    ∙ drop-append-drop count buffer (items_where_true flags part) count (omega arith) size
+
 -- words whose first n bits are set, and no other
 pub all_held : (n : ℕ) (words : List ℕ) → length words ≡ words_for n → ((i : ℕ) → i < n → has_bit words i ≡ true) → ((i : ℕ) → n ≤ i → has_bit words i ≡ false) → HoldsFlags (replicate n true) words
 all_held n words size below above = record {
@@ -127,3 +136,15 @@ pub turned_all : (n k : ℕ) (old new : List ℕ) → old ≡ replicate k 0 → 
     → ((i : ℕ) → i < n → has_bit new i ≡ not (has_bit old i)) → ((i : ℕ) → n ≤ i → has_bit new i ≡ false) → HoldsFlags (replicate n true) new
 turned_all n k old new zeros size below above =
     all_held n new size (zeros_turned n old new (λ i. ap (λ ws. has_bit ws i) zeros ∙ no_bit k i) below) above
+
+-- words of zeros hold clear flags
+pub none_held : (n k : ℕ) (words : List ℕ) → words ≡ replicate k 0 → length words ≡ words_for n → HoldsFlags (replicate n false) words
+none_held n k words zeros size = record {
+  size = size ∙ ap words_for (sym (length-replicate n false));
+  bits = λ i. ap (λ ws. has_bit ws i) zeros ∙ no_bit k i ∙ sym (clear_at n i);
+}
+  where
+    clear_at : (n i : ℕ) → get_or (replicate n false) i false ≡ false
+    clear_at zero i = refl
+    clear_at (suc n) zero = refl
+    clear_at (suc n) (suc i) = clear_at n i

@@ -5,6 +5,7 @@ pub mod Nibbles
 pub mod Picking
 pub mod Places
 pub mod Search
+pub mod Tallies
 pub mod Views
 pub mod Words
 pub mod Writes

@@ -1,8 +1,8 @@
 -- The places of set flags, and the counts of what stands there.
-use Rattle.std.proofs.Common.{◌≡◌, ℕ, zero, suc, ◌+◌, ◌-◌, ◌*◌, ◌^◌, ◌<◌, ◌≤◌, min, Bool, true, false, cond, List, [], ◌∷◌, ◌++◌, length, take, drop, map, get_or, count_by, refl, sym, ap, ap₂, ◌∙◌, subst, ⊎_elim, arith, add-one, append_assoc}
+use Rattle.std.proofs.Common.{◌≡◌, ℕ, zero, suc, ◌+◌, ◌-◌, ◌*◌, ◌^◌, ◌<◌, ◌≤◌, min, Bool, true, false, cond, List, [], ◌∷◌, ◌++◌, length, take, drop, get_or, count_by, refl, sym, ap, ap₂, ◌∙◌, ⊎_elim, arith, append_assoc}
 use Rattle.std.specs.List.{items_where_true}
 use Rattle.std.specs.Prelude.{Option, Some, None, IfSome, MatchOption}
-use Rattle.std.proofs.lemmas.List.{append-nil, get_or-drop, get_or_past, take_all, length-take, length-drop}
+use Rattle.std.proofs.lemmas.List.{append-nil, get_or-drop, get_or_past, take_all, length-take}
 use Rattle.std.proofs.lemmas.List.Sums.{sum_by-append, count_by-le-length}
 use Rattle.std.proofs.lemmas.Bool.{cases_lt, false≢true}
 use Rattle.std.proofs.Math.Seq.{drop-cons, take-add}
@@ -83,10 +83,10 @@ pub counted_more : (p : ℕ → Bool) (flags : List Bool) (column : List ℕ) (b
 counted_more p flags column block same =
     let next : 64 * (block + 1) ≡ 64 * block + 64 = omega arith in
     let front : length (take (64 * block) flags) ≡ length (take (64 * block) column) =
-        length-take (64 * block) flags ∙ ap (min (64 * block)) (sym same) ∙ sym (length-take (64 * block) column) in
+    length-take (64 * block) flags ∙ ap (min (64 * block)) (sym same) ∙ sym (length-take (64 * block) column) in
     ap (counted_to p flags column) next
     ∙ ap (count_by p) (ap₂ items_where_true (take-add (64 * block) 64 flags) (take-add (64 * block) 64 column)
-        ∙ items-append (take (64 * block) flags) (take 64 (drop (64 * block) flags)) (take (64 * block) column) (take 64 (drop (64 * block) column)) front)
+    ∙ items-append (take (64 * block) flags) (take 64 (drop (64 * block) flags)) (take (64 * block) column) (take 64 (drop (64 * block) column)) front)
     ∙ sum_by-append (λ x. cond (p x) 1 0) (items_where_true (take (64 * block) flags) (take (64 * block) column)) (items_where_true (take 64 (drop (64 * block) flags)) (take 64 (drop (64 * block) column)))
 
 pub counted_all : (p : ℕ → Bool) (flags : List Bool) (column : List ℕ) (n : ℕ) → length column ≡ length flags → length flags ≤ n → counted_to p flags column n ≡ count_by p (items_where_true flags column)

@@ -1,5 +1,6 @@
 -- Words as the flags that they hold.
-use Rattle.std.proofs.Common.{◌≡◌, ℕ, zero, suc, ◌+◌, ◌-◌, ◌*◌, ◌/◌, ◌%◌, ◌^◌, ◌<◌, ◌≤◌, Bool, true, false, not, cond, ◌&&◌, List, [], ◌∷◌, ◌++◌, length, map, get_or, count_by, refl, sym, ap, ap₂, ◌∙◌, subst, ⊎_elim, arith}
+use Rattle.std.proofs.Common.{◌≡◌, ℕ, zero, suc, ◌+◌, ◌*◌, ◌/◌, ◌%◌, ◌^◌, ◌<◌, ◌≤◌, Bool, false, not, cond, ◌&&◌, ◌||◌, List, [], ◌∷◌, length, map, get_or, count_by, refl, sym, ap, ap₂, ◌∙◌, subst, ⊎_elim, arith, ◌==◌, bit_and}
+use Rattle.std.specs.Int.{bit_at}
 use Rattle.std.specs.List.{range_with_len}
 use Rattle.std.specs.Prelude.{Option, Some, None, MatchOption}
 use Rattle.std.specs.Simd.Lanes.{zip2}
@@ -8,6 +9,7 @@ use Rattle.std.proofs.lemmas.List.{same_lists, get_or_past, get_or_default, get_
 use Rattle.std.proofs.lemmas.List.FromFn.{length-map-range_with_len, get_or-map-range_with_len}
 use Rattle.std.proofs.lemmas.List.Sums.{sum_by-cons}
 use Rattle.std.proofs.lemmas.Bool.{cases_lt}
+use Rattle.std.proofs.lemmas.Nat.Bits.{shr_and_one}
 use Rattle.tk_lanes.specs.Bits.{has_bit, first_bits, set_bits, words_for, HoldsFlags, IsClearFrom, IsFirstFrom}
 use Rattle.tk_lanes.specs.Flags.{IsNextSet, IsNoneSet}
 
@@ -42,6 +44,20 @@ held_both a b left right new l r same size each =
           ∙ ⊎_elim
           (λ (lt : i < length a). sym (get_or-zip2 ◌&&◌ a b i false false false lt (omega arith)))
           (λ (past : length a ≤ i). ap₂ (λ x y. x && y) (get_or_past a i false past) (get_or_past b i false (omega arith)) ∙ sym (get_or_past (zip2 ◌&&◌ a b) i false (omega (arith, long))))
+          (cases_lt i (length a));
+    }
+
+pub held_either : (a b : List Bool) (left right new : List ℕ) → HoldsFlags a left → HoldsFlags b right → length a ≡ length b → length new ≡ length left
+    → ((i : ℕ) → has_bit new i ≡ (has_bit left i || has_bit right i)) → HoldsFlags (zip2 ◌||◌ a b) new
+held_either a b left right new l r same size each =
+    let long = length-zip2 ◌||◌ a b same in
+    record {
+      size = size ∙ l.size ∙ ap words_for (sym long);
+      bits = λ i.
+          each i ∙ ap₂ (λ x y. x || y) (l.bits i) (r.bits i)
+          ∙ ⊎_elim
+          (λ (lt : i < length a). sym (get_or-zip2 ◌||◌ a b i false false false lt (omega arith)))
+          (λ (past : length a ≤ i). ap₂ (λ x y. x || y) (get_or_past a i false past) (get_or_past b i false (omega arith)) ∙ sym (get_or_past (zip2 ◌||◌ a b) i false (omega (arith, long))))
           (cases_lt i (length a));
     }
 
@@ -92,3 +108,9 @@ short n words seen holds small same = omega (arith, holds.size, length-first_bit
 pub first_is : (flags : List Bool) (from : ℕ) (words : List ℕ) (o : Option ℕ) → HoldsFlags flags words → MatchOption o (IsClearFrom from words) (IsFirstFrom from words) → MatchOption o (IsNoneSet from flags) (IsNextSet from flags)
 first_is flags from words None holds clear = none_set flags words from holds clear
 first_is flags from words (Some at) holds first = next_set flags words from at holds first
+
+-- a bit, shifted to the front of its word, is its flag
+pub bit_read : (flags : List Bool) (words : List ℕ) (at word : ℕ) → HoldsFlags flags words → at < length flags → word ≡ get_or words (at / 64) word → (bit_and (word / 2 ^ (at % 64)) 1 == 1) ≡ get_or flags at false
+bit_read flags words at word holds lt is =
+    let within : at / 64 < length words = omega (arith, holds.size) in
+    ap (λ (b : ℕ). b == 1) (shr_and_one word (at % 64) ∙ ap (λ (w : ℕ). bit_at w (at % 64)) (is ∙ get_or_default words (at / 64) word 0 within)) ∙ holds.bits at

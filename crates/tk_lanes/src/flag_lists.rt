@@ -1,14 +1,18 @@
 //! A set of positions of a column, which a contract sees as one flag for each position.
-ghost use Rattle.std.specs.Prelude.{◌≡◌, ◌≤◌, ◌<◌, ◌^◌, ◌*◌, ◌==◌, ◌&&◌, not, true, length, map, replicate, take, drop, count_by, IfOk, IfSome, MatchOption};
+//!
+//! The flags are the bits of a mask, 64 in a word, whose bits at and above the length are 0.
+ghost use Rattle.std.specs.Prelude.{◌≡◌, ◌≤◌, ◌<◌, ◌^◌, ◌*◌, ◌==◌, ◌&&◌, ◌||◌, ℕ, not, true, false, length, map, replicate, take, drop, count_by, get_or, slice_index, IfOk, IfSome, MatchOption};
 ghost use Rattle.std.specs.Simd.Lanes.{zip2};
 ghost use Rattle.std.specs.List.{items_where_true};
 ghost use Rattle.tk_lanes.specs.Bits.{shares_bit};
 ghost use Rattle.tk_lanes.specs.Lists.{places};
 ghost use Rattle.tk_lanes.specs.Flags.{IsNextSet, IsNoneSet};
 
+use crate::parts::equal_in_word;
 use std::alloc::{AllocError, Global};
 use std::marker::Model;
 
+/// A flag for each position of a column.
 #[derive(Drop)]
 pub struct Flags {
     words: Vec<u64>,
@@ -70,11 +74,38 @@ impl Flags {
         Ok(Flags { words, len })
     }
 
+    /// A clear flag for each of so many positions.
+    pub fn none(alloc: Global, len: usize) -> Result<Flags, AllocError>
+        requires { len ≤ 2 ^ 32 }
+        ensures { IfOk result (λ flags. flags ≡ replicate len false) }
+    {
+        let words = Vec::from_elem(alloc, 0u64, len.div_ceil(64))?;
+        Ok(Flags { words, len })
+    }
+
+    /// The same flags again.
+    pub fn try_clone(&self) -> Result<Flags, AllocError>
+        ensures { IfOk result (λ flags. flags ≡ self.now) }
+    {
+        Ok(Flags {
+            words: self.words.clone()?,
+            len: self.len,
+        })
+    }
+
+    /// How many positions there are.
     pub fn len(&self) -> usize
         ensures value { result ≡ length self.now }
         ensures bound { result ≤ 2 ^ 32 }
     {
         self.len
+    }
+
+    /// Whether the flag of a position is set. Past the last position none is.
+    pub fn is_set(&self, at: usize) -> bool
+        ensures { result ≡ get_or self.now at false }
+    {
+        at < self.len && self.words[at / 64] >> (at % 64) & 1 == 1
     }
 
     /// How many flags are set.
@@ -92,6 +123,14 @@ impl Flags {
         crate::and_into(&mut self.words, &other.words);
     }
 
+    /// Sets the flags that the other has too.
+    pub fn or(&mut self, other: &Flags)
+        requires { length self.old ≡ length other.now }
+        ensures { self.new ≡ zip2 ◌||◌ self.old other.now }
+    {
+        crate::or_into(&mut self.words, &other.words);
+    }
+
     /// Turns each flag over.
     pub fn invert(&mut self)
         ensures { self.new ≡ map not self.old }
@@ -107,12 +146,13 @@ impl Flags {
         crate::first_from(&self.words, from)
     }
 
-    /// The bytes of the column at the set flags among the 64 from the given block on, at the front
-    /// of a buffer, and how many they are.
+    /// Writes the bytes of a column at the set flags of one block of 64 to the front of a buffer,
+    /// in order, and says how many. The rest of the buffer stays.
     pub fn gather(&self, column: &[u8], block: usize, buffer: &mut [u8; 64]) -> usize
         requires size { length column.now ≡ length self.now }
         requires within { 64 * block < length self.now }
         ensures count { result ≤ 64 }
+        ensures rest { drop result buffer.new ≡ drop result buffer.old }
         ensures picked { take result buffer.new ≡ items_where_true (take 64 (drop (64 * block) self.now)) (take 64 (drop (64 * block) column.now)) }
     {
         let start = 64 * block;
@@ -139,12 +179,38 @@ impl Flags {
         ensures value { result ≡ count_by (λ x. x == value) (items_where_true self.now column.now) }
         ensures bound { result ≤ 2 ^ 32 }
     {
-        let mut buffer = [0u8; 64];
         let mut total = 0;
         for block in 0..self.len().div_ceil(64) {
-            let kept = self.gather(column, block, &mut buffer);
-            total += crate::count_byte(&buffer[..kept], value);
+            total += self.count_in_block(column, block, value);
         }
         total
+    }
+
+    /// How many of the bytes of a column at set flags equal 0, 1, .. 7, in one pass. It takes no memory.
+    pub fn tally(&self, column: &[u8]) -> [usize; 8]
+        requires { length column.now ≡ length self.now }
+        ensures value { (k : ℕ) → k < 8 → slice_index result k ≡ count_by (λ x. x == k) (items_where_true self.now column.now) }
+        ensures bound { (k : ℕ) → k < 8 → slice_index result k ≤ 2 ^ 32 }
+    {
+        let mut counts = [0; 8];
+        for block in 0..self.len().div_ceil(64) {
+            for code in 0..8u8 {
+                counts[code as usize] += self.count_in_block(column, block, code);
+            }
+        }
+        counts
+    }
+
+    // How many of the bytes at set flags of one block of 64 equal the value.
+    #[inline(always)]
+    fn count_in_block(&self, column: &[u8], block: usize, value: u8) -> usize
+        requires size { length column.now ≡ length self.now }
+        requires within { 64 * block < length self.now }
+        ensures value { result ≡ count_by (λ x. x == value) (items_where_true (take 64 (drop (64 * block) self.now)) (take 64 (drop (64 * block) column.now))) }
+        ensures bound { result ≤ 64 }
+    {
+        let start = 64 * block;
+        let end = (start + 64).min(self.len);
+        (equal_in_word(&column[start..end], value) & self.words[block]).count_ones() as usize
     }
 }

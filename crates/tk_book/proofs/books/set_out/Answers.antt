@@ -1,10 +1,10 @@
 use Rattle.std.proofs.Common.{arith, ap}
 use Rattle.tk_book.specs.Wants.{Wants}
-use Rattle.tk_book.specs.declared.books.Noted.{Noted}
+use Rattle.tk_book.specs.declared.rules.Noted.{Noted}
 use Rattle.atomic_table.specs.Table.{Me}
 use Rattle.tk_book.proofs.Locking.{splits}
 use Rattle.tk_book.proofs.books.set_out.Goals as goal
 
 pub split_seat-seat-requires : goal.split_seat-seat-requires
-split_seat-seat-requires c = let me = c.loop.invariant.me in let test = c.loop-test.true in let parts = ap (λ (z : Me Wants Noted). z.0.parts) me in
-    (c.loop.invariant.table, c.requires.table, splits _ _ c.loop.first.me.0 (omega arith) (ap (λ (z : Me Wants Noted). z.0.held) me))
+split_seat-seat-requires c = let me = c.loop.invariant.me in let test = c.loop-test.true in
+    (c.loop.invariant.table, c.requires.table, splits _ _ c.loop.first.me.0 _ (omega arith) (ap (λ (z : Me Wants Noted). z.0.held) me))

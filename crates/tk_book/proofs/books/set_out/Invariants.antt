@@ -1,4 +1,4 @@
-use Rattle.std.proofs.Common.{◌≡◌, ◌+◌, ◌-◌, length, [], None, All}
+use Rattle.std.proofs.Common.{◌≡◌, ◌+◌, ◌-◌, length, replicate, [], None, All}
 use Rattle.tk_book.specs.Books.{empty}
 use Rattle.tk_book.specs.Booked.{noted}
 use Rattle.tk_book.proofs.books.set_out.Given as goal
@@ -6,7 +6,7 @@ use Rattle.tk_book.proofs.books.set_out.Given as goal
 abbrev pub invariant-loop : goal.invariant-loop
 invariant-loop l = record {
   table : l.first.table_id ≡ l.table.shared.table_id;
-  me : l.first.me ≡ (noted l.table.shared.key (l.count + 1 - l.counter) None [], []);
+  me : l.first.me ≡ (noted l.table.shared.key (replicate (l.count + 1 - l.counter) None) [], []);
   dealt : length l.all.items + 1 ≡ l.counter;
   empty_seats : All (λ s. s ≡ empty (record { table = l.table.shared.table_id; seats = l.table.shared.key })) l.all.items;
 }

@@ -1,6 +1,5 @@
-use Rattle.std.proofs.Common.{arith}
 use Rattle.tk_book.proofs.Locking.{opens}
 use Rattle.tk_book.proofs.books.Book.open.Goals as goal
 
 pub of_words-requires : goal.of_words-requires
-of_words-requires c = opens _ (omega arith) (omega arith)
+of_words-requires c = opens _

@@ -1,5 +1,4 @@
-use Rattle.std.proofs.Common.{rules, arith, subst, refl, sym, length, ◌≡◌, ◌∙◌, ap, false, Option, Some, None, is_some, All, List, slice_get}
-use Rattle.std.proofs.lemmas.Grind.{common_steps}
+use Rattle.std.proofs.Common.{rules, arith, subst, refl, length, ◌≡◌, ◌∙◌, ap, false, Option, Some, None, is_some, All, List, slice_get}
 use Rattle.std.proofs.lemmas.Option.{slice_get_read}
 use Rattle.tk_book.specs.Wants.{Wants}
 use Rattle.tk_book.specs.Held.{Agree, MayTake}

@@ -1,4 +1,4 @@
-use Rattle.std.proofs.Common.{◌≡◌, ℕ, ◌+◌, ◌≤◌, ◌<◌, ◌^◌, ◌↔◌, sum_by, count_by, is_some, take, get_or, length, All, List, Option, Some, arith, subst, ap, sym, ◌∙◌}
+use Rattle.std.proofs.Common.{◌≡◌, ℕ, ◌≤◌, ◌<◌, ◌^◌, ◌↔◌, sum_by, count_by, is_some, take, get_or, All, List, Option, Some, arith, subst, ap, sym, ◌∙◌}
 use Rattle.std.proofs.lemmas.List.Sums.{sum_by_more_le}
 use Rattle.std.proofs.lemmas.Grind.{common_steps}
 use Rattle.tk_book.specs.Wants.{Wants}
@@ -21,4 +21,4 @@ returns-clause-exactly c = λ n. let xs : List (Option Wants) = c.deref-held-ite
     let few : count_by is_some xs ≤ 14 = subst (λ (l : List (Option Wants)). count_by is_some l ≤ 14) (sym (c.deref-held-items.ensures.value ∙ c.self.view_is)) c.requires.few in
     let total : sum_by held_word xs ≡ c.loop-held.word = grind (arith, common_steps, c.loop-held.invariant) in
     subst (λ (p : ℕ × List (Option Wants)). Admits p.0 (word_of n) ↔ All (Agree (Some n)) p.1) (λ k. (total k, (c.deref-held-items.ensures.value ∙ c.self.view_is) k))
-      (admits_exactly xs n (subst Lawful (sym c.deref-held-items.ensures.value) c.self.invariant) few)
+    (admits_exactly xs n (subst Lawful (sym c.deref-held-items.ensures.value) c.self.invariant) few)

@@ -1,6 +1,6 @@
-use Rattle.std.proofs.Common.{◌≡◌, ◌<◌, ◌^◌, ◌≤◌, ap, ◌∙◌, subst, refl, arith}
+use Rattle.std.proofs.Common.{◌≡◌, subst, refl, arith}
 use Rattle.tk_book.specs.Words.{packed}
-use Rattle.tk_book.specs.Needs.{word_of, access, weight, lane}
+use Rattle.tk_book.specs.Needs.{word_of}
 use Rattle.tk_book.proofs.Masks.{all_lanes, one_lane, room_for_lane}
 use Rattle.tk_book.proofs.needs.Need.word.Goals as goal
 

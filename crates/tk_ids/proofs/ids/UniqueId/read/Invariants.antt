@@ -1,6 +1,5 @@
-use Rattle.tk_ids.specs.Reader.{state_of}
 use Rattle.tk_ids.proofs.ReadingLemmas.{HasRead}
 use Rattle.tk_ids.proofs.ids.UniqueId.read.Given as goal
 
 abbrev pub invariant-loop-at : goal.invariant-loop-at
-invariant-loop-at l = HasRead l.bytes l.at (state_of l.reader.segments.items l.reader.place)
+invariant-loop-at l = HasRead l.bytes l.at l.reader

@@ -7,12 +7,9 @@ use Rattle.tk_ids.proofs.ids.UniqueId.text_with.Goals.{In_ok-push_segment}
 -- what was written
 written : (c : In_ok-push_segment) → IsAppended c.args.self.now c.args.segment.now c.push_segment.new.out.items
 written c =
-    let invariant = c.self.invariant in
-    let before : c.in_ok-bytes.bytes.items ≡ id_text c.self.inside.segments.items = c.in_ok-bytes.ensures.items ∙ c.as_bytes.ensures.value ∙ c.as_str.ensures ∙ invariant.1 in
-    let slash = c.in_ok-push.ensures.items ∙ ap (λ l. l ++ 47 ∷ []) before in
-    subst (λ id. IsAppended id c.args.segment.now c.push_segment.new.out.items) c.self.view_is
-    (appended c.self.inside.segments.items c.args.segment.now c.push_segment.new.out.items invariant.0 c.push_segment.ensures.segment
-    (c.in_ok-push_segment.ensures.ok ∙ ap (λ l. l ++ segment_text c.args.segment.now) slash))
+    let slash = c.in_ok-push.ensures.items ∙ ap (λ l. l ++ 47 ∷ []) (c.in_ok-bytes.ensures.items ∙ c.as_bytes.ensures.value ∙ c.as_str.ensures ∙ c.as_text.ensures.text) in
+    appended c.args.self.now c.args.segment.now c.push_segment.new.out.items c.as_text.ensures.id c.push_segment.ensures.segment
+    (c.in_ok-push_segment.ensures.ok ∙ ap (λ l. l ++ segment_text c.args.segment.now) slash)
 
 pub from_utf8-requires : goal.from_utf8-requires
 from_utf8-requires c = (written c).utf8

@@ -1,9 +1,8 @@
-use Rattle.std.proofs.Common.{rules, ◌≡◌, ◌<◌, true, List, ℕ, length, replicate, sym, ap, ◌∙◌, subst, arith}
+use Rattle.std.proofs.Common.{rules, ◌≡◌, true, List, ℕ, length, replicate, sym, ap, ◌∙◌, subst}
 use Rattle.std.proofs.lemmas.List.{with_items_is, length-replicate}
-use Rattle.std.specs.Vec.{with_items}
-use Rattle.tk_lanes.specs.Bits.{first_bits, has_bit, words_for, HoldsFlags}
+use Rattle.tk_lanes.specs.Bits.{first_bits, words_for, HoldsFlags}
 use Rattle.tk_lanes.proofs.Views.{first_bits_held, held_again}
-use Rattle.tk_lanes.proofs.Blocks.{all_held, zeros_turned, turned_all}
+use Rattle.tk_lanes.proofs.Blocks.{turned_all}
 use Rattle.tk_lanes.proofs.flag_lists.Flags.all.Goals as goal
 
 pub invariant_of-result : goal.invariant_of-result

@@ -1,7 +1,6 @@
-use Rattle.std.proofs.Common.{◌≡◌, ◌&&◌, List, ℕ, length, sym, ap, ap₂, ◌∙◌, subst, arith}
+use Rattle.std.proofs.Common.{◌≡◌, ◌&&◌, List, ℕ, length, sym, ap, ap₂, ◌∙◌, subst}
 use Rattle.std.specs.Simd.Lanes.{zip2}
 use Rattle.std.proofs.lemmas.Simd.{length-zip2}
-use Rattle.std.specs.Vec.{with_items}
 use Rattle.std.proofs.lemmas.List.{with_items_is}
 use Rattle.tk_lanes.specs.Bits.{first_bits, HoldsFlags}
 use Rattle.tk_lanes.proofs.Views.{length-first_bits, first_bits_held, held_again, held_both}

@@ -1,4 +1,4 @@
-use Rattle.std.proofs.Common.{◌≡◌, ◌≤◌, ◌^◌, length, sym, ap, ◌∙◌, subst, arith}
+use Rattle.std.proofs.Common.{◌≤◌, ◌^◌, length, sym, ap, subst, arith}
 use Rattle.tk_lanes.specs.Bits.{HoldsFlags}
 use Rattle.tk_lanes.proofs.Views.{short, length-first_bits, first_is}
 use Rattle.tk_lanes.proofs.Places.{bounded}

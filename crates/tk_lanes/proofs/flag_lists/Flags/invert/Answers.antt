@@ -1,4 +1,4 @@
-use Rattle.std.proofs.Common.{◌≡◌, not, map, List, ℕ, length, sym, ap, ◌∙◌, subst}
+use Rattle.std.proofs.Common.{not, map, List, ℕ, length, sym, ap, ◌∙◌, subst}
 use Rattle.std.proofs.lemmas.List.{with_items_is, length-map}
 use Rattle.tk_lanes.specs.Bits.{first_bits, words_for, HoldsFlags}
 use Rattle.tk_lanes.proofs.Views.{length-first_bits, first_bits_held, held_again, held_turned}

@@ -1,4 +1,4 @@
-use Rattle.std.proofs.Common.{◌≡◌, eqb, map, List, ℕ, length, sym, ap, ◌∙◌, subst}
+use Rattle.std.proofs.Common.{eqb, map, List, ℕ, length, sym, ap, ◌∙◌, subst}
 use Rattle.std.proofs.lemmas.List.{with_items_is, length-map}
 use Rattle.tk_lanes.specs.Bits.{first_bits, HoldsFlags}
 use Rattle.tk_lanes.proofs.Views.{first_bits_held, held_again}

@@ -1,4 +1,4 @@
-use Rattle.std.proofs.Common.{◌≡◌, ◌+◌, ◌∷◌, ◌++◌, [], List, ℕ, sym, ap, ◌∙◌, subst, arith}
+use Rattle.std.proofs.Common.{◌+◌, List, ℕ, sym, subst, arith}
 use Rattle.tk_lanes.proofs.Places.{AreFound, found_more, found_all}
 use Rattle.tk_lanes.proofs.flag_lists.Flags.places.Goals as goal
 

@@ -1,0 +1,17 @@
+use Rattle.tk_book.proofs.Granting.{state, grant, failure, load, release}
+use Rattle.tk_book.proofs.laws.each_step_is_of_the_holdings.Goals as goal
+
+pub returns-clause-state : goal.returns-clause-state
+returns-clause-state c = state
+
+pub returns-clause-grant : goal.returns-clause-grant
+returns-clause-grant c = grant
+
+pub returns-clause-failure : goal.returns-clause-failure
+returns-clause-failure c = failure
+
+pub returns-clause-load : goal.returns-clause-load
+returns-clause-load c = load
+
+pub returns-clause-release : goal.returns-clause-release
+returns-clause-release c = release

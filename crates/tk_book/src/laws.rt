@@ -1,0 +1,24 @@
+//! The law of a book's word.
+ghost use Rattle.std.specs.Prelude.{◌↔◌, List, Option};
+ghost use Rattle.tk_book.specs.Wants.{Wants};
+ghost use Rattle.tk_book.specs.Held.{Lawful, WritersAreAlone};
+ghost use Rattle.tk_book.specs.Steps.{IsSumOfHoldings, ExchangeIsGrant, FailureIsNone, LoadIsNone, SubtractionIsRelease};
+
+use crate::needs::Need;
+use crate::rules::{Gives, Locking, Looks, Noted, Takes};
+use atomic_table::{Play, TableRule};
+
+/// Between any two steps a book's word is the sum of what its seats hold, and each step is a grant, a release, or
+/// nothing.
+pub fn each_step_is_of_the_holdings()
+    ensures state { IsSumOfHoldings ⟦<Locking as TableRule<Need, Noted, usize>>⟧.holds }
+    ensures grant { ExchangeIsGrant ⟦<Locking as TableRule<Need, Noted, usize>>⟧.holds ⟦<Takes as Play<Need, Noted>>⟧.then }
+    ensures failure { FailureIsNone ⟦<Locking as TableRule<Need, Noted, usize>>⟧.holds ⟦<Takes as Play<Need, Noted>>⟧.then }
+    ensures load { LoadIsNone ⟦<Locking as TableRule<Need, Noted, usize>>⟧.holds ⟦<Looks as Play<Need, Noted>>⟧.then }
+    ensures release { SubtractionIsRelease ⟦<Locking as TableRule<Need, Noted, usize>>⟧.holds ⟦<Gives as Play<Need, Noted>>⟧.then }
+{}
+
+/// No two seats' needs conflict exactly where each that writes a resource is alone there.
+pub fn writers_are_alone()
+    ensures { (held : List (Option Wants)) → Lawful held ↔ WritersAreAlone held }
+{}

@@ -1,0 +1,12 @@
+pub mod Grows
+pub mod Moving
+pub mod Marking
+pub mod Cuts
+pub mod Standing
+pub mod Planning
+pub mod Ordering
+pub mod Telling
+pub mod Founding
+pub mod Describing
+pub mod Relabels
+pub mod Renumbering

@@ -1,0 +1,168 @@
+-- What trees do, one tree after another.
+use Rattle.std.proofs.Common.{◌≡◌, ℕ, zero, suc, ◌+◌, ◌-◌, ◌≤◌, List, [], ◌∷◌, ◌++◌, length, true, false, Bool, cond, is_some, Option, Some, None, refl, sym, ap, ap₂, ◌∙◌, arith, rules, length-append, append_assoc, append-nil, drop, take, get_or, ◌<◌, ◌==◌, ◌&&◌}
+use Rattle.tk_cutting.specs.Cutting.{is_leaf, all_concurrent}
+use Rattle.std.proofs.lemmas.List.{drop_more, drop_all, take_all}
+use Rattle.tk_cutting.proofs.Grows.{forest_nil, forest-flats, is_forest, parted}
+use Rattle.tk_cutting.specs.declared.steps.Act.TheVariants.{Report}
+use Rattle.tk_cutting.specs.declared.nodes.Node.{Node}
+use Rattle.tk_cutting.specs.declared.nodes.Placed.{Placed}
+use Rattle.tk_cutting.specs.declared.steps.Move.{Move}
+use Rattle.tk_cutting.specs.declared.steps.Step.{Step}
+use Rattle.tk_cutting.specs.Trees.{Tree, tree, Forest, no_trees, more, flat, flats, grow, forest, IsForest, IsSplit}
+use Rattle.tk_cutting.specs.Script.{reports, opening, registration, moves, moves_below, stamped}
+use Rattle.tk_cutting.specs.Weights.{registered, own, weight, weights}
+
+pub length-reports : (k i : ℕ) (es : List (List (List ℕ × List ℕ))) → length (reports k i es) ≡ length es
+length-reports k i [] = refl
+length-reports k i (e ∷ es) = ap suc (length-reports k (i + 1) es)
+
+length-either : (b : Bool) (m : Move) → length (cond b [] (m ∷ [])) ≡ cond b 0 1
+length-either true m = refl
+length-either false m = refl
+
+registration-length : (parent : ℕ) (t : Tree) → length (registration parent t) ≡ registered t
+registration-length parent (tree n k f) = length-either n.is_static _
+
+length-skipped : (b : Bool) (m : Move) (ms : List Move) (w : ℕ) → length ms ≡ w → length (cond b (m ∷ []) ms) ≡ cond b 1 w
+length-skipped true m ms w e = refl
+length-skipped false m ms w e = e
+
+mutual
+  pub moves-length : (t : Tree) → length (moves t) ≡ weight t
+  moves-length (tree n k f) = length-skipped (is_some n.skip) _ _ _ (
+    length-append (opening n k) _
+    ∙ ap₂ (λ a b. suc a + b) (length-reports k 0 n.entries) (length-append (moves_below k f) _ ∙ ap (λ a. a + 1) (below-length k f))
+    ∙ omega arith
+  )
+
+  pub below-length : (parent : ℕ) (f : Forest) → length (moves_below parent f) ≡ weights f
+  below-length parent no_trees = refl
+  below-length parent (more t f) =
+      length-append (registration parent t) _
+      ∙ ap₂ (λ a b. a + b) (registration-length parent t) (length-append (moves t) _ ∙ ap₂ (λ a b. a + b) (moves-length t) (below-length parent f))
+      ∙ omega arith
+
+pub is_leaf_when_empty : (ps : List Placed) → is_leaf (forest ps) ≡ (length ps == 0)
+unfolding forest grow
+is_leaf_when_empty [] = refl
+is_leaf_when_empty (p ∷ ps) = grind arith
+
+pub concurrent_end : (ps : List Placed) → length ps < 1 → all_concurrent (forest ps) ≡ true
+concurrent_end [] h = ap all_concurrent forest_nil
+concurrent_end (p ∷ ps) h = absurd (omega arith)
+
+pub concurrent_next : (p : Placed) (after below others : List Placed) → IsSplit p after below others
+    → all_concurrent (forest (p ∷ after)) ≡ ((p.node.is_static && p.node.is_concurrent) && all_concurrent (forest others))
+concurrent_next p after below others s = ap all_concurrent s.trees
+
+pub pushed : (olds news xs ys : List Move) (m : Move) → news ≡ olds ++ m ∷ [] → ys ≡ m ∷ xs → olds ++ ys ≡ news ++ xs
+pushed olds news xs ys m e f = ap (λ l. olds ++ l) f ∙ sym (append_assoc olds (m ∷ []) xs) ∙ ap (λ l. l ++ xs) (sym e)
+
+-- ---- one more tree
+
+pub below_next : (parent : ℕ) (p : Placed) (after below others : List Placed) → IsSplit p after below others
+    → moves_below parent (forest (p ∷ after)) ≡ registration parent (tree p.node p.number (forest below)) ++ (moves (tree p.node p.number (forest below)) ++ moves_below parent (forest others))
+below_next parent p after below others s = ap (moves_below parent) s.trees
+
+pub below_end : (parent : ℕ) (ps : List Placed) → length ps < 1 → moves_below parent (forest ps) ≡ []
+below_end parent [] h = ap (moves_below parent) forest_nil
+below_end parent (p ∷ ps) h = absurd (omega arith)
+
+pub reports_next : (k i : ℕ) (es : List (List (List ℕ × List ℕ))) → i < length es → reports k i (drop i es) ≡ record { node = k; act = Report i } ∷ reports k (i + 1) (drop (i + 1) es)
+reports_next k i es h = ap (reports k i) (drop_more es i [] h)
+
+pub reports_end : (k i : ℕ) (es : List (List (List ℕ × List ℕ))) → length es ≤ i → reports k i (drop i es) ≡ []
+reports_end k i es h = ap (reports k i) (drop_all i es h)
+
+pub stamped_next : (n i : ℕ) (ms : List Move) (m : Move) → i < length ms → m ≡ get_or ms i m
+    → stamped (n + i) (drop i ms) ≡ record { node = m.node; stamp = n + i; act = m.act } ∷ stamped (n + (i + 1)) (drop (i + 1) ms)
+stamped_next n i ms m h e =
+    ap (stamped (n + i)) (drop_more ms i m h ∙ ap (λ y. y ∷ drop (i + 1) ms) (sym e))
+    ∙ ap (λ j. record { node = m.node; stamp = n + i; act = m.act } ∷ stamped j (drop (i + 1) ms)) (omega arith)
+
+pub stamped_end : (n i : ℕ) (ms : List Move) → length ms ≤ i → stamped (n + i) (drop i ms) ≡ []
+stamped_end n i ms h = ap (stamped (n + i)) (drop_all i ms h)
+
+pub weights_end : (ps : List Placed) → length ps < 1 → weights (forest ps) ≡ 0
+weights_end [] h = ap weights forest_nil
+weights_end (p ∷ ps) h = absurd (omega arith)
+
+-- ---- the moves of what comes after a node
+
+join : Forest → Forest → Forest
+join no_trees f = f
+join (more t g) f = more t (join g f)
+
+flats-join : (g f : Forest) → flats (join g f) ≡ flats g ++ flats f
+unfolding join
+flats-join no_trees f = refl
+flats-join (more t g) f = ap (λ ps. flat t ++ ps) (flats-join g f) ∙ sym (append_assoc (flat t) (flats g) (flats f))
+
+weights-join : (g f : Forest) → weights (join g f) ≡ weights g + weights f
+unfolding join
+weights-join no_trees f = omega arith
+weights-join (more t g) f = ap (λ w. registered t + weight t + w) (weights-join g f) ∙ omega arith
+
+pub after_node : (p : Placed) (after below others : List Placed) → IsSplit p after below others
+    → IsForest after × (weights (forest after) ≡ weights (forest below) + weights (forest others))
+unfolding IsForest
+after_node p after below others s =
+    let same : after ≡ flats (join (forest below) (forest others)) = s.whole ∙ ap₂ (λ a b. a ++ b) s.first s.second ∙ sym (flats-join (forest below) (forest others)) in
+    (is_forest after _ same, ap (λ ps. weights (forest ps)) same ∙ ap weights (forest-flats _) ∙ weights-join (forest below) (forest others))
+
+open_weight : (p : Placed) (below others : Forest) → is_some p.node.skip ≡ false
+    → weights (more (tree p.node p.number below) others) ≡ cond p.node.is_static 0 1 + (2 + length p.node.entries) + (weights below + weights others)
+open_weight p below others h = ap (λ b. cond p.node.is_static 0 1 + cond b 1 (2 + length p.node.entries + weights below) + weights others) h ∙ omega arith
+
+-- a node that isn't skipped is counted, and then what comes after it
+pub weights_open : (p : Placed) (after below others : List Placed) → IsSplit p after below others → is_some p.node.skip ≡ false
+    → weights (forest (p ∷ after)) ≡ cond p.node.is_static 0 1 + (2 + length p.node.entries) + weights (forest after)
+weights_open p after below others s h =
+    ap weights s.trees ∙ open_weight p (forest below) (forest others) h ∙ ap (λ w. cond p.node.is_static 0 1 + (2 + length p.node.entries) + w) (sym (after_node p after below others s).1)
+
+pub first_and_rest : (ps : List Placed) (p : Placed) → 1 ≤ length ps → p ≡ get_or ps 0 p → p ∷ take (length ps - 1) (drop 1 ps) ≡ ps
+first_and_rest [] p h e = absurd (omega arith)
+first_and_rest (q ∷ qs) p h e = ap₂ (λ a b. a ∷ b) e (take_all _ qs (omega arith))
+
+pub stamped_report : (first k i : ℕ) (es : List (List (List ℕ × List ℕ))) (olds news : List Step) → i < length es
+    → news ≡ olds ++ record { node = k; stamp = first + 1 + i; act = Report i } ∷ []
+    → olds ++ stamped (first + 1 + i) (reports k i (drop i es)) ≡ news ++ stamped (first + 1 + (i + 1)) (reports k (i + 1) (drop (i + 1) es))
+stamped_report first k i es olds news h e =
+    ap (λ ms. olds ++ stamped (first + 1 + i) ms) (reports_next k i es h)
+    ∙ ap (λ j. olds ++ (record { node = k; stamp = first + 1 + i; act = Report i } ∷ stamped j (reports k (i + 1) (drop (i + 1) es)))) (omega arith)
+    ∙ sym (append_assoc olds (record { node = k; stamp = first + 1 + i; act = Report i } ∷ []) _)
+    ∙ ap (λ l. l ++ stamped (first + 1 + (i + 1)) (reports k (i + 1) (drop (i + 1) es))) (sym e)
+
+-- ---- a node by itself
+
+own_by : (b : Bool) (n : Node) → is_some n.skip ≡ b → own n ≡ cond n.is_static 0 1 + cond b 1 (2 + length n.entries)
+own_by b n e = ap (λ s. cond n.is_static 0 1 + cond s 1 (2 + length n.entries)) e
+
+pub counted_open : (p : Placed) (after below others : List Placed) → IsSplit p after below others → is_some p.node.skip ≡ false
+    → weights (forest (p ∷ after)) ≡ own p.node + weights (forest after)
+counted_open p after below others s h = weights_open p after below others s h ∙ ap (λ w. w + weights (forest after)) (sym (own_by false p.node h))
+
+pub counted_skipped : (p : Placed) (after below others : List Placed) → IsSplit p after below others → is_some p.node.skip ≡ true
+    → weights (forest (p ∷ after)) ≡ own p.node + weights (forest others)
+counted_skipped p after below others s h =
+    ap weights s.trees
+    ∙ ap (λ b. cond p.node.is_static 0 1 + cond b 1 (2 + length p.node.entries + weights (forest below)) + weights (forest others)) h
+    ∙ ap (λ w. w + weights (forest others)) (sym (own_by true p.node h))
+
+at_least : (b : Bool) (r x y o : ℕ) → r + cond b 1 x ≤ r + cond b 1 (x + y) + o
+at_least true r x y o = omega arith
+at_least false r x y o = omega arith
+
+pub own_within : (p : Placed) (after : List Placed) → IsForest (p ∷ after) → own p.node ≤ weights (forest (p ∷ after))
+own_within p after h =
+    let s = (parted p after h).split in
+    omega (arith, ap weights s.trees, at_least (is_some p.node.skip) (cond p.node.is_static 0 1) (2 + length p.node.entries) (weights (forest (take (p.span - 1) after))) (weights (forest (drop (p.span - 1) after))))
+
+-- ---- what is counted is no more than the whole
+
+pub tree_within : (p : Placed) (after below others : List Placed) → IsSplit p after below others
+    → weight (tree p.node p.number (forest below)) + weights (forest others) ≤ weights (forest (p ∷ after))
+tree_within p after below others s = omega (arith, ap weights s.trees)
+
+pub open_is : (n : Node) (k : ℕ) (f : Forest) → is_some n.skip ≡ false → weight (tree n k f) ≡ 2 + length n.entries + weights f
+open_is n k f e = ap (λ b. cond b 1 (2 + length n.entries + weights f)) e

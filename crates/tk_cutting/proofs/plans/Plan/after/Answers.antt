@@ -1,0 +1,14 @@
+use Rattle.std.proofs.Common.{◌≡◌, ◌+◌, ◌∙◌, sym, ap, subst, arith, All, slice_index_or}
+use Rattle.tk_cutting.specs.Adds.{HasNode}
+use Rattle.tk_cutting.proofs.Telling.{node_within, tails_next}
+use Rattle.tk_cutting.proofs.plans.Plan.after.Goals as goal
+
+pub index-requires : goal.index-requires
+index-requires c =
+    let all = subst (All (HasNode c.self.inside.nodes.items)) (sym c.as_slice-spot-items.ensures.value) c.self.invariant.cut.closed in
+    omega (arith, node_within c.self.inside.nodes.items (slice_index_or c.as_slice-spot-items.result.now c.loop-spot.spot-index (record { place = 0; stamp = 0 })) (all c.loop-spot.spot-index (record { place = 0; stamp = 0 }) c.loop-spot-test.true), c.self.inside.nodes.ok)
+
+pub loop-spot-preserved : goal.loop-spot-preserved
+loop-spot-preserved c =
+    let all = subst (All (HasNode c.self.inside.nodes.items)) (sym c.as_slice-spot-items.ensures.value) c.self.invariant.cut.closed in
+    tails_next c.self.inside.nodes.items c.as_slice-spot-items.result.now c.loop-spot.spot-index _ _ c.index.result.now _ _ all c.loop-spot-test.true c.index.ensures c.in_ok-push_ended.ensures c.loop-spot.invariant

@@ -1,0 +1,19 @@
+use Rattle.std.proofs.Common.{◌≡◌, ◌+◌, ◌∙◌, sym, ap, subst, arith, All, slice_index_or}
+use Rattle.tk_cutting.specs.Adds.{Sits}
+use Rattle.tk_cutting.proofs.Telling.{node_within, sits_node, stamps_small, heads_next}
+use Rattle.tk_cutting.proofs.plans.Plan.before.Goals as goal
+
+pub index-requires : goal.index-requires
+index-requires c =
+    let all = subst (All (Sits c.self.inside.nodes.items)) (sym c.as_slice-spot-items.ensures.value) c.self.invariant.cut.opened in
+    omega (arith, node_within c.self.inside.nodes.items (slice_index_or c.as_slice-spot-items.result.now c.loop-spot.spot-index (record { place = 0; stamp = 0 })) (sits_node _ _ (all c.loop-spot.spot-index (record { place = 0; stamp = 0 }) c.loop-spot-test.true)), c.self.inside.nodes.ok)
+
+pub loop-spot-preserved : goal.loop-spot-preserved
+loop-spot-preserved c =
+    let all = subst (All (Sits c.self.inside.nodes.items)) (sym c.as_slice-spot-items.ensures.value) c.self.invariant.cut.opened in
+    heads_next c.self.inside.nodes.items c.as_slice-spot-items.result.now c.loop-spot.spot-index _ _ c.index.result.now _ _ all c.loop-spot-test.true c.index.ensures c.in_ok-push_begun.ensures c.loop-spot.invariant
+
+pub push_begun-requires : goal.push_begun-requires
+push_begun-requires c =
+    let all = subst (All (Sits c.self.inside.nodes.items)) (sym c.as_slice-spot-items.ensures.value) c.self.invariant.cut.opened in
+    stamps_small c.self.inside.nodes.items _ c.index.result.now (all c.loop-spot.spot-index (record { place = 0; stamp = 0 }) c.loop-spot-test.true) c.index.ensures

@@ -1,0 +1,9 @@
+use Rattle.std.proofs.Common.{◌≡◌, ◌-◌, ◌+◌, ap, ap₂, take, drop, sym, ◌∙◌, subst, arith}
+use Rattle.tk_cutting.proofs.Standing.{stands_length, stands_top, stands_after, stands_below}
+use Rattle.tk_cutting.proofs.splits.tree_at.Goals as goal
+
+pub bounds-nodes-place : goal.bounds-nodes-place
+bounds-nodes-place c = omega (arith, stands_length c.args.nodes.now c.args.place c.requires.top c.requires.below c.requires.rest c.requires.place)
+
+pub split_at-requires : goal.split_at-requires
+split_at-requires c = omega (arith, stands_length c.args.nodes.now c.args.place c.requires.top c.requires.below c.requires.rest c.requires.place)

@@ -1,0 +1,24 @@
+-- The events of a node that stands in the table under its number.
+use Rattle.std.specs.Prelude.{ℕ, ◌+◌, List, [], ◌∷◌}
+use Rattle.tk_events.specs.declared.kinds.Kind.{Kind}
+use Rattle.tk_events.specs.declared.kinds.Kind.TheVariants.{Started, Finished, Reporting}
+use Rattle.tk_events.specs.declared.payloads.Payload.{Payload}
+use Rattle.tk_events.specs.declared.payloads.Payload.TheVariants.{Nothing, Outcome, Report}
+use Rattle.tk_events.specs.declared.events.Event.{Event}
+use Rattle.tk_cutting.specs.declared.nodes.Node.{Node}
+
+abbrev pub event : Kind → ℕ → ℕ → Payload → Event
+event kind key stamp payload = record { kind = kind; key = key; stamp = stamp; payload = payload }
+
+-- an event for each entry, with the stamps from a first one on
+abbrev pub reported : ℕ → ℕ → List (List (List ℕ × List ℕ)) → List Event
+reported k i [] = []
+reported k i (e ∷ es) = event Reporting k i (Report e) ∷ reported k (i + 1) es
+
+-- a node's start, then its entries in order
+abbrev pub begun : ℕ → ℕ → Node → List Event
+begun k i n = event Started k i Nothing ∷ reported k (i + 1) n.entries
+
+-- a node's finish
+abbrev pub ended : ℕ → ℕ → Node → Event
+ended k i n = event Finished k i (Outcome n.status n.message)

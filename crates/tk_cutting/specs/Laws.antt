@@ -1,0 +1,29 @@
+-- Laws of plans.
+use Rattle.std.specs.Prelude.{◌≡◌, ℕ, List, [], Bool, true, false, flat_map, All, Some, slice_get, map}
+use Rattle.tk_ids.specs.IdText.{Pair}
+use Rattle.tk_ids.specs.declared.tables.Descriptor.{Descriptor}
+use Rattle.tk_ids.specs.Table.{HasId}
+use Rattle.tk_cutting.specs.declared.nodes.Placed.{Placed}
+use Rattle.tk_cutting.specs.Trees.{Forest, forest}
+use Rattle.tk_cutting.specs.Script.{moves_below}
+use Rattle.tk_cutting.specs.Cutting.{all_static, parts_below, moves_of}
+use Rattle.tk_cutting.specs.Numbers.{IsNumbered, in_order}
+use Rattle.tk_cutting.specs.Ids.{ids_below, descriptor}
+use Rattle.tk_cutting.specs.Planned.{IsPlanned}
+
+-- the parts of static trees, one after another, are what the trees do
+abbrev pub LosesNothing : Type 0
+LosesNothing = (is_root : Bool) (parent : ℕ) (f : Forest) → all_static f ≡ true → flat_map moves_of (parts_below is_root f) ≡ moves_below parent f
+
+-- a node is found by its number
+abbrev pub FindsNodes : Type 0
+FindsNodes = (nodes : List Placed) → IsNumbered nodes → All (λ p. slice_get (in_order nodes) p.number ≡ Some p.node) nodes
+
+-- what the table says of the node at a place in preorder, whose id stands there too
+pub record IsKeyed (table : List Descriptor) (p : Placed) (id : List Pair) : Type 0 where
+  pub static : p.node.is_static ≡ true → slice_get table p.number ≡ Some (descriptor id p.node)
+  pub dynamic : p.node.is_static ≡ false → ¬ HasId table id
+
+abbrev pub HasKeys : Type 0
+HasKeys = (nodes : List Placed) (table : List Descriptor) → IsPlanned nodes table → IsNumbered nodes
+    → (i : ℕ) (p : Placed) (id : List Pair) → slice_get nodes i ≡ Some p → slice_get (ids_below [] (forest nodes)) i ≡ Some id → IsKeyed table p id

@@ -1,0 +1,19 @@
+pub use Rattle.tk_ids.specs.IdText
+pub use Rattle.tk_events.specs.Event
+pub use Rattle.tk_book.specs.Wants
+pub use Rattle.tk_book.specs.Needs
+
+pub mod Trees
+pub mod Script
+pub mod Weights
+pub mod Events
+pub mod Cutting
+pub mod Asks
+pub mod Marked
+pub mod Adds
+pub mod Keys
+pub mod Numbers
+pub mod Ids
+pub mod Planned
+pub mod Kept
+pub mod Laws

@@ -1,0 +1,58 @@
+-- What a plan is.
+use Rattle.std.specs.Prelude.{◌≡◌, ◌≤◌, ◌^◌, ◌&&◌, ℕ, List, [], Option, Some, None, Bool, true, false, All, slice_get, length, ◌++◌}
+use Rattle.std.specs.List.{list_all}
+use Rattle.tk_ids.specs.declared.tables.Descriptor.{Descriptor}
+use Rattle.tk_events.specs.declared.kinds.Kind.TheVariants.{Finished, Reporting}
+use Rattle.tk_events.specs.declared.payloads.Payload.TheVariants.{Outcome, Report}
+use Rattle.tk_events.specs.Event.{is_lawful}
+use Rattle.tk_book.specs.Wants.{Wants}
+use Rattle.tk_cutting.specs.declared.nodes.Node.{Node}
+use Rattle.tk_cutting.specs.declared.nodes.Placed.{Placed}
+use Rattle.tk_cutting.specs.Trees.{Forest, no_trees, more, tree, IsForest, forest, contents, flat}
+use Rattle.tk_cutting.specs.Script.{moves_below}
+use Rattle.tk_cutting.specs.Cutting.{Piece, pieces_of}
+use Rattle.tk_cutting.specs.Asks.{IsNeed}
+use Rattle.tk_cutting.specs.Keys.{lock_keys}
+use Rattle.tk_cutting.specs.Numbers.{of_kind}
+use Rattle.tk_cutting.specs.Ids.{ids_below, descriptors_below, AreDistinct}
+
+-- what a clause sees of a plan: its nodes in preorder, and the descriptors of the static ones
+pub record Outline : Type 0 where
+  pub nodes : List Placed
+  pub table : List Descriptor
+
+-- one tree, whose root is static
+abbrev pub is_rooted : Forest → Bool
+is_rooted no_trees = false
+is_rooted (more (tree n k g) no_trees) = n.is_static
+is_rooted (more (tree n k g) (more t f)) = false
+
+-- the events that the node gives may be sent
+abbrev pub is_lawful_node : Node → Bool
+is_lawful_node n = is_lawful Finished (Outcome n.status n.message) && list_all (λ e. is_lawful Reporting (Report e)) n.entries
+
+-- A tree under one static root. No two of its nodes have one id, and its static nodes are those of the table, in preorder.
+-- Nothing of it speaks of the nodes' numbers.
+pub record IsPlanned (nodes : List Placed) (table : List Descriptor) : Type 0 where
+  pub trees : IsForest nodes
+  pub root : is_rooted (forest nodes) ≡ true
+  pub lawful : list_all is_lawful_node (contents nodes) ≡ true
+  pub distinct : AreDistinct (ids_below [] (forest nodes))
+  pub described : table ≡ descriptors_below [] (forest nodes)
+  pub few_static : length table ≤ 65536
+  pub few_dynamic : length (of_kind false nodes) ≤ 65536
+  pub few_keys : length (lock_keys (contents nodes)) ≤ 15
+  pub few_events : length (moves_below 0 (forest nodes)) ≤ 2 ^ 20
+
+-- the locks of the unit's nodes, write over read, and the part that they have in resource 0
+abbrev pub NeedsOf : List (List ℕ) → Option Piece → Wants → Type 0
+NeedsOf keys None w = ⊥
+NeedsOf keys (Some u) w = IsNeed keys (contents (flat u.tree)) w
+
+-- the need is that of the plan's unit
+abbrev pub IsNeedOf : List Placed → ℕ → Wants → Type 0
+IsNeedOf nodes unit w = NeedsOf (lock_keys (contents nodes)) (slice_get (pieces_of (forest nodes)) unit) w
+
+-- one list stands within another, without a gap
+abbrev pub IsWithin : {A : Type 0} → List A → List A → Type 0
+IsWithin {A} xs all = (before : List A) × (after : List A) × (all ≡ before ++ (xs ++ after))

@@ -1,0 +1,37 @@
+-- What a tree runs.
+use Rattle.std.specs.Prelude.{ℕ, suc, ◌+◌, List, [], ◌∷◌, ◌++◌, length, is_some, if◌then◌else◌}
+use Rattle.tk_cutting.specs.declared.nodes.Node.{Node}
+use Rattle.tk_cutting.specs.declared.steps.Act.{Act}
+use Rattle.tk_cutting.specs.declared.steps.Act.TheVariants.{Register, Skip, Start, Report, Finish}
+use Rattle.tk_cutting.specs.declared.steps.Move.{Move}
+use Rattle.tk_cutting.specs.declared.steps.Step.{Step}
+use Rattle.tk_cutting.specs.Trees.{Tree, tree, Forest, no_trees, more}
+
+abbrev pub move : ℕ → Act → Move
+move k a = record { node = k; act = a }
+
+abbrev pub reports : ℕ → ℕ → List (List (List ℕ × List ℕ)) → List Move
+reports k i [] = []
+reports k i (e ∷ es) = move k (Report i) ∷ reports k (i + 1) es
+
+-- a node's start, then its entries in order
+abbrev pub opening : Node → ℕ → List Move
+opening n k = move k Start ∷ reports k 0 n.entries
+
+-- a dynamic child is registered first
+abbrev pub registration : ℕ → Tree → List Move
+registration parent (tree n k f) = if n.is_static then [] else move k (Register parent) ∷ []
+
+-- A skipped node gives one skip; any other its start, its entries, what its children give, and its finish.
+abbrev mutual
+  pub moves : Tree → List Move
+  moves (tree n k f) = if is_some n.skip then move k Skip ∷ [] else opening n k ++ (moves_below k f ++ move k Finish ∷ [])
+
+  pub moves_below : ℕ → Forest → List Move
+  moves_below parent no_trees = []
+  moves_below parent (more t f) = registration parent t ++ (moves t ++ moves_below parent f)
+
+-- moves with their positions, from a first one on
+abbrev pub stamped : ℕ → List Move → List Step
+stamped i [] = []
+stamped i (m ∷ ms) = record { node = m.node; stamp = i; act = m.act } ∷ stamped (i + 1) ms

@@ -1,0 +1,73 @@
+//! How many events a plan has.
+ghost use Rattle.std.specs.Prelude.{◌≡◌, ◌+◌, ◌≤◌, ◌<◌, ◌^◌, min, MatchOption, length};
+ghost use Rattle.tk_cutting.specs.Trees.{IsForest, forest, tree};
+ghost use Rattle.tk_cutting.specs.Script.{moves_below};
+ghost use Rattle.tk_cutting.specs.Weights.{own, weight, weights};
+
+use crate::nodes::{Node, Placed};
+use crate::splits::split;
+
+/// How many events a plan has at most.
+pub const MAX_EVENTS: u64 = 1_048_576;
+
+/// How many events a node gives by itself, as far as there may be so many.
+fn own_events(node: &Node) -> u64
+    ensures same { min result (2 ^ 20 + 1) ≡ min (own node.now) (2 ^ 20 + 1) }
+    ensures bound { result ≤ 2 ^ 20 + 4 }
+{
+    let registration = if node.is_static { 0 } else { 1 };
+    if node.skip.is_some() {
+        return registration + 1;
+    }
+    let entries = node.entries.as_slice().len() as u64;
+    registration + 2 + entries.min(MAX_EVENTS + 1)
+}
+
+/// How many events some trees have, as far as there may be so many.
+fn count_all(nodes: &[Placed]) -> u64
+    requires { IsForest nodes.now }
+    ensures { min result (2 ^ 20 + 1) ≡ min (weights (forest nodes.now)) (2 ^ 20 + 1) }
+{
+    let mut count = 0;
+    let mut rest = nodes;
+    while let [placed, after @ ..] = rest {
+        count += own_events(&placed.node);
+        if count > MAX_EVENTS {
+            return count;
+        }
+        let (_, others) = split(placed, after);
+        if placed.node.skip.is_some() {
+            rest = others;
+        } else {
+            rest = after;
+        }
+    }
+    count
+}
+
+/// How many events the script of a plan's root has, where these are the plan's nodes in preorder;
+/// none where there are more than `MAX_EVENTS`.
+pub fn count_events(nodes: &[Placed]) -> Option<u32>
+    requires { IsForest nodes.now }
+    ensures { MatchOption result (2 ^ 20 < length (moves_below 0 (forest nodes.now)))
+        (λ n. (n ≡ length (moves_below 0 (forest nodes.now))) × (n ≤ 2 ^ 20)) }
+{
+    let count = count_all(nodes);
+    if count > MAX_EVENTS {
+        None
+    } else {
+        Some(count as u32)
+    }
+}
+
+/// How many events a tree has.
+pub(crate) fn count_tree(placed: &Placed, below: &[Placed]) -> u64
+    requires below { IsForest below.now }
+    requires limit { weight (tree placed.now.node placed.now.number (forest below.now)) ≤ 2 ^ 20 }
+    ensures { result ≡ weight (tree placed.now.node placed.now.number (forest below.now)) }
+{
+    if placed.node.skip.is_some() {
+        return 1;
+    }
+    2 + placed.node.entries.as_slice().len() as u64 + count_all(below)
+}

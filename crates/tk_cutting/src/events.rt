@@ -1,0 +1,67 @@
+//! The events of the spine's nodes.
+ghost use Rattle.std.specs.Prelude.{◌≡◌, ◌++◌, ◌∷◌, [], ◌+◌, ◌≤◌, ◌^◌, OnOk, IfOk, length};
+ghost use Rattle.tk_cutting.specs.Events.{begun, ended};
+
+use crate::nodes::{Node, Placed};
+use std::alloc::{AllocError, Global};
+use tk_events::{Event, Kind, Payload};
+use tk_ids::Text;
+
+fn copy_message(message: &Option<Text>) -> Result<Option<Text>, AllocError>
+    ensures { IfOk result (λ m. m ≡ message.now) }
+{
+    match message {
+        Some(text) => Ok(Some(text.try_clone()?)),
+        None => Ok(None),
+    }
+}
+
+fn outcome(node: &Node) -> Result<Payload, AllocError>
+    ensures { IfOk result (λ p. p ≡ Payload.Outcome node.now.status node.now.message) }
+{
+    Ok(Payload::Outcome(node.status, copy_message(&node.message)?))
+}
+
+/// Adds a node's start and its entries, with their stamps.
+pub(crate) fn push_begun(
+    alloc: Global,
+    placed: &Placed,
+    stamp: u64,
+    events: &mut Vec<Event>,
+) -> Result<(), AllocError>
+    requires { stamp + length placed.now.node.entries ≤ 2 ^ 20 }
+    ensures { OnOk result (events.new.items ≡ events.old.items ++ begun placed.now.number stamp placed.now.node) }
+{
+    events.push(Event {
+        kind: Kind::Started,
+        key: placed.number,
+        stamp,
+        payload: Payload::Nothing,
+    })?;
+    for (index, entry) in placed.node.entries.as_slice().iter().enumerate() {
+        events.push(Event {
+            kind: Kind::Reporting,
+            key: placed.number,
+            stamp: stamp + 1 + index as u64,
+            payload: Payload::Report(entry.try_clone(alloc)?),
+        })?;
+    }
+    Ok(())
+}
+
+/// Adds a node's finish.
+pub(crate) fn push_ended(
+    placed: &Placed,
+    stamp: u64,
+    events: &mut Vec<Event>,
+) -> Result<(), AllocError>
+    ensures { OnOk result (events.new.items ≡ events.old.items ++ ended placed.now.number stamp placed.now.node ∷ []) }
+{
+    events.push(Event {
+        kind: Kind::Finished,
+        key: placed.number,
+        stamp,
+        payload: outcome(&placed.node)?,
+    })?;
+    Ok(())
+}

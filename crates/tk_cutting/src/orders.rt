@@ -1,0 +1,20 @@
+//! Nodes by their numbers.
+ghost use Rattle.std.specs.Prelude.{◌≡◌, ◌++◌, ◌<◌, OnOk, All, length};
+ghost use Rattle.tk_cutting.specs.Numbers.{at_places, of_kind};
+
+use crate::nodes::Placed;
+use std::alloc::AllocError;
+
+/// Adds the places of the static nodes, or of the others.
+pub(crate) fn push_places(nodes: &[Placed], is_static: bool, places: &mut Vec<usize>) -> Result<(), AllocError>
+    requires { All (λ i. i < length nodes.now) places.old.items }
+    ensures nodes { OnOk result (at_places nodes.now places.new.items ≡ at_places nodes.now places.old.items ++ of_kind is_static nodes.now) }
+    ensures within { OnOk result (All (λ i. i < length nodes.now) places.new.items) }
+{
+    for (index, placed) in nodes.iter().enumerate() {
+        if placed.node.is_static == is_static {
+            places.push(index)?;
+        }
+    }
+    Ok(())
+}

@@ -1,0 +1,215 @@
+//! Plans.
+ghost use Rattle.std.specs.Prelude.{◌≡◌, ◌≤◌, ◌<◌, ◌^◌, length, true, IfOk, Some, IsSome, All, slice_get, option_map};
+ghost use Rattle.std.specs.Arc.{arc_value};
+
+use crate::cuttings::{Cutting, cut_all};
+use crate::events::{push_begun, push_ended};
+use crate::nodes::{Node, Placed};
+use crate::numbering::set_numbers;
+use crate::orders::push_places;
+use crate::scripts::{push_tree, stamp_all};
+use crate::splits::tree_at;
+use crate::steps::Step;
+use std::alloc::{AllocError, Global};
+use std::marker::Model;
+use std::sync::Arc;
+use tk_book::Need;
+use tk_events::{Event, Status};
+use tk_ids::{DType, Segment, Table, Text};
+
+/// A plan: a tree of nodes, of which the static ones stand in a table, and how it is cut.
+#[derive(Drop)]
+pub struct Plan {
+    nodes: Vec<Placed>,
+    table: Arc<Table>,
+    cutting: Cutting,
+    places: Vec<usize>,
+}
+
+impl Model for Plan {
+    ghost use Rattle.std.specs.Arc.{arc_value};
+    ghost use Rattle.tk_cutting.specs.Planned.{Outline};
+    ghost use Rattle.tk_cutting.specs.Kept.{IsPlan};
+
+    ghost Value = { Outline };
+
+    ghost view = { λ p. record { nodes = p.nodes.items; table = arc_value p.table } };
+
+    ghost invariant = { λ p. IsPlan p.nodes.items (arc_value p.table) p.cutting p.places.items };
+}
+
+impl Plan {
+    ghost use Rattle.tk_cutting.specs.Trees.{forest, contents};
+    ghost use Rattle.tk_cutting.specs.Script.{moves_below};
+    ghost use Rattle.tk_cutting.specs.Cutting.{spine_of, units_of, script_of, root_script, before_of, after_of};
+    ghost use Rattle.tk_cutting.specs.Keys.{lock_keys};
+    ghost use Rattle.tk_cutting.specs.Planned.{IsPlanned, IsNeedOf, IsWithin};
+    ghost use Rattle.tk_cutting.specs.Numbers.{in_order, entry_of, numbered, IsNumbered};
+
+    /// The plan of nodes in preorder, whose numbers it sets, given the table of the static ones
+    /// and the lock keys, save `global`, by first appearance.
+    pub fn new(
+        alloc: Global,
+        mut nodes: Vec<Placed>,
+        table: Arc<Table>,
+        keys: &[Text],
+    ) -> Result<Plan, AllocError>
+        requires planned { IsPlanned nodes.items (arc_value table) }
+        requires keys { keys.now ≡ lock_keys (contents nodes.items) }
+        ensures { IfOk result (λ plan. plan ≡ record { nodes = numbered nodes.items; table = arc_value table }) }
+    {
+        let statics = table.len() as u32;
+        set_numbers(statics, nodes.as_mut_slice());
+        let mut cutting = Cutting::new(alloc);
+        cut_all(keys, nodes.as_slice(), 0, true, &mut cutting)?;
+        let mut places = Vec::new(alloc);
+        push_places(nodes.as_slice(), true, &mut places)?;
+        push_places(nodes.as_slice(), false, &mut places)?;
+        Ok(Plan {
+            nodes,
+            table,
+            cutting,
+            places,
+        })
+    }
+
+    /// The table of the static nodes.
+    pub fn table(&self) -> &Arc<Table>
+        ensures table { arc_value result.now ≡ self.now.table }
+        // What every plan is.
+        ensures planned { IsPlanned self.now.nodes self.now.table }
+        ensures numbered { IsNumbered self.now.nodes }
+    {
+        &self.table
+    }
+
+    /// The keys of the spine's nodes, in preorder.
+    pub fn spine(&self) -> &[u32]
+        ensures { result.now ≡ spine_of (forest self.now.nodes) }
+    {
+        self.cutting.spine.as_slice()
+    }
+
+    /// The keys of the units, in preorder.
+    pub fn units(&self) -> &[u32]
+        ensures { result.now ≡ units_of (forest self.now.nodes) }
+    {
+        self.cutting.units.as_slice()
+    }
+
+    /// What a unit needs. Units count from 0.
+    pub fn need(&self, unit: u32) -> Need
+        requires { unit < length (units_of (forest self.now.nodes)) }
+        ensures { IsNeedOf self.now.nodes unit result }
+    {
+        self.cutting.pieces[unit as usize].need
+    }
+
+    /// The steps of a unit.
+    pub fn script(&self, alloc: Global, unit: u32) -> Result<Vec<Step>, AllocError>
+        requires { unit < length (units_of (forest self.now.nodes)) }
+        ensures steps { IfOk result (λ steps. steps.items ≡ script_of (forest self.now.nodes) unit) }
+        // With its stamps it stands in the root's script.
+        ensures within { IfOk result (λ steps. IsWithin steps.items (root_script (forest self.now.nodes))) }
+    {
+        let piece = self.cutting.pieces[unit as usize];
+        let (placed, below) = tree_at(self.nodes.as_slice(), piece.place);
+        let mut moves = Vec::new(alloc);
+        push_tree(placed, below, &mut moves)?;
+        stamp_all(alloc, piece.first, moves.as_slice())
+    }
+
+    /// The starts of the spine's nodes with their entries, in preorder.
+    pub fn before(&self, alloc: Global) -> Result<Vec<Event>, AllocError>
+        ensures { IfOk result (λ events. events.items ≡ before_of (forest self.now.nodes)) }
+    {
+        let mut events = Vec::new(alloc);
+        for spot in self.cutting.opened.as_slice() {
+            push_begun(alloc, &self.nodes[spot.place], spot.stamp, &mut events)?;
+        }
+        Ok(events)
+    }
+
+    /// The finishes of the spine's nodes, in postorder.
+    pub fn after(&self, alloc: Global) -> Result<Vec<Event>, AllocError>
+        ensures { IfOk result (λ events. events.items ≡ after_of (forest self.now.nodes)) }
+    {
+        let mut events = Vec::new(alloc);
+        for spot in self.cutting.closed.as_slice() {
+            push_ended(&self.nodes[spot.place], spot.stamp, &mut events)?;
+        }
+        Ok(events)
+    }
+
+    /// How many events the root's script has.
+    pub fn total_events(&self) -> u32
+        ensures { result ≡ length (moves_below 0 (forest self.now.nodes)) }
+    {
+        self.cutting.first as u32
+    }
+
+    /// What the plan says of the node of a number.
+    fn node(&self, number: u32) -> &Node
+        requires { number < length self.now.nodes }
+        ensures { slice_get (in_order self.now.nodes) number ≡ Some result.now }
+    {
+        let place = self.places[number as usize];
+        &self.nodes[place].node
+    }
+
+    /// The name of the node of a number.
+    pub fn name(&self, node: u32) -> &str
+        requires { node < length self.now.nodes }
+        ensures { option_map (λ n. n.name) (slice_get (in_order self.now.nodes) node) ≡ Some result.now }
+    {
+        self.node(node).name.as_str()
+    }
+
+    /// The last segment of the node's id.
+    pub fn segment(&self, node: u32) -> &Segment
+        requires { node < length self.now.nodes }
+        ensures { option_map (λ n. n.segment) (slice_get (in_order self.now.nodes) node) ≡ Some result.now }
+    {
+        &self.node(node).segment
+    }
+
+    pub fn dtype(&self, node: u32) -> DType
+        requires { node < length self.now.nodes }
+        ensures { option_map (λ n. n.dtype) (slice_get (in_order self.now.nodes) node) ≡ Some result }
+    {
+        self.node(node).dtype
+    }
+
+    /// Why the node is skipped, if it is.
+    pub fn reason(&self, node: u32) -> Option<&str>
+        requires { node < length self.now.nodes }
+        ensures { option_map (λ n. n.skip) (slice_get (in_order self.now.nodes) node) ≡ Some (option_map (λ r. r.now) result) }
+    {
+        match &self.node(node).skip {
+            Some(reason) => Some(reason.as_str()),
+            None => None,
+        }
+    }
+
+    /// The pairs of one of the node's entries, which count from 0.
+    pub fn pairs(&self, node: u32, entry: u32) -> &[(Text, Text)]
+        requires node { node < length self.now.nodes }
+        requires entry { IsSome (entry_of (slice_get (in_order self.now.nodes) node) entry) }
+        ensures { entry_of (slice_get (in_order self.now.nodes) node) entry ≡ Some result.now }
+    {
+        self.node(node).entries.as_slice()[entry as usize].as_slice()
+    }
+
+    /// How the node finishes, and the message.
+    pub fn outcome(&self, node: u32) -> (Status, Option<&str>)
+        requires { node < length self.now.nodes }
+        ensures status { option_map (λ n. n.status) (slice_get (in_order self.now.nodes) node) ≡ Some result.0 }
+        ensures message { option_map (λ n. n.message) (slice_get (in_order self.now.nodes) node) ≡ Some (option_map (λ m. m.now) result.1) }
+    {
+        let node = self.node(node);
+        match &node.message {
+            Some(message) => (node.status, Some(message.as_str())),
+            None => (node.status, None),
+        }
+    }
+}

@@ -1,0 +1,93 @@
+//! What a tree of nodes does.
+ghost use Rattle.std.specs.Prelude.{◌≡◌, ◌++◌, ◌+◌, ◌≤◌, ◌<◌, ◌^◌, OnOk, IfOk, length};
+ghost use Rattle.tk_cutting.specs.Trees.{IsForest, forest, tree};
+ghost use Rattle.tk_cutting.specs.Script as Script;
+ghost use Rattle.tk_cutting.specs.Script.{moves_below, stamped};
+ghost use Rattle.tk_cutting.specs.Weights.{weight, weights};
+
+use crate::nodes::{Node, Placed};
+use crate::splits::split;
+use crate::steps::{Act, Move, Step};
+use std::alloc::{AllocError, Global};
+
+fn push_opening(node: &Node, number: u32, moves: &mut Vec<Move>) -> Result<(), AllocError>
+    requires { length node.now.entries ≤ 2 ^ 20 }
+    ensures { OnOk result (moves.new.items ≡ moves.old.items ++ Script.opening node.now number) }
+{
+    moves.push(Move {
+        node: number,
+        act: Act::Start,
+    })?;
+    for index in 0..node.entries.as_slice().len() as u32 {
+        moves.push(Move {
+            node: number,
+            act: Act::Report(index),
+        })?;
+    }
+    Ok(())
+}
+
+#[cycle(moving)]
+pub(crate) fn push_tree(
+    placed: &Placed,
+    below: &[Placed],
+    moves: &mut Vec<Move>,
+) -> Result<(), AllocError>
+    requires below { IsForest below.now }
+    requires limit { weight (tree placed.now.node placed.now.number (forest below.now)) ≤ 2 ^ 20 }
+    ensures { OnOk result (moves.new.items ≡ moves.old.items ++ Script.moves (tree placed.now.node placed.now.number (forest below.now))) }
+{
+    let node = placed.number;
+    if placed.node.skip.is_some() {
+        moves.push(Move {
+            node,
+            act: Act::Skip,
+        })?;
+        return Ok(());
+    }
+    push_opening(&placed.node, node, moves)?;
+    push_all(node, below, moves)?;
+    moves.push(Move {
+        node,
+        act: Act::Finish,
+    })?;
+    Ok(())
+}
+
+/// Adds what some trees do below a parent.
+#[cycle(moving)]
+fn push_all(parent: u32, nodes: &[Placed], moves: &mut Vec<Move>) -> Result<(), AllocError>
+    requires nodes { IsForest nodes.now }
+    requires limit { weights (forest nodes.now) ≤ 2 ^ 20 }
+    ensures { OnOk result (moves.new.items ≡ moves.old.items ++ moves_below parent (forest nodes.now)) }
+{
+    let mut rest = nodes;
+    while let [placed, after @ ..] = rest {
+        let (below, others) = split(placed, after);
+        if !placed.node.is_static {
+            moves.push(Move {
+                node: placed.number,
+                act: Act::Register { parent },
+            })?;
+        }
+        push_tree(placed, below, moves)?;
+        rest = others;
+    }
+    Ok(())
+}
+
+/// Gives moves their stamps.
+pub(crate) fn stamp_all(alloc: Global, first: u64, moves: &[Move]) -> Result<Vec<Step>, AllocError>
+    requires { first + length moves.now ≤ 2 ^ 63 }
+    ensures { IfOk result (λ steps. steps.items ≡ stamped first moves.now) }
+{
+    let mut steps = Vec::new(alloc);
+    for (index, moved) in moves.iter().enumerate() {
+        steps.push(Step {
+            node: moved.node,
+            stamp: first + index as u64,
+            act: moved.act,
+        })?;
+    }
+    Ok(steps)
+}

@@ -1,0 +1,30 @@
+//! The steps of a script.
+
+/// What a node does.
+#[derive(Clone, Copy, Debug, PartialEq, Eq)]
+pub enum Act {
+    /// The node is registered below the node of that number.
+    Register { parent: u32 },
+    Skip,
+    Start,
+    /// The node publishes its entry of that number, from 0.
+    Report(u32),
+    Finish,
+}
+
+/// A step of a script.
+#[derive(Clone, Copy, Debug, PartialEq, Eq)]
+pub struct Step {
+    /// The number of the node that does it.
+    pub node: u32,
+    /// Its position in the root's script.
+    pub stamp: u64,
+    pub act: Act,
+}
+
+/// What a node does, before its position is known.
+#[derive(Clone, Copy, Debug, PartialEq, Eq)]
+pub(crate) struct Move {
+    pub node: u32,
+    pub act: Act,
+}
