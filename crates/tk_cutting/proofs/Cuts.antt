@@ -1,15 +1,15 @@
 -- Cutting one tree after another.
-use Rattle.std.proofs.Common.{◌≡◌, ℕ, zero, suc, ◌+◌, ◌-◌, ◌≤◌, ◌<◌, ◌^◌, List, [], ◌∷◌, ◌++◌, length, drop, take, map, flat_map, All, true, false, Bool, cond, is_some, slice_get, slice_index_or, Some, ◌&&◌, not, ◌==◌, refl, sym, ap, ap₂, ◌∙◌, subst, arith, rules, length-append, append_assoc, append-nil}
+use Rattle.std.proofs.Common.{◌≡◌, ℕ, zero, suc, ◌+◌, ◌-◌, ◌≤◌, ◌<◌, List, [], ◌∷◌, ◌++◌, length, drop, take, map, flat_map, All, true, false, Bool, cond, is_some, slice_get, slice_index_or, Some, ◌&&◌, not, ◌==◌, refl, sym, ap, ap₂, ◌∙◌, subst, arith, length-append, append_assoc, append-nil}
 use Rattle.std.proofs.lemmas.List.{map-append, drop-drop, drop_at}
 use Rattle.std.proofs.lemmas.Grind.{flat_map-append}
+use Rattle.tk_cutting.specs.declared.counts.TheConstants.{MAX_EVENTS}
 use Rattle.tk_cutting.specs.declared.nodes.Node.{Node}
 use Rattle.tk_cutting.specs.declared.nodes.Placed.{Placed}
-use Rattle.tk_cutting.specs.declared.steps.Move.{Move}
 use Rattle.tk_cutting.specs.declared.steps.Act.TheVariants.{Finish, Register, Skip}
 use Rattle.tk_cutting.specs.declared.cuttings.Cutting.{Cutting}
 use Rattle.tk_cutting.specs.Trees.{Tree, tree, Forest, no_trees, more, forest, IsForest, IsSplit, front, contents}
-use Rattle.tk_cutting.specs.Script.{move, opening, stamped, reports, moves, moves_below, registration}
-use Rattle.tk_cutting.specs.Weights.{weight, weights, registered}
+use Rattle.tk_cutting.specs.Script.{move, opening, moves, moves_below}
+use Rattle.tk_cutting.specs.Weights.{weight, weights}
 use Rattle.tk_cutting.specs.Cutting.{Part, Piece, opens, runs, closes, parts, parts_below, moves_of, from_each, piece, head, tail, opened, all_static, all_concurrent, on_spine, is_free, is_leaf}
 use Rattle.tk_cutting.specs.Adds.{Adds, Fits, Sits, HasNode, found, piece_at, heads, tails, begun_at, ended_at}
 use Rattle.tk_cutting.specs.Events.{begun, ended}
@@ -19,9 +19,9 @@ use Rattle.tk_cutting.specs.declared.cuttings.Spot.{Spot}
 use Rattle.std.proofs.lemmas.List.Elements.{All-append}
 use Rattle.std.proofs.Math.Seq.{take-append_seam}
 use Rattle.tk_cutting.proofs.Grows.{forest_nil}
-use Rattle.tk_cutting.proofs.Moving.{moves-length, below-length, length-reports}
+use Rattle.tk_cutting.proofs.Moving.{moves-length, length-reports}
 
-from_each-append : {A : Type 0} (f : ℕ → Part → List A) (i : ℕ) (xs ys : List Part)
+pub from_each-append : {A : Type 0} (f : ℕ → Part → List A) (i : ℕ) (xs ys : List Part)
     → from_each f i (xs ++ ys) ≡ from_each f i xs ++ from_each f (i + length (flat_map moves_of xs)) ys
 from_each-append f i [] ys = ap (λ n. from_each f n ys) (omega arith)
 from_each-append f i (x ∷ xs) ys =
@@ -69,7 +69,7 @@ adds-none all keys old = record {
 
 -- ---- a node of the spine
 
-if_both : (a b : Bool) → (a && b) ≡ true → (a ≡ true) × (b ≡ true)
+pub if_both : (a b : Bool) → (a && b) ≡ true → (a ≡ true) × (b ≡ true)
 if_both true b e = (refl, e)
 if_both false b e = absurd (grind arith)
 
@@ -123,11 +123,11 @@ pub record Goes (keys : List (List ℕ)) (is_root : Bool) (place at : ℕ) (node
   pub events : now.first + weights (forest left) ≡ old.first + weights (forest nodes)
   pub stands : (all rest : List Placed) → drop place all ≡ nodes ++ rest → drop at all ≡ left ++ rest
   pub adds : (all rest : List Placed) → drop place all ≡ nodes ++ rest → (new : Cutting)
-    → Adds all keys now new (parts_below is_root (forest left)) → Adds all keys old new (parts_below is_root (forest nodes))
+      → Adds all keys now new (parts_below is_root (forest left)) → Adds all keys old new (parts_below is_root (forest nodes))
 
 pub goes_end : (keys : List (List ℕ)) (is_root : Bool) (place at : ℕ) (nodes left : List Placed) (old now : Cutting) → Goes keys is_root place at nodes left old now → length left < 1
     → (now.first ≡ old.first + weights (forest nodes))
-      × ((all rest : List Placed) → drop place all ≡ nodes ++ rest → Adds all keys old now (parts_below is_root (forest nodes)))
+    × ((all rest : List Placed) → drop place all ≡ nodes ++ rest → Adds all keys old now (parts_below is_root (forest nodes)))
 goes_end keys is_root place at nodes [] old now g h = (
   omega (arith, g.events, ap weights forest_nil),
   λ all rest e. g.adds all rest e now (subst (λ f. Adds all keys now now (parts_below is_root f)) (sym forest_nil) (adds-none all keys now)),
@@ -149,7 +149,7 @@ goes_next keys is_root place at nodes after below others p old now new g s first
     let one = static_tree p after below others s g.statics in
     let len = ap length s.whole ∙ length-append below others in
     let here : (all rest : List Placed) → drop place all ≡ nodes ++ rest → drop at all ≡ p ∷ (below ++ (others ++ rest))
-      = λ all rest e. g.stands all rest e ∙ ap (λ l. p ∷ (l ++ rest)) s.whole ∙ ap (λ l. p ∷ l) (append_assoc below others rest) in
+    = λ all rest e. g.stands all rest e ∙ ap (λ l. p ∷ (l ++ rest)) s.whole ∙ ap (λ l. p ∷ l) (append_assoc below others rest) in
     record {
       trees = s.second;
       statics = one.1;
@@ -158,9 +158,9 @@ goes_next keys is_root place at nodes after below others p old now new g s first
       events = omega (arith, g.events, one.0, first);
       stands = λ all rest e. sym (drop-drop p.span at all) ∙ ap (drop p.span) (here all rest e) ∙ drop_at (p ∷ below) (others ++ rest) p.span (sym s.span);
       adds = λ all rest e last. λ a. g.adds all rest e last (
-        subst (λ f. Adds all keys now last (parts_below is_root f)) (sym s.trees)
-        (adds-append all keys now new last _ _ (add all (others ++ rest) (here all rest e)) a)
-      );
+          subst (λ f. Adds all keys now last (parts_below is_root f)) (sym s.trees)
+          (adds-append all keys now new last _ _ (add all (others ++ rest) (here all rest e)) a)
+          );
     }
 
 -- ---- one part
@@ -176,7 +176,7 @@ all_pushed : {A : Type 0} (P : A → Type 0) (xs ys : List A) (x : A) → ys ≡
 all_pushed P xs ys x e h all = subst (All P) (sym e) (All-append P xs (x ∷ []) all (all_one P x h))
 
 pub begin_adds : (all rest : List Placed) (keys : List (List ℕ)) (old new : Cutting) (p : Placed) (s : Spot)
-    → drop s.place all ≡ p ∷ rest → s.stamp ≡ old.first → old.first + (1 + length p.node.entries) ≤ 2 ^ 20
+    → drop s.place all ≡ p ∷ rest → s.stamp ≡ old.first → old.first + (1 + length p.node.entries) ≤ MAX_EVENTS
     → new.spine.items ≡ old.spine.items ++ p.number ∷ []
     → new.opened.items ≡ old.opened.items ++ s ∷ []
     → new.units.items ≡ old.units.items → new.pieces.items ≡ old.pieces.items → new.closed.items ≡ old.closed.items
@@ -225,16 +225,16 @@ front_of p below rest s =
 
 pub add_adds : (all : List Placed) (keys : List (List ℕ)) (old new : Cutting) (p : Placed) (below rest : List Placed) (u : Sited)
     → drop u.place all ≡ p ∷ (below ++ rest) → p.span ≡ suc (length below) → IsForest below → IsNeed keys (contents (p ∷ below)) u.need → u.first ≡ old.first
-    → old.first + weight (tree p.node p.number (forest below)) ≤ 2 ^ 20
+    → old.first + weight (tree p.node p.number (forest below)) ≤ MAX_EVENTS
     → new.spine.items ≡ old.spine.items → new.opened.items ≡ old.opened.items → new.closed.items ≡ old.closed.items
     → new.units.items ≡ old.units.items ++ p.number ∷ [] → new.pieces.items ≡ old.pieces.items ++ u ∷ []
     → new.first ≡ old.first + weight (tree p.node p.number (forest below))
     → Adds all keys old new (runs (tree p.node p.number (forest below)) ∷ [])
 add_adds all keys old new p below rest u at span trees need same limit spine opened closed units pieces first =
     let t : Tree = tree p.node p.number (forest below) in
-    let fit : Fits all keys u = record { top = p; below = below; rest = rest; place = at; span = span; trees = trees; need = need; limit = subst (λ i. i + weight (tree p.node p.number (forest below)) ≤ 2 ^ 20) (sym same) limit } in
+    let fit : Fits all keys u = record { top = p; below = below; rest = rest; place = at; span = span; trees = trees; need = need; limit = subst (λ i. i + weight (tree p.node p.number (forest below)) ≤ MAX_EVENTS) (sym same) limit } in
     let there : piece_at (drop u.place all) u.first ≡ record { tree = t; first = old.first } ∷ []
-      = ap (λ ps. piece_at ps u.first) at ∙ ap₂ (λ a i. record { tree = a; first = i } ∷ []) (front_of p below rest span) same in
+    = ap (λ ps. piece_at ps u.first) at ∙ ap₂ (λ a i. record { tree = a; first = i } ∷ []) (front_of p below rest span) same in
     record {
       spine = spine ∙ sym (append-nil _);
       units = units;

@@ -1,12 +1,14 @@
 -- What a plan is made of, once its nodes have their numbers.
-use Rattle.std.proofs.Common.{◌≡◌, ℕ, ◌+◌, ◌≤◌, ◌^◌, List, [], ◌∷◌, ◌++◌, true, ◌&&◌, length, take, drop, refl, sym, ap, ap₂, ◌∙◌, subst, arith, append-nil}
+use Rattle.std.proofs.Common.{◌≡◌, ℕ, ◌*◌, ◌≤◌, List, ◌++◌, true, ◌&&◌, length, take, drop, sym, ap, ap₂, ◌∙◌, subst, arith, append-nil}
 use Rattle.std.proofs.lemmas.List.{drop_all, take_all}
+use Rattle.tk_cutting.specs.declared.counts.TheConstants.{MAX_EVENTS}
+use Rattle.tk_ids.specs.declared.tables.TheConstants.{MAX_DESCRIPTORS}
 use Rattle.tk_ids.specs.declared.tables.Descriptor.{Descriptor}
 use Rattle.tk_cutting.specs.declared.nodes.Placed.{Placed}
 use Rattle.tk_cutting.specs.Trees.{Forest, no_trees, more, tree, forest, IsForest}
 use Rattle.tk_cutting.specs.Weights.{weights}
 use Rattle.tk_cutting.specs.Cutting.{all_static}
-use Rattle.tk_cutting.specs.Numbers.{numbered_from, numbered, of_kind}
+use Rattle.tk_cutting.specs.Numbers.{numbered_from, numbered}
 use Rattle.tk_cutting.specs.Planned.{IsPlanned, is_rooted}
 use Rattle.tk_cutting.proofs.Moving.{below-length}
 use Rattle.tk_cutting.proofs.Describing.{statics_length, few_nodes}
@@ -19,7 +21,7 @@ with_numbers items passed new table n k p size statics same e =
     let long : length new ≡ length items = ap length is ∙ numbered-length items in
     ap (λ l. take n (new ++ l)) (drop_all (length new) items (omega (arith, long))) ∙ ap (take n) (append-nil new) ∙ take_all n new (omega (arith, long, size)) ∙ is
 
-rooted_static : (f : Forest) → is_rooted f ≡ true → all_static f ≡ true
+pub rooted_static : (f : Forest) → is_rooted f ≡ true → all_static f ≡ true
 rooted_static no_trees e = absurd (grind arith)
 rooted_static (more (tree n k g) no_trees) e = ap (λ b. b && true) e
 rooted_static (more (tree n k g) (more t f)) e = absurd (grind arith)
@@ -28,8 +30,8 @@ rooted_static (more (tree n k g) (more t f)) e = absurd (grind arith)
 pub record Ready (now : List Placed) : Type 0 where
   pub trees : IsForest now
   pub statics : all_static (forest now) ≡ true
-  pub few : length now ≤ 131072
-  pub events : weights (forest now) ≤ 2 ^ 20
+  pub few : length now ≤ 2 * MAX_DESCRIPTORS
+  pub events : weights (forest now) ≤ MAX_EVENTS
 
 pub ready : (items now : List Placed) (table : List Descriptor) → IsPlanned items table → now ≡ numbered items → Ready now
 ready items now table p e =

@@ -1,9 +1,8 @@
 -- Nodes in preorder, taken apart.
-use Rattle.std.proofs.Common.{◌≡◌, ℕ, zero, suc, ◌+◌, ◌-◌, ◌≤◌, List, [], ◌∷◌, ◌++◌, length, take, drop, refl, sym, ap, ap₂, ◌∙◌, subst, arith, length-append, append-nil}
+use Rattle.std.proofs.Common.{◌≡◌, ℕ, zero, suc, ◌-◌, ◌≤◌, List, [], ◌∷◌, ◌++◌, length, take, drop, refl, sym, ap, ap₂, ◌∙◌, arith, length-append}
 use Rattle.std.proofs.Math.Seq.{take-append_seam, drop-append_seam}
-use Rattle.tk_cutting.specs.declared.nodes.Node.{Node}
 use Rattle.tk_cutting.specs.declared.nodes.Placed.{Placed}
-use Rattle.tk_cutting.specs.Trees.{Tree, tree, Forest, no_trees, more, flat, flats, grow, forest, IsForest, IsSplit}
+use Rattle.tk_cutting.specs.Trees.{tree, Forest, no_trees, more, flats, grow, forest, IsForest, IsSplit}
 
 pub grow-flats : (f : Forest) (n : ℕ) → length (flats f) ≤ n → grow n (flats f) ≡ f
 unfolding grow

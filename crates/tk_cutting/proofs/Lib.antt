@@ -6,6 +6,11 @@ pub mod Standing
 pub mod Planning
 pub mod Ordering
 pub mod Telling
+pub mod Parting
+pub mod Knowing
+pub mod Sending
+pub mod Retelling
+pub mod Keying
 pub mod Founding
 pub mod Describing
 pub mod Relabels

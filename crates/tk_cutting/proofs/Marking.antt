@@ -1,15 +1,17 @@
 -- What masks ask, as marks are added.
-use Rattle.std.proofs.Common.{◌≡◌, ◌≢◌, ℕ, zero, suc, ◌+◌, ◌≤◌, ◌<◌, ◌^◌, max, ◌==◌, ◌*◌, ◌%◌, Bool, cond, true, false, bit_or, List, [], ◌∷◌, length, refl, sym, ap, ap₂, ◌∙◌, subst, arith, Option, Some, None}
+use Rattle.std.proofs.Common.{◌≡◌, ◌≢◌, ℕ, zero, suc, ◌<◌, ◌^◌, max, ◌*◌, ◌%◌, Bool, cond, true, false, bit_or, List, refl, sym, ap, ap₂, ◌∙◌, arith, Some}
 use Rattle.std.specs.Int.{bit_at}
 use Rattle.std.proofs.Math.Pow.{pow-lt}
 use Rattle.std.proofs.Math.Nat.{mod-eq_of_lt}
 use Rattle.std.proofs.Math.Dec.{eqb}
 use Rattle.std.proofs.lemmas.Bool.{eqb-true, eqb-false}
 use Rattle.std.proofs.lemmas.Nat.Bits.{bit_at_or, bit_at-zero, bit_at-pow_same, bit_at-pow_other}
-use Rattle.tk_book.specs.Needs.{Access, nothing, reads, writes, access_of}
-use Rattle.tk_cutting.specs.declared.nodes.Lock.{Lock}
-use Rattle.tk_cutting.specs.declared.nodes.Node.{Node}
-use Rattle.tk_cutting.specs.Asks.{over, at_resource, lock_asks, node_asks, nodes_ask}
+use Rattle.tk_book.specs.Wants.{Wants}
+use Rattle.tk_book.specs.Needs.{Access, nothing, reads, writes, access_of, access, weight, word_of}
+use Rattle.tk_book.proofs.Packing.{packed-same}
+use Rattle.tk_cutting.specs.declared.nodes.Placed.{Placed}
+use Rattle.tk_cutting.specs.Planned.{IsNeedOf, need_word, unit_asks}
+use Rattle.tk_cutting.specs.Asks.{over, at_resource}
 
 pub over-assoc : (a b c : Access) → over (over a b) c ≡ over a (over b c)
 over-assoc nothing b c = refl
@@ -85,3 +87,8 @@ asked_next a b x y w e f = ap (λ v. over v y) f ∙ over-assoc b x y ∙ e
 
 pub none_marked : (r : ℕ) (a : Access) → over (access_of (bit_at 0 r) (bit_at 0 r)) a ≡ a
 none_marked r a = ap₂ (λ x y. over (access_of x y) a) (bit_at-zero r) (bit_at-zero r)
+
+-- ---- a need as a word
+
+pub word_needed : (nodes : List Placed) (unit : ℕ) (w : Wants) → IsNeedOf nodes unit w → word_of w ≡ need_word nodes unit
+word_needed nodes unit w h = packed-same 16 (λ r. weight (access w r)) (λ r. weight (unit_asks nodes unit r)) (λ r l. ap weight (h r l))

@@ -1,5 +1,5 @@
 -- What trees do, one tree after another.
-use Rattle.std.proofs.Common.{◌≡◌, ℕ, zero, suc, ◌+◌, ◌-◌, ◌≤◌, List, [], ◌∷◌, ◌++◌, length, true, false, Bool, cond, is_some, Option, Some, None, refl, sym, ap, ap₂, ◌∙◌, arith, rules, length-append, append_assoc, append-nil, drop, take, get_or, ◌<◌, ◌==◌, ◌&&◌}
+use Rattle.std.proofs.Common.{◌≡◌, ℕ, suc, ◌+◌, ◌-◌, ◌≤◌, List, [], ◌∷◌, ◌++◌, length, true, false, Bool, cond, is_some, refl, sym, ap, ap₂, ◌∙◌, arith, length-append, append_assoc, drop, take, get_or, ◌<◌, ◌==◌, ◌&&◌}
 use Rattle.tk_cutting.specs.Cutting.{is_leaf, all_concurrent}
 use Rattle.std.proofs.lemmas.List.{drop_more, drop_all, take_all}
 use Rattle.tk_cutting.proofs.Grows.{forest_nil, forest-flats, is_forest, parted}
@@ -30,10 +30,10 @@ length-skipped false m ms w e = e
 mutual
   pub moves-length : (t : Tree) → length (moves t) ≡ weight t
   moves-length (tree n k f) = length-skipped (is_some n.skip) _ _ _ (
-    length-append (opening n k) _
-    ∙ ap₂ (λ a b. suc a + b) (length-reports k 0 n.entries) (length-append (moves_below k f) _ ∙ ap (λ a. a + 1) (below-length k f))
-    ∙ omega arith
-  )
+      length-append (opening n k) _
+      ∙ ap₂ (λ a b. suc a + b) (length-reports k 0 n.entries) (length-append (moves_below k f) _ ∙ ap (λ a. a + 1) (below-length k f))
+      ∙ omega arith
+      )
 
   pub below-length : (parent : ℕ) (f : Forest) → length (moves_below parent f) ≡ weights f
   below-length parent no_trees = refl

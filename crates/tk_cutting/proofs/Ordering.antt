@@ -1,5 +1,5 @@
 -- The nodes at the places of their numbers.
-use Rattle.std.proofs.Common.{◌≡◌, ℕ, zero, suc, ◌+◌, ◌≤◌, ◌<◌, List, [], ◌∷◌, ◌++◌, Bool, cond, true, false, length, drop, map, get_or, All, Some, slice_get, slice_index_or, refl, sym, ap, ap₂, ◌∙◌, subst, arith, length-append, append_assoc}
+use Rattle.std.proofs.Common.{◌≡◌, ℕ, zero, suc, ◌+◌, ◌<◌, List, [], ◌∷◌, ◌++◌, Bool, cond, true, false, length, drop, map, get_or, All, Some, slice_get, slice_index_or, refl, sym, ap, ap₂, ◌∙◌, subst, arith, length-append, append_assoc}
 use Rattle.std.proofs.lemmas.List.{drop_more}
 use Rattle.tk_cutting.specs.declared.nodes.Placed.{Placed}
 use Rattle.tk_cutting.specs.declared.nodes.Node.{Node}
@@ -81,7 +81,7 @@ numbered_at : (b : Bool) (ps : List Placed) (p : Placed) (xs ys all : List Node)
     → s ≡ length xs → d ≡ length (xs ++ of_kind true (p ∷ ps)) + length ys
     → all ≡ (xs ++ of_kind true (p ∷ ps)) ++ (ys ++ of_kind false (p ∷ ps))
     → ((zs ws : List Node) (t e i : ℕ) → t ≡ length zs → e ≡ length (zs ++ of_kind true ps) + length ws → all ≡ (zs ++ of_kind true ps) ++ (ws ++ of_kind false ps)
-      → i < length ps → slice_get all (get_or (numbers t e ps) i 0) ≡ Some (get_or ps i q).node)
+    → i < length ps → slice_get all (get_or (numbers t e ps) i 0) ≡ Some (get_or ps i q).node)
     → k < length (p ∷ ps) → slice_get all (get_or (numbers s d (p ∷ ps)) k 0) ≡ Some (get_or (p ∷ ps) k q).node
 numbered_at true ps p xs ys all s d zero q f es ed ea more l =
     let top : of_kind true (p ∷ ps) ≡ p.node ∷ of_kind true ps = ap (λ b. cond b (p.node ∷ of_kind true ps) (of_kind true ps)) f in

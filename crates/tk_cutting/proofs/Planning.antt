@@ -1,19 +1,20 @@
 -- What was cut of the root is what a plan keeps.
-use Rattle.std.proofs.Common.{◌≡◌, ℕ, zero, suc, ◌+◌, ◌≤◌, ◌<◌, ◌^◌, List, [], ◌∷◌, ◌++◌, length, drop, map, flat_map, All, true, refl, sym, ap, ap₂, ◌∙◌, subst, arith, append-nil, append_assoc, Option, None}
+use Rattle.std.proofs.Common.{◌≡◌, ℕ, zero, suc, ◌+◌, ◌≤◌, ◌<◌, List, [], ◌∷◌, ◌++◌, length, drop, map, flat_map, All, true, refl, sym, ap, ap₂, ◌∙◌, subst, arith, append-nil, append_assoc, Option, None}
+use Rattle.tk_cutting.specs.declared.counts.TheConstants.{MAX_EVENTS}
 use Rattle.tk_cutting.specs.declared.steps.Move.{Move}
 use Rattle.tk_cutting.specs.declared.steps.Step.{Step}
 use Rattle.tk_cutting.specs.declared.nodes.Placed.{Placed}
 use Rattle.tk_cutting.specs.declared.cuttings.Cutting.{Cutting}
 use Rattle.tk_cutting.specs.declared.cuttings.Sited.{Sited}
-use Rattle.tk_cutting.specs.Trees.{forest, IsForest, contents, number_of, flat, tree, Stands}
+use Rattle.tk_cutting.specs.Trees.{forest, IsForest, contents, number_of, tree, Stands}
 use Rattle.tk_cutting.specs.Weights.{weight, weights}
 use Rattle.tk_cutting.specs.Script.{moves, stamped}
 use Rattle.tk_cutting.specs.Cutting.{Piece, Part, opens, runs, closes, moves_of, all_static, root_script, parts_below, from_each, piece, head, tail, spine_of, units_of, pieces_of, script_of, steps_of}
 use Rattle.tk_cutting.specs.Adds.{Adds, Fits, Sits, HasNode, found, heads, tails}
 use Rattle.tk_cutting.specs.Kept.{IsCut}
-use Rattle.tk_cutting.specs.declared.cuttings.Spot.{Spot}
 use Rattle.tk_cutting.specs.Keys.{lock_keys}
-use Rattle.tk_cutting.specs.Planned.{IsWithin, IsNeedOf, NeedsOf}
+use Rattle.tk_cutting.specs.Planned.{IsWithin, IsNeedOf, piece_asks}
+use Rattle.tk_book.specs.Needs.{access}
 use Rattle.tk_cutting.specs.Asks.{IsNeed}
 use Rattle.tk_cutting.proofs.Cuts.{parts_below-moves, piece_of, found_get, found_length}
 use Rattle.tk_cutting.proofs.Standing.{same_contents}
@@ -22,7 +23,7 @@ use Rattle.std.proofs.Common.{Some, slice_get, get_or}
 of_none : {A : Type 0} (P : A → Type 0) (xs : List A) → xs ≡ [] → All P xs
 of_none P xs e k d l = absurd (omega (arith, ap length e, l))
 
-pub planned : (nodes passed : List Placed) (keys : List (List ℕ)) (old new : Cutting) → passed ≡ nodes → keys ≡ lock_keys (contents nodes) → IsForest nodes → weights (forest nodes) ≤ 2 ^ 20 → all_static (forest nodes) ≡ true
+pub planned : (nodes passed : List Placed) (keys : List (List ℕ)) (old new : Cutting) → passed ≡ nodes → keys ≡ lock_keys (contents nodes) → IsForest nodes → weights (forest nodes) ≤ MAX_EVENTS → all_static (forest nodes) ≡ true
     → old.spine.items ≡ [] → old.units.items ≡ [] → old.pieces.items ≡ [] → old.opened.items ≡ [] → old.closed.items ≡ [] → old.first ≡ 0
     → new.first ≡ old.first + weights (forest passed)
     → ((all rest : List Placed) → drop 0 all ≡ passed ++ rest → Adds all keys old new (parts_below true (forest passed)))
@@ -44,7 +45,7 @@ planned nodes passed keys old new same known trees limit statics spine units pie
       limit = limit;
     }
 
-counted : (ps : List Piece) → length (map (λ p. number_of p.tree) ps) ≡ length ps
+pub counted : (ps : List Piece) → length (map (λ p. number_of p.tree) ps) ≡ length ps
 counted [] = refl
 counted (p ∷ ps) = ap suc (counted ps)
 
@@ -62,13 +63,13 @@ unit_piece nodes c unit u cut h e =
 
 pub unit_need : (nodes : List Placed) (unit : ℕ) (u : Sited) (f : Fits nodes (lock_keys (contents nodes)) u) → slice_get (pieces_of (forest nodes)) unit ≡ Some (piece_of f) → IsNeedOf nodes unit u.need
 unit_need nodes unit u f e =
-    subst (λ p. NeedsOf (lock_keys (contents nodes)) p u.need) (sym e)
+    subst (λ p. (r : ℕ) → r < 16 → access u.need r ≡ piece_asks (lock_keys (contents nodes)) p r) (sym e)
     (subst (λ ns. IsNeed (lock_keys (contents nodes)) ns u.need) (sym (same_contents f.top f.below f.trees)) f.need)
 
 -- what the tree of a unit was found to be
 pub record Found (nodes : List Placed) (unit : ℕ) (u : Sited) (placed : Placed) (below : List Placed) : Type 0 where
   pub trees : IsForest below
-  pub limit : u.first + weight (tree placed.node placed.number (forest below)) ≤ 2 ^ 20
+  pub limit : u.first + weight (tree placed.node placed.number (forest below)) ≤ MAX_EVENTS
   pub script : script_of (forest nodes) unit ≡ stamped u.first (moves (tree placed.node placed.number (forest below)))
 
 pub unit_found : (nodes passed : List Placed) (unit : ℕ) (u : Sited) (f : Fits nodes (lock_keys (contents nodes)) u) (placed : Placed) (below : List Placed)
@@ -78,7 +79,7 @@ pub unit_found : (nodes passed : List Placed) (unit : ℕ) (u : Sited) (f : Fits
 unit_found nodes passed unit u f placed below e same at =
     let is = at f.top f.below f.rest (ap (drop u.place) same ∙ f.place) f.span in
     subst (λ p. Found nodes unit u p below) (sym is.0) (
-      subst (λ ps. Found nodes unit u f.top ps) (sym is.1) (record { trees = f.trees; limit = f.limit; script = ap steps_of e })
+    subst (λ ps. Found nodes unit u f.top ps) (sym is.1) (record { trees = f.trees; limit = f.limit; script = ap steps_of e })
     )
 
 pub stands : (nodes passed : List Placed) (keys : List (List ℕ)) (u : Sited) → Fits nodes keys u → passed ≡ nodes → Stands passed u.place
@@ -86,7 +87,7 @@ stands nodes passed keys u f same = record { top = f.top; below = f.below; rest 
 
 -- ---- a unit's script stands in the root's
 
-stamped-append : (i : ℕ) (xs ys : List Move) → stamped i (xs ++ ys) ≡ stamped i xs ++ stamped (i + length xs) ys
+pub stamped-append : (i : ℕ) (xs ys : List Move) → stamped i (xs ++ ys) ≡ stamped i xs ++ stamped (i + length xs) ys
 stamped-append i [] ys = ap (λ n. stamped n ys) (omega arith)
 stamped-append i (x ∷ xs) ys = ap (λ l. record { node = x.node; stamp = i; act = x.act } ∷ l) (stamped-append (i + 1) xs ys ∙ ap (λ n. stamped (i + 1) xs ++ stamped n ys) (omega arith))
 

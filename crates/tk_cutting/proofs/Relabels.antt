@@ -1,9 +1,9 @@
 -- Whether some nodes are a forest rests on their spans alone.
-use Rattle.std.proofs.Common.{◌≡◌, ℕ, zero, suc, ◌+◌, ◌-◌, ◌≤◌, List, [], ◌∷◌, ◌++◌, length, take, drop, map, refl, sym, ap, ap₂, ◌∙◌, arith, length-append}
+use Rattle.std.proofs.Common.{◌≡◌, ℕ, suc, List, [], ◌∷◌, ◌++◌, length, take, drop, map, refl, sym, ap, ap₂, ◌∙◌, arith}
 use Rattle.std.proofs.lemmas.List.{drop-map, take-map, map-append, length-map, take-append-drop}
 use Rattle.std.proofs.Math.Seq.{take-append_seam, drop-append_seam}
 use Rattle.tk_cutting.specs.declared.nodes.Placed.{Placed}
-use Rattle.tk_cutting.specs.Trees.{Tree, tree, Forest, no_trees, more, flat, flats, forest, IsForest}
+use Rattle.tk_cutting.specs.Trees.{tree, Forest, no_trees, more, flats, forest, IsForest}
 use Rattle.tk_cutting.proofs.Grows.{is_forest}
 
 spans : List Placed → List ℕ
@@ -37,8 +37,7 @@ relabeled (more (tree n k b) f) (q ∷ qs) e =
     let parts = front_spans m qs (flats b) (flats f) (ap tail_or e) refl in
     let one = relabeled b (take m qs) parts.0 in
     let two = relabeled f (drop m qs) parts.1 in
-    let size : m ≡ length (flats one.0) = sym (length-map (flats b) _) ∙ sym (ap length parts.0) ∙ length-map (take m qs) _ ∙ ap length one.1 in
-    (
+    let size : m ≡ length (flats one.0) = sym (length-map (flats b) _) ∙ sym (ap length parts.0) ∙ length-map (take m qs) _ ∙ ap length one.1 in (
       more (tree q.node q.number one.0) two.0,
       ap₂ (λ s l. record { node = q.node; number = q.number; span = s } ∷ l) (span ∙ ap suc size) (sym (take-append-drop m qs) ∙ ap₂ (λ x y. x ++ y) one.1 two.1),
     )

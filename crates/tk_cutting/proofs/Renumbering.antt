@@ -4,11 +4,9 @@ use Rattle.std.proofs.lemmas.List.{drop-map, take-map, length-map}
 use Rattle.std.specs.List.{list_all}
 use Rattle.tk_ids.specs.IdText.{Pair}
 use Rattle.tk_ids.specs.declared.tables.Descriptor.{Descriptor}
-use Rattle.tk_cutting.specs.declared.nodes.Node.{Node}
 use Rattle.tk_cutting.specs.declared.nodes.Placed.{Placed}
-use Rattle.tk_cutting.specs.Trees.{Tree, tree, Forest, no_trees, more, grow, forest, IsForest, contents}
-use Rattle.tk_cutting.specs.Script.{moves_below}
-use Rattle.tk_cutting.specs.Weights.{registered, weight, weights}
+use Rattle.tk_cutting.specs.Trees.{Tree, tree, Forest, no_trees, more, grow, forest, contents}
+use Rattle.tk_cutting.specs.Weights.{weight, weights}
 use Rattle.tk_cutting.specs.Numbers.{with_number, numbered_from, numbered, of_kind, IsNumbered}
 use Rattle.tk_cutting.specs.Ids.{ids, ids_below, descriptor_in, descriptors, descriptors_below, AreDistinct}
 use Rattle.tk_cutting.specs.Keys.{lock_keys}
@@ -116,8 +114,8 @@ pub numbered_once : (ps : List Placed) → IsNumbered (numbered ps)
 numbered_once ps =
     let n = length (of_kind true ps) in
     sym (
-      ap (λ k. numbered_from 0 k (numbered ps)) (ap length (through (of_kind true) statics-zeroed 0 n ps))
-      ∙ through (numbered_from 0 n) (numbered-zeroed 0 n) 0 n ps
+    ap (λ k. numbered_from 0 k (numbered ps)) (ap length (through (of_kind true) statics-zeroed 0 n ps))
+    ∙ through (numbered_from 0 n) (numbered-zeroed 0 n) 0 n ps
     )
 
 -- ---- so a plan stays one

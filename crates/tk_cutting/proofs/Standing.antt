@@ -1,10 +1,13 @@
 -- A tree that stands at a place.
-use Rattle.std.proofs.Common.{◌≡◌, ℕ, zero, suc, ◌+◌, ◌-◌, ◌≤◌, ◌<◌, ◌^◌, List, [], ◌∷◌, ◌++◌, length, drop, take, get_or, map, refl, sym, ap, ap₂, ◌∙◌, subst, arith, length-append, length-drop, Option, Some, All, slice_get, slice_index_or}
+use Rattle.std.proofs.Common.{◌≡◌, ℕ, suc, ◌+◌, ◌-◌, List, ◌∷◌, ◌++◌, length, drop, take, get_or, sym, ap, ap₂, ◌∙◌, arith, length-append, length-drop}
 use Rattle.std.proofs.lemmas.List.{drop-drop, get_or-drop}
 use Rattle.std.proofs.Math.Seq.{take-append_seam}
 use Rattle.tk_cutting.specs.declared.nodes.Placed.{Placed}
 use Rattle.tk_cutting.specs.Planned.{Outline}
-use Rattle.tk_cutting.specs.Trees.{Forest, tree, forest, flats, IsForest, contents, flat, Stands}
+use Rattle.tk_cutting.specs.Trees.{tree, forest, IsForest, contents, flat}
+
+pub table_is : (a b : Outline) → a ≡ b → a.table ≡ b.table
+table_is a b e = ap (λ v. v.table) e
 
 pub nodes_are : (a b : Outline) → a ≡ b → a.nodes ≡ b.nodes
 nodes_are a b e = ap (λ v. v.nodes) e

@@ -1,6 +1,7 @@
 -- The events of nodes that stand at spots.
-use Rattle.std.proofs.Common.{◌≡◌, ℕ, zero, suc, ◌+◌, ◌≤◌, ◌<◌, ◌^◌, List, [], ◌∷◌, ◌++◌, length, drop, get_or, All, slice_index_or, refl, sym, ap, ap₂, ◌∙◌, subst, arith, append_assoc, length-drop}
+use Rattle.std.proofs.Common.{◌≡◌, ℕ, ◌+◌, ◌≤◌, ◌<◌, List, [], ◌∷◌, ◌++◌, length, drop, get_or, All, slice_index_or, sym, ap, ◌∙◌, subst, arith, append_assoc, append-nil, length-drop}
 use Rattle.std.proofs.lemmas.List.{drop_more, drop_all, get_or-drop}
+use Rattle.tk_cutting.specs.declared.counts.TheConstants.{MAX_EVENTS}
 use Rattle.tk_events.specs.declared.events.Event.{Event}
 use Rattle.tk_cutting.specs.declared.nodes.Placed.{Placed}
 use Rattle.tk_cutting.specs.declared.cuttings.Spot.{Spot}
@@ -16,11 +17,17 @@ sits_node all s h = (h.top, h.rest, h.place)
 top_is : (all : List Placed) (s : Spot) (p q : Placed) (rest : List Placed) → drop s.place all ≡ q ∷ rest → p ≡ get_or all s.place p → p ≡ q
 top_is all s p q rest e f = f ∙ ap (λ i. get_or all i p) (omega arith) ∙ sym (get_or-drop s.place all 0 p) ∙ ap (λ ps. get_or ps 0 p) e
 
-pub stamps_small : (all : List Placed) (s : Spot) (p : Placed) → Sits all s → p ≡ get_or all s.place p → s.stamp + length p.node.entries ≤ 2 ^ 20
-stamps_small all s p h e = subst (λ q. s.stamp + length q.node.entries ≤ 2 ^ 20) (sym (top_is all s p h.top h.rest h.place e)) h.limit
+pub stamps_small : (all : List Placed) (s : Spot) (p : Placed) → Sits all s → p ≡ get_or all s.place p → s.stamp + length p.node.entries ≤ MAX_EVENTS
+stamps_small all s p h e = subst (λ q. s.stamp + length q.node.entries ≤ MAX_EVENTS) (sym (top_is all s p h.top h.rest h.place e)) h.limit
 
 next : (olds news xs ys zs : List Event) → news ≡ olds ++ xs → ys ≡ xs ++ zs → olds ++ ys ≡ news ++ zs
 next olds news xs ys zs e f = ap (λ l. olds ++ l) f ∙ sym (append_assoc olds xs zs) ∙ ap (λ l. l ++ zs) (sym e)
+
+pub heads_end : (all : List Placed) (spots : List Spot) (i : ℕ) (made whole : List Event) → length spots ≤ i → heads all spots ≡ made ++ heads all (drop i spots) → heads all spots ≡ whole → made ≡ whole
+heads_end all spots i made whole h e f = sym (append-nil made) ∙ ap (λ l. made ++ heads all l) (sym (drop_all i spots h)) ∙ sym e ∙ f
+
+pub tails_end : (all : List Placed) (spots : List Spot) (i : ℕ) (made whole : List Event) → length spots ≤ i → tails all spots ≡ made ++ tails all (drop i spots) → tails all spots ≡ whole → made ≡ whole
+tails_end all spots i made whole h e f = sym (append-nil made) ∙ ap (λ l. made ++ tails all l) (sym (drop_all i spots h)) ∙ sym e ∙ f
 
 pub heads_next : (all : List Placed) (spots : List Spot) (i : ℕ) (olds news : List Event) (p : Placed) (d : Spot) (whole : List Event) → All (Sits all) spots → i < length spots
     → p ≡ get_or all (slice_index_or spots i d).place p
@@ -30,7 +37,7 @@ heads_next all spots i olds news p d whole sits h e made so_far =
     let s = slice_index_or spots i d in
     let at = sits i d h in
     let here : begun_at (drop s.place all) s.stamp ≡ begun p.number s.stamp p.node
-      = ap (λ ps. begun_at ps s.stamp) at.place ∙ ap (λ q. begun q.number s.stamp q.node) (sym (top_is all s p at.top at.rest at.place e)) in
+    = ap (λ ps. begun_at ps s.stamp) at.place ∙ ap (λ q. begun q.number s.stamp q.node) (sym (top_is all s p at.top at.rest at.place e)) in
     so_far ∙ next olds news _ _ _ made (ap (heads all) (drop_more spots i d h) ∙ ap (λ l. l ++ heads all (drop (i + 1) spots)) here)
 
 pub tails_next : (all : List Placed) (spots : List Spot) (i : ℕ) (olds news : List Event) (p : Placed) (d : Spot) (whole : List Event) → All (HasNode all) spots → i < length spots
@@ -41,5 +48,5 @@ tails_next all spots i olds news p d whole stands h e made so_far =
     let s = slice_index_or spots i d in
     let at = stands i d h in
     let here : ended_at (drop s.place all) s.stamp ≡ ended p.number s.stamp p.node ∷ []
-      = ap (λ ps. ended_at ps s.stamp) at.2 ∙ ap (λ q. ended q.number s.stamp q.node ∷ []) (sym (top_is all s p at.0 at.1 at.2 e)) in
+    = ap (λ ps. ended_at ps s.stamp) at.2 ∙ ap (λ q. ended q.number s.stamp q.node ∷ []) (sym (top_is all s p at.0 at.1 at.2 e)) in
     so_far ∙ next olds news _ _ _ made (ap (tails all) (drop_more spots i d h) ∙ ap (λ l. l ++ tails all (drop (i + 1) spots)) here)

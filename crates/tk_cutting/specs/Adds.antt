@@ -1,5 +1,6 @@
 -- What cutting some nodes adds to what was cut.
-use Rattle.std.specs.Prelude.{◌≡◌, ◌≤◌, ◌^◌, ℕ, suc, ◌+◌, List, [], ◌∷◌, ◌++◌, length, drop, map, flat_map, All}
+use Rattle.std.specs.Prelude.{◌≡◌, ◌≤◌, ℕ, suc, ◌+◌, List, [], ◌∷◌, ◌++◌, length, drop, map, flat_map, All}
+use Rattle.tk_cutting.specs.declared.counts.TheConstants.{MAX_EVENTS}
 use Rattle.tk_events.specs.declared.events.Event.{Event}
 use Rattle.tk_cutting.specs.declared.nodes.Placed.{Placed}
 use Rattle.tk_cutting.specs.declared.cuttings.Sited.{Sited}
@@ -47,7 +48,7 @@ pub record Fits (all : List Placed) (keys : List (List ℕ)) (u : Sited) : Type 
   pub span : top.span ≡ suc (length below)
   pub trees : IsForest below
   pub need : IsNeed keys (contents (top ∷ below)) u.need
-  pub limit : u.first + weight (tree top.node top.number (forest below)) ≤ 2 ^ 20
+  pub limit : u.first + weight (tree top.node top.number (forest below)) ≤ MAX_EVENTS
 
 -- a node stands at the spot
 abbrev pub HasNode : List Placed → Spot → Type 0
@@ -58,7 +59,7 @@ pub record Sits (all : List Placed) (s : Spot) : Type 0 where
   pub top : Placed
   pub rest : List Placed
   pub place : drop s.place all ≡ top ∷ rest
-  pub limit : s.stamp + length top.node.entries ≤ 2 ^ 20
+  pub limit : s.stamp + length top.node.entries ≤ MAX_EVENTS
 
 pub record Adds (all : List Placed) (keys : List (List ℕ)) (old new : Cutting) (ps : List Part) : Type 0 where
   pub spine : new.spine.items ≡ old.spine.items ++ flat_map opened ps

@@ -1,11 +1,10 @@
 -- What the nodes of a unit ask of the resources.
-use Rattle.std.specs.Prelude.{◌≡◌, ℕ, zero, suc, ◌+◌, ◌==◌, ◌<◌, List, [], ◌∷◌, ◌++◌, Bool, true, false, Option, Some, None, if◌then◌else◌, map, flat_map, codes, option_map}
+use Rattle.std.specs.Prelude.{◌≡◌, ℕ, suc, ◌==◌, ◌<◌, List, [], ◌∷◌, Bool, true, false, Option, Some, None, if◌then◌else◌, codes, option_map}
 use Rattle.std.specs.Str.{bytes_eq}
 use Rattle.tk_book.specs.Needs.{Access, nothing, reads, writes, access}
 use Rattle.tk_book.specs.Wants.{Wants}
 use Rattle.tk_cutting.specs.declared.nodes.Lock.{Lock}
 use Rattle.tk_cutting.specs.declared.nodes.Node.{Node}
-use Rattle.tk_cutting.specs.Trees.{Tree, contents, flat}
 
 -- the key `global` is resource 0, the others are numbered from 1 on
 abbrev pub place : List (List ℕ) → List ℕ → Option ℕ

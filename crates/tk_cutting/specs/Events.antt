@@ -1,10 +1,13 @@
 -- The events of a node that stands in the table under its number.
-use Rattle.std.specs.Prelude.{ℕ, ◌+◌, List, [], ◌∷◌}
+use Rattle.std.specs.Prelude.{◌≡◌, ◌≢◌, ℕ, ◌+◌, ◌<◌, ◌≤◌, List, [], ◌∷◌, true, length, All}
+use Rattle.tk_cutting.specs.declared.counts.TheConstants.{MAX_EVENTS}
+use Rattle.tk_ids.specs.declared.tables.Descriptor.{Descriptor}
 use Rattle.tk_events.specs.declared.kinds.Kind.{Kind}
-use Rattle.tk_events.specs.declared.kinds.Kind.TheVariants.{Started, Finished, Reporting}
+use Rattle.tk_events.specs.declared.kinds.Kind.TheVariants.{Dynamic, Started, Finished, Reporting}
 use Rattle.tk_events.specs.declared.payloads.Payload.{Payload}
 use Rattle.tk_events.specs.declared.payloads.Payload.TheVariants.{Nothing, Outcome, Report}
 use Rattle.tk_events.specs.declared.events.Event.{Event}
+use Rattle.tk_events.specs.Event.{is_lawful}
 use Rattle.tk_cutting.specs.declared.nodes.Node.{Node}
 
 abbrev pub event : Kind → ℕ → ℕ → Payload → Event
@@ -22,3 +25,14 @@ begun k i n = event Started k i Nothing ∷ reported k (i + 1) n.entries
 -- a node's finish
 abbrev pub ended : ℕ → ℕ → Node → Event
 ended k i n = event Finished k i (Outcome n.status n.message)
+
+-- a lawful event of a descriptor of the table, which registers nothing
+pub record IsStatic (table : List Descriptor) (e : Event) : Type 0 where
+  pub known : e.key < length table
+  pub lawful : is_lawful e.kind e.payload ≡ true
+  pub registers_none : e.kind ≢ Dynamic
+
+-- at most 2^20 such events
+pub record AreStatic (table : List Descriptor) (es : List Event) : Type 0 where
+  pub each : All (IsStatic table) es
+  pub few : length es ≤ MAX_EVENTS

@@ -1,5 +1,6 @@
 -- What a plan keeps of its nodes.
-use Rattle.std.specs.Prelude.{◌≡◌, ◌≤◌, ◌^◌, ℕ, List, All, true}
+use Rattle.std.specs.Prelude.{◌≡◌, ◌≤◌, ℕ, List, All, true}
+use Rattle.tk_cutting.specs.declared.counts.TheConstants.{MAX_EVENTS}
 use Rattle.tk_ids.specs.declared.tables.Descriptor.{Descriptor}
 use Rattle.tk_cutting.specs.declared.nodes.Placed.{Placed}
 use Rattle.tk_cutting.specs.declared.cuttings.Cutting.{Cutting}
@@ -23,7 +24,7 @@ pub record IsCut (nodes : List Placed) (c : Cutting) : Type 0 where
   pub after : tails nodes c.closed.items ≡ after_of (forest nodes)
   pub closed : All (HasNode nodes) c.closed.items
   pub total : c.first ≡ weights (forest nodes)
-  pub limit : weights (forest nodes) ≤ 2 ^ 20
+  pub limit : weights (forest nodes) ≤ MAX_EVENTS
 
 pub record IsPlan (nodes : List Placed) (table : List Descriptor) (c : Cutting) (places : List ℕ) : Type 0 where
   pub planned : IsPlanned nodes table

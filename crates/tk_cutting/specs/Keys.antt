@@ -1,5 +1,5 @@
 -- The lock keys of a plan, by first appearance.
-use Rattle.std.specs.Prelude.{ℕ, ◌||◌, ◌++◌, List, [], ◌∷◌, Bool, if◌then◌else◌, codes, flat_map}
+use Rattle.std.specs.Prelude.{ℕ, ◌||◌, ◌++◌, List, [], ◌∷◌, if◌then◌else◌, codes, flat_map}
 use Rattle.std.specs.List.{list_any}
 use Rattle.std.specs.Str.{bytes_eq}
 use Rattle.tk_cutting.specs.declared.nodes.Lock.{Lock}

@@ -1,12 +1,16 @@
 -- Laws of plans.
-use Rattle.std.specs.Prelude.{◌≡◌, ℕ, List, [], Bool, true, false, flat_map, All, Some, slice_get, map}
+use Rattle.std.specs.Prelude.{◌≡◌, ℕ, List, [], Bool, true, false, ◌∷◌, flat_map, map, All, Some, slice_get}
 use Rattle.tk_ids.specs.IdText.{Pair}
 use Rattle.tk_ids.specs.declared.tables.Descriptor.{Descriptor}
 use Rattle.tk_ids.specs.Table.{HasId}
+use Rattle.tk_cutting.specs.declared.nodes.Node.{Node}
 use Rattle.tk_cutting.specs.declared.nodes.Placed.{Placed}
+use Rattle.tk_cutting.specs.declared.steps.Act.TheVariants.{Finish}
 use Rattle.tk_cutting.specs.Trees.{Forest, forest}
-use Rattle.tk_cutting.specs.Script.{moves_below}
-use Rattle.tk_cutting.specs.Cutting.{all_static, parts_below, moves_of}
+use Rattle.tk_cutting.specs.Script.{moves_below, move, opening, stamped}
+use Rattle.tk_cutting.specs.Events.{begun, ended}
+use Rattle.tk_cutting.specs.Told.{told}
+use Rattle.tk_cutting.specs.Cutting.{all_static, parts_below, moves_of, from_each, root_script}
 use Rattle.tk_cutting.specs.Numbers.{IsNumbered, in_order}
 use Rattle.tk_cutting.specs.Ids.{ids_below, descriptor}
 use Rattle.tk_cutting.specs.Planned.{IsPlanned}
@@ -27,3 +31,11 @@ pub record IsKeyed (table : List Descriptor) (p : Placed) (id : List Pair) : Typ
 abbrev pub HasKeys : Type 0
 HasKeys = (nodes : List Placed) (table : List Descriptor) → IsPlanned nodes table → IsNumbered nodes
     → (i : ℕ) (p : Placed) (id : List Pair) → slice_get nodes i ≡ Some p → slice_get (ids_below [] (forest nodes)) i ≡ Some id → IsKeyed table p id
+
+-- and with their stamps they are the root's script
+abbrev pub KeepsStamps : Type 0
+KeepsStamps = (is_root : Bool) (f : Forest) → all_static f ≡ true → from_each (λ i p. stamped i (moves_of p)) 0 (parts_below is_root f) ≡ root_script f
+
+-- what a node of the spine tells before its children and after them are its steps, told as events
+abbrev pub TellsSteps : Type 0
+TellsSteps = (n : Node) (k i : ℕ) → (begun k i n ≡ map (told n) (stamped i (opening n k))) × (ended k i n ∷ [] ≡ map (told n) (stamped i (move k Finish ∷ [])))

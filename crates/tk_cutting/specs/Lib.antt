@@ -1,18 +1,20 @@
 pub use Rattle.tk_ids.specs.IdText
 pub use Rattle.tk_events.specs.Event
 pub use Rattle.tk_book.specs.Wants
+pub use Rattle.tk_book.specs.Words
 pub use Rattle.tk_book.specs.Needs
-
 pub mod Trees
 pub mod Script
 pub mod Weights
 pub mod Events
+pub mod Told
 pub mod Cutting
 pub mod Asks
 pub mod Marked
 pub mod Adds
 pub mod Keys
 pub mod Numbers
+pub mod Known
 pub mod Ids
 pub mod Planned
 pub mod Kept

@@ -1,17 +1,22 @@
 -- What a plan is.
-use Rattle.std.specs.Prelude.{◌≡◌, ◌≤◌, ◌^◌, ◌&&◌, ℕ, List, [], Option, Some, None, Bool, true, false, All, slice_get, length, ◌++◌}
+use Rattle.std.specs.Prelude.{◌≡◌, ◌≤◌, ◌<◌, ◌&&◌, ℕ, List, [], Option, Some, None, Bool, true, false, slice_get, length, ◌++◌}
 use Rattle.std.specs.List.{list_all}
+use Rattle.tk_cutting.specs.declared.counts.TheConstants.{MAX_EVENTS}
+use Rattle.tk_ids.specs.declared.tables.TheConstants.{MAX_DESCRIPTORS}
+use Rattle.tk_cutting.specs.declared.asking.TheConstants.{MAX_KEYS}
 use Rattle.tk_ids.specs.declared.tables.Descriptor.{Descriptor}
 use Rattle.tk_events.specs.declared.kinds.Kind.TheVariants.{Finished, Reporting}
 use Rattle.tk_events.specs.declared.payloads.Payload.TheVariants.{Outcome, Report}
 use Rattle.tk_events.specs.Event.{is_lawful}
 use Rattle.tk_book.specs.Wants.{Wants}
+use Rattle.tk_book.specs.Words.{packed}
+use Rattle.tk_book.specs.Needs.{Access, nothing, access, weight}
 use Rattle.tk_cutting.specs.declared.nodes.Node.{Node}
 use Rattle.tk_cutting.specs.declared.nodes.Placed.{Placed}
 use Rattle.tk_cutting.specs.Trees.{Forest, no_trees, more, tree, IsForest, forest, contents, flat}
 use Rattle.tk_cutting.specs.Script.{moves_below}
 use Rattle.tk_cutting.specs.Cutting.{Piece, pieces_of}
-use Rattle.tk_cutting.specs.Asks.{IsNeed}
+use Rattle.tk_cutting.specs.Asks.{nodes_ask}
 use Rattle.tk_cutting.specs.Keys.{lock_keys}
 use Rattle.tk_cutting.specs.Numbers.{of_kind}
 use Rattle.tk_cutting.specs.Ids.{ids_below, descriptors_below, AreDistinct}
@@ -39,19 +44,27 @@ pub record IsPlanned (nodes : List Placed) (table : List Descriptor) : Type 0 wh
   pub lawful : list_all is_lawful_node (contents nodes) ≡ true
   pub distinct : AreDistinct (ids_below [] (forest nodes))
   pub described : table ≡ descriptors_below [] (forest nodes)
-  pub few_static : length table ≤ 65536
-  pub few_dynamic : length (of_kind false nodes) ≤ 65536
-  pub few_keys : length (lock_keys (contents nodes)) ≤ 15
-  pub few_events : length (moves_below 0 (forest nodes)) ≤ 2 ^ 20
+  pub few_static : length table ≤ MAX_DESCRIPTORS
+  pub few_dynamic : length (of_kind false nodes) ≤ MAX_DESCRIPTORS
+  pub few_keys : length (lock_keys (contents nodes)) ≤ MAX_KEYS
+  pub few_events : length (moves_below 0 (forest nodes)) ≤ MAX_EVENTS
 
--- the locks of the unit's nodes, write over read, and the part that they have in resource 0
-abbrev pub NeedsOf : List (List ℕ) → Option Piece → Wants → Type 0
-NeedsOf keys None w = ⊥
-NeedsOf keys (Some u) w = IsNeed keys (contents (flat u.tree)) w
+-- what the nodes of a unit ask of a resource
+abbrev pub piece_asks : List (List ℕ) → Option Piece → ℕ → Access
+piece_asks keys None r = nothing
+piece_asks keys (Some u) r = nodes_ask keys (contents (flat u.tree)) r
 
--- the need is that of the plan's unit
+-- the same of the plan's unit of that number
+abbrev pub unit_asks : List Placed → ℕ → ℕ → Access
+unit_asks nodes unit r = piece_asks (lock_keys (contents nodes)) (slice_get (pieces_of (forest nodes)) unit) r
+
+-- the need asks what the nodes of the unit ask
 abbrev pub IsNeedOf : List Placed → ℕ → Wants → Type 0
-IsNeedOf nodes unit w = NeedsOf (lock_keys (contents nodes)) (slice_get (pieces_of (forest nodes)) unit) w
+IsNeedOf nodes unit w = (r : ℕ) → r < 16 → access w r ≡ unit_asks nodes unit r
+
+-- that need as a word
+abbrev pub need_word : List Placed → ℕ → ℕ
+need_word nodes unit = packed 16 (λ r. weight (unit_asks nodes unit r))
 
 -- one list stands within another, without a gap
 abbrev pub IsWithin : {A : Type 0} → List A → List A → Type 0

@@ -1,5 +1,5 @@
 -- A plan is a tree of nodes. Each has its number.
-use Rattle.std.specs.Prelude.{◌≡◌, ℕ, zero, suc, ◌+◌, ◌-◌, ◌≤◌, List, [], ◌∷◌, ◌++◌, length, take, drop, map}
+use Rattle.std.specs.Prelude.{◌≡◌, ℕ, zero, suc, ◌-◌, List, [], ◌∷◌, ◌++◌, length, take, drop, map}
 use Rattle.tk_cutting.specs.declared.nodes.Node.{Node}
 use Rattle.tk_cutting.specs.declared.nodes.Placed.{Placed}
 

@@ -1,5 +1,5 @@
 -- How many moves a tree makes.
-use Rattle.std.specs.Prelude.{ℕ, suc, ◌+◌, length, is_some, if◌then◌else◌}
+use Rattle.std.specs.Prelude.{ℕ, ◌+◌, length, is_some, if◌then◌else◌}
 use Rattle.tk_cutting.specs.declared.nodes.Node.{Node}
 use Rattle.tk_cutting.specs.Trees.{Tree, tree, Forest, no_trees, more}
 

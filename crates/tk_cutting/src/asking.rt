@@ -11,6 +11,9 @@ use crate::nodes::{Lock, Node, Placed};
 use tk_book::Need;
 use tk_ids::Text;
 
+/// How many lock keys a plan has at most, save `global`.
+pub const MAX_KEYS: usize = 15;
+
 /// The resources that are read, and those that are written.
 #[derive(Clone, Copy)]
 pub(crate) struct Masks {
@@ -64,7 +67,7 @@ impl Masks {
     }
 
     fn mark_locks(&mut self, keys: &[Text], locks: &[Lock])
-        requires { length keys.now ≤ 15 }
+        requires { length keys.now ≤ MAX_KEYS }
         ensures { (r : ℕ) → r < 16 → marked self.new r ≡ over (marked self.old r) (lock_asks keys.now locks.now r) }
     {
         for lock in locks {
@@ -75,7 +78,7 @@ impl Masks {
     }
 
     fn mark_node(&mut self, keys: &[Text], node: &Node)
-        requires { length keys.now ≤ 15 }
+        requires { length keys.now ≤ MAX_KEYS }
         ensures { (r : ℕ) → r < 16 → marked self.new r ≡ over (marked self.old r) (node_asks keys.now node.now r) }
     {
         self.mark(0, node.is_isolated);
@@ -85,7 +88,7 @@ impl Masks {
 
 /// What a tree of nodes needs.
 pub(crate) fn need_of(keys: &[Text], placed: &Placed, below: &[Placed]) -> Need
-    requires { length keys.now ≤ 15 }
+    requires { length keys.now ≤ MAX_KEYS }
     ensures { IsNeed keys.now (contents (placed.now ∷ below.now)) result }
 {
     let mut masks = Masks {

@@ -12,8 +12,8 @@ pub const MAX_EVENTS: u64 = 1_048_576;
 
 /// How many events a node gives by itself, as far as there may be so many.
 fn own_events(node: &Node) -> u64
-    ensures same { min result (2 ^ 20 + 1) ≡ min (own node.now) (2 ^ 20 + 1) }
-    ensures bound { result ≤ 2 ^ 20 + 4 }
+    ensures same { min result (MAX_EVENTS + 1) ≡ min (own node.now) (MAX_EVENTS + 1) }
+    ensures bound { result ≤ MAX_EVENTS + 4 }
 {
     let registration = if node.is_static { 0 } else { 1 };
     if node.skip.is_some() {
@@ -26,7 +26,7 @@ fn own_events(node: &Node) -> u64
 /// How many events some trees have, as far as there may be so many.
 fn count_all(nodes: &[Placed]) -> u64
     requires { IsForest nodes.now }
-    ensures { min result (2 ^ 20 + 1) ≡ min (weights (forest nodes.now)) (2 ^ 20 + 1) }
+    ensures { min result (MAX_EVENTS + 1) ≡ min (weights (forest nodes.now)) (MAX_EVENTS + 1) }
 {
     let mut count = 0;
     let mut rest = nodes;
@@ -49,8 +49,8 @@ fn count_all(nodes: &[Placed]) -> u64
 /// none where there are more than `MAX_EVENTS`.
 pub fn count_events(nodes: &[Placed]) -> Option<u32>
     requires { IsForest nodes.now }
-    ensures { MatchOption result (2 ^ 20 < length (moves_below 0 (forest nodes.now)))
-        (λ n. (n ≡ length (moves_below 0 (forest nodes.now))) × (n ≤ 2 ^ 20)) }
+    ensures { MatchOption result (MAX_EVENTS < length (moves_below 0 (forest nodes.now)))
+        (λ n. (n ≡ length (moves_below 0 (forest nodes.now))) × (n ≤ MAX_EVENTS)) }
 {
     let count = count_all(nodes);
     if count > MAX_EVENTS {
@@ -63,7 +63,7 @@ pub fn count_events(nodes: &[Placed]) -> Option<u32>
 /// How many events a tree has.
 pub(crate) fn count_tree(placed: &Placed, below: &[Placed]) -> u64
     requires below { IsForest below.now }
-    requires limit { weight (tree placed.now.node placed.now.number (forest below.now)) ≤ 2 ^ 20 }
+    requires limit { weight (tree placed.now.node placed.now.number (forest below.now)) ≤ MAX_EVENTS }
     ensures { result ≡ weight (tree placed.now.node placed.now.number (forest below.now)) }
 {
     if placed.node.skip.is_some() {

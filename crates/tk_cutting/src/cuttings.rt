@@ -4,6 +4,8 @@ ghost use Rattle.tk_cutting.specs.Trees.{IsForest, forest, tree};
 ghost use Rattle.tk_cutting.specs.Weights.{weight, weights};
 ghost use Rattle.tk_cutting.specs.Cutting.{opens, runs, closes, parts, parts_below, all_static};
 ghost use Rattle.tk_cutting.specs.Adds.{Adds};
+ghost use Rattle.tk_cutting.specs.declared.counts.TheConstants.{MAX_EVENTS};
+ghost use Rattle.tk_cutting.specs.declared.asking.TheConstants.{MAX_KEYS};
 
 use crate::asking::need_of;
 use crate::counts::count_tree;
@@ -66,7 +68,7 @@ impl Cutting {
 
     /// Adds a start on the spine with its entries.
     fn begin(&mut self, placed: &Placed, place: usize) -> Result<(), AllocError>
-        requires { self.old.first + (1 + length placed.now.node.entries) ≤ 2 ^ 20 }
+        requires { self.old.first + (1 + length placed.now.node.entries) ≤ MAX_EVENTS }
         ensures first { OnOk result (self.new.first ≡ self.old.first + (1 + length placed.now.node.entries)) }
         ensures adds { OnOk result ((all rest : List Placed) → (keys : List (List ℕ)) → drop place all ≡ placed.now ∷ rest
             → Adds all keys self.old self.new (opens placed.now.node placed.now.number ∷ [])) }
@@ -82,7 +84,7 @@ impl Cutting {
 
     /// Adds a finish on the spine.
     fn end(&mut self, placed: &Placed, place: usize) -> Result<(), AllocError>
-        requires { self.old.first ≤ 2 ^ 20 }
+        requires { self.old.first ≤ MAX_EVENTS }
         ensures first { OnOk result (self.new.first ≡ self.old.first + 1) }
         ensures adds { OnOk result ((all rest : List Placed) → (keys : List (List ℕ)) → drop place all ≡ placed.now ∷ rest
             → Adds all keys self.old self.new (closes placed.now.node placed.now.number ∷ [])) }
@@ -103,10 +105,10 @@ impl Cutting {
         below: &[Placed],
         place: usize,
     ) -> Result<(), AllocError>
-        requires keys { length keys.now ≤ 15 }
+        requires keys { length keys.now ≤ MAX_KEYS }
         requires below { IsForest below.now }
         requires span { placed.now.span ≡ suc (length below.now) }
-        requires limit { self.old.first + weight (tree placed.now.node placed.now.number (forest below.now)) ≤ 2 ^ 20 }
+        requires limit { self.old.first + weight (tree placed.now.node placed.now.number (forest below.now)) ≤ MAX_EVENTS }
         ensures first { OnOk result (self.new.first ≡ self.old.first + weight (tree placed.now.node placed.now.number (forest below.now))) }
         ensures adds { OnOk result ((all rest : List Placed) → drop place all ≡ placed.now ∷ (below.now ++ rest)
             → Adds all keys.now self.old self.new (runs (tree placed.now.node placed.now.number (forest below.now)) ∷ [])) }
@@ -131,11 +133,11 @@ fn cut_tree(
     is_root: bool,
     cutting: &mut Cutting,
 ) -> Result<(), AllocError>
-    requires keys { length keys.now ≤ 15 }
+    requires keys { length keys.now ≤ MAX_KEYS }
     requires below { IsForest below.now }
     requires span { placed.now.span ≡ suc (length below.now) }
     requires place { place + 1 + length below.now ≤ 2 ^ 32 }
-    requires limit { cutting.old.first + weight (tree placed.now.node placed.now.number (forest below.now)) ≤ 2 ^ 20 }
+    requires limit { cutting.old.first + weight (tree placed.now.node placed.now.number (forest below.now)) ≤ MAX_EVENTS }
     ensures first { OnOk result (cutting.new.first ≡ cutting.old.first + weight (tree placed.now.node placed.now.number (forest below.now))) }
     ensures adds { OnOk result ((all rest : List Placed) → drop place all ≡ placed.now ∷ (below.now ++ rest)
         → Adds all keys.now cutting.old cutting.new (parts is_root (tree placed.now.node placed.now.number (forest below.now)))) }
@@ -159,11 +161,11 @@ pub(crate) fn cut_all(
     is_root: bool,
     cutting: &mut Cutting,
 ) -> Result<(), AllocError>
-    requires keys { length keys.now ≤ 15 }
+    requires keys { length keys.now ≤ MAX_KEYS }
     requires nodes { IsForest nodes.now }
     requires statics { all_static (forest nodes.now) ≡ true }
     requires place { place + length nodes.now ≤ 2 ^ 32 }
-    requires limit { cutting.old.first + weights (forest nodes.now) ≤ 2 ^ 20 }
+    requires limit { cutting.old.first + weights (forest nodes.now) ≤ MAX_EVENTS }
     ensures first { OnOk result (cutting.new.first ≡ cutting.old.first + weights (forest nodes.now)) }
     ensures adds { OnOk result ((all rest : List Placed) → drop place all ≡ nodes.now ++ rest
         → Adds all keys.now cutting.old cutting.new (parts_below is_root (forest nodes.now))) }

@@ -1,8 +1,13 @@
 //! The events of the spine's nodes.
-ghost use Rattle.std.specs.Prelude.{◌≡◌, ◌++◌, ◌∷◌, [], ◌+◌, ◌≤◌, ◌^◌, OnOk, IfOk, length};
+ghost use Rattle.std.specs.Prelude.{◌≡◌, ◌++◌, ◌∷◌, [], ◌+◌, ◌≤◌, ◌^◌, List, OnOk, IfOk, IsSome, length};
 ghost use Rattle.tk_cutting.specs.Events.{begun, ended};
+ghost use Rattle.tk_cutting.specs.Told.{payload_of};
+ghost use Rattle.tk_cutting.specs.Known.{Does};
+ghost use Rattle.tk_cutting.specs.declared.nodes.Placed.{Placed};
+ghost use Rattle.tk_cutting.specs.declared.counts.TheConstants.{MAX_EVENTS};
 
 use crate::nodes::{Node, Placed};
+use crate::steps::Act;
 use std::alloc::{AllocError, Global};
 use tk_events::{Event, Kind, Payload};
 use tk_ids::Text;
@@ -22,6 +27,33 @@ fn outcome(node: &Node) -> Result<Payload, AllocError>
     Ok(Payload::Outcome(node.status, copy_message(&node.message)?))
 }
 
+fn reason(node: &Node) -> Result<Payload, AllocError>
+    requires { IsSome node.now.skip }
+    ensures { IfOk result (λ p. p ≡ payload_of node.now Act.Skip) }
+{
+    match &node.skip {
+        Some(reason) => Ok(Payload::Reason(reason.try_clone()?)),
+        None => Ok(Payload::Nothing),
+    }
+}
+
+/// What a node says as it does that.
+pub(crate) fn payload(alloc: Global, node: &Node, act: Act) -> Result<Payload, AllocError>
+    requires { (nodes : List Placed) × Does nodes node.now act }
+    ensures { IfOk result (λ p. p ≡ payload_of node.now act) }
+{
+    match act {
+        Act::Skip => reason(node),
+        Act::Report(index) => {
+            let entry = &node.entries.as_slice()[index as usize];
+            Ok(Payload::Report(entry.try_clone(alloc)?))
+        }
+        Act::Finish => outcome(node),
+        Act::Register { parent: _ } => Ok(Payload::Nothing),
+        Act::Start => Ok(Payload::Nothing),
+    }
+}
+
 /// Adds a node's start and its entries, with their stamps.
 pub(crate) fn push_begun(
     alloc: Global,
@@ -29,7 +61,7 @@ pub(crate) fn push_begun(
     stamp: u64,
     events: &mut Vec<Event>,
 ) -> Result<(), AllocError>
-    requires { stamp + length placed.now.node.entries ≤ 2 ^ 20 }
+    requires { stamp + length placed.now.node.entries ≤ MAX_EVENTS }
     ensures { OnOk result (events.new.items ≡ events.old.items ++ begun placed.now.number stamp placed.now.node) }
 {
     events.push(Event {

@@ -1,5 +1,5 @@
 //! Laws of plans, which hold of the definitions alone.
-ghost use Rattle.tk_cutting.specs.Laws.{LosesNothing, FindsNodes};
+ghost use Rattle.tk_cutting.specs.Laws.{LosesNothing, KeepsStamps, TellsSteps, FindsNodes, HasKeys};
 
 /// Cutting loses nothing and adds nothing: the parts into which a tree is cut, one after another,
 /// are what the tree does.
@@ -7,7 +7,23 @@ pub fn loses_nothing()
     ensures { LosesNothing }
 {}
 
+/// With their stamps, which count on from part to part, they are the root's script.
+pub fn keeps_stamps()
+    ensures { KeepsStamps }
+{}
+
+/// What a node of the spine tells before its children and after them are its steps.
+pub fn tells_steps()
+    ensures { TellsSteps }
+{}
+
 /// The node of number k is item k of the static nodes and then the others, each in preorder.
 pub fn finds_nodes()
     ensures { FindsNodes }
+{}
+
+/// A static node's number is the key of its descriptor in the table, and no other node's id is in
+/// the table.
+pub fn has_keys()
+    ensures { HasKeys }
 {}

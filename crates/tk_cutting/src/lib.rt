@@ -15,9 +15,8 @@ mod spines;
 mod splits;
 mod steps;
 
-pub use counts::{count_events, MAX_EVENTS};
+pub use asking::MAX_KEYS;
+pub use counts::{MAX_EVENTS, count_events};
 pub use nodes::{Entries, Lock, Locks, Node, Placed};
 pub use plans::Plan;
 pub use steps::{Act, Step};
-
-//TESTS

@@ -6,7 +6,11 @@ use crate::nodes::Placed;
 use std::alloc::AllocError;
 
 /// Adds the places of the static nodes, or of the others.
-pub(crate) fn push_places(nodes: &[Placed], is_static: bool, places: &mut Vec<usize>) -> Result<(), AllocError>
+pub(crate) fn push_places(
+    nodes: &[Placed],
+    is_static: bool,
+    places: &mut Vec<usize>,
+) -> Result<(), AllocError>
     requires { All (λ i. i < length nodes.now) places.old.items }
     ensures nodes { OnOk result (at_places nodes.now places.new.items ≡ at_places nodes.now places.old.items ++ of_kind is_static nodes.now) }
     ensures within { OnOk result (All (λ i. i < length nodes.now) places.new.items) }

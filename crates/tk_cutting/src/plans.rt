@@ -1,9 +1,10 @@
 //! Plans.
 ghost use Rattle.std.specs.Prelude.{◌≡◌, ◌≤◌, ◌<◌, ◌^◌, length, true, IfOk, Some, IsSome, All, slice_get, option_map};
 ghost use Rattle.std.specs.Arc.{arc_value};
+ghost use Rattle.tk_ids.specs.declared.tables.TheConstants.{MAX_DESCRIPTORS};
 
 use crate::cuttings::{Cutting, cut_all};
-use crate::events::{push_begun, push_ended};
+use crate::events::{payload, push_begun, push_ended};
 use crate::nodes::{Node, Placed};
 use crate::numbering::set_numbers;
 use crate::orders::push_places;
@@ -14,7 +15,7 @@ use std::alloc::{AllocError, Global};
 use std::marker::Model;
 use std::sync::Arc;
 use tk_book::Need;
-use tk_events::{Event, Status};
+use tk_events::{Event, Payload, Status};
 use tk_ids::{DType, Segment, Table, Text};
 
 /// A plan: a tree of nodes, of which the static ones stand in a table, and how it is cut.
@@ -23,6 +24,7 @@ pub struct Plan {
     nodes: Vec<Placed>,
     table: Arc<Table>,
     cutting: Cutting,
+    /// The nodes' places, in the order of their numbers.
     places: Vec<usize>,
 }
 
@@ -43,7 +45,11 @@ impl Plan {
     ghost use Rattle.tk_cutting.specs.Script.{moves_below};
     ghost use Rattle.tk_cutting.specs.Cutting.{spine_of, units_of, script_of, root_script, before_of, after_of};
     ghost use Rattle.tk_cutting.specs.Keys.{lock_keys};
-    ghost use Rattle.tk_cutting.specs.Planned.{IsPlanned, IsNeedOf, IsWithin};
+    ghost use Rattle.tk_book.specs.Needs.{word_of};
+    ghost use Rattle.tk_cutting.specs.Events.{AreStatic};
+    ghost use Rattle.tk_cutting.specs.Known.{IsKnown};
+    ghost use Rattle.tk_cutting.specs.Told.{payload_of};
+    ghost use Rattle.tk_cutting.specs.Planned.{IsPlanned, IsNeedOf, need_word, IsWithin};
     ghost use Rattle.tk_cutting.specs.Numbers.{in_order, entry_of, numbered, IsNumbered};
 
     /// The plan of nodes in preorder, whose numbers it sets, given the table of the static ones
@@ -92,7 +98,8 @@ impl Plan {
 
     /// The keys of the units, in preorder.
     pub fn units(&self) -> &[u32]
-        ensures { result.now ≡ units_of (forest self.now.nodes) }
+        ensures units { result.now ≡ units_of (forest self.now.nodes) }
+        ensures few { length result.now ≤ MAX_DESCRIPTORS }
     {
         self.cutting.units.as_slice()
     }
@@ -100,7 +107,8 @@ impl Plan {
     /// What a unit needs. Units count from 0.
     pub fn need(&self, unit: u32) -> Need
         requires { unit < length (units_of (forest self.now.nodes)) }
-        ensures { IsNeedOf self.now.nodes unit result }
+        ensures need { IsNeedOf self.now.nodes unit result }
+        ensures word { word_of result ≡ need_word self.now.nodes unit }
     {
         self.cutting.pieces[unit as usize].need
     }
@@ -111,6 +119,7 @@ impl Plan {
         ensures steps { IfOk result (λ steps. steps.items ≡ script_of (forest self.now.nodes) unit) }
         // With its stamps it stands in the root's script.
         ensures within { IfOk result (λ steps. IsWithin steps.items (root_script (forest self.now.nodes))) }
+        ensures known { IfOk result (λ steps. All (λ s. IsKnown self.now.nodes s.node s.act) steps.items) }
     {
         let piece = self.cutting.pieces[unit as usize];
         let (placed, below) = tree_at(self.nodes.as_slice(), piece.place);
@@ -121,7 +130,8 @@ impl Plan {
 
     /// The starts of the spine's nodes with their entries, in preorder.
     pub fn before(&self, alloc: Global) -> Result<Vec<Event>, AllocError>
-        ensures { IfOk result (λ events. events.items ≡ before_of (forest self.now.nodes)) }
+        ensures events { IfOk result (λ events. events.items ≡ before_of (forest self.now.nodes)) }
+        ensures lawful { IfOk result (λ events. AreStatic self.now.table events.items) }
     {
         let mut events = Vec::new(alloc);
         for spot in self.cutting.opened.as_slice() {
@@ -132,7 +142,8 @@ impl Plan {
 
     /// The finishes of the spine's nodes, in postorder.
     pub fn after(&self, alloc: Global) -> Result<Vec<Event>, AllocError>
-        ensures { IfOk result (λ events. events.items ≡ after_of (forest self.now.nodes)) }
+        ensures events { IfOk result (λ events. events.items ≡ after_of (forest self.now.nodes)) }
+        ensures lawful { IfOk result (λ events. AreStatic self.now.table events.items) }
     {
         let mut events = Vec::new(alloc);
         for spot in self.cutting.closed.as_slice() {
@@ -155,6 +166,15 @@ impl Plan {
     {
         let place = self.places[number as usize];
         &self.nodes[place].node
+    }
+
+    /// What the event of a step says beside its kind. Of a registration this is nothing: whoever
+    /// registers makes the descriptor.
+    pub fn payload(&self, alloc: Global, step: Step) -> Result<Payload, AllocError>
+        requires { IsKnown self.now.nodes step.node step.act }
+        ensures { IfOk result (λ p. option_map (λ n. payload_of n step.act) (slice_get (in_order self.now.nodes) step.node) ≡ Some p) }
+    {
+        payload(alloc, self.node(step.node), step.act)
     }
 
     /// The name of the node of a number.

@@ -4,6 +4,7 @@ ghost use Rattle.tk_cutting.specs.Trees.{IsForest, forest, tree};
 ghost use Rattle.tk_cutting.specs.Script as Script;
 ghost use Rattle.tk_cutting.specs.Script.{moves_below, stamped};
 ghost use Rattle.tk_cutting.specs.Weights.{weight, weights};
+ghost use Rattle.tk_cutting.specs.declared.counts.TheConstants.{MAX_EVENTS};
 
 use crate::nodes::{Node, Placed};
 use crate::splits::split;
@@ -11,7 +12,7 @@ use crate::steps::{Act, Move, Step};
 use std::alloc::{AllocError, Global};
 
 fn push_opening(node: &Node, number: u32, moves: &mut Vec<Move>) -> Result<(), AllocError>
-    requires { length node.now.entries ≤ 2 ^ 20 }
+    requires { length node.now.entries ≤ MAX_EVENTS }
     ensures { OnOk result (moves.new.items ≡ moves.old.items ++ Script.opening node.now number) }
 {
     moves.push(Move {
@@ -34,7 +35,7 @@ pub(crate) fn push_tree(
     moves: &mut Vec<Move>,
 ) -> Result<(), AllocError>
     requires below { IsForest below.now }
-    requires limit { weight (tree placed.now.node placed.now.number (forest below.now)) ≤ 2 ^ 20 }
+    requires limit { weight (tree placed.now.node placed.now.number (forest below.now)) ≤ MAX_EVENTS }
     ensures { OnOk result (moves.new.items ≡ moves.old.items ++ Script.moves (tree placed.now.node placed.now.number (forest below.now))) }
 {
     let node = placed.number;
@@ -58,7 +59,7 @@ pub(crate) fn push_tree(
 #[cycle(moving)]
 fn push_all(parent: u32, nodes: &[Placed], moves: &mut Vec<Move>) -> Result<(), AllocError>
     requires nodes { IsForest nodes.now }
-    requires limit { weights (forest nodes.now) ≤ 2 ^ 20 }
+    requires limit { weights (forest nodes.now) ≤ MAX_EVENTS }
     ensures { OnOk result (moves.new.items ≡ moves.old.items ++ moves_below parent (forest nodes.now)) }
 {
     let mut rest = nodes;

@@ -1,4 +1,7 @@
 //! The steps of a script.
+ghost use Rattle.std.specs.Prelude.{◌≡◌};
+
+use tk_events::Kind;
 
 /// What a node does.
 #[derive(Clone, Copy, Debug, PartialEq, Eq)]
@@ -10,6 +13,23 @@ pub enum Act {
     /// The node publishes its entry of that number, from 0.
     Report(u32),
     Finish,
+}
+
+impl Act {
+    ghost use Rattle.tk_cutting.specs.Told.{kind_of};
+
+    /// The kind of event by which it is told.
+    pub fn kind(self) -> Kind
+        ensures { result ≡ kind_of self }
+    {
+        match self {
+            Act::Register { parent: _ } => Kind::Dynamic,
+            Act::Skip => Kind::Skipped,
+            Act::Start => Kind::Started,
+            Act::Report(_) => Kind::Reporting,
+            Act::Finish => Kind::Finished,
+        }
+    }
 }
 
 /// A step of a script.

@@ -6,8 +6,10 @@ mod kinds;
 pub mod laws;
 mod payloads;
 mod registrations;
+#[cfg(test)]
+mod tests;
 
 pub use events::{Entry, Event};
 pub use kinds::{Kind, Status};
 pub use payloads::{Pairs, Payload};
-pub use registrations::{is_worker, registered_key, MAX_WORKERS};
+pub use registrations::{MAX_WORKERS, is_worker, registered_key};

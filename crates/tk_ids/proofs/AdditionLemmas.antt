@@ -1,8 +1,6 @@
 -- Adding and inserting descriptors have one answer.
-use Rattle.std.specs.Prelude.{slice_get}
 use Rattle.std.proofs.Common.{◌≡◌, ◌≢◌, ℕ, ◌<◌, List, [], ◌∷◌, ◌++◌, length, Option, Some, None, refl, sym, ap, ◌∙◌, subst, arith, Result, Ok, Err}
 use Rattle.std.proofs.lemmas.Option.{same_Some, none-some}
-use Rattle.tk_ids.specs.declared.ids.IdFault.{IdFault}
 use Rattle.tk_ids.specs.declared.ids.IdFault.TheVariants as id_faults
 use Rattle.tk_ids.specs.declared.tables.TheConstants.{MAX_DESCRIPTORS}
 use Rattle.tk_ids.specs.declared.tables.DType.{DType}
@@ -10,7 +8,7 @@ use Rattle.tk_ids.specs.declared.tables.Descriptor.{Descriptor}
 use Rattle.tk_ids.specs.declared.tables.TableFault.{TableFault}
 use Rattle.tk_ids.specs.declared.tables.TableFault.TheVariants.{NoParent, Twice, Full, Id, Memory}
 use Rattle.tk_ids.specs.IdText.{Pair, FitsLimits}
-use Rattle.tk_ids.specs.Table.{HasId, HasParent, TakesNext, id_below, IsAddedAs, IsInsertedAs}
+use Rattle.tk_ids.specs.Table.{HasId, id_below, IsAddedAs, IsInsertedAs}
 use Rattle.tk_ids.specs.Laws.{OneAddition, OneInsertion}
 
 not_full : (old : List Descriptor) → length old < MAX_DESCRIPTORS → length old ≡ MAX_DESCRIPTORS → ⊥

@@ -1,6 +1,6 @@
 -- The table's map, by the texts of ids.
 use Rattle.std.specs.Prelude.{bytes_eq, slice_get}
-use Rattle.std.proofs.Common.{◌≡◌, ◌≢◌, ◌↔◌, IsTrue, is_some, ℕ, zero, suc, ◌+◌, ◌<◌, ◌≤◌, Bool, true, false, cond, ltb, List, [], ◌∷◌, ◌++◌, length, map, get_or, Option, Some, None, option_map, refl, sym, ap, ◌∙◌, subst, arith, ⊎_elim, Err, Result}
+use Rattle.std.proofs.Common.{◌≡◌, ◌↔◌, IsTrue, is_some, ℕ, zero, suc, ◌+◌, ◌<◌, ◌≤◌, false, cond, List, [], ◌∷◌, ◌++◌, length, map, get_or, Option, Some, None, refl, sym, ap, ◌∙◌, subst, arith, ⊎_elim, Err}
 use Rattle.std.specs.List.{AllByRecursion, IsDistinct, position, position_or_len}
 use Rattle.std.proofs.lemmas.Option.{same_Some, none-some, slice_get-get_or, slice_get_within, get_or_from_slice_get}
 use Rattle.std.proofs.lemmas.List.Quantifiers.{position-Some}
@@ -135,6 +135,7 @@ grown es table d t all view absent ok =
 -- the map has a text exactly where some descriptor has the id of that text
 pub has_text_exact : (es : List (List ℕ × Descriptor)) (table : List Descriptor) (id : List Pair) (t : List ℕ) → AllByRecursion IsKept es → descriptors es ≡ table → t ≡ id_text id → IsId id → IsTrue (is_some (position (bytes_eq t) (texts es))) ↔ HasId table id
 has_text_exact es table id t all view is ok =
-    elim (position (bytes_eq t) (texts es)) as (λ o. position (bytes_eq t) (texts es) ≡ o → IsTrue (is_some o) ↔ HasId table id)
-    [ None ↦ λ e. (λ yes. absurd (false≢true yes), λ has. absurd (find_none es table id t all view is e has))
-    | Some k ↦ λ e. (λ _. (k, find_some es table id t k all view is ok e), λ _. refl) ] refl
+    elim (position (bytes_eq t) (texts es)) as (λ o. position (bytes_eq t) (texts es) ≡ o → IsTrue (is_some o) ↔ HasId table id) [
+      | None ↦ λ e. (λ yes. absurd (false≢true yes), λ has. absurd (find_none es table id t all view is e has))
+      | Some k ↦ λ e. (λ _. (k, find_some es table id t k all view is ok e), λ _. refl)
+    ] refl

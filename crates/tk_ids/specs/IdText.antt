@@ -1,5 +1,5 @@
 -- Unique ids and their texts.
-use Rattle.std.specs.Prelude.{◌≡◌, ◌≢◌, ℕ, ◌-◌, take, ◌<◌, ◌≤◌, List, [], ◌∷◌, ◌++◌, ◌⊎◌, length, map, Option, Some, None, ◌==◌, if◌then◌else◌, IsUtf8, codes}
+use Rattle.std.specs.Prelude.{◌≡◌, ℕ, ◌-◌, take, ◌<◌, ◌≤◌, List, [], ◌∷◌, ◌++◌, ◌⊎◌, length, map, Option, Some, None, ◌==◌, if◌then◌else◌, IsUtf8, codes}
 use Rattle.tk_ids.specs.declared.ids.TheConstants.{MAX_BYTES, MAX_SEGMENTS}
 use Rattle.std.specs.List.{flat_map, join_with_byte, AllByRecursion}
 
@@ -8,9 +8,17 @@ pub record Pair : Type 0 where
   pub tag : List ℕ
   pub value : List ℕ
 
--- the two digits with which a byte is escaped, where it is: `%`, `+`, `[`, `]`, `:`, `/`
+-- the two digits with which a byte is escaped, where it is:
+-- `%25`, `%2B`, `%5B`, `%5D`, `%3A`, `%2F` for `%`, `+`, `[`, `]`, `:`, `/`
 abbrev pub digits_of : ℕ → Option (ℕ × ℕ)
-digits_of b = if b == 37 then Some (50, 53) else (if b == 43 then Some (50, 66) else (if b == 91 then Some (53, 66) else (if b == 93 then Some (53, 68) else (if b == 58 then Some (51, 65) else (if b == 47 then Some (50, 70) else None)))))
+digits_of b =
+    if b == 37 then Some (50, 53)
+    else if b == 43 then Some (50, 66)
+    else if b == 91 then Some (53, 66)
+    else if b == 93 then Some (53, 68)
+    else if b == 58 then Some (51, 65)
+    else if b == 47 then Some (50, 70)
+    else None
 
 abbrev pub spelled_by : ℕ → Option (ℕ × ℕ) → List ℕ
 spelled_by b None = b ∷ []

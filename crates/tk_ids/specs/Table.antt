@@ -1,8 +1,6 @@
 -- The table of descriptors, as a list.
-use Rattle.std.specs.Prelude.{◌≡◌, ℕ, ◌≤◌, ◌<◌, List, [], ◌∷◌, ◌++◌, length, map, Option, Some, None, option_map, slice_get, Result, Ok, Err}
+use Rattle.std.specs.Prelude.{◌≡◌, ℕ, ◌<◌, List, [], ◌∷◌, ◌++◌, length, map, Option, Some, None, option_map, slice_get, Result, Ok, Err}
 use Rattle.tk_ids.specs.declared.tables.TheConstants.{MAX_DESCRIPTORS}
-use Rattle.std.specs.List.{AllByRecursion}
-use Rattle.tk_ids.specs.declared.ids.IdFault.{IdFault}
 use Rattle.tk_ids.specs.declared.ids.IdFault.TheVariants as id_faults
 use Rattle.tk_ids.specs.declared.tables.DType.{DType}
 use Rattle.tk_ids.specs.declared.tables.DType.TheVariants.{Container, Test, Both}
@@ -42,19 +40,31 @@ abbrev pub IsIdBelow : List Descriptor → Option ℕ → Pair → Result (List 
 IsIdBelow table parent segment (Ok id) = (id_below table parent segment ≡ Some id) × FitsLimits id
 IsIdBelow table parent segment (Err NoParent) = id_below table parent segment ≡ None
 IsIdBelow table parent segment (Err Twice) = ⊥
-IsIdBelow table parent segment (Err Full) = (id : List Pair) × (id_below table parent segment ≡ Some id) × ¬ (FitsLimits id) × (length table ≡ MAX_DESCRIPTORS)
-IsIdBelow table parent segment (Err (Id id_faults.TooLong)) = (id : List Pair) × (id_below table parent segment ≡ Some id) × ¬ (FitsLimits id) × (length table < MAX_DESCRIPTORS)
+IsIdBelow table parent segment (Err Full) =
+    (id : List Pair) × (id_below table parent segment ≡ Some id)
+    × ¬ (FitsLimits id) × (length table ≡ MAX_DESCRIPTORS)
+IsIdBelow table parent segment (Err (Id id_faults.TooLong)) =
+    (id : List Pair) × (id_below table parent segment ≡ Some id)
+    × ¬ (FitsLimits id) × (length table < MAX_DESCRIPTORS)
 IsIdBelow table parent segment (Err (Id _)) = ⊥
 IsIdBelow table parent segment (Err Memory) = Unit {0}
 
 -- What adding a descriptor answers, and the table after it. Want of memory may come at any.
 abbrev pub IsAddedAs : List Descriptor → List Descriptor → Option ℕ → Pair → List ℕ → DType → Result ℕ TableFault → Type 0
 IsAddedAs old new parent segment name dtype (Ok key) =
-    (id : List Pair) × (id_below old parent segment ≡ Some id) × FitsLimits id × ¬ (HasId old id) × (length old < MAX_DESCRIPTORS) × (key ≡ length old) × (new ≡ old ++ record { id = id; name = name; dtype = dtype } ∷ [])
+    (id : List Pair) × (id_below old parent segment ≡ Some id)
+    × FitsLimits id × ¬ (HasId old id) × (length old < MAX_DESCRIPTORS)
+    × (key ≡ length old) × (new ≡ old ++ record { id = id; name = name; dtype = dtype } ∷ [])
 IsAddedAs old new parent segment name dtype (Err NoParent) = (id_below old parent segment ≡ None) × (new ≡ old)
-IsAddedAs old new parent segment name dtype (Err Twice) = (id : List Pair) × (id_below old parent segment ≡ Some id) × HasId old id × (new ≡ old)
-IsAddedAs old new parent segment name dtype (Err Full) = (id : List Pair) × (id_below old parent segment ≡ Some id) × ¬ (HasId old id) × (length old ≡ MAX_DESCRIPTORS) × (new ≡ old)
-IsAddedAs old new parent segment name dtype (Err (Id id_faults.TooLong)) = (id : List Pair) × (id_below old parent segment ≡ Some id) × ¬ (HasId old id) × ¬ (FitsLimits id) × (length old < MAX_DESCRIPTORS) × (new ≡ old)
+IsAddedAs old new parent segment name dtype (Err Twice) =
+    (id : List Pair) × (id_below old parent segment ≡ Some id)
+    × HasId old id × (new ≡ old)
+IsAddedAs old new parent segment name dtype (Err Full) =
+    (id : List Pair) × (id_below old parent segment ≡ Some id)
+    × ¬ (HasId old id) × (length old ≡ MAX_DESCRIPTORS) × (new ≡ old)
+IsAddedAs old new parent segment name dtype (Err (Id id_faults.TooLong)) =
+    (id : List Pair) × (id_below old parent segment ≡ Some id)
+    × ¬ (HasId old id) × ¬ (FitsLimits id) × (length old < MAX_DESCRIPTORS) × (new ≡ old)
 IsAddedAs old new parent segment name dtype (Err (Id _)) = ⊥
 IsAddedAs old new parent segment name dtype (Err Memory) = new ≡ old
 

@@ -9,7 +9,7 @@ use crate::writing::push_segment;
 use std::alloc::{AllocError, AllocFailed, Global};
 use std::marker::Model;
 
-/// Why there is no id.
+/// Why there is no id. Positions count bytes from 0.
 #[derive(Debug, Clone, Copy, PartialEq, Eq)]
 pub enum IdFault {
     /// A text is empty that may not be.
@@ -102,6 +102,7 @@ impl Segment {
         })
     }
 
+    /// The tag, without escapes.
     pub fn tag(&self) -> &str
         ensures value { result.now ≡ self.now.tag }
         ensures part { IsPart result.now }
@@ -109,6 +110,7 @@ impl Segment {
         self.tag.as_str()
     }
 
+    /// The value, without escapes.
     pub fn value(&self) -> &str
         ensures value { result.now ≡ self.now.value }
         ensures part { IsPart result.now }
@@ -138,7 +140,9 @@ impl Model for UniqueId {
 
     ghost view = { λ u. u.path.value.segments.items };
 
-    ghost invariant = { λ u. IsId u.path.value.segments.items × (u.path.value.text ≡ id_text u.path.value.segments.items) × FitsLimits u.path.value.segments.items };
+    ghost invariant = { λ u. IsId u.path.value.segments.items
+        × (u.path.value.text ≡ id_text u.path.value.segments.items)
+        × FitsLimits u.path.value.segments.items };
 }
 
 /// The same segments once more.
@@ -187,7 +191,10 @@ impl UniqueId {
         })
     }
 
-    /// The id that a text spells.
+    /// The id that a text spells: `[tag:value]` for each segment, joined by `/`, where `%`, `+`,
+    /// `[`, `]`, `:` and `/` stand as `%25`, `%2B`, `%5B`, `%5D`, `%3A` and `%2F`. Only these
+    /// spellings are read. A text that is no id's is bad at the length of its longest front with
+    /// which some id's text begins.
     pub fn read(alloc: Global, text: &str) -> Result<UniqueId, IdFault>
         ensures { IsReadAs text.now result }
     {
@@ -260,7 +267,8 @@ impl UniqueId {
     /// The text of the id without its last segment, where it has more than one.
     pub(crate) fn front_text(&self, alloc: Global) -> Result<Option<Text>, AllocError>
         ensures { IfOk result (λ front. MatchOption front (length self.now ≡ 1)
-            (λ text. (1 < length self.now) × IsId (front_of self.now) × FitsLimits (front_of self.now) × (text ≡ id_text (front_of self.now)))) }
+            (λ text. (1 < length self.now) × IsId (front_of self.now)
+            × FitsLimits (front_of self.now) × (text ≡ id_text (front_of self.now)))) }
     {
         let text = self.as_text();
         let segments = self.segments();
@@ -277,7 +285,8 @@ impl UniqueId {
 
     /// The id without its last segment, where it has more than one.
     pub fn parent(&self, alloc: Global) -> Result<Option<UniqueId>, AllocError>
-        ensures { IfOk result (λ parent. MatchOption parent (length self.now ≡ 1) (λ p. (1 < length self.now) × (p ≡ front_of self.now))) }
+        ensures { IfOk result (λ parent. MatchOption parent (length self.now ≡ 1)
+            (λ id. (1 < length self.now) × (id ≡ front_of self.now))) }
     {
         let Some(text) = self.front_text(alloc)? else {
             return Ok(None);

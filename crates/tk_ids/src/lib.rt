@@ -10,6 +10,6 @@ mod tests;
 mod texts;
 mod writing;
 
-pub use ids::{IdFault, Segment, UniqueId, MAX_BYTES, MAX_SEGMENTS};
-pub use tables::{DType, Descriptor, Table, TableFault, MAX_DESCRIPTORS};
+pub use ids::{IdFault, MAX_BYTES, MAX_SEGMENTS, Segment, UniqueId};
+pub use tables::{DType, Descriptor, MAX_DESCRIPTORS, Table, TableFault};
 pub use texts::Text;

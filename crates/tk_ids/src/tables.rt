@@ -20,12 +20,14 @@ pub enum DType {
 impl DType {
     ghost use Rattle.tk_ids.specs.Table.{IsTest, IsContainer};
 
+    /// Whether it is a test, as `Test` and `Both` are.
     pub fn is_test(self) -> bool
         ensures { IsTrue result ↔ IsTest self }
     {
         matches!(self, DType::Test | DType::Both)
     }
 
+    /// Whether it has children or may have some, as `Container` and `Both` do.
     pub fn is_container(self) -> bool
         ensures { IsTrue result ↔ IsContainer self }
     {
@@ -111,7 +113,8 @@ impl Model for Table {
 
     ghost view = { λ t. values t.by_text };
 
-    ghost invariant = { λ t. AllByRecursion IsKept t.by_text.entries × (length t.by_text.entries ≤ MAX_DESCRIPTORS) };
+    ghost invariant = { λ t. AllByRecursion IsKept t.by_text.entries
+        × (length t.by_text.entries ≤ MAX_DESCRIPTORS) };
 }
 
 impl Table {
@@ -170,7 +173,8 @@ impl Table {
         segment: &Segment,
     ) -> Option<Result<UniqueId, IdFault>>
         ensures { MatchOption result (id_below self.now parent segment.now ≡ None)
-            (λ made. (id : List Pair) × (id_below self.now parent segment.now ≡ Some id) × IsMadeOf id made) }
+            (λ made. (id : List Pair) × (id_below self.now parent segment.now ≡ Some id)
+            × IsMadeOf id made) }
     {
         match parent {
             None => Some(UniqueId::of(alloc, segment)),
@@ -211,7 +215,9 @@ impl Table {
         Ok(())
     }
 
-    /// Adds a descriptor below its parent, or as a root, and gives its key.
+    /// Adds a descriptor below its parent, or as a root, and gives its key. The id is the parent's
+    /// with the segment appended, or the segment alone. Of several faults the first is answered,
+    /// in the order of `TableFault`, and the table is then as it was.
     pub fn add(
         &mut self,
         alloc: Global,
@@ -238,7 +244,8 @@ impl Table {
 
     /// Whether some descriptor has the id with this text.
     fn has_text(&self, text: &Text) -> bool
-        ensures { (id : List Pair) → IsId id → text.now ≡ id_text id → IsTrue result ↔ HasId self.now id }
+        ensures { (id : List Pair) → IsId id → text.now ≡ id_text id →
+            IsTrue result ↔ HasId self.now id }
     {
         self.by_text.get_index_of(text).is_some()
     }
@@ -253,7 +260,8 @@ impl Table {
         }
     }
 
-    /// Puts a descriptor at the end, and gives its key.
+    /// Puts a descriptor at the end, and gives its key. The table must have its parent, whose id
+    /// is its own without the last segment. At a fault the table is as it was.
     pub fn insert(&mut self, alloc: Global, descriptor: Descriptor) -> Result<u32, TableFault>
         ensures { IsInsertedAs self.old self.new descriptor result }
     {

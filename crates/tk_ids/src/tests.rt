@@ -32,8 +32,14 @@ fn reads_escapes(rt: HostRuntime) -> Result<(), Fail> {
 #[test]
 fn refuses_other_escapes(rt: HostRuntime) {
     let alloc = rt.alloc();
-    assert_eq!(rt; fault_of(alloc, "[engine:a%2fb]"), Some(IdFault::BadEscape(11)));
-    assert_eq!(rt; fault_of(alloc, "[engine:%41]"), Some(IdFault::BadEscape(9)));
+    assert_eq!(rt;
+        fault_of(alloc, "[engine:a%2fb]"),
+        Some(IdFault::BadEscape(11))
+    );
+    assert_eq!(rt;
+        fault_of(alloc, "[engine:%41]"),
+        Some(IdFault::BadEscape(9))
+    );
     assert_eq!(rt; fault_of(alloc, "[engine:%"), Some(IdFault::BadEscape(9)));
 }
 
@@ -75,7 +81,10 @@ fn keeps_the_limit_of_bytes(rt: HostRuntime) -> Result<(), Fail> {
     let longest = repeated(rt.alloc(), "[a:", "v", 4092, "]")?;
     assert_eq!(rt; fault_of(rt.alloc(), longest.as_str()), None);
     let longer = repeated(rt.alloc(), "[a:", "v", 4093, "]")?;
-    assert_eq!(rt; fault_of(rt.alloc(), longer.as_str()), Some(IdFault::TooLong));
+    assert_eq!(rt;
+        fault_of(rt.alloc(), longer.as_str()),
+        Some(IdFault::TooLong)
+    );
     Ok(())
 }
 
@@ -122,7 +131,10 @@ fn add(
 fn adds(rt: HostRuntime) {
     let alloc = rt.alloc();
     let mut table = Table::new(alloc);
-    assert_eq!(rt; add(alloc, &mut table, Some(3), "a"), Err(TableFault::NoParent));
+    assert_eq!(rt;
+        add(alloc, &mut table, Some(3), "a"),
+        Err(TableFault::NoParent)
+    );
     assert_eq!(rt; add(alloc, &mut table, None, "a"), Ok(0));
     assert_eq!(rt; add(alloc, &mut table, None, "a"), Err(TableFault::Twice));
     assert_eq!(rt; add(alloc, &mut table, Some(0), "a"), Ok(1));
@@ -144,7 +156,10 @@ fn insert(alloc: Global, table: &mut Table, text: &str) -> Result<u32, TableFaul
 fn inserts(rt: HostRuntime) {
     let alloc = rt.alloc();
     let mut table = Table::new(alloc);
-    assert_eq!(rt; insert(alloc, &mut table, "[t:a]/[t:b]"), Err(TableFault::NoParent));
+    assert_eq!(rt;
+        insert(alloc, &mut table, "[t:a]/[t:b]"),
+        Err(TableFault::NoParent)
+    );
     assert_eq!(rt; insert(alloc, &mut table, "[t:a]"), Ok(0));
     assert_eq!(rt; insert(alloc, &mut table, "[t:a]/[t:b]"), Ok(1));
     assert_eq!(rt; insert(alloc, &mut table, "[t:a]"), Err(TableFault::Twice));
@@ -164,8 +179,14 @@ fn roots(alloc: Global, count: u32) -> Result<Table, AllocError> {
 fn fills(rt: HostRuntime) -> Result<(), Fail> {
     let mut table = roots(rt.alloc(), 65536)?;
     assert_eq!(rt; table.len(), 65536);
-    assert_eq!(rt; add(rt.alloc(), &mut table, None, "x"), Err(TableFault::Full));
-    assert_eq!(rt; add(rt.alloc(), &mut table, None, "1"), Err(TableFault::Twice));
+    assert_eq!(rt;
+        add(rt.alloc(), &mut table, None, "x"),
+        Err(TableFault::Full)
+    );
+    assert_eq!(rt;
+        add(rt.alloc(), &mut table, None, "1"),
+        Err(TableFault::Twice)
+    );
     Ok(())
 }
 

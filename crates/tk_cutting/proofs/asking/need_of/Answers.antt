@@ -1,9 +1,9 @@
-use Rattle.std.proofs.Common.{◌≡◌, ◌∙◌, ℕ, drop, sym, ap}
+use Rattle.std.proofs.Common.{◌∙◌, sym, ap}
 use Rattle.std.proofs.lemmas.List.{drop_all}
 use Rattle.tk_cutting.specs.Asks.{over, nodes_ask}
 use Rattle.tk_cutting.specs.Marked.{marked}
 use Rattle.tk_cutting.specs.Trees.{contents}
-use Rattle.tk_cutting.proofs.Marking.{over-nothing, over-assoc, none_marked}
+use Rattle.tk_cutting.proofs.Marking.{over-nothing, none_marked}
 use Rattle.tk_cutting.proofs.asking.need_of.Goals as goal
 
 pub returns : goal.returns

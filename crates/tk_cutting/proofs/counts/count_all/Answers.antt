@@ -1,6 +1,6 @@
-use Rattle.std.proofs.Common.{◌≡◌, ◌+◌, ◌≤◌, ◌∙◌, sym, ap, subst, arith}
+use Rattle.std.proofs.Common.{sym, ap, subst, arith}
 use Rattle.tk_cutting.specs.Trees.{IsForest, forest}
-use Rattle.tk_cutting.specs.Weights.{own, weights}
+use Rattle.tk_cutting.specs.Weights.{weights}
 use Rattle.tk_cutting.proofs.Moving.{weights_end, counted_open, counted_skipped, own_within, after_node, first_and_rest}
 use Rattle.tk_cutting.proofs.counts.count_all.Goals as goal
 
@@ -19,8 +19,7 @@ loop-rest-preserved-then-is_some c =
     let split = c.split.ensures in
     let whole = first_and_rest c.loop-rest.rest.now c.placed-item.result c.in-len1-up.len_at_least c.placed-item.is in
     let same = ap (λ ps. weights (forest ps)) whole in
-    let counted = counted_skipped _ _ _ _ split (grind arith) in
-    (
+    let counted = counted_skipped _ _ _ _ split (grind arith) in (
       split.second,
       omega (arith, c.loop-rest.invariant.1, same, counted, c.own_events-count.ensures.same, c.if-count-gt-MAX_EVENTS.false),
       omega (arith, c.if-count-gt-MAX_EVENTS.false),
@@ -31,8 +30,7 @@ loop-rest-preserved c =
     let split = c.split.ensures in
     let whole = first_and_rest c.loop-rest.rest.now c.placed-item.result c.in-len1-up.len_at_least c.placed-item.is in
     let same = ap (λ ps. weights (forest ps)) whole in
-    let counted = counted_open _ _ _ _ split (grind arith) in
-    (
+    let counted = counted_open _ _ _ _ split (grind arith) in (
       (after_node _ _ _ _ split).0,
       omega (arith, c.loop-rest.invariant.1, same, counted, c.own_events-count.ensures.same, c.if-count-gt-MAX_EVENTS.false),
       omega (arith, c.if-count-gt-MAX_EVENTS.false),

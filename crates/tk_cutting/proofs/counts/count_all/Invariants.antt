@@ -1,10 +1,11 @@
-use Rattle.std.proofs.Common.{◌≡◌, ◌+◌, ◌≤◌, ◌^◌, length}
+use Rattle.std.proofs.Common.{◌≡◌, ◌+◌, ◌≤◌, length}
+use Rattle.tk_cutting.specs.declared.counts.TheConstants.{MAX_EVENTS}
 use Rattle.tk_cutting.specs.Trees.{IsForest, forest}
 use Rattle.tk_cutting.specs.Weights.{weights}
 use Rattle.tk_cutting.proofs.counts.count_all.Given as goal
 
 abbrev pub invariant-loop-rest : goal.invariant-loop-rest
-invariant-loop-rest l = IsForest l.rest × (l.count + weights (forest l.rest) ≡ weights (forest l.nodes)) × (l.count ≤ 2 ^ 20)
+invariant-loop-rest l = IsForest l.rest × (l.count + weights (forest l.rest) ≡ weights (forest l.nodes)) × (l.count ≤ MAX_EVENTS)
 
 abbrev pub decreases-loop-rest : goal.decreases-loop-rest
 decreases-loop-rest l = length l.rest

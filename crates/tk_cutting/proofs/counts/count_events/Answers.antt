@@ -1,4 +1,4 @@
-use Rattle.std.proofs.Common.{◌≡◌, ◌+◌, ◌≤◌, arith}
+use Rattle.std.proofs.Common.{arith}
 use Rattle.tk_cutting.specs.Trees.{forest}
 use Rattle.tk_cutting.proofs.Moving.{below-length}
 use Rattle.tk_cutting.proofs.counts.count_events.Goals as goal

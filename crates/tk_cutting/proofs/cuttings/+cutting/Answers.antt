@@ -1,4 +1,4 @@
-use Rattle.std.proofs.Common.{◌≡◌, ◌++◌, ◌∙◌, ◌∷◌, sym, ap, subst, arith, length, length-append}
+use Rattle.std.proofs.Common.{◌++◌, ◌∙◌, sym, ap, subst, arith, length, length-append}
 use Rattle.tk_cutting.specs.Trees.{forest}
 use Rattle.tk_cutting.proofs.Moving.{first_and_rest}
 use Rattle.tk_cutting.proofs.Cuts.{Goes, goes_end, goes_next, static_tree, spine_facts, spine_weight, spine_adds, unit_adds}

@@ -1,9 +1,4 @@
-use Rattle.std.proofs.Common.{◌≡◌, ◌++◌, ◌*◌, ◌+◌, ◌≤◌, ℕ, List, length, drop, true}
-use Rattle.tk_cutting.specs.declared.nodes.Placed.{Placed}
-use Rattle.tk_cutting.specs.Trees.{IsForest, forest}
-use Rattle.tk_cutting.specs.Weights.{weights}
-use Rattle.tk_cutting.specs.Cutting.{parts_below, all_static}
-use Rattle.tk_cutting.specs.Adds.{Adds}
+use Rattle.std.proofs.Common.{◌*◌, ◌+◌, length}
 use Rattle.tk_cutting.proofs.Cuts.{Goes}
 use Rattle.tk_cutting.proofs.cuttings.+cutting.Given as goal
 

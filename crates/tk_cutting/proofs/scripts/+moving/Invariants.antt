@@ -1,4 +1,5 @@
-use Rattle.std.proofs.Common.{◌≡◌, ◌++◌, ◌*◌, ◌+◌, ◌≤◌, ◌^◌, length}
+use Rattle.std.proofs.Common.{◌≡◌, ◌++◌, ◌*◌, ◌+◌, ◌≤◌, length}
+use Rattle.tk_cutting.specs.declared.counts.TheConstants.{MAX_EVENTS}
 use Rattle.tk_cutting.specs.Trees.{IsForest, forest}
 use Rattle.tk_cutting.specs.Script.{moves_below}
 use Rattle.tk_cutting.specs.Weights.{weights}
@@ -12,7 +13,7 @@ decreases-push_tree l = 2 * length l.below.now + 2
 
 abbrev pub invariant-push_all-loop-rest : goal.invariant-push_all-loop-rest
 invariant-push_all-loop-rest l =
-    IsForest l.rest × (length l.rest ≤ length l.nodes) × (weights (forest l.rest) ≤ 2 ^ 20)
+    IsForest l.rest × (length l.rest ≤ length l.nodes) × (weights (forest l.rest) ≤ MAX_EVENTS)
     × (l.initial.moves.items ++ moves_below l.parent (forest l.nodes) ≡ l.moves.items ++ moves_below l.parent (forest l.rest))
 
 abbrev pub decreases-push_all-loop-rest : goal.decreases-push_all-loop-rest

@@ -1,4 +1,4 @@
-use Rattle.std.proofs.Common.{◌≡◌, ◌++◌, ◌∙◌, sym, ap, append_assoc, arith, length}
+use Rattle.std.proofs.Common.{◌∙◌, ap, arith, length}
 use Rattle.tk_cutting.proofs.Moving.{reports_next, pushed}
 use Rattle.tk_cutting.proofs.scripts.push_opening.Goals as goal
 

@@ -1,7 +1,5 @@
-use Rattle.std.proofs.Common.{◌≡◌, ◌∙◌, ◌&&◌, sym, ap}
-use Rattle.tk_cutting.specs.Trees.{forest}
-use Rattle.tk_cutting.specs.Cutting.{all_concurrent}
-use Rattle.tk_cutting.proofs.Moving.{concurrent_end, concurrent_next}
+use Rattle.std.proofs.Common.{◌∙◌, sym}
+use Rattle.tk_cutting.proofs.Moving.{concurrent_end}
 use Rattle.tk_cutting.proofs.spines.are_concurrent.Goals as goal
 
 pub returns : goal.returns

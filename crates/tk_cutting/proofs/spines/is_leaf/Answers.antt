@@ -1,4 +1,4 @@
-use Rattle.std.proofs.Common.{◌∙◌, sym, rules}
+use Rattle.std.proofs.Common.{◌∙◌, sym}
 use Rattle.tk_cutting.proofs.Moving.{is_leaf_when_empty}
 use Rattle.tk_cutting.proofs.spines.is_leaf.Goals as goal
 

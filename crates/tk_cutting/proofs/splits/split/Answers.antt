@@ -1,4 +1,4 @@
-use Rattle.std.proofs.Common.{◌≡◌, ◌-◌, drop, sym, subst}
+use Rattle.std.proofs.Common.{◌-◌, drop, sym, subst}
 use Rattle.tk_cutting.specs.Trees.{IsSplit}
 use Rattle.tk_cutting.proofs.Grows.{parted}
 use Rattle.tk_cutting.proofs.splits.split.Goals as goal

@@ -1,5 +1,5 @@
-use Rattle.std.proofs.Common.{◌≡◌, ◌-◌, ◌+◌, ap, ap₂, take, drop, sym, ◌∙◌, subst, arith}
-use Rattle.tk_cutting.proofs.Standing.{stands_length, stands_top, stands_after, stands_below}
+use Rattle.std.proofs.Common.{arith}
+use Rattle.tk_cutting.proofs.Standing.{stands_length}
 use Rattle.tk_cutting.proofs.splits.tree_at.Goals as goal
 
 pub bounds-nodes-place : goal.bounds-nodes-place

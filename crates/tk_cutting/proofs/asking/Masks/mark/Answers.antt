@@ -1,4 +1,4 @@
-use Rattle.std.proofs.Common.{◌≡◌, sym, ap, ◌∙◌}
+use Rattle.std.proofs.Common.{sym, ap, ◌∙◌}
 use Rattle.tk_cutting.specs.Asks.{over, at_resource, access_for}
 use Rattle.tk_cutting.specs.Marked.{marked}
 use Rattle.std.proofs.Common.{Some}

@@ -1,4 +1,4 @@
-use Rattle.std.proofs.Common.{◌≡◌, ◌+◌, ap, refl, sym, ◌∙◌}
+use Rattle.std.proofs.Common.{◌+◌, ap, refl}
 use Rattle.tk_cutting.proofs.Cuts.{add_adds}
 use Rattle.tk_cutting.proofs.cuttings.Cutting.add.Goals as goal
 

@@ -1,4 +1,4 @@
-use Rattle.std.proofs.Common.{◌≡◌, ◌+◌, ap, refl, sym, ◌∙◌, length, arith}
+use Rattle.std.proofs.Common.{◌+◌, ap, refl, length}
 use Rattle.tk_cutting.proofs.Cuts.{begin_adds}
 use Rattle.tk_cutting.proofs.cuttings.Cutting.begin.Goals as goal
 

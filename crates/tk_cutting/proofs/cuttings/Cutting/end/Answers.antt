@@ -1,4 +1,4 @@
-use Rattle.std.proofs.Common.{◌≡◌, ◌+◌, ap, refl, sym, ◌∙◌}
+use Rattle.std.proofs.Common.{refl}
 use Rattle.tk_cutting.proofs.Cuts.{end_adds}
 use Rattle.tk_cutting.proofs.cuttings.Cutting.end.Goals as goal
 

@@ -1,6 +1,12 @@
-use Rattle.std.proofs.Common.{◌≡◌, ◌+◌, ◌∙◌, sym, ap, subst, arith, All, slice_index_or}
+use Rattle.std.proofs.Common.{◌∙◌, sym, ap, subst, arith, All, slice_index_or}
 use Rattle.tk_cutting.specs.Adds.{HasNode}
-use Rattle.tk_cutting.proofs.Telling.{node_within, tails_next}
+use Rattle.tk_cutting.specs.Adds.{tails}
+use Rattle.tk_cutting.specs.Trees.{forest}
+use Rattle.tk_cutting.specs.Events.{AreStatic}
+use Rattle.tk_cutting.specs.Cutting.{after_of}
+use Rattle.tk_cutting.proofs.Standing.{table_is}
+use Rattle.tk_cutting.proofs.Sending.{after_static}
+use Rattle.tk_cutting.proofs.Telling.{tails_end, node_within, tails_next}
 use Rattle.tk_cutting.proofs.plans.Plan.after.Goals as goal
 
 pub index-requires : goal.index-requires
@@ -12,3 +18,10 @@ pub loop-spot-preserved : goal.loop-spot-preserved
 loop-spot-preserved c =
     let all = subst (All (HasNode c.self.inside.nodes.items)) (sym c.as_slice-spot-items.ensures.value) c.self.invariant.cut.closed in
     tails_next c.self.inside.nodes.items c.as_slice-spot-items.result.now c.loop-spot.spot-index _ _ c.index.result.now _ _ all c.loop-spot-test.true c.index.ensures c.in_ok-push_ended.ensures c.loop-spot.invariant
+
+pub returns-clause-lawful : goal.returns-clause-lawful
+returns-clause-lawful c =
+    let whole = ap (tails c.self.inside.nodes.items) c.as_slice-spot-items.ensures.value ∙ c.self.invariant.cut.after in
+    let same = tails_end c.self.inside.nodes.items c.as_slice-spot-items.result.now c.loop-spot.spot-index c.loop-spot.events.items _ c.loop-spot-test.false c.loop-spot.invariant whole in
+    subst (λ es. AreStatic c.args.self.now.table es) (sym same)
+    (subst (λ t. AreStatic t (after_of (forest c.self.inside.nodes.items))) (table_is _ _ c.self.view_is) (after_static _ _ c.self.invariant.planned c.self.invariant.numbered))

@@ -1,6 +1,5 @@
-use Rattle.std.proofs.Common.{◌≡◌, ◌+◌, ◌++◌, refl, ap, sym, ◌∙◌, subst, arith, length, take, drop}
+use Rattle.std.proofs.Common.{refl, ap, sym, ◌∙◌, subst, arith, length}
 use Rattle.std.specs.Arc.{arc_value}
-use Rattle.tk_cutting.specs.Trees.{contents}
 use Rattle.tk_cutting.specs.Keys.{lock_keys}
 use Rattle.tk_cutting.specs.Numbers.{numbered}
 use Rattle.tk_cutting.specs.Kept.{IsPlan}

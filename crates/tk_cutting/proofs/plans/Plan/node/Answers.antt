@@ -1,4 +1,4 @@
-use Rattle.std.proofs.Common.{◌≡◌, arith, sym, ap, ◌∙◌}
+use Rattle.std.proofs.Common.{arith}
 use Rattle.tk_cutting.proofs.Standing.{nodes_are}
 use Rattle.tk_cutting.proofs.Ordering.{enough, node_at, place_within}
 use Rattle.tk_cutting.proofs.plans.Plan.node.Goals as goal

@@ -1,10 +1,11 @@
-use Rattle.std.proofs.Common.{◌≡◌, ◌+◌, ap, sym, ◌∙◌, subst, arith, IfOk, length, ◌++◌}
-use Rattle.std.proofs.lemmas.Grind.{common_steps}
+use Rattle.std.proofs.Common.{◌≡◌, ap, sym, ◌∙◌, subst, arith, IfOk, length, ◌++◌, ◌∷◌, ap₂, All, drop}
 use Rattle.tk_cutting.specs.Trees.{forest, tree}
 use Rattle.tk_cutting.specs.Script.{moves, stamped}
 use Rattle.tk_cutting.specs.Cutting.{script_of, root_script}
 use Rattle.tk_cutting.proofs.Standing.{nodes_are}
 use Rattle.tk_cutting.proofs.Moving.{moves-length}
+use Rattle.tk_cutting.proofs.Knowing.{unit_known}
+use Rattle.tk_cutting.specs.Known.{IsKnown}
 use Rattle.tk_cutting.proofs.Planning.{unit_bound, unit_piece, unit_found, script_within, stands}
 use Rattle.tk_cutting.specs.Planned.{IsWithin}
 use Rattle.std.proofs.Common.{Result, Ok, Err, List, Vec, Global}
@@ -66,3 +67,19 @@ returns-clause-within c =
     let stands = subst (λ ps. IsWithin (script_of (forest c.self.inside.nodes.items) c.args.unit) (root_script (forest ps))) (nodes_are _ _ c.self.view_is) (script_within _ c.args.unit _ c.self.invariant.cut.statics p.1) in
     all_ok _ (stamped c.index-piece.result.now.first c.as_slice-2.result.now) (λ l. IsWithin l (root_script (forest c.args.self.now.nodes)))
     c.stamp_all.ensures (subst (λ l. IsWithin l (root_script (forest c.args.self.now.nodes))) (sym is) stands)
+
+pub returns-clause-known : goal.returns-clause-known
+returns-clause-known c =
+    let within = unit_bound _ _ _ c.args.unit c.self.invariant.cut (nodes_are _ _ c.self.view_is) c.requires in
+    let p = unit_piece _ _ c.args.unit c.index-piece.result.now c.self.invariant.cut within c.index-piece.ensures in
+    let found = unit_found _ _ _ _ p.0 c.tree_at.result.0.now c.tree_at.result.1.now p.1 c.as_slice.ensures.value c.tree_at.ensures in
+    let t = tree c.tree_at.result.0.now.node c.tree_at.result.0.now.number (forest c.tree_at.result.1.now) in
+    let made : c.as_slice-2.result.now ≡ moves t = c.as_slice-2.ensures.value ∙ c.in_ok-push_tree.ensures ∙ ap (λ l. l ++ moves t) c.new-moves.ensures.items in
+    let at = c.tree_at.ensures p.0.top p.0.below p.0.rest (ap (drop c.index-piece.result.now.place) c.as_slice.ensures.value ∙ p.0.place) p.0.span in
+    let place = p.0.place ∙ ap₂ (λ a b. a ∷ (b ++ p.0.rest)) (sym at.0) (sym at.1) in
+    let known = unit_known c.self.inside.nodes.items c.self.invariant.numbered c.index-piece.result.now.place _ _ p.0.rest place found.trees c.index-piece.result.now.first in
+    all_ok _ (stamped c.index-piece.result.now.first c.as_slice-2.result.now) (λ l. All (λ s. IsKnown c.args.self.now.nodes s.node s.act) l)
+    c.stamp_all.ensures (
+    subst (λ ms. All (λ s. IsKnown c.args.self.now.nodes s.node s.act) (stamped c.index-piece.result.now.first ms)) (sym made)
+    (subst (λ ps. All (λ s. IsKnown ps s.node s.act) (stamped c.index-piece.result.now.first (moves t))) (nodes_are _ _ c.self.view_is) known)
+    )

@@ -1,4 +1,4 @@
-use Rattle.std.proofs.Common.{◌≡◌, ap, sym, ◌∙◌}
+use Rattle.std.proofs.Common.{ap, sym, ◌∙◌}
 use Rattle.tk_cutting.specs.Trees.{forest}
 use Rattle.tk_cutting.specs.Weights.{weights}
 use Rattle.tk_cutting.proofs.Standing.{nodes_are}

@@ -1,6 +1,6 @@
-use Rattle.std.proofs.Common.{◌≡◌, ℕ, ◌+◌, ◌-◌, ◌<◌, ◌≤◌, List, [], ◌++◌, length, take, get_or, refl, sym, ap, ◌∙◌, subst, arith, rules}
+use Rattle.std.proofs.Common.{◌≡◌, ℕ, ◌-◌, ◌<◌, List, ◌++◌, length, take, get_or, sym, ap, ◌∙◌, subst, arith, rules}
 use Rattle.std.specs.Str.{IsUtf8}
-use Rattle.tk_ids.specs.IdText.{Pair, id_text, segment_text, IsId, FitsLimits, front_of}
+use Rattle.tk_ids.specs.IdText.{Pair, id_text, segment_text}
 use Rattle.tk_ids.proofs.ParentLemmas.{IsAbove, above}
 use Rattle.tk_ids.proofs.ids.UniqueId.front_text.Goals as goal
 use Rattle.tk_ids.proofs.ids.UniqueId.front_text.Goals.{After-as_bytes-bytes}

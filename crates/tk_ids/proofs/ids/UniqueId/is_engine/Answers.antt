@@ -1,5 +1,3 @@
-use Rattle.std.proofs.Common.{◌≡◌, sym, ◌∙◌, subst, refl}
-use Rattle.tk_ids.specs.IdText.{IsEngine}
 use Rattle.tk_ids.proofs.AnswerLemmas.{engine_exact}
 use Rattle.tk_ids.proofs.ids.UniqueId.is_engine.Goals as goal
 

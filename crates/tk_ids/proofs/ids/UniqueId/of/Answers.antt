@@ -1,4 +1,3 @@
-use Rattle.std.proofs.Common.{rules}
 use Rattle.tk_ids.proofs.TextLemmas.{utf8_segment_text}
 use Rattle.tk_ids.proofs.ids.UniqueId.of.Goals as goal
 

@@ -1,8 +1,6 @@
-use Rattle.std.proofs.Common.{if◌then◌else◌, ◌≡◌, ℕ, ◌<◌, List, length, Some, None, take, ap, sym, ◌∙◌, subst, refl, arith, Err, false, true, rules}
+use Rattle.std.proofs.Common.{if◌then◌else◌, ◌<◌, length, Some, None, ap, sym, ◌∙◌, subst, refl, arith, Err}
 use Rattle.std.proofs.lemmas.List.{take_all}
-use Rattle.tk_ids.specs.IdText.{Pair}
 use Rattle.tk_ids.specs.Answer.{IsReadAs}
-use Rattle.tk_ids.specs.Reading.{Behind, step}
 use Rattle.tk_ids.proofs.ReadingLemmas.{read_more}
 use Rattle.tk_ids.proofs.AnswerLemmas.{bad_where_stuck, bad_at_end, fault_is}
 use Rattle.tk_ids.proofs.ids.UniqueId.read.Goals as goal

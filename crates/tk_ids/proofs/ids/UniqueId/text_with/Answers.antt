@@ -1,5 +1,5 @@
-use Rattle.std.proofs.Common.{◌≡◌, ◌∷◌, ◌++◌, [], refl, sym, ◌∙◌, ap, subst}
-use Rattle.tk_ids.specs.IdText.{id_text, segment_text, IsId}
+use Rattle.std.proofs.Common.{◌∷◌, ◌++◌, [], ◌∙◌, ap}
+use Rattle.tk_ids.specs.IdText.{segment_text}
 use Rattle.tk_ids.proofs.TextLemmas.{appended, IsAppended}
 use Rattle.tk_ids.proofs.ids.UniqueId.text_with.Goals as goal
 use Rattle.tk_ids.proofs.ids.UniqueId.text_with.Goals.{In_ok-push_segment}

@@ -1,7 +1,5 @@
-use Rattle.std.proofs.Common.{◌≡◌, ◌≤◌, sym, ◌∙◌, refl, arith, subst}
 use Rattle.std.proofs.lemmas.Result.{err_from_is_err_and}
-use Rattle.tk_ids.specs.IdText.{id_text}
-use Rattle.tk_ids.proofs.TableLemmas.{added_refused, grown, IsGrown}
+use Rattle.tk_ids.proofs.TableLemmas.{added_refused}
 use Rattle.tk_ids.proofs.tables.Table.add.Goals as goal
 
 pub returns-in_err-id : goal.returns-in_err-id

@@ -1,4 +1,4 @@
-use Rattle.std.proofs.Common.{◌≡◌, sym, ◌∙◌, refl}
+use Rattle.std.proofs.Common.{sym, ◌∙◌}
 use Rattle.tk_ids.proofs.TableLemmas.{find_none, find_some, find_different}
 use Rattle.tk_ids.proofs.tables.Table.find.Goals as goal
 

@@ -1,4 +1,3 @@
-use Rattle.std.proofs.Common.{◌≡◌, sym, ◌∙◌, Option, Some, None, IsTrue, true, false}
 use Rattle.tk_ids.proofs.TableLemmas.{has_text_exact}
 use Rattle.tk_ids.proofs.tables.Table.has_text.Goals as goal
 

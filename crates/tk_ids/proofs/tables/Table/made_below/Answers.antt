@@ -1,4 +1,4 @@
-use Rattle.std.proofs.Common.{◌≡◌, ◌∷◌, ◌++◌, [], Some, option_map, slice_get, ap, sym, ◌∙◌}
+use Rattle.std.proofs.Common.{◌∷◌, ◌++◌, [], option_map, ap, sym, ◌∙◌}
 use Rattle.tk_ids.specs.Table.{id_below}
 use Rattle.tk_ids.proofs.tables.Table.made_below.Goals as goal
 

@@ -1,4 +1,4 @@
-use Rattle.std.proofs.Common.{◌≡◌, ◌≤◌, ◌∙◌, sym, arith}
+use Rattle.std.proofs.Common.{arith}
 use Rattle.tk_ids.proofs.TableLemmas.{grown, IsGrown}
 use Rattle.tk_ids.proofs.tables.Table.push.Goals as goal
 use Rattle.tk_ids.proofs.tables.Table.push.Goals.{In_ok-insert}

@@ -1,0 +1,103 @@
+-- Conditions and their texts.
+use Rattle.std.specs.Prelude.{◌≡◌, ℕ, ◌==◌, if◌then◌else◌, List, [], ◌∷◌, ◌++◌, codes}
+use Rattle.tk_events.specs.declared.kinds.Kind.{Kind}
+use Rattle.tk_events.specs.Event.{kind_word}
+
+-- atoms of one word
+pub data Bare : Type 0 where
+  Test : Bare
+  Container : Bare
+  Engine : Bare
+  Started : Bare
+  Succeeded : Bare
+  Failed : Bare
+  Aborted : Bare
+
+-- atoms with a text
+pub data Texted : Type 0 where
+  Id : Texted
+  Name : Texted
+  Skipped : Texted
+  FailedWith : Texted
+  AbortedWith : Texted
+
+-- pairs of texts, the last one outermost
+pub data Pairs : Type 0 where
+  NoPairs : Pairs
+  MorePairs : Pairs → List ℕ → List ℕ → Pairs
+
+mutual
+  pub data Cond : Type 0 where
+    Plain : Bare → Cond
+    With : Texted → List ℕ → Cond
+    OfKind : Kind → Cond
+    HasPairs : Pairs → Cond
+    All : Conds → Cond
+    Any : Conds → Cond
+    Not : Cond → Cond
+
+  -- a list of conditions, the last one outermost
+  pub data Conds : Type 0 where
+    Nothing : Conds
+    More : Conds → Cond → Conds
+
+abbrev pub bare_text : Bare → List ℕ
+bare_text Test = codes "test"
+bare_text Container = codes "container"
+bare_text Engine = codes "engine"
+bare_text Started = codes "started"
+bare_text Succeeded = codes "succeeded"
+bare_text Failed = codes "failed"
+bare_text Aborted = codes "aborted"
+
+abbrev pub texted_text : Texted → List ℕ
+texted_text Id = codes "id"
+texted_text Name = codes "name"
+texted_text Skipped = codes "skipped"
+texted_text FailedWith = codes "failed"
+texted_text AbortedWith = codes "aborted"
+
+-- the name of a kind: its word
+abbrev pub kind_text : Kind → List ℕ
+kind_text kind = kind_word kind
+
+-- four bytes of a text are written as escapes
+abbrev pub spelled_by : ℕ → List ℕ
+spelled_by b = if b == 37 then codes "%25" else (if b == 40 then codes "%28" else (if b == 41 then codes "%29" else (if b == 44 then codes "%2C" else b ∷ [])))
+
+abbrev pub escaped : List ℕ → List ℕ
+escaped [] = []
+escaped (b ∷ text) = spelled_by b ++ escaped text
+
+abbrev mutual
+  pub pairs_text : Pairs → List ℕ
+  pairs_text NoPairs = []
+  pairs_text (MorePairs pairs key value) = pairs_lead pairs ++ (escaped key ++ 44 ∷ escaped value)
+
+  -- what stands before one more pair
+  pub pairs_lead : Pairs → List ℕ
+  pairs_lead NoPairs = []
+  pairs_lead (MorePairs pairs key value) = (pairs_lead pairs ++ (escaped key ++ 44 ∷ escaped value)) ++ 44 ∷ []
+
+abbrev mutual
+  pub cond_text : Cond → List ℕ
+  cond_text (Plain bare) = bare_text bare
+  cond_text (With texted text) = texted_text texted ++ 40 ∷ escaped text ++ 41 ∷ []
+  cond_text (OfKind kind) = codes "kind(" ++ kind_text kind ++ 41 ∷ []
+  cond_text (HasPairs pairs) = codes "entry(" ++ pairs_text pairs ++ 41 ∷ []
+  cond_text (All cs) = codes "all(" ++ list_text cs ++ 41 ∷ []
+  cond_text (Any cs) = codes "any(" ++ list_text cs ++ 41 ∷ []
+  cond_text (Not c) = codes "not(" ++ cond_text c ++ 41 ∷ []
+
+  -- a comma between each two
+  pub list_text : Conds → List ℕ
+  list_text Nothing = []
+  list_text (More cs c) = lead_text cs ++ cond_text c
+
+  -- what stands before one more
+  pub lead_text : Conds → List ℕ
+  lead_text Nothing = []
+  lead_text (More cs c) = (lead_text cs ++ cond_text c) ++ 44 ∷ []
+
+abbrev pub IsCondText : List ℕ → Type 0
+IsCondText text = (c : Cond) × (text ≡ cond_text c)

@@ -1,0 +1,75 @@
+//! Open brackets of a condition that is read.
+ghost use Rattle.std.specs.Prelude.{◌≡◌, IfOk, option_map};
+ghost use Rattle.tk_conditions.specs.CondOf.{cond_of};
+ghost use Rattle.tk_conditions.specs.Reader.{frame_of};
+ghost use Rattle.tk_conditions.specs.Reading.{closed, closed_empty, joined};
+
+use crate::conditions::Condition;
+use std::alloc::{AllocError, Global};
+
+/// An open bracket, with the members that are read.
+#[derive(Drop)]
+pub(crate) enum Frame {
+    Not,
+    All(Vec<Condition>),
+    Any(Vec<Condition>),
+}
+
+impl Frame {
+    /// The condition that a bracket and its last member are.
+    pub(crate) fn close(self, alloc: Global, last: Condition) -> Result<Condition, AllocError>
+        ensures { IfOk result (λ condition. cond_of condition ≡ closed (frame_of self) (cond_of last)) }
+    {
+        match self {
+            Frame::Not => Ok(Condition::Not(Box::new(alloc, last)?)),
+            Frame::All(mut members) => {
+                members.push(last)?;
+                Ok(Condition::All(members))
+            }
+            Frame::Any(mut members) => {
+                members.push(last)?;
+                Ok(Condition::Any(members))
+            }
+        }
+    }
+
+    /// The condition that a bracket without a member is.
+    pub(crate) fn close_empty(self) -> Option<Condition>
+        ensures { option_map cond_of result ≡ closed_empty (frame_of self) }
+    {
+        match self {
+            Frame::Not => None,
+            Frame::All(members) => {
+                if members.is_empty() {
+                    Some(Condition::All(members))
+                } else {
+                    None
+                }
+            }
+            Frame::Any(members) => {
+                if members.is_empty() {
+                    Some(Condition::Any(members))
+                } else {
+                    None
+                }
+            }
+        }
+    }
+
+    /// The bracket with one more member, where it takes several.
+    pub(crate) fn join(self, member: Condition) -> Result<Option<Frame>, AllocError>
+        ensures { IfOk result (λ frame. option_map frame_of frame ≡ joined (frame_of self) (cond_of member)) }
+    {
+        match self {
+            Frame::Not => Ok(None),
+            Frame::All(mut members) => {
+                members.push(member)?;
+                Ok(Some(Frame::All(members)))
+            }
+            Frame::Any(mut members) => {
+                members.push(member)?;
+                Ok(Some(Frame::Any(members)))
+            }
+        }
+    }
+}

@@ -1,0 +1,17 @@
+//! Conditions on events, and the reading of their texts.
+#![tactic(auto)]
+
+mod conditions;
+mod faults;
+mod frames;
+pub mod laws;
+mod parts;
+mod readers;
+mod reading;
+#[cfg(test)]
+mod tests;
+mod words;
+
+pub use conditions::Condition;
+pub use faults::{CondFault, MAX_DEPTH};
+pub use reading::read_condition;

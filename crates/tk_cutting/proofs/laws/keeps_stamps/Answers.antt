@@ -1,0 +1,5 @@
+use Rattle.tk_cutting.proofs.Retelling.{keeps_stamps}
+use Rattle.tk_cutting.proofs.laws.keeps_stamps.Goals as goal
+
+pub returns : goal.returns
+returns c = keeps_stamps

@@ -1,0 +1,116 @@
+-- What conditions say of an event.
+use Rattle.std.proofs.Common.{◌≡◌, ℕ, Bool, true, false, ◌&&◌, ◌||◌, eqb, eqb-true, eq-eqb, ◌↔◌, List, [], ◌∷◌, ◌++◌, Vec, Global, IsTrue, refl, sym, ap, ◌∙◌, ⊎_elim}
+use Rattle.std.specs.Prelude.{codes}
+use Rattle.std.specs.List.{list_all, list_any}
+use Rattle.std.specs.Str.Iter.{HasSubslice}
+use Rattle.std.proofs.lemmas.List.{append_assoc, append-nil}
+use Rattle.std.proofs.lemmas.Bool.{and_parts, or_cases}
+use Rattle.std.proofs.lemmas.Slice.Eq.{bytes_eq-Decides}
+use Rattle.tk_ids.specs.IdText.{Pair, IsEngine}
+use Rattle.tk_events.specs.declared.events.Entry.{Entry}
+use Rattle.tk_columns.specs.Recorded.{Recorded}
+use Rattle.tk_conditions.specs.declared.conditions.Condition as real
+use Rattle.tk_conditions.specs.declared.conditions.Condition.{Condition}
+use Rattle.tk_conditions.specs.Cond.{Conds, Nothing, More, Pairs, NoPairs, MorePairs}
+use Rattle.tk_conditions.specs.CondOf.{cond_of, conds_from, pairs_from}
+use Rattle.tk_conditions.proofs.Members.{cond_of-All, cond_of-Any}
+use Rattle.tk_query.specs.Holds.{begins, has_within, is_engine, pairs_list, cond_holds, all_hold, any_holds, holds}
+
+-- two tests that are true where the other is
+pub same_bool : (a b : Bool) → (a ≡ true → b ≡ true) → (b ≡ true → a ≡ true) → a ≡ b
+same_bool true b f g = sym (f refl)
+same_bool false true f g = g refl
+same_bool false false f g = refl
+
+-- the text of an engine
+engine_true : (id : List Pair) → is_engine id ≡ true → IsEngine id
+engine_true [] e = cc
+engine_true (s ∷ []) e = let tag = (bytes_eq-Decides s.tag (codes "engine")).0 e in (s.value, ap (λ (t : List ℕ). let p : Pair = record { tag = t; value = s.value } in p ∷ []) tag)
+engine_true (s ∷ t ∷ id) e = cc
+
+true_engine : (id : List Pair) → IsEngine id → is_engine id ≡ true
+true_engine id h = ap is_engine h.1
+
+pub engine_is : (id : List Pair) (b : Bool) → (IsTrue b ↔ IsEngine id) → b ≡ is_engine id
+engine_is id b h = same_bool b (is_engine id) (λ e. true_engine id (h.0 e)) (λ e. h.1 (engine_true id e))
+
+-- a text within another
+begins_rest : (front text : List ℕ) → begins front text ≡ true → (rest : List ℕ) × (text ≡ front ++ rest)
+begins_rest [] text e = (text, refl)
+begins_rest (b ∷ front) [] e = cc
+begins_rest (b ∷ front) (c ∷ text) e =
+    let parts = and_parts (eqb b c) (begins front text) e in
+    let r = begins_rest front text parts.1 in
+    (r.0, ap (λ n. n ∷ text) (sym (eqb-true b c parts.0)) ∙ ap (λ l. b ∷ l) r.1)
+
+begun : (front rest : List ℕ) → begins front (front ++ rest) ≡ true
+begun [] rest = refl
+begun (b ∷ front) rest = ap (λ t. t && begins front (front ++ rest)) (eq-eqb b b refl) ∙ begun front rest
+
+or_left : (a b : Bool) → a ≡ true → (a || b) ≡ true
+or_left true b e = refl
+or_left false b e = cc
+
+or_right : (a b : Bool) → b ≡ true → (a || b) ≡ true
+or_right true b e = refl
+or_right false b e = e
+
+within_begun : (part text : List ℕ) → begins part text ≡ true → has_within part text ≡ true
+within_begun part [] e = e
+within_begun part (b ∷ text) e = or_left (begins part (b ∷ text)) (has_within part text) e
+
+within_behind : (part front text : List ℕ) → has_within part text ≡ true → has_within part (front ++ text) ≡ true
+within_behind part [] text e = e
+within_behind part (b ∷ front) text e = or_right (begins part (b ∷ (front ++ text))) (has_within part (front ++ text)) (within_behind part front text e)
+
+within_true : (part text : List ℕ) → HasSubslice text part → has_within part text ≡ true
+within_true part text h = ap (has_within part) h.2 ∙ within_behind part h.0 (part ++ h.1) (within_begun part (part ++ h.1) (begun part h.1))
+
+true_within : (part text : List ℕ) → has_within part text ≡ true → HasSubslice text part
+true_within part [] e = let r = begins_rest part [] e in ([], r.0, r.1)
+true_within part (b ∷ text) e = ⊎_elim {C = HasSubslice (b ∷ text) part}
+    (λ (h : begins part (b ∷ text) ≡ true). let r = begins_rest part (b ∷ text) h in ([], r.0, r.1))
+    (λ (h : has_within part text ≡ true). let r = true_within part text h in (b ∷ r.0, r.1, ap (λ l. b ∷ l) r.2))
+    (or_cases (begins part (b ∷ text)) (has_within part text) e)
+
+pub within_is : (part text : List ℕ) (b : Bool) → ((b ≡ true) ↔ HasSubslice text part) → b ≡ has_within part text
+within_is part text b h = same_bool b (has_within part text) (λ e. within_true part text (h.0 e)) (λ e. h.1 (true_within part text e))
+
+-- the pairs of an entry
+pairs_behind : (pairs : Pairs) (rest : List (List ℕ × List ℕ)) → pairs_list (pairs_from pairs rest) ≡ pairs_list pairs ++ rest
+pairs_behind pairs [] = sym (append-nil (pairs_list pairs))
+pairs_behind pairs (p ∷ rest) = pairs_behind (MorePairs pairs p.0 p.1) rest ∙ append_assoc (pairs_list pairs) (p ∷ []) rest
+
+pub pairs_are : (rest : List (List ℕ × List ℕ)) → pairs_list (pairs_from NoPairs rest) ≡ rest
+pairs_are rest = pairs_behind NoPairs rest
+
+-- the members of a condition
+and_assoc : (a b c : Bool) → ((a && b) && c) ≡ (a && (b && c))
+and_assoc true b c = refl
+and_assoc false b c = refl
+
+or_assoc : (a b c : Bool) → ((a || b) || c) ≡ (a || (b || c))
+or_assoc true b c = refl
+or_assoc false b c = refl
+
+and_true : (a : Bool) → a ≡ (a && true)
+and_true true = refl
+and_true false = refl
+
+or_false : (a : Bool) → a ≡ (a || false)
+or_false true = refl
+or_false false = refl
+
+all_behind : (r : Recorded) (e : Entry) (cs : Conds) (members : List Condition) → all_hold r (conds_from cs members) e ≡ (all_hold r cs e && list_all (λ m. holds r m e) members)
+all_behind r e cs [] = and_true (all_hold r cs e)
+all_behind r e cs (m ∷ members) = all_behind r e (More cs (cond_of m)) members ∙ and_assoc (all_hold r cs e) (holds r m e) (list_all (λ n. holds r n e) members)
+
+any_behind : (r : Recorded) (e : Entry) (cs : Conds) (members : List Condition) → any_holds r (conds_from cs members) e ≡ (any_holds r cs e || list_any (λ m. holds r m e) members)
+any_behind r e cs [] = or_false (any_holds r cs e)
+any_behind r e cs (m ∷ members) = any_behind r e (More cs (cond_of m)) members ∙ or_assoc (any_holds r cs e) (holds r m e) (list_any (λ n. holds r n e) members)
+
+pub holds-All : (r : Recorded) (members : Vec Condition Global) (e : Entry) → holds r (real.All members) e ≡ list_all (λ m. holds r m e) members.items
+holds-All r members e = ap (λ c. cond_holds r c e) (cond_of-All members) ∙ all_behind r e Nothing members.items
+
+pub holds-Any : (r : Recorded) (members : Vec Condition Global) (e : Entry) → holds r (real.Any members) e ≡ list_any (λ m. holds r m e) members.items
+holds-Any r members e = ap (λ c. cond_holds r c e) (cond_of-Any members) ∙ any_behind r e Nothing members.items

@@ -1,0 +1,6 @@
+pub mod HoldsLemmas
+pub mod AskedLemmas
+pub mod InTurn
+pub mod MatchLemmas
+pub mod Paired
+pub mod MaskLemmas

@@ -1,0 +1,90 @@
+-- The masks of conditions.
+use Rattle.std.proofs.Common.{◌≡◌, ℕ, zero, suc, Some, MatchOption, ◌+◌, ◌<◌, ◌≤◌, Bool, true, false, ◌&&◌, ◌||◌, List, [], ◌∷◌, ◌++◌, length, take, get_or, map, replicate, Result, Ok, Err, IfOk, refl, sym, ap, ◌∙◌, subst, arith}
+use Rattle.std.specs.Prelude.{if◌then◌else◌, ◌==◌}
+use Rattle.std.specs.List.{list_all, list_any, slice_get}
+use Rattle.std.specs.Simd.Lanes.{zip2}
+use Rattle.std.proofs.lemmas.Simd.{zip2-map}
+use Rattle.std.proofs.lemmas.List.{take_more, take_all, map-append}
+use Rattle.std.proofs.lemmas.List.Folds.{list_all-append, list_any-append}
+use Rattle.tk_events.specs.declared.events.Entry.{Entry}
+use Rattle.tk_columns.specs.Recorded.{Recorded}
+use Rattle.tk_conditions.specs.declared.conditions.Condition.{Condition}
+use Rattle.tk_query.specs.Holds.{holds}
+use Rattle.tk_query.proofs.AskedLemmas.{map_same}
+
+replicated : (b : Bool) (es : List Entry) → replicate (length es) b ≡ map (λ _. b) es
+replicated b [] = refl
+replicated b (e ∷ es) = ap (λ l. b ∷ l) (replicated b es)
+
+pub mask_first : (b : Bool) (n : ℕ) (es : List Entry) (flags : List Bool) → flags ≡ replicate n b → n ≡ length es → flags ≡ map (λ _. b) es
+mask_first b n es flags e long = e ∙ ap (λ k. replicate k b) long ∙ replicated b es
+
+and_true : (a : Bool) → a ≡ (a && true)
+and_true true = refl
+and_true false = refl
+
+or_false : (a : Bool) → a ≡ (a || false)
+or_false true = refl
+or_false false = refl
+
+abbrev all_of_first : Recorded → List Condition → ℕ → Entry → Bool
+all_of_first r members i e = list_all (λ m. holds r m e) (take i members)
+
+abbrev any_of_first : Recorded → List Condition → ℕ → Entry → Bool
+any_of_first r members i e = list_any (λ m. holds r m e) (take i members)
+
+pub all_more : (r : Recorded) (members : List Condition) (i : ℕ) (m : Condition) (flags more new : List Bool) → i < length members → m ≡ get_or members i m → flags ≡ map (all_of_first r members i) r.entries → more ≡ map (holds r m) r.entries → new ≡ zip2 ◌&&◌ flags more → new ≡ map (all_of_first r members (i + 1)) r.entries
+all_more r members i m flags more new lt is e f g =
+    g ∙ ap (λ a. zip2 ◌&&◌ a more) e ∙ ap (zip2 ◌&&◌ (map (all_of_first r members i) r.entries)) f
+    ∙ zip2-map ◌&&◌ (all_of_first r members i) (holds r m) r.entries
+    ∙ map_same (λ x. all_of_first r members i x && holds r m x) (all_of_first r members (i + 1)) r.entries
+    (λ x. ap (λ b. all_of_first r members i x && b) (ap (λ n. holds r n x) is ∙ and_true (holds r (get_or members i m) x))
+    ∙ sym (list_all-append (λ n. holds r n x) (take i members) (get_or members i m ∷ [])) ∙ ap (list_all (λ n. holds r n x)) (sym (take_more members i m lt)))
+
+pub any_more : (r : Recorded) (members : List Condition) (i : ℕ) (m : Condition) (flags more new : List Bool) → i < length members → m ≡ get_or members i m → flags ≡ map (any_of_first r members i) r.entries → more ≡ map (holds r m) r.entries → new ≡ zip2 ◌||◌ flags more → new ≡ map (any_of_first r members (i + 1)) r.entries
+any_more r members i m flags more new lt is e f g =
+    g ∙ ap (λ a. zip2 ◌||◌ a more) e ∙ ap (zip2 ◌||◌ (map (any_of_first r members i) r.entries)) f
+    ∙ zip2-map ◌||◌ (any_of_first r members i) (holds r m) r.entries
+    ∙ map_same (λ x. any_of_first r members i x || holds r m x) (any_of_first r members (i + 1)) r.entries
+    (λ x. ap (λ b. any_of_first r members i x || b) (ap (λ n. holds r n x) is ∙ or_false (holds r (get_or members i m) x))
+    ∙ sym (list_any-append (λ n. holds r n x) (take i members) (get_or members i m ∷ [])) ∙ ap (list_any (λ n. holds r n x)) (sym (take_more members i m lt)))
+
+pub all_done : (r : Recorded) (members : List Condition) (i : ℕ) (flags : List Bool) → length members ≤ i → flags ≡ map (all_of_first r members i) r.entries → flags ≡ map (λ e. list_all (λ m. holds r m e) members) r.entries
+all_done r members i flags le e = e ∙ ap (λ (ms : List Condition). map (λ x. list_all (λ m. holds r m x) ms) r.entries) (take_all i members le)
+
+pub any_done : (r : Recorded) (members : List Condition) (i : ℕ) (flags : List Bool) → length members ≤ i → flags ≡ map (any_of_first r members i) r.entries → flags ≡ map (λ e. list_any (λ m. holds r m e) members) r.entries
+any_done r members i flags le e = e ∙ ap (λ (ms : List Condition). map (λ x. list_any (λ m. holds r m x) ms) r.entries) (take_all i members le)
+
+pub if_ok_same : {X E : Type 0} (o : Result X E) (a b : X) → a ≡ b → IfOk o (λ x. x ≡ a) → IfOk o (λ x. x ≡ b)
+if_ok_same (Ok x) a b e h = h ∙ e
+if_ok_same (Err x) a b e h = h
+
+pub map-map : {A B C : Type 0} (g : B → C) (f : A → B) (xs : List A) → map g (map f xs) ≡ map (λ x. g (f x)) xs
+map-map g f [] = refl
+map-map g f (x ∷ xs) = ap (λ l. g (f x) ∷ l) (map-map g f xs)
+
+-- the column of answers, one more
+there : (es : List Entry) (i : ℕ) → i < length es → (e : Entry) × (slice_get es i ≡ Some e) × (take (suc i) es ≡ take i es ++ e ∷ [])
+there [] i lt = absurd (omega arith)
+there (e ∷ es) zero lt = (e, refl, refl)
+there (e ∷ es) (suc i) lt = let r = there es i (omega arith) in (r.0, r.1, ap (λ l. e ∷ l) r.2)
+
+abbrev pub byte : Bool → ℕ
+byte b = if b then 1 else 0
+
+pub column_more : (r : Recorded) (c : Condition) (i : ℕ) (b : Bool) (old new : List ℕ) → i < length r.entries → old ≡ map (λ e. byte (holds r c e)) (take i r.entries) → MatchOption (slice_get r.entries i) (b ≡ false) (λ e. b ≡ holds r c e) → new ≡ old ++ byte b ∷ [] → new ≡ map (λ e. byte (holds r c e)) (take (i + 1) r.entries)
+column_more r c i b old new lt e h f =
+    let x = there r.entries i lt in
+    let is : b ≡ holds r c x.0 = subst (λ o. MatchOption o (b ≡ false) (λ y. b ≡ holds r c y)) x.1 h in
+    let next : suc i ≡ i + 1 = omega arith in
+    f ∙ ap (λ l. l ++ byte b ∷ []) e ∙ ap (λ z. map (λ y. byte (holds r c y)) (take i r.entries) ++ byte z ∷ []) is
+    ∙ sym (map-append (λ y. byte (holds r c y)) (take i r.entries) (x.0 ∷ [])) ∙ ap (map (λ y. byte (holds r c y))) (sym x.2 ∙ ap (λ n. take n r.entries) next)
+
+one_byte : (b : Bool) → (byte b == 1) ≡ b
+one_byte true = refl
+one_byte false = refl
+
+pub column_done : (r : Recorded) (c : Condition) (i : ℕ) (column : List ℕ) → length r.entries ≤ i → column ≡ map (λ e. byte (holds r c e)) (take i r.entries) → map (λ x. x == 1) column ≡ map (holds r c) r.entries
+column_done r c i column le e =
+    ap (map (λ x. x == 1)) (e ∙ ap (map (λ y. byte (holds r c y))) (take_all i r.entries le))
+    ∙ map-map (λ x. x == 1) (λ y. byte (holds r c y)) r.entries ∙ map_same (λ y. byte (holds r c y) == 1) (holds r c) r.entries (λ y. one_byte (holds r c y))

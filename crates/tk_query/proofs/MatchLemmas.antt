@@ -1,0 +1,78 @@
+-- Matching event by event.
+use Rattle.std.proofs.Common.{◌≡◌, ℕ, zero, suc, ◌+◌, ◌<◌, ◌≤◌, Bool, true, false, List, [], ◌∷◌, length, get_or, map, Option, Some, None, MatchOption, refl, sym, ap, ◌∙◌, subst, arith, ⊎_elim}
+use Rattle.std.specs.List.{slice_get}
+use Rattle.std.specs.Option.{is_some}
+use Rattle.std.proofs.lemmas.Bool.{cases_lt}
+use Rattle.std.proofs.lemmas.Option.{same_Some, none-some}
+use Rattle.tk_events.specs.declared.events.Entry.{Entry}
+use Rattle.tk_columns.specs.Recorded.{Recorded}
+use Rattle.tk_columns.specs.Selections.{Placed, Selected, positions_of, events_of}
+use Rattle.tk_conditions.specs.declared.conditions.Condition.{Condition}
+use Rattle.tk_query.specs.Holds.{holds}
+use Rattle.tk_query.specs.Asked.{fits}
+use Rattle.tk_query.specs.InOrder.{IsNextFit, HasNoFit}
+use Rattle.tk_query.specs.Matches.{HoldsAt, IsFirstUnlike, HoldsSomewhere}
+use Rattle.tk_query.proofs.AskedLemmas.{AreFlags, kept_at}
+
+pub get_some : {A : Type 0} (xs : List A) (k : ℕ) (d : A) → k < length xs → slice_get xs k ≡ Some (get_or xs k d)
+get_some [] k d lt = absurd (omega arith)
+get_some (x ∷ xs) zero d lt = refl
+get_some (x ∷ xs) (suc k) d lt = get_some xs k d (omega arith)
+
+get_map : {A B : Type 0} (f : A → B) (xs : List A) (k : ℕ) (y : B) → slice_get (map f xs) k ≡ Some y → (x : A) × (slice_get xs k ≡ Some x) × (f x ≡ y)
+get_map f [] k y e = absurd (none-some y e)
+get_map f (x ∷ xs) zero y e = (x, refl, same_Some (f x) y e)
+get_map f (x ∷ xs) (suc k) y e = get_map f xs k y e
+
+map_some : {A B : Type 0} (f : A → B) (xs : List A) (k : ℕ) (x : A) → slice_get xs k ≡ Some x → slice_get (map f xs) k ≡ Some (f x)
+map_some f [] k x e = absurd (none-some x e)
+map_some f (y ∷ xs) zero x e = ap (λ z. Some (f z)) (same_Some y x e)
+map_some f (y ∷ xs) (suc k) x e = map_some f xs k x e
+
+-- one more than all below
+below_more : (P : ℕ → Type 0) (k : ℕ) → ((j : ℕ) → j < k → P j) → P k → (j : ℕ) → j < k + 1 → P j
+below_more P k below here j lt = ⊎_elim {C = P j} (λ (low : j < k). below j low) (λ (high : k ≤ j). let same : k ≡ j = omega arith in subst P same here) (cases_lt j k)
+
+-- what a test of condition k at position k says
+record IsTested (r : Recorded) (l : List Entry) (k : ℕ) (c : Condition) (b : Bool) : Type 0 where
+  event : Entry
+  event_is : slice_get l k ≡ Some event
+  tests : b ≡ holds r c event
+
+tested : (asked : Selected) (flags : List Bool) → AreFlags asked flags → (r : Recorded) → r ≡ asked.recorded → (k position : ℕ) (c : Condition) (b : Bool) → slice_get (positions_of asked) k ≡ Some position
+    → MatchOption (slice_get r.entries position) (b ≡ false) (λ e. b ≡ holds r c e) → IsTested asked.recorded (events_of asked) k c b
+tested asked flags are r same k position c b at given =
+    let h = subst (λ (s : Recorded). MatchOption (slice_get s.entries position) (b ≡ false) (λ e. b ≡ holds s c e)) same given in
+    let x = get_map (λ (x : Placed). x.position) asked.kept k position at in
+    let stands : slice_get asked.recorded.entries position ≡ Some x.0.entry = ap (slice_get asked.recorded.entries) (sym x.2) ∙ kept_at asked flags are k x.0 x.1 in
+    record {
+      event = x.0.entry;
+      event_is = map_some (λ (x : Placed). x.entry) asked.kept k x.0 x.1;
+      tests = subst (λ o. MatchOption o (b ≡ false) (λ e. b ≡ holds asked.recorded c e)) stands h;
+    }
+
+-- the loop's facts at condition k
+module _ (asked : Selected) (flags : List Bool) (are : AreFlags asked flags) (r : Recorded) (same : r ≡ asked.recorded) (cs : List Condition) (k : ℕ) (c : Condition) (list : List ℕ) (position : ℕ) (b : Bool)
+    (below : (j : ℕ) → j < k → HoldsAt asked.recorded cs (events_of asked) j) (condition_is : c ≡ get_or cs k c) (within : k < length cs)
+    (list_is : list ≡ positions_of asked) (long : k < length list) (position_is : position ≡ get_or list k 0)
+    (test : MatchOption (slice_get r.entries position) (b ≡ false) (λ e. b ≡ holds r c e)) where
+  tested_here : IsTested asked.recorded (events_of asked) k c b
+  tested_here = tested asked flags are r same k position c b (ap (λ l. slice_get l k) (sym list_is) ∙ get_some list k 0 long ∙ ap (λ n. Some n) (sym position_is)) test
+
+  condition_here : slice_get cs k ≡ Some c
+  condition_here = get_some cs k c within ∙ ap (λ x. Some x) (sym condition_is)
+
+  pub exact_more : b ≡ true → (j : ℕ) → j < k + 1 → HoldsAt asked.recorded cs (events_of asked) j
+  exact_more e = below_more (HoldsAt asked.recorded cs (events_of asked)) k below (c, tested_here.event, condition_here, tested_here.event_is, sym tested_here.tests ∙ e)
+
+  pub exact_no : b ≡ false → IsFirstUnlike asked.recorded cs (events_of asked) k
+  exact_no e = record { condition = c; event = tested_here.event; condition_is = condition_here; event_is = tested_here.event_is; fails = sym tested_here.tests ∙ e; before = below }
+
+some_fit : (asked : Selected) (c : Condition) (o : Option ℕ) → MatchOption o (HasNoFit (fits asked) c 0) (λ p. IsNextFit (fits asked) c 0 p) → is_some o ≡ true → (p : ℕ) × (fits asked c p ≡ true)
+some_fit asked c None h e = cc
+some_fit asked c (Some p) h e = (p, h.fit)
+
+pub loose_more : (asked : Selected) (cs : List Condition) (k : ℕ) (c : Condition) (o : Option ℕ) → ((j : ℕ) → j < k → HoldsSomewhere asked cs j) → k < length cs → c ≡ get_or cs k c → MatchOption o (HasNoFit (fits asked) c 0) (λ p. IsNextFit (fits asked) c 0 p) → is_some o ≡ true → (j : ℕ) → j < k + 1 → HoldsSomewhere asked cs j
+loose_more asked cs k c o below within is h e =
+    let fit = some_fit asked c o h e in
+    below_more (HoldsSomewhere asked cs) k below (c, fit.0, get_some cs k c within ∙ ap (λ x. Some x) (sym is), fit.1)

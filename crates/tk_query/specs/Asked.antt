@@ -1,0 +1,25 @@
+-- The events that are asked, at their positions in the record.
+use Rattle.std.specs.Prelude.{ℕ, Bool, false, ◌==◌, if◌then◌else◌, List, [], ◌∷◌, Option, Some, None}
+use Rattle.tk_events.specs.declared.events.Entry.{Entry}
+use Rattle.tk_columns.specs.declared.records.EntryView.{EntryView}
+use Rattle.tk_columns.specs.Selections.{Placed, Selected}
+use Rattle.tk_conditions.specs.declared.conditions.Condition.{Condition}
+use Rattle.tk_query.specs.Holds.{holds}
+
+-- the event that stands at this position
+abbrev pub event_at : List Placed → ℕ → Option Entry
+event_at [] position = None
+event_at (x ∷ kept) position = if x.position == position then Some x.entry else event_at kept position
+
+-- whether an event is there, and passes
+abbrev pub is_there : (Entry → Bool) → Option Entry → Bool
+is_there p None = false
+is_there p (Some e) = p e
+
+-- one of the events asked stands at this position of the record, and the condition holds of it
+abbrev pub fits : Selected → Condition → ℕ → Bool
+fits asked c position = is_there (holds asked.recorded c) (event_at asked.kept position)
+
+-- the entry that a view shows
+abbrev pub entry_of : EntryView → Entry
+entry_of v = record { worker = v.worker; event = record { kind = v.kind; key = v.key; stamp = v.stamp; payload = v.payload.now } }

@@ -1,0 +1,44 @@
+-- Executions: a start and a finish of one key with nothing of that key between, or a skip.
+use Rattle.std.specs.Prelude.{◌≡◌, ◌≢◌, ℕ, Bool, not, ◌==◌, ◌<◌, ◌↔◌, ◌⊎◌, List, Option, Some}
+use Rattle.std.specs.List.{Contains, AllPairs}
+use Rattle.tk_query.specs.declared.execution_lists.Ending.{Ending}
+use Rattle.tk_query.specs.declared.execution_lists.Ending.TheVariants.{Skipped, Aborted, Successful, Failed}
+use Rattle.tk_query.specs.declared.execution_lists.Execution.{Execution}
+use Rattle.tk_query.specs.declared.acts.Mark.TheVariants.{Starts, Skips, Ends}
+use Rattle.tk_query.specs.declared.acts.Act.{Act}
+
+-- The key starts at the first position and finishes at the last one, and does nothing between.
+pub record IsSpan (acts : ℕ → Option Act) (x : Execution) : Type 0 where
+  pub before : x.first < x.last
+  pub starts : acts x.first ≡ Some (record { key = x.key; stamp = x.start; mark = Starts })
+  pub ends : acts x.last ≡ Some (record { key = x.key; stamp = x.stop; mark = Ends x.ending })
+  pub between : (m : ℕ) (a : Act) → x.first < m → m < x.last → acts m ≡ Some a → a.key ≢ x.key
+
+-- the key is skipped there
+pub record IsSkip (acts : ℕ → Option Act) (x : Execution) : Type 0 where
+  pub one : x.first ≡ x.last
+  pub stamps : x.start ≡ x.stop
+  pub skips : acts x.last ≡ Some (record { key = x.key; stamp = x.stop; mark = Skips })
+  pub ending : x.ending ≡ Skipped
+
+abbrev pub IsExecution : (ℕ → Option Act) → Execution → Type 0
+IsExecution acts x = IsSkip acts x ⊎ IsSpan acts x
+
+-- all of them, in the order of their ends
+pub record AreExecutions (acts : ℕ → Option Act) (xs : List Execution) : Type 0 where
+  pub each : (x : Execution) → Contains xs x ↔ IsExecution acts x
+  pub order : AllPairs (λ x y. x.last < y.last) xs
+
+abbrev pub ending_code : Ending → ℕ
+ending_code Skipped = 0
+ending_code Aborted = 1
+ending_code Successful = 2
+ending_code Failed = 3
+
+-- whether it ended so
+abbrev pub has_ending : Ending → Execution → Bool
+has_ending ending x = ending_code x.ending == ending_code ending
+
+-- whether it started, and so finished
+abbrev pub has_started : Execution → Bool
+has_started x = not (has_ending Skipped x)

@@ -1,0 +1,102 @@
+-- What a condition says of an event of a record.
+use Rattle.std.specs.Prelude.{ℕ, Bool, true, false, not, ◌&&◌, ◌||◌, ◌==◌, List, [], ◌∷◌, ◌++◌, Option, Some, None, bytes_eq, codes}
+use Rattle.std.specs.List.{list_any, list_all}
+use Rattle.tk_ids.specs.IdText.{Pair, id_text}
+use Rattle.tk_ids.specs.declared.tables.Descriptor.{Descriptor}
+use Rattle.tk_events.specs.declared.kinds.Kind.TheVariants as kind
+use Rattle.tk_events.specs.declared.kinds.Status.TheVariants as status
+use Rattle.tk_events.specs.declared.payloads.Payload.{Payload}
+use Rattle.tk_events.specs.declared.payloads.Payload.TheVariants.{Reason, Outcome, Report}
+use Rattle.tk_events.specs.declared.events.Entry.{Entry}
+use Rattle.tk_columns.specs.DTypes.{is_test, is_container}
+use Rattle.tk_columns.specs.Entries.{of_kind, of_status, desc}
+use Rattle.tk_columns.specs.Recorded.{Recorded}
+use Rattle.tk_columns.specs.Selections.{has_type}
+use Rattle.tk_conditions.specs.Cond.{Bare, Test, Container, Engine, Started, Succeeded, Failed, Aborted, Texted, Id, Name, Skipped, FailedWith, AbortedWith, Pairs, NoPairs, MorePairs, Cond, Plain, With, OfKind, HasPairs, All, Any, Not, Conds, Nothing, More}
+use Rattle.tk_conditions.specs.CondOf.{cond_of}
+use Rattle.tk_conditions.specs.declared.conditions.Condition.{Condition}
+
+-- the text begins with this one
+abbrev pub begins : List ℕ → List ℕ → Bool
+begins [] text = true
+begins (b ∷ front) [] = false
+begins (b ∷ front) (c ∷ text) = b == c && begins front text
+
+-- the text contains this one
+abbrev pub has_within : List ℕ → List ℕ → Bool
+has_within part [] = begins part []
+has_within part (b ∷ text) = begins part (b ∷ text) || has_within part text
+
+-- whether the descriptor is there, and passes
+abbrev pub has_descriptor : (Descriptor → Bool) → Option Descriptor → Bool
+has_descriptor p None = false
+has_descriptor p (Some d) = p d
+
+-- exactly one segment, whose tag is `engine`
+abbrev pub is_engine : List Pair → Bool
+is_engine (s ∷ []) = bytes_eq s.tag (codes "engine")
+is_engine _ = false
+
+-- the reason is this one
+abbrev pub has_reason : List ℕ → Payload → Bool
+has_reason text (Reason given) = bytes_eq given text
+has_reason text _ = false
+
+-- the message is there, and is this one
+abbrev pub has_message : List ℕ → Payload → Bool
+has_message text (Outcome status (Some given)) = bytes_eq given text
+has_message text _ = false
+
+abbrev pub same_pair : List ℕ × List ℕ → List ℕ × List ℕ → Bool
+same_pair a b = bytes_eq a.0 b.0 && bytes_eq a.1 b.1
+
+-- each of the first pairs is one of the second
+abbrev pub all_within : List (List ℕ × List ℕ) → List (List ℕ × List ℕ) → Bool
+all_within pairs others = list_all (λ p. list_any (same_pair p) others) pairs
+
+-- each pair named is in the report, and each of its pairs is named
+abbrev pub reports : List (List ℕ × List ℕ) → Payload → Bool
+reports named (Report given) = all_within named given && all_within given named
+reports named _ = false
+
+abbrev pub pairs_list : Pairs → List (List ℕ × List ℕ)
+pairs_list NoPairs = []
+pairs_list (MorePairs pairs key value) = pairs_list pairs ++ (key, value) ∷ []
+
+abbrev pub bare_holds : Recorded → Bare → Entry → Bool
+bare_holds r Test e = has_type is_test (desc r e.event.key)
+bare_holds r Container e = has_type is_container (desc r e.event.key)
+bare_holds r Engine e = has_descriptor (λ d. is_engine d.id) (desc r e.event.key)
+bare_holds r Started e = of_kind kind.Started e
+bare_holds r Succeeded e = of_status status.Successful e
+bare_holds r Failed e = of_status status.Failed e
+bare_holds r Aborted e = of_status status.Aborted e
+
+abbrev pub texted_holds : Recorded → Texted → List ℕ → Entry → Bool
+texted_holds r Id text e = has_descriptor (λ d. has_within text (id_text d.id)) (desc r e.event.key)
+texted_holds r Name text e = has_descriptor (λ d. bytes_eq d.name text) (desc r e.event.key)
+texted_holds r Skipped text e = of_kind kind.Skipped e && has_reason text e.event.payload
+texted_holds r FailedWith text e = of_status status.Failed e && has_message text e.event.payload
+texted_holds r AbortedWith text e = of_status status.Aborted e && has_message text e.event.payload
+
+abbrev mutual
+  pub cond_holds : Recorded → Cond → Entry → Bool
+  cond_holds r (Plain bare) e = bare_holds r bare e
+  cond_holds r (With texted text) e = texted_holds r texted text e
+  cond_holds r (OfKind kind) e = of_kind kind e
+  cond_holds r (HasPairs pairs) e = of_kind kind.Reporting e && reports (pairs_list pairs) e.event.payload
+  cond_holds r (All cs) e = all_hold r cs e
+  cond_holds r (Any cs) e = any_holds r cs e
+  cond_holds r (Not c) e = not (cond_holds r c e)
+
+  pub all_hold : Recorded → Conds → Entry → Bool
+  all_hold r Nothing e = true
+  all_hold r (More cs c) e = all_hold r cs e && cond_holds r c e
+
+  pub any_holds : Recorded → Conds → Entry → Bool
+  any_holds r Nothing e = false
+  any_holds r (More cs c) e = any_holds r cs e || cond_holds r c e
+
+-- whether the condition holds of an entry of the record
+abbrev pub holds : Recorded → Condition → Entry → Bool
+holds r c e = cond_holds r (cond_of c) e

@@ -1,0 +1,10 @@
+pub use Rattle.tk_conditions.specs.Answer
+pub use Rattle.tk_conditions.specs.Cond
+pub use Rattle.tk_conditions.specs.CondOf
+pub mod Holds
+pub mod Asked
+pub mod InOrder
+pub mod Matches
+pub mod Acts
+pub mod Executions
+pub mod Pairing

@@ -1,0 +1,28 @@
+//! What the matchers answer.
+
+/// Whether the conditions are those of the events, one for each, in their order.
+#[derive(Clone, Copy, Debug, PartialEq, Eq)]
+pub enum Exact {
+    Yes,
+    /// There are more conditions than events, or fewer.
+    WrongCount,
+    /// The number of the first condition that doesn't hold of the event of that number.
+    No(usize),
+}
+
+/// Whether each condition holds of some event.
+#[derive(Clone, Copy, Debug, PartialEq, Eq)]
+pub enum Loose {
+    Yes,
+    /// The number of the first condition that holds of no event.
+    No(usize),
+}
+
+/// Whether conditions hold in turn, and where.
+#[derive(Debug, Drop)]
+pub enum InOrder {
+    /// The least increasing positions in the record.
+    Yes(Vec<usize>),
+    /// The number of the first condition up to which there are no such positions.
+    No(usize),
+}

@@ -1,0 +1,134 @@
+//! Executions, and how they ended.
+ghost use Rattle.std.specs.Prelude.{◌≡◌, length, filter, slice_get, IfOk};
+ghost use Rattle.tk_query.specs.declared.execution_lists.Ending.TheVariants.{Skipped, Aborted, Successful, Failed};
+ghost use Rattle.tk_query.specs.Executions.{has_ending, has_started};
+
+use std::alloc::{AllocError, Global};
+use std::marker::Model;
+
+/// How an execution ended.
+#[derive(Clone, Copy, Debug, PartialEq, Eq)]
+pub enum Ending {
+    Skipped,
+    Aborted,
+    Successful,
+    Failed,
+}
+
+/// A start and a finish of one key that belong together, or a skip.
+#[derive(Clone, Copy, Debug, PartialEq, Eq)]
+pub struct Execution {
+    pub key: u32,
+    /// The position of the start in the record, or of the skip.
+    pub first: usize,
+    /// The position of the finish in the record, or of the skip.
+    pub last: usize,
+    /// The stamp at the first position.
+    pub start: u64,
+    /// The stamp at the last position.
+    pub stop: u64,
+    pub ending: Ending,
+}
+
+impl Execution {
+    fn has(&self, ending: Ending) -> bool
+        ensures { result ≡ has_ending ending self.now }
+    {
+        self.ending == ending
+    }
+}
+
+/// Executions, in the order of their ends.
+#[derive(Debug, Drop)]
+pub struct Executions {
+    items: Vec<Execution>,
+}
+
+impl Model for Executions {
+    ghost use Rattle.std.specs.Prelude.{List};
+    ghost use Rattle.tk_query.specs.declared.execution_lists.Execution.{Execution};
+
+    ghost Value = { List Execution };
+
+    ghost view = { λ e. e.items.items };
+}
+
+impl Executions {
+    pub(crate) fn of(items: Vec<Execution>) -> Executions
+        ensures { result ≡ items.items }
+    {
+        Executions { items }
+    }
+
+    /// How many there are.
+    pub fn len(&self) -> usize
+        ensures { result ≡ length self.now }
+    {
+        self.items.len()
+    }
+
+    /// The execution of this number, counted from 0.
+    pub fn get(&self, index: usize) -> Option<Execution>
+        ensures { result ≡ slice_get self.now index }
+    {
+        self.items.get(index).copied()
+    }
+
+    // Those that ended so.
+    fn ended(&self, alloc: Global, ending: Ending) -> Result<Executions, AllocError>
+        ensures { IfOk result (λ kept. kept ≡ filter (has_ending ending) self.now) }
+    {
+        let items = self
+            .items
+            .iter()
+            .filter(|x| x.has(ending))
+            .copied()
+            .collect(alloc)?;
+        Ok(Executions { items })
+    }
+
+    /// Those of a skip.
+    pub fn skipped(&self, alloc: Global) -> Result<Executions, AllocError>
+        ensures { IfOk result (λ kept. kept ≡ filter (has_ending Skipped) self.now) }
+    {
+        self.ended(alloc, Ending::Skipped)
+    }
+
+    /// Those that started: all but those of a skip.
+    pub fn started(&self, alloc: Global) -> Result<Executions, AllocError>
+        ensures { IfOk result (λ kept. kept ≡ filter has_started self.now) }
+    {
+        let items = self
+            .items
+            .iter()
+            .filter(|x| !x.has(Ending::Skipped))
+            .copied()
+            .collect(alloc)?;
+        Ok(Executions { items })
+    }
+
+    /// Those that finished: all but those of a skip.
+    pub fn finished(&self, alloc: Global) -> Result<Executions, AllocError>
+        ensures { IfOk result (λ kept. kept ≡ filter has_started self.now) }
+    {
+        self.started(alloc)
+    }
+
+    pub fn aborted(&self, alloc: Global) -> Result<Executions, AllocError>
+        ensures { IfOk result (λ kept. kept ≡ filter (has_ending Aborted) self.now) }
+    {
+        self.ended(alloc, Ending::Aborted)
+    }
+
+    pub fn succeeded(&self, alloc: Global) -> Result<Executions, AllocError>
+        ensures { IfOk result (λ kept. kept ≡ filter (has_ending Successful) self.now) }
+    {
+        self.ended(alloc, Ending::Successful)
+    }
+
+    pub fn failed(&self, alloc: Global) -> Result<Executions, AllocError>
+        ensures { IfOk result (λ kept. kept ≡ filter (has_ending Failed) self.now) }
+    {
+        self.ended(alloc, Ending::Failed)
+    }
+}

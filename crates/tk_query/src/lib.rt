@@ -1,0 +1,17 @@
+//! Questions about the events of a record: conditions, matchers, executions.
+#![tactic(auto)]
+
+mod acts;
+mod answers;
+mod execution_lists;
+mod holding;
+mod masks;
+mod matching;
+mod pairing;
+
+pub use answers::{Exact, InOrder, Loose};
+pub use execution_lists::{Ending, Execution, Executions};
+pub use masks::select;
+pub use matching::{match_exactly, match_in_order, match_loosely};
+pub use pairing::executions;
+pub use tk_conditions::{CondFault, Condition, MAX_DEPTH, read_condition};

@@ -1,0 +1,89 @@
+//! Selecting events by a condition.
+ghost use Rattle.std.specs.Prelude.{◌≡◌, if◌then◌else◌, map, IfOk};
+ghost use Rattle.std.specs.List.{list_all, list_any};
+ghost use Rattle.tk_columns.specs.Selections.{keeping};
+ghost use Rattle.tk_query.specs.Holds.{holds};
+
+use crate::holding::holds_at;
+use std::alloc::{AllocError, Global};
+use tk_columns::{Events, Record, Rule};
+use tk_conditions::Condition;
+use tk_events::{Kind, Status};
+use tk_lanes::Flags;
+
+fn byte_of(flag: bool) -> u8
+    ensures { result ≡ (if flag then 1 else 0) }
+{
+    u8::from(flag)
+}
+
+/// For each entry whether the condition holds of it, asked one by one.
+fn each_mask(alloc: Global, record: &Record, condition: &Condition) -> Result<Flags, AllocError>
+    ensures { IfOk result (λ flags. flags ≡ map (holds record.now condition.now) record.now.entries) }
+{
+    let mut column = Vec::with_capacity(alloc, record.len())?;
+    for position in 0..record.len() {
+        column.push(byte_of(holds_at(record, condition, position)))?;
+    }
+    Flags::of_byte(alloc, &column, 1)
+}
+
+/// For each entry, whether the condition holds of it.
+#[cycle(masks)]
+fn mask(alloc: Global, record: &Record, condition: &Condition) -> Result<Flags, AllocError>
+    ensures { IfOk result (λ flags. flags ≡ map (holds record.now condition.now) record.now.entries) }
+{
+    match condition {
+        Condition::Test => record.flags(alloc, Rule::Test),
+        Condition::Container => record.flags(alloc, Rule::Container),
+        Condition::Kind(kind) => record.flags(alloc, Rule::OfKind(*kind)),
+        Condition::Started => record.flags(alloc, Rule::OfKind(Kind::Started)),
+        Condition::Succeeded => record.flags(alloc, Rule::OfStatus(Status::Successful)),
+        Condition::Failed(None) => record.flags(alloc, Rule::OfStatus(Status::Failed)),
+        Condition::Aborted(None) => record.flags(alloc, Rule::OfStatus(Status::Aborted)),
+        Condition::All(members) => all_mask(alloc, record, members),
+        Condition::Any(members) => any_mask(alloc, record, members),
+        Condition::Not(member) => {
+            let mut flags = mask(alloc, record, member)?;
+            flags.invert();
+            Ok(flags)
+        }
+        _ => each_mask(alloc, record, condition),
+    }
+}
+
+#[cycle(masks)]
+fn all_mask(alloc: Global, record: &Record, members: &[Condition]) -> Result<Flags, AllocError>
+    ensures { IfOk result (λ flags. flags ≡ map (λ e. list_all (λ member. holds record.now member e) members.now) record.now.entries) }
+{
+    let mut flags = Flags::all(alloc, record.len())?;
+    for member in members {
+        flags.and(&mask(alloc, record, member)?);
+    }
+    Ok(flags)
+}
+
+#[cycle(masks)]
+fn any_mask(alloc: Global, record: &Record, members: &[Condition]) -> Result<Flags, AllocError>
+    ensures { IfOk result (λ flags. flags ≡ map (λ e. list_any (λ member. holds record.now member e) members.now) record.now.entries) }
+{
+    let mut flags = Flags::none(alloc, record.len())?;
+    for member in members {
+        flags.or(&mask(alloc, record, member)?);
+    }
+    Ok(flags)
+}
+
+/// Those of the events of which the condition holds.
+pub fn select<'r>(
+    alloc: Global,
+    events: &Events<'r>,
+    condition: &Condition,
+) -> Result<Events<'r>, AllocError>
+    ensures { IfOk result (λ kept. kept ≡ keeping (holds events.now.recorded condition.now) events.now) }
+{
+    let record = events.recorded();
+    prove!(events.flags().len() == record.len());
+    let flags = mask(alloc, record, condition)?;
+    Ok(events.narrow(flags))
+}

@@ -1,0 +1,387 @@
+-- Each step of the queue keeps the rule of the session.
+use Rattle.std.proofs.Common.{◌≡◌, ◌≢◌, ◌⊎◌, ◌==◌, ℕ, zero, suc, ◌<◌, ◌≤◌, ◌+◌, ◌*◌, Bool, true, false, if◌then◌else◌, eq-eqb, length-append, true≢false, List, [], ◌∷◌, ◌++◌, length, set, sym, refl, ap, ◌∙◌, subst, inl, inr, ⊎_elim, arith}
+use Rattle.std.specs.Prelude.{All, ⊤}
+use Rattle.std.proofs.lemmas.Bool.{cases_eq}
+use Rattle.std.proofs.lemmas.List.Elements.{All-nil, All-push, All-weaker}
+use mathlib.Core.Option.{some, some-injective, some-ne-none}
+use lib.ListN.{get_elem?}
+use Rattle.crossbeam_queue.specs.Fifo.{Pushes, Forks, Merges, Learns}
+use Rattle.crossbeam_queue.specs.Fifo.{Pops as PopsUnder}
+use Rattle.crossbeam_queue.proofs.Lists.{at_set}
+use Rattle.tk_events.specs.declared.events.Event.{Event}
+use Rattle.tk_replay.specs.declared.items.Item.{Item}
+use Rattle.tk_replay.specs.declared.items.Item.TheVariants.{Entry as Emitted, End}
+use Rattle.tk_queue.specs.declared.lines.Sending.{Sending}
+use Rattle.tk_queue.specs.declared.lines.Taking.{Taking}
+use Rattle.tk_queue.specs.declared.lines.View.{View}
+use Rattle.tk_queue.specs.declared.lines.View.TheVariants.{Sender, Receiver, Spent}
+use Rattle.tk_columns.specs.Mixing.{IsWorkerOf, of_worker}
+use Rattle.tk_replay.specs.Core.{Core, IsCore, worker_of, push, put, take_first, items_of, entries}
+use Rattle.tk_queue.specs.Limits.{most_events}
+use Rattle.tk_queue.specs.Session.{Session, Fits, Stands, receiver, sender, new_receiver, pushed, popped, Pops, one_more, next_sender, with_token, Concludes, MayPush, IsNext, IsReader, IsFirst, MayTakeIn, Follows, MayTake, with_bit}
+use Rattle.tk_queue.specs.Steps.{PushIsStep, FullIsNone, TakeIsStep, EmptyIsNone, SplitIsNone, BitIsNone, JoinIsNone}
+use Rattle.tk_queue.specs.Known.{MayEmit, Emission}
+use Rattle.tk_queue.proofs.KnownKeys.{emission_none, emission_more}
+use Rattle.tk_replay.proofs.CoreSteps.{filter-append, takes, put-same, put-other}
+use Rattle.tk_queue.proofs.SharedSteps.{events_in, events_in-append, events_among, events_scripted, pushes_core, widens, waiting_worker}
+
+-- F of each pass
+abbrev Each : (ℕ → View → Type 0) → List View → Type 0
+Each F views = (pass : ℕ) (v : View) → get_elem? views pass ≡ some v → F pass v
+
+each_set : (F : ℕ → View → Type 0) (views : List View) (pass : ℕ) (w : View) → F pass w → ((j : ℕ) (u : View) → j ≢ pass → get_elem? views j ≡ some u → F j u) → Each F (set views pass w)
+each_set F views pass w mine others j u e = ⊎_elim (λ (x : (j ≡ pass) × (w ≡ u)). subst (λ (y : ℕ × View). F y.0 y.1) (λ i. (sym x.0 i, x.1 i)) mine)
+    (λ (x : (j ≢ pass) × (get_elem? views j ≡ some u)). others j u x.0 x.1) (at_set views pass j w u e)
+
+at_end : (l : List View) (a b : View) (j : ℕ) → get_elem? (l ++ a ∷ []) j ≡ some b → (get_elem? l j ≡ some b) ⊎ ((j ≡ length l) × (a ≡ b))
+at_end [] a b zero e = inr (refl, some-injective a b e)
+at_end [] a b (suc j) e = absurd (some-ne-none b (sym e))
+at_end (x ∷ xs) a b zero e = inl e
+at_end (x ∷ xs) a b (suc j) e = ⊎_elim (λ h. inl h) (λ (h : (j ≡ length xs) × (a ≡ b)). inr (ap suc h.0, h.1)) (at_end xs a b j e)
+
+each_snoc : (F : ℕ → View → Type 0) (views : List View) (w : View) → Each F views → F (length views) w → Each F (views ++ w ∷ [])
+each_snoc F views w old new j u e = ⊎_elim (λ (h : get_elem? views j ≡ some u). old j u h)
+    (λ (h : (j ≡ length views) × (w ≡ u)). subst (λ (y : ℕ × View). F y.0 y.1) (λ i. (sym h.0 i, h.1 i)) new) (at_end views w u j e)
+
+-- the core changed for worker w alone, who had not ended, and the list of what was taken stayed
+record Moves (w : ℕ) (c d : Core) : Type 0 where
+  taken : d.taken ≡ c.taken
+  was : c.ended w ≡ false
+  others : (v : ℕ) → v ≢ w → (d.sent v ≡ c.sent v) × (d.ended v ≡ c.ended v)
+
+token_stays : (w : ℕ) (c d : Core) → Moves w c d → (t : Sending) → Stands c t → Stands d t
+token_stays w c d m t st =
+    let apart : t.worker ≢ w = λ h. true≢false (sym st.0 ∙ ap c.ended h ∙ m.was) in
+    let o = m.others t.worker apart in (o.1 ∙ st.0, st.1 ∙ sym o.0)
+
+fits_stays : (known workers reader : ℕ) (seat : ℕ → ℕ) (w : ℕ) (c d : Core) → Moves w c d → (pass : ℕ) (u : View) → pass ≢ seat w → Fits known workers reader seat c pass u → Fits known workers reader seat d pass u
+fits_stays known workers reader seat w c d m pass (Sender s) apart f =
+    let other : s.worker ≢ w = λ h. apart (f.0 ∙ ap seat h) in
+    let o = m.others s.worker other in (f.0, f.1, f.2 ∙ sym o.0, f.3 ∙ sym o.1, f.4)
+fits_stays known workers reader seat w c d m pass (Receiver r) apart f = (f.0, f.1, f.2 ∙ sym m.taken, All-weaker (Stands c) (Stands d) (token_stays w c d m) r.tokens f.3, f.4)
+fits_stays known workers reader seat w c d m pass Spent apart f = tt
+
+push_moves : (x : Item) (c : Core) → c.ended (worker_of x) ≡ false → Moves (worker_of x) c (push x c)
+push_moves (Emitted e) c was = record { taken = refl; was = was; others = λ v n. (put-other c.sent e.worker (c.sent e.worker ++ e.event ∷ []) v n, refl) }
+push_moves (End w) c was = record { taken = refl; was = was; others = λ v n. (refl, put-other c.ended w true v n) }
+
+push_waits : (x : Item) (c : Core) → (push x c).waiting ≡ c.waiting ++ x ∷ []
+push_waits (Emitted e) c = refl
+push_waits (End w) c = refl
+
+push_fits : (known workers reader : ℕ) (seat : ℕ → ℕ) (c : Core) (pass : ℕ) (s : Sending) (x : Item) → worker_of x ≡ s.worker → Fits known workers reader seat c pass (Sender s)
+    → Fits known workers reader seat (push x c) pass (pushed (Sender s) x)
+push_fits known workers reader seat c pass s (Emitted e) own f =
+    (f.0, f.1, ap (λ l. l ++ e.event ∷ []) f.2 ∙ sym (ap (put c.sent e.worker (c.sent e.worker ++ e.event ∷ [])) (sym own) ∙ put-same c.sent e.worker (c.sent e.worker ++ e.event ∷ []) ∙ ap (λ w. c.sent w ++ e.event ∷ []) own), f.3, f.4)
+push_fits known workers reader seat c pass s (End w) own f = (f.0, f.1, f.2, sym (ap (put c.ended w true) (sym own) ∙ put-same c.ended w true), f.4)
+
+own_worker : (s : Sending) (x : Item) → IsNext s x → worker_of x ≡ s.worker
+own_worker s (Emitted e) next = next.0
+own_worker s (End w) next = next
+
+-- what each worker sent may be emitted, after the push too
+push_emitted : (known : ℕ) (c : Core) (s : Sending) (x : Item) → IsNext s x → s.sent ≡ c.sent s.worker → s.known ≡ known → ((w : ℕ) → Emission known w (c.sent w)) → (w : ℕ) → Emission known w ((push x c).sent w)
+push_emitted known c s (Emitted e) next same k m w = ⊎_elim
+    (λ (is : w ≡ e.worker).
+        let mine : c.sent e.worker ≡ s.sent = ap c.sent next.0 ∙ sym same in
+        let may : MayEmit known e.worker s.sent e.event = subst (λ (y : ℕ × ℕ). MayEmit y.0 y.1 s.sent e.event) (λ i. (k i, sym next.0 i)) next.1 in
+        let before : Emission known e.worker s.sent = subst (Emission known e.worker) mine (m e.worker) in
+        subst (λ v. Emission known v (put c.sent e.worker (c.sent e.worker ++ e.event ∷ []) v)) (sym is)
+            (subst (Emission known e.worker) (sym (put-same c.sent e.worker (c.sent e.worker ++ e.event ∷ []) ∙ ap (λ l. l ++ e.event ∷ []) mine)) (emission_more known e.worker s.sent e.event before may next.2)))
+    (λ (apart : w ≢ e.worker). subst (Emission known w) (sym (put-other c.sent e.worker (c.sent e.worker ++ e.event ∷ []) w apart)) (m w))
+    (cases_eq w e.worker)
+push_emitted known c s (End v) next same k m w = m w
+
+-- a push is the core's step, and the pass of its sender is the only one whose view changes
+pub push_step : (pass : ℕ) (s : Sending) (x : Item) → s.ended ≡ false → IsNext s x → (items : List Item) (views : List View) (h : Session items views) → get_elem? views pass ≡ some (Sender s)
+    → (t : Session (items ++ x ∷ []) (set views pass (pushed (Sender s) x))) × (t.core ≡ push x h.core)
+push_step pass s x open' next items views h at =
+    let own = own_worker s x next in
+    let mine = h.fits pass (Sender s) at in
+    let was : h.core.ended (worker_of x) ≡ false = ap h.core.ended own ∙ sym mine.3 ∙ open' in
+    let d : Core = push x h.core in
+    let m : Moves (worker_of x) h.core d = push_moves x h.core was in (
+      record {
+        core = d;
+        known = h.known;
+        workers = h.workers;
+        reader = h.reader;
+        seat = h.seat;
+        waits = push_waits x h.core ∙ ap (λ l. l ++ x ∷ []) h.waits;
+        lawful = pushes_core h.workers x h.core (subst (IsWorkerOf h.workers) (sym own) mine.1) was h.lawful;
+        emitted = push_emitted h.known h.core s x next mine.2 mine.4 h.emitted;
+        fits = each_set (Fits h.known h.workers h.reader h.seat d) views pass (pushed (Sender s) x) (push_fits h.known h.workers h.reader h.seat h.core pass s x own mine)
+            (λ j u other e. fits_stays h.known h.workers h.reader h.seat (worker_of x) h.core d m j u (λ i. other (i ∙ ap h.seat own ∙ sym mine.0)) (h.fits j u e));
+      },
+      refl,
+    )
+
+-- a sender that has not ended may push an entry of its own, or its mark
+pub pushes : (n pass : ℕ) (s : Sending) (x : Item) → s.ended ≡ false → IsNext s x → Pushes Session n pass (Sender s) x (λ w. w ≡ pushed (Sender s) x)
+pushes n pass s x open' next items views _ h at = (pushed (Sender s) x, (push_step pass s x open' next items views h at).0, refl)
+
+-- no other pass sees what was taken
+take_fits : (known workers reader : ℕ) (seat : ℕ → ℕ) (x : Item) (xs : List Item) (c : Core) (pass : ℕ) (u : View) → pass ≢ reader → Fits known workers reader seat c pass u
+    → Fits known workers reader seat (take_first x xs c) pass u
+take_fits known workers reader seat x xs c pass (Sender s) apart f = f
+take_fits known workers reader seat x xs c pass (Receiver r) apart f = absurd (apart f.0)
+take_fits known workers reader seat x xs c pass Spent apart f = tt
+
+-- the first waiting item follows what was taken of its worker
+follows : (known n : ℕ) (x : Item) (xs : List Item) (c : Core) → c.waiting ≡ x ∷ xs → IsCore n c → ((w : ℕ) → Emission known w (c.sent w)) → Follows known c.taken x
+follows known n (Emitted e) xs c waits k m =
+    let w = e.worker in
+    let before = of_worker w (entries c.taken) in
+    let split : c.sent w ≡ before ++ (e.event ∷ events_in (items_of w xs)) =
+        sym (events_scripted w (c.sent w) (c.ended w)) ∙ ap events_in (sym (k.kept w)) ∙ ap events_in (filter-append (λ y. worker_of y == w) c.taken c.waiting)
+        ∙ ap (λ l. events_in (items_of w c.taken ++ items_of w l)) waits ∙ ap (λ (b : Bool). events_in (items_of w c.taken ++ (if b then Emitted e ∷ items_of w xs else items_of w xs))) (eq-eqb w w refl)
+        ∙ events_in-append (items_of w c.taken) (Emitted e ∷ items_of w xs) ∙ ap (λ l. l ++ (e.event ∷ events_in (items_of w xs))) (sym (events_among w c.taken)) in
+    let all = m w in
+    (all.each before e.event (events_in (items_of w xs)) split, shorter before e.event (events_in (items_of w xs)) (subst (λ l. length l ≤ most_events) split all.few)) where
+  shorter : (before : List Event) (e : Event) (after : List Event) → length (before ++ e ∷ after) ≤ most_events → length before < most_events
+  shorter before e after few = omega (arith, length-append before (e ∷ after))
+follows known n (End w) xs c waits k m = tt
+
+-- a pop is the core's step
+pub take_step : (pass : ℕ) (r : Taking) (x : Item) (items : List Item) (views : List View) (h : Session (x ∷ items) views) → get_elem? views pass ≡ some (Receiver r)
+    → (t : Session items (set views pass (popped (Receiver r) x))) × (t.core ≡ take_first x items h.core)
+take_step pass r x items views h at =
+    let mine = h.fits pass (Receiver r) at in
+    let d : Core = take_first x items h.core in (
+      record {
+        core = d;
+        known = h.known;
+        workers = h.workers;
+        reader = h.reader;
+        seat = h.seat;
+        waits = refl;
+        lawful = takes h.workers x items h.core h.waits h.lawful;
+        emitted = h.emitted;
+        fits = each_set (Fits h.known h.workers h.reader h.seat d) views pass (popped (Receiver r) x) (mine.0, mine.1, ap (λ l. l ++ x ∷ []) mine.2, mine.3, mine.4)
+            (λ j u other e. take_fits h.known h.workers h.reader h.seat x items h.core j u (λ i. other (i ∙ sym mine.0)) (h.fits j u e));
+      },
+      refl,
+    )
+
+-- the receiver may take
+pub pops : (pass : ℕ) (r : Taking) → PopsUnder Session pass (Receiver r) (Pops (Receiver r))
+pops pass r x items views h at =
+    let mine = h.fits pass (Receiver r) at in (
+      popped (Receiver r) x,
+      (take_step pass r x items views h at).0,
+      (
+        refl,
+        (
+          subst (λ n. IsWorkerOf n (worker_of x)) (sym mine.1) (waiting_worker h.workers x items h.core h.waits h.lawful),
+          subst (λ (y : ℕ × List Item). Follows y.0 y.1 x) (λ i. (sym mine.4 i, sym mine.2 i)) (follows h.known h.workers x items h.core h.waits h.lawful h.emitted),
+        ),
+      ),
+    )
+
+-- the first state of a session, which has no worker yet
+pub begins : Session [] (new_receiver ∷ [])
+begins = record {
+  core = record { sent = λ w. []; ended = λ w. false; taken = []; waiting = [] };
+  known = 0;
+  workers = 0;
+  reader = 0;
+  seat = λ w. 0;
+  waits = refl;
+  lawful = record { kept = λ w. refl; others = λ w n. (refl, refl) };
+  emitted = emission_none 0;
+  fits = each_snoc (Fits 0 0 0 (λ w. 0) (record { sent = λ w. []; ended = λ w. false; taken = []; waiting = [] })) [] new_receiver (λ j u e. absurd (some-ne-none u (sym e))) (refl, refl, refl, All-nil _, refl);
+}
+
+-- a further worker's seat is no other pass
+fork_fits : (known workers reader : ℕ) (seat : ℕ → ℕ) (new : ℕ) (c : Core) (pass : ℕ) (u : View) → pass ≢ reader → Fits known workers reader seat c pass u → Fits known (workers + 1) reader (put seat (workers + 1) new) c pass u
+fork_fits known workers reader seat new c pass (Sender s) apart f =
+    let is = f.1 in
+    let other : s.worker ≢ workers + 1 = λ h. absurd (let le : s.worker ≤ workers = is.1 in omega arith) in
+    (f.0 ∙ sym (put-other seat (workers + 1) new s.worker other), (is.0, omega arith), f.2, f.3, f.4)
+fork_fits known workers reader seat new c pass (Receiver r) apart f = absurd (apart f.0)
+fork_fits known workers reader seat new c pass Spent apart f = tt
+
+-- the receiver may make the next sender
+pub fork_step : (pass : ℕ) (r : Taking) (items : List Item) (views : List View) (h : Session items views) → get_elem? views pass ≡ some (Receiver r)
+    → (t : Session items (set views pass (one_more (Receiver r)) ++ next_sender (Receiver r) ∷ [])) × (t.core ≡ h.core)
+fork_step pass r items views h at =
+    let mine = h.fits pass (Receiver r) at in
+    let left : View = one_more (Receiver r) in
+    let vs : List View = set views pass left in
+    let seat : ℕ → ℕ = put h.seat (h.workers + 1) (length vs) in
+    let F : ℕ → View → Type 0 = Fits h.known (h.workers + 1) h.reader seat h.core in
+    let w : r.workers + 1 ≡ h.workers + 1 = ap (λ n. n + 1) mine.1 in
+    let fresh = h.lawful.others (h.workers + 1) (λ is. absurd (let le : h.workers + 1 ≤ h.workers = is.1 in omega arith)) in
+    let old : Each F vs = each_set F views pass left (mine.0, w, mine.2, mine.3, mine.4)
+        (λ j u other e. fork_fits h.known h.workers h.reader h.seat (length vs) h.core j u (λ i. other (i ∙ sym mine.0)) (h.fits j u e)) in
+    (
+    record {
+      core = h.core;
+      known = h.known;
+      workers = h.workers + 1;
+      reader = h.reader;
+      seat = seat;
+      waits = h.waits;
+      lawful = widens h.workers h.core h.lawful;
+      emitted = h.emitted;
+      fits = each_snoc F vs (next_sender (Receiver r)) old
+          (sym (ap seat w ∙ put-same h.seat (h.workers + 1) (length vs)), subst (IsWorkerOf (h.workers + 1)) (sym w) (omega arith, omega arith), sym (ap h.core.sent w ∙ fresh.0), sym (ap h.core.ended w ∙ fresh.1), mine.4);
+    },
+    refl,
+    )
+
+pub forks : (pass : ℕ) (r : Taking) → Forks Session pass (Receiver r) (one_more (Receiver r)) (next_sender (Receiver r))
+forks pass r items views h at = (fork_step pass r items views h at).0
+
+-- before there is a sender, the number of static descriptors may be any
+bit_fits : (known new reader : ℕ) (seat : ℕ → ℕ) (c : Core) (pass : ℕ) (u : View) → pass ≢ reader → Fits known 0 reader seat c pass u → Fits new 0 reader seat c pass u
+bit_fits known new reader seat c pass (Sender s) apart f = let is = f.1 in absurd (let low : 0 < s.worker = is.0 in let high : s.worker ≤ 0 = is.1 in omega arith)
+bit_fits known new reader seat c pass (Receiver r) apart f = absurd (apart f.0)
+bit_fits known new reader seat c pass Spent apart f = tt
+
+-- the number of static descriptors may be told bit by bit
+pub bit_step : (b pass : ℕ) (r : Taking) → r.workers ≡ 0 → (items : List Item) (views : List View) (h : Session items views) → get_elem? views pass ≡ some (Receiver r)
+    → (t : Session items (set views pass (with_bit b (Receiver r)) ++ Spent ∷ [])) × (t.core ≡ h.core)
+bit_step b pass r none items views h at =
+    let mine = h.fits pass (Receiver r) at in
+    let left : View = with_bit b (Receiver r) in
+    let vs : List View = set views pass left in
+    let new : ℕ = 2 * r.known + b in
+    let zero' : h.workers ≡ 0 = sym mine.1 ∙ none in
+    let F : ℕ → View → Type 0 = Fits new 0 h.reader h.seat h.core in
+    let k : IsCore 0 h.core = subst (λ n. IsCore n h.core) zero' h.lawful in
+    (
+    record {
+      core = h.core;
+      known = new;
+      workers = 0;
+      reader = h.reader;
+      seat = h.seat;
+      waits = h.waits;
+      lawful = k;
+      emitted = λ w. subst (Emission new w) (sym (k.others w (λ is. absurd (let low = is.0 in let high = is.1 in omega arith))).0) (emission_none new w);
+      fits = each_snoc F vs Spent
+          (each_set F views pass left (mine.0, none, mine.2, mine.3, refl)
+              (λ j u other e. bit_fits h.known new h.reader h.seat h.core j u (λ i. other (i ∙ sym mine.0)) (subst (λ n. Fits h.known n h.reader h.seat h.core j u) zero' (h.fits j u e))))
+          tt;
+    },
+    refl,
+    )
+
+pub bits : (b pass : ℕ) (r : Taking) → r.workers ≡ 0 → Forks Session pass (Receiver r) (with_bit b (Receiver r)) Spent
+bits b pass r none items views h at = (bit_step b pass r none items views h at).0
+
+-- the receiver may take in a sender that has ended
+pub merge_step : (pass : ℕ) (r : Taking) (other : ℕ) (s : Sending) → s.ended ≡ true → (items : List Item) (views : List View) (h : Session items views) → get_elem? views pass ≡ some (Receiver r) → ¬ (other ≡ pass)
+    → get_elem? (set views pass (with_token (Receiver r) (Sender s))) other ≡ some (Sender s)
+    → (t : Session items (set (set views pass (with_token (Receiver r) (Sender s))) other Spent)) × (t.core ≡ h.core)
+merge_step pass r other s done items views h at two at' =
+    let both : View = with_token (Receiver r) (Sender s) in
+    let vs : List View = set views pass both in
+    let mine = h.fits pass (Receiver r) at in
+    let was : get_elem? views other ≡ some (Sender s) = ⊎_elim (λ (x : (other ≡ pass) × (both ≡ Sender s)). absurd (two x.0)) (λ (x : (other ≢ pass) × (get_elem? views other ≡ some (Sender s))). x.1) (at_set views pass other both (Sender s) at') in
+    let theirs = h.fits other (Sender s) was in
+    let F : ℕ → View → Type 0 = Fits h.known h.workers h.reader h.seat h.core in
+    let token : Stands h.core s = (sym theirs.3 ∙ done, theirs.2) in
+    (
+    record {
+      core = h.core;
+      known = h.known;
+      workers = h.workers;
+      reader = h.reader;
+      seat = h.seat;
+      waits = h.waits;
+      lawful = h.lawful;
+      emitted = h.emitted;
+      fits = each_set F vs other Spent tt (λ j u _ e. each_set F views pass both (mine.0, mine.1, mine.2, All-push (Stands h.core) r.tokens s mine.3 token, mine.4) (λ i y _ q. h.fits i y q) j u e);
+    },
+    refl,
+    )
+
+pub merges : (pass : ℕ) (r : Taking) (other : ℕ) (s : Sending) → s.ended ≡ true → Merges Session pass (Receiver r) other (Sender s) (with_token (Receiver r) (Sender s)) Spent
+merges pass r other s done items views h at two at' = (merge_step pass r other s done items views h at two at').0
+
+-- what the receiver learns of the whole
+pub learns : (pass : ℕ) (r : Taking) → Learns Session pass (Receiver r) (Concludes (Receiver r))
+learns pass r items views h at =
+    let mine = h.fits pass (Receiver r) at in
+    (h.core, subst (λ n. IsCore n h.core) (sym mine.1) h.lawful, h.waits, sym mine.2, mine.3)
+
+pub learns_nothing : (pass : ℕ) (v : View) → Learns Session pass v (λ items. ⊤)
+learns_nothing pass v items views h at = tt
+
+pub pushes_own : (n pass : ℕ) (v : View) (x : Item) → MayPush v x → Pushes Session n pass v x (λ w. w ≡ pushed v x)
+pushes_own n pass (Sender s) x may = pushes n pass s x may.0 may.1
+pushes_own n pass (Receiver r) x may = absurd may
+pushes_own n pass Spent x may = absurd may
+
+pub pops_own : (pass : ℕ) (v : View) → IsReader v → PopsUnder Session pass v (Pops v)
+pops_own pass (Receiver r) may = pops pass r
+pops_own pass (Sender s) may = absurd may
+pops_own pass Spent may = absurd may
+
+pub forks_own : (pass : ℕ) (v : View) → IsReader v → Forks Session pass v (one_more v) (next_sender v)
+forks_own pass (Receiver r) may = forks pass r
+forks_own pass (Sender s) may = absurd may
+forks_own pass Spent may = absurd may
+
+pub bits_own : (b pass : ℕ) (v : View) → IsFirst v → Forks Session pass v (with_bit b v) Spent
+bits_own b pass (Receiver r) none = bits b pass r none
+bits_own b pass (Sender s) none = absurd none
+bits_own b pass Spent none = absurd none
+
+pub merges_own : (pass : ℕ) (v : View) (other : ℕ) (w : View) → MayTakeIn v w → Merges Session pass v other w (with_token v w) Spent
+merges_own pass (Receiver r) other (Sender s) may = merges pass r other s may
+merges_own pass (Receiver r) other (Receiver q) may = absurd may
+merges_own pass (Receiver r) other Spent may = absurd may
+merges_own pass (Sender s) other w may = absurd may
+merges_own pass Spent other w may = absurd may
+
+pub learns_own : (pass : ℕ) (v : View) → IsReader v → Learns Session pass v (Concludes v)
+learns_own pass (Receiver r) may = learns pass r
+learns_own pass (Sender s) may = absurd may
+learns_own pass Spent may = absurd may
+
+pub may_take_in : (v w : View) (k n : ℕ) (taken : List Item) (tokens : List Sending) (j worker : ℕ) (sent : List Event) → v ≡ receiver k n taken tokens → w ≡ sender j worker sent true → MayTakeIn v w
+may_take_in v w k n taken tokens j worker sent e f = subst (λ (y : View × View). MayTakeIn y.0 y.1) (λ i. (sym e i, sym f i)) refl
+
+pub push_is_step : PushIsStep
+push_is_step items views pass (Sender s) x h at may = push_step pass s x may.0 may.1 items views h at
+push_is_step items views pass (Receiver r) x h at may = absurd may
+push_is_step items views pass Spent x h at may = absurd may
+
+pub take_is_step : TakeIsStep
+take_is_step x items views pass (Receiver r) h at may = take_step pass r x items views h at
+take_is_step x items views pass (Sender s) h at may = absurd may
+take_is_step x items views pass Spent h at may = absurd may
+
+pub split_is_none : SplitIsNone
+split_is_none items views pass (Receiver r) h at may = fork_step pass r items views h at
+split_is_none items views pass (Sender s) h at may = absurd may
+split_is_none items views pass Spent h at may = absurd may
+
+pub bit_is_none : BitIsNone
+bit_is_none bit items views pass (Receiver r) h at may = bit_step bit pass r may items views h at
+bit_is_none bit items views pass (Sender s) h at may = absurd may
+bit_is_none bit items views pass Spent h at may = absurd may
+
+pub join_is_none : JoinIsNone
+join_is_none items views pass (Receiver r) other (Sender s) h at two at' may = merge_step pass r other s may items views h at two at'
+join_is_none items views pass (Receiver r) other (Receiver q) h at two at' may = absurd may
+join_is_none items views pass (Receiver r) other Spent h at two at' may = absurd may
+join_is_none items views pass (Sender s) other w h at two at' may = absurd may
+join_is_none items views pass Spent other w h at two at' may = absurd may
+
+set_same : (views : List View) (pass : ℕ) (v : View) → get_elem? views pass ≡ some v → set views pass v ≡ views
+set_same [] pass v at = absurd (some-ne-none v (sym at))
+set_same (u ∷ us) zero v at = ap (λ x. x ∷ us) (sym (some-injective u v at))
+set_same (u ∷ us) (suc pass) v at = ap (λ l. u ∷ l) (set_same us pass v at)
+
+stays : (items : List Item) (views others : List View) (s : Session items views) → views ≡ others → (t : Session items others) × (t.core ≡ s.core)
+stays items views others s same = subst (λ vs. (t : Session items vs) × (t.core ≡ s.core)) same (s, refl)
+
+pub full_is_none : FullIsNone
+full_is_none items views pass v s at = stays items views (set views pass v) s (sym (set_same views pass v at))
+
+pub empty_is_none : EmptyIsNone
+empty_is_none views pass v s at = stays [] views (set views pass v) s (sym (set_same views pass v at))

@@ -1,0 +1,23 @@
+use Rattle.tk_queue.proofs.RuleSteps.{push_is_step, full_is_none, take_is_step, empty_is_none, split_is_none, bit_is_none, join_is_none}
+use Rattle.tk_queue.proofs.laws.each_step_is_of_the_core.Goals as goal
+
+pub returns-clause-push : goal.returns-clause-push
+returns-clause-push c = push_is_step
+
+pub returns-clause-full : goal.returns-clause-full
+returns-clause-full c = full_is_none
+
+pub returns-clause-take : goal.returns-clause-take
+returns-clause-take c = take_is_step
+
+pub returns-clause-empty : goal.returns-clause-empty
+returns-clause-empty c = empty_is_none
+
+pub returns-clause-split : goal.returns-clause-split
+returns-clause-split c = split_is_none
+
+pub returns-clause-bit : goal.returns-clause-bit
+returns-clause-bit c = bit_is_none
+
+pub returns-clause-join : goal.returns-clause-join
+returns-clause-join c = join_is_none

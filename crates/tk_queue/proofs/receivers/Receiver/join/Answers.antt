@@ -1,0 +1,26 @@
+use Rattle.std.proofs.Common.{◌≡◌, ◌++◌, ◌∙◌, List, [], ◌∷◌, length, map, refl, sym, ap, subst, append-nil, arith}
+use Rattle.std.specs.Vec.Iter.{into_iter_items}
+use Rattle.tk_queue.specs.Ends.{Emits, token_of}
+use Rattle.tk_queue.specs.Session.{IsReader, Concludes, receiver}
+use Rattle.tk_queue.proofs.Closing.{mixes}
+use Rattle.tk_queue.proofs.RuleSteps.{merges_own, learns_own, may_take_in}
+use Rattle.tk_queue.proofs.receivers.Receiver.join.Goals as goal
+
+nothing_left : {X : Type 0} (l : List X) → length l ≡ 0 → l ≡ []
+nothing_left [] h = refl
+nothing_left (x ∷ xs) h = absurd (omega arith)
+
+pub absorb-requires-clause-rule : goal.absorb-requires-clause-rule
+absorb-requires-clause-rule c = merges_own _ _ _ _ (may_take_in _ _ _ _ _ _ _ _ _ c.loop-token.invariant.known c.into_seat.ensures.known)
+
+pub learn_as-requires-clause-rule : goal.learn_as-requires-clause-rule
+learn_as-requires-clause-rule c = learns_own _ _ (subst IsReader (sym c.loop-token.invariant.known) tt)
+
+pub returns-clause-mix : goal.returns-clause-mix
+returns-clause-mix c =
+    let at = c.loop-token in
+    let empty : into_iter_items at.token-iterator ≡ [] = nothing_left _ (sym at.invariant.left ∙ c.in-None.ensures.steps.0) in
+    let all : at.yielded ≡ c.args.ended.items = sym (append-nil at.yielded) ∙ rw empty at at.invariant.rest ∙ c.into_iter-token-iterator.ensures.into_iter_gives.0 in
+    let rule = c.learn_as.ensures.rule in
+    mixes (length c.args.self.table) c.args.self.workers c.args.self.taken c.args.ended.items rule.0 c.requires.complete.once c.requires.complete.drained
+        (subst (λ v. Concludes v rule.0) (at.invariant.known ∙ ap (λ l. receiver (length c.args.self.table) c.args.self.workers c.args.self.taken (map token_of l)) all) rule.1)

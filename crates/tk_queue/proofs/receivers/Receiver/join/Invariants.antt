@@ -1,0 +1,17 @@
+use Rattle.std.proofs.Common.{◌≡◌, ◌++◌, length, map}
+use Rattle.std.specs.Arc.{arc_value}
+use Rattle.std.specs.Prelude.{All}
+use Rattle.std.specs.Vec.Iter.{into_iter_items, into_iter_len}
+use Rattle.crossbeam_queue.specs.Passes.{view, IsPassOf}
+use Rattle.tk_queue.specs.Session.{receiver}
+use Rattle.tk_queue.specs.Ends.{taken_of, token_of}
+use Rattle.tk_queue.proofs.receivers.Receiver.join.Given as goal
+
+abbrev pub invariant-loop-token : goal.invariant-loop-token
+invariant-loop-token l = record {
+  same : IsPassOf (arc_value l.line) l.seat;
+  session : l.seat.table_id ≡ l.initial.seat.table_id;
+  known : view l.seat ≡ receiver (length l.fn.self.table) l.fn.self.workers l.fn.self.taken (map token_of l.yielded);
+  rest : l.yielded ++ into_iter_items l.token-iterator ≡ into_iter_items l.initial.token-iterator;
+  left : into_iter_len l.token-iterator ≡ length (into_iter_items l.token-iterator);
+}

@@ -1,0 +1,32 @@
+use Rattle.std.proofs.Common.{sym, subst, ◌∙◌}
+use Rattle.tk_replay.specs.declared.items.Item.TheVariants.{Entry as Emitted}
+use Rattle.crossbeam_queue.specs.Passes.{view}
+use Rattle.tk_queue.specs.Session.{IsReader}
+use Rattle.tk_queue.specs.Ends.{Receives, Follows, taken_of}
+use Rattle.tk_queue.proofs.EndKeeps.{takes_entry, takes_mark, follows_now, follows_recorded}
+use Rattle.tk_queue.proofs.RuleSteps.{pops_own, learns_nothing}
+use Rattle.tk_queue.proofs.receivers.Receiver.take.Goals as goal
+
+pub pop_as-requires-clause-rule : goal.pop_as-requires-clause-rule
+pop_as-requires-clause-rule g c = (pops_own _ _ (subst IsReader (sym c.self.invariant.1.is) tt), learns_nothing _ _)
+
+pub invariant_of-self : goal.invariant_of-self
+invariant_of-self g c =
+    let q = c.in-Some-End.ensures.queue in
+    ((q.0 ∙ c.self.invariant.0.0, q.2 ∙ c.self.invariant.0.1), (takes_mark _ _ _ _ _ _ c.self.invariant.1 (rw c.in-Some-End.field-0-is at c.in-Some-End.ensures.rule)).1)
+
+pub invariant_of-self-in-Some-Entry : goal.invariant_of-self-in-Some-Entry
+invariant_of-self-in-Some-Entry g c =
+    let q = c.in-Some-Entry.ensures.queue in
+    ((q.0 ∙ c.self.invariant.0.0, q.2 ∙ c.self.invariant.0.1), takes_entry _ _ _ _ _ _ c.self.invariant.1 (rw c.in-Some-Entry.field-0-is at c.in-Some-Entry.ensures.rule))
+
+pub returns-in-Some-End-clause-recordable : goal.returns-in-Some-End-clause-recordable
+returns-in-Some-End-clause-recordable g c = (takes_mark _ _ _ _ _ _ c.self.invariant.1 (rw c.in-Some-End.field-0-is at c.in-Some-End.ensures.rule)).1.recordable
+
+pub returns-in-Some-Entry-clause-recordable : goal.returns-in-Some-Entry-clause-recordable
+returns-in-Some-Entry-clause-recordable g c = (takes_entry _ _ _ _ _ _ c.self.invariant.1 (rw c.in-Some-Entry.field-0-is at c.in-Some-Entry.ensures.rule)).recordable
+
+pub returns-in-Some-Entry-clause-follows : goal.returns-in-Some-Entry-clause-follows
+returns-in-Some-Entry-clause-follows g c =
+    subst (λ (r : Receives). Follows r (Emitted c.in-Some-Entry.entry)) c.self.view_is
+        (follows_recorded _ (taken_of (view c.self.inside.seat)) _ (follows_now _ _ _ _ _ _ c.self.invariant.1 (rw c.in-Some-Entry.field-0-is at c.in-Some-Entry.ensures.rule)).1)

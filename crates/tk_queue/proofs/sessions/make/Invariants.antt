@@ -1,0 +1,13 @@
+use Rattle.std.proofs.Common.{◌≡◌, [], length}
+use Rattle.std.specs.Arc.{arc_value}
+use Rattle.crossbeam_queue.specs.Passes.{view, IsPassOf}
+use Rattle.tk_queue.specs.Session.{receiver}
+use Rattle.tk_queue.specs.Ends.{fresh_senders}
+use Rattle.tk_queue.proofs.sessions.make.Given as goal
+
+abbrev pub invariant-loop-before : goal.invariant-loop-before
+invariant-loop-before l = record {
+  same : IsPassOf (arc_value l.line) l.seat;
+  known : view l.seat ≡ receiver (length (arc_value l.table)) l.before [] [];
+  made : l.senders.items ≡ fresh_senders l.seat.table_id (arc_value l.table) l.before;
+}

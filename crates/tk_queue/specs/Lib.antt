@@ -1,0 +1,12 @@
+pub use Rattle.tk_replay.specs.Core
+pub use Rattle.tk_replay.specs.Line
+pub use Rattle.tk_replay.specs.Replay
+pub use Rattle.tk_replay.specs.Laws
+pub use Rattle.tk_replay.specs.Script
+pub use Rattle.tk_replay.specs.ReplayText
+pub mod Limits
+pub mod Known
+pub mod Session
+pub mod Ends
+pub mod Steps
+pub mod Recording

@@ -1,0 +1,112 @@
+-- The rule of a session's queue: what it holds and what the passes know is a state of the core.
+use Rattle.std.specs.Prelude.{◌≡◌, ℕ, ◌+◌, ◌*◌, ◌<◌, length, Bool, true, false, List, [], ◌∷◌, ◌++◌, All}
+use mathlib.Core.Option.{some}
+use lib.ListN.{get_elem?}
+use Rattle.tk_columns.specs.Mixing.{IsWorkerOf, of_worker}
+use Rattle.tk_replay.specs.Core.{Core, IsCore, worker_of, entries}
+use Rattle.tk_queue.specs.Limits.{most_events}
+use Rattle.tk_queue.specs.Known.{MayEmit, Emission}
+use Rattle.tk_events.specs.declared.events.Event.{Event}
+use Rattle.tk_replay.specs.declared.items.Item.{Item}
+use Rattle.tk_replay.specs.declared.items.Item.TheVariants.{Entry as Emitted, End}
+use Rattle.tk_queue.specs.declared.lines.Sending.{Sending}
+use Rattle.tk_queue.specs.declared.lines.Taking.{Taking}
+use Rattle.tk_queue.specs.declared.lines.View.{View}
+use Rattle.tk_queue.specs.declared.lines.View.TheVariants.{Sender, Receiver, Spent}
+
+-- a token's list is what its worker sent, who sends no more
+abbrev pub Stands : Core → Sending → Type 0
+Stands c s = (c.ended s.worker ≡ true) × (s.sent ≡ c.sent s.worker)
+
+-- Each worker has one pass, its seat, and one pass is the reader's. Both know the number of static descriptors
+abbrev pub Fits : ℕ → ℕ → ℕ → (ℕ → ℕ) → Core → ℕ → View → Type 0
+Fits known workers reader seat c pass (Sender s) = (pass ≡ seat s.worker) × IsWorkerOf workers s.worker × (s.sent ≡ c.sent s.worker) × (s.ended ≡ c.ended s.worker) × (s.known ≡ known)
+Fits known workers reader seat c pass (Receiver r) = (pass ≡ reader) × (r.workers ≡ workers) × (r.taken ≡ c.taken) × All (Stands c) r.tokens × (r.known ≡ known)
+Fits known workers reader seat c pass Spent = Unit {0}
+
+pub record Session (items : List Item) (views : List View) : Type 0 where
+  pub core : Core
+  pub known : ℕ
+  pub workers : ℕ
+  pub reader : ℕ
+  pub seat : ℕ → ℕ
+  pub waits : core.waiting ≡ items
+  pub lawful : IsCore workers core
+  pub emitted : (w : ℕ) → Emission known w (core.sent w)
+  pub fits : (pass : ℕ) (v : View) → get_elem? views pass ≡ some v → Fits known workers reader seat core pass v
+
+abbrev pub receiver : ℕ → ℕ → List Item → List Sending → View
+receiver known workers taken tokens = Receiver (record { known = known; workers = workers; taken = taken; tokens = tokens })
+
+abbrev pub sender : ℕ → ℕ → List Event → Bool → View
+sender known w sent ended = Sender (record { known = known; worker = w; sent = sent; ended = ended })
+
+abbrev pub new_receiver : View
+new_receiver = receiver 0 0 [] []
+
+-- a sender's view after its push of the item
+abbrev pub pushed : View → Item → View
+pushed (Sender s) (Emitted e) = sender s.known s.worker (s.sent ++ e.event ∷ []) s.ended
+pushed (Sender s) (End w) = sender s.known s.worker s.sent true
+pushed v x = v
+
+abbrev pub popped : View → Item → View
+popped (Receiver r) x = receiver r.known r.workers (r.taken ++ x ∷ []) r.tokens
+popped v x = v
+
+-- the event of an entry may be emitted after those of its worker that were taken before
+abbrev pub Follows : ℕ → List Item → Item → Type 0
+Follows n taken (Emitted e) = MayEmit n e.worker (of_worker e.worker (entries taken)) e.event × (length (of_worker e.worker (entries taken)) < most_events)
+Follows n taken (End w) = Unit {0}
+
+abbrev pub MayTake : View → Item → Type 0
+MayTake (Receiver r) x = IsWorkerOf r.workers (worker_of x) × Follows r.known r.taken x
+MayTake v x = Unit {0}
+
+abbrev pub Pops : View → Item → View → Type 0
+Pops v x w = (w ≡ popped v x) × MayTake v x
+
+-- the number of static descriptors is told bit by bit, the highest first
+abbrev pub with_bit : ℕ → View → View
+with_bit b (Receiver r) = receiver (2 * r.known + b) r.workers r.taken r.tokens
+with_bit b v = v
+
+abbrev pub one_more : View → View
+one_more (Receiver r) = receiver r.known (r.workers + 1) r.taken r.tokens
+one_more v = v
+
+abbrev pub next_sender : View → View
+next_sender (Receiver r) = sender r.known (r.workers + 1) [] false
+next_sender v = Spent
+
+abbrev pub with_token : View → View → View
+with_token (Receiver r) (Sender s) = receiver r.known r.workers r.taken (r.tokens ++ s ∷ [])
+with_token v w = v
+
+-- what the receiver knows: it has the session's state but for what waits, and each token stands
+abbrev pub Concludes : View → List Item → Type 0
+Concludes (Receiver r) items = (c : Core) × IsCore r.workers c × (c.waiting ≡ items) × (c.taken ≡ r.taken) × All (Stands c) r.tokens
+Concludes v items = Unit {0}
+
+-- a sender may push an entry that may follow what it sent, and its mark
+abbrev pub IsNext : Sending → Item → Type 0
+IsNext s (Emitted e) = (e.worker ≡ s.worker) × MayEmit s.known s.worker s.sent e.event × (length s.sent < most_events)
+IsNext s (End w) = w ≡ s.worker
+
+abbrev pub MayPush : View → Item → Type 0
+MayPush (Sender s) x = (s.ended ≡ false) × IsNext s x
+MayPush v x = ⊥
+
+abbrev pub IsReader : View → Type 0
+IsReader (Receiver r) = Unit {0}
+IsReader v = ⊥
+
+-- the receiver, before it made a sender
+abbrev pub IsFirst : View → Type 0
+IsFirst (Receiver r) = r.workers ≡ 0
+IsFirst v = ⊥
+
+-- the receiver may take in what has ended
+abbrev pub MayTakeIn : View → View → Type 0
+MayTakeIn (Receiver r) (Sender s) = s.ended ≡ true
+MayTakeIn v w = ⊥

@@ -1,0 +1,76 @@
+//! What `close` looks for before it takes the tokens in.
+ghost use Rattle.std.specs.Prelude.{◌≡◌, ◌+◌, ◌<◌, ◌≤◌, length, false, List, Bool, ℕ, slice_index_or, slice_index, MatchOption};
+ghost use Rattle.tk_columns.specs.Mixing.{IsWorkerOf};
+ghost use Rattle.tk_queue.specs.Ends.{tokens_of, lists, Least};
+
+use crate::limits::PLACES;
+use crate::senders::Ended;
+use tk_events::MAX_WORKERS;
+
+/// How many tokens the worker has.
+fn count(ended: &[Ended], worker: u8) -> usize
+    ensures { result ≡ tokens_of worker ended.now }
+{
+    ended.iter().filter(|token| token.worker() == worker).count()
+}
+
+/// How many events the worker's token says that it emitted, 0 without a token.
+fn emitted_by(ended: &[Ended], worker: u8) -> u64
+    ensures { result ≡ length (lists ended.now worker) }
+{
+    for token in ended {
+        if token.worker() == worker {
+            return token.emitted();
+        }
+    }
+    0
+}
+
+pub fn counts(ended: &[Ended], workers: u8) -> [u64; PLACES]
+    requires { workers ≤ MAX_WORKERS }
+    ensures each { (w : ℕ) → IsWorkerOf workers w → slice_index result w ≡ length (lists ended.now w) }
+    ensures others { (w : ℕ) → ¬ IsWorkerOf workers w → slice_index result w ≡ 0 }
+{
+    let mut emitted = [0; PLACES];
+    for before in 0..workers {
+        emitted[before as usize + 1] = emitted_by(ended, before + 1);
+    }
+    emitted
+}
+
+/// The first worker without a token.
+pub fn missing(ended: &[Ended], workers: u8) -> Option<u8>
+    ensures { MatchOption result ((w : ℕ) → IsWorkerOf workers w → ¬ (tokens_of w ended.now ≡ 0)) (Least workers (λ w. tokens_of w ended.now ≡ 0)) }
+{
+    for before in 0..workers {
+        if count(ended, before + 1) == 0 {
+            return Some(before + 1);
+        }
+    }
+    None
+}
+
+/// The first worker with more than one token.
+pub fn twice(ended: &[Ended], workers: u8) -> Option<u8>
+    ensures { MatchOption result ((w : ℕ) → IsWorkerOf workers w → ¬ (1 < tokens_of w ended.now)) (Least workers (λ w. 1 < tokens_of w ended.now)) }
+{
+    for before in 0..workers {
+        if count(ended, before + 1) > 1 {
+            return Some(before + 1);
+        }
+    }
+    None
+}
+
+/// The first worker whose mark was not taken.
+pub fn not_drained(marked: &[bool; PLACES], workers: u8) -> Option<u8>
+    requires { workers ≤ MAX_WORKERS }
+    ensures { MatchOption result ((w : ℕ) → IsWorkerOf workers w → ¬ (slice_index_or marked.now w false ≡ false)) (Least workers (λ w. slice_index_or marked.now w false ≡ false)) }
+{
+    for before in 0..workers {
+        if !marked[before as usize + 1] {
+            return Some(before + 1);
+        }
+    }
+    None
+}

@@ -1,0 +1,189 @@
+//! The receiver's end of a session, and how it is closed.
+ghost use Rattle.std.specs.Prelude.{◌≡◌, ℕ, ◌≤◌, [], All, length, slice_index, IfSome, IfNone, IfOk, OnOk, IfErr};
+ghost use Rattle.std.specs.Arc.{arc_value};
+ghost use Rattle.crossbeam_queue.specs.Passes.{view, IsPassOf};
+ghost use Rattle.tk_columns.specs.Mixing.{IsWorkerOf, Mix};
+ghost use Rattle.tk_replay.specs.Core.{worker_of, entries};
+ghost use Rattle.tk_queue.specs.Session.{receiver};
+ghost use Rattle.tk_queue.specs.Ends.{fresh_receiver, takes, Follows, IsRecordable, lists, IsComplete};
+
+use crate::checks::{counts, missing, not_drained, twice};
+use crate::limits::PLACES;
+use crate::lines::{Line, Popped, Seat, TakeIn, Whole};
+use crate::senders::Ended;
+use std::alloc::Global;
+use std::marker::Model;
+use std::sync::{Arc, Wait};
+use tk_events::MAX_WORKERS;
+use tk_ids::Table;
+use tk_replay::Item;
+
+/// Takes the items of a session. Contracts see the session, its table, its number of workers and the
+/// list of what was taken.
+#[derive(Drop)]
+pub struct Receiver {
+    line: Arc<Line, Global>,
+    seat: Seat,
+    table: Arc<Table>,
+    workers: u8,
+    // Whether the mark of the worker with this number was taken.
+    marked: [bool; PLACES],
+}
+
+impl Model for Receiver {
+    ghost use Rattle.std.specs.Prelude.{◌≡◌};
+    ghost use Rattle.std.specs.Arc.{arc_value};
+    ghost use Rattle.crossbeam_queue.specs.Passes.{view as seen, IsPassOf};
+    ghost use Rattle.tk_queue.specs.Ends.{Receives, IsReceiver, taken_of};
+
+    ghost Value = { Receives };
+
+    ghost view = { λ r. record { session = r.seat.table_id; table = arc_value r.table; workers = r.workers; taken = taken_of (seen r.seat) } };
+
+    ghost invariant = { λ r. IsPassOf (arc_value r.line) r.seat × IsReceiver (seen r.seat) (arc_value r.table) r.workers r.marked };
+}
+
+/// How many events each worker of a closed session emitted. Contracts see the list of these numbers,
+/// by the workers' numbers.
+#[derive(Debug, Drop)]
+pub struct Closed {
+    emitted: [u64; PLACES],
+}
+
+impl Model for Closed {
+    ghost use Rattle.std.specs.Prelude.{◌≡◌, List, ℕ, length};
+    ghost use Rattle.tk_replay.specs.Limits.{places};
+
+    ghost Value = { List ℕ };
+
+    ghost view = { λ c. c.emitted };
+
+    ghost invariant = { λ c. length c.emitted ≡ places };
+}
+
+/// Why a session was not closed.
+#[derive(Clone, Copy, Debug, PartialEq, Eq)]
+pub enum CloseReason {
+    /// The worker has no token.
+    Missing(u8),
+    /// The worker has more than one token.
+    Twice(u8),
+    /// The worker's mark was not taken.
+    NotDrained(u8),
+}
+
+/// All that `close` was given comes back.
+#[derive(Drop)]
+pub struct CloseFault {
+    pub why: CloseReason,
+    pub receiver: Receiver,
+    pub ended: Vec<Ended>,
+}
+
+impl Closed {
+    /// How many events the worker emitted, 0 for a number that is no worker's.
+    pub fn emitted(&self, worker: u8) -> u64
+        ensures { result ≡ slice_index self.now worker }
+    {
+        if (worker as usize) < PLACES {
+            self.emitted[worker as usize]
+        } else {
+            0
+        }
+    }
+}
+
+impl Receiver {
+    ghost use Rattle.tk_queue.specs.Ends.{IsFault};
+
+    pub(crate) fn seated(line: Arc<Line, Global>, seat: Seat, table: Arc<Table>, workers: u8) -> Receiver
+        requires queue { IsPassOf (arc_value line) seat }
+        requires fresh { view seat ≡ receiver (length (arc_value table)) workers [] [] }
+        requires few { workers ≤ MAX_WORKERS }
+        ensures { result ≡ fresh_receiver seat.table_id (arc_value table) workers }
+    {
+        Receiver {
+            line,
+            seat,
+            table,
+            workers,
+            marked: [false; PLACES],
+        }
+    }
+
+    /// The first item that waits. None only where the queue was empty at one moment of the call.
+    pub fn take<R: Wait>(&mut self, rt: &R) -> Option<Item>
+        ensures some { IfSome result (λ item. self.new ≡ takes self.old item) }
+        ensures worker { IfSome result (λ item. IsWorkerOf self.old.workers (worker_of item)) }
+        ensures follows { IfSome result (λ item. Follows self.old item) }
+        ensures recordable { IsRecordable self.new.workers (entries self.new.taken) }
+        ensures none { IfNone result (self.new ≡ self.old) }
+    {
+        match self.line.pop_as::<Popped, R>(rt, &mut self.seat) {
+            Some(Item::End(worker)) => {
+                self.marked[worker as usize] = true;
+                Some(Item::End(worker))
+            }
+            Some(Item::Entry(entry)) => Some(Item::Entry(entry)),
+            None => None,
+        }
+    }
+
+    fn reason(&self, ended: &[Ended]) -> Option<CloseReason>
+        ensures ok { IfNone result (IsComplete self.now ended.now) }
+        ensures fault { IfSome result (λ why. IsFault why self.now ended.now) }
+    {
+        if let Some(worker) = missing(ended, self.workers) {
+            return Some(CloseReason::Missing(worker));
+        }
+        if let Some(worker) = twice(ended, self.workers) {
+            return Some(CloseReason::Twice(worker));
+        }
+        let worker = not_drained(&self.marked, self.workers)?;
+        Some(CloseReason::NotDrained(worker))
+    }
+
+    fn join(self, ended: Vec<Ended>) -> Closed
+        requires session { All (λ token. token.session ≡ self.session) ended.items }
+        requires complete { IsComplete self ended.items }
+        ensures mix { Mix self.workers (entries self.taken) (lists ended.items) }
+        ensures each { (w : ℕ) → IsWorkerOf self.workers w → slice_index result w ≡ length (lists ended.items w) }
+        ensures others { (w : ℕ) → ¬ IsWorkerOf self.workers w → slice_index result w ≡ 0 }
+    {
+        let emitted = counts(&ended, self.workers);
+        let Receiver {
+            line,
+            mut seat,
+            table: _,
+            workers: _,
+            marked: _,
+        } = self;
+        for token in ended {
+            line.absorb::<TakeIn>(&mut seat, token.into_seat());
+        }
+        line.learn_as::<Whole>(&mut seat);
+        Closed { emitted }
+    }
+
+    /// Ends the session, where each worker's token is there once and each mark was taken: then what
+    /// was taken is what the workers emitted. Else all comes back, with the first reason that stands,
+    /// in the order of `CloseReason`, of the least worker.
+    pub fn close(self, ended: Vec<Ended>) -> Result<Closed, CloseFault>
+        requires { All (λ token. token.session ≡ self.session) ended.items }
+        ensures complete { OnOk result (IsComplete self ended.items) }
+        ensures mix { OnOk result (Mix self.workers (entries self.taken) (lists ended.items)) }
+        ensures each { IfOk result (λ closed. (w : ℕ) → IsWorkerOf self.workers w → slice_index closed w ≡ length (lists ended.items w)) }
+        ensures others { IfOk result (λ closed. (w : ℕ) → ¬ IsWorkerOf self.workers w → slice_index closed w ≡ 0) }
+        ensures fault { IfErr result (λ fault. IsFault fault.why self ended.items) }
+        ensures back { IfErr result (λ fault. (fault.receiver ≡ self) × (fault.ended.items ≡ ended.items)) }
+    {
+        if let Some(why) = self.reason(&ended) {
+            return Err(CloseFault {
+                why,
+                receiver: self,
+                ended,
+            });
+        }
+        Ok(self.join(ended))
+    }
+}

@@ -1,0 +1,343 @@
+//! A worker's end of a session.
+ghost use Rattle.std.specs.Prelude.{◌≡◌, ◌⊎◌, ◌<◌, ◌≤◌, [], length, None, Some, option_map, IfOk, OnOk, IfErr, OnErr};
+ghost use Rattle.std.specs.Arc.{arc_value};
+ghost use Rattle.std.specs.Option.{option_copied};
+ghost use Rattle.tk_columns.specs.Entries.{desc};
+ghost use Rattle.tk_queue.specs.Known.{is_plain};
+ghost use Rattle.tk_queue.specs.Ends.{own, knows, sends, refusal_of, IsChildMade, IsRegisteredAs};
+
+use crate::limits::MAX_EVENTS;
+use crate::lines::{Line, Seat};
+use crate::pushes::{push, try_push};
+use std::alloc::{AllocError, AllocFailed, Global};
+use std::marker::Model;
+use std::sync::{Arc, Wait};
+use tk_events::{Entry, Event, Kind, MAX_WORKERS, Payload, registered_key};
+use tk_ids::{DType, Descriptor, IdFault, MAX_DESCRIPTORS, Segment, Table, Text, UniqueId};
+use tk_replay::Item;
+
+/// Why an event was not sent. It comes back.
+#[derive(Debug, Drop)]
+pub enum SendFault {
+    /// Its key is neither a static descriptor's nor one that this sender registered.
+    UnknownNode(Event),
+    /// It isn't lawful, or it is a registration.
+    Unlawful(Event),
+    /// The sender has emitted `MAX_EVENTS` events.
+    Limit(Event),
+    /// The queue held as many items as it may.
+    Full(Event),
+}
+
+/// Why a descriptor was not registered.
+#[derive(Clone, Copy, Debug, PartialEq, Eq)]
+pub enum RegisterFault {
+    /// The parent is neither static nor registered by this sender.
+    UnknownNode,
+    /// The sender has emitted `MAX_EVENTS` events, or registered `MAX_DESCRIPTORS` descriptors.
+    Limit,
+    /// There is no such id.
+    Id(IdFault),
+    /// Memory was refused.
+    Memory,
+}
+
+impl<T: Drop> From<AllocFailed<T>> for RegisterFault {
+    ghost use Rattle.tk_queue.specs.declared.senders.RegisterFault.TheVariants.{Memory};
+
+    ghost from_gives = { λ _ e. e ≡ Memory };
+
+    fn from(_: AllocFailed<T>) -> RegisterFault {
+        RegisterFault::Memory
+    }
+}
+
+impl From<AllocError> for RegisterFault {
+    ghost use Rattle.tk_queue.specs.declared.senders.RegisterFault.TheVariants.{Memory};
+
+    ghost from_gives = { λ _ e. e ≡ Memory };
+
+    fn from(_: AllocError) -> RegisterFault {
+        RegisterFault::Memory
+    }
+}
+
+/// Emits one worker's events. Contracts see the session, the table, the worker and the list of what
+/// it emitted.
+#[derive(Drop)]
+pub struct Sender {
+    alloc: Global,
+    line: Arc<Line, Global>,
+    seat: Seat,
+    table: Arc<Table>,
+    worker: u8,
+    emitted: u64,
+    // The ids of the descriptors that it registered, in order.
+    registered: Vec<UniqueId>,
+}
+
+impl Model for Sender {
+    ghost use Rattle.std.specs.Prelude.{◌≡◌, length};
+    ghost use Rattle.std.specs.Arc.{arc_value};
+    ghost use Rattle.crossbeam_queue.specs.Passes.{view as seen, IsPassOf};
+    ghost use Rattle.tk_queue.specs.Ends.{Emits, IsSender, sent_of};
+
+    ghost Value = { Emits };
+
+    ghost view = { λ s. record { session = s.seat.table_id; table = arc_value s.table; worker = s.worker; sent = sent_of (seen s.seat) } };
+
+    ghost invariant = { λ s. IsPassOf (arc_value s.line) s.seat × IsSender (seen s.seat) (arc_value s.table) s.worker s.registered.items s.emitted };
+}
+
+/// The token of a sender that has ended. Contracts see what they saw of the sender.
+#[derive(Drop)]
+pub struct Ended {
+    seat: Seat,
+    table: Arc<Table>,
+    worker: u8,
+    emitted: u64,
+}
+
+impl Model for Ended {
+    ghost use Rattle.std.specs.Prelude.{◌≡◌, [], length};
+    ghost use Rattle.std.specs.Arc.{arc_value};
+    ghost use Rattle.crossbeam_queue.specs.Passes.{view as seen};
+    ghost use Rattle.tk_queue.specs.Ends.{Emits, IsEnded, sent_of};
+
+    ghost Value = { Emits };
+
+    ghost view = { λ t. record { session = t.seat.table_id; table = arc_value t.table; worker = t.worker; sent = sent_of (seen t.seat) } };
+
+    ghost invariant = { λ t. (t.seat.me.1 ≡ []) × IsEnded (seen t.seat) (arc_value t.table) t.worker t.emitted };
+}
+
+impl Sender {
+    ghost use Rattle.std.specs.Prelude.{false};
+    ghost use Rattle.crossbeam_queue.specs.Passes.{view, IsPassOf};
+    ghost use Rattle.tk_queue.specs.Session.{sender};
+
+    pub(crate) fn seated(
+        alloc: Global,
+        line: Arc<Line, Global>,
+        seat: Seat,
+        table: Arc<Table>,
+        worker: u8,
+    ) -> Sender
+        requires queue { IsPassOf (arc_value line) seat }
+        requires fresh { view seat ≡ sender (length (arc_value table)) worker [] false }
+        requires worker { (0 < worker) × (worker ≤ MAX_WORKERS) }
+        ensures { result ≡ record { session = seat.table_id; table = arc_value table; worker = worker; sent = [] } }
+    {
+        Sender {
+            alloc,
+            line,
+            seat,
+            table,
+            worker,
+            emitted: 0,
+            registered: Vec::new(alloc),
+        }
+    }
+
+    /// The number of the worker.
+    pub fn worker(&self) -> u8
+        ensures { result ≡ self.now.worker }
+    {
+        self.worker
+    }
+
+    /// How many events it emitted.
+    pub fn emitted(&self) -> u64
+        ensures { result ≡ length self.now.sent }
+    {
+        self.emitted
+    }
+
+    // The id of the descriptor with this key, which is static or was registered by this sender.
+    fn node(&self, key: u32) -> Option<&UniqueId>
+        ensures { option_copied result ≡ option_map (λ d. d.id) (desc (own self.now) key) }
+    {
+        if let Some(descriptor) = self.table.get(key) {
+            return Some(&descriptor.id);
+        }
+        let first = registered_key(self.worker, 0);
+        if key < first {
+            return None;
+        }
+        self.registered.get((key - first) as usize)
+    }
+
+    // Whether it is the key of a descriptor that is static or was registered by this sender.
+    fn knows(&self, key: u32) -> bool
+        ensures { result ≡ knows self.now key }
+    {
+        self.node(key).is_some()
+    }
+
+    // The event, where it may be sent now.
+    fn admitted(&self, event: Event) -> Result<Event, SendFault>
+        ensures ok { IfOk result (λ same. (same ≡ event) × (refusal_of self.now event ≡ None)) }
+        ensures refused { IfErr result (λ fault. refusal_of self.now event ≡ Some fault) }
+    {
+        if !self.knows(event.key) {
+            return Err(SendFault::UnknownNode(event));
+        }
+        if !is_plain(&event) {
+            return Err(SendFault::Unlawful(event));
+        }
+        if self.emitted >= MAX_EVENTS {
+            return Err(SendFault::Limit(event));
+        }
+        Ok(event)
+    }
+
+    /// Emits the event if there is room in the queue.
+    pub fn try_send<R: Wait>(&mut self, rt: &R, event: Event) -> Result<(), SendFault>
+        ensures sent { OnOk result ((refusal_of self.old event ≡ None) × (self.new ≡ sends self.old event)) }
+        ensures refused { IfErr result (λ fault. (refusal_of self.old event ≡ Some fault) ⊎ ((refusal_of self.old event ≡ None) × (fault ≡ SendFault.Full event))) }
+        ensures kept { OnErr result (self.new ≡ self.old) }
+    {
+        let event = self.admitted(event)?;
+        let entry = Entry {
+            worker: self.worker,
+            event,
+        };
+        match try_push(rt, &self.line, &mut self.seat, Item::Entry(entry)) {
+            Ok(()) => {
+                self.emitted += 1;
+                Ok(())
+            }
+            Err(Item::Entry(entry)) => Err(SendFault::Full(entry.event)),
+            Err(Item::End(_)) => unreachable!(),
+        }
+    }
+
+    /// Emits the event, and waits until there is room in the queue.
+    pub fn send<R: Wait>(&mut self, rt: &R, event: Event) -> Result<(), SendFault>
+        ensures sent { OnOk result ((refusal_of self.old event ≡ None) × (self.new ≡ sends self.old event)) }
+        ensures refused { IfErr result (λ fault. refusal_of self.old event ≡ Some fault) }
+        ensures kept { OnErr result (self.new ≡ self.old) }
+    {
+        let event = self.admitted(event)?;
+        let entry = Entry {
+            worker: self.worker,
+            event,
+        };
+        push(rt, &self.line, &mut self.seat, Item::Entry(entry));
+        self.emitted += 1;
+        Ok(())
+    }
+
+    // The descriptor below a parent, and its id once more, where one more may be registered.
+    fn child(
+        &self,
+        parent: u32,
+        segment: &Segment,
+        name: &str,
+        dtype: DType,
+    ) -> Result<(UniqueId, Descriptor), RegisterFault>
+        ensures { IsChildMade self.now parent segment.now name.now dtype result }
+    {
+        let Some(above) = self.node(parent) else {
+            return Err(RegisterFault::UnknownNode);
+        };
+        if self.emitted >= MAX_EVENTS || self.registered.len() >= MAX_DESCRIPTORS {
+            return Err(RegisterFault::Limit);
+        }
+        let id = match above.append(self.alloc, segment) {
+            Ok(id) => id,
+            Err(IdFault::Memory) => return Err(RegisterFault::Memory),
+            Err(fault) => return Err(RegisterFault::Id(fault)),
+        };
+        let again = id.try_clone(self.alloc)?;
+        let name = Text::copy(self.alloc, name)?;
+        Ok((again, Descriptor { id, name, dtype }))
+    }
+
+    /// Registers a descriptor below its parent: emits its registration with that stamp, and answers
+    /// its key.
+    pub fn register<R: Wait>(
+        &mut self,
+        rt: &R,
+        parent: u32,
+        segment: &Segment,
+        name: &str,
+        dtype: DType,
+        stamp: u64,
+    ) -> Result<u32, RegisterFault>
+        ensures { IsRegisteredAs self.old self.new parent segment.now name.now dtype stamp result }
+    {
+        let (id, descriptor) = self.child(parent, segment, name, dtype)?;
+        let key = registered_key(self.worker, self.registered.len() as u32);
+        self.registered.push(id)?;
+        let event = Event {
+            kind: Kind::Dynamic,
+            key,
+            stamp,
+            payload: Payload::Described(descriptor),
+        };
+        let registration = Entry {
+            worker: self.worker,
+            event,
+        };
+        push(rt, &self.line, &mut self.seat, Item::Entry(registration));
+        self.emitted += 1;
+        Ok(key)
+    }
+
+    /// Pushes the mark, after which this worker emits nothing.
+    pub fn end<R: Wait>(self, rt: &R) -> Ended
+        ensures { result ≡ self }
+    {
+        let Sender {
+            alloc: _,
+            line,
+            mut seat,
+            table,
+            worker,
+            emitted,
+            registered: _,
+        } = self;
+        push(rt, &line, &mut seat, Item::End(worker));
+        Ended {
+            seat,
+            table,
+            worker,
+            emitted,
+        }
+    }
+}
+
+// Whether it is lawful and no registration.
+fn is_plain(event: &Event) -> bool
+    ensures { result ≡ is_plain event.now }
+{
+    event.is_lawful() && !matches!(event.kind, Kind::Dynamic)
+}
+
+impl Ended {
+    ghost use Rattle.std.specs.Prelude.{[], true};
+    ghost use Rattle.crossbeam_queue.specs.Passes.{view};
+    ghost use Rattle.tk_queue.specs.Session.{sender};
+
+    /// The number of the worker.
+    pub fn worker(&self) -> u8
+        ensures { result ≡ self.now.worker }
+    {
+        self.worker
+    }
+
+    pub(crate) fn emitted(&self) -> u64
+        ensures { result ≡ length self.now.sent }
+    {
+        self.emitted
+    }
+
+    pub(crate) fn into_seat(self) -> Seat
+        ensures session { result.table_id ≡ self.session }
+        ensures back { result.me.1 ≡ [] }
+        ensures known { view result ≡ sender (length self.table) self.worker self.sent true }
+    {
+        self.seat
+    }
+}

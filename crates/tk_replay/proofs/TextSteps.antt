@@ -1,0 +1,267 @@
+-- The lines of a replay text, and where reading one stops.
+use Rattle.std.proofs.Common.{◌≡◌, ◌≢◌, ◌⊎◌, ◌==◌, ◌<◌, ◌≤◌, ◌+◌, ℕ, zero, suc, Bool, true, false, if◌then◌else◌, List, [], ◌∷◌, ◌++◌, length, drop, eqb, get_or, map, All, Option, Some, None, Result, Ok, Err, refl, sym, ap, subst, ◌∙◌, append_assoc, append-nil, arith, inl, inr, ⊎_elim}
+use Rattle.std.specs.List.{AllByRecursion, starts_with}
+use Rattle.std.proofs.lemmas.Option.{none-some}
+use Rattle.std.proofs.lemmas.List.{get_or_at, length-append, length-map}
+use Rattle.std.proofs.lemmas.Slice.Eq.{starts_is}
+use Rattle.std.proofs.lemmas.Bool.Decides.{Decides-eqb}
+use Rattle.tk_ids.specs.declared.tables.Descriptor.{Descriptor}
+use Rattle.tk_ids.specs.Table.{TakesNext}
+use Rattle.tk_events.specs.declared.events.Event.{Event}
+use Rattle.tk_events.specs.declared.events.Entry.{Entry}
+use Rattle.tk_columns.specs.Recorded.{Recorded}
+use Rattle.tk_columns.specs.Mixing.{IsWorkerOf, of_worker}
+use Rattle.tk_record.specs.Spelling.{joined, node_line, entry_line, IsDescriptor, HasEntryLine}
+use Rattle.tk_record.specs.Reading.{in_line, entry_of}
+use Rattle.tk_record.specs.Text.{fed, nodes_text, entries_text, AreNodes}
+use Rattle.tk_record.specs.Path.{LacksFeed, LacksNodeStart, IsNodesFront}
+use Rattle.tk_record.proofs.Forms.{one_value}
+use Rattle.tk_record.proofs.RecordLines.{entry_line_form, entry_no_feed}
+use Rattle.tk_record.proofs.Behind.{same_line, no_node, no_entry, no_entry_at_node, no_node_start, one_more}
+use Rattle.tk_replay.specs.declared.items.Turn.{Turn}
+use Rattle.tk_replay.specs.declared.replays.Replayed.{Replayed}
+use Rattle.tk_replay.specs.declared.replays.ReplayFault.{ReplayFault}
+use Rattle.tk_replay.specs.declared.replays.ReplayFault.TheVariants as faults
+use Rattle.tk_replay.specs.Limits.{most_workers}
+use Rattle.tk_replay.specs.Script.{IsCount, workers_line, workers_of, AreTurns, turns_line, turns_of}
+use Rattle.tk_replay.specs.Replay.{IsReplayed, plays, start}
+use Rattle.tk_replay.specs.ReplayText.{Scenario, header, replay_text, AreOwn, HasReplayText, scripts_by, NoCount, NoLineOf, IsBadLine, IsLineBehind, IsBadBehind, IsBad, Says, IsPlayed}
+use Rattle.tk_replay.specs.Fronts.{LacksEntryStart, IsEntriesFront, IsCountFault, IsListFault, IsFaultBehind, NoTurns, IsFollowed, IsEndFault}
+use Rattle.tk_replay.proofs.ScriptForms.{workers_line_form, turns_line_form, workers_no_feed, turns_no_feed}
+
+-- ---- single lines
+
+pub regroup : (x m : List ℕ) → fed x ++ m ≡ x ++ 10 ∷ m
+regroup x m = append_assoc x (10 ∷ []) m
+
+-- without a line feed there is no line
+feed_stands : (x m rest : List ℕ) → LacksFeed rest → rest ≡ x ++ 10 ∷ m → ⊥
+feed_stands x m rest lacks e =
+    let here : get_or (x ++ 10 ∷ m) (length x) 0 ≡ 10 = get_or_at x 10 m 0 (length x) refl in
+    let far : length x < length rest = rw e (omega (arith, length-append x (10 ∷ m))) in
+    let not_here : (get_or rest (length x) 0 == 10) ≡ false = lacks (length x) 0 far in
+    let is_here : (get_or rest (length x) 0 == 10) ≡ true = rw (e, here) refl in
+    absurd cc
+
+unfed : (x m rest : List ℕ) → LacksFeed rest → rest ≢ fed x ++ m
+unfed x m rest lacks e = feed_stands x m rest lacks (e ∙ regroup x m)
+
+pub count_found : (input line more : List ℕ) (w : ℕ) → input ≡ line ++ 10 ∷ more → in_line workers_of line ≡ Some w → IsCount w × (input ≡ fed (workers_line w) ++ more)
+count_found input line more w is read =
+    let f = workers_line_form.found line w read in
+    (f.0, is ∙ ap (λ (t : List ℕ). t ++ 10 ∷ more) f.1 ∙ sym (regroup (workers_line w) more))
+
+pub count_none : (input line more : List ℕ) → input ≡ line ++ 10 ∷ more → LacksFeed line → in_line workers_of line ≡ None → NoCount input
+count_none input line more is lacks read n m has eq =
+    let s = same_line line (workers_line n) more m lacks (workers_no_feed n has) (sym is ∙ eq ∙ regroup (workers_line n) m) in
+    none-some n (sym read ∙ ap (in_line workers_of) s.0 ∙ workers_line_form.again n has)
+
+pub count_unfed : (input : List ℕ) → LacksFeed input → NoCount input
+count_unfed input lacks n m has = unfed (workers_line n) m input lacks
+
+pub turns_found : (n : ℕ) (input line more : List ℕ) (ts : List Turn) → n ≤ most_workers → input ≡ line ++ 10 ∷ more → in_line (turns_of n) line ≡ Some ts → AreTurns n ts × (input ≡ fed (turns_line ts) ++ more)
+turns_found n input line more ts few is read =
+    let f = (turns_line_form n few).found line ts read in
+    (f.0, is ∙ ap (λ (t : List ℕ). t ++ 10 ∷ more) f.1 ∙ sym (regroup (turns_line ts) more))
+
+pub turns_none : (n : ℕ) (input line more : List ℕ) → n ≤ most_workers → input ≡ line ++ 10 ∷ more → LacksFeed line → in_line (turns_of n) line ≡ None → NoTurns n input
+turns_none n input line more few is lacks read ts m are eq =
+    let s = same_line line (turns_line ts) more m lacks (turns_no_feed n few ts are) (sym is ∙ eq ∙ regroup (turns_line ts) m) in
+    none-some ts (sym read ∙ ap (in_line (turns_of n)) s.0 ∙ (turns_line_form n few).again ts are)
+
+pub turns_unfed : (n : ℕ) (input : List ℕ) → LacksFeed input → NoTurns n input
+turns_unfed n input lacks ts m are = unfed (turns_line ts) m input lacks
+
+-- ---- which line a front may begin
+
+heads : (x y : ℕ) (a b : List ℕ) → x ∷ a ≡ y ∷ b → x ≡ y
+heads x y a b e = cc
+
+pub turns_begins : (ts : List Turn) (m : List ℕ) → (t : List ℕ) × (fed (turns_line ts) ++ m ≡ 83 ∷ t)
+unfolding joined
+turns_begins [] m = (_, refl)
+turns_begins (t ∷ ts) m = (_, refl)
+
+pub entry_begins : (e : Entry) (m : List ℕ) → (t : List ℕ) × (fed (entry_line e) ++ m ≡ 69 ∷ 124 ∷ t)
+unfolding joined
+entry_begins e m = (_, refl)
+
+no_turns_at : (b : ℕ) (rest t : List ℕ) → ¬ (b ≡ 83) → rest ≡ b ∷ t → (n : ℕ) → NoTurns n rest
+no_turns_at b rest t other is n ts m are eq = let s = turns_begins ts m in other (sym (heads 83 b s.0 t (sym s.1 ∙ sym eq ∙ is)))
+
+-- which bytes the test for an entry's line asks for
+pub entry_start : (r : Bool) (rest : List ℕ) → r ≡ starts_with eqb rest (69 ∷ 124 ∷ []) → r ≡ true → (t : List ℕ) × (rest ≡ 69 ∷ 124 ∷ t)
+entry_start r rest e is = (drop 2 rest, (starts_is Decides-eqb rest (69 ∷ 124 ∷ []) r e).0 is)
+
+pub lacks_entry_start : (r : Bool) (rest : List ℕ) → r ≡ starts_with eqb rest (69 ∷ 124 ∷ []) → r ≡ false → LacksEntryStart rest
+lacks_entry_start r rest e is = λ more eq. let t : r ≡ true = (starts_is Decides-eqb rest (69 ∷ 124 ∷ []) r e).1 more eq in absurd cc
+
+no_entry_start : (rest : List ℕ) → LacksEntryStart rest → (e : Entry) (m : List ℕ) → rest ≢ fed (entry_line e) ++ m
+no_entry_start rest lacks e m eq = let b = entry_begins e m in lacks b.0 (eq ∙ b.1)
+
+-- ---- lines of descriptors
+
+pub none_unfed : (n : ℕ) (table : List Descriptor) (entries : List Entry) (rest : List ℕ) → LacksFeed rest → NoLineOf n table entries rest
+none_unfed n table entries rest lacks = record {
+  node = λ d m _ _ _. unfed (node_line d) m rest lacks;
+  entry = λ e m _ _. unfed (entry_line e) m rest lacks;
+  turns = λ ts m _. unfed (turns_line ts) m rest lacks;
+}
+
+pub none_at_node : (n : ℕ) (table : List Descriptor) (rest line more t : List ℕ) → rest ≡ line ++ 10 ∷ more → LacksFeed line → rest ≡ 78 ∷ 124 ∷ t → ((d : Descriptor) → IsDescriptor d → TakesNext table d → line ≢ node_line d)
+    → NoLineOf n table [] rest
+none_at_node n table rest line more t is lacks start bad = record {
+  node = λ d m _ has takes. no_node table rest line more is lacks bad d m has takes;
+  entry = λ e m has _. no_entry_at_node rest t start e m has;
+  turns = λ ts m are. no_turns_at 78 rest (124 ∷ t) (λ e. absurd (omega arith)) start n ts m are;
+}
+
+pub bad_node : (n : ℕ) (input : List ℕ) (table : List Descriptor) (rest : List ℕ) (k : ℕ) → input ≡ nodes_text table ++ rest → AreNodes [] table → NoLineOf n table [] rest → k ≡ length table → IsListFault n input (faults.BadLine (k + 3))
+bad_node n input table rest k is nodes none number = inl (record {
+  table = table;
+  entries = [];
+  rest = rest;
+  front = is;
+  nodes = nodes;
+  own = tt;
+  none = none;
+  number = omega arith;
+})
+
+-- ---- lines of entries
+
+pub AreOwn-push : (n : ℕ) (entries : List Entry) (e : Entry) → AreOwn n entries → HasEntryLine e → IsWorkerOf n e.worker → AreOwn n (entries ++ e ∷ [])
+AreOwn-push n [] e own has is = ((has, is), tt)
+AreOwn-push n (x ∷ xs) e own has is = (own.0, AreOwn-push n xs e own.1 has is)
+
+-- what the loop over the entries keeps
+pub record SoFar (n : ℕ) (input : List ℕ) (entries : List Entry) (rest : List ℕ) : Type 0 where
+  pub front : input ≡ entries_text entries ++ rest
+  pub own : AreOwn n entries
+  pub no_node : entries ≡ [] → LacksNodeStart rest
+
+push_nonempty : (es : List Entry) (e : Entry) → es ++ e ∷ [] ≢ []
+push_nonempty es e n = let h : length (es ++ e ∷ []) ≡ 0 = ap length n in absurd (omega (arith, length-append es (e ∷ [])))
+
+pub so_more : (n : ℕ) (input : List ℕ) (entries : List Entry) (rest line more : List ℕ) (e : Entry) → SoFar n input entries rest → rest ≡ line ++ 10 ∷ more → HasEntryLine e × (line ≡ entry_line e) → IsWorkerOf n e.worker → SoFar n input (entries ++ e ∷ []) more
+so_more n input entries rest line more e so split found is = record {
+  front = one_more entry_line entries e input line more (so.front ∙ ap (λ (t : List ℕ). entries_text entries ++ t) split) found.1;
+  own = AreOwn-push n entries e so.own found.0 is;
+  no_node = λ none. absurd (push_nonempty entries e none);
+}
+
+pub bad_entry : (n nodes : ℕ) (input : List ℕ) (entries : List Entry) (rest : List ℕ) (k : ℕ) → SoFar n input entries rest → ((e : Entry) (m : List ℕ) → HasEntryLine e → IsWorkerOf n e.worker → rest ≢ fed (entry_line e) ++ m) → NoTurns n rest
+    → k ≡ nodes + length entries + 3 → IsFaultBehind n nodes input (faults.BadLine k)
+bad_entry n nodes input entries rest k so none no_turns number table fits long = inl (record {
+  table = table;
+  entries = entries;
+  rest = rest;
+  front = ap (λ (t : List ℕ). nodes_text table ++ t) so.front;
+  nodes = fits;
+  own = so.own;
+  none = record { node = λ d m empty _ _. no_node_start rest (so.no_node empty) d m; entry = none; turns = no_turns };
+  number = omega arith;
+})
+
+pub bad_entry_unfed : (n nodes : ℕ) (input : List ℕ) (entries : List Entry) (rest : List ℕ) (k : ℕ) → SoFar n input entries rest → LacksFeed rest → k ≡ nodes + length entries + 3 → IsFaultBehind n nodes input (faults.BadLine k)
+bad_entry_unfed n nodes input entries rest k so lacks number = bad_entry n nodes input entries rest k so (λ e m _ _. unfed (entry_line e) m rest lacks) (turns_unfed n rest lacks) number
+
+pub bad_entry_line : (n nodes : ℕ) (input : List ℕ) (entries : List Entry) (rest line more t : List ℕ) (k : ℕ) → SoFar n input entries rest → rest ≡ line ++ 10 ∷ more → LacksFeed line → rest ≡ 69 ∷ 124 ∷ t
+    → ((e : Entry) → HasEntryLine e → IsWorkerOf n e.worker → line ≢ entry_line e) → k ≡ nodes + length entries + 3 → IsFaultBehind n nodes input (faults.BadLine k)
+bad_entry_line n nodes input entries rest line more t k so is lacks start bad number =
+    bad_entry n nodes input entries rest k so
+        (λ e m has own eq. bad e has own (same_line line (entry_line e) more m lacks (entry_no_feed e has) (sym is ∙ eq ∙ regroup (entry_line e) m)).0)
+        (no_turns_at 69 rest (124 ∷ t) (λ e. absurd (omega arith)) start n) number
+
+-- the line is that of an entry of no worker of the session
+pub foreign : (n : ℕ) (line : List ℕ) (e : Entry) → HasEntryLine e × (line ≡ entry_line e) → ¬ IsWorkerOf n e.worker → (x : Entry) → HasEntryLine x → IsWorkerOf n x.worker → line ≢ entry_line x
+foreign n line e found none x has is same = none (subst (λ (y : Entry). IsWorkerOf n y.worker) (sym (one_value (in_line entry_of) HasEntryLine entry_line entry_line_form e x found.0 has (sym found.1 ∙ same))) is)
+
+-- ---- the line of the turns
+
+pub end_fault : (n nodes number : ℕ) (input : List ℕ) (entries : List Entry) (rest : List ℕ) (fault : ReplayFault) → IsEntriesFront n input entries rest → number ≡ nodes + length entries + 3 → IsEndFault n number rest fault → IsFaultBehind n nodes input fault
+end_fault n nodes number input entries rest (faults.BadLine k) f is fault = ⊎_elim
+    (λ (x : (k ≡ number) × NoTurns n rest). bad_entry n nodes input entries rest k (record { front = f.front; own = f.own; no_node = f.no_node }) (λ e m _ _. no_entry_start rest f.no_entry e m) x.1 (x.0 ∙ is))
+    (λ (y : (k ≡ number + 1) × IsFollowed n rest). λ table fits long.
+        let z = y.1 in inr (record {
+          table = table;
+          entries = entries;
+          turns = z.0;
+          rest = z.1;
+          front = ap (λ (t : List ℕ). nodes_text table ++ t) (f.front ∙ ap (λ (t : List ℕ). entries_text entries ++ t) z.3);
+          nodes = fits;
+          own = f.own;
+          are = z.2;
+          more = z.4;
+          number = let p = y.0 in omega arith;
+        }))
+    fault
+end_fault n nodes number input entries rest faults.Memory f is fault = λ table fits long. tt
+end_fault n nodes number input entries rest faults.NoHeader f is fault = absurd fault
+end_fault n nodes number input entries rest (faults.AfterEnd i) f is fault = absurd fault
+end_fault n nodes number input entries rest (faults.Append i x) f is fault = absurd fault
+end_fault n nodes number input entries rest faults.TooLarge f is fault = absurd fault
+end_fault n nodes number input entries rest faults.Device f is fault = absurd fault
+
+-- ---- the whole
+
+pub count_played : (input body : List ℕ) (fault : ReplayFault) → input ≡ header ++ body → IsCountFault body fault → IsPlayed input (Err fault)
+count_played input body (faults.BadLine k) is fault = (body, is, inl fault)
+count_played input body faults.Memory is fault = absurd fault
+count_played input body faults.NoHeader is fault = absurd fault
+count_played input body (faults.AfterEnd i) is fault = absurd fault
+count_played input body (faults.Append i x) is fault = absurd fault
+count_played input body faults.TooLarge is fault = absurd fault
+count_played input body faults.Device is fault = absurd fault
+
+pub list_played : (n : ℕ) (input body rest : List ℕ) (fault : ReplayFault) → input ≡ header ++ body → IsCount n × (body ≡ fed (workers_line n) ++ rest) → IsListFault n rest fault → IsPlayed input (Err fault)
+list_played n input body rest (faults.BadLine k) is count fault = (body, is, inr (n, rest, count.0, count.1, fault))
+list_played n input body rest faults.Memory is count fault = tt
+list_played n input body rest faults.NoHeader is count fault = absurd fault
+list_played n input body rest (faults.AfterEnd i) is count fault = absurd fault
+list_played n input body rest (faults.Append i x) is count fault = absurd fault
+list_played n input body rest faults.TooLarge is count fault = absurd fault
+list_played n input body rest faults.Device is count fault = absurd fault
+
+pub behind_played : (n nodes : ℕ) (input body rest more : List ℕ) (table : List Descriptor) (fault : ReplayFault) → input ≡ header ++ body → IsCount n × (body ≡ fed (workers_line n) ++ rest) → IsNodesFront rest table more → nodes ≡ length table
+    → IsFaultBehind n nodes more fault → IsPlayed input (Err fault)
+behind_played n nodes input body rest more table fault is count front long f =
+    list_played n input body rest fault is count (subst (λ (t : List ℕ). IsListFault n t fault) (sym front.front) (f table front.fitting (sym long)))
+
+pub says : (n : ℕ) (input body rest more last : List ℕ) (table : List Descriptor) (entries : List Entry) (turns : List Turn) → input ≡ header ++ body → IsCount n × (body ≡ fed (workers_line n) ++ rest) → IsNodesFront rest table more
+    → IsEntriesFront n more entries last → AreTurns n turns × (last ≡ fed (turns_line turns)) → Says input (record { workers = n; table = table; entries = entries; turns = turns })
+says n input body rest more last table entries turns is count nodes own ends = (
+  record { count = count.0; nodes = nodes.fitting; own = own.own; turns = ends.0 },
+  is ∙ ap (λ (t : List ℕ). header ++ t) (count.1 ∙ ap (λ (t : List ℕ). fed (workers_line n) ++ t) (nodes.front ∙ ap (λ (t : List ℕ). nodes_text table ++ t) (own.front ∙ ap (λ (t : List ℕ). entries_text entries ++ t) ends.1))),
+)
+
+pub scripts_long : (entries : List Entry) (n : ℕ) → length (scripts_by entries n) ≡ n
+scripts_long entries zero = refl
+scripts_long entries (suc n) = let h = scripts_long entries n in omega (arith, length-append (scripts_by entries n) (of_worker (suc n) entries ∷ []))
+
+pub scripts_count : {S : Type 0} (f : S → List Event) (scripts : List S) (entries : List Entry) (n : ℕ) → map f scripts ≡ scripts_by entries n → length scripts ≡ n
+scripts_count f scripts entries n is = sym (length-map scripts f) ∙ ap length is ∙ scripts_long entries n
+
+pub scripts_here : {S : Type 0} (f : S → List Event) (scripts : List S) (entries others : List Entry) (n : ℕ) → entries ≡ others → map f scripts ≡ scripts_by entries n → map f scripts ≡ scripts_by others n
+scripts_here f scripts entries others n same is = is ∙ ap (λ (es : List Entry). scripts_by es n) same
+
+pub replay_here : (t u : List Descriptor) (s r : List (List Event)) (x y : List Turn) (a : Result Replayed ReplayFault) → t ≡ u → s ≡ r → x ≡ y → IsReplayed t s x a → IsReplayed u r y a
+replay_here t u s r x y a p q e is = subst (λ (z : List Descriptor × List (List Event) × List Turn). IsReplayed z.0 z.1 z.2 a) (λ i. (p i, q i, e i)) is
+
+pub replay_fault : (input : List ℕ) (p : Scenario) (fault : ReplayFault) → Says input p → IsReplayed p.table (scripts_by p.entries p.workers) p.turns (Err fault) → IsPlayed input (Err fault)
+replay_fault input p (faults.AfterEnd i) is r = (p, is, r)
+replay_fault input p (faults.Append i x) is r = (p, is, r)
+replay_fault input p faults.Memory is r = tt
+replay_fault input p faults.NoHeader is r = absurd r
+replay_fault input p (faults.BadLine k) is r = absurd r
+replay_fault input p faults.TooLarge is r = absurd r
+replay_fault input p faults.Device is r = absurd r
+
+pub replay_done : (input : List ℕ) (p : Scenario) (done : Replayed) → Says input p → IsReplayed p.table (scripts_by p.entries p.workers) p.turns (Ok done) → IsPlayed input (Ok done.taken)
+replay_done input p done is r = (
+  p,
+  r.0,
+  is,
+  ap (λ n. plays (scripts_by p.entries p.workers) p.turns (start p.table n)) (sym (scripts_long p.entries p.workers)) ∙ r.1,
+  r.2.taken,
+)

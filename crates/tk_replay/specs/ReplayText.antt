@@ -1,0 +1,137 @@
+-- The text of a replay, and what playing an input answers.
+use Rattle.std.specs.Prelude.{◌≡◌, ◌≢◌, ◌≤◌, ◌<◌, ◌+◌, ◌⊎◌, ℕ, zero, suc, List, [], ◌∷◌, ◌++◌, length, codes, Option, Some, Result, Ok, Err}
+use Rattle.std.specs.List.{AllByRecursion}
+use Rattle.std.specs.Io.KnownBytes.{Appends}
+use Rattle.tk_ids.specs.declared.tables.Descriptor.{Descriptor}
+use Rattle.tk_ids.specs.Table.{TakesNext}
+use Rattle.tk_events.specs.declared.events.Event.{Event}
+use Rattle.tk_events.specs.declared.events.Entry.{Entry}
+use Rattle.tk_columns.specs.Recorded.{Recorded}
+use Rattle.tk_columns.specs.Mixing.{IsWorkerOf, of_worker}
+use Rattle.tk_record.specs.declared.reading.TheConstants.{MAX_TEXT}
+use Rattle.tk_record.specs.Spelling.{node_line, entry_line, IsDescriptor, HasEntryLine}
+use Rattle.tk_record.specs.Text.{fed, nodes_text, entries_text, AreNodes, text}
+use Rattle.tk_record.specs.declared.writing.WriteFault.{WriteFault}
+use Rattle.tk_record.specs.declared.writing.WriteFault.TheVariants as writing
+use Rattle.tk_streams.specs.declared.transfers.LoadFault.{LoadFault}
+use Rattle.tk_streams.specs.declared.transfers.LoadFault.TheVariants as loading
+use Rattle.tk_replay.specs.declared.items.Turn.{Turn}
+use Rattle.tk_replay.specs.declared.replays.ReplayFault.{ReplayFault}
+use Rattle.tk_replay.specs.declared.replays.ReplayFault.TheVariants as faults
+use Rattle.tk_replay.specs.Script.{IsCount, workers_line, AreTurns, turns_line}
+use Rattle.tk_replay.specs.Replay.{Moment, Stop, Faulty, Refuses, plays, start, StopsAt}
+
+-- what a replay text says
+pub record Scenario : Type 0 where
+  pub workers : ℕ
+  pub table : List Descriptor
+  pub entries : List Entry
+  pub turns : List Turn
+
+unfoldable pub header : List ℕ
+header = codes "testkit-replay|1" ++ 10 ∷ []
+
+-- the header, the number of workers, the static descriptors, the entries, and the turns, each line with its line feed
+abbrev pub replay_text : Scenario → List ℕ
+replay_text p = header ++ (fed (workers_line p.workers) ++ (nodes_text p.table ++ (entries_text p.entries ++ fed (turns_line p.turns))))
+
+-- each entry has a line, and is of one of the workers 1 to n
+abbrev pub AreOwn : ℕ → List Entry → Type 0
+AreOwn n entries = AllByRecursion (λ e. HasEntryLine e × IsWorkerOf n e.worker) entries
+
+pub record HasReplayText (p : Scenario) : Type 0 where
+  pub count : IsCount p.workers
+  pub nodes : AreNodes [] p.table
+  pub own : AreOwn p.workers p.entries
+  pub turns : AreTurns p.workers p.turns
+
+-- the scripts of the workers 1 to n: each worker's is its entries in order
+abbrev pub scripts_by : List Entry → ℕ → List (List Event)
+scripts_by entries zero = []
+scripts_by entries (suc n) = scripts_by entries n ++ of_worker (suc n) entries ∷ []
+
+-- ---- a line that may not stand where it stands
+
+-- no line of a number of workers stands at the front
+abbrev pub NoCount : List ℕ → Type 0
+NoCount rest = (n : ℕ) (more : List ℕ) → IsCount n → rest ≢ fed (workers_line n) ++ more
+
+-- no line that may follow these descriptors and entries stands at the front
+pub record NoLineOf (n : ℕ) (table : List Descriptor) (entries : List Entry) (rest : List ℕ) : Type 0 where
+  pub node : (d : Descriptor) (more : List ℕ) → entries ≡ [] → IsDescriptor d → TakesNext table d → rest ≢ fed (node_line d) ++ more
+  pub entry : (e : Entry) (more : List ℕ) → HasEntryLine e → IsWorkerOf n e.worker → rest ≢ fed (entry_line e) ++ more
+  pub turns : (turns : List Turn) (more : List ℕ) → AreTurns n turns → rest ≢ fed (turns_line turns) ++ more
+
+-- behind the number of workers, line k is none that may follow the descriptors and entries before it, or is missing
+pub record IsBadLine (n : ℕ) (input : List ℕ) (k : ℕ) : Type 0 where
+  pub table : List Descriptor
+  pub entries : List Entry
+  pub rest : List ℕ
+  pub front : input ≡ nodes_text table ++ (entries_text entries ++ rest)
+  pub nodes : AreNodes [] table
+  pub own : AreOwn n entries
+  pub none : NoLineOf n table entries rest
+  pub number : k ≡ length table + length entries + 3
+
+-- behind the number of workers, line k stands behind the turns
+pub record IsLineBehind (n : ℕ) (input : List ℕ) (k : ℕ) : Type 0 where
+  pub table : List Descriptor
+  pub entries : List Entry
+  pub turns : List Turn
+  pub rest : List ℕ
+  pub front : input ≡ nodes_text table ++ (entries_text entries ++ (fed (turns_line turns) ++ rest))
+  pub nodes : AreNodes [] table
+  pub own : AreOwn n entries
+  pub are : AreTurns n turns
+  pub more : rest ≢ []
+  pub number : k ≡ length table + length entries + 4
+
+-- the first line behind the number of workers that may not stand there is line k
+abbrev pub IsBadBehind : ℕ → List ℕ → ℕ → Type 0
+IsBadBehind n input k = IsBadLine n input k ⊎ IsLineBehind n input k
+
+-- the first line behind the header that may not stand there is line k: the one of the number of workers, or a later one
+abbrev pub IsBad : List ℕ → ℕ → Type 0
+IsBad input k = ((k ≡ 2) × NoCount input) ⊎ ((n : ℕ) × (rest : List ℕ) × IsCount n × (input ≡ fed (workers_line n) ++ rest) × IsBadBehind n rest k)
+
+-- the input is the text of this replay
+abbrev pub Says : List ℕ → Scenario → Type 0
+Says input p = HasReplayText p × (input ≡ replay_text p)
+
+-- what playing an input within the limit answers, with the record of what is taken; want of memory may come at any
+abbrev pub IsPlayed : List ℕ → Result Recorded ReplayFault → Type 0
+IsPlayed input (Ok r) = (p : Scenario) × (m : Moment) × Says input p × (plays (scripts_by p.entries p.workers) p.turns (start p.table p.workers) ≡ Some m) × (r ≡ m.taken)
+IsPlayed input (Err faults.NoHeader) = (rest : List ℕ) → input ≢ header ++ rest
+IsPlayed input (Err (faults.BadLine k)) = (rest : List ℕ) × (input ≡ header ++ rest) × IsBad rest k
+IsPlayed input (Err (faults.AfterEnd i)) = (p : Scenario) × Says input p × StopsAt p.table (scripts_by p.entries p.workers) p.turns i Faulty
+IsPlayed input (Err (faults.Append i fault)) = (p : Scenario) × Says input p × StopsAt p.table (scripts_by p.entries p.workers) p.turns i (Refuses fault)
+IsPlayed input (Err faults.TooLarge) = ⊥
+IsPlayed input (Err faults.Device) = ⊥
+IsPlayed input (Err faults.Memory) = Unit {0}
+
+-- what playing an input answers, a broken device aside
+abbrev pub IsAnswer : List ℕ → Result Unit ReplayFault → Type 0
+IsAnswer input (Ok _) = (length input ≤ MAX_TEXT) × ((r : Recorded) × IsPlayed input (Ok r))
+IsAnswer input (Err faults.TooLarge) = MAX_TEXT < length input
+IsAnswer input (Err faults.Memory) = Unit {0}
+IsAnswer input (Err fault) = (length input ≤ MAX_TEXT) × IsPlayed input (Err fault)
+
+-- the fault tells of the input, and not of memory or of a device
+abbrev pub IsOfInput : ReplayFault → Type 0
+IsOfInput faults.Memory = ⊥
+IsOfInput faults.Device = ⊥
+IsOfInput _ = Unit {0}
+
+-- the record of what is taken was written
+abbrev pub IsWritten : List ℕ → Option (List ℕ) → Option (List ℕ) → Type 0
+IsWritten input old new = (r : Recorded) × IsPlayed input (Ok r) × Appends old new (text r)
+
+-- faults of loading and of writing, as faults of replays
+abbrev pub load_fault : LoadFault → ReplayFault
+load_fault loading.TooLarge = faults.TooLarge
+load_fault loading.Device = faults.Device
+load_fault loading.Memory = faults.Memory
+
+abbrev pub write_fault : WriteFault → ReplayFault
+write_fault writing.Device = faults.Device
+write_fault writing.Memory = faults.Memory

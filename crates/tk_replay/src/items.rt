@@ -1,0 +1,18 @@
+//! What passes through a queue.
+use tk_events::Entry;
+
+/// An entry of a worker, or its end mark.
+#[derive(Debug, Drop)]
+pub enum Item {
+    Entry(Entry),
+    End(u8),
+}
+
+/// A step of a replay.
+#[derive(Clone, Copy, Debug, PartialEq, Eq)]
+pub enum Turn {
+    /// The worker emits its next event, or its end mark behind the last.
+    Worker(u8),
+    /// The first waiting item is taken.
+    Take,
+}
