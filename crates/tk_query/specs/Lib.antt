@@ -8,3 +8,4 @@ pub mod Matches
 pub mod Acts
 pub mod Executions
 pub mod Pairing
+pub mod Laws

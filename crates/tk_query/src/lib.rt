@@ -5,9 +5,12 @@ mod acts;
 mod answers;
 mod execution_lists;
 mod holding;
+pub mod laws;
 mod masks;
 mod matching;
 mod pairing;
+#[cfg(test)]
+mod tests;
 
 pub use answers::{Exact, InOrder, Loose};
 pub use execution_lists::{Ending, Execution, Executions};

@@ -16,12 +16,12 @@ fn next_fit(events: &Events, condition: &Condition, from: usize) -> Option<usize
     ensures fit { MatchOption result (HasNoFit (fits events.now) condition.now from)
         (λ position. IsNextFit (fits events.now) condition.now from position) }
 {
-    let mut next = from;
-    'events: while let Some(position) = events.flags().first_from(next) {
+    let mut low = from;
+    'events: while let Some(position) = events.flags().first_from(low) {
         if holds_at(events.recorded(), condition, position) {
             return Some(position);
         }
-        next = position + 1;
+        low = position + 1;
     }
     None
 }

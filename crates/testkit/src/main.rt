@@ -1,0 +1,44 @@
+//! The program: answers questions about a record text, and replays a script of the event queue.
+#![tactic(auto)]
+
+mod commands;
+mod faults;
+mod jobs;
+#[cfg(test)]
+mod tests;
+
+use faults::Fault;
+use jobs::perform;
+use std::process::ExitCode;
+use std::{env, io};
+use tk_record::{StdSource, StdTarget};
+
+/// The program's name and the words behind it.
+fn words(rt: &HostRuntime) -> Result<Vec<String>, Fault> {
+    let mut words = Vec::new(rt.alloc());
+    let Ok(given) = env::args(rt) else {
+        return Err(Fault::CommandLine);
+    };
+    for word in given {
+        words.push(word)?;
+    }
+    Ok(words)
+}
+
+fn run(rt: &HostRuntime) -> Result<bool, Fault> {
+    let words = words(rt)?;
+    let mut source = StdSource::new(rt.reader());
+    let mut target = StdTarget::new(io::writer(rt));
+    perform(rt.alloc(), words.as_slice(), &mut source, &mut target)
+}
+
+fn main(rt: HostRuntime) -> ExitCode {
+    match run(&rt) {
+        Ok(true) => ExitCode::from(0),
+        Ok(false) => ExitCode::from(1),
+        Err(fault) => {
+            let _ = eprintln!(rt; "testkit: {fault}");
+            ExitCode::from(fault.status())
+        }
+    }
+}

@@ -1,0 +1,45 @@
+-- All events of a record are its entries.
+use Rattle.std.proofs.Common.{◌≡◌, ℕ, ◌+◌, Bool, true, false, cond, List, [], ◌∷◌, ◌++◌, length, map, count_by, refl, sym, ap, ◌∙◌, arith}
+use Rattle.std.specs.Prelude.{filter}
+use Rattle.std.proofs.lemmas.List.Sums.{sum_by-cons}
+use Rattle.tk_events.specs.declared.events.Entry.{Entry}
+use Rattle.std.specs.Prelude.{◌==◌}
+use Rattle.std.specs.List.{flat_map}
+use Rattle.tk_columns.specs.declared.selections.Selection.{Selection}
+use Rattle.tk_columns.specs.declared.tallies.Statistics.{Statistics}
+use Rattle.tk_columns.specs.declared.tallies.Expected.{Expected}
+use Rattle.tk_columns.specs.declared.tallies.Mismatch.{Mismatch}
+use Rattle.tk_columns.specs.Recorded.{Recorded}
+use Rattle.tk_columns.specs.Selections.{Placed, placed_from, Selected, all_of, events_of}
+use Rattle.tk_columns.specs.Statistics.{statistic_rows, statistics_of, mismatches}
+use Rattle.tk_ask.specs.Answers.{IsAnswerTo, mismatch_line, row_line}
+use Rattle.tk_ask.specs.declared.questions.Question.TheVariants.{Stats}
+
+pub all_events : (n : ℕ) (es : List Entry) → map (λ (x : Placed). x.entry) (placed_from n es) ≡ es
+unfolding placed_from
+all_events n [] = refl
+all_events n (e ∷ es) = ap (λ (t : List Entry). e ∷ t) (all_events (n + 1) es)
+
+-- those kept are as many as the entries that pass
+pub kept_count : (p : Entry → Bool) (n : ℕ) (es : List Entry) → length (filter (λ (x : Placed). p x.entry) (placed_from n es)) ≡ count_by p es
+unfolding placed_from
+kept_count p n [] = refl
+kept_count p n (e ∷ es) = by (p e) (kept_count p (n + 1) es) ∙ sym (sum_by-cons (λ x. cond (p x) 1 0) e es)
+  where
+    by : (b : Bool) → length (filter (λ (x : Placed). p x.entry) (placed_from (n + 1) es)) ≡ count_by p es
+        → length (cond b (record { position = n; entry = e } ∷ filter (λ (x : Placed). p x.entry) (placed_from (n + 1) es)) (filter (λ (x : Placed). p x.entry) (placed_from (n + 1) es))) ≡ cond {A = ℕ} b 1 0 + count_by p es
+    by true rest = omega (arith, rest)
+    by false rest = omega (arith, rest)
+
+-- the answer about statistics, from its parts
+pub stats_are : (e : Expected) (r : Recorded) (events : Selected) (s : Statistics) (rows : List (Selection × ℕ)) (ms : List Mismatch) (is_yes : Bool) (first second third : List ℕ) →
+    events ≡ all_of r → s ≡ statistics_of (events_of events) → rows ≡ statistic_rows s → ms ≡ mismatches e (statistics_of (events_of events)) → is_yes ≡ (length ms == 0) →
+    first ≡ [] → second ≡ first ++ flat_map row_line rows → third ≡ second ++ flat_map mismatch_line ms → IsAnswerTo (Stats e) r is_yes third
+stats_are e r events s rows ms is_yes first second third all s_is rows_is ms_is yes_is first_is second_is third_is =
+    let es : events_of events ≡ r.entries = ap events_of all ∙ all_events 0 r.entries in
+    let m = ms_is ∙ ap (λ (l : List Entry). mismatches e (statistics_of l)) es in
+    let w = rows_is ∙ ap statistic_rows (s_is ∙ ap statistics_of es) in
+    let front = second_is ∙ ap (λ (t : List ℕ). t ++ flat_map row_line rows) first_is ∙ ap (flat_map row_line) w in (
+      yes_is ∙ ap (λ (l : List Mismatch). length l == 0) m,
+      third_is ∙ ap (λ (t : List ℕ). t ++ flat_map mismatch_line ms) front ∙ ap (λ (l : List Mismatch). flat_map row_line (statistic_rows (statistics_of r.entries)) ++ flat_map mismatch_line l) m,
+    )

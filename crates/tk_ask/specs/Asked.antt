@@ -1,0 +1,35 @@
+-- What asking a question does: it reads a record text to its end, and writes the answer.
+use Rattle.std.specs.Prelude.{◌≡◌, ℕ, Bool, List, Option, Result, Ok, Err, IfSome}
+use Rattle.std.specs.Io.KnownBytes.{Appends}
+use Rattle.tk_columns.specs.Recorded.{Recorded}
+use Rattle.tk_streams.specs.Stream.{AppendsFront}
+use Rattle.tk_record.specs.declared.reading.ReadFault.TheVariants as read
+use Rattle.tk_record.specs.Text.{HasText, text, IsAnswer}
+use Rattle.tk_ask.specs.declared.faults.AskFault.{AskFault}
+use Rattle.tk_ask.specs.declared.faults.AskFault.TheVariants as faults
+use Rattle.tk_ask.specs.declared.questions.Question.{Question}
+use Rattle.tk_ask.specs.Questions.{Asks, IsAskedAs}
+use Rattle.tk_ask.specs.Answers.{IsAnswerTo}
+
+-- the words ask a question, the input is the text of a record, and this is the answer to the question about it
+abbrev pub IsAnswered : List (List ℕ) → List ℕ → Bool → List ℕ → Type 0
+IsAnswered words input is_yes output =
+    (question : Question) × Asks words question × (r : Recorded) × HasText r × (input ≡ text r) × IsAnswerTo question r is_yes output
+
+-- the answer was added to what was written, and nothing else
+abbrev pub AddsAnswer : List (List ℕ) → List ℕ → Bool → Option (List ℕ) → Option (List ℕ) → Type 0
+AddsAnswer words input is_yes old new = (output : List ℕ) × IsAnswered words input is_yes output × Appends old new output
+
+-- a front of the answer was added
+abbrev pub AddsFront : List (List ℕ) → List ℕ → Option (List ℕ) → Option (List ℕ) → Type 0
+AddsFront words input old new = (is_yes : Bool) × (output : List ℕ) × IsAnswered words input is_yes output × AppendsFront old new output
+
+-- where each refusal comes: the words are judged before the input is read
+abbrev pub IsRefusal : List (List ℕ) → Option (List ℕ) → AskFault → Type 0
+IsRefusal words input faults.Question = IsAskedAs words (Err faults.Question)
+IsRefusal words input (faults.Word i) = IsAskedAs words (Err (faults.Word i))
+IsRefusal words input (faults.Condition i fault) = IsAskedAs words (Err (faults.Condition i fault))
+IsRefusal words input (faults.Read fault) =
+    ((question : Question) × Asks words question) × (¬ (fault ≡ read.Device) → IfSome input (λ bytes. IsAnswer bytes (Err fault)))
+IsRefusal words input faults.Device = (question : Question) × Asks words question
+IsRefusal words input faults.Memory = Unit {0}

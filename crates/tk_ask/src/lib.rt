@@ -1,0 +1,12 @@
+//! Questions about a record text, from its bytes to the bytes of the answer.
+#![tactic(auto)]
+
+mod answers;
+mod asking;
+mod expectations;
+mod faults;
+mod questions;
+
+pub use asking::ask;
+pub use faults::AskFault;
+pub use questions::{Mode, Question, read_question};
