@@ -1,16 +1,15 @@
 -- What `close` looks for, and what it concludes.
-use Rattle.std.proofs.Common.{◌≡◌, ◌≢◌, ◌⊎◌, ◌==◌, ℕ, zero, suc, ◌<◌, ◌≤◌, ◌+◌, Bool, true, false, ◌||◌, if◌then◌else◌, true≢false, List, [], ◌∷◌, ◌++◌, map, length, get_or, sym, refl, ap, ◌∙◌, subst, inl, inr, ⊎_elim, append_assoc, append-nil, eq-eqb, ne_eqb, arith}
-use Rattle.std.specs.Prelude.{All, filter, slice_index, slice_index_or, IfNone, Option, Some, None}
+use Rattle.std.proofs.Common.{◌≡◌, ◌≢◌, ◌⊎◌, ◌==◌, ℕ, ◌<◌, ◌≤◌, ◌+◌, Bool, true, false, ◌||◌, if◌then◌else◌, true≢false, List, [], ◌∷◌, ◌++◌, map, length, sym, refl, ap, ◌∙◌, subst, inl, inr, ⊎_elim, append_assoc, eq-eqb, ne_eqb, arith}
+use Rattle.std.specs.Prelude.{All, slice_index, slice_index_or, IfNone, Option, Some, None}
 use Rattle.std.proofs.lemmas.Bool.{cases_eq, true_from_ne_false}
 use Rattle.std.proofs.lemmas.List.Elements.{All-nil, All-cons, All-head, All-tail}
 use Rattle.std.proofs.lemmas.List.Sums.{sum_by-cons}
-use Rattle.tk_columns.specs.Mixing.{IsWorkerOf, Mix, of_worker}
+use Rattle.tk_columns.specs.Mixing.{IsWorkerOf, Mix}
 use Rattle.tk_replay.specs.Limits.{most_workers, places}
 use Rattle.tk_replay.specs.Core.{Core, IsCore, worker_of, items_of, entry, entries, script}
 use Rattle.tk_queue.specs.Session.{Stands, Concludes, receiver}
 use Rattle.tk_queue.specs.Ends.{Least, Emits, lists, tokens_of, token_of, is_marked, is_mark_of}
 use Rattle.tk_events.specs.declared.events.Event.{Event}
-use Rattle.tk_events.specs.declared.events.Entry.{Entry}
 use Rattle.tk_replay.specs.declared.items.Item.{Item}
 use Rattle.tk_replay.specs.declared.items.Item.TheVariants.{Entry as Emitted, End}
 use Rattle.tk_replay.proofs.CoreSteps.{filter-append}
@@ -69,11 +68,11 @@ found : (c : Core) (w : ℕ) (tokens : List Emits) → All (Stands c) (map token
 found c w [] all some = absurd (omega arith)
 found c w (t ∷ ts) all some = ⊎_elim
     (λ (e : t.worker ≡ w).
-        let head = All-head (Stands c) (token_of t) (map token_of ts) all in
-        (ap c.ended (sym e) ∙ head.0, same_if w t ts e ∙ head.1 ∙ ap c.sent e))
+    let head = All-head (Stands c) (token_of t) (map token_of ts) all in
+    (ap c.ended (sym e) ∙ head.0, same_if w t ts e ∙ head.1 ∙ ap c.sent e))
     (λ (n : t.worker ≢ w).
-        let rest = found c w ts (All-tail (Stands c) (token_of t) (map token_of ts) all) (subst (λ k. 0 < k) (other_count w t ts n) some) in
-        (rest.0, other_if w t ts n ∙ rest.1))
+    let rest = found c w ts (All-tail (Stands c) (token_of t) (map token_of ts) all) (subst (λ k. 0 < k) (other_count w t ts n) some) in
+    (rest.0, other_if w t ts n ∙ rest.1))
     (cases_eq t.worker w)
 
 marked_among : (w : ℕ) (xs : List Item) → is_marked w (items_of w xs) ≡ is_marked w xs
@@ -82,9 +81,9 @@ marked_among w (Emitted e ∷ xs) =
     elim (e.worker == w) as (λ b. is_marked w (if b then Emitted e ∷ items_of w xs else items_of w xs) ≡ is_marked w xs) [ true ↦ marked_among w xs | false ↦ marked_among w xs ]
 marked_among w (End v ∷ xs) = ⊎_elim
     (λ (e : v ≡ w). let yes = eq-eqb v w e in
-        ap (λ (b : Bool). is_marked w (if b then End v ∷ items_of w xs else items_of w xs)) yes ∙ ap (λ (b : Bool). b || is_marked w (items_of w xs)) yes ∙ sym (ap (λ (b : Bool). b || is_marked w xs) yes))
+    ap (λ (b : Bool). is_marked w (if b then End v ∷ items_of w xs else items_of w xs)) yes ∙ ap (λ (b : Bool). b || is_marked w (items_of w xs)) yes ∙ sym (ap (λ (b : Bool). b || is_marked w xs) yes))
     (λ (n : v ≢ w). let no = ne_eqb v w n in
-        ap (λ (b : Bool). is_marked w (if b then End v ∷ items_of w xs else items_of w xs)) no ∙ marked_among w xs ∙ sym (ap (λ (b : Bool). b || is_marked w xs) no))
+    ap (λ (b : Bool). is_marked w (if b then End v ∷ items_of w xs else items_of w xs)) no ∙ marked_among w xs ∙ sym (ap (λ (b : Bool). b || is_marked w xs) no))
     (cases_eq v w)
 
 front_nil : (xs ys : List Item) → xs ++ ys ≡ [] → xs ≡ []
@@ -110,8 +109,8 @@ all_workers : (n : ℕ) (c : Core) → IsCore n c → (before xs : List Item) �
 all_workers n c k before [] whole = All-nil (λ e. IsWorkerOf n e.worker)
 all_workers n c k before (Emitted e ∷ xs) whole =
     All-cons (λ a. IsWorkerOf n a.worker) e (entries xs)
-        (holder_worker n before (Emitted e) (xs ++ c.waiting) c (ap (λ l. l ++ c.waiting) whole ∙ append_assoc before (Emitted e ∷ xs) c.waiting) k)
-        (all_workers n c k (before ++ Emitted e ∷ []) xs (whole ∙ sym (append_assoc before (Emitted e ∷ []) xs)))
+    (holder_worker n before (Emitted e) (xs ++ c.waiting) c (ap (λ l. l ++ c.waiting) whole ∙ append_assoc before (Emitted e ∷ xs) c.waiting) k)
+    (all_workers n c k (before ++ Emitted e ∷ []) xs (whole ∙ sym (append_assoc before (Emitted e ∷ []) xs)))
 all_workers n c k before (End w ∷ xs) whole = all_workers n c k (before ++ End w ∷ []) xs (whole ∙ sym (append_assoc before (End w ∷ []) xs))
 
 -- where each worker has a token and its mark was taken, what was taken mixes the tokens' lists
@@ -126,7 +125,7 @@ mixes known n taken tokens items once drained concludes =
       each = λ w is.
           let t = found c w tokens concludes.4 (let one = once w is in omega arith) in
           let whole : items_of w taken ++ items_of w c.waiting ≡ map (entry w) (c.sent w) ++ End w ∷ [] =
-              ap (λ l. items_of w l ++ items_of w c.waiting) (sym same) ∙ sym (filter-append (λ x. worker_of x == w) c.taken c.waiting) ∙ k.kept w ∙ ap (script w (c.sent w)) t.0 in
+          ap (λ l. items_of w l ++ items_of w c.waiting) (sym same) ∙ sym (filter-append (λ x. worker_of x == w) c.taken c.waiting) ∙ k.kept w ∙ ap (script w (c.sent w)) t.0 in
           let mine : items_of w taken ≡ map (entry w) (c.sent w) ++ End w ∷ [] = upto_mark w (c.sent w) (items_of w taken) (items_of w c.waiting) whole (marked_among w taken ∙ drained w is) in
           events_among w taken ∙ ap events_in mine ∙ events_scripted w (c.sent w) true ∙ sym t.1;
     }

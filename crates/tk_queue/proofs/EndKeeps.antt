@@ -1,9 +1,8 @@
 -- A sender's and a receiver's fields stand for their views after each call.
-use Rattle.std.proofs.Common.{◌≡◌, ◌≢◌, ◌⊎◌, ◌==◌, ℕ, zero, suc, ◌<◌, ◌≤◌, ◌+◌, ◌-◌, Bool, true, false, ◌||◌, ◌&&◌, not, cond, ltb, if◌then◌else◌, List, [], ◌∷◌, ◌++◌, length, map, set, sym, refl, ap, ◌∙◌, subst, inl, inr, ⊎_elim, arith, length-append, append-nil, eq-eqb, ne_eqb, true≢false, add-one}
-use Rattle.std.specs.Prelude.{slice_index_or, slice_get, filter, nat_lt, Option, Some, None, option_map, is_some, All, count_by, nat_le, Result, Ok}
+use Rattle.std.proofs.Common.{◌≡◌, ◌≢◌, ◌==◌, ℕ, zero, suc, ◌<◌, ◌≤◌, ◌+◌, ◌-◌, Bool, true, false, ◌||◌, ◌&&◌, not, cond, ltb, if◌then◌else◌, List, [], ◌∷◌, ◌++◌, length, map, set, sym, refl, ap, ◌∙◌, subst, ⊎_elim, arith, length-append, append-nil, eq-eqb, ne_eqb, add-one}
+use Rattle.std.specs.Prelude.{slice_index_or, slice_get, filter, nat_lt, Option, Some, None, option_map, is_some, count_by, nat_le, Ok}
 use Rattle.std.specs.Option.{option_or}
-use Rattle.std.specs.List.{list_any}
-use Rattle.std.proofs.lemmas.Bool.{cases_eq, cases_lt, cases_Bool, false≢true, lt-ltb, le-ltb, le-leb, ltb-true}
+use Rattle.std.proofs.lemmas.Bool.{cases_eq, cases_lt, false≢true, lt-ltb, le-ltb, le-leb, ltb-true}
 use Rattle.std.proofs.lemmas.List.{map-append, get_or-set_same, get_or-set_other}
 use Rattle.std.proofs.lemmas.List.Elements.{All-nil, All-push}
 use Rattle.std.proofs.lemmas.List.Sums.{sum_by-cons, sum_by-append}
@@ -19,21 +18,20 @@ use Rattle.tk_events.specs.declared.events.Entry.{Entry}
 use Rattle.tk_events.specs.Event.{is_lawful}
 use Rattle.tk_events.specs.Registration.{registered_key}
 use Rattle.tk_columns.specs.Entries.{described, of_kind, registers, registered, desc, desc_in}
-use Rattle.tk_columns.specs.Record.{is_next, is_known}
+use Rattle.tk_columns.specs.Record.{is_next}
 use Rattle.tk_columns.specs.Mixing.{IsWorkerOf, of_worker}
 use Rattle.tk_replay.specs.Limits.{most_workers, places}
 use Rattle.tk_replay.specs.declared.items.Item.{Item}
 use Rattle.tk_replay.specs.declared.items.Item.TheVariants.{Entry as Emitted, End}
 use Rattle.tk_replay.specs.Core.{worker_of, entry, entries}
 use Rattle.tk_replay.proofs.CoreSteps.{filter-append}
-use Rattle.tk_queue.specs.declared.senders.SendFault.{SendFault}
 use Rattle.tk_queue.specs.declared.senders.SendFault.TheVariants as unsent
 use Rattle.tk_queue.specs.declared.lines.View.{View}
 use Rattle.tk_queue.specs.Limits.{most_events}
-use Rattle.tk_queue.specs.Known.{MayEmit, Emission, is_dynamic, is_plain, registrations, entry_by, entries_by, is_known_behind}
+use Rattle.tk_queue.specs.Known.{MayEmit, is_dynamic, is_plain, registrations, entry_by, entries_by, is_known_behind}
 use Rattle.tk_queue.specs.Session.{sender, receiver, pushed, popped, Pops, MayTake, MayPush}
 use Rattle.tk_queue.specs.Session.{Follows as FollowsAmong}
-use Rattle.tk_queue.specs.Ends.{Emits, fresh_senders, own, knows, refusal_of, HasRoom, IsChildMade, child, registration, id_registered, IsSender, IsReceiver, IsRecordable, MayFollow, sent_of, taken_of, is_marked, is_mark_of}
+use Rattle.tk_queue.specs.Ends.{Emits, fresh_senders, knows, refusal_of, HasRoom, IsChildMade, id_registered, IsSender, IsReceiver, IsRecordable, MayFollow, sent_of, taken_of, is_marked, is_mark_of}
 use Rattle.tk_queue.proofs.KnownKeys.{emission_none, emission_more, some_desc, known_behind, own_entries, some_among, registers_among}
 
 -- ---- a sender
@@ -95,7 +93,7 @@ keeps v w table worker emitted ids later e h moved may room leads longer fits =
     let number : length later ≡ registrations (es ++ e ∷ []) = let n = h.number in let k = registrations-more es e in omega arith in
     let short : length es < most_events = subst (λ k. k < most_events) h.counted room in
     subst (λ u. IsSender u table worker later (emitted + 1)) (sym now)
-        (record { is = refl; counted = counted; leads = leads; number = number; few_ids = fits; may = emission_more (length table) worker es e h.may may short; low = h.low; high = h.high })
+    (record { is = refl; counted = counted; leads = leads; number = number; few_ids = fits; may = emission_more (length table) worker es e h.may may short; low = h.low; high = h.high })
 
 or_none : {X : Type 0} (o : Option X) → option_or o None ≡ o
 or_none None = refl
@@ -109,9 +107,9 @@ pub sender_sends : (v w : View) (table : List Descriptor) (worker emitted : ℕ)
     → MayEmit (length table) worker (sent_of v) e → emitted < most_events → is_dynamic e ≡ false → IsSender w table worker ids (emitted + 1)
 sender_sends v w table worker emitted ids e h moved may room plain =
     keeps v w table worker emitted ids ids e h moved may room
-        (λ key. ap (option_map (λ (d : Descriptor). d.id)) (desc_after worker (sent_of v) e key ∙ ap (option_or (desc_in (entries_by worker (sent_of v)) key)) (not_registered worker e key plain) ∙ or_none (desc_in (entries_by worker (sent_of v)) key)) ∙ h.leads key)
-        (let z : weight e ≡ 0 = ap (λ (b : Bool). cond {A = ℕ} b 1 0) plain in omega arith)
-        h.few_ids
+    (λ key. ap (option_map (λ (d : Descriptor). d.id)) (desc_after worker (sent_of v) e key ∙ ap (option_or (desc_in (entries_by worker (sent_of v)) key)) (not_registered worker e key plain) ∙ or_none (desc_in (entries_by worker (sent_of v)) key)) ∙ h.leads key)
+    (let z : weight e ≡ 0 = ap (λ (b : Bool). cond {A = ℕ} b 1 0) plain in omega arith)
+    h.few_ids
 
 slice_get_front : {X : Type 0} (xs ys : List X) (k : ℕ) → k < length xs → slice_get (xs ++ ys) k ≡ slice_get xs k
 slice_get_front [] ys k lt = absurd (omega arith)
@@ -139,23 +137,23 @@ id_at worker ids j key is = ⊎_elim
     (λ (lt : key < registered_key worker 0). absurd (omega arith))
     (λ (le : registered_key worker 0 ≤ key). ap (λ (b : Bool). if b then None else slice_get ids (key - registered_key worker 0)) (not_below le) ∙ ap (slice_get ids) (let t : key - registered_key worker 0 ≡ j = omega arith in t))
     (cases_lt key (registered_key worker 0)) where
-  not_below : registered_key worker 0 ≤ key → nat_lt key (registered_key worker 0) ≡ false
-  not_below le = le-ltb key (registered_key worker 0) le
+      not_below : registered_key worker 0 ≤ key → nat_lt key (registered_key worker 0) ≡ false
+      not_below le = le-ltb key (registered_key worker 0) le
 
 ids_more : (worker : ℕ) (ids : List (List Pair)) (id : List Pair) (key : ℕ) → key ≢ registered_key worker (length ids) → id_registered worker (ids ++ id ∷ []) key ≡ id_registered worker ids key
 ids_more worker ids id key apart =
     ⊎_elim
-      (λ (lt : key < registered_key worker 0). ap (λ (b : Bool). if b then None else slice_get (ids ++ id ∷ []) (key - registered_key worker 0)) (below lt) ∙ sym (ap (λ (b : Bool). if b then None else slice_get ids (key - registered_key worker 0)) (below lt)))
-      (λ (le : registered_key worker 0 ≤ key).
-          id_at worker (ids ++ id ∷ []) (key - registered_key worker 0) key (omega arith)
-          ∙ ⊎_elim (λ (lt : key - registered_key worker 0 < length ids). slice_get_front ids (id ∷ []) (key - registered_key worker 0) lt)
-              (λ (past : length ids ≤ key - registered_key worker 0).
-                  slice_get_beyond (ids ++ id ∷ []) (key - registered_key worker 0) (omega (arith, length-append ids (id ∷ []))) ∙ sym (slice_get_beyond ids (key - registered_key worker 0) past))
-              (cases_lt (key - registered_key worker 0) (length ids))
-          ∙ sym (id_at worker ids (key - registered_key worker 0) key (omega arith)))
-      (cases_lt key (registered_key worker 0)) where
-  below : key < registered_key worker 0 → nat_lt key (registered_key worker 0) ≡ true
-  below lt = lt-ltb key (registered_key worker 0) lt
+    (λ (lt : key < registered_key worker 0). ap (λ (b : Bool). if b then None else slice_get (ids ++ id ∷ []) (key - registered_key worker 0)) (below lt) ∙ sym (ap (λ (b : Bool). if b then None else slice_get ids (key - registered_key worker 0)) (below lt)))
+    (λ (le : registered_key worker 0 ≤ key).
+    id_at worker (ids ++ id ∷ []) (key - registered_key worker 0) key (omega arith)
+    ∙ ⊎_elim (λ (lt : key - registered_key worker 0 < length ids). slice_get_front ids (id ∷ []) (key - registered_key worker 0) lt)
+    (λ (past : length ids ≤ key - registered_key worker 0).
+    slice_get_beyond (ids ++ id ∷ []) (key - registered_key worker 0) (omega (arith, length-append ids (id ∷ []))) ∙ sym (slice_get_beyond ids (key - registered_key worker 0) past))
+    (cases_lt (key - registered_key worker 0) (length ids))
+    ∙ sym (id_at worker ids (key - registered_key worker 0) key (omega arith)))
+    (cases_lt key (registered_key worker 0)) where
+      below : key < registered_key worker 0 → nat_lt key (registered_key worker 0) ≡ true
+      below lt = lt-ltb key (registered_key worker 0) lt
 
 -- how many descriptors the worker registered, by its entries
 counted_by : (worker : ℕ) (es : List Event) → count_by (registers worker) (entries_by worker es) ≡ registrations es
@@ -165,9 +163,9 @@ counted_by worker (e ∷ es) =
     ∙ ap (λ n. cond {A = ℕ} (registers worker (entry_by worker e)) 1 0 + n) (counted_by worker es)
     ∙ ap (λ (b : Bool). cond {A = ℕ} b 1 0 + registrations es) (ap (λ b. is_dynamic e && b) (eq-eqb worker worker refl) ∙ and_true (is_dynamic e))
     ∙ sym (sum_by-cons weight e es) where
-  and_true : (b : Bool) → (b && true) ≡ b
-  and_true true = refl
-  and_true false = refl
+      and_true : (b : Bool) → (b && true) ≡ b
+      and_true true = refl
+      and_true false = refl
 
 all_true : (a b c d : Bool) → a ≡ true → b ≡ true → c ≡ true → d ≡ true → (((a && b) && c) && d) ≡ true
 all_true a b c d p q r t = λ i. ((p i && q i) && r i) && t i
@@ -192,17 +190,17 @@ sender_registers v w table worker emitted key stamp ids d h is moved room few =
     let e : Event = record { kind = Dynamic; key = key; stamp = stamp; payload = Described d } in
     let es = sent_of v in
     keeps v w table worker emitted ids (ids ++ d.id ∷ []) e h moved (registration_may v table worker emitted key stamp ids d h is few) room
-        (λ k. ⊎_elim
-            (λ (same : k ≡ key).
-                let past : desc_in (entries_by worker es) k ≡ None = no_id (desc_in (entries_by worker es) k) (h.leads k ∙ id_at worker ids (length ids) k (same ∙ is) ∙ slice_get_beyond ids (length ids) (omega arith)) in
-                ap (option_map (λ (x : Descriptor). x.id)) (desc_after worker es e k ∙ ap (λ o. option_or o (registered k (entry_by worker e))) past ∙ ap (λ (b : Bool). if b then Some d else None) (eq-eqb key k (sym same)))
-                ∙ sym (id_at worker (ids ++ d.id ∷ []) (length ids) k (same ∙ is) ∙ slice_get_last ids d.id (length ids) refl))
-            (λ (apart : k ≢ key).
-                ap (option_map (λ (x : Descriptor). x.id)) (desc_after worker es e k ∙ ap (λ (b : Bool). option_or (desc_in (entries_by worker es) k) (if b then Some d else None)) (ne_eqb key k (λ i. apart (sym i))) ∙ or_none (desc_in (entries_by worker es) k))
-                ∙ h.leads k ∙ sym (ids_more worker ids d.id k (λ i. apart (i ∙ sym is))))
-            (cases_eq k key))
-        (omega (arith, length-append ids (d.id ∷ [])))
-        (omega (arith, length-append ids (d.id ∷ [])))
+    (λ k. ⊎_elim
+    (λ (same : k ≡ key).
+    let past : desc_in (entries_by worker es) k ≡ None = no_id (desc_in (entries_by worker es) k) (h.leads k ∙ id_at worker ids (length ids) k (same ∙ is) ∙ slice_get_beyond ids (length ids) (omega arith)) in
+    ap (option_map (λ (x : Descriptor). x.id)) (desc_after worker es e k ∙ ap (λ o. option_or o (registered k (entry_by worker e))) past ∙ ap (λ (b : Bool). if b then Some d else None) (eq-eqb key k (sym same)))
+    ∙ sym (id_at worker (ids ++ d.id ∷ []) (length ids) k (same ∙ is) ∙ slice_get_last ids d.id (length ids) refl))
+    (λ (apart : k ≢ key).
+    ap (option_map (λ (x : Descriptor). x.id)) (desc_after worker es e k ∙ ap (λ (b : Bool). option_or (desc_in (entries_by worker es) k) (if b then Some d else None)) (ne_eqb key k (λ i. apart (sym i))) ∙ or_none (desc_in (entries_by worker es) k))
+    ∙ h.leads k ∙ sym (ids_more worker ids d.id k (λ i. apart (i ∙ sym is))))
+    (cases_eq k key))
+    (omega (arith, length-append ids (d.id ∷ [])))
+    (omega (arith, length-append ids (d.id ∷ [])))
 
 -- ---- what a sender may push
 
@@ -232,7 +230,7 @@ pub plain_may : (table : List Descriptor) (w : ℕ) (es : List Event) (e : Event
 plain_may table w es e plain known = record {
   lawful = and_left (is_lawful e.kind e.payload) (not (is_dynamic e)) plain;
   known = ap (λ (b : Bool). if b then is_next (record { table = []; entries = entries_by w es }) (entry_by w e) else (nat_lt e.key (length table) || is_some (desc_in (entries_by w es) e.key)))
-        (not_true (is_dynamic e) (and_right (is_lawful e.kind e.payload) (not (is_dynamic e)) plain))
+      (not_true (is_dynamic e) (and_right (is_lawful e.kind e.payload) (not (is_dynamic e)) plain))
       ∙ sym (some_desc table (entries_by w es) e.key) ∙ known;
 }
 
@@ -276,16 +274,16 @@ of_worker-append w xs ys = ap (map (λ (e : Entry). e.event)) (filter-append (λ
 pub few_more : (taken : List Entry) (e : Entry) → ((w : ℕ) → length (of_worker w taken) ≤ most_events) → length (of_worker e.worker taken) < most_events → (w : ℕ) → length (of_worker w (taken ++ e ∷ [])) ≤ most_events
 few_more taken e few room w =
     subst (λ l. length l ≤ most_events) (sym (of_worker-append w taken (e ∷ [])))
-        (⊎_elim
-            (λ (same : e.worker ≡ w).
-                let one : of_worker w (e ∷ []) ≡ e.event ∷ [] = ap (λ (b : Bool). map (λ (a : Entry). a.event) (if b then e ∷ [] else [])) (eq-eqb e.worker w same) in
-                subst (λ l. length (of_worker w taken ++ l) ≤ most_events) (sym one) (longer (of_worker w taken) e.event (subst (λ v. length (of_worker v taken) < most_events) same room)))
-            (λ (apart : e.worker ≢ w).
-                let none : of_worker w (e ∷ []) ≡ [] = ap (λ (b : Bool). map (λ (a : Entry). a.event) (if b then e ∷ [] else [])) (ne_eqb e.worker w apart) in
-                subst (λ l. length (of_worker w taken ++ l) ≤ most_events) (sym none) (subst (λ l. length l ≤ most_events) (sym (append-nil (of_worker w taken))) (few w)))
-            (cases_eq e.worker w)) where
-  longer : (es : List Event) (a : Event) → length es < most_events → length (es ++ a ∷ []) ≤ most_events
-  longer es a lt = omega (arith, length-append es (a ∷ []))
+    (⊎_elim
+    (λ (same : e.worker ≡ w).
+    let one : of_worker w (e ∷ []) ≡ e.event ∷ [] = ap (λ (b : Bool). map (λ (a : Entry). a.event) (if b then e ∷ [] else [])) (eq-eqb e.worker w same) in
+    subst (λ l. length (of_worker w taken ++ l) ≤ most_events) (sym one) (longer (of_worker w taken) e.event (subst (λ v. length (of_worker v taken) < most_events) same room)))
+    (λ (apart : e.worker ≢ w).
+    let none : of_worker w (e ∷ []) ≡ [] = ap (λ (b : Bool). map (λ (a : Entry). a.event) (if b then e ∷ [] else [])) (ne_eqb e.worker w apart) in
+    subst (λ l. length (of_worker w taken ++ l) ≤ most_events) (sym none) (subst (λ l. length l ≤ most_events) (sym (append-nil (of_worker w taken))) (few w)))
+    (cases_eq e.worker w)) where
+      longer : (es : List Event) (a : Event) → length es < most_events → length (es ++ a ∷ []) ≤ most_events
+      longer es a lt = omega (arith, length-append es (a ∷ []))
 
 marked-append : (w : ℕ) (xs ys : List Item) → is_marked w (xs ++ ys) ≡ (is_marked w xs || is_marked w ys)
 marked-append w [] ys = refl
@@ -324,12 +322,12 @@ takes_entry v w table workers marked e h p =
       few = few_more taken e h.recordable.few f.1.1;
     } in
     subst (λ u. IsReceiver u table workers marked) (sym (taken_now v w table workers marked (Emitted e) h p))
-        (record {
-          is = refl;
-          recordable = subst (IsRecordable workers) (sym (entries-append (taken_of v) (Emitted e ∷ []))) more;
-          long = h.long;
-          marks = λ u lt. h.marks u lt ∙ sym (marked-append u (taken_of v) (Emitted e ∷ []) ∙ or_false (is_marked u (taken_of v)));
-        })
+    (record {
+      is = refl;
+      recordable = subst (IsRecordable workers) (sym (entries-append (taken_of v) (Emitted e ∷ []))) more;
+      long = h.long;
+      marks = λ u lt. h.marks u lt ∙ sym (marked-append u (taken_of v) (Emitted e ∷ []) ∙ or_false (is_marked u (taken_of v)));
+    })
 
 pub takes_mark : (v w : View) (table : List Descriptor) (workers : ℕ) (marked : List Bool) (k : ℕ) → IsReceiver v table workers marked → Pops v (End k) w → (k < places) × IsReceiver w table workers (set marked k true)
 takes_mark v w table workers marked k h p =
@@ -343,18 +341,18 @@ takes_mark v w table workers marked k h p =
             long = ap (λ (n : ℕ). n) (length_set marked k) ∙ h.long;
             marks = λ u lt. ⊎_elim
                 (λ (same : u ≡ k).
-                    ap (λ j. slice_index_or (set marked k true) j false) same ∙ get_or-set_same marked k true false (subst (λ n. k < n) (sym h.long) within)
-                    ∙ sym (marked-append u (taken_of v) (End k ∷ []) ∙ ap (λ (b : Bool). is_marked u (taken_of v) || (b || false)) (eq-eqb k u (sym same)) ∙ or_true (is_marked u (taken_of v))))
+                ap (λ j. slice_index_or (set marked k true) j false) same ∙ get_or-set_same marked k true false (subst (λ n. k < n) (sym h.long) within)
+                ∙ sym (marked-append u (taken_of v) (End k ∷ []) ∙ ap (λ (b : Bool). is_marked u (taken_of v) || (b || false)) (eq-eqb k u (sym same)) ∙ or_true (is_marked u (taken_of v))))
                 (λ (apart : u ≢ k).
-                    get_or-set_other marked k u true false apart ∙ h.marks u lt
-                    ∙ sym (marked-append u (taken_of v) (End k ∷ []) ∙ ap (λ (b : Bool). is_marked u (taken_of v) || (b || false)) (ne_eqb k u (λ e. apart (sym e))) ∙ or_false (is_marked u (taken_of v))))
+                get_or-set_other marked k u true false apart ∙ h.marks u lt
+                ∙ sym (marked-append u (taken_of v) (End k ∷ []) ∙ ap (λ (b : Bool). is_marked u (taken_of v) || (b || false)) (ne_eqb k u (λ e. apart (sym e))) ∙ or_false (is_marked u (taken_of v))))
                 (cases_eq u k);
           }),
     ) where
-  length_set : (l : List Bool) (i : ℕ) → length (set l i true) ≡ length l
-  length_set [] i = refl
-  length_set (b ∷ l) zero = refl
-  length_set (b ∷ l) (suc i) = ap suc (length_set l i)
+      length_set : (l : List Bool) (i : ℕ) → length (set l i true) ≡ length l
+      length_set [] i = refl
+      length_set (b ∷ l) zero = refl
+      length_set (b ∷ l) (suc i) = ap suc (length_set l i)
 
 -- what is known behind a worker's own entries is known behind all
 pub known_among : (n : ℕ) (es : List Entry) (e : Entry) → is_known_behind n (entries_by e.worker (of_worker e.worker es)) e ≡ true → is_known_behind n es e ≡ true
@@ -363,9 +361,11 @@ known_among n es e h =
   where
     mine : List Entry
     mine = filter (λ x. x.worker == e.worker) es
+
     or_mono : (a b c : Bool) → (b ≡ true → c ≡ true) → (a || b) ≡ true → (a || c) ≡ true
     or_mono true b c f h = refl
     or_mono false b c f h = f h
+
     by_kind : (k : Bool) → (if k then is_next (record { table = []; entries = mine }) e else (nat_lt e.event.key n || is_some (desc_in mine e.event.key))) ≡ true
         → (if k then is_next (record { table = []; entries = es }) e else (nat_lt e.event.key n || is_some (desc_in es e.event.key))) ≡ true
     by_kind true h = subst (λ c. ((ltb 0 e.worker && nat_le e.worker most_workers && nat_lt c MAX_DESCRIPTORS) && (e.event.key == registered_key e.worker c)) ≡ true) (registers_among e.worker es) h

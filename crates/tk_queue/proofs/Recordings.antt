@@ -1,27 +1,23 @@
 -- What is taken from a session can be recorded.
-use Rattle.std.proofs.Common.{◌≡◌, ◌≢◌, ◌⊎◌, ◌==◌, ℕ, zero, suc, ◌<◌, ◌≤◌, ◌+◌, ◌*◌, Bool, true, false, ◌||◌, ◌&&◌, not, cond, ltb, if◌then◌else◌, List, [], ◌∷◌, ◌++◌, length, map, sym, refl, ap, ◌∙◌, subst, ⊎_elim, arith, length-append, eq-eqb, ne_eqb}
+use Rattle.std.proofs.Common.{◌≡◌, ◌≢◌, ◌==◌, ℕ, zero, suc, ◌<◌, ◌≤◌, ◌+◌, ◌*◌, Bool, true, false, ◌||◌, ◌&&◌, not, cond, ltb, if◌then◌else◌, List, [], ◌∷◌, ◌++◌, length, map, sym, refl, ap, ◌∙◌, subst, ⊎_elim, arith, length-append, eq-eqb, ne_eqb}
 use Rattle.std.specs.Prelude.{filter, nat_lt, nat_le, Option, Some, None, is_some, All, count_by}
 use Rattle.std.specs.Option.{option_or}
-use Rattle.std.proofs.lemmas.Bool.{cases_eq, false≢true, lt-ltb, le-ltb}
-use Rattle.std.proofs.lemmas.List.{length-map}
+use Rattle.std.proofs.lemmas.Bool.{cases_eq, lt-ltb, le-ltb}
 use Rattle.std.proofs.lemmas.List.Elements.{All-nil, All-cons, All-head, All-tail, All-push}
 use Rattle.std.proofs.lemmas.List.Sums.{sum_by-cons, sum_by-append}
 use Rattle.tk_ids.specs.declared.tables.Descriptor.{Descriptor}
 use Rattle.tk_ids.specs.declared.tables.TheConstants.{MAX_DESCRIPTORS}
 use Rattle.tk_events.specs.declared.kinds.Kind.TheVariants.{Dynamic}
-use Rattle.tk_events.specs.declared.events.Event.{Event}
 use Rattle.tk_events.specs.declared.events.Entry.{Entry}
 use Rattle.tk_events.specs.Event.{is_lawful}
 use Rattle.tk_events.specs.Registration.{registered_key}
 use Rattle.tk_columns.specs.declared.records.TheConstants.{MAX_ENTRIES}
 use Rattle.tk_columns.specs.declared.records.AppendFault.TheVariants as appends
-use Rattle.tk_columns.specs.Entries.{of_kind, registers, registered, desc, desc_in}
-use Rattle.tk_columns.specs.Record.{is_next, is_known, fault_of}
+use Rattle.tk_columns.specs.Entries.{of_kind, registers, registered, desc_in}
+use Rattle.tk_columns.specs.Record.{is_next, is_known}
 use Rattle.tk_columns.specs.Mixing.{IsWorkerOf, of_worker}
 use Rattle.tk_replay.specs.Limits.{most_workers}
 use Rattle.tk_queue.specs.Limits.{most_events}
-use Rattle.tk_queue.specs.Known.{is_known_behind}
-use Rattle.tk_queue.specs.Ends.{MayFollow, IsRecordable}
 use Rattle.tk_queue.specs.Recording.{IsNeverRefused, IsShort}
 use Rattle.tk_queue.proofs.KnownKeys.{known_behind}
 use Rattle.tk_queue.proofs.EndKeeps.{few_more}
@@ -34,19 +30,19 @@ length_without : (w : ℕ) (es : List Entry) → length es ≡ length (of_worker
 length_without w [] = refl
 length_without w (e ∷ es) =
     elim (e.worker == w) as (λ b. length (e ∷ es) ≡ length (map (λ (x : Entry). x.event) (if b then e ∷ filter (λ x. x.worker == w) es else filter (λ x. x.worker == w) es)) + length (if not b then e ∷ without w es else without w es))
-        [ true ↦ (let h = length_without w es in omega arith) | false ↦ (let h = length_without w es in omega arith) ]
+    [ true ↦ (let h = length_without w es in omega arith) | false ↦ (let h = length_without w es in omega arith) ]
 
 -- a worker's events stay when those of another go
 kept_without : (w v : ℕ) (es : List Entry) → v ≢ w → of_worker v (without w es) ≡ of_worker v es
 kept_without w v [] apart = refl
 kept_without w v (e ∷ es) apart = ⊎_elim
     (λ (same : e.worker ≡ w).
-        ap (λ (b : Bool). of_worker v (if not b then e ∷ without w es else without w es)) (eq-eqb e.worker w same) ∙ kept_without w v es apart
-        ∙ sym (ap (λ (b : Bool). map (λ (x : Entry). x.event) (if b then e ∷ filter (λ x. x.worker == v) es else filter (λ x. x.worker == v) es)) (ne_eqb e.worker v (λ is. apart (sym is ∙ same)))))
+    ap (λ (b : Bool). of_worker v (if not b then e ∷ without w es else without w es)) (eq-eqb e.worker w same) ∙ kept_without w v es apart
+    ∙ sym (ap (λ (b : Bool). map (λ (x : Entry). x.event) (if b then e ∷ filter (λ x. x.worker == v) es else filter (λ x. x.worker == v) es)) (ne_eqb e.worker v (λ is. apart (sym is ∙ same)))))
     (λ (other : e.worker ≢ w).
-        ap (λ (b : Bool). of_worker v (if not b then e ∷ without w es else without w es)) (ne_eqb e.worker w other)
-        ∙ elim (e.worker == v) as (λ b. map (λ (x : Entry). x.event) (if b then e ∷ filter (λ x. x.worker == v) (without w es) else filter (λ x. x.worker == v) (without w es)) ≡ map (λ (x : Entry). x.event) (if b then e ∷ filter (λ x. x.worker == v) es else filter (λ x. x.worker == v) es))
-            [ true ↦ ap (λ l. e.event ∷ l) (kept_without w v es apart) | false ↦ kept_without w v es apart ])
+    ap (λ (b : Bool). of_worker v (if not b then e ∷ without w es else without w es)) (ne_eqb e.worker w other)
+    ∙ elim (e.worker == v) as (λ b. map (λ (x : Entry). x.event) (if b then e ∷ filter (λ x. x.worker == v) (without w es) else filter (λ x. x.worker == v) (without w es)) ≡ map (λ (x : Entry). x.event) (if b then e ∷ filter (λ x. x.worker == v) es else filter (λ x. x.worker == v) es))
+    [ true ↦ ap (λ l. e.event ∷ l) (kept_without w v es apart) | false ↦ kept_without w v es apart ])
     (cases_eq e.worker w)
 
 fewer_workers : (n : ℕ) (es : List Entry) → All (λ e. IsWorkerOf (suc n) e.worker) es → All (λ e. IsWorkerOf n e.worker) (without (suc n) es)
@@ -57,7 +53,7 @@ fewer_workers n (e ∷ es) all =
     ⊎_elim
     (λ (same : e.worker ≡ suc n). subst (λ (b : Bool). All (λ x. IsWorkerOf n x.worker) (if not b then e ∷ without (suc n) es else without (suc n) es)) (sym (eq-eqb e.worker (suc n) same)) rest)
     (λ (other : e.worker ≢ suc n). subst (λ (b : Bool). All (λ x. IsWorkerOf n x.worker) (if not b then e ∷ without (suc n) es else without (suc n) es)) (sym (ne_eqb e.worker (suc n) other))
-        (All-cons (λ x. IsWorkerOf n x.worker) e (without (suc n) es) (let low : 0 < e.worker = head.0 in let high : e.worker ≤ suc n = head.1 in (omega arith, omega arith)) rest))
+    (All-cons (λ x. IsWorkerOf n x.worker) e (without (suc n) es) (let low : 0 < e.worker = head.0 in let high : e.worker ≤ suc n = head.1 in (omega arith, omega arith)) rest))
     (cases_eq e.worker (suc n))
 
 -- as many workers emit no more than so many events together
@@ -66,9 +62,9 @@ short_by zero most [] all few = omega arith
 short_by zero most (e ∷ es) all few = let head = All-head (λ (x : Entry). IsWorkerOf zero x.worker) e es all in absurd (let low : 0 < e.worker = head.0 in let high : e.worker ≤ 0 = head.1 in omega arith)
 short_by (suc n) most es all few =
     let fewer : (w : ℕ) → length (of_worker w (without (suc n) es)) ≤ most = λ w. ⊎_elim
-        (λ (same : w ≡ suc n). subst (λ l. length l ≤ most) (sym (ap (λ v. of_worker v (without (suc n) es)) same ∙ gone (suc n) es)) (omega arith))
-        (λ (apart : w ≢ suc n). subst (λ l. length l ≤ most) (sym (kept_without (suc n) w es apart)) (few w))
-        (cases_eq w (suc n)) in
+    (λ (same : w ≡ suc n). subst (λ l. length l ≤ most) (sym (ap (λ v. of_worker v (without (suc n) es)) same ∙ gone (suc n) es)) (omega arith))
+    (λ (apart : w ≢ suc n). subst (λ l. length l ≤ most) (sym (kept_without (suc n) w es apart)) (few w))
+    (cases_eq w (suc n)) in
     let h = short_by n most (without (suc n) es) (fewer_workers n es all) fewer in
     let one = few (suc n) in
     let all_of = length_without (suc n) es in
@@ -76,11 +72,13 @@ short_by (suc n) most es all few =
   where
     more : (n most all own others : ℕ) → others ≤ n * most → own ≤ most → all ≡ own + others → all ≤ suc n * most
     more n most all own others h one is = grind arith
+
     gone : (w : ℕ) (es : List Entry) → of_worker w (without w es) ≡ []
     gone w [] = refl
-    gone w (e ∷ es) = elim (e.worker == w) as (λ b. e.worker == w ≡ b → of_worker w (if not b then e ∷ without w es else without w es) ≡ [])
-        [ true ↦ λ _. gone w es
-        | false ↦ λ is. ap (λ (b : Bool). map (λ (x : Entry). x.event) (if b then e ∷ filter (λ x. x.worker == w) (without w es) else filter (λ x. x.worker == w) (without w es))) is ∙ gone w es ] refl
+    gone w (e ∷ es) = elim (e.worker == w) as (λ b. e.worker == w ≡ b → of_worker w (if not b then e ∷ without w es else without w es) ≡ []) [
+      | true ↦ λ _. gone w es
+      | false ↦ λ is. ap (λ (b : Bool). map (λ (x : Entry). x.event) (if b then e ∷ filter (λ x. x.worker == w) (without w es) else filter (λ x. x.worker == w) (without w es))) is ∙ gone w es
+    ] refl
 
 pub is_short : IsShort
 is_short n taken r = short_by n most_events taken r.workers r.few
@@ -95,9 +93,9 @@ none_in_front w (x ∷ xs) all low =
     let other : (x.worker == w) ≡ false = ne_eqb x.worker w (λ same. absurd (omega arith)) in
     let one : cond {A = ℕ} (registers w x) 1 0 ≡ 0 = ap (λ (b : Bool). cond {A = ℕ} b 1 0) (ap (λ b. of_kind Dynamic x && b) other ∙ and_false (of_kind Dynamic x)) in
     omega (arith, one, rest, sum_by-cons (λ (y : Entry). cond {A = ℕ} (registers w y) 1 0) x xs) where
-  and_false : (b : Bool) → (b && false) ≡ false
-  and_false true = refl
-  and_false false = refl
+      and_false : (b : Bool) → (b && false) ≡ false
+      and_false true = refl
+      and_false false = refl
 
 counted_behind : (w : ℕ) (front taken : List Entry) → All (λ x. x.worker ≡ 0) front → 0 < w → count_by (registers w) (front ++ taken) ≡ count_by (registers w) taken
 counted_behind w front taken all low = omega (arith, none_in_front w front all low, sum_by-append (λ (y : Entry). cond {A = ℕ} (registers w y) 1 0) front taken)
@@ -120,9 +118,11 @@ known_past table front taken e all low h = known_behind table (front ++ taken) e
   where
     n : ℕ
     n = length table
+
     or_mono : (a b c : Bool) → (b ≡ true → c ≡ true) → (a || b) ≡ true → (a || c) ≡ true
     or_mono true b c f h = refl
     or_mono false b c f h = f h
+
     by_kind : (k : Bool) → (if k then is_next (record { table = []; entries = taken }) e else (nat_lt e.event.key n || is_some (desc_in taken e.event.key))) ≡ true
         → (if k then is_next (record { table = []; entries = front ++ taken }) e else (nat_lt e.event.key n || is_some (desc_in (front ++ taken) e.event.key))) ≡ true
     by_kind true h = subst (λ c. ((ltb 0 e.worker && nat_le e.worker most_workers && nat_lt c MAX_DESCRIPTORS) && (e.event.key == registered_key e.worker c)) ≡ true) (sym (counted_behind e.worker front taken all low)) h

@@ -1,6 +1,6 @@
 -- Each step of the queue keeps the rule of the session.
 use Rattle.std.proofs.Common.{◌≡◌, ◌≢◌, ◌⊎◌, ◌==◌, ℕ, zero, suc, ◌<◌, ◌≤◌, ◌+◌, ◌*◌, Bool, true, false, if◌then◌else◌, eq-eqb, length-append, true≢false, List, [], ◌∷◌, ◌++◌, length, set, sym, refl, ap, ◌∙◌, subst, inl, inr, ⊎_elim, arith}
-use Rattle.std.specs.Prelude.{All, ⊤}
+use Rattle.std.specs.Prelude.{⊤}
 use Rattle.std.proofs.lemmas.Bool.{cases_eq}
 use Rattle.std.proofs.lemmas.List.Elements.{All-nil, All-push, All-weaker}
 use mathlib.Core.Option.{some, some-injective, some-ne-none}
@@ -18,7 +18,7 @@ use Rattle.tk_queue.specs.declared.lines.View.TheVariants.{Sender, Receiver, Spe
 use Rattle.tk_columns.specs.Mixing.{IsWorkerOf, of_worker}
 use Rattle.tk_replay.specs.Core.{Core, IsCore, worker_of, push, put, take_first, items_of, entries}
 use Rattle.tk_queue.specs.Limits.{most_events}
-use Rattle.tk_queue.specs.Session.{Session, Fits, Stands, receiver, sender, new_receiver, pushed, popped, Pops, one_more, next_sender, with_token, Concludes, MayPush, IsNext, IsReader, IsFirst, MayTakeIn, Follows, MayTake, with_bit}
+use Rattle.tk_queue.specs.Session.{Session, Fits, Stands, receiver, sender, new_receiver, pushed, popped, Pops, one_more, next_sender, with_token, Concludes, MayPush, IsNext, IsReader, IsFirst, MayTakeIn, Follows, with_bit}
 use Rattle.tk_queue.specs.Steps.{PushIsStep, FullIsNone, TakeIsStep, EmptyIsNone, SplitIsNone, BitIsNone, JoinIsNone}
 use Rattle.tk_queue.specs.Known.{MayEmit, Emission}
 use Rattle.tk_queue.proofs.KnownKeys.{emission_none, emission_more}
@@ -83,11 +83,11 @@ own_worker s (End w) next = next
 push_emitted : (known : ℕ) (c : Core) (s : Sending) (x : Item) → IsNext s x → s.sent ≡ c.sent s.worker → s.known ≡ known → ((w : ℕ) → Emission known w (c.sent w)) → (w : ℕ) → Emission known w ((push x c).sent w)
 push_emitted known c s (Emitted e) next same k m w = ⊎_elim
     (λ (is : w ≡ e.worker).
-        let mine : c.sent e.worker ≡ s.sent = ap c.sent next.0 ∙ sym same in
-        let may : MayEmit known e.worker s.sent e.event = subst (λ (y : ℕ × ℕ). MayEmit y.0 y.1 s.sent e.event) (λ i. (k i, sym next.0 i)) next.1 in
-        let before : Emission known e.worker s.sent = subst (Emission known e.worker) mine (m e.worker) in
-        subst (λ v. Emission known v (put c.sent e.worker (c.sent e.worker ++ e.event ∷ []) v)) (sym is)
-            (subst (Emission known e.worker) (sym (put-same c.sent e.worker (c.sent e.worker ++ e.event ∷ []) ∙ ap (λ l. l ++ e.event ∷ []) mine)) (emission_more known e.worker s.sent e.event before may next.2)))
+    let mine : c.sent e.worker ≡ s.sent = ap c.sent next.0 ∙ sym same in
+    let may : MayEmit known e.worker s.sent e.event = subst (λ (y : ℕ × ℕ). MayEmit y.0 y.1 s.sent e.event) (λ i. (k i, sym next.0 i)) next.1 in
+    let before : Emission known e.worker s.sent = subst (Emission known e.worker) mine (m e.worker) in
+    subst (λ v. Emission known v (put c.sent e.worker (c.sent e.worker ++ e.event ∷ []) v)) (sym is)
+    (subst (Emission known e.worker) (sym (put-same c.sent e.worker (c.sent e.worker ++ e.event ∷ []) ∙ ap (λ l. l ++ e.event ∷ []) mine)) (emission_more known e.worker s.sent e.event before may next.2)))
     (λ (apart : w ≢ e.worker). subst (Emission known w) (sym (put-other c.sent e.worker (c.sent e.worker ++ e.event ∷ []) w apart)) (m w))
     (cases_eq w e.worker)
 push_emitted known c s (End v) next same k m w = m w
@@ -133,13 +133,13 @@ follows known n (Emitted e) xs c waits k m =
     let w = e.worker in
     let before = of_worker w (entries c.taken) in
     let split : c.sent w ≡ before ++ (e.event ∷ events_in (items_of w xs)) =
-        sym (events_scripted w (c.sent w) (c.ended w)) ∙ ap events_in (sym (k.kept w)) ∙ ap events_in (filter-append (λ y. worker_of y == w) c.taken c.waiting)
-        ∙ ap (λ l. events_in (items_of w c.taken ++ items_of w l)) waits ∙ ap (λ (b : Bool). events_in (items_of w c.taken ++ (if b then Emitted e ∷ items_of w xs else items_of w xs))) (eq-eqb w w refl)
-        ∙ events_in-append (items_of w c.taken) (Emitted e ∷ items_of w xs) ∙ ap (λ l. l ++ (e.event ∷ events_in (items_of w xs))) (sym (events_among w c.taken)) in
+    sym (events_scripted w (c.sent w) (c.ended w)) ∙ ap events_in (sym (k.kept w)) ∙ ap events_in (filter-append (λ y. worker_of y == w) c.taken c.waiting)
+    ∙ ap (λ l. events_in (items_of w c.taken ++ items_of w l)) waits ∙ ap (λ (b : Bool). events_in (items_of w c.taken ++ (if b then Emitted e ∷ items_of w xs else items_of w xs))) (eq-eqb w w refl)
+    ∙ events_in-append (items_of w c.taken) (Emitted e ∷ items_of w xs) ∙ ap (λ l. l ++ (e.event ∷ events_in (items_of w xs))) (sym (events_among w c.taken)) in
     let all = m w in
     (all.each before e.event (events_in (items_of w xs)) split, shorter before e.event (events_in (items_of w xs)) (subst (λ l. length l ≤ most_events) split all.few)) where
-  shorter : (before : List Event) (e : Event) (after : List Event) → length (before ++ e ∷ after) ≤ most_events → length before < most_events
-  shorter before e after few = omega (arith, length-append before (e ∷ after))
+      shorter : (before : List Event) (e : Event) (after : List Event) → length (before ++ e ∷ after) ≤ most_events → length before < most_events
+      shorter before e after few = omega (arith, length-append before (e ∷ after))
 follows known n (End w) xs c waits k m = tt
 
 -- a pop is the core's step
@@ -213,21 +213,20 @@ fork_step pass r items views h at =
     let w : r.workers + 1 ≡ h.workers + 1 = ap (λ n. n + 1) mine.1 in
     let fresh = h.lawful.others (h.workers + 1) (λ is. absurd (let le : h.workers + 1 ≤ h.workers = is.1 in omega arith)) in
     let old : Each F vs = each_set F views pass left (mine.0, w, mine.2, mine.3, mine.4)
-        (λ j u other e. fork_fits h.known h.workers h.reader h.seat (length vs) h.core j u (λ i. other (i ∙ sym mine.0)) (h.fits j u e)) in
-    (
-    record {
-      core = h.core;
-      known = h.known;
-      workers = h.workers + 1;
-      reader = h.reader;
-      seat = seat;
-      waits = h.waits;
-      lawful = widens h.workers h.core h.lawful;
-      emitted = h.emitted;
-      fits = each_snoc F vs (next_sender (Receiver r)) old
-          (sym (ap seat w ∙ put-same h.seat (h.workers + 1) (length vs)), subst (IsWorkerOf (h.workers + 1)) (sym w) (omega arith, omega arith), sym (ap h.core.sent w ∙ fresh.0), sym (ap h.core.ended w ∙ fresh.1), mine.4);
-    },
-    refl,
+    (λ j u other e. fork_fits h.known h.workers h.reader h.seat (length vs) h.core j u (λ i. other (i ∙ sym mine.0)) (h.fits j u e)) in (
+      record {
+        core = h.core;
+        known = h.known;
+        workers = h.workers + 1;
+        reader = h.reader;
+        seat = seat;
+        waits = h.waits;
+        lawful = widens h.workers h.core h.lawful;
+        emitted = h.emitted;
+        fits = each_snoc F vs (next_sender (Receiver r)) old
+            (sym (ap seat w ∙ put-same h.seat (h.workers + 1) (length vs)), subst (IsWorkerOf (h.workers + 1)) (sym w) (omega arith, omega arith), sym (ap h.core.sent w ∙ fresh.0), sym (ap h.core.ended w ∙ fresh.1), mine.4);
+      },
+      refl,
     )
 
 pub forks : (pass : ℕ) (r : Taking) → Forks Session pass (Receiver r) (one_more (Receiver r)) (next_sender (Receiver r))
@@ -249,23 +248,22 @@ bit_step b pass r none items views h at =
     let new : ℕ = 2 * r.known + b in
     let zero' : h.workers ≡ 0 = sym mine.1 ∙ none in
     let F : ℕ → View → Type 0 = Fits new 0 h.reader h.seat h.core in
-    let k : IsCore 0 h.core = subst (λ n. IsCore n h.core) zero' h.lawful in
-    (
-    record {
-      core = h.core;
-      known = new;
-      workers = 0;
-      reader = h.reader;
-      seat = h.seat;
-      waits = h.waits;
-      lawful = k;
-      emitted = λ w. subst (Emission new w) (sym (k.others w (λ is. absurd (let low = is.0 in let high = is.1 in omega arith))).0) (emission_none new w);
-      fits = each_snoc F vs Spent
-          (each_set F views pass left (mine.0, none, mine.2, mine.3, refl)
-              (λ j u other e. bit_fits h.known new h.reader h.seat h.core j u (λ i. other (i ∙ sym mine.0)) (subst (λ n. Fits h.known n h.reader h.seat h.core j u) zero' (h.fits j u e))))
-          tt;
-    },
-    refl,
+    let k : IsCore 0 h.core = subst (λ n. IsCore n h.core) zero' h.lawful in (
+      record {
+        core = h.core;
+        known = new;
+        workers = 0;
+        reader = h.reader;
+        seat = h.seat;
+        waits = h.waits;
+        lawful = k;
+        emitted = λ w. subst (Emission new w) (sym (k.others w (λ is. absurd (let low = is.0 in let high = is.1 in omega arith))).0) (emission_none new w);
+        fits = each_snoc F vs Spent
+            (each_set F views pass left (mine.0, none, mine.2, mine.3, refl)
+            (λ j u other e. bit_fits h.known new h.reader h.seat h.core j u (λ i. other (i ∙ sym mine.0)) (subst (λ n. Fits h.known n h.reader h.seat h.core j u) zero' (h.fits j u e))))
+            tt;
+      },
+      refl,
     )
 
 pub bits : (b pass : ℕ) (r : Taking) → r.workers ≡ 0 → Forks Session pass (Receiver r) (with_bit b (Receiver r)) Spent
@@ -282,20 +280,19 @@ merge_step pass r other s done items views h at two at' =
     let was : get_elem? views other ≡ some (Sender s) = ⊎_elim (λ (x : (other ≡ pass) × (both ≡ Sender s)). absurd (two x.0)) (λ (x : (other ≢ pass) × (get_elem? views other ≡ some (Sender s))). x.1) (at_set views pass other both (Sender s) at') in
     let theirs = h.fits other (Sender s) was in
     let F : ℕ → View → Type 0 = Fits h.known h.workers h.reader h.seat h.core in
-    let token : Stands h.core s = (sym theirs.3 ∙ done, theirs.2) in
-    (
-    record {
-      core = h.core;
-      known = h.known;
-      workers = h.workers;
-      reader = h.reader;
-      seat = h.seat;
-      waits = h.waits;
-      lawful = h.lawful;
-      emitted = h.emitted;
-      fits = each_set F vs other Spent tt (λ j u _ e. each_set F views pass both (mine.0, mine.1, mine.2, All-push (Stands h.core) r.tokens s mine.3 token, mine.4) (λ i y _ q. h.fits i y q) j u e);
-    },
-    refl,
+    let token : Stands h.core s = (sym theirs.3 ∙ done, theirs.2) in (
+      record {
+        core = h.core;
+        known = h.known;
+        workers = h.workers;
+        reader = h.reader;
+        seat = h.seat;
+        waits = h.waits;
+        lawful = h.lawful;
+        emitted = h.emitted;
+        fits = each_set F vs other Spent tt (λ j u _ e. each_set F views pass both (mine.0, mine.1, mine.2, All-push (Stands h.core) r.tokens s mine.3 token, mine.4) (λ i y _ q. h.fits i y q) j u e);
+      },
+      refl,
     )
 
 pub merges : (pass : ℕ) (r : Taking) (other : ℕ) (s : Sending) → s.ended ≡ true → Merges Session pass (Receiver r) other (Sender s) (with_token (Receiver r) (Sender s)) Spent

@@ -1,5 +1,5 @@
 -- What the core's states say of each worker's items.
-use Rattle.std.proofs.Common.{◌≡◌, ◌≢◌, ◌⊎◌, ◌==◌, ℕ, zero, suc, ◌<◌, ◌≤◌, ◌+◌, Bool, true, false, if◌then◌else◌, List, [], ◌∷◌, ◌++◌, map, sym, refl, ap, ◌∙◌, subst, inl, inr, ⊎_elim, eq-eqb, arith}
+use Rattle.std.proofs.Common.{◌≡◌, ◌≢◌, ◌⊎◌, ◌==◌, ℕ, zero, suc, ◌<◌, ◌≤◌, ◌+◌, Bool, true, false, if◌then◌else◌, List, [], ◌∷◌, ◌++◌, map, sym, refl, ap, ◌∙◌, inl, inr, ⊎_elim, eq-eqb, arith}
 use Rattle.std.proofs.lemmas.Bool.{cases_lt}
 use Rattle.std.specs.Prelude.{filter}
 use Rattle.tk_events.specs.declared.events.Event.{Event}
@@ -7,7 +7,7 @@ use Rattle.tk_events.specs.declared.events.Entry.{Entry}
 use Rattle.tk_columns.specs.Mixing.{IsWorkerOf, of_worker}
 use Rattle.tk_replay.specs.declared.items.Item.{Item}
 use Rattle.tk_replay.specs.declared.items.Item.TheVariants.{Entry as Emitted, End}
-use Rattle.tk_replay.specs.Core.{Core, IsCore, worker_of, items_of, entry, script, push, entries}
+use Rattle.tk_replay.specs.Core.{Core, IsCore, worker_of, items_of, script, push, entries}
 use Rattle.tk_replay.proofs.CoreSteps.{filter-append, emits, finishes}
 
 -- a push by a worker that has not ended
@@ -34,13 +34,13 @@ append_cons_ne_nil (y ∷ xs) x ys e = cc
 pub holder_worker : (n : ℕ) (before : List Item) (x : Item) (after : List Item) (c : Core) → c.taken ++ c.waiting ≡ before ++ (x ∷ after) → IsCore n c → IsWorkerOf n (worker_of x)
 holder_worker n before x after c whole k = ⊎_elim (λ is. is)
     (λ (not_one : ¬ IsWorkerOf n (worker_of x)).
-        let w = worker_of x in
-        let none = k.others w not_one in
-        let nothing : items_of w (c.taken ++ c.waiting) ≡ [] = k.kept w ∙ ap (λ l. script w l (c.ended w)) none.0 ∙ ap (script w []) none.1 in
-        let split : items_of w (c.taken ++ c.waiting) ≡ items_of w before ++ (x ∷ items_of w after) =
-            ap (items_of w) whole ∙ filter-append (λ y. worker_of y == w) before (x ∷ after)
-            ∙ ap (λ l. items_of w before ++ l) (ap (λ (b : Bool). if b then x ∷ items_of w after else items_of w after) (eq-eqb w w refl)) in
-        absurd (append_cons_ne_nil (items_of w before) x (items_of w after) (sym split ∙ nothing)))
+    let w = worker_of x in
+    let none = k.others w not_one in
+    let nothing : items_of w (c.taken ++ c.waiting) ≡ [] = k.kept w ∙ ap (λ l. script w l (c.ended w)) none.0 ∙ ap (script w []) none.1 in
+    let split : items_of w (c.taken ++ c.waiting) ≡ items_of w before ++ (x ∷ items_of w after) =
+    ap (items_of w) whole ∙ filter-append (λ y. worker_of y == w) before (x ∷ after)
+    ∙ ap (λ l. items_of w before ++ l) (ap (λ (b : Bool). if b then x ∷ items_of w after else items_of w after) (eq-eqb w w refl)) in
+    absurd (append_cons_ne_nil (items_of w before) x (items_of w after) (sym split ∙ nothing)))
     (worker_cases n (worker_of x))
 
 pub waiting_worker : (n : ℕ) (x : Item) (xs : List Item) (c : Core) → c.waiting ≡ x ∷ xs → IsCore n c → IsWorkerOf n (worker_of x)
@@ -56,7 +56,7 @@ pub events_among : (w : ℕ) (xs : List Item) → of_worker w (entries xs) ≡ e
 events_among w [] = refl
 events_among w (Emitted e ∷ xs) =
     elim (e.worker == w) as (λ b. map (λ (a : Entry). a.event) (if b then e ∷ filter (λ a. a.worker == w) (entries xs) else filter (λ a. a.worker == w) (entries xs)) ≡ events_in (if b then Emitted e ∷ items_of w xs else items_of w xs))
-        [ true ↦ ap (λ l. e.event ∷ l) (events_among w xs) | false ↦ events_among w xs ]
+    [ true ↦ ap (λ l. e.event ∷ l) (events_among w xs) | false ↦ events_among w xs ]
 events_among w (End v ∷ xs) =
     elim (v == w) as (λ b. of_worker w (entries xs) ≡ events_in (if b then End v ∷ items_of w xs else items_of w xs)) [ true ↦ events_among w xs | false ↦ events_among w xs ]
 

@@ -1,5 +1,5 @@
 -- What contracts see of a sender, of its token and of the receiver.
-use Rattle.std.specs.Prelude.{◌≡◌, ℕ, zero, suc, ◌+◌, ◌*◌, ◌<◌, ◌≤◌, ◌-◌, ◌==◌, ◌&&◌, not, nat_lt, Bool, true, false, if◌then◌else◌, List, [], ◌∷◌, ◌++◌, length, count_by, slice_index_or, slice_get, Option, Some, None, is_some, option_map, Result, Ok, Err, All}
+use Rattle.std.specs.Prelude.{◌≡◌, ℕ, zero, suc, ◌<◌, ◌≤◌, ◌-◌, ◌==◌, not, nat_lt, Bool, true, false, if◌then◌else◌, List, [], ◌∷◌, ◌++◌, length, count_by, slice_index_or, slice_get, Option, Some, None, is_some, option_map, Result, Ok, Err, All}
 use Rattle.std.specs.List.{list_any}
 use Rattle.atomic_table.specs.Seated.{TableId}
 use Rattle.tk_ids.specs.declared.ids.IdFault.TheVariants as id_faults
@@ -22,7 +22,7 @@ use Rattle.tk_replay.specs.declared.items.Item.{Item}
 use Rattle.tk_replay.specs.declared.items.Item.TheVariants.{Entry as Emitted, End}
 use Rattle.tk_replay.specs.Core.{entries}
 use Rattle.tk_queue.specs.declared.senders.SendFault.{SendFault}
-use Rattle.tk_queue.specs.declared.senders.SendFault.TheVariants.{UnknownNode, Unlawful, Limit, Full}
+use Rattle.tk_queue.specs.declared.senders.SendFault.TheVariants.{UnknownNode, Unlawful, Limit}
 use Rattle.tk_queue.specs.declared.senders.RegisterFault.{RegisterFault}
 use Rattle.tk_queue.specs.declared.senders.RegisterFault.TheVariants as unregistered
 use Rattle.tk_queue.specs.declared.lines.Sending.{Sending}
@@ -31,7 +31,7 @@ use Rattle.tk_queue.specs.declared.lines.View.TheVariants.{Sender as Sends, Rece
 use Rattle.tk_queue.specs.declared.receivers.CloseReason.{CloseReason}
 use Rattle.tk_queue.specs.declared.receivers.CloseReason.TheVariants.{Missing, Twice, NotDrained}
 use Rattle.tk_queue.specs.Limits.{most_events}
-use Rattle.tk_queue.specs.Known.{Emission, is_dynamic, is_plain, registrations, entries_by}
+use Rattle.tk_queue.specs.Known.{Emission, is_plain, registrations, entries_by}
 use Rattle.tk_queue.specs.Session.{sender, receiver}
 
 -- the session, its table of static descriptors, the worker, and the events that it emitted there, in order

@@ -10,7 +10,6 @@ use Rattle.tk_events.specs.declared.events.Event.{Event}
 use Rattle.tk_replay.specs.declared.items.Item.{Item}
 use Rattle.tk_replay.specs.declared.items.Item.TheVariants.{Entry as Emitted, End}
 use Rattle.tk_queue.specs.declared.lines.Sending.{Sending}
-use Rattle.tk_queue.specs.declared.lines.Taking.{Taking}
 use Rattle.tk_queue.specs.declared.lines.View.{View}
 use Rattle.tk_queue.specs.declared.lines.View.TheVariants.{Sender, Receiver, Spent}
 

@@ -11,7 +11,10 @@ use tk_events::MAX_WORKERS;
 fn count(ended: &[Ended], worker: u8) -> usize
     ensures { result ≡ tokens_of worker ended.now }
 {
-    ended.iter().filter(|token| token.worker() == worker).count()
+    ended
+        .iter()
+        .filter(|token| token.worker() == worker)
+        .count()
 }
 
 /// How many events the worker's token says that it emitted, 0 without a token.

@@ -96,7 +96,12 @@ impl Closed {
 impl Receiver {
     ghost use Rattle.tk_queue.specs.Ends.{IsFault};
 
-    pub(crate) fn seated(line: Arc<Line, Global>, seat: Seat, table: Arc<Table>, workers: u8) -> Receiver
+    pub(crate) fn seated(
+        line: Arc<Line, Global>,
+        seat: Seat,
+        table: Arc<Table>,
+        workers: u8,
+    ) -> Receiver
         requires queue { IsPassOf (arc_value line) seat }
         requires fresh { view seat ≡ receiver (length (arc_value table)) workers [] [] }
         requires few { workers ≤ MAX_WORKERS }

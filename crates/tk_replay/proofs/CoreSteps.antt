@@ -1,10 +1,9 @@
 -- The steps of the core keep it lawful.
-use Rattle.std.proofs.Common.{◌≡◌, ◌≢◌, ◌⊎◌, ◌==◌, ℕ, zero, suc, ◌<◌, ◌≤◌, ◌+◌, Bool, true, false, if◌then◌else◌, List, [], ◌∷◌, ◌++◌, map, sym, refl, ap, ◌∙◌, subst, inl, inr, ⊎_elim, append_assoc, append-nil, eq-eqb, ne_eqb, true≢false, arith}
+use Rattle.std.proofs.Common.{◌≡◌, ◌≢◌, ◌==◌, ℕ, Bool, true, false, if◌then◌else◌, List, [], ◌∷◌, ◌++◌, map, sym, refl, ap, ◌∙◌, subst, ⊎_elim, append_assoc, append-nil, eq-eqb, ne_eqb}
 use Rattle.std.proofs.lemmas.List.{map-append}
-use Rattle.std.proofs.lemmas.Bool.{cases_eq, cases_lt, eqb-true}
+use Rattle.std.proofs.lemmas.Bool.{cases_eq}
 use Rattle.std.specs.Prelude.{filter}
 use Rattle.tk_events.specs.declared.events.Event.{Event}
-use Rattle.tk_events.specs.declared.events.Entry.{Entry}
 use Rattle.tk_columns.specs.Mixing.{IsWorkerOf}
 use Rattle.tk_replay.specs.declared.items.Item.{Item}
 use Rattle.tk_replay.specs.declared.items.Item.TheVariants.{Entry as Emitted, End}
@@ -14,7 +13,7 @@ pub filter-append : {X : Type 0} (p : X → Bool) (xs ys : List X) → filter p 
 filter-append p [] ys = refl
 filter-append {X} p (x ∷ xs) ys =
     elim (p x) as (λ b. (if b then x ∷ filter p (xs ++ ys) else filter p (xs ++ ys)) ≡ (if b then x ∷ filter p xs else filter p xs) ++ filter p ys)
-        [ true ↦ ap (λ l. x ∷ l) (filter-append p xs ys) | false ↦ filter-append p xs ys ]
+    [ true ↦ ap (λ l. x ∷ l) (filter-append p xs ys) | false ↦ filter-append p xs ys ]
 
 pub put-same : {X : Type 0} (f : ℕ → X) (w : ℕ) (x : X) → put f w x w ≡ x
 put-same {X} f w x = ap (λ (b : Bool). if b then x else f w) (eq-eqb w w refl)
@@ -37,17 +36,17 @@ pub emits : (n w : ℕ) (e : Event) (c : Core) → IsWorkerOf n w → c.ended w 
 emits n w e c is open' k = record {
   kept = λ v. ⊎_elim
       (λ (same : v ≡ w).
-          let own : items_of v (entry w e ∷ []) ≡ entry w e ∷ [] = items_of-own v (entry w e) (sym same) in
-          let before : items_of v (c.taken ++ c.waiting) ≡ map (entry w) (c.sent w) =
-              k.kept v ∙ ap (λ u. script u (c.sent u) (c.ended u)) same ∙ ap (script w (c.sent w)) open' ∙ append-nil (map (entry w) (c.sent w)) in
-          let after : script v (put c.sent w (c.sent w ++ e ∷ []) v) (c.ended v) ≡ map (entry w) (c.sent w ++ e ∷ []) =
-              ap (λ u. script u (put c.sent w (c.sent w ++ e ∷ []) u) (c.ended u)) same ∙ ap (λ l. script w l (c.ended w)) (put-same c.sent w (c.sent w ++ e ∷ [])) ∙ ap (script w (c.sent w ++ e ∷ [])) open'
-              ∙ append-nil (map (entry w) (c.sent w ++ e ∷ [])) in
-          snoc-items c v (entry w e) ∙ ap (λ l. l ++ items_of v (entry w e ∷ [])) before ∙ ap (λ l. map (entry w) (c.sent w) ++ l) own ∙ sym (map-append (entry w) (c.sent w) (e ∷ [])) ∙ sym after)
+      let own : items_of v (entry w e ∷ []) ≡ entry w e ∷ [] = items_of-own v (entry w e) (sym same) in
+      let before : items_of v (c.taken ++ c.waiting) ≡ map (entry w) (c.sent w) =
+      k.kept v ∙ ap (λ u. script u (c.sent u) (c.ended u)) same ∙ ap (script w (c.sent w)) open' ∙ append-nil (map (entry w) (c.sent w)) in
+      let after : script v (put c.sent w (c.sent w ++ e ∷ []) v) (c.ended v) ≡ map (entry w) (c.sent w ++ e ∷ []) =
+      ap (λ u. script u (put c.sent w (c.sent w ++ e ∷ []) u) (c.ended u)) same ∙ ap (λ l. script w l (c.ended w)) (put-same c.sent w (c.sent w ++ e ∷ [])) ∙ ap (script w (c.sent w ++ e ∷ [])) open'
+      ∙ append-nil (map (entry w) (c.sent w ++ e ∷ [])) in
+      snoc-items c v (entry w e) ∙ ap (λ l. l ++ items_of v (entry w e ∷ [])) before ∙ ap (λ l. map (entry w) (c.sent w) ++ l) own ∙ sym (map-append (entry w) (c.sent w) (e ∷ [])) ∙ sym after)
       (λ (apart : v ≢ w).
-          let own : items_of v (entry w e ∷ []) ≡ [] = items_of-foreign v (entry w e) (λ h. apart (sym h)) in
-          snoc-items c v (entry w e) ∙ ap (λ l. items_of v (c.taken ++ c.waiting) ++ l) own ∙ append-nil (items_of v (c.taken ++ c.waiting)) ∙ k.kept v
-          ∙ ap (λ l. script v l (c.ended v)) (sym (put-other c.sent w (c.sent w ++ e ∷ []) v apart)))
+      let own : items_of v (entry w e ∷ []) ≡ [] = items_of-foreign v (entry w e) (λ h. apart (sym h)) in
+      snoc-items c v (entry w e) ∙ ap (λ l. items_of v (c.taken ++ c.waiting) ++ l) own ∙ append-nil (items_of v (c.taken ++ c.waiting)) ∙ k.kept v
+      ∙ ap (λ l. script v l (c.ended v)) (sym (put-other c.sent w (c.sent w ++ e ∷ []) v apart)))
       (cases_eq v w);
   others = λ v not_one.
       let apart : v ≢ w = λ h. not_one (subst (IsWorkerOf n) (sym h) is) in
@@ -58,16 +57,16 @@ pub finishes : (n w : ℕ) (c : Core) → IsWorkerOf n w → c.ended w ≡ false
 finishes n w c is open' k = record {
   kept = λ v. ⊎_elim
       (λ (same : v ≡ w).
-          let own : items_of v (End w ∷ []) ≡ End w ∷ [] = items_of-own v (End w) (sym same) in
-          let before : items_of v (c.taken ++ c.waiting) ≡ map (entry w) (c.sent w) =
-              k.kept v ∙ ap (λ u. script u (c.sent u) (c.ended u)) same ∙ ap (script w (c.sent w)) open' ∙ append-nil (map (entry w) (c.sent w)) in
-          let after : script v (c.sent v) (put c.ended w true v) ≡ map (entry w) (c.sent w) ++ End w ∷ [] =
-              ap (λ u. script u (c.sent u) (put c.ended w true u)) same ∙ ap (script w (c.sent w)) (put-same c.ended w true) in
-          snoc-items c v (End w) ∙ ap (λ l. l ++ items_of v (End w ∷ [])) before ∙ ap (λ l. map (entry w) (c.sent w) ++ l) own ∙ sym after)
+      let own : items_of v (End w ∷ []) ≡ End w ∷ [] = items_of-own v (End w) (sym same) in
+      let before : items_of v (c.taken ++ c.waiting) ≡ map (entry w) (c.sent w) =
+      k.kept v ∙ ap (λ u. script u (c.sent u) (c.ended u)) same ∙ ap (script w (c.sent w)) open' ∙ append-nil (map (entry w) (c.sent w)) in
+      let after : script v (c.sent v) (put c.ended w true v) ≡ map (entry w) (c.sent w) ++ End w ∷ [] =
+      ap (λ u. script u (c.sent u) (put c.ended w true u)) same ∙ ap (script w (c.sent w)) (put-same c.ended w true) in
+      snoc-items c v (End w) ∙ ap (λ l. l ++ items_of v (End w ∷ [])) before ∙ ap (λ l. map (entry w) (c.sent w) ++ l) own ∙ sym after)
       (λ (apart : v ≢ w).
-          let own : items_of v (End w ∷ []) ≡ [] = items_of-foreign v (End w) (λ h. apart (sym h)) in
-          snoc-items c v (End w) ∙ ap (λ l. items_of v (c.taken ++ c.waiting) ++ l) own ∙ append-nil (items_of v (c.taken ++ c.waiting)) ∙ k.kept v
-          ∙ ap (script v (c.sent v)) (sym (put-other c.ended w true v apart)))
+      let own : items_of v (End w ∷ []) ≡ [] = items_of-foreign v (End w) (λ h. apart (sym h)) in
+      snoc-items c v (End w) ∙ ap (λ l. items_of v (c.taken ++ c.waiting) ++ l) own ∙ append-nil (items_of v (c.taken ++ c.waiting)) ∙ k.kept v
+      ∙ ap (script v (c.sent v)) (sym (put-other c.ended w true v apart)))
       (cases_eq v w);
   others = λ v not_one.
       let apart : v ≢ w = λ h. not_one (subst (IsWorkerOf n) (sym h) is) in
@@ -84,4 +83,3 @@ takes n x xs c waits k = record {
   kept = λ v. ap (items_of v) (append_assoc c.taken (x ∷ []) xs ∙ ap (λ l. c.taken ++ l) (sym waits)) ∙ k.kept v;
   others = k.others;
 }
-

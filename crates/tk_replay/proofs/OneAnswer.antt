@@ -1,12 +1,11 @@
 -- An input has one answer.
-use Rattle.std.proofs.Common.{◌≡◌, ◌≢◌, ◌⊎◌, ◌≤◌, ◌+◌, ℕ, zero, suc, List, [], ◌∷◌, ◌++◌, length, take, slice_get, Option, Some, None, Result, Ok, Err, refl, sym, ap, subst, ◌∙◌, append_assoc, append-nil, arith, inl, inr, ⊎_elim}
+use Rattle.std.proofs.Common.{◌≡◌, ◌≢◌, ◌⊎◌, ◌≤◌, ◌+◌, ℕ, zero, suc, List, [], ◌∷◌, ◌++◌, length, take, slice_get, Some, Result, Ok, Err, refl, sym, ap, subst, ◌∙◌, append_assoc, append-nil, arith, inl, inr, ⊎_elim}
 use Rattle.std.proofs.lemmas.Option.{same_Some, none-some}
-use Rattle.std.proofs.lemmas.List.{append_cancel_left, length-append}
+use Rattle.std.proofs.lemmas.List.{append_cancel_left}
 use Rattle.tk_ids.specs.declared.tables.Descriptor.{Descriptor}
 use Rattle.tk_ids.specs.Table.{TakesNext}
 use Rattle.tk_events.specs.declared.events.Event.{Event}
 use Rattle.tk_events.specs.declared.events.Entry.{Entry}
-use Rattle.tk_columns.specs.declared.records.AppendFault.{AppendFault}
 use Rattle.tk_columns.specs.Recorded.{Recorded}
 use Rattle.tk_columns.specs.Mixing.{IsWorkerOf}
 use Rattle.tk_record.specs.Spelling.{node_line, entry_line, IsDescriptor, HasEntryLine}
@@ -21,7 +20,7 @@ use Rattle.tk_replay.specs.declared.replays.ReplayFault.TheVariants as faults
 use Rattle.tk_replay.specs.Limits.{most_workers}
 use Rattle.tk_replay.specs.Replay.{Moment, Stop, Faulty, Refuses, turn_step, after, plays, start, StopsAt}
 use Rattle.tk_replay.specs.Script.{IsCount, workers_line, workers_of, AreTurns, turns_line, turns_of}
-use Rattle.tk_replay.specs.ReplayText.{Scenario, header, replay_text, AreOwn, HasReplayText, scripts_by, NoCount, NoLineOf, IsBadLine, IsLineBehind, IsBadBehind, IsBad, Says, IsPlayed}
+use Rattle.tk_replay.specs.ReplayText.{Scenario, header, AreOwn, scripts_by, NoCount, NoLineOf, IsBad, Says, IsPlayed}
 use Rattle.tk_replay.specs.Laws.{IsSettled, OneAnswer}
 use Rattle.tk_replay.proofs.ScriptForms.{workers_line_form, turns_line_form, workers_no_feed, turns_no_feed}
 use Rattle.tk_replay.proofs.TextSteps.{regroup, turns_begins, entry_begins, scripts_long}
@@ -70,8 +69,8 @@ one_nodes p (d ∷ a) [] x y f g lx ly e = absurd (ly d (nodes_text a ++ x) f.0 
 one_nodes p (d ∷ a) (b ∷ c) x y f g lx ly e =
     let s = same_node d b (nodes_text a ++ x) (nodes_text c ++ y) f.0 g.0 (sym (append_assoc (fed (node_line d)) (nodes_text a) x) ∙ e ∙ append_assoc (fed (node_line b)) (nodes_text c) y) in
     let more = one_nodes (p ++ d ∷ []) a c x y f.2 (subst (λ (v : Descriptor). AreNodes (p ++ v ∷ []) c) (sym s.0) g.2)
-        (subst (λ (t : List Descriptor). NodeBlock t x) (sym (append_assoc p (d ∷ []) a)) lx)
-        (subst (λ (t : List Descriptor). NodeBlock t y) (ap (λ (v : Descriptor). p ++ v ∷ c) (sym s.0) ∙ sym (append_assoc p (d ∷ []) c)) ly) s.1 in
+    (subst (λ (t : List Descriptor). NodeBlock t x) (sym (append_assoc p (d ∷ []) a)) lx)
+    (subst (λ (t : List Descriptor). NodeBlock t y) (ap (λ (v : Descriptor). p ++ v ∷ c) (sym s.0) ∙ sym (append_assoc p (d ∷ []) c)) ly) s.1 in
     (cons_same d b a c s.0 more.0, more.1)
 
 one_entries : (n : ℕ) (a c : List Entry) (x y : List ℕ) → AreOwn n a → AreOwn n c → EntryBlock n x → EntryBlock n y → entries_text a ++ x ≡ entries_text c ++ y → (a ≡ c) × (x ≡ y)
@@ -146,9 +145,10 @@ run_stopped scripts (u ∷ turns) i zero m x t why e at stops =
     let here : turn_step scripts m u ≡ Err why = ap (λ (y : Moment × Turn). turn_step scripts y.0 y.1) (λ k. (same_Some m x e k, same_Some u t at k)) ∙ stops in
     ap (λ r. run_step r i (run scripts turns (i + 1))) here ∙ ap (λ n. Err (fault_at n why)) (let z : i ≡ i + 0 = omega arith in z)
 run_stopped scripts (u ∷ turns) i (suc j) m x t why e at stops =
-    elim (turn_step scripts m u) as (λ r. after r (plays scripts (take j turns)) ≡ Some x → run_step r i (run scripts turns (i + 1)) ≡ Err (fault_at (i + suc j) why))
-    [ Ok y ↦ λ h. run_stopped scripts turns (i + 1) j y x t why h at stops ∙ ap (λ n. Err (fault_at n why)) (let z : (i + 1) + j ≡ i + suc j = omega arith in z)
-    | Err w ↦ λ h. absurd (none-some x h) ] e
+    elim (turn_step scripts m u) as (λ r. after r (plays scripts (take j turns)) ≡ Some x → run_step r i (run scripts turns (i + 1)) ≡ Err (fault_at (i + suc j) why)) [
+      | Ok y ↦ λ h. run_stopped scripts turns (i + 1) j y x t why h at stops ∙ ap (λ n. Err (fault_at n why)) (let z : (i + 1) + j ≡ i + suc j = omega arith in z)
+      | Err w ↦ λ h. absurd (none-some x h)
+    ] e
 
 -- ---- what an answer says of where reading stopped
 
@@ -179,19 +179,19 @@ agree n t u es fs r s (turned ts last are is) (bad none) a b few p q e v w = abs
 agree n t u es fs r s (turned ts last are is) (turned others end those at) a b few p q e v w =
     let same = same_turns n ts others last end few are those (sym is ∙ e ∙ at) in
     ⊎_elim
-      (λ (x : (last ≢ []) × (a ≡ Err (faults.BadLine (length t + length es + 4)))). ⊎_elim
-          (λ (y : (end ≢ []) × (b ≡ Err (faults.BadLine (length u + length fs + 4)))). x.1 ∙ ap (λ k. Err (faults.BadLine k)) (same_line_number 4 t u es fs p q) ∙ sym y.1)
-          (λ (y : (end ≡ []) × (b ≡ run (scripts_by fs n) others 0 (start u (length (scripts_by fs n))))). absurd (x.0 (same.1 ∙ y.0))) w)
-      (λ (x : (last ≡ []) × (a ≡ run (scripts_by es n) ts 0 (start t (length (scripts_by es n))))). ⊎_elim
-          (λ (y : (end ≢ []) × (b ≡ Err (faults.BadLine (length u + length fs + 4)))). absurd (y.0 (sym same.1 ∙ x.0)))
-          (λ (y : (end ≡ []) × (b ≡ run (scripts_by fs n) others 0 (start u (length (scripts_by fs n))))).
-              x.1 ∙ (λ i. run (scripts_by (q i) n) (same.0 i) 0 (start (p i) (length (scripts_by (q i) n)))) ∙ sym y.1) w)
-      v
+    (λ (x : (last ≢ []) × (a ≡ Err (faults.BadLine (length t + length es + 4)))). ⊎_elim
+    (λ (y : (end ≢ []) × (b ≡ Err (faults.BadLine (length u + length fs + 4)))). x.1 ∙ ap (λ k. Err (faults.BadLine k)) (same_line_number 4 t u es fs p q) ∙ sym y.1)
+    (λ (y : (end ≡ []) × (b ≡ run (scripts_by fs n) others 0 (start u (length (scripts_by fs n))))). absurd (x.0 (same.1 ∙ y.0))) w)
+    (λ (x : (last ≡ []) × (a ≡ run (scripts_by es n) ts 0 (start t (length (scripts_by es n))))). ⊎_elim
+    (λ (y : (end ≢ []) × (b ≡ Err (faults.BadLine (length u + length fs + 4)))). absurd (y.0 (sym same.1 ∙ x.0)))
+    (λ (y : (end ≡ []) × (b ≡ run (scripts_by fs n) others 0 (start u (length (scripts_by fs n))))).
+    x.1 ∙ (λ i. run (scripts_by (q i) n) (same.0 i) 0 (start (p i) (length (scripts_by (q i) n)))) ∙ sym y.1) w)
+    v
 
 one_verdict : (n : ℕ) (input : List ℕ) (a b : Result Recorded ReplayFault) → n ≤ most_workers → ToldAt n input a → ToldAt n input b → a ≡ b
 one_verdict n input a b few p q =
     let s = one_nodes [] p.table q.table (entries_text p.entries ++ p.rest) (entries_text q.entries ++ q.rest) p.nodes q.nodes
-        (tail_blocks_nodes n p.table p.entries p.rest p.tail p.entries refl) (tail_blocks_nodes n q.table q.entries q.rest q.tail q.entries refl) (sym p.front ∙ q.front) in
+    (tail_blocks_nodes n p.table p.entries p.rest p.tail p.entries refl) (tail_blocks_nodes n q.table q.entries q.rest q.tail q.entries refl) (sym p.front ∙ q.front) in
     let m = one_entries n p.entries q.entries p.rest q.rest p.own q.own (tail_blocks_entries n p.table p.entries p.rest p.tail) (tail_blocks_entries n q.table q.entries q.rest q.tail) s.1 in
     agree n p.table q.table p.entries q.entries p.rest q.rest p.tail q.tail a b few s.0 m.0 m.1 p.verdict q.verdict
 
@@ -206,21 +206,21 @@ data Answered (input : List ℕ) (a : Result Recorded ReplayFault) : Type 0 wher
 whole_told : (p : Scenario) (a : Result Recorded ReplayFault) (input : List ℕ) → Says input p → a ≡ run (scripts_by p.entries p.workers) p.turns 0 (start p.table (length (scripts_by p.entries p.workers))) → Answered input a
 whole_told p a input is outcome =
     counted (fed (workers_line p.workers) ++ (nodes_text p.table ++ (entries_text p.entries ++ fed (turns_line p.turns)))) (nodes_text p.table ++ (entries_text p.entries ++ fed (turns_line p.turns))) p.workers is.1 is.0.count refl
-        (record {
-          table = p.table;
-          entries = p.entries;
-          rest = fed (turns_line p.turns);
-          front = refl;
-          nodes = is.0.nodes;
-          own = is.0.own;
-          tail = turned p.turns [] is.0.turns (sym (append-nil (fed (turns_line p.turns))));
-          verdict = inr (refl, outcome);
-        })
+    (record {
+      table = p.table;
+      entries = p.entries;
+      rest = fed (turns_line p.turns);
+      front = refl;
+      nodes = is.0.nodes;
+      own = is.0.own;
+      tail = turned p.turns [] is.0.turns (sym (append-nil (fed (turns_line p.turns))));
+      verdict = inr (refl, outcome);
+    })
 
 stopped_told : (p : Scenario) (input : List ℕ) (i : ℕ) (why : Stop) → Says input p → StopsAt p.table (scripts_by p.entries p.workers) p.turns i why → Answered input (Err (fault_at i why))
 stopped_told p input i why is stop =
     whole_told p (Err (fault_at i why)) input is
-        (sym (run_stopped (scripts_by p.entries p.workers) p.turns 0 i (start p.table (length (scripts_by p.entries p.workers))) stop.moment stop.turn why stop.before stop.at stop.stops ∙ ap (λ n. Err (fault_at n why)) (let z : 0 + i ≡ i = omega arith in z)))
+    (sym (run_stopped (scripts_by p.entries p.workers) p.turns 0 i (start p.table (length (scripts_by p.entries p.workers))) stop.moment stop.turn why stop.before stop.at stop.stops ∙ ap (λ n. Err (fault_at n why)) (let z : 0 + i ≡ i = omega arith in z)))
 
 bad_told : (input body : List ℕ) (k : ℕ) → input ≡ header ++ body → IsBad body k → Answered input (Err (faults.BadLine k))
 bad_told input body k is (inl x) = uncounted body is x.1 (ap (λ n. Err (faults.BadLine n)) x.0)
@@ -248,7 +248,7 @@ bad_told input body k is (inr (n, rest, count, front, inr line)) = counted body 
 answered : (input : List ℕ) (a : Result Recorded ReplayFault) → IsSettled a → IsPlayed input a → Answered input a
 answered input (Ok r) s (p, m, is, played, taken) =
     whole_told p (Ok r) input is (ap (λ (x : Recorded). Ok x) taken ∙ sym (run_played (scripts_by p.entries p.workers) p.turns 0 (start p.table (length (scripts_by p.entries p.workers))) m
-        (ap (λ n. plays (scripts_by p.entries p.workers) p.turns (start p.table n)) (scripts_long p.entries p.workers) ∙ played)))
+    (ap (λ n. plays (scripts_by p.entries p.workers) p.turns (start p.table n)) (scripts_long p.entries p.workers) ∙ played)))
 answered input (Err faults.NoHeader) s none = headless none refl
 answered input (Err (faults.BadLine k)) s (body, is, line) = bad_told input body k is line
 answered input (Err (faults.AfterEnd i)) s (p, is, stop) = stopped_told p input i Faulty is stop

@@ -1,5 +1,5 @@
 -- One turn more.
-use Rattle.std.proofs.Common.{◌≡◌, ◌<◌, ◌≤◌, ◌+◌, ℕ, zero, suc, List, [], ◌∷◌, ◌++◌, length, take, drop, get_or, slice_get, map, Option, Some, None, Result, Ok, Err, refl, sym, ap, subst, ◌∙◌, arith}
+use Rattle.std.proofs.Common.{◌≡◌, ◌<◌, ◌+◌, ℕ, zero, suc, List, [], ◌∷◌, ◌++◌, length, take, get_or, Option, Some, None, Result, Ok, Err, refl, sym, ap, subst, ◌∙◌, arith}
 use Rattle.std.proofs.lemmas.Option.{same_Some, none-some}
 use Rattle.std.proofs.lemmas.List.{take_more}
 use Rattle.tk_events.specs.declared.events.Event.{Event}
@@ -72,6 +72,7 @@ abbrev started : Line → List ℕ → Recorded → Moment
 started line counts taken = record { line = line; emitted = counts; taken = taken }
 
 pub begins : (table : List Descriptor) (scripts : List (List Event)) (n : ℕ) (line : Line) (counts : List ℕ) (taken : Recorded) → n ≡ length scripts → line ≡ fresh n → counts ≡ zeros n → taken.table ≡ table → taken.entries ≡ [] → Suits (started line counts taken) scripts × (Some (start table (length scripts)) ≡ Some (started line counts taken))
-begins table scripts n line counts taken long is zero_ of_table none =
-    ((ap (λ (l : Line). l.workers) is ∙ long, ap length zero_ ∙ zeros_long n ∙ long),
-     ap Some (sym (moment_is line (fresh (length scripts)) counts (zeros (length scripts)) taken (record { table = table; entries = [] }) (is ∙ ap fresh long) (zero_ ∙ ap zeros long) (recorded_is taken.table table taken.entries [] of_table none))))
+begins table scripts n line counts taken long is zero_ of_table none = (
+  (ap (λ (l : Line). l.workers) is ∙ long, ap length zero_ ∙ zeros_long n ∙ long),
+  ap Some (sym (moment_is line (fresh (length scripts)) counts (zeros (length scripts)) taken (record { table = table; entries = [] }) (is ∙ ap fresh long) (zero_ ∙ ap zeros long) (recorded_is taken.table table taken.entries [] of_table none))),
+)

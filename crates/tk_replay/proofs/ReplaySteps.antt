@@ -1,10 +1,9 @@
 -- Each turn of a replay is a step of the core.
-use Rattle.std.proofs.Common.{◌≡◌, ◌≢◌, ◌⊎◌, ◌==◌, ◌<◌, ◌≤◌, ◌+◌, ◌-◌, ℕ, zero, suc, Bool, true, false, cond, List, [], ◌∷◌, ◌++◌, length, take, get_or, slice_get, slice_set, replicate, Option, Some, None, Result, Ok, Err, refl, sym, ap, subst, ◌∙◌, inl, inr, ⊎_elim, append-nil, arith, get_or-set_same, get_or-set_other, true≢false}
+use Rattle.std.proofs.Common.{◌≡◌, ◌≢◌, ◌<◌, ◌≤◌, ◌+◌, ◌-◌, ℕ, zero, suc, Bool, true, false, cond, List, [], ◌∷◌, ◌++◌, length, take, get_or, slice_get, slice_set, replicate, Option, Some, None, Result, Ok, Err, refl, sym, ap, subst, ◌∙◌, ⊎_elim, append-nil, arith, get_or-set_same, get_or-set_other, true≢false}
 use Rattle.std.specs.List.{AllByRecursion}
 use Rattle.std.proofs.lemmas.Option.{same_Some, none-some, slice_get_within, get_or_from_slice_get}
-use Rattle.std.proofs.lemmas.List.{take_more, length-append, length-set}
+use Rattle.std.proofs.lemmas.List.{take_more, length-set}
 use Rattle.std.proofs.lemmas.Bool.{cases_eq}
-use Rattle.tk_ids.specs.declared.tables.Descriptor.{Descriptor}
 use Rattle.tk_events.specs.declared.events.Event.{Event}
 use Rattle.tk_events.specs.declared.events.Entry.{Entry}
 use Rattle.tk_columns.specs.declared.records.AppendFault.{AppendFault}
@@ -16,9 +15,9 @@ use Rattle.tk_replay.specs.declared.items.Item.{Item}
 use Rattle.tk_replay.specs.declared.items.Item.TheVariants.{Entry as Emitted, End}
 use Rattle.tk_replay.specs.declared.items.Turn.{Turn}
 use Rattle.tk_replay.specs.declared.items.Turn.TheVariants.{Worker, Take}
-use Rattle.tk_replay.specs.Line.{Line, has_ended, fresh}
-use Rattle.tk_replay.specs.Core.{Core, IsCore, put, emit, finish, take_first, entries}
-use Rattle.tk_replay.specs.Replay.{Moment, Stop, Faulty, Refuses, IsTurn, script_of, count_of, next, append_to, take_item, turn_step, after, plays, start, zeros}
+use Rattle.tk_replay.specs.Line.{has_ended, fresh}
+use Rattle.tk_replay.specs.Core.{Core, put, emit, finish, take_first, entries}
+use Rattle.tk_replay.specs.Replay.{Moment, Stop, Faulty, IsTurn, script_of, count_of, next, append_to, take_item, turn_step, after, plays, start, zeros}
 use Rattle.tk_replay.specs.Laws.{IsMomentOf, ReplaysCore}
 use Rattle.tk_replay.proofs.Plays.{zeros_long}
 use Rattle.tk_replay.proofs.CoreSteps.{emits, finishes, takes, put-same, put-other}
@@ -37,29 +36,32 @@ apart_below n v w p q d e = d (let a = p.0 in let b = q.0 in omega arith)
 
 emitted_step : (scripts : List (List Event)) (m : Moment) (c : Core) (w : ℕ) (e : Event) → IsMomentOf scripts m c → IsWorkerOf (length scripts) w → has_ended m.line w ≡ false → slice_get (script_of scripts w) (count_of m w) ≡ Some e → IsMomentOf scripts (next w m (Some e)) (emit w e c)
 emitted_step scripts m c w e is at open' some = record {
-    lawful = emits (length scripts) w e c at (is.ended w at ∙ open') is.lawful;
-    waits = ap (λ l. l ++ Emitted (record { worker = w; event = e }) ∷ []) is.waits;
-    taken = is.taken;
-    sent = λ v one. ⊎_elim
-        (λ (same : v ≡ w). subst (λ u. put c.sent w (c.sent w ++ e ∷ []) u ≡ take (get_or counts (u - 1) 0) (script_of scripts u)) (sym same)
-            (put-same c.sent w (c.sent w ++ e ∷ []) ∙ one_more (script_of scripts w) (c.sent w) (count_of m w) e some (is.sent w at) ∙ ap (λ k. take k (script_of scripts w)) (sym here)))
-        (λ (apart : v ≢ w). put-other c.sent w (c.sent w ++ e ∷ []) v apart ∙ is.sent v one ∙ ap (λ k. take k (script_of scripts v)) (sym (there v (apart_below (length scripts) v w one at apart))))
-        (cases_eq v w);
-    ended = is.ended;
-    whole = λ v one done. ⊎_elim
-        (λ (same : v ≡ w). absurd (true≢false (sym done ∙ ap c.ended same ∙ is.ended w at ∙ open')))
-        (λ (apart : v ≢ w). put-other c.sent w (c.sent w ++ e ∷ []) v apart ∙ is.whole v one done)
-        (cases_eq v w);
-    counts = length-set m.emitted (w - 1) (count_of m w + 1) ∙ is.counts;
-    marks = is.marks;
-  }
+  lawful = emits (length scripts) w e c at (is.ended w at ∙ open') is.lawful;
+  waits = ap (λ l. l ++ Emitted (record { worker = w; event = e }) ∷ []) is.waits;
+  taken = is.taken;
+  sent = λ v one. ⊎_elim
+      (λ (same : v ≡ w). subst (λ u. put c.sent w (c.sent w ++ e ∷ []) u ≡ take (get_or counts (u - 1) 0) (script_of scripts u)) (sym same)
+      (put-same c.sent w (c.sent w ++ e ∷ []) ∙ one_more (script_of scripts w) (c.sent w) (count_of m w) e some (is.sent w at) ∙ ap (λ k. take k (script_of scripts w)) (sym here)))
+      (λ (apart : v ≢ w). put-other c.sent w (c.sent w ++ e ∷ []) v apart ∙ is.sent v one ∙ ap (λ k. take k (script_of scripts v)) (sym (there v (apart_below (length scripts) v w one at apart))))
+      (cases_eq v w);
+  ended = is.ended;
+  whole = λ v one done. ⊎_elim
+      (λ (same : v ≡ w). absurd (true≢false (sym done ∙ ap c.ended same ∙ is.ended w at ∙ open')))
+      (λ (apart : v ≢ w). put-other c.sent w (c.sent w ++ e ∷ []) v apart ∙ is.whole v one done)
+      (cases_eq v w);
+  counts = length-set m.emitted (w - 1) (count_of m w + 1) ∙ is.counts;
+  marks = is.marks;
+}
   where
     counts : List ℕ
     counts = slice_set m.emitted (w - 1) (count_of m w + 1)
+
     within : w - 1 < length m.emitted
     within = let a = at.0 in let b = at.1 in omega (arith, is.counts)
+
     here : get_or counts (w - 1) 0 ≡ count_of m w + 1
     here = let lt = within in rw get_or-set_same refl
+
     there : (v : ℕ) → v - 1 ≢ w - 1 → get_or counts (v - 1) 0 ≡ count_of m v
     there v d = rw get_or-set_other refl
 
@@ -72,26 +74,28 @@ all_of (x ∷ xs) (suc k) e = ap (λ l. x ∷ l) (all_of xs k e)
 
 ended_step : (scripts : List (List Event)) (m : Moment) (c : Core) (w : ℕ) → length scripts ≤ most_workers → IsMomentOf scripts m c → IsWorkerOf (length scripts) w → has_ended m.line w ≡ false → slice_get (script_of scripts w) (count_of m w) ≡ None → IsMomentOf scripts (next w m None) (finish w c)
 ended_step scripts m c w few is at open' none = record {
-    lawful = finishes (length scripts) w c at (is.ended w at ∙ open') is.lawful;
-    waits = ap (λ l. l ++ End w ∷ []) is.waits;
-    taken = is.taken;
-    sent = is.sent;
-    ended = λ v one. ⊎_elim
-        (λ (same : v ≡ w). subst (λ u. put c.ended w true u ≡ get_or (slice_set m.line.ended w true) u false) (sym same) (put-same c.ended w true ∙ sym here))
-        (λ (apart : v ≢ w). put-other c.ended w true v apart ∙ is.ended v one ∙ sym (there v apart))
-        (cases_eq v w);
-    whole = λ v one done. ⊎_elim
-        (λ (same : v ≡ w). subst (λ u. c.sent u ≡ script_of scripts u) (sym same) (is.sent w at ∙ all_of (script_of scripts w) (count_of m w) none))
-        (λ (apart : v ≢ w). is.whole v one (sym (put-other c.ended w true v apart) ∙ done))
-        (cases_eq v w);
-    counts = is.counts;
-    marks = length-set m.line.ended w true ∙ is.marks;
-  }
+  lawful = finishes (length scripts) w c at (is.ended w at ∙ open') is.lawful;
+  waits = ap (λ l. l ++ End w ∷ []) is.waits;
+  taken = is.taken;
+  sent = is.sent;
+  ended = λ v one. ⊎_elim
+      (λ (same : v ≡ w). subst (λ u. put c.ended w true u ≡ get_or (slice_set m.line.ended w true) u false) (sym same) (put-same c.ended w true ∙ sym here))
+      (λ (apart : v ≢ w). put-other c.ended w true v apart ∙ is.ended v one ∙ sym (there v apart))
+      (cases_eq v w);
+  whole = λ v one done. ⊎_elim
+      (λ (same : v ≡ w). subst (λ u. c.sent u ≡ script_of scripts u) (sym same) (is.sent w at ∙ all_of (script_of scripts w) (count_of m w) none))
+      (λ (apart : v ≢ w). is.whole v one (sym (put-other c.ended w true v apart) ∙ done))
+      (cases_eq v w);
+  counts = is.counts;
+  marks = length-set m.line.ended w true ∙ is.marks;
+}
   where
     within : w < length m.line.ended
     within = let b = at.1 in omega (arith, is.marks)
+
     here : get_or (slice_set m.line.ended w true) w false ≡ true
     here = let lt = within in rw get_or-set_same refl
+
     there : (v : ℕ) → v ≢ w → get_or (slice_set m.line.ended w true) v false ≡ get_or m.line.ended v false
     there v d = rw get_or-set_other refl
 
@@ -106,7 +110,9 @@ Behind scripts m = (c : Core) × IsMomentOf scripts m c
 
 taken_step : (scripts : List (List Event)) (m : Moment) (c : Core) (x : Item) (xs : List Item) (r : Recorded) → IsMomentOf scripts m c → m.line.waiting ≡ x ∷ xs → entries (c.taken ++ x ∷ []) ≡ r.entries
     → Behind scripts (record { line = record { workers = m.line.workers; ended = m.line.ended; waiting = xs }; emitted = m.emitted; taken = r })
-taken_step scripts m c x xs r is first more = (take_first x xs c, record {
+taken_step scripts m c x xs r is first more = (
+  take_first x xs c,
+  record {
     lawful = takes (length scripts) x xs c (is.waits ∙ first) is.lawful;
     waits = refl;
     taken = more;
@@ -115,7 +121,8 @@ taken_step scripts m c x xs r is first more = (take_first x xs c, record {
     whole = is.whole;
     counts = is.counts;
     marks = is.marks;
-  })
+  },
+)
 
 appended_step : (scripts : List (List Event)) (m n : Moment) (c : Core) (e : Entry) (xs : List Item) (o : Option AppendFault) → IsMomentOf scripts m c → m.line.waiting ≡ Emitted e ∷ xs → append_to m xs e o ≡ Ok n → Behind scripts n
 appended_step scripts m n c e xs None is first h = subst (Behind scripts) (same_Ok _ n h) (taken_step scripts m c (Emitted e) xs _ is first (entries-snoc c.taken (Emitted e) ∙ ap (λ l. l ++ e ∷ []) is.taken))
@@ -143,9 +150,10 @@ one_step scripts m n c Take few at is h = take_step scripts m n c m.line.waiting
 all_steps : (scripts : List (List Event)) (turns : List Turn) (m n : Moment) (c : Core) → length scripts ≤ most_workers → AllByRecursion (IsTurn (length scripts)) turns → IsMomentOf scripts m c → plays scripts turns m ≡ Some n → Behind scripts n
 all_steps scripts [] m n c few all is e = subst (Behind scripts) (same_Some m n e) (c, is)
 all_steps scripts (t ∷ turns) m n c few all is e =
-    elim (turn_step scripts m t) as (λ r. turn_step scripts m t ≡ r → after r (plays scripts turns) ≡ Some n → Behind scripts n)
-    [ Ok o ↦ λ step h. let b = one_step scripts m o c t few all.0 is step in all_steps scripts turns o n b.0 few all.1 b.1 h
-    | Err stop ↦ λ step h. absurd (none-some n h) ] refl e
+    elim (turn_step scripts m t) as (λ r. turn_step scripts m t ≡ r → after r (plays scripts turns) ≡ Some n → Behind scripts n) [
+      | Ok o ↦ λ step h. let b = one_step scripts m o c t few all.0 is step in all_steps scripts turns o n b.0 few all.1 b.1 h
+      | Err stop ↦ λ step h. absurd (none-some n h)
+    ] refl e
 
 zeros_at : (n k : ℕ) → get_or (zeros n) k 0 ≡ 0
 zeros_at zero k = refl

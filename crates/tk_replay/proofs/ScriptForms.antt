@@ -1,5 +1,5 @@
 -- The forms of a replay text's own lines.
-use Rattle.std.proofs.Common.{◌≡◌, ◌≢◌, ◌⊎◌, ◌<◌, ◌≤◌, ◌+◌, ◌^◌, ℕ, Bool, true, false, cond, List, [], ◌∷◌, map, Option, Some, None, refl, sym, ap, subst, ◌∙◌, arith, inl, inr}
+use Rattle.std.proofs.Common.{◌≡◌, ◌<◌, ◌≤◌, ◌^◌, ℕ, false, cond, List, [], ◌∷◌, map, Some, None, refl, ap, subst, ◌∙◌, arith, inl, inr}
 use Rattle.std.specs.Prelude.{codes, bytes_eq, nat_lt, nat_le, ◌&&◌}
 use Rattle.std.specs.List.{AllByRecursion}
 use Rattle.std.specs.Fmt.{decimal}
@@ -15,7 +15,7 @@ use Rattle.tk_replay.specs.declared.items.Turn.TheVariants.{Worker, Take}
 use Rattle.tk_replay.specs.Replay.{IsTurn}
 use Rattle.tk_record.specs.Form.{IsForm}
 use Rattle.tk_record.specs.Reading.{◌>>=◌, number_of, in_line}
-use Rattle.tk_record.proofs.Choices.{guarded, chosen, both, stepped, same_bytes, bytes_are}
+use Rattle.tk_record.proofs.Choices.{guarded, chosen, both, stepped, same_bytes}
 use Rattle.tk_record.proofs.NumberForms.{number_found, number_again}
 use Rattle.tk_record.proofs.Clean.{is_false, decimal_clean, decimal_utf8}
 use Rattle.tk_record.proofs.TailForms.{IsField, word}
@@ -51,9 +51,9 @@ workers_found [] n e = absurd (none-some n e)
 workers_found (l ∷ []) n e = absurd (none-some n e)
 workers_found (l ∷ c ∷ x ∷ more) n e = absurd (none-some n e)
 workers_found (l ∷ c ∷ []) n e = elim (chosen (bytes_eq l (codes "W")) (worker_of most_workers c) None (Some n) e) [
-    | inr y ↦ absurd (none-some n y.1)
-    | inl x ↦ let f = worker_found most_workers c n x.1 in (f.0, two l (codes "W") c _ (same_bytes l (codes "W") x.0) f.1)
-  ]
+  | inr y ↦ absurd (none-some n y.1)
+  | inl x ↦ let f = worker_found most_workers c n x.1 in (f.0, two l (codes "W") c _ (same_bytes l (codes "W") x.0) f.1)
+]
 
 workers_again : (n : ℕ) → IsCount n → workers_of (workers_fields n) ≡ Some n
 unfolding workers_of
@@ -75,12 +75,12 @@ no_letter n lt = is_false (bytes_eq (decimal n) (codes "t")) (λ e.
 
 turn_found : (n : ℕ) (f : List ℕ) (t : Turn) → turn_of n f ≡ Some t → IsTurn n t × (f ≡ turn_field t)
 turn_found n f t e = elim (chosen (bytes_eq f (codes "t")) (Some Take) (worker_of n f >>= λ w. Some (Worker w)) (Some t) e) [
-    | inl x ↦ subst (λ (u : Turn). IsTurn n u × (f ≡ turn_field u)) (same_Some Take t x.1) (tt, same_bytes f (codes "t") x.0)
-    | inr y ↦
-        let b = stepped (worker_of n f) _ t y.1 in
-        let k = worker_found n f b.0 b.1 in
-        subst (λ (u : Turn). IsTurn n u × (f ≡ turn_field u)) (same_Some (Worker b.0) t b.2) (k.0, k.1)
-  ]
+  | inl x ↦ subst (λ (u : Turn). IsTurn n u × (f ≡ turn_field u)) (same_Some Take t x.1) (tt, same_bytes f (codes "t") x.0)
+  | inr y ↦
+      let b = stepped (worker_of n f) _ t y.1 in
+      let k = worker_found n f b.0 b.1 in
+      subst (λ (u : Turn). IsTurn n u × (f ≡ turn_field u)) (same_Some (Worker b.0) t b.2) (k.0, k.1)
+]
 
 turn_again : (n : ℕ) (t : Turn) → n ≤ most_workers → IsTurn n t → turn_of n (turn_field t) ≡ Some t
 turn_again n Take few is = refl
@@ -117,9 +117,9 @@ turns_found : (n : ℕ) (fields : List (List ℕ)) (ts : List Turn) → turns_of
 unfolding turns_of
 turns_found n [] ts e = absurd (none-some ts e)
 turns_found n (l ∷ rest) ts e = elim (chosen (bytes_eq l (codes "S")) (turns_from n rest) None (Some ts) e) [
-    | inr y ↦ absurd (none-some ts y.1)
-    | inl x ↦ let f = from_found n rest ts x.1 in (f.0, ap (λ (w : List ℕ). w ∷ rest) (same_bytes l (codes "S") x.0) ∙ ap (λ (r : List (List ℕ)). codes "S" ∷ r) f.1)
-  ]
+  | inr y ↦ absurd (none-some ts y.1)
+  | inl x ↦ let f = from_found n rest ts x.1 in (f.0, ap (λ (w : List ℕ). w ∷ rest) (same_bytes l (codes "S") x.0) ∙ ap (λ (r : List (List ℕ)). codes "S" ∷ r) f.1)
+]
 
 turns_again : (n : ℕ) → n ≤ most_workers → (ts : List Turn) → AreTurns n ts → turns_of n (turns_fields ts) ≡ Some ts
 unfolding turns_of

@@ -1,6 +1,6 @@
 -- The lines of a replay text, and where reading one stops.
-use Rattle.std.proofs.Common.{◌≡◌, ◌≢◌, ◌⊎◌, ◌==◌, ◌<◌, ◌≤◌, ◌+◌, ℕ, zero, suc, Bool, true, false, if◌then◌else◌, List, [], ◌∷◌, ◌++◌, length, drop, eqb, get_or, map, All, Option, Some, None, Result, Ok, Err, refl, sym, ap, subst, ◌∙◌, append_assoc, append-nil, arith, inl, inr, ⊎_elim}
-use Rattle.std.specs.List.{AllByRecursion, starts_with}
+use Rattle.std.proofs.Common.{◌≡◌, ◌≢◌, ◌==◌, ◌<◌, ◌≤◌, ◌+◌, ℕ, zero, suc, Bool, true, false, List, [], ◌∷◌, ◌++◌, length, drop, eqb, get_or, map, Some, None, Result, Ok, Err, refl, sym, ap, subst, ◌∙◌, append_assoc, arith, inl, inr, ⊎_elim}
+use Rattle.std.specs.List.{starts_with}
 use Rattle.std.proofs.lemmas.Option.{none-some}
 use Rattle.std.proofs.lemmas.List.{get_or_at, length-append, length-map}
 use Rattle.std.proofs.lemmas.Slice.Eq.{starts_is}
@@ -9,7 +9,6 @@ use Rattle.tk_ids.specs.declared.tables.Descriptor.{Descriptor}
 use Rattle.tk_ids.specs.Table.{TakesNext}
 use Rattle.tk_events.specs.declared.events.Event.{Event}
 use Rattle.tk_events.specs.declared.events.Entry.{Entry}
-use Rattle.tk_columns.specs.Recorded.{Recorded}
 use Rattle.tk_columns.specs.Mixing.{IsWorkerOf, of_worker}
 use Rattle.tk_record.specs.Spelling.{joined, node_line, entry_line, IsDescriptor, HasEntryLine}
 use Rattle.tk_record.specs.Reading.{in_line, entry_of}
@@ -17,7 +16,7 @@ use Rattle.tk_record.specs.Text.{fed, nodes_text, entries_text, AreNodes}
 use Rattle.tk_record.specs.Path.{LacksFeed, LacksNodeStart, IsNodesFront}
 use Rattle.tk_record.proofs.Forms.{one_value}
 use Rattle.tk_record.proofs.RecordLines.{entry_line_form, entry_no_feed}
-use Rattle.tk_record.proofs.Behind.{same_line, no_node, no_entry, no_entry_at_node, no_node_start, one_more}
+use Rattle.tk_record.proofs.Behind.{same_line, no_node, no_entry_at_node, no_node_start, one_more}
 use Rattle.tk_replay.specs.declared.items.Turn.{Turn}
 use Rattle.tk_replay.specs.declared.replays.Replayed.{Replayed}
 use Rattle.tk_replay.specs.declared.replays.ReplayFault.{ReplayFault}
@@ -25,7 +24,7 @@ use Rattle.tk_replay.specs.declared.replays.ReplayFault.TheVariants as faults
 use Rattle.tk_replay.specs.Limits.{most_workers}
 use Rattle.tk_replay.specs.Script.{IsCount, workers_line, workers_of, AreTurns, turns_line, turns_of}
 use Rattle.tk_replay.specs.Replay.{IsReplayed, plays, start}
-use Rattle.tk_replay.specs.ReplayText.{Scenario, header, replay_text, AreOwn, HasReplayText, scripts_by, NoCount, NoLineOf, IsBadLine, IsLineBehind, IsBadBehind, IsBad, Says, IsPlayed}
+use Rattle.tk_replay.specs.ReplayText.{Scenario, header, AreOwn, scripts_by, NoCount, NoLineOf, Says, IsPlayed}
 use Rattle.tk_replay.specs.Fronts.{LacksEntryStart, IsEntriesFront, IsCountFault, IsListFault, IsFaultBehind, NoTurns, IsFollowed, IsEndFault}
 use Rattle.tk_replay.proofs.ScriptForms.{workers_line_form, turns_line_form, workers_no_feed, turns_no_feed}
 
@@ -170,8 +169,8 @@ pub bad_entry_line : (n nodes : ℕ) (input : List ℕ) (entries : List Entry) (
     → ((e : Entry) → HasEntryLine e → IsWorkerOf n e.worker → line ≢ entry_line e) → k ≡ nodes + length entries + 3 → IsFaultBehind n nodes input (faults.BadLine k)
 bad_entry_line n nodes input entries rest line more t k so is lacks start bad number =
     bad_entry n nodes input entries rest k so
-        (λ e m has own eq. bad e has own (same_line line (entry_line e) more m lacks (entry_no_feed e has) (sym is ∙ eq ∙ regroup (entry_line e) m)).0)
-        (no_turns_at 69 rest (124 ∷ t) (λ e. absurd (omega arith)) start n) number
+    (λ e m has own eq. bad e has own (same_line line (entry_line e) more m lacks (entry_no_feed e has) (sym is ∙ eq ∙ regroup (entry_line e) m)).0)
+    (no_turns_at 69 rest (124 ∷ t) (λ e. absurd (omega arith)) start n) number
 
 -- the line is that of an entry of no worker of the session
 pub foreign : (n : ℕ) (line : List ℕ) (e : Entry) → HasEntryLine e × (line ≡ entry_line e) → ¬ IsWorkerOf n e.worker → (x : Entry) → HasEntryLine x → IsWorkerOf n x.worker → line ≢ entry_line x
@@ -183,18 +182,18 @@ pub end_fault : (n nodes number : ℕ) (input : List ℕ) (entries : List Entry)
 end_fault n nodes number input entries rest (faults.BadLine k) f is fault = ⊎_elim
     (λ (x : (k ≡ number) × NoTurns n rest). bad_entry n nodes input entries rest k (record { front = f.front; own = f.own; no_node = f.no_node }) (λ e m _ _. no_entry_start rest f.no_entry e m) x.1 (x.0 ∙ is))
     (λ (y : (k ≡ number + 1) × IsFollowed n rest). λ table fits long.
-        let z = y.1 in inr (record {
-          table = table;
-          entries = entries;
-          turns = z.0;
-          rest = z.1;
-          front = ap (λ (t : List ℕ). nodes_text table ++ t) (f.front ∙ ap (λ (t : List ℕ). entries_text entries ++ t) z.3);
-          nodes = fits;
-          own = f.own;
-          are = z.2;
-          more = z.4;
-          number = let p = y.0 in omega arith;
-        }))
+    let z = y.1 in inr (record {
+      table = table;
+      entries = entries;
+      turns = z.0;
+      rest = z.1;
+      front = ap (λ (t : List ℕ). nodes_text table ++ t) (f.front ∙ ap (λ (t : List ℕ). entries_text entries ++ t) z.3);
+      nodes = fits;
+      own = f.own;
+      are = z.2;
+      more = z.4;
+      number = let p = y.0 in omega arith;
+    }))
     fault
 end_fault n nodes number input entries rest faults.Memory f is fault = λ table fits long. tt
 end_fault n nodes number input entries rest faults.NoHeader f is fault = absurd fault

@@ -1,5 +1,5 @@
 -- A replay goes through states of the core.
-use Rattle.std.specs.Prelude.{◌≡◌, ℕ, ◌≤◌, ◌++◌, List, length, take, Some, true, Result, Ok, Err}
+use Rattle.std.specs.Prelude.{◌≡◌, ℕ, ◌≤◌, List, length, take, Some, true, Result, Err}
 use Rattle.std.specs.List.{AllByRecursion}
 use Rattle.tk_ids.specs.declared.tables.Descriptor.{Descriptor}
 use Rattle.tk_events.specs.declared.events.Event.{Event}

@@ -19,7 +19,7 @@ use Rattle.tk_replay.specs.declared.items.Turn.{Turn}
 use Rattle.tk_replay.specs.declared.replays.ReplayFault.{ReplayFault}
 use Rattle.tk_replay.specs.declared.replays.ReplayFault.TheVariants as faults
 use Rattle.tk_replay.specs.Script.{IsCount, workers_line, AreTurns, turns_line}
-use Rattle.tk_replay.specs.Replay.{Moment, Stop, Faulty, Refuses, plays, start, StopsAt}
+use Rattle.tk_replay.specs.Replay.{Moment, Faulty, Refuses, plays, start, StopsAt}
 
 -- what a replay text says
 pub record Scenario : Type 0 where

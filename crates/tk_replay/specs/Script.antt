@@ -1,5 +1,5 @@
 -- The lines of a replay text that a record text has not.
-use Rattle.std.specs.Prelude.{◌≡◌, ◌<◌, ◌≤◌, ◌^◌, ◌&&◌, ℕ, List, [], ◌∷◌, Option, Some, None, codes, if◌then◌else◌, bytes_eq, nat_lt, nat_le, map}
+use Rattle.std.specs.Prelude.{◌^◌, ◌&&◌, ℕ, List, [], ◌∷◌, Option, Some, None, codes, if◌then◌else◌, bytes_eq, nat_lt, nat_le, map}
 use Rattle.std.specs.List.{AllByRecursion}
 use Rattle.std.specs.Fmt.{decimal}
 use Rattle.tk_columns.specs.Mixing.{IsWorkerOf}
@@ -55,9 +55,9 @@ turn_of n field = if bytes_eq field (codes "t") then Some Take else (worker_of n
 abbrev pub turns_from : ℕ → List (List ℕ) → Option (List Turn)
 turns_from n [] = Some []
 turns_from n (f ∷ fs) = do
-    t ← turn_of n f
-    more ← turns_from n fs
-    Some (t ∷ more)
+  t ← turn_of n f
+  more ← turns_from n fs
+  Some (t ∷ more)
 
 unfoldable pub turns_of : ℕ → List (List ℕ) → Option (List Turn)
 turns_of n [] = None

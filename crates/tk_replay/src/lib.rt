@@ -10,5 +10,8 @@ mod texts;
 
 pub use cores::{Core, CoreFault};
 pub use items::{Item, Turn};
-pub use replays::{Replayed, ReplayFault, replay};
+pub use replays::{ReplayFault, Replayed, replay};
 pub use texts::replay_text;
+
+#[cfg(test)]
+mod tests;

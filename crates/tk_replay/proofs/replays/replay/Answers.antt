@@ -1,8 +1,7 @@
-use Rattle.std.proofs.Common.{◌≡◌, ℕ, List, length, map, take, get_or, Some, Ok, Err, refl, sym, ap, subst, ◌∙◌, rules, arith}
+use Rattle.std.proofs.Common.{length, map, sym}
 use Rattle.std.proofs.lemmas.Result.{err_from_is_err_and}
-use Rattle.std.proofs.lemmas.List.{length-map, take_all}
+use Rattle.std.proofs.lemmas.List.{length-map}
 use Rattle.std.specs.Arc.{arc_value}
-use Rattle.tk_replay.specs.Replay.{Moment, start, Suits, IsStop, IsReplayed, turn_step, zeros}
 use Rattle.tk_replay.proofs.Plays.{one_turn, stopped, begins}
 use Rattle.tk_replay.proofs.replays.replay.Goals as goal
 

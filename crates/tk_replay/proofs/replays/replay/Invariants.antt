@@ -5,6 +5,6 @@ use Rattle.tk_replay.proofs.replays.replay.Given as goal
 
 abbrev pub invariant-turns : goal.invariant-turns
 invariant-turns l = record {
-    suits : Suits l.playing (map (λ s. s.items) l.scripts);
-    so_far : plays (map (λ s. s.items) l.scripts) (take l.number l.turns) (start (arc_value l.fn.table) (length (map (λ s. s.items) l.scripts))) ≡ Some l.playing;
-  }
+  suits : Suits l.playing (map (λ s. s.items) l.scripts);
+  so_far : plays (map (λ s. s.items) l.scripts) (take l.number l.turns) (start (arc_value l.fn.table) (length (map (λ s. s.items) l.scripts))) ≡ Some l.playing;
+}

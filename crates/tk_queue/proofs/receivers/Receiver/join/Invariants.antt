@@ -1,10 +1,9 @@
 use Rattle.std.proofs.Common.{◌≡◌, ◌++◌, length, map}
 use Rattle.std.specs.Arc.{arc_value}
-use Rattle.std.specs.Prelude.{All}
 use Rattle.std.specs.Vec.Iter.{into_iter_items, into_iter_len}
 use Rattle.crossbeam_queue.specs.Passes.{view, IsPassOf}
 use Rattle.tk_queue.specs.Session.{receiver}
-use Rattle.tk_queue.specs.Ends.{taken_of, token_of}
+use Rattle.tk_queue.specs.Ends.{token_of}
 use Rattle.tk_queue.proofs.receivers.Receiver.join.Given as goal
 
 abbrev pub invariant-loop-token : goal.invariant-loop-token

@@ -1,4 +1,4 @@
-use Rattle.std.proofs.Common.{subst, sym}
+use Rattle.std.proofs.Common.{subst}
 use Rattle.tk_queue.specs.Ends.{IsFault, IsComplete, taken_of}
 use Rattle.tk_queue.specs.declared.receivers.CloseReason.TheVariants.{Missing, Twice, NotDrained}
 use Rattle.tk_queue.proofs.Closing.{some_token, one_token, marks_missing, marks_whole, if_none_from}

@@ -29,4 +29,4 @@ returns-in-Some-Entry-clause-recordable g c = (takes_entry _ _ _ _ _ _ c.self.in
 pub returns-in-Some-Entry-clause-follows : goal.returns-in-Some-Entry-clause-follows
 returns-in-Some-Entry-clause-follows g c =
     subst (λ (r : Receives). Follows r (Emitted c.in-Some-Entry.entry)) c.self.view_is
-        (follows_recorded _ (taken_of (view c.self.inside.seat)) _ (follows_now _ _ _ _ _ _ c.self.invariant.1 (rw c.in-Some-Entry.field-0-is at c.in-Some-Entry.ensures.rule)).1)
+    (follows_recorded _ (taken_of (view c.self.inside.seat)) _ (follows_now _ _ _ _ _ _ c.self.invariant.1 (rw c.in-Some-Entry.field-0-is at c.in-Some-Entry.ensures.rule)).1)

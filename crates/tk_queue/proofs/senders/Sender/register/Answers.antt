@@ -18,8 +18,7 @@ invariant_of-self-2 g c =
     let h = c.self.invariant.1 in
     let m = made_may _ _ _ _ _ _ c.args.self.now c.args.parent c.args.segment.now c.args.name.now c.args.dtype (c.in_ok-id.id, c.in_ok-id.descriptor) h c.self.view_is c.in_ok-id.ensures in
     let is : c.registered_key-key.result ≡ registered_key c.self.inside.worker (length c.self.inside.registered.items) = omega (arith, c.registered_key-key.ensures, c.len.ensures, c.self.inside.registered.ok.0) in
-    let q = c.push-2.ensures.queue in
-    (
+    let q = c.push-2.ensures.queue in (
       (q.0 ∙ c.self.invariant.0.0, q.2 ∙ c.self.invariant.0.1),
       subst (λ ids. IsSender (view c.push-2.new.seat) (arc_value c.self.inside.table) c.self.inside.worker ids (c.self.inside.emitted + 1))
           (ap (λ x. c.self.inside.registered.items ++ x ∷ []) (sym m.2) ∙ sym c.in_ok-push.ensures.items)

@@ -1,0 +1,15 @@
+pub mod Escapes
+pub mod Items
+pub mod MemberSteps
+pub mod Passing
+pub mod Pairing
+pub mod Results
+pub mod Meeting
+pub mod Naming
+pub mod Verdicts
+pub mod CheckSteps
+pub mod Going
+pub mod Distinct
+pub mod Values
+pub mod Planning
+pub mod PlanLawSteps

@@ -1,0 +1,8 @@
+use Rattle.std.proofs.Common.{rules, ◌≡◌, ℕ, List, [], drop, map, length, refl, sym, ap, ◌∙◌, arith}
+use Rattle.std.proofs.lemmas.List.{drop_more, drop_all}
+use Rattle.serde_json.specs.View.{view}
+use Rattle.tk_plan.proofs.Pairing.{report_start}
+use Rattle.tk_plan.proofs.endings.entries.Goals as goal
+
+pub loop-index-init : goal.loop-index-init
+loop-index-init c = report_start _ _ _ _ _ c.in-Some.ensures c.deref-item-items.ensures.value c.new-entries.ensures.items

@@ -1,0 +1,21 @@
+use Rattle.std.proofs.Common.{◌≡◌, [], map, ◌∙◌, sym, ap, refl, drop, take, length, arith}
+use Rattle.std.proofs.lemmas.List.{drop_all, take_all}
+use Rattle.serde_json.specs.View.{view}
+use Rattle.tk_plan.specs.Checks.{items_wrong}
+use Rattle.tk_plan.specs.Rows.{lock}
+use Rattle.tk_plan.specs.Contents.{said_lock}
+use Rattle.tk_plan.proofs.Items.{array_items, listed_items}
+use Rattle.tk_plan.proofs.lock_members.locks.Goals as goal
+
+pub loop-index-init : goal.loop-index-init
+loop-index-init c = (array_items lock _ _ _ c.in-Some.ensures ∙ ap (λ vs. items_wrong lock c.args.at.now 0 (map view vs)) (sym c.deref-item-items.ensures.value), c.new-locks.ensures.items)
+
+pub returns : goal.returns
+returns c =
+    let l = c.loop-index in
+    let xs = c.deref-item-items.result.now in
+    let none : drop l.index xs ≡ [] = drop_all l.index xs (omega arith) in
+    let all : take l.index xs ≡ xs = take_all l.index xs (omega arith) in (
+      l.invariant.0 ∙ ap (λ vs. items_wrong lock c.args.at.now l.index (map view vs)) none,
+      c.new.ensures ∙ l.invariant.1 ∙ ap (λ vs. map said_lock (map view vs)) (all ∙ c.deref-item-items.ensures.value) ∙ ap (map said_lock) (sym (listed_items _ _ c.in-Some.ensures)),
+    )

@@ -1,0 +1,7 @@
+use Rattle.std.proofs.Common.{◌≡◌, ◌≢◌, arith}
+use Rattle.tk_plan.proofs.Escapes.{letter_written}
+use Rattle.tk_plan.proofs.pointers.escaped_place.Goals as goal
+
+pub loop-letter-preserved : goal.loop-letter-preserved
+loop-letter-preserved c =
+    letter_written c.in-Some.letter _ _ _ _ _ c.if-letter-eq126.false c.if-letter-eq47.false c.loop-letter.invariant c.in-Some.ensures.steps.0 c.in_ok-push-2.ensures.bytes

@@ -1,0 +1,6 @@
+-- The segments that a set of tags and values is.
+use Rattle.std.specs.Prelude.{ℕ, List, map}
+use Rattle.tk_ids.specs.IdText.{Pair}
+
+abbrev pub segments_of : List (List ℕ × List ℕ) → List Pair
+segments_of keys = map (λ k. record { tag = k.0; value = k.1 }) keys

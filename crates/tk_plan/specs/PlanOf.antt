@@ -1,0 +1,108 @@
+-- The plan that a JSON value stands for, or the first fault.
+use Rattle.std.specs.Prelude.{ℕ, ◌+◌, ◌-◌, ◌&&◌, ◌||◌, ◌==◌, List, [], ◌∷◌, ◌++◌, length, Bool, true, false, not, nat_lt, nat_le, Option, Some, None, option_map, Result, Ok, Err, if◌then◌else◌, codes, map, unwrap_or}
+use Rattle.std.specs.List.{list_any, count_by}
+use Rattle.std.specs.Str.{bytes_eq}
+use Rattle.serde_json.specs.Data.{Data, null, number, unsigned}
+use Rattle.serde_json.specs.Find.{get}
+use Rattle.tk_ids.specs.IdText.{Pair, id_text}
+use Rattle.tk_ids.specs.declared.ids.TheConstants.{MAX_BYTES, MAX_SEGMENTS}
+use Rattle.tk_ids.specs.declared.ids.IdFault.{IdFault}
+use Rattle.tk_ids.specs.declared.ids.IdFault.TheVariants.{Empty, TooLong}
+use Rattle.tk_ids.specs.declared.tables.TheConstants.{MAX_DESCRIPTORS}
+use Rattle.tk_ids.specs.declared.tables.TableFault.TheVariants.{Twice, Full}
+use Rattle.tk_cutting.specs.declared.counts.TheConstants.{MAX_EVENTS}
+use Rattle.tk_cutting.specs.declared.nodes.Node.{Node}
+use Rattle.tk_cutting.specs.Keys.{lock_keys}
+use Rattle.tk_cutting.specs.Trees.{Tree}
+use Rattle.tk_cutting.specs.Script.{moves}
+use Rattle.tk_plan.specs.Checks.{Check, first, or_else, object_of, must}
+use Rattle.tk_plan.specs.Rows.{static_node, dynamic_node}
+use Rattle.tk_plan.specs.Sites.{Site, segment_of, id_of, node_of, repeats_key, sites, grown}
+use Rattle.tk_plan.specs.declared.faults.PlanFault.{PlanFault}
+use Rattle.tk_plan.specs.declared.faults.PlanFault.TheVariants.{Field, Id, Table, TooManyResources, EntryKeyTwice, TooManyEvents, Deep}
+use Rattle.tk_cutting.specs.declared.asking.TheConstants.{MAX_KEYS}
+use Rattle.tk_plan.specs.declared.limits.TheConstants.{MAX_LEVELS}
+
+abbrev pub when : {A : Type 0} → Bool → A → Option A
+when b x = if b then Some x else None
+
+-- ---- ids
+
+abbrev pub is_empty : List ℕ → Bool
+is_empty s = length s == 0
+
+-- the id is within the limits
+abbrev pub fits : List Pair → Bool
+fits id = nat_le (length (id_text id)) MAX_BYTES && nat_le (length id) MAX_SEGMENTS
+
+-- why a segment can't stand below an id
+abbrev pub id_fault : List Pair → Pair → Option IdFault
+id_fault above s = if is_empty s.tag || is_empty s.value then Some Empty else when (not (fits (above ++ s ∷ []))) TooLong
+
+abbrev pub same_segment : Pair → Pair → Bool
+same_segment a b = bytes_eq a.tag b.tag && bytes_eq a.value b.value
+
+-- ---- checks
+
+abbrev pub node_check : Site → Option (List ℕ)
+node_check s = if s.is_static then static_node s.place s.value else dynamic_node s.place s.value
+
+-- static, or dynamic
+abbrev pub is_kind : Bool → Node → Bool
+is_kind true n = n.is_static
+is_kind false n = not n.is_static
+
+-- What may be wrong with a node, given the nodes before it in preorder.
+unfoldable pub checks : List Node → Site → List (Option PlanFault)
+checks before s =
+    when (nat_lt MAX_LEVELS s.level) Deep
+    ∷ option_map Field (node_check s)
+    ∷ when (repeats_key s.value) EntryKeyTwice
+    ∷ option_map Id (id_fault s.above (segment_of s))
+    ∷ when (list_any (same_segment (segment_of s)) s.earlier) (Table Twice)
+    ∷ when (nat_le MAX_DESCRIPTORS (count_by (is_kind s.is_static) before)) (Table Full)
+    ∷ when (nat_lt MAX_KEYS (length (lock_keys (before ++ node_of s ∷ [])))) TooManyResources
+    ∷ []
+
+-- the checks of each node in turn
+unfoldable pub joined : List Node → List Site → List (Option PlanFault)
+joined before [] = []
+joined before (s ∷ ss) = checks before s ++ joined (before ++ node_of s ∷ []) ss
+
+abbrev pub verdict : List Node → List Site → Option PlanFault
+verdict before ss = first (joined before ss)
+
+-- ---- the whole value
+
+-- the number 1, written without fraction or exponent
+abbrev pub one : Check
+one at (number (unsigned n)) = if n == 1 then None else Some at
+one at _ = Some at
+
+abbrev pub anything : Check
+anything at d = None
+
+abbrev pub top : Check
+top = object_of (must (codes "version") one ∷ must (codes "root") anything ∷ [])
+
+abbrev pub root_at : Data → Site
+root_at d = record { place = codes "/root"; level = 1; is_static = true; above = []; earlier = []; value = d }
+
+abbrev pub root_of : Data → Site
+root_of v = root_at (unwrap_or (get (codes "root") v) null)
+
+-- the root's script is too long
+abbrev pub events_fault : Tree → Option PlanFault
+events_fault t = when (nat_lt MAX_EVENTS (length (moves t))) TooManyEvents
+
+abbrev pub ok_unless : {A E : Type 0} → Option E → A → Result A E
+ok_unless (Some e) x = Err e
+ok_unless None x = Ok x
+
+-- a fault of the top object, of the nodes, or of the whole tree
+abbrev pub first_fault : Option (List ℕ) → Site → Tree → Option PlanFault
+first_fault top s t = first (option_map Field top ∷ verdict [] (sites MAX_LEVELS s) ∷ events_fault t ∷ [])
+
+-- The first fault, or else the tree.
+abbrev pub PlanOf : Data → Result Tree PlanFault
+PlanOf v = ok_unless (first_fault (top [] v) (root_of v) (grown MAX_LEVELS (root_of v))) (grown MAX_LEVELS (root_of v))

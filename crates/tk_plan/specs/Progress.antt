@@ -1,0 +1,55 @@
+-- What a step of the reading adds to what was read.
+use Rattle.std.specs.Prelude.{◌≡◌, ◌++◌, ◌+◌, ◌≤◌, ◌<◌, ◌∷◌, [], ℕ, List, Bool, true, false, length, map, if◌then◌else◌}
+use Rattle.std.specs.List.{list_all, count_by}
+use Rattle.serde_json.specs.View.{view}
+use Rattle.tk_ids.specs.IdText.{Pair}
+use Rattle.tk_ids.specs.declared.tables.Descriptor.{Descriptor}
+use Rattle.tk_cutting.specs.declared.nodes.Node.{Node}
+use Rattle.tk_cutting.specs.declared.nodes.Placed.{Placed}
+use Rattle.tk_cutting.specs.Ids.{descriptor_in}
+use Rattle.tk_cutting.specs.Keys.{lock_keys}
+use Rattle.tk_cutting.specs.Planned.{is_lawful_node}
+use Rattle.tk_cutting.specs.Trees.{contents}
+use Rattle.tk_plan.specs.PlanOf.{is_kind}
+use Rattle.tk_plan.specs.Sites.{Site, segment_of, id_of, node_of, children_of, dynamic_of}
+use Rattle.tk_plan.specs.declared.readers.Reader.{Reader}
+use Rattle.tk_plan.specs.declared.readers.Checked.{Checked}
+
+-- what is kept beside the nodes fits them
+pub record IsNoted (r : Reader) : Type 0 where
+  pub keys : r.keys.keys ≡ lock_keys (contents r.nodes.items)
+  pub few_keys : length r.keys.keys ≤ 15
+  pub statics : length r.descriptors.items ≡ count_by (is_kind true) (contents r.nodes.items)
+  pub few_statics : length r.descriptors.items ≤ 65536
+  pub dynamics : r.dynamics ≡ count_by (is_kind false) (contents r.nodes.items)
+  pub few_dynamics : r.dynamics ≤ 65536
+  pub lawful : list_all is_lawful_node (contents r.nodes.items) ≡ true
+
+-- a node was checked, and its keys were noted
+pub record IsChecked (old new : Reader) (s : Site) (later : List Pair) (c : Checked) : Type 0 where
+  pub node : c.node ≡ node_of s
+  pub id : c.id ≡ id_of s
+  pub children : map view c.children.now ≡ children_of s.is_static s.value
+  pub dynamic : map view c.dynamic.now ≡ dynamic_of s.value
+  pub lawful : is_lawful_node c.node ≡ true
+  pub level : s.level ≤ 60
+  pub nodes : new.nodes.items ≡ old.nodes.items
+  pub descriptors : new.descriptors.items ≡ old.descriptors.items
+  pub dynamics : new.dynamics ≡ old.dynamics
+  pub keys : new.keys.keys ≡ lock_keys (contents old.nodes.items ++ node_of s ∷ [])
+  pub few_keys : length new.keys.keys ≤ 15
+  pub room : count_by (is_kind s.is_static) (contents old.nodes.items) < 65536
+  pub siblings : later ≡ s.earlier ++ segment_of s ∷ []
+
+-- a node was put at the end
+pub record IsAdded (old new : Reader) (n : Node) (id : List Pair) : Type 0 where
+  pub nodes : new.nodes.items ≡ old.nodes.items ++ record { node = n; number = 0; span = 1 } ∷ []
+  pub descriptors : new.descriptors.items ≡ old.descriptors.items ++ descriptor_in id n
+  pub dynamics : new.dynamics ≡ old.dynamics + (if n.is_static then 0 else 1)
+  pub keys : new.keys.keys ≡ old.keys.keys
+
+-- nodes were read, with the descriptors of the static ones
+pub record Adds (old new : Reader) (placed : List Placed) (ds : List Descriptor) : Type 0 where
+  pub nodes : new.nodes.items ≡ old.nodes.items ++ placed
+  pub descriptors : new.descriptors.items ≡ old.descriptors.items ++ ds
+  pub noted : IsNoted new

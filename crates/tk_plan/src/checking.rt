@@ -1,0 +1,144 @@
+//! The checks of a node.
+ghost use Rattle.std.specs.Prelude.{◌≡◌, ◌++◌, ◌∷◌, [], option_map, nat_le};
+ghost use Rattle.std.specs.List.{count_by};
+ghost use Rattle.serde_json.specs.View.{view};
+ghost use Rattle.tk_ids.specs.Answer.{IsMadeOf};
+ghost use Rattle.tk_ids.specs.declared.tables.TheConstants.{MAX_DESCRIPTORS};
+ghost use Rattle.tk_cutting.specs.Trees.{contents};
+ghost use Rattle.tk_plan.specs.Answers.{Reads};
+ghost use Rattle.tk_plan.specs.Checks.{first};
+ghost use Rattle.tk_plan.specs.Fields.{Says};
+ghost use Rattle.tk_plan.specs.PlanOf.{id_fault, node_check, is_kind, checks};
+ghost use Rattle.tk_plan.specs.Refusals.{Meets};
+ghost use Rattle.tk_plan.specs.Seen.{seen, above_of, segment_said, as_plan_fault, IsNamed};
+ghost use Rattle.tk_plan.specs.Progress.{IsNoted, IsChecked};
+
+use crate::faults::PlanFault;
+use crate::fields::{Fields, dynamic_fields, static_fields};
+use crate::limits::MAX_LEVELS;
+use crate::noting::note_all;
+use crate::pairings::TwoTexts;
+use crate::readers::{Checked, Named, Reader};
+use crate::siblings::Siblings;
+use crate::sites::Site;
+use std::alloc::Global;
+use tk_cutting::{MAX_KEYS, Node};
+use tk_ids::{IdFault, MAX_DESCRIPTORS, Segment, TableFault, UniqueId};
+
+fn fields_of<'v>(alloc: Global, site: Site<'v>) -> Result<Fields<'v>, PlanFault>
+    ensures { Reads (node_check (seen [] site.entry)) (Says site.entry.is_static (view site.entry.value.now)) result }
+{
+    if site.is_static {
+        static_fields(alloc, site.place, site.value)
+    } else {
+        dynamic_fields(alloc, site.place, site.value)
+    }
+}
+
+fn refused(fault: IdFault) -> PlanFault
+    ensures { result ≡ as_plan_fault fault }
+{
+    match fault {
+        IdFault::Empty => PlanFault::Id(IdFault::Empty),
+        IdFault::BadSegment(at) => PlanFault::Id(IdFault::BadSegment(at)),
+        IdFault::BadEscape(at) => PlanFault::Id(IdFault::BadEscape(at)),
+        IdFault::TooLong => PlanFault::Id(IdFault::TooLong),
+        IdFault::Memory => PlanFault::Memory,
+    }
+}
+
+fn id_below(
+    alloc: Global,
+    above: Option<&UniqueId>,
+    segment: &Segment,
+) -> Result<UniqueId, IdFault>
+    ensures { IsMadeOf (above_of above.entry ++ segment.now ∷ []) result }
+{
+    match above {
+        Some(id) => id.append(alloc, segment),
+        None => UniqueId::of(alloc, segment),
+    }
+}
+
+/// The segment of these texts, and the id that ends in it.
+fn named(
+    alloc: Global,
+    above: Option<&UniqueId>,
+    texts: TwoTexts<'_>,
+) -> Result<Named, PlanFault>
+    ensures { Meets (option_map PlanFault.Id (id_fault (above_of above.entry) (segment_said texts.entry)))
+        (IsNamed (above_of above.entry) (segment_said texts.entry)) result }
+{
+    let segment = match Segment::new(alloc, texts.first, texts.second) {
+        Ok(segment) => segment,
+        Err(fault) => return Err(refused(fault)),
+    };
+    match id_below(alloc, above, &segment) {
+        Ok(id) => Ok(Named { segment, id }),
+        Err(fault) => Err(refused(fault)),
+    }
+}
+
+/// Whether there are as many nodes of the kind as there may be.
+fn is_full(reader: &Reader, is_static: bool) -> bool
+    requires { IsNoted reader.now }
+    ensures { result ≡ nat_le MAX_DESCRIPTORS (count_by (is_kind is_static) (contents reader.now.nodes.items)) }
+{
+    let count = if is_static {
+        reader.descriptors.len()
+    } else {
+        reader.dynamics
+    };
+    count >= MAX_DESCRIPTORS
+}
+
+/// Checks one node, given those before it, and notes its segment and its lock keys.
+pub(crate) fn check_node<'v>(
+    alloc: Global,
+    reader: &mut Reader,
+    siblings: &mut Siblings,
+    site: Site<'v>,
+) -> Result<Checked<'v>, PlanFault>
+    requires { IsNoted reader.old }
+    ensures { Meets (first (checks (contents reader.old.nodes.items) (seen siblings.old site.entry)))
+        (IsChecked reader.old reader.new (seen siblings.old site.entry) siblings.new) result }
+{
+    if site.level > MAX_LEVELS {
+        return Err(PlanFault::Deep);
+    }
+    let fields = fields_of(alloc, site)?;
+    if fields.reports.repeats {
+        return Err(PlanFault::EntryKeyTwice);
+    }
+    let named = named(alloc, site.above, fields.segment)?;
+    if !siblings.insert(alloc, &named.segment)? {
+        return Err(PlanFault::Table(TableFault::Twice));
+    }
+    if is_full(reader, site.is_static) {
+        return Err(PlanFault::Table(TableFault::Full));
+    }
+    note_all(alloc, &mut reader.keys, fields.locks.as_slice())?;
+    if reader.keys.len() > MAX_KEYS {
+        return Err(PlanFault::TooManyResources);
+    }
+    let Named { segment, id } = named;
+    let node = Node {
+        is_static: site.is_static,
+        dtype: fields.dtype,
+        segment,
+        name: fields.name,
+        is_concurrent: fields.is_concurrent,
+        is_isolated: fields.is_isolated,
+        locks: fields.locks,
+        skip: fields.skip,
+        status: fields.ending.status,
+        message: fields.ending.message,
+        entries: fields.reports.entries,
+    };
+    Ok(Checked {
+        node,
+        id,
+        children: fields.children,
+        dynamic: fields.dynamic,
+    })
+}

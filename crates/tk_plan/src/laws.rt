@@ -1,0 +1,15 @@
+//! Laws of plans, which hold of the definitions alone.
+ghost use Rattle.tk_plan.specs.PlanLaws.{IdsDiffer, OneAnswer};
+
+pub use tk_cutting::laws::{finds_nodes, has_keys, keeps_stamps, loses_nothing, tells_steps};
+
+/// No two nodes of a plan have one id.
+pub fn ids_differ()
+    ensures { IdsDiffer }
+{}
+
+/// Bytes have one answer. So `read_plan` answers a plan exactly where the bytes are one,
+/// and each fault exactly where it is the first, unless memory runs out.
+pub fn one_answer()
+    ensures { OneAnswer }
+{}

@@ -1,0 +1,34 @@
+//! What is kept as a plan is read.
+
+use indexmap::IndexSet;
+use serde_json::Value;
+use tk_cutting::{Node, Placed};
+use tk_ids::{Descriptor, Segment, Text, UniqueId};
+
+/// The nodes that were read, in preorder, and what they have.
+#[derive(Drop)]
+pub(crate) struct Reader {
+    pub nodes: Vec<Placed>,
+    /// The descriptors of the static nodes.
+    pub descriptors: Vec<Descriptor>,
+    /// How many nodes are dynamic.
+    pub dynamics: usize,
+    /// The lock keys, save `global`.
+    pub keys: IndexSet<Text>,
+}
+
+/// The last segment of an id, and the id.
+#[derive(Drop)]
+pub(crate) struct Named {
+    pub segment: Segment,
+    pub id: UniqueId,
+}
+
+/// A node that was checked, and what stands in its arrays.
+#[derive(Drop)]
+pub(crate) struct Checked<'v> {
+    pub node: Node,
+    pub id: UniqueId,
+    pub children: &'v [Value],
+    pub dynamic: &'v [Value],
+}

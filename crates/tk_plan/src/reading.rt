@@ -1,0 +1,120 @@
+//! Reading a plan's nodes.
+ghost use Rattle.std.specs.Prelude.{◌≡◌, ◌≤◌, ◌+◌, ◌-◌, ◌++◌, ◌∷◌, [], map, flat_map, OnOk};
+ghost use Rattle.serde_json.specs.View.{view};
+ghost use Rattle.tk_cutting.specs.Trees.{flat, contents};
+ghost use Rattle.tk_cutting.specs.Ids.{descriptors};
+ghost use Rattle.tk_plan.specs.Checks.{escape, member_at};
+ghost use Rattle.tk_plan.specs.Pointers.{pointer};
+ghost use Rattle.tk_plan.specs.PlanOf.{verdict};
+ghost use Rattle.tk_plan.specs.Progress.{IsNoted, IsAdded, Adds};
+ghost use Rattle.tk_plan.specs.Refusals.{Meets};
+ghost use Rattle.tk_plan.specs.Seen.{seen};
+ghost use Rattle.tk_plan.specs.Sites.{sites, sites_in, grown, segment_in, segment_of};
+
+use crate::checking::check_node;
+use crate::faults::PlanFault;
+use crate::places::Place;
+use crate::pointers::member_place;
+use crate::readers::Reader;
+use crate::siblings::Siblings;
+use crate::sites::Site;
+use serde_json::Value;
+use std::alloc::{AllocError, Global};
+use tk_cutting::{Node, Placed};
+use tk_ids::{Descriptor, UniqueId};
+
+/// Puts a node at the end.
+fn add_node(
+    alloc: Global,
+    reader: &mut Reader,
+    node: Node,
+    id: &UniqueId,
+) -> Result<(), AllocError>
+    requires { reader.old.dynamics ≤ 65536 }
+    ensures { OnOk result (IsAdded reader.old reader.new node id.now) }
+{
+    if node.is_static {
+        let descriptor = Descriptor {
+            id: id.try_clone(alloc)?,
+            name: node.name.try_clone()?,
+            dtype: node.dtype,
+        };
+        reader.descriptors.push(descriptor)?;
+    } else {
+        reader.dynamics += 1;
+    }
+    reader.nodes.push(Placed {
+        node,
+        number: 0,
+        span: 1,
+    })?;
+    Ok(())
+}
+
+/// Reads a node and all below it.
+#[cycle(reading)]
+pub(crate) fn read_node(
+    alloc: Global,
+    reader: &mut Reader,
+    siblings: &mut Siblings,
+    site: Site<'_>,
+) -> Result<(), PlanFault>
+    requires noted { IsNoted reader.old }
+    requires level { site.level ≤ 61 }
+    ensures {
+        let s = seen siblings.old site.entry in
+        let t = grown (61 - site.entry.level) s in
+        Meets (verdict (contents reader.old.nodes.items) (sites (61 - site.entry.level) s))
+        (λ _. Adds reader.old reader.new (flat t) (descriptors s.above t) × (siblings.new ≡ siblings.old ++ segment_of s ∷ [])) result
+    }
+{
+    let at = reader.nodes.len();
+    let checked = check_node(alloc, reader, siblings, site)?;
+    add_node(alloc, reader, checked.node, &checked.id)?;
+    let id = &checked.id;
+    let mut below = Siblings::new(alloc);
+    read_all(alloc, reader, &mut below, site, "children", true, id, checked.children)?;
+    read_all(alloc, reader, &mut below, site, "dynamic", false, id, checked.dynamic)?;
+    let span = reader.nodes.len() - at;
+    reader.nodes[at].span = span;
+    Ok(())
+}
+
+/// Reads the nodes in a member of a node, whose id is given.
+#[cycle(reading)]
+fn read_all<'x>(
+    alloc: Global,
+    reader: &mut Reader,
+    siblings: &mut Siblings,
+    parent: Site<'_>,
+    name: &str,
+    is_static: bool,
+    id: &'x UniqueId,
+    values: &'x [Value],
+) -> Result<(), PlanFault>
+    requires noted { IsNoted reader.old }
+    requires level { parent.level ≤ 60 }
+    requires plain { flat_map escape name.now ≡ name.now }
+    ensures {
+        let ss = sites_in (member_at (pointer parent.entry.place) name.now) (parent.entry.level + 1) id.now is_static 0 siblings.old (map view values.now) in
+        let ts = map (grown (60 - parent.entry.level)) ss in
+        Meets (verdict (contents reader.old.nodes.items) (flat_map (sites (60 - parent.entry.level)) ss))
+        (λ _. Adds reader.old reader.new (flat_map flat ts) (flat_map (descriptors id.now) ts) × (siblings.new ≡ siblings.old ++ map segment_in (map view values.now))) result
+    }
+{
+    if values.is_empty() {
+        return Ok(());
+    }
+    let array = member_place(alloc, parent.place, name)?;
+    for (index, value) in values.iter().enumerate() {
+        let site = Site {
+            place: Place::Item(&array, index),
+            level: parent.level + 1,
+            is_static,
+            above: Some(id),
+            value,
+        };
+        read_node(alloc, reader, siblings, site)?;
+    }
+    Ok(())
+}

@@ -1,0 +1,116 @@
+//! Reading a plan.
+ghost use Rattle.std.specs.Prelude.{◌≡◌, [], Some, codes, IfOk};
+ghost use Rattle.serde_json.specs.Find.{get};
+ghost use Rattle.serde_json.specs.View.{view};
+ghost use Rattle.tk_plan.specs.Answers.{Reads};
+ghost use Rattle.tk_plan.specs.Checks.{row, must};
+ghost use Rattle.tk_plan.specs.PlanOf.{PlanOf, one, anything, top};
+ghost use Rattle.tk_plan.specs.Gives.{plan_in, Answered};
+
+use crate::faults::PlanFault;
+use crate::members::known_members;
+use crate::noting::key_list;
+use crate::places::Place;
+use crate::pointers::{field, member_place};
+use crate::readers::Reader;
+use crate::reading::read_node;
+use crate::siblings::Siblings;
+use crate::sites::Site;
+use indexmap::IndexSet;
+use serde_json::Value;
+use std::alloc::{AllocError, Global};
+use std::sync::Arc;
+use tk_cutting::{Plan, count_events};
+use tk_ids::{Descriptor, Table};
+
+fn version_member(alloc: Global, object: &Value) -> Result<(), PlanFault>
+    ensures { Reads (row [] (view object.now) (must (codes "version") one)) (λ _. Unit {0}) result }
+{
+    match object.get("version").and_then(Value::as_u64) {
+        Some(1) => Ok(()),
+        _ => Err(field(member_place(alloc, Place::Whole(""), "version")?)),
+    }
+}
+
+fn root_member<'v>(alloc: Global, object: &'v Value) -> Result<&'v Value, PlanFault>
+    ensures { Reads (row [] (view object.now) (must (codes "root") anything))
+        (λ v. get (codes "root") (view object.now) ≡ Some (view v.now)) result }
+{
+    match object.get("root") {
+        Some(root) => Ok(root),
+        None => Err(field(member_place(alloc, Place::Whole(""), "root")?)),
+    }
+}
+
+fn root<'v>(alloc: Global, value: &'v Value) -> Result<&'v Value, PlanFault>
+    ensures { Reads (top [] (view value.now))
+        (λ v. get (codes "root") (view value.now) ≡ Some (view v.now)) result }
+{
+    known_members(alloc, Place::Whole(""), value, &["version", "root"])?;
+    version_member(alloc, value)?;
+    root_member(alloc, value)
+}
+
+/// The table of these descriptors.
+fn table_of(alloc: Global, descriptors: Vec<Descriptor>) -> Result<Table, AllocError>
+    ensures { IfOk result (λ table. table ≡ descriptors.items) }
+{
+    let mut table = Table::new(alloc);
+    for descriptor in descriptors {
+        match table.insert(alloc, descriptor) {
+            Ok(_) => {}
+            Err(_) => return Err(AllocError),
+        }
+    }
+    Ok(table)
+}
+
+fn plan_of(alloc: Global, value: &Value) -> Result<Plan, PlanFault>
+    ensures { Answered (PlanOf (view value.now)) result }
+{
+    let root = root(alloc, value)?;
+    let mut reader = Reader {
+        nodes: Vec::new(alloc),
+        descriptors: Vec::new(alloc),
+        dynamics: 0,
+        keys: IndexSet::new(alloc),
+    };
+    let mut siblings = Siblings::new(alloc);
+    let site = Site {
+        place: Place::Whole("/root"),
+        level: 1,
+        is_static: true,
+        above: None,
+        value: root,
+    };
+    read_node(alloc, &mut reader, &mut siblings, site)?;
+    let Reader {
+        nodes,
+        descriptors,
+        dynamics: _,
+        keys,
+    } = reader;
+    match count_events(nodes.as_slice()) {
+        None => Err(PlanFault::TooManyEvents),
+        Some(_) => {
+            let table = Arc::new(alloc, table_of(alloc, descriptors)?)?;
+            let keys = key_list(alloc, keys)?;
+            Ok(Plan::new(alloc, nodes, table, keys.as_slice())?)
+        }
+    }
+}
+
+/// Reads a plan.
+pub fn read_plan(alloc: Global, bytes: &[u8]) -> Result<Plan, PlanFault>
+    ensures { Answered (plan_in bytes.now) result }
+{
+    match Value::from_slice(alloc, bytes) {
+        Ok(value) => plan_of(alloc, &value),
+        Err(error) => {
+            if error.is_memory() {
+                return Err(PlanFault::Memory);
+            }
+            Err(PlanFault::Json)
+        }
+    }
+}
