@@ -45,7 +45,8 @@ fn other_job<'w>(alloc: Global, words: &'w [String]) -> Result<Job<'w>, Fault> {
     }
 }
 
-/// The job of a command line, the program's name first. What follows `ask` is the question's own.
+/// The job of a command line, the program's name first. What follows `ask` is the question's own;
+/// what the command-line crate makes of other words is tested, and no clause says it.
 pub fn job_of<'w>(alloc: Global, words: &'w [String]) -> Result<Job<'w>, Fault> {
     if let [_, command, question @ ..] = words {
         if command.as_str() == "ask" {

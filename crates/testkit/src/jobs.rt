@@ -7,7 +7,8 @@ use tk_ask::ask;
 use tk_record::{Source, Target};
 use tk_replay::replay_text;
 
-/// Does the job of a command line. False where a match says no or an expectation fails.
+/// Does the job of a command line. False where a match says no or an expectation fails. The
+/// promises are those of `ask` and `replay_text`, which it calls.
 pub fn perform<S: Source, T: Target>(
     alloc: Global,
     words: &[String],

@@ -1,3 +1,6 @@
 pub mod AnswerLemmas
 pub mod AskLemmas
 pub mod WordLemmas
+pub mod OneReading
+pub mod OneReply
+pub mod OneAnswer

@@ -1,9 +1,7 @@
 -- Words of questions: what one word more does.
-use Rattle.std.proofs.Common.{◌≡◌, ◌≢◌, ◌<◌, ◌≤◌, ◌^◌, ◌+◌, ◌++◌, ◌∷◌, [], ℕ, zero, suc, List, length, map, take, get_or, lit<, Bool, true, false, Option, Some, None, Result, Ok, Err, refl, sym, ap, subst, ◌∙◌, arith, inl, inr}
+use Rattle.std.proofs.Common.{◌≡◌, ◌≢◌, ◌<◌, ◌++◌, ◌∷◌, [], ℕ, zero, suc, List, length, map, take, get_or, true, Some, Ok, refl, sym, ap, subst, ◌∙◌, arith, inl, inr}
 use Rattle.std.specs.Prelude.{not, ◌==◌}
 use Rattle.std.specs.List.{list_all, slice_get}
-use Rattle.std.specs.Fmt.{decimal}
-use Rattle.std.specs.Option.{MatchOption}
 use Rattle.std.proofs.lemmas.List.Folds.{list_all_at}
 use Rattle.tk_columns.specs.declared.tallies.Expected.{Expected}
 use Rattle.tk_columns.specs.declared.selections.Selection.{Selection}
@@ -11,7 +9,7 @@ use Rattle.tk_columns.specs.declared.selections.Selection.TheVariants.{All, Test
 use Rattle.tk_columns.specs.Selections.{selection_name}
 use Rattle.tk_conditions.specs.declared.conditions.Condition.{Condition}
 use Rattle.tk_conditions.specs.Answer.{IsReadAs}
-use Rattle.tk_ask.specs.Questions.{Expecting, IsNextExpected, IsExpectation, expecting, expectation_word, AreConditions, IsBadWord, count, executions}
+use Rattle.tk_ask.specs.Questions.{Expecting, IsNextExpected, AreConditions, IsBadWord, count, executions}
 
 lacks : (name : List ℕ) → list_all (λ b. not (b == 61)) name ≡ true → (i : ℕ) → i < length name → get_or name i 0 ≢ 61
 lacks name all i lt is =

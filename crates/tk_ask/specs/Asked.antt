@@ -1,20 +1,20 @@
 -- What asking a question does: it reads a record text to its end, and writes the answer.
-use Rattle.std.specs.Prelude.{◌≡◌, ℕ, Bool, List, Option, Result, Ok, Err, IfSome}
+use Rattle.std.specs.Prelude.{◌≡◌, ℕ, Bool, List, Option, Ok, Err, IfSome}
 use Rattle.std.specs.Io.KnownBytes.{Appends}
 use Rattle.tk_columns.specs.Recorded.{Recorded}
 use Rattle.tk_streams.specs.Stream.{AppendsFront}
 use Rattle.tk_record.specs.declared.reading.ReadFault.TheVariants as read
-use Rattle.tk_record.specs.Text.{HasText, text, IsAnswer}
+use Rattle.tk_record.specs.Text.{IsAnswer}
 use Rattle.tk_ask.specs.declared.faults.AskFault.{AskFault}
 use Rattle.tk_ask.specs.declared.faults.AskFault.TheVariants as faults
 use Rattle.tk_ask.specs.declared.questions.Question.{Question}
 use Rattle.tk_ask.specs.Questions.{Asks, IsAskedAs}
 use Rattle.tk_ask.specs.Answers.{IsAnswerTo}
 
--- the words ask a question, the input is the text of a record, and this is the answer to the question about it
+-- the words ask a question, the input is read as a record, and this is the answer to the question about it
 abbrev pub IsAnswered : List (List ℕ) → List ℕ → Bool → List ℕ → Type 0
 IsAnswered words input is_yes output =
-    (question : Question) × Asks words question × (r : Recorded) × HasText r × (input ≡ text r) × IsAnswerTo question r is_yes output
+    (question : Question) × Asks words question × (r : Recorded) × IsAnswer input (Ok r) × IsAnswerTo question r is_yes output
 
 -- the answer was added to what was written, and nothing else
 abbrev pub AddsAnswer : List (List ℕ) → List ℕ → Bool → Option (List ℕ) → Option (List ℕ) → Type 0

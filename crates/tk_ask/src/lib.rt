@@ -5,6 +5,7 @@ mod answers;
 mod asking;
 mod expectations;
 mod faults;
+pub mod laws;
 mod questions;
 
 pub use asking::ask;

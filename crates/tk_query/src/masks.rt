@@ -18,58 +18,58 @@ fn byte_of(flag: bool) -> u8
 }
 
 /// For each entry whether the condition holds of it, asked one by one.
-fn each_mask(alloc: Global, record: &Record, condition: &Condition) -> Result<Flags, AllocError>
-    ensures { IfOk result (λ flags. flags ≡ map (holds record.now condition.now) record.now.entries) }
+fn each_mask(alloc: Global, recording: &Record, condition: &Condition) -> Result<Flags, AllocError>
+    ensures { IfOk result (λ flags. flags ≡ map (holds recording.now condition.now) recording.now.entries) }
 {
-    let mut column = Vec::with_capacity(alloc, record.len())?;
-    for position in 0..record.len() {
-        column.push(byte_of(holds_at(record, condition, position)))?;
+    let mut column = Vec::with_capacity(alloc, recording.len())?;
+    for position in 0..recording.len() {
+        column.push(byte_of(holds_at(recording, condition, position)))?;
     }
     Flags::of_byte(alloc, &column, 1)
 }
 
 /// For each entry, whether the condition holds of it.
 #[cycle(masks)]
-fn mask(alloc: Global, record: &Record, condition: &Condition) -> Result<Flags, AllocError>
-    ensures { IfOk result (λ flags. flags ≡ map (holds record.now condition.now) record.now.entries) }
+fn mask(alloc: Global, recording: &Record, condition: &Condition) -> Result<Flags, AllocError>
+    ensures { IfOk result (λ flags. flags ≡ map (holds recording.now condition.now) recording.now.entries) }
 {
     match condition {
-        Condition::Test => record.flags(alloc, Rule::Test),
-        Condition::Container => record.flags(alloc, Rule::Container),
-        Condition::Kind(kind) => record.flags(alloc, Rule::OfKind(*kind)),
-        Condition::Started => record.flags(alloc, Rule::OfKind(Kind::Started)),
-        Condition::Succeeded => record.flags(alloc, Rule::OfStatus(Status::Successful)),
-        Condition::Failed(None) => record.flags(alloc, Rule::OfStatus(Status::Failed)),
-        Condition::Aborted(None) => record.flags(alloc, Rule::OfStatus(Status::Aborted)),
-        Condition::All(members) => all_mask(alloc, record, members),
-        Condition::Any(members) => any_mask(alloc, record, members),
+        Condition::Test => recording.flags(alloc, Rule::Test),
+        Condition::Container => recording.flags(alloc, Rule::Container),
+        Condition::Kind(kind) => recording.flags(alloc, Rule::OfKind(*kind)),
+        Condition::Started => recording.flags(alloc, Rule::OfKind(Kind::Started)),
+        Condition::Succeeded => recording.flags(alloc, Rule::OfStatus(Status::Successful)),
+        Condition::Failed(None) => recording.flags(alloc, Rule::OfStatus(Status::Failed)),
+        Condition::Aborted(None) => recording.flags(alloc, Rule::OfStatus(Status::Aborted)),
+        Condition::All(members) => all_mask(alloc, recording, members),
+        Condition::Any(members) => any_mask(alloc, recording, members),
         Condition::Not(member) => {
-            let mut flags = mask(alloc, record, member)?;
+            let mut flags = mask(alloc, recording, member)?;
             flags.invert();
             Ok(flags)
         }
-        _ => each_mask(alloc, record, condition),
+        _ => each_mask(alloc, recording, condition),
     }
 }
 
 #[cycle(masks)]
-fn all_mask(alloc: Global, record: &Record, members: &[Condition]) -> Result<Flags, AllocError>
-    ensures { IfOk result (λ flags. flags ≡ map (λ e. list_all (λ member. holds record.now member e) members.now) record.now.entries) }
+fn all_mask(alloc: Global, recording: &Record, members: &[Condition]) -> Result<Flags, AllocError>
+    ensures { IfOk result (λ flags. flags ≡ map (λ e. list_all (λ member. holds recording.now member e) members.now) recording.now.entries) }
 {
-    let mut flags = Flags::all(alloc, record.len())?;
+    let mut flags = Flags::all(alloc, recording.len())?;
     for member in members {
-        flags.and(&mask(alloc, record, member)?);
+        flags.and(&mask(alloc, recording, member)?);
     }
     Ok(flags)
 }
 
 #[cycle(masks)]
-fn any_mask(alloc: Global, record: &Record, members: &[Condition]) -> Result<Flags, AllocError>
-    ensures { IfOk result (λ flags. flags ≡ map (λ e. list_any (λ member. holds record.now member e) members.now) record.now.entries) }
+fn any_mask(alloc: Global, recording: &Record, members: &[Condition]) -> Result<Flags, AllocError>
+    ensures { IfOk result (λ flags. flags ≡ map (λ e. list_any (λ member. holds recording.now member e) members.now) recording.now.entries) }
 {
-    let mut flags = Flags::none(alloc, record.len())?;
+    let mut flags = Flags::none(alloc, recording.len())?;
     for member in members {
-        flags.or(&mask(alloc, record, member)?);
+        flags.or(&mask(alloc, recording, member)?);
     }
     Ok(flags)
 }
@@ -82,8 +82,8 @@ pub fn select<'r>(
 ) -> Result<Events<'r>, AllocError>
     ensures { IfOk result (λ kept. kept ≡ keeping (holds events.now.recorded condition.now) events.now) }
 {
-    let record = events.recorded();
-    prove!(events.flags().len() == record.len());
-    let flags = mask(alloc, record, condition)?;
+    let recording = events.recorded();
+    prove!(events.flags().len() == recording.len());
+    let flags = mask(alloc, recording, condition)?;
     Ok(events.narrow(flags))
 }

@@ -37,11 +37,11 @@ pub fn match_exactly(
     if events.count() != conditions.len() {
         return Ok(Exact::WrongCount);
     }
-    let record = events.recorded();
-    prove!(events.flags().len() == record.len());
+    let recording = events.recorded();
+    prove!(events.flags().len() == recording.len());
     let positions = events.positions(alloc)?;
     for (k, condition) in conditions.iter().enumerate() {
-        if !holds_at(record, condition, positions[k]) {
+        if !holds_at(recording, condition, positions[k]) {
             return Ok(Exact::No(k));
         }
     }

@@ -50,10 +50,10 @@ fn take_act(
 }
 
 /// What the entry at a position does to executions.
-fn act_at(record: &Record, position: usize) -> Option<Act>
-    ensures { result ≡ option_and_then act_of (slice_get record.now.entries position) }
+fn act_at(recording: &Record, position: usize) -> Option<Act>
+    ensures { result ≡ option_and_then act_of (slice_get recording.now.entries position) }
 {
-    match record.entry(position) {
+    match recording.entry(position) {
         Some(event) => act_of(&event),
         None => None,
     }

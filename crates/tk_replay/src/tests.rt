@@ -13,25 +13,42 @@ fn start(stamp: u64) -> Event {
     }
 }
 
-fn is_stamped(item: Option<Item>, stamp: u64) -> bool {
-    matches!(item, Some(Item::Entry(entry)) if entry.event.stamp == stamp)
+fn is_entry(item: Option<Item>, stamp: u64) -> bool {
+    match item {
+        Some(Item::Entry(entry)) => entry.event.stamp == stamp,
+        _ => false,
+    }
 }
 
-// The record text that the replay text comes to.
+fn is_end(item: Option<Item>, worker: u8) -> bool {
+    match item {
+        Some(Item::End(ended)) => ended == worker,
+        _ => false,
+    }
+}
+
+fn is_refused(answer: Result<(), (CoreFault, Event)>, why: CoreFault, stamp: u64) -> bool {
+    match answer {
+        Err((fault, event)) => fault == why && event.stamp == stamp,
+        Ok(()) => false,
+    }
+}
+
+// Whether the replay text comes to the record text.
 fn is_replayed_as(alloc: Global, text: &[u8], record: &[u8]) -> bool {
     let mut source = ByteSource::new(text);
     let mut target = ByteTarget::new(alloc);
     replay_text(alloc, &mut source, &mut target).is_ok() && target.bytes() == record
 }
 
-fn fault_of(alloc: Global, text: &[u8]) -> Option<ReplayFault> {
+// Whether the step is of a worker that has ended, and nothing is written.
+fn stops_at(alloc: Global, text: &[u8], step: usize) -> bool {
     let mut source = ByteSource::new(text);
     let mut target = ByteTarget::new(alloc);
-    let fault = replay_text(alloc, &mut source, &mut target).err();
-    if target.bytes().is_empty() {
-        fault
-    } else {
-        None
+    let answer = replay_text(alloc, &mut source, &mut target);
+    match answer {
+        Err(ReplayFault::AfterEnd(at)) => at == step && target.bytes().is_empty(),
+        _ => false,
     }
 }
 
@@ -55,7 +72,7 @@ fn small_replay(rt: HostRuntime) -> Result<(), Fail> {
     let bare = b"testkit-record|1\nN|T|[engine:e]|e\n";
     assert!(rt; is_replayed_as(rt.alloc(), BARE, bare));
     assert!(rt; is_replayed_as(rt.alloc(), WAITING, bare));
-    assert!(rt; matches!(fault_of(rt.alloc(), ENDED), Some(ReplayFault::AfterEnd(2))));
+    assert!(rt; stops_at(rt.alloc(), ENDED, 2));
     Ok(())
 }
 
@@ -64,15 +81,10 @@ fn core_turns(rt: HostRuntime) -> Result<(), Fail> {
     let mut core = Core::new(rt.alloc(), 2);
     assert!(rt; core.emit(1, start(7)).is_ok());
     assert!(rt; core.end(1).is_ok());
-    assert!(rt;
-        matches!(
-            core.emit(1, start(8)),
-            Err((CoreFault::AfterEnd, Event { stamp: 8, .. }))
-        )
-    );
-    assert!(rt; matches!(core.emit(3, start(9)), Err((CoreFault::Worker, _))));
-    assert!(rt; is_stamped(core.take(), 7));
-    assert!(rt; matches!(core.take(), Some(Item::End(1))));
+    assert!(rt; is_refused(core.emit(1, start(8)), CoreFault::AfterEnd, 8));
+    assert!(rt; is_refused(core.emit(3, start(9)), CoreFault::Worker, 9));
+    assert!(rt; is_entry(core.take(), 7));
+    assert!(rt; is_end(core.take(), 1));
     assert!(rt; core.take().is_none());
     Ok(())
 }

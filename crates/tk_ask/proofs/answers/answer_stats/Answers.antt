@@ -1,4 +1,4 @@
-use Rattle.std.proofs.Common.{rules, ◌≡◌, ◌++◌, [], length, string_bytes}
+use Rattle.std.proofs.Common.{rules, ◌≡◌, ◌++◌, length, string_bytes}
 use Rattle.std.specs.Prelude.{◌==◌}
 use Rattle.std.specs.List.{flat_map}
 use Rattle.tk_ask.specs.Answers.{mismatch_line, row_line}

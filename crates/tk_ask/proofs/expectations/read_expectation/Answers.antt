@@ -1,4 +1,4 @@
-use Rattle.std.proofs.Common.{rules, ◌≡◌, ◌≤◌, ◌<◌, ◌^◌, ℕ, Some, None, refl, sym, ◌∙◌, arith}
+use Rattle.std.proofs.Common.{Some, arith}
 use Rattle.std.proofs.lemmas.Str.Pattern.{split_parts, split_after}
 use Rattle.std.specs.Fmt.{decimal}
 use Rattle.tk_columns.specs.Selections.{selection_name}

@@ -1,4 +1,4 @@
-use Rattle.std.proofs.Common.{rules, ◌≡◌, ℕ, List, Some, ◌<◌, length, map, string_bytes, refl, sym, subst, add-one, arith}
+use Rattle.std.proofs.Common.{rules, ℕ, List, Some, ◌<◌, length, map, string_bytes, subst, add-one}
 use Rattle.tk_columns.specs.Statistics.{nothing_expected}
 use Rattle.tk_ask.specs.Questions.{IsNextExpected}
 use Rattle.tk_ask.proofs.WordLemmas.{texts_more, expecting_more}

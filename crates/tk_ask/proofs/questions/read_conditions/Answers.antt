@@ -1,4 +1,4 @@
-use Rattle.std.proofs.Common.{rules, ◌≡◌, ◌∷◌, ◌++◌, [], ◌<◌, ℕ, suc, List, Ok, length, map, take, string_bytes, subst, sym, add-one, arith}
+use Rattle.std.proofs.Common.{rules, ◌≡◌, ◌∷◌, ◌++◌, [], ◌<◌, ℕ, suc, List, Ok, length, map, take, string_bytes, subst, sym, add-one}
 use Rattle.tk_conditions.specs.declared.conditions.Condition.{Condition}
 use Rattle.tk_conditions.specs.Answer.{IsReadAs}
 use Rattle.tk_ask.specs.Questions.{AreConditions}

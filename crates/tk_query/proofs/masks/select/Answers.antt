@@ -14,4 +14,4 @@ returns c =
     c.narrow.ensures
     ∙ ap (λ (kept : List Placed). let s : Selected = record { recorded = asked.recorded; kept = kept } in s)
     (narrowed_is asked flags are (holds asked.recorded c.args.condition.now) c.in_ok-flags.flags
-    (c.in_ok-flags.ensures ∙ ap (λ (r : Recorded). map (holds r c.args.condition.now) r.entries) c.recorded-record.ensures))
+    (c.in_ok-flags.ensures ∙ ap (λ (r : Recorded). map (holds r c.args.condition.now) r.entries) c.recorded-recording.ensures))
