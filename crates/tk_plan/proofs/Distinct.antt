@@ -91,10 +91,10 @@ new_here : (before : List Node) (s : Site) → first (checks before s) ≡ None 
 unfolding checks
 new_here before s e =
     when_none _ (Table Twice) (fifth_none
-      (when (nat_lt MAX_LEVELS s.level) Deep) (option_map Field (node_check s)) (when (repeats_key s.value) EntryKeyTwice) (option_map Id (id_fault s.above (segment_of s)))
-      (when (list_any (same_segment (segment_of s)) s.earlier) (Table Twice))
-      (when (nat_le MAX_DESCRIPTORS (count_by (is_kind s.is_static) before)) (Table Full))
-      (when (nat_lt MAX_KEYS (length (lock_keys (before ++ node_of s ∷ [])))) TooManyResources) e)
+    (when (nat_lt MAX_LEVELS s.level) Deep) (option_map Field (node_check s)) (when (repeats_key s.value) EntryKeyTwice) (option_map Id (id_fault s.above (segment_of s)))
+    (when (list_any (same_segment (segment_of s)) s.earlier) (Table Twice))
+    (when (nat_le MAX_DESCRIPTORS (count_by (is_kind s.is_static) before)) (Table Full))
+    (when (nat_lt MAX_KEYS (length (lock_keys (before ++ node_of s ∷ [])))) TooManyResources) e)
 
 check_none : (n : ℕ) (before : List Node) (s : Site) → verdict before (sites n s) ≡ None → first (checks before s) ≡ None
 unfolding sites
@@ -111,7 +111,7 @@ apart_all n each before earlier (x ∷ xs) r e =
       ap₂ (λ s l. list_any (same_segment s) l) segment (sym r.0) ∙ new_here before x (check_none n before x mine),
       each before x mine,
       subst (λ s. AreApart (earlier ++ s ∷ []) (forest_of (map (grown n) xs))) (sym segment)
-        (apart_all n each (before ++ map node_of (sites n x)) (earlier ++ segment_of x ∷ []) xs r.1 (none_second _ _ both)),
+          (apart_all n each (before ++ map node_of (sites n x)) (earlier ++ segment_of x ∷ []) xs r.1 (none_second _ _ both)),
     )
 
 pub apart_grown : (n : ℕ) (before : List Node) (s : Site) → verdict before (sites n s) ≡ None → IsApart (grown n s)
@@ -224,8 +224,8 @@ apart_from : (above id : List Pair) (earlier : List Pair) (f : Forest) (s : Pair
 apart_from above id earlier no_trees s h a b e = a
 apart_from above id earlier (more t f) s h a b e =
     elim (among_split id (ids above t) (ids_below above f) a) [
-      inl c ↦ not_there t earlier s h.0 e above id b (begins_in above id t c)
-    | inr c ↦ apart_from above id (earlier ++ segment_at t ∷ []) f s h.2 c b (any_left s earlier (segment_at t ∷ []) e)
+      | inl c ↦ not_there t earlier s h.0 e above id b (begins_in above id t c)
+      | inr c ↦ apart_from above id (earlier ++ segment_at t ∷ []) f s h.2 c b (any_left s earlier (segment_at t ∷ []) e)
     ]
 
 longer : (id : List Pair) (s : Pair) (rest : List Pair) → id ≡ id ++ s ∷ rest → ⊥

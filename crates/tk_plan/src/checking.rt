@@ -47,11 +47,7 @@ fn refused(fault: IdFault) -> PlanFault
     }
 }
 
-fn id_below(
-    alloc: Global,
-    above: Option<&UniqueId>,
-    segment: &Segment,
-) -> Result<UniqueId, IdFault>
+fn id_below(alloc: Global, above: Option<&UniqueId>, segment: &Segment) -> Result<UniqueId, IdFault>
     ensures { IsMadeOf (above_of above.entry ++ segment.now ∷ []) result }
 {
     match above {
@@ -61,11 +57,7 @@ fn id_below(
 }
 
 /// The segment of these texts, and the id that ends in it.
-fn named(
-    alloc: Global,
-    above: Option<&UniqueId>,
-    texts: TwoTexts<'_>,
-) -> Result<Named, PlanFault>
+fn named(alloc: Global, above: Option<&UniqueId>, texts: TwoTexts<'_>) -> Result<Named, PlanFault>
     ensures { Meets (option_map PlanFault.Id (id_fault (above_of above.entry) (segment_said texts.entry)))
         (IsNamed (above_of above.entry) (segment_said texts.entry)) result }
 {

@@ -55,11 +55,7 @@ fn locks(alloc: Global, at: &str, value: &Value) -> Result<Locks, PlanFault>
     Ok(Locks::new(locks))
 }
 
-pub(crate) fn locks_member(
-    alloc: Global,
-    at: Place<'_>,
-    object: &Value,
-) -> Result<Locks, PlanFault>
+pub(crate) fn locks_member(alloc: Global, at: Place<'_>, object: &Value) -> Result<Locks, PlanFault>
     ensures { Reads (row (pointer at.entry) (view object.now) locks_row)
         (λ l. l ≡ said_locks (get (codes "locks") (view object.now))) result }
 {

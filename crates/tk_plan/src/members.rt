@@ -11,9 +11,9 @@ ghost use Rattle.tk_plan.specs.Answers.{Reads};
 ghost use Rattle.tk_plan.specs.Contents.{said_text, said_optional, said_truth, said_dtype, said_concurrent, listed};
 
 use crate::faults::PlanFault;
+use crate::pairings::TwoTexts;
 use crate::places::Place;
 use crate::pointers::{escaped_place, field, item_place, member_place, whole_place};
-use crate::pairings::TwoTexts;
 use serde_json::Value;
 use std::alloc::Global;
 use tk_ids::{DType, Text};
@@ -55,11 +55,7 @@ pub(crate) fn optional_member(
     }
 }
 
-pub(crate) fn dtype_member(
-    alloc: Global,
-    at: Place<'_>,
-    object: &Value,
-) -> Result<DType, PlanFault>
+pub(crate) fn dtype_member(alloc: Global, at: Place<'_>, object: &Value) -> Result<DType, PlanFault>
     ensures { Reads (row (pointer at.entry) (view object.now) dtype_row)
         (λ t. t ≡ said_dtype (get (codes "type") (view object.now))) result }
 {

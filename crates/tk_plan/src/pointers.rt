@@ -23,11 +23,7 @@ pub(crate) fn whole_place(alloc: Global, at: Place<'_>) -> Result<String, AllocE
 }
 
 /// The place of a member whose name needs no escape.
-pub(crate) fn member_place(
-    alloc: Global,
-    at: Place<'_>,
-    name: &str,
-) -> Result<String, AllocError>
+pub(crate) fn member_place(alloc: Global, at: Place<'_>, name: &str) -> Result<String, AllocError>
     requires { flat_map escape name.now ≡ name.now }
     ensures { IfOk result (λ p. string_bytes p ≡ member_at (pointer at.entry) name.now) }
 {

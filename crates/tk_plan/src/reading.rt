@@ -24,12 +24,7 @@ use tk_cutting::{Node, Placed};
 use tk_ids::{Descriptor, UniqueId};
 
 /// Puts a node at the end.
-fn add_node(
-    alloc: Global,
-    reader: &mut Reader,
-    node: Node,
-    id: &UniqueId,
-) -> Result<(), AllocError>
+fn add_node(alloc: Global, reader: &mut Reader, node: Node, id: &UniqueId) -> Result<(), AllocError>
     requires { reader.old.dynamics ≤ 65536 }
     ensures { OnOk result (IsAdded reader.old reader.new node id.now) }
 {
@@ -61,20 +56,36 @@ pub(crate) fn read_node(
 ) -> Result<(), PlanFault>
     requires noted { IsNoted reader.old }
     requires level { site.level ≤ 61 }
-    ensures {
-        let s = seen siblings.old site.entry in
+    ensures { let s = seen siblings.old site.entry in
         let t = grown (61 - site.entry.level) s in
         Meets (verdict (contents reader.old.nodes.items) (sites (61 - site.entry.level) s))
-        (λ _. Adds reader.old reader.new (flat t) (descriptors s.above t) × (siblings.new ≡ siblings.old ++ segment_of s ∷ [])) result
-    }
+        (λ _. Adds reader.old reader.new (flat t) (descriptors s.above t) × (siblings.new ≡ siblings.old ++ segment_of s ∷ [])) result }
 {
     let at = reader.nodes.len();
     let checked = check_node(alloc, reader, siblings, site)?;
     add_node(alloc, reader, checked.node, &checked.id)?;
     let id = &checked.id;
     let mut below = Siblings::new(alloc);
-    read_all(alloc, reader, &mut below, site, "children", true, id, checked.children)?;
-    read_all(alloc, reader, &mut below, site, "dynamic", false, id, checked.dynamic)?;
+    read_all(
+        alloc,
+        reader,
+        &mut below,
+        site,
+        "children",
+        true,
+        id,
+        checked.children,
+    )?;
+    read_all(
+        alloc,
+        reader,
+        &mut below,
+        site,
+        "dynamic",
+        false,
+        id,
+        checked.dynamic,
+    )?;
     let span = reader.nodes.len() - at;
     reader.nodes[at].span = span;
     Ok(())
@@ -95,12 +106,10 @@ fn read_all<'x>(
     requires noted { IsNoted reader.old }
     requires level { parent.level ≤ 60 }
     requires plain { flat_map escape name.now ≡ name.now }
-    ensures {
-        let ss = sites_in (member_at (pointer parent.entry.place) name.now) (parent.entry.level + 1) id.now is_static 0 siblings.old (map view values.now) in
+    ensures { let ss = sites_in (member_at (pointer parent.entry.place) name.now) (parent.entry.level + 1) id.now is_static 0 siblings.old (map view values.now) in
         let ts = map (grown (60 - parent.entry.level)) ss in
         Meets (verdict (contents reader.old.nodes.items) (flat_map (sites (60 - parent.entry.level)) ss))
-        (λ _. Adds reader.old reader.new (flat_map flat ts) (flat_map (descriptors id.now) ts) × (siblings.new ≡ siblings.old ++ map segment_in (map view values.now))) result
-    }
+        (λ _. Adds reader.old reader.new (flat_map flat ts) (flat_map (descriptors id.now) ts) × (siblings.new ≡ siblings.old ++ map segment_in (map view values.now))) result }
 {
     if values.is_empty() {
         return Ok(());

@@ -1,26 +1,20 @@
 -- The same events and the same conditions have one answer.
-use Rattle.std.proofs.Common.{◌≡◌, ℕ, zero, suc, ◌+◌, ◌<◌, ◌≤◌, ◌↔◌, ◌⊎◌, Bool, true, false, List, [], ◌∷◌, length, take, get_or, Option, Some, None, refl, sym, ap, ◌∙◌, subst, arith, inl, inr, ⊎_elim}
+use Rattle.std.proofs.Common.{◌≡◌, ℕ, zero, suc, ◌+◌, ◌<◌, ◌≤◌, ◌⊎◌, Bool, List, [], ◌∷◌, length, take, Some, refl, sym, ap, ◌∙◌, subst, arith, inl, inr, ⊎_elim}
 use Rattle.std.specs.List.{slice_get, Contains, AllPairs}
 use Rattle.std.proofs.lemmas.Bool.{cases_lt, true≢false}
 use Rattle.std.proofs.lemmas.Option.{same_Some, none-some}
-use Rattle.std.proofs.lemmas.List.{get_or_default}
 use Rattle.tk_events.specs.declared.events.Entry.{Entry}
 use Rattle.tk_columns.specs.Recorded.{Recorded}
 use Rattle.tk_columns.specs.Selections.{Selected, events_of}
 use Rattle.tk_conditions.specs.declared.conditions.Condition.{Condition}
-use Rattle.tk_query.specs.declared.answers.Exact.{Exact}
 use Rattle.tk_query.specs.declared.answers.Exact.TheVariants as exact
-use Rattle.tk_query.specs.declared.answers.Loose.{Loose}
 use Rattle.tk_query.specs.declared.answers.Loose.TheVariants as loose
-use Rattle.tk_query.specs.declared.answers.InOrder.{InOrder}
 use Rattle.tk_query.specs.declared.answers.InOrder.TheVariants as in_order
 use Rattle.tk_query.specs.declared.execution_lists.Execution.{Execution}
-use Rattle.tk_query.specs.Acts.{act_at}
 use Rattle.tk_query.specs.Asked.{fits}
-use Rattle.tk_query.specs.Executions.{AreExecutions}
 use Rattle.tk_query.specs.Holds.{holds}
-use Rattle.tk_query.specs.InOrder.{HoldInTurn, CanHoldInTurn, IsNotBehind, IsLeastInTurn, IsFirstStuck}
-use Rattle.tk_query.specs.Laws.{OneExact, OneLoose, AreAlike, OneInOrder, OneList}
+use Rattle.tk_query.specs.InOrder.{HoldInTurn, IsNotBehind, IsFirstStuck}
+use Rattle.tk_query.specs.Laws.{OneExact, OneLoose, OneInOrder, OneList}
 use Rattle.tk_query.specs.Matches.{HoldsAt, IsFirstUnlike, HoldsSomewhere, IsFirstNowhere}
 
 within_list : {A : Type 0} (xs : List A) (k : ℕ) (x : A) → slice_get xs k ≡ Some x → k < length xs

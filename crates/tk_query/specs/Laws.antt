@@ -1,5 +1,5 @@
 -- What follows from the definitions of the matchers' answers and of executions.
-use Rattle.std.specs.Prelude.{◌≡◌, ℕ, List}
+use Rattle.std.specs.Prelude.{◌≡◌, List}
 use Rattle.tk_columns.specs.Selections.{Selected}
 use Rattle.tk_conditions.specs.declared.conditions.Condition.{Condition}
 use Rattle.tk_query.specs.declared.answers.Exact.{Exact}

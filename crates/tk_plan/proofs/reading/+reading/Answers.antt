@@ -140,13 +140,13 @@ read_node-returns t c =
     let end : c.len.result ≡ length last = grind arith in
     let written = span_written old _ last node c.index_mut.result.now c.len-at.result c.len.result whole start end c.index_mut.ensures.value in (
       dynamic_verdict l m up old c.add_node.new.reader.nodes.items s node _ _ parts k.node push c.in_ok-checked.ensures.0
-      c.read_all.new.reader.nodes.items one.0 one.1.0.nodes None two.0,
+          c.read_all.new.reader.nodes.items one.0 one.1.0.nodes None two.0,
       (
         record {
           nodes = written.0 ∙ sym (grown_here l m up old c.add_node.new.reader.nodes.items s node _ _ parts k.node push c.in_ok-checked.ensures.0);
           descriptors = described_here l m up old c.add_node.new.reader.nodes.items s node _ _ parts k.node push c.in_ok-checked.ensures.0
-            id c.args.reader.now.descriptors.items c.add_node.new.reader.descriptors.items c.read_all.new.reader.descriptors.items c.read_all-2.new.reader.descriptors.items
-            k.id (a.descriptors ∙ ap (λ y. y ++ Rattle.tk_cutting.specs.Ids.descriptor_in id node) k.descriptors) one.1.0.descriptors two.1.0.descriptors;
+              id c.args.reader.now.descriptors.items c.add_node.new.reader.descriptors.items c.read_all.new.reader.descriptors.items c.read_all-2.new.reader.descriptors.items
+              k.id (a.descriptors ∙ ap (λ y. y ++ Rattle.tk_cutting.specs.Ids.descriptor_in id node) k.descriptors) one.1.0.descriptors two.1.0.descriptors;
           noted = noted_same c.read_all-2.new.reader _ written.1 refl refl refl two.1.0.noted;
         },
         k.siblings,
