@@ -1,0 +1,7 @@
+//! Generated records, beside a plain scan of what was generated.
+#![tactic(auto)]
+
+#[cfg(test)]
+mod generated;
+#[cfg(test)]
+mod scans;
