@@ -85,16 +85,45 @@ fn one_start(rt: HostRuntime) -> Result<(), Fail> {
     Ok(())
 }
 
+// Whether the answer is yes, at the first so many positions.
+fn is_yes_at_the_first(answer: &InOrder, count: usize) -> bool {
+    match answer {
+        InOrder::Yes(list) => {
+            for (index, position) in list.iter().enumerate() {
+                if index != *position {
+                    return false;
+                }
+            }
+            list.len() == count
+        }
+        InOrder::No(_) => false,
+    }
+}
+
 #[test]
 fn sixty_five_starts(rt: HostRuntime) -> Result<(), Fail> {
     let alloc = rt.alloc();
     let record = starts(alloc, 65)?;
     let events = Events::all(alloc, &record)?;
-    match match_in_order(alloc, &events, &started(alloc, 65)?)? {
-        InOrder::Yes(list) => assert!(rt; list.len() == 65),
-        InOrder::No(_) => assert!(rt; false),
-    }
+    let answer = match_in_order(alloc, &events, &started(alloc, 65)?)?;
+    assert!(rt; is_yes_at_the_first(&answer, 65));
+    assert!(rt;
+        matches!(
+            match_in_order(alloc, &events, &started(alloc, 66)?)?,
+            InOrder::No(65)
+        )
+    );
+    Ok(())
+}
+
+#[test]
+fn sixty_five_starts_selected(rt: HostRuntime) -> Result<(), Fail> {
+    let alloc = rt.alloc();
+    let record = starts(alloc, 65)?;
+    let events = Events::all(alloc, &record)?;
+    let others = Condition::Not(Box::new(alloc, Condition::Started)?);
     assert_eq!(rt; select(alloc, &events, &Condition::Started)?.count(), 65);
+    assert_eq!(rt; select(alloc, &events, &others)?.count(), 0);
     Ok(())
 }
 
