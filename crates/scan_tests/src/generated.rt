@@ -1,4 +1,5 @@
 //! Records of a small generator, and plain answers about what it made.
+use crate::numbers::Numbers;
 use std::alloc::{AllocError, Global};
 use tk_events::{Kind, Status};
 use tk_record::Selection;
@@ -65,22 +66,6 @@ pub struct Generated {
     pub made: Vec<Made>,
 }
 
-/// Numbers that follow from one another.
-#[derive(Drop)]
-struct Numbers {
-    last: u64,
-}
-
-impl Numbers {
-    fn next(&mut self) -> u64 {
-        self.last = self
-            .last
-            .wrapping_mul(6_364_136_223_846_793_005)
-            .wrapping_add(1_442_695_040_888_963_407);
-        self.last >> 33
-    }
-}
-
 // The tail of an event with this number, its kind and its status.
 fn tail(number: u64) -> (&'static str, Kind, Option<Status>) {
     match number % 8 {
@@ -96,7 +81,7 @@ fn tail(number: u64) -> (&'static str, Kind, Option<Status>) {
 
 /// A record text of so many events, each tenth a registration by worker 1.
 pub fn generate(alloc: Global, count: u32, seed: u64) -> Result<Generated, AllocError> {
-    let mut numbers = Numbers { last: seed };
+    let mut numbers = Numbers::new(seed);
     let mut text = String::from_str(alloc, NODES)?;
     let mut made = Vec::new(alloc);
     for step in 0..count {
