@@ -21,9 +21,11 @@ fn answer(alloc: Global, text: &[u8]) -> Result<String, AllocError> {
         Err(PlanFault::Field(place)) => format!(in alloc; "field {}", place.as_str()),
         Err(PlanFault::Json) => String::from_str(alloc, "json"),
         Err(PlanFault::Id(IdFault::Empty)) => String::from_str(alloc, "empty"),
+        Err(PlanFault::Id(IdFault::TooLong)) => String::from_str(alloc, "too long"),
         Err(PlanFault::Id(_)) => String::from_str(alloc, "id"),
         Err(PlanFault::Table(TableFault::Twice)) => String::from_str(alloc, "twice"),
-        Err(PlanFault::Table(_)) => String::from_str(alloc, "full"),
+        Err(PlanFault::Table(TableFault::Full)) => String::from_str(alloc, "full"),
+        Err(PlanFault::Table(_)) => String::from_str(alloc, "table"),
         Err(PlanFault::TooManyResources) => String::from_str(alloc, "resources"),
         Err(PlanFault::EntryKeyTwice) => String::from_str(alloc, "key twice"),
         Err(PlanFault::TooManyEvents) => String::from_str(alloc, "events"),
@@ -76,20 +78,50 @@ fn reporting(alloc: Global, entries: u32) -> Result<String, AllocError> {
     rooted(alloc, &members)
 }
 
-/// A root with so many nodes in a member.
-fn crowded(alloc: Global, member: &str, count: u32) -> Result<String, AllocError> {
+/// A member with so many nodes.
+fn nodes(alloc: Global, member: &str, count: u32) -> Result<String, AllocError> {
     let mut members = format!(in alloc; ",\"{member}\":[")?;
     for index in 0..count {
         if index > 0 {
             members.push_str(",")?;
         }
         let node = format!(in alloc;
-            "{{\"type\":\"test\",\"segment\":[\"t\",\"{index}\"],\"name\":\"n\"}}"
+            "{{\"type\":\"test\",\"segment\":[\"{member}\",\"{index}\"],\"name\":\"n\"}}"
         )?;
         members.push_str(&node)?;
     }
     members.push_str("]")?;
+    Ok(members)
+}
+
+/// A root with so many nodes in a member.
+fn crowded(alloc: Global, member: &str, count: u32) -> Result<String, AllocError> {
+    let members = nodes(alloc, member, count)?;
     rooted(alloc, &members)
+}
+
+/// A root with so many static children, and so many dynamic ones.
+fn mixed(alloc: Global, statics: u32, dynamics: u32) -> Result<String, AllocError> {
+    let mut members = nodes(alloc, "children", statics)?;
+    let later = nodes(alloc, "dynamic", dynamics)?;
+    members.push_str(&later)?;
+    rooted(alloc, &members)
+}
+
+/// A root whose id has the text `[s:]` with so many times `piece` before the last bracket, and
+/// a child whose id has six bytes more.
+fn long_id(alloc: Global, piece: &str, count: u32, child: &str) -> Result<String, AllocError> {
+    let mut text = String::from_str(
+        alloc,
+        "{\"version\":1,\"root\":{\"type\":\"both\",\"segment\":[\"s\",\"",
+    )?;
+    for _ in 0..count {
+        text.push_str(piece)?;
+    }
+    text.push_str("\"],\"name\":\"n\"")?;
+    text.push_str(child)?;
+    text.push_str("}}")?;
+    Ok(text)
 }
 
 #[test]
@@ -203,6 +235,48 @@ fn most_nodes(rt: HostRuntime) -> Result<(), Fail> {
 fn too_many_nodes(rt: HostRuntime) -> Result<(), Fail> {
     let text = crowded(rt.alloc(), "children", 65_536)?;
     assert_eq!(rt; answer(rt.alloc(), text.as_bytes())?.as_str(), "full");
+    Ok(())
+}
+
+#[test]
+fn most_dynamic_nodes(rt: HostRuntime) -> Result<(), Fail> {
+    let text = crowded(rt.alloc(), "dynamic", 65_536)?;
+    assert_eq!(rt; answer(rt.alloc(), text.as_bytes())?.as_str(), "196610");
+    Ok(())
+}
+
+#[test]
+fn too_many_dynamic_nodes(rt: HostRuntime) -> Result<(), Fail> {
+    let text = crowded(rt.alloc(), "dynamic", 65_537)?;
+    assert_eq!(rt; answer(rt.alloc(), text.as_bytes())?.as_str(), "full");
+    Ok(())
+}
+
+#[test]
+fn most_nodes_of_both_kinds(rt: HostRuntime) -> Result<(), Fail> {
+    let text = mixed(rt.alloc(), 65_535, 65_536)?;
+    assert_eq!(rt; answer(rt.alloc(), text.as_bytes())?.as_str(), "327680");
+    Ok(())
+}
+
+#[test]
+fn long_ids(rt: HostRuntime) -> Result<(), Fail> {
+    let alloc = rt.alloc();
+    let child = ",\"children\":[{\"type\":\"test\",\"segment\":[\"c\",\"y\"],\"name\":\"m\"}]";
+    let cases = [
+        ("", 1, "", "empty"),
+        ("x", 4092, "", "2"),
+        ("x", 4093, "", "too long"),
+        ("/", 1364, "", "2"),
+        ("/", 1365, "", "too long"),
+        ("x", 4086, child, "4"),
+        ("x", 4087, child, "too long"),
+    ];
+    for (piece, count, below, wanted) in cases {
+        let text = long_id(alloc, piece, count, below)?;
+        let got = answer(alloc, text.as_bytes())?;
+        assert_eq!(rt; got.as_str(), wanted, "{piece} {count}");
+    }
     Ok(())
 }
 

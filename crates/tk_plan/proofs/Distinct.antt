@@ -130,7 +130,7 @@ abbrev pub Distinct : List (List Pair) → Type 0
 Distinct [] = Unit {0}
 Distinct (x ∷ xs) = ¬ Among x xs × Distinct xs
 
-among_split : (id : List Pair) (xs ys : List (List Pair)) → Among id (xs ++ ys) → Among id xs ⊎ Among id ys
+pub among_split : (id : List Pair) (xs ys : List (List Pair)) → Among id (xs ++ ys) → Among id xs ⊎ Among id ys
 among_split id [] ys a = inr a
 among_split id (x ∷ xs) ys (inl e) = inl (inl e)
 among_split id (x ∷ xs) ys (inr a) = by (among_split id xs ys a)
@@ -150,7 +150,7 @@ distinct_append (x ∷ xs) ys d e apart = (
     no (inl a) = d.0 a
     no (inr a) = apart x (inl refl) a
 
-among_at : (id : List Pair) (xs : List (List Pair)) (j : ℕ) → slice_get xs j ≡ Some id → Among id xs
+pub among_at : (id : List Pair) (xs : List (List Pair)) (j : ℕ) → slice_get xs j ≡ Some id → Among id xs
 among_at id [] j e = cc
 among_at id (x ∷ xs) zero e = inl (let back : x ≡ id = cc in sym back)
 among_at id (x ∷ xs) (suc j) e = inr (among_at id xs j e)
@@ -162,17 +162,17 @@ are_distinct (x ∷ xs) d zero (suc k) id a b = absurd (d.0 (subst (λ y. Among 
 are_distinct (x ∷ xs) d (suc j) zero id a b = absurd (d.0 (subst (λ y. Among y xs) (let back : id ≡ x = cc in back) (among_at id xs j a)))
 are_distinct (x ∷ xs) d (suc j) (suc k) id a b = ap suc (are_distinct xs d.1 j k id a b)
 
-same_next : (above x y : List Pair) (a b : Pair) → above ++ a ∷ x ≡ above ++ b ∷ y → a ≡ b
+pub same_next : (above x y : List Pair) (a b : Pair) → above ++ a ∷ x ≡ above ++ b ∷ y → a ≡ b
 same_next [] x y a b e = cc
 same_next (p ∷ above) x y a b e = same_next above x y a b (let tails : above ++ a ∷ x ≡ above ++ b ∷ y = cc in tails)
 
-same_self : (s : Pair) → same_segment s s ≡ true
+pub same_self : (s : Pair) → same_segment s s ≡ true
 same_self s = rw (equal s.tag, equal s.value) refl
   where
     equal : (x : List ℕ) → bytes_eq x x ≡ true
     equal x = grind (arith, bytes_decides)
 
-any_right : (s : Pair) (es fs : List Pair) → list_any (same_segment s) fs ≡ true → list_any (same_segment s) (es ++ fs) ≡ true
+pub any_right : (s : Pair) (es fs : List Pair) → list_any (same_segment s) fs ≡ true → list_any (same_segment s) (es ++ fs) ≡ true
 any_right s [] fs h = h
 any_right s (e ∷ es) fs h = ap (λ b. same_segment s e || b) (any_right s es fs h) ∙ or_true (same_segment s e)
   where
@@ -180,7 +180,7 @@ any_right s (e ∷ es) fs h = ap (λ b. same_segment s e || b) (any_right s es f
     or_true true = refl
     or_true false = refl
 
-any_left : (s : Pair) (es fs : List Pair) → list_any (same_segment s) es ≡ true → list_any (same_segment s) (es ++ fs) ≡ true
+pub any_left : (s : Pair) (es fs : List Pair) → list_any (same_segment s) es ≡ true → list_any (same_segment s) (es ++ fs) ≡ true
 any_left s [] fs h = cc
 any_left s (e ∷ es) fs h = by (same_segment s e) (list_any (same_segment s) es) (list_any (same_segment s) (es ++ fs)) h (λ r. any_left s es fs r)
   where
@@ -193,7 +193,7 @@ pub record Begins (above : List Pair) (s : Pair) (id : List Pair) : Type 0 where
   pub rest : List Pair
   pub is : id ≡ above ++ s ∷ rest
 
-begins_below : (above : List Pair) (s t : Pair) (id : List Pair) → Begins (above ++ s ∷ []) t id → Begins above s id
+pub begins_below : (above : List Pair) (s t : Pair) (id : List Pair) → Begins (above ++ s ∷ []) t id → Begins above s id
 begins_below above s t id b = record { rest = t ∷ b.rest; is = b.is ∙ append_assoc above (s ∷ []) (t ∷ b.rest) }
 
 pub record BeginsSome (above : List Pair) (id : List Pair) : Type 0 where
@@ -201,7 +201,7 @@ pub record BeginsSome (above : List Pair) (id : List Pair) : Type 0 where
   pub begins : Begins above segment id
 
 mutual
-  begins_in : (above id : List Pair) (t : Tree) → Among id (ids above t) → Begins above (segment_at t) id
+  pub begins_in : (above id : List Pair) (t : Tree) → Among id (ids above t) → Begins above (segment_at t) id
   begins_in above id (tree n k f) (inl e) = record { rest = []; is = e }
   begins_in above id (tree n k f) (inr a) = let some = begins_some (above ++ n.segment ∷ []) id f a in begins_below above n.segment some.segment id some.begins
 
@@ -210,7 +210,7 @@ mutual
   begins_some above id (more t f) a =
       elim (among_split id (ids above t) (ids_below above f) a) [ inl b ↦ record { segment = segment_at t; begins = begins_in above id t b } | inr b ↦ begins_some above id f b ]
 
-true_false : true ≡ false → ⊥
+pub true_false : true ≡ false → ⊥
 true_false e = cc
 
 not_there : (t : Tree) (earlier : List Pair) (s : Pair) → list_any (same_segment (segment_at t)) earlier ≡ false → list_any (same_segment s) earlier ≡ true → (above id : List Pair) → Begins above s id
@@ -228,7 +228,7 @@ apart_from above id earlier (more t f) s h a b e =
       | inr c ↦ apart_from above id (earlier ++ segment_at t ∷ []) f s h.2 c b (any_left s earlier (segment_at t ∷ []) e)
     ]
 
-longer : (id : List Pair) (s : Pair) (rest : List Pair) → id ≡ id ++ s ∷ rest → ⊥
+pub longer : (id : List Pair) (s : Pair) (rest : List Pair) → id ≡ id ++ s ∷ rest → ⊥
 longer id s rest e = let n = ap length e ∙ length-append id (s ∷ rest) in omega (arith, n)
 
 mutual

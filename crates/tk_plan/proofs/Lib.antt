@@ -10,6 +10,7 @@ pub mod Verdicts
 pub mod CheckSteps
 pub mod Going
 pub mod Distinct
+pub mod Tabling
 pub mod Values
 pub mod Planning
 pub mod PlanLawSteps

@@ -22,4 +22,5 @@ pub mod Fields
 pub mod Met
 pub mod Seen
 pub mod Progress
+pub mod Tables
 pub mod PlanLaws

@@ -25,7 +25,7 @@ use std::alloc::Global;
 use tk_cutting::{MAX_KEYS, Node};
 use tk_ids::{IdFault, MAX_DESCRIPTORS, Segment, TableFault, UniqueId};
 
-fn fields_of<'v>(alloc: Global, site: Site<'v>) -> Result<Fields<'v>, PlanFault>
+fn fields_of<'v>(alloc: Global, site: Site<'_, 'v>) -> Result<Fields<'v>, PlanFault>
     ensures { Reads (node_check (seen [] site.entry)) (Says site.entry.is_static (view site.entry.value.now)) result }
 {
     if site.is_static {
@@ -88,8 +88,8 @@ fn is_full(reader: &Reader, is_static: bool) -> bool
 pub(crate) fn check_node<'v>(
     alloc: Global,
     reader: &mut Reader,
-    siblings: &mut Siblings,
-    site: Site<'v>,
+    siblings: &mut Siblings<'v>,
+    site: Site<'_, 'v>,
 ) -> Result<Checked<'v>, PlanFault>
     requires { IsNoted reader.old }
     ensures { Meets (first (checks (contents reader.old.nodes.items) (seen siblings.old site.entry)))
@@ -103,7 +103,7 @@ pub(crate) fn check_node<'v>(
         return Err(PlanFault::EntryKeyTwice);
     }
     let named = named(alloc, site.above, fields.segment)?;
-    if !siblings.insert(alloc, &named.segment)? {
+    if !siblings.insert(fields.segment)? {
         return Err(PlanFault::Table(TableFault::Twice));
     }
     if is_full(reader, site.is_static) {

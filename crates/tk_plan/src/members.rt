@@ -1,5 +1,5 @@
 //! Readers of single members.
-ghost use Rattle.std.specs.Prelude.{◌≡◌, ℕ, List, Some, codes, flat_map, map};
+ghost use Rattle.std.specs.Prelude.{◌≡◌, ℕ, List, Some, None, IfSome, codes, flat_map, map};
 ghost use Rattle.std.specs.List.{list_any};
 ghost use Rattle.std.specs.Str.{bytes_eq};
 ghost use Rattle.serde_json.specs.Find.{get};
@@ -134,6 +134,21 @@ pub(crate) fn two_texts<'v>(
     Ok(TwoTexts { first, second })
 }
 
+/// The two texts, where it is an array of two.
+fn pair_in<'v>(value: &'v Value) -> Option<TwoTexts<'v>>
+    ensures pair { IfSome result (IsPairOf (Some (view value.now))) }
+    ensures fine { IfSome result (λ _. (at : List ℕ) → pair_of is_text at (view value.now) ≡ None) }
+{
+    match value.as_array()?.as_slice() {
+        [first, second] => Some(TwoTexts {
+            first: first.as_str()?,
+            second: second.as_str()?,
+        }),
+        _ => None,
+    }
+}
+
+/// Its place is written out only where it is wrong.
 pub(crate) fn segment_member<'v>(
     alloc: Global,
     at: Place<'_>,
@@ -142,10 +157,15 @@ pub(crate) fn segment_member<'v>(
     ensures { Reads (row (pointer at.entry) (view object.now) segment_row)
         (IsPairOf (get (codes "segment") (view object.now))) result }
 {
-    let place = member_place(alloc, at, "segment")?;
-    match object.get("segment") {
-        Some(value) => two_texts(alloc, Place::Whole(&place), value),
-        None => Err(field(place)),
+    let Some(value) = object.get("segment") else {
+        return Err(field(member_place(alloc, at, "segment")?));
+    };
+    match pair_in(value) {
+        Some(pair) => Ok(pair),
+        None => {
+            let place = member_place(alloc, at, "segment")?;
+            two_texts(alloc, Place::Whole(&place), value)
+        }
     }
 }
 

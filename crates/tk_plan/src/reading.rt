@@ -24,17 +24,14 @@ use tk_cutting::{Node, Placed};
 use tk_ids::{Descriptor, UniqueId};
 
 /// Puts a node at the end.
-fn add_node(alloc: Global, reader: &mut Reader, node: Node, id: &UniqueId) -> Result<(), AllocError>
+fn add_node(reader: &mut Reader, node: Node, id: UniqueId) -> Result<(), AllocError>
     requires { reader.old.dynamics ≤ 65536 }
-    ensures { OnOk result (IsAdded reader.old reader.new node id.now) }
+    ensures { OnOk result (IsAdded reader.old reader.new node id) }
 {
     if node.is_static {
-        let descriptor = Descriptor {
-            id: id.try_clone(alloc)?,
-            name: node.name.try_clone()?,
-            dtype: node.dtype,
-        };
-        reader.descriptors.push(descriptor)?;
+        let name = node.name.try_clone()?;
+        let dtype = node.dtype;
+        reader.descriptors.push(Descriptor { id, name, dtype })?;
     } else {
         reader.dynamics += 1;
     }
@@ -48,11 +45,11 @@ fn add_node(alloc: Global, reader: &mut Reader, node: Node, id: &UniqueId) -> Re
 
 /// Reads a node and all below it.
 #[cycle(reading)]
-pub(crate) fn read_node(
+pub(crate) fn read_node<'v>(
     alloc: Global,
     reader: &mut Reader,
-    siblings: &mut Siblings,
-    site: Site<'_>,
+    siblings: &mut Siblings<'v>,
+    site: Site<'_, 'v>,
 ) -> Result<(), PlanFault>
     requires noted { IsNoted reader.old }
     requires level { site.level ≤ 61 }
@@ -63,8 +60,11 @@ pub(crate) fn read_node(
 {
     let at = reader.nodes.len();
     let checked = check_node(alloc, reader, siblings, site)?;
-    add_node(alloc, reader, checked.node, &checked.id)?;
-    let id = &checked.id;
+    if checked.children.is_empty() && checked.dynamic.is_empty() {
+        return Ok(add_node(reader, checked.node, checked.id)?);
+    }
+    let id = checked.id.try_clone(alloc)?;
+    add_node(reader, checked.node, checked.id)?;
     let mut below = Siblings::new(alloc);
     read_all(
         alloc,
@@ -73,7 +73,7 @@ pub(crate) fn read_node(
         site,
         "children",
         true,
-        id,
+        &id,
         checked.children,
     )?;
     read_all(
@@ -83,7 +83,7 @@ pub(crate) fn read_node(
         site,
         "dynamic",
         false,
-        id,
+        &id,
         checked.dynamic,
     )?;
     let span = reader.nodes.len() - at;
@@ -93,15 +93,15 @@ pub(crate) fn read_node(
 
 /// Reads the nodes in a member of a node, whose id is given.
 #[cycle(reading)]
-fn read_all<'x>(
+fn read_all<'v>(
     alloc: Global,
     reader: &mut Reader,
-    siblings: &mut Siblings,
-    parent: Site<'_>,
+    siblings: &mut Siblings<'v>,
+    parent: Site<'_, '_>,
     name: &str,
     is_static: bool,
-    id: &'x UniqueId,
-    values: &'x [Value],
+    id: &UniqueId,
+    values: &'v [Value],
 ) -> Result<(), PlanFault>
     requires noted { IsNoted reader.old }
     requires level { parent.level ≤ 60 }

@@ -1,11 +1,13 @@
 //! Reading a plan.
-ghost use Rattle.std.specs.Prelude.{◌≡◌, [], Some, codes, IfOk};
+ghost use Rattle.std.specs.Prelude.{◌≡◌, ◌≤◌, [], Some, codes, length, IfOk};
 ghost use Rattle.serde_json.specs.Find.{get};
 ghost use Rattle.serde_json.specs.View.{view};
 ghost use Rattle.tk_plan.specs.Answers.{Reads};
 ghost use Rattle.tk_plan.specs.Checks.{row, must};
 ghost use Rattle.tk_plan.specs.PlanOf.{PlanOf, one, anything, top};
 ghost use Rattle.tk_plan.specs.Gives.{plan_in, Answered};
+ghost use Rattle.tk_plan.specs.Tables.{Follow};
+ghost use Rattle.tk_ids.specs.declared.tables.TheConstants.{MAX_DESCRIPTORS};
 
 use crate::faults::PlanFault;
 use crate::members::known_members;
@@ -21,7 +23,7 @@ use serde_json::Value;
 use std::alloc::{AllocError, Global};
 use std::sync::Arc;
 use tk_cutting::{Plan, count_events};
-use tk_ids::{Descriptor, Table};
+use tk_ids::{Descriptor, Table, TableFault};
 
 fn version_member(alloc: Global, object: &Value) -> Result<(), PlanFault>
     ensures { Reads (row [] (view object.now) (must (codes "version") one)) (λ _. Unit {0}) result }
@@ -53,13 +55,19 @@ fn root<'v>(alloc: Global, value: &'v Value) -> Result<&'v Value, PlanFault>
 
 /// The table of these descriptors.
 fn table_of(alloc: Global, descriptors: Vec<Descriptor>) -> Result<Table, AllocError>
+    requires follow { Follow [] descriptors.items }
+    requires few { length descriptors.items ≤ MAX_DESCRIPTORS }
     ensures { IfOk result (λ table. table ≡ descriptors.items) }
 {
     let mut table = Table::new(alloc);
     for descriptor in descriptors {
         match table.insert(alloc, descriptor) {
             Ok(_) => {}
-            Err(_) => return Err(AllocError),
+            Err(TableFault::Memory) => return Err(AllocError),
+            Err(TableFault::NoParent) => unreachable!(),
+            Err(TableFault::Twice) => unreachable!(),
+            Err(TableFault::Full) => unreachable!(),
+            Err(TableFault::Id(_)) => unreachable!(),
         }
     }
     Ok(table)

@@ -2,19 +2,20 @@
 ghost use Rattle.std.specs.Prelude.{◌≡◌, ◌++◌, ◌∷◌, [], not, IfOk, if◌then◌else◌};
 ghost use Rattle.std.specs.List.{list_any};
 ghost use Rattle.tk_plan.specs.PlanOf.{same_segment};
+ghost use Rattle.tk_plan.specs.Seen.{segment_said};
 
+use crate::pairings::TwoTexts;
 use indexmap::IndexSet;
 use std::alloc::{AllocError, Global};
 use std::marker::Model;
-use tk_ids::{Segment, Text};
 
 /// The segments of a parent's children, as far as they were read.
 #[derive(Drop)]
-pub(crate) struct Siblings {
-    keys: IndexSet<(Text, Text)>,
+pub(crate) struct Siblings<'v> {
+    keys: IndexSet<(&'v str, &'v str)>,
 }
 
-impl Model for Siblings {
+impl<'v> Model for Siblings<'v> {
     ghost use Rattle.std.specs.Prelude.{List, map, ℕ};
     ghost use Rattle.tk_ids.specs.IdText.{Pair};
     ghost use Rattle.tk_plan.specs.Met.{segments_of};
@@ -24,8 +25,8 @@ impl Model for Siblings {
     ghost view = { λ s. segments_of s.keys.keys };
 }
 
-impl Siblings {
-    pub fn new(alloc: Global) -> Siblings
+impl<'v> Siblings<'v> {
+    pub fn new(alloc: Global) -> Siblings<'v>
         ensures { result ≡ [] }
     {
         Siblings {
@@ -34,12 +35,10 @@ impl Siblings {
     }
 
     /// Puts a segment at the end, where it isn't there; whether it was put.
-    pub fn insert(&mut self, alloc: Global, segment: &Segment) -> Result<bool, AllocError>
-        ensures answer { IfOk result (λ is_new. is_new ≡ not (list_any (same_segment segment.now) self.old)) }
-        ensures segments { IfOk result (λ is_new. self.new ≡ (if is_new then self.old ++ segment.now ∷ [] else self.old)) }
+    pub fn insert(&mut self, segment: TwoTexts<'v>) -> Result<bool, AllocError>
+        ensures answer { IfOk result (λ is_new. is_new ≡ not (list_any (same_segment (segment_said segment.entry)) self.old)) }
+        ensures segments { IfOk result (λ is_new. self.new ≡ (if is_new then self.old ++ segment_said segment.entry ∷ [] else self.old)) }
     {
-        let tag = Text::copy(alloc, segment.tag())?;
-        let value = Text::copy(alloc, segment.value())?;
-        Ok(self.keys.insert((tag, value))?)
+        Ok(self.keys.insert((segment.first, segment.second))?)
     }
 }

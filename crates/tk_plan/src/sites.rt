@@ -6,12 +6,12 @@ use tk_ids::UniqueId;
 
 /// A value that stands for a node.
 #[derive(Clone, Copy, Drop)]
-pub(crate) struct Site<'a> {
+pub(crate) struct Site<'a, 'v> {
     pub place: Place<'a>,
     /// The root has level 1.
     pub level: u32,
     pub is_static: bool,
     /// The parent's id.
     pub above: Option<&'a UniqueId>,
-    pub value: &'a Value,
+    pub value: &'v Value,
 }

@@ -41,7 +41,7 @@ returns-then-not-branch c =
     let s : spec.Site = seen c.args.siblings.now c.args.site in
     let seg : segment_said c.in_ok-fields.fields.segment ≡ segment_of s = λ i. record { tag = f.1.segment.first i; value = f.1.segment.second i } in
     twice_fault _ s c.if-site-gt-MAX_LEVELS.false f.0 (sym f.1.reports.repeats ∙ c.if-fields.false) (ap (λ x. option_map Id (id_fault s.above x)) (sym seg) ∙ n.0)
-    (ap (λ x. list_any (same_segment x) c.args.siblings.now) (sym (n.1.segment ∙ seg)) ∙ not_false _ _ c.in_ok-insert.ensures.answer c.if-not-branch.true)
+    (ap (λ x. list_any (same_segment x) c.args.siblings.now) (sym seg) ∙ not_false _ _ c.in_ok-insert.ensures.answer c.if-not-branch.true)
 
 pub returns-then-is_full : goal.returns-then-is_full
 returns-then-is_full c =
@@ -54,7 +54,7 @@ returns-then-is_full c =
       members = f.0;
       once = sym f.1.reports.repeats ∙ c.if-fields.false;
       id = ap (λ x. option_map Id (id_fault s.above x)) (sym seg) ∙ n.0;
-      new = ap (λ x. list_any (same_segment x) c.args.siblings.now) (sym (n.1.segment ∙ seg)) ∙ not_true _ _ c.in_ok-insert.ensures.answer c.if-not-branch.false;
+      new = ap (λ x. list_any (same_segment x) c.args.siblings.now) (sym seg) ∙ not_true _ _ c.in_ok-insert.ensures.answer c.if-not-branch.false;
     } in
     full_fault _ s passes (sym c.is_full.ensures ∙ c.if-is_full.true)
 
@@ -69,7 +69,7 @@ returns-then-len-gt-MAX_KEYS c =
       members = f.0;
       once = sym f.1.reports.repeats ∙ c.if-fields.false;
       id = ap (λ x. option_map Id (id_fault s.above x)) (sym seg) ∙ n.0;
-      new = ap (λ x. list_any (same_segment x) c.args.siblings.now) (sym (n.1.segment ∙ seg)) ∙ not_true _ _ c.in_ok-insert.ensures.answer c.if-not-branch.false;
+      new = ap (λ x. list_any (same_segment x) c.args.siblings.now) (sym seg) ∙ not_true _ _ c.in_ok-insert.ensures.answer c.if-not-branch.false;
     } in
     let keys = keys_as (contents c.args.reader.now.nodes.items) (node_of s) _ _ _ c.in_ok-note_all.ensures c.requires.keys (c.as_slice.ensures ∙ f.1.locks) in
     let many : 15 < length c.note_all.new.keys.keys = rw (← c.len.ensures.len) c.if-len-gt-MAX_KEYS.true in
@@ -86,7 +86,7 @@ returns c =
       members = f.0;
       once = sym f.1.reports.repeats ∙ c.if-fields.false;
       id = ap (λ x. option_map Id (id_fault s.above x)) (sym seg) ∙ n.0;
-      new = ap (λ x. list_any (same_segment x) c.args.siblings.now) (sym (n.1.segment ∙ seg)) ∙ not_true _ _ c.in_ok-insert.ensures.answer c.if-not-branch.false;
+      new = ap (λ x. list_any (same_segment x) c.args.siblings.now) (sym seg) ∙ not_true _ _ c.in_ok-insert.ensures.answer c.if-not-branch.false;
     } in
     let keys = keys_as (contents c.args.reader.now.nodes.items) (node_of s) _ _ _ c.in_ok-note_all.ensures c.requires.keys (c.as_slice.ensures ∙ f.1.locks) in
     let few : length c.note_all.new.keys.keys ≤ 15 = rw (← c.len.ensures.len) c.if-len-gt-MAX_KEYS.false in
@@ -117,6 +117,6 @@ returns c =
         keys = keys;
         few_keys = few;
         room = below_limit 65536 _ room;
-        siblings = c.in_ok-insert.ensures.segments ∙ ap (λ b. cond b (c.args.siblings.now ++ c.in_ok-named.named.segment ∷ []) c.args.siblings.now) c.if-not-branch.false ∙ ap (λ x. c.args.siblings.now ++ x ∷ []) (n.1.segment ∙ seg);
+        siblings = c.in_ok-insert.ensures.segments ∙ ap (λ b. cond b (c.args.siblings.now ++ segment_said c.in_ok-fields.fields.segment ∷ []) c.args.siblings.now) c.if-not-branch.false ∙ ap (λ x. c.args.siblings.now ++ x ∷ []) seg;
       },
     )

@@ -1,4 +1,4 @@
-use Rattle.std.proofs.Common.{◌≡◌, ◌≤◌, ◌^◌, length, ◌++◌, codes, List, [], true, None, refl, ap, ◌∙◌, subst, rules}
+use Rattle.std.proofs.Common.{◌≡◌, ◌≤◌, ◌^◌, length, ◌++◌, codes, List, [], true, None, refl, sym, ap, ◌∙◌, subst, rules}
 use Rattle.serde_json.specs.View.{view}
 use Rattle.tk_cutting.specs.Ids.{descriptors}
 use Rattle.tk_cutting.specs.Numbers.{numbered}
@@ -6,6 +6,8 @@ use Rattle.tk_cutting.specs.Trees.{flat, forest, contents}
 use Rattle.tk_cutting.specs.Script.{moves_below}
 use Rattle.tk_plan.specs.PlanOf.{verdict, root_at, ok_unless}
 use Rattle.tk_plan.specs.Sites.{Site, sites, grown}
+use Rattle.tk_plan.specs.Tables.{Follow}
+use Rattle.tk_plan.proofs.Tabling.{plan_follows}
 use Rattle.tk_plan.proofs.Planning.{no_node_fault, trees, too_many, not_many, planned}
 use Rattle.tk_plan.proofs.readings.plan_of.Goals as goal
 
@@ -24,6 +26,14 @@ returns-in-None c =
     let fine : verdict [] (sites 60 s) ≡ None = subst (λ l. verdict (contents l) (sites 60 s) ≡ None) c.new.ensures.items a.0 in
     let nodes = c.as_slice.ensures.value ∙ a.1.0.nodes ∙ ap (λ l. l ++ flat (grown 60 s)) c.new.ensures.items in
     no_node_fault (view c.args.value.now) r c.in_ok-root.ensures.1 c.in_ok-root.ensures.0 s is fine ∙ ap (λ o. ok_unless o (grown 60 s)) (too_many s refl c.as_slice.result.now nodes c.in-None.ensures)
+
+pub table_of-requires-clause-follow : goal.table_of-requires-clause-follow
+table_of-requires-clause-follow c =
+    let s : Site = record { place = codes "/root"; level = 1; is_static = true; above = []; earlier = c.new-siblings.result; value = view c.in_ok-root.root.now } in
+    let a = c.in_ok-read_node.ensures in
+    let fine : verdict [] (sites 60 s) ≡ None = subst (λ l. verdict (contents l) (sites 60 s) ≡ None) c.new.ensures.items a.0 in
+    let told = a.1.0.descriptors ∙ ap (λ l. l ++ descriptors [] (grown 60 s)) c.new-2.ensures.items in
+    subst (Follow []) (sym told) (plan_follows 60 s refl fine)
 
 pub new-requires-in-Some-2-clause-planned : goal.new-requires-in-Some-2-clause-planned
 new-requires-in-Some-2-clause-planned c =
