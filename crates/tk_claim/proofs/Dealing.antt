@@ -1,15 +1,14 @@
 -- Each step of a claim keeps its rule.
-use Rattle.std.proofs.Common.{◌≡◌, true, false, ℕ, zero, suc, ◌+◌, ◌-◌, ◌%◌, ◌^◌, ◌<◌, ◌≤◌, ◌⊎◌, inl, inr, ⊎_elim, min, cond, nat_eq, nat_lt, List, [], ◌∷◌, ◌++◌, map, length, get_or, set, sum_by, All, refl, sym, ap, ◌∙◌, arith, subst, lt_of_not-le}
+use Rattle.std.proofs.Common.{◌≡◌, true, false, ℕ, zero, suc, ◌+◌, ◌-◌, ◌%◌, ◌^◌, ◌<◌, ◌≤◌, inl, inr, ⊎_elim, min, cond, nat_eq, List, [], ◌∷◌, ◌++◌, map, length, get_or, set, sum_by, All, refl, sym, ap, ◌∙◌, arith, subst}
 use native.Mathlib.Decide.{dec_lt}
 use mathlib.Core.Logic.{dite}
 use mathlib.Core.Option.{none, some, some-injective, some-ne-none}
 use lib.ListN.{get_elem?}
 use Rattle.std.proofs.lemmas.List.Quantifiers.{all_pairs_push}
-use Rattle.std.proofs.lemmas.Grind.{common_steps}
 use Rattle.std.proofs.lemmas.Bool.Decides.{nat_tests}
 use Rattle.std.proofs.lemmas.List.Sums.{sum_by_push, sum_by-append, sum_by-cons}
 use Rattle.std.proofs.lemmas.List.Elements.{All-nil, All-cons, All-map, All-push, All-append, All-weaker}
-use Rattle.atomic_table.specs.Table.{State, Me, step, keeps, stepped, Allows, Splits, Joins, Seen, Final, opening}
+use Rattle.atomic_table.specs.Table.{State, Me, step, keeps, Allows, Splits, Joins, Seen, Final, opening}
 use Rattle.atomic_table.proofs.Lists.{at_set, at_snoc}
 use Rattle.tk_claim.specs.declared.rules.Deal.{Deal}
 use Rattle.tk_claim.specs.declared.rules.Drawn.{Drawn}
@@ -19,7 +18,7 @@ use Rattle.tk_claim.specs.declared.claims.TheConstants.{MAX_SEATS}
 use Rattle.tk_claim.specs.declared.claims.ClaimSeat.TheInside as seat
 use Rattle.atomic_table.specs.declared.shared.Seat.{Seat}
 use Rattle.tk_claim.specs.Dealt.{drawn, no_deal, Fits, Dealt, Drew}
-use Rattle.tk_claim.proofs.Turning.{sum_turn, sum_same, sum_part, sums_le, sum_lone}
+use Rattle.tk_claim.proofs.Turning.{sum_turn, sum_same, sums_le, sum_lone}
 
 abbrev hit : ℕ → ℕ → ℕ
 hit x y = cond (nat_eq x y) 1 0
@@ -57,50 +56,52 @@ module _ (deal : Deal) (slots id : ℕ) (me : Me (Unit {0}) Drawn) (one_part : m
       let after : (x + 1) % 2 ^ 64 ≡ next + 1 = omega arith in
       let word : set s.words 0 ((x + 1) % 2 ^ 64) ≡ (next + 1) ∷ [] = ap (λ (l : List ℕ). set l 0 ((x + 1) % 2 ^ 64)) kept.word ∙ ap (λ (n : ℕ). n ∷ []) after in
       dite (dec_lt next deal.limit)
-        (λ lt. let w : Drawn = drawn me.0.deal me.0.parts me.0.spent (me.0.numbers ++ x ∷ []) in (
-          w,
-          keeps,
-          tt,
-          record {
-            few = few;
-            small = small;
-            next = next + 1;
-            word = word;
-            parts = sum_same (λ v. v.parts) s.views id me.0 w at refl ∙ total;
-            spent = (let e = sum_same (λ v. v.spent) s.views id me.0 w at refl in omega arith);
-            once = λ y. (let e = sum_turn (λ v. times y v.numbers) s.views id me.0 w at in let p = sum_by_push (λ z. hit z y) me.0.numbers x in let o = kept.once y in let m = once_more y next deal.limit lt in let q : hit x y ≡ hit next y = ap (λ (n : ℕ). hit n y) found in omega arith);
-            each = each_set deal next s.views id w kept.each record { deal_same = λ _. same; spent_once = fits.spent_once; below = All-push (λ y. y < next + 1) me.0.numbers x (All-weaker (λ y. y < next) (λ y. y < next + 1) (λ y h. omega arith) me.0.numbers fits.below) (omega arith); idle = λ none. absurd (omega arith) };
-          },
-          inl (omega arith, All-weaker (λ y. y < next) (λ y. y < x) (λ y h. omega arith) me.0.numbers fits.below, refl, refl),
-        ))
-        (λ not. let w : Drawn = drawn me.0.deal me.0.parts (me.0.spent + 1) me.0.numbers in let ge : deal.limit ≤ next = omega arith in (
-          w,
-          keeps,
-          tt,
-          record {
-            few = few;
-            small = small;
-            next = next + 1;
-            word = word;
-            parts = sum_same (λ v. v.parts) s.views id me.0 w at refl ∙ total;
-            spent = (let e = sum_turn (λ v. v.spent) s.views id me.0 w at in omega arith);
-            once = λ y. sum_same (λ v. times y v.numbers) s.views id me.0 w at refl ∙ kept.once y ∙ sym (once_still y next deal.limit ge);
-            each = each_set deal next s.views id w kept.each record { deal_same = λ _. same; spent_once = omega arith; below = All-weaker (λ y. y < next) (λ y. y < next + 1) (λ y h. omega arith) me.0.numbers fits.below; idle = λ none. absurd (omega arith) };
-          },
-          inr (omega arith, refl, refl),
-        ))
+      (λ lt. let w : Drawn = drawn me.0.deal me.0.parts me.0.spent (me.0.numbers ++ x ∷ []) in (
+        w,
+        keeps,
+        tt,
+        record {
+          few = few;
+          small = small;
+          next = next + 1;
+          word = word;
+          parts = sum_same (λ v. v.parts) s.views id me.0 w at refl ∙ total;
+          spent = (let e = sum_same (λ v. v.spent) s.views id me.0 w at refl in omega arith);
+          once = λ y. (let e = sum_turn (λ v. times y v.numbers) s.views id me.0 w at in let p = sum_by_push (λ z. hit z y) me.0.numbers x in let o = kept.once y in let m = once_more y next deal.limit lt in let q : hit x y ≡ hit next y = ap (λ (n : ℕ). hit n y) found in omega arith);
+          each = each_set deal next s.views id w kept.each record { deal_same = λ _. same; spent_once = fits.spent_once; below = All-push (λ y. y < next + 1) me.0.numbers x (All-weaker (λ y. y < next) (λ y. y < next + 1) (λ y h. omega arith) me.0.numbers fits.below) (omega arith); idle = λ none. absurd (omega arith) };
+        },
+        inl (omega arith, All-weaker (λ y. y < next) (λ y. y < x) (λ y h. omega arith) me.0.numbers fits.below, refl, refl),
+      ))
+      (λ not. let w : Drawn = drawn me.0.deal me.0.parts (me.0.spent + 1) me.0.numbers in let ge : deal.limit ≤ next = omega arith in (
+        w,
+        keeps,
+        tt,
+        record {
+          few = few;
+          small = small;
+          next = next + 1;
+          word = word;
+          parts = sum_same (λ v. v.parts) s.views id me.0 w at refl ∙ total;
+          spent = (let e = sum_turn (λ v. v.spent) s.views id me.0 w at in omega arith);
+          once = λ y. sum_same (λ v. times y v.numbers) s.views id me.0 w at refl ∙ kept.once y ∙ sym (once_still y next deal.limit ge);
+          each = each_set deal next s.views id w kept.each record { deal_same = λ _. same; spent_once = omega arith; below = All-weaker (λ y. y < next) (λ y. y < next + 1) (λ y h. omega arith) me.0.numbers fits.below; idle = λ none. absurd (omega arith) };
+        },
+        inr (omega arith, refl, refl),
+      ))
 
 -- what a seat is after a draw of a number, and after one of none
 pub risen : (old new : Seat (Unit {0}) Drawn) (x : ℕ) → IsClaimant record { seat = old; spent = false } → Drew (step 0 0 0 0 none) old.me x new.me → x < old.me.0.deal.limit
     → IsClaimant record { seat = new; spent = false } × (new.me.0 ≡ drawn old.me.0.deal old.me.0.parts old.me.0.spent (old.me.0.numbers ++ x ∷ []))
 risen old new x was drew lt = ⊎_elim
-    (λ (d : (x < old.me.0.deal.limit) × All (λ y. y < x) old.me.0.numbers × (new.me.0 ≡ drawn old.me.0.deal old.me.0.parts old.me.0.spent (old.me.0.numbers ++ x ∷ [])) × (new.me.1 ≡ old.me.1)).
-      (record {
+    (λ (d : (x < old.me.0.deal.limit) × All (λ y. y < x) old.me.0.numbers × (new.me.0 ≡ drawn old.me.0.deal old.me.0.parts old.me.0.spent (old.me.0.numbers ++ x ∷ [])) × (new.me.1 ≡ old.me.1)). (
+      record {
         one_part = ap (λ (v : Drawn). v.parts) d.2 ∙ was.one_part;
         no_slot = d.3 ∙ was.no_slot;
         rising = subst (λ (v : Drawn). IsRising v.numbers) (sym d.2) (all_pairs_push (λ y z. y < z) old.me.0.numbers x was.rising d.1);
         spent_same = ap (λ (v : Drawn). v.spent) d.2 ∙ was.spent_same;
-      }, d.2))
+      },
+      d.2,
+    ))
     (λ (d : (old.me.0.deal.limit ≤ x) × (new.me.0 ≡ drawn old.me.0.deal old.me.0.parts (old.me.0.spent + 1) old.me.0.numbers) × (new.me.1 ≡ old.me.1)). absurd (omega arith))
     drew
 
@@ -108,13 +109,15 @@ pub stopped : (old new : Seat (Unit {0}) Drawn) (x : ℕ) → IsClaimant record 
     → IsClaimant record { seat = new; spent = true } × (new.me.0 ≡ drawn old.me.0.deal old.me.0.parts (old.me.0.spent + 1) old.me.0.numbers)
 stopped old new x was drew ge = ⊎_elim
     (λ (d : (x < old.me.0.deal.limit) × All (λ y. y < x) old.me.0.numbers × (new.me.0 ≡ drawn old.me.0.deal old.me.0.parts old.me.0.spent (old.me.0.numbers ++ x ∷ [])) × (new.me.1 ≡ old.me.1)). absurd (omega arith))
-    (λ (d : (old.me.0.deal.limit ≤ x) × (new.me.0 ≡ drawn old.me.0.deal old.me.0.parts (old.me.0.spent + 1) old.me.0.numbers) × (new.me.1 ≡ old.me.1)).
-      (record {
+    (λ (d : (old.me.0.deal.limit ≤ x) × (new.me.0 ≡ drawn old.me.0.deal old.me.0.parts (old.me.0.spent + 1) old.me.0.numbers) × (new.me.1 ≡ old.me.1)). (
+      record {
         one_part = ap (λ (v : Drawn). v.parts) d.1 ∙ was.one_part;
         no_slot = d.2 ∙ was.no_slot;
         rising = subst (λ (v : Drawn). IsRising v.numbers) (sym d.1) was.rising;
         spent_same = (let e = ap (λ (v : Drawn). v.spent) d.1 in let z = was.spent_same in omega arith);
-      }, d.1))
+      },
+      d.1,
+    ))
     drew
 
 -- the claim begins with no draw, and the first seat has all parts
@@ -132,6 +135,7 @@ opens deal few small = record {
   where
     none_below : (x limit : ℕ) → 0 + 0 ≡ once_below x (min 0 limit)
     none_below x limit = grind (arith, nat_tests)
+
     only : (i : ℕ) (v : Drawn) → get_elem? (drawn deal deal.seats 0 [] ∷ []) i ≡ some v → drawn deal deal.seats 0 [] ≡ v
     only zero v at = some-injective _ v at
     only (suc i) v at = absurd (some-ne-none v (sym at))
@@ -146,7 +150,7 @@ splits deal id v same some_part not_spent empty s kept at = let left : Drawn = d
   parts = (let e = sum_turn (λ v. v.parts) s.views id v left at in let p = sum_by_push (λ v. v.parts) views right in let t = kept.parts in omega arith);
   spent = (let e = sum_turn (λ v. v.spent) s.views id v left at in let p = sum_by_push (λ v. v.spent) views right in let t = kept.spent in omega arith);
   once = λ x. (let e = sum_turn (λ v. times x v.numbers) s.views id v left at in let p = sum_by_push (λ v. times x v.numbers) views right in let t = kept.once x in
-    let z : times x v.numbers ≡ 0 = ap (times x) empty in omega arith);
+      let z : times x v.numbers ≡ 0 = ap (times x) empty in omega arith);
   each = λ i w e. ⊎_elim (λ was. ⊎_elim (λ t. subst (Fits deal kept.next) t.1 (new_seat kept.next (v.parts - 1))) (λ t. kept.each i w t.1) (at_set s.views id i left w was)) (λ is. subst (Fits deal kept.next) is (new_seat kept.next 1))
       (at_snoc views right w i e);
 }
@@ -158,20 +162,20 @@ splits deal id v same some_part not_spent empty s kept at = let left : Drawn = d
 pub joins : (deal : Deal) (id : ℕ) (v : Drawn) (other : ℕ) (w : Drawn) → 0 < v.parts
     → Joins (Dealt deal) id v other w (drawn v.deal (v.parts + w.parts) (v.spent + w.spent) (v.numbers ++ w.numbers)) (drawn no_deal 0 0 [])
 joins deal id v other w some_part s kept at ne there = let both : Drawn = drawn v.deal (v.parts + w.parts) (v.spent + w.spent) (v.numbers ++ w.numbers) in let left : Drawn = drawn no_deal 0 0 [] in let views : List Drawn = set s.views id both in
-  let fits = kept.each id v at in let theirs = ⊎_elim {C = Fits deal kept.next w} (λ t. absurd (ne t.0)) (λ t. kept.each other w t.1) (at_set s.views id other both w there) in record {
-  few = kept.few;
-  small = kept.small;
-  next = kept.next;
-  word = kept.word;
-  parts = (let e = sum_turn (λ v. v.parts) s.views id v both at in let p = sum_turn (λ v. v.parts) views other w left there in let t = kept.parts in omega arith);
-  spent = (let e = sum_turn (λ v. v.spent) s.views id v both at in let p = sum_turn (λ v. v.spent) views other w left there in let t = kept.spent in omega arith);
-  once = λ x. (let e = sum_turn (λ v. times x v.numbers) s.views id v both at in let p = sum_turn (λ v. times x v.numbers) views other w left there in let t = kept.once x in
-    let z = times-append x v.numbers w.numbers in omega arith);
-  each = λ i u e. ⊎_elim (λ t. subst (Fits deal kept.next) t.1 record { deal_same = λ h. absurd (omega arith); spent_once = omega arith; below = All-nil (λ y. y < kept.next); idle = λ _. refl })
-      (λ t. ⊎_elim (λ r. subst (Fits deal kept.next) r.1 record { deal_same = λ _. fits.deal_same some_part; spent_once = (let a = fits.spent_once in let b = theirs.spent_once in omega arith); below = All-append (λ y. y < kept.next) v.numbers w.numbers fits.below theirs.below; idle = λ none. absurd (omega arith) })
-        (λ r. kept.each i u r.1) (at_set s.views id i both u t.1))
-      (at_set views other i left u e);
-}
+    let fits = kept.each id v at in let theirs = ⊎_elim {C = Fits deal kept.next w} (λ t. absurd (ne t.0)) (λ t. kept.each other w t.1) (at_set s.views id other both w there) in record {
+      few = kept.few;
+      small = kept.small;
+      next = kept.next;
+      word = kept.word;
+      parts = (let e = sum_turn (λ v. v.parts) s.views id v both at in let p = sum_turn (λ v. v.parts) views other w left there in let t = kept.parts in omega arith);
+      spent = (let e = sum_turn (λ v. v.spent) s.views id v both at in let p = sum_turn (λ v. v.spent) views other w left there in let t = kept.spent in omega arith);
+      once = λ x. (let e = sum_turn (λ v. times x v.numbers) s.views id v both at in let p = sum_turn (λ v. times x v.numbers) views other w left there in let t = kept.once x in
+          let z = times-append x v.numbers w.numbers in omega arith);
+      each = λ i u e. ⊎_elim (λ t. subst (Fits deal kept.next) t.1 record { deal_same = λ h. absurd (omega arith); spent_once = omega arith; below = All-nil (λ y. y < kept.next); idle = λ _. refl })
+          (λ t. ⊎_elim (λ r. subst (Fits deal kept.next) r.1 record { deal_same = λ _. fits.deal_same some_part; spent_once = (let a = fits.spent_once in let b = theirs.spent_once in omega arith); below = All-append (λ y. y < kept.next) v.numbers w.numbers fits.below theirs.below; idle = λ none. absurd (omega arith) })
+          (λ r. kept.each i u r.1) (at_set s.views id i both u t.1))
+          (at_set views other i left u e);
+    }
 
 -- what the seat with all parts knows in the end
 pub settles : (deal : Deal) (id : ℕ) (v : Drawn) (words : List ℕ) (slots : List (Unit {0})) (n : ℕ) → Final (Seen (Dealt deal) id v) words slots → v.parts ≡ deal.seats → get_elem? words 0 ≡ some n
@@ -180,7 +184,7 @@ settles deal id v words slots n final whole found = let s = final.0 in let kept 
     let is : kept.next ≡ n = some-injective kept.next n (ap (λ (l : List ℕ). get_elem? l 0) (sym kept.word ∙ final.2) ∙ found) in
     let total : sum_by (λ v. v.parts) s.views ≡ v.parts = kept.parts ∙ sym whole in (
       (λ x. let e = sum_lone (λ v. v.parts) (λ v. times x v.numbers) s.views id v at total (λ j w there none. ap (times x) ((kept.each j w there).idle none)) in
-        sym e ∙ kept.once x ∙ ap (λ (k : ℕ). once_below x (min k deal.limit)) is),
+          sym e ∙ kept.once x ∙ ap (λ (k : ℕ). once_below x (min k deal.limit)) is),
       (let e = sum_lone (λ v. v.parts) (λ v. v.spent) s.views id v at total (λ j w there none. let le = (kept.each j w there).spent_once in omega arith) in let t = kept.spent in omega arith),
     )
 

@@ -1,5 +1,5 @@
 -- What a clause sees of a claim and of its seats.
-use Rattle.std.specs.Prelude.{◌≡◌, ℕ, ◌^◌, ◌<◌, ◌≤◌, [], cond}
+use Rattle.std.specs.Prelude.{◌≡◌, ◌^◌, ◌<◌, ◌≤◌, [], cond}
 use Rattle.tk_claim.specs.declared.claims.TheConstants.{MAX_SEATS}
 use Rattle.tk_claim.specs.declared.claims.Claim.TheInside as claim
 use Rattle.tk_claim.specs.declared.claims.ClaimSeat.TheInside as seat

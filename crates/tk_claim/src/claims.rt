@@ -4,7 +4,7 @@ ghost use Rattle.tk_claim.specs.Claims.{Claims, fresh};
 ghost use Rattle.tk_claim.specs.Dealt.{drawn};
 ghost use Rattle.tk_claim.specs.declared.claims.ClaimFault.TheVariants.{Seats};
 
-use crate::rules::{Deal, Dealing, Draws, Drawn};
+use crate::rules::{Deal, Dealing, Drawn, Draws};
 use atomic_table::{Seat, Table};
 use std::alloc::{AllocError, Global};
 use std::marker::Model;
@@ -86,11 +86,7 @@ fn deal_out(
 
 impl Claim {
     /// A claim on the numbers below `n`, of which none is drawn, with its seats.
-    pub fn open(
-        alloc: Global,
-        n: u32,
-        seats: usize,
-    ) -> Result<(Claim, Vec<ClaimSeat>), ClaimFault>
+    pub fn open(alloc: Global, n: u32, seats: usize) -> Result<(Claim, Vec<ClaimSeat>), ClaimFault>
         ensures limit { IfOk result (λ r. r.0.limit ≡ n) }
         ensures claim { IfOk result (λ r. r.0.seats ≡ seats) }
         ensures all { IfOk result (λ r. length r.1.items ≡ seats) }
@@ -126,10 +122,7 @@ impl Claim {
         if seat.spent {
             return None;
         }
-        let found = self
-            .table
-            .shared
-            .fetch_add::<Draws>(&mut seat.seat, 0, 1);
+        let found = self.table.shared.fetch_add::<Draws>(&mut seat.seat, 0, 1);
         if found < u64::from(self.limit) {
             Some(found as u32)
         } else {
@@ -151,7 +144,10 @@ impl Claim {
         };
         let ClaimSeat { mut seat, spent: _ } = last;
         while let Some(next) = seats.pop() {
-            let ClaimSeat { seat: other, spent: _ } = next;
+            let ClaimSeat {
+                seat: other,
+                spent: _,
+            } = next;
             table.shared.join_seat::<Dealing>(&mut seat, other);
         }
         let closed = table.close_with(seat);

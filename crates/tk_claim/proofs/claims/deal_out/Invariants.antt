@@ -1,5 +1,5 @@
 use Rattle.std.proofs.Common.{◌≡◌, ◌+◌, ◌-◌, length, [], All}
-use Rattle.tk_claim.specs.Claims.{fresh, ClaimName}
+use Rattle.tk_claim.specs.Claims.{fresh}
 use Rattle.tk_claim.specs.Dealt.{drawn}
 use Rattle.tk_claim.proofs.claims.deal_out.Given as goal
 

@@ -1,8 +1,7 @@
-use Rattle.std.proofs.Common.{◌≡◌, ◌∷◌, ◌++◌, [], rules, arith, ap, sym, subst, ◌∙◌, append_assoc, min, ℕ, List, Some, All, map, true, length}
+use Rattle.std.proofs.Common.{◌≡◌, ◌∷◌, ◌++◌, [], arith, ap, sym, subst, ◌∙◌, append_assoc, min, ℕ, List, Some, All, map, true, length}
 use Rattle.std.proofs.lemmas.Grind.{common_steps}
 use Rattle.std.proofs.lemmas.List.Elements.{All-pop}
 use Rattle.tk_claim.specs.Claims.{ClaimName, Claimant, Claims}
-use Rattle.tk_claim.specs.ClaimViews.{name_of, claimant_of}
 use Rattle.tk_claim.proofs.Dealing.{Pooled, joins, pools, pools_more, closes}
 use Rattle.tk_claim.proofs.claims.Claim.close.Goals as goal
 
@@ -44,6 +43,6 @@ returns c = let held = c.loop-next.invariant in let all = held.pooled.0 in
     let is : c.min.result ≡ min c.word-next.result c.args.self.limit = c.min.ensures ∙ ap (λ (k : ℕ). min c.word-next.result k) (c.from.ensures ∙ c.self.invariant.limit_same ∙ limit) in
     let told = closes c.args.self key all c.loop-next.seat.id c.loop-next.seat.me _ _ c.word-next.result limit count held.pooled.2 c.close_with-closed.ensures.values.2 c.word-next.ensures in
     let both : Claims (map (λ (s : Claimant). s.numbers) c.args.seats.items) c.min.result × All (λ (s : Claimant). s.spent ≡ true → c.min.result ≡ c.args.self.limit) c.args.seats.items =
-      subst (λ (m : ℕ). Claims (map (λ (s : Claimant). s.numbers) c.args.seats.items) m × All (λ (s : Claimant). s.spent ≡ true → m ≡ c.args.self.limit) c.args.seats.items) (sym is)
-        (subst (λ (l : List Claimant). Claims (map (λ (s : Claimant). s.numbers) l) (min c.word-next.result c.args.self.limit) × All (λ (s : Claimant). s.spent ≡ true → min c.word-next.result c.args.self.limit ≡ c.args.self.limit) l) same told) in
+    subst (λ (m : ℕ). Claims (map (λ (s : Claimant). s.numbers) c.args.seats.items) m × All (λ (s : Claimant). s.spent ≡ true → m ≡ c.args.self.limit) c.args.seats.items) (sym is)
+    (subst (λ (l : List Claimant). Claims (map (λ (s : Claimant). s.numbers) l) (min c.word-next.result c.args.self.limit) × All (λ (s : Claimant). s.spent ≡ true → min c.word-next.result c.args.self.limit ≡ c.args.self.limit) l) same told) in
     record { claims = both.0; spent = both.1 }

@@ -1,7 +1,7 @@
-use Rattle.std.proofs.Common.{◌≡◌, ◌<◌, ◌≤◌, ℕ, false, sym, ap, ◌∙◌, subst, cond, rules, arith}
+use Rattle.std.proofs.Common.{◌≡◌, ℕ, sym, ap, ◌∙◌, subst, cond, arith}
 use Rattle.tk_claim.specs.Claims.{ClaimName, Claimant}
 use Rattle.tk_claim.specs.ClaimViews.{IsClaimant}
-use Rattle.tk_claim.proofs.Dealing.{draws, risen, stopped}
+use Rattle.tk_claim.proofs.Dealing.{draws, risen}
 use Rattle.tk_claim.proofs.claims.Claim.draw.Goals as goal
 
 pub fetch_add-found-requires : goal.fetch_add-found-requires

@@ -1,4 +1,4 @@
-use Rattle.std.proofs.Common.{rules, arith}
+use Rattle.std.proofs.Common.{arith}
 use Rattle.tk_claim.proofs.Dealing.{opens}
 use Rattle.tk_claim.proofs.claims.Claim.open.Goals as goal
 
