@@ -1,7 +1,7 @@
 -- From what each worker left to what a run is.
-use Rattle.std.proofs.Common.{◌≡◌, ◌≢◌, ◌==◌, ℕ, zero, suc, ◌+◌, ◌-◌, ◌<◌, ◌≤◌, Bool, true, false, if◌then◌else◌, cond, List, [], ◌∷◌, ◌++◌, map, length, None, Some, slice_get, get_or, ap, sym, subst, ◌∙◌, refl, arith, inl, inr, ⊎_elim, ◌⊎◌, eq-eqb, ne_eqb}
-use Rattle.std.specs.Prelude.{All, count_by, Option, IfSome, slice_index}
-use Rattle.std.proofs.lemmas.Option.{slice_get-get_or, slice_get_within}
+use Rattle.std.proofs.Common.{◌≡◌, ◌≢◌, ◌==◌, ℕ, zero, suc, ◌+◌, ◌-◌, ◌<◌, ◌≤◌, Bool, true, false, if◌then◌else◌, cond, List, [], ◌∷◌, ◌++◌, map, length, None, Some, slice_get, get_or, ap, sym, subst, ◌∙◌, refl, arith, inl, inr, ⊎_elim, eq-eqb, ne_eqb}
+use Rattle.std.specs.Prelude.{All, Option, IfSome, slice_index}
+use Rattle.std.proofs.lemmas.Option.{slice_get-get_or}
 use Rattle.std.proofs.lemmas.Bool.{cases_eq}
 use Rattle.std.proofs.lemmas.List.Elements.{All-head, All-tail}
 use Rattle.std.proofs.lemmas.List.{length-map}
@@ -15,7 +15,7 @@ use Rattle.tk_claim.specs.Claims.{ClaimName, Claimant, Claims}
 use Rattle.tk_queue.specs.declared.receivers.CloseReason.{CloseReason}
 use Rattle.tk_queue.specs.declared.receivers.CloseReason.TheVariants.{Missing, Twice, NotDrained}
 use Rattle.tk_queue.specs.Ends.{Emits as Sent, Receives, tokens_of, lists, is_marked, IsFault}
-use Rattle.tk_runs.specs.Run.{Emits, IsShared}
+use Rattle.tk_runs.specs.Run.{IsShared}
 use Rattle.tk_engine.specs.declared.engines.UnitFault.{UnitFault}
 use Rattle.tk_engine.specs.declared.workers.Outcome.{Outcome}
 use Rattle.tk_engine.specs.declared.workers.Failure.{Failure}

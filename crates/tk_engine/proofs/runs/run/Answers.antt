@@ -1,5 +1,4 @@
-use Rattle.std.proofs.Common.{rules, ◌≡◌, ◌≤◌, ◌++◌, length, ap}
-use Rattle.tk_columns.specs.Recorded.{Recorded}
+use Rattle.std.proofs.Common.{rules, ◌≡◌, ◌≤◌, ◌++◌, length}
 use Rattle.tk_replay.specs.Core.{entries}
 use Rattle.tk_queue.specs.Limits.{most_events}
 use Rattle.tk_queue.specs.Known.{entries_by}

@@ -1,4 +1,4 @@
-use Rattle.std.proofs.Common.{rules, ◌≡◌, ◌+◌, ◌∷◌, [], ◌++◌, sym, ◌∙◌, zero-add}
+use Rattle.std.proofs.Common.{◌≡◌, ◌+◌, ◌∷◌, [], ◌++◌, sym, ◌∙◌, zero-add}
 use Rattle.tk_queue.specs.Known.{registrations}
 use Rattle.tk_runs.specs.Run.{Emits}
 use Rattle.tk_engine.proofs.Emitted.{emits_more}
