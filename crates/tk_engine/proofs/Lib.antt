@@ -1,0 +1,6 @@
+pub mod Hands
+pub mod Emitted
+pub mod Frames
+pub mod Places
+pub mod Takings
+pub mod Tokens

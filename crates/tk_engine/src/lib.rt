@@ -1,0 +1,17 @@
+//! Engines, the sinks into which their units emit, and the run of an engine by one worker or by several.
+#![tactic(auto)]
+
+mod crews;
+mod engines;
+mod intakes;
+mod results;
+mod runs;
+mod sinks;
+mod teams;
+mod workers;
+
+pub use engines::{Engine, MAX_UNITS, UnitFault};
+pub use results::Results;
+pub use runs::{RunFault, execute};
+pub use sinks::{Sink, SinkFault};
+pub use tk_claim::{Claim, ClaimFault, ClaimSeat, MAX_SEATS};

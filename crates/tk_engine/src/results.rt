@@ -1,0 +1,68 @@
+//! What a run has recorded.
+ghost use Rattle.std.specs.Prelude.{◌≡◌, IfOk};
+ghost use Rattle.tk_columns.specs.declared.selections.Selection.TheVariants.{Tests, Containers};
+ghost use Rattle.tk_columns.specs.Selections.{all_of, keeping, selects};
+ghost use Rattle.tk_engine.specs.Results.{Ran};
+
+use std::alloc::{AllocError, Global};
+use std::marker::Model;
+use tk_columns::{Events, Record, Selection};
+use tk_queue::Closed;
+
+/// The record of a run, and its closed session.
+#[derive(Drop)]
+pub struct Results {
+    recording: Record,
+    closed: Closed,
+}
+
+impl Model for Results {
+    ghost use Rattle.tk_engine.specs.Results.{Ran};
+
+    ghost Value = { Ran };
+
+    ghost view = { λ r. record { recorded = r.recording; closed = r.closed } };
+}
+
+impl Results {
+    pub(crate) fn of(recording: Record, closed: Closed) -> Results
+        ensures { result ≡ record { recorded = recording; closed = closed } }
+    {
+        Results { recording, closed }
+    }
+
+    /// The record.
+    pub fn recorded(&self) -> &Record
+        ensures { result.now ≡ self.now.recorded }
+    {
+        &self.recording
+    }
+
+    /// How many events each worker emitted, as the session told when it was closed.
+    pub fn closed(&self) -> &Closed
+        ensures { result.now ≡ self.now.closed }
+    {
+        &self.closed
+    }
+
+    /// All events.
+    pub fn all_events(&self, alloc: Global) -> Result<Events<'_>, AllocError>
+        ensures { IfOk result (λ events. events ≡ all_of self.now.recorded) }
+    {
+        Events::all(alloc, &self.recording)
+    }
+
+    /// The events of tests.
+    pub fn test_events(&self, alloc: Global) -> Result<Events<'_>, AllocError>
+        ensures { IfOk result (λ events. events ≡ keeping (selects Tests self.now.recorded) (all_of self.now.recorded)) }
+    {
+        self.all_events(alloc)?.pick(alloc, Selection::Tests)
+    }
+
+    /// The events of containers.
+    pub fn container_events(&self, alloc: Global) -> Result<Events<'_>, AllocError>
+        ensures { IfOk result (λ events. events ≡ keeping (selects Containers self.now.recorded) (all_of self.now.recorded)) }
+    {
+        self.all_events(alloc)?.pick(alloc, Selection::Containers)
+    }
+}

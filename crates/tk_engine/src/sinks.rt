@@ -1,0 +1,66 @@
+//! Where a unit's events go.
+ghost use Rattle.std.specs.Prelude.{◌≡◌, None, Ok, IfOk, OnOk, OnErr};
+ghost use Rattle.tk_queue.specs.Ends.{Emits, sends, refusal_of, IsRegisteredAs};
+
+use std::sync::Wait;
+use tk_events::Event;
+use tk_ids::{DType, Segment};
+use tk_queue::{RegisterFault, SendFault, Sender};
+
+/// Why a sink took no event. It is handed on as it came.
+#[derive(Debug, Drop)]
+pub enum SinkFault {
+    Send(SendFault),
+    Register(RegisterFault),
+}
+
+/// Takes the events of a unit, for one worker of a session. Its meaning is what contracts see of a sender: the session, the
+/// table, the worker, and the list that it emitted. What is taken is added as a sender adds it, and what is refused changes
+/// nothing.
+pub trait Sink {
+    ghost meaning: { Self → Emits };
+
+    /// Emits an event.
+    fn emit<R: Wait>(&mut self, rt: &R, event: Event) -> Result<(), SinkFault>
+        ensures ok { OnOk result ((refusal_of (meaning self.old) event ≡ None) × (meaning self.new ≡ sends (meaning self.old) event)) }
+        ensures err { OnErr result (meaning self.new ≡ meaning self.old) };
+
+    /// Registers a descriptor below its parent, emits its registration with that stamp, and answers its key.
+    fn register<R: Wait>(
+        &mut self,
+        rt: &R,
+        parent: u32,
+        segment: &Segment,
+        name: &str,
+        dtype: DType,
+        stamp: u64,
+    ) -> Result<u32, SinkFault>
+        ensures ok { IfOk result (λ key. IsRegisteredAs (meaning self.old) (meaning self.new) parent segment.now name.now dtype stamp (Ok key)) }
+        ensures err { OnErr result (meaning self.new ≡ meaning self.old) };
+}
+
+impl Sink for Sender {
+    ghost meaning = { λ s. s };
+
+    fn emit<R: Wait>(&mut self, rt: &R, event: Event) -> Result<(), SinkFault> {
+        match self.send(rt, event) {
+            Ok(()) => Ok(()),
+            Err(fault) => Err(SinkFault::Send(fault)),
+        }
+    }
+
+    fn register<R: Wait>(
+        &mut self,
+        rt: &R,
+        parent: u32,
+        segment: &Segment,
+        name: &str,
+        dtype: DType,
+        stamp: u64,
+    ) -> Result<u32, SinkFault> {
+        match Sender::register(self, rt, parent, segment, name, dtype, stamp) {
+            Ok(key) => Ok(key),
+            Err(fault) => Err(SinkFault::Register(fault)),
+        }
+    }
+}
