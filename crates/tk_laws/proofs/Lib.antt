@@ -1,0 +1,13 @@
+pub mod Model
+pub mod Cut
+pub mod Lists
+pub mod Few
+pub mod Ids
+pub mod Mixed
+pub mod Naming
+pub mod Keyed
+pub mod Through
+pub mod Bridge
+pub mod Grounds
+pub mod SameReports
+pub mod Stamps

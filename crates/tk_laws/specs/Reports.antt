@@ -1,0 +1,53 @@
+-- Report texts.
+use Rattle.std.specs.Prelude.{ℕ, List, [], ◌∷◌, ◌++◌, map, filter, bytes_eq}
+use Rattle.std.specs.List.{flat_map}
+use Rattle.std.specs.Fmt.{decimal}
+use Rattle.std.specs.Ordering.{nat_cmp}
+use Rattle.std.specs.Cmp.Lexicographic.{slice_cmp}
+use Rattle.std.specs.FinSet.{from_list, items}
+use Rattle.tk_ids.specs.IdText.{id_text}
+use Rattle.tk_ids.specs.declared.tables.Descriptor.{Descriptor}
+use Rattle.tk_columns.specs.declared.selections.Selection.{Selection}
+use Rattle.tk_columns.specs.declared.tallies.Statistics.{Statistics}
+use Rattle.tk_columns.specs.Recorded.{Recorded}
+use Rattle.tk_columns.specs.Selections.{selection_name}
+use Rattle.tk_columns.specs.Statistics.{statistics_of, statistic_rows}
+use Rattle.tk_record.specs.Field.{field_text}
+use Rattle.tk_record.specs.Spelling.{tail, joined}
+use Rattle.tk_cutting.specs.declared.nodes.Placed.{Placed}
+use Rattle.tk_laws.specs.Labels.{Label, labels}
+use Rattle.tk_laws.specs.Scripts.{script_record}
+
+-- a name and a number
+abbrev pub row_line : Selection × ℕ → List ℕ
+row_line row = selection_name row.0 ++ 32 ∷ decimal row.1 ++ 10 ∷ []
+
+-- a line for each statistic, in their order
+abbrev pub statistics_text : Statistics → List ℕ
+statistics_text s = flat_map row_line (statistic_rows s)
+
+-- the texts of the ids that have an event, in the order of their bytes, each once
+abbrev pub id_texts : List Label → List (List ℕ)
+id_texts ls = items (from_list {R = slice_cmp nat_cmp} (map (λ l. id_text l.id) ls))
+
+-- the labels of the id that is written so
+abbrev pub written_so : List ℕ → List Label → List Label
+written_so x ls = filter (λ l. bytes_eq (id_text l.id) x) ls
+
+-- two blanks and the tail of an event's line
+abbrev pub label_line : Label → List ℕ
+label_line l = 32 ∷ 32 ∷ joined (tail l.kind l.payload) ++ 10 ∷ []
+
+-- an id, and a line for each of its events
+abbrev pub id_lines : List Label → List ℕ → List ℕ
+id_lines ls x = field_text x ++ 10 ∷ flat_map label_line (written_so x ls)
+
+abbrev pub report : Statistics → List Label → List ℕ
+report s ls = statistics_text s ++ flat_map (id_lines ls) (id_texts ls)
+
+abbrev pub report_of_record : Recorded → List ℕ
+report_of_record r = report (statistics_of r.entries) (labels r)
+
+-- the report of a plan: of its root's script in place of a record
+abbrev pub report_of_plan : List Placed → List Descriptor → List ℕ
+report_of_plan nodes table = report_of_record (script_record nodes table)
