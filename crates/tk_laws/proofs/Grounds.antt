@@ -13,6 +13,7 @@ use Rattle.tk_cutting.proofs.Founding.{rooted_static}
 use Rattle.tk_cutting.proofs.Ordering.{all_numbered}
 use Rattle.tk_cutting.proofs.Describing.{statics_length}
 use Rattle.tk_cutting.proofs.Keying.{keyed}
+use Rattle.tk_columns.specs.Entries.{described}
 use Rattle.tk_cutting.specs.Ids.{descriptor, ids_below}
 use Rattle.tk_cutting.specs.Numbers.{IsNumbered, in_order, of_kind}
 use Rattle.tk_cutting.specs.Planned.{IsPlanned}
@@ -23,6 +24,7 @@ use Rattle.tk_ids.specs.IdText.{Pair}
 use Rattle.tk_ids.specs.Table.{ids_of}
 use Rattle.tk_ids.specs.declared.tables.Descriptor.{Descriptor}
 use Rattle.tk_laws.proofs.Bridge.{cuts_below, modelled, modelled_below, plain_below, run_of, run_piece}
+use Rattle.tk_laws.proofs.Hearing.{once}
 use Rattle.tk_laws.proofs.Ids.{same_decides}
 use Rattle.tk_laws.proofs.Lists.{at, each_from}
 use Rattle.tk_laws.proofs.Model.{AreBuilt, Forest, IsBuilt, IsKeyed, Item, Models, Part, Tree, after, before, count, more, no_trees, nodes, nodes_below, plain, script, steps_of, tree, units}
@@ -205,6 +207,61 @@ mutual
   built_below b parent above plan.no_trees = tt
   built_below b parent above (plan.more t f) = (built b parent above t, built_below b parent above f)
 
+-- ---- the table's ids are some of the nodes', in their order
+
+abbrev Within : {A : Type 0} → List A → List A → Type 0
+Within [] ys = Unit {0}
+Within (x ∷ xs) [] = ⊥
+Within (x ∷ xs) (y ∷ ys) = ((x ≡ y) × Within xs ys) ⊎ Within (x ∷ xs) ys
+
+within_more : {A : Type 0} (xs ys zs : List A) → Within xs zs → Within xs (ys ++ zs)
+within_more [] ys zs h = tt
+within_more (x ∷ xs) [] zs h = h
+within_more (x ∷ xs) (y ∷ ys) zs h = inr (within_more (x ∷ xs) ys zs h)
+
+within-append : {A : Type 0} (us bs xs ys : List A) → Within us bs → Within xs ys → Within (us ++ xs) (bs ++ ys)
+within-append [] bs xs ys h g = within_more xs bs ys g
+within-append (a ∷ us) [] xs ys h g = absurd h
+within-append (a ∷ us) (b ∷ bs) xs ys (inl h) g = inl (h.0, within-append us bs xs ys h.1 g)
+within-append (a ∷ us) (b ∷ bs) xs ys (inr h) g = inr (within-append (a ∷ us) bs xs ys h g)
+
+within_next : {A : Type 0} (xs ys : List A) (y : A) → Within xs ys → Within xs (y ∷ ys)
+within_next [] ys y h = tt
+within_next (x ∷ xs) ys y h = inr h
+
+within_by : (b : Bool) (d : Descriptor) (ds : List Descriptor) (ys : List (List Pair)) → Within (ids_of ds) ys → Within (ids_of ((if b then d ∷ [] else []) ++ ds)) (d.id ∷ ys)
+within_by true d ds ys h = inl (refl, h)
+within_by false d ds ys h = within_next (ids_of ds) ys d.id h
+
+mutual
+  within_tree : (above : List Pair) (t : plan.Tree) → Within (ids_of (ids.descriptors above t)) (ids.ids above t)
+  within_tree above (plan.tree n k f) =
+      within_by n.is_static (ids.descriptor (above ++ n.segment ∷ []) n) (ids.descriptors_below (above ++ n.segment ∷ []) f) (ids.ids_below (above ++ n.segment ∷ []) f) (within_below (above ++ n.segment ∷ []) f)
+
+  within_below : (above : List Pair) (f : plan.Forest) → Within (ids_of (ids.descriptors_below above f)) (ids.ids_below above f)
+  within_below above plan.no_trees = tt
+  within_below above (plan.more t f) =
+      subst (λ l. Within l (ids.ids above t ++ ids.ids_below above f)) (sym (map-append (λ d. d.id) (ids.descriptors above t) (ids.descriptors_below above f)))
+      (within-append _ _ _ _ (within_tree above t) (within_below above f))
+
+somewhere : {A : Type 0} (xs ys : List A) (k : ℕ) (x : A) → Within xs ys → slice_get xs k ≡ Some x → (at : ℕ) × (slice_get ys at ≡ Some x)
+somewhere [] ys k x h e = cc
+somewhere (y ∷ xs) [] k x h e = absurd h
+somewhere (y ∷ xs) (z ∷ ys) zero x (inl h) e = (0, ap Some (sym h.0) ∙ e)
+somewhere (y ∷ xs) (z ∷ ys) (suc k) x (inl h) e = let more = somewhere xs ys k x h.1 e in (suc more.0, more.1)
+somewhere (y ∷ xs) (z ∷ ys) k x (inr h) e = let more = somewhere (y ∷ xs) ys k x h e in (suc more.0, more.1)
+
+once_within : (xs ys : List (List Pair)) → Within xs ys → AreDistinct ys → (j k : ℕ) (x : List Pair) → slice_get xs j ≡ Some x → slice_get xs k ≡ Some x → j ≡ k
+once_within [] ys h d j k x a b = cc
+once_within (z ∷ xs) [] h d j k x a b = absurd h
+once_within (z ∷ xs) (y ∷ ys) (inl h) d zero zero x a b = refl
+once_within (z ∷ xs) (y ∷ ys) (inl h) d zero (suc k) x a b =
+    let there = somewhere xs ys k x h.1 b in absurd (zero_suc there.0 (d 0 (suc there.0) x (ap Some (sym h.0) ∙ a) there.1))
+once_within (z ∷ xs) (y ∷ ys) (inl h) d (suc j) zero x a b =
+    let there = somewhere xs ys j x h.1 a in absurd (zero_suc there.0 (d 0 (suc there.0) x (ap Some (sym h.0) ∙ b) there.1))
+once_within (z ∷ xs) (y ∷ ys) (inl h) d (suc j) (suc k) x a b = ap suc (once_within xs ys h.1 (distinct_tail y ys d) j k x a b)
+once_within (z ∷ xs) (y ∷ ys) (inr h) d j k x a b = once_within (z ∷ xs) ys h (distinct_tail y ys d) j k x a b
+
 -- ---- scripts
 
 steps_same : (xs : List Part) (ys : List cut.Piece) → map run_of xs ≡ map run_piece ys → (u : ℕ) → cut.steps_of (slice_get ys u) ≡ map plain (steps_of (slice_get xs u))
@@ -256,6 +313,11 @@ module _ (all : List Placed) (table : List Descriptor) (p : IsPlanned all table)
         static = λ s. ap (slice_get (ids_of table)) t.number ∙ id_key table q.number n.id q.node (facts.static (sym t.static ∙ s));
       }
 
+  item_apart : (i : ℕ) (n : Item) → slice_get (nodes_below (trees_of all)) i ≡ Some n → n.is_static ≡ false → (k : ℕ) → slice_get (ids_of table) k ≡ Some n.id → ⊥
+  item_apart i n e s k g =
+      let t = there (nodes_below (trees_of all)) all (ids.ids_below [] (plan.forest all)) i n near e in
+      (keyed all table p numbers i t.placed n.id t.in_nodes t.in_ids).dynamic (sym t.static ∙ s) (k, g)
+
   pub models : Models all table (trees_of all)
   models =
       let root = plan.forest all in
@@ -267,6 +329,8 @@ module _ (all : List Placed) (table : List Descriptor) (p : IsPlanned all table)
         few_static = p.few_static;
         few_dynamic = subst (λ m. m ≤ 65536) (sym (count_dynamic _ _ _ near)) p.few_dynamic;
         built = built_below true 0 [] root;
+        once = once_within (ids_of table) (ids.ids_below [] root) (subst (λ t. Within (ids_of t) (ids.ids_below [] root)) (sym p.described) (within_below [] root)) p.distinct;
+        apart = each_from (λ n. n.is_static ≡ false → (k : ℕ) → slice_get (ids_of table) k ≡ Some n.id → ⊥) (nodes_below (trees_of all)) item_apart;
         scripts = λ u. steps_same (units (trees_of all)) (cut.pieces_of root) whole.units u;
         number = length-map (cut.pieces_of root) _ ∙ (sym (length-map (cut.pieces_of root) run_piece) ∙ (ap length (sym whole.units) ∙ length-map (units (trees_of all)) run_of));
         before = sym whole.before;

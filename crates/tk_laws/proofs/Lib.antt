@@ -10,4 +10,9 @@ pub mod Through
 pub mod Bridge
 pub mod Grounds
 pub mod SameReports
+pub mod Orders
+pub mod Scripts
+pub mod Hearing
+pub mod OneKey
+pub mod ByKey
 pub mod Stamps

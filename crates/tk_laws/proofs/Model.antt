@@ -1,24 +1,24 @@
 -- Plans as trees of nodes with their ids, and what is said of them.
 use Rattle.std.proofs.Common.{◌≡◌, ◌≤◌, ℕ, suc, ◌+◌, ◌*◌, ◌⊎◌, List, [], ◌∷◌, ◌++◌, length, Bool, true, false, not, ◌&&◌, ◌==◌, Option, Some, None, is_some, if◌then◌else◌, map, filter, flat_map, slice_get, nat_lt}
-use Rattle.tk_ids.specs.IdText.{Pair}
-use Rattle.tk_ids.specs.declared.tables.Descriptor.{Descriptor}
-use Rattle.tk_ids.specs.Table.{ids_of}
-use Rattle.tk_events.specs.declared.payloads.Payload.{Payload}
 use Rattle.tk_events.specs.declared.payloads.Payload.TheVariants.{Nothing, Reason, Outcome, Report as Reported, Described}
-use Rattle.tk_events.specs.declared.events.Event.{Event}
+use Rattle.tk_cutting.specs.declared.steps.Step.{Step as PlanStep}
+use Rattle.tk_cutting.specs.Events.{event}
+use Rattle.tk_cutting.specs.Cutting.{after_of, before_of, root_script, script_of, units_of}
+use Rattle.tk_cutting.specs.Numbers.{in_order}
+use Rattle.tk_cutting.specs.Told.{kind_of, payload_of}
+use Rattle.tk_cutting.specs.Trees.{forest}
 use Rattle.tk_cutting.specs.declared.nodes.Node.{Node}
 use Rattle.tk_cutting.specs.declared.nodes.Placed.{Placed}
 use Rattle.tk_cutting.specs.declared.steps.Act.{Act}
-use Rattle.tk_cutting.specs.declared.steps.Act.TheVariants.{Register, Skip, Start, Report, Finish}
-use Rattle.tk_cutting.specs.declared.steps.Step.{Step as PlanStep}
-use Rattle.tk_cutting.specs.Numbers.{in_order}
-use Rattle.tk_cutting.specs.Told.{kind_of, payload_of}
-use Rattle.tk_cutting.specs.Events.{event}
+use Rattle.tk_cutting.specs.declared.steps.Act.TheVariants.{Finish, Register, Report, Skip, Start}
+use Rattle.tk_events.specs.declared.events.Event.{Event}
+use Rattle.tk_events.specs.declared.payloads.Payload.{Payload}
+use Rattle.tk_ids.specs.IdText.{Pair}
+use Rattle.tk_ids.specs.Table.{ids_of}
+use Rattle.tk_ids.specs.declared.tables.Descriptor.{Descriptor}
 use Rattle.tk_laws.specs.Labels.{Label, same_id}
-use Rattle.tk_cutting.specs.Trees.{forest}
-use Rattle.tk_cutting.specs.Cutting.{script_of, units_of, before_of, after_of, root_script}
 use Rattle.tk_laws.specs.Runs.{is_dynamic}
-use Rattle.tk_laws.specs.Scripts.{is_registration, id_at, said, place}
+use Rattle.tk_laws.specs.Scripts.{id_at, is_registration, place, said}
 
 -- a node with its number, its parent's, and its id; whether it may be cut open
 pub record Item : Type 0 where
@@ -285,6 +285,8 @@ pub record Models (all : List Placed) (table : List Descriptor) (f : Forest) : T
   pub few_static : length table ≤ 65536
   pub few_dynamic : count (λ n. if n.is_static then false else true) (nodes_below f) ≤ 65536
   pub built : AreBuilt [] f
+  pub once : (j k : ℕ) (x : List Pair) → slice_get (ids_of table) j ≡ Some x → slice_get (ids_of table) k ≡ Some x → j ≡ k
+  pub apart : Each (λ n. n.is_static ≡ false → (k : ℕ) → slice_get (ids_of table) k ≡ Some n.id → ⊥) (nodes_below f)
   pub scripts : (u : ℕ) → script_of (forest all) u ≡ map plain (part_steps f u)
   pub number : length (units_of (forest all)) ≡ length (units f)
   pub before : before_of (forest all) ≡ static_events (before_below 0 f)

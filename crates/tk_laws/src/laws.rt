@@ -11,3 +11,13 @@ pub fn stamps_are_positions()
 pub fn one_report()
     ensures { OneReport }
 {}
+
+/// Every run of a plan keeps the order that a listener may rely on.
+pub fn listener()
+    ensures { Listener }
+{}
+
+/// In every run of a plan each key is registered, starts and finishes as a listener may rely on.
+pub fn listener_by_key()
+    ensures { ListenerByKey }
+{}
