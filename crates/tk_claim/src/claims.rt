@@ -1,0 +1,158 @@
+//! Numbers below a limit, each drawn once by one of the seats.
+ghost use Rattle.std.specs.Prelude.{◌≡◌, ◌<◌, ◌≤◌, ◌⊎◌, ◌↔◌, [], ◌∷◌, ◌++◌, true, false, length, map, All, IfOk, IfErr, IfSome, IfNone};
+ghost use Rattle.tk_claim.specs.Claims.{Claims, fresh};
+ghost use Rattle.tk_claim.specs.Dealt.{drawn};
+ghost use Rattle.tk_claim.specs.declared.claims.ClaimFault.TheVariants.{Seats};
+
+use crate::rules::{Deal, Dealing, Drawn, Draws};
+use atomic_table::{Seat, Table};
+use std::alloc::{AllocError, Global};
+use std::marker::Model;
+
+/// How many seats a claim may have.
+pub const MAX_SEATS: usize = 8;
+
+/// A word from which several seats draw the numbers below a limit.
+#[derive(Drop)]
+pub struct Claim {
+    table: Table<(), Drawn, Deal, Dealing, Global>,
+    limit: u32,
+}
+
+impl Model for Claim {
+    ghost use Rattle.tk_claim.specs.Claims.{ClaimName};
+
+    ghost Value = { ClaimName };
+
+    ghost use Rattle.tk_claim.specs.ClaimViews.{name_of, IsClaim};
+
+    ghost view = { name_of };
+
+    ghost invariant = { IsClaim };
+}
+
+/// One of the seats of a claim.
+#[derive(Drop)]
+pub struct ClaimSeat {
+    seat: Seat<(), Drawn>,
+    spent: bool,
+}
+
+impl Model for ClaimSeat {
+    ghost use Rattle.tk_claim.specs.Claims.{Claimant};
+
+    ghost Value = { Claimant };
+
+    ghost use Rattle.tk_claim.specs.ClaimViews.{claimant_of, IsClaimant};
+
+    ghost view = { claimant_of };
+
+    ghost invariant = { IsClaimant };
+}
+
+/// Why a claim was not opened.
+#[derive(Debug, Drop)]
+pub enum ClaimFault {
+    /// No seat, or more than `MAX_SEATS`.
+    Seats,
+    /// Memory was refused.
+    Memory,
+}
+
+// Cuts the first seat into `count` seats.
+fn deal_out(
+    alloc: Global,
+    table: &Table<(), Drawn, Deal, Dealing, Global>,
+    mut first: Seat<(), Drawn>,
+    count: usize,
+) -> Result<Vec<ClaimSeat>, AllocError>
+    requires count { 0 < count }
+    requires table { 0 < table.now.shared.table_id.words }
+    requires of_this { first.table_id ≡ table.now.shared.table_id }
+    requires whole { first.me ≡ (drawn table.now.shared.key count 0 [], []) }
+    ensures { IfOk result (λ all. (length all.items ≡ count) × All (λ s. s ≡ fresh (record { table = table.now.shared.table_id; limit = table.now.shared.key.limit; seats = table.now.shared.key.seats })) all.items) }
+{
+    let mut all = Vec::with_capacity(alloc, count)?;
+    for _ in 1..count {
+        let seat = table.shared.split_seat::<Dealing>(&mut first);
+        all.push(ClaimSeat { seat, spent: false })?;
+    }
+    all.push(ClaimSeat {
+        seat: first,
+        spent: false,
+    })?;
+    Ok(all)
+}
+
+impl Claim {
+    /// A claim on the numbers below `n`, of which none is drawn, with its seats.
+    pub fn open(alloc: Global, n: u32, seats: usize) -> Result<(Claim, Vec<ClaimSeat>), ClaimFault>
+        ensures limit { IfOk result (λ r. r.0.limit ≡ n) }
+        ensures claim { IfOk result (λ r. r.0.seats ≡ seats) }
+        ensures all { IfOk result (λ r. length r.1.items ≡ seats) }
+        ensures seats { IfOk result (λ r. All (λ s. s ≡ fresh r.0) r.1.items) }
+        ensures in_range { IfOk result (λ _. (0 < seats) × (seats ≤ MAX_SEATS)) }
+        ensures fault { IfErr result (λ f. (f ≡ Seats) ↔ ((seats ≡ 0) ⊎ (MAX_SEATS < seats))) }
+    {
+        if seats == 0 || seats > MAX_SEATS {
+            return Err(ClaimFault::Seats);
+        }
+        let deal = Deal { limit: n, seats };
+        let Ok((table, first)) = Table::of_words(alloc, &[0], &deal) else {
+            return Err(ClaimFault::Memory);
+        };
+        let Ok(all) = deal_out(alloc, &table, first, seats) else {
+            return Err(ClaimFault::Memory);
+        };
+        Ok((Claim { table, limit: n }, all))
+    }
+
+    /// A number that no seat drew before, or `None` where no number is left. A seat that got `None` gets it again,
+    /// without a step.
+    pub fn draw(&self, seat: &mut ClaimSeat) -> Option<u32>
+        requires { seat.old.claim ≡ self.now }
+        ensures claim { seat.new.claim ≡ seat.old.claim }
+        ensures below { IfSome result (λ x. x < self.now.limit) }
+        ensures drawn { IfSome result (λ x. seat.new.numbers ≡ seat.old.numbers ++ x ∷ []) }
+        ensures before { IfSome result (λ _. seat.old.spent ≡ false) }
+        ensures more { IfSome result (λ _. seat.new.spent ≡ false) }
+        ensures none { IfNone result (seat.new.numbers ≡ seat.old.numbers) }
+        ensures spent { IfNone result (seat.new.spent ≡ true) }
+    {
+        if seat.spent {
+            return None;
+        }
+        let found = self.table.shared.fetch_add::<Draws>(&mut seat.seat, 0, 1);
+        if found < u64::from(self.limit) {
+            Some(found as u32)
+        } else {
+            seat.spent = true;
+            None
+        }
+    }
+
+    /// How many numbers were drawn: those below it, each once.
+    pub fn close(self, mut seats: Vec<ClaimSeat>) -> u32
+        requires all { length seats.items ≡ self.seats }
+        requires of_this { All (λ s. s.claim ≡ self) seats.items }
+        ensures claims { Claims (map (λ s. s.numbers) seats.items) result }
+        ensures spent { All (λ s. s.spent ≡ true → result ≡ self.limit) seats.items }
+    {
+        let Claim { table, limit } = self;
+        let Some(last) = seats.pop() else {
+            unreachable!()
+        };
+        let ClaimSeat { mut seat, spent: _ } = last;
+        while let Some(next) = seats.pop() {
+            let ClaimSeat {
+                seat: other,
+                spent: _,
+            } = next;
+            table.shared.join_seat::<Dealing>(&mut seat, other);
+        }
+        let closed = table.close_with(seat);
+        let next = closed.word(0);
+        closed.free();
+        next.min(u64::from(limit)) as u32
+    }
+}
