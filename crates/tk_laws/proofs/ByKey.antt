@@ -3,6 +3,7 @@ use Rattle.std.proofs.Common.{◌≡◌, ◌≢◌, ◌≤◌, ◌<◌, ℕ, zer
 use Rattle.std.specs.List.{list_any}
 use Rattle.std.proofs.lemmas.Bool.{cases_Bool}
 use Rattle.std.proofs.lemmas.List.{length-map}
+use Rattle.tk_columns.specs.Recorded.{Recorded}
 use Rattle.tk_cutting.specs.declared.nodes.Placed.{Placed}
 use Rattle.tk_events.specs.declared.events.Entry.{Entry}
 use Rattle.tk_events.specs.declared.events.Event.{Event}
@@ -18,9 +19,8 @@ use Rattle.tk_laws.proofs.OneKey.{Comes, HasKey, all_keys, from_table, same_key,
 use Rattle.tk_laws.proofs.Orders.{precedes_none}
 use Rattle.tk_laws.proofs.Through.{below_length, names}
 use Rattle.tk_laws.specs.Labels.{Label, events, label, name, same_id, same_kind}
-use Rattle.tk_laws.specs.Laws.{recorded}
 use Rattle.tk_laws.specs.Listening.{IsOnce, ListensByKey, is_ran, precedes, registers}
-use Rattle.tk_laws.specs.Runs.{is_dynamic}
+use Rattle.tk_queue.specs.Known.{is_dynamic}
 use Rattle.tk_laws.specs.Scripts.{IsRunOf, place}
 
 filter_each : (p q : Event → Bool) (es : List Event) → Each (λ e. p e ≡ q e) es → filter p es ≡ filter q es
@@ -89,48 +89,48 @@ told_any : (k : ℕ) (es : List Event) → 0 < length (told k es) → list_any (
 told_any k [] h = let no : ⊥ = omega (arith, h) in absurd no
 told_any k (e ∷ es) h = told_here (is_dynamic e) (e.key == k) (id_told e.payload) (told k es) _ (λ g. told_any k es g) h
 
-module _ (all : List Placed) (table : List Descriptor) (f : Forest) (workers : ℕ) (r : List Entry) (plan : Models all table f) (run : IsRunOf all table workers r) where
-  agrees : (k : ℕ) → HasOne k (events r) → Each (λ e. (e.key == k) ≡ same_id (name (recorded table r) e.key) (name (recorded table r) k)) (events r)
-  agrees k o = each_map (HasKey all table (Comes all table f workers r plan run) (from_table all table f workers r plan run)) (λ e. (e.key == k) ≡ same_id (name (recorded table r) e.key) (name (recorded table r) k)) (events r)
+module _ (all : List Placed) (table : List Descriptor) (f : Forest) (workers : ℕ) (r : Recorded) (plan : Models all table f) (run : IsRunOf all table workers r) where
+  agrees : (k : ℕ) → HasOne k (events r.entries) → Each (λ e. (e.key == k) ≡ same_id (name r e.key) (name r k)) (events r.entries)
+  agrees k o = each_map (HasKey all table (Comes all table f workers r plan run) (from_table all table f workers r plan run)) (λ e. (e.key == k) ≡ same_id (name r e.key) (name r k)) (events r.entries)
       (λ e c. ⊎_elim
-      (λ y. let same : e.key ≡ k = grind (arith, tests, y) in y ∙ sym ((same_decides (name (recorded table r) e.key) (name (recorded table r) k)).1 (ap (name (recorded table r)) same)))
+      (λ y. let same : e.key ≡ k = grind (arith, tests, y) in y ∙ sym ((same_decides (name r e.key) (name r k)).1 (ap (name r) same)))
       (λ n. let differ : e.key ≢ k = grind (arith, tests, n) in ⊎_elim
       (λ s. absurd (differ (same_key all table f workers r plan run e.key k c
-      (subst (Comes all table f workers r plan run) o.key (each_at (HasKey all table (Comes all table f workers r plan run) (from_table all table f workers r plan run)) (events r) o.place o.event (all_keys all table f workers r plan run) o.is_there))
-      ((same_decides (name (recorded table r) e.key) (name (recorded table r) k)).0 s))))
+      (subst (Comes all table f workers r plan run) o.key (each_at (HasKey all table (Comes all table f workers r plan run) (from_table all table f workers r plan run)) (events r.entries) o.place o.event (all_keys all table f workers r plan run) o.is_there))
+      ((same_decides (name r e.key) (name r k)).0 s))))
       (λ f. n ∙ sym f)
-      (cases_Bool (same_id (name (recorded table r) e.key) (name (recorded table r) k))))
+      (cases_Bool (same_id (name r e.key) (name r k))))
       (cases_Bool (e.key == k)))
       (all_keys all table f workers r plan run)
 
-  once_key : (k : ℕ) → IsOnce (map (label (name (recorded table r))) (filter (λ e. e.key == k && is_ran e.kind) (events r)))
+  once_key : (k : ℕ) → IsOnce (map (label (name r)) (filter (λ e. e.key == k && is_ran e.kind) (events r.entries)))
   once_key k = ⊎_elim
-      (λ o. subst IsOnce (sym (ap (map (label (name (recorded table r)))) (filter_each _ (λ e. same_id (name (recorded table r) e.key) (name (recorded table r) k) && is_ran e.kind) (events r)
-      (each_map (λ e. (e.key == k) ≡ same_id (name (recorded table r) e.key) (name (recorded table r) k)) _ (events r) (λ e h. ap (λ b. b && is_ran e.kind) h) (agrees k o)))
-      ∙ filter_label (name (recorded table r)) (ran_of (name (recorded table r) k)) (events r)))
-      (once all table f workers r plan run (name (recorded table r) k)))
-      (λ n. subst IsOnce (sym (ap (map (label (name (recorded table r)))) (none_filter k (λ e. is_ran e.kind) (events r) n))) tt)
-      (one_or_none k (events r))
+      (λ o. subst IsOnce (sym (ap (map (label (name r))) (filter_each _ (λ e. same_id (name r e.key) (name r k) && is_ran e.kind) (events r.entries)
+      (each_map (λ e. (e.key == k) ≡ same_id (name r e.key) (name r k)) _ (events r.entries) (λ e h. ap (λ b. b && is_ran e.kind) h) (agrees k o)))
+      ∙ filter_label (name r) (ran_of (name r k)) (events r.entries)))
+      (once all table f workers r plan run (name r k)))
+      (λ n. subst IsOnce (sym (ap (map (label (name r))) (none_filter k (λ e. is_ran e.kind) (events r.entries) n))) tt)
+      (one_or_none k (events r.entries))
 
-  registered_key : (k : ℕ) → length table ≤ k → precedes (λ e. e.key == k && same_kind e.kind Dynamic) (λ e. e.key == k && is_ran e.kind) (events r) ≡ true
+  registered_key : (k : ℕ) → length table ≤ k → precedes (λ e. e.key == k && same_kind e.kind Dynamic) (λ e. e.key == k && is_ran e.kind) (events r.entries) ≡ true
   registered_key k l = ⊎_elim
       (λ o.
-      let names = name (recorded table r) in
-      let i = name (recorded table r) k in
+      let names = name r in
+      let i = name r k in
       let alike = agrees k o in
-      let comes = subst (Comes all table f workers r plan run) o.key (each_at (HasKey all table (Comes all table f workers r plan run) (from_table all table f workers r plan run)) (events r) o.place o.event (all_keys all table f workers r plan run) o.is_there) in
-      let here : list_any (λ e. e.key == k && same_kind e.kind Dynamic) (events r) ≡ true = ⊎_elim
+      let comes = subst (Comes all table f workers r plan run) o.key (each_at (HasKey all table (Comes all table f workers r plan run) (from_table all table f workers r plan run)) (events r.entries) o.place o.event (all_keys all table f workers r plan run) o.is_there) in
+      let here : list_any (λ e. e.key == k && same_kind e.kind Dynamic) (events r.entries) ≡ true = ⊎_elim
       (λ a. let b = below_length (ids_of table) k a.0 a.1 in let no : ⊥ = omega (arith, b, l, length-map table (λ (d : Descriptor). d.id)) in absurd no)
-      (λ a. told_any k (events r) (subst (λ j. 0 < length (told j (events r))) (sym a.6) (told_some all table f workers r plan run a.0 a.2 a.1 a.3 a.4 a.5)))
+      (λ a. told_any k (events r.entries) (subst (λ j. 0 < length (told j (events r.entries))) (sym a.6) (told_some all table f workers r plan run a.0 a.2 a.1 a.3 a.4 a.5)))
       comes in
-      let register : Each (λ e. (e.key == k && same_kind e.kind Dynamic) ≡ (same_id (names e.key) i && same_kind e.kind Dynamic)) (events r)
-      = each_map (λ e. (e.key == k) ≡ same_id (name (recorded table r) e.key) (name (recorded table r) k)) _ (events r) (λ e h. ap (λ b. b && same_kind e.kind Dynamic) h) alike in
-      let ran : Each (λ e. (e.key == k && is_ran e.kind) ≡ (same_id (names e.key) i && is_ran e.kind)) (events r)
-      = each_map (λ e. (e.key == k) ≡ same_id (name (recorded table r) e.key) (name (recorded table r) k)) _ (events r) (λ e h. ap (λ b. b && is_ran e.kind) h) alike in
-      precedes_each _ _ _ _ (events r) register ran ∙ (precedes_label names (registers i) (ran_of i) (events r)
-      ∙ registered all table f workers r plan run i (sym (any_each _ _ (events r) register ∙ any_label names (registers i) (events r)) ∙ here)))
-      (λ n. precedes_none (λ e. e.key == k && same_kind e.kind Dynamic) (λ e. e.key == k && is_ran e.kind) (events r) (none_any k (λ e. is_ran e.kind) (events r) n))
-      (one_or_none k (events r))
+      let register : Each (λ e. (e.key == k && same_kind e.kind Dynamic) ≡ (same_id (names e.key) i && same_kind e.kind Dynamic)) (events r.entries)
+      = each_map (λ e. (e.key == k) ≡ same_id (name r e.key) (name r k)) _ (events r.entries) (λ e h. ap (λ b. b && same_kind e.kind Dynamic) h) alike in
+      let ran : Each (λ e. (e.key == k && is_ran e.kind) ≡ (same_id (names e.key) i && is_ran e.kind)) (events r.entries)
+      = each_map (λ e. (e.key == k) ≡ same_id (name r e.key) (name r k)) _ (events r.entries) (λ e h. ap (λ b. b && is_ran e.kind) h) alike in
+      precedes_each _ _ _ _ (events r.entries) register ran ∙ (precedes_label names (registers i) (ran_of i) (events r.entries)
+      ∙ registered all table f workers r plan run i (sym (any_each _ _ (events r.entries) register ∙ any_label names (registers i) (events r.entries)) ∙ here)))
+      (λ n. precedes_none (λ e. e.key == k && same_kind e.kind Dynamic) (λ e. e.key == k && is_ran e.kind) (events r.entries) (none_any k (λ e. is_ran e.kind) (events r.entries) n))
+      (one_or_none k (events r.entries))
 
-  pub by_key : ListensByKey (length table) (name (recorded table r)) (events r)
+  pub by_key : ListensByKey (length table) (name r) (events r.entries)
   by_key = record { once = once_key; registered_first = registered_key }

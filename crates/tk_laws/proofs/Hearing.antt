@@ -3,6 +3,7 @@ use Rattle.std.proofs.Common.{◌≡◌, ◌≢◌, ℕ, ◌+◌, ◌⊎◌, Boo
 use Rattle.std.specs.List.{list_any}
 use Rattle.std.proofs.lemmas.Bool.{cases_Bool}
 use Rattle.std.proofs.lemmas.List.Elements.{filter-append}
+use Rattle.tk_columns.specs.Recorded.{Recorded}
 use Rattle.tk_cutting.specs.declared.nodes.Placed.{Placed}
 use Rattle.tk_cutting.specs.declared.steps.Act.TheVariants.{Finish, Register, Report, Start}
 use Rattle.tk_events.specs.declared.events.Entry.{Entry}
@@ -17,7 +18,6 @@ use Rattle.tk_laws.proofs.SameReports.{chain_one_below}
 use Rattle.tk_laws.proofs.Scripts.{chain_pair_below, either, entry_labels, own_labels, own_law_below, ran_labels, script_finish, script_start}
 use Rattle.tk_laws.proofs.Through.{chain_law}
 use Rattle.tk_laws.specs.Labels.{Label, labels, same_id, same_kind}
-use Rattle.tk_laws.specs.Laws.{recorded}
 use Rattle.tk_laws.specs.Listening.{IsOnce, Listens, finishes, is_followed, is_of, is_ran, precedes, registers, skips, starts}
 use Rattle.tk_laws.specs.Scripts.{IsRunOf}
 
@@ -154,14 +154,14 @@ skipped_from ls once first i s more n h = ⊎_elim
 
 -- ---- the law
 
-module _ (all : List Placed) (table : List Descriptor) (f : Forest) (workers : ℕ) (r : List Entry) (plan : Models all table f) (run : IsRunOf all table workers r) where
-  pub same_one : (i : List Pair) → filter (is_of i) (labels (recorded table r)) ≡ filter (is_of i) (plan_labels f)
+module _ (all : List Placed) (table : List Descriptor) (f : Forest) (workers : ℕ) (r : Recorded) (plan : Models all table f) (run : IsRunOf all table workers r) where
+  pub same_one : (i : List Pair) → filter (is_of i) (labels r) ≡ filter (is_of i) (plan_labels f)
   same_one i = chain_law all table f workers r plan run (λ j. same_id j i) (chain_one_below (λ j. same_id j i) f (plan.distinct i))
 
-  same_pair : (p : List Pair) (s : Pair) → p ≢ [] → filter (λ l. either p (p ++ s ∷ []) l.id) (labels (recorded table r)) ≡ filter (λ l. either p (p ++ s ∷ []) l.id) (plan_labels f)
+  same_pair : (p : List Pair) (s : Pair) → p ≢ [] → filter (λ l. either p (p ++ s ∷ []) l.id) (labels r) ≡ filter (λ l. either p (p ++ s ∷ []) l.id) (plan_labels f)
   same_pair p s n = chain_law all table f workers r plan run (either p (p ++ s ∷ [])) (chain_pair_below p s [] f plan.built (λ e. n (sym e)) (plan.distinct p) (plan.distinct (p ++ s ∷ [])))
 
-  own : (i : List Pair) → (filter (is_of i) (labels (recorded table r)) ≡ []) ⊎ ((n : Item) × (same_id n.id i ≡ true) × (filter (is_of i) (labels (recorded table r)) ≡ own_labels n))
+  own : (i : List Pair) → (filter (is_of i) (labels r) ≡ []) ⊎ ((n : Item) × (same_id n.id i ≡ true) × (filter (is_of i) (labels r) ≡ own_labels n))
   own i = ⊎_elim (λ e. inl (same_one i ∙ e)) (λ e. inr (e.0, e.1, same_one i ∙ e.2)) (own_law_below (λ n. Unit {0}) i 0 f (each_from (λ n. Unit {0}) (nodes_below f) (λ j n e. tt)) (plan.distinct i))
 
   ran_only : (i : List Pair) → Only (ran_of i) (is_of i)
@@ -170,16 +170,16 @@ module _ (all : List Placed) (table : List Descriptor) (f : Forest) (workers : �
   register_only : (i : List Pair) → Only (registers i) (is_of i)
   register_only i l h = and_left (is_of i l) (same_kind l.kind Dynamic) h
 
-  pub once : (i : List Pair) → IsOnce (filter (ran_of i) (labels (recorded table r)))
-  once i = subst IsOnce (sym (filter_kept (is_of i) (ran_of i) (ran_only i) (labels (recorded table r)))) (⊎_elim
+  pub once : (i : List Pair) → IsOnce (filter (ran_of i) (labels r))
+  once i = subst IsOnce (sym (filter_kept (is_of i) (ran_of i) (ran_only i) (labels r))) (⊎_elim
       (λ e. subst IsOnce (sym (ap (filter (ran_of i)) e)) tt)
       (λ e. subst IsOnce (sym (ap (filter (ran_of i)) e.2)) (once_own i e.0 e.1))
       (own i))
 
-  pub registered : (i : List Pair) → list_any (registers i) (labels (recorded table r)) ≡ true → precedes (registers i) (ran_of i) (labels (recorded table r)) ≡ true
+  pub registered : (i : List Pair) → list_any (registers i) (labels r) ≡ true → precedes (registers i) (ran_of i) (labels r) ≡ true
   registered i h =
-      let here = sym (any_kept (is_of i) (registers i) (register_only i) (labels (recorded table r))) ∙ h in
-      precedes_kept (is_of i) (registers i) (ran_of i) (register_only i) (ran_only i) (labels (recorded table r)) ∙ ⊎_elim
+      let here = sym (any_kept (is_of i) (registers i) (register_only i) (labels r)) ∙ h in
+      precedes_kept (is_of i) (registers i) (ran_of i) (register_only i) (ran_only i) (labels r) ∙ ⊎_elim
       (λ e. ap (precedes (registers i) (ran_of i)) e)
       (λ e. ap (precedes (registers i) (ran_of i)) e.2 ∙ register_own i e.0 e.1 (sym (ap (list_any (registers i)) e.2) ∙ here))
       (own i)
@@ -193,25 +193,25 @@ module _ (all : List Placed) (table : List Descriptor) (f : Forest) (workers : �
   child_pair : (p : List Pair) (c : List Pair) → Only (is_of c) (λ l. either p c l.id)
   child_pair p c l h = or_right (same_id l.id p) _ h
 
-  first : (p : List Pair) (s : Pair) → p ≢ [] → precedes (starts p) (is_of (p ++ s ∷ [])) (labels (recorded table r)) ≡ true
+  first : (p : List Pair) (s : Pair) → p ≢ [] → precedes (starts p) (is_of (p ++ s ∷ [])) (labels r) ≡ true
   first p s n =
       let c = p ++ s ∷ [] in
-      precedes_kept (λ l. either p c l.id) (starts p) (is_of c) (start_pair p c) (child_pair p c) (labels (recorded table r))
+      precedes_kept (λ l. either p c l.id) (starts p) (is_of c) (start_pair p c) (child_pair p c) (labels r)
       ∙ (ap (precedes (starts p) (is_of c)) (same_pair p s n)
       ∙ (sym (precedes_kept (λ l. either p c l.id) (starts p) (is_of c) (start_pair p c) (child_pair p c) (plan_labels f)) ∙ script_start p s [] 0 f plan.built (λ e. n (sym e))))
 
-  last : (p : List Pair) (s : Pair) → p ≢ [] → is_followed (is_of (p ++ s ∷ [])) (finishes p) (labels (recorded table r)) ≡ true
+  last : (p : List Pair) (s : Pair) → p ≢ [] → is_followed (is_of (p ++ s ∷ [])) (finishes p) (labels r) ≡ true
   last p s n =
       let c = p ++ s ∷ [] in
-      followed_kept (λ l. either p c l.id) (is_of c) (finishes p) (child_pair p c) (finish_pair p c) (labels (recorded table r))
+      followed_kept (λ l. either p c l.id) (is_of c) (finishes p) (child_pair p c) (finish_pair p c) (labels r)
       ∙ (ap (is_followed (is_of c) (finishes p)) (same_pair p s n)
       ∙ (sym (followed_kept (λ l. either p c l.id) (is_of c) (finishes p) (child_pair p c) (finish_pair p c) (plan_labels f)) ∙ script_finish p s [] 0 f plan.built (λ e. n (sym e))))
 
-  pub listener_law : Listens (labels (recorded table r))
+  pub listener_law : Listens (labels r)
   listener_law = record {
     once = once;
     start_first = first;
     finish_last = last;
-    skipped = skipped_from (labels (recorded table r)) once first;
+    skipped = skipped_from (labels r) once first;
     registered_first = registered;
   }

@@ -17,7 +17,8 @@ use Rattle.tk_ids.specs.IdText.{Pair}
 use Rattle.tk_ids.specs.declared.tables.Descriptor.{Descriptor}
 use Rattle.tk_laws.proofs.Keyed.{named}
 use Rattle.tk_laws.proofs.Model.{Forest, Item, Named, Step, count, drawn_ids, first_or_nil, hits, id_told, ids_told, more, part_steps, plain, registered, tells, told, told_after}
-use Rattle.tk_laws.specs.Runs.{Emits, is_dynamic, registrations}
+use Rattle.tk_runs.specs.Run.{Emits}
+use Rattle.tk_queue.specs.Known.{is_dynamic, registrations}
 use Rattle.tk_laws.specs.Scripts.{id_at, is_registration, may, played, said_by, step_event}
 
 pub hits-append : (k b : ℕ) (xs ys : List ℕ) → hits k b (xs ++ ys) ≡ hits k b xs ++ hits k (b + length xs) ys

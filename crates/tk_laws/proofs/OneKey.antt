@@ -3,6 +3,7 @@ use Rattle.std.proofs.Common.{◌≡◌, ◌≢◌, ◌≤◌, ◌<◌, ℕ, zer
 use Rattle.std.specs.List.{list_any}
 use Rattle.std.proofs.lemmas.Bool.{cases_Bool}
 use Rattle.std.proofs.lemmas.List.{length-map}
+use Rattle.tk_columns.specs.Recorded.{Recorded}
 use Rattle.tk_columns.specs.Mixing.{of_worker}
 use Rattle.tk_cutting.specs.Cutting.{script_of}
 use Rattle.tk_cutting.specs.Trees.{forest}
@@ -27,9 +28,9 @@ use Rattle.tk_laws.proofs.Scripts.{own_labels, own_law_below, ran_labels}
 use Rattle.tk_laws.proofs.Through.{get_back, name_table, named_all, names, three, told_drawn, worker_did}
 use Rattle.tk_laws.specs.Labels.{Label, events, label, labels, name, same_id, same_kind}
 use Rattle.tk_events.specs.declared.kinds.Kind.TheVariants.{Dynamic}
-use Rattle.tk_laws.specs.Laws.{recorded}
 use Rattle.tk_laws.specs.Listening.{is_of, registers}
-use Rattle.tk_laws.specs.Runs.{Emits, is_dynamic, registrations}
+use Rattle.tk_runs.specs.Run.{Emits}
+use Rattle.tk_queue.specs.Known.{is_dynamic, registrations}
 use Rattle.tk_laws.specs.Scripts.{IsRunOf, id_at, may, played}
 
 -- ---- what holds of the table's keys and of the keys that were drawn holds of each event's key
@@ -148,7 +149,7 @@ and_left false c h = cc
 
 -- ---- the law
 
-module _ (all : List Placed) (table : List Descriptor) (f : Forest) (workers : ℕ) (r : List Entry) (plan : Models all table f) (run : IsRunOf all table workers r) where
+module _ (all : List Placed) (table : List Descriptor) (f : Forest) (workers : ℕ) (r : Recorded) (plan : Models all table f) (run : IsRunOf all table workers r) where
   -- where a key comes from
   abbrev pub Comes : ℕ → Type 0
   Comes k =
@@ -167,7 +168,7 @@ module _ (all : List Placed) (table : List Descriptor) (f : Forest) (workers : �
       (λ did. keys_emitted all table Comes from_table f plan.scripts (named_all all table f workers r plan run) (v + 1) 0 did.0 (of_worker (v + 1) run.mid) (λ j x s. inr (v, did.0, j, x, did.1, s, refl)) did.2)
       (worker_did all table f workers r plan run v))
 
-  pub all_keys : Each (HasKey all table Comes from_table) (events r)
+  pub all_keys : Each (HasKey all table Comes from_table) (events r.entries)
   all_keys = subst (Each (HasKey all table Comes from_table)) (sym (three all table f workers r plan run))
       (each-append (HasKey all table Comes from_table) (static_events (before_below 0 f)) _ (keys_static all table Comes from_table (before_below 0 f) (static_before_below all table 0 f plan.keyed))
       (each-append (HasKey all table Comes from_table) (events run.mid) _ (mix_each (HasKey all table Comes from_table) run.mid worker_keys)
@@ -176,7 +177,7 @@ module _ (all : List Placed) (table : List Descriptor) (f : Forest) (workers : �
   abbrev IsApart : Item → Type 0
   IsApart n = n.is_static ≡ false → (k : ℕ) → slice_get (ids_of table) k ≡ Some n.id → ⊥
 
-  own : (i : List Pair) → (filter (is_of i) (labels (recorded table r)) ≡ []) ⊎ ((n : Item) × (same_id n.id i ≡ true) × (filter (is_of i) (labels (recorded table r)) ≡ own_labels n) × IsApart n)
+  own : (i : List Pair) → (filter (is_of i) (labels r) ≡ []) ⊎ ((n : Item) × (same_id n.id i ≡ true) × (filter (is_of i) (labels r) ≡ own_labels n) × IsApart n)
   own i = ⊎_elim (λ e. inl (same_one all table f workers r plan run i ∙ e)) (λ e. inr (e.0, e.1, same_one all table f workers r plan run i ∙ e.2, e.3))
       (own_law_below IsApart i 0 f plan.apart (plan.distinct i))
 
@@ -187,8 +188,8 @@ module _ (all : List Placed) (table : List Descriptor) (f : Forest) (workers : �
   at_most true n h = omega (arith, h)
   at_most false n h = h
 
-  counted : (i : List Pair) → count (registers i) (labels (recorded table r)) ≤ 1
-  counted i = subst (λ n. n ≤ 1) (sym (count_kept (registers i) (is_of i) (register_only i) (labels (recorded table r)))) (⊎_elim
+  counted : (i : List Pair) → count (registers i) (labels r) ≤ 1
+  counted i = subst (λ n. n ≤ 1) (sym (count_kept (registers i) (is_of i) (register_only i) (labels r))) (⊎_elim
       (λ e. subst (λ l. count (registers i) l ≤ 1) (sym e) (omega arith))
       (λ e. subst (λ l. count (registers i) l ≤ 1) (sym e.2) (at_most (e.0).is_static _ (count_own i e.0)))
       (own i))
@@ -198,13 +199,13 @@ module _ (all : List Placed) (table : List Descriptor) (f : Forest) (workers : �
   static_none false n f h = absurd (f refl)
 
   -- an id of the table is never registered
-  not_told : (k : ℕ) (i : List Pair) → slice_get (ids_of table) k ≡ Some i → count (registers i) (labels (recorded table r)) ≡ 0
-  not_told k i s = count_kept (registers i) (is_of i) (register_only i) (labels (recorded table r)) ∙ ⊎_elim
+  not_told : (k : ℕ) (i : List Pair) → slice_get (ids_of table) k ≡ Some i → count (registers i) (labels r) ≡ 0
+  not_told k i s = count_kept (registers i) (is_of i) (register_only i) (labels r) ∙ ⊎_elim
       (λ e. ap (count (registers i)) e)
       (λ e. ap (count (registers i)) e.2 ∙ static_none (e.0).is_static _ (λ f. e.3 f k (s ∙ ap Some (sym ((same_decides (e.0).id i).0 e.1)))) (count_own i e.0))
       (own i)
 
-  pub told_some : (i j : ℕ) (us : List ℕ) (x : ℕ) → slice_get run.shared.drawn i ≡ Some us → slice_get (drawn_ids f us) j ≡ Some x → 0 < length (told (65536 * (i + 1) + 0 + j) (events r))
+  pub told_some : (i j : ℕ) (us : List ℕ) (x : ℕ) → slice_get run.shared.drawn i ≡ Some us → slice_get (drawn_ids f us) j ≡ Some x → 0 < length (told (65536 * (i + 1) + 0 + j) (events r.entries))
   told_some i j us x e s = subst (λ l. 0 < length l) (sym (told_drawn all table f workers r plan run i j us x e s)) (omega (arith, length-map (hits (65536 * (i + 1) + 0 + j) (65536 * (i + 1) + 0) (drawn_ids f us)) (id_at all), hits_some _ (65536 * (i + 1) + 0) j (drawn_ids f us) x refl s))
 
   two : (a b n : ℕ) → 0 < a → 0 < b → a + b ≤ n → n ≤ 1 → ⊥
@@ -215,26 +216,26 @@ module _ (all : List Placed) (table : List Descriptor) (f : Forest) (workers : �
 
   static_drawn : (j k : ℕ) → ((x : List Pair) × (slice_get (ids_of table) j ≡ Some x))
       → ((i : ℕ) × (us : List ℕ) × (m : ℕ) × (x : ℕ) × (slice_get run.shared.drawn i ≡ Some us) × (slice_get (drawn_ids f us) m ≡ Some x) × (k ≡ 65536 * (i + 1) + 0 + m))
-      → name (recorded table r) j ≡ name (recorded table r) k → j ≡ k
+      → name r j ≡ name r k → j ≡ k
   static_drawn j k a b e = ⊎_elim (λ y. grind (arith, tests, y)) (λ n.
       let d : j ≢ k = grind (arith, tests, n) in
       let nj = name_table all table f workers r plan run j a.0 a.1 in
-      let l = told_two (name (recorded table r)) j k a.0 nj (sym e ∙ nj) d (events r) in
-      let q = subst (λ i. 0 < length (told i (events r))) (sym b.6) (told_some b.0 b.2 b.1 b.3 b.4 b.5) in
+      let l = told_two (name r) j k a.0 nj (sym e ∙ nj) d (events r.entries) in
+      let q = subst (λ i. 0 < length (told i (events r.entries))) (sym b.6) (told_some b.0 b.2 b.1 b.3 b.4 b.5) in
       absurd (one _ _ _ q l (not_told j a.0 a.1))) (cases_Bool (j == k))
 
-  pub same_key : (j k : ℕ) → Comes j → Comes k → name (recorded table r) j ≡ name (recorded table r) k → j ≡ k
+  pub same_key : (j k : ℕ) → Comes j → Comes k → name r j ≡ name r k → j ≡ k
   same_key j k (inl a) (inl b) e =
       plan.once j k a.0 a.1 (b.1 ∙ ap Some (sym (name_table all table f workers r plan run k b.0 b.1) ∙ (sym e ∙ name_table all table f workers r plan run j a.0 a.1)))
   same_key j k (inl a) (inr b) e = static_drawn j k a b e
   same_key j k (inr a) (inl b) e = sym (static_drawn k j b a (sym e))
   same_key j k (inr a) (inr b) e = ⊎_elim (λ y. grind (arith, tests, y)) (λ n.
       let d : j ≢ k = grind (arith, tests, n) in
-      let x = name (recorded table r) j in
-      let l = told_two (name (recorded table r)) j k x refl (sym e) d (events r) in
-      let p = subst (λ i. 0 < length (told i (events r))) (sym a.6) (told_some a.0 a.2 a.1 a.3 a.4 a.5) in
-      let q = subst (λ i. 0 < length (told i (events r))) (sym b.6) (told_some b.0 b.2 b.1 b.3 b.4 b.5) in
+      let x = name r j in
+      let l = told_two (name r) j k x refl (sym e) d (events r.entries) in
+      let p = subst (λ i. 0 < length (told i (events r.entries))) (sym a.6) (told_some a.0 a.2 a.1 a.3 a.4 a.5) in
+      let q = subst (λ i. 0 < length (told i (events r.entries))) (sym b.6) (told_some b.0 b.2 b.1 b.3 b.4 b.5) in
       absurd (two _ _ _ p q l (counted x))) (cases_Bool (j == k))
 
-  pub one_key : (i k : ℕ) (x y : Event) → slice_get (events r) i ≡ Some x → slice_get (events r) k ≡ Some y → name (recorded table r) x.key ≡ name (recorded table r) y.key → x.key ≡ y.key
-  one_key i k x y a b e = same_key x.key y.key (each_at (HasKey all table Comes from_table) (events r) i x all_keys a) (each_at (HasKey all table Comes from_table) (events r) k y all_keys b) e
+  pub one_key : (i k : ℕ) (x y : Event) → slice_get (events r.entries) i ≡ Some x → slice_get (events r.entries) k ≡ Some y → name r x.key ≡ name r y.key → x.key ≡ y.key
+  one_key i k x y a b e = same_key x.key y.key (each_at (HasKey all table Comes from_table) (events r.entries) i x all_keys a) (each_at (HasKey all table Comes from_table) (events r.entries) k y all_keys b) e

@@ -16,6 +16,7 @@ use Rattle.tk_columns.specs.Statistics.{statistics_of}
 use Rattle.tk_events.specs.declared.kinds.Status.{Status}
 use Rattle.tk_events.specs.Event.{status_code}
 use Rattle.tk_record.specs.Field.{field_text}
+use Rattle.tk_ask.specs.Answers.{statistics_text}
 use Rattle.tk_columns.specs.Entries.{desc_in, status_number}
 use Rattle.tk_columns.specs.Recorded.{Recorded}
 use Rattle.tk_cutting.specs.Cutting.{root_script}
@@ -36,9 +37,8 @@ use Rattle.tk_laws.proofs.Model.{Forest, IsChain, IsChainBelow, Item, Models, Tr
 use Rattle.tk_laws.proofs.Naming.{hits_at, told_played}
 use Rattle.tk_laws.proofs.Through.{chain_law, id_table, name_in, names, none_above}
 use Rattle.tk_laws.specs.Labels.{Label, events, id_in, label, labels, name, same_id}
-use Rattle.tk_laws.specs.Laws.{recorded}
-use Rattle.tk_laws.specs.Reports.{id_lines, id_texts, label_line, report_of_record, statistics_text}
-use Rattle.tk_laws.specs.Runs.{entries_by}
+use Rattle.tk_laws.specs.Reports.{id_lines, id_texts, label_line, report_of_record}
+use Rattle.tk_queue.specs.Known.{entries_by}
 use Rattle.tk_laws.specs.Scripts.{IsRunOf, id_at, played, script_record}
 
 turned : (x y : List ℕ) → bytes_eq x y ≡ bytes_eq y x
@@ -280,9 +280,9 @@ module _ (all : List Placed) (table : List Descriptor) (f : Forest) (plan : Mode
       ∙ labels_played all table names 65536 [] (steps_below 0 f) (named_below all table [] 0 f plan.keyed)
       (λ k x e. id_table table k x _ e) script_name
 
-  pub report_law : (workers : ℕ) (r : List Entry) → IsRunOf all table workers r → report_of_record (recorded table r) ≡ report_of_record (script_record all table)
+  pub report_law : (workers : ℕ) (r : Recorded) → IsRunOf all table workers r → report_of_record r ≡ report_of_record (script_record all table)
   unfolding so
   report_law workers r run =
-      report_same (recorded table r) (script_record all table)
+      report_same r (script_record all table)
       (λ x. chain_law all table f workers r plan run (λ i. bytes_eq (id_text i) x) (chain_one_below (λ i. bytes_eq (id_text i) x) f (written_once id_text one_text (nodes_below f) plan.distinct x))
       ∙ ap (about (λ i. bytes_eq (id_text i) x)) (sym script_labels))

@@ -5,6 +5,7 @@ use Rattle.std.proofs.lemmas.List.{map-append}
 use Rattle.std.proofs.lemmas.List.Elements.{filter-append}
 use Rattle.std.proofs.lemmas.Grind.{flat_map-append}
 use Rattle.std.proofs.lemmas.List.Recursion.{is_count_by, is_sum_by}
+use Rattle.tk_columns.specs.Recorded.{Recorded}
 use Rattle.tk_events.specs.declared.payloads.Payload.TheVariants.{Report}
 use Rattle.tk_columns.specs.Entries.{desc_in, described}
 use Rattle.tk_columns.specs.Mixing.{of_worker}
@@ -27,8 +28,9 @@ use Rattle.tk_laws.proofs.Mixed.{events-append, events_by, mix_one, no_events}
 use Rattle.tk_laws.proofs.Model.{AllNil, AtMostOne, Each, Forest, IsChain, IsChainBelow, IsStatic, Models, Named, Part, Step, Tree, about, after, after_below, before, before_below, count, drawn_ids, first_or_nil, hits, id_told, ids_told, is_open, more, no_trees, opening, part_steps, parts, parts_below, plain, plan_labels, registered, script, shown, static_event, static_events, step_label, steps, steps_of, tells, times, times_in, told, tree, units}
 use Rattle.tk_laws.proofs.Naming.{dynamic_kind, hits_above, hits_at, hits_below, registered_played, registrations_is, told-append, told_emitted}
 use Rattle.tk_laws.specs.Labels.{Label, events, id_in, label, labels, name}
-use Rattle.tk_laws.specs.Laws.{recorded}
-use Rattle.tk_laws.specs.Runs.{Claims, Emits, entries_by, is_dynamic, registrations}
+use Rattle.tk_claim.specs.Claims.{Claims}
+use Rattle.tk_runs.specs.Run.{Emits}
+use Rattle.tk_queue.specs.Known.{entries_by, is_dynamic, registrations}
 use Rattle.tk_laws.specs.Scripts.{IsRunOf, id_at, may, place, played}
 
 -- ---- at most one unit has nodes of a chain
@@ -192,9 +194,9 @@ module _ (all : List Placed) (table : List Descriptor) where
       more
       ∙ sym (map-append step_label (part_steps f u) (flat_map (part_steps f) us))))
 
-module _ (all : List Placed) (table : List Descriptor) (f : Forest) (workers : ℕ) (r : List Entry) (plan : Models all table f) (run : IsRunOf all table workers r) where
+module _ (all : List Placed) (table : List Descriptor) (f : Forest) (workers : ℕ) (r : Recorded) (plan : Models all table f) (run : IsRunOf all table workers r) where
   abbrev pub names : ℕ → List Pair
-  names = name (recorded table r)
+  names = name r
 
   -- what worker i + 1 did
   abbrev pub WorkerDid : ℕ → Type 0
@@ -221,7 +223,7 @@ module _ (all : List Placed) (table : List Descriptor) (f : Forest) (workers : �
   few_ids i us e = few_end _ _ (few_drawn f us (at_most_once _ run.shared.drawn run.shared.claims i us e)) plan.few_dynamic
 
   -- the record's events: before, shared, after
-  pub three : events r ≡ static_events (before_below 0 f) ++ (events run.mid ++ static_events (after_below 0 f))
+  pub three : events r.entries ≡ static_events (before_below 0 f) ++ (events run.mid ++ static_events (after_below 0 f))
   three =
       let b = before_of (forest all) in
       let a = after_of (forest all) in
@@ -229,10 +231,10 @@ module _ (all : List Placed) (table : List Descriptor) (f : Forest) (workers : �
       ∙ ap₂ (λ x y. x ++ y) (events_by 0 b ∙ plan.before) (events-append run.mid _ ∙ ap (λ l. events run.mid ++ l) (events_by 0 a ∙ plan.after)))
 
   pub name_table : (k : ℕ) (x : List Pair) → slice_get (ids_of table) k ≡ Some x → names k ≡ x
-  name_table k x e = id_table table k x _ e
+  name_table k x e = ap (λ t. id_in (option_or (slice_get t k) (desc_in r.entries k))) run.over ∙ id_table table k x _ e
 
-  pub name_above : (k : ℕ) → length table ≤ k → names k ≡ first_or_nil (told k (events r))
-  name_above k l = ap (λ o. id_in (option_or o (desc_in r k))) (none_above table k l) ∙ name_in k r
+  pub name_above : (k : ℕ) → length table ≤ k → names k ≡ first_or_nil (told k (events r.entries))
+  name_above k l = ap (λ t. id_in (option_or (slice_get t k) (desc_in r.entries k))) run.over ∙ (ap (λ o. id_in (option_or o (desc_in r.entries k))) (none_above table k l) ∙ name_in k r.entries)
 
   pub told_by : (v k : ℕ) (us : List ℕ) → Emits (may all table) (v + 1) 0 us (of_worker (v + 1) run.mid)
       → told k (of_worker (v + 1) run.mid) ≡ map (id_at all) (hits k (65536 * (v + 1) + 0) (drawn_ids f us))
@@ -253,11 +255,11 @@ module _ (all : List Placed) (table : List Descriptor) (f : Forest) (workers : �
       (worker_did v)
 
   pub told_drawn : (i j : ℕ) (us : List ℕ) (x : ℕ) → slice_get run.shared.drawn i ≡ Some us → slice_get (drawn_ids f us) j ≡ Some x
-      → told (65536 * (i + 1) + 0 + j) (events r) ≡ map (id_at all) (hits (65536 * (i + 1) + 0 + j) (65536 * (i + 1) + 0) (drawn_ids f us))
+      → told (65536 * (i + 1) + 0 + j) (events r.entries) ≡ map (id_at all) (hits (65536 * (i + 1) + 0 + j) (65536 * (i + 1) + 0) (drawn_ids f us))
   told_drawn i j us x e s =
       let key = 65536 * (i + 1) + 0 + j in
       let other = told_other i j us x e s in
-      let whole : told key (events r) ≡ told key (of_worker (i + 1) run.mid)
+      let whole : told key (events r.entries) ≡ told key (of_worker (i + 1) run.mid)
       = ap (told key) three ∙ (told-append key (static_events (before_below 0 f)) _ ∙ (ap₂ (λ a b. a ++ b) (told_static all table key (before_below 0 f) (static_before_below all table 0 f plan.keyed))
       (told-append key (events run.mid) (static_events (after_below 0 f)) ∙ (ap₂ (λ a b. a ++ b) (mix_one (tells key) (i + 1) run.mid other) (told_static all table key (after_below 0 f) (static_after_below all table 0 f plan.keyed)) ∙ append-nil _)))) in
       let own : told key (of_worker (i + 1) run.mid) ≡ map (id_at all) (hits key (65536 * (i + 1) + 0) (drawn_ids f us)) = ⊎_elim
@@ -342,9 +344,9 @@ module _ (all : List Placed) (table : List Descriptor) (f : Forest) (workers : �
         (some_below (units f) lone_unit.place)
 
     -- what a run says of a chain is what the plan's script says of it
-    pub chain_law : about q (labels (recorded table r)) ≡ about q (plan_labels f)
+    pub chain_law : about q (labels r) ≡ about q (plan_labels f)
     chain_law =
-        about_events (events r) ∙ (ap (flat_map tells_about) three ∙ (flat_map-append tells_about (static_events (before_below 0 f)) _ ∙ (ap₂ (λ a b. a ++ b)
+        about_events (events r.entries) ∙ (ap (flat_map tells_about) three ∙ (flat_map-append tells_about (static_events (before_below 0 f)) _ ∙ (ap₂ (λ a b. a ++ b)
         (sym (about_events (static_events (before_below 0 f))) ∙ ap (about q) (labels_static all table names (before_below 0 f) (static_before_below all table 0 f plan.keyed) name_table))
         (flat_map-append tells_about (events run.mid) (static_events (after_below 0 f)) ∙ ap₂ (λ a b. a ++ b)
         (shared_gives ∙ (copied ∙ sym units_give))

@@ -1,7 +1,6 @@
 -- What holds of each run of a plan.
 use Rattle.std.specs.Prelude.{◌≡◌, ℕ, List, Some, slice_get, length}
 use Rattle.tk_ids.specs.declared.tables.Descriptor.{Descriptor}
-use Rattle.tk_events.specs.declared.events.Entry.{Entry}
 use Rattle.tk_columns.specs.Recorded.{Recorded}
 use Rattle.tk_cutting.specs.declared.nodes.Placed.{Placed}
 use Rattle.tk_cutting.specs.declared.steps.Step.{Step}
@@ -14,22 +13,19 @@ use Rattle.tk_laws.specs.Scripts.{IsRunOf}
 use Rattle.tk_laws.specs.Reports.{report_of_record, report_of_plan}
 use Rattle.tk_laws.specs.Listening.{Listens, ListensByKey}
 
-abbrev pub recorded : List Descriptor → List Entry → Recorded
-recorded table entries = record { table = table; entries = entries }
-
 -- a step's stamp is its position in the root's script
 abbrev pub StampsArePositions : Type 0
 StampsArePositions = (root : Forest) (i : ℕ) (s : Step) → slice_get (root_script root) i ≡ Some s → s.stamp ≡ i
 
 -- the record of a run has the plan's report, for any number of workers
 abbrev pub OneReport : Type 0
-OneReport = (nodes : List Placed) (table : List Descriptor) (workers : ℕ) (entries : List Entry) → IsPlanned nodes table → IsNumbered nodes
-    → IsRunOf nodes table workers entries → report_of_record (recorded table entries) ≡ report_of_plan nodes table
+OneReport = (nodes : List Placed) (table : List Descriptor) (workers : ℕ) (r : Recorded) → IsPlanned nodes table → IsNumbered nodes
+    → IsRunOf nodes table workers r → report_of_record r ≡ report_of_plan nodes table
 
 abbrev pub Listener : Type 0
-Listener = (nodes : List Placed) (table : List Descriptor) (workers : ℕ) (entries : List Entry) → IsPlanned nodes table → IsNumbered nodes
-    → IsRunOf nodes table workers entries → Listens (labels (recorded table entries))
+Listener = (nodes : List Placed) (table : List Descriptor) (workers : ℕ) (r : Recorded) → IsPlanned nodes table → IsNumbered nodes
+    → IsRunOf nodes table workers r → Listens (labels r)
 
 abbrev pub ListenerByKey : Type 0
-ListenerByKey = (nodes : List Placed) (table : List Descriptor) (workers : ℕ) (entries : List Entry) → IsPlanned nodes table → IsNumbered nodes
-    → IsRunOf nodes table workers entries → ListensByKey (length table) (name (recorded table entries)) (events entries)
+ListenerByKey = (nodes : List Placed) (table : List Descriptor) (workers : ℕ) (r : Recorded) → IsPlanned nodes table → IsNumbered nodes
+    → IsRunOf nodes table workers r → ListensByKey (length table) (name r) (events r.entries)

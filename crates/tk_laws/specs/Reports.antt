@@ -1,30 +1,20 @@
 -- Report texts.
 use Rattle.std.specs.Prelude.{ℕ, List, [], ◌∷◌, ◌++◌, map, filter, bytes_eq}
 use Rattle.std.specs.List.{flat_map}
-use Rattle.std.specs.Fmt.{decimal}
 use Rattle.std.specs.Ordering.{nat_cmp}
 use Rattle.std.specs.Cmp.Lexicographic.{slice_cmp}
 use Rattle.std.specs.FinSet.{from_list, items}
 use Rattle.tk_ids.specs.IdText.{id_text}
 use Rattle.tk_ids.specs.declared.tables.Descriptor.{Descriptor}
-use Rattle.tk_columns.specs.declared.selections.Selection.{Selection}
 use Rattle.tk_columns.specs.declared.tallies.Statistics.{Statistics}
 use Rattle.tk_columns.specs.Recorded.{Recorded}
-use Rattle.tk_columns.specs.Selections.{selection_name}
-use Rattle.tk_columns.specs.Statistics.{statistics_of, statistic_rows}
+use Rattle.tk_columns.specs.Statistics.{statistics_of}
 use Rattle.tk_record.specs.Field.{field_text}
 use Rattle.tk_record.specs.Spelling.{tail, joined}
 use Rattle.tk_cutting.specs.declared.nodes.Placed.{Placed}
+use Rattle.tk_ask.specs.Answers.{statistics_text}
 use Rattle.tk_laws.specs.Labels.{Label, labels}
 use Rattle.tk_laws.specs.Scripts.{script_record}
-
--- a name and a number
-abbrev pub row_line : Selection × ℕ → List ℕ
-row_line row = selection_name row.0 ++ 32 ∷ decimal row.1 ++ 10 ∷ []
-
--- a line for each statistic, in their order
-abbrev pub statistics_text : Statistics → List ℕ
-statistics_text s = flat_map row_line (statistic_rows s)
 
 -- the texts of the ids that have an event, in the order of their bytes, each once
 abbrev pub id_texts : List Label → List (List ℕ)

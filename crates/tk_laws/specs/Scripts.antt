@@ -5,7 +5,6 @@ use Rattle.tk_ids.specs.declared.tables.Descriptor.{Descriptor}
 use Rattle.tk_events.specs.declared.payloads.Payload.{Payload}
 use Rattle.tk_events.specs.declared.payloads.Payload.TheVariants.{Nothing, Described}
 use Rattle.tk_events.specs.declared.events.Event.{Event}
-use Rattle.tk_events.specs.declared.events.Entry.{Entry}
 use Rattle.tk_events.specs.Registration.{registered_key}
 use Rattle.tk_columns.specs.Recorded.{Recorded}
 use Rattle.tk_cutting.specs.declared.nodes.Node.{Node}
@@ -19,7 +18,8 @@ use Rattle.tk_cutting.specs.Numbers.{in_order}
 use Rattle.tk_cutting.specs.Ids.{ids_below, descriptor}
 use Rattle.tk_cutting.specs.Events.{event}
 use Rattle.tk_cutting.specs.Told.{kind_of, payload_of}
-use Rattle.tk_laws.specs.Runs.{entries_by, IsRun}
+use Rattle.tk_queue.specs.Known.{entries_by}
+use Rattle.tk_runs.specs.Run.{IsRun}
 
 abbrev pub is_registration : Act → Bool
 is_registration (Register parent) = true
@@ -76,10 +76,10 @@ played nodes statics base known (s ∷ ss) = step_event nodes statics base known
 abbrev pub may : List Placed → List Descriptor → ℕ → ℕ → ℕ → List Event → Type 0
 may nodes table u w k l = l ≡ played nodes (length table) (registered_key w k) [] (script_of (forest nodes) u)
 
--- a record's entries that some workers may leave who run the plan's units
-abbrev pub IsRunOf : List Placed → List Descriptor → ℕ → List Entry → Type 0
-IsRunOf nodes table workers entries =
-    IsRun (may nodes table) (before_of (forest nodes)) (after_of (forest nodes)) (length (units_of (forest nodes))) workers entries
+-- a record that some workers may leave who run the plan's units
+abbrev pub IsRunOf : List Placed → List Descriptor → ℕ → Recorded → Type 0
+IsRunOf nodes table workers r =
+    IsRun (may nodes table) table (before_of (forest nodes)) (after_of (forest nodes)) (length (units_of (forest nodes))) workers r
 
 -- the record of the root's script, as one worker would play it
 abbrev pub script_record : List Placed → List Descriptor → Recorded

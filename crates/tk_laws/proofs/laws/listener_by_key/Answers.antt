@@ -3,4 +3,4 @@ use Rattle.tk_laws.proofs.Grounds.{models, trees_of}
 use Rattle.tk_laws.proofs.laws.listener_by_key.Goals as goal
 
 pub returns : goal.returns
-returns c = λ nodes table workers entries planned numbers run. by_key nodes table (trees_of nodes) workers entries (models nodes table planned numbers) run
+returns c = λ nodes table workers r planned numbers run. by_key nodes table (trees_of nodes) workers r (models nodes table planned numbers) run
