@@ -9,6 +9,7 @@ pub mod Keyed
 pub mod Through
 pub mod Bridge
 pub mod Grounds
+pub mod Ordered
 pub mod SameReports
 pub mod Orders
 pub mod Scripts
@@ -16,3 +17,4 @@ pub mod Hearing
 pub mod OneKey
 pub mod ByKey
 pub mod Stamps
+pub mod Samples

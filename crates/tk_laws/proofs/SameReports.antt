@@ -6,9 +6,10 @@ use Rattle.std.proofs.lemmas.List.Elements.{filter-append}
 use Rattle.std.proofs.lemmas.List.Recursion.{is_count_by}
 use Rattle.std.proofs.lemmas.Map.Text.{is_eq-slice_cmp}
 use Rattle.std.specs.Ordering.{eq_by_cmp}
-use Rattle.std.specs.List.{list_any}
-use Rattle.std.specs.Cmp.Lexicographic.{slice_cmp, bytes_decides, nat_list_cmp_total}
-use Rattle.std.specs.FinSet.{from_list, items, same_set, contains-from_list, nat_cmp-IsAntisymmetric, slice_cmp-IsAntisymmetric}
+use Rattle.std.specs.List.{list_any, fold}
+use Rattle.std.specs.Cmp.Lexicographic.{slice_cmp, bytes_decides}
+use Rattle.std.specs.BTreeSet.{insert_key}
+use Rattle.tk_laws.proofs.Ordered.{same_texts}
 use Rattle.tk_events.specs.declared.kinds.Kind.TheVariants as kind
 use Rattle.tk_events.specs.declared.kinds.Status.TheVariants as status
 use Rattle.tk_columns.specs.declared.tallies.Statistics.{Statistics}
@@ -139,10 +140,8 @@ module _ (text : List Pair → List ℕ) where
       ap₂ (λ b c. b || c) e h ∙ (elim (bytes_eq (text l.id) x) as (λ b. (b || not_nil (so x ls)) ≡ not_nil (if b then l ∷ so x ls else so x ls)) [ true ↦ refl | false ↦ refl ])
 
   pub texts_same : (a b : List Label) → Same a b
-      → items (from_list {R = slice_cmp nat_cmp} (map (λ l. text l.id) a)) ≡ items (from_list {R = slice_cmp nat_cmp} (map (λ l. text l.id) b))
-  texts_same a b same = ap items (same_set nat_list_cmp_total (slice_cmp-IsAntisymmetric nat_cmp-IsAntisymmetric)
-      (from_list (map (λ l. text l.id) a)) (from_list (map (λ l. text l.id) b))
-      (λ q. contains-from_list nat_list_cmp_total (map (λ l. text l.id) a) q ∙ (any_of q a ∙ (ap not_nil (same q) ∙ sym (contains-from_list nat_list_cmp_total (map (λ l. text l.id) b) q ∙ any_of q b)))))
+      → fold (λ texts l. insert_key (slice_cmp nat_cmp) texts (text l.id)) [] a ≡ fold (λ texts l. insert_key (slice_cmp nat_cmp) texts (text l.id)) [] b
+  texts_same a b same = same_texts (λ (l : Label). text l.id) a b (λ q. any_of q a ∙ (ap not_nil (same q) ∙ sym (any_of q b)))
 
 -- ---- counts
 

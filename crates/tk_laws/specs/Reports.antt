@@ -1,9 +1,9 @@
 -- Report texts.
-use Rattle.std.specs.Prelude.{ℕ, List, [], ◌∷◌, ◌++◌, map, filter, bytes_eq}
-use Rattle.std.specs.List.{flat_map}
+use Rattle.std.specs.Prelude.{ℕ, List, [], ◌∷◌, ◌++◌, filter, bytes_eq}
+use Rattle.std.specs.List.{flat_map, fold}
 use Rattle.std.specs.Ordering.{nat_cmp}
 use Rattle.std.specs.Cmp.Lexicographic.{slice_cmp}
-use Rattle.std.specs.FinSet.{from_list, items}
+use Rattle.std.specs.BTreeSet.{insert_key}
 use Rattle.tk_ids.specs.IdText.{id_text}
 use Rattle.tk_ids.specs.declared.tables.Descriptor.{Descriptor}
 use Rattle.tk_columns.specs.declared.tallies.Statistics.{Statistics}
@@ -16,9 +16,9 @@ use Rattle.tk_ask.specs.Answers.{statistics_text}
 use Rattle.tk_laws.specs.Labels.{Label, labels}
 use Rattle.tk_laws.specs.Scripts.{script_record}
 
--- the texts of the ids that have an event, in the order of their bytes, each once
+-- the texts of the ids that have an event, each put in its place in the order of bytes unless it is there
 abbrev pub id_texts : List Label → List (List ℕ)
-id_texts ls = items (from_list {R = slice_cmp nat_cmp} (map (λ l. id_text l.id) ls))
+id_texts ls = fold (λ texts l. insert_key (slice_cmp nat_cmp) texts (id_text l.id)) [] ls
 
 -- the labels of the id that is written so
 abbrev pub written_so : List ℕ → List Label → List Label
