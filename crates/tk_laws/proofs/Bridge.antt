@@ -1,5 +1,5 @@
 -- A plan is a tree of nodes with their ids: what it does, and how it is cut.
-use Rattle.std.proofs.Common.{◌≡◌, ◌≤◌, ◌<◌, ℕ, zero, suc, ◌+◌, ◌⊎◌, Bool, true, false, not, cond, ◌&&◌, List, [], ◌∷◌, ◌++◌, map, length, flat_map, Option, Some, None, is_some, slice_get, refl, sym, ap, ap₂, ◌∙◌, subst, arith, tests, append_assoc, append-nil, length-append, if◌then◌else◌, inl, inr, ⊎_elim}
+use Rattle.std.proofs.Common.{◌≡◌, ℕ, suc, ◌+◌, Bool, true, false, not, cond, ◌&&◌, List, [], ◌∷◌, ◌++◌, map, length, flat_map, Option, Some, None, is_some, refl, sym, ap, ap₂, ◌∙◌, subst, arith, append_assoc, append-nil, if◌then◌else◌, ⊎_elim}
 use Rattle.std.proofs.lemmas.Bool.{cases_Bool}
 use Rattle.std.proofs.lemmas.List.{map-append, length-map}
 use Rattle.tk_cutting.specs.Trees as plan
@@ -12,7 +12,7 @@ use Rattle.tk_cutting.proofs.Retelling.{tells_steps}
 use Rattle.tk_cutting.specs.declared.nodes.Node.{Node}
 use Rattle.tk_cutting.specs.declared.steps.Act.TheVariants.{Finish, Register, Report, Skip, Start}
 use Rattle.tk_ids.specs.IdText.{Pair}
-use Rattle.tk_laws.proofs.Model.{Forest, Item, Part, Step, Tree, after, after_below, before, before_below, finish, is_open, more, no_trees, opening, parts, parts_below, performed, plain, reports, script, static_event, static_events, step, steps, steps_below, told, tree, units}
+use Rattle.tk_laws.proofs.Model.{Forest, Item, Part, Step, Tree, after, after_below, before, before_below, finish, is_open, more, no_trees, opening, parts, parts_below, performed, plain, reports, script, static_event, static_events, step, steps, steps_below, tree}
 
 abbrev mutual
   pub modelled : Bool → ℕ → List Pair → plan.Tree → Tree

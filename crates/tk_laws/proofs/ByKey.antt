@@ -1,11 +1,10 @@
 -- What a listener may rely on, for each key.
-use Rattle.std.proofs.Common.{◌≡◌, ◌≢◌, ◌≤◌, ◌<◌, ℕ, zero, suc, ◌⊎◌, Bool, true, false, not, cond, ◌&&◌, ◌||◌, List, [], ◌∷◌, ◌++◌, map, filter, length, Some, slice_get, refl, sym, ap, ap₂, ◌∙◌, arith, tests, subst, if◌then◌else◌, inl, inr, ⊎_elim, ◌==◌}
+use Rattle.std.proofs.Common.{◌≡◌, ◌≢◌, ◌≤◌, ◌<◌, ℕ, suc, ◌⊎◌, Bool, true, false, not, cond, ◌&&◌, ◌||◌, List, [], ◌∷◌, ◌++◌, map, filter, length, Some, slice_get, refl, sym, ap, ap₂, ◌∙◌, arith, tests, subst, if◌then◌else◌, inl, inr, ⊎_elim, ◌==◌}
 use Rattle.std.specs.List.{list_any}
 use Rattle.std.proofs.lemmas.Bool.{cases_Bool}
 use Rattle.std.proofs.lemmas.List.{length-map}
 use Rattle.tk_columns.specs.Recorded.{Recorded}
 use Rattle.tk_cutting.specs.declared.nodes.Placed.{Placed}
-use Rattle.tk_events.specs.declared.events.Entry.{Entry}
 use Rattle.tk_events.specs.declared.events.Event.{Event}
 use Rattle.tk_events.specs.declared.kinds.Kind.TheVariants.{Dynamic}
 use Rattle.tk_ids.specs.IdText.{Pair}
@@ -17,11 +16,11 @@ use Rattle.tk_laws.proofs.Lists.{each_at}
 use Rattle.tk_laws.proofs.Model.{Each, Forest, Models, id_told, told}
 use Rattle.tk_laws.proofs.OneKey.{Comes, HasKey, all_keys, from_table, same_key, told_some}
 use Rattle.tk_laws.proofs.Orders.{precedes_none}
-use Rattle.tk_laws.proofs.Through.{below_length, names}
+use Rattle.tk_laws.proofs.Through.{below_length}
 use Rattle.tk_laws.specs.Labels.{Label, events, label, name, same_id, same_kind}
 use Rattle.tk_laws.specs.Listening.{IsOnce, ListensByKey, is_ran, precedes, registers}
 use Rattle.tk_queue.specs.Known.{is_dynamic}
-use Rattle.tk_laws.specs.Scripts.{IsRunOf, place}
+use Rattle.tk_laws.specs.Scripts.{IsRunOf}
 
 filter_each : (p q : Event → Bool) (es : List Event) → Each (λ e. p e ≡ q e) es → filter p es ≡ filter q es
 filter_each p q [] h = refl

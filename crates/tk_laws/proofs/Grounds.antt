@@ -1,19 +1,16 @@
 -- What every plan is makes it a tree of nodes whose numbers, keys and ids agree.
-use Rattle.std.proofs.Common.{◌≡◌, ◌≢◌, ◌≤◌, ◌<◌, ℕ, zero, suc, ◌+◌, ◌⊎◌, Bool, true, false, cond, ◌==◌, nat_lt, List, [], ◌∷◌, ◌++◌, map, length, Option, Some, None, slice_get, slice_index_or, All, refl, sym, ap, ap₂, ◌∙◌, subst, arith, tests, length-append, if◌then◌else◌, inl, inr, ⊎_elim}
+use Rattle.std.proofs.Common.{◌≡◌, ◌≤◌, ◌<◌, ℕ, zero, suc, ◌+◌, ◌⊎◌, Bool, true, false, cond, ◌==◌, nat_lt, List, [], ◌∷◌, ◌++◌, map, length, Some, slice_get, All, refl, sym, ap, ap₂, ◌∙◌, subst, arith, tests, if◌then◌else◌, inl, inr, ⊎_elim}
 use Rattle.std.proofs.lemmas.Bool.{cases_Bool}
 use Rattle.std.proofs.lemmas.List.{map-append, length-map}
 use Rattle.tk_cutting.specs.Trees as plan
-use Rattle.tk_cutting.specs.Script as done
 use Rattle.tk_cutting.specs.Cutting as cut
 use Rattle.tk_cutting.specs.Ids as ids
-use Rattle.tk_cutting.specs.Laws as law
 use Rattle.tk_cutting.specs.Numbers.{numbered_from, with_number}
 use Rattle.tk_cutting.specs.Ids.{AreDistinct}
 use Rattle.tk_cutting.proofs.Founding.{rooted_static}
 use Rattle.tk_cutting.proofs.Ordering.{all_numbered}
 use Rattle.tk_cutting.proofs.Describing.{statics_length}
 use Rattle.tk_cutting.proofs.Keying.{keyed}
-use Rattle.tk_columns.specs.Entries.{described}
 use Rattle.tk_cutting.specs.Ids.{descriptor, ids_below}
 use Rattle.tk_cutting.specs.Numbers.{IsNumbered, in_order, of_kind}
 use Rattle.tk_cutting.specs.Planned.{IsPlanned}
@@ -24,10 +21,9 @@ use Rattle.tk_ids.specs.IdText.{Pair}
 use Rattle.tk_ids.specs.Table.{ids_of}
 use Rattle.tk_ids.specs.declared.tables.Descriptor.{Descriptor}
 use Rattle.tk_laws.proofs.Bridge.{cuts_below, modelled, modelled_below, plain_below, run_of, run_piece}
-use Rattle.tk_laws.proofs.Hearing.{once}
 use Rattle.tk_laws.proofs.Ids.{same_decides}
 use Rattle.tk_laws.proofs.Lists.{at, each_from}
-use Rattle.tk_laws.proofs.Model.{AreBuilt, Forest, IsBuilt, IsKeyed, Item, Models, Part, Tree, after, before, count, more, no_trees, nodes, nodes_below, plain, script, steps_of, tree, units}
+use Rattle.tk_laws.proofs.Model.{AreBuilt, Forest, IsBuilt, IsKeyed, Item, Models, Part, count, nodes, nodes_below, plain, steps_of, units}
 use Rattle.tk_laws.specs.Labels.{same_id}
 use Rattle.tk_laws.specs.Scripts.{id_at, id_of}
 

@@ -1,5 +1,5 @@
 -- Each node that a script names has a key there.
-use Rattle.std.proofs.Common.{◌≡◌, ℕ, zero, suc, ◌+◌, Bool, true, false, List, [], ◌∷◌, ◌++◌, map, length, Option, Some, None, slice_get, refl, sym, ap, ap₂, ◌∙◌, subst, append_assoc, append-nil, if◌then◌else◌, inl, inr, ⊎_elim, arith, tests, ◌==◌, nat_lt}
+use Rattle.std.proofs.Common.{◌≡◌, ℕ, zero, suc, ◌+◌, true, false, List, [], ◌∷◌, ◌++◌, map, length, Option, Some, None, slice_get, refl, sym, ap, ap₂, ◌∙◌, subst, append_assoc, append-nil, if◌then◌else◌, inl, inr, ⊎_elim, arith, tests, ◌==◌}
 use Rattle.std.proofs.lemmas.Bool.{cases_Bool}
 use Rattle.tk_cutting.specs.Numbers.{in_order}
 use Rattle.tk_cutting.specs.Told.{kind_of, payload_of}
@@ -31,14 +31,14 @@ place_more x (y ∷ ys) rest h =
     elim (y == x) as (λ b. slice_get (y ∷ ys) (if b then 0 else suc (place x ys)) ≡ Some x → slice_get (y ∷ (ys ++ rest)) (if b then 0 else suc (place x (ys ++ rest))) ≡ Some x)
     [ true ↦ (λ e. e) | false ↦ (λ e. more e) ] h
 
-place_last : (x : ℕ) (ids : List ℕ) → slice_get (ids ++ x ∷ []) (place x (ids ++ x ∷ [])) ≡ Some x
+pub place_last : (x : ℕ) (ids : List ℕ) → slice_get (ids ++ x ∷ []) (place x (ids ++ x ∷ [])) ≡ Some x
 place_last x [] = let same : (x == x) ≡ true = grind (arith, tests) in rw same refl
 place_last x (y ∷ ys) = ⊎_elim
     (λ e. let same : y ≡ x = grind (arith, tests, e) in rw e (ap Some same))
     (λ e. rw e (place_last x ys))
     (cases_Bool (y == x))
 
-knows_more : (ids rest : List ℕ) (n : Item) → Knows ids n → Knows (ids ++ rest) n
+pub knows_more : (ids rest : List ℕ) (n : Item) → Knows ids n → Knows (ids ++ rest) n
 knows_more ids rest n (inl h) = inl h
 knows_more ids rest n (inr h) = inr (h.0, place_more n.number ids rest h.1)
 
@@ -47,14 +47,16 @@ module _ (all : List Placed) (table : List Descriptor) where
   named-append ids [] ys h g = subst (λ i. Named all table i ys) (append-nil ids) g
   named-append ids (s ∷ ss) ys h g = (
     h.0,
-    (h.1.0,
-    elim (is_registration s.act) as (λ d.
-        Named all table (if d then ids ++ s.node.number ∷ [] else ids) ss
-        → Named all table (ids ++ ((if d then s.node.number ∷ [] else []) ++ ids_told ss)) ys
-        → Named all table (if d then ids ++ s.node.number ∷ [] else ids) (ss ++ ys)) [
-          | true ↦ (λ a b. named-append (ids ++ s.node.number ∷ []) ss ys a (subst (λ i. Named all table i ys) (sym (append_assoc ids (s.node.number ∷ []) (ids_told ss))) b))
-          | false ↦ (λ a b. named-append ids ss ys a b)
-        ] h.1.1 g),
+    (
+      h.1.0,
+      elim (is_registration s.act) as (λ d.
+          Named all table (if d then ids ++ s.node.number ∷ [] else ids) ss
+          → Named all table (ids ++ ((if d then s.node.number ∷ [] else []) ++ ids_told ss)) ys
+          → Named all table (if d then ids ++ s.node.number ∷ [] else ids) (ss ++ ys)) [
+            | true ↦ (λ a b. named-append (ids ++ s.node.number ∷ []) ss ys a (subst (λ i. Named all table i ys) (sym (append_assoc ids (s.node.number ∷ []) (ids_told ss))) b))
+            | false ↦ (λ a b. named-append ids ss ys a b)
+          ] h.1.1 g,
+    ),
   )
 
   named_reports : (ids : List ℕ) (p : ℕ) (n : Item) (i : ℕ) (es : List (List (List ℕ × List ℕ))) → IsKeyed all table n → Knows ids n → Named all table ids (reports p n i es)
@@ -175,15 +177,13 @@ module _ (all : List Placed) (table : List Descriptor) where
       (λ e.
       let later : (j : ℕ) (x : ℕ) → slice_get ((ids ++ s.node.number ∷ []) ++ ids_told ss) j ≡ Some x → P (base + j) (id_at all x)
       = λ j x g. by_run j x (ap (λ d. slice_get (ids ++ ((if d then s.node.number ∷ [] else []) ++ ids_told ss)) j) e ∙ (ap (λ l. slice_get l j) (sym (append_assoc ids (s.node.number ∷ []) (ids_told ss))) ∙ g)) in
-      let own : P (base + length ids) s.node.id = subst (P (base + length ids)) h.0.id (later (length ids) s.node.number (get_between ids s.node.number (ids_told ss))) in
-      (
+      let own : P (base + length ids) s.node.id = subst (P (base + length ids)) h.0.id (later (length ids) s.node.number (get_between ids s.node.number (ids_told ss))) in (
         subst (λ d. P (if d then base + length ids else key_of (length table) base ids s.node.number) s.node.id) (sym e) own,
         λ j x g. later j x (ap (λ d. slice_get ((if d then ids ++ s.node.number ∷ [] else ids) ++ ids_told ss) j) (sym e) ∙ g),
       ))
       (λ e.
       let later : (j : ℕ) (x : ℕ) → slice_get (ids ++ ids_told ss) j ≡ Some x → P (base + j) (id_at all x)
-      = λ j x g. by_run j x (ap (λ d. slice_get (ids ++ ((if d then s.node.number ∷ [] else []) ++ ids_told ss)) j) e ∙ g) in
-      (
+      = λ j x g. by_run j x (ap (λ d. slice_get (ids ++ ((if d then s.node.number ∷ [] else []) ++ ids_told ss)) j) e ∙ g) in (
         subst (λ d. P (if d then base + length ids else key_of (length table) base ids s.node.number) s.node.id) (sym e) (key_known P base ids (ids_told ss) s.node h.0 (h.1.0 e) by_table later),
         λ j x g. later j x (ap (λ d. slice_get ((if d then ids ++ s.node.number ∷ [] else ids) ++ ids_told ss) j) (sym e) ∙ g),
       ))

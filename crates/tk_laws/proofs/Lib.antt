@@ -18,3 +18,5 @@ pub mod OneKey
 pub mod ByKey
 pub mod Stamps
 pub mod Samples
+pub mod Playing
+pub mod Running

@@ -1,7 +1,7 @@
 -- Lists of lists of which all but one are empty.
 use Rattle.std.proofs.Common.{◌≡◌, ◌≢◌, ◌≤◌, ◌<◌, ℕ, zero, suc, ◌+◌, ◌⊎◌, List, [], ◌∷◌, ◌++◌, flat_map, Option, Some, None, slice_get, refl, sym, ap, ap₂, ◌∙◌, arith, append-nil, inl, inr, ⊎_elim, ◌==◌, tests, subst}
 use Rattle.std.proofs.lemmas.Bool.{cases_Bool}
-use Rattle.tk_laws.proofs.Model.{AllNil, AtMostOne, Each, more, times, times_in}
+use Rattle.tk_laws.proofs.Model.{AllNil, AtMostOne, Each, times, times_in}
 
 pub left_nil : {A : Type 0} (xs ys : List A) → xs ++ ys ≡ [] → xs ≡ []
 left_nil [] ys e = refl

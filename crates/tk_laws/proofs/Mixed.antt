@@ -1,15 +1,13 @@
 -- Interleavings.
-use Rattle.std.proofs.Common.{◌≡◌, ◌≢◌, ◌<◌, ℕ, zero, suc, ◌+◌, ◌⊎◌, Bool, true, false, cond, List, [], ◌∷◌, ◌++◌, flat_map, map, filter, length, All, refl, sym, ap, ◌∙◌, arith, tests, if◌then◌else◌, ⊎_elim, ◌==◌}
+use Rattle.std.proofs.Common.{◌≡◌, ◌≢◌, ◌<◌, ℕ, suc, ◌⊎◌, Bool, true, false, cond, List, [], ◌∷◌, ◌++◌, flat_map, filter, All, refl, sym, ap, ◌∙◌, arith, tests, ⊎_elim, ◌==◌}
 use Rattle.std.proofs.lemmas.Bool.{cases_Bool}
 use Rattle.std.proofs.lemmas.List.{map-append}
 use Rattle.tk_columns.specs.Mixing.{IsWorkerOf, of_worker}
 use Rattle.tk_events.specs.declared.events.Entry.{Entry}
 use Rattle.tk_events.specs.declared.events.Event.{Event}
 use Rattle.tk_laws.proofs.Lists.{left_nil, right_nil}
-use Rattle.tk_laws.proofs.Model.{more}
 use Rattle.tk_laws.specs.Labels.{events}
 use Rattle.tk_queue.specs.Known.{entries_by}
-
 
 nil_of_cond : {B : Type 0} (b : Bool) (f : Event → List B) (x : Entry) (xs : List Entry) → flat_map f (events (cond b (x ∷ xs) xs)) ≡ [] → flat_map f (events xs) ≡ []
 nil_of_cond true f x xs h = right_nil (f x.event) _ h

@@ -1,5 +1,5 @@
 -- Plans as trees of nodes with their ids, and what is said of them.
-use Rattle.std.proofs.Common.{◌≡◌, ◌≤◌, ℕ, suc, ◌+◌, ◌*◌, ◌⊎◌, List, [], ◌∷◌, ◌++◌, length, Bool, true, false, not, ◌&&◌, ◌==◌, Option, Some, None, is_some, if◌then◌else◌, map, filter, flat_map, slice_get, nat_lt}
+use Rattle.std.proofs.Common.{◌≡◌, ◌≤◌, ℕ, ◌+◌, ◌⊎◌, List, [], ◌∷◌, ◌++◌, length, Bool, true, false, not, ◌&&◌, ◌==◌, Option, Some, None, is_some, if◌then◌else◌, map, filter, flat_map, slice_get, nat_lt}
 use Rattle.tk_events.specs.declared.payloads.Payload.TheVariants.{Nothing, Reason, Outcome, Report as Reported, Described}
 use Rattle.tk_cutting.specs.declared.steps.Step.{Step as PlanStep}
 use Rattle.tk_cutting.specs.Events.{event}

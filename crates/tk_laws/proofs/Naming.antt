@@ -1,5 +1,5 @@
 -- What the registrations of a run tell.
-use Rattle.std.proofs.Common.{◌≡◌, ◌≤◌, ◌<◌, ℕ, zero, suc, ◌+◌, ◌*◌, Bool, true, false, ◌&&◌, List, [], ◌∷◌, ◌++◌, map, length, flat_map, Some, slice_get, refl, sym, ap, ap₂, ◌∙◌, arith, tests, subst, if◌then◌else◌, ◌==◌, length-append}
+use Rattle.std.proofs.Common.{◌≡◌, ◌≤◌, ◌<◌, ℕ, zero, suc, ◌+◌, ◌*◌, Bool, true, false, ◌&&◌, List, [], ◌∷◌, ◌++◌, map, length, Some, slice_get, refl, sym, ap, ap₂, ◌∙◌, arith, tests, if◌then◌else◌, ◌==◌, length-append}
 use Rattle.std.proofs.lemmas.List.{map-append}
 use Rattle.std.proofs.lemmas.Grind.{flat_map-append}
 use Rattle.std.proofs.lemmas.List.Recursion.{is_count_by}
@@ -16,7 +16,7 @@ use Rattle.tk_events.specs.declared.kinds.Kind.TheVariants.{Dynamic}
 use Rattle.tk_ids.specs.IdText.{Pair}
 use Rattle.tk_ids.specs.declared.tables.Descriptor.{Descriptor}
 use Rattle.tk_laws.proofs.Keyed.{named}
-use Rattle.tk_laws.proofs.Model.{Forest, Item, Named, Step, count, drawn_ids, first_or_nil, hits, id_told, ids_told, more, part_steps, plain, registered, tells, told, told_after}
+use Rattle.tk_laws.proofs.Model.{Forest, Item, Named, Step, drawn_ids, first_or_nil, hits, id_told, ids_told, part_steps, plain, registered, tells, told, told_after}
 use Rattle.tk_runs.specs.Run.{Emits}
 use Rattle.tk_queue.specs.Known.{is_dynamic, registrations}
 use Rattle.tk_laws.specs.Scripts.{id_at, is_registration, may, played, said_by, step_event}

@@ -1,5 +1,5 @@
 -- In a run each id has one key.
-use Rattle.std.proofs.Common.{◌≡◌, ◌≢◌, ◌≤◌, ◌<◌, ℕ, zero, suc, ◌+◌, ◌*◌, ◌⊎◌, Bool, true, false, not, cond, ◌&&◌, ◌||◌, List, [], ◌∷◌, ◌++◌, map, filter, length, Some, slice_get, refl, sym, ap, ◌∙◌, arith, tests, subst, append_assoc, length-append, if◌then◌else◌, inl, inr, ⊎_elim, ◌==◌}
+use Rattle.std.proofs.Common.{◌≡◌, ◌≢◌, ◌≤◌, ◌<◌, ℕ, zero, suc, ◌+◌, ◌*◌, ◌⊎◌, Bool, true, false, not, cond, ◌&&◌, ◌||◌, List, [], ◌∷◌, ◌++◌, map, filter, length, Some, slice_get, refl, sym, ap, ◌∙◌, arith, tests, subst, length-append, if◌then◌else◌, inl, inr, ⊎_elim, ◌==◌}
 use Rattle.std.specs.List.{list_any}
 use Rattle.std.proofs.lemmas.Bool.{cases_Bool}
 use Rattle.std.proofs.lemmas.List.{length-map}
@@ -16,12 +16,12 @@ use Rattle.tk_events.specs.declared.payloads.Payload.TheVariants.{Described, Not
 use Rattle.tk_ids.specs.IdText.{Pair}
 use Rattle.tk_ids.specs.Table.{ids_of}
 use Rattle.tk_ids.specs.declared.tables.Descriptor.{Descriptor}
-use Rattle.tk_laws.proofs.Hearing.{no_register, once, same_one}
+use Rattle.tk_laws.proofs.Hearing.{no_register, same_one}
 use Rattle.tk_laws.proofs.Ids.{same_decides}
 use Rattle.tk_laws.proofs.Keyed.{get_front, key_for_known, named, static_after_below, static_before_below}
-use Rattle.tk_laws.proofs.Lists.{at, each-append, each_at}
+use Rattle.tk_laws.proofs.Lists.{each-append, each_at}
 use Rattle.tk_laws.proofs.Mixed.{no_events}
-use Rattle.tk_laws.proofs.Model.{Each, Forest, IsStatic, Item, Models, Named, Step, after_below, before_below, count, drawn_ids, hits, id_told, ids_told, item_label, more, part_steps, plain, registered, static_events, told, told_after}
+use Rattle.tk_laws.proofs.Model.{Each, Forest, IsStatic, Item, Models, Named, Step, after_below, before_below, count, drawn_ids, hits, id_told, ids_told, item_label, part_steps, plain, registered, static_events, told, told_after}
 use Rattle.tk_laws.proofs.Naming.{registered_played, registrations_is}
 use Rattle.tk_laws.proofs.Orders.{Only}
 use Rattle.tk_laws.proofs.Scripts.{own_labels, own_law_below, ran_labels}

@@ -4,7 +4,7 @@ use Rattle.std.specs.List.{list_any, fold}
 use Rattle.std.specs.Ordering.{eq_by_cmp, match_ordering}
 use Rattle.std.specs.Cmp.Lexicographic.{slice_cmp, nat_list_cmp_total}
 use Rattle.std.specs.BTreeSet.{insert_key}
-use Rattle.std.specs.FinMap.{FinMap, entries, insert, get, from_sorted, entries-from_sorted, get-from_sorted, entries-insert, get-insert, same_map, nat_cmp-IsAntisymmetric, slice_cmp-IsAntisymmetric}
+use Rattle.std.specs.FinMap.{FinMap, entries, insert, get, from_sorted, entries-from_sorted, entries-insert, get-insert, same_map, nat_cmp-IsAntisymmetric, slice_cmp-IsAntisymmetric}
 use Rattle.std.specs.FinMap.Entries.{put, by_order}
 use Rattle.std.specs.declared.cmp.Ordering.{Ordering}
 use Rattle.std.specs.declared.cmp.Ordering.TheVariants.{Less, Equal, Greater}

@@ -31,10 +31,9 @@ use Rattle.tk_ids.specs.IdText.{Pair, id_text}
 use Rattle.tk_ids.specs.declared.tables.Descriptor.{Descriptor}
 use Rattle.tk_laws.proofs.Cut.{count-append}
 use Rattle.tk_laws.proofs.Ids.{one_text, same_decides}
-use Rattle.tk_laws.proofs.Keyed.{labels_played, named, named_below}
-use Rattle.tk_laws.proofs.Lists.{at}
+use Rattle.tk_laws.proofs.Keyed.{labels_played, named_below}
 use Rattle.tk_laws.proofs.Mixed.{events_by}
-use Rattle.tk_laws.proofs.Model.{Forest, IsChain, IsChainBelow, Item, Models, Tree, about, count, first_or_nil, ids_told, more, no_trees, nodes, nodes_below, plan_labels, script, steps_below, told, tree}
+use Rattle.tk_laws.proofs.Model.{Forest, IsChain, IsChainBelow, Item, Models, Tree, about, count, first_or_nil, ids_told, more, no_trees, nodes, nodes_below, plan_labels, steps_below, told, tree}
 use Rattle.tk_laws.proofs.Naming.{hits_at, told_played}
 use Rattle.tk_laws.proofs.Through.{chain_law, id_table, name_in, names, none_above}
 use Rattle.tk_laws.specs.Labels.{Label, events, id_in, label, labels, name, same_id}

@@ -1,7 +1,7 @@
 -- The definitions on the worked plans.
-use Rattle.std.proofs.Common.{◌≡◌, ℕ, zero, suc, ◌+◌, Bool, true, false, List, [], ◌∷◌, ◌++◌, map, flat_map, codes, Option, Some, None, refl, sym, ap, ap₂, ◌∙◌, length, slice_get, nat_cmp}
+use Rattle.std.proofs.Common.{◌≡◌, ℕ, Bool, true, false, List, [], ◌∷◌, ◌++◌, flat_map, codes, Option, Some, None, refl, ap, ap₂, ◌∙◌}
 use Rattle.std.specs.Fmt.{digits}
-use Rattle.tk_ids.specs.IdText.{Pair, id_text}
+use Rattle.tk_ids.specs.IdText.{Pair}
 use Rattle.tk_ids.specs.declared.tables.DType.{DType}
 use Rattle.tk_ids.specs.declared.tables.DType.TheVariants.{Container, Test}
 use Rattle.tk_ids.specs.declared.tables.Descriptor.{Descriptor}
@@ -14,17 +14,26 @@ use Rattle.tk_cutting.specs.declared.nodes.Node.{Node}
 use Rattle.tk_cutting.specs.declared.nodes.Placed.{Placed}
 use Rattle.tk_cutting.specs.Trees.{forest, grow}
 use Rattle.tk_cutting.specs.Ids.{descriptors_below}
-use Rattle.tk_laws.specs.Labels.{Label, labels}
+use Rattle.tk_laws.specs.Labels.{labels}
 use Rattle.tk_laws.specs.Scripts.{script_record}
 use Rattle.tk_laws.specs.Reports.{id_texts, id_lines, report_of_plan}
 
-abbrev pair : List ℕ → List ℕ → Pair
+abbrev pub pair : List ℕ → List ℕ → Pair
 pair tag value = record { tag = tag; value = value }
 
 abbrev node : Bool → DType → Pair → List ℕ → Bool → Option (List ℕ) → Status → Option (List ℕ) → Node
 node is_static dtype segment name is_concurrent skip status message = record {
-  is_static = is_static; dtype = dtype; segment = segment; name = name; is_concurrent = is_concurrent; is_isolated = false; locks = [];
-  skip = skip; status = status; message = message; entries = [];
+  is_static = is_static;
+  dtype = dtype;
+  segment = segment;
+  name = name;
+  is_concurrent = is_concurrent;
+  is_isolated = false;
+  locks = [];
+  skip = skip;
+  status = status;
+  message = message;
+  entries = [];
 }
 
 abbrev placed : Node → ℕ → ℕ → Placed
@@ -32,7 +41,7 @@ placed n k span = record { node = n; number = k; span = span }
 
 -- ---- the demo plan
 
-abbrev demo : List Placed
+abbrev pub demo : List Placed
 demo =
     placed (node true Container (pair (codes "engine") (codes "demo")) (codes "demo") false None Successful None) 0 8
     ∷ placed (node true Container (pair (codes "class") (codes "A")) (codes "A") true None Successful None) 1 2
@@ -44,13 +53,13 @@ demo =
     ∷ placed (node false Test (pair (codes "dyn") (codes "1")) (codes "one") false None Successful None) 7 1
     ∷ []
 
-abbrev demo_table : List Descriptor
+abbrev pub demo_table : List Descriptor
 demo_table = descriptors_below [] (forest demo)
 
-abbrev line : List ℕ → List ℕ
+abbrev pub line : List ℕ → List ℕ
 line text = text ++ 10 ∷ []
 
-abbrev demo_counts : List (List ℕ)
+abbrev pub demo_counts : List (List ℕ)
 demo_counts = codes "skipped 1" ∷ codes "started 7" ∷ codes "finished 7" ∷ codes "aborted 0" ∷ codes "succeeded 6" ∷ codes "failed 1" ∷ codes "reporting 0" ∷ codes "dynamic 1" ∷ []
 
 abbrev demo_ids : List (List ℕ)
@@ -69,7 +78,7 @@ demo_ids =
 abbrev ran : List ℕ → List (List ℕ)
 ran id = id ∷ codes "  start" ∷ codes "  finish|ok" ∷ []
 
-abbrev demo_lines : List (List ℕ)
+abbrev pub demo_lines : List (List ℕ)
 demo_lines =
     ran (codes "[engine:demo]")
     ++ ran (codes "[engine:demo]/[class:A]")

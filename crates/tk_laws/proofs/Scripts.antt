@@ -6,7 +6,6 @@ use Rattle.std.proofs.lemmas.List.{map-append}
 use Rattle.tk_cutting.specs.declared.steps.Act.TheVariants.{Finish, Register, Report, Skip, Start}
 use Rattle.tk_ids.specs.IdText.{Pair}
 use Rattle.tk_laws.proofs.Cut.{count-append, shown-append, shown_none, shown_none_below}
-use Rattle.tk_laws.proofs.Few.{few}
 use Rattle.tk_laws.proofs.Ids.{same_decides}
 use Rattle.tk_laws.proofs.Lists.{each_split}
 use Rattle.tk_laws.proofs.Model.{AreBuilt, Each, Forest, HasNone, IsBuilt, IsChain, IsChainBelow, Item, Step, Tree, count, finish, item_label, more, no_trees, nodes, nodes_below, opening, performed, reports, shown, step, step_label, steps, steps_below, tree}

@@ -1,5 +1,5 @@
 -- Stamps are positions.
-use Rattle.std.proofs.Common.{◌≡◌, ℕ, zero, suc, ◌+◌, List, [], ◌∷◌, Some, slice_get, ap, sym, ◌∙◌, arith}
+use Rattle.std.proofs.Common.{◌≡◌, ℕ, zero, suc, ◌+◌, List, [], ◌∷◌, Some, slice_get, ap, arith}
 use Rattle.tk_cutting.specs.declared.steps.Step.{Step}
 use Rattle.tk_cutting.specs.Script.{stamped}
 

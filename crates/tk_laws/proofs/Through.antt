@@ -22,16 +22,16 @@ use Rattle.tk_ids.specs.Table.{ids_of}
 use Rattle.tk_ids.specs.declared.tables.Descriptor.{Descriptor}
 use Rattle.tk_laws.proofs.Cut.{chain_none, chain_none_below, cut, cut_below, shown-append, shown_none, shown_none_below}
 use Rattle.tk_laws.proofs.Few.{few_drawn}
-use Rattle.tk_laws.proofs.Keyed.{get_front, labels_played, labels_static, named, named_parts, named_unit, static_after_below, static_before_below}
+use Rattle.tk_laws.proofs.Keyed.{get_front, labels_played, labels_static, named, named_unit, static_after_below, static_before_below}
 use Rattle.tk_laws.proofs.Lists.{IsLone, IsSeat, all_nil, at, copies, copies_by, drawn_is, left_nil, lone, lone_is, one_after, one_before, right_nil, seat}
 use Rattle.tk_laws.proofs.Mixed.{events-append, events_by, mix_one, no_events}
-use Rattle.tk_laws.proofs.Model.{AllNil, AtMostOne, Each, Forest, IsChain, IsChainBelow, IsStatic, Models, Named, Part, Step, Tree, about, after, after_below, before, before_below, count, drawn_ids, first_or_nil, hits, id_told, ids_told, is_open, more, no_trees, opening, part_steps, parts, parts_below, plain, plan_labels, registered, script, shown, static_event, static_events, step_label, steps, steps_of, tells, times, times_in, told, tree, units}
+use Rattle.tk_laws.proofs.Model.{AllNil, AtMostOne, Each, Forest, IsChain, IsChainBelow, IsStatic, Models, Named, Part, Step, Tree, about, after_below, before_below, drawn_ids, first_or_nil, hits, id_told, ids_told, is_open, more, no_trees, opening, part_steps, parts, parts_below, plain, plan_labels, registered, script, shown, static_event, static_events, step_label, steps, steps_of, tells, times, times_in, told, tree, units}
 use Rattle.tk_laws.proofs.Naming.{dynamic_kind, hits_above, hits_at, hits_below, registered_played, registrations_is, told-append, told_emitted}
 use Rattle.tk_laws.specs.Labels.{Label, events, id_in, label, labels, name}
 use Rattle.tk_claim.specs.Claims.{Claims}
 use Rattle.tk_runs.specs.Run.{Emits}
 use Rattle.tk_queue.specs.Known.{entries_by, is_dynamic, registrations}
-use Rattle.tk_laws.specs.Scripts.{IsRunOf, id_at, may, place, played}
+use Rattle.tk_laws.specs.Scripts.{IsRunOf, id_at, may, played}
 
 -- ---- at most one unit has nodes of a chain
 

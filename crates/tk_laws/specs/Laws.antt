@@ -1,21 +1,26 @@
 -- What holds of each run of a plan.
-use Rattle.std.specs.Prelude.{◌≡◌, ℕ, List, Some, slice_get, length}
+use Rattle.std.specs.Prelude.{◌≡◌, ℕ, List, [], Some, slice_get, length}
 use Rattle.tk_ids.specs.declared.tables.Descriptor.{Descriptor}
 use Rattle.tk_columns.specs.Recorded.{Recorded}
 use Rattle.tk_cutting.specs.declared.nodes.Placed.{Placed}
 use Rattle.tk_cutting.specs.declared.steps.Step.{Step}
-use Rattle.tk_cutting.specs.Trees.{Forest}
-use Rattle.tk_cutting.specs.Cutting.{root_script}
+use Rattle.tk_cutting.specs.Trees.{Forest, forest}
+use Rattle.tk_cutting.specs.Cutting.{root_script, script_of}
 use Rattle.tk_cutting.specs.Numbers.{IsNumbered}
 use Rattle.tk_cutting.specs.Planned.{IsPlanned}
 use Rattle.tk_laws.specs.Labels.{name, events, labels}
-use Rattle.tk_laws.specs.Scripts.{IsRunOf}
+use Rattle.tk_laws.specs.Scripts.{IsRunOf, ArePlayable}
 use Rattle.tk_laws.specs.Reports.{report_of_record, report_of_plan}
 use Rattle.tk_laws.specs.Listening.{Listens, ListensByKey}
 
 -- a step's stamp is its position in the root's script
 abbrev pub StampsArePositions : Type 0
 StampsArePositions = (root : Forest) (i : ℕ) (s : Step) → slice_get (root_script root) i ≡ Some s → s.stamp ≡ i
+
+-- in a unit's script each step has what it needs to be played
+abbrev pub ScriptsArePlayable : Type 0
+ScriptsArePlayable = (nodes : List Placed) (table : List Descriptor) (unit : ℕ) → IsPlanned nodes table → IsNumbered nodes
+    → ArePlayable nodes table [] (script_of (forest nodes) unit)
 
 -- the record of a run has the plan's report, for any number of workers
 abbrev pub OneReport : Type 0

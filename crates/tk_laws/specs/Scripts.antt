@@ -1,7 +1,8 @@
 -- What a scripted engine emits: the scripts of a plan's units.
-use Rattle.std.specs.Prelude.{◌≡◌, ℕ, suc, ◌+◌, ◌==◌, nat_lt, if◌then◌else◌, Bool, true, false, List, [], ◌∷◌, ◌++◌, length, Option, Some, None, slice_get}
+use Rattle.std.specs.Prelude.{◌≡◌, ◌<◌, ◌≤◌, ◌⊎◌, ℕ, suc, ◌+◌, ◌==◌, nat_lt, if◌then◌else◌, Bool, true, false, List, [], ◌∷◌, ◌++◌, length, Option, Some, None, slice_get}
 use Rattle.tk_ids.specs.IdText.{Pair}
 use Rattle.tk_ids.specs.declared.tables.Descriptor.{Descriptor}
+use Rattle.tk_ids.specs.Table.{ids_of}
 use Rattle.tk_events.specs.declared.payloads.Payload.{Payload}
 use Rattle.tk_events.specs.declared.payloads.Payload.TheVariants.{Nothing, Described}
 use Rattle.tk_events.specs.declared.events.Event.{Event}
@@ -71,6 +72,29 @@ known_after known s = if is_registration s.act then known ++ s.node ∷ [] else 
 abbrev pub played : List Placed → ℕ → ℕ → List ℕ → List Step → List Event
 played nodes statics base known [] = []
 played nodes statics base known (s ∷ ss) = step_event nodes statics base known s ∷ played nodes statics base (known_after known s) ss
+
+-- The node has a key where these nodes were registered: a static one the key of its descriptor, any other that of its registration.
+abbrev pub HasKey : List Placed → List Descriptor → List ℕ → ℕ → Type 0
+HasKey nodes table known k =
+    ((k < length table) × (slice_get (ids_of table) k ≡ Some (id_at nodes k)))
+    ⊎ ((length table ≤ k) × (slice_get known (place k known) ≡ Some k))
+
+-- what a registration registers is a child of the parent, with the node's segment
+abbrev pub IsChildAt : List Placed → ℕ → ℕ → Type 0
+IsChildAt nodes parent k = (n : Node) × (slice_get (in_order nodes) k ≡ Some n) × (id_at nodes k ≡ id_at nodes parent ++ n.segment ∷ [])
+
+-- A registration's parent has a key, and the node is its child. The node of any other step has a key.
+abbrev pub IsPlayable : List Placed → List Descriptor → List ℕ → ℕ → Act → Type 0
+IsPlayable nodes table known k (Register parent) = HasKey nodes table known parent × IsChildAt nodes parent k
+IsPlayable nodes table known k Skip = HasKey nodes table known k
+IsPlayable nodes table known k Start = HasKey nodes table known k
+IsPlayable nodes table known k (Report i) = HasKey nodes table known k
+IsPlayable nodes table known k Finish = HasKey nodes table known k
+
+-- so it is of each step, after those before it
+abbrev pub ArePlayable : List Placed → List Descriptor → List ℕ → List Step → Type 0
+ArePlayable nodes table known [] = Unit {0}
+ArePlayable nodes table known (s ∷ ss) = IsPlayable nodes table known s.node s.act × ArePlayable nodes table (known_after known s) ss
 
 -- unit u emits its script and nothing else
 abbrev pub may : List Placed → List Descriptor → ℕ → ℕ → ℕ → List Event → Type 0

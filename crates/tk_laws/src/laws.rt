@@ -1,9 +1,15 @@
 //! Laws of runs of plans, which hold of the definitions alone.
-ghost use Rattle.tk_laws.specs.Laws.{StampsArePositions, OneReport, Listener, ListenerByKey};
+ghost use Rattle.tk_laws.specs.Laws.{StampsArePositions, ScriptsArePlayable, OneReport, Listener, ListenerByKey};
 
 /// The stamp of a step is its position in the root's script.
 pub fn stamps_are_positions()
     ensures { StampsArePositions }
+{}
+
+/// In a unit's script each node has a key when its turn comes, or is registered there, below a node
+/// that has one.
+pub fn scripts_are_playable()
+    ensures { ScriptsArePlayable }
 {}
 
 /// The record of a run has the plan's report, however many workers there were and whoever of them
