@@ -1,13 +1,14 @@
 -- A run of a plan lets a listener rely on what the plan's script lets it rely on.
-use Rattle.std.proofs.Common.{◌≡◌, ◌≢◌, ℕ, ◌+◌, ◌⊎◌, Bool, true, false, not, cond, ◌&&◌, ◌||◌, List, [], ◌∷◌, ◌++◌, filter, Option, Some, None, refl, sym, ap, ap₂, ◌∙◌, subst, append_assoc, if◌then◌else◌, inl, inr, ⊎_elim}
+use Rattle.std.proofs.Common.{◌≡◌, ◌≢◌, ℕ, ◌+◌, ◌⊎◌, Bool, true, false, not, cond, ◌&&◌, ◌||◌, List, [], ◌∷◌, ◌++◌, filter, Option, Some, None, refl, sym, ap, ap₂, ◌∙◌, subst, append_assoc, if◌then◌else◌, inl, inr, ⊎_elim, arith, tests, ◌==◌}
 use Rattle.std.specs.List.{list_any}
 use Rattle.std.proofs.lemmas.Bool.{cases_Bool}
 use Rattle.std.proofs.lemmas.List.Elements.{filter-append}
 use Rattle.tk_columns.specs.Recorded.{Recorded}
 use Rattle.tk_cutting.specs.declared.nodes.Placed.{Placed}
 use Rattle.tk_cutting.specs.declared.steps.Act.TheVariants.{Finish, Register, Report, Start}
+use Rattle.tk_events.specs.Event.{kind_code}
 use Rattle.tk_events.specs.declared.kinds.Kind.{Kind}
-use Rattle.tk_events.specs.declared.kinds.Kind.TheVariants.{Dynamic, Finished, Reporting, Skipped, Started}
+use Rattle.tk_events.specs.declared.kinds.Kind.TheVariants.{Dynamic, Finished, Skipped, Started}
 use Rattle.tk_ids.specs.IdText.{Pair}
 use Rattle.tk_ids.specs.declared.tables.Descriptor.{Descriptor}
 use Rattle.tk_laws.proofs.Lists.{each_from}
@@ -80,18 +81,10 @@ register_own i n h =
 -- ---- skipped
 
 start_or_skip : (k : Kind) → same_kind k Started ≡ true → same_kind k Skipped ≡ true → ⊥
-start_or_skip Dynamic s h = cc
-start_or_skip Skipped s h = cc
-start_or_skip Started s h = cc
-start_or_skip Reporting s h = cc
-start_or_skip Finished s h = cc
+start_or_skip k s h = let a : kind_code k ≡ 3 = grind (arith, tests, s) in let b : kind_code k ≡ 2 = grind (arith, tests, h) in omega (arith, a, b)
 
 finish_or : (k : Kind) → same_kind k Finished ≡ true → (same_kind k Skipped ≡ false) × (same_kind k Started ≡ false)
-finish_or Dynamic h = cc
-finish_or Skipped h = cc
-finish_or Started h = cc
-finish_or Reporting h = cc
-finish_or Finished h = (refl, refl)
+finish_or k h = let a : kind_code k ≡ 4 = grind (arith, tests, h) in (grind (arith, tests, a), grind (arith, tests, a))
 
 any_two : (b c : Bool) → (b || (c || false)) ≡ true → (b ≡ true) ⊎ (c ≡ true)
 any_two true c h = inl refl
