@@ -19,4 +19,5 @@ pub mod ByKey
 pub mod Stamps
 pub mod Samples
 pub mod Playing
+pub mod Finding
 pub mod Running

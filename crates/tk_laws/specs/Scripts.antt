@@ -19,7 +19,7 @@ use Rattle.tk_cutting.specs.Numbers.{in_order}
 use Rattle.tk_cutting.specs.Ids.{ids_below, descriptor}
 use Rattle.tk_cutting.specs.Events.{event}
 use Rattle.tk_cutting.specs.Told.{kind_of, payload_of}
-use Rattle.tk_queue.specs.Known.{entries_by}
+use Rattle.tk_queue.specs.Known.{entries_by, registrations}
 use Rattle.tk_runs.specs.Run.{IsRun}
 
 abbrev pub is_registration : Act → Bool
@@ -95,6 +95,18 @@ IsPlayable nodes table known k Finish = HasKey nodes table known k
 abbrev pub ArePlayable : List Placed → List Descriptor → List ℕ → List Step → Type 0
 ArePlayable nodes table known [] = Unit {0}
 ArePlayable nodes table known (s ∷ ss) = IsPlayable nodes table known s.node s.act × ArePlayable nodes table (known_after known s) ss
+
+-- the nodes that are registered after some steps more
+abbrev pub known_in : List ℕ → List Step → List ℕ
+known_in known [] = known
+known_in known (s ∷ ss) = known_in (known_after known s) ss
+
+-- what a worker emitted that sent some events and then played these steps
+abbrev pub record_played : List Placed → List Descriptor → ℕ → List Event → List Step → Recorded
+record_played nodes table w sent steps = record {
+  table = table;
+  entries = entries_by w (sent ++ played nodes (length table) (registered_key w (registrations sent)) [] steps);
+}
 
 -- unit u emits its script and nothing else
 abbrev pub may : List Placed → List Descriptor → ℕ → ℕ → ℕ → List Event → Type 0

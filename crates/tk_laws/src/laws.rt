@@ -1,5 +1,5 @@
 //! Laws of runs of plans, which hold of the definitions alone.
-ghost use Rattle.tk_laws.specs.Laws.{StampsArePositions, ScriptsArePlayable, OneReport, Listener, ListenerByKey};
+ghost use Rattle.tk_laws.specs.Laws.{StampsArePositions, ScriptsArePlayable, NodesAreFound, OneReport, Listener, ListenerByKey};
 
 /// The stamp of a step is its position in the root's script.
 pub fn stamps_are_positions()
@@ -10,6 +10,11 @@ pub fn stamps_are_positions()
 /// that has one.
 pub fn scripts_are_playable()
     ensures { ScriptsArePlayable }
+{}
+
+/// What a worker registered in a unit it finds there under the key of the node, with the node's id.
+pub fn nodes_are_found()
+    ensures { NodesAreFound }
 {}
 
 /// The record of a run has the plan's report, however many workers there were and whoever of them
