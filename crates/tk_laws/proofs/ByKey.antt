@@ -1,0 +1,135 @@
+-- What a listener may rely on, for each key.
+use Rattle.std.proofs.Common.{◌≡◌, ◌≢◌, ◌≤◌, ◌<◌, ℕ, suc, ◌⊎◌, Bool, true, false, not, cond, ◌&&◌, ◌||◌, List, [], ◌∷◌, ◌++◌, map, filter, length, Some, slice_get, refl, sym, ap, ap₂, ◌∙◌, arith, tests, subst, if◌then◌else◌, inl, inr, ⊎_elim, ◌==◌}
+use Rattle.std.specs.List.{list_any}
+use Rattle.std.proofs.lemmas.Bool.{cases_Bool}
+use Rattle.std.proofs.lemmas.List.{length-map}
+use Rattle.tk_columns.specs.Recorded.{Recorded}
+use Rattle.tk_cutting.specs.declared.nodes.Placed.{Placed}
+use Rattle.tk_events.specs.declared.events.Event.{Event}
+use Rattle.tk_events.specs.declared.kinds.Kind.TheVariants.{Dynamic}
+use Rattle.tk_ids.specs.IdText.{Pair}
+use Rattle.tk_ids.specs.Table.{ids_of}
+use Rattle.tk_ids.specs.declared.tables.Descriptor.{Descriptor}
+use Rattle.tk_laws.proofs.Hearing.{once, ran_of, registered}
+use Rattle.tk_laws.proofs.Ids.{same_decides}
+use Rattle.tk_laws.proofs.Lists.{each_at}
+use Rattle.tk_laws.proofs.Model.{Each, Forest, Models, id_told, told}
+use Rattle.tk_laws.proofs.OneKey.{Comes, HasKey, all_keys, from_table, same_key, told_some}
+use Rattle.tk_laws.proofs.Orders.{precedes_none}
+use Rattle.tk_laws.proofs.Through.{below_length}
+use Rattle.tk_laws.specs.Labels.{Label, events, label, name, same_id, same_kind}
+use Rattle.tk_laws.specs.Listening.{IsOnce, ListensByKey, is_ran, precedes, registers}
+use Rattle.tk_queue.specs.Known.{is_dynamic}
+use Rattle.tk_laws.specs.Scripts.{IsRunOf}
+
+filter_each : (p q : Event → Bool) (es : List Event) → Each (λ e. p e ≡ q e) es → filter p es ≡ filter q es
+filter_each p q [] h = refl
+filter_each p q (e ∷ es) h = ap₂ (λ b l. cond b (e ∷ l) l) h.0 (filter_each p q es h.1)
+
+any_each : (p q : Event → Bool) (es : List Event) → Each (λ e. p e ≡ q e) es → list_any p es ≡ list_any q es
+any_each p q [] h = refl
+any_each p q (e ∷ es) h = ap₂ (λ b l. b || l) h.0 (any_each p q es h.1)
+
+cong3 : (p q a b x y : Bool) → p ≡ q → a ≡ b → x ≡ y → (not a && (p || x)) ≡ (not b && (q || y))
+cong3 p q a b x y h g e = ap₂ (λ u v. not u && v) g (ap₂ (λ u v. u || v) h e)
+
+precedes_each : (p q a b : Event → Bool) (es : List Event) → Each (λ e. p e ≡ q e) es → Each (λ e. a e ≡ b e) es → precedes p a es ≡ precedes q b es
+precedes_each p q a b [] h g = refl
+precedes_each p q a b (e ∷ es) h g = cong3 (p e) (q e) (a e) (b e) (precedes p a es) (precedes q b es) h.0 g.0 (precedes_each p q a b es h.1 g.1)
+
+each_map : (P Q : Event → Type 0) (es : List Event) → ((e : Event) → P e → Q e) → Each P es → Each Q es
+each_map P Q [] f h = tt
+each_map P Q (e ∷ es) f h = (f e h.0, each_map P Q es f h.1)
+
+module _ (names : ℕ → List Pair) where
+  filter_label : (p : Label → Bool) (es : List Event) → map (label names) (filter (λ e. p (label names e)) es) ≡ filter p (map (label names) es)
+  filter_label p [] = refl
+  filter_label p (e ∷ es) = let h = filter_label p es in
+      elim (p (label names e)) as (λ b. map (label names) (cond b (e ∷ filter (λ x. p (label names x)) es) (filter (λ x. p (label names x)) es)) ≡ cond b (label names e ∷ filter p (map (label names) es)) (filter p (map (label names) es)))
+      [ true ↦ ap (λ l. label names e ∷ l) h | false ↦ h ]
+
+  any_label : (p : Label → Bool) (es : List Event) → list_any (λ e. p (label names e)) es ≡ list_any p (map (label names) es)
+  any_label p [] = refl
+  any_label p (e ∷ es) = ap (λ b. p (label names e) || b) (any_label p es)
+
+  precedes_label : (p q : Label → Bool) (es : List Event) → precedes (λ e. p (label names e)) (λ e. q (label names e)) es ≡ precedes p q (map (label names) es)
+  precedes_label p q [] = refl
+  precedes_label p q (e ∷ es) = ap (λ b. not (q (label names e)) && (p (label names e) || b)) (precedes_label p q es)
+
+-- one of the events has the key, or none has
+record HasOne (k : ℕ) (es : List Event) : Type 0 where
+  event : Event
+  place : ℕ
+  is_there : slice_get es place ≡ Some event
+  key : event.key ≡ k
+
+one_or_none : (k : ℕ) (es : List Event) → HasOne k es ⊎ Each (λ e. (e.key == k) ≡ false) es
+one_or_none k [] = inr tt
+one_or_none k (e ∷ es) = ⊎_elim
+    (λ t. inl (record { event = e; place = 0; is_there = refl; key = grind (arith, tests, t) }))
+    (λ f. ⊎_elim (λ h. inl (record { event = h.event; place = suc h.place; is_there = h.is_there; key = h.key })) (λ h. inr (f, h)) (one_or_none k es))
+    (cases_Bool (e.key == k))
+
+none_filter : (k : ℕ) (p : Event → Bool) (es : List Event) → Each (λ e. (e.key == k) ≡ false) es → filter (λ e. e.key == k && p e) es ≡ []
+none_filter k p [] h = refl
+none_filter k p (e ∷ es) h = ap₂ (λ b l. cond (b && p e) (e ∷ l) l) h.0 (none_filter k p es h.1)
+
+none_any : (k : ℕ) (p : Event → Bool) (es : List Event) → Each (λ e. (e.key == k) ≡ false) es → list_any (λ e. e.key == k && p e) es ≡ false
+none_any k p [] h = refl
+none_any k p (e ∷ es) h = ap₂ (λ b l. (b && p e) || l) h.0 (none_any k p es h.1)
+
+told_here : (d b : Bool) (x l : List (List Pair)) (a : Bool) → (0 < length l → a ≡ true) → 0 < length ((if d && b then x else []) ++ l) → ((b && d) || a) ≡ true
+told_here true true x l a h p = refl
+told_here false true x l a h p = h p
+told_here true false x l a h p = h p
+told_here false false x l a h p = h p
+
+told_any : (k : ℕ) (es : List Event) → 0 < length (told k es) → list_any (λ e. e.key == k && same_kind e.kind Dynamic) es ≡ true
+told_any k [] h = let no : ⊥ = omega (arith, h) in absurd no
+told_any k (e ∷ es) h = told_here (is_dynamic e) (e.key == k) (id_told e.payload) (told k es) _ (λ g. told_any k es g) h
+
+module _ (all : List Placed) (table : List Descriptor) (f : Forest) (workers : ℕ) (r : Recorded) (plan : Models all table f) (run : IsRunOf all table workers r) where
+  agrees : (k : ℕ) → HasOne k (events r.entries) → Each (λ e. (e.key == k) ≡ same_id (name r e.key) (name r k)) (events r.entries)
+  agrees k o = each_map (HasKey all table (Comes all table f workers r plan run) (from_table all table f workers r plan run)) (λ e. (e.key == k) ≡ same_id (name r e.key) (name r k)) (events r.entries)
+      (λ e c. ⊎_elim
+      (λ y. let same : e.key ≡ k = grind (arith, tests, y) in y ∙ sym ((same_decides (name r e.key) (name r k)).1 (ap (name r) same)))
+      (λ n. let differ : e.key ≢ k = grind (arith, tests, n) in ⊎_elim
+      (λ s. absurd (differ (same_key all table f workers r plan run e.key k c
+      (subst (Comes all table f workers r plan run) o.key (each_at (HasKey all table (Comes all table f workers r plan run) (from_table all table f workers r plan run)) (events r.entries) o.place o.event (all_keys all table f workers r plan run) o.is_there))
+      ((same_decides (name r e.key) (name r k)).0 s))))
+      (λ f. n ∙ sym f)
+      (cases_Bool (same_id (name r e.key) (name r k))))
+      (cases_Bool (e.key == k)))
+      (all_keys all table f workers r plan run)
+
+  once_key : (k : ℕ) → IsOnce (map (label (name r)) (filter (λ e. e.key == k && is_ran e.kind) (events r.entries)))
+  once_key k = ⊎_elim
+      (λ o. subst IsOnce (sym (ap (map (label (name r))) (filter_each _ (λ e. same_id (name r e.key) (name r k) && is_ran e.kind) (events r.entries)
+      (each_map (λ e. (e.key == k) ≡ same_id (name r e.key) (name r k)) _ (events r.entries) (λ e h. ap (λ b. b && is_ran e.kind) h) (agrees k o)))
+      ∙ filter_label (name r) (ran_of (name r k)) (events r.entries)))
+      (once all table f workers r plan run (name r k)))
+      (λ n. subst IsOnce (sym (ap (map (label (name r))) (none_filter k (λ e. is_ran e.kind) (events r.entries) n))) tt)
+      (one_or_none k (events r.entries))
+
+  registered_key : (k : ℕ) → length table ≤ k → precedes (λ e. e.key == k && same_kind e.kind Dynamic) (λ e. e.key == k && is_ran e.kind) (events r.entries) ≡ true
+  registered_key k l = ⊎_elim
+      (λ o.
+      let names = name r in
+      let i = name r k in
+      let alike = agrees k o in
+      let comes = subst (Comes all table f workers r plan run) o.key (each_at (HasKey all table (Comes all table f workers r plan run) (from_table all table f workers r plan run)) (events r.entries) o.place o.event (all_keys all table f workers r plan run) o.is_there) in
+      let here : list_any (λ e. e.key == k && same_kind e.kind Dynamic) (events r.entries) ≡ true = ⊎_elim
+      (λ a. let b = below_length (ids_of table) k a.0 a.1 in let no : ⊥ = omega (arith, b, l, length-map table (λ (d : Descriptor). d.id)) in absurd no)
+      (λ a. told_any k (events r.entries) (subst (λ j. 0 < length (told j (events r.entries))) (sym a.6) (told_some all table f workers r plan run a.0 a.2 a.1 a.3 a.4 a.5)))
+      comes in
+      let register : Each (λ e. (e.key == k && same_kind e.kind Dynamic) ≡ (same_id (names e.key) i && same_kind e.kind Dynamic)) (events r.entries)
+      = each_map (λ e. (e.key == k) ≡ same_id (name r e.key) (name r k)) _ (events r.entries) (λ e h. ap (λ b. b && same_kind e.kind Dynamic) h) alike in
+      let ran : Each (λ e. (e.key == k && is_ran e.kind) ≡ (same_id (names e.key) i && is_ran e.kind)) (events r.entries)
+      = each_map (λ e. (e.key == k) ≡ same_id (name r e.key) (name r k)) _ (events r.entries) (λ e h. ap (λ b. b && is_ran e.kind) h) alike in
+      precedes_each _ _ _ _ (events r.entries) register ran ∙ (precedes_label names (registers i) (ran_of i) (events r.entries)
+      ∙ registered all table f workers r plan run i (sym (any_each _ _ (events r.entries) register ∙ any_label names (registers i) (events r.entries)) ∙ here)))
+      (λ n. precedes_none (λ e. e.key == k && same_kind e.kind Dynamic) (λ e. e.key == k && is_ran e.kind) (events r.entries) (none_any k (λ e. is_ran e.kind) (events r.entries) n))
+      (one_or_none k (events r.entries))
+
+  pub by_key : ListensByKey (length table) (name r) (events r.entries)
+  by_key = record { once = once_key; registered_first = registered_key }

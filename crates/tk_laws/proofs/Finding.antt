@@ -1,0 +1,126 @@
+-- What a worker registered in a unit it finds there.
+use Rattle.std.proofs.Common.{◌≡◌, ◌≤◌, ◌<◌, ℕ, zero, suc, ◌+◌, ◌*◌, Bool, true, false, ◌&&◌, ◌==◌, nat_lt, List, [], ◌∷◌, ◌++◌, map, length, Option, Some, None, slice_get, option_map, refl, sym, ap, ap₂, ◌∙◌, subst, arith, tests, append_assoc, append-nil, if◌then◌else◌, inl, inr}
+use Rattle.std.specs.Option.{option_or}
+use Rattle.std.proofs.lemmas.List.{map-append}
+use Rattle.tk_cutting.specs.declared.steps.Step.{Step as PlanStep}
+use Rattle.tk_columns.specs.Entries.{desc, desc_in, described}
+use Rattle.tk_cutting.specs.Cutting.{script_of}
+use Rattle.tk_cutting.specs.Numbers.{IsNumbered}
+use Rattle.tk_cutting.specs.Planned.{IsPlanned}
+use Rattle.tk_cutting.specs.Trees.{forest}
+use Rattle.tk_cutting.specs.declared.nodes.Placed.{Placed}
+use Rattle.tk_events.specs.declared.events.Entry.{Entry}
+use Rattle.tk_events.specs.declared.events.Event.{Event}
+use Rattle.tk_events.specs.declared.payloads.Payload.{Payload}
+use Rattle.tk_events.specs.declared.payloads.Payload.TheVariants.{Described, Nothing, Outcome, Reason, Report as Reported}
+use Rattle.tk_ids.specs.IdText.{Pair}
+use Rattle.tk_ids.specs.Table.{ids_of}
+use Rattle.tk_ids.specs.declared.tables.Descriptor.{Descriptor}
+use Rattle.tk_laws.proofs.Grounds.{models, trees_of}
+use Rattle.tk_laws.proofs.Keyed.{named_unit}
+use Rattle.tk_laws.proofs.Mixed.{events_by}
+use Rattle.tk_laws.proofs.Model.{Named, Step, hits, id_told, ids_told, part_steps, plain, told, told_after}
+use Rattle.tk_laws.proofs.Naming.{told_played}
+use Rattle.tk_laws.proofs.Through.{none_above}
+use Rattle.tk_laws.specs.Labels.{events}
+use Rattle.tk_laws.specs.Scripts.{HasKey, id_at, is_registration, key_of, known_in, place, played, record_played}
+use Rattle.tk_queue.specs.Known.{entries_by, entry_by, is_dynamic, registrations}
+
+abbrev first : {A : Type 0} → List A → Option A
+first [] = None
+first (x ∷ xs) = Some x
+
+-- ---- descriptors
+
+found_by : (b : Bool) (m : Payload) (o : Option Descriptor) (l : List (List Pair)) → option_map (λ d. d.id) o ≡ first l
+    → option_map (λ d. d.id) (option_or (if b then described m else None) o) ≡ first ((if b then id_told m else []) ++ l)
+found_by false m o l e = e
+found_by true (Described d) o l e = refl
+found_by true Nothing o l e = e
+found_by true (Reason r) o l e = e
+found_by true (Outcome s r) o l e = e
+found_by true (Reported p) o l e = e
+
+found_in : (k : ℕ) (es : List Entry) → option_map (λ d. d.id) (desc_in es k) ≡ first (told k (events es))
+found_in k [] = refl
+found_in k (e ∷ es) = found_by (is_dynamic e.event && (e.event.key == k)) e.event.payload (desc_in es k) (told k (events es)) (found_in k es)
+
+or_assoc : {A : Type 0} (a b c : Option A) → option_or (option_or a b) c ≡ option_or a (option_or b c)
+or_assoc None b c = refl
+or_assoc (Some x) b c = refl
+
+desc_in-append : (xs ys : List Entry) (k : ℕ) → desc_in (xs ++ ys) k ≡ option_or (desc_in xs k) (desc_in ys k)
+desc_in-append [] ys k = refl
+desc_in-append (x ∷ xs) ys k = ap (option_or _) (desc_in-append xs ys k) ∙ sym (or_assoc _ (desc_in xs k) (desc_in ys k))
+
+in_table : (table : List Descriptor) (k : ℕ) (x : List Pair) (o : Option Descriptor) → slice_get (ids_of table) k ≡ Some x → option_map (λ d. d.id) (option_or (slice_get table k) o) ≡ Some x
+in_table [] k x o e = cc
+in_table (d ∷ ds) zero x o e = e
+in_table (d ∷ ds) (suc k) x o e = in_table ds k x o e
+
+hit_at : (g : ℕ → List Pair) (k b j : ℕ) (xs : List ℕ) (x : ℕ) → k ≡ b + j → slice_get xs j ≡ Some x → first (map g (hits k b xs)) ≡ Some (g x)
+hit_at g k b j [] x e s = cc
+hit_at g k b zero (y ∷ ys) x e s = let same : (b == k) ≡ true = grind (arith, tests, e) in rw same (let i : y ≡ x = cc in ap (λ z. Some (g z)) i)
+hit_at g k b (suc j) (y ∷ ys) x e s = let l : b < k = omega (arith, e) in let differ : (b == k) ≡ false = grind (arith, tests, l) in rw differ (hit_at g k (b + 1) j ys x (omega (arith, e)) s)
+
+-- ---- the front of a script
+
+record IsFront (ms : List Step) (front : List PlanStep) : Type 0 where
+  begun : List Step
+  rest : List Step
+  whole : ms ≡ begun ++ rest
+  same : map plain begun ≡ front
+
+fronted : (ms : List Step) (front back : List PlanStep) → map plain ms ≡ front ++ back → IsFront ms front
+fronted ms [] back e = record { begun = []; rest = ms; whole = refl; same = refl }
+fronted [] (s ∷ front) back e = let bad : [] ≡ s ∷ (front ++ back) = e in cc
+fronted (m ∷ ms) (s ∷ front) back e =
+    let head : plain m ≡ s = cc in
+    let tail : map plain ms ≡ front ++ back = cc in
+    let more = fronted ms front back tail in
+    record { begun = m ∷ more.begun; rest = more.rest; whole = ap (λ l. m ∷ l) more.whole; same = ap₂ (λ x l. x ∷ l) head more.same }
+
+named_front : (all : List Placed) (table : List Descriptor) (ids : List ℕ) (xs ys : List Step) → Named all table ids (xs ++ ys) → Named all table ids xs
+named_front all table ids [] ys h = tt
+named_front all table ids (x ∷ xs) ys h = (h.0, (h.1.0, named_front all table (told_after ids x) xs ys h.1.1))
+
+known_told : (ids : List ℕ) (ms : List Step) → known_in ids (map plain ms) ≡ ids ++ ids_told ms
+known_told ids [] = sym (append-nil ids)
+known_told ids (s ∷ ss) =
+    elim (is_registration s.act) as (λ d. known_in (if d then ids ++ s.node.number ∷ [] else ids) (map plain ss) ≡ ids ++ ((if d then s.node.number ∷ [] else []) ++ ids_told ss)) [
+      | true ↦ known_told (ids ++ s.node.number ∷ []) ss ∙ append_assoc ids (s.node.number ∷ []) (ids_told ss)
+      | false ↦ known_told ids ss
+    ]
+
+above_all : (w n j len : ℕ) → 0 < w → len ≤ 65536 → len ≤ 65536 * w + n + j
+above_all w n j len h g = omega (arith, h, g)
+
+pub nodes_found : (all : List Placed) (table : List Descriptor) (unit w k : ℕ) (sent : List Event) (front back : List PlanStep) → IsPlanned all table → IsNumbered all
+    → 0 < w → ((key : ℕ) → 65536 * w + registrations sent ≤ key → desc_in (entries_by w sent) key ≡ None)
+    → script_of (forest all) unit ≡ front ++ back → HasKey all table (known_in [] front) k
+    → option_map (λ d. d.id) (desc (record_played all table w sent front) (key_of (length table) (65536 * w + registrations sent) (known_in [] front) k)) ≡ Some (id_at all k)
+nodes_found all table unit w k sent front back p numbers worker old is (inl h) =
+    let less = h.0 in
+    let lt : nat_lt k (length table) ≡ true = grind (arith, tests, less) in
+    ap (λ b. option_map (λ d. d.id) (desc (record_played all table w sent front) (if b then k else 65536 * w + registrations sent + place k (known_in [] front)))) lt
+    ∙ in_table table k (id_at all k) _ h.1
+nodes_found all table unit w k sent front back p numbers worker old is (inr h) =
+    let m = models all table p numbers in
+    let base = 65536 * w + registrations sent in
+    let known = known_in [] front in
+    let key = base + place k known in
+    let less = h.0 in
+    let lt : nat_lt k (length table) ≡ false = grind (arith, tests, less) in
+    let steps = part_steps (trees_of all) unit in
+    let f = fronted steps front back (sym (m.scripts unit) ∙ is) in
+    let named = named_front all table [] f.begun f.rest (subst (Named all table []) f.whole (named_unit all table (trees_of all) m.keyed unit)) in
+    let l = played all (length table) base [] front in
+    let above = above_all w (registrations sent) (place k known) (length table) worker m.few_static in
+    let at : slice_get (ids_told f.begun) (place k known) ≡ Some k = ap (λ i. slice_get i (place k known)) (sym (ap (known_in []) (sym f.same) ∙ known_told [] f.begun)) ∙ h.1 in
+    ap (λ b. option_map (λ d. d.id) (desc (record_played all table w sent front) (if b then k else key))) lt
+    ∙ (ap (λ o. option_map (λ d. d.id) (option_or o (desc_in (entries_by w (sent ++ l)) key))) (none_above table key above)
+    ∙ (ap (λ es. option_map (λ d. d.id) (desc_in es key)) (map-append (entry_by w) sent l)
+    ∙ (ap (option_map (λ d. d.id)) (desc_in-append (entries_by w sent) (entries_by w l) key ∙ ap (λ o. option_or o (desc_in (entries_by w l) key)) (old key (omega arith)))
+    ∙ (found_in key (entries_by w l)
+    ∙ (ap first (ap (told key) (events_by w l ∙ ap (played all (length table) base []) (sym f.same)) ∙ told_played all table key base [] f.begun named)
+    ∙ hit_at (id_at all) key (base + 0) (place k known) (ids_told f.begun) k (omega arith) at)))))
