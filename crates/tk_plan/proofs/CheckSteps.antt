@@ -1,5 +1,5 @@
 -- The checks of one node, one after another.
-use Rattle.std.proofs.Common.{◌≡◌, ℕ, ◌+◌, ◌<◌, ◌≤◌, List, [], ◌∷◌, ◌++◌, length, map, flat_map, codes, Bool, true, false, not, cond, ◌||◌, ◌&&◌, nat_lt, nat_le, Option, Some, None, option_map, refl, sym, ap, ap₂, ◌∙◌, subst, arith, rules, append_assoc, append-nil, length-append}
+use Rattle.std.proofs.Common.{◌≡◌, ℕ, ◌+◌, ◌<◌, ◌≤◌, List, [], ◌∷◌, ◌++◌, length, flat_map, Bool, true, false, not, cond, ◌&&◌, nat_le, Option, Some, None, option_map, refl, sym, ap, ap₂, ◌∙◌, subst, arith, append-nil, length-append}
 use Rattle.std.proofs.lemmas.Bool.{lt-ltb, le-ltb}
 use Rattle.std.proofs.lemmas.Grind.{flat_map-append}
 use Rattle.std.proofs.lemmas.List.{map-append}
@@ -11,17 +11,16 @@ use Rattle.tk_ids.specs.declared.tables.Descriptor.{Descriptor}
 use Rattle.tk_ids.specs.declared.tables.TableFault.TheVariants.{Twice, Full}
 use Rattle.tk_cutting.specs.declared.nodes.Lock.{Lock}
 use Rattle.tk_cutting.specs.declared.nodes.Node.{Node}
-use Rattle.tk_cutting.specs.declared.nodes.Placed.{Placed}
 use Rattle.tk_cutting.specs.Ids.{descriptor, descriptor_in}
 use Rattle.tk_cutting.specs.Keys.{note_key, note_locks, lock_keys}
 use Rattle.tk_cutting.specs.Planned.{is_lawful_node}
 use Rattle.tk_cutting.specs.Trees.{contents}
 use Rattle.tk_plan.specs.Answers.{Refuses}
 use Rattle.tk_plan.specs.Refusals.{Faults}
-use Rattle.tk_plan.specs.Checks.{first, or_else}
+use Rattle.tk_plan.specs.Checks.{first}
 use Rattle.tk_plan.specs.Progress.{IsNoted, IsChecked, IsAdded}
-use Rattle.tk_plan.specs.Sites.{Site, segment_of, id_of, node_of, repeats_key}
-use Rattle.tk_plan.specs.PlanOf.{checks, node_check, id_fault, same_segment, is_kind, when}
+use Rattle.tk_plan.specs.Sites.{Site, segment_of, node_of, repeats_key}
+use Rattle.tk_plan.specs.PlanOf.{checks, node_check, id_fault, same_segment, is_kind}
 use Rattle.tk_plan.specs.declared.readers.Reader.{Reader}
 use Rattle.tk_plan.specs.declared.readers.Checked.{Checked}
 use Rattle.tk_plan.specs.declared.faults.PlanFault.{PlanFault}

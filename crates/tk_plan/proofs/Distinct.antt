@@ -1,10 +1,8 @@
 -- No two nodes of a plan have one id.
-use Rattle.std.proofs.Common.{◌≡◌, ◌≢◌, ℕ, zero, suc, ◌+◌, ◌<◌, ◌≤◌, ◌⊎◌, inl, inr, List, [], ◌∷◌, ◌++◌, length, map, flat_map, Bool, true, false, cond, ◌||◌, ◌&&◌, Option, Some, None, option_map, nat_lt, nat_le, slice_get, Result, Ok, Err, refl, sym, ap, ap₂, ◌∙◌, subst, arith, rules, append_assoc, append-nil, length-append}
-use Rattle.std.proofs.lemmas.List.{map-append}
+use Rattle.std.proofs.Common.{◌≡◌, ℕ, zero, suc, ◌+◌, ◌⊎◌, inl, inr, List, [], ◌∷◌, ◌++◌, length, map, flat_map, Bool, true, false, ◌||◌, Option, Some, None, option_map, nat_lt, nat_le, slice_get, refl, sym, ap, ap₂, ◌∙◌, subst, arith, append_assoc, append-nil, length-append}
 use Rattle.std.specs.List.{list_any, count_by}
 use Rattle.std.specs.Str.{bytes_eq}
 use Rattle.std.specs.Cmp.Lexicographic.{bytes_decides}
-use Rattle.std.specs.Bool.{Decides}
 use Rattle.serde_json.specs.Data.{Data}
 use Rattle.tk_ids.specs.IdText.{Pair}
 use Rattle.tk_ids.specs.declared.tables.TableFault.TheVariants.{Twice, Full}
@@ -13,7 +11,7 @@ use Rattle.tk_cutting.specs.Trees.{Tree, tree, Forest, no_trees, more}
 use Rattle.tk_cutting.specs.Ids.{ids, ids_below, AreDistinct}
 use Rattle.tk_plan.specs.Checks.{first, or_else}
 use Rattle.tk_plan.specs.Sites.{Site, repeats_key, segment_in, segment_of, node_of, below, sites, sites_in, children_in, dynamic_in, children_of, dynamic_of, grown, forest_of}
-use Rattle.tk_plan.specs.PlanOf.{checks, joined, verdict, same_segment, node_check, id_fault, is_kind, when}
+use Rattle.tk_plan.specs.PlanOf.{checks, verdict, same_segment, node_check, id_fault, is_kind, when}
 use Rattle.tk_ids.specs.declared.tables.TheConstants.{MAX_DESCRIPTORS}
 use Rattle.tk_cutting.specs.declared.asking.TheConstants.{MAX_KEYS}
 use Rattle.tk_plan.specs.declared.limits.TheConstants.{MAX_LEVELS}

@@ -1,15 +1,14 @@
 -- A segment, and the id that ends in it.
-use Rattle.std.proofs.Common.{◌≡◌, ◌≢◌, ℕ, zero, suc, ◌<◌, ◌≤◌, ◌==◌, ◌⊎◌, nat_eq, nat_le, inl, inr, List, [], ◌∷◌, ◌++◌, length, Bool, true, false, not, cond, ◌||◌, ◌&&◌, Option, Some, None, option_map, Err, refl, sym, ap, ap₂, ◌∙◌, arith, rules}
-use Rattle.std.proofs.lemmas.Bool.{le-leb, lt-leb}
+use Rattle.std.proofs.Common.{◌≡◌, ℕ, ◌<◌, ◌≤◌, nat_eq, nat_le, inl, inr, List, [], ◌∷◌, ◌++◌, length, Bool, true, false, not, cond, ◌||◌, ◌&&◌, Some, None, option_map, Err, refl, ap, ◌∙◌, arith}
+use Rattle.std.proofs.lemmas.Bool.{le-leb}
 use Rattle.std.proofs.lemmas.Bool.Decides.{nat_tests}
-use Rattle.tk_ids.specs.IdText.{Pair, id_text, FitsLimits}
+use Rattle.tk_ids.specs.IdText.{Pair, FitsLimits}
 use Rattle.tk_ids.specs.Answer.{IsSegmentOf, IsMadeOf}
 use Rattle.tk_ids.specs.declared.ids.IdFault.{IdFault}
 use Rattle.tk_ids.specs.declared.ids.IdFault.TheVariants.{Empty, BadSegment, BadEscape, TooLong, Memory}
 use Rattle.tk_plan.specs.PlanOf.{is_empty, fits, id_fault, when}
 use Rattle.tk_plan.specs.Refusals.{Faults}
 use Rattle.tk_plan.specs.Seen.{as_plan_fault}
-use Rattle.tk_plan.specs.declared.faults.PlanFault.{PlanFault}
 use Rattle.tk_plan.specs.declared.faults.PlanFault.TheVariants.{Id}
 
 or_true : (b : Bool) → b || true ≡ true

@@ -1,5 +1,5 @@
 -- An entry's pairs, put one after another into a map, and a node's entries.
-use Rattle.std.proofs.Common.{◌≡◌, ◌≢◌, ℕ, zero, suc, ◌+◌, List, [], ◌∷◌, ◌++◌, map, Bool, true, false, not, cond, ◌||◌, ◌&&◌, Option, Some, None, is_some, refl, sym, ap, ap₂, ◌∙◌, arith, rules, append_assoc, append-nil}
+use Rattle.std.proofs.Common.{◌≡◌, ℕ, ◌+◌, List, [], ◌∷◌, ◌++◌, map, Bool, true, false, cond, ◌||◌, ◌&&◌, Option, Some, None, is_some, refl, sym, ap, ap₂, ◌∙◌, append_assoc, append-nil}
 use Rattle.std.specs.List.{list_any, list_all}
 use Rattle.std.specs.List.Sorted.{IsStrictlySortedBy}
 use Rattle.std.specs.Str.{bytes_eq}
@@ -10,7 +10,6 @@ use Rattle.std.specs.Cmp.Lexicographic.{slice_cmp, texts_ties}
 use Rattle.std.specs.Map.{lookup, keys_of}
 use Rattle.std.specs.BTreeMap.{insert_entry, is_at}
 use Rattle.std.proofs.lemmas.Map.Lookups.{exact_bytes}
-use Rattle.std.proofs.lemmas.List.{map-append}
 use Rattle.serde_json.specs.Data.{Data}
 use Rattle.serde_json.specs.Find.{as_array}
 use Rattle.serde_json.specs.View.{view, items_view}
@@ -20,7 +19,7 @@ use Rattle.tk_plan.proofs.Items.{listed_items, array_items}
 use Rattle.tk_events.specs.Event.{is_rising, is_before}
 use Rattle.tk_plan.specs.Checks.{text, pair_of, array_of, items_wrong, or_else, item_at}
 use Rattle.tk_plan.specs.Rows.{entry}
-use Rattle.tk_plan.specs.Contents.{said_pair, said_entry, written, put_all, by_key, repeats, repeats_after}
+use Rattle.tk_plan.specs.Contents.{said_pair, said_entry, put_all, repeats, repeats_after}
 
 abbrev pub Texts : Type 0
 Texts = List ℕ × List ℕ

@@ -1,6 +1,6 @@
 -- A fault that a reader hands on.
-use Rattle.std.proofs.Common.{◌≡◌, ℕ, List, Option, Some, None, Result, Ok, Err, refl, sym, ap, ◌∙◌, arith, rules}
-use Rattle.tk_plan.specs.Answers.{Refuses, Reads}
+use Rattle.std.proofs.Common.{◌≡◌, ℕ, List, Option, Some}
+use Rattle.tk_plan.specs.Answers.{Refuses}
 use Rattle.tk_plan.specs.declared.faults.PlanFault.{PlanFault}
 use Rattle.tk_plan.specs.declared.faults.PlanFault.TheVariants.{Json, Field, Id, Table, TooManyResources, EntryKeyTwice, TooManyEvents, Deep, Memory}
 

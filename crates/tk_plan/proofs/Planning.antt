@@ -1,5 +1,5 @@
 -- From a value whose nodes were read to its plan.
-use Rattle.std.proofs.Common.{◌≡◌, ℕ, zero, suc, ◌+◌, ◌<◌, ◌≤◌, ◌^◌, List, [], ◌∷◌, ◌++◌, length, map, codes, Bool, true, false, not, cond, nat_lt, Option, Some, None, option_map, Result, Ok, Err, unwrap_or, refl, sym, ap, ap₂, ◌∙◌, subst, arith, rules, append-nil}
+use Rattle.std.proofs.Common.{◌≡◌, ℕ, zero, suc, ◌+◌, ◌<◌, ◌≤◌, ◌^◌, List, [], ◌∷◌, length, codes, Bool, true, false, not, cond, Option, Some, None, option_map, Result, Err, unwrap_or, refl, sym, ap, ◌∙◌, subst, arith, append-nil}
 use Rattle.std.proofs.lemmas.Bool.{lt-ltb, le-ltb}
 use Rattle.std.specs.List.{count_by, list_all}
 use Rattle.std.proofs.lemmas.List.Sums.{sum_by-append}
@@ -8,18 +8,17 @@ use Rattle.serde_json.specs.Find.{get}
 use Rattle.tk_ids.specs.declared.tables.Descriptor.{Descriptor}
 use Rattle.tk_cutting.specs.declared.nodes.Node.{Node}
 use Rattle.tk_cutting.specs.declared.nodes.Placed.{Placed}
-use Rattle.tk_cutting.specs.Trees.{Tree, tree, Forest, no_trees, more, flat, flats, forest, IsForest, contents}
+use Rattle.tk_cutting.specs.Trees.{Tree, Forest, no_trees, more, flat, flats, forest, IsForest, contents}
 use Rattle.tk_cutting.specs.Ids.{ids, ids_below, descriptors, descriptors_below, AreDistinct}
 use Rattle.tk_cutting.specs.Keys.{lock_keys}
-use Rattle.tk_cutting.specs.Numbers.{of_kind, numbered}
-use Rattle.tk_cutting.specs.Planned.{Outline, IsPlanned, is_rooted, is_lawful_node}
+use Rattle.tk_cutting.specs.Numbers.{of_kind}
+use Rattle.tk_cutting.specs.Planned.{IsPlanned, is_rooted, is_lawful_node}
 use Rattle.tk_cutting.specs.Script.{moves, moves_below}
 use Rattle.tk_cutting.proofs.Grows.{is_forest, forest-flats}
 use Rattle.tk_plan.specs.Answers.{Refuses}
-use Rattle.tk_plan.specs.Checks.{first, or_else}
-use Rattle.tk_plan.specs.Gives.{outline}
+use Rattle.tk_plan.specs.Checks.{first}
 use Rattle.tk_plan.specs.PlanOf.{PlanOf, top, root_at, root_of, first_fault, events_fault, ok_unless, verdict, is_kind, when}
-use Rattle.tk_plan.specs.Progress.{IsNoted, Adds}
+use Rattle.tk_plan.specs.Progress.{IsNoted}
 use Rattle.tk_plan.specs.Refusals.{IsFault}
 use Rattle.tk_plan.specs.Sites.{Site, sites, grown}
 use Rattle.tk_plan.specs.declared.readers.Reader.{Reader}

@@ -1,12 +1,11 @@
 -- A result with a message that it may not have.
-use Rattle.std.proofs.Common.{◌≡◌, ℕ, List, [], ◌∷◌, Bool, true, false, cond, ◌||◌, ◌&&◌, codes, map, Option, Some, None, is_some, refl, sym, ap, ◌∙◌, arith, rules}
+use Rattle.std.proofs.Common.{◌≡◌, ℕ, List, [], ◌∷◌, Bool, true, false, cond, ◌||◌, codes, Option, Some, None, is_some, refl}
 use Rattle.std.specs.Str.{bytes_eq}
 use Rattle.serde_json.specs.Data.{Data, null, boolean, number, string, array, object}
 use Rattle.serde_json.specs.Find.{get}
-use Rattle.tk_events.specs.declared.kinds.Status.{Status}
 use Rattle.tk_events.specs.declared.kinds.Status.TheVariants.{Successful, Aborted, Failed}
-use Rattle.tk_plan.specs.Checks.{member_at, member_wrong, row, unknown, or_else}
-use Rattle.tk_plan.specs.Rows.{status_row, message_row, succeeds, message_wrong, result}
+use Rattle.tk_plan.specs.Checks.{member_at, member_wrong, row, unknown}
+use Rattle.tk_plan.specs.Rows.{status_row, message_row, succeeds, result}
 use Rattle.tk_plan.specs.Contents.{said_status, said_optional}
 
 by_words : (at : List ℕ) (b1 b2 b3 : Bool) → cond (b1 || (b2 || (b3 || false))) None (Some at) ≡ None → cond b2 Aborted (cond b3 Failed Successful) ≡ Successful → b1 ≡ true

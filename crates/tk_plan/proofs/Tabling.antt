@@ -1,5 +1,5 @@
 -- The descriptors of a plan's static nodes, put into a table one after another.
-use Rattle.std.proofs.Common.{◌≡◌, ℕ, zero, suc, ◌+◌, ◌-◌, ◌<◌, ◌⊎◌, inl, inr, List, [], ◌∷◌, ◌++◌, length, map, flat_map, Bool, true, false, cond, ◌||◌, take, Option, Some, None, slice_get, refl, sym, ap, ap₂, ◌∙◌, subst, arith, append_assoc, append-nil, length-append}
+use Rattle.std.proofs.Common.{◌≡◌, ℕ, zero, suc, ◌+◌, ◌-◌, ◌⊎◌, inl, inr, List, [], ◌∷◌, ◌++◌, length, map, Bool, true, false, cond, ◌||◌, take, Some, None, slice_get, refl, sym, ap, ◌∙◌, subst, arith, append_assoc, append-nil, length-append}
 use Rattle.std.proofs.lemmas.List.{map-append}
 use Rattle.std.proofs.Math.Seq.{take-append_seam}
 use Rattle.std.specs.List.{list_any}
@@ -7,9 +7,8 @@ use Rattle.serde_json.specs.Data.{Data}
 use Rattle.tk_ids.specs.IdText.{Pair, front_of}
 use Rattle.tk_ids.specs.Table.{ids_of, HasId, HasParent}
 use Rattle.tk_ids.specs.declared.tables.Descriptor.{Descriptor}
-use Rattle.tk_cutting.specs.declared.nodes.Node.{Node}
 use Rattle.tk_cutting.specs.Trees.{Tree, tree, Forest, no_trees, more}
-use Rattle.tk_cutting.specs.Ids.{ids, ids_below, descriptor, descriptor_in, descriptors, descriptors_below}
+use Rattle.tk_cutting.specs.Ids.{ids, ids_below, descriptor, descriptors, descriptors_below}
 use Rattle.tk_plan.specs.PlanOf.{same_segment, verdict}
 use Rattle.tk_plan.specs.Sites.{Site, segment_in, below, sites, sites_in, children_of, children_in, dynamic_of, dynamic_in, grown, forest_of}
 use Rattle.tk_plan.specs.Tables.{Follow}

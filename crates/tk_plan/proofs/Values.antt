@@ -1,13 +1,11 @@
 -- Whether bytes are a value.
-use Rattle.std.proofs.Common.{◌≡◌, ℕ, List, Bool, true, false, cond, Option, Some, None, Result, Ok, Err, refl, sym, ap, ◌∙◌}
+use Rattle.std.proofs.Common.{◌≡◌, ℕ, List, Bool, true, false, cond, Some, None, Err, refl, ap, ◌∙◌}
 use Rattle.std.specs.Str.{is_utf8, IsUtf8}
 use Rattle.std.proofs.lemmas.Str.{IsUtf8-from_is_utf8, is_utf8-from_IsUtf8}
 use Rattle.serde_json.specs.Data.{Data}
 use Rattle.serde_json.specs.Read.{read}
 use Rattle.tk_plan.specs.PlanOf.{PlanOf}
-use Rattle.tk_cutting.specs.Trees.{Tree}
-use Rattle.tk_plan.specs.Gives.{plan_in, plan_or_json, value_of}
-use Rattle.tk_plan.specs.declared.faults.PlanFault.{PlanFault}
+use Rattle.tk_plan.specs.Gives.{plan_in, plan_or_json}
 use Rattle.tk_plan.specs.declared.faults.PlanFault.TheVariants.{Json}
 
 pub value_here : (bytes : List ℕ) (d : Data) → IsUtf8 bytes → read bytes ≡ Some d → plan_in bytes ≡ PlanOf d

@@ -1,9 +1,9 @@
 -- Verdicts of some nodes after others.
-use Rattle.std.proofs.Common.{◌≡◌, ℕ, zero, suc, ◌+◌, List, [], ◌∷◌, ◌++◌, map, flat_map, Option, Some, None, refl, sym, ap, ap₂, ◌∙◌, arith, rules, append_assoc, append-nil}
+use Rattle.std.proofs.Common.{◌≡◌, ℕ, zero, suc, List, [], ◌∷◌, ◌++◌, map, flat_map, Option, Some, None, refl, sym, ap, ap₂, ◌∙◌, append_assoc, append-nil}
 use Rattle.std.proofs.lemmas.List.{map-append}
 use Rattle.tk_ids.specs.IdText.{Pair}
 use Rattle.tk_cutting.specs.declared.nodes.Node.{Node}
-use Rattle.tk_cutting.specs.Trees.{Tree, tree, flat, flats, contents}
+use Rattle.tk_cutting.specs.Trees.{Tree, flat, flats, contents}
 use Rattle.tk_cutting.specs.Ids.{descriptors, descriptors_below}
 use Rattle.tk_plan.specs.Checks.{first, or_else}
 use Rattle.tk_plan.specs.Sites.{Site, node_of, below, sites, forest_of, grown}

@@ -5,7 +5,7 @@ use Rattle.serde_json.specs.Data.{Data}
 use Rattle.tk_events.specs.Event.{is_rising, is_lawful}
 use Rattle.tk_events.specs.declared.kinds.Kind.TheVariants.{Finished}
 use Rattle.tk_events.specs.declared.payloads.Payload.TheVariants.{Outcome}
-use Rattle.tk_plan.specs.Contents.{status_in, message_in, said_entry, said_entries, repeats as repeats_in, listed}
+use Rattle.tk_plan.specs.Contents.{status_in, message_in, said_entry, repeats as repeats_in}
 use Rattle.tk_plan.specs.declared.pairings.Ending.{Ending}
 use Rattle.tk_plan.specs.declared.pairings.Report.{Report}
 use Rattle.tk_plan.specs.declared.pairings.Reports.{Reports}

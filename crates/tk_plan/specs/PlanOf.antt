@@ -1,5 +1,5 @@
 -- The plan that a JSON value stands for, or the first fault.
-use Rattle.std.specs.Prelude.{ℕ, ◌+◌, ◌-◌, ◌&&◌, ◌||◌, ◌==◌, List, [], ◌∷◌, ◌++◌, length, Bool, true, false, not, nat_lt, nat_le, Option, Some, None, option_map, Result, Ok, Err, if◌then◌else◌, codes, map, unwrap_or}
+use Rattle.std.specs.Prelude.{ℕ, ◌&&◌, ◌||◌, ◌==◌, List, [], ◌∷◌, ◌++◌, length, Bool, true, false, not, nat_lt, nat_le, Option, Some, None, option_map, Result, Ok, Err, if◌then◌else◌, codes, unwrap_or}
 use Rattle.std.specs.List.{list_any, count_by}
 use Rattle.std.specs.Str.{bytes_eq}
 use Rattle.serde_json.specs.Data.{Data, null, number, unsigned}
@@ -15,9 +15,9 @@ use Rattle.tk_cutting.specs.declared.nodes.Node.{Node}
 use Rattle.tk_cutting.specs.Keys.{lock_keys}
 use Rattle.tk_cutting.specs.Trees.{Tree}
 use Rattle.tk_cutting.specs.Script.{moves}
-use Rattle.tk_plan.specs.Checks.{Check, first, or_else, object_of, must}
+use Rattle.tk_plan.specs.Checks.{Check, first, object_of, must}
 use Rattle.tk_plan.specs.Rows.{static_node, dynamic_node}
-use Rattle.tk_plan.specs.Sites.{Site, segment_of, id_of, node_of, repeats_key, sites, grown}
+use Rattle.tk_plan.specs.Sites.{Site, segment_of, node_of, repeats_key, sites, grown}
 use Rattle.tk_plan.specs.declared.faults.PlanFault.{PlanFault}
 use Rattle.tk_plan.specs.declared.faults.PlanFault.TheVariants.{Field, Id, Table, TooManyResources, EntryKeyTwice, TooManyEvents, Deep}
 use Rattle.tk_cutting.specs.declared.asking.TheConstants.{MAX_KEYS}

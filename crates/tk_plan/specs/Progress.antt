@@ -1,5 +1,5 @@
 -- What a step of the reading adds to what was read.
-use Rattle.std.specs.Prelude.{◌≡◌, ◌++◌, ◌+◌, ◌≤◌, ◌<◌, ◌∷◌, [], ℕ, List, Bool, true, false, length, map, if◌then◌else◌}
+use Rattle.std.specs.Prelude.{◌≡◌, ◌++◌, ◌+◌, ◌≤◌, ◌<◌, ◌∷◌, [], List, true, false, length, map, if◌then◌else◌}
 use Rattle.std.specs.List.{list_all, count_by}
 use Rattle.serde_json.specs.View.{view}
 use Rattle.tk_ids.specs.IdText.{Pair}

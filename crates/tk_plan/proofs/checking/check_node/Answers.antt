@@ -1,16 +1,13 @@
-use Rattle.std.proofs.Common.{◌≡◌, ℕ, ◌++◌, ◌∷◌, [], ◌≤◌, ◌<◌, List, length, map, option_map, nat_le, not, cond, true, false, None, Some, refl, sym, ap, ap₂, ◌∙◌, subst, arith, rules}
+use Rattle.std.proofs.Common.{◌≡◌, ◌++◌, ◌∷◌, [], ◌≤◌, ◌<◌, length, option_map, cond, refl, sym, ap, ◌∙◌, subst}
 use Rattle.std.proofs.lemmas.Result.{err_from_is_err_and}
-use Rattle.std.specs.List.{list_any, count_by}
-use Rattle.tk_ids.specs.IdText.{Pair}
-use Rattle.tk_cutting.specs.Keys.{lock_keys}
+use Rattle.std.specs.List.{list_any}
 use Rattle.tk_cutting.specs.Trees.{contents}
-use Rattle.tk_plan.specs.PlanOf.{id_fault, same_segment, is_kind}
+use Rattle.tk_plan.specs.PlanOf.{id_fault, same_segment}
 use Rattle.tk_plan.specs.Seen.{seen, segment_said}
 use Rattle.tk_plan.specs.Sites as spec
 use Rattle.tk_plan.specs.Sites.{node_of, id_of, segment_of}
 use Rattle.tk_plan.proofs.CheckSteps.{Passes, faults_also, faults_from_place, deep_fault, field_fault, repeat_fault, id_fault_here, twice_fault, full_fault, resource_fault, no_fault, keys_as, below_limit, both, not_false, not_true}
 use Rattle.tk_plan.proofs.checking.check_node.Goals as goal
-use Rattle.tk_plan.specs.declared.faults.PlanFault as faults
 use Rattle.tk_plan.specs.declared.faults.PlanFault.TheVariants.{Id}
 
 pub returns-then-site-gt-MAX_LEVELS : goal.returns-then-site-gt-MAX_LEVELS

@@ -1,6 +1,3 @@
-use Rattle.std.proofs.Common.{rules, ◌≡◌, ℕ, List, [], drop, map, length, refl, sym, ap, ◌∙◌, arith}
-use Rattle.std.proofs.lemmas.List.{drop_more, drop_all}
-use Rattle.serde_json.specs.View.{view}
 use Rattle.tk_plan.proofs.Pairing.{report_start}
 use Rattle.tk_plan.proofs.endings.entries.Goals as goal
 

@@ -1,6 +1,4 @@
-use Rattle.std.proofs.Common.{rules, ◌≡◌, ℕ, List, [], drop, map, length, ◌||◌, is_some, refl, sym, ap, ◌∙◌, arith}
-use Rattle.std.proofs.lemmas.List.{drop_more, drop_all}
-use Rattle.serde_json.specs.View.{view}
+use Rattle.std.proofs.Common.{◌≡◌, ◌||◌, is_some, ap, ◌∙◌}
 use Rattle.tk_plan.proofs.Pairing.{goes_start, goes_next, has_key}
 use Rattle.tk_plan.proofs.Items.{values_next}
 use Rattle.tk_plan.proofs.endings.entry.Goals as goal

@@ -1,4 +1,4 @@
-use Rattle.std.proofs.Common.{◌≡◌, ◌||◌, drop, map, length, ◌≤◌}
+use Rattle.std.proofs.Common.{drop, map}
 use Rattle.serde_json.specs.View.{view}
 use Rattle.tk_plan.specs.Checks.{item_at}
 use Rattle.tk_plan.proofs.Pairing.{GoesOn}

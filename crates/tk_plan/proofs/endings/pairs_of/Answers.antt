@@ -1,4 +1,3 @@
-use Rattle.std.proofs.Common.{◌≡◌}
 use Rattle.tk_plan.proofs.Pairing.{map_rises}
 use Rattle.tk_plan.proofs.endings.pairs_of.Goals as goal
 

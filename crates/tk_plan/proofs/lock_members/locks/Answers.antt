@@ -1,4 +1,4 @@
-use Rattle.std.proofs.Common.{◌≡◌, [], map, ◌∙◌, sym, ap, refl, drop, take, length, arith}
+use Rattle.std.proofs.Common.{◌≡◌, [], map, ◌∙◌, sym, ap, drop, take, arith}
 use Rattle.std.proofs.lemmas.List.{drop_all, take_all}
 use Rattle.serde_json.specs.View.{view}
 use Rattle.tk_plan.specs.Checks.{items_wrong}

@@ -1,6 +1,5 @@
-use Rattle.std.proofs.Common.{map, sym, ap, ◌∙◌, Some, ℕ, List, Option}
+use Rattle.std.proofs.Common.{map, sym, ap, ◌∙◌}
 use Rattle.serde_json.specs.View.{view}
-use Rattle.serde_json.specs.Data.{Data}
 use Rattle.tk_plan.specs.Checks.{member_wrong, may, any_array, member_at}
 use Rattle.tk_plan.specs.Pointers.{pointer}
 use Rattle.tk_plan.specs.Contents.{listed}

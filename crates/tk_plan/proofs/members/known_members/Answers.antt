@@ -1,5 +1,4 @@
-use Rattle.std.proofs.Common.{◌≡◌, sym, ◌∙◌, arith, rules, false, string_bytes}
-use Rattle.std.specs.List.{list_any}
+use Rattle.std.proofs.Common.{sym, ◌∙◌}
 use Rattle.serde_json.proofs.Views.{Entry}
 use Rattle.tk_plan.specs.Pointers.{pointer}
 use Rattle.tk_plan.proofs.MemberSteps.{known_next, unknown_next}

@@ -1,6 +1,6 @@
-use Rattle.std.proofs.Common.{rules, ◌≡◌, ℕ, List, get_or, sym, ◌≢◌, length, arith}
+use Rattle.std.proofs.Common.{◌≡◌, get_or, sym, ◌≢◌, length, arith}
 use Rattle.std.proofs.lemmas.Result.{err_from_is_err_and}
-use Rattle.tk_plan.specs.Checks.{text as is_text, item_at}
+use Rattle.tk_plan.specs.Checks.{text as is_text}
 use Rattle.tk_plan.proofs.Items.{not_a_pair, wrong_first}
 use Rattle.tk_plan.proofs.Passing.{refuses_whole}
 use Rattle.tk_plan.proofs.members.two_texts.Goals as goal

@@ -1,4 +1,3 @@
-use Rattle.std.proofs.Common.{◌≡◌, ◌≢◌, arith}
 use Rattle.tk_plan.proofs.Escapes.{letter_written}
 use Rattle.tk_plan.proofs.pointers.escaped_place.Goals as goal
 

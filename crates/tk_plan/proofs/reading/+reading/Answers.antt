@@ -1,24 +1,22 @@
-use Rattle.std.proofs.Common.{◌≡◌, ◌≤◌, ◌<◌, ◌++◌, ◌-◌, ◌+◌, map, flat_map, ℕ, suc, List, [], ◌∷◌, length, drop, refl, sym, ap, ap₂, ◌∙◌, subst, Some, None, arith, rules, append-nil}
+use Rattle.std.proofs.Common.{◌≡◌, ◌++◌, ◌-◌, ◌+◌, map, ℕ, suc, List, [], ◌∷◌, length, drop, refl, sym, ap, ap₂, ◌∙◌, subst, Some, None, arith, rules, append-nil}
 use Rattle.std.proofs.lemmas.List.{drop_all}
 use Rattle.std.proofs.lemmas.Bool.Decides.{nat_tests}
 use Rattle.std.proofs.lemmas.Result.{err_from_is_err_and}
 use Rattle.serde_json.specs.View.{view}
 use Rattle.serde_json.specs.declared.value.Value.{Value}
-use Rattle.tk_ids.specs.IdText.{Pair}
 use Rattle.tk_cutting.specs.declared.nodes.Placed.{Placed}
-use Rattle.tk_cutting.specs.Keys.{lock_keys}
-use Rattle.tk_cutting.specs.Trees.{flat, contents}
+use Rattle.tk_cutting.specs.Trees.{contents}
 use Rattle.tk_cutting.specs.Ids.{descriptor_in}
 use Rattle.tk_plan.specs.Checks.{member_at, item_at, first}
 use Rattle.tk_plan.specs.Pointers.{pointer}
-use Rattle.tk_plan.specs.PlanOf.{verdict, checks}
-use Rattle.tk_plan.specs.Progress.{IsNoted, Adds}
+use Rattle.tk_plan.specs.PlanOf.{checks}
+use Rattle.tk_plan.specs.Progress.{IsNoted}
 use Rattle.tk_plan.specs.Sites as spec
 use Rattle.tk_plan.specs.Sites.{sites, sites_in, segment_in, segment_of, id_of, node_of, grown, below}
 use Rattle.tk_plan.specs.Seen.{seen}
 use Rattle.tk_plan.proofs.CheckSteps.{faults_also, noted_added, noted_same}
 use Rattle.tk_plan.proofs.Items.{values_next}
-use Rattle.tk_plan.proofs.Going.{Goes, Met, met_next, met_end, goes_next, goes_fault, goes_end, goes_nowhere, site_next, check_fault, parts_of, static_fault, dynamic_verdict, placed_at, grown_here, described_here, nothing_below, leaf_read, span_written, no_values}
+use Rattle.tk_plan.proofs.Going.{Goes, met_next, met_end, goes_next, goes_fault, goes_end, goes_nowhere, site_next, check_fault, parts_of, static_fault, dynamic_verdict, placed_at, grown_here, described_here, nothing_below, leaf_read, span_written, no_values}
 use Rattle.tk_plan.proofs.reading.+reading.Goals as goal
 
 pub read_all-returns-in_err-read_node : goal.read_all-returns-in_err-read_node

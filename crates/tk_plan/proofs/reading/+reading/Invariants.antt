@@ -1,4 +1,4 @@
-use Rattle.std.proofs.Common.{ℕ, ◌-◌, ◌+◌, ◌*◌, map, drop}
+use Rattle.std.proofs.Common.{◌-◌, ◌+◌, ◌*◌, map, drop}
 use Rattle.serde_json.specs.View.{view}
 use Rattle.tk_plan.specs.Checks.{member_at}
 use Rattle.tk_plan.specs.Pointers.{pointer}

@@ -1,4 +1,4 @@
-use Rattle.std.proofs.Common.{◌≡◌, ◌≤◌, ◌^◌, length, ◌++◌, codes, List, [], true, None, refl, sym, ap, ◌∙◌, subst, rules}
+use Rattle.std.proofs.Common.{◌≡◌, ◌≤◌, ◌^◌, length, ◌++◌, codes, [], true, None, refl, sym, ap, ◌∙◌, subst}
 use Rattle.serde_json.specs.View.{view}
 use Rattle.tk_cutting.specs.Ids.{descriptors}
 use Rattle.tk_cutting.specs.Numbers.{numbered}

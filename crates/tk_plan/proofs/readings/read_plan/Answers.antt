@@ -1,7 +1,7 @@
-use Rattle.std.proofs.Common.{◌≡◌, sym, subst, arith}
+use Rattle.std.proofs.Common.{sym, subst, arith}
 use Rattle.serde_json.specs.Errors.{IsMemory}
 use Rattle.serde_json.specs.View.{view}
-use Rattle.tk_plan.specs.Gives.{plan_in, Answered}
+use Rattle.tk_plan.specs.Gives.{Answered}
 use Rattle.tk_plan.proofs.Values.{value_here, no_value}
 use Rattle.tk_plan.proofs.readings.read_plan.Goals as goal
 
