@@ -1,9 +1,10 @@
-//! Sessions over a table of one node.
+//! What the tests of sessions share. No clause speaks of these values.
 use std::alloc::Global;
 use std::sync::Arc;
 use tk_events::{Event, Kind, Payload};
 use tk_ids::{DType, Segment, Table};
 
+/// A start of the descriptor with that key.
 pub fn start(key: u32, stamp: u64) -> Event {
     Event {
         kind: Kind::Started,
@@ -13,7 +14,7 @@ pub fn start(key: u32, stamp: u64) -> Event {
     }
 }
 
-/// None for want of memory.
+/// A table of one node, or None for want of memory.
 pub fn one_node(alloc: Global) -> Option<Arc<Table>> {
     let mut table = Table::new(alloc);
     let segment = Segment::new(alloc, "engine", "e").ok()?;
