@@ -1,4 +1,7 @@
 //! What the words of the command line ask for.
+ghost use Rattle.std.specs.Prelude.{◌≡◌, map, string_bytes, IfOk, OnErr};
+ghost use Rattle.testkit.specs.declared.commands.Job.TheVariants.{Replay};
+ghost use Rattle.testkit.specs.Commands.{IsJobOf, IsNoAskLine};
 
 use crate::faults::Fault;
 use clap::error::ErrorKind;
@@ -31,7 +34,9 @@ fn fault_of(error: &Error) -> Fault {
 }
 
 /// The job of a command line that is not a question.
-fn other_job<'w>(alloc: Global, words: &'w [String]) -> Result<Job<'w>, Fault> {
+fn other_job<'w>(alloc: Global, words: &'w [String]) -> Result<Job<'w>, Fault>
+    ensures { IfOk result (λ job. job ≡ Replay) }
+{
     let command = match command(alloc) {
         Ok(command) => command,
         Err(error) => return Err(fault_of(&error)),
@@ -47,7 +52,10 @@ fn other_job<'w>(alloc: Global, words: &'w [String]) -> Result<Job<'w>, Fault> {
 
 /// The job of a command line, the program's name first. What follows `ask` is the question's own;
 /// what the command-line crate makes of other words is tested, and no clause says it.
-pub fn job_of<'w>(alloc: Global, words: &'w [String]) -> Result<Job<'w>, Fault> {
+pub fn job_of<'w>(alloc: Global, words: &'w [String]) -> Result<Job<'w>, Fault>
+    ensures job { IfOk result (IsJobOf (map string_bytes words.now)) }
+    ensures err { OnErr result (IsNoAskLine (map string_bytes words.now)) }
+{
     if let [_, command, question @ ..] = words {
         if command.as_str() == "ask" {
             return Ok(Job::Ask(question));
