@@ -183,3 +183,22 @@ fn a_failure_names_its_unit(rt: HostRuntime) -> Result<(), Fail> {
     assert!(rt; fails_alone(&rt, rt.alloc(), &engine));
     Ok(())
 }
+
+// Whether a run of 2,000 starts may answer so where a growth was refused.
+fn is_answered(answer: &Result<Results, RunFault>) -> bool {
+    match answer {
+        Ok(results) => results.recorded().len() == 2000,
+        Err(RunFault::Memory | RunFault::Threads) => true,
+        Err(RunFault::Engine(_, UnitFault::Memory)) => true,
+        Err(_) => false,
+    }
+}
+
+// With a refused allocation at any place it ends too.
+#[test]
+fn a_run_through_one_place_ends(rt: HostRuntime) {
+    if let Ok(engine) = played(rt.alloc(), 2, Need::of(1, 0), Play::Starts(1000)) {
+        let answer = execute(&rt, rt.alloc(), &engine, 2, 1);
+        assert!(rt; is_answered(&answer));
+    }
+}

@@ -16,6 +16,7 @@ pub enum CoreFault {
     Worker,
     /// It has ended.
     AfterEnd,
+    /// A growth was refused.
     Memory,
 }
 
@@ -43,6 +44,7 @@ impl Model for Core {
 }
 
 impl Core {
+    /// A queue of this many workers, of whom none emitted anything.
     pub fn new(alloc: Global, workers: u8) -> Core
         requires { (0 < workers) × (workers ≤ MAX_WORKERS) }
         ensures { result ≡ fresh workers }

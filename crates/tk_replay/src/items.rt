@@ -4,7 +4,9 @@ use tk_events::Entry;
 /// An entry of a worker, or its end mark.
 #[derive(Debug, Drop)]
 pub enum Item {
+    /// An event, with the worker that emitted it.
     Entry(Entry),
+    /// The worker of this number emits no more.
     End(u8),
 }
 

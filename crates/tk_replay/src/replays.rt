@@ -33,6 +33,7 @@ pub enum ReplayFault {
     TooLarge,
     /// The source or the target is broken.
     Device,
+    /// A growth was refused.
     Memory,
 }
 
