@@ -196,9 +196,9 @@ fn is_answered(answer: &Result<Results, RunFault>) -> bool {
 
 // With a refused allocation at any place it ends too.
 #[test]
-fn a_run_through_one_place_ends(rt: HostRuntime) {
-    if let Ok(engine) = played(rt.alloc(), 2, Need::of(1, 0), Play::Starts(1000)) {
-        let answer = execute(&rt, rt.alloc(), &engine, 2, 1);
-        assert!(rt; is_answered(&answer));
-    }
+fn a_run_through_one_place_ends(rt: HostRuntime) -> Result<(), Fail> {
+    let engine = played(rt.alloc(), 2, Need::of(1, 0), Play::Starts(1000))?;
+    let answer = execute(&rt, rt.alloc(), &engine, 2, 1);
+    assert!(rt; is_answered(&answer));
+    Ok(())
 }

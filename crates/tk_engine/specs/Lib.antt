@@ -3,6 +3,7 @@ pub use Rattle.tk_runs.specs.Run
 pub mod Engines
 pub mod Intakes
 pub mod Results
+pub mod Sinks
 pub mod Sorting
 pub mod Starts
 pub mod Workers

@@ -29,12 +29,20 @@ pub enum UnitFault {
 }
 
 impl From<SinkFault> for UnitFault {
+    ghost use Rattle.tk_engine.specs.declared.engines.UnitFault.TheVariants.{Sink as Sunk};
+
+    ghost from_gives = { λ fault e. e ≡ Sunk fault };
+
     fn from(fault: SinkFault) -> UnitFault {
         UnitFault::Sink(fault)
     }
 }
 
 impl From<AllocError> for UnitFault {
+    ghost use Rattle.tk_engine.specs.declared.engines.UnitFault.TheVariants.{Memory};
+
+    ghost from_gives = { λ _ e. e ≡ Memory };
+
     fn from(_: AllocError) -> UnitFault {
         UnitFault::Memory
     }

@@ -1,5 +1,6 @@
 //! Where a unit's events go.
-ghost use Rattle.std.specs.Prelude.{◌≡◌, None, Ok, IfOk, OnOk, OnErr};
+ghost use Rattle.std.specs.Prelude.{◌≡◌, None, Ok, IfOk, IfErr, OnOk, OnErr};
+ghost use Rattle.tk_engine.specs.Sinks.{IsSendCause, IsRegisterCause};
 ghost use Rattle.tk_queue.specs.Ends.{Emits, sends, refusal_of, IsRegisteredAs};
 
 use std::sync::Wait;
@@ -42,7 +43,11 @@ pub trait Sink {
 impl Sink for Sender {
     ghost meaning = { λ s. s };
 
-    fn emit<R: Wait>(&mut self, rt: &R, event: Event) -> Result<(), SinkFault> {
+    fn emit<R: Wait>(&mut self, rt: &R, event: Event) -> Result<(), SinkFault>
+        ensures ok { OnOk result ((refusal_of self.old event ≡ None) × (self.new ≡ sends self.old event)) }
+        ensures err { OnErr result (self.new ≡ self.old) }
+        ensures cause { IfErr result (IsSendCause self.old event) }
+    {
         match self.send(rt, event) {
             Ok(()) => Ok(()),
             Err(fault) => Err(SinkFault::Send(fault)),
@@ -57,7 +62,11 @@ impl Sink for Sender {
         name: &str,
         dtype: DType,
         stamp: u64,
-    ) -> Result<u32, SinkFault> {
+    ) -> Result<u32, SinkFault>
+        ensures ok { IfOk result (λ key. IsRegisteredAs self.old self.new parent segment.now name.now dtype stamp (Ok key)) }
+        ensures err { OnErr result (self.new ≡ self.old) }
+        ensures cause { IfErr result (IsRegisterCause self.old self.new parent segment.now name.now dtype stamp) }
+    {
         match Sender::register(self, rt, parent, segment, name, dtype, stamp) {
             Ok(key) => Ok(key),
             Err(fault) => Err(SinkFault::Register(fault)),
