@@ -22,6 +22,8 @@ pub enum Play {
     InTurns,
     // Each emits a start and a finish, and fails if the other runs meanwhile.
     Alone,
+    // Each emits a start, and then fails.
+    Failing,
 }
 
 #[derive(Drop)]
@@ -154,6 +156,13 @@ impl Played {
         emit(rt, sink, finish(u64::from(unit)))
     }
 
+    fn failing<R: Wait, S: Sink>(&self, rt: &R, sink: &mut S) -> Result<(), UnitFault>
+        ensures { Grew (S.meaning sink.old) (S.meaning sink.new) }
+    {
+        emit(rt, sink, start(1))?;
+        Err(UnitFault::Own(3))
+    }
+
     #[tactic(auto, using(crate::proofs::Growing::grew_refl, crate::proofs::Growing::grew_trans))]
     fn play<R: Wait, S: Sink>(&self, rt: &R, unit: u32, sink: &mut S) -> Result<(), UnitFault>
         ensures { Grew (S.meaning sink.old) (S.meaning sink.new) }
@@ -164,6 +173,7 @@ impl Played {
             Play::InTurns if unit == 0 => self.first_in_turns(rt, sink),
             Play::InTurns => self.second_in_turns(rt, sink),
             Play::Alone => self.alone(rt, unit, sink),
+            Play::Failing => self.failing(rt, sink),
         }
     }
 }

@@ -179,7 +179,7 @@ fn fails_alone<R: Threads + Wait + Sync>(rt: &R, alloc: Global, engine: &Played)
 
 #[test]
 fn a_failure_names_its_unit(rt: HostRuntime) -> Result<(), Fail> {
-    let engine = played(rt.alloc(), 2, Need::of(1, 0), Play::InTurns)?;
+    let engine = played(rt.alloc(), 2, Need::of(1, 0), Play::Failing)?;
     assert!(rt; fails_alone(&rt, rt.alloc(), &engine));
     Ok(())
 }
