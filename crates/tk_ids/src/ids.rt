@@ -1,5 +1,5 @@
 //! Unique ids.
-ghost use Rattle.std.specs.Prelude.{◌≡◌, ℕ, List, MatchOption, IfOk, IfErr, IsOk, OnOk, length, [], ◌∷◌, ◌++◌, ◌<◌, ◌⊎◌, IsTrue, ◌↔◌};
+ghost use Rattle.std.specs.Prelude.{◌≡◌, ℕ, List, MatchOption, IfOk, IfErr, IsOk, OnOk, length, [], ◌∷◌, ◌++◌, ◌<◌, ◌≤◌, ◌⊎◌, IsTrue, ◌↔◌};
 ghost use Rattle.tk_ids.specs.IdText.{EndsInEscape};
 ghost use Rattle.tk_ids.specs.Answer.{IsFaultBehind};
 
@@ -8,6 +8,7 @@ use crate::texts::Text;
 use crate::writing::push_segment;
 use std::alloc::{AllocError, AllocFailed, Global};
 use std::marker::Model;
+use std::sync::Arc;
 
 /// Why there is no id. Positions count bytes from 0.
 #[derive(Debug, Clone, Copy, PartialEq, Eq)]
@@ -50,33 +51,45 @@ pub const MAX_BYTES: usize = 4096;
 /// How many segments an id has at most.
 pub const MAX_SEGMENTS: usize = 64;
 
-/// A tag and a value, neither of them empty.
+/// How many bytes are reserved for a segment's text before it is written; a longer one grows.
+const SEGMENT_ROOM: usize = 64;
+
+/// What a segment keeps.
 #[derive(Debug, Drop)]
-pub struct Segment {
+struct Parts {
     tag: Text,
     value: Text,
 }
 
+/// A tag and a value, neither of them empty. Clones share them.
+#[derive(Debug, Drop)]
+pub struct Segment {
+    parts: Arc<Parts>,
+}
+
 impl Model for Segment {
+    ghost use Rattle.std.specs.Arc.{arc_value};
     ghost use Rattle.tk_ids.specs.IdText.{Pair, IsPart};
 
     ghost Value = { Pair };
 
-    ghost view = { λ s. record { tag = s.tag; value = s.value } };
+    ghost view = { λ s. record { tag = (arc_value s.parts).tag; value = (arc_value s.parts).value } };
 
-    ghost invariant = { λ s. IsPart s.tag × IsPart s.value };
+    ghost invariant = { λ s. IsPart (arc_value s.parts).tag × IsPart (arc_value s.parts).value };
 }
 
 impl Segment {
     ghost use Rattle.tk_ids.specs.IdText.{IsPart};
     ghost use Rattle.tk_ids.specs.Answer.{IsSegmentOf};
 
-    pub(crate) fn of_parts(tag: Text, value: Text) -> Segment
+    pub(crate) fn of_parts(alloc: Global, tag: Text, value: Text) -> Result<Segment, AllocError>
         requires tag { IsPart tag }
         requires value { IsPart value }
-        ensures { result ≡ record { tag = tag; value = value } }
+        ensures { IfOk result (λ s. s ≡ record { tag = tag; value = value }) }
     {
-        Segment { tag, value }
+        Ok(Segment {
+            parts: Arc::new(alloc, Parts { tag, value })?,
+        })
     }
 
     /// A segment with this tag and this value.
@@ -86,10 +99,8 @@ impl Segment {
         if tag.is_empty() || value.is_empty() {
             return Err(IdFault::Empty);
         }
-        Ok(Segment {
-            tag: Text::copy(alloc, tag)?,
-            value: Text::copy(alloc, value)?,
-        })
+        let (tag, value) = (Text::copy(alloc, tag)?, Text::copy(alloc, value)?);
+        Ok(Segment::of_parts(alloc, tag, value)?)
     }
 
     /// Another segment with the same tag and value.
@@ -97,8 +108,7 @@ impl Segment {
         ensures { IfOk result (λ s. s ≡ self.now) }
     {
         Ok(Segment {
-            tag: self.tag.try_clone()?,
-            value: self.value.try_clone()?,
+            parts: Arc::try_clone(&self.parts)?,
         })
     }
 
@@ -107,7 +117,7 @@ impl Segment {
         ensures value { result.now ≡ self.now.tag }
         ensures part { IsPart result.now }
     {
-        self.tag.as_str()
+        self.parts.tag.as_str()
     }
 
     /// The value, without escapes.
@@ -115,7 +125,7 @@ impl Segment {
         ensures value { result.now ≡ self.now.value }
         ensures part { IsPart result.now }
     {
-        self.value.as_str()
+        self.parts.value.as_str()
     }
 }
 
@@ -145,11 +155,12 @@ impl Model for UniqueId {
         × FitsLimits u.path.value.segments.items };
 }
 
-/// The same segments once more.
+/// The same segments once more, with room for one behind them.
 fn copies(alloc: Global, segments: &[Segment]) -> Result<Vec<Segment>, AllocError>
+    requires few { length segments.now ≤ MAX_SEGMENTS }
     ensures { IfOk result (λ v. v.items ≡ segments.now) }
 {
-    let mut copied = Vec::new(alloc);
+    let mut copied = Vec::with_capacity(alloc, segments.len() + 1)?;
     for segment in segments {
         copied.push(segment.try_clone()?)?;
     }
@@ -315,7 +326,9 @@ impl UniqueId {
         ensures text { IfOk result (λ t. t ≡ id_text (self.now ++ segment.now ∷ [])) }
         ensures id { OnOk result (IsId (self.now ++ segment.now ∷ [])) }
     {
-        let mut bytes = Vec::from_slice(alloc, self.as_text().as_str().as_bytes())?;
+        let text = self.as_text().as_str().as_bytes();
+        let mut bytes = Vec::with_capacity(alloc, text.len() + SEGMENT_ROOM)?;
+        bytes.extend_from_slice(text)?;
         bytes.push(b'/')?;
         push_segment(&mut bytes, segment)?;
         Ok(Text::from_utf8(bytes))

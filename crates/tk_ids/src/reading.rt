@@ -202,7 +202,10 @@ impl Reader {
                 }
                 let value = self.part.take(alloc)?;
                 match std::mem::replace(&mut self.place, Place::Behind) {
-                    Place::Value(tag) => self.segments.push(Segment::of_parts(tag, value))?,
+                    Place::Value(tag) => {
+                        let segment = Segment::of_parts(alloc, tag, value)?;
+                        self.segments.push(segment)?;
+                    }
                     _ => unreachable!(),
                 }
             }
