@@ -31,7 +31,7 @@ use Rattle.tk_queue.specs.Limits.{most_events}
 use Rattle.tk_queue.specs.Known.{MayEmit, is_dynamic, is_plain, registrations, entry_by, entries_by, is_known_behind}
 use Rattle.tk_queue.specs.Session.{sender, receiver, pushed, popped, Pops, MayTake, MayPush}
 use Rattle.tk_queue.specs.Session.{Follows as FollowsAmong}
-use Rattle.tk_queue.specs.Ends.{Emits, fresh_senders, knows, refusal_of, HasRoom, IsChildMade, id_registered, IsSender, IsReceiver, IsRecordable, MayFollow, sent_of, taken_of, is_marked, is_mark_of}
+use Rattle.tk_queue.specs.Ends.{Emits, fresh_senders, knows, refusal_of, HasRoom, IsNew, IsChildMade, id_registered, IsSender, IsReceiver, IsRecordable, MayFollow, sent_of, taken_of, is_marked, is_mark_of}
 use Rattle.tk_queue.proofs.KnownKeys.{emission_none, emission_more, some_desc, known_behind, own_entries, some_among, registers_among}
 
 -- ---- a sender
@@ -183,6 +183,25 @@ registration_may v table worker emitted key stamp ids d h is few =
           (eq-eqb key (registered_key worker n) (is ∙ ap (registered_key worker) (sym counted)));
     }
 
+-- the worker registered nothing yet under its next key
+next_unregistered : (v : View) (table : List Descriptor) (worker emitted key : ℕ) (ids : List (List Pair)) → IsSender v table worker ids emitted → key ≡ registered_key worker (length ids) → desc_in (entries_by worker (sent_of v)) key ≡ None
+next_unregistered v table worker emitted key ids h is =
+    no_id (desc_in (entries_by worker (sent_of v)) key) (h.leads key ∙ id_at worker ids (length ids) key is ∙ slice_get_beyond ids (length ids) (omega arith))
+
+-- nor is that key a static one
+pub next_is_new : (t : TableId) (v : View) (table : List Descriptor) (worker emitted key : ℕ) (ids : List (List Pair)) (s : Emits) → IsSender v table worker ids emitted
+    → record { session = t; table = table; worker = worker; sent = sent_of v } ≡ s → length table ≤ MAX_DESCRIPTORS → key ≡ registered_key worker (length ids) → IsNew s key
+next_is_new t v table worker emitted key ids s h is few at =
+    let low = h.low in
+    subst (λ (y : Emits). IsNew y key) is
+    (ap (λ o. option_or o (desc_in (entries_by worker (sent_of v)) key)) (slice_get_beyond table key (omega arith)) ∙ next_unregistered v table worker emitted key ids h at)
+
+-- the next key by the sender's ids
+pub next_key_is : (t : TableId) (v : View) (table : List Descriptor) (worker emitted : ℕ) (ids : List (List Pair)) (s : Emits) {key : ℕ} → IsSender v table worker ids emitted
+    → record { session = t; table = table; worker = worker; sent = sent_of v } ≡ s → key ≡ registered_key s.worker (registrations s.sent) → key ≡ registered_key worker (length ids)
+next_key_is t v table worker emitted ids s h is at =
+    at ∙ ap (λ (y : Emits). registered_key y.worker (registrations y.sent)) (sym is) ∙ ap (registered_key worker) (sym h.number)
+
 pub sender_registers : (v w : View) (table : List Descriptor) (worker emitted key stamp : ℕ) (ids : List (List Pair)) (d : Descriptor) → IsSender v table worker ids emitted
     → key ≡ registered_key worker (length ids) → w ≡ pushed v (entry worker (record { kind = Dynamic; key = key; stamp = stamp; payload = Described d }))
     → emitted < most_events → length ids < MAX_DESCRIPTORS → IsSender w table worker (ids ++ d.id ∷ []) (emitted + 1)
@@ -192,7 +211,7 @@ sender_registers v w table worker emitted key stamp ids d h is moved room few =
     keeps v w table worker emitted ids (ids ++ d.id ∷ []) e h moved (registration_may v table worker emitted key stamp ids d h is few) room
     (λ k. ⊎_elim
     (λ (same : k ≡ key).
-    let past : desc_in (entries_by worker es) k ≡ None = no_id (desc_in (entries_by worker es) k) (h.leads k ∙ id_at worker ids (length ids) k (same ∙ is) ∙ slice_get_beyond ids (length ids) (omega arith)) in
+    let past : desc_in (entries_by worker es) k ≡ None = next_unregistered v table worker emitted k ids h (same ∙ is) in
     ap (option_map (λ (x : Descriptor). x.id)) (desc_after worker es e k ∙ ap (λ o. option_or o (registered k (entry_by worker e))) past ∙ ap (λ (b : Bool). if b then Some d else None) (eq-eqb key k (sym same)))
     ∙ sym (id_at worker (ids ++ d.id ∷ []) (length ids) k (same ∙ is) ∙ slice_get_last ids d.id (length ids) refl))
     (λ (apart : k ≢ key).

@@ -72,11 +72,16 @@ child above segment name dtype = record { id = above.id ++ segment ∷ []; name 
 abbrev pub registration : Emits → ℕ → Descriptor → Event
 registration s stamp d = record { kind = Dynamic; key = registered_key s.worker (registrations s.sent); stamp = stamp; payload = Described d }
 
+-- no descriptor has the key, static or registered by the sender
+abbrev pub IsNew : Emits → ℕ → Type 0
+IsNew s key = desc (own s) key ≡ None
+
 -- What registering a descriptor answers, and the sender after it. Want of memory may come at any.
 abbrev pub IsRegisteredAs : Emits → Emits → ℕ → Pair → List ℕ → DType → ℕ → Result ℕ RegisterFault → Type 0
 IsRegisteredAs old new parent segment name dtype stamp (Ok key) =
     (above : Descriptor) × (desc (own old) parent ≡ Some above) × HasRoom old × FitsLimits (above.id ++ segment ∷ [])
     × (key ≡ registered_key old.worker (registrations old.sent)) × (new ≡ sends old (registration old stamp (child above segment name dtype)))
+    × IsNew old key
 IsRegisteredAs old new parent segment name dtype stamp (Err unregistered.UnknownNode) = (desc (own old) parent ≡ None) × (new ≡ old)
 IsRegisteredAs old new parent segment name dtype stamp (Err unregistered.Limit) = (is_some (desc (own old) parent) ≡ true) × ¬ HasRoom old × (new ≡ old)
 IsRegisteredAs old new parent segment name dtype stamp (Err (unregistered.Id id_faults.TooLong)) =

@@ -3,8 +3,9 @@ ghost use Rattle.std.specs.Prelude.{◌≡◌, ◌⊎◌, ◌<◌, ◌≤◌, []
 ghost use Rattle.std.specs.Arc.{arc_value};
 ghost use Rattle.std.specs.Option.{option_copied};
 ghost use Rattle.tk_columns.specs.Entries.{desc};
-ghost use Rattle.tk_queue.specs.Known.{is_plain};
-ghost use Rattle.tk_queue.specs.Ends.{own, knows, sends, refusal_of, IsChildMade, IsRegisteredAs};
+ghost use Rattle.tk_queue.specs.Known.{is_plain, registrations};
+ghost use Rattle.tk_events.specs.Registration.{registered_key};
+ghost use Rattle.tk_queue.specs.Ends.{own, knows, sends, refusal_of, HasRoom, IsNew, IsChildMade, IsRegisteredAs};
 
 use crate::limits::MAX_EVENTS;
 use crate::lines::{Line, Seat};
@@ -254,6 +255,17 @@ impl Sender {
         Ok((again, Descriptor { id, name, dtype }))
     }
 
+    // The key of the next descriptor that is registered.
+    fn next_key(&self) -> u32
+        requires { HasRoom self.now }
+        ensures key { result ≡ registered_key self.now.worker (registrations self.now.sent) }
+        ensures new { IsNew self.now result }
+    {
+        // Static keys are below those of workers.
+        let _statics = self.table.len();
+        registered_key(self.worker, self.registered.len() as u32)
+    }
+
     /// Registers a descriptor below its parent: emits its registration with that stamp, and answers
     /// its key.
     pub fn register<R: Wait>(
@@ -268,7 +280,7 @@ impl Sender {
         ensures { IsRegisteredAs self.old self.new parent segment.now name.now dtype stamp result }
     {
         let (id, descriptor) = self.child(parent, segment, name, dtype)?;
-        let key = registered_key(self.worker, self.registered.len() as u32);
+        let key = self.next_key();
         self.registered.push(id)?;
         let event = Event {
             kind: Kind::Dynamic,
