@@ -5,14 +5,13 @@ use Rattle.std.proofs.lemmas.List.Sums.{sum_by-cons}
 use Rattle.tk_events.specs.declared.events.Entry.{Entry}
 use Rattle.std.specs.Prelude.{◌==◌}
 use Rattle.std.specs.List.{flat_map}
-use Rattle.tk_columns.specs.declared.selections.Selection.{Selection}
 use Rattle.tk_columns.specs.declared.tallies.Statistics.{Statistics}
 use Rattle.tk_columns.specs.declared.tallies.Expected.{Expected}
 use Rattle.tk_columns.specs.declared.tallies.Mismatch.{Mismatch}
 use Rattle.tk_columns.specs.Recorded.{Recorded}
 use Rattle.tk_columns.specs.Selections.{Placed, placed_from, Selected, all_of, events_of}
-use Rattle.tk_columns.specs.Statistics.{statistic_rows, statistics_of, mismatches}
-use Rattle.tk_ask.specs.Answers.{IsAnswerTo, mismatch_line, row_line}
+use Rattle.tk_columns.specs.Statistics.{statistics_of, mismatches}
+use Rattle.tk_ask.specs.Answers.{IsAnswerTo, mismatch_line, statistics_text}
 use Rattle.tk_ask.specs.declared.questions.Question.TheVariants.{Stats}
 
 pub all_events : (n : ℕ) (es : List Entry) → map (λ (x : Placed). x.entry) (placed_from n es) ≡ es
@@ -32,14 +31,13 @@ kept_count p n (e ∷ es) = by (p e) (kept_count p (n + 1) es) ∙ sym (sum_by-c
     by false rest = omega (arith, rest)
 
 -- the answer about statistics, from its parts
-pub stats_are : (e : Expected) (r : Recorded) (events : Selected) (s : Statistics) (rows : List (Selection × ℕ)) (ms : List Mismatch) (is_yes : Bool) (first second third : List ℕ) →
-    events ≡ all_of r → s ≡ statistics_of (events_of events) → rows ≡ statistic_rows s → ms ≡ mismatches e (statistics_of (events_of events)) → is_yes ≡ (length ms == 0) →
-    first ≡ [] → second ≡ first ++ flat_map row_line rows → third ≡ second ++ flat_map mismatch_line ms → IsAnswerTo (Stats e) r is_yes third
-stats_are e r events s rows ms is_yes first second third all s_is rows_is ms_is yes_is first_is second_is third_is =
+pub stats_are : (e : Expected) (r : Recorded) (events : Selected) (s : Statistics) (ms : List Mismatch) (is_yes : Bool) (first second third : List ℕ) →
+    events ≡ all_of r → s ≡ statistics_of (events_of events) → ms ≡ mismatches e (statistics_of (events_of events)) → is_yes ≡ (length ms == 0) →
+    first ≡ [] → second ≡ first ++ statistics_text s → third ≡ second ++ flat_map mismatch_line ms → IsAnswerTo (Stats e) r is_yes third
+stats_are e r events s ms is_yes first second third all s_is ms_is yes_is first_is second_is third_is =
     let es : events_of events ≡ r.entries = ap events_of all ∙ all_events 0 r.entries in
     let m = ms_is ∙ ap (λ (l : List Entry). mismatches e (statistics_of l)) es in
-    let w = rows_is ∙ ap statistic_rows (s_is ∙ ap statistics_of es) in
-    let front = second_is ∙ ap (λ (t : List ℕ). t ++ flat_map row_line rows) first_is ∙ ap (flat_map row_line) w in (
+    let front = second_is ∙ ap (λ (t : List ℕ). t ++ statistics_text s) first_is ∙ ap statistics_text (s_is ∙ ap statistics_of es) in (
       yes_is ∙ ap (λ (l : List Mismatch). length l == 0) m,
-      third_is ∙ ap (λ (t : List ℕ). t ++ flat_map mismatch_line ms) front ∙ ap (λ (l : List Mismatch). flat_map row_line (statistic_rows (statistics_of r.entries)) ++ flat_map mismatch_line l) m,
+      third_is ∙ ap (λ (t : List ℕ). t ++ flat_map mismatch_line ms) front ∙ ap (λ (l : List Mismatch). statistics_text (statistics_of r.entries) ++ flat_map mismatch_line l) m,
     )

@@ -8,6 +8,7 @@ mod faults;
 pub mod laws;
 mod questions;
 
+pub use answers::add_statistics;
 pub use asking::ask;
 pub use faults::AskFault;
 pub use questions::{Mode, Question, read_question};

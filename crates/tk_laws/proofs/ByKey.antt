@@ -17,7 +17,7 @@ use Rattle.tk_laws.proofs.Model.{Each, Forest, Models, id_told, told}
 use Rattle.tk_laws.proofs.OneKey.{Comes, HasKey, all_keys, from_table, same_key, told_some}
 use Rattle.tk_laws.proofs.Orders.{precedes_none}
 use Rattle.tk_laws.proofs.Through.{below_length}
-use Rattle.tk_laws.specs.Labels.{Label, events, label, name, same_id, same_kind}
+use Rattle.tk_reports.specs.Labels.{Label, events, label, name, same_id, same_kind}
 use Rattle.tk_laws.specs.Listening.{IsOnce, ListensByKey, is_ran, precedes, registers}
 use Rattle.tk_queue.specs.Known.{is_dynamic}
 use Rattle.tk_laws.specs.Scripts.{IsRunOf}

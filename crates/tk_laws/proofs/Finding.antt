@@ -21,8 +21,7 @@ use Rattle.tk_laws.proofs.Keyed.{named_unit}
 use Rattle.tk_laws.proofs.Mixed.{events_by}
 use Rattle.tk_laws.proofs.Model.{Named, Step, hits, id_told, ids_told, part_steps, plain, told, told_after}
 use Rattle.tk_laws.proofs.Naming.{told_played}
-use Rattle.tk_laws.proofs.Through.{none_above}
-use Rattle.tk_laws.specs.Labels.{events}
+use Rattle.tk_reports.specs.Labels.{events}
 use Rattle.tk_laws.specs.Scripts.{HasKey, id_at, is_registration, key_of, known_in, place, played, record_played}
 use Rattle.tk_queue.specs.Known.{entries_by, entry_by, is_dynamic, registrations}
 
@@ -92,19 +91,29 @@ known_told ids (s ∷ ss) =
       | false ↦ known_told ids ss
     ]
 
-above_all : (w n j len : ℕ) → 0 < w → len ≤ 65536 → len ≤ 65536 * w + n + j
-above_all w n j len h g = omega (arith, h, g)
+left_none : {A : Type 0} (a b : Option A) → option_or a b ≡ None → a ≡ None
+left_none None b e = refl
+left_none (Some x) b e = cc
+
+right_none : {A : Type 0} (a b : Option A) → option_or a b ≡ None → b ≡ None
+right_none None b e = e
+right_none (Some x) b e = cc
+
+place_within : (known : List ℕ) (j k : ℕ) → slice_get known j ≡ Some k → j < length known
+place_within [] j k e = cc
+place_within (x ∷ xs) zero k e = omega arith
+place_within (x ∷ xs) (suc j) k e = let h = place_within xs j k e in omega (arith, h)
 
 pub nodes_found : (all : List Placed) (table : List Descriptor) (unit w k : ℕ) (sent : List Event) (front back : List PlanStep) → IsPlanned all table → IsNumbered all
-    → 0 < w → ((key : ℕ) → 65536 * w + registrations sent ≤ key → desc_in (entries_by w sent) key ≡ None)
+    → ((j : ℕ) → j < length (known_in [] front) → desc (record { table = table; entries = entries_by w sent }) (65536 * w + registrations sent + j) ≡ None)
     → script_of (forest all) unit ≡ front ++ back → HasKey all table (known_in [] front) k
     → option_map (λ d. d.id) (desc (record_played all table w sent front) (key_of (length table) (65536 * w + registrations sent) (known_in [] front) k)) ≡ Some (id_at all k)
-nodes_found all table unit w k sent front back p numbers worker old is (inl h) =
+nodes_found all table unit w k sent front back p numbers old is (inl h) =
     let less = h.0 in
     let lt : nat_lt k (length table) ≡ true = grind (arith, tests, less) in
     ap (λ b. option_map (λ d. d.id) (desc (record_played all table w sent front) (if b then k else 65536 * w + registrations sent + place k (known_in [] front)))) lt
     ∙ in_table table k (id_at all k) _ h.1
-nodes_found all table unit w k sent front back p numbers worker old is (inr h) =
+nodes_found all table unit w k sent front back p numbers old is (inr h) =
     let m = models all table p numbers in
     let base = 65536 * w + registrations sent in
     let known = known_in [] front in
@@ -115,12 +124,14 @@ nodes_found all table unit w k sent front back p numbers worker old is (inr h) =
     let f = fronted steps front back (sym (m.scripts unit) ∙ is) in
     let named = named_front all table [] f.begun f.rest (subst (Named all table []) f.whole (named_unit all table (trees_of all) m.keyed unit)) in
     let l = played all (length table) base [] front in
-    let above = above_all w (registrations sent) (place k known) (length table) worker m.few_static in
+    let none = old (place k known) (place_within known (place k known) k h.1) in
+    let not_static = left_none (slice_get table key) (desc_in (entries_by w sent) key) none in
+    let not_sent = right_none (slice_get table key) (desc_in (entries_by w sent) key) none in
     let at : slice_get (ids_told f.begun) (place k known) ≡ Some k = ap (λ i. slice_get i (place k known)) (sym (ap (known_in []) (sym f.same) ∙ known_told [] f.begun)) ∙ h.1 in
     ap (λ b. option_map (λ d. d.id) (desc (record_played all table w sent front) (if b then k else key))) lt
-    ∙ (ap (λ o. option_map (λ d. d.id) (option_or o (desc_in (entries_by w (sent ++ l)) key))) (none_above table key above)
+    ∙ (ap (λ o. option_map (λ d. d.id) (option_or o (desc_in (entries_by w (sent ++ l)) key))) not_static
     ∙ (ap (λ es. option_map (λ d. d.id) (desc_in es key)) (map-append (entry_by w) sent l)
-    ∙ (ap (option_map (λ d. d.id)) (desc_in-append (entries_by w sent) (entries_by w l) key ∙ ap (λ o. option_or o (desc_in (entries_by w l) key)) (old key (omega arith)))
+    ∙ (ap (option_map (λ d. d.id)) (desc_in-append (entries_by w sent) (entries_by w l) key ∙ ap (λ o. option_or o (desc_in (entries_by w l) key)) not_sent)
     ∙ (found_in key (entries_by w l)
     ∙ (ap first (ap (told key) (events_by w l ∙ ap (played all (length table) base []) (sym f.same)) ∙ told_played all table key base [] f.begun named)
     ∙ hit_at (id_at all) key (base + 0) (place k known) (ids_told f.begun) k (omega arith) at)))))

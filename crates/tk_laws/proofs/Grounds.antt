@@ -24,7 +24,7 @@ use Rattle.tk_laws.proofs.Bridge.{cuts_below, modelled, modelled_below, plain_be
 use Rattle.tk_laws.proofs.Ids.{same_decides}
 use Rattle.tk_laws.proofs.Lists.{at, each_from}
 use Rattle.tk_laws.proofs.Model.{AreBuilt, Forest, IsBuilt, IsKeyed, Item, Models, Part, count, nodes, nodes_below, plain, steps_of, units}
-use Rattle.tk_laws.specs.Labels.{same_id}
+use Rattle.tk_reports.specs.Labels.{same_id}
 use Rattle.tk_laws.specs.Scripts.{id_at, id_of}
 
 -- ---- what stands at a place

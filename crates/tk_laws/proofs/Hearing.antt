@@ -17,7 +17,7 @@ use Rattle.tk_laws.proofs.Orders.{Only, any_kept, filter_kept, followed_kept, pr
 use Rattle.tk_laws.proofs.SameReports.{chain_one_below}
 use Rattle.tk_laws.proofs.Scripts.{chain_pair_below, either, entry_labels, own_labels, own_law_below, ran_labels, script_finish, script_start}
 use Rattle.tk_laws.proofs.Through.{chain_law}
-use Rattle.tk_laws.specs.Labels.{Label, labels, same_id, same_kind}
+use Rattle.tk_reports.specs.Labels.{Label, labels, same_id, same_kind}
 use Rattle.tk_laws.specs.Listening.{IsOnce, Listens, finishes, is_followed, is_of, is_ran, precedes, registers, skips, starts}
 use Rattle.tk_laws.specs.Scripts.{IsRunOf}
 

@@ -3,7 +3,7 @@ use Rattle.std.proofs.Common.{◌≡◌, ℕ, Bool, true, false, ◌||◌, ◌==
 use Rattle.std.specs.Cmp.Lexicographic.{bytes_decides}
 use Rattle.std.proofs.lemmas.Bool.{cases_Bool}
 use Rattle.tk_ids.specs.IdText.{Pair, escaped, segment_text, id_text, spelled_by, digits_of}
-use Rattle.tk_laws.specs.Labels.{same_id}
+use Rattle.tk_reports.specs.Labels.{same_id}
 
 -- ---- reading one byte back
 

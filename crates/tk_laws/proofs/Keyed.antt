@@ -12,7 +12,7 @@ use Rattle.tk_ids.specs.declared.tables.Descriptor.{Descriptor}
 use Rattle.tk_laws.proofs.Cut.{open_is}
 use Rattle.tk_laws.proofs.Lists.{each-append, each_split}
 use Rattle.tk_laws.proofs.Model.{Each, Forest, IsKeyed, IsStatic, Item, Knows, Named, Part, Step, Tree, after, after_below, before, before_below, ids_told, is_open, more, no_trees, nodes, nodes_below, opening, part_steps, parts, parts_below, performed, plain, reports, script, static_events, step, step_label, steps, steps_below, steps_of, told_after, tree, units}
-use Rattle.tk_laws.specs.Labels.{Label, label}
+use Rattle.tk_reports.specs.Labels.{Label, label}
 use Rattle.tk_laws.specs.Scripts.{id_at, is_registration, key_for, key_of, place, played, said, said_by}
 
 pub get_front : {A : Type 0} (xs ys : List A) (i : ℕ) (x : A) → slice_get xs i ≡ Some x → slice_get (xs ++ ys) i ≡ Some x

@@ -6,7 +6,7 @@ use Rattle.tk_columns.specs.Mixing.{IsWorkerOf, of_worker}
 use Rattle.tk_events.specs.declared.events.Entry.{Entry}
 use Rattle.tk_events.specs.declared.events.Event.{Event}
 use Rattle.tk_laws.proofs.Lists.{left_nil, right_nil}
-use Rattle.tk_laws.specs.Labels.{events}
+use Rattle.tk_reports.specs.Labels.{events}
 use Rattle.tk_queue.specs.Known.{entries_by}
 
 nil_of_cond : {B : Type 0} (b : Bool) (f : Event → List B) (x : Entry) (xs : List Entry) → flat_map f (events (cond b (x ∷ xs) xs)) ≡ [] → flat_map f (events xs) ≡ []

@@ -16,7 +16,7 @@ use Rattle.tk_events.specs.declared.payloads.Payload.{Payload}
 use Rattle.tk_ids.specs.IdText.{Pair}
 use Rattle.tk_ids.specs.Table.{ids_of}
 use Rattle.tk_ids.specs.declared.tables.Descriptor.{Descriptor}
-use Rattle.tk_laws.specs.Labels.{Label, same_id}
+use Rattle.tk_reports.specs.Labels.{Label, same_id}
 use Rattle.tk_queue.specs.Known.{is_dynamic}
 use Rattle.tk_laws.specs.Scripts.{id_at, is_registration, place, said}
 

@@ -26,7 +26,7 @@ use Rattle.tk_laws.proofs.Naming.{registered_played, registrations_is}
 use Rattle.tk_laws.proofs.Orders.{Only}
 use Rattle.tk_laws.proofs.Scripts.{own_labels, own_law_below, ran_labels}
 use Rattle.tk_laws.proofs.Through.{get_back, name_table, named_all, names, three, told_drawn, worker_did}
-use Rattle.tk_laws.specs.Labels.{Label, events, label, labels, name, same_id, same_kind}
+use Rattle.tk_reports.specs.Labels.{Label, events, label, labels, name, same_id, same_kind}
 use Rattle.tk_events.specs.declared.kinds.Kind.TheVariants.{Dynamic}
 use Rattle.tk_laws.specs.Listening.{is_of, registers}
 use Rattle.tk_runs.specs.Run.{Emits}

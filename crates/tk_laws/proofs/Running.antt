@@ -19,8 +19,8 @@ use Rattle.tk_cutting.specs.Events.{event}
 use Rattle.tk_cutting.specs.Ids.{AreDistinct, ids_below}
 use Rattle.tk_cutting.specs.Numbers.{IsNumbered}
 use Rattle.tk_cutting.specs.Planned.{IsPlanned}
-use Rattle.tk_laws.specs.Labels.{same_id}
-use Rattle.tk_laws.specs.Reports.{report_of_record}
+use Rattle.tk_reports.specs.Labels.{same_id}
+use Rattle.tk_reports.specs.Reports.{report_of_record}
 use Rattle.tk_laws.specs.Scripts.{played, may, IsRunOf}
 use Rattle.tk_laws.proofs.Ids.{same_decides}
 use Rattle.tk_laws.proofs.Grounds.{some_same, models, trees_of}

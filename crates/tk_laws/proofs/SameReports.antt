@@ -36,8 +36,8 @@ use Rattle.tk_laws.proofs.Mixed.{events_by}
 use Rattle.tk_laws.proofs.Model.{Forest, IsChain, IsChainBelow, Item, Models, Tree, about, count, first_or_nil, ids_told, more, no_trees, nodes, nodes_below, plan_labels, steps_below, told, tree}
 use Rattle.tk_laws.proofs.Naming.{hits_at, told_played}
 use Rattle.tk_laws.proofs.Through.{chain_law, id_table, name_in, names, none_above}
-use Rattle.tk_laws.specs.Labels.{Label, events, id_in, label, labels, name, same_id}
-use Rattle.tk_laws.specs.Reports.{id_lines, id_texts, label_line, report_of_record}
+use Rattle.tk_reports.specs.Labels.{Label, events, id_in, label, labels, name, same_id}
+use Rattle.tk_reports.specs.Reports.{id_lines, id_texts, label_line, report_of_record}
 use Rattle.tk_queue.specs.Known.{entries_by}
 use Rattle.tk_laws.specs.Scripts.{IsRunOf, id_at, played, script_record}
 

@@ -14,9 +14,10 @@ use Rattle.tk_cutting.specs.declared.nodes.Node.{Node}
 use Rattle.tk_cutting.specs.declared.nodes.Placed.{Placed}
 use Rattle.tk_cutting.specs.Trees.{forest, grow}
 use Rattle.tk_cutting.specs.Ids.{descriptors_below}
-use Rattle.tk_laws.specs.Labels.{labels}
+use Rattle.tk_reports.specs.Labels.{labels}
 use Rattle.tk_laws.specs.Scripts.{script_record}
-use Rattle.tk_laws.specs.Reports.{id_texts, id_lines, report_of_plan}
+use Rattle.tk_reports.specs.Reports.{id_texts, id_lines}
+use Rattle.tk_laws.specs.Reports.{report_of_plan}
 
 abbrev pub pair : List ℕ → List ℕ → Pair
 pair tag value = record { tag = tag; value = value }

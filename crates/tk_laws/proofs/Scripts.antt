@@ -11,7 +11,7 @@ use Rattle.tk_laws.proofs.Lists.{each_split}
 use Rattle.tk_laws.proofs.Model.{AreBuilt, Each, Forest, HasNone, IsBuilt, IsChain, IsChainBelow, Item, Step, Tree, count, finish, item_label, more, no_trees, nodes, nodes_below, opening, performed, reports, shown, step, step_label, steps, steps_below, tree}
 use Rattle.tk_laws.proofs.Orders.{followed-append, followed_end, followed_none, precedes-append, precedes_here, precedes_none}
 use Rattle.tk_laws.proofs.SameReports.{at_most_tail, chain_one_below, first_one, none_left, none_tail, rest_one, rest_zero, zero_or}
-use Rattle.tk_laws.specs.Labels.{Label, same_id}
+use Rattle.tk_reports.specs.Labels.{Label, same_id}
 use Rattle.tk_laws.specs.Listening.{finishes, is_followed, is_of, precedes, starts}
 
 -- ---- ids

@@ -27,7 +27,7 @@ use Rattle.tk_laws.proofs.Lists.{IsLone, IsSeat, all_nil, at, copies, copies_by,
 use Rattle.tk_laws.proofs.Mixed.{events-append, events_by, mix_one, no_events}
 use Rattle.tk_laws.proofs.Model.{AllNil, AtMostOne, Each, Forest, IsChain, IsChainBelow, IsStatic, Models, Named, Part, Step, Tree, about, after_below, before_below, drawn_ids, first_or_nil, hits, id_told, ids_told, is_open, more, no_trees, opening, part_steps, parts, parts_below, plain, plan_labels, registered, script, shown, static_event, static_events, step_label, steps, steps_of, tells, times, times_in, told, tree, units}
 use Rattle.tk_laws.proofs.Naming.{dynamic_kind, hits_above, hits_at, hits_below, registered_played, registrations_is, told-append, told_emitted}
-use Rattle.tk_laws.specs.Labels.{Label, events, id_in, label, labels, name}
+use Rattle.tk_reports.specs.Labels.{Label, events, id_in, label, labels, name}
 use Rattle.tk_claim.specs.Claims.{Claims}
 use Rattle.tk_runs.specs.Run.{Emits}
 use Rattle.tk_queue.specs.Known.{entries_by, is_dynamic, registrations}

@@ -1,10 +1,10 @@
 -- What holds of each run of a plan.
-use Rattle.std.specs.Prelude.{◌≡◌, ◌≤◌, ℕ, List, [], ◌++◌, Some, None, slice_get, length, option_map}
+use Rattle.std.specs.Prelude.{◌≡◌, ◌+◌, ◌<◌, ℕ, List, [], ◌++◌, Some, None, slice_get, length, option_map}
 use Rattle.tk_ids.specs.declared.tables.Descriptor.{Descriptor}
 use Rattle.tk_events.specs.declared.events.Event.{Event}
-use Rattle.tk_events.specs.Registration.{IsWorker, registered_key}
+use Rattle.tk_events.specs.Registration.{registered_key}
 use Rattle.tk_columns.specs.Recorded.{Recorded}
-use Rattle.tk_columns.specs.Entries.{desc, desc_in}
+use Rattle.tk_columns.specs.Entries.{desc}
 use Rattle.tk_queue.specs.Known.{registrations, entries_by}
 use Rattle.tk_cutting.specs.declared.nodes.Placed.{Placed}
 use Rattle.tk_cutting.specs.declared.steps.Step.{Step}
@@ -12,9 +12,10 @@ use Rattle.tk_cutting.specs.Trees.{Forest, forest}
 use Rattle.tk_cutting.specs.Cutting.{root_script, script_of}
 use Rattle.tk_cutting.specs.Numbers.{IsNumbered}
 use Rattle.tk_cutting.specs.Planned.{IsPlanned}
-use Rattle.tk_laws.specs.Labels.{name, events, labels}
+use Rattle.tk_reports.specs.Labels.{name, events, labels}
 use Rattle.tk_laws.specs.Scripts.{IsRunOf, ArePlayable, HasKey, id_at, key_of, known_in, record_played}
-use Rattle.tk_laws.specs.Reports.{report_of_record, report_of_plan}
+use Rattle.tk_reports.specs.Reports.{report_of_record}
+use Rattle.tk_laws.specs.Reports.{report_of_plan}
 use Rattle.tk_laws.specs.Listening.{Listens, ListensByKey}
 
 -- a step's stamp is its position in the root's script
@@ -26,11 +27,11 @@ abbrev pub ScriptsArePlayable : Type 0
 ScriptsArePlayable = (nodes : List Placed) (table : List Descriptor) (unit : ℕ) → IsPlanned nodes table → IsNumbered nodes
     → ArePlayable nodes table [] (script_of (forest nodes) unit)
 
--- A worker that sent some events, with the keys of its registrations below its next one, and then played the front of a
--- unit's script, finds the id of each node that has a key there.
+-- A worker that sent some events and then played the front of a unit's script, where the keys of the front's registrations
+-- had no descriptor before, finds the id of each node that has a key there.
 abbrev pub NodesAreFound : Type 0
 NodesAreFound = (nodes : List Placed) (table : List Descriptor) (unit worker node : ℕ) (sent : List Event) (front back : List Step) → IsPlanned nodes table → IsNumbered nodes
-    → IsWorker worker → ((key : ℕ) → registered_key worker (registrations sent) ≤ key → desc_in (entries_by worker sent) key ≡ None)
+    → ((j : ℕ) → j < length (known_in [] front) → desc (record { table = table; entries = entries_by worker sent }) (registered_key worker (registrations sent) + j) ≡ None)
     → script_of (forest nodes) unit ≡ front ++ back → HasKey nodes table (known_in [] front) node
     → option_map (λ d. d.id) (desc (record_played nodes table worker sent front) (key_of (length table) (registered_key worker (registrations sent)) (known_in [] front) node))
     ≡ Some (id_at nodes node)

@@ -5,7 +5,7 @@ use Rattle.tk_ids.specs.IdText.{Pair}
 use Rattle.tk_events.specs.declared.kinds.Kind.{Kind}
 use Rattle.tk_events.specs.declared.kinds.Kind.TheVariants.{Dynamic, Skipped, Started, Finished}
 use Rattle.tk_events.specs.declared.events.Event.{Event}
-use Rattle.tk_laws.specs.Labels.{Label, label, same_id, same_kind}
+use Rattle.tk_reports.specs.Labels.{Label, label, same_id, same_kind}
 
 -- each element that passes `later` has one before it that passes `earlier`
 abbrev pub precedes : {A : Type 0} → (A → Bool) → (A → Bool) → List A → Bool

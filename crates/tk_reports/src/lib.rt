@@ -1,0 +1,11 @@
+//! The report of a record: its statistics, and the events of each id, whoever emitted them and when.
+#![tactic(auto)]
+
+mod grouping;
+mod lines;
+mod writing;
+
+pub use writing::write_report_of;
+
+#[cfg(test)]
+mod tests;
