@@ -1,0 +1,11 @@
+use Rattle.std.proofs.Common.{subst}
+use Rattle.tk_cutting.specs.Numbers.{IsNumbered}
+use Rattle.tk_cutting.specs.Planned.{Outline, IsPlanned}
+use Rattle.tk_scripted.proofs.laws.listener.Goals as goal
+
+pub returns : goal.returns
+returns c =
+    let plan = c.args.engine.now in
+    c.listener.ensures plan.nodes plan.table c.requires.0 c.args.results.now.recorded
+    (subst (λ (p : Outline). IsPlanned p.nodes p.table) c.plan.ensures c.table-table.ensures.planned)
+    (subst (λ (p : Outline). IsNumbered p.nodes) c.plan.ensures c.table-table.ensures.numbered) c.requires.1
