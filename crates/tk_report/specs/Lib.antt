@@ -1,0 +1,2 @@
+pub use Rattle.tk_reports.specs.Reports
+pub mod Answers

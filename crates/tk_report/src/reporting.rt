@@ -1,0 +1,62 @@
+//! Writing the report of a run, and running a plan for its report.
+ghost use Rattle.std.specs.Prelude.{◌≡◌, true, OnOk, OnErr, IsErrOf};
+ghost use Rattle.std.specs.Io.KnownBytes.{Appends};
+ghost use Rattle.tk_streams.specs.Stream.{AppendsFront};
+ghost use Rattle.tk_reports.specs.Reports.{report_of_record};
+ghost use Rattle.tk_report.specs.Answers.{IsReported, IsRunReport};
+
+use crate::faults::ReportFault;
+use std::alloc::Global;
+use std::sync::Wait;
+use std::thread::Threads;
+use tk_engine::{Results, execute};
+use tk_laws::laws::one_report;
+use tk_plan::read_plan;
+use tk_record::{Target, WriteFault};
+use tk_reports::write_report_of;
+use tk_scripted::Scripted;
+
+/// How many places the queue of a plan's run has.
+pub const CAPACITY: usize = 64;
+
+/// Writes the report of a run: the eight statistics, then each id that has an event, in the order
+/// of the ids' texts, with the tails of its events. `Device` or `Memory` may come.
+pub fn write_report<T: Target>(
+    alloc: Global,
+    results: &Results,
+    target: &mut T,
+) -> Result<(), ReportFault>
+    ensures answer { IsRunReport results.now.recorded (T.contents target.old) (T.contents target.new) result }
+    ensures device { IsErrOf result ReportFault.Device → T.broken target.new ≡ true }
+{
+    match write_report_of(alloc, results.recorded(), target) {
+        Ok(()) => Ok(()),
+        Err(WriteFault::Device) => Err(ReportFault::Device),
+        Err(WriteFault::Memory) => Err(ReportFault::Memory),
+    }
+}
+
+/// Reads a plan, runs it by so many workers, each in a thread of its own, and writes the report of
+/// the run. It is the plan's report, however many workers there are.
+pub fn plan_report<R: Threads + Wait + Sync, T: Target>(
+    rt: &R,
+    alloc: Global,
+    bytes: &[u8],
+    workers: usize,
+    target: &mut T,
+) -> Result<(), ReportFault>
+    ensures answer { IsReported bytes.now workers (T.contents target.old) (T.contents target.new) result }
+    ensures device { IsErrOf result ReportFault.Device → T.broken target.new ≡ true }
+{
+    let engine = match read_plan(alloc, bytes) {
+        Ok(plan) => Scripted::new(plan),
+        Err(fault) => return Err(ReportFault::Plan(fault)),
+    };
+    let results = match execute(rt, alloc, &engine, workers, CAPACITY) {
+        Ok(results) => results,
+        Err(fault) => return Err(ReportFault::Run(fault)),
+    };
+    one_report();
+    let _table = engine.plan().table();
+    write_report(alloc, &results, target)
+}
