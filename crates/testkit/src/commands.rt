@@ -1,12 +1,12 @@
 //! What the words of the command line ask for.
-ghost use Rattle.std.specs.Prelude.{◌≡◌, map, string_bytes, IfOk, OnErr};
-ghost use Rattle.testkit.specs.declared.commands.Job.TheVariants.{Replay};
-ghost use Rattle.testkit.specs.Commands.{IsJobOf, IsNoAskLine};
+ghost use Rattle.std.specs.Prelude.{map, string_bytes, IfOk, OnErr};
+ghost use Rattle.testkit.specs.Commands.{IsJobOf, IsNoAskLine, IsOther};
 
 use crate::faults::Fault;
 use clap::error::ErrorKind;
-use clap::{Command, Error};
+use clap::{Arg, ArgAction, ArgMatches, Command, Error};
 use std::alloc::Global;
+use tk_record::read_u8;
 
 /// What the program is to do.
 #[derive(Drop)]
@@ -15,14 +15,21 @@ pub enum Job<'w> {
     Ask(&'w [String]),
     /// Replay a replay text.
     Replay,
+    /// Run a plan by so many workers.
+    Run(u8),
 }
 
 fn command<'w>(alloc: Global) -> Result<Command<'w>, Error> {
     let replay = Command::new(alloc, "replay");
+    let workers = Arg::new(alloc, "workers")
+        .long("workers")
+        .action(ArgAction::Set);
+    let run = Command::new(alloc, "run").arg(workers)?;
     Ok(
         Command::new(alloc, "testkit")
             .subcommand_required(true)
-            .subcommand(replay)?,
+            .subcommand(replay)?
+            .subcommand(run)?,
     )
 }
 
@@ -33,9 +40,22 @@ fn fault_of(error: &Error) -> Fault {
     }
 }
 
+/// The run of a plan by as many workers as the words say, or by one.
+fn run_of<'w>(matches: &ArgMatches<'w>) -> Result<Job<'w>, Fault>
+    ensures { IfOk result IsOther }
+{
+    let Some(text) = matches.get_str("workers") else {
+        return Ok(Job::Run(1));
+    };
+    match read_u8(text.as_bytes()) {
+        Some(workers) => Ok(Job::Run(workers)),
+        None => Err(Fault::CommandLine),
+    }
+}
+
 /// The job of a command line that is not a question.
 fn other_job<'w>(alloc: Global, words: &'w [String]) -> Result<Job<'w>, Fault>
-    ensures { IfOk result (λ job. job ≡ Replay) }
+    ensures { IfOk result IsOther }
 {
     let command = match command(alloc) {
         Ok(command) => command,
@@ -44,6 +64,7 @@ fn other_job<'w>(alloc: Global, words: &'w [String]) -> Result<Job<'w>, Fault>
     match command.try_get_matches_from(words) {
         Ok(matches) => match matches.subcommand() {
             Some(("replay", _)) => Ok(Job::Replay),
+            Some(("run", matches)) => run_of(matches),
             _ => Err(Fault::CommandLine),
         },
         Err(error) => Err(fault_of(&error)),

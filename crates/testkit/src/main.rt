@@ -1,4 +1,4 @@
-//! The program: answers questions about a record text, and replays a script of the event queue.
+//! The program: answers questions about a record text, replays a script of the event queue, and runs a plan for its report.
 #![tactic(auto)]
 
 mod commands;
@@ -10,6 +10,8 @@ mod tests;
 use faults::Fault;
 use jobs::perform;
 use std::process::ExitCode;
+use std::sync::Wait;
+use std::thread::Threads;
 use std::{env, io};
 use tk_record::{StdSource, StdTarget};
 
@@ -25,15 +27,16 @@ fn words(rt: &HostRuntime) -> Result<Vec<String>, Fault> {
     Ok(words)
 }
 
-fn run(rt: &HostRuntime) -> Result<bool, Fault> {
-    let words = words(rt)?;
-    let mut source = StdSource::new(rt.reader());
-    let mut target = StdTarget::new(io::writer(rt));
-    perform(rt.alloc(), words.as_slice(), &mut source, &mut target)
+/// Does what the words ask for, from standard input to standard output.
+fn run<R: Threads + Wait + Sync>(host: &HostRuntime, rt: &R) -> Result<bool, Fault> {
+    let words = words(host)?;
+    let mut source = StdSource::new(host.reader());
+    let mut target = StdTarget::new(io::writer(host));
+    perform(rt, host.alloc(), words.as_slice(), &mut source, &mut target)
 }
 
 fn main(rt: HostRuntime) -> ExitCode {
-    match run(&rt) {
+    match run(&rt, &rt) {
         Ok(true) => ExitCode::from(0),
         Ok(false) => ExitCode::from(1),
         Err(fault) => {

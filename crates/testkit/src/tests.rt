@@ -2,7 +2,9 @@
 
 use crate::jobs::perform;
 use std::alloc::{AllocError, Global};
+use std::sync::Wait;
 use std::test::Fail;
+use std::thread::Threads;
 use tk_record::{ByteSource, ByteTarget};
 
 const EMPTY: &str = "testkit-record|1\n";
@@ -47,11 +49,16 @@ fn words(alloc: Global, line: &str) -> Result<Vec<String>, AllocError> {
 }
 
 /// The status, and then the output or the line of the fault.
-fn outcome(alloc: Global, line: &str, input: &str) -> Result<String, AllocError> {
+fn outcome<R: Threads + Wait + Sync>(
+    rt: &R,
+    alloc: Global,
+    line: &str,
+    input: &str,
+) -> Result<String, AllocError> {
     let words = words(alloc, line)?;
     let mut source = ByteSource::new(input.as_bytes());
     let mut target = ByteTarget::new(alloc);
-    match perform(alloc, words.as_slice(), &mut source, &mut target) {
+    match perform(rt, alloc, words.as_slice(), &mut source, &mut target) {
         Ok(yes) => {
             let status = if yes { 0 } else { 1 };
             let mut text = format!(in alloc; "{status} ")?;
@@ -65,9 +72,14 @@ fn outcome(alloc: Global, line: &str, input: &str) -> Result<String, AllocError>
 }
 
 /// Whether each line of words has its outcome on the input.
-fn all_come_out(alloc: Global, input: &str, cases: &[(&str, &str)]) -> Result<bool, AllocError> {
+fn all_come_out<R: Threads + Wait + Sync>(
+    rt: &R,
+    alloc: Global,
+    input: &str,
+    cases: &[(&str, &str)],
+) -> Result<bool, AllocError> {
     for (line, wanted) in cases {
-        if outcome(alloc, line, input)?.as_str() != *wanted {
+        if outcome(rt, alloc, line, input)?.as_str() != *wanted {
             return Ok(false);
         }
     }
@@ -78,7 +90,7 @@ fn all_come_out(alloc: Global, input: &str, cases: &[(&str, &str)]) -> Result<bo
 fn counts_nothing_in_an_empty_record(rt: HostRuntime) -> Result<(), Fail> {
     let wanted =
         "0 skipped 0\nstarted 0\nfinished 0\naborted 0\nsucceeded 0\nfailed 0\nreporting 0\ndynamic 0\n";
-    assert!(rt; outcome(rt.alloc(), "ask stats", EMPTY)?.as_str() == wanted);
+    assert!(rt; outcome(&rt, rt.alloc(), "ask stats", EMPTY)?.as_str() == wanted);
     Ok(())
 }
 
@@ -103,7 +115,7 @@ fn counts_two_tests(rt: HostRuntime) -> Result<(), Fail> {
             "0 1 failed 1 2\n2 skipped 1 1\n0 succeeded 0 9\n",
         ),
     ];
-    assert!(rt; all_come_out(rt.alloc(), TWO_TESTS, &cases)?);
+    assert!(rt; all_come_out(&rt, rt.alloc(), TWO_TESTS, &cases)?);
     Ok(())
 }
 
@@ -117,7 +129,7 @@ fn counts_a_descriptor_of_both_types_twice(rt: HostRuntime) -> Result<(), Fail> 
         ("ask count tests", "0 2\n"),
         ("ask count containers", "0 2\n"),
     ];
-    assert!(rt; all_come_out(rt.alloc(), BOTH_KINDS, &cases)?);
+    assert!(rt; all_come_out(&rt, rt.alloc(), BOTH_KINDS, &cases)?);
     Ok(())
 }
 
@@ -133,8 +145,8 @@ fn matches_one_start(rt: HostRuntime) -> Result<(), Fail> {
         ("ask match loosely", "0 yes\n"),
         ("ask match in-order", "0 yes\n"),
     ];
-    assert!(rt; all_come_out(rt.alloc(), ONE_START, &cases)?);
-    assert!(rt; outcome(rt.alloc(), "ask match exactly", EMPTY)?.as_str() == "0 yes\n");
+    assert!(rt; all_come_out(&rt, rt.alloc(), ONE_START, &cases)?);
+    assert!(rt; outcome(&rt, rt.alloc(), "ask match exactly", EMPTY)?.as_str() == "0 yes\n");
     Ok(())
 }
 
@@ -159,7 +171,7 @@ fn refuses_bad_words(rt: HostRuntime) -> Result<(), Fail> {
             "2 condition 2 is bad at 7",
         ),
     ];
-    assert!(rt; all_come_out(rt.alloc(), "", &cases)?);
+    assert!(rt; all_come_out(&rt, rt.alloc(), "", &cases)?);
     Ok(())
 }
 
@@ -174,7 +186,7 @@ fn refuses_a_deep_condition(rt: HostRuntime) -> Result<(), Fail> {
     for _ in 0..33 {
         line.push_str(")")?;
     }
-    assert!(rt; outcome(alloc, line.as_str(), "")?.as_str() == "2 condition 1 is too deep");
+    assert!(rt; outcome(&rt, alloc, line.as_str(), "")?.as_str() == "2 condition 1 is too deep");
     Ok(())
 }
 
@@ -186,15 +198,24 @@ fn refuses_bad_command_lines(rt: HostRuntime) -> Result<(), Fail> {
         ("--help", "2 bad command line"),
         ("replay more", "2 bad command line"),
         ("report", "2 bad command line"),
+        ("run --workers 09", "2 bad command line"),
+        ("run --workers 256", "2 bad command line"),
+        ("run --workers", "2 bad command line"),
+        ("run --workers 1 --workers 1", "2 bad command line"),
+        ("run more", "2 bad command line"),
     ];
-    assert!(rt; all_come_out(rt.alloc(), "", &cases)?);
+    assert!(rt; all_come_out(&rt, rt.alloc(), "", &cases)?);
     Ok(())
 }
 
 /// What `ask stats` says of a record of one test with a further text behind it.
-fn stats_of(alloc: Global, more: &str) -> Result<String, AllocError> {
+fn stats_of<R: Threads + Wait + Sync>(
+    rt: &R,
+    alloc: Global,
+    more: &str,
+) -> Result<String, AllocError> {
     let input = format!(in alloc; "testkit-record|1\nN|T|[engine:e]|e\n{more}")?;
-    outcome(alloc, "ask stats", input.as_str())
+    outcome(rt, alloc, "ask stats", input.as_str())
 }
 
 #[test]
@@ -210,9 +231,14 @@ fn refuses_bad_records(rt: HostRuntime) -> Result<(), Fail> {
         ),
     ];
     for (more, wanted) in cases {
-        assert!(rt; stats_of(rt.alloc(), more)?.as_str() == wanted, "{wanted}");
+        assert!(rt;
+            stats_of(&rt, rt.alloc(), more)?.as_str() == wanted,
+            "{wanted}"
+        );
     }
-    assert!(rt; outcome(rt.alloc(), "ask stats", "testkit-record|2\n")?.as_str() == "2 no header");
+    assert!(rt;
+        outcome(&rt, rt.alloc(), "ask stats", "testkit-record|2\n")?.as_str() == "2 no header"
+    );
     Ok(())
 }
 
@@ -221,14 +247,18 @@ fn counts_three_tails(rt: HostRuntime) -> Result<(), Fail> {
     let tails = "E|1|0|0|start\nE|1|0|1|finish|fail|boom\nE|1|0|2|skip|off\n";
     let wanted =
         "0 skipped 1\nstarted 1\nfinished 1\naborted 0\nsucceeded 0\nfailed 1\nreporting 0\ndynamic 0\n";
-    assert!(rt; stats_of(rt.alloc(), tails)?.as_str() == wanted);
+    assert!(rt; stats_of(&rt, rt.alloc(), tails)?.as_str() == wanted);
     Ok(())
 }
 
 /// What `replay` says of the small script with these steps.
-fn replayed(alloc: Global, steps: &str) -> Result<String, AllocError> {
+fn replayed<R: Threads + Wait + Sync>(
+    rt: &R,
+    alloc: Global,
+    steps: &str,
+) -> Result<String, AllocError> {
     let input = format!(in alloc; "{SMALL_REPLAY}{steps}\n")?;
-    outcome(alloc, "replay", input.as_str())
+    outcome(rt, alloc, "replay", input.as_str())
 }
 
 #[test]
@@ -244,7 +274,48 @@ fn replays_a_small_script(rt: HostRuntime) -> Result<(), Fail> {
         ("S|3", "2 line 7 is bad"),
     ];
     for (steps, wanted) in cases {
-        assert!(rt; replayed(rt.alloc(), steps)?.as_str() == wanted, "{steps}");
+        assert!(rt;
+            replayed(&rt, rt.alloc(), steps)?.as_str() == wanted,
+            "{steps}"
+        );
+    }
+    Ok(())
+}
+
+const ONE_TEST: &str =
+    "{\"version\":1,\"root\":{\"type\":\"test\",\"segment\":[\"engine\",\"e\"],\"name\":\"e\"}}";
+
+#[test]
+fn runs_a_plan(rt: HostRuntime) -> Result<(), Fail> {
+    let report =
+        "0 skipped 0\nstarted 1\nfinished 1\naborted 0\nsucceeded 1\nfailed 0\nreporting 0\ndynamic 0\n[engine:e]\n  start\n  finish|ok\n";
+    let cases = [
+        ("run", report),
+        ("run --workers 8", report),
+        ("run --workers=2", report),
+        ("run --workers 9", "2 workers must be 1 to 8"),
+        ("run --workers 0", "2 workers must be 1 to 8"),
+    ];
+    assert!(rt; all_come_out(&rt, rt.alloc(), ONE_TEST, &cases)?);
+    Ok(())
+}
+
+#[test]
+fn refuses_bad_plans(rt: HostRuntime) -> Result<(), Fail> {
+    let cases = [
+        ("[", "2 plan is not JSON"),
+        ("{}", "2 plan member /version is bad"),
+        ("{\"a|b\":1}", "2 plan member /a\\pb is bad"),
+        (
+            "{\"version\":1,\"root\":{\"type\":\"test\",\"segment\":[\"\",\"x\"],\"name\":\"e\"}}",
+            "2 plan id is bad",
+        ),
+    ];
+    for (plan, wanted) in cases {
+        assert!(rt;
+            outcome(&rt, rt.alloc(), "run --workers 9", plan)?.as_str() == wanted,
+            "{wanted}"
+        );
     }
     Ok(())
 }

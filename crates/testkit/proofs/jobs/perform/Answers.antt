@@ -6,8 +6,8 @@ use Rattle.testkit.specs.Commands.{IsJobOf}
 use Rattle.testkit.proofs.Lines.{one_question}
 use Rattle.testkit.proofs.jobs.perform.Goals as goal
 
-pub returns-in-Ok-clause-replayed : goal.returns-in-Ok-clause-replayed
-returns-in-Ok-clause-replayed g c = λ none.
+pub returns-in-Ok-clause-other : goal.returns-in-Ok-clause-other
+returns-in-Ok-clause-other g c = λ none.
     let line = subst (λ (j : Job). IsJobOf (map string_bytes c.args.words.now) j) c.in-Ok-Ask.field-0-is c.in-Ok-Ask.ensures.job in
     absurd (none (map string_bytes c.in-Ok-Ask.question.now) line)
 
@@ -30,7 +30,17 @@ returns-in-Err-replay_text-clause-refusal g c = λ question asked.
 pub returns-in-Err-clause-refusal : goal.returns-in-Err-clause-refusal
 returns-in-Err-clause-refusal g c = λ question asked. absurd (c.in-Err.ensures.err question asked)
 
-pub returns-in-Ok-clause-replay_done : goal.returns-in-Ok-clause-replay_done
-returns-in-Ok-clause-replay_done g c = λ none.
+pub returns-in-Ok-clause-other_done : goal.returns-in-Ok-clause-other_done
+returns-in-Ok-clause-other_done g c = λ none.
     let line = subst (λ (j : Job). IsJobOf (map string_bytes c.args.words.now) j) c.in-Ok-Ask.field-0-is c.in-Ok-Ask.ensures.job in
     absurd (none (map string_bytes c.in-Ok-Ask.question.now) line)
+
+pub returns-in-Ok-run_plan-clause-answer : goal.returns-in-Ok-run_plan-clause-answer
+returns-in-Ok-run_plan-clause-answer g c = λ question asked.
+    let none = subst (λ (j : Job). IsJobOf (map string_bytes c.args.words.now) j) c.in-Ok-Run.field-0-is c.in-Ok-Run.ensures.job in
+    absurd (none question asked)
+
+pub returns-in-Err-run_plan-clause-refusal : goal.returns-in-Err-run_plan-clause-refusal
+returns-in-Err-run_plan-clause-refusal g c = λ question asked.
+    let none = subst (λ (j : Job). IsJobOf (map string_bytes c.args.words.now) j) c.in-Ok-Run.field-0-is c.in-Ok-Run.ensures.job in
+    absurd (none question asked)
