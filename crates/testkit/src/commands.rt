@@ -1,6 +1,6 @@
 //! What the words of the command line ask for.
-ghost use Rattle.std.specs.Prelude.{map, string_bytes, IfOk, OnErr};
-ghost use Rattle.testkit.specs.Commands.{IsJobOf, IsNoAskLine, IsOther};
+ghost use Rattle.std.specs.Prelude.{map, string_bytes, IfErr, IfOk};
+ghost use Rattle.testkit.specs.Commands.{IsJobOf, IsLineFault, IsOther, IsOfLine};
 
 use crate::faults::Fault;
 use clap::error::ErrorKind;
@@ -33,7 +33,9 @@ fn command<'w>(alloc: Global) -> Result<Command<'w>, Error> {
     )
 }
 
-fn fault_of(error: &Error) -> Fault {
+fn fault_of(error: &Error) -> Fault
+    ensures { IsOfLine result }
+{
     match error.kind() {
         ErrorKind::OutOfMemory => Fault::Memory,
         _ => Fault::CommandLine,
@@ -42,7 +44,8 @@ fn fault_of(error: &Error) -> Fault {
 
 /// The run of a plan by as many workers as the words say, or by one.
 fn run_of<'w>(matches: &ArgMatches<'w>) -> Result<Job<'w>, Fault>
-    ensures { IfOk result IsOther }
+    ensures job { IfOk result IsOther }
+    ensures err { IfErr result IsOfLine }
 {
     let Some(text) = matches.get_str("workers") else {
         return Ok(Job::Run(1));
@@ -55,7 +58,8 @@ fn run_of<'w>(matches: &ArgMatches<'w>) -> Result<Job<'w>, Fault>
 
 /// The job of a command line that is not a question.
 fn other_job<'w>(alloc: Global, words: &'w [String]) -> Result<Job<'w>, Fault>
-    ensures { IfOk result IsOther }
+    ensures job { IfOk result IsOther }
+    ensures err { IfErr result IsOfLine }
 {
     let command = match command(alloc) {
         Ok(command) => command,
@@ -75,7 +79,7 @@ fn other_job<'w>(alloc: Global, words: &'w [String]) -> Result<Job<'w>, Fault>
 /// what the command-line crate makes of other words is tested, and no clause says it.
 pub fn job_of<'w>(alloc: Global, words: &'w [String]) -> Result<Job<'w>, Fault>
     ensures job { IfOk result (IsJobOf (map string_bytes words.now)) }
-    ensures err { OnErr result (IsNoAskLine (map string_bytes words.now)) }
+    ensures err { IfErr result (IsLineFault (map string_bytes words.now)) }
 {
     if let [_, command, question @ ..] = words {
         if command.as_str() == "ask" {
