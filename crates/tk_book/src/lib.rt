@@ -10,6 +10,3 @@ mod rules;
 pub use books::{Book, BookFault, BookSeat, Busy, MAX_SEATS};
 pub use grants::Holdings;
 pub use needs::Need;
-
-#[cfg(test)]
-mod tests;

@@ -5,6 +5,3 @@ mod claims;
 mod rules;
 
 pub use claims::{Claim, ClaimFault, ClaimSeat, MAX_SEATS};
-
-#[cfg(test)]
-mod tests;

@@ -8,8 +8,6 @@ pub mod laws;
 mod parts;
 mod readers;
 mod reading;
-#[cfg(test)]
-mod tests;
 mod words;
 
 pub use conditions::Condition;

@@ -1,5 +1,5 @@
 //! A worker: it draws units and runs them until none is left, or one fails.
-ghost use Rattle.std.specs.Prelude.{◌≡◌, ◌<◌, List, [], ◌++◌, None, true, IfNone, IfSome, OnOk};
+ghost use Rattle.std.specs.Prelude.{◌≡◌, ◌<◌, List, [], ◌++◌, None, Some, true, IfNone, IfSome, IfOk, IfErr, OnOk};
 ghost use Rattle.tk_events.specs.declared.events.Event.{Event};
 ghost use Rattle.tk_queue.specs.Known.{registrations};
 ghost use Rattle.tk_runs.specs.Run.{Emits};
@@ -22,7 +22,7 @@ pub(crate) struct Hand {
 }
 
 /// The unit that failed, and why.
-#[derive(Debug, Drop)]
+#[derive(Drop)]
 pub(crate) struct Failure {
     pub unit: u32,
     pub why: UnitFault,
@@ -34,6 +34,24 @@ pub(crate) struct Outcome {
     pub ended: Ended,
     pub claim_seat: ClaimSeat,
     pub failure: Option<Failure>,
+}
+
+impl Outcome {
+    /// The token and the seat of a worker that had no failure, or its failure.
+    pub(crate) fn into_parts(self) -> Result<(Ended, ClaimSeat), Failure>
+        ensures ok { IfOk result (λ r. (self.failure ≡ None) × (r.0 ≡ self.ended) × (r.1 ≡ self.claim_seat)) }
+        ensures err { IfErr result (λ failed. self.failure ≡ Some failed) }
+    {
+        let Outcome {
+            ended,
+            claim_seat,
+            failure,
+        } = self;
+        match failure {
+            None => Ok((ended, claim_seat)),
+            Some(failed) => Err(failed),
+        }
+    }
 }
 
 // Runs a unit while the seat holds its need.

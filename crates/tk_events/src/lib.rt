@@ -6,8 +6,6 @@ mod kinds;
 pub mod laws;
 mod payloads;
 mod registrations;
-#[cfg(test)]
-mod tests;
 
 pub use events::{Entry, Event};
 pub use kinds::{Kind, Status};

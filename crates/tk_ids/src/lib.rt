@@ -5,8 +5,6 @@ mod ids;
 pub mod laws;
 mod reading;
 mod tables;
-#[cfg(test)]
-mod tests;
 mod texts;
 mod writing;
 

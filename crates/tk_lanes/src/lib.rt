@@ -14,6 +14,3 @@ pub use columns::{count_byte, mask_byte, mask_flag, mask_u32};
 pub use flag_lists::Flags;
 pub use gathering::gather;
 pub use masks::{and_into, first_from, not_into, ones, or_into};
-
-#[cfg(test)]
-mod tests;

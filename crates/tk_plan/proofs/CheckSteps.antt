@@ -18,7 +18,7 @@ use Rattle.tk_cutting.specs.Trees.{contents}
 use Rattle.tk_plan.specs.Answers.{Refuses}
 use Rattle.tk_plan.specs.Refusals.{Faults}
 use Rattle.tk_plan.specs.Checks.{first}
-use Rattle.tk_plan.specs.Progress.{IsNoted, IsChecked, IsAdded}
+use Rattle.tk_plan.specs.Progress.{IsNoted, IsChecked, IsAdded, room_checks}
 use Rattle.tk_plan.specs.Sites.{Site, segment_of, node_of, repeats_key}
 use Rattle.tk_plan.specs.PlanOf.{checks, node_check, id_fault, same_segment, is_kind}
 use Rattle.tk_plan.specs.declared.readers.Reader.{Reader}
@@ -48,13 +48,12 @@ faults_from_place wrong w EntryKeyTwice f r = absurd r
 faults_from_place wrong w TooManyEvents f r = absurd r
 faults_from_place wrong w Deep f r = absurd r
 
--- nothing is wrong with the node as far as its place among its siblings
+-- nothing is wrong with the node alone
 pub record Passes (s : Site) : Type 0 where
   pub level : s.level ≤ 60
   pub members : node_check s ≡ None
   pub once : repeats_key s.value ≡ false
   pub id : option_map Id (id_fault s.above (segment_of s)) ≡ None
-  pub new : list_any (same_segment (segment_of s)) s.earlier ≡ false
 
 module _ (before : List Node) (s : Site) where
   pub deep_fault : 60 < s.level → first (checks before s) ≡ Some Deep
@@ -74,22 +73,22 @@ module _ (before : List Node) (s : Site) where
   unfolding checks
   id_fault_here f h e r i = rw (le-ltb 60 s.level h, e, r, i) refl
 
-  pub twice_fault : s.level ≤ 60 → node_check s ≡ None → repeats_key s.value ≡ false → option_map Id (id_fault s.above (segment_of s)) ≡ None
-      → list_any (same_segment (segment_of s)) s.earlier ≡ true → first (checks before s) ≡ Some (Table Twice)
+  pub room_verdict : (o : Option PlanFault) → Passes s → first (room_checks before s.earlier s.is_static (segment_of s) (lock_keys (before ++ node_of s ∷ []))) ≡ o → first (checks before s) ≡ o
   unfolding checks
-  twice_fault h e r i t = rw (le-ltb 60 s.level h, e, r, i, t) refl
+  room_verdict o p e = rw (le-ltb 60 s.level p.level, p.members, p.once, p.id) e
 
-  pub full_fault : Passes s → nat_le 65536 (count_by (is_kind s.is_static) before) ≡ true → first (checks before s) ≡ Some (Table Full)
-  unfolding checks
-  full_fault p u = rw (le-ltb 60 s.level p.level, p.members, p.once, p.id, p.new, u) refl
+module _ (before : List Node) (earlier : List Pair) (b : Bool) (s : Pair) (keys : List (List ℕ)) where
+  pub twice_fault : list_any (same_segment s) earlier ≡ true → first (room_checks before earlier b s keys) ≡ Some (Table Twice)
+  twice_fault t = rw t refl
 
-  pub resource_fault : Passes s → nat_le 65536 (count_by (is_kind s.is_static) before) ≡ false → 15 < length (lock_keys (before ++ node_of s ∷ [])) → first (checks before s) ≡ Some TooManyResources
-  unfolding checks
-  resource_fault p u m = rw (le-ltb 60 s.level p.level, p.members, p.once, p.id, p.new, u, lt-ltb 15 _ m) refl
+  pub full_fault : list_any (same_segment s) earlier ≡ false → nat_le 65536 (count_by (is_kind b) before) ≡ true → first (room_checks before earlier b s keys) ≡ Some (Table Full)
+  full_fault t u = rw (t, u) refl
 
-  pub no_fault : Passes s → nat_le 65536 (count_by (is_kind s.is_static) before) ≡ false → length (lock_keys (before ++ node_of s ∷ [])) ≤ 15 → first (checks before s) ≡ None
-  unfolding checks
-  no_fault p u m = rw (le-ltb 60 s.level p.level, p.members, p.once, p.id, p.new, u, le-ltb 15 _ m) refl
+  pub resource_fault : list_any (same_segment s) earlier ≡ false → nat_le 65536 (count_by (is_kind b) before) ≡ false → 15 < length keys → first (room_checks before earlier b s keys) ≡ Some TooManyResources
+  resource_fault t u m = rw (t, u, lt-ltb 15 _ m) refl
+
+  pub no_fault : list_any (same_segment s) earlier ≡ false → nat_le 65536 (count_by (is_kind b) before) ≡ false → length keys ≤ 15 → first (room_checks before earlier b s keys) ≡ None
+  no_fault t u m = rw (t, u, le-ltb 15 _ m) refl
 
 note_locks-append : (keys : List (List ℕ)) (a b : List Lock) → note_locks keys (a ++ b) ≡ note_locks (note_locks keys a) b
 note_locks-append keys [] b = refl

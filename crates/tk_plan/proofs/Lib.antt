@@ -2,6 +2,7 @@ pub mod Escapes
 pub mod Items
 pub mod MemberSteps
 pub mod Passing
+pub mod Groups
 pub mod Pairing
 pub mod Results
 pub mod Meeting

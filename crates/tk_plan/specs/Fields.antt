@@ -1,23 +1,70 @@
--- What a reader of a node's members hands on.
-use Rattle.std.specs.Prelude.{◌≡◌, Bool, map, codes}
+-- What readers of a node's members hand on.
+use Rattle.std.specs.Prelude.{◌≡◌, Bool, List, [], ◌∷◌, map, codes}
 use Rattle.serde_json.specs.Data.{Data}
 use Rattle.serde_json.specs.Find.{get}
 use Rattle.serde_json.specs.View.{view}
+use Rattle.tk_plan.specs.Checks.{Row}
 use Rattle.tk_plan.specs.Contents.{said_text, said_optional, said_dtype, listed}
+use Rattle.tk_plan.specs.Rows.{dtype_row, segment_row, name_row, mode_row, isolated_row, locks_row, skip_row, result_row, entries_row}
 use Rattle.tk_plan.specs.Sites.{concurrent_of, isolated_of, locks_of, children_of, dynamic_of}
 use Rattle.tk_plan.specs.Pointers.{IsPairOf}
 use Rattle.tk_plan.specs.Endings.{IsEnding, AreReports}
+use Rattle.tk_plan.specs.declared.fields.Heading.{Heading}
+use Rattle.tk_plan.specs.declared.fields.Concurrency.{Concurrency}
+use Rattle.tk_plan.specs.declared.fields.Content.{Content}
 use Rattle.tk_plan.specs.declared.fields.Fields.{Fields}
+use Rattle.tk_plan.specs.declared.readers.Checked.{Checked}
+use Rattle.tk_plan.specs.declared.readers.Named.{Named}
+
+abbrev pub heading_rows : List Row
+heading_rows = dtype_row ∷ segment_row ∷ name_row ∷ []
+
+-- a dynamic node has none of these
+abbrev pub concurrency_rows : List Row
+concurrency_rows = mode_row ∷ isolated_row ∷ locks_row ∷ []
+
+abbrev pub content_rows : List Row
+content_rows = skip_row ∷ result_row ∷ entries_row ∷ []
+
+pub record IsHeading (d : Data) (h : Heading) : Type 0 where
+  pub dtype : h.dtype ≡ said_dtype (get (codes "type") d)
+  pub segment : IsPairOf (get (codes "segment") d) h.segment
+  pub name : h.name ≡ said_text (get (codes "name") d)
+
+pub record IsConcurrency (is_static : Bool) (d : Data) (m : Concurrency) : Type 0 where
+  pub is_concurrent : m.is_concurrent ≡ concurrent_of is_static d
+  pub is_isolated : m.is_isolated ≡ isolated_of is_static d
+  pub locks : m.locks ≡ locks_of is_static d
+
+pub record IsContent (d : Data) (c : Content) : Type 0 where
+  pub skip : c.skip ≡ said_optional (get (codes "skip") d)
+  pub ending : IsEnding (get (codes "result") d) c.ending
+  pub reports : AreReports (listed (get (codes "entries") d)) c.reports
 
 pub record Says (is_static : Bool) (d : Data) (f : Fields) : Type 0 where
-  pub dtype : f.dtype ≡ said_dtype (get (codes "type") d)
-  pub segment : IsPairOf (get (codes "segment") d) f.segment
-  pub name : f.name ≡ said_text (get (codes "name") d)
-  pub is_concurrent : f.is_concurrent ≡ concurrent_of is_static d
-  pub is_isolated : f.is_isolated ≡ isolated_of is_static d
-  pub locks : f.locks ≡ locks_of is_static d
-  pub skip : f.skip ≡ said_optional (get (codes "skip") d)
-  pub ending : IsEnding (get (codes "result") d) f.ending
-  pub reports : AreReports (listed (get (codes "entries") d)) f.reports
+  pub heading : IsHeading d f.heading
+  pub concurrency : IsConcurrency is_static d f.concurrency
+  pub content : IsContent d f.content
   pub children : map view f.children.now ≡ children_of is_static d
   pub dynamic : map view f.dynamic.now ≡ dynamic_of d
+
+-- a node with its id, as its members say
+abbrev pub checked_of : Bool → Named → Fields → Checked
+checked_of is_static n f = record {
+  node = record {
+    is_static = is_static;
+    dtype = f.heading.dtype;
+    segment = n.segment;
+    name = f.heading.name;
+    is_concurrent = f.concurrency.is_concurrent;
+    is_isolated = f.concurrency.is_isolated;
+    locks = f.concurrency.locks;
+    skip = f.content.skip;
+    status = f.content.ending.status;
+    message = f.content.ending.message;
+    entries = f.content.reports.entries;
+  };
+  id = n.id;
+  children = f.children;
+  dynamic = f.dynamic;
+}

@@ -1,17 +1,22 @@
 -- What a step of the reading adds to what was read.
-use Rattle.std.specs.Prelude.{◌≡◌, ◌++◌, ◌+◌, ◌≤◌, ◌<◌, ◌∷◌, [], List, true, false, length, map, if◌then◌else◌}
-use Rattle.std.specs.List.{list_all, count_by}
+use Rattle.std.specs.Prelude.{◌≡◌, ◌++◌, ◌+◌, ◌≤◌, ◌<◌, ◌∷◌, [], ℕ, List, Option, Bool, true, false, nat_lt, nat_le, length, map, if◌then◌else◌}
+use Rattle.std.specs.List.{list_all, list_any, count_by}
 use Rattle.serde_json.specs.View.{view}
 use Rattle.tk_ids.specs.IdText.{Pair}
 use Rattle.tk_ids.specs.declared.tables.Descriptor.{Descriptor}
+use Rattle.tk_ids.specs.declared.tables.TheConstants.{MAX_DESCRIPTORS}
+use Rattle.tk_ids.specs.declared.tables.TableFault.TheVariants.{Twice, Full}
+use Rattle.tk_cutting.specs.declared.asking.TheConstants.{MAX_KEYS}
 use Rattle.tk_cutting.specs.declared.nodes.Node.{Node}
 use Rattle.tk_cutting.specs.declared.nodes.Placed.{Placed}
 use Rattle.tk_cutting.specs.Ids.{descriptor_in}
 use Rattle.tk_cutting.specs.Keys.{lock_keys}
 use Rattle.tk_cutting.specs.Planned.{is_lawful_node}
 use Rattle.tk_cutting.specs.Trees.{contents}
-use Rattle.tk_plan.specs.PlanOf.{is_kind}
+use Rattle.tk_plan.specs.PlanOf.{is_kind, same_segment, when}
 use Rattle.tk_plan.specs.Sites.{Site, segment_of, id_of, node_of, children_of, dynamic_of}
+use Rattle.tk_plan.specs.declared.faults.PlanFault.{PlanFault}
+use Rattle.tk_plan.specs.declared.faults.PlanFault.TheVariants.{Table, TooManyResources}
 use Rattle.tk_plan.specs.declared.readers.Reader.{Reader}
 use Rattle.tk_plan.specs.declared.readers.Checked.{Checked}
 
@@ -24,6 +29,24 @@ pub record IsNoted (r : Reader) : Type 0 where
   pub dynamics : r.dynamics ≡ count_by (is_kind false) (contents r.nodes.items)
   pub few_dynamics : r.dynamics ≤ 65536
   pub lawful : list_all is_lawful_node (contents r.nodes.items) ≡ true
+
+-- the checks of a node of that segment, after those nodes and siblings, where these are the lock keys with its own
+abbrev pub room_checks : List Node → List Pair → Bool → Pair → List (List ℕ) → List (Option PlanFault)
+room_checks before earlier is_static segment keys =
+    when (list_any (same_segment segment) earlier) (Table Twice)
+    ∷ when (nat_le MAX_DESCRIPTORS (count_by (is_kind is_static) before)) (Table Full)
+    ∷ when (nat_lt MAX_KEYS (length keys)) TooManyResources
+    ∷ []
+
+-- its segment and its keys were noted
+pub record IsEntered (old new : Reader) (earlier later : List Pair) (is_static : Bool) (segment : Pair) (noted : List (List ℕ)) : Type 0 where
+  pub nodes : new.nodes.items ≡ old.nodes.items
+  pub descriptors : new.descriptors.items ≡ old.descriptors.items
+  pub dynamics : new.dynamics ≡ old.dynamics
+  pub keys : new.keys.keys ≡ noted
+  pub few_keys : length noted ≤ 15
+  pub room : count_by (is_kind is_static) (contents old.nodes.items) < 65536
+  pub siblings : later ≡ earlier ++ segment ∷ []
 
 -- a node was checked, and its keys were noted
 pub record IsChecked (old new : Reader) (s : Site) (later : List Pair) (c : Checked) : Type 0 where

@@ -4,14 +4,15 @@ ghost use Rattle.std.specs.List.{count_by};
 ghost use Rattle.serde_json.specs.View.{view};
 ghost use Rattle.tk_ids.specs.Answer.{IsMadeOf};
 ghost use Rattle.tk_ids.specs.declared.tables.TheConstants.{MAX_DESCRIPTORS};
+ghost use Rattle.tk_cutting.specs.Keys.{note_locks};
 ghost use Rattle.tk_cutting.specs.Trees.{contents};
 ghost use Rattle.tk_plan.specs.Answers.{Reads};
 ghost use Rattle.tk_plan.specs.Checks.{first};
-ghost use Rattle.tk_plan.specs.Fields.{Says};
+ghost use Rattle.tk_plan.specs.Fields.{Says, checked_of};
 ghost use Rattle.tk_plan.specs.PlanOf.{id_fault, node_check, is_kind, checks};
 ghost use Rattle.tk_plan.specs.Refusals.{Meets};
 ghost use Rattle.tk_plan.specs.Seen.{seen, above_of, segment_said, as_plan_fault, IsNamed};
-ghost use Rattle.tk_plan.specs.Progress.{IsNoted, IsChecked};
+ghost use Rattle.tk_plan.specs.Progress.{IsNoted, IsEntered, IsChecked, room_checks};
 
 use crate::faults::PlanFault;
 use crate::fields::{Fields, dynamic_fields, static_fields};
@@ -22,7 +23,7 @@ use crate::readers::{Checked, Named, Reader};
 use crate::siblings::Siblings;
 use crate::sites::Site;
 use std::alloc::Global;
-use tk_cutting::{MAX_KEYS, Node};
+use tk_cutting::{Lock, MAX_KEYS, Node};
 use tk_ids::{IdFault, MAX_DESCRIPTORS, Segment, TableFault, UniqueId};
 
 fn fields_of<'v>(alloc: Global, site: Site<'_, 'v>) -> Result<Fields<'v>, PlanFault>
@@ -84,6 +85,65 @@ fn is_full(reader: &Reader, is_static: bool) -> bool
     count >= MAX_DESCRIPTORS
 }
 
+/// Makes the node that these fields describe, with its id and the values in its arrays.
+fn into_checked<'v>(is_static: bool, named: Named, fields: Fields<'v>) -> Checked<'v>
+    ensures { result ≡ checked_of is_static named fields.entry }
+{
+    let Fields {
+        heading,
+        concurrency,
+        content,
+        children,
+        dynamic,
+    } = fields;
+    let node = Node {
+        is_static,
+        dtype: heading.dtype,
+        segment: named.segment,
+        name: heading.name,
+        is_concurrent: concurrency.is_concurrent,
+        is_isolated: concurrency.is_isolated,
+        locks: concurrency.locks,
+        skip: content.skip,
+        status: content.ending.status,
+        message: content.ending.message,
+        entries: content.reports.entries,
+    };
+    Checked {
+        node,
+        id: named.id,
+        children,
+        dynamic,
+    }
+}
+
+/// Notes a node's segment among its siblings' and its lock keys among the plan's, where there is room for them.
+fn note_node<'v>(
+    alloc: Global,
+    reader: &mut Reader,
+    siblings: &mut Siblings<'v>,
+    is_static: bool,
+    segment: TwoTexts<'v>,
+    locks: &[Lock],
+) -> Result<(), PlanFault>
+    requires { IsNoted reader.old }
+    ensures { let keys = note_locks reader.old.keys.keys locks.now in
+        Meets (first (room_checks (contents reader.old.nodes.items) siblings.old is_static (segment_said segment.entry) keys))
+        (λ _. IsEntered reader.old reader.new siblings.old siblings.new is_static (segment_said segment.entry) keys) result }
+{
+    if !siblings.insert(segment)? {
+        return Err(PlanFault::Table(TableFault::Twice));
+    }
+    if is_full(reader, is_static) {
+        return Err(PlanFault::Table(TableFault::Full));
+    }
+    note_all(alloc, &mut reader.keys, locks)?;
+    if reader.keys.len() > MAX_KEYS {
+        return Err(PlanFault::TooManyResources);
+    }
+    Ok(())
+}
+
 /// Checks one node, given those before it, and notes its segment and its lock keys.
 pub(crate) fn check_node<'v>(
     alloc: Global,
@@ -99,38 +159,17 @@ pub(crate) fn check_node<'v>(
         return Err(PlanFault::Deep);
     }
     let fields = fields_of(alloc, site)?;
-    if fields.reports.repeats {
+    if fields.content.reports.repeats {
         return Err(PlanFault::EntryKeyTwice);
     }
-    let named = named(alloc, site.above, fields.segment)?;
-    if !siblings.insert(fields.segment)? {
-        return Err(PlanFault::Table(TableFault::Twice));
-    }
-    if is_full(reader, site.is_static) {
-        return Err(PlanFault::Table(TableFault::Full));
-    }
-    note_all(alloc, &mut reader.keys, fields.locks.as_slice())?;
-    if reader.keys.len() > MAX_KEYS {
-        return Err(PlanFault::TooManyResources);
-    }
-    let Named { segment, id } = named;
-    let node = Node {
-        is_static: site.is_static,
-        dtype: fields.dtype,
-        segment,
-        name: fields.name,
-        is_concurrent: fields.is_concurrent,
-        is_isolated: fields.is_isolated,
-        locks: fields.locks,
-        skip: fields.skip,
-        status: fields.ending.status,
-        message: fields.ending.message,
-        entries: fields.reports.entries,
-    };
-    Ok(Checked {
-        node,
-        id,
-        children: fields.children,
-        dynamic: fields.dynamic,
-    })
+    let named = named(alloc, site.above, fields.heading.segment)?;
+    note_node(
+        alloc,
+        reader,
+        siblings,
+        site.is_static,
+        fields.heading.segment,
+        fields.concurrency.locks.as_slice(),
+    )?;
+    Ok(into_checked(site.is_static, named, fields))
 }

@@ -9,8 +9,6 @@ pub mod laws;
 mod masks;
 mod matching;
 mod pairing;
-#[cfg(test)]
-mod tests;
 
 pub use answers::{Exact, InOrder, Loose};
 pub use execution_lists::{Ending, Execution, Executions};

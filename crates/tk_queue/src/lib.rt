@@ -15,6 +15,3 @@ pub use receivers::{CloseFault, CloseReason, Closed, Receiver};
 pub use senders::{Ended, RegisterFault, SendFault, Sender};
 pub use sessions::{OpenFault, open};
 pub use tk_replay::{Core, CoreFault, Item, ReplayFault, Replayed, Turn, replay, replay_text};
-
-#[cfg(test)]
-mod tests;

@@ -45,7 +45,7 @@ impl Model for Receiver {
 
 /// How many events each worker of a closed session emitted. Contracts see the list of these numbers,
 /// by the workers' numbers.
-#[derive(Debug, Drop)]
+#[derive(Drop)]
 pub struct Closed {
     emitted: [u64; PLACES],
 }

@@ -2,7 +2,7 @@
 use tk_events::Entry;
 
 /// An entry of a worker, or its end mark.
-#[derive(Debug, Drop)]
+#[derive(Drop)]
 pub enum Item {
     /// An event, with the worker that emitted it.
     Entry(Entry),
@@ -11,7 +11,7 @@ pub enum Item {
 }
 
 /// A step of a replay.
-#[derive(Clone, Copy, Debug, PartialEq, Eq)]
+#[derive(Clone, Copy, PartialEq, Eq)]
 pub enum Turn {
     /// The worker emits its next event, or its end mark behind the last.
     Worker(u8),

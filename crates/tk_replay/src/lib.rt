@@ -12,6 +12,3 @@ pub use cores::{Core, CoreFault};
 pub use items::{Item, Turn};
 pub use replays::{ReplayFault, Replayed, replay};
 pub use texts::replay_text;
-
-#[cfg(test)]
-mod tests;

@@ -6,6 +6,3 @@ mod lines;
 mod writing;
 
 pub use writing::write_report_of;
-
-#[cfg(test)]
-mod tests;

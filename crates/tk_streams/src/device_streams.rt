@@ -5,7 +5,7 @@ use crate::streams::{Broken, Source, Target};
 use std::io::{Read, Write};
 
 /// A reader of std as a source. Each error breaks it.
-#[derive(Debug, Drop)]
+#[derive(Drop)]
 pub struct StdSource<R> {
     reader: R,
     broken: bool,
@@ -48,7 +48,7 @@ impl<R: Read> Source for StdSource<R> {
 }
 
 /// A writer of std as a target. Each error breaks it, and so does a write that takes no byte.
-#[derive(Debug, Drop)]
+#[derive(Drop)]
 pub struct StdTarget<W> {
     writer: W,
     broken: bool,

@@ -4,8 +4,6 @@
 mod device_streams;
 mod memory_streams;
 mod streams;
-#[cfg(test)]
-mod tests;
 mod transfers;
 
 pub use device_streams::{StdSource, StdTarget};

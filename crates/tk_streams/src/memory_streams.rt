@@ -6,7 +6,7 @@ use std::alloc::Global;
 use std::marker::Model;
 
 /// Bytes of memory, as a source. A contract sees the bytes that are left.
-#[derive(Debug, Drop)]
+#[derive(Drop)]
 pub struct ByteSource<'a> {
     rest: &'a [u8],
 }
@@ -47,7 +47,7 @@ impl<'a> Source for ByteSource<'a> {
 }
 
 /// Memory that takes bytes. A growth that is refused breaks it.
-#[derive(Debug, Drop)]
+#[derive(Drop)]
 pub struct ByteTarget {
     taken: Vec<u8>,
     broken: bool,

@@ -1,12 +1,14 @@
-use Rattle.std.proofs.Common.{◌≡◌, ◌++◌, ◌∷◌, [], ◌≤◌, ◌<◌, length, option_map, cond, refl, sym, ap, ◌∙◌, subst}
+use Rattle.std.proofs.Common.{◌≡◌, ◌++◌, ◌∷◌, [], ◌≤◌, length, option_map, Some, None, refl, sym, ap, ap₂, ◌∙◌, subst}
 use Rattle.std.proofs.lemmas.Result.{err_from_is_err_and}
-use Rattle.std.specs.List.{list_any}
+use Rattle.tk_cutting.specs.Keys.{note_locks}
 use Rattle.tk_cutting.specs.Trees.{contents}
-use Rattle.tk_plan.specs.PlanOf.{id_fault, same_segment}
+use Rattle.tk_plan.specs.Checks.{first}
+use Rattle.tk_plan.specs.PlanOf.{id_fault}
+use Rattle.tk_plan.specs.Progress.{room_checks}
 use Rattle.tk_plan.specs.Seen.{seen, segment_said}
 use Rattle.tk_plan.specs.Sites as spec
-use Rattle.tk_plan.specs.Sites.{node_of, id_of, segment_of}
-use Rattle.tk_plan.proofs.CheckSteps.{Passes, faults_also, faults_from_place, deep_fault, field_fault, repeat_fault, id_fault_here, twice_fault, full_fault, resource_fault, no_fault, keys_as, below_limit, both, not_false, not_true}
+use Rattle.tk_plan.specs.Sites.{node_of, segment_of}
+use Rattle.tk_plan.proofs.CheckSteps.{Passes, faults_also, faults_from_place, deep_fault, field_fault, repeat_fault, id_fault_here, room_verdict, keys_as, both}
 use Rattle.tk_plan.proofs.checking.check_node.Goals as goal
 use Rattle.tk_plan.specs.declared.faults.PlanFault.TheVariants.{Id}
 
@@ -21,99 +23,74 @@ returns-in_err-fields c =
 pub returns-then-fields : goal.returns-then-fields
 returns-then-fields c =
     let f = c.in_ok-fields.ensures in
-    repeat_fault _ (seen c.args.siblings.now c.args.site) c.if-site-gt-MAX_LEVELS.false f.0 (sym f.1.reports.repeats ∙ c.if-fields.true)
+    repeat_fault _ (seen c.args.siblings.now c.args.site) c.if-site-gt-MAX_LEVELS.false f.0 (sym f.1.content.reports.repeats ∙ c.if-fields.true)
 
 pub returns-in_err-named : goal.returns-in_err-named
 returns-in_err-named c =
     let p = err_from_is_err_and c.from_residual-in_err-named.result c.from_residual-in_err-named.ensures.1 in
     let f = c.in_ok-fields.ensures in
     let s : spec.Site = seen c.args.siblings.now c.args.site in
-    let seg : segment_said c.in_ok-fields.fields.segment ≡ segment_of s = λ i. record { tag = f.1.segment.first i; value = f.1.segment.second i } in
-    rw (p.1, p.2) (faults_also _ _ _ (λ e w. id_fault_here _ s e c.if-site-gt-MAX_LEVELS.false f.0 (sym f.1.reports.repeats ∙ c.if-fields.false) (ap (λ x. option_map Id (id_fault s.above x)) (sym seg) ∙ w)) c.in_err-named.ensures)
+    let seg : segment_said c.in_ok-fields.fields.heading.segment ≡ segment_of s = λ i. record { tag = f.1.heading.segment.first i; value = f.1.heading.segment.second i } in
+    rw (p.1, p.2) (faults_also _ _ _ (λ e w. id_fault_here _ s e c.if-site-gt-MAX_LEVELS.false f.0 (sym f.1.content.reports.repeats ∙ c.if-fields.false) (ap (λ x. option_map Id (id_fault s.above x)) (sym seg) ∙ w)) c.in_err-named.ensures)
 
-pub returns-then-not-branch : goal.returns-then-not-branch
-returns-then-not-branch c =
+pub returns-in_err-note_node : goal.returns-in_err-note_node
+returns-in_err-note_node c =
+    let p = err_from_is_err_and c.from_residual-in_err-note_node.result c.from_residual-in_err-note_node.ensures.1 in
     let f = c.in_ok-fields.ensures in
-    let n = c.in_ok-named.ensures in
     let s : spec.Site = seen c.args.siblings.now c.args.site in
-    let seg : segment_said c.in_ok-fields.fields.segment ≡ segment_of s = λ i. record { tag = f.1.segment.first i; value = f.1.segment.second i } in
-    twice_fault _ s c.if-site-gt-MAX_LEVELS.false f.0 (sym f.1.reports.repeats ∙ c.if-fields.false) (ap (λ x. option_map Id (id_fault s.above x)) (sym seg) ∙ n.0)
-    (ap (λ x. list_any (same_segment x) c.args.siblings.now) (sym seg) ∙ not_false _ _ c.in_ok-insert.ensures.answer c.if-not-branch.true)
-
-pub returns-then-is_full : goal.returns-then-is_full
-returns-then-is_full c =
-    let f = c.in_ok-fields.ensures in
-    let n = c.in_ok-named.ensures in
-    let s : spec.Site = seen c.args.siblings.now c.args.site in
-    let seg : segment_said c.in_ok-fields.fields.segment ≡ segment_of s = λ i. record { tag = f.1.segment.first i; value = f.1.segment.second i } in
+    let seg : segment_said c.in_ok-fields.fields.heading.segment ≡ segment_of s = λ i. record { tag = f.1.heading.segment.first i; value = f.1.heading.segment.second i } in
     let passes : Passes s = record {
       level = c.if-site-gt-MAX_LEVELS.false;
       members = f.0;
-      once = sym f.1.reports.repeats ∙ c.if-fields.false;
-      id = ap (λ x. option_map Id (id_fault s.above x)) (sym seg) ∙ n.0;
-      new = ap (λ x. list_any (same_segment x) c.args.siblings.now) (sym seg) ∙ not_true _ _ c.in_ok-insert.ensures.answer c.if-not-branch.false;
+      once = sym f.1.content.reports.repeats ∙ c.if-fields.false;
+      id = ap (λ x. option_map Id (id_fault s.above x)) (sym seg) ∙ c.in_ok-named.ensures.0;
     } in
-    full_fault _ s passes (sym c.is_full.ensures ∙ c.if-is_full.true)
-
-pub returns-then-len-gt-MAX_KEYS : goal.returns-then-len-gt-MAX_KEYS
-returns-then-len-gt-MAX_KEYS c =
-    let f = c.in_ok-fields.ensures in
-    let n = c.in_ok-named.ensures in
-    let s : spec.Site = seen c.args.siblings.now c.args.site in
-    let seg : segment_said c.in_ok-fields.fields.segment ≡ segment_of s = λ i. record { tag = f.1.segment.first i; value = f.1.segment.second i } in
-    let passes : Passes s = record {
-      level = c.if-site-gt-MAX_LEVELS.false;
-      members = f.0;
-      once = sym f.1.reports.repeats ∙ c.if-fields.false;
-      id = ap (λ x. option_map Id (id_fault s.above x)) (sym seg) ∙ n.0;
-      new = ap (λ x. list_any (same_segment x) c.args.siblings.now) (sym seg) ∙ not_true _ _ c.in_ok-insert.ensures.answer c.if-not-branch.false;
-    } in
-    let keys = keys_as (contents c.args.reader.now.nodes.items) (node_of s) _ _ _ c.in_ok-note_all.ensures c.requires.keys (c.as_slice.ensures ∙ f.1.locks) in
-    let many : 15 < length c.note_all.new.keys.keys = rw (← c.len.ensures.len) c.if-len-gt-MAX_KEYS.true in
-    resource_fault _ s passes (sym c.is_full.ensures ∙ c.if-is_full.false) (subst (λ l. 15 < length l) keys many)
+    let before = contents c.args.reader.now.nodes.items in
+    let keys = keys_as before (node_of s) _ (note_locks c.args.reader.now.keys.keys c.as_slice.result.now) _ refl c.requires.keys (c.as_slice.ensures ∙ f.1.concurrency.locks) in
+    rw (p.1, p.2) (faults_also _ _ _ (λ e w. room_verdict before s (Some e) passes (sym (ap₂ (λ x k. first (room_checks before s.earlier s.is_static x k)) seg keys) ∙ w)) c.in_err-note_node.ensures)
 
 pub returns : goal.returns
 returns c =
     let f = c.in_ok-fields.ensures in
     let n = c.in_ok-named.ensures in
+    let e = c.in_ok-note_node.ensures in
     let s : spec.Site = seen c.args.siblings.now c.args.site in
-    let seg : segment_said c.in_ok-fields.fields.segment ≡ segment_of s = λ i. record { tag = f.1.segment.first i; value = f.1.segment.second i } in
+    let seg : segment_said c.in_ok-fields.fields.heading.segment ≡ segment_of s = λ i. record { tag = f.1.heading.segment.first i; value = f.1.heading.segment.second i } in
     let passes : Passes s = record {
       level = c.if-site-gt-MAX_LEVELS.false;
       members = f.0;
-      once = sym f.1.reports.repeats ∙ c.if-fields.false;
+      once = sym f.1.content.reports.repeats ∙ c.if-fields.false;
       id = ap (λ x. option_map Id (id_fault s.above x)) (sym seg) ∙ n.0;
-      new = ap (λ x. list_any (same_segment x) c.args.siblings.now) (sym seg) ∙ not_true _ _ c.in_ok-insert.ensures.answer c.if-not-branch.false;
     } in
-    let keys = keys_as (contents c.args.reader.now.nodes.items) (node_of s) _ _ _ c.in_ok-note_all.ensures c.requires.keys (c.as_slice.ensures ∙ f.1.locks) in
-    let few : length c.note_all.new.keys.keys ≤ 15 = rw (← c.len.ensures.len) c.if-len-gt-MAX_KEYS.false in
-    let room = sym c.is_full.ensures ∙ c.if-is_full.false in (
-      no_fault _ s passes room (subst (λ l. length l ≤ 15) keys few),
+    let before = contents c.args.reader.now.nodes.items in
+    let keys = keys_as before (node_of s) _ (note_locks c.args.reader.now.keys.keys c.as_slice.result.now) _ refl c.requires.keys (c.as_slice.ensures ∙ f.1.concurrency.locks) in
+    rw c.into_checked.ensures (
+      room_verdict before s None passes (sym (ap₂ (λ x k. first (room_checks before s.earlier s.is_static x k)) seg keys) ∙ e.0),
       record {
         node = λ i. record {
           is_static = c.args.site.is_static;
-          dtype = f.1.dtype i;
+          dtype = f.1.heading.dtype i;
           segment = (n.1.segment ∙ seg) i;
-          name = f.1.name i;
-          is_concurrent = f.1.is_concurrent i;
-          is_isolated = f.1.is_isolated i;
-          locks = f.1.locks i;
-          skip = f.1.skip i;
-          status = f.1.ending.status i;
-          message = f.1.ending.message i;
-          entries = f.1.reports.entries i;
+          name = f.1.heading.name i;
+          is_concurrent = f.1.concurrency.is_concurrent i;
+          is_isolated = f.1.concurrency.is_isolated i;
+          locks = f.1.concurrency.locks i;
+          skip = f.1.content.skip i;
+          status = f.1.content.ending.status i;
+          message = f.1.content.ending.message i;
+          entries = f.1.content.reports.entries i;
         };
         id = n.1.id ∙ ap (λ x. s.above ++ x ∷ []) seg;
         children = f.1.children;
         dynamic = f.1.dynamic;
-        lawful = both _ _ f.1.ending.lawful f.1.reports.rising;
+        lawful = both _ _ f.1.content.ending.lawful f.1.content.reports.rising;
         level = c.if-site-gt-MAX_LEVELS.false;
-        nodes = refl;
-        descriptors = refl;
-        dynamics = refl;
-        keys = keys;
-        few_keys = few;
-        room = below_limit 65536 _ room;
-        siblings = c.in_ok-insert.ensures.segments ∙ ap (λ b. cond b (c.args.siblings.now ++ segment_said c.in_ok-fields.fields.segment ∷ []) c.args.siblings.now) c.if-not-branch.false ∙ ap (λ x. c.args.siblings.now ++ x ∷ []) seg;
+        nodes = e.1.nodes;
+        descriptors = e.1.descriptors;
+        dynamics = e.1.dynamics;
+        keys = e.1.keys ∙ keys;
+        few_keys = subst (λ l. length l ≤ 15) (sym e.1.keys) e.1.few_keys;
+        room = e.1.room;
+        siblings = e.1.siblings ∙ ap (λ x. s.earlier ++ x ∷ []) seg;
       },
     )

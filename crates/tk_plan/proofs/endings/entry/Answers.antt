@@ -1,5 +1,10 @@
-use Rattle.std.proofs.Common.{◌≡◌, ◌||◌, is_some, ap, ◌∙◌}
-use Rattle.tk_plan.proofs.Pairing.{goes_start, goes_next, has_key}
+use Rattle.std.proofs.Common.{◌≡◌, ◌||◌, [], drop, map, is_some, sym, ap, ◌∙◌, arith}
+use Rattle.std.proofs.lemmas.List.{drop_all}
+use Rattle.std.proofs.lemmas.Result.{err_from_is_err_and}
+use Rattle.serde_json.specs.View.{view}
+use Rattle.tk_events.specs.Event.{is_rising}
+use Rattle.tk_plan.proofs.Passing.{refuses_whole}
+use Rattle.tk_plan.proofs.Pairing.{goes_start, goes_next, goes_fault, goes_end, has_key}
 use Rattle.tk_plan.proofs.Items.{values_next}
 use Rattle.tk_plan.proofs.endings.entry.Goals as goal
 
@@ -13,3 +18,17 @@ loop-inner-preserved c =
     let again : c.loop-inner.repeats || c.is_some.result ≡ c.loop-inner.repeats || has_key c.in_ok-key.key c.loop-inner.map.entries =
     ap (λ x. c.loop-inner.repeats || x) (c.is_some.ensures ∙ ap is_some c.in_ok-insert.ensures.old) in
     goes_next _ _ _ _ _ _ c.loop-inner.invariant _ _ c.in_ok-key.key c.in_ok-told.told _ _ split t.0 (c.in_ok-key.ensures ∙ t.1.first) (c.in_ok-told.ensures ∙ t.1.second) c.in_ok-insert.ensures.entries again
+
+pub returns-in_err-pair : goal.returns-in_err-pair
+returns-in_err-pair c =
+    let p = err_from_is_err_and c.from_residual-in_err-pair.result c.from_residual-in_err-pair.ensures.1 in
+    let split = values_next c.deref-item-items.result.now c.loop-inner.inner c.item-item.result c.loop-inner-test.true c.item-item.is in
+    rw (p.1, p.2) (refuses_whole _ _ _ (λ place w. goes_fault _ _ _ _ _ _ c.loop-inner.invariant _ _ place split w) c.in_err-pair.ensures)
+
+pub returns : goal.returns
+returns c =
+    let items = c.deref-item-items.result.now in
+    let none : drop c.loop-inner.inner items ≡ [] = drop_all c.loop-inner.inner items (omega arith) in
+    let end = goes_end _ _ _ _ _ _ c.loop-inner.invariant (ap (map view) none) in
+    let pairs = c.in_ok-pairs.ensures in
+    (end.0, record { pairs = pairs.pairs ∙ sym end.1; rising = ap is_rising pairs.pairs ∙ pairs.rising; repeats = sym end.2 })
