@@ -1,26 +1,37 @@
 //! The program: answers questions about a record text, replays a script of the event queue, and runs a plan for its report.
 #![tactic(auto)]
 
-mod commands;
-mod faults;
-mod jobs;
-#[cfg(test)]
-mod tests;
+ghost use Rattle.std.specs.Prelude.{◌≡◌};
+ghost use Rattle.std.specs.IoError.{error_kind};
+ghost use Rattle.testkit.specs.Commands.{fault_of_arguments};
 
-use faults::Fault;
-use jobs::perform;
+mod commands;
+
+use commands::perform;
 use std::process::ExitCode;
 use std::sync::Wait;
 use std::thread::Threads;
 use std::{env, io};
+use tk_program::{Fault, FaultLine, exit_code};
 use tk_record::{StdSource, StdTarget};
+
+/// Why the arguments were not read: memory was refused, or they are no text.
+fn argument_fault(error: &io::Error) -> Fault
+    ensures { result ≡ fault_of_arguments (error_kind error.now) }
+{
+    match error.kind() {
+        io::ErrorKind::OutOfMemory => Fault::Memory,
+        _ => Fault::CommandLine,
+    }
+}
 
 /// The program's name and the words behind it.
 fn words(rt: &HostRuntime) -> Result<Vec<String>, Fault> {
-    let mut words = Vec::new(rt.alloc());
-    let Ok(given) = env::args(rt) else {
-        return Err(Fault::CommandLine);
+    let given = match env::args(rt) {
+        Ok(given) => given,
+        Err(error) => return Err(argument_fault(&error)),
     };
+    let mut words = Vec::new(rt.alloc());
     for word in given {
         words.push(word)?;
     }
@@ -36,12 +47,9 @@ fn run<R: Threads + Wait + Sync>(host: &HostRuntime, rt: &R) -> Result<bool, Fau
 }
 
 fn main(rt: HostRuntime) -> ExitCode {
-    match run(&rt, &rt) {
-        Ok(true) => ExitCode::from(0),
-        Ok(false) => ExitCode::from(1),
-        Err(fault) => {
-            let _ = eprintln!(rt; "testkit: {fault}");
-            ExitCode::from(fault.status())
-        }
+    let outcome = run(&rt, &rt);
+    if let Err(fault) = &outcome {
+        let _ = rt.eprint(FaultLine(fault));
     }
+    exit_code(&outcome)
 }

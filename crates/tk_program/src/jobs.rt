@@ -1,9 +1,8 @@
-//! Doing what a command line asks for.
-ghost use Rattle.std.specs.Prelude.{◌≡◌, ◌⊎◌, IfErr, IfOk, IfSome, OnOk, map, string_bytes};
-ghost use Rattle.testkit.specs.Commands.{IsDone, IsJobOf, IsLineFault, IsPlanReported, IsRefused};
-ghost use Rattle.testkit.specs.declared.commands.Job.TheVariants as jobs;
+//! The jobs of the program.
+ghost use Rattle.std.specs.Prelude.{IfErr, IfOk, IfSome, OnOk};
+ghost use Rattle.tk_program.specs.Jobs.{IsBroken, IsDone, IsPlanReported, IsRefused};
+ghost use Rattle.tk_program.specs.declared.jobs.Job.TheVariants as jobs;
 
-use crate::commands::{Job, job_of};
 use crate::faults::Fault;
 use std::alloc::Global;
 use std::sync::Wait;
@@ -12,6 +11,17 @@ use tk_ask::ask;
 use tk_record::{MAX_TEXT, Source, Target, load};
 use tk_replay::replay_text;
 use tk_report::plan_report;
+
+/// What the program is to do.
+#[derive(Drop)]
+pub enum Job<'w> {
+    /// Answer the question of these words.
+    Ask(&'w [String]),
+    /// Replay a replay text.
+    Replay,
+    /// Run a plan by so many workers.
+    Run(u8),
+}
 
 /// Runs the plan of the source's bytes and writes its report.
 fn run_plan<R: Threads + Wait + Sync, S: Source, T: Target>(
@@ -23,6 +33,7 @@ fn run_plan<R: Threads + Wait + Sync, S: Source, T: Target>(
 ) -> Result<(), Fault>
     ensures reported { OnOk result (IfSome (S.remaining source.old) (λ input. IsPlanReported workers input (T.contents target.old) (T.contents target.new))) }
     ensures refused { IfErr result (IsRefused (jobs.Run workers) (S.remaining source.old) (T.contents target.old) (T.contents target.new)) }
+    ensures device { IfErr result (IsBroken (S.broken source.new) (T.broken target.new)) }
 {
     let bytes = match load(alloc, source, MAX_TEXT) {
         Ok(bytes) => bytes,
@@ -36,6 +47,9 @@ fn run_plan<R: Threads + Wait + Sync, S: Source, T: Target>(
 
 /// Does a job: answers a question, replays a script of the queue, or runs a plan by so many workers
 /// and reports it. False where a match says no or an expectation fails.
+///
+/// # Errors
+/// A fault of the job's own kind. A device is told only where the source or the target is broken.
 pub fn do_job<R: Threads + Wait + Sync, S: Source, T: Target>(
     rt: &R,
     alloc: Global,
@@ -45,6 +59,7 @@ pub fn do_job<R: Threads + Wait + Sync, S: Source, T: Target>(
 ) -> Result<bool, Fault>
     ensures done { IfOk result (λ is_yes. IfSome (S.remaining source.old) (λ input. IsDone job.entry input is_yes (T.contents target.old) (T.contents target.new))) }
     ensures refused { IfErr result (IsRefused job.entry (S.remaining source.old) (T.contents target.old) (T.contents target.new)) }
+    ensures device { IfErr result (IsBroken (S.broken source.new) (T.broken target.new)) }
 {
     match job {
         Job::Ask(question) => match ask(alloc, question, source, target) {
@@ -59,24 +74,5 @@ pub fn do_job<R: Threads + Wait + Sync, S: Source, T: Target>(
             Ok(()) => Ok(true),
             Err(fault) => Err(fault),
         },
-    }
-}
-
-/// Does the job of a command line, the program's name first.
-pub fn perform<R: Threads + Wait + Sync, S: Source, T: Target>(
-    rt: &R,
-    alloc: Global,
-    words: &[String],
-    source: &mut S,
-    target: &mut T,
-) -> Result<bool, Fault>
-    ensures done { IfOk result (λ is_yes. (job : Job) × IsJobOf (map string_bytes words.now) job × IfSome (S.remaining source.old) (λ input.
-        IsDone job input is_yes (T.contents target.old) (T.contents target.new))) }
-    ensures refused { IfErr result (λ fault. (IsLineFault (map string_bytes words.now) fault × (T.contents target.new ≡ T.contents target.old))
-        ⊎ ((job : Job) × IsJobOf (map string_bytes words.now) job × IsRefused job (S.remaining source.old) (T.contents target.old) (T.contents target.new) fault)) }
-{
-    match job_of(alloc, words) {
-        Ok(job) => do_job(rt, alloc, job, source, target),
-        Err(fault) => Err(fault),
     }
 }

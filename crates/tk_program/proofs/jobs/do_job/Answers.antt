@@ -1,9 +1,9 @@
 use Rattle.std.proofs.Common.{subst, sym, ap, Err}
 use Rattle.std.specs.Prelude.{map, string_bytes}
-use Rattle.testkit.specs.declared.commands.Job.{Job}
-use Rattle.testkit.specs.declared.faults.Fault.TheVariants as faults
-use Rattle.testkit.specs.Commands.{IsAskFault, IsRefused}
-use Rattle.testkit.proofs.jobs.do_job.Goals as goal
+use Rattle.tk_program.specs.declared.jobs.Job.{Job}
+use Rattle.tk_program.specs.declared.faults.Fault.TheVariants as faults
+use Rattle.tk_program.specs.Jobs.{IsAskFault, IsRefused}
+use Rattle.tk_program.proofs.jobs.do_job.Goals as goal
 
 pub returns-in-Err-clause-refused : goal.returns-in-Err-clause-refused
 returns-in-Err-clause-refused g c =

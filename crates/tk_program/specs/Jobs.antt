@@ -1,0 +1,70 @@
+-- What doing a job of the program answers, and what was written then.
+use Rattle.std.specs.Prelude.{◌≡◌, ◌<◌, ◌≤◌, ◌⊎◌, ℕ, Bool, true, List, Option, Err, IfSome, length, map, string_bytes}
+use Rattle.std.specs.Io.KnownBytes.{Appends, Keeps}
+use Rattle.tk_program.specs.declared.jobs.Job.{Job}
+use Rattle.tk_program.specs.declared.jobs.Job.TheVariants as jobs
+use Rattle.tk_program.specs.declared.faults.Fault.{Fault}
+use Rattle.tk_program.specs.declared.faults.Fault.TheVariants as faults
+use Rattle.tk_record.specs.declared.reading.ReadFault.TheVariants as reads
+use Rattle.tk_ask.specs.declared.faults.AskFault.{AskFault}
+use Rattle.tk_ask.specs.declared.faults.AskFault.TheVariants as asks
+use Rattle.tk_replay.specs.declared.replays.ReplayFault.{ReplayFault}
+use Rattle.tk_replay.specs.declared.replays.ReplayFault.TheVariants as replays
+use Rattle.tk_streams.specs.declared.transfers.LoadFault.TheVariants as loads
+use Rattle.tk_report.specs.declared.faults.ReportFault.{ReportFault}
+use Rattle.tk_report.specs.declared.faults.ReportFault.TheVariants as reports
+use Rattle.tk_record.specs.declared.reading.TheConstants.{MAX_TEXT}
+use Rattle.tk_streams.specs.Stream.{AppendsFront}
+use Rattle.tk_replay.specs.ReplayText.{IsWritten, IsOfInput}
+use Rattle.tk_replay.specs.ReplayText.{IsAnswer as IsPlayedAs}
+use Rattle.tk_plan.specs.Gives.{plan_in, Answered}
+use Rattle.tk_report.specs.Answers.{OfPlan, MayWork, IsRunFault}
+use Rattle.tk_ask.specs.Asked.{AddsAnswer, AddsFront, IsRefusal}
+
+-- the bytes are a plan within the limit, it may be run by so many workers, and its report was written
+abbrev pub IsPlanReported : ℕ → List ℕ → Option (List ℕ) → Option (List ℕ) → Type 0
+IsPlanReported workers input old new = OfPlan input (Appends old new) × MayWork workers × (length input ≤ MAX_TEXT)
+
+-- what doing a job writes, and whether it is a yes
+abbrev pub IsDone : Job → List ℕ → Bool → Option (List ℕ) → Option (List ℕ) → Type 0
+IsDone (jobs.Ask question) input is_yes old new = AddsAnswer (map string_bytes question.now) input is_yes old new
+IsDone jobs.Replay input is_yes old new = (is_yes ≡ true) × IsWritten input old new
+IsDone (jobs.Run workers) input is_yes old new = (is_yes ≡ true) × IsPlanReported workers input old new
+
+-- why a question is not answered; nothing was written then, but at a broken device a front of the answer
+abbrev pub IsAskFault : List (List ℕ) → Option (List ℕ) → Option (List ℕ) → Option (List ℕ) → AskFault → Type 0
+IsAskFault question input old new fault =
+    IsRefusal question input fault
+    × ((fault ≡ asks.Device) ⊎ (new ≡ old))
+    × (fault ≡ asks.Device → IfSome input (λ bytes. AddsFront question bytes old new))
+
+-- why a script is not replayed; where that is for the input nothing was written
+abbrev pub IsReplayFault : Option (List ℕ) → Option (List ℕ) → Option (List ℕ) → ReplayFault → Type 0
+IsReplayFault input old new replays.Device = Unit {0}
+IsReplayFault input old new fault = IfSome input (λ bytes. IsPlayedAs bytes (Err fault)) × (IsOfInput fault → new ≡ old)
+
+-- Why a plan that is run by so many workers is not reported. The number of workers is judged behind the plan.
+abbrev pub IsReportFault : ℕ → Option (List ℕ) → Option (List ℕ) → Option (List ℕ) → ReportFault → Type 0
+IsReportFault workers input old new (reports.Plan fault) = IfSome input (λ bytes. Answered (plan_in bytes) (Err fault)) × Keeps old new
+IsReportFault workers input old new (reports.Run fault) = IfSome input (λ bytes. OfPlan bytes (λ report. Unit {0})) × IsRunFault workers fault × Keeps old new
+IsReportFault workers input old new reports.Device = IfSome input (λ bytes. OfPlan bytes (AppendsFront old new)) × MayWork workers
+IsReportFault workers input old new reports.Memory = IfSome input (λ bytes. OfPlan bytes (λ report. Unit {0})) × MayWork workers × (new ≡ old)
+
+-- Why a job is not done, and what was written then. A fault is of the job's own kind.
+abbrev pub IsRefused : Job → Option (List ℕ) → Option (List ℕ) → Option (List ℕ) → Fault → Type 0
+IsRefused (jobs.Ask question) input old new (faults.Ask fault) = IsAskFault (map string_bytes question.now) input old new fault
+IsRefused jobs.Replay input old new (faults.Replay fault) = IsReplayFault input old new fault
+IsRefused (jobs.Run workers) input old new (faults.Load loads.TooLarge) = IfSome input (λ bytes. MAX_TEXT < length bytes) × (new ≡ old)
+IsRefused (jobs.Run workers) input old new (faults.Load fault) = new ≡ old
+IsRefused (jobs.Run workers) input old new (faults.Report fault) = IsReportFault workers input old new fault
+IsRefused job input old new _ = ⊥
+
+-- Only a broken device is told as one: a question tells of the source in what it reads and of the target in what it writes, a
+-- replay of either, and a run of the source before and of the target behind its plan.
+abbrev pub IsBroken : Bool → Bool → Fault → Type 0
+IsBroken source target (faults.Ask (asks.Read reads.Device)) = source ≡ true
+IsBroken source target (faults.Ask asks.Device) = target ≡ true
+IsBroken source target (faults.Replay replays.Device) = (source ≡ true) ⊎ (target ≡ true)
+IsBroken source target (faults.Load loads.Device) = source ≡ true
+IsBroken source target (faults.Report reports.Device) = target ≡ true
+IsBroken source target _ = Unit {0}

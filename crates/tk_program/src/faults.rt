@@ -1,0 +1,91 @@
+//! The faults of the program, and their statuses.
+ghost use Rattle.std.specs.Prelude.{◌≡◌};
+ghost use Rattle.tk_program.specs.Statuses.{status_of};
+ghost use Rattle.tk_program.specs.declared.faults.Fault.TheVariants.{Ask, Replay, Load, Report, Memory as MemoryFault};
+
+use std::alloc::{AllocError, AllocFailed};
+use tk_ask::AskFault;
+use tk_engine::RunFault;
+use tk_plan::PlanFault;
+use tk_record::{LoadFault, ReadFault};
+use tk_replay::ReplayFault;
+use tk_report::ReportFault;
+
+/// Why the program did not do its job.
+#[derive(Debug, Drop)]
+pub enum Fault {
+    /// The words are no command line of the program.
+    CommandLine,
+    /// A question was not answered.
+    Ask(AskFault),
+    /// A script was not replayed.
+    Replay(ReplayFault),
+    /// A plan's bytes were not read.
+    Load(LoadFault),
+    /// A plan was not run and reported.
+    Report(ReportFault),
+    /// Memory was refused.
+    Memory,
+}
+
+impl<T: Drop> From<AllocFailed<T>> for Fault {
+    ghost from_gives = { λ _ e. e ≡ MemoryFault };
+
+    fn from(_error: AllocFailed<T>) -> Fault {
+        Fault::Memory
+    }
+}
+
+impl Fault {
+    /// The exit status: 2 for bad words or bad input, 3 for a device, memory, a thread or a unit that failed.
+    pub fn status(&self) -> u8
+        ensures { result ≡ status_of self.now }
+    {
+        match self {
+            Fault::Memory => 3,
+            Fault::CommandLine => 2,
+            Fault::Ask(fault) => ask_status(fault),
+            Fault::Replay(fault) => replay_status(fault),
+            Fault::Load(fault) => load_status(fault),
+            Fault::Report(fault) => report_status(fault),
+        }
+    }
+}
+
+fn ask_status(fault: &AskFault) -> u8
+    ensures { result ≡ status_of (Ask fault.now) }
+{
+    match fault {
+        AskFault::Device | AskFault::Memory => 3,
+        AskFault::Read(ReadFault::Device) | AskFault::Read(ReadFault::Memory) => 3,
+        _ => 2,
+    }
+}
+
+fn replay_status(fault: &ReplayFault) -> u8
+    ensures { result ≡ status_of (Replay fault.now) }
+{
+    match fault {
+        ReplayFault::Device | ReplayFault::Memory => 3,
+        _ => 2,
+    }
+}
+
+fn load_status(fault: &LoadFault) -> u8
+    ensures { result ≡ status_of (Load fault.now) }
+{
+    match fault {
+        LoadFault::TooLarge => 2,
+        LoadFault::Device | LoadFault::Memory => 3,
+    }
+}
+
+fn report_status(fault: &ReportFault) -> u8
+    ensures { result ≡ status_of (Report fault.now) }
+{
+    match fault {
+        ReportFault::Plan(PlanFault::Memory) => 3,
+        ReportFault::Plan(_) | ReportFault::Run(RunFault::Workers | RunFault::Capacity) => 2,
+        ReportFault::Run(_) | ReportFault::Device | ReportFault::Memory => 3,
+    }
+}

@@ -1,0 +1,12 @@
+//! What the program does: its jobs, its faults with their lines, and its exit.
+#![tactic(auto)]
+
+mod exits;
+mod faults;
+mod jobs;
+mod lines;
+
+pub use exits::exit_code;
+pub use faults::Fault;
+pub use jobs::{Job, do_job};
+pub use lines::FaultLine;
