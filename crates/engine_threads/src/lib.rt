@@ -1,7 +1,0 @@
-//! Engines that are run by workers on threads of their own.
-#![tactic(auto)]
-
-#[cfg(test)]
-mod engines;
-#[cfg(test)]
-mod tests;

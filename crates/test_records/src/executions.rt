@@ -1,0 +1,135 @@
+//! Executions of records, and of some of their events.
+use std::alloc::{AllocError, Global};
+use test_support::{record_of, two_tests};
+use tk_columns::{Events, Record};
+use tk_query::{Executions, executions};
+
+fn is_told(alloc: Global, list: &Executions, want: &str) -> bool {
+    match format!(in alloc; "{list:?}") {
+        Ok(text) => text.as_str() == want,
+        Err(_) => false,
+    }
+}
+
+// Whether the events have one execution, which is told so.
+fn has_one(alloc: Global, events: &Events<'_>, want: &str) -> bool {
+    match executions(alloc, events) {
+        Ok(list) => is_told(alloc, &list, want),
+        Err(_) => false,
+    }
+}
+
+// Whether the record of a text has one execution, which is told so.
+fn is_of_record(alloc: Global, text: &[u8], want: &str) -> bool {
+    match record_of(alloc, text) {
+        Some(record) => is_of_events(alloc, Events::all(alloc, &record), want),
+        None => false,
+    }
+}
+
+fn is_of_events(alloc: Global, events: Result<Events<'_>, AllocError>, want: &str) -> bool {
+    match events {
+        Ok(events) => has_one(alloc, &events, want),
+        Err(_) => false,
+    }
+}
+
+fn two_starts_and_two_finishes() -> &'static [u8] {
+    b"testkit-record|1\nN|T|[engine:e]|e\nE|1|0|1|start\nE|1|0|2|start\nE|1|0|3|finish|ok\nE|1|0|4|finish|ok\n"
+}
+
+fn a_skip_between() -> &'static [u8] {
+    b"testkit-record|1\nN|T|[engine:e]|e\nE|1|0|1|start\nE|1|0|2|skip|off\nE|1|0|3|finish|ok\n"
+}
+
+#[test]
+fn repeated_marks(rt: HostRuntime) {
+    assert!(rt;
+        is_of_record(
+            rt.alloc(),
+            two_starts_and_two_finishes(),
+            "Executions { items: [Execution { key: 0, first: 1, last: 2, start: 2, stop: 3, ending: Successful }] }"
+        )
+    );
+    assert!(rt;
+        is_of_record(
+            rt.alloc(),
+            a_skip_between(),
+            "Executions { items: [Execution { key: 0, first: 1, last: 1, start: 2, stop: 2, ending: Skipped }] }"
+        )
+    );
+}
+
+// Whether a descriptor's events in a record have one execution, which is told so.
+fn is_of_key(alloc: Global, record: &Record, key: u32, want: &str) -> bool {
+    match Events::all(alloc, record) {
+        Ok(events) => is_of_events(alloc, events.by_key(alloc, key), want),
+        Err(_) => false,
+    }
+}
+
+/// Positions are those in the record.
+#[test]
+fn executions_of_a_key(rt: HostRuntime) {
+    match record_of(rt.alloc(), two_tests()) {
+        Some(record) => {
+            assert!(rt;
+                is_of_key(
+                    rt.alloc(),
+                    &record,
+                    0,
+                    "Executions { items: [Execution { key: 0, first: 0, last: 4, start: 0, stop: 9, ending: Successful }] }"
+                )
+            );
+            assert!(rt;
+                is_of_key(
+                    rt.alloc(),
+                    &record,
+                    2,
+                    "Executions { items: [Execution { key: 2, first: 3, last: 3, start: 1, stop: 1, ending: Skipped }] }"
+                )
+            );
+        }
+        None => assert!(rt; false, "no record"),
+    }
+}
+
+// Whether so many executions are kept.
+fn are_kept(filtered: Result<Executions, AllocError>, count: usize) -> bool {
+    match filtered {
+        Ok(list) => list.len() == count,
+        Err(_) => false,
+    }
+}
+
+// Whether the executions of the record of two tests are kept by their endings.
+fn are_filtered(alloc: Global, list: &Executions) -> bool {
+    are_kept(list.started(alloc), 2)
+        && are_kept(list.finished(alloc), 2)
+        && are_kept(list.skipped(alloc), 1)
+        && are_kept(list.failed(alloc), 1)
+        && are_kept(list.succeeded(alloc), 1)
+        && are_kept(list.aborted(alloc), 0)
+}
+
+fn are_filtered_of_events(alloc: Global, events: &Events<'_>) -> bool {
+    match executions(alloc, events) {
+        Ok(list) => are_filtered(alloc, &list),
+        Err(_) => false,
+    }
+}
+
+fn are_filtered_of_record(alloc: Global, record: &Record) -> bool {
+    match Events::all(alloc, record) {
+        Ok(events) => are_filtered_of_events(alloc, &events),
+        Err(_) => false,
+    }
+}
+
+#[test]
+fn execution_filters(rt: HostRuntime) {
+    match record_of(rt.alloc(), two_tests()) {
+        Some(record) => assert!(rt; are_filtered_of_record(rt.alloc(), &record)),
+        None => assert!(rt; false, "no record"),
+    }
+}

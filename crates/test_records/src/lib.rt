@@ -1,0 +1,20 @@
+//! Records from their texts to what is asked of them: streams, entries, texts, selections, matches,
+//! executions and reports.
+#![tactic(auto)]
+
+#[cfg(test)]
+mod devices;
+#[cfg(test)]
+mod entries;
+#[cfg(test)]
+mod executions;
+#[cfg(test)]
+mod loading;
+#[cfg(test)]
+mod matches;
+#[cfg(test)]
+mod reports;
+#[cfg(test)]
+mod selections;
+#[cfg(test)]
+mod texts;

@@ -1,0 +1,122 @@
+//! A lock book, needs and holdings on one thread.
+ghost use Rattle.std.specs.Prelude.{◌≡◌};
+
+use std::sync::Wait;
+use std::test::Fail;
+use tk_book::{Book, BookFault, BookSeat, Busy, Holdings, Need};
+
+const NO_SEAT: &str = "no seat";
+
+// A seat beside its book.
+#[derive(Drop)]
+struct Seated<'b> {
+    book: &'b Book,
+    seat: BookSeat,
+    ghost of_this: { seat.book ≡ book.now },
+}
+
+impl Seated<'_> {
+    // Whether the seat held nothing, and holds the need now.
+    fn acquires<R: Wait>(&mut self, rt: &R, need: Need) -> bool {
+        if self.seat.holds().is_some() {
+            return false;
+        }
+        self.book.acquire(rt, &mut self.seat, need);
+        self.seat.holds().is_some()
+    }
+
+    // Whether the need is not to be had beside what the book's word tells, and the seat holds nothing.
+    fn finds(&mut self, word: u64, need: Need) -> bool {
+        if self.seat.holds().is_some() {
+            return false;
+        }
+        match self.book.try_acquire(&mut self.seat, need) {
+            Err(Busy::Held(seen)) => seen == word && self.seat.holds().is_none(),
+            _ => false,
+        }
+    }
+
+    // Whether the seat held something, and holds nothing now.
+    fn releases(&mut self) -> bool {
+        if self.seat.holds().is_none() {
+            return false;
+        }
+        self.book.release(&mut self.seat);
+        self.seat.holds().is_none()
+    }
+
+    fn looks(&mut self) -> u64 {
+        self.book.look(&mut self.seat)
+    }
+}
+
+#[test]
+fn shared_readers(rt: HostRuntime) -> Result<(), Fail> {
+    let (book, mut seats) = Book::open(rt.alloc(), 4)?;
+    let mut first = Seated {
+        book: &book,
+        seat: seats.pop().ok_or(NO_SEAT)?,
+    };
+    let mut second = Seated {
+        book: &book,
+        seat: seats.pop().ok_or(NO_SEAT)?,
+    };
+    let mut third = Seated {
+        book: &book,
+        seat: seats.pop().ok_or(NO_SEAT)?,
+    };
+    let mut fourth = Seated {
+        book: &book,
+        seat: seats.pop().ok_or(NO_SEAT)?,
+    };
+    assert!(rt; first.acquires(&rt, Need::of(4, 0)));
+    assert!(rt; second.acquires(&rt, Need::of(4, 0)));
+    assert!(rt; third.acquires(&rt, Need::of(4, 0)));
+    assert_eq!(rt; fourth.looks(), 0x300);
+    assert!(rt; fourth.finds(0x300, Need::of(0, 4)));
+    assert!(rt; first.releases() && second.releases() && third.releases());
+    assert!(rt; fourth.acquires(&rt, Need::of(0, 4)));
+    assert_eq!(rt; first.looks(), 0xF00);
+    Ok(())
+}
+
+#[test]
+fn writer_excludes(rt: HostRuntime) -> Result<(), Fail> {
+    let (book, mut seats) = Book::open(rt.alloc(), 2)?;
+    let mut writer = Seated {
+        book: &book,
+        seat: seats.pop().ok_or(NO_SEAT)?,
+    };
+    let mut reader = Seated {
+        book: &book,
+        seat: seats.pop().ok_or(NO_SEAT)?,
+    };
+    assert!(rt; writer.acquires(&rt, Need::of(0, 1)));
+    assert!(rt; reader.finds(0xF, Need::of(1, 0)));
+    Ok(())
+}
+
+#[test]
+fn most_readers(rt: HostRuntime) -> Result<(), Fail> {
+    assert!(rt; matches!(Book::open(rt.alloc(), 0), Err(BookFault::Seats)));
+    assert!(rt; matches!(Book::open(rt.alloc(), 9), Err(BookFault::Seats)));
+    let (book, seats) = Book::open(rt.alloc(), 8)?;
+    assert_eq!(rt; book.close(seats), 0);
+    Ok(())
+}
+
+#[test]
+fn words_of_needs(rt: HostRuntime) {
+    assert_eq!(rt; Need::of(1, 2).word(), 0xF1);
+    assert_eq!(rt; Need::of(3, 2).word(), 0xF1);
+}
+
+#[test]
+fn holdings(rt: HostRuntime) -> Result<(), Fail> {
+    let mut holdings = Holdings::new(rt.alloc(), 2)?;
+    assert!(rt; holdings.grant(0, Need::of(0, 4)));
+    assert!(rt; !holdings.grant(1, Need::of(4, 0)));
+    holdings.release(0);
+    assert!(rt; holdings.grant(1, Need::of(4, 0)));
+    Ok(())
+}

@@ -1,0 +1,59 @@
+//! The two ends of a session, by answers that are plain values.
+ghost use Rattle.std.specs.Prelude.{◌≡◌};
+
+use std::sync::Wait;
+use tk_events::{Event, Kind};
+use tk_queue::{Item, Receiver, SendFault, Sender};
+
+/// What a sender answers.
+#[derive(Clone, Copy, PartialEq, Eq)]
+pub enum Answer {
+    Sent,
+    /// Refused, and the event with this stamp came back.
+    Full(u64),
+    Limit(u64),
+    UnknownNode(u64),
+    Unlawful(u64),
+}
+
+/// An item, by the worker, and of an entry the kind, the key and the stamp.
+#[derive(Clone, Copy, PartialEq, Eq)]
+pub enum Told {
+    Nothing,
+    Entry(u8, Kind, u32, u64),
+    End(u8),
+}
+
+/// Emits the event if there is room.
+pub fn send<R: Wait>(rt: &R, sender: &mut Sender, event: Event) -> Answer
+    ensures session { sender.new.session ≡ sender.old.session }
+{
+    match sender.try_send(rt, event) {
+        Ok(()) => Answer::Sent,
+        Err(SendFault::Full(event)) => Answer::Full(event.stamp),
+        Err(SendFault::Limit(event)) => Answer::Limit(event.stamp),
+        Err(SendFault::UnknownNode(event)) => Answer::UnknownNode(event.stamp),
+        Err(SendFault::Unlawful(event)) => Answer::Unlawful(event.stamp),
+    }
+}
+
+/// What an item is.
+pub fn plain(item: Option<Item>) -> Told {
+    match item {
+        Some(Item::Entry(entry)) => Told::Entry(
+            entry.worker,
+            entry.event.kind,
+            entry.event.key,
+            entry.event.stamp,
+        ),
+        Some(Item::End(worker)) => Told::End(worker),
+        None => Told::Nothing,
+    }
+}
+
+/// Takes the item that comes next.
+pub fn take<R: Wait>(rt: &R, receiver: &mut Receiver) -> Told
+    ensures session { receiver.new.session ≡ receiver.old.session }
+{
+    plain(receiver.take(rt))
+}

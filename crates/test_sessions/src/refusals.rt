@@ -1,0 +1,122 @@
+//! What is answered where memory is refused. A call that answers so is made once more, and then it
+//! has to succeed: each test passes with ample memory, and with any one request for memory refused.
+use crate::ends::{Told, plain, take};
+use std::alloc::Global;
+use std::sync::{Arc, Wait};
+use std::test::*;
+use test_support::{small_replay, small_replay_taken, start};
+use tk_events::Kind;
+use tk_ids::{DType, Segment, Table};
+use tk_queue::{Core, CoreFault, Receiver, RegisterFault, ReplayFault, Sender, open, replay_text};
+use tk_streams::{ByteSource, ByteTarget, Target};
+
+/// How a call ended.
+#[derive(Clone, Copy, Debug, PartialEq, Eq)]
+enum Ending {
+    Done,
+    /// For want of memory, and what the call was given is as it was.
+    Refused,
+    Wrong,
+}
+
+// A refused growth of the target breaks it, and what it took is a front of the record.
+fn replayed(alloc: Global) -> Ending {
+    let mut source = ByteSource::new(small_replay());
+    let mut target = ByteTarget::new(alloc);
+    let answer = replay_text(alloc, &mut source, &mut target);
+    let broken = target.is_broken();
+    let is_whole = target.bytes() == small_replay_taken();
+    let is_front = small_replay_taken().starts_with(target.bytes());
+    match answer {
+        Ok(()) if is_whole => Ending::Done,
+        Err(ReplayFault::Memory) if is_front && !broken => Ending::Refused,
+        Err(ReplayFault::Device) if is_front && broken => Ending::Refused,
+        _ => Ending::Wrong,
+    }
+}
+
+#[test]
+fn a_replay(rt: HostRuntime) {
+    let first = replayed(rt.alloc());
+    assert_ne!(rt; first, Ending::Wrong);
+    if first == Ending::Refused {
+        assert_eq!(rt; replayed(rt.alloc()), Ending::Done);
+    }
+}
+
+// Where memory is refused, the event comes back and no more items wait.
+fn emitted(core: &mut Core, stamp: u64) -> Ending {
+    let before = core.waiting();
+    let answer = core.emit(1, start(0, stamp));
+    let is_kept = core.waiting() == before;
+    match answer {
+        Ok(()) => Ending::Done,
+        Err((CoreFault::Memory, event)) if is_kept && event.stamp == stamp => Ending::Refused,
+        Err(_) => Ending::Wrong,
+    }
+}
+
+#[test]
+fn a_core(rt: HostRuntime) {
+    let mut core = Core::new(rt.alloc(), 1);
+    for stamp in 0..20 {
+        let first = emitted(&mut core, stamp);
+        assert_ne!(rt; first, Ending::Wrong);
+        if first == Ending::Refused {
+            assert_eq!(rt; emitted(&mut core, stamp), Ending::Done);
+        }
+    }
+    assert_eq!(rt; core.waiting(), 20);
+    for stamp in 0..20 {
+        assert!(rt; plain(core.take()) == Told::Entry(1, Kind::Started, 0, stamp));
+    }
+}
+
+// Where memory is refused, nothing was emitted.
+fn registered<R: Wait>(rt: &R, sender: &mut Sender, segment: &Segment) -> Ending {
+    let before = sender.emitted();
+    let answer = sender.register(rt, 0, segment, "one", DType::Test, 5);
+    let emitted = sender.emitted();
+    match answer {
+        Ok(131_072) if before == 0 && emitted == 1 => Ending::Done,
+        Err(RegisterFault::Memory) if before == 0 && emitted == 0 => Ending::Refused,
+        _ => Ending::Wrong,
+    }
+}
+
+// A table of one node; None for want of memory.
+fn table(alloc: Global) -> Option<Arc<Table>> {
+    let mut table = Table::new(alloc);
+    let segment = Segment::new(alloc, "engine", "e").ok()?;
+    table.add(alloc, None, &segment, "e", DType::Test).ok()?;
+    Arc::new(alloc, table).ok()
+}
+
+// The sender of worker 2, the receiver and a segment; None for want of memory.
+fn session(alloc: Global) -> Option<(Sender, Receiver, Segment)> {
+    let (mut senders, receiver) = open(alloc, table(alloc)?, 2, 4).ok()?;
+    let sender = senders.pop()?;
+    let segment = Segment::new(alloc, "dyn", "1").ok()?;
+    Some((sender, receiver, segment))
+}
+
+// The same, also where one request for memory is refused.
+fn opened(alloc: Global) -> Option<(Sender, Receiver, Segment)> {
+    match session(alloc) {
+        Some(session) => Some(session),
+        None => session(alloc),
+    }
+}
+
+#[test]
+fn a_registration(rt: HostRuntime) -> Result<(), Fail> {
+    let (mut sender, mut receiver, segment) = opened(rt.alloc()).ok_or("no session")?;
+    let first = registered(&rt, &mut sender, &segment);
+    assert_ne!(rt; first, Ending::Wrong);
+    if first == Ending::Refused {
+        assert_eq!(rt; registered(&rt, &mut sender, &segment), Ending::Done);
+    }
+    assert!(rt; take(&rt, &mut receiver) == Told::Entry(2, Kind::Dynamic, 131_072, 5));
+    assert!(rt; take(&rt, &mut receiver) == Told::Nothing);
+    Ok(())
+}

@@ -1,0 +1,121 @@
+//! Sessions of the queue on one thread.
+ghost use Rattle.std.specs.Prelude.{◌≡◌, All, IfSome};
+
+use crate::ends::{Answer, Told, send, take};
+use std::sync::Wait;
+use std::test::Fail;
+use test_support::{one_node, start};
+use tk_events::{Event, Kind, Payload, Status};
+use tk_ids::{DType, Segment, Text};
+use tk_queue::{CloseFault, CloseReason, Ended, Receiver, RegisterFault, Sender, open};
+
+const NO_SENDER: &str = "no sender";
+
+// Why the session isn't closed yet, with all that comes back.
+fn refusal(receiver: Receiver, ended: Vec<Ended>) -> Option<CloseFault>
+    requires { All (λ token. token.session ≡ receiver.session) ended.items }
+    ensures back { IfSome result (λ fault. (fault.receiver ≡ receiver) × (fault.ended.items ≡ ended.items)) }
+{
+    receiver.close(ended).err()
+}
+
+// How many events worker 1 emitted, if the session is closed.
+fn emitted(receiver: Receiver, ended: Vec<Ended>) -> Option<u64>
+    requires { All (λ token. token.session ≡ receiver.session) ended.items }
+{
+    let closed = receiver.close(ended).ok()?;
+    Some(closed.emitted(1))
+}
+
+#[test]
+fn one_thread_session(rt: HostRuntime) -> Result<(), Fail> {
+    let table = one_node(rt.alloc(), DType::Test)?;
+    let (mut senders, mut receiver) = open(rt.alloc(), table, 1, 1)?;
+    let mut sender = senders.pop().ok_or(NO_SENDER)?;
+    assert!(rt; send(&rt, &mut sender, start(0, 1)) == Answer::Sent);
+    assert!(rt; send(&rt, &mut sender, start(0, 2)) == Answer::Full(2));
+    assert!(rt; take(&rt, &mut receiver) == Told::Entry(1, Kind::Started, 0, 1));
+    let token = sender.end(&rt);
+    assert!(rt; take(&rt, &mut receiver) == Told::End(1));
+    assert!(rt; take(&rt, &mut receiver) == Told::Nothing);
+    let ended = vec![in rt.alloc(); token]?;
+    assert_eq!(rt; emitted(receiver, ended), Some(1));
+    Ok(())
+}
+
+#[test]
+fn closed_too_early(rt: HostRuntime) -> Result<(), Fail> {
+    let table = one_node(rt.alloc(), DType::Test)?;
+    let (mut senders, receiver) = open(rt.alloc(), table, 2, 2)?;
+    let second = senders.pop().ok_or(NO_SENDER)?.end(&rt);
+    let first = senders.pop().ok_or(NO_SENDER)?.end(&rt);
+    let missing = refusal(receiver, vec![in rt.alloc(); first]?).ok_or("closed")?;
+    assert_eq!(rt; missing.why, CloseReason::Missing(2));
+    let CloseFault {
+        why: _,
+        receiver,
+        mut ended,
+    } = missing;
+    ended.push(second)?;
+    let undrained = refusal(receiver, ended).ok_or("closed")?;
+    assert_eq!(rt; undrained.why, CloseReason::NotDrained(1));
+    let CloseFault {
+        why: _,
+        mut receiver,
+        ended,
+    } = undrained;
+    assert!(rt; take(&rt, &mut receiver) == Told::End(2));
+    assert!(rt; take(&rt, &mut receiver) == Told::End(1));
+    assert_eq!(rt; emitted(receiver, ended), Some(0));
+    Ok(())
+}
+
+#[test]
+fn two_places(rt: HostRuntime) -> Result<(), Fail> {
+    let table = one_node(rt.alloc(), DType::Test)?;
+    let (mut senders, mut receiver) = open(rt.alloc(), table, 2, 2)?;
+    let mut second = senders.pop().ok_or(NO_SENDER)?;
+    let mut first = senders.pop().ok_or(NO_SENDER)?;
+    assert!(rt; send(&rt, &mut first, start(0, 1)) == Answer::Sent);
+    assert!(rt; send(&rt, &mut second, start(0, 2)) == Answer::Sent);
+    assert!(rt; send(&rt, &mut first, start(0, 3)) == Answer::Full(3));
+    assert!(rt; take(&rt, &mut receiver) == Told::Entry(1, Kind::Started, 0, 1));
+    assert!(rt; send(&rt, &mut first, start(0, 3)) == Answer::Sent);
+    Ok(())
+}
+
+// The key of the descriptor `[dyn:1]` that is registered below the parent, at stamp 5.
+fn register<R: Wait>(
+    rt: &R,
+    sender: &mut Sender,
+    segment: &Segment,
+    parent: u32,
+) -> Result<u32, RegisterFault> {
+    sender.register(rt, parent, segment, "one", DType::Test, 5)
+}
+
+#[test]
+fn registering(rt: HostRuntime) -> Result<(), Fail> {
+    let alloc = rt.alloc();
+    let table = one_node(alloc, DType::Test)?;
+    let (mut senders, mut receiver) = open(alloc, table, 2, 4)?;
+    let mut second = senders.pop().ok_or(NO_SENDER)?;
+    let mut first = senders.pop().ok_or(NO_SENDER)?;
+    let segment = Segment::new(alloc, "dyn", "1")?;
+    assert_eq!(rt; register(&rt, &mut second, &segment, 0), Ok(131_072));
+    assert!(rt; take(&rt, &mut receiver) == Told::Entry(2, Kind::Dynamic, 131_072, 5));
+    assert!(rt; send(&rt, &mut first, start(131_072, 7)) == Answer::UnknownNode(7));
+    assert_eq!(rt;
+        register(&rt, &mut first, &segment, 9),
+        Err(RegisterFault::UnknownNode)
+    );
+    let message = Some(Text::copy(alloc, "no")?);
+    let finish = Event {
+        kind: Kind::Finished,
+        key: 0,
+        stamp: 0,
+        payload: Payload::Outcome(Status::Successful, message),
+    };
+    assert!(rt; send(&rt, &mut second, finish) == Answer::Unlawful(0));
+    Ok(())
+}

@@ -1,0 +1,174 @@
+//! Unique ids, their texts and their limits.
+use std::alloc::{AllocError, Global};
+use tk_ids::{IdFault, Segment, UniqueId};
+
+// Texts of ids, each with the fault of reading it, None where it is read. Positions count bytes.
+fn rows() -> &'static str {
+    "[engine:e]/[t:a%2Fb%3Ac%25] None
+[engine:%25%2B%5B%5D%3A%2F] None
+[engine:a%2fb] Some(BadEscape(11))
+[engine:%41] Some(BadEscape(9))
+[engine:% Some(BadEscape(9))
+[engine:] Some(BadSegment(8))
+[engine:e Some(BadSegment(9))
+ Some(Empty)
+[ä:b]ö Some(BadSegment(6))
+[ä:%ö] Some(BadEscape(5))
+[ä:%2ö] Some(BadEscape(6))
+"
+}
+
+fn fault_of(alloc: Global, text: &str) -> Option<IdFault> {
+    UniqueId::read(alloc, text).err()
+}
+
+// Whether reading a text has this fault.
+fn has_fault(alloc: Global, text: &str, want: &str) -> bool {
+    let fault = fault_of(alloc, text);
+    match format!(in alloc; "{fault:?}") {
+        Ok(told) => told.as_str() == want,
+        Err(_) => false,
+    }
+}
+
+// Whether the fault of a row's text is the row's.
+fn holds(alloc: Global, row: &str) -> bool {
+    match row.split_once(' ') {
+        Some((text, want)) => has_fault(alloc, text, want),
+        None => false,
+    }
+}
+
+#[test]
+fn texts_of_ids(rt: HostRuntime) {
+    for row in rows().lines() {
+        assert!(rt; holds(rt.alloc(), row), "{row}");
+    }
+}
+
+// `head`, then `unit` so many times, and a bracket.
+fn repeated(alloc: Global, head: &str, unit: &str, times: usize) -> Result<String, AllocError> {
+    let mut text = String::from_str(alloc, head)?;
+    for _ in 0..times {
+        text.push_str(unit)?;
+    }
+    text.push_str("]")?;
+    Ok(text)
+}
+
+// The fault of an id of one segment with a value of so many bytes.
+fn fault_of_bytes(alloc: Global, bytes: usize) -> Option<IdFault> {
+    fault_of(alloc, repeated(alloc, "[a:", "v", bytes).ok()?.as_str())
+}
+
+// The fault of an id of so many segments and one more.
+fn fault_of_segments(alloc: Global, segments: usize) -> Option<IdFault> {
+    fault_of(
+        alloc,
+        repeated(alloc, "[a:b", "]/[a:b", segments).ok()?.as_str(),
+    )
+}
+
+#[test]
+fn limit_of_bytes(rt: HostRuntime) {
+    assert_eq!(rt; fault_of_bytes(rt.alloc(), 4092), None);
+    assert_eq!(rt; fault_of_bytes(rt.alloc(), 4093), Some(IdFault::TooLong));
+}
+
+#[test]
+fn limit_of_segments(rt: HostRuntime) {
+    assert_eq!(rt; fault_of_segments(rt.alloc(), 63), None);
+    assert_eq!(rt; fault_of_segments(rt.alloc(), 64), Some(IdFault::TooLong));
+}
+
+// The id of one segment.
+fn engine(alloc: Global) -> Result<UniqueId, IdFault> {
+    UniqueId::of(alloc, &Segment::new(alloc, "engine", "e")?)
+}
+
+// The id with a segment that has escapes.
+fn below(alloc: Global, id: &UniqueId) -> Result<UniqueId, IdFault> {
+    id.append(alloc, &Segment::new(alloc, "t", "a/b:c%")?)
+}
+
+// An id of an engine and a test.
+fn escaped(alloc: Global) -> Result<UniqueId, IdFault> {
+    below(alloc, &engine(alloc)?)
+}
+
+fn is_written(id: &UniqueId, want: &str) -> bool {
+    match id.write() {
+        Ok(text) => text.as_str() == want,
+        Err(_) => false,
+    }
+}
+
+// Whether a copy of the id has this text.
+fn is_copied(alloc: Global, id: &UniqueId, want: &str) -> bool {
+    match id.try_clone(alloc) {
+        Ok(copied) => is_written(&copied, want),
+        Err(_) => false,
+    }
+}
+
+// Whether the parent of the id has this text.
+fn is_below(alloc: Global, id: &UniqueId, want: &str) -> bool {
+    match id.parent(alloc) {
+        Ok(Some(parent)) => is_written(&parent, want),
+        _ => false,
+    }
+}
+
+// Whether an id that is made of segments has its text, and so a copy of it, and its parent.
+fn is_made(alloc: Global) -> bool {
+    match escaped(alloc) {
+        Ok(id) => {
+            is_copied(alloc, &id, "[engine:e]/[t:a%2Fb%3Ac%25]")
+                && is_below(alloc, &id, "[engine:e]")
+        }
+        Err(_) => false,
+    }
+}
+
+#[test]
+fn ids_of_segments(rt: HostRuntime) {
+    assert!(rt; is_made(rt.alloc()));
+}
+
+// The id with one segment more, which is a copy of a segment.
+fn grown(alloc: Global, id: &UniqueId) -> Result<UniqueId, IdFault> {
+    let segment = Segment::new(alloc, "a", "b")?.try_clone()?;
+    id.append(alloc, &segment)
+}
+
+// The fault at the 65th segment, if it is the first.
+fn fault_at_the_limit(alloc: Global) -> Result<Option<IdFault>, IdFault> {
+    let mut id = engine(alloc)?;
+    for _ in 0..63 {
+        id = grown(alloc, &id)?;
+    }
+    Ok(grown(alloc, &id).err())
+}
+
+#[test]
+fn a_segment_too_many(rt: HostRuntime) {
+    assert!(rt; matches!(fault_at_the_limit(rt.alloc()), Ok(Some(IdFault::TooLong))));
+}
+
+#[test]
+fn an_empty_tag(rt: HostRuntime) {
+    assert!(rt; matches!(Segment::new(rt.alloc(), "", "x"), Err(IdFault::Empty)));
+}
+
+// How many bytes the value of a segment has that has so many and one more.
+fn bytes_of_value(alloc: Global, bytes: usize) -> Option<usize> {
+    let value = repeated(alloc, "", "v", bytes).ok()?;
+    let segment = Segment::new(alloc, "t", value.as_str()).ok()?;
+    Some(segment.value().len())
+}
+
+/// A segment has no limit: an id has.
+#[test]
+fn a_long_segment(rt: HostRuntime) {
+    assert_eq!(rt; bytes_of_value(rt.alloc(), 100_000), Some(100_001));
+}
