@@ -1,0 +1,69 @@
+"""Generated conditions."""
+
+import form
+from generated.numbers import Numbers
+from model.conditions import Condition, write_condition
+
+ATOMS = [
+    ("test",),
+    ("container",),
+    ("engine",),
+    ("id", "e]"),
+    ("id", "[engine:"),
+    ("id", "]/[t:"),
+    ("id", "%2F"),
+    ("id", "[engine:e]/[class:A]/[t:m]/[d:"),
+    ("name", ""),
+    ("name", "one"),
+    ("name", "a(b),c%"),
+    ("kind", "dynamic"),
+    ("kind", "skip"),
+    ("kind", "start"),
+    ("kind", "finish"),
+    ("kind", "report"),
+    ("skipped", ""),
+    ("skipped", "off"),
+    ("skipped", "spät"),
+    ("started",),
+    ("succeeded",),
+    ("failed",),
+    ("aborted",),
+    ("failed", ""),
+    ("failed", "boom"),
+    ("failed", "booms"),
+    ("aborted", "boom"),
+    ("aborted", "a(b),%|c\n"),
+    ("entry", ()),
+    ("entry", (("k", "v"),)),
+    ("entry", (("k", "v"), ("k", "v"))),
+    ("entry", (("k", "v"), ("l", "w"))),
+    ("entry", (("l", "w"), ("k", "v"))),
+    ("entry", (("m", ""), ("l", "w"), ("k", "v"))),
+    ("entry", (("a(", "b),%"),)),
+    ("entry", (("k", "w"),)),
+] + ([("kind", "file"), ("file", "out/log.txt"), ("file", "a(b),%")] if form.HAS_FILES else [])
+"""Every form of an atom, most of them with several texts."""
+
+
+def condition(numbers: Numbers, brackets: int) -> Condition:
+    """A condition of at most so many brackets within one another."""
+    shape = numbers.below(8)
+    if brackets == 0 or shape == 0:
+        return numbers.one_of(ATOMS)
+    if shape < 3:
+        return ("not", condition(numbers, brackets - 1))
+    members = [condition(numbers, brackets - 1) for _ in range(3 - numbers.below(10) // 3)]
+    return ("all" if shape < 5 else "any", tuple(members))
+
+
+def brackets_of(asked: Condition) -> int:
+    """How many brackets of `all(`, `any(` and `not(` stand within one another."""
+    if asked[0] == "not":
+        return 1 + brackets_of(asked[1])
+    if asked[0] in ("all", "any"):
+        return 1 + max((brackets_of(member) for member in asked[1]), default=0)
+    return 0
+
+
+def condition_text(numbers: Numbers, brackets: int) -> str:
+    return write_condition(condition(numbers, brackets))

@@ -1,0 +1,171 @@
+"""Generated plans, and plans of which one value was replaced."""
+
+import copy
+import json
+from typing import Dict, List, Union
+
+import form
+from generated.numbers import Numbers, each_is_met, modelled
+from harness import Case, Check
+
+SEGMENTS = [
+    ["t", "1"],
+    ["t", "2"],
+    ["t", "10"],
+    ["c", "a/b"],
+    ["c", "%"],
+    ["T", "|"],
+    ["é", "x y"],
+    ["t", "\n"],
+    ["d", "[1]"],
+]
+TEXTS = ["", "off", "boom", "a|b", "back\\slash", "line\nfeed", "spät 🦀", "\t"]
+LOCK_KEYS = ["global", "db", "a", "b", "", "é"]
+KEYS = ["", "a", "b", "aa", "B", "é", "k|", "k\\"]
+
+Value = Dict[str, object]
+
+
+def entry(numbers: Numbers) -> list:
+    """An entry; rarely with a key twice."""
+    keys = numbers.some_of(KEYS, 4)
+    if numbers.below(40) > 0:
+        keys = list(dict.fromkeys(keys))
+    return [[key, numbers.one_of(TEXTS)] for key in keys]
+
+
+def lock(numbers: Numbers) -> Value:
+    made: Value = {"key": numbers.one_of(LOCK_KEYS)}
+    mode = numbers.one_of(["read", "read_write", None])
+    return made if mode is None else {**made, "mode": mode}
+
+
+def result(numbers: Numbers) -> Value:
+    status = numbers.one_of(["successful", "failed", "aborted"])
+    has_message = status != "successful" and numbers.below(2) == 0
+    return {"status": status, "message": numbers.one_of(TEXTS)} if has_message else {"status": status}
+
+
+def node(numbers: Numbers, segment: list, levels: int, is_static: bool) -> Value:
+    """A node with at most so many levels of nodes, its own among them."""
+    made: Value = {"type": numbers.one_of(["container", "container", "test", "both"]), "segment": segment}
+    made["name"] = numbers.one_of(TEXTS)
+    if is_static and numbers.below(4) > 0:
+        made["mode"] = numbers.one_of(["concurrent", "concurrent", "concurrent", "same_thread"])
+    if is_static and numbers.below(10) == 0:
+        made["isolated"] = numbers.one_of([True, False])
+    if is_static and numbers.below(6) == 0:
+        made["locks"] = [lock(numbers) for _ in range(numbers.below(3))]
+    if numbers.below(10) == 0:
+        made["skip"] = numbers.one_of(TEXTS)
+    if numbers.below(3) == 0:
+        made["result"] = result(numbers)
+    if numbers.below(3) == 0:
+        made["entries"] = [entry(numbers) for _ in range(numbers.below(4))]
+    if form.HAS_FILES and numbers.below(4) == 0:
+        made["files"] = numbers.some_of(["a", "a|b", "out/log.txt"], 2)
+    add_below(numbers, made, levels, is_static)
+    return made
+
+
+def add_below(numbers: Numbers, made: Value, levels: int, is_static: bool) -> None:
+    """Adds children and dynamic nodes; rarely two with one segment."""
+    if levels == 1:
+        return
+    segments = numbers.some_of(SEGMENTS, 5)
+    if numbers.below(40) > 0:
+        segments = [list(segment) for segment in dict.fromkeys(tuple(segment) for segment in segments)]
+    for segment in segments:
+        is_child = is_static and numbers.below(4) > 0
+        below = made.setdefault("children" if is_child else "dynamic", [])
+        below.append(node(numbers, segment, levels - 1, is_child))
+
+
+def plan(numbers: Numbers) -> Value:
+    segment = numbers.one_of([["engine", "e"], ["engine", "e"], ["suite", "s:1"]])
+    return {"version": form.LATEST, "root": node(numbers, segment, 1 + numbers.below(5), True)}
+
+
+def plan_text(numbers: Numbers, value: Value) -> bytes:
+    """A plan as JSON, laid out in one of several ways."""
+    indent = numbers.one_of([None, None, 1])
+    return json.dumps(value, ensure_ascii=numbers.below(2) == 0, indent=indent).encode()
+
+
+STRANGE = [
+    None,
+    True,
+    False,
+    0,
+    1,
+    -1,
+    1.5,
+    10**30,
+    "",
+    "x",
+    "a/~b|",
+    [],
+    [[]],
+    {},
+    {"key": "k"},
+    ["a", "b"],
+    ["a", 1],
+]
+"""What stands in place of a value."""
+
+NAMES = ["type", "name", "mode", "key", "status", "message", "a/b", "~", "", "Z", "é", "files", "dynamic"]
+"""What stands in place of the name of a member."""
+
+
+def places(value: object) -> list:
+    """Each place below a value: the object or array, and the name or index."""
+    steps = list(value) if isinstance(value, dict) else range(len(value)) if isinstance(value, list) else []
+    found = [(value, step) for step in steps]
+    return found + [place for step in steps for place in places(value[step])]
+
+
+def spoil(numbers: Numbers, value: Value) -> None:
+    """Replaces, drops or renames one value of a plan."""
+    holder, step = numbers.one_of(places(value))
+    shape = numbers.below(4)
+    if shape == 0:
+        del holder[step]
+    elif shape == 1 and isinstance(holder, dict):
+        holder[numbers.one_of(NAMES)] = holder.pop(step)
+    else:
+        holder[step] = copy.deepcopy(numbers.one_of(STRANGE))
+
+
+def kind_of_outcome(case: Case) -> str:
+    """Done, or the first words of the fault line."""
+    return "done" if case.status == 0 else " ".join(case.error.decode().split()[1:3])
+
+
+def runs() -> List[Union[Case, Check]]:
+    """Plans, each run by one, two and as many workers as there may be."""
+    numbers = Numbers(31)
+    made: List[Case] = []
+    for number in range(150):
+        text = plan_text(numbers, plan(numbers))
+        for workers in [1, 2, form.MAX_WORKERS]:
+            made.append(
+                modelled(f"generated plan/{number}, {workers} workers", ["run", "--workers", str(workers)], text)
+            )
+    met = [kind_of_outcome(case) for case in made]
+    return made + [each_is_met("generated plan", met, ["done", "entry key", "plan table"], 3)]
+
+
+def spoiled() -> List[Union[Case, Check]]:
+    """Plans with one value spoiled."""
+    numbers = Numbers(32)
+    made: List[Case] = []
+    for number in range(300):
+        value = plan(numbers)
+        spoil(numbers, value)
+        made.append(modelled(f"generated spoiled plan/{number}", ["run", "--workers=2"], plan_text(numbers, value)))
+    met = [kind_of_outcome(case) for case in made]
+    return made + [each_is_met("generated spoiled plan", met, ["done", "plan member"], 20)]
+
+
+def cases() -> List[Union[Case, Check]]:
+    return runs() + spoiled()

@@ -1,0 +1,179 @@
+"""Selections, statistics, conditions, matches and executions of generated records."""
+
+from typing import List, Union
+
+import form
+from generated.conditions import ATOMS, brackets_of, condition
+from generated.numbers import Numbers, each_is_met, modelled
+from generated.recordings import record_text, short_record
+from harness import Case, Check
+from model.conditions import Condition, write_condition
+from model.questions import holds_at
+from model.records import Record, read_record
+
+Cases = List[Union[Case, Check]]
+
+SIZES = [0, 1, 2, 63, 64, 65, 127, 128, 129, 255, 256, 257, 300]
+
+
+def selections() -> Cases:
+    """Each selection and the statistics of records of up to 300 events."""
+    numbers = Numbers(7)
+    cases: Cases = []
+    for size in SIZES:
+        text = record_text(numbers, size)
+        cases.append(modelled(f"generated stats/{size} events", ["ask", "stats"], text))
+        for name in form.SELECTIONS:
+            cases.append(modelled(f"generated count/{size} events, {name}", ["ask", "count", name], text))
+    return cases
+
+
+def expectations() -> Cases:
+    """Some expected numbers, of which about half are met."""
+    numbers = Numbers(11)
+    cases: Cases = []
+    for number in range(60):
+        text = record_text(numbers, numbers.below(40))
+        lines = modelled("", ["ask", "stats"], text).output.decode().split("\n")
+        words = {}
+        for line in numbers.some_of(lines[:-1], 5):
+            name, count = line.split(" ")
+            words[name] = f"{name}={int(count) + max(0, numbers.below(4) - 2)}"
+        cases.append(modelled(f"generated expectations/{number}", ["ask", "stats", *words.values()], text))
+    return cases + [each_is_met("generated expectations", [str(case.status) for case in cases], ["0", "1"], 15)]
+
+
+def where_it_holds(name: str, asked: Condition, text: bytes, record: Record) -> Case:
+    """Asks for each event whether the condition holds of it, or else its opposite: always a yes."""
+    word = write_condition(asked)
+    held = [holds_at(record, asked, position) for position in range(len(record.entries))]
+    words = [word if is_held else f"not({word})" for is_held in held]
+    return Case(name, [item.encode() for item in ["ask", "match", "exactly", *words]], text, b"yes\n")
+
+
+def is_parted(asked: Condition, record: Record) -> bool:
+    """Whether the condition holds of some events, and not of all."""
+    held = [holds_at(record, asked, position) for position in range(len(record.entries))]
+    return any(held) and not all(held)
+
+
+def atoms() -> Cases:
+    """Each atom holds of some of 130 events and not of others, and of which it holds."""
+    text = record_text(Numbers(2), 130)
+    record = read_record(text)
+    cases: Cases = [where_it_holds(f"generated atom/{write_condition(atom)!r}", atom, text, record) for atom in ATOMS]
+    idle = [atom for atom in ATOMS if not is_parted(atom, record)]
+    return cases + [Check("generated atom/each holds somewhere", idle, [])]
+
+
+PLAIN = [
+    ("test",),
+    ("container",),
+    ("engine",),
+    ("name", "one"),
+    ("id", "[t:"),
+    ("started",),
+    ("kind", "report"),
+    ("skipped", "off"),
+    ("failed",),
+]
+
+
+def one_of_two() -> Cases:
+    """For each two atoms the condition that one of them holds and not the other one."""
+    text = record_text(Numbers(13), 130)
+    record = read_record(text)
+    return [
+        where_it_holds(
+            f"generated one of two/{write_condition(first)}, {write_condition(second)}",
+            ("any", (("all", (first, ("not", second))), ("all", (second, ("not", first))))),
+            text,
+            record,
+        )
+        for first in PLAIN
+        for second in PLAIN
+    ]
+
+
+def deep_conditions() -> Cases:
+    """Conditions of up to five brackets within one another, of 130 events."""
+    numbers = Numbers(3)
+    text = record_text(numbers, 130)
+    record = read_record(text)
+    cases: Cases = []
+    met = []
+    for number in range(400):
+        asked = condition(numbers, 5)
+        cases.append(where_it_holds(f"generated condition/{number}", asked, text, record))
+        if brackets_of(asked) >= 4 and is_parted(asked, record):
+            met.append("deep")
+    return cases + [each_is_met("generated condition", met, ["deep"], 100)]
+
+
+def fitting(numbers: Numbers, record: Record, position: int) -> str:
+    """The text of a condition that mostly holds of the event at a position."""
+    asked = condition(numbers, 2)
+    for _ in range(numbers.below(12)):
+        if position < len(record.entries) and holds_at(record, asked, position):
+            break
+        asked = condition(numbers, 2)
+    return write_condition(asked)
+
+
+def conditions_in_turn(numbers: Numbers, record: Record) -> List[str]:
+    """Up to four conditions, most of which hold at increasing positions."""
+    return [fitting(numbers, record, 2 * step + numbers.below(2)) for step in range(numbers.below(5))]
+
+
+def conditions_of_events(numbers: Numbers, record: Record) -> List[str]:
+    """A condition for each event; every fourth time any number of conditions."""
+    if numbers.below(4) == 0:
+        return [write_condition(condition(numbers, 2)) for _ in range(numbers.below(5))]
+    return [fitting(numbers, record, position) for position in range(len(record.entries))]
+
+
+def matches(mode: str, seed: int, conditions_for, answers: List[str], least: int) -> Cases:
+    """Three hundred matches of records of at most eight events."""
+    numbers = Numbers(seed)
+    cases: Cases = []
+    for number in range(300):
+        text = short_record(numbers)
+        words = conditions_for(numbers, read_record(text))
+        cases.append(modelled(f"generated {mode}/{number}", ["ask", "match", mode, *words], text))
+    met = [kind_of_answer(case.output.decode()) for case in cases]
+    return cases + [each_is_met(f"generated {mode}", met, answers, least)]
+
+
+def kind_of_answer(output: str) -> str:
+    """A no with its number, or a yes with how many positions it has."""
+    parts = output.split()
+    return f"yes of {len(parts) - 1}" if parts[0] == "yes" and len(parts) > 1 else output[:-1]
+
+
+IN_ORDER_ANSWERS = ["yes", "yes of 1", "yes of 2", "yes of 3", "yes of 4", "no 0", "no 1", "no 2", "no 3"]
+
+
+def executions() -> Cases:
+    """Lists of executions, of few events and of a hundred."""
+    numbers = Numbers(8)
+    texts = [short_record(numbers) for _ in range(300)]
+    texts += [record_text(numbers, 100, nodes) for nodes in range(1, 7) for _ in range(4)]
+    cases: Cases = [
+        modelled(f"generated executions/{number}", ["ask", "executions"], text) for number, text in enumerate(texts)
+    ]
+    met = [line.split()[1] for case in cases for line in case.output.decode().split("\n")[:-1]]
+    return cases + [each_is_met("generated executions", met, ["skipped", "aborted", "succeeded", "failed"], 30)]
+
+
+def cases() -> Cases:
+    return (
+        selections()
+        + expectations()
+        + atoms()
+        + one_of_two()
+        + deep_conditions()
+        + matches("in-order", 5, conditions_in_turn, IN_ORDER_ANSWERS, 4)
+        + matches("exactly", 6, conditions_of_events, ["yes", "wrong-count", "no 0", "no 1", "no 2"], 4)
+        + matches("loosely", 9, conditions_of_events, ["yes", "no 0", "no 1", "no 2"], 4)
+        + executions()
+    )

@@ -1,0 +1,309 @@
+"""Cases, how one is run on the program, and how all are run and reported.
+
+A `Case` is one start of the program: its words and its input, and what has to come on standard output, on
+standard error and as status. A `ThreadCount` also counts the threads of its runs. A `Check` compares two
+values without the program.
+"""
+
+import os
+import subprocess
+import sys
+import tempfile
+import threading
+import time
+from concurrent.futures import ThreadPoolExecutor
+from dataclasses import dataclass
+from enum import Enum
+from typing import Callable, List, Optional, Sequence, Tuple, Union
+
+Bytes = Union[bytes, Callable[[], bytes]]
+"""Bytes, or a function that makes them when they are needed (for large ones)."""
+
+TIME_LIMIT = 600
+"""How many seconds a run may take: far more than any needs, so that a slow machine fails no case."""
+
+MOST_AT_ONCE = 4
+"""How many runs there may be at once."""
+
+STACK = 8_192
+"""How many KiB the stack of a thread has where memory is limited."""
+
+MOST_RUNS = 10
+"""How many runs there are at most until one is seen with all its threads."""
+
+CUT = 4_096
+"""How many bytes are read of an output that is cut."""
+
+
+def broken_pipe() -> int:
+    """The writing end of a pipe that has no reading end."""
+    reading, writing = os.pipe()
+    os.close(reading)
+    return writing
+
+
+BROKEN_PIPE = broken_pipe()
+"""It is made before there are threads: a program that another thread starts shares its reading end for a while."""
+
+
+class Input(Enum):
+    """What standard input is."""
+
+    BYTES = "a pipe with the bytes of the case"
+    FILE = "a file with the bytes of the case"
+    PIECES = "a pipe into which the bytes of the case are written one by one"
+    CLOSED = "closed"
+    FOLDER = "a folder, which can't be read"
+
+
+class Output(Enum):
+    """What standard output, or standard error, is."""
+
+    KEPT = "what is written is compared"
+    CLOSED = "closed"
+    FULL = "a full device"
+    BROKEN_PIPE = "a pipe that nobody reads"
+    CUT_PIPE = "a pipe that is closed after a few bytes were read; standard input is a file"
+
+
+@dataclass(frozen=True)
+class Case:
+    """One start of the program, and what has to come of it.
+
+    What is written on a closed stream, a full device or a pipe that nobody reads is not compared; of what is
+    written on a pipe that is cut, the first bytes are.
+    """
+
+    name: str
+    words: Sequence[bytes]
+    input: Bytes
+    output: Bytes = b""
+    error: bytes = b""
+    status: int = 0
+    standard_input: Input = Input.BYTES
+    standard_output: Output = Output.KEPT
+    standard_error: Output = Output.KEPT
+    memory: Optional[int] = None
+    """How many KiB of memory the program may have, if that is limited; the stack of a thread then has `STACK`."""
+
+    def run(self, program: str, watcher: Optional["Watcher"] = None) -> Optional[str]:
+        """What differs, or None where the case passes."""
+        status, output, error = start(self, program, watcher)
+        wanted = made(self.output)[:CUT] if self.standard_output == Output.CUT_PIPE else made(self.output)
+        differences = []
+        if status != self.status:
+            differences.append(f"status {status}, wanted {self.status}")
+        if self.standard_output in (Output.KEPT, Output.CUT_PIPE) and output != wanted:
+            differences.append("output " + difference(output, wanted))
+        if self.standard_error == Output.KEPT and error != self.error:
+            differences.append("error " + difference(error, self.error))
+        return "; ".join(differences) or None
+
+
+@dataclass(frozen=True)
+class Check:
+    """A value beside the one that is wanted."""
+
+    name: str
+    got: object
+    wanted: object
+
+    def run(self, program: str) -> Optional[str]:
+        """What differs, or None where the two are equal."""
+        return None if self.got == self.wanted else f"{self.got!r}, wanted {self.wanted!r}"
+
+
+@dataclass(frozen=True)
+class ThreadCount:
+    """A case, and how many threads its run has.
+
+    Each run may be seen with fewer, where it ended before somebody looked, and none with more. So the case
+    is run until it is seen with all of them, at most `MOST_RUNS` times.
+    """
+
+    case: Case
+    threads: int
+
+    @property
+    def name(self) -> str:
+        return self.case.name
+
+    def run(self, program: str) -> Optional[str]:
+        """What differs, or None where the case passes and has so many threads."""
+        watcher = Watcher()
+        for _ in range(MOST_RUNS):
+            fault = self.case.run(program, watcher)
+            if fault is not None or watcher.most > self.threads:
+                return fault or f"{watcher.most} threads, wanted {self.threads}"
+            if watcher.most == self.threads:
+                return None
+        return f"{watcher.most} threads, wanted {self.threads}"
+
+
+class Watcher:
+    """Looks how many threads a process has, until it ends."""
+
+    def __init__(self):
+        self.most = 0
+
+    def watch(self, process: subprocess.Popen) -> threading.Thread:
+        """Starts to look."""
+        looking = threading.Thread(target=self.look, args=(process,))
+        looking.start()
+        return looking
+
+    def look(self, process: subprocess.Popen) -> None:
+        try:
+            while process.returncode is None:
+                self.most = max(self.most, len(os.listdir(f"/proc/{process.pid}/task")))
+                time.sleep(0.001)
+        except (FileNotFoundError, ProcessLookupError):
+            pass
+
+
+Ended = Tuple[int, bytes, bytes]
+"""The status of a run, its output and its error."""
+
+
+def start(case: Case, program: str, watcher: Optional[Watcher] = None) -> Ended:
+    """Runs the program on a case. It is killed, and its status is -9, where the time limit passes."""
+    streams = Streams()
+    try:
+        process = subprocess.Popen(
+            command_of(case, program),
+            bufsize=0,
+            stdin=streams.input_of(case),
+            stdout=streams.output_of(case.standard_output),
+            stderr=streams.output_of(case.standard_error),
+        )
+    finally:
+        streams.close()
+    limit = threading.Timer(TIME_LIMIT, process.kill)
+    limit.start()
+    looking = watcher.watch(process) if watcher else None
+    try:
+        return end(case, process)
+    finally:
+        limit.cancel()
+        if looking:
+            looking.join()
+
+
+def end(case: Case, process: subprocess.Popen) -> Ended:
+    """Gives a process its input, and waits for its end."""
+    first = b""
+    if case.standard_output == Output.CUT_PIPE:
+        first = read_first(process.stdout)
+        process.stdout.close()
+        process.stdout = None
+    if case.standard_input == Input.PIECES:
+        write_pieces(process.stdin, made(case.input))
+    data = made(case.input) if process.stdin and case.standard_input == Input.BYTES else None
+    output, error = process.communicate(data)
+    return process.returncode, output or first, error or b""
+
+
+def read_first(pipe) -> bytes:
+    """The first bytes of an output that is cut."""
+    first = b""
+    while len(first) < CUT:
+        more = pipe.read(CUT - len(first))
+        if not more:
+            break
+        first += more
+    return first
+
+
+def write_pieces(pipe, data: bytes) -> None:
+    """Writes bytes one by one, as long as they are read."""
+    try:
+        for at in range(len(data)):
+            pipe.write(data[at : at + 1])
+    except BrokenPipeError:
+        pass
+
+
+class Streams:
+    """The file descriptors that were opened for one run."""
+
+    def __init__(self):
+        self.opened: List[int] = []
+
+    def keep(self, descriptor: int) -> int:
+        self.opened.append(descriptor)
+        return descriptor
+
+    def input_of(self, case: Case) -> int:
+        if case.standard_input == Input.FILE or case.standard_output == Output.CUT_PIPE:
+            return self.file_with(made(case.input))
+        if case.standard_input in (Input.CLOSED, Input.FOLDER):
+            return self.keep(os.open("/", os.O_RDONLY))
+        return subprocess.PIPE
+
+    def file_with(self, data: bytes) -> int:
+        with tempfile.TemporaryFile() as file:
+            file.write(data)
+            file.seek(0)
+            return self.keep(os.dup(file.fileno()))
+
+    def output_of(self, output: Output) -> int:
+        if output == Output.FULL:
+            return self.keep(os.open("/dev/full", os.O_WRONLY))
+        if output == Output.BROKEN_PIPE:
+            return self.keep(os.dup(BROKEN_PIPE))
+        return subprocess.PIPE
+
+    def close(self) -> None:
+        for descriptor in self.opened:
+            os.close(descriptor)
+
+
+def command_of(case: Case, program: str) -> List[bytes]:
+    """The command line, behind a shell that closes streams and limits memory where that is asked."""
+    command = [program.encode()] + list(case.words)
+    closed = b""
+    if case.standard_input == Input.CLOSED:
+        closed += b" <&-"
+    if case.standard_output == Output.CLOSED:
+        closed += b" >&-"
+    if case.standard_error == Output.CLOSED:
+        closed += b" 2>&-"
+    limit = b"" if case.memory is None else f"ulimit -s {STACK}; ulimit -v {case.memory}; ".encode()
+    return [b"sh", b"-c", limit + b'exec "$@"' + closed, b"sh"] + command if closed or limit else command
+
+
+def made(data: Bytes) -> bytes:
+    return data if isinstance(data, bytes) else data()
+
+
+def difference(got: bytes, wanted: bytes) -> str:
+    """Both, or where they are long what stands where they part."""
+    if len(got) + len(wanted) <= 2_000:
+        return f"{got!r}, wanted {wanted!r}"
+    at = len(os.path.commonprefix([got, wanted]))
+    start_at = max(0, at - 60)
+    return (
+        f"{len(got)} bytes, wanted {len(wanted)}; they part at byte {at}: "
+        f"{got[start_at : at + 60]!r}, wanted {wanted[start_at : at + 60]!r}"
+    )
+
+
+def run_all(program: str, cases: Sequence[Union[Case, ThreadCount, Check]]) -> int:
+    """Runs the cases, prints a line for each that fails and the numbers at last. The status: 0 where none fails."""
+    failed = 0
+    with ThreadPoolExecutor(min(MOST_AT_ONCE, os.cpu_count() or 1)) as workers:
+        for case, fault in zip(cases, workers.map(lambda case: case.run(program), cases)):
+            if fault is not None:
+                failed += 1
+                print(f"{case.name}: {fault}", flush=True)
+    print(f"{len(cases) - failed} passed, {failed} failed")
+    return 0 if failed == 0 else 1
+
+
+def refuse_equal_names(cases: Sequence[Union[Case, ThreadCount, Check]]) -> None:
+    """Stops where two cases have one name."""
+    names = set()
+    for case in cases:
+        if case.name in names:
+            sys.exit(f"cases/run: two cases have the name {case.name}")
+        names.add(case.name)

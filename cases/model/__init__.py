@@ -1,0 +1,13 @@
+"""A plain model of the program, written from docs/FORMATS.md and docs/SPECIFICATION.md alone.
+
+It has no more than definitions: lists, recursion and searches through all possibilities. It is slow on
+purpose, and knows nothing of how the program goes about its work.
+
+- `texts`: numbers, text fields and unique ids.
+- `records`: descriptors, events, records, and reading and writing their texts.
+- `conditions`: reading conditions, and of which events they hold.
+- `questions`: what `ask` answers.
+- `replays`: what `replay` answers.
+- `plans`: reading plans, and the report of a run.
+- `program`: the outcome of a command line and an input.
+"""

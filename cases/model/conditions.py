@@ -1,0 +1,192 @@
+"""Conditions: reading them, with their faults, and of which events they hold.
+
+A condition is a tuple: its word, and behind it its text, its pairs or its members.
+"""
+
+from typing import List, Optional, Tuple
+
+import form
+from model.records import STATUSES, Descriptor, Event
+from model.texts import write_id
+
+Condition = tuple
+Pairs = Tuple[Tuple[str, str], ...]
+
+KINDS = ("dynamic", "skip", "start", "finish", "report") + (("file",) if form.HAS_FILES else ())
+PLAIN_WORDS = ("test", "container", "engine", "started", "succeeded", "failed", "aborted")
+"""The atoms of one word."""
+
+TEXT_WORDS = ("id", "name", "skipped", "failed", "aborted") + (("file",) if form.HAS_FILES else ())
+"""The atoms with a text."""
+
+GROUP_WORDS = ("all", "any", "not")
+OPENING_WORDS = TEXT_WORDS + ("kind", "entry") + GROUP_WORDS
+
+TEXT_ESCAPES = {"%": "%25", "(": "%28", ")": "%29", ",": "%2C"}
+
+
+class BadAtom(Exception):
+    """A text is no condition; the argument is the length in bytes of its longest prefix that begins one."""
+
+
+class Deep(Exception):
+    """The longest prefix that begins a condition has a prefix with too many open brackets."""
+
+
+def write_text(text: str) -> str:
+    """A text inside of a condition."""
+    return "".join(TEXT_ESCAPES.get(character, character) for character in text)
+
+
+def write_condition(condition: Condition) -> str:
+    """The text of a condition."""
+    word = condition[0]
+    if len(condition) == 1:
+        return word
+    if word == "kind":
+        return f"kind({condition[1]})"
+    if word in ("all", "any"):
+        return word + "(" + ",".join(write_condition(member) for member in condition[1]) + ")"
+    if word == "not":
+        return "not(" + write_condition(condition[1]) + ")"
+    if word == "entry":
+        return "entry(" + ",".join(write_text(text) for pair in condition[1] for text in pair) + ")"
+    return word + "(" + write_text(condition[1]) + ")"
+
+
+def read_condition(text: str) -> Condition:
+    """The condition of a text, or `BadAtom` or `Deep`."""
+    return Reader(text.encode()).whole()
+
+
+class Reader:
+    """Reads a condition from left to right.
+
+    What was read so far always begins some condition, so where no further byte can be taken, the position
+    is the length of the longest prefix that begins one.
+    """
+
+    def __init__(self, data: bytes):
+        self.data = data
+        self.at = 0
+
+    def whole(self) -> Condition:
+        condition = self.condition(0)
+        if self.at < len(self.data):
+            raise BadAtom(self.at)
+        return condition
+
+    def sees(self, word: str) -> bool:
+        return self.data.startswith(word.encode(), self.at)
+
+    def take_one_of(self, words) -> str:
+        """Takes the longest of the words that comes next, or raises `BadAtom` behind the longest beginning of one."""
+        seen = [word for word in words if self.sees(word)]
+        if seen:
+            word = max(seen, key=len)
+            self.at += len(word)
+            return word
+        raise BadAtom(self.at + max(self.common(word) for word in words))
+
+    def common(self, word: str) -> int:
+        """How many bytes of a word come next."""
+        length = 0
+        while self.sees(word[: length + 1]) and length < len(word):
+            length += 1
+        return length
+
+    def condition(self, open_brackets: int) -> Condition:
+        word = self.take_one_of(PLAIN_WORDS + tuple(word + "(" for word in OPENING_WORDS))
+        if not word.endswith("("):
+            return (word,)
+        word = word[:-1]
+        if word in GROUP_WORDS:
+            return self.group(word, open_brackets + 1)
+        if word == "kind":
+            return ("kind", self.take_one_of([kind + ")" for kind in KINDS])[:-1])
+        if word == "entry":
+            return ("entry", self.pairs())
+        text = self.text()
+        self.take_one_of([")"])
+        return (word, text)
+
+    def group(self, word: str, open_brackets: int) -> Condition:
+        if open_brackets > form.MAX_BRACKETS:
+            raise Deep()
+        if word == "not":
+            member = self.condition(open_brackets)
+            self.take_one_of([")"])
+            return ("not", member)
+        members: List[Condition] = []
+        if self.sees(")"):
+            self.at += 1
+            return (word, tuple(members))
+        while True:
+            members.append(self.condition(open_brackets))
+            if self.take_one_of([",", ")"]) == ")":
+                return (word, tuple(members))
+
+    def text(self) -> str:
+        """Takes a text, up to the bracket or the comma that ends it."""
+        text = b""
+        while self.at < len(self.data) and self.data[self.at] not in b"(),":
+            if self.sees("%"):
+                escape = self.take_one_of(list(TEXT_ESCAPES.values()))
+                text += {value: key for key, value in TEXT_ESCAPES.items()}[escape].encode()
+            else:
+                text += self.data[self.at : self.at + 1]
+                self.at += 1
+        return text.decode()
+
+    def pairs(self) -> Pairs:
+        """Takes the pairs of `entry(`, and the bracket behind them."""
+        pairs = []
+        if self.sees(")"):
+            self.at += 1
+            return ()
+        while True:
+            key = self.text()
+            self.take_one_of([","])
+            value = self.text()
+            pairs.append((key, value))
+            if self.take_one_of([",", ")"]) == ")":
+                return tuple(pairs)
+
+
+def holds(condition: Condition, event: Event, descriptor: Descriptor) -> bool:
+    """Whether a condition holds of an event, whose key has this descriptor."""
+    word = condition[0]
+    argument = condition[1] if len(condition) > 1 else None
+    if word == "all":
+        return all(holds(member, event, descriptor) for member in argument)
+    if word == "any":
+        return any(holds(member, event, descriptor) for member in argument)
+    if word == "not":
+        return not holds(argument, event, descriptor)
+    if word == "test":
+        return descriptor.is_test()
+    if word == "container":
+        return descriptor.is_container()
+    if word == "engine":
+        return len(descriptor.id) == 1 and descriptor.id[0][0] == "engine"
+    if word == "id":
+        return argument in write_id(descriptor.id)
+    if word == "name":
+        return descriptor.name == argument
+    if word == "kind":
+        return event.kind == argument
+    if word == "skipped":
+        return event.kind == "skip" and event.reason == argument
+    if word == "started":
+        return event.kind == "start"
+    if word == "file":
+        return event.kind == "file" and event.path == argument
+    if word == "entry":
+        return event.kind == "report" and set(argument) == set(event.pairs)
+    return has_ended(event, word, argument)
+
+
+def has_ended(event: Event, word: str, message: Optional[str]) -> bool:
+    """`succeeded`, `failed` or `aborted`: with this message, where one is named."""
+    is_end = event.kind == "finish" and STATUSES[event.status] == word
+    return is_end and (message is None or event.message == message)

@@ -1,0 +1,313 @@
+"""Plans: reading them with their faults, and the report of a run."""
+
+import json
+from dataclasses import dataclass, field
+from typing import Dict, Iterator, List, Optional, Set, Tuple
+
+import form
+from model.questions import statistics_text
+from model.records import Descriptor, Entry, Event, Record, Refused
+from model.texts import Id, Segment, is_within_limits, write_field, write_id
+
+MAX_NESTING = 127
+"""How deep arrays and objects may be nested: `serde_json` reads no deeper."""
+
+NODE_TYPES = {"container": "C", "test": "T", "both": "B"}
+NODE_STATUSES = {"successful": "ok", "aborted": "abort", "failed": "fail"}
+
+
+class Wrong(Exception):
+    """The value at a path is wrong; the path is the first argument."""
+
+
+@dataclass(frozen=True)
+class Number:
+    """A number of a JSON text, as it is written."""
+
+    text: str
+
+
+@dataclass
+class Node:
+    """A node of a plan."""
+
+    letter: str
+    segment: Segment
+    name: str
+    skip: Optional[str] = None
+    status: str = "ok"
+    message: Optional[str] = None
+    locks: List[str] = field(default_factory=list)
+    entries: List[List[Tuple[str, str]]] = field(default_factory=list)
+    files: List[str] = field(default_factory=list)
+    children: List["Node"] = field(default_factory=list)
+    dynamic: List["Node"] = field(default_factory=list)
+
+
+def read_json(data: bytes) -> object:
+    """The value of a JSON text, numbers as `Number`s, or `Refused`."""
+    try:
+        text = data.decode()
+        value = json.loads(text, parse_int=Number, parse_float=Number, parse_constant=refuse_constant)
+        json.dumps(value, ensure_ascii=False, default=lambda number: number.text).encode()
+    except (ValueError, RecursionError):
+        raise Refused("plan is not JSON")
+    if nesting(value) > MAX_NESTING:
+        raise Refused("plan is not JSON")
+    return value
+
+
+def refuse_constant(text: str) -> object:
+    """`NaN` and `Infinity` are no JSON."""
+    raise ValueError(text)
+
+
+def nesting(value: object) -> int:
+    """How many arrays and objects stand within one another."""
+    members = value.values() if isinstance(value, dict) else value if isinstance(value, list) else None
+    return 0 if members is None else 1 + max((nesting(member) for member in members), default=0)
+
+
+def pointer(path: str, step: object) -> str:
+    """The JSON Pointer of a member or an item below a path."""
+    return path + "/" + str(step).replace("~", "~0").replace("/", "~1")
+
+
+def check_text(value: object, path: str) -> str:
+    if not isinstance(value, str):
+        raise Wrong(path)
+    return value
+
+
+def check_word(value: object, path: str, words) -> str:
+    """One of these words."""
+    if not isinstance(value, str) or value not in words:
+        raise Wrong(path)
+    return value
+
+
+def check_array(value: object, path: str, length: Optional[int] = None) -> List[Tuple[object, str]]:
+    """The items of an array, each with its path."""
+    if not isinstance(value, list) or (length is not None and len(value) != length):
+        raise Wrong(path)
+    return [(item, pointer(path, index)) for index, item in enumerate(value)]
+
+
+def check_members(value: object, path: str, names: List[str], needed: List[str]) -> Iterator[Tuple[str, object, str]]:
+    """The members of an object in the order of these names: name, value and path of each that is there.
+
+    First the members without a meaning are refused. Where a needed one is missing, its path is wrong.
+    """
+    if not isinstance(value, dict):
+        raise Wrong(path)
+    strange = sorted((name for name in value if name not in names), key=lambda name: name.encode())
+    if strange:
+        raise Wrong(pointer(path, strange[0]))
+    for name in names:
+        if name in value:
+            yield name, value[name], pointer(path, name)
+        elif name in needed:
+            raise Wrong(pointer(path, name))
+
+
+def check_pair(value: object, path: str) -> Tuple[str, str]:
+    first, second = [check_text(item, item_path) for item, item_path in check_array(value, path, 2)]
+    return first, second
+
+
+def check_lock(value: object, path: str) -> str:
+    """The key of a lock."""
+    key = ""
+    for name, member, member_path in check_members(value, path, ["key", "mode"], ["key"]):
+        if name == "key":
+            key = check_text(member, member_path)
+        else:
+            check_word(member, member_path, ["read", "read_write"])
+    return key
+
+
+def check_result(value: object, path: str) -> Tuple[str, Optional[str]]:
+    """The status and the message of a result."""
+    status, message = "", None
+    for name, member, member_path in check_members(value, path, ["status", "message"], ["status"]):
+        if name == "status":
+            status = NODE_STATUSES[check_word(member, member_path, NODE_STATUSES)]
+        elif status == "ok":
+            raise Wrong(member_path)
+        else:
+            message = check_text(member, member_path)
+    return status, message
+
+
+def check_files(value: object, path: str) -> List[str]:
+    return [check_full_text(item, item_path) for item, item_path in check_array(value, path)]
+
+
+def check_full_text(value: object, path: str) -> str:
+    if check_text(value, path) == "":
+        raise Wrong(path)
+    return value
+
+
+def member_names(is_static: bool, version: int) -> List[str]:
+    """The members of a node, in the order in which they are checked."""
+    files = ["files"] if version >= form.FILE_VERSION else []
+    names = ["type", "segment", "name", "mode", "isolated", "locks", "skip", "result", "entries"] + files
+    names += ["children", "dynamic"]
+    return names if is_static else [name for name in names if name not in ("mode", "isolated", "locks", "children")]
+
+
+def check_node(value: object, path: str, is_static: bool, version: int) -> Node:
+    """The node of a JSON object, without the nodes below it, or `Wrong`."""
+    node = Node("", ("", ""), "")
+    names = member_names(is_static, version)
+    for name, member, member_path in check_members(value, path, names, ["type", "segment", "name"]):
+        check_member(node, name, member, member_path)
+    return node
+
+
+def check_member(node: Node, name: str, value: object, path: str) -> None:
+    """Puts a member into its node."""
+    if name == "type":
+        node.letter = NODE_TYPES[check_word(value, path, NODE_TYPES)]
+    elif name == "segment":
+        node.segment = check_pair(value, path)
+    elif name == "name":
+        node.name = check_text(value, path)
+    elif name == "mode":
+        check_word(value, path, ["same_thread", "concurrent"])
+    elif name == "isolated":
+        if not isinstance(value, bool):
+            raise Wrong(path)
+    elif name == "locks":
+        node.locks = [check_lock(item, item_path) for item, item_path in check_array(value, path)]
+    elif name == "skip":
+        node.skip = check_text(value, path)
+    elif name == "result":
+        node.status, node.message = check_result(value, path)
+    elif name == "entries":
+        node.entries = [check_entry(item, item_path) for item, item_path in check_array(value, path)]
+    elif name == "files":
+        node.files = check_files(value, path)
+    else:
+        check_array(value, path)
+
+
+def check_entry(value: object, path: str) -> List[Tuple[str, str]]:
+    return [check_pair(item, item_path) for item, item_path in check_array(value, path)]
+
+
+@dataclass
+class PlanReader:
+    """What was met of a plan so far: its numbers of nodes, and its lock keys."""
+
+    version: int = 1
+    static_nodes: int = 0
+    dynamic_nodes: int = 0
+    lock_keys: List[str] = field(default_factory=list)
+
+    def read(self, value: object, path: str, level: int, above: Id, is_static: bool, siblings: Set[Segment]) -> Node:
+        """A node and those below it. `above` is the id of its parent, `siblings` their segments so far."""
+        if level > form.MAX_LEVELS:
+            raise Refused("plan too deep")
+        try:
+            node = check_node(value, path, is_static, self.version)
+        except Wrong as fault:
+            raise Refused("plan member " + write_field(fault.args[0]) + " is bad")
+        self.check_rules(node, above, is_static, siblings)
+        siblings.add(node.segment)
+        below = above + (node.segment,)
+        segments: Set[Segment] = set()
+        for index, item in enumerate(value.get("children", []) if is_static else []):
+            item_path = pointer(pointer(path, "children"), index)
+            node.children.append(self.read(item, item_path, level + 1, below, True, segments))
+        for index, item in enumerate(value.get("dynamic", [])):
+            item_path = pointer(pointer(path, "dynamic"), index)
+            node.dynamic.append(self.read(item, item_path, level + 1, below, False, segments))
+        return node
+
+    def check_rules(self, node: Node, above: Id, is_static: bool, siblings: Set[Segment]) -> None:
+        """The rules behind those of a node's members, in their order."""
+        for pairs in node.entries:
+            keys = [key for key, _ in pairs]
+            if len(set(keys)) < len(keys):
+                raise Refused("entry key twice")
+        if "" in node.segment or not is_within_limits(above + (node.segment,)):
+            raise Refused("plan id is bad")
+        self.static_nodes += 1 if is_static else 0
+        self.dynamic_nodes += 0 if is_static else 1
+        is_full = max(self.static_nodes, self.dynamic_nodes) > form.MAX_DESCRIPTORS
+        if node.segment in siblings or is_full:
+            raise Refused("plan table is refused")
+        for key in node.locks:
+            if key != "global" and key not in self.lock_keys:
+                self.lock_keys.append(key)
+        if len(self.lock_keys) > form.MAX_LOCK_KEYS:
+            raise Refused("too many resources")
+
+
+def read_plan(data: bytes) -> Node:
+    """The root of a plan, or `Refused`."""
+    reader = PlanReader()
+    try:
+        for name, value, path in check_members(read_json(data), "", ["version", "root"], ["version", "root"]):
+            if name == "root":
+                root = reader.read(value, path, 1, (), True, set())
+            elif value not in [Number(str(version)) for version in form.VERSIONS]:
+                raise Wrong(path)
+            else:
+                reader.version = int(value.text)
+    except Wrong as fault:
+        raise Refused("plan member " + write_field(fault.args[0]) + " is bad")
+    if count_events(root) > form.MAX_PLAN_EVENTS:
+        raise Refused("too many events")
+    return root
+
+
+def count_events(node: Node) -> int:
+    """How many events the script of a node has."""
+    if node.skip is not None:
+        return 1
+    below = sum(count_events(child) for child in node.children)
+    below += sum(1 + count_events(child) for child in node.dynamic)
+    return 2 + len(node.entries) + len(node.files) + below
+
+
+def script(node: Node, above: Id = ()) -> Iterator[Tuple[Descriptor, Event]]:
+    """The events of a node and of those below it, each with its descriptor."""
+    descriptor = Descriptor(node.letter, above + (node.segment,), node.name)
+    if node.skip is not None:
+        yield descriptor, Event("skip", reason=node.skip)
+        return
+    yield descriptor, Event("start")
+    for pairs in node.entries:
+        yield descriptor, Event("report", pairs=tuple(sorted(pairs, key=lambda pair: pair[0].encode())))
+    for path in node.files:
+        yield descriptor, Event("file", path=path)
+    for child in node.children:
+        yield from script(child, descriptor.id)
+    for child in node.dynamic:
+        registered = Descriptor(child.letter, descriptor.id + (child.segment,), child.name)
+        yield registered, Event("dynamic", descriptor=registered)
+        yield from script(child, descriptor.id)
+    yield descriptor, Event("finish", status=node.status, message=node.message)
+
+
+def report(root: Node) -> str:
+    """The report of a plan, whatever the number of workers."""
+    events = list(script(root))
+    tails: Dict[str, List[str]] = {}
+    for descriptor, event in events:
+        tails.setdefault(write_id(descriptor.id), []).append("  " + event.tail() + "\n")
+    text = statistics_text(Record([], [Entry(0, event) for _, event in events]))
+    for id_text in sorted(tails, key=lambda id_text: id_text.encode()):
+        text += write_field(id_text) + "\n" + "".join(tails[id_text])
+    return text
+
+
+def run(data: bytes, workers: int) -> str:
+    """What `run` writes, or `Refused`: the plan's faults come before that of the workers."""
+    root = read_plan(data)
+    if not 1 <= workers <= form.MAX_WORKERS:
+        raise Refused(f"workers must be 1 to {form.MAX_WORKERS}")
+    return report(root)

@@ -1,0 +1,223 @@
+"""Standard streams of each kind, those that fail among them, runs with little memory, and threads of runs."""
+
+from typing import Callable
+
+import form
+from harness import Case, Input, Output, ThreadCount
+from tables.building import as_bytes, as_words, record, stats
+from tables.texts import DEMO_NODES, DEMO_PLAN, EMPTY, ONE_START, ONE_TEST_PLAN, SMALL_REPLAY, TWO_TESTS
+
+DEVICE_FAILED = b"testkit: device failed\n"
+
+FAILING_INPUTS = [Input.CLOSED, Input.FOLDER]
+FAILING_OUTPUTS = [Output.FULL, Output.CLOSED, Output.BROKEN_PIPE]
+
+READING = [
+    "ask stats",
+    "ask count all",
+    "ask match exactly",
+    "ask match in-order test",
+    "ask executions",
+    "replay",
+    "run",
+    "run --workers 2",
+]
+
+WRITING = [
+    ("ask stats", TWO_TESTS),
+    ("ask stats failed=0", TWO_TESTS),
+    ("ask count all", TWO_TESTS),
+    ("ask match in-order started", TWO_TESTS),
+    ("ask match exactly started", TWO_TESTS),
+    ("ask match loosely started", TWO_TESTS),
+    ("ask executions", TWO_TESTS),
+    ("replay", SMALL_REPLAY),
+    ("run", ONE_TEST_PLAN),
+    ("run --workers 2", DEMO_PLAN),
+]
+
+INPUTS = [
+    Case(
+        f"input/{kind.name}, {words}",
+        as_words(words),
+        b"",
+        error=DEVICE_FAILED,
+        status=3,
+        standard_input=kind,
+    )
+    for kind in FAILING_INPUTS
+    for words in READING
+]
+
+BEFORE_THE_INPUT = [
+    Case(
+        f"input/{kind.name}, {words} comes first",
+        as_words(words),
+        b"",
+        error=f"testkit: {line}\n".encode(),
+        status=2,
+        standard_input=kind,
+    )
+    for kind in FAILING_INPUTS
+    for words, line in [
+        ("ask", "unknown question"),
+        ("ask how", "unknown question"),
+        ("ask stats x", "bad word 0"),
+        ("ask count", "bad word 0"),
+        ("ask match exactly tesx", "condition 1 is bad at 3"),
+        ("ask match exactly " + "not(" * 33, "condition 1 is too deep"),
+        ("ask executions x", "bad word 0"),
+        ("run --workers 256", "bad command line"),
+        ("replay x", "bad command line"),
+    ]
+] + [
+    Case(
+        f"input/{kind.name} comes before the number of workers",
+        as_words("run --workers 0"),
+        b"",
+        error=DEVICE_FAILED,
+        status=3,
+        standard_input=kind,
+    )
+    for kind in FAILING_INPUTS
+]
+
+OUTPUTS = [
+    Case(
+        f"output/{kind.name}, {words}",
+        as_words(words),
+        as_bytes(data),
+        error=DEVICE_FAILED,
+        status=3,
+        standard_output=kind,
+    )
+    for kind in FAILING_OUTPUTS
+    for words, data in WRITING
+]
+
+NOTHING_TO_WRITE = [
+    Case(
+        f"output/{kind.name}, {name}",
+        as_words(words),
+        as_bytes(data),
+        error=error,
+        status=status,
+        standard_output=kind,
+    )
+    for kind in FAILING_OUTPUTS
+    for name, words, data, error, status in [
+        ("no execution to write", "ask executions", EMPTY, b"", 0),
+        ("bad words", "ask count", EMPTY, b"testkit: bad word 0\n", 2),
+        ("bad record", "ask stats", ONE_START[:-1], b"testkit: line 3 is bad\n", 2),
+        ("bad replay", "replay", SMALL_REPLAY[:-1], b"testkit: line 7 is bad\n", 2),
+        ("bad plan", "run", "[", b"testkit: plan is not JSON\n", 2),
+    ]
+]
+
+ERRORS = [
+    Case(
+        f"error/{kind.name}, {name}",
+        as_words(words),
+        as_bytes(data),
+        status=2,
+        standard_error=kind,
+    )
+    for kind in FAILING_OUTPUTS
+    for name, words, data in [
+        ("bad words", "ask count", EMPTY),
+        ("bad command line", "report", EMPTY),
+        ("bad record", "ask stats", ONE_START[:-1]),
+        ("bad plan", "run", "["),
+    ]
+]
+
+DEMO_REPORT = as_bytes(stats(skipped=1, started=7, finished=7, succeeded=6, failed=1, dynamic=1) + DEMO_NODES)
+
+GOOD = [
+    ("ask stats", TWO_TESTS, stats(skipped=1, started=2, finished=2, succeeded=1, failed=1)),
+    (
+        "replay",
+        SMALL_REPLAY,
+        record("N|T|[engine:e]|e", "E|1|0|10|start", "E|2|0|20|report|k|v", "E|1|0|11|finish|ok"),
+    ),
+    (
+        "run --workers 2",
+        DEMO_PLAN,
+        DEMO_REPORT,
+    ),
+]
+
+GOOD_INPUTS = [
+    Case(f"input/{kind.name}, {words}", as_words(words), as_bytes(data), as_bytes(output), standard_input=kind)
+    for kind in [Input.FILE, Input.PIECES]
+    for words, data, output in GOOD
+]
+
+
+def sixteen_mebibytes(before: bytes, after: bytes) -> Callable[[], bytes]:
+    """A text of 16 MiB: these bytes, letters, and those bytes."""
+    return lambda: before + b"x" * (form.MAX_TEXT - len(before) - len(after)) + after
+
+
+LITTLE_MEMORY = [
+    Case(
+        f"little memory/{words} of 16 MiB",
+        as_words(words),
+        sixteen_mebibytes(header, rest),
+        error=b"testkit: out of memory\n",
+        status=3,
+        memory=16_000,
+    )
+    for words, header, rest in [
+        ("ask stats", as_bytes(record()) + b"N|T|[engine:e]|", b"\n"),
+        ("replay", b"testkit-replay|1\nW|1\nN|T|[engine:e]|", b"\nS\n"),
+        ("run", as_bytes(ONE_TEST_PLAN[:-4]), b'"}}'),
+    ]
+]
+"""16 MiB of text don't fit into 16,000 KiB, and a program without it does."""
+
+
+def many_units() -> bytes:
+    """A plan of 10,000 units, so many that all workers have started before the first one is done."""
+    tests = [f'{{"type":"test","segment":["t","{unit}"],"name":"n","mode":"concurrent"}}' for unit in range(10_000)]
+    root = '{"type":"both","segment":["engine","e"],"name":"e","children":[' + ",".join(tests) + "]}"
+    return f'{{"version":1,"root":{root}}}'.encode()
+
+
+def many_units_report() -> bytes:
+    ids = ["[engine:e]"] + sorted(f"[engine:e]/[t:{unit}]" for unit in range(10_000))
+    lines = "".join(id_text + "\n  start\n  finish|ok\n" for id_text in ids)
+    return (stats(started=10_001, finished=10_001, succeeded=10_001) + lines).encode()
+
+
+NO_THREAD = [
+    Case(
+        f"no thread/{words}",
+        as_words(words),
+        as_bytes(DEMO_PLAN),
+        error=b"testkit: no thread\n",
+        status=3,
+        memory=9_000,
+    )
+    for words in ["run", f"run --workers {form.MAX_WORKERS}"]
+]
+"""A thread's stack of 8,192 KiB doesn't fit into 9,000 KiB beside a program, and a program without threads does."""
+
+THREADS = [
+    ThreadCount(Case(f"threads/{words}", as_words(words), many_units, many_units_report), workers + 1)
+    for words, workers in [("run", 1), ("run --workers=2", 2)]
+    + [(f"run --workers {workers}", workers) for workers in range(1, form.MAX_WORKERS + 1)]
+]
+"""A run has a thread for each worker beside the one that it starts with."""
+
+CASES = (
+    INPUTS
+    + BEFORE_THE_INPUT
+    + OUTPUTS
+    + NOTHING_TO_WRITE
+    + ERRORS
+    + GOOD_INPUTS
+    + LITTLE_MEMORY
+    + NO_THREAD
+    + THREADS
+)

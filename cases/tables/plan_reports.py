@@ -1,0 +1,445 @@
+"""Reports of plans: what each member does, the order of ids, and plans that are cut in each way."""
+
+import form
+from tables.building import answer, stats
+
+ANY_WORKERS = [1, 2, form.MAX_WORKERS]
+
+
+def node(kind: str, tag: str, value: str, members: str = "") -> str:
+    return f'{{"type":"{kind}","segment":["{tag}","{value}"],"name":"{value}"{members}}}'
+
+
+def plan(root: str, version: int = 1) -> str:
+    return f'{{"version":{version},"root":{root}}}'
+
+
+def root(members: str) -> str:
+    return plan(node("container", "engine", "e", members))
+
+
+def children(*nodes: str) -> str:
+    return ',"children":[' + ",".join(nodes) + "]"
+
+
+def dynamic(*nodes: str) -> str:
+    return ',"dynamic":[' + ",".join(nodes) + "]"
+
+
+def reports(name: str, text: str, statistics: str, *lines: str) -> list:
+    """The plan has this report, for any number of workers."""
+    report = statistics + "".join(line + "\n" for line in lines)
+    return [
+        answer(f"report/{name}, {workers} workers", f"run --workers {workers}", text, report)
+        for workers in ANY_WORKERS
+    ]
+
+
+ONE = stats(started=1, finished=1, succeeded=1)
+TWO = stats(started=2, finished=2, succeeded=2)
+
+MEMBERS = [
+    *reports("container", root(""), ONE, "[engine:e]", "  start", "  finish|ok"),
+    *reports("both", plan(node("both", "a", "b")), ONE, "[a:b]", "  start", "  finish|ok"),
+    *reports("skip", root(',"skip":"off"'), stats(skipped=1), "[engine:e]", "  skip|off"),
+    *reports("empty reason", root(',"skip":""'), stats(skipped=1), "[engine:e]", "  skip|"),
+    *reports(
+        "reason with escapes",
+        root(',"skip":"a|b\\nc\\\\"'),
+        stats(skipped=1),
+        "[engine:e]",
+        "  skip|a\\pb\\nc\\\\",
+    ),
+    *reports(
+        "skip and a result",
+        root(',"skip":"off","result":{"status":"failed"}'),
+        stats(skipped=1),
+        "[engine:e]",
+        "  skip|off",
+    ),
+    *reports(
+        "skip and entries",
+        root(',"skip":"off","entries":[[],[]]'),
+        stats(skipped=1),
+        "[engine:e]",
+        "  skip|off",
+    ),
+    *reports(
+        "skip and nodes below",
+        root(',"skip":"off"' + children(node("test", "t", "1")) + dynamic(node("test", "t", "2"))),
+        stats(skipped=1),
+        "[engine:e]",
+        "  skip|off",
+    ),
+    *reports("successful", root(',"result":{"status":"successful"}'), ONE, "[engine:e]", "  start", "  finish|ok"),
+    *reports(
+        "failed",
+        root(',"result":{"status":"failed"}'),
+        stats(started=1, finished=1, failed=1),
+        "[engine:e]",
+        "  start",
+        "  finish|fail",
+    ),
+    *reports(
+        "failed with a message",
+        root(',"result":{"message":"a\\\\b|c","status":"failed"}'),
+        stats(started=1, finished=1, failed=1),
+        "[engine:e]",
+        "  start",
+        "  finish|fail|a\\\\b\\pc",
+    ),
+    *reports(
+        "failed with an empty message",
+        root(',"result":{"status":"failed","message":""}'),
+        stats(started=1, finished=1, failed=1),
+        "[engine:e]",
+        "  start",
+        "  finish|fail|",
+    ),
+    *reports(
+        "aborted",
+        root(',"result":{"status":"aborted"}'),
+        stats(started=1, finished=1, aborted=1),
+        "[engine:e]",
+        "  start",
+        "  finish|abort",
+    ),
+    *reports(
+        "aborted with a message",
+        root(',"result":{"status":"aborted","message":"late"}'),
+        stats(started=1, finished=1, aborted=1),
+        "[engine:e]",
+        "  start",
+        "  finish|abort|late",
+    ),
+    *reports("no entries", root(',"entries":[]'), ONE, "[engine:e]", "  start", "  finish|ok"),
+    *reports(
+        "an entry without pairs",
+        root(',"entries":[[]]'),
+        stats(started=1, finished=1, succeeded=1, reporting=1),
+        "[engine:e]",
+        "  start",
+        "  report",
+        "  finish|ok",
+    ),
+    *reports(
+        "pairs in the order of their keys",
+        root(',"entries":[[["b","2"],["","0"],["a","1"],["B","3"],["é","4"],["aa","5"]]]'),
+        stats(started=1, finished=1, succeeded=1, reporting=1),
+        "[engine:e]",
+        "  start",
+        "  report||0|B|3|a|1|aa|5|b|2|é|4",
+        "  finish|ok",
+    ),
+    *reports(
+        "entries in their order",
+        root(',"entries":[[["k","2"]],[["k","1"]],[],[["a|","\\n"],["b\\\\",""]]]'),
+        stats(started=1, finished=1, succeeded=1, reporting=4),
+        "[engine:e]",
+        "  start",
+        "  report|k|2",
+        "  report|k|1",
+        "  report",
+        "  report|a\\p|\\n|b\\\\|",
+        "  finish|ok",
+    ),
+    *reports(
+        "other members do nothing",
+        root(
+            ',"mode":"concurrent","isolated":true'
+            ',"locks":[{"key":"a"},{"key":"a","mode":"read"},{"key":"global","mode":"read_write"}]'
+        ),
+        ONE,
+        "[engine:e]",
+        "  start",
+        "  finish|ok",
+    ),
+    *reports(
+        "id with escapes",
+        plan(node("test", "a/b", "c:[d]|%+é")),
+        ONE,
+        "[a%2Fb:c%3A%5Bd%5D\\p%25%2Bé]",
+        "  start",
+        "  finish|ok",
+    ),
+    *reports(
+        "texts with JSON's escapes",
+        plan('{"type":"test","segment":["\\u0061","\\ud83e\\udd80\\/\\b"],"name":"\\t"}'),
+        ONE,
+        "[a:🦀%2F\b]",
+        "  start",
+        "  finish|ok",
+    ),
+    *reports(
+        "blanks between the parts",
+        plan(' {\t"type" :\r\n "test", "segment":[ "a" ,"b" ] , "name":"n" }\n') + " \n\t\r\n",
+        ONE,
+        "[a:b]",
+        "  start",
+        "  finish|ok",
+    ),
+]
+
+DYNAMIC = [
+    *reports(
+        "a dynamic node",
+        root(dynamic(node("test", "d", "1"))),
+        stats(started=2, finished=2, succeeded=2, dynamic=1),
+        "[engine:e]",
+        "  start",
+        "  finish|ok",
+        "[engine:e]/[d:1]",
+        "  dynamic|T|[engine:e]/[d:1]|1",
+        "  start",
+        "  finish|ok",
+    ),
+    *reports(
+        "a dynamic node that is skipped",
+        root(dynamic(node("container", "d", "1", ',"skip":"off"' + dynamic(node("test", "d", "2"))))),
+        stats(skipped=1, started=1, finished=1, succeeded=1, dynamic=1),
+        "[engine:e]",
+        "  start",
+        "  finish|ok",
+        "[engine:e]/[d:1]",
+        "  dynamic|C|[engine:e]/[d:1]|1",
+        "  skip|off",
+    ),
+    *reports(
+        "dynamic nodes below one another",
+        root(
+            dynamic(
+                node("both", "d", "1", dynamic(node("test", "d", "1", ',"entries":[[["k","v"]]]'))),
+                node("test", "d", "2"),
+            )
+        ),
+        stats(started=4, finished=4, succeeded=4, reporting=1, dynamic=3),
+        "[engine:e]",
+        "  start",
+        "  finish|ok",
+        "[engine:e]/[d:1]",
+        "  dynamic|B|[engine:e]/[d:1]|1",
+        "  start",
+        "  finish|ok",
+        "[engine:e]/[d:1]/[d:1]",
+        "  dynamic|T|[engine:e]/[d:1]/[d:1]|1",
+        "  start",
+        "  report|k|v",
+        "  finish|ok",
+        "[engine:e]/[d:2]",
+        "  dynamic|T|[engine:e]/[d:2]|2",
+        "  start",
+        "  finish|ok",
+    ),
+    *reports(
+        "dynamic nodes beside children",
+        root(dynamic(node("test", "d", "1")) + children(node("test", "t", "1"))),
+        stats(started=3, finished=3, succeeded=3, dynamic=1),
+        "[engine:e]",
+        "  start",
+        "  finish|ok",
+        "[engine:e]/[d:1]",
+        "  dynamic|T|[engine:e]/[d:1]|1",
+        "  start",
+        "  finish|ok",
+        "[engine:e]/[t:1]",
+        "  start",
+        "  finish|ok",
+    ),
+    *reports(
+        "name of a dynamic node",
+        root(dynamic('{"type":"test","segment":["d","1"],"name":"a|b\\\\c\\nd"}')),
+        stats(started=2, finished=2, succeeded=2, dynamic=1),
+        "[engine:e]",
+        "  start",
+        "  finish|ok",
+        "[engine:e]/[d:1]",
+        "  dynamic|T|[engine:e]/[d:1]|a\\pb\\\\c\\nd",
+        "  start",
+        "  finish|ok",
+    ),
+]
+
+SPINE_ENTRIES = (
+    children(
+        node("test", "t", "2", ',"mode":"concurrent"'),
+        node("container", "c", "1", ',"mode":"concurrent","entries":[[["k","v"]]],"result":{"status":"aborted"}'
+             + children(node("test", "t", "1", ',"mode":"concurrent","locks":[{"key":"db","mode":"read"}]'))),
+        node("test", "t", "1", ',"mode":"concurrent","isolated":true,"result":{"status":"failed","message":"boom"}'),
+    )
+    + ',"entries":[[["a","1"]],[["b","2"]]],"result":{"status":"failed"}'
+)
+
+CUTS = [
+    *reports(
+        "one child of the same thread",
+        root(children(node("test", "t", "1"))),
+        TWO,
+        "[engine:e]",
+        "  start",
+        "  finish|ok",
+        "[engine:e]/[t:1]",
+        "  start",
+        "  finish|ok",
+    ),
+    *reports(
+        "one concurrent child",
+        root(children(node("test", "t", "1", ',"mode":"concurrent"'))),
+        TWO,
+        "[engine:e]",
+        "  start",
+        "  finish|ok",
+        "[engine:e]/[t:1]",
+        "  start",
+        "  finish|ok",
+    ),
+    *reports(
+        "spine nodes with entries and results",
+        root(SPINE_ENTRIES),
+        stats(started=5, finished=5, aborted=1, succeeded=2, failed=2, reporting=3),
+        "[engine:e]",
+        "  start",
+        "  report|a|1",
+        "  report|b|2",
+        "  finish|fail",
+        "[engine:e]/[c:1]",
+        "  start",
+        "  report|k|v",
+        "  finish|abort",
+        "[engine:e]/[c:1]/[t:1]",
+        "  start",
+        "  finish|ok",
+        "[engine:e]/[t:1]",
+        "  start",
+        "  finish|fail|boom",
+        "[engine:e]/[t:2]",
+        "  start",
+        "  finish|ok",
+    ),
+    *reports(
+        "a child of the same thread among concurrent ones",
+        root(
+            children(
+                node("test", "t", "1", ',"mode":"concurrent"'),
+                node("test", "t", "2", ',"mode":"same_thread","skip":"off"'),
+            )
+        ),
+        stats(skipped=1, started=2, finished=2, succeeded=2),
+        "[engine:e]",
+        "  start",
+        "  finish|ok",
+        "[engine:e]/[t:1]",
+        "  start",
+        "  finish|ok",
+        "[engine:e]/[t:2]",
+        "  skip|off",
+    ),
+    *reports(
+        "ids in the order of their bytes",
+        root(
+            children(
+                *[
+                    node("test", tag, value, ',"mode":"concurrent"')
+                    for tag, value in [
+                        ("t", "10"),
+                        ("t", "9"),
+                        ("t", "1"),
+                        ("T", "1"),
+                        ("é", "1"),
+                        ("t", "]"),
+                        ("a", "z"),
+                        ("t", "1 "),
+                    ]
+                ]
+            )
+        ),
+        stats(started=9, finished=9, succeeded=9),
+        *[
+            line
+            for id_text in [
+                "[engine:e]",
+                "[engine:e]/[T:1]",
+                "[engine:e]/[a:z]",
+                "[engine:e]/[t:%5D]",
+                "[engine:e]/[t:1 ]",
+                "[engine:e]/[t:10]",
+                "[engine:e]/[t:1]",
+                "[engine:e]/[t:9]",
+                "[engine:e]/[é:1]",
+            ]
+            for line in [id_text, "  start", "  finish|ok"]
+        ],
+    ),
+    *reports(
+        "units that all write one resource",
+        root(
+            children(
+                *[
+                    node("test", "t", str(number), ',"mode":"concurrent","locks":[{"key":"db"}]')
+                    for number in range(9)
+                ]
+            )
+        ),
+        stats(started=10, finished=10, succeeded=10),
+        "[engine:e]",
+        "  start",
+        "  finish|ok",
+        *[line for number in range(9) for line in [f"[engine:e]/[t:{number}]", "  start", "  finish|ok"]],
+    ),
+    *reports(
+        "units that are all isolated",
+        root(
+            children(*[node("test", "t", str(number), ',"mode":"concurrent","isolated":true') for number in range(9)])
+        ),
+        stats(started=10, finished=10, succeeded=10),
+        "[engine:e]",
+        "  start",
+        "  finish|ok",
+        *[line for number in range(9) for line in [f"[engine:e]/[t:{number}]", "  start", "  finish|ok"]],
+    ),
+    *reports(
+        "units that each write one of fifteen resources and global",
+        root(
+            children(
+                *[
+                    node(
+                        "test",
+                        "t",
+                        f"{number:02}",
+                        f',"mode":"concurrent","locks":[{{"key":"k{number}"}},{{"key":"global","mode":"read"}}]',
+                    )
+                    for number in range(15)
+                ]
+            )
+        ),
+        stats(started=16, finished=16, succeeded=16),
+        "[engine:e]",
+        "  start",
+        "  finish|ok",
+        *[line for number in range(15) for line in [f"[engine:e]/[t:{number:02}]", "  start", "  finish|ok"]],
+    ),
+]
+
+FILES = [
+    *reports(
+        "files",
+        plan('{"type":"test","segment":["engine","e"],"name":"e","files":["a","b"]}', 2),
+        stats(started=1, finished=1, succeeded=1, files=2),
+        "[engine:e]",
+        "  start",
+        "  file|a",
+        "  file|b",
+        "  finish|ok",
+    ),
+    *reports(
+        "files behind the entries",
+        plan('{"type":"test","segment":["engine","e"],"name":"e","files":["a|b"],"entries":[[]]}', 2),
+        stats(started=1, finished=1, succeeded=1, reporting=1, files=1),
+        "[engine:e]",
+        "  start",
+        "  report",
+        "  file|a\\pb",
+        "  finish|ok",
+    ),
+] if form.HAS_FILES else []
+
+CASES = MEMBERS + DYNAMIC + CUTS + FILES
