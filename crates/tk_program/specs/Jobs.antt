@@ -1,8 +1,9 @@
 -- What doing a job of the program answers, and what was written then.
 use Rattle.std.specs.Prelude.{◌≡◌, ◌<◌, ◌≤◌, ◌⊎◌, ℕ, Bool, true, List, Option, Err, IfSome, length, map, string_bytes}
-use Rattle.std.specs.Io.KnownBytes.{Appends, Keeps}
-use Rattle.tk_program.specs.declared.jobs.Job.{Job}
-use Rattle.tk_program.specs.declared.jobs.Job.TheVariants as jobs
+use Rattle.std.specs.Io.KnownBytes.{Appends}
+use Rattle.tk_command_line.specs.declared.jobs.Job.{Job}
+use Rattle.tk_command_line.specs.declared.jobs.Job.TheVariants as jobs
+use Rattle.tk_command_line.specs.CommandLines.{IsJobOf, IsNoAskLine}
 use Rattle.tk_program.specs.declared.faults.Fault.{Fault}
 use Rattle.tk_program.specs.declared.faults.Fault.TheVariants as faults
 use Rattle.tk_record.specs.declared.reading.ReadFault.TheVariants as reads
@@ -17,9 +18,9 @@ use Rattle.tk_record.specs.declared.reading.TheConstants.{MAX_TEXT}
 use Rattle.tk_streams.specs.Stream.{AppendsFront}
 use Rattle.tk_replay.specs.ReplayText.{IsWritten, IsOfInput}
 use Rattle.tk_replay.specs.ReplayText.{IsAnswer as IsPlayedAs}
-use Rattle.tk_plan.specs.Gives.{plan_in, Answered}
-use Rattle.tk_report.specs.Answers.{OfPlan, MayWork, IsRunFault}
+use Rattle.tk_report.specs.Answers.{OfPlan, MayWork, IsNoPlan, IsNotRun}
 use Rattle.tk_ask.specs.Asked.{AddsAnswer, AddsFront, IsRefusal}
+use Rattle.tk_ask.specs.Asked as asked
 
 -- the bytes are a plan within the limit, it may be run by so many workers, and its report was written
 abbrev pub IsPlanReported : ℕ → List ℕ → Option (List ℕ) → Option (List ℕ) → Type 0
@@ -45,10 +46,16 @@ IsReplayFault input old new fault = IfSome input (λ bytes. IsPlayedAs bytes (Er
 
 -- Why a plan that is run by so many workers is not reported. The number of workers is judged behind the plan.
 abbrev pub IsReportFault : ℕ → Option (List ℕ) → Option (List ℕ) → Option (List ℕ) → ReportFault → Type 0
-IsReportFault workers input old new (reports.Plan fault) = IfSome input (λ bytes. Answered (plan_in bytes) (Err fault)) × Keeps old new
-IsReportFault workers input old new (reports.Run fault) = IfSome input (λ bytes. OfPlan bytes (λ report. Unit {0})) × IsRunFault workers fault × Keeps old new
+IsReportFault workers input old new (reports.Plan fault) = IfSome input (λ bytes. IsNoPlan bytes fault) × (new ≡ old)
+IsReportFault workers input old new (reports.Run fault) = IfSome input (λ bytes. IsNotRun bytes workers fault) × (new ≡ old)
 IsReportFault workers input old new reports.Device = IfSome input (λ bytes. OfPlan bytes (AppendsFront old new)) × MayWork workers
-IsReportFault workers input old new reports.Memory = IfSome input (λ bytes. OfPlan bytes (λ report. Unit {0})) × MayWork workers × (new ≡ old)
+IsReportFault workers input old new reports.Memory = new ≡ old
+
+-- the fault is of the words alone
+abbrev pub IsOfWords : Fault → Type 0
+IsOfWords faults.CommandLine = Unit {0}
+IsOfWords (faults.Ask fault) = asked.IsOfWords fault
+IsOfWords _ = ⊥
 
 -- Why a job is not done, and what was written then. A fault is of the job's own kind.
 abbrev pub IsRefused : Job → Option (List ℕ) → Option (List ℕ) → Option (List ℕ) → Fault → Type 0
@@ -68,3 +75,18 @@ IsBroken source target (faults.Replay replays.Device) = (source ≡ true) ⊎ (t
 IsBroken source target (faults.Load loads.Device) = source ≡ true
 IsBroken source target (faults.Report reports.Device) = target ≡ true
 IsBroken source target _ = Unit {0}
+
+-- the fault is of the command line, or memory was refused
+abbrev pub IsOfLine : Fault → Type 0
+IsOfLine faults.CommandLine = Unit {0}
+IsOfLine faults.Memory = Unit {0}
+IsOfLine _ = ⊥
+
+-- the words ask for a job that was done
+abbrev pub IsPerformed : List (List ℕ) → Option (List ℕ) → Option (List ℕ) → Option (List ℕ) → Bool → Type 0
+IsPerformed words input old new is_yes = (job : Job) × IsJobOf words job × IfSome input (λ bytes. IsDone job bytes is_yes old new)
+
+-- the words ask for no job, and nothing was written, or they ask for a job that was refused
+abbrev pub IsNotPerformed : List (List ℕ) → Option (List ℕ) → Option (List ℕ) → Option (List ℕ) → Fault → Type 0
+IsNotPerformed words input old new fault =
+    (IsNoAskLine words × IsOfLine fault × (new ≡ old)) ⊎ ((job : Job) × IsJobOf words job × IsRefused job input old new fault)

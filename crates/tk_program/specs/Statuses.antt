@@ -1,8 +1,11 @@
 -- The exit statuses.
 use Rattle.std.specs.Prelude.{ℕ, Bool, true, false, Result, Ok, Err}
+use Rattle.tk_command_line.specs.declared.faults.CommandLineFault.{CommandLineFault}
+use Rattle.tk_command_line.specs.declared.faults.CommandLineFault.TheVariants as lines
 use Rattle.tk_program.specs.declared.faults.Fault.{Fault}
 use Rattle.tk_program.specs.declared.faults.Fault.TheVariants as faults
 use Rattle.tk_record.specs.declared.reading.ReadFault.TheVariants as reads
+use Rattle.tk_conditions.specs.declared.faults.CondFault.TheVariants as conditions
 use Rattle.tk_ask.specs.declared.faults.AskFault.TheVariants as asks
 use Rattle.tk_replay.specs.declared.replays.ReplayFault.TheVariants as replays
 use Rattle.tk_streams.specs.declared.transfers.LoadFault.TheVariants as loads
@@ -10,11 +13,17 @@ use Rattle.tk_plan.specs.declared.faults.PlanFault.TheVariants as plans
 use Rattle.tk_engine.specs.declared.runs.RunFault.TheVariants as runs
 use Rattle.tk_report.specs.declared.faults.ReportFault.TheVariants as reports
 
+-- what a fault of the command line is in the program
+abbrev pub fault_of_line : CommandLineFault → Fault
+fault_of_line lines.BadWords = faults.CommandLine
+fault_of_line lines.Memory = faults.Memory
+
 -- the exit status of a fault: 3 where a device, memory, a thread or a unit failed, 2 where the words or the input are bad
 abbrev pub status_of : Fault → ℕ
 status_of faults.Memory = 3
 status_of (faults.Ask asks.Device) = 3
 status_of (faults.Ask asks.Memory) = 3
+status_of (faults.Ask (asks.Condition word conditions.Memory)) = 3
 status_of (faults.Ask (asks.Read reads.Device)) = 3
 status_of (faults.Ask (asks.Read reads.Memory)) = 3
 status_of (faults.Replay replays.Device) = 3

@@ -1,10 +1,11 @@
 //! The faults of the program, and their statuses.
 ghost use Rattle.std.specs.Prelude.{◌≡◌};
-ghost use Rattle.tk_program.specs.Statuses.{status_of};
-ghost use Rattle.tk_program.specs.declared.faults.Fault.TheVariants.{Ask, Replay, Load, Report, Memory as MemoryFault};
+ghost use Rattle.tk_program.specs.Statuses.{fault_of_line, status_of};
+ghost use Rattle.tk_program.specs.declared.faults.Fault.TheVariants.{Ask, Replay, Load, Report};
 
-use std::alloc::{AllocError, AllocFailed};
 use tk_ask::AskFault;
+use tk_command_line::CommandLineFault;
+use tk_conditions::CondFault;
 use tk_engine::RunFault;
 use tk_plan::PlanFault;
 use tk_record::{LoadFault, ReadFault};
@@ -28,11 +29,14 @@ pub enum Fault {
     Memory,
 }
 
-impl<T: Drop> From<AllocFailed<T>> for Fault {
-    ghost from_gives = { λ _ e. e ≡ MemoryFault };
+impl From<CommandLineFault> for Fault {
+    ghost from_gives = { λ fault e. e ≡ fault_of_line fault };
 
-    fn from(_error: AllocFailed<T>) -> Fault {
-        Fault::Memory
+    fn from(fault: CommandLineFault) -> Fault {
+        match fault {
+            CommandLineFault::BadWords => Fault::CommandLine,
+            CommandLineFault::Memory => Fault::Memory,
+        }
     }
 }
 
@@ -57,6 +61,7 @@ fn ask_status(fault: &AskFault) -> u8
 {
     match fault {
         AskFault::Device | AskFault::Memory => 3,
+        AskFault::Condition(_, CondFault::Memory) => 3,
         AskFault::Read(ReadFault::Device) | AskFault::Read(ReadFault::Memory) => 3,
         _ => 2,
     }

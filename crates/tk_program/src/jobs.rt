@@ -1,27 +1,17 @@
 //! The jobs of the program.
-ghost use Rattle.std.specs.Prelude.{IfErr, IfOk, IfSome, OnOk};
-ghost use Rattle.tk_program.specs.Jobs.{IsBroken, IsDone, IsPlanReported, IsRefused};
-ghost use Rattle.tk_program.specs.declared.jobs.Job.TheVariants as jobs;
+ghost use Rattle.std.specs.Prelude.{◌≡◌, map, string_bytes, IfErr, IfOk, IfSome, OnOk};
+ghost use Rattle.tk_program.specs.Jobs.{IsBroken, IsDone, IsNotPerformed, IsOfWords, IsPerformed, IsPlanReported, IsRefused};
+ghost use Rattle.tk_command_line.specs.declared.jobs.Job.TheVariants as jobs;
 
 use crate::faults::Fault;
 use std::alloc::Global;
 use std::sync::Wait;
 use std::thread::Threads;
 use tk_ask::ask;
+use tk_command_line::{Job, job_of};
 use tk_record::{MAX_TEXT, Source, Target, load};
 use tk_replay::replay_text;
 use tk_report::plan_report;
-
-/// What the program is to do.
-#[derive(Drop)]
-pub enum Job<'w> {
-    /// Answer the question of these words.
-    Ask(&'w [String]),
-    /// Replay a replay text.
-    Replay,
-    /// Run a plan by so many workers.
-    Run(u8),
-}
 
 /// Runs the plan of the source's bytes and writes its report.
 fn run_plan<R: Threads + Wait + Sync, S: Source, T: Target>(
@@ -32,6 +22,7 @@ fn run_plan<R: Threads + Wait + Sync, S: Source, T: Target>(
     target: &mut T,
 ) -> Result<(), Fault>
     ensures reported { OnOk result (IfSome (S.remaining source.old) (λ input. IsPlanReported workers input (T.contents target.old) (T.contents target.new))) }
+    ensures unread { IfErr result (λ fault. IsOfWords fault → source.new ≡ source.old) }
     ensures refused { IfErr result (IsRefused (jobs.Run workers) (S.remaining source.old) (T.contents target.old) (T.contents target.new)) }
     ensures device { IfErr result (IsBroken (S.broken source.new) (T.broken target.new)) }
 {
@@ -45,11 +36,12 @@ fn run_plan<R: Threads + Wait + Sync, S: Source, T: Target>(
     }
 }
 
-/// Does a job: answers a question, replays a script of the queue, or runs a plan by so many workers
-/// and reports it. False where a match says no or an expectation fails.
+/// Does a job: answers a question, replays a script of the queue, or runs a plan by its number of
+/// workers and reports the run. False where a match says no or an expectation fails.
 ///
 /// # Errors
-/// A fault of the job's own kind. A device is told only where the source or the target is broken.
+/// A fault of the job's own kind. A device is named only where the source or the target is broken, and words
+/// are refused before the source is read.
 pub fn do_job<R: Threads + Wait + Sync, S: Source, T: Target>(
     rt: &R,
     alloc: Global,
@@ -58,6 +50,7 @@ pub fn do_job<R: Threads + Wait + Sync, S: Source, T: Target>(
     target: &mut T,
 ) -> Result<bool, Fault>
     ensures done { IfOk result (λ is_yes. IfSome (S.remaining source.old) (λ input. IsDone job.entry input is_yes (T.contents target.old) (T.contents target.new))) }
+    ensures unread { IfErr result (λ fault. IsOfWords fault → source.new ≡ source.old) }
     ensures refused { IfErr result (IsRefused job.entry (S.remaining source.old) (T.contents target.old) (T.contents target.new)) }
     ensures device { IfErr result (IsBroken (S.broken source.new) (T.broken target.new)) }
 {
@@ -75,4 +68,24 @@ pub fn do_job<R: Threads + Wait + Sync, S: Source, T: Target>(
             Err(fault) => Err(fault),
         },
     }
+}
+
+/// Does the job that a command line asks for, its first word the program's name.
+///
+/// # Errors
+/// A fault of the command line, which is judged before the source is read, or of the job.
+pub fn perform<R: Threads + Wait + Sync, S: Source, T: Target>(
+    rt: &R,
+    alloc: Global,
+    words: &[String],
+    source: &mut S,
+    target: &mut T,
+) -> Result<bool, Fault>
+    ensures done { IfOk result (IsPerformed (map string_bytes words.now) (S.remaining source.old) (T.contents target.old) (T.contents target.new)) }
+    ensures unread { IfErr result (λ fault. IsOfWords fault → source.new ≡ source.old) }
+    ensures refused { IfErr result (IsNotPerformed (map string_bytes words.now) (S.remaining source.old) (T.contents target.old) (T.contents target.new)) }
+    ensures device { IfErr result (IsBroken (S.broken source.new) (T.broken target.new)) }
+{
+    let job = job_of(alloc, words)?;
+    do_job(rt, alloc, job, source, target)
 }

@@ -8,5 +8,5 @@ mod lines;
 
 pub use exits::exit_code;
 pub use faults::Fault;
-pub use jobs::{Job, do_job};
+pub use jobs::{do_job, perform};
 pub use lines::FaultLine;

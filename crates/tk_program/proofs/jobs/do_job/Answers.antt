@@ -1,6 +1,6 @@
 use Rattle.std.proofs.Common.{subst, sym, ap, Err}
 use Rattle.std.specs.Prelude.{map, string_bytes}
-use Rattle.tk_program.specs.declared.jobs.Job.{Job}
+use Rattle.tk_command_line.specs.declared.jobs.Job.{Job}
 use Rattle.tk_program.specs.declared.faults.Fault.TheVariants as faults
 use Rattle.tk_program.specs.Jobs.{IsAskFault, IsRefused}
 use Rattle.tk_program.proofs.jobs.do_job.Goals as goal

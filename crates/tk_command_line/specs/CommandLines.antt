@@ -1,13 +1,14 @@
 -- What the words of a command line ask for.
-use Rattle.std.specs.Prelude.{◌≡◌, ℕ, List, ◌∷◌, codes, map, string_bytes}
+use Rattle.std.specs.Prelude.{◌≡◌, ℕ, ◌^◌, List, ◌∷◌, codes, map, string_bytes, Option, Some, None, Result, Ok, Err}
 use Rattle.std.specs.declared.io.ErrorKind.{ErrorKind as IoKind}
 use Rattle.std.specs.declared.io.ErrorKind.TheVariants as io
 use Rattle.clap.specs.declared.error.kind.ErrorKind.{ErrorKind as ParseKind}
 use Rattle.clap.specs.declared.error.kind.ErrorKind.TheVariants as parse
-use Rattle.tk_program.specs.declared.jobs.Job.{Job}
-use Rattle.tk_program.specs.declared.jobs.Job.TheVariants as jobs
-use Rattle.tk_program.specs.declared.faults.Fault.{Fault}
-use Rattle.tk_program.specs.declared.faults.Fault.TheVariants as faults
+use Rattle.tk_record.specs.Reading.{number_of}
+use Rattle.tk_command_line.specs.declared.jobs.Job.{Job}
+use Rattle.tk_command_line.specs.declared.jobs.Job.TheVariants as jobs
+use Rattle.tk_command_line.specs.declared.faults.CommandLineFault.{CommandLineFault}
+use Rattle.tk_command_line.specs.declared.faults.CommandLineFault.TheVariants as faults
 
 -- the program's name, the word ask, and the words of a question
 abbrev pub IsAskLine : List (List ℕ) → List (List ℕ) → Type 0
@@ -22,28 +23,28 @@ IsOther (jobs.Ask question) = ⊥
 IsOther jobs.Replay = Unit {0}
 IsOther (jobs.Run workers) = Unit {0}
 
--- the fault is of the words, or memory was refused
-abbrev pub IsOfLine : Fault → Type 0
-IsOfLine faults.CommandLine = Unit {0}
-IsOfLine faults.Memory = Unit {0}
-IsOfLine _ = ⊥
-
--- why the words ask for no job: they are no question's
-abbrev pub IsLineFault : List (List ℕ) → Fault → Type 0
-IsLineFault words fault = IsNoAskLine words × IsOfLine fault
-
 -- what follows ask is the question; a replay or a run is no such line
 abbrev pub IsJobOf : List (List ℕ) → Job → Type 0
 IsJobOf words (jobs.Ask question) = IsAskLine words (map string_bytes question.now)
 IsJobOf words jobs.Replay = IsNoAskLine words
 IsJobOf words (jobs.Run workers) = IsNoAskLine words
 
+-- a run by as many workers as the number says
+abbrev pub run_by_number : Option ℕ → Result Job CommandLineFault
+run_by_number None = Err faults.BadWords
+run_by_number (Some workers) = Ok (jobs.Run workers)
+
+-- a run whose option has this value: by one worker where it was left out, else by as many as the number below 2^8 says
+abbrev pub run_by : Option (List ℕ) → Result Job CommandLineFault
+run_by None = Ok (jobs.Run 1)
+run_by (Some text) = run_by_number (number_of (2 ^ 8) text)
+
 -- why the arguments are not read: memory was refused, or they are no text
-abbrev pub fault_of_arguments : IoKind → Fault
+abbrev pub fault_of_arguments : IoKind → CommandLineFault
 fault_of_arguments io.OutOfMemory = faults.Memory
-fault_of_arguments _ = faults.CommandLine
+fault_of_arguments _ = faults.BadWords
 
 -- why the command-line crate refuses words: memory was refused, or the words are bad
-abbrev pub fault_of_parse : ParseKind → Fault
+abbrev pub fault_of_parse : ParseKind → CommandLineFault
 fault_of_parse parse.OutOfMemory = faults.Memory
-fault_of_parse _ = faults.CommandLine
+fault_of_parse _ = faults.BadWords

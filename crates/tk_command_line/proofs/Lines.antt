@@ -1,7 +1,7 @@
 -- The words of a command line.
 use Rattle.std.proofs.Common.{◌≡◌, ◌≤◌, ◌-◌, ℕ, List, [], ◌∷◌, length, take, drop, get_or, sym, ap, ap₂, ◌∙◌, arith}
 use Rattle.std.specs.Prelude.{map}
-use Rattle.testkit.specs.Commands.{IsAskLine}
+use Rattle.tk_command_line.specs.CommandLines.{IsAskLine}
 use Rattle.std.proofs.lemmas.List.{take_all}
 
 -- a list of two words or more, seen by its second

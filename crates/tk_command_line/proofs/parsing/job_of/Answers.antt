@@ -2,8 +2,8 @@ use Rattle.std.proofs.Common.{[], ◌∷◌, sym, ◌∙◌}
 use Rattle.std.specs.Prelude.{string_bytes}
 use Rattle.std.proofs.lemmas.Bool.Decides.{Decides-eqb}
 use Rattle.std.specs.Cmp.Lexicographic.{pointwise_decides}
-use Rattle.testkit.proofs.Lines.{by_second}
-use Rattle.testkit.proofs.commands.job_of.Goals as goal
+use Rattle.tk_command_line.proofs.Lines.{by_second}
+use Rattle.tk_command_line.proofs.parsing.job_of.Goals as goal
 
 pub returns-then-eq-clause-job : goal.returns-then-eq-clause-job
 returns-then-eq-clause-job c =
