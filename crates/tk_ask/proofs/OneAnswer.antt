@@ -35,8 +35,8 @@ not_device f s e = subst (λ (g : ReadFault). IsSettled (Refused (faults.Read g)
 cause : (words : List (List ℕ)) (input : List ℕ) (fault : AskFault) → IsSettled (Refused fault) → IsRefusal words (Some input) fault → Cause words input fault
 cause words input faults.Question s h = of_words tt h
 cause words input (faults.Word i) s h = of_words tt h
-cause words input (faults.Condition i f) s h = of_words tt h
-cause words input (faults.Read f) s h = of_input f h.0.0 refl h.0.1 (settled_read f s) (h.1 (not_device f s))
+cause words input (faults.Condition i f) s h = of_words tt h.0
+cause words input (faults.Read f) s h = of_input f h.0.0 refl h.0.1 (settled_read f s) (h.2 (not_device f s))
 cause words input faults.Device s h = absurd s
 cause words input faults.Memory s h = absurd s
 

@@ -1,8 +1,9 @@
 -- What asking a question does: it reads a record text to its end, and writes the answer.
-use Rattle.std.specs.Prelude.{◌≡◌, ℕ, Bool, List, Option, Ok, Err, IfSome}
+use Rattle.std.specs.Prelude.{◌≡◌, ◌≢◌, ℕ, Bool, List, Option, Ok, Err, IfSome}
 use Rattle.std.specs.Io.KnownBytes.{Appends}
 use Rattle.tk_columns.specs.Recorded.{Recorded}
 use Rattle.tk_streams.specs.Stream.{AppendsFront}
+use Rattle.tk_conditions.specs.declared.faults.CondFault.TheVariants as conditions
 use Rattle.tk_record.specs.declared.reading.ReadFault.TheVariants as read
 use Rattle.tk_record.specs.Text.{IsAnswer}
 use Rattle.tk_ask.specs.declared.faults.AskFault.{AskFault}
@@ -24,12 +25,20 @@ AddsAnswer words input is_yes old new = (output : List ℕ) × IsAnswered words 
 abbrev pub AddsFront : List (List ℕ) → List ℕ → Option (List ℕ) → Option (List ℕ) → Type 0
 AddsFront words input old new = (is_yes : Bool) × (output : List ℕ) × IsAnswered words input is_yes output × AppendsFront old new output
 
--- where each refusal comes: the words are judged before the input is read
+-- the fault is of the words alone
+abbrev pub IsOfWords : AskFault → Type 0
+IsOfWords faults.Question = Unit {0}
+IsOfWords (faults.Word i) = Unit {0}
+IsOfWords (faults.Condition i fault) = Unit {0}
+IsOfWords _ = ⊥
+
+-- Where each refusal comes: the words are judged before the input is read. Want of memory in reading a condition or the input is
+-- `Memory`, never `Condition i Memory` or `Read Memory`.
 abbrev pub IsRefusal : List (List ℕ) → Option (List ℕ) → AskFault → Type 0
 IsRefusal words input faults.Question = IsAskedAs words (Err faults.Question)
 IsRefusal words input (faults.Word i) = IsAskedAs words (Err (faults.Word i))
-IsRefusal words input (faults.Condition i fault) = IsAskedAs words (Err (faults.Condition i fault))
+IsRefusal words input (faults.Condition i fault) = IsAskedAs words (Err (faults.Condition i fault)) × (fault ≢ conditions.Memory)
 IsRefusal words input (faults.Read fault) =
-    ((question : Question) × Asks words question) × (¬ (fault ≡ read.Device) → IfSome input (λ bytes. IsAnswer bytes (Err fault)))
+    ((question : Question) × Asks words question) × (fault ≢ read.Memory) × (fault ≢ read.Device → IfSome input (λ bytes. IsAnswer bytes (Err fault)))
 IsRefusal words input faults.Device = (question : Question) × Asks words question
 IsRefusal words input faults.Memory = Unit {0}

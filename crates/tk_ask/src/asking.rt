@@ -2,7 +2,7 @@
 ghost use Rattle.std.specs.Prelude.{◌≡◌, ◌⊎◌, true, Err, IfErr, IfOk, IfSome, IsErrOf, OnOk, map, string_bytes};
 ghost use Rattle.std.specs.Io.KnownBytes.{IsAtEnd};
 ghost use Rattle.tk_record.specs.declared.reading.ReadFault.TheVariants as read_faults;
-ghost use Rattle.tk_ask.specs.Asked.{AddsAnswer, AddsFront, IsRefusal};
+ghost use Rattle.tk_ask.specs.Asked.{AddsAnswer, AddsFront, IsOfWords, IsRefusal};
 
 use crate::answers::answer_to;
 use crate::faults::AskFault;
@@ -22,6 +22,7 @@ pub fn ask<S: Source, T: Target>(
     ensures answer { IfOk result (λ is_yes. IfSome (S.remaining source.old) (λ input.
         AddsAnswer (map string_bytes words.now) input is_yes (T.contents target.old) (T.contents target.new))) }
     ensures end { OnOk result (IsAtEnd (S.remaining source.new)) }
+    ensures unread { IfErr result (λ fault. IsOfWords fault → source.new ≡ source.old) }
     ensures refusal { IfErr result (λ fault. IsRefusal (map string_bytes words.now) (S.remaining source.old) fault) }
     ensures unwritten { IfErr result (λ fault. (fault ≡ AskFault.Device) ⊎ (T.contents target.new ≡ T.contents target.old)) }
     ensures device { IsErrOf result AskFault.Device → T.broken target.new ≡ true }

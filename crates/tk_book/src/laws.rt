@@ -1,5 +1,6 @@
 //! The law of a book's word.
-ghost use Rattle.std.specs.Prelude.{◌↔◌, List, Option};
+ghost use Rattle.std.specs.Prelude.{◌≡◌, ◌↔◌, List, Option};
+ghost use Rattle.tk_book.specs.declared.books.TheConstants.{MAX_SEATS};
 ghost use Rattle.tk_book.specs.Wants.{Wants};
 ghost use Rattle.tk_book.specs.Held.{Lawful, WritersAreAlone};
 ghost use Rattle.tk_book.specs.Steps.{IsSumOfHoldings, ExchangeIsGrant, FailureIsNone, LoadIsNone, SubtractionIsRelease};
@@ -21,4 +22,9 @@ pub fn each_step_is_of_the_holdings()
 /// No two seats' needs conflict exactly where each that writes a resource is alone there.
 pub fn writers_are_alone()
     ensures { (held : List (Option Wants)) → Lawful held ↔ WritersAreAlone held }
+{}
+
+/// A book has at most eight seats.
+pub fn limits()
+    ensures { MAX_SEATS ≡ 8 }
 {}

@@ -2,6 +2,7 @@
 #![tactic(auto)]
 
 mod claims;
+pub mod laws;
 mod rules;
 
 pub use claims::{Claim, ClaimFault, ClaimSeat, MAX_SEATS};

@@ -1,9 +1,12 @@
 //! Cutting a plan.
-ghost use Rattle.std.specs.Prelude.{◌≡◌, ◌≤◌, ◌+◌, ◌^◌, ℕ, List, suc, true, ◌∷◌, ◌++◌, [], OnOk, length, drop};
-ghost use Rattle.tk_cutting.specs.Trees.{IsForest, forest, tree};
+ghost use Rattle.std.specs.Prelude.{◌≡◌, ◌≤◌, ◌+◌, ◌*◌, ◌^◌, ℕ, List, suc, true, ◌∷◌, ◌++◌, [], IfOk, OnOk, length, drop};
+ghost use Rattle.tk_cutting.specs.Trees.{IsForest, forest, tree, contents};
 ghost use Rattle.tk_cutting.specs.Weights.{weight, weights};
 ghost use Rattle.tk_cutting.specs.Cutting.{opens, runs, closes, parts, parts_below, all_static};
 ghost use Rattle.tk_cutting.specs.Adds.{Adds};
+ghost use Rattle.tk_cutting.specs.Kept.{IsCut};
+ghost use Rattle.tk_cutting.specs.Keys.{lock_keys};
+ghost use Rattle.tk_ids.specs.declared.tables.TheConstants.{MAX_DESCRIPTORS};
 ghost use Rattle.tk_cutting.specs.declared.counts.TheConstants.{MAX_EVENTS};
 ghost use Rattle.tk_cutting.specs.declared.asking.TheConstants.{MAX_KEYS};
 
@@ -154,7 +157,7 @@ fn cut_tree(
 
 /// Cuts trees that stand side by side, of which the first begins at a place.
 #[cycle(cutting)]
-pub(crate) fn cut_all(
+fn cut_all(
     keys: &[Text],
     nodes: &[Placed],
     place: usize,
@@ -179,4 +182,19 @@ pub(crate) fn cut_all(
         rest = others;
     }
     Ok(())
+}
+
+/// Cuts a plan's nodes.
+pub(crate) fn cut(alloc: Global, keys: &[Text], nodes: &[Placed]) -> Result<Cutting, AllocError>
+    requires keys { keys.now ≡ lock_keys (contents nodes.now) }
+    requires few_keys { length keys.now ≤ MAX_KEYS }
+    requires trees { IsForest nodes.now }
+    requires statics { all_static (forest nodes.now) ≡ true }
+    requires few { length nodes.now ≤ 2 * MAX_DESCRIPTORS }
+    requires limit { weights (forest nodes.now) ≤ MAX_EVENTS }
+    ensures { IfOk result (λ cutting. IsCut nodes.now cutting) }
+{
+    let mut cutting = Cutting::new(alloc);
+    cut_all(keys, nodes, 0, true, &mut cutting)?;
+    Ok(cutting)
 }

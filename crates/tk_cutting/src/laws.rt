@@ -1,4 +1,7 @@
 //! Laws of plans, which hold of the definitions alone.
+ghost use Rattle.std.specs.Prelude.{◌≡◌};
+ghost use Rattle.tk_cutting.specs.declared.asking.TheConstants.{MAX_KEYS};
+ghost use Rattle.tk_cutting.specs.declared.counts.TheConstants.{MAX_EVENTS};
 ghost use Rattle.tk_cutting.specs.Laws.{LosesNothing, KeepsStamps, TellsSteps, FindsNodes, HasKeys};
 
 /// Cutting loses nothing and adds nothing: the parts into which a tree is cut, one after another,
@@ -26,4 +29,10 @@ pub fn finds_nodes()
 /// the table.
 pub fn has_keys()
     ensures { HasKeys }
+{}
+
+/// A plan has at most 15 lock keys besides `global`, and gives at most 2^20 events.
+pub fn limits()
+    ensures keys { MAX_KEYS ≡ 15 }
+    ensures events { MAX_EVENTS ≡ 1048576 }
 {}

@@ -3,11 +3,11 @@ ghost use Rattle.std.specs.Prelude.{◌≡◌, ◌≤◌, ◌<◌, ◌^◌, leng
 ghost use Rattle.std.specs.Arc.{arc_value};
 ghost use Rattle.tk_ids.specs.declared.tables.TheConstants.{MAX_DESCRIPTORS};
 
-use crate::cuttings::{Cutting, cut_all};
+use crate::cuttings::{Cutting, cut};
 use crate::events::{payload, push_begun, push_ended};
 use crate::nodes::{Node, Placed};
 use crate::numbering::set_numbers;
-use crate::orders::push_places;
+use crate::orders::places_of;
 use crate::scripts::{push_tree, stamp_all};
 use crate::splits::tree_at;
 use crate::steps::Step;
@@ -66,11 +66,8 @@ impl Plan {
     {
         let statics = table.len() as u32;
         set_numbers(statics, nodes.as_mut_slice());
-        let mut cutting = Cutting::new(alloc);
-        cut_all(keys, nodes.as_slice(), 0, true, &mut cutting)?;
-        let mut places = Vec::new(alloc);
-        push_places(nodes.as_slice(), true, &mut places)?;
-        push_places(nodes.as_slice(), false, &mut places)?;
+        let cutting = cut(alloc, keys, nodes.as_slice())?;
+        let places = places_of(alloc, nodes.as_slice())?;
         Ok(Plan {
             nodes,
             table,

@@ -43,7 +43,7 @@ pub struct Step {
 }
 
 /// What a node does, before its position is known.
-#[derive(Clone, Copy, Debug, PartialEq, Eq)]
+#[derive(Clone, Copy)]
 pub(crate) struct Move {
     pub node: u32,
     pub act: Act,

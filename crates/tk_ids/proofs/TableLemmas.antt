@@ -1,6 +1,6 @@
 -- The table's map, by the texts of ids.
-use Rattle.std.specs.Prelude.{bytes_eq, slice_get}
-use Rattle.std.proofs.Common.{◌≡◌, ◌↔◌, IsTrue, is_some, ℕ, zero, suc, ◌+◌, ◌<◌, ◌≤◌, false, cond, List, [], ◌∷◌, ◌++◌, length, map, get_or, Option, Some, None, refl, sym, ap, ◌∙◌, subst, arith, ⊎_elim, Err}
+use Rattle.std.specs.Prelude.{bytes_eq, slice_get, IfSome}
+use Rattle.std.proofs.Common.{◌≡◌, ◌↔◌, IsTrue, is_some, ℕ, zero, suc, ◌+◌, ◌<◌, ◌≤◌, true, false, cond, List, [], ◌∷◌, ◌++◌, length, map, get_or, Option, Some, None, refl, sym, ap, ◌∙◌, subst, arith, ⊎_elim, Err}
 use Rattle.std.specs.List.{AllByRecursion, IsDistinct, position, position_or_len}
 use Rattle.std.proofs.lemmas.Option.{same_Some, none-some, slice_get-get_or, slice_get_within, get_or_from_slice_get}
 use Rattle.std.proofs.lemmas.List.Quantifiers.{position-Some}
@@ -101,6 +101,11 @@ kept_fits (x ∷ es) (suc k) id all e = kept_fits es k id all.1 e
 too_long_absent : (es : List (List ℕ × Descriptor)) (table : List Descriptor) (id : List Pair) → AllByRecursion IsKept es → descriptors es ≡ table → ¬ (FitsLimits id) → ¬ (HasId table id)
 too_long_absent es table id all view long has =
     long (kept_fits es has.0 id all (subst (λ d. slice_get (ids_of d) has.0 ≡ Some id) (sym view) has.1))
+
+-- an id whose key was found is there
+pub is_there : (table : List Descriptor) (id : List Pair) (key : Option ℕ) → IfSome key (λ k. slice_get (ids_of table) k ≡ Some id) → is_some key ≡ true → HasId table id
+is_there table id (Some k) at found = (k, at)
+is_there table id None at found = absurd cc
 
 -- what making the id refuses, adding refuses
 pub added_refused : (es : List (List ℕ × Descriptor)) (table : List Descriptor) (parent : Option ℕ) (segment : Pair) (name : List ℕ) (dtype : DType) (fault : TableFault) → AllByRecursion IsKept es → descriptors es ≡ table → IsIdBelow table parent segment (Err fault) → IsAddedAs table table parent segment name dtype (Err fault)

@@ -1,24 +1,28 @@
 -- What a listener may rely on, for each key.
-use Rattle.std.proofs.Common.{◌≡◌, ◌≢◌, ◌≤◌, ◌<◌, ℕ, suc, ◌⊎◌, Bool, true, false, not, cond, ◌&&◌, ◌||◌, List, [], ◌∷◌, ◌++◌, map, filter, length, Some, slice_get, refl, sym, ap, ap₂, ◌∙◌, arith, tests, subst, if◌then◌else◌, inl, inr, ⊎_elim, ◌==◌}
+use Rattle.std.proofs.Common.{◌≡◌, ◌≢◌, ◌≤◌, ◌<◌, ℕ, zero, suc, ◌⊎◌, Bool, true, false, not, cond, ◌&&◌, ◌||◌, List, [], ◌∷◌, ◌++◌, map, filter, length, Option, Some, None, option_map, slice_get, refl, sym, ap, ap₂, ◌∙◌, arith, tests, subst, if◌then◌else◌, inl, inr, ⊎_elim, ◌==◌}
 use Rattle.std.specs.List.{list_any}
+use Rattle.std.specs.Option.{option_or}
 use Rattle.std.proofs.lemmas.Bool.{cases_Bool}
 use Rattle.std.proofs.lemmas.List.{length-map}
 use Rattle.tk_columns.specs.Recorded.{Recorded}
+use Rattle.tk_columns.specs.Entries.{described, desc_in, of_kind}
 use Rattle.tk_cutting.specs.declared.nodes.Placed.{Placed}
 use Rattle.tk_events.specs.declared.events.Event.{Event}
-use Rattle.tk_events.specs.declared.kinds.Kind.TheVariants.{Dynamic}
+use Rattle.tk_events.specs.declared.events.Entry.{Entry}
+use Rattle.tk_events.specs.declared.kinds.Kind.{Kind}
+use Rattle.tk_events.specs.declared.kinds.Kind.TheVariants.{Dynamic, Finished, Skipped, Started}
 use Rattle.tk_ids.specs.IdText.{Pair}
 use Rattle.tk_ids.specs.Table.{ids_of}
 use Rattle.tk_ids.specs.declared.tables.Descriptor.{Descriptor}
-use Rattle.tk_laws.proofs.Hearing.{once, ran_of, registered}
+use Rattle.tk_laws.proofs.Hearing.{listener_law, once, ran_of, registered}
 use Rattle.tk_laws.proofs.Ids.{same_decides}
 use Rattle.tk_laws.proofs.Lists.{each_at}
 use Rattle.tk_laws.proofs.Model.{Each, Forest, Models, id_told, told}
 use Rattle.tk_laws.proofs.OneKey.{Comes, HasKey, all_keys, from_table, same_key, told_some}
 use Rattle.tk_laws.proofs.Orders.{precedes_none}
 use Rattle.tk_laws.proofs.Through.{below_length}
-use Rattle.tk_reports.specs.Labels.{Label, events, label, name, same_id, same_kind}
-use Rattle.tk_laws.specs.Listening.{IsOnce, ListensByKey, is_ran, precedes, registers}
+use Rattle.tk_reports.specs.Labels.{Label, events, id_in, label, labels, name, same_id, same_kind}
+use Rattle.tk_laws.specs.Listening.{IsBelow, IsChild, IsOnce, ListensByKey, finishes, is_followed, is_of, is_ran, precedes, registers, skips, starts}
 use Rattle.tk_queue.specs.Known.{is_dynamic}
 use Rattle.tk_laws.specs.Scripts.{IsRunOf}
 
@@ -36,6 +40,10 @@ cong3 p q a b x y h g e = ap₂ (λ u v. not u && v) g (ap₂ (λ u v. u || v) h
 precedes_each : (p q a b : Event → Bool) (es : List Event) → Each (λ e. p e ≡ q e) es → Each (λ e. a e ≡ b e) es → precedes p a es ≡ precedes q b es
 precedes_each p q a b [] h g = refl
 precedes_each p q a b (e ∷ es) h g = cong3 (p e) (q e) (a e) (b e) (precedes p a es) (precedes q b es) h.0 g.0 (precedes_each p q a b es h.1 g.1)
+
+followed_each : (p q a b : Event → Bool) (es : List Event) → Each (λ e. p e ≡ q e) es → Each (λ e. a e ≡ b e) es → is_followed p a es ≡ is_followed q b es
+followed_each p q a b [] h g = refl
+followed_each p q a b (e ∷ es) h g = ap₂ (λ u v. u && v) (ap₂ (λ u v. not u || v) h.0 (any_each a b es g.1)) (followed_each p q a b es h.1 g.1)
 
 each_map : (P Q : Event → Type 0) (es : List Event) → ((e : Event) → P e → Q e) → Each P es → Each Q es
 each_map P Q [] f h = tt
@@ -55,6 +63,30 @@ module _ (names : ℕ → List Pair) where
   precedes_label : (p q : Label → Bool) (es : List Event) → precedes (λ e. p (label names e)) (λ e. q (label names e)) es ≡ precedes p q (map (label names) es)
   precedes_label p q [] = refl
   precedes_label p q (e ∷ es) = ap (λ b. not (q (label names e)) && (p (label names e) || b)) (precedes_label p q es)
+
+  followed_label : (p q : Label → Bool) (es : List Event) → is_followed (λ e. p (label names e)) (λ e. q (label names e)) es ≡ is_followed p q (map (label names) es)
+  followed_label p q [] = refl
+  followed_label p q (e ∷ es) = ap₂ (λ u v. (not (p (label names e)) || u) && v) (any_label q es) (followed_label p q es)
+
+-- what holds of the keys of all events holds of a key that an event registers
+registered_has : (P : ℕ → Type 0) (es : List Entry) (k : ℕ) → Each (λ e. P e.key) (events es) → id_in (desc_in es k) ≢ [] → P k
+registered_has P [] k h some = absurd (some refl)
+registered_has P (e ∷ es) k h some = ⊎_elim
+    (λ t. let same : e.event.key ≡ k = grind (arith, tests, t) in subst P same h.0)
+    (λ n.
+    let other : desc_in (e ∷ es) k ≡ desc_in es k = ap (λ b. option_or (if of_kind Dynamic e && b then described e.event.payload else None) (desc_in es k)) n
+    ∙ elim (of_kind Dynamic e) as (λ b. option_or (if b && false then described e.event.payload else None) (desc_in es k) ≡ desc_in es k) [ true ↦ refl | false ↦ refl ] in
+    registered_has P es k h.1 (λ none. some (ap id_in other ∙ none)))
+    (cases_Bool (e.event.key == k))
+
+map_get : {A B : Type 0} (g : A → B) (xs : List A) (i : ℕ) (x : A) → slice_get xs i ≡ Some x → slice_get (map g xs) i ≡ Some (g x)
+map_get g [] i x e = cc
+map_get g (y ∷ ys) zero x e = ap (option_map g) e
+map_get g (y ∷ ys) (suc i) x e = map_get g ys i x e
+
+longer : (i : List Pair) (s : Pair) (more : List Pair) → (i ++ s ∷ more) ≢ []
+longer [] s more e = cc
+longer (x ∷ xs) s more e = cc
 
 -- one of the events has the key, or none has
 record HasOne (k : ℕ) (es : List Event) : Type 0 where
@@ -89,18 +121,55 @@ told_any k [] h = let no : ⊥ = omega (arith, h) in absurd no
 told_any k (e ∷ es) h = told_here (is_dynamic e) (e.key == k) (id_told e.payload) (told k es) _ (λ g. told_any k es g) h
 
 module _ (all : List Placed) (table : List Descriptor) (f : Forest) (workers : ℕ) (r : Recorded) (plan : Models all table f) (run : IsRunOf all table workers r) where
-  agrees : (k : ℕ) → HasOne k (events r.entries) → Each (λ e. (e.key == k) ≡ same_id (name r e.key) (name r k)) (events r.entries)
-  agrees k o = each_map (HasKey all table (Comes all table f workers r plan run) (from_table all table f workers r plan run)) (λ e. (e.key == k) ≡ same_id (name r e.key) (name r k)) (events r.entries)
+  -- the events of a key that comes from somewhere are those of its id
+  agree : (k : ℕ) → Comes all table f workers r plan run k → Each (λ e. (e.key == k) ≡ same_id (name r e.key) (name r k)) (events r.entries)
+  agree k from = each_map (HasKey all table (Comes all table f workers r plan run) (from_table all table f workers r plan run)) (λ e. (e.key == k) ≡ same_id (name r e.key) (name r k)) (events r.entries)
       (λ e c. ⊎_elim
       (λ y. let same : e.key ≡ k = grind (arith, tests, y) in y ∙ sym ((same_decides (name r e.key) (name r k)).1 (ap (name r) same)))
       (λ n. let differ : e.key ≢ k = grind (arith, tests, n) in ⊎_elim
-      (λ s. absurd (differ (same_key all table f workers r plan run e.key k c
-      (subst (Comes all table f workers r plan run) o.key (each_at (HasKey all table (Comes all table f workers r plan run) (from_table all table f workers r plan run)) (events r.entries) o.place o.event (all_keys all table f workers r plan run) o.is_there))
-      ((same_decides (name r e.key) (name r k)).0 s))))
+      (λ s. absurd (differ (same_key all table f workers r plan run e.key k c from ((same_decides (name r e.key) (name r k)).0 s))))
       (λ f. n ∙ sym f)
       (cases_Bool (same_id (name r e.key) (name r k))))
       (cases_Bool (e.key == k)))
       (all_keys all table f workers r plan run)
+
+  agrees : (k : ℕ) → HasOne k (events r.entries) → Each (λ e. (e.key == k) ≡ same_id (name r e.key) (name r k)) (events r.entries)
+  agrees k o = agree k
+      (subst (Comes all table f workers r plan run) o.key (each_at (HasKey all table (Comes all table f workers r plan run) (from_table all table f workers r plan run)) (events r.entries) o.place o.event (all_keys all table f workers r plan run) o.is_there))
+
+  -- a key that has a descriptor comes from somewhere
+  described_comes : (k : ℕ) → name r k ≢ [] → Comes all table f workers r plan run k
+  described_comes k some = go (slice_get r.table k) refl some where
+    go : (o : Option Descriptor) → slice_get r.table k ≡ o → id_in (option_or o (desc_in r.entries k)) ≢ [] → Comes all table f workers r plan run k
+    go None e some = registered_has (Comes all table f workers r plan run) r.entries k (all_keys all table f workers r plan run) some
+    go (Some d) e some = from_table all table f workers r plan run k d.id (map_get (λ (d : Descriptor). d.id) table k d (rw run.over at e))
+
+  -- so it is of its events of a kind
+  agree_kind : (k : ℕ) (kind : Kind) → Comes all table f workers r plan run k → Each (λ e. (e.key == k && same_kind e.kind kind) ≡ (same_id (name r e.key) (name r k) && same_kind e.kind kind)) (events r.entries)
+  agree_kind k kind from = each_map (λ e. (e.key == k) ≡ same_id (name r e.key) (name r k)) _ (events r.entries) (λ e h. ap (λ b. b && same_kind e.kind kind) h) (agree k from)
+
+  child_comes : (p k : ℕ) (s : Pair) (more : List Pair) → name r k ≡ name r p ++ s ∷ more → Comes all table f workers r plan run k
+  child_comes p k s more is = described_comes k (λ none. longer (name r p) s more (sym is ∙ none))
+
+  start_first_key : (p k : ℕ) → IsChild (name r) p k → precedes (λ e. e.key == p && same_kind e.kind Started) (λ e. e.key == k) (events r.entries) ≡ true
+  start_first_key p k (some, s, is) =
+      precedes_each _ _ _ _ (events r.entries) (agree_kind p Started (described_comes p some)) (agree k (child_comes p k s [] is))
+      ∙ (precedes_label (name r) (starts (name r p)) (is_of (name r k)) (events r.entries)
+      ∙ (ap (λ i. precedes (starts (name r p)) (is_of i) (labels r)) is ∙ (listener_law all table f workers r plan run).start_first (name r p) s some))
+
+  finish_last_key : (p k : ℕ) → IsChild (name r) p k → is_followed (λ e. e.key == k) (λ e. e.key == p && same_kind e.kind Finished) (events r.entries) ≡ true
+  finish_last_key p k (some, s, is) =
+      followed_each _ _ _ _ (events r.entries) (agree k (child_comes p k s [] is)) (agree_kind p Finished (described_comes p some))
+      ∙ (followed_label (name r) (is_of (name r k)) (finishes (name r p)) (events r.entries)
+      ∙ (ap (λ i. is_followed (is_of i) (finishes (name r p)) (labels r)) is ∙ (listener_law all table f workers r plan run).finish_last (name r p) s some))
+
+  skipped_key : (p k : ℕ) → IsBelow (name r) p k → list_any (λ e. e.key == p && same_kind e.kind Skipped) (events r.entries) ≡ true → list_any (λ e. e.key == k) (events r.entries) ≡ false
+  skipped_key p k (some, s, more, is) skip =
+      let here : list_any (skips (name r p)) (labels r) ≡ true
+      = sym (any_each _ _ (events r.entries) (agree_kind p Skipped (described_comes p some)) ∙ any_label (name r) (skips (name r p)) (events r.entries)) ∙ skip in
+      any_each _ _ (events r.entries) (agree k (child_comes p k s more is))
+      ∙ (any_label (name r) (is_of (name r k)) (events r.entries)
+      ∙ (ap (λ i. list_any (is_of i) (labels r)) is ∙ (listener_law all table f workers r plan run).skipped (name r p) s more some here))
 
   once_key : (k : ℕ) → IsOnce (map (label (name r)) (filter (λ e. e.key == k && is_ran e.kind) (events r.entries)))
   once_key k = ⊎_elim
@@ -132,4 +201,4 @@ module _ (all : List Placed) (table : List Descriptor) (f : Forest) (workers : �
       (one_or_none k (events r.entries))
 
   pub by_key : ListensByKey (length table) (name r) (events r.entries)
-  by_key = record { once = once_key; registered_first = registered_key }
+  by_key = record { once = once_key; start_first = start_first_key; finish_last = finish_last_key; skipped = skipped_key; registered_first = registered_key }

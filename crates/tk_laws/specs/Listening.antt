@@ -54,8 +54,22 @@ pub record Listens (ls : List Label) : Type 0 where
   pub skipped : (i : List Pair) (s : Pair) (more : List Pair) → i ≢ [] → list_any (skips i) ls ≡ true → list_any (is_of (i ++ s ∷ more)) ls ≡ false
   pub registered_first : (i : List Pair) → list_any (registers i) ls ≡ true → precedes (registers i) (λ l. is_of i l && is_ran l.kind) ls ≡ true
 
--- For the keys of a record over a table of so many descriptors.
+-- the descriptor of key k is a child of that of key p: its id is the parent's with one segment more
+abbrev pub IsChild : (ℕ → List Pair) → ℕ → ℕ → Type 0
+IsChild names p k = (names p ≢ []) × (s : Pair) × (names k ≡ names p ++ s ∷ [])
+
+-- the descriptor of key k stands below that of key p: its id is the other's with more segments
+abbrev pub IsBelow : (ℕ → List Pair) → ℕ → ℕ → Type 0
+IsBelow names p k = (names p ≢ []) × (s : Pair) × (more : List Pair) × (names k ≡ names p ++ s ∷ more)
+
+-- For the keys of a record over a table of so many descriptors. A key without a descriptor has the id [].
 pub record ListensByKey (statics : ℕ) (names : ℕ → List Pair) (es : List Event) : Type 0 where
   pub once : (k : ℕ) → IsOnce (map (label names) (filter (λ e. e.key == k && is_ran e.kind) es))
+  -- a parent starts before each event of a child
+  pub start_first : (p k : ℕ) → IsChild names p k → precedes (λ e. e.key == p && same_kind e.kind Started) (λ e. e.key == k) es ≡ true
+  -- and finishes after it
+  pub finish_last : (p k : ℕ) → IsChild names p k → is_followed (λ e. e.key == k) (λ e. e.key == p && same_kind e.kind Finished) es ≡ true
+  -- nothing below a skipped descriptor has an event
+  pub skipped : (p k : ℕ) → IsBelow names p k → list_any (λ e. e.key == p && same_kind e.kind Skipped) es ≡ true → list_any (λ e. e.key == k) es ≡ false
   -- what has no descriptor in the table is registered first
   pub registered_first : (k : ℕ) → statics ≤ k → precedes (λ e. e.key == k && same_kind e.kind Dynamic) (λ e. e.key == k && is_ran e.kind) es ≡ true

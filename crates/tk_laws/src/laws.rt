@@ -28,7 +28,8 @@ pub fn listener()
     ensures { Listener }
 {}
 
-/// In every run of a plan each key is registered, starts and finishes as a listener may rely on.
+/// In every run of a plan each key is registered, starts, is skipped and finishes as a listener may rely on, and so do those
+/// of its children.
 pub fn listener_by_key()
     ensures { ListenerByKey }
 {}

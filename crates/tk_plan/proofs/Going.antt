@@ -17,7 +17,7 @@ use Rattle.tk_cutting.specs.Ids.{descriptor_in, descriptors, descriptors_below}
 use Rattle.tk_plan.specs.Checks.{first, or_else, item_at, member_at}
 use Rattle.tk_plan.specs.declared.faults.PlanFault.{PlanFault}
 use Rattle.tk_plan.specs.declared.readers.Reader.{Reader}
-use Rattle.tk_plan.specs.Sites.{Site, segment_in, id_of, node_of, below, sites, sites_in, children_of, children_in, dynamic_of, dynamic_in, grown, forest_of}
+use Rattle.tk_plan.specs.Sites.{Site, segment_in, id_of, node_of, below, sites, sites_in, children_of, dynamic_of, grown, forest_of}
 use Rattle.tk_plan.specs.PlanOf.{checks, verdict, joined}
 use Rattle.tk_plan.specs.Progress.{IsNoted, Adds}
 use Rattle.tk_plan.proofs.Items.{values_next}
@@ -181,25 +181,6 @@ module _ (k m : ℕ) (levels : m ≡ suc k) (old pushed : List Placed) (s : Site
       let whole : descriptors s.above (grown m s) ≡ descriptor_in id node ++ (p ++ q) =
       ap (λ n. descriptors s.above (grown n s)) levels ∙ ap₂ (λ i n. descriptor_in i n ++ descriptors_below i (forest_of (map (grown k) (below s)))) (sym here) (sym is) ∙ ap (λ l. descriptor_in id node ++ l) both in
       second ∙ ap (λ l. l ++ q) (first_part ∙ ap (λ l. l ++ p) push1) ∙ append_assoc (ds ++ descriptor_in id node) p q ∙ append_assoc ds (descriptor_in id node) (p ++ q) ∙ ap (λ l. ds ++ l) (sym whole)
-
-pub nothing_below : (s : Site) → [] ≡ children_of s.is_static s.value → [] ≡ dynamic_of s.value → below s ≡ []
-nothing_below s children dynamic = ap₂ (λ cs ds. children_in s cs ++ dynamic_in s cs ds) (sym children) (sym dynamic)
-
--- a node with nothing below it was checked and pushed
-pub leaf_read : (k m : ℕ) → m ≡ suc k → (old new : Reader) (s : Site) (node : Node) (id : List Pair) → below s ≡ [] → node ≡ node_of s → id ≡ id_of s
-    → new.nodes.items ≡ old.nodes.items ++ record { node = node; number = 0; span = 1 } ∷ [] → new.descriptors.items ≡ old.descriptors.items ++ descriptor_in id node → IsNoted new
-    → first (checks (contents old.nodes.items) s) ≡ None
-    → (verdict (contents old.nodes.items) (sites m s) ≡ None) × Adds old new (flat (grown m s)) (descriptors s.above (grown m s))
-unfolding joined
-leaf_read k m levels old new s node id none is here push told noted fine = (
-  dynamic_verdict k m levels old.nodes.items new.nodes.items s node [] [] none is push fine new.nodes.items refl (sym (append-nil new.nodes.items)) None refl,
-  record {
-    nodes = push ∙ sym (grown_here k m levels old.nodes.items new.nodes.items s node [] [] none is push fine);
-    descriptors = described_here k m levels old.nodes.items new.nodes.items s node [] [] none is push fine
-        id old.descriptors.items new.descriptors.items new.descriptors.items new.descriptors.items here told (sym (append-nil new.descriptors.items)) (sym (append-nil new.descriptors.items));
-    noted = noted;
-  },
-)
 
 -- the element at the seam is what is there
 at_seam : (old rest : List Placed) (p x : Placed) → x ≡ get_or (old ++ p ∷ rest) (length old) x → x ≡ p

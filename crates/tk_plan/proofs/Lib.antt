@@ -1,5 +1,6 @@
 pub mod Escapes
 pub mod Items
+pub mod Locking
 pub mod MemberSteps
 pub mod Passing
 pub mod Groups

@@ -9,12 +9,12 @@ use Rattle.tk_ids.specs.declared.tables.TableFault.TheVariants.{Twice, Full}
 use Rattle.tk_cutting.specs.declared.asking.TheConstants.{MAX_KEYS}
 use Rattle.tk_cutting.specs.declared.nodes.Node.{Node}
 use Rattle.tk_cutting.specs.declared.nodes.Placed.{Placed}
-use Rattle.tk_cutting.specs.Ids.{descriptor_in}
+use Rattle.tk_cutting.specs.Ids.{descriptor_in, descriptors}
 use Rattle.tk_cutting.specs.Keys.{lock_keys}
 use Rattle.tk_cutting.specs.Planned.{is_lawful_node}
-use Rattle.tk_cutting.specs.Trees.{contents}
+use Rattle.tk_cutting.specs.Trees.{flat, contents}
 use Rattle.tk_plan.specs.PlanOf.{is_kind, same_segment, when}
-use Rattle.tk_plan.specs.Sites.{Site, segment_of, id_of, node_of, children_of, dynamic_of}
+use Rattle.tk_plan.specs.Sites.{Site, segment_of, id_of, node_of, children_of, dynamic_of, grown}
 use Rattle.tk_plan.specs.declared.faults.PlanFault.{PlanFault}
 use Rattle.tk_plan.specs.declared.faults.PlanFault.TheVariants.{Table, TooManyResources}
 use Rattle.tk_plan.specs.declared.readers.Reader.{Reader}
@@ -64,6 +64,13 @@ pub record IsChecked (old new : Reader) (s : Site) (later : List Pair) (c : Chec
   pub room : count_by (is_kind s.is_static) (contents old.nodes.items) < 65536
   pub siblings : later ≡ s.earlier ++ segment_of s ∷ []
 
+-- a static node's descriptor was put at the end, or another node was counted
+pub record IsDescribed (old new : Reader) (n : Node) (id : List Pair) : Type 0 where
+  pub nodes : new.nodes.items ≡ old.nodes.items
+  pub descriptors : new.descriptors.items ≡ old.descriptors.items ++ descriptor_in id n
+  pub dynamics : new.dynamics ≡ old.dynamics + (if n.is_static then 0 else 1)
+  pub keys : new.keys.keys ≡ old.keys.keys
+
 -- a node was put at the end
 pub record IsAdded (old new : Reader) (n : Node) (id : List Pair) : Type 0 where
   pub nodes : new.nodes.items ≡ old.nodes.items ++ record { node = n; number = 0; span = 1 } ∷ []
@@ -76,3 +83,9 @@ pub record Adds (old new : Reader) (placed : List Placed) (ds : List Descriptor)
   pub nodes : new.nodes.items ≡ old.nodes.items ++ placed
   pub descriptors : new.descriptors.items ≡ old.descriptors.items ++ ds
   pub noted : IsNoted new
+
+-- the node there and all below it were read, and no others
+pub record HasRead (s : Site) (r : Reader) : Type 0 where
+  pub nodes : r.nodes.items ≡ flat (grown 60 s)
+  pub descriptors : r.descriptors.items ≡ descriptors s.above (grown 60 s)
+  pub noted : IsNoted r

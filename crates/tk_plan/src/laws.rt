@@ -1,4 +1,6 @@
 //! Laws of plans, which hold of the definitions alone.
+ghost use Rattle.std.specs.Prelude.{◌≡◌};
+ghost use Rattle.tk_plan.specs.declared.limits.TheConstants.{MAX_LEVELS};
 ghost use Rattle.tk_plan.specs.PlanLaws.{IdsDiffer, OneAnswer};
 
 pub use tk_cutting::laws::{finds_nodes, has_keys, keeps_stamps, loses_nothing, tells_steps};
@@ -12,4 +14,9 @@ pub fn ids_differ()
 /// and each fault exactly where it is the first, unless memory runs out.
 pub fn one_answer()
     ensures { OneAnswer }
+{}
+
+/// A plan has at most 60 levels.
+pub fn limits()
+    ensures { MAX_LEVELS ≡ 60 }
 {}

@@ -1,4 +1,14 @@
 //! Plans, read from JSON.
+//!
+//! - The whole plan, from its bytes: `readings`. All nodes in preorder: `reading`.
+//! - One node: its members together in `fields`, its checks in `checking`.
+//! - Single members: `members`, `lock_members`, and `endings` for the result and the entries. What
+//!   these readers hand on: `pairings`.
+//! - Where a value stands: `places`, and `pointers` to write a place out. A value that stands for a
+//!   node, with its place: `sites`.
+//! - What is kept while reading: `readers`, the segments of one parent's children in `siblings`,
+//!   lock keys in `noting`.
+//! - Limits, laws and faults: `limits`, `laws`, `faults`.
 #![tactic(auto)]
 
 mod checking;

@@ -1,5 +1,5 @@
 //! Places as JSON Pointers.
-ghost use Rattle.std.specs.Prelude.{◌≡◌, IfOk, string_bytes, flat_map};
+ghost use Rattle.std.specs.Prelude.{◌≡◌, ◌++◌, IfOk, OnOk, string_bytes, flat_map, encode_utf8};
 ghost use Rattle.tk_plan.specs.Checks.{escape, member_at, item_at};
 ghost use Rattle.tk_plan.specs.Pointers.{pointer};
 
@@ -39,6 +39,17 @@ pub(crate) fn item_place(alloc: Global, at: Place<'_>, index: usize) -> Result<S
     format!(in alloc; "{array}/{index}")
 }
 
+/// Adds a letter of a member's name, escaped.
+fn push_escaped(place: &mut String, letter: char) -> Result<(), AllocError>
+    ensures { OnOk result (string_bytes place.new ≡ string_bytes place.old ++ flat_map escape (encode_utf8 letter)) }
+{
+    match letter {
+        '~' => place.push_str("~0"),
+        '/' => place.push_str("~1"),
+        _ => place.push(letter),
+    }
+}
+
 /// The place of any member.
 pub(crate) fn escaped_place(alloc: Global, at: Place<'_>, name: &str) -> Result<String, AllocError>
     ensures { IfOk result (λ p. string_bytes p ≡ member_at (pointer at.entry) name.now) }
@@ -46,13 +57,7 @@ pub(crate) fn escaped_place(alloc: Global, at: Place<'_>, name: &str) -> Result<
     let mut place = whole_place(alloc, at)?;
     place.push('/')?;
     for letter in name.chars() {
-        if letter == '~' {
-            place.push_str("~0")?;
-        } else if letter == '/' {
-            place.push_str("~1")?;
-        } else {
-            place.push(letter)?;
-        }
+        push_escaped(&mut place, letter)?;
     }
     Ok(place)
 }

@@ -1,7 +1,9 @@
 //! What is kept as a plan is read.
+ghost use Rattle.std.specs.Prelude.{◌≡◌, []};
 
 use indexmap::IndexSet;
 use serde_json::Value;
+use std::alloc::Global;
 use tk_cutting::{Node, Placed};
 use tk_ids::{Descriptor, Segment, Text, UniqueId};
 
@@ -15,6 +17,23 @@ pub(crate) struct Reader {
     pub dynamics: usize,
     /// The lock keys, save `global`.
     pub keys: IndexSet<Text>,
+}
+
+impl Reader {
+    /// A reader that has read no node.
+    pub fn new(alloc: Global) -> Reader
+        ensures nodes { result.nodes.items ≡ [] }
+        ensures descriptors { result.descriptors.items ≡ [] }
+        ensures dynamics { result.dynamics ≡ 0 }
+        ensures keys { result.keys.keys ≡ [] }
+    {
+        Reader {
+            nodes: Vec::new(alloc),
+            descriptors: Vec::new(alloc),
+            dynamics: 0,
+            keys: IndexSet::new(alloc),
+        }
+    }
 }
 
 /// The last segment of an id, and the id.

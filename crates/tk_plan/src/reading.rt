@@ -1,12 +1,12 @@
 //! Reading a plan's nodes.
-ghost use Rattle.std.specs.Prelude.{◌≡◌, ◌≤◌, ◌+◌, ◌-◌, ◌++◌, ◌∷◌, [], map, flat_map, OnOk};
+ghost use Rattle.std.specs.Prelude.{◌≡◌, ◌≤◌, ◌+◌, ◌-◌, ◌++◌, ◌∷◌, [], map, flat_map, IfOk, OnOk};
 ghost use Rattle.serde_json.specs.View.{view};
 ghost use Rattle.tk_cutting.specs.Trees.{flat, contents};
 ghost use Rattle.tk_cutting.specs.Ids.{descriptors};
 ghost use Rattle.tk_plan.specs.Checks.{escape, member_at};
 ghost use Rattle.tk_plan.specs.Pointers.{pointer};
-ghost use Rattle.tk_plan.specs.PlanOf.{verdict};
-ghost use Rattle.tk_plan.specs.Progress.{IsNoted, IsAdded, Adds};
+ghost use Rattle.tk_plan.specs.PlanOf.{verdict, root_at};
+ghost use Rattle.tk_plan.specs.Progress.{IsNoted, IsDescribed, IsAdded, Adds, HasRead};
 ghost use Rattle.tk_plan.specs.Refusals.{Meets};
 ghost use Rattle.tk_plan.specs.Seen.{seen};
 ghost use Rattle.tk_plan.specs.Sites.{sites, sites_in, grown, segment_in, segment_of};
@@ -15,7 +15,7 @@ use crate::checking::check_node;
 use crate::faults::PlanFault;
 use crate::places::Place;
 use crate::pointers::member_place;
-use crate::readers::Reader;
+use crate::readers::{Checked, Reader};
 use crate::siblings::Siblings;
 use crate::sites::Site;
 use serde_json::Value;
@@ -23,10 +23,10 @@ use std::alloc::{AllocError, Global};
 use tk_cutting::{Node, Placed};
 use tk_ids::{Descriptor, UniqueId};
 
-/// Puts a node at the end.
-fn add_node(reader: &mut Reader, node: Node, id: UniqueId) -> Result<(), AllocError>
+/// Puts the descriptor of a node at the end, where the node is static, and else counts the node.
+fn add_descriptor(reader: &mut Reader, node: &Node, id: UniqueId) -> Result<(), AllocError>
     requires { reader.old.dynamics ≤ 65536 }
-    ensures { OnOk result (IsAdded reader.old reader.new node id) }
+    ensures { OnOk result (IsDescribed reader.old reader.new node.now id) }
 {
     if node.is_static {
         let name = node.name.try_clone()?;
@@ -35,6 +35,15 @@ fn add_node(reader: &mut Reader, node: Node, id: UniqueId) -> Result<(), AllocEr
     } else {
         reader.dynamics += 1;
     }
+    Ok(())
+}
+
+/// Puts a node at the end.
+fn add_node(reader: &mut Reader, node: Node, id: UniqueId) -> Result<(), AllocError>
+    requires { reader.old.dynamics ≤ 65536 }
+    ensures { OnOk result (IsAdded reader.old reader.new node id) }
+{
+    add_descriptor(reader, &node, id)?;
     reader.nodes.push(Placed {
         node,
         number: 0,
@@ -43,9 +52,24 @@ fn add_node(reader: &mut Reader, node: Node, id: UniqueId) -> Result<(), AllocEr
     Ok(())
 }
 
+/// Puts a node that was checked at the end, and answers its id for the nodes below it.
+fn add_checked(
+    alloc: Global,
+    reader: &mut Reader,
+    checked: Checked<'_>,
+) -> Result<UniqueId, AllocError>
+    requires { reader.old.dynamics ≤ 65536 }
+    ensures added { OnOk result (IsAdded reader.old reader.new checked.entry.node checked.entry.id) }
+    ensures id { IfOk result (λ id. id ≡ checked.entry.id) }
+{
+    let id = checked.id.try_clone(alloc)?;
+    add_node(reader, checked.node, checked.id)?;
+    Ok(id)
+}
+
 /// Reads a node and all below it.
 #[cycle(reading)]
-pub(crate) fn read_node<'v>(
+fn read_node<'v>(
     alloc: Global,
     reader: &mut Reader,
     siblings: &mut Siblings<'v>,
@@ -60,31 +84,15 @@ pub(crate) fn read_node<'v>(
 {
     let at = reader.nodes.len();
     let checked = check_node(alloc, reader, siblings, site)?;
-    if checked.children.is_empty() && checked.dynamic.is_empty() {
-        return Ok(add_node(reader, checked.node, checked.id)?);
-    }
-    let id = checked.id.try_clone(alloc)?;
-    add_node(reader, checked.node, checked.id)?;
+    let children = checked.children;
+    let dynamic = checked.dynamic;
+    let id = add_checked(alloc, reader, checked)?;
     let mut below = Siblings::new(alloc);
     read_all(
-        alloc,
-        reader,
-        &mut below,
-        site,
-        "children",
-        true,
-        &id,
-        checked.children,
+        alloc, reader, &mut below, site, "children", true, &id, children,
     )?;
     read_all(
-        alloc,
-        reader,
-        &mut below,
-        site,
-        "dynamic",
-        false,
-        &id,
-        checked.dynamic,
+        alloc, reader, &mut below, site, "dynamic", false, &id, dynamic,
     )?;
     let span = reader.nodes.len() - at;
     reader.nodes[at].span = span;
@@ -126,4 +134,22 @@ fn read_all<'v>(
         read_node(alloc, reader, siblings, site)?;
     }
     Ok(())
+}
+
+/// Reads the root and all below it.
+pub(crate) fn read_nodes(alloc: Global, root: &Value) -> Result<Reader, PlanFault>
+    ensures { let s = root_at (view root.now) in
+        Meets (verdict [] (sites 60 s)) (HasRead s) result }
+{
+    let mut reader = Reader::new(alloc);
+    let mut siblings = Siblings::new(alloc);
+    let site = Site {
+        place: Place::Whole("/root"),
+        level: 1,
+        is_static: true,
+        above: None,
+        value: root,
+    };
+    read_node(alloc, &mut reader, &mut siblings, site)?;
+    Ok(reader)
 }

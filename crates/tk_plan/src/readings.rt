@@ -1,12 +1,17 @@
 //! Reading a plan.
-ghost use Rattle.std.specs.Prelude.{◌≡◌, ◌≤◌, [], Some, codes, length, IfOk};
+ghost use Rattle.std.specs.Prelude.{◌≡◌, ◌≤◌, ◌<◌, ◌++◌, ◌∷◌, [], Some, codes, length, IfOk, OnOk};
 ghost use Rattle.serde_json.specs.Find.{get};
 ghost use Rattle.serde_json.specs.View.{view};
 ghost use Rattle.tk_plan.specs.Answers.{Reads};
 ghost use Rattle.tk_plan.specs.Checks.{row, must};
 ghost use Rattle.tk_plan.specs.PlanOf.{PlanOf, one, anything, top};
 ghost use Rattle.tk_plan.specs.Gives.{plan_in, Answered};
+ghost use Rattle.tk_plan.specs.Progress.{IsNoted};
 ghost use Rattle.tk_plan.specs.Tables.{Follow};
+ghost use Rattle.tk_cutting.specs.Numbers.{numbered};
+ghost use Rattle.tk_cutting.specs.Planned.{IsPlanned};
+ghost use Rattle.tk_ids.specs.Table.{HasId, HasParent};
+ghost use Rattle.std.specs.Arc.{arc_value};
 ghost use Rattle.tk_ids.specs.declared.tables.TheConstants.{MAX_DESCRIPTORS};
 
 use crate::faults::PlanFault;
@@ -15,10 +20,7 @@ use crate::noting::key_list;
 use crate::places::Place;
 use crate::pointers::{field, member_place};
 use crate::readers::Reader;
-use crate::reading::read_node;
-use crate::siblings::Siblings;
-use crate::sites::Site;
-use indexmap::IndexSet;
+use crate::reading::read_nodes;
 use serde_json::Value;
 use std::alloc::{AllocError, Global};
 use std::sync::Arc;
@@ -53,58 +55,66 @@ fn root<'v>(alloc: Global, value: &'v Value) -> Result<&'v Value, PlanFault>
     root_member(alloc, value)
 }
 
+/// Puts a descriptor into the table.
+fn insert_descriptor(
+    alloc: Global,
+    table: &mut Table,
+    descriptor: Descriptor,
+) -> Result<(), AllocError>
+    requires parent { HasParent table.old descriptor.id }
+    requires new { ¬ HasId table.old descriptor.id }
+    requires room { length table.old < MAX_DESCRIPTORS }
+    ensures { OnOk result (table.new ≡ table.old ++ descriptor ∷ []) }
+{
+    match table.insert(alloc, descriptor) {
+        Ok(_) => Ok(()),
+        Err(TableFault::Memory) => Err(AllocError),
+        Err(TableFault::NoParent) => unreachable!(),
+        Err(TableFault::Twice) => unreachable!(),
+        Err(TableFault::Full) => unreachable!(),
+        Err(TableFault::Id(_)) => unreachable!(),
+    }
+}
+
 /// The table of these descriptors.
-fn table_of(alloc: Global, descriptors: Vec<Descriptor>) -> Result<Table, AllocError>
+fn table_of(alloc: Global, descriptors: Vec<Descriptor>) -> Result<Arc<Table>, AllocError>
     requires follow { Follow [] descriptors.items }
     requires few { length descriptors.items ≤ MAX_DESCRIPTORS }
-    ensures { IfOk result (λ table. table ≡ descriptors.items) }
+    ensures { IfOk result (λ table. arc_value table ≡ descriptors.items) }
 {
     let mut table = Table::new(alloc);
     for descriptor in descriptors {
-        match table.insert(alloc, descriptor) {
-            Ok(_) => {}
-            Err(TableFault::Memory) => return Err(AllocError),
-            Err(TableFault::NoParent) => unreachable!(),
-            Err(TableFault::Twice) => unreachable!(),
-            Err(TableFault::Full) => unreachable!(),
-            Err(TableFault::Id(_)) => unreachable!(),
-        }
+        insert_descriptor(alloc, &mut table, descriptor)?;
     }
-    Ok(table)
+    Ok(Arc::new(alloc, table)?)
 }
 
-fn plan_of(alloc: Global, value: &Value) -> Result<Plan, PlanFault>
-    ensures { Answered (PlanOf (view value.now)) result }
+/// The plan of the nodes that were read.
+fn plan_from(alloc: Global, reader: Reader) -> Result<Plan, AllocError>
+    requires follow { Follow [] reader.descriptors.items }
+    requires noted { IsNoted reader }
+    requires planned { IsPlanned reader.nodes.items reader.descriptors.items }
+    ensures { IfOk result (λ plan. plan ≡ record { nodes = numbered reader.nodes.items; table = reader.descriptors.items }) }
 {
-    let root = root(alloc, value)?;
-    let mut reader = Reader {
-        nodes: Vec::new(alloc),
-        descriptors: Vec::new(alloc),
-        dynamics: 0,
-        keys: IndexSet::new(alloc),
-    };
-    let mut siblings = Siblings::new(alloc);
-    let site = Site {
-        place: Place::Whole("/root"),
-        level: 1,
-        is_static: true,
-        above: None,
-        value: root,
-    };
-    read_node(alloc, &mut reader, &mut siblings, site)?;
     let Reader {
         nodes,
         descriptors,
         dynamics: _,
         keys,
     } = reader;
-    match count_events(nodes.as_slice()) {
+    let keys = key_list(alloc, keys)?;
+    let table = table_of(alloc, descriptors)?;
+    Plan::new(alloc, nodes, table, keys.as_slice())
+}
+
+fn plan_of(alloc: Global, value: &Value) -> Result<Plan, PlanFault>
+    ensures { Answered (PlanOf (view value.now)) result }
+{
+    let root = root(alloc, value)?;
+    let reader = read_nodes(alloc, root)?;
+    match count_events(reader.nodes.as_slice()) {
         None => Err(PlanFault::TooManyEvents),
-        Some(_) => {
-            let table = Arc::new(alloc, table_of(alloc, descriptors)?)?;
-            let keys = key_list(alloc, keys)?;
-            Ok(Plan::new(alloc, nodes, table, keys.as_slice())?)
-        }
+        Some(_) => Ok(plan_from(alloc, reader)?),
     }
 }
 

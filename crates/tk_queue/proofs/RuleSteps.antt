@@ -18,8 +18,8 @@ use Rattle.tk_queue.specs.declared.lines.View.TheVariants.{Sender, Receiver, Spe
 use Rattle.tk_columns.specs.Mixing.{IsWorkerOf, of_worker}
 use Rattle.tk_replay.specs.Core.{Core, IsCore, worker_of, push, put, take_first, items_of, entries}
 use Rattle.tk_queue.specs.Limits.{most_events}
-use Rattle.tk_queue.specs.Session.{Session, Fits, Stands, receiver, sender, new_receiver, pushed, popped, Pops, one_more, next_sender, with_token, Concludes, MayPush, IsNext, IsReader, IsFirst, MayTakeIn, Follows, with_bit}
-use Rattle.tk_queue.specs.Steps.{PushIsStep, FullIsNone, TakeIsStep, EmptyIsNone, SplitIsNone, BitIsNone, JoinIsNone}
+use Rattle.tk_queue.specs.Session.{Session, Fits, Stands, receiver, sender, new_receiver, pushed, popped, Pops, one_more, next_sender, with_token, Concludes, MayPush, MayTake, IsNext, IsReader, IsFirst, MayTakeIn, Follows, with_bit}
+use Rattle.tk_queue.specs.Steps.{IsStateOf, HoldsStates, fresh_core, BeginsFresh, PushIsStep, FullIsNone, TakeIsStep, EmptyIsNone, SplitIsNone, BitIsNone, JoinIsNone}
 use Rattle.tk_queue.specs.Known.{MayEmit, Emission}
 use Rattle.tk_queue.proofs.KnownKeys.{emission_none, emission_more}
 use Rattle.tk_replay.proofs.CoreSteps.{filter-append, takes, put-same, put-other}
@@ -163,34 +163,37 @@ take_step pass r x items views h at =
       refl,
     )
 
--- the receiver may take
-pub pops : (pass : ℕ) (r : Taking) → PopsUnder Session pass (Receiver r) (Pops (Receiver r))
-pops pass r x items views h at =
+-- what the receiver learns of the first waiting item
+may_take : (pass : ℕ) (r : Taking) (x : Item) (items : List Item) (views : List View) (h : Session (x ∷ items) views) → get_elem? views pass ≡ some (Receiver r) → MayTake (Receiver r) x
+may_take pass r x items views h at =
     let mine = h.fits pass (Receiver r) at in (
-      popped (Receiver r) x,
-      (take_step pass r x items views h at).0,
-      (
-        refl,
-        (
-          subst (λ n. IsWorkerOf n (worker_of x)) (sym mine.1) (waiting_worker h.workers x items h.core h.waits h.lawful),
-          subst (λ (y : ℕ × List Item). Follows y.0 y.1 x) (λ i. (sym mine.4 i, sym mine.2 i)) (follows h.known h.workers x items h.core h.waits h.lawful h.emitted),
-        ),
-      ),
+      subst (λ n. IsWorkerOf n (worker_of x)) (sym mine.1) (waiting_worker h.workers x items h.core h.waits h.lawful),
+      subst (λ (y : ℕ × List Item). Follows y.0 y.1 x) (λ i. (sym mine.4 i, sym mine.2 i)) (follows h.known h.workers x items h.core h.waits h.lawful h.emitted),
     )
 
+-- the receiver may take
+pub pops : (pass : ℕ) (r : Taking) → PopsUnder Session pass (Receiver r) (Pops (Receiver r))
+pops pass r x items views h at = (popped (Receiver r) x, (take_step pass r x items views h at).0, (refl, may_take pass r x items views h at))
+
 -- the first state of a session, which has no worker yet
+pub begins_fresh : BeginsFresh new_receiver
+begins_fresh = (
+  record {
+    core = fresh_core;
+    known = 0;
+    workers = 0;
+    reader = 0;
+    seat = λ w. 0;
+    waits = refl;
+    lawful = record { kept = λ w. refl; others = λ w n. (refl, refl) };
+    emitted = emission_none 0;
+    fits = each_snoc (Fits 0 0 0 (λ w. 0) fresh_core) [] new_receiver (λ j u e. absurd (some-ne-none u (sym e))) (refl, refl, refl, All-nil _, refl);
+  },
+  refl,
+)
+
 pub begins : Session [] (new_receiver ∷ [])
-begins = record {
-  core = record { sent = λ w. []; ended = λ w. false; taken = []; waiting = [] };
-  known = 0;
-  workers = 0;
-  reader = 0;
-  seat = λ w. 0;
-  waits = refl;
-  lawful = record { kept = λ w. refl; others = λ w n. (refl, refl) };
-  emitted = emission_none 0;
-  fits = each_snoc (Fits 0 0 0 (λ w. 0) (record { sent = λ w. []; ended = λ w. false; taken = []; waiting = [] })) [] new_receiver (λ j u e. absurd (some-ne-none u (sym e))) (refl, refl, refl, All-nil _, refl);
-}
+begins = begins_fresh.0
 
 -- a further worker's seat is no other pass
 fork_fits : (known workers reader : ℕ) (seat : ℕ → ℕ) (new : ℕ) (c : Core) (pass : ℕ) (u : View) → pass ≢ reader → Fits known workers reader seat c pass u → Fits known (workers + 1) reader (put seat (workers + 1) new) c pass u
@@ -342,43 +345,46 @@ learns_own pass Spent may = absurd may
 pub may_take_in : (v w : View) (k n : ℕ) (taken : List Item) (tokens : List Sending) (j worker : ℕ) (sent : List Event) → v ≡ receiver k n taken tokens → w ≡ sender j worker sent true → MayTakeIn v w
 may_take_in v w k n taken tokens j worker sent e f = subst (λ (y : View × View). MayTakeIn y.0 y.1) (λ i. (sym e i, sym f i)) refl
 
-pub push_is_step : PushIsStep
-push_is_step items views pass (Sender s) x h at may = push_step pass s x may.0 may.1 items views h at
-push_is_step items views pass (Receiver r) x h at may = absurd may
-push_is_step items views pass Spent x h at may = absurd may
+pub holds_states : HoldsStates Session
+holds_states items views = ((λ h. (h.core, (h, refl))), λ h. h.1.0)
 
-pub take_is_step : TakeIsStep
-take_is_step x items views pass (Receiver r) h at may = take_step pass r x items views h at
-take_is_step x items views pass (Sender s) h at may = absurd may
-take_is_step x items views pass Spent h at may = absurd may
+pub push_is_step : PushIsStep (λ v x w. w ≡ pushed v x)
+push_is_step c items views pass (Sender s) x h at may =
+    let t = push_step pass s x may.0 may.1 items views h.0 at in (pushed (Sender s) x, (refl, λ u e. e), (t.0, t.1 ∙ ap (push x) h.1))
+push_is_step c items views pass (Receiver r) x h at may = absurd may
+push_is_step c items views pass Spent x h at may = absurd may
 
-pub split_is_none : SplitIsNone
-split_is_none items views pass (Receiver r) h at may = fork_step pass r items views h at
-split_is_none items views pass (Sender s) h at may = absurd may
-split_is_none items views pass Spent h at may = absurd may
+pub take_is_step : TakeIsStep Pops
+take_is_step c x items views pass (Receiver r) h at may =
+    let t = take_step pass r x items views h.0 at in
+    (popped (Receiver r) x, ((refl, may_take pass r x items views h.0 at), λ u e. e.0), (t.0, t.1 ∙ ap (take_first x items) h.1))
+take_is_step c x items views pass (Sender s) h at may = absurd may
+take_is_step c x items views pass Spent h at may = absurd may
 
-pub bit_is_none : BitIsNone
-bit_is_none bit items views pass (Receiver r) h at may = bit_step bit pass r may items views h at
-bit_is_none bit items views pass (Sender s) h at may = absurd may
-bit_is_none bit items views pass Spent h at may = absurd may
+pub split_is_none : SplitIsNone one_more next_sender
+split_is_none c items views pass (Receiver r) h at may = let t = fork_step pass r items views h.0 at in (t.0, t.1 ∙ h.1)
+split_is_none c items views pass (Sender s) h at may = absurd may
+split_is_none c items views pass Spent h at may = absurd may
 
-pub join_is_none : JoinIsNone
-join_is_none items views pass (Receiver r) other (Sender s) h at two at' may = merge_step pass r other s may items views h at two at'
-join_is_none items views pass (Receiver r) other (Receiver q) h at two at' may = absurd may
-join_is_none items views pass (Receiver r) other Spent h at two at' may = absurd may
-join_is_none items views pass (Sender s) other w h at two at' may = absurd may
-join_is_none items views pass Spent other w h at two at' may = absurd may
+pub bit_is_none : (bit : ℕ) → BitIsNone (with_bit bit) (λ v. Spent)
+bit_is_none bit c items views pass (Receiver r) h at may = let t = bit_step bit pass r may items views h.0 at in (t.0, t.1 ∙ h.1)
+bit_is_none bit c items views pass (Sender s) h at may = absurd may
+bit_is_none bit c items views pass Spent h at may = absurd may
+
+pub join_is_none : JoinIsNone with_token Spent
+join_is_none c items views pass (Receiver r) other (Sender s) h at two at' may = let t = merge_step pass r other s may items views h.0 at two at' in (t.0, t.1 ∙ h.1)
+join_is_none c items views pass (Receiver r) other (Receiver q) h at two at' may = absurd may
+join_is_none c items views pass (Receiver r) other Spent h at two at' may = absurd may
+join_is_none c items views pass (Sender s) other w h at two at' may = absurd may
+join_is_none c items views pass Spent other w h at two at' may = absurd may
 
 set_same : (views : List View) (pass : ℕ) (v : View) → get_elem? views pass ≡ some v → set views pass v ≡ views
 set_same [] pass v at = absurd (some-ne-none v (sym at))
 set_same (u ∷ us) zero v at = ap (λ x. x ∷ us) (sym (some-injective u v at))
 set_same (u ∷ us) (suc pass) v at = ap (λ l. u ∷ l) (set_same us pass v at)
 
-stays : (items : List Item) (views others : List View) (s : Session items views) → views ≡ others → (t : Session items others) × (t.core ≡ s.core)
-stays items views others s same = subst (λ vs. (t : Session items vs) × (t.core ≡ s.core)) same (s, refl)
-
 pub full_is_none : FullIsNone
-full_is_none items views pass v s at = stays items views (set views pass v) s (sym (set_same views pass v at))
+full_is_none c items views pass v h at = subst (IsStateOf c items) (sym (set_same views pass v at)) h
 
 pub empty_is_none : EmptyIsNone
-empty_is_none views pass v s at = stays [] views (set views pass v) s (sym (set_same views pass v at))
+empty_is_none c views pass v h at = subst (IsStateOf c []) (sym (set_same views pass v at)) h

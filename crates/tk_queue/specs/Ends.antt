@@ -34,6 +34,10 @@ use Rattle.tk_queue.specs.Limits.{most_events}
 use Rattle.tk_queue.specs.Known.{Emission, is_plain, registrations, entries_by}
 use Rattle.tk_queue.specs.Session.{sender, receiver}
 
+-- how many items the queue of a session may hold: it has a slot for each
+abbrev pub capacity_of : TableId → ℕ
+capacity_of session = session.slots
+
 -- the session, its table of static descriptors, the worker, and the events that it emitted there, in order
 pub record Emits : Type 0 where
   pub session : TableId

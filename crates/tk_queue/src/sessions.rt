@@ -3,7 +3,7 @@ ghost use Rattle.std.specs.Prelude.{◌≡◌, ◌↔◌, ◌<◌, ◌≤◌, �
 ghost use Rattle.std.specs.Arc.{arc_value};
 ghost use Rattle.crossbeam_queue.specs.Passes.{view, IsPassOf};
 ghost use Rattle.tk_queue.specs.Session.{receiver};
-ghost use Rattle.tk_queue.specs.Ends.{fresh_receiver, fresh_senders};
+ghost use Rattle.tk_queue.specs.Ends.{capacity_of, fresh_receiver, fresh_senders};
 
 use crate::limits::MAX_PLACES;
 use crate::lines::{Doubled, DoubledAndOne, Line, NextSender, Seat};
@@ -51,7 +51,8 @@ fn make(
 ) -> Result<(Vec<Sender>, Receiver), AllocError>
     requires workers { workers ≤ MAX_WORKERS }
     requires capacity { 0 < capacity }
-    ensures { IfOk result (λ made. (made.1 ≡ fresh_receiver made.1.session (arc_value table) workers) × (made.0.items ≡ fresh_senders made.1.session (arc_value table) workers)) }
+    ensures ends { IfOk result (λ made. (made.1 ≡ fresh_receiver made.1.session (arc_value table) workers) × (made.0.items ≡ fresh_senders made.1.session (arc_value table) workers)) }
+    ensures places { IfOk result (λ made. capacity_of made.1.session ≡ capacity) }
 {
     let (queue, mut seat) = Line::ruled(alloc, capacity)?;
     tell(&queue, &mut seat, table.len() as u32);
@@ -78,6 +79,7 @@ pub fn open(
     ensures capacity { (result ≡ Err OpenFault.Capacity) ↔ (((0 < workers) × (workers ≤ MAX_WORKERS)) × ((capacity ≡ 0) ⊎ (MAX_PLACES < capacity))) }
     ensures receiver { IfOk result (λ made. made.1 ≡ fresh_receiver made.1.session (arc_value table) workers) }
     ensures senders { IfOk result (λ made. made.0.items ≡ fresh_senders made.1.session (arc_value table) workers) }
+    ensures places { IfOk result (λ made. capacity_of made.1.session ≡ capacity) }
 {
     if workers == 0 || workers > MAX_WORKERS as usize {
         return Err(OpenFault::Workers);

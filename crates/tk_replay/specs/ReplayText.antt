@@ -13,6 +13,7 @@ use Rattle.tk_record.specs.Spelling.{node_line, entry_line, IsDescriptor, HasEnt
 use Rattle.tk_record.specs.Text.{fed, nodes_text, entries_text, AreNodes, text}
 use Rattle.tk_record.specs.declared.writing.WriteFault.{WriteFault}
 use Rattle.tk_record.specs.declared.writing.WriteFault.TheVariants as writing
+use Rattle.tk_streams.specs.Stream.{AppendsFront}
 use Rattle.tk_streams.specs.declared.transfers.LoadFault.{LoadFault}
 use Rattle.tk_streams.specs.declared.transfers.LoadFault.TheVariants as loading
 use Rattle.tk_replay.specs.declared.items.Turn.{Turn}
@@ -125,6 +126,14 @@ IsOfInput _ = Unit {0}
 -- the record of what is taken was written
 abbrev pub IsWritten : List ℕ → Option (List ℕ) → Option (List ℕ) → Type 0
 IsWritten input old new = (r : Recorded) × IsPlayed input (Ok r) × Appends old new (text r)
+
+-- the input is within the limit, and no turn of it stops
+abbrev pub Plays : List ℕ → Type 0
+Plays input = (length input ≤ MAX_TEXT) × ((r : Recorded) × IsPlayed input (Ok r))
+
+-- a prefix of the record of what is taken was written
+abbrev pub IsPartlyWritten : List ℕ → Option (List ℕ) → Option (List ℕ) → Type 0
+IsPartlyWritten input old new = (length input ≤ MAX_TEXT) × ((r : Recorded) × IsPlayed input (Ok r) × AppendsFront old new (text r))
 
 -- faults of loading and of writing, as faults of replays
 abbrev pub load_fault : LoadFault → ReplayFault

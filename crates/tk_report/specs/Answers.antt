@@ -1,10 +1,13 @@
 -- What the calls that report answer, and what was written then.
-use Rattle.std.specs.Prelude.{◌≡◌, ℕ, ◌<◌, ◌≤◌, ◌⊎◌, List, Option, Result, Ok, Err}
-use Rattle.std.specs.Io.KnownBytes.{Appends, Keeps}
+use Rattle.std.specs.Prelude.{◌≡◌, ◌≢◌, ℕ, ◌<◌, ◌≤◌, List, Option, Result, Ok, Err, length}
+use Rattle.std.specs.Io.KnownBytes.{Appends}
 use Rattle.tk_events.specs.declared.registrations.TheConstants.{MAX_WORKERS}
 use Rattle.tk_columns.specs.Recorded.{Recorded}
 use Rattle.tk_streams.specs.Stream.{AppendsFront}
-use Rattle.tk_cutting.specs.Trees.{Tree}
+use Rattle.tk_cutting.specs.Cutting.{units_of}
+use Rattle.tk_cutting.specs.Trees.{Tree, forest}
+use Rattle.tk_plan.specs.declared.faults.PlanFault.{PlanFault}
+use Rattle.tk_plan.specs.declared.faults.PlanFault.TheVariants as plans
 use Rattle.tk_plan.specs.Gives.{plan_in, outline, Answered}
 use Rattle.tk_engine.specs.declared.runs.RunFault.{RunFault}
 use Rattle.tk_engine.specs.declared.runs.RunFault.TheVariants as runs
@@ -31,19 +34,31 @@ OfPlan bytes W = (t : Tree) × (plan_in bytes ≡ Ok t) × W (plan_text t)
 abbrev pub MayWork : ℕ → Type 0
 MayWork workers = (0 < workers) × (workers ≤ MAX_WORKERS)
 
--- The number of workers is refused exactly where it is out of its limits, the places never are. Of the other faults of a run
--- nothing is said here.
-abbrev pub IsRunFault : ℕ → RunFault → Type 0
-IsRunFault workers runs.Workers = ¬ MayWork workers
-IsRunFault workers runs.Capacity = ⊥
-IsRunFault workers (runs.Engine unit why) = MayWork workers
-IsRunFault workers runs.Memory = MayWork workers
-IsRunFault workers runs.Threads = MayWork workers
+-- how many units a plan has
+abbrev pub unit_count : Tree → ℕ
+unit_count t = length (units_of (forest (outline t).nodes))
+
+-- The number of workers is refused exactly where it is out of its limits, the places never are, and the unit that failed is one
+-- of the plan's. Want of memory is the report's own fault.
+abbrev pub IsRunFault : ℕ → ℕ → RunFault → Type 0
+IsRunFault workers units runs.Workers = ¬ MayWork workers
+IsRunFault workers units runs.Capacity = ⊥
+IsRunFault workers units (runs.Engine unit why) = MayWork workers × (unit < units)
+IsRunFault workers units runs.Memory = ⊥
+IsRunFault workers units runs.Threads = MayWork workers
+
+-- the plan of the bytes is not run by so many workers for this fault
+abbrev pub IsNotRun : List ℕ → ℕ → RunFault → Type 0
+IsNotRun bytes workers fault = (t : Tree) × (plan_in bytes ≡ Ok t) × IsRunFault workers (unit_count t) fault
+
+-- the bytes are no plan for this fault; want of memory is the report's own
+abbrev pub IsNoPlan : List ℕ → PlanFault → Type 0
+IsNoPlan bytes fault = Answered (plan_in bytes) (Err fault) × (fault ≢ plans.Memory)
 
 -- What reporting a plan that is run by so many workers answers.
 abbrev pub IsReported : List ℕ → ℕ → Option (List ℕ) → Option (List ℕ) → Result (Unit {0}) ReportFault → Type 0
 IsReported bytes workers old new (Ok _) = OfPlan bytes (Appends old new) × MayWork workers
-IsReported bytes workers old new (Err (Plan f)) = Answered (plan_in bytes) (Err f) × Keeps old new
-IsReported bytes workers old new (Err (Run f)) = ((t : Tree) × (plan_in bytes ≡ Ok t)) × IsRunFault workers f × Keeps old new
+IsReported bytes workers old new (Err (Plan f)) = IsNoPlan bytes f × (new ≡ old)
+IsReported bytes workers old new (Err (Run f)) = IsNotRun bytes workers f × (new ≡ old)
 IsReported bytes workers old new (Err Device) = OfPlan bytes (AppendsFront old new) × MayWork workers
-IsReported bytes workers old new (Err Memory) = ((t : Tree) × (plan_in bytes ≡ Ok t)) × MayWork workers × (new ≡ old)
+IsReported bytes workers old new (Err Memory) = new ≡ old

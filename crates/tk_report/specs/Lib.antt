@@ -1,2 +1,3 @@
 pub use Rattle.tk_reports.specs.Reports
+pub mod Faults
 pub mod Answers

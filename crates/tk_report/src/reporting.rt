@@ -36,8 +36,12 @@ pub fn write_report<T: Target>(
     }
 }
 
-/// Reads a plan, runs it by so many workers, each in a thread of its own, and writes the report of
+/// Reads a plan, runs it by `workers` workers, each in a thread of its own, and writes the report of
 /// the run. It is the plan's report, however many workers there are.
+///
+/// # Errors
+/// `Plan`, `Run` or `Device`. Want of memory is `Memory`, also in reading the plan and in running it; a unit
+/// that finds no memory is `Run(Engine(unit, fault))`.
 pub fn plan_report<R: Threads + Wait + Sync, T: Target>(
     rt: &R,
     alloc: Global,
@@ -48,14 +52,9 @@ pub fn plan_report<R: Threads + Wait + Sync, T: Target>(
     ensures answer { IsReported bytes.now workers (T.contents target.old) (T.contents target.new) result }
     ensures device { IsErrOf result ReportFault.Device → T.broken target.new ≡ true }
 {
-    let engine = match read_plan(alloc, bytes) {
-        Ok(plan) => Scripted::new(plan),
-        Err(fault) => return Err(ReportFault::Plan(fault)),
-    };
-    let results = match execute(rt, alloc, &engine, workers, CAPACITY) {
-        Ok(results) => results,
-        Err(fault) => return Err(ReportFault::Run(fault)),
-    };
+    let plan = read_plan(alloc, bytes)?;
+    let engine = Scripted::new(plan);
+    let results = execute(rt, alloc, &engine, workers, CAPACITY)?;
     one_report();
     let _table = engine.plan().table();
     write_report(alloc, &results, target)

@@ -12,6 +12,8 @@ use Rattle.tk_columns.specs.Entries.{desc}
 use Rattle.tk_queue.specs.Known.{entries_by, registrations}
 use Rattle.tk_cutting.specs.declared.nodes.Placed.{Placed}
 use Rattle.tk_cutting.specs.declared.steps.Step.{Step}
+use Rattle.tk_engine.specs.declared.engines.UnitFault.{UnitFault}
+use Rattle.tk_engine.specs.declared.engines.UnitFault.TheVariants.{Sink, Memory, Own}
 use Rattle.tk_laws.specs.Scripts.{played, known_in}
 use Rattle.tk_scripted.specs.Keys.{key_in}
 
@@ -37,3 +39,9 @@ pub record IsRegistered (nodes : List Placed) (old new : Emits) (s : Step) (abov
   pub node : Node
   pub is : slice_get (in_order nodes) s.node ≡ Some node
   pub registered : IsRegisteredAs old new above node.segment node.name node.dtype s.stamp (Ok key)
+
+-- a unit's fault that is the sink's, or want of memory, and none of the engine's own
+abbrev pub IsPlayFault : UnitFault → Type 0
+IsPlayFault (Sink why) = Unit {0}
+IsPlayFault Memory = Unit {0}
+IsPlayFault (Own n) = ⊥

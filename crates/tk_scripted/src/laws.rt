@@ -1,18 +1,21 @@
 //! What holds of each run of a plan's engine.
-ghost use Rattle.std.specs.Prelude.{ℕ};
-ghost use Rattle.tk_reports.specs.Labels.{labels};
-ghost use Rattle.tk_laws.specs.Listening.{Listens};
+ghost use Rattle.std.specs.Prelude.{ℕ, length};
+ghost use Rattle.tk_reports.specs.Labels.{events, labels, name};
+ghost use Rattle.tk_laws.specs.Listening.{Listens, ListensByKey};
 ghost use Rattle.tk_laws.specs.Scripts.{IsRunOf};
 
 use crate::scripted::Scripted;
 use tk_engine::Results;
 
-/// What a listener may rely on holds of a record that is a run of the engine, as each is that `execute` answers for it.
+/// What a listener may rely on holds of a record that is a run of the engine, as each is that `execute` answers for it: by the
+/// descriptors' ids, and by their keys.
 pub fn listener(engine: &Scripted, results: &Results)
     requires { (workers : ℕ) × IsRunOf engine.now.nodes engine.now.table workers results.now.recorded }
-    ensures { Listens (labels results.now.recorded) }
+    ensures by_id { Listens (labels results.now.recorded) }
+    ensures by_key { ListensByKey (length engine.now.table) (name results.now.recorded) (events results.now.recorded.entries) }
 {
     let _ = results;
     let _table = engine.plan().table();
     tk_laws::laws::listener();
+    tk_laws::laws::listener_by_key();
 }

@@ -1,5 +1,5 @@
 //! Playing the script of a unit.
-ghost use Rattle.std.specs.Prelude.{◌≡◌, ◌<◌, ◌+◌, ◌++◌, ℕ, List, [], length, take, All, OnOk, OnErr, IfOk};
+ghost use Rattle.std.specs.Prelude.{◌≡◌, ◌<◌, ◌+◌, ◌++◌, ℕ, List, [], length, take, All, OnOk, OnErr, IfOk, IfErr};
 ghost use Rattle.tk_events.specs.declared.events.Event.{Event};
 ghost use Rattle.tk_queue.specs.Known.{registrations};
 ghost use Rattle.tk_engine.specs.Engines.{IsSame};
@@ -10,7 +10,7 @@ ghost use Rattle.tk_cutting.specs.Planned.{IsPlanned};
 ghost use Rattle.tk_cutting.specs.Trees.{forest};
 ghost use Rattle.tk_laws.specs.Scripts.{may, played};
 ghost use Rattle.tk_scripted.specs.Keys.{kept};
-ghost use Rattle.tk_scripted.specs.Plays.{IsPlayed, IsRegistered, Tells, next_key};
+ghost use Rattle.tk_scripted.specs.Plays.{IsPlayFault, IsPlayed, IsRegistered, Tells, next_key};
 
 use crate::keys::Keys;
 use std::alloc::Global;
@@ -32,6 +32,7 @@ fn tell<R: Wait, S: Sink>(
     requires known { IsKnown plan.now.nodes step.node step.act }
     ensures ok { OnOk result (Tells plan.now.nodes (S.meaning sink.old) (S.meaning sink.new) step key) }
     ensures err { OnErr result (S.meaning sink.new ≡ S.meaning sink.old) }
+    ensures cause { IfErr result IsPlayFault }
 {
     let payload = plan.payload(alloc, step)?;
     let event = Event {
@@ -57,6 +58,7 @@ fn register<R: Wait, S: Sink>(
     requires known { IsKnown plan.now.nodes step.node step.act }
     ensures ok { IfOk result (λ key. IsRegistered plan.now.nodes (S.meaning sink.old) (S.meaning sink.new) step above key) }
     ensures err { OnErr result (S.meaning sink.new ≡ S.meaning sink.old) }
+    ensures cause { IfErr result IsPlayFault }
 {
     let segment = plan.segment(step.node);
     let name = plan.name(step.node);
@@ -87,6 +89,7 @@ fn play<R: Wait, S: Sink>(
     ensures same { IsSame (S.meaning sink.old) (S.meaning sink.new) }
     ensures ok { OnOk result (IsPlayed plan.now.nodes plan.now.table (S.meaning sink.old).worker sent (take (at + 1) steps.now) (S.meaning sink.new).sent (kept keys.new)) }
     ensures err { OnErr result ((l : List Event) × ((S.meaning sink.new).sent ≡ (S.meaning sink.old).sent ++ l)) }
+    ensures cause { IfErr result IsPlayFault }
 {
     scripts_are_playable();
     nodes_are_found();
@@ -124,6 +127,7 @@ fn play_each<R: Wait, S: Sink>(
     ensures same { IsSame (S.meaning sink.old) (S.meaning sink.new) }
     ensures ok { OnOk result ((S.meaning sink.new).sent ≡ sent ++ played plan.now.nodes (length plan.now.table) (next_key (S.meaning sink.old).worker sent) [] steps.now) }
     ensures err { OnErr result ((l : List Event) × ((S.meaning sink.new).sent ≡ sent ++ l)) }
+    ensures cause { IfErr result IsPlayFault }
 {
     let mut keys = Keys::new(alloc);
     for at in 0..steps.len() {
@@ -146,6 +150,7 @@ pub(crate) fn play_unit<R: Wait, S: Sink>(
     ensures ok { OnOk result ((l : List Event) × ((S.meaning sink.new).sent ≡ (S.meaning sink.old).sent ++ l)
         × may plan.now.nodes plan.now.table unit (S.meaning sink.old).worker (registrations (S.meaning sink.old).sent) l) }
     ensures err { OnErr result ((l : List Event) × ((S.meaning sink.new).sent ≡ (S.meaning sink.old).sent ++ l)) }
+    ensures cause { IfErr result IsPlayFault }
 {
     let _table = plan.table();
     let steps = plan.script(alloc, unit)?;

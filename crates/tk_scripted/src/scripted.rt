@@ -1,6 +1,10 @@
 //! The engine of a plan.
-ghost use Rattle.std.specs.Prelude.{◌≡◌};
+ghost use Rattle.std.specs.Prelude.{◌≡◌, ◌<◌, ◌++◌, List, OnOk, OnErr, IfErr};
 ghost use Rattle.tk_cutting.specs.Planned.{Outline};
+ghost use Rattle.tk_engine.specs.Engines.{IsSame};
+ghost use Rattle.tk_events.specs.declared.events.Event.{Event};
+ghost use Rattle.tk_queue.specs.Known.{registrations};
+ghost use Rattle.tk_scripted.specs.Plays.{IsPlayFault};
 
 use crate::playing::play_unit;
 use std::alloc::{AllocError, Global};
@@ -91,7 +95,14 @@ impl Engine for Scripted {
         unit: u32,
         _seat: &BookSeat,
         sink: &mut S,
-    ) -> Result<(), UnitFault> {
+    ) -> Result<(), UnitFault>
+        requires unit { unit < length (units_of (forest self.now.nodes)) }
+        requires table { (S.meaning sink.old).table ≡ self.now.table }
+        ensures same { IsSame (S.meaning sink.old) (S.meaning sink.new) }
+        ensures ok { OnOk result ((l : List Event) × ((S.meaning sink.new).sent ≡ (S.meaning sink.old).sent ++ l) × plays self.now.nodes self.now.table unit (S.meaning sink.old).worker (registrations (S.meaning sink.old).sent) l) }
+        ensures err { OnErr result ((l : List Event) × ((S.meaning sink.new).sent ≡ (S.meaning sink.old).sent ++ l)) }
+        ensures cause { IfErr result IsPlayFault }
+    {
         play_unit(rt, alloc, &self.plan, unit, sink)
     }
 }

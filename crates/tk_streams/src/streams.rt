@@ -1,5 +1,6 @@
 //! Where bytes come from and go to.
-ghost use Rattle.std.specs.Prelude.{◌≡◌, ℕ, List, Bool, true, Option, is_err, IsErr};
+ghost use Rattle.std.specs.Prelude.{◌≡◌, ℕ, List, Bool, true, Option, is_err, IsErr, OnErr};
+ghost use Rattle.std.specs.Io.KnownBytes.{Keeps};
 ghost use Rattle.tk_streams.specs.Stream.{ReadTakes, WriteAdds};
 
 /// A device failed. It stays so.
@@ -15,9 +16,10 @@ pub trait Source {
     ghost broken: { Self → Bool };
 
     /// Reads into the front of the buffer, and answers how many bytes it read. At a buffer that is
-    /// not empty, 0 is the end of the input.
+    /// not empty, 0 is the end of the input. A read that fails takes no byte.
     fn read_some(&mut self, buffer: &mut [u8]) -> Result<usize, Broken>
         ensures bytes { ReadTakes (remaining self.old) (remaining self.new) result buffer.new }
+        ensures keeps { OnErr result (Keeps (remaining self.old) (remaining self.new)) }
         ensures broken { broken self.new ≡ is_err result }
         ensures stays_broken { broken self.old ≡ true → IsErr result };
 

@@ -1,7 +1,7 @@
 //! Reading to the end of a source, and writing all of a text.
-ghost use Rattle.std.specs.Prelude.{◌≡◌, ◌<◌, ◌≤◌, ◌++◌, ℕ, List, [], length, take, true, false, Option, Some, None, IfSome, IfOk, OnOk, OnErr, IsErrOf, IsErr, ◌^◌};
+ghost use Rattle.std.specs.Prelude.{◌≡◌, ◌<◌, ◌≤◌, ◌+◌, ◌++◌, ℕ, List, [], length, take, true, false, Option, Some, None, IfSome, IfOk, OnOk, OnErr, IsErrOf, IsErr, ◌^◌};
 ghost use Rattle.std.specs.Io.KnownBytes.{Consumes, Appends, IsAtEnd};
-ghost use Rattle.tk_streams.specs.Stream.{IsLoaded, AppendsFront};
+ghost use Rattle.tk_streams.specs.Stream.{ConsumesUpTo, IsLoaded, AppendsFront};
 ghost use Rattle.tk_streams.specs.declared.transfers.LoadFault.TheVariants.{Memory};
 
 use crate::streams::{Broken, Source, Target};
@@ -30,13 +30,22 @@ impl From<AllocError> for LoadFault {
 const CHUNK: usize = 65_536;
 
 /// All bytes to the end of the source, where there are no more of them than the limit. It stops
-/// reading once there are more.
+/// reading once there are more: after the read that went past the limit, which took at most 65,536
+/// bytes, the source is not read again.
 pub fn load<S: Source>(alloc: Global, source: &mut S, limit: usize) -> Result<Vec<u8>, LoadFault>
     ensures ok { IfOk result (λ bytes. IsLoaded (S.remaining source.old) (S.remaining source.new) bytes.items) }
     ensures within { IfOk result (λ bytes. length bytes.items ≤ limit) }
     ensures ready { OnOk result (S.broken source.new ≡ false) }
     ensures too_large { IsErrOf result LoadFault.TooLarge → IfSome (S.remaining source.old) (λ bytes. limit < length bytes) }
     ensures device { IsErrOf result LoadFault.Device → S.broken source.new ≡ true }
+    ensures stops { OnErr result
+        (ConsumesUpTo (limit + 65536) (S.remaining source.old) (S.remaining source.new)) }
+    ensures device_within { IsErrOf result LoadFault.Device →
+        ConsumesUpTo limit (S.remaining source.old) (S.remaining source.new) }
+    ensures memory_within { IsErrOf result LoadFault.Memory →
+        ConsumesUpTo limit (S.remaining source.old) (S.remaining source.new) }
+    ensures too_large_ready { IsErrOf result LoadFault.TooLarge → S.broken source.new ≡ false }
+    ensures memory_ready { IsErrOf result LoadFault.Memory → S.broken source.new ≡ false }
 {
     let mut bytes = Vec::new(alloc);
     let mut chunk = [0u8; CHUNK];

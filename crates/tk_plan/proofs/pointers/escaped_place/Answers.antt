@@ -3,4 +3,4 @@ use Rattle.tk_plan.proofs.pointers.escaped_place.Goals as goal
 
 pub loop-letter-preserved : goal.loop-letter-preserved
 loop-letter-preserved c =
-    letter_written c.in-Some.letter _ _ _ _ _ c.if-letter-eq126.false c.if-letter-eq47.false c.loop-letter.invariant c.in-Some.ensures.steps.0 c.in_ok-push-2.ensures.bytes
+    letter_written c.in-Some.letter _ _ _ _ _ c.loop-letter.invariant c.in-Some.ensures.steps.0 c.in_ok-push_escaped.ensures

@@ -16,7 +16,7 @@ use Rattle.tk_plan.specs.Sites.{sites, sites_in, segment_in, segment_of, id_of, 
 use Rattle.tk_plan.specs.Seen.{seen}
 use Rattle.tk_plan.proofs.CheckSteps.{faults_also, noted_added, noted_same}
 use Rattle.tk_plan.proofs.Items.{values_next}
-use Rattle.tk_plan.proofs.Going.{Goes, met_next, met_end, goes_next, goes_fault, goes_end, goes_nowhere, site_next, check_fault, parts_of, static_fault, dynamic_verdict, placed_at, grown_here, described_here, nothing_below, leaf_read, span_written, no_values}
+use Rattle.tk_plan.proofs.Going.{Goes, met_next, met_end, goes_next, goes_fault, goes_end, goes_nowhere, site_next, check_fault, parts_of, static_fault, dynamic_verdict, placed_at, grown_here, described_here, span_written, no_values}
 use Rattle.tk_plan.proofs.reading.+reading.Goals as goal
 
 pub read_all-returns-in_err-read_node : goal.read_all-returns-in_err-read_node
@@ -70,7 +70,7 @@ read_node-read_all-requires t c =
     let k = c.in_ok-checked.ensures in
     let s : spec.Site = seen c.args.siblings.now c.args.site in
     let noted : IsNoted c.args.reader.now = search rules in
-    (omega arith, (noted_added _ _ _ s _ _ noted k.1 c.in_ok-add_node-2.ensures, (k.1.level, refl)))
+    (omega arith, (noted_added _ _ _ s _ _ noted k.1 c.in_ok-id.ensures.added, (k.1.level, refl)))
 
 pub read_node-read_all-requires-2 : goal.read_node-read_all-requires-2
 read_node-read_all-requires-2 t c =
@@ -81,73 +81,73 @@ pub read_node-returns-in_err-read_all : goal.read_node-returns-in_err-read_all
 read_node-returns-in_err-read_all t c =
     let p = err_from_is_err_and c.from_residual-in_err-read_all.result c.from_residual-in_err-read_all.ensures.1 in
     let k = c.in_ok-checked.ensures.1 in
-    let a = c.in_ok-add_node-2.ensures in
+    let a = c.in_ok-id.ensures.added in
     let s : spec.Site = seen c.args.siblings.now c.args.site in
     let cs = map view c.in_ok-checked.checked.children.now in
     let ds = map view c.in_ok-checked.checked.dynamic.now in
     let id = c.in_ok-id.id in
-    let same : id ≡ c.in_ok-checked.checked.id = c.in_ok-id.ensures in
+    let same : id ≡ c.in_ok-checked.checked.id = c.in_ok-id.ensures.id in
     let e1 = c.new-below.result in
     let parts = parts_of s cs ds id e1 (e1 ++ map segment_in cs) k.children k.dynamic (same ∙ k.id) c.new-below.ensures refl in
-    let push : c.add_node-2.new.reader.nodes.items ≡ c.args.reader.now.nodes.items ++ record { node = c.in_ok-checked.checked.node; number = 0; span = 1 } ∷ [] =
+    let push : c.add_checked.new.reader.nodes.items ≡ c.args.reader.now.nodes.items ++ record { node = c.in_ok-checked.checked.node; number = 0; span = 1 } ∷ [] =
     a.nodes ∙ ap (λ l. l ++ record { node = c.in_ok-checked.checked.node; number = 0; span = 1 } ∷ []) k.nodes in
     rw (p.1, p.2) (faults_also _ _ _
-    (static_fault (60 - c.args.site.level) (61 - c.args.site.level) (omega arith) c.args.reader.now.nodes.items c.add_node-2.new.reader.nodes.items s
+    (static_fault (60 - c.args.site.level) (61 - c.args.site.level) (omega arith) c.args.reader.now.nodes.items c.add_checked.new.reader.nodes.items s
     c.in_ok-checked.checked.node _ _ parts k.node push c.in_ok-checked.ensures.0) c.in_err-read_all.ensures)
 
 pub read_node-returns-in_err-read_all-2 : goal.read_node-returns-in_err-read_all-2
 read_node-returns-in_err-read_all-2 t c =
     let p = err_from_is_err_and c.from_residual-in_err-read_all-2.result c.from_residual-in_err-read_all-2.ensures.1 in
     let k = c.in_ok-checked.ensures.1 in
-    let a = c.in_ok-add_node-2.ensures in
+    let a = c.in_ok-id.ensures.added in
     let s : spec.Site = seen c.args.siblings.now c.args.site in
     let cs = map view c.in_ok-checked.checked.children.now in
     let ds = map view c.in_ok-checked.checked.dynamic.now in
     let id = c.in_ok-id.id in
-    let same : id ≡ c.in_ok-checked.checked.id = c.in_ok-id.ensures in
+    let same : id ≡ c.in_ok-checked.checked.id = c.in_ok-id.ensures.id in
     let e1 = c.new-below.result in
     let one = c.in_ok-read_all.ensures in
     let parts = parts_of s cs ds id e1 c.read_all.new.siblings k.children k.dynamic (same ∙ k.id) c.new-below.ensures one.1.1 in
-    let push : c.add_node-2.new.reader.nodes.items ≡ c.args.reader.now.nodes.items ++ record { node = c.in_ok-checked.checked.node; number = 0; span = 1 } ∷ [] =
+    let push : c.add_checked.new.reader.nodes.items ≡ c.args.reader.now.nodes.items ++ record { node = c.in_ok-checked.checked.node; number = 0; span = 1 } ∷ [] =
     a.nodes ∙ ap (λ l. l ++ record { node = c.in_ok-checked.checked.node; number = 0; span = 1 } ∷ []) k.nodes in
     rw (p.1, p.2) (faults_also _ _ _
-    (λ f w. dynamic_verdict (60 - c.args.site.level) (61 - c.args.site.level) (omega arith) c.args.reader.now.nodes.items c.add_node-2.new.reader.nodes.items s
+    (λ f w. dynamic_verdict (60 - c.args.site.level) (61 - c.args.site.level) (omega arith) c.args.reader.now.nodes.items c.add_checked.new.reader.nodes.items s
     c.in_ok-checked.checked.node _ _ parts k.node push c.in_ok-checked.ensures.0
     c.read_all.new.reader.nodes.items one.0 one.1.0.nodes (Some f) w) c.in_err-read_all-2.ensures)
 
 pub read_node-returns : goal.read_node-returns
 read_node-returns t c =
     let k = c.in_ok-checked.ensures.1 in
-    let a = c.in_ok-add_node-2.ensures in
+    let a = c.in_ok-id.ensures.added in
     let s : spec.Site = seen c.args.siblings.now c.args.site in
     let cs = map view c.in_ok-checked.checked.children.now in
     let ds = map view c.in_ok-checked.checked.dynamic.now in
     let id = c.in_ok-id.id in
-    let same : id ≡ c.in_ok-checked.checked.id = c.in_ok-id.ensures in
+    let same : id ≡ c.in_ok-checked.checked.id = c.in_ok-id.ensures.id in
     let node = c.in_ok-checked.checked.node in
     let e1 = c.new-below.result in
     let one = c.in_ok-read_all.ensures in
     let two = c.in_ok-read_all-2.ensures in
     let parts = parts_of s cs ds id e1 c.read_all.new.siblings k.children k.dynamic (same ∙ k.id) c.new-below.ensures one.1.1 in
-    let push : c.add_node-2.new.reader.nodes.items ≡ c.args.reader.now.nodes.items ++ record { node = node; number = 0; span = 1 } ∷ [] =
+    let push : c.add_checked.new.reader.nodes.items ≡ c.args.reader.now.nodes.items ++ record { node = node; number = 0; span = 1 } ∷ [] =
     a.nodes ∙ ap (λ l. l ++ record { node = node; number = 0; span = 1 } ∷ []) k.nodes in
     let l : ℕ = 60 - c.args.site.level in
     let m : ℕ = 61 - c.args.site.level in
     let up : m ≡ suc l = omega arith in
     let old : List Placed = c.args.reader.now.nodes.items in
     let last : List Placed = c.read_all-2.new.reader.nodes.items in
-    let whole = placed_at l m up old c.add_node-2.new.reader.nodes.items s node _ _ parts k.node push c.in_ok-checked.ensures.0
+    let whole = placed_at l m up old c.add_checked.new.reader.nodes.items s node _ _ parts k.node push c.in_ok-checked.ensures.0
     c.read_all.new.reader.nodes.items one.0 one.1.0.nodes last two.1.0.nodes in
     let start : c.len-at.result ≡ length old = grind arith in
     let end : c.len.result ≡ length last = grind arith in
     let written = span_written old _ last node c.index_mut.result.now c.len-at.result c.len.result whole start end c.index_mut.ensures.value in (
-      dynamic_verdict l m up old c.add_node-2.new.reader.nodes.items s node _ _ parts k.node push c.in_ok-checked.ensures.0
+      dynamic_verdict l m up old c.add_checked.new.reader.nodes.items s node _ _ parts k.node push c.in_ok-checked.ensures.0
           c.read_all.new.reader.nodes.items one.0 one.1.0.nodes None two.0,
       (
         record {
-          nodes = written.0 ∙ sym (grown_here l m up old c.add_node-2.new.reader.nodes.items s node _ _ parts k.node push c.in_ok-checked.ensures.0);
-          descriptors = described_here l m up old c.add_node-2.new.reader.nodes.items s node _ _ parts k.node push c.in_ok-checked.ensures.0
-              id c.args.reader.now.descriptors.items c.add_node-2.new.reader.descriptors.items c.read_all.new.reader.descriptors.items c.read_all-2.new.reader.descriptors.items
+          nodes = written.0 ∙ sym (grown_here l m up old c.add_checked.new.reader.nodes.items s node _ _ parts k.node push c.in_ok-checked.ensures.0);
+          descriptors = described_here l m up old c.add_checked.new.reader.nodes.items s node _ _ parts k.node push c.in_ok-checked.ensures.0
+              id c.args.reader.now.descriptors.items c.add_checked.new.reader.descriptors.items c.read_all.new.reader.descriptors.items c.read_all-2.new.reader.descriptors.items
               (same ∙ k.id) (a.descriptors ∙ ap₂ (λ y i. y ++ descriptor_in i node) k.descriptors (sym same)) one.1.0.descriptors two.1.0.descriptors;
           noted = noted_same c.read_all-2.new.reader _ written.1 refl refl refl two.1.0.noted;
         },
@@ -162,19 +162,3 @@ read_all-returns-then-is_empty t c =
     let noted : IsNoted c.args.reader.now = search rules in
     let nowhere = goes_nowhere (60 - c.args.parent.level) c.args.id.now c.args.reader.now (member_at (pointer c.args.parent.place) c.args.name.now) (c.args.parent.level + 1) c.args.is_static c.args.siblings.now _ (ap (map view) none) noted in
     (nowhere.0, (nowhere.1, sym (ap (λ l. c.args.siblings.now ++ map segment_in (map view l)) none ∙ append-nil c.args.siblings.now)))
-
-pub read_node-returns-then-is_empty-2 : goal.read_node-returns-then-is_empty-2
-read_node-returns-then-is_empty-2 t c =
-    let k = c.in_ok-checked.ensures.1 in
-    let a = c.in_ok-add_node.ensures in
-    let s : spec.Site = seen c.args.siblings.now c.args.site in
-    let noted : IsNoted c.args.reader.now = search rules in
-    let node = c.in_ok-checked.checked.node in
-    let id = c.in_ok-checked.checked.id in
-    let no_children : length c.in_ok-checked.checked.children.now ≡ 0 = grind (arith, nat_tests) in
-    let no_dynamic : length c.in_ok-checked.checked.dynamic.now ≡ 0 = grind (arith, nat_tests) in
-    let none = nothing_below s (sym (ap (map view) (no_values _ no_children)) ∙ k.children) (sym (ap (map view) (no_values _ no_dynamic)) ∙ k.dynamic) in
-    let levels : ◌≡◌ {A = ℕ} (61 - c.args.site.level) (suc (60 - c.args.site.level)) = omega arith in
-    let leaf = leaf_read (60 - c.args.site.level) (61 - c.args.site.level) levels c.args.reader.now c.add_node.new.reader s node id none k.node k.id
-    (a.nodes ∙ ap (λ l. l ++ record { node = node; number = 0; span = 1 } ∷ []) k.nodes) (a.descriptors ∙ ap (λ l. l ++ descriptor_in id node) k.descriptors) (noted_added _ _ _ s _ _ noted k a) c.in_ok-checked.ensures.0 in
-    (leaf.0, (leaf.1, k.siblings))

@@ -6,6 +6,8 @@ use Rattle.tk_scripted.proofs.laws.listener.Goals as goal
 pub returns : goal.returns
 returns c =
     let plan = c.args.engine.now in
-    c.listener.ensures plan.nodes plan.table c.requires.0 c.args.results.now.recorded
-    (subst (λ (p : Outline). IsPlanned p.nodes p.table) c.plan.ensures c.table-table.ensures.planned)
-    (subst (λ (p : Outline). IsNumbered p.nodes) c.plan.ensures c.table-table.ensures.numbered) c.requires.1
+    let planned = subst (λ (p : Outline). IsPlanned p.nodes p.table) c.plan.ensures c.table-table.ensures.planned in
+    let numbers = subst (λ (p : Outline). IsNumbered p.nodes) c.plan.ensures c.table-table.ensures.numbered in record {
+      by_id = c.listener.ensures plan.nodes plan.table c.requires.0 c.args.results.now.recorded planned numbers c.requires.1;
+      by_key = c.listener_by_key.ensures plan.nodes plan.table c.requires.0 c.args.results.now.recorded planned numbers c.requires.1;
+    }

@@ -54,4 +54,5 @@ returns-in_ok-tell-in-Skip g c =
           step c.of-key.result (sym script.1 ∙ cut_at steps at _ c.requires.1.1.0) (plain_act step.act c.in-Skip.is)
           (subst (λ n. key_found n (kept c.args.keys.now) step.node ≡ Some c.of-key.result) statics c.of-key.ensures) told);
       err = tt;
+      cause = tt;
     }

@@ -1,0 +1,22 @@
+use Rattle.std.proofs.Common.{◌≤◌, ◌+◌, length, arith}
+use Rattle.std.proofs.lemmas.Grind.{common_steps}
+use Rattle.std.proofs.lemmas.Result.{err_from_is_err_and}
+use Rattle.tk_streams.proofs.Known.{ConsumesUpTo-more}
+use Rattle.tk_streams.proofs.transfers.load.Goals as goal
+
+pub returns-then-count-limit-clause-stops : goal.returns-then-count-limit-clause-stops
+returns-then-count-limit-clause-stops g c =
+    let few : length c.loop-count.bytes.items ≤ c.args.limit = grind (arith, common_steps) in
+    let chunk : c.in-Ok.count ≤ 65536 = grind (arith, common_steps) in
+    ConsumesUpTo-more _ (g.S.Source.remaining c.loop-count.source) _ c.loop-count.bytes.items c.read_some.new.buffer c.in-Ok.count _ c.loop-count.invariant.taken c.in-Ok.ensures.bytes.1 (omega arith)
+
+pub returns-in_err-extend_from_slice-clause-stops : goal.returns-in_err-extend_from_slice-clause-stops
+returns-in_err-extend_from_slice-clause-stops g c =
+    let few : length c.loop-count.bytes.items + c.in-Ok.count ≤ c.args.limit = grind (arith, common_steps) in
+    let p = err_from_is_err_and c.from_residual.result c.from_residual.ensures.1 in
+    rw p.1 (ConsumesUpTo-more _ (g.S.Source.remaining c.loop-count.source) _ c.loop-count.bytes.items c.read_some.new.buffer c.in-Ok.count _ c.loop-count.invariant.taken c.in-Ok.ensures.bytes.1 (omega arith))
+
+pub returns-in_err-extend_from_slice-clause-memory_within : goal.returns-in_err-extend_from_slice-clause-memory_within
+returns-in_err-extend_from_slice-clause-memory_within g c =
+    let few : length c.loop-count.bytes.items + c.in-Ok.count ≤ c.args.limit = grind (arith, common_steps) in
+    λ _. ConsumesUpTo-more _ (g.S.Source.remaining c.loop-count.source) _ c.loop-count.bytes.items c.read_some.new.buffer c.in-Ok.count _ c.loop-count.invariant.taken c.in-Ok.ensures.bytes.1 few
