@@ -1,5 +1,6 @@
 -- The last of a crew, and the rest.
 use Rattle.std.proofs.Common.{◌≡◌, ℕ, zero, suc, ◌+◌, List, [], ◌∷◌, ◌++◌, length, refl, ap, sym, ◌∙◌, arith, length-append}
+use Rattle.std.specs.Prelude.{vec_len}
 use Rattle.atomic_table.specs.Seated.{TableId}
 use Rattle.tk_ids.specs.declared.tables.Descriptor.{Descriptor}
 use Rattle.tk_book.specs.Books.{BookName, Holder, empty}
@@ -51,6 +52,10 @@ module _ (session : TableId) (claim : ClaimName) (book : BookName) (table : List
         book_is = ap (λ (x : Holder). x.book) b;
         holds = ap (λ (x : Holder). x.holds) b;
       }
+
+-- the crew has one fewer
+pub one_fewer : (all rest : Crew) (h : Hand) → IsLast all rest h → vec_len all.senders ≡ vec_len rest.senders + 1
+one_fewer all rest h cut = let long = ap (λ l. length l) cut.sender in omega (arith, all.senders.ok.0, rest.senders.ok.0, long, length-append rest.senders.items (h.sender ∷ []))
 
 pub length-fresh : (session : TableId) (table : List Descriptor) (n : ℕ) → length (fresh_senders session table n) ≡ n
 length-fresh session table zero = refl

@@ -26,8 +26,8 @@ use Rattle.tk_queue.specs.Known.{entries_by}
 use Rattle.tk_runs.proofs.Workers.{in_the_middle}
 use Rattle.tk_engine.specs.declared.runs.RunFault.{RunFault}
 use Rattle.tk_engine.specs.declared.runs.RunFault.TheVariants as fault
-use Rattle.tk_engine.specs.Sorting.{AllWhole, CanClose, IsFirstFailure, IsFailure, IsLate}
-use Rattle.tk_engine.specs.Workers.{AllDone, FailuresAreUnits}
+use Rattle.tk_engine.specs.Sorting.{AllWhole, CanClose, IsFirstFailure, IsTeamFault, IsLate}
+use Rattle.tk_engine.specs.Workers.{AllDone}
 use Rattle.tk_engine.proofs.Places.{map_at, all_from}
 use Rattle.tk_engine.proofs.Emitted.{emits_along}
 
@@ -194,17 +194,17 @@ tallied n closed es ls mix each others = record {
 }
 
 -- the first failure is of one of the engine's units
-pub failure_is_unit : (units : ℕ) (os : List Outcome) (u : ℕ) (why : UnitFault) → FailuresAreUnits units os → IsFirstFailure os u why → u < units
+pub failure_is_unit : (units : ℕ) (os : List Outcome) (u : ℕ) (why : UnitFault) → All (λ o. IfSome o.failure (λ f. f.unit < units)) os → IsFirstFailure os u why → u < units
 failure_is_unit units [] u why all h = absurd h
 failure_is_unit units (o ∷ os) u why all (inl is) = let one = All-head (λ (x : Outcome). IfSome x.failure (λ f. f.unit < units)) o os all in subst (λ (f : Option Failure). IfSome f (λ g. g.unit < units)) is one
 failure_is_unit units (o ∷ os) u why all (inr h) = failure_is_unit units os u why (All-tail (λ (x : Outcome). IfSome x.failure (λ f. f.unit < units)) o os all) h.1
 
-pub late : (units : ℕ) (os : List Outcome) (f : RunFault) → FailuresAreUnits units os → IsFailure os f → IsLate units f
-late units os fault.Workers all h = absurd h
-late units os fault.Capacity all h = absurd h
-late units os (fault.Engine unit why) all h = failure_is_unit units os unit why all h
-late units os fault.Memory all h = tt
-late units os fault.Threads all h = absurd h
+pub late : (units : ℕ) (a : Intake) (os : List Outcome) (f : RunFault) → All (λ o. IfSome o.failure (λ f. f.unit < units)) os → IsTeamFault a os f → IsLate units f
+late units a os fault.Workers all h = absurd h
+late units a os fault.Capacity all h = absurd h
+late units a os (fault.Engine unit why) all h = failure_is_unit units os unit why all h
+late units a os fault.Memory all h = tt
+late units a os fault.Threads all h = tt
 
 -- what a worker has in a run, it has in the middle
 pub tallied_whole : (n : ℕ) (numbers : List ℕ) (before after : List Event) (mid whole : List Entry) → whole ≡ entries_by 0 before ++ mid ++ entries_by 0 after → IsTallied n numbers mid → IsTallied n numbers whole

@@ -6,4 +6,5 @@ pub mod Results
 pub mod Sinks
 pub mod Sorting
 pub mod Starts
+pub mod Teams
 pub mod Workers

@@ -1,8 +1,9 @@
 -- What a run ends with.
-use Rattle.std.specs.Prelude.{◌≡◌, ℕ, ◌+◌, ◌<◌, ◌⊎◌, true, List, [], ◌∷◌, length, None, Some, slice_get}
+use Rattle.std.specs.Prelude.{◌≡◌, ℕ, ◌+◌, ◌<◌, ◌⊎◌, true, false, List, [], ◌∷◌, length, None, Some, slice_get}
 use Rattle.tk_claim.specs.Claims.{Claimant}
 use Rattle.tk_queue.specs.Ends.{Emits, Receives, is_marked}
 use Rattle.tk_engine.specs.declared.engines.UnitFault.{UnitFault}
+use Rattle.tk_engine.specs.declared.intakes.Intake.{Intake}
 use Rattle.tk_engine.specs.declared.workers.Outcome.{Outcome}
 use Rattle.tk_engine.specs.declared.runs.RunFault.{RunFault}
 use Rattle.tk_engine.specs.declared.runs.RunFault.TheVariants as fault
@@ -19,13 +20,19 @@ abbrev pub IsFirstFailure : List Outcome → ℕ → UnitFault → Type 0
 IsFirstFailure [] unit why = ⊥
 IsFirstFailure (o ∷ os) unit why = (o.failure ≡ Some (record { unit = unit; why = why })) ⊎ ((o.failure ≡ None) × IsFirstFailure os unit why)
 
--- memory was refused, or it is the first failure
-abbrev pub IsFailure : List Outcome → RunFault → Type 0
-IsFailure os fault.Workers = ⊥
-IsFailure os fault.Capacity = ⊥
-IsFailure os (fault.Engine unit why) = IsFirstFailure os unit why
-IsFailure os fault.Memory = Unit {0}
-IsFailure os fault.Threads = ⊥
+-- in none of the outcomes a unit failed
+abbrev pub NoneFailed : List Outcome → Type 0
+NoneFailed [] = Unit {0}
+NoneFailed (o ∷ os) = (o.failure ≡ None) × NoneFailed os
+
+-- Why a team leaves no record: its first failure; without one, memory was refused; and if the record grew too, a worker has
+-- no thread.
+abbrev pub IsTeamFault : Intake → List Outcome → RunFault → Type 0
+IsTeamFault a os fault.Workers = ⊥
+IsTeamFault a os fault.Capacity = ⊥
+IsTeamFault a os (fault.Engine unit why) = IsFirstFailure os unit why
+IsTeamFault a os fault.Memory = NoneFailed os
+IsTeamFault a os fault.Threads = NoneFailed os × (a.is_full ≡ false) × (a.is_refused ≡ true)
 
 -- a fault that may come when the numbers of workers and places are in their limits
 abbrev pub IsLate : ℕ → RunFault → Type 0

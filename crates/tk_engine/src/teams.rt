@@ -1,7 +1,7 @@
 //! The threads of a run.
-ghost use Rattle.std.specs.Prelude.{◌≡◌, ◌<◌, ◌≤◌, false, [], ◌∷◌, ◌++◌, length, vec_len, vec_capacity};
-ghost use Rattle.tk_engine.specs.Intakes.{Follows, IsIntake, IsSettled};
-ghost use Rattle.tk_engine.specs.Workers.{IsReady, IsDone, IsCrew, AllDone, FailuresAreUnits};
+ghost use Rattle.std.specs.Prelude.{◌≡◌, ◌<◌, ◌≤◌, [], ◌∷◌, ◌++◌, vec_len, vec_capacity};
+ghost use Rattle.tk_engine.specs.Teams.{CanConduct, IsConducted};
+ghost use Rattle.tk_engine.specs.Workers.{IsReady, IsDone};
 
 use crate::crews::Crew;
 use crate::engines::Engine;
@@ -27,7 +27,7 @@ impl<'e, E: Engine> Promise<Outcome> for Duty<'e, E> {
     ghost kept_by = { λ p r. IsDone (E.may p.engine.now) (E.units p.engine.now) p.hand.value.sender.session p.claim.now p.hand.value.sender.worker r };
 }
 
-/// What is left of a run when all its threads were joined.
+/// The receiver's side of a run, and what each worker has left that was joined.
 #[derive(Drop)]
 pub(crate) struct Team {
     pub intake: Intake,
@@ -55,26 +55,17 @@ fn assemble<'s, 'e, R: Threads + Wait + Sync, E: Engine>(
     claim: &'e Claim,
     book: &'e Book,
     mut crew: Crew,
-    mut intake: Intake,
-    outcomes: Vec<Outcome>,
+    mut team: Team,
 ) -> Team
     requires limit { claim.now.limit ≡ E.units engine.now }
-    requires crew { IsCrew intake.receiver.session claim.now book.now (E.table engine.now) crew }
-    requires intake { IsIntake intake }
-    requires empty { vec_len outcomes ≡ 0 }
-    requires room { vec_len crew.senders ≤ vec_capacity outcomes }
-    ensures follows { Follows intake result.intake }
-    ensures intake { IsIntake result.intake }
-    ensures settled { IsSettled result.intake }
-    ensures capacity { vec_capacity outcomes ≤ vec_capacity result.outcomes }
+    requires ready { CanConduct claim.now book.now (E.table engine.now) crew team }
+    ensures conducted { IsConducted (E.may engine.now) (E.units engine.now) claim.now (vec_len crew.senders) team result }
+    ensures capacity { vec_capacity team.outcomes ≤ vec_capacity result.outcomes }
     ensures at_most { vec_len result.outcomes ≤ vec_len crew.senders }
-    ensures failures { FailuresAreUnits (E.units engine.now) result.outcomes.items }
-    ensures count { result.intake.is_refused ≡ false → vec_len result.outcomes ≡ vec_len crew.senders }
-    ensures done { result.intake.is_refused ≡ false → AllDone (E.may engine.now) (E.units engine.now) intake.receiver.session claim.now result.outcomes.items }
 {
     let Some(hand) = crew.take() else {
-        intake.listen(rt);
-        return Team { intake, outcomes };
+        team.intake.listen(rt);
+        return team;
     };
     let worker = hand.sender.worker();
     let duty = Duty {
@@ -88,19 +79,15 @@ fn assemble<'s, 'e, R: Threads + Wait + Sync, E: Engine>(
     { work(rt, alloc, engine, claim, book, hand) };
     match scope.spawn_with(duty, run) {
         Ok(thread) => {
-            let mut team = assemble(
-                rt, alloc, scope, engine, claim, book, crew, intake, outcomes,
-            );
+            let mut team = assemble(rt, alloc, scope, engine, claim, book, crew, team);
             let outcome = thread.join(rt);
             add(&mut team.outcomes, outcome);
             team
         }
         Err(refused) => {
             drop(refused);
-            intake.refuse(worker);
-            assemble(
-                rt, alloc, scope, engine, claim, book, crew, intake, outcomes,
-            )
+            team.intake.refuse(worker);
+            assemble(rt, alloc, scope, engine, claim, book, crew, team)
         }
     }
 }
@@ -113,31 +100,18 @@ pub(crate) fn conduct<R: Threads + Wait + Sync, E: Engine>(
     claim: &Claim,
     book: &Book,
     crew: Crew,
-    intake: Intake,
-    outcomes: Vec<Outcome>,
+    team: Team,
 ) -> Team
     requires limit { claim.now.limit ≡ E.units engine.now }
-    requires crew { IsCrew intake.receiver.session claim.now book.now (E.table engine.now) crew }
-    requires intake { IsIntake intake }
-    requires empty { vec_len outcomes ≡ 0 }
-    requires room { vec_len crew.senders ≤ vec_capacity outcomes }
-    ensures follows { Follows intake result.intake }
-    ensures intake { IsIntake result.intake }
-    ensures settled { IsSettled result.intake }
-    ensures failures { FailuresAreUnits (E.units engine.now) result.outcomes.items }
-    ensures count { result.intake.is_refused ≡ false → vec_len result.outcomes ≡ vec_len crew.senders }
-    ensures done { result.intake.is_refused ≡ false → AllDone (E.may engine.now) (E.units engine.now) intake.receiver.session claim.now result.outcomes.items }
+    requires ready { CanConduct claim.now book.now (E.table engine.now) crew team }
+    ensures { IsConducted (E.may engine.now) (E.units engine.now) claim.now (vec_len crew.senders) team result }
 {
     thread::scope(
         thread::scope_env(),
         rt,
         move |scope| -> Team
-            requires { (claim.now.limit ≡ E.units engine.now) × IsCrew intake.receiver.session claim.now book.now (E.table engine.now) crew × IsIntake intake × (vec_len outcomes ≡ 0) × (vec_len crew.senders ≤ vec_capacity outcomes) }
-            ensures { Follows intake result.intake × IsIntake result.intake × IsSettled result.intake × FailuresAreUnits (E.units engine.entry.now) result.outcomes.items × (result.intake.is_refused ≡ false → vec_len result.outcomes ≡ vec_len crew.senders) × (result.intake.is_refused ≡ false → AllDone (E.may engine.entry.now) (E.units engine.entry.now) intake.receiver.session claim.entry.now result.outcomes.items) }
-        {
-            assemble(
-                rt, alloc, scope, engine, claim, book, crew, intake, outcomes,
-            )
-        },
+            requires { (claim.now.limit ≡ E.units engine.now) × CanConduct claim.now book.now (E.table engine.now) crew team }
+            ensures { IsConducted (E.may engine.entry.now) (E.units engine.entry.now) claim.entry.now (vec_len crew.senders) team result }
+        { assemble(rt, alloc, scope, engine, claim, book, crew, team) },
     )
 }

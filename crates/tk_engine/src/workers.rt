@@ -1,10 +1,10 @@
 //! A worker: it draws units and runs them until none is left, or one fails.
-ghost use Rattle.std.specs.Prelude.{◌≡◌, ◌<◌, List, [], ◌++◌, None, Some, true, IfNone, IfSome, IfOk, IfErr, OnOk};
+ghost use Rattle.std.specs.Prelude.{◌≡◌, ◌<◌, List, [], ◌++◌, None, Some, true, IfNone, IfSome, IfOk, IfErr, OnOk, OnErr};
 ghost use Rattle.tk_events.specs.declared.events.Event.{Event};
 ghost use Rattle.tk_queue.specs.Known.{registrations};
 ghost use Rattle.tk_runs.specs.Run.{Emits};
 ghost use Rattle.tk_engine.specs.Engines.{IsSame};
-ghost use Rattle.tk_engine.specs.Workers.{IsReady, IsDone};
+ghost use Rattle.tk_engine.specs.Workers.{IsReady, IsDone, IsStopped};
 
 use crate::engines::{Engine, UnitFault};
 use std::alloc::Global;
@@ -72,6 +72,7 @@ fn run_unit<R: Wait, E: Engine>(
     ensures released { seat.new.holds ≡ None }
     ensures same { IsSame sender.old sender.new }
     ensures ok { OnOk result ((l : List Event) × (sender.new.sent ≡ sender.old.sent ++ l) × E.may engine.now unit sender.old.worker (registrations sender.old.sent) l) }
+    ensures err { OnErr result ((l : List Event) × (sender.new.sent ≡ sender.old.sent ++ l)) }
 {
     book.acquire(rt, seat, engine.need(unit));
     let done = engine.run(rt, alloc, unit, seat, sender);
@@ -101,6 +102,7 @@ fn run_units<R: Wait, E: Engine>(
     ensures all { IfNone result (claim_seat.new.spent ≡ true) }
     ensures emits { IfNone result (Emits (E.may engine.now) sender.old.worker 0 claim_seat.new.numbers sender.new.sent) }
     ensures unit { IfSome result (λ failure. failure.unit < E.units engine.now) }
+    ensures stopped { IfSome result (λ failure. IsStopped (E.may engine.now) sender.old.worker claim_seat.new sender.new.sent failure.unit) }
 {
     for _ in rt.forever() {
         let Some(unit) = claim.draw(claim_seat) else {

@@ -4,6 +4,19 @@ use Rattle.tk_runs.specs.Run.{Emits}
 use Rattle.tk_engine.proofs.Emitted.{emits_more}
 use Rattle.tk_engine.proofs.workers.run_units.Goals as goal
 
+pub returns-in-Err-clause-stopped : goal.returns-in-Err-clause-stopped
+returns-in-Err-clause-stopped g c =
+    let was = c.loop.invariant in
+    let ran = c.in-Err.ensures.err in record {
+      earlier = c.loop.claim_seat.numbers;
+      prefix = c.loop.sender.sent;
+      more = ran.0;
+      drawn = c.in-Some-draw.ensures.drawn;
+      unspent = c.in-Some-draw.ensures.more;
+      emitted = ran.1;
+      emits = was.emits;
+    }
+
 pub loop-preserved : goal.loop-preserved
 loop-preserved g c =
     let was = c.loop.invariant in

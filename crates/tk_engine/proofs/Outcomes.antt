@@ -1,0 +1,94 @@
+-- What the workers of a run have left, worker by worker.
+use Rattle.std.proofs.Common.{◌≡◌, ℕ, ◌+◌, ◌<◌, ◌≤◌, true, false, List, [], ◌∷◌, ◌++◌, length, length-append, Some, slice_get, ap, subst, sym, ◌∙◌, arith}
+use Rattle.std.specs.Prelude.{All, IfSome, vec_len}
+use Rattle.std.proofs.lemmas.List.Elements.{All-nil, All-push, All-weaker}
+use Rattle.std.proofs.lemmas.List.Quantifiers.{all_pairs_push}
+use Rattle.atomic_table.specs.Seated.{TableId}
+use Rattle.tk_events.specs.declared.events.Event.{Event}
+use Rattle.tk_claim.specs.Claims.{ClaimName}
+use Rattle.tk_engine.specs.declared.intakes.Intake.{Intake}
+use Rattle.tk_engine.specs.declared.teams.Team.{Team}
+use Rattle.tk_engine.specs.declared.workers.Outcome.{Outcome}
+use Rattle.tk_engine.specs.Intakes.{Follows, IsIntake, IsSettled}
+use Rattle.tk_engine.specs.Teams.{IsConducted}
+use Rattle.tk_engine.specs.Workers.{IsDone, AreDone}
+use Rattle.tk_engine.proofs.Places.{nil_of_length, snoc_all}
+use Rattle.tk_engine.proofs.Takings.{follows-trans}
+
+module _ (may : ℕ → ℕ → ℕ → List Event → Type 0) (units : ℕ) (session : TableId) (claim : ClaimName) where
+  abbrev IsOwn : Outcome → Type 0
+  IsOwn o = IsDone may units session claim o.ended.worker o
+
+  none_done : (n : ℕ) → AreDone may units session claim n []
+  none_done n = record { each = All-nil IsOwn; few = All-nil (λ o. o.ended.worker ≤ n); rising = λ i j d first last. absurd (omega (arith, first, last)) }
+
+  -- so they are where there are more workers
+  still_done : (m n : ℕ) (os : List Outcome) → m ≤ n → AreDone may units session claim m os → AreDone may units session claim n os
+  still_done m n os more done = record {
+    each = done.each;
+    few = All-weaker (λ o. o.ended.worker ≤ m) (λ o. o.ended.worker ≤ n) (λ o few. omega (arith, few, more)) os done.few;
+    rising = done.rising;
+  }
+
+  -- a higher worker's outcome comes last
+  one_done : (m n : ℕ) (os : List Outcome) (o : Outcome) → m < n → AreDone may units session claim m os → IsDone may units session claim n o → AreDone may units session claim n (os ++ o ∷ [])
+  one_done m n os o more done last =
+      let own : o.ended.worker ≡ n = last.worker in
+      let still = still_done m n os (omega (arith, more)) done in record {
+        each = All-push IsOwn os o done.each (subst (λ w. IsDone may units session claim w o) (sym own) last);
+        few = All-push (λ x. x.ended.worker ≤ n) os o still.few (omega (arith, own));
+        rising = all_pairs_push (λ a b. a.ended.worker < b.ended.worker) os o done.rising (λ k d within. let few = done.few k d within in omega (arith, few, more, own));
+      }
+
+  -- each unit that failed is one of the engine's
+  pub failures_are_units : (n : ℕ) (os : List Outcome) → AreDone may units session claim n os → All (λ o. IfSome o.failure (λ f. f.unit < units)) os
+  failures_are_units n os done = All-weaker IsOwn (λ o. IfSome o.failure (λ f. f.unit < units)) (λ o own. own.unit) os done.each
+
+module _ (may : ℕ → ℕ → ℕ → List Event → Type 0) (units : ℕ) (claim : ClaimName) where
+  -- nobody is left to start
+  pub nobody_left : (n : ℕ) (old new : Team) → n ≡ 0 → vec_len new.outcomes ≡ 0 → Follows old.intake new.intake → IsIntake new.intake → IsSettled new.intake
+      → new.intake.is_refused ≡ old.intake.is_refused → IsConducted may units claim n old new
+  nobody_left n old new none empty follows intake settled same =
+      let items : new.outcomes.items ≡ [] = nil_of_length new.outcomes.items (sym (new.outcomes.ok.0) ∙ empty) in record {
+        follows = follows;
+        intake = intake;
+        settled = settled;
+        each = rw items (none_done may units old.intake.receiver.session claim n);
+        refused = λ was is. let e : false ≡ true = sym was ∙ sym same ∙ is in cc;
+        count = λ going. empty ∙ sym none;
+        done = λ going i o e. let there : slice_get [] i ≡ Some o = rw items at e in cc;
+      }
+
+  -- the next worker was joined
+  pub one_joined : (m n : ℕ) (old mid new : Team) (o : Outcome) → n ≡ m + 1 → IsConducted may units claim m old mid → new.intake ≡ mid.intake
+      → new.outcomes.items ≡ mid.outcomes.items ++ o ∷ [] → IsDone may units old.intake.receiver.session claim (m + 1) o → IsConducted may units claim n old new
+  one_joined m n old mid new o more was same items done =
+      let session = old.intake.receiver.session in
+      let refused : new.intake.is_refused ≡ mid.intake.is_refused = ap (λ (a : Intake). a.is_refused) same in
+      let longer : vec_len new.outcomes ≡ vec_len mid.outcomes + 1 = (let long = ap (λ l. length l) items in omega (arith, new.outcomes.ok.0, mid.outcomes.ok.0, long, length-append mid.outcomes.items (o ∷ []))) in
+      record {
+        follows = rw same was.follows;
+        intake = rw same was.intake;
+        settled = rw same was.settled;
+        each = rw (items, more) (one_done may units session claim m (m + 1) mid.outcomes.items o (omega arith) was.each done);
+        refused = λ started missing. let fewer = was.refused started (sym refused ∙ missing) in omega (arith, fewer, longer, more);
+        count = λ going. let all = was.count (sym refused ∙ going) in omega (arith, all, longer, more);
+        done = λ going.
+            let all : length mid.outcomes.items ≡ m = sym (mid.outcomes.ok.0) ∙ was.count (sym refused ∙ going) in
+            rw items (snoc_all (λ i x. IsDone may units session claim (i + 1) x) mid.outcomes.items o (was.done (sym refused ∙ going)) (rw all done));
+      }
+
+  -- the next worker's thread was not started
+  pub one_refused : (m n : ℕ) (old mid new : Team) → n ≡ m + 1 → Follows old.intake mid.intake → mid.intake.is_refused ≡ true → vec_len new.outcomes ≤ m
+      → IsConducted may units claim m mid new → IsConducted may units claim n old new
+  one_refused m n old mid new more first missing few was =
+      let not_going : new.intake.is_refused ≡ false → ⊥ = (λ going. let e : true ≡ false = sym missing ∙ was.follows.refused going in cc) in
+      record {
+        follows = follows-trans old.intake mid.intake new.intake first was.follows;
+        intake = was.intake;
+        settled = was.settled;
+        each = rw more (still_done may units old.intake.receiver.session claim m (m + 1) new.outcomes.items (omega arith) (rw first.session at was.each));
+        refused = λ _ _. omega (arith, few, more);
+        count = λ going. absurd (not_going going);
+        done = λ going. absurd (not_going going);
+      }
