@@ -9,6 +9,8 @@ TWO_TESTS_NUMBERS = dict(all=5, tests=3, containers=2, skipped=1, started=2, fin
 
 THREE_TAILS = record("N|T|[engine:e]|e", "E|1|0|0|start", "E|1|0|1|finish|fail|boom", "E|1|0|2|skip|off")
 
+SIXTY_FIVE_STARTS = record("N|T|[engine:e]|e", *["E|1|0|0|start"] * 65)
+
 EVERY_KIND = record(
     "N|C|[engine:e]|e",
     "N|T|[engine:e]/[t:1]|one",
@@ -54,12 +56,7 @@ STATS = [
         EVERY_KIND,
         stats(skipped=1, started=2, finished=5, aborted=2, succeeded=1, failed=2, reporting=3, dynamic=1),
     ),
-    answer(
-        "stats/sixty-five starts",
-        "ask stats",
-        record("N|T|[engine:e]|e", *["E|1|0|0|start"] * 65),
-        stats(started=65),
-    ),
+    answer("stats/sixty-five starts", "ask stats", SIXTY_FIVE_STARTS, stats(started=65)),
 ]
 
 EXPECTATIONS = [
@@ -196,16 +193,21 @@ MATCHES = [
     answer(
         "match/in-order, sixty-five starts",
         ["ask", "match", "in-order"] + ["started"] * 65,
-        record("N|T|[engine:e]|e", *["E|1|0|0|start"] * 65),
+        SIXTY_FIVE_STARTS,
         "yes " + " ".join(str(position) for position in range(65)) + "\n",
     ),
     no(
         "match/in-order, sixty-six of sixty-five starts",
         ["ask", "match", "in-order"] + ["started"] * 66,
-        record("N|T|[engine:e]|e", *["E|1|0|0|start"] * 65),
+        SIXTY_FIVE_STARTS,
         "no 65\n",
     ),
-    no("match/loosely, not(started) of starts", "ask match loosely not(started)", TWO_STARTS, "no 0\n"),
+    no(
+        "match/loosely, not(started) of sixty-five starts",
+        "ask match loosely not(started)",
+        SIXTY_FIVE_STARTS,
+        "no 0\n",
+    ),
 ]
 
 

@@ -1,6 +1,5 @@
 //! How plans are cut, and what their units do.
-use std::alloc::Global;
-use std::test::Fail;
+use std::alloc::{AllocError, Global};
 use test_support::demo_plan;
 use tk_events::Event;
 use tk_plan::{Act, Plan, Step, read_plan};
@@ -15,29 +14,17 @@ fn one_test() -> &'static [u8] {
     b"{\"version\":1,\"root\":{\"type\":\"test\",\"segment\":[\"engine\",\"e\"],\"name\":\"e\"}}"
 }
 
-fn plan_of(alloc: Global, text: &[u8]) -> Result<Plan, Fail> {
-    match read_plan(alloc, text) {
-        Ok(plan) => Ok(plan),
-        Err(_) => Err(Fail::new("no plan")),
+// Whether the units have these needs.
+fn have_needs(plan: &Plan, words: &[u64]) -> bool {
+    if plan.units().len() != words.len() {
+        return false;
     }
-}
-
-// The word of the unit's need, and 0 where there is no such unit.
-fn need(plan: &Plan, unit: usize) -> u64 {
-    if unit < plan.units().len() {
-        plan.need(unit as u32).word()
-    } else {
-        0
+    for unit in 0..plan.units().len() {
+        if plan.need(unit as u32).word() != words[unit] {
+            return false;
+        }
     }
-}
-
-// The script of the unit, where there is one.
-fn script(alloc: Global, plan: &Plan, unit: usize) -> Option<Vec<Step>> {
-    if unit < plan.units().len() {
-        plan.script(alloc, unit as u32).ok()
-    } else {
-        None
-    }
+    true
 }
 
 // The key and the stamp of the one event.
@@ -48,48 +35,75 @@ fn only(events: &[Event]) -> Option<(u32, u64)> {
     }
 }
 
-#[test]
-fn demo_plan_is_cut(rt: HostRuntime) -> Result<(), Fail> {
-    let plan = plan_of(rt.alloc(), demo_plan())?;
-    assert!(rt; plan.spine() == &[0][..]);
-    assert!(rt; plan.units() == &[1, 3, 5, 6][..]);
-    assert!(rt; plan.total_events() == 16);
-    for (unit, word) in [(0, 0x1), (1, 0x1), (2, 0x1), (3, 0xF1)] {
-        assert_eq!(rt; need(&plan, unit), word, "{unit}");
+// Whether one event stands before the units, the start of node 0, and one after them, its finish.
+fn has_frame(alloc: Global, plan: &Plan, finish: u64) -> Result<bool, AllocError> {
+    let start = only(plan.before(alloc)?.as_slice()) == Some((0, 0));
+    Ok(start && only(plan.after(alloc)?.as_slice()) == Some((0, finish)))
+}
+
+fn are_steps(steps: &[Step], wanted: &[(u32, u64, Act)]) -> bool {
+    if steps.len() != wanted.len() {
+        return false;
     }
-    assert_eq!(rt; only(plan.before(rt.alloc())?.as_slice()), Some((0, 0)));
-    assert_eq!(rt; only(plan.after(rt.alloc())?.as_slice()), Some((0, 15)));
-    Ok(())
+    for (step, (node, stamp, act)) in steps.iter().zip(wanted) {
+        if step.node != *node || step.stamp != *stamp || step.act != *act {
+            return false;
+        }
+    }
+    true
 }
 
-fn step(steps: &[Step], position: usize) -> Option<(u32, u64, Act)> {
-    let step = steps.get(position)?;
-    Some((step.node, step.stamp, step.act))
+// Whether the last unit has this script.
+fn ends_with(alloc: Global, plan: &Plan, wanted: &[(u32, u64, Act)]) -> bool {
+    match plan.units().len().checked_sub(1) {
+        Some(unit) => match plan.script(alloc, unit as u32) {
+            Ok(steps) => are_steps(steps.as_slice(), wanted),
+            Err(_) => false,
+        },
+        None => false,
+    }
+}
+
+// The script of a container and of the test that it registers.
+fn of_dynamic_test() -> [(u32, u64, Act); 5] {
+    [
+        (6, 10, Act::Start),
+        (7, 11, Act::Register { parent: 6 }),
+        (7, 12, Act::Start),
+        (7, 13, Act::Finish),
+        (6, 14, Act::Finish),
+    ]
 }
 
 #[test]
-fn dynamic_script(rt: HostRuntime) -> Result<(), Fail> {
-    let plan = plan_of(rt.alloc(), demo_plan())?;
-    let steps = script(rt.alloc(), &plan, 3).ok_or("no script")?;
-    let registers = Act::Register { parent: 6 };
-    assert_eq!(rt; step(&steps, 0), Some((6, 10, Act::Start)));
-    assert_eq!(rt; step(&steps, 1), Some((7, 11, registers)));
-    assert_eq!(rt; step(&steps, 2), Some((7, 12, Act::Start)));
-    assert_eq!(rt; step(&steps, 3), Some((7, 13, Act::Finish)));
-    assert_eq!(rt; step(&steps, 4), Some((6, 14, Act::Finish)));
-    assert_eq!(rt; step(&steps, 5), None);
-    Ok(())
+fn demo_plan_is_cut(rt: HostRuntime) {
+    match read_plan(rt.alloc(), demo_plan()) {
+        Ok(plan) => {
+            assert!(rt; plan.spine() == &[0][..]);
+            assert!(rt; plan.units() == &[1, 3, 5, 6][..]);
+            assert!(rt; plan.total_events() == 16);
+            assert!(rt; have_needs(&plan, &[0x1, 0x1, 0x1, 0xF1]));
+            assert!(rt; matches!(has_frame(rt.alloc(), &plan, 15), Ok(true)));
+            assert!(rt; ends_with(rt.alloc(), &plan, &of_dynamic_test()));
+        }
+        Err(_) => assert!(rt; false, "no plan"),
+    }
+}
+
+// Whether a plan of so many events is one unit, with nothing on the spine.
+fn is_one_unit(alloc: Global, plan: &Plan, events: u32) -> bool {
+    plan.spine().is_empty()
+        && have_needs(plan, &[1])
+        && plan.total_events() == events
+        && matches!(plan.before(alloc), Ok(before) if before.is_empty())
 }
 
 #[test]
-fn roots_off_the_spine(rt: HostRuntime) -> Result<(), Fail> {
+fn roots_off_the_spine(rt: HostRuntime) {
     for (text, events) in [(same_thread(), 4), (one_test(), 2)] {
-        let plan = plan_of(rt.alloc(), text)?;
-        assert!(rt; plan.spine().is_empty());
-        assert!(rt; plan.units().len() == 1);
-        assert!(rt; plan.total_events() == events);
-        assert!(rt; need(&plan, 0) == 1);
-        assert!(rt; plan.before(rt.alloc())?.is_empty());
+        match read_plan(rt.alloc(), text) {
+            Ok(plan) => assert!(rt; is_one_unit(rt.alloc(), &plan, events), "{events}"),
+            Err(_) => assert!(rt; false, "no plan"),
+        }
     }
-    Ok(())
 }

@@ -12,22 +12,6 @@ fn reading_breaks(alloc: Global, breaks_at: usize) -> bool {
     matches!(read_record(alloc, &mut source), Err(ReadFault::Device)) && source.is_broken()
 }
 
-// The first call without which the record is read.
-fn first_not_read(alloc: Global) -> usize {
-    for calls in 0..1000 {
-        if !reading_breaks(alloc, calls) {
-            return calls;
-        }
-    }
-    1000
-}
-
-/// The call behind the last byte tells of the end.
-#[test]
-fn reading_at_each_call(rt: HostRuntime) {
-    assert_eq!(rt; first_not_read(rt.alloc()), two_tests().len() + 1);
-}
-
 // Whether asking a question answers that the device broke, with nothing written.
 fn asking_breaks(alloc: Global, words: &[String], breaks_at: usize) -> bool {
     let mut source = OneByteSource::new(two_tests(), breaks_at);
@@ -36,29 +20,17 @@ fn asking_breaks(alloc: Global, words: &[String], breaks_at: usize) -> bool {
     target.bytes().is_empty() && matches!(answer, Err(AskFault::Read(ReadFault::Device)))
 }
 
-// The first call without which the question is answered.
-fn first_not_asked(alloc: Global, words: &[String]) -> usize {
-    for calls in 0..1000 {
-        if !asking_breaks(alloc, words, calls) {
-            return calls;
-        }
-    }
-    1000
-}
-
-fn one_word(alloc: Global, word: &str) -> Result<Vec<String>, AllocError> {
-    let mut words = Vec::new(alloc);
-    words.push(String::from_str(alloc, word)?)?;
-    Ok(words)
-}
-
+/// The call after the last byte tells of the end.
 #[test]
-fn asking_at_each_call(rt: HostRuntime) -> Result<(), AllocError> {
-    let words = one_word(rt.alloc(), "stats")?;
-    assert_eq!(rt;
-        first_not_asked(rt.alloc(), words.as_slice()),
-        two_tests().len() + 1
-    );
+fn reading_at_each_call(rt: HostRuntime) -> Result<(), AllocError> {
+    let words = vec![in rt.alloc(); String::from_str(rt.alloc(), "stats")?]?;
+    for call in 0..=two_tests().len() {
+        assert!(rt; reading_breaks(rt.alloc(), call), "{call}");
+        assert!(rt; asking_breaks(rt.alloc(), words.as_slice(), call), "{call}");
+    }
+    let calls = two_tests().len() + 1;
+    assert!(rt; !reading_breaks(rt.alloc(), calls));
+    assert!(rt; !asking_breaks(rt.alloc(), words.as_slice(), calls));
     Ok(())
 }
 
@@ -87,33 +59,26 @@ fn reporting_breaks(alloc: Global, record: &Record, bytes: usize) -> bool {
     is_cut(answer, &target, two_tests_report(), bytes)
 }
 
-// The first call without which the record is written.
-fn first_not_written(alloc: Global) -> Option<usize> {
-    let record = record_of(alloc, two_tests())?;
-    for calls in 0..1000 {
-        if !writing_breaks(alloc, &record, calls) {
-            return Some(calls);
+// Whether both writers answer so at each call before the last byte went out, and not after it.
+fn writers_break(alloc: Global, record: &Record) -> bool {
+    for bytes in 0..two_tests().len() {
+        if !writing_breaks(alloc, record, bytes) {
+            return false;
         }
     }
-    None
-}
-
-// The first call without which the report is written.
-fn first_not_reported(alloc: Global) -> Option<usize> {
-    let record = record_of(alloc, two_tests())?;
-    for calls in 0..1000 {
-        if !reporting_breaks(alloc, &record, calls) {
-            return Some(calls);
+    for bytes in 0..two_tests_report().len() {
+        if !reporting_breaks(alloc, record, bytes) {
+            return false;
         }
     }
-    None
+    !writing_breaks(alloc, record, two_tests().len())
+        && !reporting_breaks(alloc, record, two_tests_report().len())
 }
 
 #[test]
 fn writing_at_each_call(rt: HostRuntime) {
-    assert_eq!(rt; first_not_written(rt.alloc()), Some(two_tests().len()));
-    assert_eq!(rt;
-        first_not_reported(rt.alloc()),
-        Some(two_tests_report().len())
-    );
+    match record_of(rt.alloc(), two_tests()) {
+        Some(record) => assert!(rt; writers_break(rt.alloc(), &record)),
+        None => assert!(rt; false, "no record"),
+    }
 }

@@ -1,8 +1,8 @@
-//! Entries as lines: what a record takes, what it refuses, and copies of events.
-use std::alloc::Global;
-use test_support::record_of;
+//! Entries of lines: what a record takes of copies of them, what it refuses, and how many it holds.
+use std::alloc::{AllocError, Global};
+use test_support::{record_of, start};
 use tk_columns::{AppendFault, Events, Record};
-use tk_events::Event;
+use tk_events::{Entry, Event};
 use tk_record::read_event_line;
 
 // The text of a record of one node and no entry.
@@ -20,15 +20,23 @@ fn answer(appended: &Result<(), AppendFault>) -> &'static str {
     }
 }
 
-// What appending the entry of a line answers, in a word.
-fn append(alloc: Global, record: &mut Record, line: &str) -> &'static str {
+// What appending an event answers, in a word.
+fn append(record: &mut Record, worker: u8, event: Event) -> &'static str {
+    answer(&record.append(Entry { worker, event }))
+}
+
+// What appending a copy of a line's event answers.
+fn append_line(alloc: Global, record: &mut Record, line: &str) -> &'static str {
     match read_event_line(alloc, line.as_bytes()) {
-        Ok(entry) => answer(&record.append(entry)),
+        Ok(entry) => match entry.event.try_clone(alloc) {
+            Ok(event) => append(record, entry.worker, event),
+            Err(_) => "no copy",
+        },
         Err(_) => "no line",
     }
 }
 
-// What is answered to lines that are appended in turn.
+// What is answered to lines that are appended in turn, with an event of each kind.
 fn rows() -> &'static str {
     "unknown-key E|1|7|0|start
 unlawful E|9|0|0|start
@@ -37,87 +45,57 @@ unknown-key E|1|65537|0|dynamic|T|[d:1]|one
 appended E|1|65536|0|dynamic|T|[d:1]|one
 appended E|1|65537|0|dynamic|T|[d:1]|one
 unlawful E|1|0|0|report|b|1|a|2
-appended E|1|0|0|report|Z|1|a|2
+appended E|1|0|0|report|Z|1|a|2|ä|3
+appended E|1|0|0|skip|off
+appended E|1|0|0|finish|fail|boom
 "
 }
 
 fn holds(alloc: Global, record: &mut Record, row: &str) -> bool {
     match row.split_once(' ') {
-        Some((want, line)) => append(alloc, record, line) == want,
+        Some((want, line)) => append_line(alloc, record, line) == want,
         None => false,
     }
-}
-
-// The first row that does not hold.
-fn first_other(alloc: Global, record: &mut Record) -> Option<&'static str> {
-    for row in rows().lines() {
-        if !holds(alloc, record, row) {
-            return Some(row);
-        }
-    }
-    None
 }
 
 #[test]
 fn entries_of_lines(rt: HostRuntime) {
     match record_of(rt.alloc(), one_container()) {
-        Some(mut record) => assert_eq!(rt; first_other(rt.alloc(), &mut record), None),
-        None => assert!(rt; false, "no record"),
-    }
-}
-
-fn append_starts(alloc: Global, record: &mut Record, count: usize) {
-    for _ in 0..count {
-        let _ = append(alloc, record, "E|1|0|0|start");
-    }
-}
-
-fn started(alloc: Global, record: &Record) -> u64 {
-    match Events::all(alloc, record) {
-        Ok(events) => events.statistics().started,
-        Err(_) => 0,
-    }
-}
-
-#[test]
-fn sixty_five_starts(rt: HostRuntime) {
-    match record_of(rt.alloc(), one_container()) {
         Some(mut record) => {
-            append_starts(rt.alloc(), &mut record, 65);
-            assert_eq!(rt; started(rt.alloc(), &record), 65);
+            for row in rows().lines() {
+                assert!(rt; holds(rt.alloc(), &mut record, row), "{row}");
+            }
         }
         None => assert!(rt; false, "no record"),
     }
 }
 
-// An event of each kind.
-fn lines() -> &'static str {
-    "E|1|0|7|start
-E|1|0|7|skip|off
-E|1|0|7|finish|fail|boom
-E|1|0|7|report|Z|1|a|2|ä|3
-E|1|65536|7|dynamic|T|[d:1]|one
-"
+// How many starts are appended until one is refused, and why.
+fn fill(record: &mut Record) -> (u32, &'static str) {
+    for count in 0..20_000_000u32 {
+        let answer = append(record, 1, start(0, 7));
+        if answer != "appended" {
+            return (count, answer);
+        }
+    }
+    (20_000_000, "appended")
 }
 
-// Whether the copy of an event is lawful.
-fn is_copied(alloc: Global, event: &Event) -> bool {
-    match event.try_clone(alloc) {
-        Ok(copied) => copied.is_lawful() && copied.stamp == 7,
-        Err(_) => false,
-    }
-}
-
-fn is_copied_line(alloc: Global, line: &str) -> bool {
-    match read_event_line(alloc, line.as_bytes()) {
-        Ok(entry) => is_copied(alloc, &entry.event),
-        Err(_) => false,
-    }
+// How many positions the starts of worker 1 have.
+fn count_positions(alloc: Global, record: &Record) -> Result<usize, AllocError> {
+    let events = Events::all(alloc, record)?
+        .started(alloc)?
+        .by_worker(alloc, 1)?;
+    Ok(events.positions(alloc)?.len())
 }
 
 #[test]
-fn copies_of_events(rt: HostRuntime) {
-    for line in lines().lines() {
-        assert!(rt; is_copied_line(rt.alloc(), line), "{line}");
+fn a_full_record(rt: HostRuntime) {
+    match record_of(rt.alloc(), one_container()) {
+        Some(mut record) => {
+            assert!(rt; fill(&mut record) == (16_777_216, "full"));
+            assert!(rt; matches!(count_positions(rt.alloc(), &record), Ok(16_777_216)));
+        }
+        None => assert!(rt; false, "no record"),
     }
 }

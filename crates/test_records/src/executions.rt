@@ -1,4 +1,4 @@
-//! Executions of records, and of some of their events.
+//! Executions of a descriptor's events, and those that ended in one way.
 use std::alloc::{AllocError, Global};
 use test_support::{record_of, two_tests};
 use tk_columns::{Events, Record};
@@ -19,45 +19,11 @@ fn has_one(alloc: Global, events: &Events<'_>, want: &str) -> bool {
     }
 }
 
-// Whether the record of a text has one execution, which is told so.
-fn is_of_record(alloc: Global, text: &[u8], want: &str) -> bool {
-    match record_of(alloc, text) {
-        Some(record) => is_of_events(alloc, Events::all(alloc, &record), want),
-        None => false,
-    }
-}
-
 fn is_of_events(alloc: Global, events: Result<Events<'_>, AllocError>, want: &str) -> bool {
     match events {
         Ok(events) => has_one(alloc, &events, want),
         Err(_) => false,
     }
-}
-
-fn two_starts_and_two_finishes() -> &'static [u8] {
-    b"testkit-record|1\nN|T|[engine:e]|e\nE|1|0|1|start\nE|1|0|2|start\nE|1|0|3|finish|ok\nE|1|0|4|finish|ok\n"
-}
-
-fn a_skip_between() -> &'static [u8] {
-    b"testkit-record|1\nN|T|[engine:e]|e\nE|1|0|1|start\nE|1|0|2|skip|off\nE|1|0|3|finish|ok\n"
-}
-
-#[test]
-fn repeated_marks(rt: HostRuntime) {
-    assert!(rt;
-        is_of_record(
-            rt.alloc(),
-            two_starts_and_two_finishes(),
-            "Executions { items: [Execution { key: 0, first: 1, last: 2, start: 2, stop: 3, ending: Successful }] }"
-        )
-    );
-    assert!(rt;
-        is_of_record(
-            rt.alloc(),
-            a_skip_between(),
-            "Executions { items: [Execution { key: 0, first: 1, last: 1, start: 2, stop: 2, ending: Skipped }] }"
-        )
-    );
 }
 
 // Whether a descriptor's events in a record have one execution, which is told so.

@@ -17,4 +17,6 @@ mod reports;
 #[cfg(test)]
 mod selections;
 #[cfg(test)]
+mod std_devices;
+#[cfg(test)]
 mod texts;

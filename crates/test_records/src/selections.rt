@@ -1,8 +1,7 @@
-//! Selections of events, one within another, and what is expected of their numbers.
+//! Selections of events.
 use std::alloc::{AllocError, Global};
 use test_support::{record_of, two_tests};
-use tk_columns::{Events, Expected, Mismatch, Record, Selection};
-use tk_query::{read_condition, select};
+use tk_columns::{Events, Record, Selection};
 
 // The text of a record with events of each kind and each status.
 fn each_kind() -> &'static [u8] {
@@ -130,89 +129,6 @@ fn are_at(alloc: Global, record: &Record, of_worker: &str, of_key: &str) -> bool
 fn events_of_a_worker_and_of_a_key(rt: HostRuntime) {
     match record_of(rt.alloc(), two_tests()) {
         Some(record) => assert!(rt; are_at(rt.alloc(), &record, "[1, 2]", "[0, 4]")),
-        None => assert!(rt; false, "no record"),
-    }
-}
-
-// Whether a condition holds of those of the events that have these positions.
-fn is_selected(alloc: Global, events: &Events<'_>, condition: &str, want: &str) -> bool {
-    match read_condition(alloc, condition) {
-        Ok(condition) => is_at(alloc, select(alloc, events, &condition), want),
-        Err(_) => false,
-    }
-}
-
-// Whether that is so of all events, and of those of tests.
-fn are_selected(alloc: Global, record: &Record) -> bool {
-    match Events::all(alloc, record) {
-        Ok(events) => {
-            is_selected(alloc, &events, "any(succeeded,aborted)", "[4]")
-                && is_selected(alloc, &events, "all()", "[0, 1, 2, 3, 4]")
-                && are_tests_selected(alloc, &events)
-        }
-        Err(_) => false,
-    }
-}
-
-fn are_tests_selected(alloc: Global, events: &Events<'_>) -> bool {
-    match events.tests(alloc) {
-        Ok(tests) => {
-            is_selected(alloc, &tests, "not(started)", "[2, 3]")
-                && is_at(alloc, tests.started(alloc), "[1]")
-        }
-        Err(_) => false,
-    }
-}
-
-#[test]
-fn any_of_endings(rt: HostRuntime) {
-    match record_of(rt.alloc(), two_tests()) {
-        Some(record) => assert!(rt; are_selected(rt.alloc(), &record)),
-        None => assert!(rt; false, "no record"),
-    }
-}
-
-// Whether the numbers that are expected differ from the record's as told.
-fn is_checked(alloc: Global, record: &Record, expected: &Expected, want: &str) -> bool {
-    match Events::all(alloc, record) {
-        Ok(events) => differs(alloc, &events, expected, want),
-        Err(_) => false,
-    }
-}
-
-fn differs(alloc: Global, events: &Events<'_>, expected: &Expected, want: &str) -> bool {
-    match events.check(alloc, expected) {
-        Ok(mismatches) => is_debug(alloc, mismatches.as_slice(), want),
-        Err(_) => false,
-    }
-}
-
-fn is_debug(alloc: Global, mismatches: &[Mismatch], want: &str) -> bool {
-    match format!(in alloc; "{mismatches:?}") {
-        Ok(text) => text.as_str() == want,
-        Err(_) => false,
-    }
-}
-
-fn expected(skipped: u64, failed: u64) -> Expected {
-    let mut expected = Expected::none();
-    expected.failed = Some(failed);
-    expected.skipped = Some(skipped);
-    expected
-}
-
-fn both_mismatches() -> &'static str {
-    "[Mismatch { selection: Skipped, expected: 0, actual: 1 }, Mismatch { selection: Failed, expected: 2, actual: 1 }]"
-}
-
-/// The differences stand in the order of the statistics.
-#[test]
-fn two_mismatches(rt: HostRuntime) {
-    match record_of(rt.alloc(), two_tests()) {
-        Some(record) => {
-            assert!(rt; is_checked(rt.alloc(), &record, &expected(0, 2), both_mismatches()));
-            assert!(rt; is_checked(rt.alloc(), &record, &expected(1, 1), "[]"));
-        }
         None => assert!(rt; false, "no record"),
     }
 }

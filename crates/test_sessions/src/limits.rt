@@ -25,7 +25,7 @@ fn passes<R: Wait>(rt: &R, sender: &mut Sender, receiver: &mut Receiver, count: 
 
 #[test]
 fn as_many_events_as_may_be(rt: HostRuntime) -> Result<(), Fail> {
-    let table = one_node(rt.alloc(), DType::Test)?;
+    let table = one_node(rt.alloc(), DType::Test).ok_or("no table")?;
     let (mut senders, mut receiver) = open(rt.alloc(), table, 1, 1)?;
     let mut sender = senders.pop().ok_or("no sender")?;
     assert!(rt; passes(&rt, &mut sender, &mut receiver, 1_048_576));
@@ -61,7 +61,7 @@ fn register_all<R: Wait>(
 #[test]
 fn as_many_registrations_as_may_be(rt: HostRuntime) -> Result<(), Fail> {
     let alloc = rt.alloc();
-    let table = one_node(alloc, DType::Test)?;
+    let table = one_node(alloc, DType::Test).ok_or("no table")?;
     let (mut senders, mut receiver) = open(alloc, table, 2, 1)?;
     let mut sender = senders.pop().ok_or("no sender")?;
     let segment = Segment::new(alloc, "dyn", "1")?;

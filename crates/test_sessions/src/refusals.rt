@@ -2,11 +2,11 @@
 //! has to succeed: each test passes with ample memory, and with any one request for memory refused.
 use crate::ends::{Told, plain, take};
 use std::alloc::Global;
-use std::sync::{Arc, Wait};
+use std::sync::Wait;
 use std::test::*;
-use test_support::{small_replay, small_replay_taken, start};
+use test_support::{one_node, small_replay, small_replay_taken, start};
 use tk_events::Kind;
-use tk_ids::{DType, Segment, Table};
+use tk_ids::{DType, Segment};
 use tk_queue::{Core, CoreFault, Receiver, RegisterFault, ReplayFault, Sender, open, replay_text};
 use tk_streams::{ByteSource, ByteTarget, Target};
 
@@ -84,17 +84,9 @@ fn registered<R: Wait>(rt: &R, sender: &mut Sender, segment: &Segment) -> Ending
     }
 }
 
-// A table of one node; None for want of memory.
-fn table(alloc: Global) -> Option<Arc<Table>> {
-    let mut table = Table::new(alloc);
-    let segment = Segment::new(alloc, "engine", "e").ok()?;
-    table.add(alloc, None, &segment, "e", DType::Test).ok()?;
-    Arc::new(alloc, table).ok()
-}
-
 // The sender of worker 2, the receiver and a segment; None for want of memory.
 fn session(alloc: Global) -> Option<(Sender, Receiver, Segment)> {
-    let (mut senders, receiver) = open(alloc, table(alloc)?, 2, 4).ok()?;
+    let (mut senders, receiver) = open(alloc, one_node(alloc, DType::Test)?, 2, 4).ok()?;
     let sender = senders.pop()?;
     let segment = Segment::new(alloc, "dyn", "1").ok()?;
     Some((sender, receiver, segment))

@@ -49,6 +49,19 @@ fn core_turns(rt: HostRuntime) {
     assert!(rt; core.take().is_none());
 }
 
+#[test]
+fn a_thousand_waiting(rt: HostRuntime) {
+    let mut core = Core::new(rt.alloc(), 1);
+    for stamp in 0..1_000 {
+        assert!(rt; emits(&mut core, 1, stamp));
+    }
+    assert!(rt; core.waiting() == 1_000);
+    for stamp in 0..1_000 {
+        assert!(rt; plain(core.take()) == Told::Entry(1, Kind::Started, 0, stamp));
+    }
+    assert!(rt; core.take().is_none());
+}
+
 // Worker 1 emits twice and ends, and nothing is taken from then on.
 fn left_in_the_queue(alloc: Global, scripts: &[Vec<Event>]) -> Result<Replayed, Fail> {
     if scripts.len() != 2 {
@@ -60,7 +73,7 @@ fn left_in_the_queue(alloc: Global, scripts: &[Vec<Event>]) -> Result<Replayed, 
         Turn::Worker(1),
         Turn::Worker(1),
     ];
-    let table = one_node(alloc, DType::Test)?;
+    let table = one_node(alloc, DType::Test).ok_or("no table")?;
     Ok(replay(alloc, table, scripts, &turns)?)
 }
 

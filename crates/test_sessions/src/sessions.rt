@@ -2,11 +2,12 @@
 ghost use Rattle.std.specs.Prelude.{◌≡◌, All, IfSome};
 
 use crate::ends::{Answer, Told, send, take};
+use std::alloc::Global;
 use std::sync::Wait;
 use std::test::Fail;
 use test_support::{one_node, start};
 use tk_events::{Event, Kind, Payload, Status};
-use tk_ids::{DType, Segment, Text};
+use tk_ids::{DType, IdFault, Segment, Text};
 use tk_queue::{CloseFault, CloseReason, Ended, Receiver, RegisterFault, Sender, open};
 
 const NO_SENDER: &str = "no sender";
@@ -29,7 +30,7 @@ fn emitted(receiver: Receiver, ended: Vec<Ended>) -> Option<u64>
 
 #[test]
 fn one_thread_session(rt: HostRuntime) -> Result<(), Fail> {
-    let table = one_node(rt.alloc(), DType::Test)?;
+    let table = one_node(rt.alloc(), DType::Test).ok_or("no table")?;
     let (mut senders, mut receiver) = open(rt.alloc(), table, 1, 1)?;
     let mut sender = senders.pop().ok_or(NO_SENDER)?;
     assert!(rt; send(&rt, &mut sender, start(0, 1)) == Answer::Sent);
@@ -45,7 +46,7 @@ fn one_thread_session(rt: HostRuntime) -> Result<(), Fail> {
 
 #[test]
 fn closed_too_early(rt: HostRuntime) -> Result<(), Fail> {
-    let table = one_node(rt.alloc(), DType::Test)?;
+    let table = one_node(rt.alloc(), DType::Test).ok_or("no table")?;
     let (mut senders, receiver) = open(rt.alloc(), table, 2, 2)?;
     let second = senders.pop().ok_or(NO_SENDER)?.end(&rt);
     let first = senders.pop().ok_or(NO_SENDER)?.end(&rt);
@@ -72,7 +73,7 @@ fn closed_too_early(rt: HostRuntime) -> Result<(), Fail> {
 
 #[test]
 fn two_places(rt: HostRuntime) -> Result<(), Fail> {
-    let table = one_node(rt.alloc(), DType::Test)?;
+    let table = one_node(rt.alloc(), DType::Test).ok_or("no table")?;
     let (mut senders, mut receiver) = open(rt.alloc(), table, 2, 2)?;
     let mut second = senders.pop().ok_or(NO_SENDER)?;
     let mut first = senders.pop().ok_or(NO_SENDER)?;
@@ -82,6 +83,30 @@ fn two_places(rt: HostRuntime) -> Result<(), Fail> {
     assert!(rt; take(&rt, &mut receiver) == Told::Entry(1, Kind::Started, 0, 1));
     assert!(rt; send(&rt, &mut first, start(0, 3)) == Answer::Sent);
     Ok(())
+}
+
+// How many starts are sent until one comes back since the queue is full.
+fn sent<R: Wait>(rt: &R, sender: &mut Sender) -> Option<u64> {
+    for stamp in 0..2_000 {
+        match send(rt, sender, start(0, stamp)) {
+            Answer::Sent => {}
+            Answer::Full(back) if back == stamp => return Some(stamp),
+            _ => return None,
+        }
+    }
+    None
+}
+
+// The same of a session of one sender and so many places.
+fn sent_through<R: Wait>(rt: &R, alloc: Global, places: usize) -> Option<u64> {
+    let (mut senders, _receiver) = open(alloc, one_node(alloc, DType::Test)?, 1, places).ok()?;
+    sent(rt, &mut senders.pop()?)
+}
+
+#[test]
+fn as_many_places_as_asked(rt: HostRuntime) {
+    assert!(rt; sent_through(&rt, rt.alloc(), 3) == Some(3));
+    assert!(rt; sent_through(&rt, rt.alloc(), 1_024) == Some(1_024));
 }
 
 // The key of the descriptor `[dyn:1]` that is registered below the parent, at stamp 5.
@@ -94,10 +119,18 @@ fn register<R: Wait>(
     sender.register(rt, parent, segment, "one", DType::Test, 5)
 }
 
+// Why a descriptor is not registered whose id would have over 4,096 bytes.
+fn long_registration<R: Wait>(rt: &R, alloc: Global, sender: &mut Sender) -> Option<RegisterFault> {
+    let letters = Vec::from_elem(alloc, b'a', 4_096).ok()?;
+    let value = str::from_utf8(letters.as_slice()).ok()?;
+    let segment = Segment::new(alloc, "dyn", value).ok()?;
+    register(rt, sender, &segment, 0).err()
+}
+
 #[test]
 fn registering(rt: HostRuntime) -> Result<(), Fail> {
     let alloc = rt.alloc();
-    let table = one_node(alloc, DType::Test)?;
+    let table = one_node(alloc, DType::Test).ok_or("no table")?;
     let (mut senders, mut receiver) = open(alloc, table, 2, 4)?;
     let mut second = senders.pop().ok_or(NO_SENDER)?;
     let mut first = senders.pop().ok_or(NO_SENDER)?;
@@ -108,6 +141,10 @@ fn registering(rt: HostRuntime) -> Result<(), Fail> {
     assert_eq!(rt;
         register(&rt, &mut first, &segment, 9),
         Err(RegisterFault::UnknownNode)
+    );
+    assert_eq!(rt;
+        long_registration(&rt, alloc, &mut first),
+        Some(RegisterFault::Id(IdFault::TooLong))
     );
     let message = Some(Text::copy(alloc, "no")?);
     let finish = Event {

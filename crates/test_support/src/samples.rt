@@ -1,7 +1,6 @@
 //! Small values that many tests start from.
 use std::alloc::Global;
 use std::sync::Arc;
-use std::test::Fail;
 use tk_events::{Event, Kind, Payload};
 use tk_ids::{DType, Segment, Table};
 use tk_record::{ByteSource, Record, read_record};
@@ -16,12 +15,12 @@ pub fn start(key: u32, stamp: u64) -> Event {
     }
 }
 
-/// A table of one node, the root `[engine:e]`.
-pub fn one_node(alloc: Global, dtype: DType) -> Result<Arc<Table>, Fail> {
+/// A table of one node, the root `[engine:e]`; none for want of memory.
+pub fn one_node(alloc: Global, dtype: DType) -> Option<Arc<Table>> {
     let mut table = Table::new(alloc);
-    let segment = Segment::new(alloc, "engine", "e")?;
-    table.add(alloc, None, &segment, "e", dtype)?;
-    Ok(Arc::new(alloc, table)?)
+    let segment = Segment::new(alloc, "engine", "e").ok()?;
+    table.add(alloc, None, &segment, "e", dtype).ok()?;
+    Arc::new(alloc, table).ok()
 }
 
 /// The record of a text, where it is one.

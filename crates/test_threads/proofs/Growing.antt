@@ -1,7 +1,9 @@
 -- Sinks that grow, one time after another.
-use Rattle.std.proofs.Common.{◌≡◌, List, [], ◌∷◌, ◌++◌, refl, sym, ap, ◌∙◌, append_assoc, append-nil}
+use Rattle.std.proofs.Common.{◌≡◌, ℕ, List, Ok, [], ◌∷◌, ◌++◌, refl, sym, ap, ◌∙◌, append_assoc, append-nil}
+use Rattle.tk_ids.specs.IdText.{Pair}
+use Rattle.tk_ids.specs.declared.tables.DType.{DType}
 use Rattle.tk_events.specs.declared.events.Event.{Event}
-use Rattle.tk_queue.specs.Ends.{Emits, sends}
+use Rattle.tk_queue.specs.Ends.{Emits, IsRegisteredAs, child, registration, sends}
 use Rattle.tk_engine.specs.Engines.{IsSame}
 use Rattle.test_threads.specs.Grown.{Grew}
 
@@ -24,3 +26,6 @@ grew_trans a b c ab bc = record {
   events = ab.events ++ bc.events;
   sent = bc.sent ∙ ap (λ (l : List Event). l ++ bc.events) ab.sent ∙ append_assoc a.sent ab.events bc.events;
 }
+
+pub grew_registered : (a b : Emits) (parent : ℕ) (segment : Pair) (name : List ℕ) (dtype : DType) (stamp key : ℕ) → IsRegisteredAs a b parent segment name dtype stamp (Ok key) → Grew a b
+grew_registered a b parent segment name dtype stamp key (above, _, _, _, _, is, _) = grew_one a b (registration a stamp (child above segment name dtype)) is

@@ -4,105 +4,80 @@ ghost use Rattle.std.specs.Arc.{arc_value};
 ghost use Rattle.test_threads.specs.Grown.{Grew};
 
 use std::alloc::{AllocError, Global};
-use std::sync::atomic::{AtomicBool, Ordering};
+use std::sync::atomic::{AtomicU64, Ordering};
 use std::sync::{Arc, Wait};
 use std::thread;
-use test_support::start;
+use test_support::{one_node, start};
 use tk_book::{BookSeat, Need};
 use tk_engine::{Engine, Sink, UnitFault};
-use tk_events::{Event, Kind, Payload, Status};
+use tk_events::Event;
 use tk_ids::{DType, Segment, Table};
 
-/// What a unit does next. There is a flag for each of two units.
-#[derive(Clone, Copy, Debug)]
+/// What a unit does next.
+#[derive(Clone, Copy)]
 pub enum Deed {
     /// Emits a start with this stamp.
     Start(u64),
-    /// Emits a finish with this stamp.
-    Finish(u64),
-    /// Sets the flag.
-    Raise(bool),
-    /// Clears the flag.
-    Lower(bool),
-    /// Waits for the flag, at most 10,000,000 turns, and then fails with this number.
-    Await(bool, u32),
-    /// Waits 100,000 turns, and fails with this number if the flag is set.
-    Avoid(bool, u32),
+    /// Counts as a unit that has begun.
+    Begin,
+    /// Waits until so many units have begun, at most 10,000,000 turns, and then fails with this number.
+    Await(u32, u32),
+    /// Counts as begun for 100,000 turns, and fails with this number if another unit has begun meanwhile.
+    Alone(u32),
     /// Fails with this number.
     Fail(u32),
+    /// Fails with a thousand times the number of its worker and the number of the unit.
+    FailAsWorker,
 }
 
-/// An engine whose unit 0 does the one list of deeds, and each other unit the other one.
+/// An engine over a table of one node, whose unit 0 does the one list of deeds, and each other unit the other one.
 #[derive(Drop)]
-pub struct Deeds {
+pub struct Deeds<'a> {
     table: Arc<Table>,
+    segment: Segment,
     units: u16,
     need: Need,
-    first: Vec<Deed>,
-    others: Vec<Deed>,
-    flag: AtomicBool,
-    other_flag: AtomicBool,
+    first: &'a [Deed],
+    others: &'a [Deed],
+    begun: AtomicU64,
 }
 
-// A table of one node; None for want of memory.
-fn table(alloc: Global) -> Option<Arc<Table>> {
-    let mut table = Table::new(alloc);
-    let segment = Segment::new(alloc, "engine", "e").ok()?;
-    table.add(alloc, None, &segment, "e", DType::Test).ok()?;
-    Arc::new(alloc, table).ok()
-}
-
-/// An engine over a table of one node; None for want of memory.
-pub fn engine(
+/// Such an engine; None for want of memory.
+pub fn engine<'a>(
     alloc: Global,
     units: u16,
     need: Need,
-    first: &[Deed],
-    others: &[Deed],
-) -> Option<Deeds> {
+    first: &'a [Deed],
+    others: &'a [Deed],
+) -> Option<Deeds<'a>> {
+    let segment = Segment::new(alloc, "d", "1").ok()?;
+    let table = one_node(alloc, DType::Test)?;
     Some(Deeds {
-        table: table(alloc)?,
+        table,
+        segment,
         units,
         need,
-        first: first.to_vec(alloc).ok()?,
-        others: others.to_vec(alloc).ok()?,
-        flag: AtomicBool::new(false),
-        other_flag: AtomicBool::new(false),
+        first,
+        others,
+        begun: AtomicU64::new(0),
     })
 }
 
-fn finish(stamp: u64) -> Event {
-    Event {
-        kind: Kind::Finished,
-        key: 0,
-        stamp,
-        payload: Payload::Outcome(Status::Successful, None),
-    }
+// The bit of a unit.
+fn bit(unit: u32) -> u64 {
+    1u64 << (unit % 64)
 }
 
-#[tactic(auto, using(crate::proofs::Growing::grew_same, crate::proofs::Growing::grew_one))]
-fn emit<R: Wait, S: Sink>(rt: &R, sink: &mut S, event: Event) -> Result<(), UnitFault>
-    ensures { Grew (S.meaning sink.old) (S.meaning sink.new) }
-{
-    match sink.emit(rt, event) {
-        Ok(()) => Ok(()),
-        Err(fault) => Err(UnitFault::Sink(fault)),
-    }
-}
-
-impl Deeds {
-    fn flag(&self, of_others: bool) -> &AtomicBool {
-        if of_others {
-            &self.other_flag
-        } else {
-            &self.flag
-        }
+impl Deeds<'_> {
+    /// The sum of a bit for each unit that has begun. Each of 60 units has its own.
+    pub fn begun(&self) -> u64 {
+        self.begun.load(Ordering::SeqCst)
     }
 
-    // Whether the flag is set within so many turns.
-    fn is_set_within(&self, of_others: bool, turns: u32) -> bool {
-        for _ in 0..turns {
-            if self.flag(of_others).load(Ordering::SeqCst) {
+    // Whether so many units begin within 10,000,000 turns.
+    fn have_begun(&self, units: u32) -> bool {
+        for _ in 0..10_000_000 {
+            if self.begun().count_ones() >= units {
                 return true;
             }
             thread::yield_now();
@@ -110,83 +85,94 @@ impl Deeds {
         false
     }
 
-    // Whether the flag is set after so many turns.
-    fn is_set_after(&self, of_others: bool, turns: u32) -> bool {
-        for _ in 0..turns {
+    // Whether no other unit has begun, or begins within 100,000 turns.
+    fn is_alone(&self, unit: u32) -> bool {
+        self.begun.fetch_add(bit(unit), Ordering::SeqCst);
+        for _ in 0..100_000 {
             thread::yield_now();
         }
-        self.flag(of_others).load(Ordering::SeqCst)
+        self.begun.fetch_sub(bit(unit), Ordering::SeqCst) == bit(unit)
     }
 
-    // The number with which the deed fails. It emits nothing.
-    fn fault_of(&self, deed: Deed) -> Option<u32> {
+    // The number with which the deed of a unit fails. It emits nothing.
+    fn fault_of(&self, deed: Deed, unit: u32) -> Option<u32> {
         match deed {
-            Deed::Start(_) | Deed::Finish(_) => None,
-            Deed::Raise(of_others) => {
-                self.flag(of_others).store(true, Ordering::SeqCst);
+            Deed::Begin => {
+                self.begun.fetch_add(bit(unit), Ordering::SeqCst);
                 None
             }
-            Deed::Lower(of_others) => {
-                self.flag(of_others).store(false, Ordering::SeqCst);
-                None
-            }
-            Deed::Await(of_others, fault) => {
-                if self.is_set_within(of_others, 10_000_000) {
-                    None
-                } else {
-                    Some(fault)
-                }
-            }
-            Deed::Avoid(of_others, fault) => {
-                if self.is_set_after(of_others, 100_000) {
-                    Some(fault)
-                } else {
-                    None
-                }
-            }
+            Deed::Await(units, fault) if !self.have_begun(units) => Some(fault),
+            Deed::Alone(fault) if !self.is_alone(unit) => Some(fault),
             Deed::Fail(fault) => Some(fault),
+            _ => None,
         }
     }
 
     fn deeds(&self, unit: u32) -> &[Deed] {
-        if unit == 0 {
-            self.first.as_slice()
-        } else {
-            self.others.as_slice()
-        }
+        if unit == 0 { self.first } else { self.others }
     }
 }
 
-// The event that the deed emits.
-fn event_of(deed: Deed) -> Option<Event> {
-    match deed {
-        Deed::Start(stamp) => Some(start(0, stamp)),
-        Deed::Finish(stamp) => Some(finish(stamp)),
-        _ => None,
+#[tactic(auto, using(crate::proofs::Growing::grew_same, crate::proofs::Growing::grew_one))]
+fn emit<R: Wait, S: Sink>(rt: &R, sink: &mut S, stamp: u64) -> Result<(), UnitFault>
+    ensures { Grew (S.meaning sink.old) (S.meaning sink.new) }
+{
+    match sink.emit(rt, start(0, stamp)) {
+        Ok(()) => Ok(()),
+        Err(fault) => Err(UnitFault::Sink(fault)),
     }
 }
 
-#[tactic(auto, using(crate::proofs::Growing::grew_refl, crate::proofs::Growing::grew_trans))]
-fn play<R: Wait, S: Sink>(
+// Fails with the number of the sink's worker, as the key of what it registers says, and with the unit's.
+#[tactic(auto, using(crate::proofs::Growing::grew_same, crate::proofs::Growing::grew_registered))]
+fn fail_as_worker<R: Wait, S: Sink>(
     rt: &R,
-    engine: &Deeds,
-    deeds: &[Deed],
+    segment: &Segment,
+    unit: u32,
     sink: &mut S,
 ) -> Result<(), UnitFault>
     ensures { Grew (S.meaning sink.old) (S.meaning sink.new) }
 {
-    for deed in deeds {
-        if let Some(event) = event_of(*deed) {
-            emit(rt, sink, event)?;
+    match sink.register(rt, 0, segment, "d", DType::Test, 0) {
+        Ok(key) => {
+            let worker = key / 65_536;
+            Err(UnitFault::Own(worker.wrapping_mul(1_000).wrapping_add(unit)))
         }
-        if let Some(fault) = engine.fault_of(*deed) {
-            return Err(UnitFault::Own(fault));
-        }
+        Err(fault) => Err(UnitFault::Sink(fault)),
+    }
+}
+
+#[tactic(auto, using(crate::proofs::Growing::grew_refl))]
+fn play_one<R: Wait, S: Sink>(
+    rt: &R,
+    engine: &Deeds,
+    deed: Deed,
+    unit: u32,
+    sink: &mut S,
+) -> Result<(), UnitFault>
+    ensures { Grew (S.meaning sink.old) (S.meaning sink.new) }
+{
+    match deed {
+        Deed::Start(stamp) => emit(rt, sink, stamp),
+        Deed::FailAsWorker => fail_as_worker(rt, &engine.segment, unit, sink),
+        _ => match engine.fault_of(deed, unit) {
+            Some(fault) => Err(UnitFault::Own(fault)),
+            None => Ok(()),
+        },
+    }
+}
+
+#[tactic(auto, using(crate::proofs::Growing::grew_refl, crate::proofs::Growing::grew_trans))]
+fn play<R: Wait, S: Sink>(rt: &R, engine: &Deeds, unit: u32, sink: &mut S) -> Result<(), UnitFault>
+    ensures { Grew (S.meaning sink.old) (S.meaning sink.new) }
+{
+    for deed in engine.deeds(unit) {
+        play_one(rt, engine, *deed, unit, sink)?;
     }
     Ok(())
 }
 
-impl Engine for Deeds {
+impl Engine for Deeds<'_> {
     ghost table = { λ e. arc_value e.table };
 
     ghost units = { λ e. e.units };
@@ -227,6 +213,6 @@ impl Engine for Deeds {
         _seat: &BookSeat,
         sink: &mut S,
     ) -> Result<(), UnitFault> {
-        play(rt, self, self.deeds(unit), sink)
+        play(rt, self, unit, sink)
     }
 }

@@ -6,8 +6,6 @@ mod books;
 #[cfg(test)]
 mod engines;
 #[cfg(test)]
-mod refusals;
-#[cfg(test)]
 mod runs;
 #[cfg(test)]
 mod senders;

@@ -1,37 +1,30 @@
 //! Engines that are run by one to eight workers.
-use crate::engines::{Deed, Deeds, engine};
+use crate::engines::{Deed, engine};
 use std::alloc::Global;
 use std::sync::Wait;
-use std::test::Fail;
 use std::thread::Threads;
 use tk_book::Need;
 use tk_engine::{Results, RunFault, UnitFault, execute};
 
-const NO_ENGINE: &str = "no engine";
-
-// What the engine answers.
-fn ran<R: Threads + Wait + Sync>(
-    rt: &R,
-    alloc: Global,
-    engine: &Deeds,
-    workers: usize,
-    capacity: usize,
-) -> Result<Results, Fail> {
-    match execute(rt, alloc, engine, workers, capacity) {
-        Ok(results) => Ok(results),
-        Err(_) => Err(Fail::new("no run")),
-    }
-}
-
-// Why there is no run; None where there is one.
-fn fault_of<R: Threads + Wait + Sync>(
-    rt: &R,
-    alloc: Global,
-    engine: &Deeds,
-    workers: usize,
-    capacity: usize,
-) -> Option<RunFault> {
-    execute(rt, alloc, engine, workers, capacity).err()
+// What a run answered, as a plain value.
+#[derive(Clone, Copy)]
+enum Outcome {
+    /// How many entries there are, the digits of the first four stamps, and what the closed session says that worker 1 and
+    /// all workers emitted.
+    Recorded {
+        entries: usize,
+        stamps: u64,
+        emitted_by_one: u64,
+        emitted: u64,
+    },
+    Workers,
+    Capacity,
+    /// A unit failed with a number of its own.
+    Own(u32, u32),
+    /// For want of memory, or a thread was refused.
+    Refused,
+    /// A sink refused an event.
+    Other,
 }
 
 // How many events the closed session says that the workers emitted.
@@ -43,116 +36,232 @@ fn emitted(results: &Results) -> u64 {
     all
 }
 
-// The stamp of the entry at this position, and 99 where there is none.
-fn stamp(results: &Results, position: usize) -> u64 {
-    match results.recorded().entry(position) {
-        Some(entry) => entry.stamp,
-        None => 99,
+// The digits of the first four stamps.
+fn stamps(results: &Results) -> u64 {
+    let mut digits = 0u64;
+    for position in 0..4usize {
+        if let Some(entry) = results.recorded().entry(position) {
+            digits = digits.wrapping_mul(10).wrapping_add(entry.stamp);
+        }
+    }
+    digits
+}
+
+fn outcome(ran: &Result<Results, RunFault>) -> Outcome {
+    match ran {
+        Ok(results) => Outcome::Recorded {
+            entries: results.recorded().len(),
+            stamps: stamps(results),
+            emitted_by_one: results.closed().emitted(1),
+            emitted: emitted(results),
+        },
+        Err(RunFault::Workers) => Outcome::Workers,
+        Err(RunFault::Capacity) => Outcome::Capacity,
+        Err(RunFault::Engine(unit, UnitFault::Own(number))) => Outcome::Own(*unit, *number),
+        Err(RunFault::Engine(_, UnitFault::Sink(_))) => Outcome::Other,
+        Err(_) => Outcome::Refused,
     }
 }
 
+// A run of so many units of this need, of which the first does the one list of deeds and the others the other one: what it
+// answered, and the sum of the bits of the units that began.
+fn run<R: Threads + Wait + Sync>(
+    rt: &R,
+    alloc: Global,
+    units: u16,
+    need: Need,
+    deeds: [&[Deed]; 2],
+    workers: usize,
+    capacity: usize,
+) -> (Outcome, u64) {
+    match engine(alloc, units, need, deeds[0], deeds[1]) {
+        Some(engine) => {
+            let outcome = outcome(&execute(rt, alloc, &engine, workers, capacity));
+            (outcome, engine.begun())
+        }
+        None => (Outcome::Refused, 0),
+    }
+}
+
+// The need of units that run side by side.
+fn read_of_all() -> Need {
+    Need::of(1, 0)
+}
+
 #[test]
-fn one_to_eight_workers_run_all_units(rt: HostRuntime) -> Result<(), Fail> {
+fn one_to_eight_workers_run_all_units(rt: HostRuntime) {
     let deeds = [Deed::Start(0), Deed::Start(1)];
-    let engine = engine(rt.alloc(), 300, Need::of(1, 0), &deeds, &deeds).ok_or(NO_ENGINE)?;
     for workers in 1..=8usize {
-        let results = ran(&rt, rt.alloc(), &engine, workers, 3)?;
-        assert_eq!(rt; results.recorded().len(), 600);
-        assert_eq!(rt; emitted(&results), 600);
-    }
-    Ok(())
-}
-
-#[test]
-fn no_unit_is_a_run(rt: HostRuntime) -> Result<(), Fail> {
-    let engine = engine(rt.alloc(), 0, Need::of(1, 0), &[], &[]).ok_or(NO_ENGINE)?;
-    let results = ran(&rt, rt.alloc(), &engine, 8, 1)?;
-    assert_eq!(rt; results.recorded().len(), 0);
-    Ok(())
-}
-
-#[test]
-fn side_by_side(rt: HostRuntime) -> Result<(), Fail> {
-    let first = [Deed::Await(true, 1)];
-    let other = [Deed::Raise(true)];
-    let engine = engine(rt.alloc(), 2, Need::of(1, 0), &first, &other).ok_or(NO_ENGINE)?;
-    assert!(rt; fault_of(&rt, rt.alloc(), &engine, 2, 64).is_none());
-    Ok(())
-}
-
-#[test]
-fn events_as_they_are_emitted(rt: HostRuntime) -> Result<(), Fail> {
-    let first = [
-        Deed::Start(1),
-        Deed::Raise(false),
-        Deed::Await(true, 3),
-        Deed::Start(3),
-    ];
-    let other = [Deed::Await(false, 3), Deed::Start(2), Deed::Raise(true)];
-    let engine = engine(rt.alloc(), 2, Need::of(1, 0), &first, &other).ok_or(NO_ENGINE)?;
-    let results = ran(&rt, rt.alloc(), &engine, 2, 64)?;
-    assert_eq!(rt; results.recorded().len(), 3);
-    for position in 0..3usize {
-        assert_eq!(rt;
-            stamp(&results, position),
-            (position as u64).wrapping_add(1)
+        let (ran, _) = run(
+            &rt,
+            rt.alloc(),
+            300,
+            read_of_all(),
+            [&deeds, &deeds],
+            workers,
+            3,
+        );
+        assert!(rt;
+            matches!(
+                ran,
+                Outcome::Recorded {
+                    entries: 600,
+                    emitted: 600,
+                    ..
+                }
+            ),
+            "{workers}"
         );
     }
-    let one = results.closed().emitted(1);
-    let two = results.closed().emitted(2);
-    assert!(rt; (one == 1 && two == 2) || (one == 2 && two == 1));
-    Ok(())
-}
-
-// A start, a while in which the other unit's flag may not be seen, and a finish.
-fn alone(of_others: bool, stamp: u64) -> [Deed; 5] {
-    [
-        Deed::Start(stamp),
-        Deed::Raise(of_others),
-        Deed::Avoid(!of_others, 2),
-        Deed::Lower(of_others),
-        Deed::Finish(stamp),
-    ]
 }
 
 #[test]
-fn one_shared_book(rt: HostRuntime) -> Result<(), Fail> {
-    let engine = engine(
-        rt.alloc(),
-        2,
-        Need::of(0, 1),
-        &alone(false, 7),
-        &alone(true, 8),
-    )
-    .ok_or(NO_ENGINE)?;
-    let results = ran(&rt, rt.alloc(), &engine, 2, 64)?;
-    assert_eq!(rt; results.recorded().len(), 4);
-    assert_eq!(rt; stamp(&results, 0), stamp(&results, 1));
-    assert_eq!(rt; stamp(&results, 2), stamp(&results, 3));
-    assert_ne!(rt; stamp(&results, 0), stamp(&results, 2));
-    Ok(())
+fn no_unit_is_a_run(rt: HostRuntime) {
+    let (ran, _) = run(&rt, rt.alloc(), 0, read_of_all(), [&[][..], &[][..]], 8, 1);
+    assert!(rt;
+        matches!(
+            ran,
+            Outcome::Recorded {
+                entries: 0,
+                emitted: 0,
+                ..
+            }
+        )
+    );
 }
 
 #[test]
-fn workers_and_places(rt: HostRuntime) -> Result<(), Fail> {
-    let engine = engine(rt.alloc(), 1, Need::of(1, 0), &[Deed::Start(0)], &[]).ok_or(NO_ENGINE)?;
+fn side_by_side(rt: HostRuntime) {
+    let deeds = [&[Deed::Await(1, 1)][..], &[Deed::Begin][..]];
+    let (ran, _) = run(&rt, rt.alloc(), 2, read_of_all(), deeds, 2, 64);
+    assert!(rt; matches!(ran, Outcome::Recorded { .. }));
+}
+
+#[test]
+fn events_as_they_are_emitted(rt: HostRuntime) {
+    let first = [
+        Deed::Start(1),
+        Deed::Begin,
+        Deed::Await(2, 3),
+        Deed::Start(3),
+    ];
+    let other = [Deed::Await(1, 3), Deed::Start(2), Deed::Begin];
+    let (ran, _) = run(&rt, rt.alloc(), 2, read_of_all(), [&first, &other], 2, 64);
+    assert!(rt;
+        matches!(
+            ran,
+            Outcome::Recorded {
+                entries: 3,
+                stamps: 123,
+                emitted_by_one: 1 | 2,
+                emitted: 3
+            }
+        )
+    );
+}
+
+#[test]
+fn one_shared_book(rt: HostRuntime) {
+    let first = [Deed::Start(7), Deed::Alone(2), Deed::Start(7)];
+    let other = [Deed::Start(8), Deed::Alone(2), Deed::Start(8)];
+    let (ran, _) = run(&rt, rt.alloc(), 2, Need::of(0, 1), [&first, &other], 2, 64);
+    assert!(rt;
+        matches!(
+            ran,
+            Outcome::Recorded {
+                stamps: 7_788 | 8_877,
+                ..
+            }
+        )
+    );
+}
+
+#[test]
+fn workers_and_places(rt: HostRuntime) {
+    let deeds = [&[Deed::Start(0)][..], &[][..]];
     for workers in [0, 9] {
-        let fault = fault_of(&rt, rt.alloc(), &engine, workers, 1);
-        assert!(rt; matches!(fault, Some(RunFault::Workers)), "{workers}");
+        let (ran, _) = run(&rt, rt.alloc(), 1, read_of_all(), deeds, workers, 1);
+        assert!(rt; matches!(ran, Outcome::Workers), "{workers}");
     }
     for places in [0, 1025] {
-        let fault = fault_of(&rt, rt.alloc(), &engine, 1, places);
-        assert!(rt; matches!(fault, Some(RunFault::Capacity)), "{places}");
+        let (ran, _) = run(&rt, rt.alloc(), 1, read_of_all(), deeds, 1, places);
+        assert!(rt; matches!(ran, Outcome::Capacity), "{places}");
     }
-    assert!(rt; fault_of(&rt, rt.alloc(), &engine, 8, 1024).is_none());
-    Ok(())
+    let (ran, _) = run(&rt, rt.alloc(), 1, read_of_all(), deeds, 8, 1024);
+    assert!(rt; matches!(ran, Outcome::Recorded { entries: 1, .. }));
 }
 
 #[test]
-fn a_failure_names_its_unit(rt: HostRuntime) -> Result<(), Fail> {
-    let deeds = [Deed::Start(1), Deed::Fail(3)];
-    let engine = engine(rt.alloc(), 2, Need::of(1, 0), &deeds, &deeds).ok_or(NO_ENGINE)?;
-    let fault = fault_of(&rt, rt.alloc(), &engine, 1, 64);
-    assert!(rt; matches!(fault, Some(RunFault::Engine(0, UnitFault::Own(3)))));
-    Ok(())
+fn a_failure_names_its_unit(rt: HostRuntime) {
+    let fails = [Deed::Start(1), Deed::Fail(3)];
+    let (ran, _) = run(&rt, rt.alloc(), 2, read_of_all(), [&fails, &fails], 1, 64);
+    assert!(rt; matches!(ran, Outcome::Own(0, 3)));
+    let (ran, _) = run(
+        &rt,
+        rt.alloc(),
+        3,
+        read_of_all(),
+        [&[][..], &fails[..]],
+        1,
+        64,
+    );
+    assert!(rt; matches!(ran, Outcome::Own(1, 3)));
+}
+
+/// Each of 60 units waits until every worker has one.
+#[test]
+fn each_unit_is_run_once(rt: HostRuntime) {
+    for workers in [1u32, 2, 8] {
+        let deeds = [Deed::Begin, Deed::Await(workers, 1)];
+        let (ran, begun) = run(
+            &rt,
+            rt.alloc(),
+            60,
+            read_of_all(),
+            [&deeds, &deeds],
+            workers as usize,
+            64,
+        );
+        assert!(rt; matches!(ran, Outcome::Recorded { .. }), "{workers}");
+        assert!(rt; begun == (1 << 60) - 1, "{workers}");
+    }
+}
+
+/// Each worker fails at its first unit, once all have one: what is answered is the fault of worker 1, and its unit.
+#[test]
+fn all_workers_fail(rt: HostRuntime) {
+    for workers in [1u32, 2, 8] {
+        let deeds = [Deed::Begin, Deed::Await(workers, 1), Deed::FailAsWorker];
+        let (ran, begun) = run(
+            &rt,
+            rt.alloc(),
+            60,
+            read_of_all(),
+            [&deeds, &deeds],
+            workers as usize,
+            64,
+        );
+        assert!(rt;
+            matches!(ran, Outcome::Own(unit, fault) if fault == unit.wrapping_add(1_000)),
+            "{workers}"
+        );
+        assert!(rt; begun.count_ones() == workers, "{workers}");
+    }
+}
+
+/// A run through one place, with ample memory and with any one request for memory refused.
+#[test]
+fn a_refused_run(rt: HostRuntime) {
+    let starts = [Deed::Start(0); 1000];
+    let (first, _) = run(&rt, rt.alloc(), 2, read_of_all(), [&starts, &starts], 2, 1);
+    assert!(rt;
+        matches!(
+            first,
+            Outcome::Recorded { entries: 2_000, .. } | Outcome::Refused
+        )
+    );
+    if matches!(first, Outcome::Refused) {
+        let (again, _) = run(&rt, rt.alloc(), 2, read_of_all(), [&starts, &starts], 2, 1);
+        assert!(rt; matches!(again, Outcome::Recorded { entries: 2_000, .. }));
+    }
 }
