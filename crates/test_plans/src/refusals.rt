@@ -51,16 +51,28 @@ fn a_plan(rt: HostRuntime) {
     }
 }
 
+fn is_emission_refused(fault: &SinkFault) -> bool {
+    match fault {
+        SinkFault::Register(why) => matches!(why, RegisterFault::Memory),
+        _ => false,
+    }
+}
+
+fn is_unit_refused(fault: &UnitFault) -> bool {
+    match fault {
+        UnitFault::Memory => true,
+        UnitFault::Sink(why) => is_emission_refused(why),
+        _ => false,
+    }
+}
+
 // Whether a thread was refused, or a unit stopped for want of memory.
 fn is_run_refused(fault: &RunFault) -> bool {
-    matches!(
-        fault,
-        RunFault::Threads
-            | RunFault::Engine(
-                _,
-                UnitFault::Memory | UnitFault::Sink(SinkFault::Register(RegisterFault::Memory))
-            )
-    )
+    match fault {
+        RunFault::Threads => true,
+        RunFault::Engine(_, why) => is_unit_refused(why),
+        _ => false,
+    }
 }
 
 // A refused growth of the target breaks it, and what it took is a prefix of the report.

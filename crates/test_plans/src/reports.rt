@@ -30,7 +30,7 @@ fn counts(alloc: Global, results: &Results) -> Result<(usize, usize, usize), All
     Ok((all, tests, results.container_events(alloc)?.count()))
 }
 
-// Whether the device broke, and so many bytes of the demo plan's report went out before.
+// Whether the device broke, and `breaks_at` bytes of the demo plan's report went out before.
 fn is_cut(answer: &Result<(), ReportFault>, target: &OneByteTarget, breaks_at: usize) -> bool {
     let taken = target.taken();
     let is_prefix = taken.len() == breaks_at && demo_report().starts_with(taken);

@@ -3,7 +3,7 @@ use std::alloc::{AllocError, Global};
 use test_support::{OneByteSource, OneByteTarget, record_of, two_tests, two_tests_report};
 use tk_ask::{AskFault, ask};
 use tk_record::{ReadFault, Record, WriteFault, read_record, write_record};
-use tk_reports::write_report_of;
+use tk_record_report::write_report_of;
 use tk_streams::{ByteTarget, Source, Target};
 
 // Whether reading the record of two tests answers that the device broke.
@@ -34,7 +34,7 @@ fn reading_at_each_call(rt: HostRuntime) -> Result<(), AllocError> {
     Ok(())
 }
 
-// Whether a target that broke got so many bytes of a text, and the writer told of it.
+// Whether a target that broke got this number of bytes of a text, and the writer answered so.
 fn is_cut(
     answer: Result<(), WriteFault>,
     target: &OneByteTarget,

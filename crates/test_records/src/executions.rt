@@ -4,17 +4,17 @@ use test_support::{record_of, two_tests};
 use tk_columns::{Events, Record};
 use tk_query::{Executions, executions};
 
-fn is_told(alloc: Global, list: &Executions, want: &str) -> bool {
+fn is_written_as(alloc: Global, list: &Executions, want: &str) -> bool {
     match format!(in alloc; "{list:?}") {
         Ok(text) => text.as_str() == want,
         Err(_) => false,
     }
 }
 
-// Whether the events have one execution, which is told so.
+// Whether the events have one execution, written as `want`.
 fn has_one(alloc: Global, events: &Events<'_>, want: &str) -> bool {
     match executions(alloc, events) {
-        Ok(list) => is_told(alloc, &list, want),
+        Ok(list) => is_written_as(alloc, &list, want),
         Err(_) => false,
     }
 }
@@ -26,7 +26,7 @@ fn is_of_events(alloc: Global, events: Result<Events<'_>, AllocError>, want: &st
     }
 }
 
-// Whether a descriptor's events in a record have one execution, which is told so.
+// Whether a descriptor's events in a record have one execution, written as `want`.
 fn is_of_key(alloc: Global, record: &Record, key: u32, want: &str) -> bool {
     match Events::all(alloc, record) {
         Ok(events) => is_of_events(alloc, events.by_key(alloc, key), want),
@@ -60,7 +60,7 @@ fn executions_of_a_key(rt: HostRuntime) {
     }
 }
 
-// Whether so many executions are kept.
+// Whether `count` executions are kept.
 fn are_kept(filtered: Result<Executions, AllocError>, count: usize) -> bool {
     match filtered {
         Ok(list) => list.len() == count,

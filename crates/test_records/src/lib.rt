@@ -13,6 +13,8 @@ mod loading;
 #[cfg(test)]
 mod matches;
 #[cfg(test)]
+mod refusals;
+#[cfg(test)]
 mod reports;
 #[cfg(test)]
 mod selections;

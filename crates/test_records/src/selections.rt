@@ -29,7 +29,7 @@ fn named<'r>(
     }
 }
 
-fn is_told(alloc: Global, positions: &[usize], want: &str) -> bool {
+fn is_written_as(alloc: Global, positions: &[usize], want: &str) -> bool {
     match format!(in alloc; "{positions:?}") {
         Ok(text) => text.as_str() == want,
         Err(_) => false,
@@ -38,7 +38,7 @@ fn is_told(alloc: Global, positions: &[usize], want: &str) -> bool {
 
 fn has_positions(alloc: Global, events: &Events<'_>, want: &str) -> bool {
     match events.positions(alloc) {
-        Ok(positions) => is_told(alloc, positions.as_slice(), want),
+        Ok(positions) => is_written_as(alloc, positions.as_slice(), want),
         Err(_) => false,
     }
 }

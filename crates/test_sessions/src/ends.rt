@@ -18,7 +18,7 @@ pub enum Answer {
 
 /// An item, by the worker, and of an entry the kind, the key and the stamp.
 #[derive(Clone, Copy, PartialEq, Eq)]
-pub enum Told {
+pub enum TakenItem {
     Nothing,
     Entry(u8, Kind, u32, u64),
     End(u8),
@@ -38,21 +38,21 @@ pub fn send<R: Wait>(rt: &R, sender: &mut Sender, event: Event) -> Answer
 }
 
 /// What an item is.
-pub fn plain(item: Option<Item>) -> Told {
+pub fn plain(item: Option<Item>) -> TakenItem {
     match item {
-        Some(Item::Entry(entry)) => Told::Entry(
+        Some(Item::Entry(entry)) => TakenItem::Entry(
             entry.worker,
             entry.event.kind,
             entry.event.key,
             entry.event.stamp,
         ),
-        Some(Item::End(worker)) => Told::End(worker),
-        None => Told::Nothing,
+        Some(Item::End(worker)) => TakenItem::End(worker),
+        None => TakenItem::Nothing,
     }
 }
 
 /// Takes the item that comes next.
-pub fn take<R: Wait>(rt: &R, receiver: &mut Receiver) -> Told
+pub fn take<R: Wait>(rt: &R, receiver: &mut Receiver) -> TakenItem
     ensures session { receiver.new.session ≡ receiver.old.session }
 {
     plain(receiver.take(rt))

@@ -1,7 +1,7 @@
 //! One sender emits and registers as much as it may.
 ghost use Rattle.std.specs.Prelude.{◌≡◌};
 
-use crate::ends::{Answer, Told, send, take};
+use crate::ends::{Answer, TakenItem, send, take};
 use std::sync::Wait;
 use std::test::Fail;
 use test_support::{one_node, start};
@@ -9,14 +9,16 @@ use tk_events::Kind;
 use tk_ids::{DType, Segment};
 use tk_queue::{Receiver, RegisterFault, Sender, open};
 
-// Whether so many starts were sent, and each was taken at once.
+// Whether `count` starts were sent, and each was taken at once.
 fn passes<R: Wait>(rt: &R, sender: &mut Sender, receiver: &mut Receiver, count: u64) -> bool
     ensures sender { sender.new.session ≡ sender.old.session }
     ensures receiver { receiver.new.session ≡ receiver.old.session }
 {
     for stamp in 0..count {
         let answer = send(rt, sender, start(0, stamp));
-        if answer != Answer::Sent || take(rt, receiver) != Told::Entry(1, Kind::Started, 0, stamp) {
+        if answer != Answer::Sent
+            || take(rt, receiver) != TakenItem::Entry(1, Kind::Started, 0, stamp)
+        {
             return false;
         }
     }
@@ -32,14 +34,14 @@ fn as_many_events_as_may_be(rt: HostRuntime) -> Result<(), Fail> {
     assert_eq!(rt; sender.emitted(), 1_048_576);
     assert!(rt; send(&rt, &mut sender, start(0, 7)) == Answer::Limit(7));
     let token = sender.end(&rt);
-    assert!(rt; take(&rt, &mut receiver) == Told::End(1));
+    assert!(rt; take(&rt, &mut receiver) == TakenItem::End(1));
     let ended = vec![in rt.alloc(); token]?;
     let closed = receiver.close(ended).ok().ok_or("not closed")?;
     assert_eq!(rt; closed.emitted(1), 1_048_576);
     Ok(())
 }
 
-// The last of so many keys, which count up from `first`, where each registration was taken at once.
+// The last of `count` keys, which count up from `first`, where each registration was taken at once.
 fn register_all<R: Wait>(
     rt: &R,
     sender: &mut Sender,
@@ -51,7 +53,7 @@ fn register_all<R: Wait>(
     for number in 0..count {
         let key = first.wrapping_add(number);
         let answer = sender.register(rt, 0, segment, "d", DType::Test, 3);
-        if answer != Ok(key) || take(rt, receiver) != Told::Entry(2, Kind::Dynamic, key, 3) {
+        if answer != Ok(key) || take(rt, receiver) != TakenItem::Entry(2, Kind::Dynamic, key, 3) {
             return false;
         }
     }
@@ -70,6 +72,6 @@ fn as_many_registrations_as_may_be(rt: HostRuntime) -> Result<(), Fail> {
     assert_eq!(rt; more, Err(RegisterFault::Limit));
     assert_eq!(rt; sender.emitted(), 65_536);
     assert!(rt; send(&rt, &mut sender, start(196_607, 4)) == Answer::Sent);
-    assert!(rt; take(&rt, &mut receiver) == Told::Entry(2, Kind::Started, 196_607, 4));
+    assert!(rt; take(&rt, &mut receiver) == TakenItem::Entry(2, Kind::Started, 196_607, 4));
     Ok(())
 }

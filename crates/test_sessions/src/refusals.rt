@@ -1,6 +1,6 @@
 //! What is answered where memory is refused. A call that answers so is made once more, and then it
 //! has to succeed: each test passes with ample memory, and with any one request for memory refused.
-use crate::ends::{Told, plain, take};
+use crate::ends::{TakenItem, plain, take};
 use std::alloc::Global;
 use std::sync::Wait;
 use std::test::*;
@@ -19,18 +19,18 @@ enum Ending {
     Wrong,
 }
 
-// A refused growth of the target breaks it, and what it took is a front of the record.
+// A refused growth of the target breaks it, and what it took is a prefix of the record.
 fn replayed(alloc: Global) -> Ending {
     let mut source = ByteSource::new(small_replay());
     let mut target = ByteTarget::new(alloc);
     let answer = replay_text(alloc, &mut source, &mut target);
     let broken = target.is_broken();
     let is_whole = target.bytes() == small_replay_taken();
-    let is_front = small_replay_taken().starts_with(target.bytes());
+    let is_prefix = small_replay_taken().starts_with(target.bytes());
     match answer {
         Ok(()) if is_whole => Ending::Done,
-        Err(ReplayFault::Memory) if is_front && !broken => Ending::Refused,
-        Err(ReplayFault::Device) if is_front && broken => Ending::Refused,
+        Err(ReplayFault::Memory) if is_prefix && !broken => Ending::Refused,
+        Err(ReplayFault::Device) if is_prefix && broken => Ending::Refused,
         _ => Ending::Wrong,
     }
 }
@@ -68,7 +68,7 @@ fn a_core(rt: HostRuntime) {
     }
     assert_eq!(rt; core.waiting(), 20);
     for stamp in 0..20 {
-        assert!(rt; plain(core.take()) == Told::Entry(1, Kind::Started, 0, stamp));
+        assert!(rt; plain(core.take()) == TakenItem::Entry(1, Kind::Started, 0, stamp));
     }
 }
 
@@ -108,7 +108,7 @@ fn a_registration(rt: HostRuntime) -> Result<(), Fail> {
     if first == Ending::Refused {
         assert_eq!(rt; registered(&rt, &mut sender, &segment), Ending::Done);
     }
-    assert!(rt; take(&rt, &mut receiver) == Told::Entry(2, Kind::Dynamic, 131_072, 5));
-    assert!(rt; take(&rt, &mut receiver) == Told::Nothing);
+    assert!(rt; take(&rt, &mut receiver) == TakenItem::Entry(2, Kind::Dynamic, 131_072, 5));
+    assert!(rt; take(&rt, &mut receiver) == TakenItem::Nothing);
     Ok(())
 }

@@ -1,5 +1,5 @@
 //! The queue's core by hand, and replays of scripts by turns.
-use crate::ends::{Told, plain};
+use crate::ends::{TakenItem, plain};
 use std::alloc::Global;
 use std::test::Fail;
 use test_support::{
@@ -44,8 +44,8 @@ fn core_turns(rt: HostRuntime) {
     assert!(rt; ends(&mut core, 1));
     assert!(rt; refuses(&mut core, 1, 8, CoreFault::AfterEnd));
     assert!(rt; refuses(&mut core, 3, 9, CoreFault::Worker));
-    assert!(rt; plain(core.take()) == Told::Entry(1, Kind::Started, 0, 7));
-    assert!(rt; plain(core.take()) == Told::End(1));
+    assert!(rt; plain(core.take()) == TakenItem::Entry(1, Kind::Started, 0, 7));
+    assert!(rt; plain(core.take()) == TakenItem::End(1));
     assert!(rt; core.take().is_none());
 }
 
@@ -57,7 +57,7 @@ fn a_thousand_waiting(rt: HostRuntime) {
     }
     assert!(rt; core.waiting() == 1_000);
     for stamp in 0..1_000 {
-        assert!(rt; plain(core.take()) == Told::Entry(1, Kind::Started, 0, stamp));
+        assert!(rt; plain(core.take()) == TakenItem::Entry(1, Kind::Started, 0, stamp));
     }
     assert!(rt; core.take().is_none());
 }
@@ -102,14 +102,14 @@ fn reading_breaks(alloc: Global, breaks_at: usize) -> bool {
     matches!(answer, Err(ReplayFault::Device)) && target.bytes().is_empty()
 }
 
-// Whether a replay to a target that breaks at a call tells so, and so many bytes went out before.
+// Whether a replay to a target that breaks at a call answers so, and `breaks_at` bytes went out before.
 fn writing_breaks(alloc: Global, breaks_at: usize) -> bool {
     let mut source = OneByteSource::new(small_replay(), 1_000);
     let mut target = OneByteTarget::new(alloc, breaks_at);
     let answer = replay_text(alloc, &mut source, &mut target);
     let taken = target.taken();
-    let is_front = taken.len() == breaks_at && small_replay_taken().starts_with(taken);
-    matches!(answer, Err(ReplayFault::Device)) && is_front
+    let is_prefix = taken.len() == breaks_at && small_replay_taken().starts_with(taken);
+    matches!(answer, Err(ReplayFault::Device)) && is_prefix
 }
 
 #[test]

@@ -1,7 +1,7 @@
 //! Sessions of the queue on one thread.
 ghost use Rattle.std.specs.Prelude.{◌≡◌, All, IfSome};
 
-use crate::ends::{Answer, Told, send, take};
+use crate::ends::{Answer, TakenItem, send, take};
 use std::alloc::Global;
 use std::sync::Wait;
 use std::test::Fail;
@@ -35,10 +35,10 @@ fn one_thread_session(rt: HostRuntime) -> Result<(), Fail> {
     let mut sender = senders.pop().ok_or(NO_SENDER)?;
     assert!(rt; send(&rt, &mut sender, start(0, 1)) == Answer::Sent);
     assert!(rt; send(&rt, &mut sender, start(0, 2)) == Answer::Full(2));
-    assert!(rt; take(&rt, &mut receiver) == Told::Entry(1, Kind::Started, 0, 1));
+    assert!(rt; take(&rt, &mut receiver) == TakenItem::Entry(1, Kind::Started, 0, 1));
     let token = sender.end(&rt);
-    assert!(rt; take(&rt, &mut receiver) == Told::End(1));
-    assert!(rt; take(&rt, &mut receiver) == Told::Nothing);
+    assert!(rt; take(&rt, &mut receiver) == TakenItem::End(1));
+    assert!(rt; take(&rt, &mut receiver) == TakenItem::Nothing);
     let ended = vec![in rt.alloc(); token]?;
     assert_eq!(rt; emitted(receiver, ended), Some(1));
     Ok(())
@@ -65,14 +65,14 @@ fn closed_too_early(rt: HostRuntime) -> Result<(), Fail> {
         mut receiver,
         ended,
     } = undrained;
-    assert!(rt; take(&rt, &mut receiver) == Told::End(2));
-    assert!(rt; take(&rt, &mut receiver) == Told::End(1));
+    assert!(rt; take(&rt, &mut receiver) == TakenItem::End(2));
+    assert!(rt; take(&rt, &mut receiver) == TakenItem::End(1));
     assert_eq!(rt; emitted(receiver, ended), Some(0));
     Ok(())
 }
 
 #[test]
-fn two_places(rt: HostRuntime) -> Result<(), Fail> {
+fn capacity_two(rt: HostRuntime) -> Result<(), Fail> {
     let table = one_node(rt.alloc(), DType::Test).ok_or("no table")?;
     let (mut senders, mut receiver) = open(rt.alloc(), table, 2, 2)?;
     let mut second = senders.pop().ok_or(NO_SENDER)?;
@@ -80,7 +80,7 @@ fn two_places(rt: HostRuntime) -> Result<(), Fail> {
     assert!(rt; send(&rt, &mut first, start(0, 1)) == Answer::Sent);
     assert!(rt; send(&rt, &mut second, start(0, 2)) == Answer::Sent);
     assert!(rt; send(&rt, &mut first, start(0, 3)) == Answer::Full(3));
-    assert!(rt; take(&rt, &mut receiver) == Told::Entry(1, Kind::Started, 0, 1));
+    assert!(rt; take(&rt, &mut receiver) == TakenItem::Entry(1, Kind::Started, 0, 1));
     assert!(rt; send(&rt, &mut first, start(0, 3)) == Answer::Sent);
     Ok(())
 }
@@ -136,7 +136,7 @@ fn registering(rt: HostRuntime) -> Result<(), Fail> {
     let mut first = senders.pop().ok_or(NO_SENDER)?;
     let segment = Segment::new(alloc, "dyn", "1")?;
     assert_eq!(rt; register(&rt, &mut second, &segment, 0), Ok(131_072));
-    assert!(rt; take(&rt, &mut receiver) == Told::Entry(2, Kind::Dynamic, 131_072, 5));
+    assert!(rt; take(&rt, &mut receiver) == TakenItem::Entry(2, Kind::Dynamic, 131_072, 5));
     assert!(rt; send(&rt, &mut first, start(131_072, 7)) == Answer::UnknownNode(7));
     assert_eq!(rt;
         register(&rt, &mut first, &segment, 9),

@@ -3,29 +3,29 @@ use Rattle.std.proofs.Common.{◌≡◌, ℕ, List, Ok, [], ◌∷◌, ◌++◌,
 use Rattle.tk_ids.specs.IdText.{Pair}
 use Rattle.tk_ids.specs.declared.tables.DType.{DType}
 use Rattle.tk_events.specs.declared.events.Event.{Event}
-use Rattle.tk_queue.specs.Ends.{Emits, IsRegisteredAs, child, registration, sends}
+use Rattle.tk_queue.specs.Ends.{SenderView, IsRegisteredAs, child, registration, sends}
 use Rattle.tk_engine.specs.Engines.{IsSame}
 use Rattle.test_threads.specs.Grown.{Grew}
 
-pub grew_refl : (a : Emits) → Grew a a
+pub grew_refl : (a : SenderView) → Grew a a
 grew_refl a = record { same = record { session = refl; table = refl; worker = refl }; events = []; sent = sym (append-nil a.sent) }
 
-pub grew_same : (a b : Emits) → b ≡ a → Grew a b
+pub grew_same : (a b : SenderView) → b ≡ a → Grew a b
 grew_same a b is = rw is (grew_refl a)
 
-pub grew_one : (a b : Emits) (e : Event) → b ≡ sends a e → Grew a b
+pub grew_one : (a b : SenderView) (e : Event) → b ≡ sends a e → Grew a b
 grew_one a b e is = record {
-  same = record { session = ap (λ (x : Emits). x.session) is; table = ap (λ (x : Emits). x.table) is; worker = ap (λ (x : Emits). x.worker) is };
+  same = record { session = ap (λ (x : SenderView). x.session) is; table = ap (λ (x : SenderView). x.table) is; worker = ap (λ (x : SenderView). x.worker) is };
   events = e ∷ [];
-  sent = ap (λ (x : Emits). x.sent) is;
+  sent = ap (λ (x : SenderView). x.sent) is;
 }
 
-pub grew_trans : (a b c : Emits) → Grew a b → Grew b c → Grew a c
+pub grew_trans : (a b c : SenderView) → Grew a b → Grew b c → Grew a c
 grew_trans a b c ab bc = record {
   same = record { session = bc.same.session ∙ ab.same.session; table = bc.same.table ∙ ab.same.table; worker = bc.same.worker ∙ ab.same.worker };
   events = ab.events ++ bc.events;
   sent = bc.sent ∙ ap (λ (l : List Event). l ++ bc.events) ab.sent ∙ append_assoc a.sent ab.events bc.events;
 }
 
-pub grew_registered : (a b : Emits) (parent : ℕ) (segment : Pair) (name : List ℕ) (dtype : DType) (stamp key : ℕ) → IsRegisteredAs a b parent segment name dtype stamp (Ok key) → Grew a b
+pub grew_registered : (a b : SenderView) (parent : ℕ) (segment : Pair) (name : List ℕ) (dtype : DType) (stamp key : ℕ) → IsRegisteredAs a b parent segment name dtype stamp (Ok key) → Grew a b
 grew_registered a b parent segment name dtype stamp key (above, _, _, _, _, is, _) = grew_one a b (registration a stamp (child above segment name dtype)) is

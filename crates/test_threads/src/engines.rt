@@ -15,7 +15,7 @@ use tk_ids::{DType, Segment, Table};
 
 /// What a unit does next.
 #[derive(Clone, Copy)]
-pub enum Deed {
+pub enum UnitStep {
     /// Emits a start with this stamp.
     Start(u64),
     /// Counts as a unit that has begun.
@@ -32,13 +32,13 @@ pub enum Deed {
 
 /// An engine over a table of one node, whose unit 0 does the one list of deeds, and each other unit the other one.
 #[derive(Drop)]
-pub struct Deeds<'a> {
+pub struct StepEngine<'a> {
     table: Arc<Table>,
     segment: Segment,
     units: u16,
     need: Need,
-    first: &'a [Deed],
-    others: &'a [Deed],
+    first: &'a [UnitStep],
+    others: &'a [UnitStep],
     begun: AtomicU64,
 }
 
@@ -47,12 +47,12 @@ pub fn engine<'a>(
     alloc: Global,
     units: u16,
     need: Need,
-    first: &'a [Deed],
-    others: &'a [Deed],
-) -> Option<Deeds<'a>> {
+    first: &'a [UnitStep],
+    others: &'a [UnitStep],
+) -> Option<StepEngine<'a>> {
     let segment = Segment::new(alloc, "d", "1").ok()?;
     let table = one_node(alloc, DType::Test)?;
-    Some(Deeds {
+    Some(StepEngine {
         table,
         segment,
         units,
@@ -68,7 +68,7 @@ fn bit(unit: u32) -> u64 {
     1u64 << (unit % 64)
 }
 
-impl Deeds<'_> {
+impl StepEngine<'_> {
     /// The sum of a bit for each unit that has begun. Each of 60 units has its own.
     pub fn begun(&self) -> u64 {
         self.begun.load(Ordering::SeqCst)
@@ -95,20 +95,20 @@ impl Deeds<'_> {
     }
 
     // The number with which the deed of a unit fails. It emits nothing.
-    fn fault_of(&self, deed: Deed, unit: u32) -> Option<u32> {
-        match deed {
-            Deed::Begin => {
+    fn fault_of(&self, step: UnitStep, unit: u32) -> Option<u32> {
+        match step {
+            UnitStep::Begin => {
                 self.begun.fetch_add(bit(unit), Ordering::SeqCst);
                 None
             }
-            Deed::Await(units, fault) if !self.have_begun(units) => Some(fault),
-            Deed::Alone(fault) if !self.is_alone(unit) => Some(fault),
-            Deed::Fail(fault) => Some(fault),
+            UnitStep::Await(units, fault) if !self.have_begun(units) => Some(fault),
+            UnitStep::Alone(fault) if !self.is_alone(unit) => Some(fault),
+            UnitStep::Fail(fault) => Some(fault),
             _ => None,
         }
     }
 
-    fn deeds(&self, unit: u32) -> &[Deed] {
+    fn steps(&self, unit: u32) -> &[UnitStep] {
         if unit == 0 { self.first } else { self.others }
     }
 }
@@ -145,17 +145,17 @@ fn fail_as_worker<R: Wait, S: Sink>(
 #[tactic(auto, using(crate::proofs::Growing::grew_refl))]
 fn play_one<R: Wait, S: Sink>(
     rt: &R,
-    engine: &Deeds,
-    deed: Deed,
+    engine: &StepEngine,
+    step: UnitStep,
     unit: u32,
     sink: &mut S,
 ) -> Result<(), UnitFault>
     ensures { Grew (S.meaning sink.old) (S.meaning sink.new) }
 {
-    match deed {
-        Deed::Start(stamp) => emit(rt, sink, stamp),
-        Deed::FailAsWorker => fail_as_worker(rt, &engine.segment, unit, sink),
-        _ => match engine.fault_of(deed, unit) {
+    match step {
+        UnitStep::Start(stamp) => emit(rt, sink, stamp),
+        UnitStep::FailAsWorker => fail_as_worker(rt, &engine.segment, unit, sink),
+        _ => match engine.fault_of(step, unit) {
             Some(fault) => Err(UnitFault::Own(fault)),
             None => Ok(()),
         },
@@ -163,16 +163,21 @@ fn play_one<R: Wait, S: Sink>(
 }
 
 #[tactic(auto, using(crate::proofs::Growing::grew_refl, crate::proofs::Growing::grew_trans))]
-fn play<R: Wait, S: Sink>(rt: &R, engine: &Deeds, unit: u32, sink: &mut S) -> Result<(), UnitFault>
+fn play<R: Wait, S: Sink>(
+    rt: &R,
+    engine: &StepEngine,
+    unit: u32,
+    sink: &mut S,
+) -> Result<(), UnitFault>
     ensures { Grew (S.meaning sink.old) (S.meaning sink.new) }
 {
-    for deed in engine.deeds(unit) {
-        play_one(rt, engine, *deed, unit, sink)?;
+    for step in engine.steps(unit) {
+        play_one(rt, engine, *step, unit, sink)?;
     }
     Ok(())
 }
 
-impl Engine for Deeds<'_> {
+impl Engine for StepEngine<'_> {
     ghost table = { λ e. arc_value e.table };
 
     ghost units = { λ e. e.units };

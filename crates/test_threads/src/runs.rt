@@ -1,5 +1,5 @@
 //! Engines that are run by one to eight workers.
-use crate::engines::{Deed, engine};
+use crate::engines::{UnitStep, engine};
 use std::alloc::Global;
 use std::sync::Wait;
 use std::thread::Threads;
@@ -47,7 +47,7 @@ fn stamps(results: &Results) -> u64 {
     digits
 }
 
-fn outcome(ran: &Result<Results, RunFault>) -> Outcome {
+fn outcome_of(ran: &Result<Results, RunFault>) -> Outcome {
     match ran {
         Ok(results) => Outcome::Recorded {
             entries: results.recorded().len(),
@@ -70,13 +70,13 @@ fn run<R: Threads + Wait + Sync>(
     alloc: Global,
     units: u16,
     need: Need,
-    deeds: [&[Deed]; 2],
+    steps: [&[UnitStep]; 2],
     workers: usize,
     capacity: usize,
 ) -> (Outcome, u64) {
-    match engine(alloc, units, need, deeds[0], deeds[1]) {
+    match engine(alloc, units, need, steps[0], steps[1]) {
         Some(engine) => {
-            let outcome = outcome(&execute(rt, alloc, &engine, workers, capacity));
+            let outcome = outcome_of(&execute(rt, alloc, &engine, workers, capacity));
             (outcome, engine.begun())
         }
         None => (Outcome::Refused, 0),
@@ -90,14 +90,14 @@ fn read_of_all() -> Need {
 
 #[test]
 fn one_to_eight_workers_run_all_units(rt: HostRuntime) {
-    let deeds = [Deed::Start(0), Deed::Start(1)];
+    let steps = [UnitStep::Start(0), UnitStep::Start(1)];
     for workers in 1..=8usize {
         let (ran, _) = run(
             &rt,
             rt.alloc(),
             300,
             read_of_all(),
-            [&deeds, &deeds],
+            [&steps, &steps],
             workers,
             3,
         );
@@ -132,20 +132,20 @@ fn no_unit_is_a_run(rt: HostRuntime) {
 
 #[test]
 fn side_by_side(rt: HostRuntime) {
-    let deeds = [&[Deed::Await(1, 1)][..], &[Deed::Begin][..]];
-    let (ran, _) = run(&rt, rt.alloc(), 2, read_of_all(), deeds, 2, 64);
+    let steps = [&[UnitStep::Await(1, 1)][..], &[UnitStep::Begin][..]];
+    let (ran, _) = run(&rt, rt.alloc(), 2, read_of_all(), steps, 2, 64);
     assert!(rt; matches!(ran, Outcome::Recorded { .. }));
 }
 
 #[test]
 fn events_as_they_are_emitted(rt: HostRuntime) {
     let first = [
-        Deed::Start(1),
-        Deed::Begin,
-        Deed::Await(2, 3),
-        Deed::Start(3),
+        UnitStep::Start(1),
+        UnitStep::Begin,
+        UnitStep::Await(2, 3),
+        UnitStep::Start(3),
     ];
-    let other = [Deed::Await(1, 3), Deed::Start(2), Deed::Begin];
+    let other = [UnitStep::Await(1, 3), UnitStep::Start(2), UnitStep::Begin];
     let (ran, _) = run(&rt, rt.alloc(), 2, read_of_all(), [&first, &other], 2, 64);
     assert!(rt;
         matches!(
@@ -162,8 +162,8 @@ fn events_as_they_are_emitted(rt: HostRuntime) {
 
 #[test]
 fn one_shared_book(rt: HostRuntime) {
-    let first = [Deed::Start(7), Deed::Alone(2), Deed::Start(7)];
-    let other = [Deed::Start(8), Deed::Alone(2), Deed::Start(8)];
+    let first = [UnitStep::Start(7), UnitStep::Alone(2), UnitStep::Start(7)];
+    let other = [UnitStep::Start(8), UnitStep::Alone(2), UnitStep::Start(8)];
     let (ran, _) = run(&rt, rt.alloc(), 2, Need::of(0, 1), [&first, &other], 2, 64);
     assert!(rt;
         matches!(
@@ -177,23 +177,23 @@ fn one_shared_book(rt: HostRuntime) {
 }
 
 #[test]
-fn workers_and_places(rt: HostRuntime) {
-    let deeds = [&[Deed::Start(0)][..], &[][..]];
+fn workers_and_capacity(rt: HostRuntime) {
+    let steps = [&[UnitStep::Start(0)][..], &[][..]];
     for workers in [0, 9] {
-        let (ran, _) = run(&rt, rt.alloc(), 1, read_of_all(), deeds, workers, 1);
+        let (ran, _) = run(&rt, rt.alloc(), 1, read_of_all(), steps, workers, 1);
         assert!(rt; matches!(ran, Outcome::Workers), "{workers}");
     }
     for places in [0, 1025] {
-        let (ran, _) = run(&rt, rt.alloc(), 1, read_of_all(), deeds, 1, places);
+        let (ran, _) = run(&rt, rt.alloc(), 1, read_of_all(), steps, 1, places);
         assert!(rt; matches!(ran, Outcome::Capacity), "{places}");
     }
-    let (ran, _) = run(&rt, rt.alloc(), 1, read_of_all(), deeds, 8, 1024);
+    let (ran, _) = run(&rt, rt.alloc(), 1, read_of_all(), steps, 8, 1024);
     assert!(rt; matches!(ran, Outcome::Recorded { entries: 1, .. }));
 }
 
 #[test]
 fn a_failure_names_its_unit(rt: HostRuntime) {
-    let fails = [Deed::Start(1), Deed::Fail(3)];
+    let fails = [UnitStep::Start(1), UnitStep::Fail(3)];
     let (ran, _) = run(&rt, rt.alloc(), 2, read_of_all(), [&fails, &fails], 1, 64);
     assert!(rt; matches!(ran, Outcome::Own(0, 3)));
     let (ran, _) = run(
@@ -212,13 +212,13 @@ fn a_failure_names_its_unit(rt: HostRuntime) {
 #[test]
 fn each_unit_is_run_once(rt: HostRuntime) {
     for workers in [1u32, 2, 8] {
-        let deeds = [Deed::Begin, Deed::Await(workers, 1)];
+        let steps = [UnitStep::Begin, UnitStep::Await(workers, 1)];
         let (ran, begun) = run(
             &rt,
             rt.alloc(),
             60,
             read_of_all(),
-            [&deeds, &deeds],
+            [&steps, &steps],
             workers as usize,
             64,
         );
@@ -231,13 +231,17 @@ fn each_unit_is_run_once(rt: HostRuntime) {
 #[test]
 fn all_workers_fail(rt: HostRuntime) {
     for workers in [1u32, 2, 8] {
-        let deeds = [Deed::Begin, Deed::Await(workers, 1), Deed::FailAsWorker];
+        let steps = [
+            UnitStep::Begin,
+            UnitStep::Await(workers, 1),
+            UnitStep::FailAsWorker,
+        ];
         let (ran, begun) = run(
             &rt,
             rt.alloc(),
             60,
             read_of_all(),
-            [&deeds, &deeds],
+            [&steps, &steps],
             workers as usize,
             64,
         );
@@ -252,7 +256,7 @@ fn all_workers_fail(rt: HostRuntime) {
 /// A run through one place, with ample memory and with any one request for memory refused.
 #[test]
 fn a_refused_run(rt: HostRuntime) {
-    let starts = [Deed::Start(0); 1000];
+    let starts = [UnitStep::Start(0); 1000];
     let (first, _) = run(&rt, rt.alloc(), 2, read_of_all(), [&starts, &starts], 2, 1);
     assert!(rt;
         matches!(

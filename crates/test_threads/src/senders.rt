@@ -5,11 +5,14 @@ use crossbeam_utils::Backoff;
 use std::alloc::Global;
 use std::snapshot::Snapshot;
 use std::sync::Wait;
+use std::test::Fail;
 use std::thread;
-use std::thread::{JoinHandle, Promise, Threads};
+use std::thread::{Promise, Threads};
 use test_support::{one_node, start};
 use tk_ids::DType;
 use tk_queue::{Ended, Item, Receiver, Sender, open};
+
+const NO_SENDER: &str = "no sender";
 
 // The token of a thread is of the sender's session.
 #[derive(Drop)]
@@ -36,13 +39,13 @@ fn is_next(next: &mut [u64; 16], item: Item) -> bool {
     let Item::Entry(entry) = item else {
         return false;
     };
-    let place = (entry.worker % 16) as usize;
-    let wanted = next[place];
-    next[place] = wanted.wrapping_add(1);
+    let index = (entry.worker % 16) as usize;
+    let wanted = next[index];
+    next[index] = wanted.wrapping_add(1);
     entry.event.stamp == wanted
 }
 
-// Takes until so many marks came, and answers how many entries there were of each worker, where each
+// Takes until `workers` marks came, and answers how many entries there were of each worker, where each
 // worker's stamps count up from 0.
 fn take_all<R: Wait>(rt: &R, receiver: &mut Receiver, workers: u32) -> Option<[u64; 16]>
     ensures { receiver.new.session ≡ receiver.old.session }
@@ -76,101 +79,58 @@ fn emitted(receiver: Receiver, ended: Vec<Ended>) -> Option<(u64, u64, u64)>
     Some((closed.emitted(1), closed.emitted(2), closed.emitted(3)))
 }
 
-// The tokens of the workers 1 and 2, which send 1,000 events each from threads of their own, if all are taken in their order.
-fn send_and_take<R>(
-    rt: R,
-    receiver: &mut Receiver,
-    first: Sender,
-    second: Sender,
-) -> Option<(Ended, Ended)>
-where
-    R: Threads + Wait + Copy + Send + 'static,
-    ensures session { receiver.new.session ≡ receiver.old.session }
-    ensures first { IfSome result (λ tokens. tokens.0.session ≡ first.session) }
-    ensures second { IfSome result (λ tokens. tokens.1.session ≡ second.session) }
-{
-    let (one, two) = (
+#[test]
+fn two_threads_at_capacity_one(rt: HostRuntime) -> Result<(), Fail> {
+    let table = one_node(rt.alloc(), DType::Test).ok_or("no table")?;
+    let (mut senders, mut receiver) = open(rt.alloc(), table, 2, 1)?;
+    let second = senders.pop().ok_or(NO_SENDER)?;
+    let first = senders.pop().ok_or(NO_SENDER)?;
+    let one = thread::spawn_with(
+        &rt,
         TokenOf(Snapshot::of(&first)),
+        move || send_all(&rt, first, 1000),
+    )?;
+    let two = thread::spawn_with(
+        &rt,
         TokenOf(Snapshot::of(&second)),
-    );
-    let one = thread::spawn_with(&rt, one, move || send_all(&rt, first, 1000)).ok()?;
-    let two = thread::spawn_with(&rt, two, move || send_all(&rt, second, 1000)).ok()?;
-    let taken = take_all(&rt, receiver, 2)?;
-    match (one.join(&rt), two.join(&rt)) {
-        (Some(one), Some(two)) if taken[1] == 1000 && taken[2] == 1000 => Some((one, two)),
-        _ => None,
-    }
+        move || send_all(&rt, second, 1000),
+    )?;
+    let taken = take_all(&rt, &mut receiver, 2).ok_or("out of order")?;
+    assert!(rt; taken[1] == 1000 && taken[2] == 1000);
+    let mut ended = Vec::with_capacity(rt.alloc(), 2)?;
+    ended.push(one.join(&rt).ok_or("no token")?)?;
+    ended.push(two.join(&rt).ok_or("no token")?)?;
+    assert_eq!(rt; emitted(receiver, ended), Some((1000, 1000, 0)));
+    Ok(())
 }
 
-// The same once the session is closed: how many events the workers 1, 2 and 3 emitted.
-fn two_through_one_place<R>(rt: R, alloc: Global) -> Option<(u64, u64, u64)>
+// Eight senders on eight threads, 10,000 events each.
+fn eight_through<R>(rt: R, alloc: Global, capacity: usize) -> Result<[u64; 16], Fail>
 where
     R: Threads + Wait + Copy + Send + 'static,
 {
-    let (mut senders, mut receiver) = open(alloc, one_node(alloc, DType::Test)?, 2, 1).ok()?;
-    let second = senders.pop()?;
-    let first = senders.pop()?;
-    let (one, two) = send_and_take(rt, &mut receiver, first, second)?;
-    emitted(receiver, vec![in alloc; one, two].ok()?)
-}
-
-#[test]
-fn two_threads_through_one_place(rt: HostRuntime) {
-    assert!(rt; two_through_one_place(rt, rt.alloc()) == Some((1000, 1000, 0)));
-}
-
-// Starts a thread for each sender, which sends 10,000 events and answers whether all were taken.
-fn start_all<R>(rt: R, alloc: Global, senders: Vec<Sender>) -> Option<Vec<JoinHandle<bool>>>
-where
-    R: Threads + Wait + Copy + Send + 'static,
-{
-    let mut threads = Vec::new(alloc);
+    let table = one_node(alloc, DType::Test).ok_or("no table")?;
+    let (senders, mut receiver) = open(alloc, table, 8, capacity)?;
+    let mut threads = Vec::with_capacity(alloc, 8)?;
     for sender in senders {
-        let thread = thread::spawn(&rt, move || send_all(&rt, sender, 10_000).is_some());
-        threads.push(thread.ok()?).ok()?;
+        threads.push(thread::spawn(&rt, move || send_all(&rt, sender, 10_000).is_some())?)?;
     }
-    Some(threads)
-}
-
-// Joins all threads, and answers whether each answered yes.
-fn join_all<R: Threads + Wait>(rt: &R, threads: Vec<JoinHandle<bool>>) -> bool {
-    let mut is_done = true;
+    let taken = take_all(&rt, &mut receiver, 8).ok_or("out of order")?;
     for thread in threads {
-        is_done &= thread.join(rt);
+        if !thread.join(&rt) {
+            return Err(Fail::new("refused"));
+        }
     }
-    is_done
-}
-
-// How many events each of eight senders on eight threads sent.
-fn eight_through<R>(rt: R, alloc: Global, capacity: usize) -> Option<[u64; 16]>
-where
-    R: Threads + Wait + Copy + Send + 'static,
-{
-    let (senders, mut receiver) = open(
-        alloc,
-        one_node(alloc, DType::Test)?,
-        8,
-        capacity,
-    ).ok()?;
-    let threads = start_all(rt, alloc, senders)?;
-    let taken = take_all(&rt, &mut receiver, 8)?;
-    if join_all(&rt, threads) {
-        Some(taken)
-    } else {
-        None
-    }
+    Ok(taken)
 }
 
 #[test]
-fn eight_threads(rt: HostRuntime) {
-    let mut wanted = [10_000; 16];
-    for worker in [0usize, 9, 10, 11, 12, 13, 14, 15] {
-        wanted[worker] = 0;
-    }
+fn eight_threads(rt: HostRuntime) -> Result<(), Fail> {
     for capacity in [1, 2, 64, 1024] {
-        assert!(rt;
-            eight_through(rt, rt.alloc(), capacity) == Some(wanted),
-            "{capacity}"
-        );
+        let taken = eight_through(rt, rt.alloc(), capacity)?;
+        for worker in 1..9usize {
+            assert_eq!(rt; taken[worker], 10_000, "{capacity}");
+        }
     }
+    Ok(())
 }

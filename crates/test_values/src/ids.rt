@@ -26,7 +26,7 @@ fn fault_of(alloc: Global, text: &str) -> Option<IdFault> {
 fn has_fault(alloc: Global, text: &str, want: &str) -> bool {
     let fault = fault_of(alloc, text);
     match format!(in alloc; "{fault:?}") {
-        Ok(told) => told.as_str() == want,
+        Ok(stated) => stated.as_str() == want,
         Err(_) => false,
     }
 }
@@ -46,7 +46,7 @@ fn texts_of_ids(rt: HostRuntime) {
     }
 }
 
-// `head`, then `unit` so many times, and a bracket.
+// `head`, then `unit` the given number of times, and a bracket.
 fn repeated(alloc: Global, head: &str, unit: &str, times: usize) -> Result<String, AllocError> {
     let mut text = String::from_str(alloc, head)?;
     for _ in 0..times {
@@ -56,12 +56,12 @@ fn repeated(alloc: Global, head: &str, unit: &str, times: usize) -> Result<Strin
     Ok(text)
 }
 
-// The fault of an id of one segment with a value of so many bytes.
+// The fault of an id of one segment with a value of `bytes` bytes.
 fn fault_of_bytes(alloc: Global, bytes: usize) -> Option<IdFault> {
     fault_of(alloc, repeated(alloc, "[a:", "v", bytes).ok()?.as_str())
 }
 
-// The fault of an id of so many segments and one more.
+// The fault of an id of `segments` segments and one more.
 fn fault_of_segments(alloc: Global, segments: usize) -> Option<IdFault> {
     fault_of(
         alloc,
@@ -160,7 +160,7 @@ fn an_empty_tag(rt: HostRuntime) {
     assert!(rt; matches!(Segment::new(rt.alloc(), "", "x"), Err(IdFault::Empty)));
 }
 
-// How many bytes the value of a segment has that has so many and one more.
+// How many bytes the value of a segment has that was made of `bytes` bytes and one more.
 fn bytes_of_value(alloc: Global, bytes: usize) -> Option<usize> {
     let value = repeated(alloc, "", "v", bytes).ok()?;
     let segment = Segment::new(alloc, "t", value.as_str()).ok()?;

@@ -48,7 +48,7 @@ fn lane_sums(rt: HostRuntime) {
     assert!(rt; admits(0xFFFF_FFFF_FFFF_FFFF, 0));
 }
 
-// Whether a copy of the flags has so many places, of which this is the last.
+// Whether a copy of the flags has `count` positions, of which `last` is the last.
 fn ends_at(
     alloc: Global,
     flags: Result<Flags, AllocError>,
@@ -57,16 +57,16 @@ fn ends_at(
 ) -> bool {
     match flags {
         Ok(flags) => match flags.try_clone() {
-            Ok(copied) => has_places(alloc, &copied, count, last),
+            Ok(copied) => has_positions(alloc, &copied, count, last),
             Err(_) => false,
         },
         Err(_) => false,
     }
 }
 
-fn has_places(alloc: Global, flags: &Flags, count: usize, last: Option<usize>) -> bool {
-    match flags.places(alloc) {
-        Ok(places) => places.len() == count && places.last().copied() == last,
+fn has_positions(alloc: Global, flags: &Flags, count: usize, last: Option<usize>) -> bool {
+    match flags.positions(alloc) {
+        Ok(positions) => positions.len() == count && positions.last().copied() == last,
         Err(_) => false,
     }
 }

@@ -75,7 +75,7 @@ fn add_root(alloc: Global, table: &mut Table, number: u32) -> Option<TableFault>
     }
 }
 
-// A table with so many roots.
+// A table with `count` roots.
 fn roots(alloc: Global, count: u32) -> Table {
     let mut table = Table::new(alloc);
     for number in 0..count {

@@ -9,24 +9,24 @@ use Rattle.tk_columns.specs.declared.tallies.Statistics.{Statistics}
 use Rattle.tk_columns.specs.declared.tallies.Expected.{Expected}
 use Rattle.tk_columns.specs.declared.tallies.Mismatch.{Mismatch}
 use Rattle.tk_columns.specs.Recorded.{Recorded}
-use Rattle.tk_columns.specs.Selections.{Placed, placed_from, Selected, all_of, events_of}
+use Rattle.tk_columns.specs.Selections.{PositionedEntry, positioned_from, Selected, all_of, events_of}
 use Rattle.tk_columns.specs.Statistics.{statistics_of, mismatches}
 use Rattle.tk_ask.specs.Answers.{IsAnswerTo, mismatch_line, statistics_text}
 use Rattle.tk_ask.specs.declared.questions.Question.TheVariants.{Stats}
 
-pub all_events : (n : ℕ) (es : List Entry) → map (λ (x : Placed). x.entry) (placed_from n es) ≡ es
-unfolding placed_from
+pub all_events : (n : ℕ) (es : List Entry) → map (λ (x : PositionedEntry). x.entry) (positioned_from n es) ≡ es
+unfolding positioned_from
 all_events n [] = refl
 all_events n (e ∷ es) = ap (λ (t : List Entry). e ∷ t) (all_events (n + 1) es)
 
 -- those kept are as many as the entries that pass
-pub kept_count : (p : Entry → Bool) (n : ℕ) (es : List Entry) → length (filter (λ (x : Placed). p x.entry) (placed_from n es)) ≡ count_by p es
-unfolding placed_from
+pub kept_count : (p : Entry → Bool) (n : ℕ) (es : List Entry) → length (filter (λ (x : PositionedEntry). p x.entry) (positioned_from n es)) ≡ count_by p es
+unfolding positioned_from
 kept_count p n [] = refl
 kept_count p n (e ∷ es) = by (p e) (kept_count p (n + 1) es) ∙ sym (sum_by-cons (λ x. cond (p x) 1 0) e es)
   where
-    by : (b : Bool) → length (filter (λ (x : Placed). p x.entry) (placed_from (n + 1) es)) ≡ count_by p es
-        → length (cond b (record { position = n; entry = e } ∷ filter (λ (x : Placed). p x.entry) (placed_from (n + 1) es)) (filter (λ (x : Placed). p x.entry) (placed_from (n + 1) es))) ≡ cond {A = ℕ} b 1 0 + count_by p es
+    by : (b : Bool) → length (filter (λ (x : PositionedEntry). p x.entry) (positioned_from (n + 1) es)) ≡ count_by p es
+        → length (cond b (record { position = n; entry = e } ∷ filter (λ (x : PositionedEntry). p x.entry) (positioned_from (n + 1) es)) (filter (λ (x : PositionedEntry). p x.entry) (positioned_from (n + 1) es))) ≡ cond {A = ℕ} b 1 0 + count_by p es
     by true rest = omega (arith, rest)
     by false rest = omega (arith, rest)
 
@@ -37,7 +37,7 @@ pub stats_are : (e : Expected) (r : Recorded) (events : Selected) (s : Statistic
 stats_are e r events s ms is_yes first second third all s_is ms_is yes_is first_is second_is third_is =
     let es : events_of events ≡ r.entries = ap events_of all ∙ all_events 0 r.entries in
     let m = ms_is ∙ ap (λ (l : List Entry). mismatches e (statistics_of l)) es in
-    let front = second_is ∙ ap (λ (t : List ℕ). t ++ statistics_text s) first_is ∙ ap statistics_text (s_is ∙ ap statistics_of es) in (
+    let prefix = second_is ∙ ap (λ (t : List ℕ). t ++ statistics_text s) first_is ∙ ap statistics_text (s_is ∙ ap statistics_of es) in (
       yes_is ∙ ap (λ (l : List Mismatch). length l == 0) m,
-      third_is ∙ ap (λ (t : List ℕ). t ++ flat_map mismatch_line ms) front ∙ ap (λ (l : List Mismatch). statistics_text (statistics_of r.entries) ++ flat_map mismatch_line l) m,
+      third_is ∙ ap (λ (t : List ℕ). t ++ flat_map mismatch_line ms) prefix ∙ ap (λ (l : List Mismatch). statistics_text (statistics_of r.entries) ++ flat_map mismatch_line l) m,
     )

@@ -3,7 +3,7 @@ use Rattle.std.proofs.Common.{◌≡◌, ℕ, Bool, List, Option, Some, None, Ok
 use Rattle.std.specs.Prelude.{IfSome, IsErrOf}
 use Rattle.std.specs.Io.KnownBytes.{Appends}
 use Rattle.tk_columns.specs.Recorded.{Recorded}
-use Rattle.tk_streams.specs.Stream.{AppendsFront}
+use Rattle.tk_streams.specs.Stream.{AppendsPrefix}
 use Rattle.tk_record.specs.Text.{IsAnswer}
 use Rattle.tk_ask.specs.declared.questions.Question.{Question}
 use Rattle.tk_ask.specs.declared.faults.AskFault.{AskFault}
@@ -12,7 +12,7 @@ use Rattle.tk_record.specs.declared.reading.ReadFault.{ReadFault}
 use Rattle.tk_record.specs.declared.reading.ReadFault.TheVariants as read
 use Rattle.tk_ask.specs.Questions.{Asks, IsAskedAs}
 use Rattle.tk_ask.specs.Answers.{IsAnswerTo}
-use Rattle.tk_ask.specs.Asked.{AddsAnswer, AddsFront, IsRefusal}
+use Rattle.tk_ask.specs.Asked.{AddsAnswer, AddsPrefix, IsRefusal}
 
 pub answered : (words : List (List ℕ)) (input : Option (List ℕ)) (q : Question) (r : Recorded) (is_yes : Bool) (output bytes : List ℕ) (old new : Option (List ℕ)) →
     Asks words q → IfSome input (λ b. IsAnswer b (Ok r)) → IsAnswerTo q r is_yes output → bytes ≡ output → Appends old new bytes → IfSome input (λ b. AddsAnswer words b is_yes old new)
@@ -21,10 +21,10 @@ answered words (Some b) q r is_yes output bytes old new asks read answer same ad
     (output, (q, asks, r, read, answer), subst (λ (t : List ℕ). Appends old new t) same added)
 
 pub partly : (words : List (List ℕ)) (input : Option (List ℕ)) (q : Question) (r : Recorded) (is_yes : Bool) (output bytes : List ℕ) (old new : Option (List ℕ)) →
-    Asks words q → IfSome input (λ b. IsAnswer b (Ok r)) → IsAnswerTo q r is_yes output → bytes ≡ output → AppendsFront old new bytes → IfSome input (λ b. AddsFront words b old new)
+    Asks words q → IfSome input (λ b. IsAnswer b (Ok r)) → IsAnswerTo q r is_yes output → bytes ≡ output → AppendsPrefix old new bytes → IfSome input (λ b. AddsPrefix words b old new)
 partly words None q r is_yes output bytes old new asks read answer same added = tt
 partly words (Some b) q r is_yes output bytes old new asks read answer same added =
-    (is_yes, output, (q, asks, r, read, answer), subst (λ (t : List ℕ). AppendsFront old new t) same added)
+    (is_yes, output, (q, asks, r, read, answer), subst (λ (t : List ℕ). AppendsPrefix old new t) same added)
 
 -- the faults of the words
 pub refused_words : (words : List (List ℕ)) (input : Option (List ℕ)) (fault : AskFault) → IsAskedAs words (Err fault) → IsRefusal words input fault
@@ -35,7 +35,7 @@ refused_words words input (faults.Read fault) asked = absurd asked
 refused_words words input faults.Device asked = absurd asked
 refused_words words input faults.Memory asked = tt
 
--- no device is told of in them
+-- none of them is of a device
 pub no_device : (words : List (List ℕ)) (fault : AskFault) → IsAskedAs words (Err fault) → ¬ (IsErrOf {T = Bool} (Err fault) faults.Device)
 no_device words fault asked e = let same : fault ≡ faults.Device = cc in subst (λ (f : AskFault). IsAskedAs words (Err f)) same asked
 

@@ -3,4 +3,4 @@ pub mod AskLemmas
 pub mod WordLemmas
 pub mod OneReading
 pub mod OneReply
-pub mod OneAnswer
+pub mod AnswerIsUnique

@@ -15,7 +15,7 @@ use Rattle.tk_conditions.specs.declared.faults.CondFault.{CondFault}
 use Rattle.tk_conditions.specs.declared.faults.CondFault.TheVariants.{BadAtom, Deep, Memory}
 use Rattle.tk_conditions.specs.Answer.{IsReadAs}
 use Rattle.tk_conditions.specs.CondOf.{cond_of}
-use Rattle.tk_conditions.proofs.OneAnswer as condition
+use Rattle.tk_conditions.proofs.AnswerIsUnique as condition
 use Rattle.tk_ask.specs.declared.faults.AskFault.{AskFault}
 use Rattle.tk_ask.specs.declared.faults.AskFault.TheVariants as faults
 use Rattle.tk_ask.specs.declared.questions.Mode.{Mode}
@@ -139,18 +139,18 @@ one_conditions [] [] (d ∷ ds) p q = absurd q
 one_conditions [] (c ∷ cs) ds p q = absurd p
 one_conditions (t ∷ texts) [] ds p q = absurd p
 one_conditions (t ∷ texts) (c ∷ cs) [] p q = absurd q
-one_conditions (t ∷ texts) (c ∷ cs) (d ∷ ds) p q = (condition.one_answer t (Ok c) (Ok d) p.0 q.0, one_conditions texts cs ds p.1 q.1)
+one_conditions (t ∷ texts) (c ∷ cs) (d ∷ ds) p q = (condition.answer_is_unique t (Ok c) (Ok d) p.0 q.0, one_conditions texts cs ds p.1 q.1)
 
 not_faulty : (text : List ℕ) (c : Condition) (fault : CondFault) → IsReadAs text (Ok c) → IsReadAs text (Err fault) → fault ≢ Memory → ⊥
-not_faulty text c (BadAtom n) p q read = condition.one_answer text (Ok c) (Err (BadAtom n)) p q
-not_faulty text c Deep p q read = condition.one_answer text (Ok c) (Err Deep) p q
+not_faulty text c (BadAtom n) p q read = condition.answer_is_unique text (Ok c) (Err (BadAtom n)) p q
+not_faulty text c Deep p q read = condition.answer_is_unique text (Ok c) (Err Deep) p q
 not_faulty text c Memory p q read = read refl
 
 one_fault : (text : List ℕ) (f g : CondFault) → IsReadAs text (Err f) → IsReadAs text (Err g) → f ≢ Memory → g ≢ Memory → f ≡ g
-one_fault text (BadAtom m) (BadAtom n) p q x y = ap (λ (k : ℕ). BadAtom k) (condition.one_answer text (Err (BadAtom m)) (Err (BadAtom n)) p q)
-one_fault text (BadAtom m) Deep p q x y = absurd (condition.one_answer text (Err (BadAtom m)) (Err Deep) p q)
+one_fault text (BadAtom m) (BadAtom n) p q x y = ap (λ (k : ℕ). BadAtom k) (condition.answer_is_unique text (Err (BadAtom m)) (Err (BadAtom n)) p q)
+one_fault text (BadAtom m) Deep p q x y = absurd (condition.answer_is_unique text (Err (BadAtom m)) (Err Deep) p q)
 one_fault text (BadAtom m) Memory p q x y = absurd (y refl)
-one_fault text Deep (BadAtom n) p q x y = absurd (condition.one_answer text (Err Deep) (Err (BadAtom n)) p q)
+one_fault text Deep (BadAtom n) p q x y = absurd (condition.answer_is_unique text (Err Deep) (Err (BadAtom n)) p q)
 one_fault text Deep Deep p q x y = refl
 one_fault text Deep Memory p q x y = absurd (y refl)
 one_fault text Memory g p q x y = absurd (x refl)

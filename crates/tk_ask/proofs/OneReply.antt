@@ -24,7 +24,7 @@ use Rattle.tk_query.specs.Holds.{cond_holds, holds}
 use Rattle.tk_query.specs.InOrder.{HoldInTurn}
 use Rattle.tk_query.specs.Laws as laws
 use Rattle.tk_query.specs.Matches.{HoldsAt, IsFirstUnlike, IsExact, HoldsSomewhere, IsFirstNowhere, IsLoose, IsInOrder}
-use Rattle.tk_query.proofs.OneAnswer.{one_exact, one_loose, one_in_order, one_list}
+use Rattle.tk_query.proofs.AnswerIsUnique.{one_exact, one_loose, one_in_order, one_list}
 use Rattle.tk_ask.specs.declared.questions.Mode.{Mode}
 use Rattle.tk_ask.specs.declared.questions.Mode.TheVariants.{Exactly, Loosely, InOrder as InTheirOrder}
 use Rattle.tk_ask.specs.declared.questions.Question.{Question}
@@ -46,12 +46,12 @@ back [] (d ∷ ds) h = absurd h
 back (c ∷ cs) [] h = absurd h
 back (c ∷ cs) (d ∷ ds) h = (sym h.0, back cs ds h.1)
 
-front : (n : ℕ) (cs ds : List Condition) → AreAlike cs ds → AreAlike (take n cs) (take n ds)
-front zero cs ds h = tt
-front (suc n) [] [] h = tt
-front (suc n) [] (d ∷ ds) h = absurd h
-front (suc n) (c ∷ cs) [] h = absurd h
-front (suc n) (c ∷ cs) (d ∷ ds) h = (h.0, front n cs ds h.1)
+prefix : (n : ℕ) (cs ds : List Condition) → AreAlike cs ds → AreAlike (take n cs) (take n ds)
+prefix zero cs ds h = tt
+prefix (suc n) [] [] h = tt
+prefix (suc n) [] (d ∷ ds) h = absurd h
+prefix (suc n) (c ∷ cs) [] h = absurd h
+prefix (suc n) (c ∷ cs) (d ∷ ds) h = (h.0, prefix n cs ds h.1)
 
 like_at : (cs ds : List Condition) (k : ℕ) (c : Condition) → AreAlike cs ds → slice_get cs k ≡ Some c → (d : Condition) × (slice_get ds k ≡ Some d) × (cond_of c ≡ cond_of d)
 like_at [] ds k c h e = absurd (none-some c e)
@@ -124,8 +124,8 @@ in_order_too asked cs ds (in_order.Yes ps) like h = record {
 }
 in_order_too asked cs ds (in_order.No k) like h = record {
   within = subst (λ (n : ℕ). k < n) (as_many cs ds like) h.within;
-  stuck = λ can. h.stuck (can.0, in_turn asked 0 (take (k + 1) ds) (take (k + 1) cs) can.0 (front (k + 1) ds cs (back cs ds like)) can.1);
-  before = λ j lt. let can = h.before j lt in (can.0, in_turn asked 0 (take (j + 1) cs) (take (j + 1) ds) can.0 (front (j + 1) cs ds like) can.1);
+  stuck = λ can. h.stuck (can.0, in_turn asked 0 (take (k + 1) ds) (take (k + 1) cs) can.0 (prefix (k + 1) ds cs (back cs ds like)) can.1);
+  before = λ j lt. let can = h.before j lt in (can.0, in_turn asked 0 (take (j + 1) cs) (take (j + 1) ds) can.0 (prefix (j + 1) cs ds like) can.1);
 }
 
 -- ---- answers

@@ -63,12 +63,12 @@ pub conditions_more : (texts : List (List ℕ)) (i : ℕ) (text : List ℕ) (cs 
 conditions_more texts i text cs c e before more =
     subst (λ (t : List (List ℕ)). AreConditions t (cs ++ c ∷ [])) (sym e) (conditions_snoc (take i texts) cs text c before more)
 
--- a word behind the selection
+-- a word after the selection
 pub one_too_many : {A : Type 0} (f : A → List ℕ) → (words : List A) (word : A) (s : Selection) (more : List A) → words ≡ word ∷ more → f word ≡ selection_name s → 0 < length more → IsBadWord (count ∷ map f words) 1
 one_too_many f words word s [] e n some = absurd (omega arith)
 one_too_many f words word s (extra ∷ more) e n some = inr (inr (inl (s, f extra, map f more, ap (λ t. count ∷ map f t) e ∙ ap (λ t. count ∷ t ∷ f extra ∷ map f more) n, refl)))
 
--- a word behind `executions`
+-- a word after `executions`
 pub none_wanted : {A : Type 0} (f : A → List ℕ) → (words : List A) (word : A) (more : List A) → words ≡ word ∷ more → f word ≡ executions → 0 < length more → IsBadWord (map f words) 0
 none_wanted f words word [] e n some = absurd (omega arith)
 none_wanted f words word (extra ∷ more) e n some = inr (inr (inr (inr (f extra, map f more, ap (map f) e ∙ ap (λ t. t ∷ f extra ∷ map f more) n, refl))))

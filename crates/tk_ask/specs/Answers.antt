@@ -18,7 +18,7 @@ use Rattle.tk_query.specs.declared.answers.InOrder.TheVariants as in_order
 use Rattle.tk_query.specs.declared.execution_lists.Ending.{Ending}
 use Rattle.tk_query.specs.declared.execution_lists.Ending.TheVariants.{Skipped, Aborted, Successful, Failed}
 use Rattle.tk_query.specs.declared.execution_lists.Execution.{Execution}
-use Rattle.tk_query.specs.Acts.{act_at}
+use Rattle.tk_query.specs.ExecutionSteps.{step_at}
 use Rattle.tk_query.specs.Executions.{AreExecutions}
 use Rattle.tk_query.specs.Matches.{IsExact, IsLoose, IsInOrder}
 use Rattle.tk_ask.specs.declared.questions.Mode.{Mode}
@@ -88,4 +88,4 @@ IsAnswerTo (Stats expected) r is_yes output =
     (is_yes ≡ (length differing == 0)) × (output ≡ statistics_text statistics ++ flat_map mismatch_line differing)
 IsAnswerTo (Count selection) r is_yes output = (is_yes ≡ true) × (output ≡ decimal (count_by (selects selection r) r.entries) ++ 10 ∷ [])
 IsAnswerTo (Match mode conditions) r is_yes output = IsMatchAnswer mode conditions.items r is_yes output
-IsAnswerTo Executions r is_yes output = (xs : List Execution) × AreExecutions (act_at (all_of r)) xs × (is_yes ≡ true) × (output ≡ flat_map execution_line xs)
+IsAnswerTo Executions r is_yes output = (xs : List Execution) × AreExecutions (step_at (all_of r)) xs × (is_yes ≡ true) × (output ≡ flat_map execution_line xs)

@@ -2,7 +2,7 @@
 use Rattle.std.specs.Prelude.{◌≡◌, ◌≢◌, ℕ, Bool, List, Option, Ok, Err, IfSome}
 use Rattle.std.specs.Io.KnownBytes.{Appends}
 use Rattle.tk_columns.specs.Recorded.{Recorded}
-use Rattle.tk_streams.specs.Stream.{AppendsFront}
+use Rattle.tk_streams.specs.Stream.{AppendsPrefix}
 use Rattle.tk_conditions.specs.declared.faults.CondFault.TheVariants as conditions
 use Rattle.tk_record.specs.declared.reading.ReadFault.TheVariants as read
 use Rattle.tk_record.specs.Text.{IsAnswer}
@@ -21,9 +21,9 @@ IsAnswered words input is_yes output =
 abbrev pub AddsAnswer : List (List ℕ) → List ℕ → Bool → Option (List ℕ) → Option (List ℕ) → Type 0
 AddsAnswer words input is_yes old new = (output : List ℕ) × IsAnswered words input is_yes output × Appends old new output
 
--- a front of the answer was added
-abbrev pub AddsFront : List (List ℕ) → List ℕ → Option (List ℕ) → Option (List ℕ) → Type 0
-AddsFront words input old new = (is_yes : Bool) × (output : List ℕ) × IsAnswered words input is_yes output × AppendsFront old new output
+-- a prefix of the answer was added
+abbrev pub AddsPrefix : List (List ℕ) → List ℕ → Option (List ℕ) → Option (List ℕ) → Type 0
+AddsPrefix words input old new = (is_yes : Bool) × (output : List ℕ) × IsAnswered words input is_yes output × AppendsPrefix old new output
 
 -- the fault is of the words alone
 abbrev pub IsOfWords : AskFault → Type 0

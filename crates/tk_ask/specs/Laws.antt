@@ -24,5 +24,5 @@ IsSettled (Refused (faults.Read read.Device)) = ⊥
 IsSettled _ = Unit {0}
 
 -- the same words about the same input never have two outcomes
-abbrev pub OneAnswer : Type 0
-OneAnswer = (words : List (List ℕ)) (input : List ℕ) (a b : Outcome) → IsSettled a → IsSettled b → IsOutcome words input a → IsOutcome words input b → a ≡ b
+abbrev pub AnswerIsUnique : Type 0
+AnswerIsUnique = (words : List (List ℕ)) (input : List ℕ) (a b : Outcome) → IsSettled a → IsSettled b → IsOutcome words input a → IsOutcome words input b → a ≡ b

@@ -73,7 +73,7 @@ pub record IsBadCondition (texts : List (List ℕ)) (i : ℕ) (fault : CondFault
   pub bad : IsReadAs text (Err fault)
   pub read : fault ≢ condition_faults.Memory
 
--- the fault of words behind a mode; the mode is word 0
+-- the fault of words after a mode; the mode is word 0
 abbrev pub IsConditionFault : List (List ℕ) → AskFault → Type 0
 IsConditionFault texts (faults.Condition i fault) = (at : ℕ) × (i ≡ at + 1) × IsBadCondition texts at fault
 IsConditionFault texts faults.Memory = Unit {0}

@@ -2,7 +2,7 @@
 ghost use Rattle.std.specs.Prelude.{◌≡◌, ◌⊎◌, true, Err, IfErr, IfOk, IfSome, IsErrOf, OnOk, map, string_bytes};
 ghost use Rattle.std.specs.Io.KnownBytes.{IsAtEnd};
 ghost use Rattle.tk_record.specs.declared.reading.ReadFault.TheVariants as read_faults;
-ghost use Rattle.tk_ask.specs.Asked.{AddsAnswer, AddsFront, IsOfWords, IsRefusal};
+ghost use Rattle.tk_ask.specs.Asked.{AddsAnswer, AddsPrefix, IsOfWords, IsRefusal};
 
 use crate::answers::answer_to;
 use crate::faults::AskFault;
@@ -23,11 +23,13 @@ pub fn ask<S: Source, T: Target>(
         AddsAnswer (map string_bytes words.now) input is_yes (T.contents target.old) (T.contents target.new))) }
     ensures end { OnOk result (IsAtEnd (S.remaining source.new)) }
     ensures unread { IfErr result (λ fault. IsOfWords fault → source.new ≡ source.old) }
-    ensures refusal { IfErr result (λ fault. IsRefusal (map string_bytes words.now) (S.remaining source.old) fault) }
-    ensures unwritten { IfErr result (λ fault. (fault ≡ AskFault.Device) ⊎ (T.contents target.new ≡ T.contents target.old)) }
+    ensures refusal { IfErr result (λ fault.
+        IsRefusal (map string_bytes words.now) (S.remaining source.old) fault) }
+    ensures unwritten { IfErr result (λ fault.
+        (fault ≡ AskFault.Device) ⊎ (T.contents target.new ≡ T.contents target.old)) }
     ensures device { IsErrOf result AskFault.Device → T.broken target.new ≡ true }
-    ensures front { IsErrOf result AskFault.Device → IfSome (S.remaining source.old) (λ input.
-        AddsFront (map string_bytes words.now) input (T.contents target.old) (T.contents target.new)) }
+    ensures prefix { IsErrOf result AskFault.Device → IfSome (S.remaining source.old) (λ input.
+        AddsPrefix (map string_bytes words.now) input (T.contents target.old) (T.contents target.new)) }
     ensures source_device { result ≡ Err (AskFault.Read read_faults.Device) → S.broken source.new ≡ true }
 {
     let question = read_question(alloc, words)?;

@@ -50,7 +50,8 @@ fn expect_word(expected: Expected, word: &str) -> Option<Expected>
 
 /// The expectations that the words say, or the number of the first word that says none.
 pub(crate) fn read_expectations(words: &[String]) -> Result<Expected, usize>
-    ensures ok { IfOk result (λ expected. Expecting nothing_expected (map string_bytes words.now) expected) }
+    ensures ok { IfOk result (λ expected.
+        Expecting nothing_expected (map string_bytes words.now) expected) }
     ensures err { IfErr result (λ at. IsBadExpectation (map string_bytes words.now) at) }
 {
     let mut expected = Expected::none();

@@ -1,7 +1,7 @@
 //! What the definitions of questions and of their answers imply.
-ghost use Rattle.tk_ask.specs.Laws.{OneAnswer};
+ghost use Rattle.tk_ask.specs.Laws.{AnswerIsUnique};
 
 /// The same words about the same input have one outcome.
-pub fn one_answer()
-    ensures { OneAnswer }
+pub fn answer_is_unique()
+    ensures { AnswerIsUnique }
 {}

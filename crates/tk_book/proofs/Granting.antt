@@ -6,13 +6,13 @@ use Rattle.std.proofs.lemmas.Option.{slice_get_within, get_or_from_slice_get}
 use Rattle.atomic_table.specs.Table.{Me, carried_after}
 use Rattle.tk_book.specs.Wants.{Wants}
 use Rattle.tk_book.specs.Held.{Agree, Lawful}
-use Rattle.tk_book.specs.declared.rules.Noted.{Noted}
-use Rattle.tk_book.specs.Booked.{noted, holdings, Booked, Looked, Took, Gave}
+use Rattle.tk_book.specs.declared.rules.SeatNote.{SeatNote}
+use Rattle.tk_book.specs.LockWord.{seat_note, holdings, HoldingsFitWord, WordWasLoaded, WasExchanged, WasReleased}
 use Rattle.tk_book.specs.Steps.{IsSumOfHoldings, ExchangeIsGrant, FailureIsNone, LoadIsNone, SubtractionIsRelease}
 use Rattle.tk_book.proofs.Agreeing.{agree_sym}
 use Rattle.tk_book.proofs.Turning.{flat_set, flat_get, flat_still}
 
-abbrev held_of : Noted → List (Option Wants)
+abbrev held_of : SeatNote → List (Option Wants)
 held_of v = v.held
 
 -- where a need stands among others with no conflict, in a place that was empty, it conflicts with none of them
@@ -26,13 +26,13 @@ stands held seat n empty lawful k d within = let there = slice_get_within held s
     (λ lt. agree_sym (get_or held k d) (Some n) (subst (λ (p : Option Wants × Option Wants). Agree p.0 p.1) (λ i. (else k ne i, here seat refl i)) (lawful k seat d lt (omega arith))))
     (λ ge. subst (λ (p : Option Wants × Option Wants). Agree p.0 p.1) (λ i. (here seat refl i, else k ne i)) (lawful seat k d (omega arith) (omega arith))))
 
-pub state : IsSumOfHoldings Booked
+pub state : IsSumOfHoldings HoldingsFitWord
 state seats s kept = (kept.word, kept.lanes, kept.lawful)
 
-pub grant : ExchangeIsGrant Booked Took
-grant seats slots id old new n me s w a kept at empty word after told = let
-    held : w.held ≡ Some n ∷ [] = ⊎_elim (λ (t : (old ≡ old) × ((w, carried_after me.1 a) ≡ (noted me.0.seats (Some n ∷ []) me.0.seen, me.1))). ap (λ (m : Me Wants Noted). m.0.held) t.1)
-    (λ (t : (old ≢ old) × ((w, carried_after me.1 a) ≡ (noted me.0.seats me.0.held (me.0.seen ++ old ∷ []), me.1))). absurd (t.0 refl)) told in let
+pub grant : ExchangeIsGrant HoldingsFitWord WasExchanged
+grant seats slots id old new n me s w a kept at empty word after stated = let
+    held : w.held ≡ Some n ∷ [] = ⊎_elim (λ (t : (old ≡ old) × ((w, carried_after me.1 a) ≡ (seat_note me.0.seats (Some n ∷ []) me.0.seen, me.1))). ap (λ (m : Me Wants SeatNote). m.0.held) t.1)
+    (λ (t : (old ≢ old) × ((w, carried_after me.1 a) ≡ (seat_note me.0.seats me.0.held (me.0.seen ++ old ∷ []), me.1))). absurd (t.0 refl)) stated in let
     there = flat_get held_of s.views id me.0 None at empty in let
     same = flat_set held_of s.views id me.0 w None (Some n) at empty held in
     record {
@@ -40,16 +40,16 @@ grant seats slots id old new n me s w a kept at empty word after told = let
       after = same;
     }
 
-pub failure : FailureIsNone Booked Took
-failure seats slots id old new x n me s w a kept at word other told = flat_still held_of s.views id me.0 w at
-    (⊎_elim (λ (t : (x ≡ old) × ((w, carried_after me.1 a) ≡ (noted me.0.seats (Some n ∷ []) me.0.seen, me.1))). absurd (other t.0))
-    (λ (t : (x ≢ old) × ((w, carried_after me.1 a) ≡ (noted me.0.seats me.0.held (me.0.seen ++ x ∷ []), me.1))). ap (λ (m : Me Wants Noted). m.0.held) t.1) told)
+pub failure : FailureIsNone HoldingsFitWord WasExchanged
+failure seats slots id old new x n me s w a kept at word other stated = flat_still held_of s.views id me.0 w at
+    (⊎_elim (λ (t : (x ≡ old) × ((w, carried_after me.1 a) ≡ (seat_note me.0.seats (Some n ∷ []) me.0.seen, me.1))). absurd (other t.0))
+    (λ (t : (x ≢ old) × ((w, carried_after me.1 a) ≡ (seat_note me.0.seats me.0.held (me.0.seen ++ x ∷ []), me.1))). ap (λ (m : Me Wants SeatNote). m.0.held) t.1) stated)
 
-pub load : LoadIsNone Booked Looked
-load seats slots id x me s w a kept at word told = flat_still held_of s.views id me.0 w at (ap (λ (m : Me Wants Noted). m.0.held) told.0)
+pub load : LoadIsNone HoldingsFitWord WordWasLoaded
+load seats slots id x me s w a kept at word stated = flat_still held_of s.views id me.0 w at (ap (λ (m : Me Wants SeatNote). m.0.held) stated.0)
 
-pub release : SubtractionIsRelease Booked Gave
-release seats slots id k x n me s w a kept at one word told = record {
+pub release : SubtractionIsRelease HoldingsFitWord WasReleased
+release seats slots id k x n me s w a kept at one word stated = record {
   held = flat_get held_of s.views id me.0 (Some n) at one;
-  after = flat_set held_of s.views id me.0 w (Some n) None at one (ap (λ (m : Me Wants Noted). m.0.held) told);
+  after = flat_set held_of s.views id me.0 w (Some n) None at one (ap (λ (m : Me Wants SeatNote). m.0.held) stated);
 }

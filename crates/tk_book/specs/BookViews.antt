@@ -1,4 +1,4 @@
--- The fields behind a book and its seats.
+-- The private fields of a book and its seats.
 use Rattle.std.specs.Prelude.{◌≡◌, ◌<◌, [], ◌∷◌}
 use Rattle.tk_book.specs.declared.books.Book.TheInside as book
 use Rattle.tk_book.specs.declared.books.BookSeat.TheInside as seat

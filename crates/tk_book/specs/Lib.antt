@@ -5,6 +5,6 @@ pub mod Needs
 pub mod Held
 pub mod Books
 pub mod BookViews
-pub mod Booked
+pub mod LockWord
 pub mod Steps
 pub mod Tries

@@ -5,45 +5,45 @@ use lib.ListN.{get_elem?}
 use Rattle.atomic_table.specs.Table.{State, Me, Step, Act, step, stepped, carried_after}
 use Rattle.tk_book.specs.Wants.{Wants}
 use Rattle.tk_book.specs.Held.{Lawful, Grants, Releases, held_lane, held_word}
-use Rattle.tk_book.specs.Booked.{holdings}
-use Rattle.tk_book.specs.declared.rules.Noted.{Noted}
+use Rattle.tk_book.specs.LockWord.{holdings}
+use Rattle.tk_book.specs.declared.rules.SeatNote.{SeatNote}
 
 -- where the seat stands among all seats
-abbrev pub place : List Noted → ℕ → ℕ
-place views id = length (holdings (take id views))
+abbrev pub holding_index : List SeatNote → ℕ → ℕ
+holding_index views id = length (holdings (take id views))
 
 -- Between any two steps the word is the sum of the words of what the seats hold, no lane's sum is above 15, and no two
 -- seats' needs conflict.
-abbrev pub IsSumOfHoldings : (ℕ → State Wants Noted → Type 0) → Type 0
-IsSumOfHoldings holds = (seats : ℕ) (s : State Wants Noted) → holds seats s
+abbrev pub IsSumOfHoldings : (ℕ → State Wants SeatNote → Type 0) → Type 0
+IsSumOfHoldings holds = (seats : ℕ) (s : State Wants SeatNote) → holds seats s
     → (s.words ≡ sum_by held_word (holdings s.views) ∷ [])
     × ((r : ℕ) → r < 16 → sum_by (λ h. held_lane h r) (holdings s.views) ≤ 15)
     × Lawful (holdings s.views)
 
--- an exchange that finds the word that it expects is a grant of the need that it was told
-abbrev pub ExchangeIsGrant : (ℕ → State Wants Noted → Type 0) → (Step Wants → Me Wants Noted → ℕ → Me Wants Noted → Type 0) → Type 0
-ExchangeIsGrant holds tells = (seats slots id old new : ℕ) (n : Wants) (me : Me Wants Noted) (s : State Wants Noted) (w : Noted) (a : Act Wants)
+-- an exchange that finds the word that it expects is a grant of the need that it was given
+abbrev pub ExchangeIsGrant : (ℕ → State Wants SeatNote → Type 0) → (Step Wants → Me Wants SeatNote → ℕ → Me Wants SeatNote → Type 0) → Type 0
+ExchangeIsGrant holds tells = (seats slots id old new : ℕ) (n : Wants) (me : Me Wants SeatNote) (s : State Wants SeatNote) (w : SeatNote) (a : Act Wants)
     → holds seats s → get_elem? s.views id ≡ some me.0 → me.0.held ≡ None ∷ [] → s.words ≡ old ∷ []
     → holds seats (stepped s 0 new id me.1 w a) → tells (step slots 0 old new (some n)) me old (w, carried_after me.1 a)
-    → Grants (holdings s.views) (place s.views id) n (holdings (slice_set s.views id w))
+    → Grants (holdings s.views) (holding_index s.views id) n (holdings (slice_set s.views id w))
 
 -- an exchange that finds another word changes nothing of what the seats hold
-abbrev pub FailureIsNone : (ℕ → State Wants Noted → Type 0) → (Step Wants → Me Wants Noted → ℕ → Me Wants Noted → Type 0) → Type 0
-FailureIsNone holds tells = (seats slots id old new x : ℕ) (n : Wants) (me : Me Wants Noted) (s : State Wants Noted) (w : Noted) (a : Act Wants)
+abbrev pub FailureIsNone : (ℕ → State Wants SeatNote → Type 0) → (Step Wants → Me Wants SeatNote → ℕ → Me Wants SeatNote → Type 0) → Type 0
+FailureIsNone holds tells = (seats slots id old new x : ℕ) (n : Wants) (me : Me Wants SeatNote) (s : State Wants SeatNote) (w : SeatNote) (a : Act Wants)
     → holds seats s → get_elem? s.views id ≡ some me.0 → s.words ≡ x ∷ [] → x ≢ old
     → tells (step slots 0 old new (some n)) me x (w, carried_after me.1 a)
     → holdings (slice_set s.views id w) ≡ holdings s.views
 
 -- a load changes nothing of what the seats hold
-abbrev pub LoadIsNone : (ℕ → State Wants Noted → Type 0) → (Step Wants → Me Wants Noted → ℕ → Me Wants Noted → Type 0) → Type 0
-LoadIsNone holds tells = (seats slots id x : ℕ) (me : Me Wants Noted) (s : State Wants Noted) (w : Noted) (a : Act Wants)
+abbrev pub LoadIsNone : (ℕ → State Wants SeatNote → Type 0) → (Step Wants → Me Wants SeatNote → ℕ → Me Wants SeatNote → Type 0) → Type 0
+LoadIsNone holds tells = (seats slots id x : ℕ) (me : Me Wants SeatNote) (s : State Wants SeatNote) (w : SeatNote) (a : Act Wants)
     → holds seats s → get_elem? s.views id ≡ some me.0 → s.words ≡ x ∷ []
     → tells (step slots 0 0 0 none) me x (w, carried_after me.1 a)
     → holdings (slice_set s.views id w) ≡ holdings s.views
 
 -- a subtraction is a release of what the seat holds
-abbrev pub SubtractionIsRelease : (ℕ → State Wants Noted → Type 0) → (Step Wants → Me Wants Noted → ℕ → Me Wants Noted → Type 0) → Type 0
-SubtractionIsRelease holds tells = (seats slots id k x : ℕ) (n : Wants) (me : Me Wants Noted) (s : State Wants Noted) (w : Noted) (a : Act Wants)
+abbrev pub SubtractionIsRelease : (ℕ → State Wants SeatNote → Type 0) → (Step Wants → Me Wants SeatNote → ℕ → Me Wants SeatNote → Type 0) → Type 0
+SubtractionIsRelease holds tells = (seats slots id k x : ℕ) (n : Wants) (me : Me Wants SeatNote) (s : State Wants SeatNote) (w : SeatNote) (a : Act Wants)
     → holds seats s → get_elem? s.views id ≡ some me.0 → me.0.held ≡ Some n ∷ [] → s.words ≡ x ∷ []
     → tells (step slots 0 k 0 none) me x (w, carried_after me.1 a)
-    → Releases (holdings s.views) (place s.views id) n (holdings (slice_set s.views id w))
+    → Releases (holdings s.views) (holding_index s.views id) n (holdings (slice_set s.views id w))

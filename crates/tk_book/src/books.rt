@@ -4,12 +4,12 @@ ghost use Rattle.tk_lanes.specs.Lanes.{lane_at};
 ghost use Rattle.tk_book.specs.Needs.{word_of};
 ghost use Rattle.tk_book.specs.Held.{Lawful, held_lane, held_word};
 ghost use Rattle.tk_book.specs.Books.{empty};
-ghost use Rattle.tk_book.specs.Booked.{noted};
+ghost use Rattle.tk_book.specs.LockWord.{seat_note};
 ghost use Rattle.tk_book.specs.Tries.{WasFree, WasBusy, WasFreeAtLast};
 ghost use Rattle.tk_book.specs.declared.books.BookFault.TheVariants.{Seats};
 
 use crate::needs::Need;
-use crate::rules::{Gives, Locking, Looks, Noted, Takes};
+use crate::rules::{AcquireStep, LoadStep, LockRule, ReleaseStep, SeatNote};
 use atomic_table::{Seat, Table};
 use crossbeam_utils::Backoff;
 use std::alloc::{AllocError, Global};
@@ -23,7 +23,7 @@ pub const MAX_SEATS: usize = 8;
 /// A word by which several seats take resources and give them back.
 #[derive(Drop)]
 pub struct Book {
-    table: Table<Need, Noted, usize, Locking, Global>,
+    table: Table<Need, SeatNote, usize, LockRule, Global>,
 }
 
 impl Model for Book {
@@ -41,7 +41,7 @@ impl Model for Book {
 /// One of the seats of a book.
 #[derive(Drop)]
 pub struct BookSeat {
-    seat: Seat<Need, Noted>,
+    seat: Seat<Need, SeatNote>,
     held: Option<Need>,
 }
 
@@ -75,21 +75,23 @@ pub enum BookFault {
 }
 
 // Cuts the first seat into `count` seats.
-fn set_out(
+fn split_seats(
     alloc: Global,
-    table: &Table<Need, Noted, usize, Locking, Global>,
-    mut first: Seat<Need, Noted>,
+    table: &Table<Need, SeatNote, usize, LockRule, Global>,
+    mut first: Seat<Need, SeatNote>,
     count: usize,
 ) -> Result<Vec<BookSeat>, AllocError>
     requires count { 0 < count }
     requires table { 0 < table.now.shared.table_id.words }
     requires of_this { first.table_id ≡ table.now.shared.table_id }
-    requires whole { first.me ≡ (noted table.now.shared.key (replicate count None) [], []) }
-    ensures { IfOk result (λ all. (length all.items ≡ count) × All (λ s. s ≡ empty (record { table = table.now.shared.table_id; seats = table.now.shared.key })) all.items) }
+    requires whole { first.me ≡ (seat_note table.now.shared.key (replicate count None) [], []) }
+    ensures { IfOk result (λ all. (length all.items ≡ count)
+        × All (λ s.
+        s ≡ empty (record { table = table.now.shared.table_id; seats = table.now.shared.key })) all.items) }
 {
     let mut all = Vec::with_capacity(alloc, count)?;
     for _ in 1..count {
-        let seat = table.shared.split_seat::<Locking>(&mut first);
+        let seat = table.shared.split_seat::<LockRule>(&mut first);
         all.push(BookSeat { seat, held: None })?;
     }
     all.push(BookSeat {
@@ -114,7 +116,7 @@ impl Book {
         let Ok((table, first)) = Table::of_words(alloc, &[0], &seats) else {
             return Err(BookFault::Memory);
         };
-        let Ok(all) = set_out(alloc, &table, first, seats) else {
+        let Ok(all) = split_seats(alloc, &table, first, seats) else {
             return Err(BookFault::Memory);
         };
         Ok((Book { table }, all))
@@ -130,7 +132,7 @@ impl Book {
         ensures empty { IfErr result (λ _. seat.new.holds ≡ None) }
         ensures busy { IfErr result (WasBusy seat.old.read seat.new.read (word_of need)) }
     {
-        let seen = self.table.shared.load::<Looks>(&mut seat.seat, 0);
+        let seen = self.table.shared.load::<LoadStep>(&mut seat.seat, 0);
         let word = need.word();
         if !admits(seen, word) {
             return Err(Busy::Held(seen));
@@ -138,7 +140,7 @@ impl Book {
         let found = self
             .table
             .shared
-            .compare_exchange_with::<Takes>(&mut seat.seat, 0, seen, seen + word, &need);
+            .compare_exchange_with::<AcquireStep>(&mut seat.seat, 0, seen, seen + word, &need);
         if found == seen {
             seat.held = Some(need);
             Ok(())
@@ -178,7 +180,7 @@ impl Book {
         };
         self.table
             .shared
-            .fetch_sub::<Gives>(&mut seat.seat, 0, need.word());
+            .fetch_sub::<ReleaseStep>(&mut seat.seat, 0, need.word());
         seat.held = None;
     }
 
@@ -190,7 +192,7 @@ impl Book {
         ensures read { seat.new.read ≡ seat.old.read ++ result ∷ [] }
         ensures own { (r : ℕ) → r < 16 → held_lane seat.old.holds r ≤ lane_at result r }
     {
-        self.table.shared.load::<Looks>(&mut seat.seat, 0)
+        self.table.shared.load::<LoadStep>(&mut seat.seat, 0)
     }
 
     /// The last word, where no seat holds anything.
@@ -200,11 +202,11 @@ impl Book {
         requires empty { All (λ s. s.holds ≡ None) seats.items }
         ensures { result ≡ 0 }
     {
-        self.settle(seats)
+        self.into_word(seats)
     }
 
     /// The last word, where seats may still hold needs. It is the sum of these, of which no two conflict.
-    pub fn settle(self, mut seats: Vec<BookSeat>) -> u64
+    pub fn into_word(self, mut seats: Vec<BookSeat>) -> u64
         requires all { length seats.items ≡ self.seats }
         requires of_this { All (λ s. s.book ≡ self) seats.items }
         ensures word { result ≡ sum_by held_word (map (λ s. s.holds) seats.items) }
@@ -220,7 +222,7 @@ impl Book {
                 seat: other,
                 held: _,
             } = next;
-            table.shared.join_seat::<Locking>(&mut seat, other);
+            table.shared.join_seat::<LockRule>(&mut seat, other);
         }
         let closed = table.close_with(seat);
         let word = closed.word(0);

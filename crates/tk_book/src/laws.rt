@@ -6,17 +6,17 @@ ghost use Rattle.tk_book.specs.Held.{Lawful, WritersAreAlone};
 ghost use Rattle.tk_book.specs.Steps.{IsSumOfHoldings, ExchangeIsGrant, FailureIsNone, LoadIsNone, SubtractionIsRelease};
 
 use crate::needs::Need;
-use crate::rules::{Gives, Locking, Looks, Noted, Takes};
+use crate::rules::{AcquireStep, LoadStep, LockRule, ReleaseStep, SeatNote};
 use atomic_table::{Play, TableRule};
 
 /// Between any two steps a book's word is the sum of what its seats hold, and each step is a grant, a release, or
 /// nothing.
 pub fn each_step_is_of_the_holdings()
-    ensures state { IsSumOfHoldings ⟦<Locking as TableRule<Need, Noted, usize>>⟧.holds }
-    ensures grant { ExchangeIsGrant ⟦<Locking as TableRule<Need, Noted, usize>>⟧.holds ⟦<Takes as Play<Need, Noted>>⟧.then }
-    ensures failure { FailureIsNone ⟦<Locking as TableRule<Need, Noted, usize>>⟧.holds ⟦<Takes as Play<Need, Noted>>⟧.then }
-    ensures load { LoadIsNone ⟦<Locking as TableRule<Need, Noted, usize>>⟧.holds ⟦<Looks as Play<Need, Noted>>⟧.then }
-    ensures release { SubtractionIsRelease ⟦<Locking as TableRule<Need, Noted, usize>>⟧.holds ⟦<Gives as Play<Need, Noted>>⟧.then }
+    ensures state { IsSumOfHoldings ⟦<LockRule as TableRule<Need, SeatNote, usize>>⟧.holds }
+    ensures grant { ExchangeIsGrant ⟦<LockRule as TableRule<Need, SeatNote, usize>>⟧.holds ⟦<AcquireStep as Play<Need, SeatNote>>⟧.then }
+    ensures failure { FailureIsNone ⟦<LockRule as TableRule<Need, SeatNote, usize>>⟧.holds ⟦<AcquireStep as Play<Need, SeatNote>>⟧.then }
+    ensures load { LoadIsNone ⟦<LockRule as TableRule<Need, SeatNote, usize>>⟧.holds ⟦<LoadStep as Play<Need, SeatNote>>⟧.then }
+    ensures release { SubtractionIsRelease ⟦<LockRule as TableRule<Need, SeatNote, usize>>⟧.holds ⟦<ReleaseStep as Play<Need, SeatNote>>⟧.then }
 {}
 
 /// No two seats' needs conflict exactly where each that writes a resource is alone there.

@@ -6,65 +6,65 @@ use std::collections::LinkedList;
 /// What a seat knows: how many seats its book has, what it holds, and the words that it read. A seat that took in others
 /// has what each of them held. No value of it is made.
 #[derive(Drop)]
-pub(crate) struct Noted {
+pub(crate) struct SeatNote {
     seats: usize,
     held: LinkedList<Option<Need>>,
     seen: LinkedList<u64>,
 }
 
 /// The word is the sum of what the seats hold.
-pub(crate) struct Locking;
+pub(crate) struct LockRule;
 
-impl TableRule<Need, Noted, usize> for Locking {
+impl TableRule<Need, SeatNote, usize> for LockRule {
     ghost use Rattle.std.specs.Prelude.{None, [], replicate};
-    ghost use Rattle.tk_book.specs.Booked.{Booked, noted};
+    ghost use Rattle.tk_book.specs.LockWord.{HoldingsFitWord, seat_note};
 
-    ghost holds = { Booked };
+    ghost holds = { HoldingsFitWord };
 
-    ghost first = { λ seats. noted seats (replicate seats None) [] };
+    ghost first = { λ seats. seat_note seats (replicate seats None) [] };
 }
 
 /// A load.
-pub(crate) struct Looks;
+pub(crate) struct LoadStep;
 
-impl Play<Need, Noted> for Looks {
-    ghost use Rattle.tk_book.specs.Booked.{Looked};
+impl Play<Need, SeatNote> for LoadStep {
+    ghost use Rattle.tk_book.specs.LockWord.{WordWasLoaded};
 
-    ghost then = { Looked };
+    ghost then = { WordWasLoaded };
 }
 
 /// A compare-exchange.
-pub(crate) struct Takes;
+pub(crate) struct AcquireStep;
 
-impl Play<Need, Noted> for Takes {
-    ghost use Rattle.tk_book.specs.Booked.{Took};
+impl Play<Need, SeatNote> for AcquireStep {
+    ghost use Rattle.tk_book.specs.LockWord.{WasExchanged};
 
-    ghost then = { Took };
+    ghost then = { WasExchanged };
 }
 
 /// A subtraction.
-pub(crate) struct Gives;
+pub(crate) struct ReleaseStep;
 
-impl Play<Need, Noted> for Gives {
-    ghost use Rattle.tk_book.specs.Booked.{Gave};
+impl Play<Need, SeatNote> for ReleaseStep {
+    ghost use Rattle.tk_book.specs.LockWord.{WasReleased};
 
-    ghost then = { Gave };
+    ghost then = { WasReleased };
 }
 
-impl Split<Noted> for Locking {
+impl Split<SeatNote> for LockRule {
     ghost use Rattle.std.specs.Prelude.{None, [], ◌∷◌, ◌-◌, length, replicate};
-    ghost use Rattle.tk_book.specs.Booked.{noted};
+    ghost use Rattle.tk_book.specs.LockWord.{seat_note};
 
-    ghost left = { λ v. noted v.seats (replicate (length v.held - 1) None) [] };
+    ghost left = { λ v. seat_note v.seats (replicate (length v.held - 1) None) [] };
 
-    ghost right = { λ v. noted v.seats (None ∷ []) [] };
+    ghost right = { λ v. seat_note v.seats (None ∷ []) [] };
 }
 
-impl Join<Noted> for Locking {
+impl Join<SeatNote> for LockRule {
     ghost use Rattle.std.specs.Prelude.{[], ◌++◌};
-    ghost use Rattle.tk_book.specs.Booked.{noted};
+    ghost use Rattle.tk_book.specs.LockWord.{seat_note};
 
-    ghost both = { λ v w. noted v.seats (w.held ++ v.held) [] };
+    ghost both = { λ v w. seat_note v.seats (w.held ++ v.held) [] };
 
-    ghost spent = { noted 0 [] [] };
+    ghost spent = { seat_note 0 [] [] };
 }

@@ -3,7 +3,7 @@ use Rattle.std.specs.Prelude.{◌≡◌, ◌^◌, ◌<◌, ◌≤◌, [], cond}
 use Rattle.tk_claim.specs.declared.claims.TheConstants.{MAX_SEATS}
 use Rattle.tk_claim.specs.declared.claims.Claim.TheInside as claim
 use Rattle.tk_claim.specs.declared.claims.ClaimSeat.TheInside as seat
-use Rattle.tk_claim.specs.Claims.{ClaimName, Claimant, IsRising}
+use Rattle.tk_claim.specs.Claims.{ClaimName, Claimant, IsStrictlyIncreasing}
 
 abbrev pub name_of : claim.Inside → ClaimName
 name_of c = record { table = c.table.shared.table_id; limit = c.table.shared.key.limit; seats = c.table.shared.key.seats }
@@ -17,10 +17,10 @@ pub record IsClaim (c : claim.Inside) : Type 0 where
   pub few_seats : c.table.shared.key.seats ≤ MAX_SEATS
 
 abbrev pub claimant_of : seat.Inside → Claimant
-claimant_of s = record { claim = record { table = s.seat.table_id; limit = s.seat.me.0.deal.limit; seats = s.seat.me.0.deal.seats }; numbers = s.seat.me.0.numbers; spent = s.spent }
+claimant_of s = record { claim = record { table = s.seat.table_id; limit = s.seat.me.0.claim_limits.limit; seats = s.seat.me.0.claim_limits.seats }; numbers = s.seat.me.0.numbers; spent = s.spent }
 
 pub record IsClaimant (s : seat.Inside) : Type 0 where
   pub one_part : s.seat.me.0.parts ≡ 1
   pub no_slot : s.seat.me.1 ≡ []
-  pub rising : IsRising s.seat.me.0.numbers
+  pub increasing : IsStrictlyIncreasing s.seat.me.0.numbers
   pub spent_same : s.seat.me.0.spent ≡ cond s.spent 1 0

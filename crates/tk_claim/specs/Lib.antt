@@ -1,3 +1,3 @@
 pub mod Claims
-pub mod Dealt
+pub mod Drawing
 pub mod ClaimViews

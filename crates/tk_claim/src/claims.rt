@@ -1,10 +1,10 @@
 //! Numbers below a limit, each drawn once by one of the seats.
 ghost use Rattle.std.specs.Prelude.{◌≡◌, ◌<◌, ◌≤◌, ◌⊎◌, ◌↔◌, [], ◌∷◌, ◌++◌, true, false, length, map, All, IfOk, IfErr, IfSome, IfNone};
 ghost use Rattle.tk_claim.specs.Claims.{Claims, fresh};
-ghost use Rattle.tk_claim.specs.Dealt.{drawn};
+ghost use Rattle.tk_claim.specs.Drawing.{drawn};
 ghost use Rattle.tk_claim.specs.declared.claims.ClaimFault.TheVariants.{Seats};
 
-use crate::rules::{Deal, Dealing, Drawn, Draws};
+use crate::rules::{ClaimLimits, ClaimRule, DrawStep, Drawn};
 use atomic_table::{Seat, Table};
 use std::alloc::{AllocError, Global};
 use std::marker::Model;
@@ -15,7 +15,7 @@ pub const MAX_SEATS: usize = 8;
 /// A word from which several seats draw the numbers below a limit.
 #[derive(Drop)]
 pub struct Claim {
-    table: Table<(), Drawn, Deal, Dealing, Global>,
+    table: Table<(), Drawn, ClaimLimits, ClaimRule, Global>,
     limit: u32,
 }
 
@@ -60,9 +60,9 @@ pub enum ClaimFault {
 }
 
 // Cuts the first seat into `count` seats.
-fn deal_out(
+fn split_seats(
     alloc: Global,
-    table: &Table<(), Drawn, Deal, Dealing, Global>,
+    table: &Table<(), Drawn, ClaimLimits, ClaimRule, Global>,
     mut first: Seat<(), Drawn>,
     count: usize,
 ) -> Result<Vec<ClaimSeat>, AllocError>
@@ -70,11 +70,13 @@ fn deal_out(
     requires table { 0 < table.now.shared.table_id.words }
     requires of_this { first.table_id ≡ table.now.shared.table_id }
     requires whole { first.me ≡ (drawn table.now.shared.key count 0 [], []) }
-    ensures { IfOk result (λ all. (length all.items ≡ count) × All (λ s. s ≡ fresh (record { table = table.now.shared.table_id; limit = table.now.shared.key.limit; seats = table.now.shared.key.seats })) all.items) }
+    ensures { IfOk result (λ all. (length all.items ≡ count)
+        × All (λ s.
+        s ≡ fresh (record { table = table.now.shared.table_id; limit = table.now.shared.key.limit; seats = table.now.shared.key.seats })) all.items) }
 {
     let mut all = Vec::with_capacity(alloc, count)?;
     for _ in 1..count {
-        let seat = table.shared.split_seat::<Dealing>(&mut first);
+        let seat = table.shared.split_seat::<ClaimRule>(&mut first);
         all.push(ClaimSeat { seat, spent: false })?;
     }
     all.push(ClaimSeat {
@@ -97,11 +99,11 @@ impl Claim {
         if seats == 0 || seats > MAX_SEATS {
             return Err(ClaimFault::Seats);
         }
-        let deal = Deal { limit: n, seats };
-        let Ok((table, first)) = Table::of_words(alloc, &[0], &deal) else {
+        let claim_limits = ClaimLimits { limit: n, seats };
+        let Ok((table, first)) = Table::of_words(alloc, &[0], &claim_limits) else {
             return Err(ClaimFault::Memory);
         };
-        let Ok(all) = deal_out(alloc, &table, first, seats) else {
+        let Ok(all) = split_seats(alloc, &table, first, seats) else {
             return Err(ClaimFault::Memory);
         };
         Ok((Claim { table, limit: n }, all))
@@ -122,7 +124,10 @@ impl Claim {
         if seat.spent {
             return None;
         }
-        let found = self.table.shared.fetch_add::<Draws>(&mut seat.seat, 0, 1);
+        let found = self
+            .table
+            .shared
+            .fetch_add::<DrawStep>(&mut seat.seat, 0, 1);
         if found < u64::from(self.limit) {
             Some(found as u32)
         } else {
@@ -148,7 +153,7 @@ impl Claim {
                 seat: other,
                 spent: _,
             } = next;
-            table.shared.join_seat::<Dealing>(&mut seat, other);
+            table.shared.join_seat::<ClaimRule>(&mut seat, other);
         }
         let closed = table.close_with(seat);
         let next = closed.word(0);

@@ -2,58 +2,58 @@
 use atomic_table::{Join, Play, Split, TableRule};
 use std::collections::LinkedList;
 
-/// What a claim is told once, when it is made.
+/// What is set once, when a claim is made: the limit and the number of seats.
 #[derive(Drop)]
-pub(crate) struct Deal {
+pub(crate) struct ClaimLimits {
     pub limit: u32,
     pub seats: usize,
 }
 
-/// What a seat knows: the deal, how many seats it stands for, how many of them were told that no number is left, and the
+/// What a seat knows: the limits, how many seats it stands for, how many of them found that no number is left, and the
 /// numbers that it drew. No value of it is made.
 #[derive(Drop)]
 pub(crate) struct Drawn {
-    deal: Deal,
+    claim_limits: ClaimLimits,
     parts: usize,
     spent: u64,
     numbers: LinkedList<u32>,
 }
 
 /// The word is how many draws there were.
-pub(crate) struct Dealing;
+pub(crate) struct ClaimRule;
 
-impl TableRule<(), Drawn, Deal> for Dealing {
+impl TableRule<(), Drawn, ClaimLimits> for ClaimRule {
     ghost use Rattle.std.specs.Prelude.{[]};
-    ghost use Rattle.tk_claim.specs.Dealt.{Dealt, drawn};
+    ghost use Rattle.tk_claim.specs.Drawing.{DrawsFitWord, drawn};
 
-    ghost holds = { Dealt };
+    ghost holds = { DrawsFitWord };
 
-    ghost first = { λ deal. drawn deal deal.seats 0 [] };
+    ghost first = { λ claim_limits. drawn claim_limits claim_limits.seats 0 [] };
 }
 
 /// A draw.
-pub(crate) struct Draws;
+pub(crate) struct DrawStep;
 
-impl Play<(), Drawn> for Draws {
-    ghost use Rattle.tk_claim.specs.Dealt.{Drew};
+impl Play<(), Drawn> for DrawStep {
+    ghost use Rattle.tk_claim.specs.Drawing.{Drew};
 
     ghost then = { Drew };
 }
 
-impl Split<Drawn> for Dealing {
+impl Split<Drawn> for ClaimRule {
     ghost use Rattle.std.specs.Prelude.{◌-◌, []};
-    ghost use Rattle.tk_claim.specs.Dealt.{drawn};
+    ghost use Rattle.tk_claim.specs.Drawing.{drawn};
 
-    ghost left = { λ v. drawn v.deal (v.parts - 1) 0 [] };
+    ghost left = { λ v. drawn v.claim_limits (v.parts - 1) 0 [] };
 
-    ghost right = { λ v. drawn v.deal 1 0 [] };
+    ghost right = { λ v. drawn v.claim_limits 1 0 [] };
 }
 
-impl Join<Drawn> for Dealing {
+impl Join<Drawn> for ClaimRule {
     ghost use Rattle.std.specs.Prelude.{◌+◌, ◌++◌, []};
-    ghost use Rattle.tk_claim.specs.Dealt.{drawn, no_deal};
+    ghost use Rattle.tk_claim.specs.Drawing.{drawn, no_limits};
 
-    ghost both = { λ v w. drawn v.deal (v.parts + w.parts) (v.spent + w.spent) (v.numbers ++ w.numbers) };
+    ghost both = { λ v w. drawn v.claim_limits (v.parts + w.parts) (v.spent + w.spent) (v.numbers ++ w.numbers) };
 
-    ghost spent = { drawn no_deal 0 0 [] };
+    ghost spent = { drawn no_limits 0 0 [] };
 }

@@ -1,29 +1,29 @@
--- The machine's stack and the brackets that are open behind what it has read.
+-- The machine's stack and the brackets that are open after what it has read.
 use Rattle.std.proofs.Common.{◌≡◌, ℕ, Bool, true, false, List, [], ◌∷◌, ◌++◌, Option, Some, None, option_and_then, option_map, if◌then◌else◌, ◌==◌, ◌||◌, refl, sym, ap, ◌∙◌, rules, ⊎_elim}
 use Rattle.std.specs.Prelude.{codes}
 use Rattle.std.proofs.lemmas.Option.{same_Some, none-some}
 use Rattle.std.proofs.lemmas.Bool.{ne_eqb, eqb-true}
 use Rattle.tk_conditions.specs.Brackets.{bracket_step, tail}
-use Rattle.tk_conditions.specs.declared.parts.Escape.{Escape}
-use Rattle.tk_conditions.specs.declared.parts.Escape.TheVariants.{Outside, Percent, Digit}
+use Rattle.tk_conditions.specs.declared.partial_texts.Escape.{Escape}
+use Rattle.tk_conditions.specs.declared.partial_texts.Escape.TheVariants.{Outside, Percent, Digit}
 use Rattle.tk_events.specs.declared.kinds.Kind.{Kind}
 use Rattle.tk_events.specs.declared.kinds.Kind.TheVariants as event
-use Rattle.tk_conditions.specs.Cond.{Pairs, NoPairs, MorePairs, Cond, Plain, With, OfKind, HasPairs, All, Any, Not, Nothing, More, texted_text, kind_text}
-use Rattle.tk_conditions.specs.Reading.{Frame, OpenNot, OpenAll, OpenAny, State, Word, InText, InKind, InPairs, After, text_step, special_of, look, bares, all_kinds, kinds, openers, Opener, opened, close, close_empty, behind_word, is_front, step, next_text, last_text}
-use Rattle.tk_conditions.proofs.Fronts.{if_some, guarded, mapped, look_entry, front_entry, each_kind, text_goes, part_text}
+use Rattle.tk_conditions.specs.Cond.{Pairs, NoPairs, MorePairs, Cond, Plain, With, OfKind, HasPairs, All, Any, Not, Nothing, More, text_atom_text, kind_text}
+use Rattle.tk_conditions.specs.Reading.{OpenGroup, OpenNot, OpenAll, OpenAny, State, Word, InText, InKind, InPairs, After, text_step, special_of, look, bares, all_kinds, kinds, openers, Opener, opened, close, close_empty, after_word, is_prefix, step, next_text, last_text}
+use Rattle.tk_conditions.proofs.Prefixes.{if_some, guarded, mapped, look_entry, prefix_entry, each_kind, text_goes, part_text}
 
-abbrev pub words_of : List Frame → List (List ℕ)
+abbrev pub words_of : List OpenGroup → List (List ℕ)
 words_of [] = []
 words_of (OpenNot ∷ stack) = codes "not" ∷ words_of stack
 words_of (OpenAll cs ∷ stack) = codes "all" ∷ words_of stack
 words_of (OpenAny cs ∷ stack) = codes "any" ∷ words_of stack
 
--- the words before the open brackets, and the bytes behind the last delimiter
+-- the words before the open brackets, and the bytes after the last delimiter
 abbrev pub brackets : State → List (List ℕ) × List ℕ
 brackets (Word stack word) = (words_of stack, word)
-brackets (InText stack texted part) = (texted_text texted ∷ words_of stack, part_text part)
+brackets (InText stack text_atom partial) = (text_atom_text text_atom ∷ words_of stack, part_text partial)
 brackets (InKind stack word) = (codes "kind" ∷ words_of stack, word)
-brackets (InPairs stack pairs key part) = (codes "entry" ∷ words_of stack, part_text part)
+brackets (InPairs stack pairs key partial) = (codes "entry" ∷ words_of stack, part_text partial)
 brackets (After stack c) = (words_of stack, [])
 
 at_closing : (stack : List (List ℕ)) (word : List ℕ) (b : ℕ) → (b == 41) ≡ true → bracket_step (stack, word) b ≡ (tail stack, [])
@@ -58,13 +58,13 @@ text_byte (bytes, Digit) b q e =
     no_special : (k : ℕ) → special_of k ≡ None → (b c : ℕ) → special_of b ≡ Some c → (b == k) ≡ false
     no_special k none b c e = ne_eqb b k (λ same. absurd (none-some c (sym none ∙ ap special_of (sym same) ∙ e)))
 
-inside : (k : List ℕ × Escape → State) (stack : List (List ℕ)) → ((part : List ℕ × Escape) → brackets (k part) ≡ (stack, part_text part)) → (part : List ℕ × Escape) (b : ℕ) (t : State) → option_map k (text_step part b) ≡ Some t → bracket_step (brackets (k part)) b ≡ brackets t
-inside k stack is part b t e =
-    let m = mapped k (text_step part b) t e in
-    let byte = text_byte part b m.0 m.1 in
-    ap (λ x. bracket_step x b) (is part) ∙ elsewhere stack (part_text part) b byte.0 byte.1 byte.2 ∙ ap (λ x. (stack, x)) (sym (text_goes part b m.0 m.1)) ∙ sym (is m.0) ∙ ap brackets m.2
+inside : (k : List ℕ × Escape → State) (stack : List (List ℕ)) → ((partial : List ℕ × Escape) → brackets (k partial) ≡ (stack, part_text partial)) → (partial : List ℕ × Escape) (b : ℕ) (t : State) → option_map k (text_step partial b) ≡ Some t → bracket_step (brackets (k partial)) b ≡ brackets t
+inside k stack is partial b t e =
+    let m = mapped k (text_step partial b) t e in
+    let byte = text_byte partial b m.0 m.1 in
+    ap (λ x. bracket_step x b) (is partial) ∙ elsewhere stack (part_text partial) b byte.0 byte.1 byte.2 ∙ ap (λ x. (stack, x)) (sym (text_goes partial b m.0 m.1)) ∙ sym (is m.0) ∙ ap brackets m.2
 
-close_brackets : (stack : List Frame) (c : Cond) (word : List ℕ) (b : ℕ) (t : State) → close stack c b ≡ Some t → bracket_step (words_of stack, word) b ≡ brackets t
+close_brackets : (stack : List OpenGroup) (c : Cond) (word : List ℕ) (b : ℕ) (t : State) → close stack c b ≡ Some t → bracket_step (words_of stack, word) b ≡ brackets t
 close_brackets [] c word b t e = absurd (none-some t e)
 close_brackets (OpenNot ∷ stack) c word b t e =
     let g = guarded (b == 41) (Some (After stack (Not c))) t e in
@@ -82,7 +82,7 @@ close_brackets (OpenAny cs ∷ stack) c word b t e = ⊎_elim {C = bracket_step 
     at_comma (words_of (OpenAny cs ∷ stack)) word b g.0 ∙ ap brackets (same_Some (Word (OpenAny (More cs c) ∷ stack) []) t g.1))
     (if_some (b == 41) (Some (After stack (Any (More cs c)))) (if b == 44 then Some (Word (OpenAny (More cs c) ∷ stack) []) else None) t e)
 
-close_empty_brackets : (stack : List Frame) (word : List ℕ) (b : ℕ) (t : State) → close_empty stack b ≡ Some t → bracket_step (words_of stack, word) b ≡ brackets t
+close_empty_brackets : (stack : List OpenGroup) (word : List ℕ) (b : ℕ) (t : State) → close_empty stack b ≡ Some t → bracket_step (words_of stack, word) b ≡ brackets t
 close_empty_brackets (OpenAll Nothing ∷ stack) word b t e =
     let g = guarded (b == 41) (Some (After stack (All Nothing))) t e in
     at_closing (words_of (OpenAll Nothing ∷ stack)) word b g.0 ∙ ap brackets (same_Some (After stack (All Nothing)) t g.1)
@@ -94,14 +94,14 @@ close_empty_brackets (OpenNot ∷ stack) word b t e = absurd (none-some t e)
 close_empty_brackets (OpenAll (More cs c) ∷ stack) word b t e = absurd (none-some t e)
 close_empty_brackets (OpenAny (More cs c) ∷ stack) word b t e = absurd (none-some t e)
 
-behind_brackets : (stack : List Frame) (word : List ℕ) (b : ℕ) (t : State) → behind_word stack word b ≡ Some t → bracket_step (words_of stack, word) b ≡ brackets t
-behind_brackets stack [] b t e = close_empty_brackets stack [] b t e
-behind_brackets stack (x ∷ word) b t e =
+after_brackets : (stack : List OpenGroup) (word : List ℕ) (b : ℕ) (t : State) → after_word stack word b ≡ Some t → bracket_step (words_of stack, word) b ≡ brackets t
+after_brackets stack [] b t e = close_empty_brackets stack [] b t e
+after_brackets stack (x ∷ word) b t e =
     elim (look bares (x ∷ word)) as (λ o. option_and_then (λ bare. close stack (Plain bare) b) o ≡ Some t → bracket_step (words_of stack, x ∷ word) b ≡ brackets t)
     [ None ↦ λ h. absurd (none-some t h) | Some bare ↦ λ h. close_brackets stack (Plain bare) (x ∷ word) b t h ] e
 
 abbrev OpensAs : List ℕ → Opener → Type 0
-OpensAs word o = (stack : List Frame) → (word ∷ words_of stack, []) ≡ brackets (opened stack o)
+OpensAs word o = (stack : List OpenGroup) → (word ∷ words_of stack, []) ≡ brackets (opened stack o)
 
 opens_as : (word : List ℕ) (o : Opener) → look openers word ≡ Some o → OpensAs word o
 opens_as word o e = look_entry OpensAs openers word o ((λ stack. refl), ((λ stack. refl), ((λ stack. refl), ((λ stack. refl), ((λ stack. refl), ((λ stack. refl), ((λ stack. refl), ((λ stack. refl), ((λ stack. refl), ((λ stack. refl), tt)))))))))) e
@@ -122,13 +122,13 @@ last_has_none : (word rest : List ℕ) (b : ℕ) → HasNone ((word ++ b ∷ [])
 last_has_none [] rest b h = (h.0, h.1)
 last_has_none (x ∷ word) rest b h = last_has_none word rest b h.2
 
-last_brackets : (stack : List Frame) (pairs : Pairs) (key : Option (List ℕ)) (text : List ℕ) (t : State) → last_text stack pairs key text ≡ Some t → (words_of stack, []) ≡ brackets t
+last_brackets : (stack : List OpenGroup) (pairs : Pairs) (key : Option (List ℕ)) (text : List ℕ) (t : State) → last_text stack pairs key text ≡ Some t → (words_of stack, []) ≡ brackets t
 last_brackets stack pairs (Some key) text t e = ap brackets (same_Some (After stack (HasPairs (MorePairs pairs key text))) t e)
 last_brackets stack NoPairs None [] t e = ap brackets (same_Some (After stack (HasPairs NoPairs)) t e)
 last_brackets stack NoPairs None (x ∷ text) t e = absurd (none-some t e)
 last_brackets stack (MorePairs pairs k v) None text t e = absurd (none-some t e)
 
-next_brackets : (stack : List Frame) (pairs : Pairs) (key : Option (List ℕ)) (text : List ℕ) → (codes "entry" ∷ words_of stack, []) ≡ brackets (next_text stack pairs key text)
+next_brackets : (stack : List OpenGroup) (pairs : Pairs) (key : Option (List ℕ)) (text : List ℕ) → (codes "entry" ∷ words_of stack, []) ≡ brackets (next_text stack pairs key text)
 next_brackets stack pairs None text = refl
 next_brackets stack pairs (Some key) text = refl
 
@@ -136,42 +136,42 @@ next_brackets stack pairs (Some key) text = refl
 pub step_brackets : (s : State) (b : ℕ) (t : State) → step s b ≡ Some t → bracket_step (brackets s) b ≡ brackets t
 step_brackets (After stack c) b t e = close_brackets stack c [] b t e
 step_brackets (Word stack word) b t e = ⊎_elim {C = bracket_step (words_of stack, word) b ≡ brackets t}
-    (λ (h : ((b == 41 || b == 44) ≡ true) × (behind_word stack word b ≡ Some t)). behind_brackets stack word b t h.1)
-    (λ (h : ((b == 41 || b == 44) ≡ false) × ((if b == 40 then option_map (opened stack) (look openers word) else (if is_front bares (word ++ b ∷ []) || is_front openers (word ++ b ∷ []) then Some (Word stack (word ++ b ∷ [])) else None)) ≡ Some t)).
+    (λ (h : ((b == 41 || b == 44) ≡ true) × (after_word stack word b ≡ Some t)). after_brackets stack word b t h.1)
+    (λ (h : ((b == 41 || b == 44) ≡ false) × ((if b == 40 then option_map (opened stack) (look openers word) else (if is_prefix bares (word ++ b ∷ []) || is_prefix openers (word ++ b ∷ []) then Some (Word stack (word ++ b ∷ [])) else None)) ≡ Some t)).
     ⊎_elim {C = bracket_step (words_of stack, word) b ≡ brackets t}
     (λ (g : ((b == 40) ≡ true) × (option_map (opened stack) (look openers word) ≡ Some t)).
     let m = mapped (opened stack) (look openers word) t g.1 in
     ap (bracket_step (words_of stack, word)) (eqb-true b 40 g.0) ∙ opens_as word m.0 m.1 stack ∙ ap brackets m.2)
-    (λ (g : ((b == 40) ≡ false) × ((if is_front bares (word ++ b ∷ []) || is_front openers (word ++ b ∷ []) then Some (Word stack (word ++ b ∷ [])) else None) ≡ Some t)).
-    let w = guarded (is_front bares (word ++ b ∷ []) || is_front openers (word ++ b ∷ [])) (Some (Word stack (word ++ b ∷ []))) t g.1 in
+    (λ (g : ((b == 40) ≡ false) × ((if is_prefix bares (word ++ b ∷ []) || is_prefix openers (word ++ b ∷ []) then Some (Word stack (word ++ b ∷ [])) else None) ≡ Some t)).
+    let w = guarded (is_prefix bares (word ++ b ∷ []) || is_prefix openers (word ++ b ∷ [])) (Some (Word stack (word ++ b ∷ []))) t g.1 in
     let two = or_false (b == 41) (b == 44) h.0 in
     elsewhere (words_of stack) word b g.0 two.0 two.1 ∙ ap brackets (same_Some (Word stack (word ++ b ∷ [])) t w.1))
-    (if_some (b == 40) (option_map (opened stack) (look openers word)) (if is_front bares (word ++ b ∷ []) || is_front openers (word ++ b ∷ []) then Some (Word stack (word ++ b ∷ [])) else None) t h.1))
-    (if_some (b == 41 || b == 44) (behind_word stack word b) (if b == 40 then option_map (opened stack) (look openers word) else (if is_front bares (word ++ b ∷ []) || is_front openers (word ++ b ∷ []) then Some (Word stack (word ++ b ∷ [])) else None)) t e)
-step_brackets (InText stack texted (bytes, Outside)) b t e = ⊎_elim {C = bracket_step (brackets (InText stack texted (bytes, Outside))) b ≡ brackets t}
-    (λ (h : ((b == 41) ≡ true) × (Some (After stack (With texted bytes)) ≡ Some t)). at_closing (texted_text texted ∷ words_of stack) (part_text (bytes, Outside)) b h.0 ∙ ap brackets (same_Some (After stack (With texted bytes)) t h.1))
-    (λ (h : ((b == 41) ≡ false) × (option_map (InText stack texted) (text_step (bytes, Outside) b) ≡ Some t)). inside (InText stack texted) (texted_text texted ∷ words_of stack) (λ part. refl) (bytes, Outside) b t h.1)
-    (if_some (b == 41) (Some (After stack (With texted bytes))) (option_map (InText stack texted) (text_step (bytes, Outside) b)) t e)
-step_brackets (InText stack texted (bytes, Percent)) b t e = inside (InText stack texted) (texted_text texted ∷ words_of stack) (λ part. refl) (bytes, Percent) b t e
-step_brackets (InText stack texted (bytes, Digit)) b t e = inside (InText stack texted) (texted_text texted ∷ words_of stack) (λ part. refl) (bytes, Digit) b t e
+    (if_some (b == 40) (option_map (opened stack) (look openers word)) (if is_prefix bares (word ++ b ∷ []) || is_prefix openers (word ++ b ∷ []) then Some (Word stack (word ++ b ∷ [])) else None) t h.1))
+    (if_some (b == 41 || b == 44) (after_word stack word b) (if b == 40 then option_map (opened stack) (look openers word) else (if is_prefix bares (word ++ b ∷ []) || is_prefix openers (word ++ b ∷ []) then Some (Word stack (word ++ b ∷ [])) else None)) t e)
+step_brackets (InText stack text_atom (bytes, Outside)) b t e = ⊎_elim {C = bracket_step (brackets (InText stack text_atom (bytes, Outside))) b ≡ brackets t}
+    (λ (h : ((b == 41) ≡ true) × (Some (After stack (With text_atom bytes)) ≡ Some t)). at_closing (text_atom_text text_atom ∷ words_of stack) (part_text (bytes, Outside)) b h.0 ∙ ap brackets (same_Some (After stack (With text_atom bytes)) t h.1))
+    (λ (h : ((b == 41) ≡ false) × (option_map (InText stack text_atom) (text_step (bytes, Outside) b) ≡ Some t)). inside (InText stack text_atom) (text_atom_text text_atom ∷ words_of stack) (λ partial. refl) (bytes, Outside) b t h.1)
+    (if_some (b == 41) (Some (After stack (With text_atom bytes))) (option_map (InText stack text_atom) (text_step (bytes, Outside) b)) t e)
+step_brackets (InText stack text_atom (bytes, Percent)) b t e = inside (InText stack text_atom) (text_atom_text text_atom ∷ words_of stack) (λ partial. refl) (bytes, Percent) b t e
+step_brackets (InText stack text_atom (bytes, Digit)) b t e = inside (InText stack text_atom) (text_atom_text text_atom ∷ words_of stack) (λ partial. refl) (bytes, Digit) b t e
 step_brackets (InKind stack word) b t e = ⊎_elim {C = bracket_step (brackets (InKind stack word)) b ≡ brackets t}
     (λ (h : ((b == 41) ≡ true) × (option_map (λ kind. After stack (OfKind kind)) (look kinds word) ≡ Some t)).
     let m = mapped (λ kind. After stack (OfKind kind)) (look kinds word) t h.1 in
     at_closing (codes "kind" ∷ words_of stack) word b h.0 ∙ ap brackets m.2)
-    (λ (h : ((b == 41) ≡ false) × ((if is_front kinds (word ++ b ∷ []) then Some (InKind stack (word ++ b ∷ [])) else None) ≡ Some t)).
-    let w = guarded (is_front kinds (word ++ b ∷ [])) (Some (InKind stack (word ++ b ∷ []))) t h.1 in
-    let r = front_entry HasNone kinds (word ++ b ∷ []) (each_kind (λ text _. HasNone text) kind_has_none all_kinds) w.0 in
+    (λ (h : ((b == 41) ≡ false) × ((if is_prefix kinds (word ++ b ∷ []) then Some (InKind stack (word ++ b ∷ [])) else None) ≡ Some t)).
+    let w = guarded (is_prefix kinds (word ++ b ∷ [])) (Some (InKind stack (word ++ b ∷ []))) t h.1 in
+    let r = prefix_entry HasNone kinds (word ++ b ∷ []) (each_kind (λ text _. HasNone text) kind_has_none all_kinds) w.0 in
     let none = last_has_none word r.0 b r.1 in
     elsewhere (codes "kind" ∷ words_of stack) word b none.0 h.0 none.1 ∙ ap brackets (same_Some (InKind stack (word ++ b ∷ [])) t w.1))
-    (if_some (b == 41) (option_map (λ kind. After stack (OfKind kind)) (look kinds word)) (if is_front kinds (word ++ b ∷ []) then Some (InKind stack (word ++ b ∷ [])) else None) t e)
+    (if_some (b == 41) (option_map (λ kind. After stack (OfKind kind)) (look kinds word)) (if is_prefix kinds (word ++ b ∷ []) then Some (InKind stack (word ++ b ∷ [])) else None) t e)
 step_brackets (InPairs stack pairs key (bytes, Outside)) b t e = ⊎_elim {C = bracket_step (brackets (InPairs stack pairs key (bytes, Outside))) b ≡ brackets t}
     (λ (h : ((b == 44) ≡ true) × (Some (next_text stack pairs key bytes) ≡ Some t)).
     at_comma (codes "entry" ∷ words_of stack) (part_text (bytes, Outside)) b h.0 ∙ next_brackets stack pairs key bytes ∙ ap brackets (same_Some (next_text stack pairs key bytes) t h.1))
     (λ (h : ((b == 44) ≡ false) × ((if b == 41 then last_text stack pairs key bytes else option_map (InPairs stack pairs key) (text_step (bytes, Outside) b)) ≡ Some t)).
     ⊎_elim {C = bracket_step (brackets (InPairs stack pairs key (bytes, Outside))) b ≡ brackets t}
     (λ (g : ((b == 41) ≡ true) × (last_text stack pairs key bytes ≡ Some t)). at_closing (codes "entry" ∷ words_of stack) (part_text (bytes, Outside)) b g.0 ∙ last_brackets stack pairs key bytes t g.1)
-    (λ (g : ((b == 41) ≡ false) × (option_map (InPairs stack pairs key) (text_step (bytes, Outside) b) ≡ Some t)). inside (InPairs stack pairs key) (codes "entry" ∷ words_of stack) (λ part. refl) (bytes, Outside) b t g.1)
+    (λ (g : ((b == 41) ≡ false) × (option_map (InPairs stack pairs key) (text_step (bytes, Outside) b) ≡ Some t)). inside (InPairs stack pairs key) (codes "entry" ∷ words_of stack) (λ partial. refl) (bytes, Outside) b t g.1)
     (if_some (b == 41) (last_text stack pairs key bytes) (option_map (InPairs stack pairs key) (text_step (bytes, Outside) b)) t h.1))
     (if_some (b == 44) (Some (next_text stack pairs key bytes)) (if b == 41 then last_text stack pairs key bytes else option_map (InPairs stack pairs key) (text_step (bytes, Outside) b)) t e)
-step_brackets (InPairs stack pairs key (bytes, Percent)) b t e = inside (InPairs stack pairs key) (codes "entry" ∷ words_of stack) (λ part. refl) (bytes, Percent) b t e
-step_brackets (InPairs stack pairs key (bytes, Digit)) b t e = inside (InPairs stack pairs key) (codes "entry" ∷ words_of stack) (λ part. refl) (bytes, Digit) b t e
+step_brackets (InPairs stack pairs key (bytes, Percent)) b t e = inside (InPairs stack pairs key) (codes "entry" ∷ words_of stack) (λ partial. refl) (bytes, Percent) b t e
+step_brackets (InPairs stack pairs key (bytes, Digit)) b t e = inside (InPairs stack pairs key) (codes "entry" ∷ words_of stack) (λ partial. refl) (bytes, Digit) b t e

@@ -10,14 +10,14 @@ use Rattle.tk_conditions.specs.Brackets.{bracket_step, is_group, open_brackets}
 use Rattle.tk_conditions.specs.Cond.{Cond, Plain, bare_text, cond_text, IsCondText}
 use Rattle.tk_conditions.specs.CondOf.{cond_of}
 use Rattle.tk_ids.specs.Machine.{run}
-use Rattle.tk_ids.specs.Prefix.{Begins, IsLongestFront}
-use Rattle.tk_conditions.specs.Reading.{Frame, State, Word, InText, InKind, InPairs, After, look, bares, step, start, ended}
+use Rattle.tk_ids.specs.Prefix.{Begins, IsLongestPrefix}
+use Rattle.tk_conditions.specs.Reading.{OpenGroup, State, Word, InText, InKind, InPairs, After, look, bares, step, start, ended}
 use Rattle.tk_conditions.specs.declared.faults.TheConstants.{MAX_DEPTH}
 use Rattle.tk_conditions.specs.declared.faults.CondFault.TheVariants.{BadAtom, Deep}
 use Rattle.tk_conditions.proofs.CondLemmas.{reads_cond}
 use Rattle.tk_conditions.proofs.Depth.{brackets, step_brackets}
-use Rattle.tk_conditions.proofs.Fronts.{mapped, look_entry, spelled_stack, spelled, IsSound, step_goes, step_sound, begins}
-use Rattle.tk_ids.proofs.MachineLemmas.{run_more, longest_front}
+use Rattle.tk_conditions.proofs.Prefixes.{mapped, look_entry, spelled_stack, spelled, IsSound, step_goes, step_sound, begins}
+use Rattle.tk_ids.proofs.MachineLemmas.{run_more, longest_prefix}
 
 -- how many groups are open
 abbrev pub height : State → ℕ
@@ -82,7 +82,7 @@ module _ (text : List ℕ) (n : ℕ) (s t : State) (here : HasRead text n s) (mo
             (cases_lt m (n + 1));
       }
 
-  -- too many brackets are open behind the next byte
+  -- too many brackets are open after the next byte
   pub deep_here : MAX_DEPTH < height t → IsReadAs text (Err Deep)
   deep_here high = (
     n + 1,
@@ -93,20 +93,20 @@ module _ (text : List ℕ) (n : ℕ) (s t : State) (here : HasRead text n s) (mo
     },
   )
 
-front_here : (text : List ℕ) (n : ℕ) (s : State) → HasRead text n s → (n < length text → step s (get_or text n 0) ≡ None) → IsLongestFront IsCondText text n
-front_here text n s here stuck =
-    longest_front step IsCondText start s reads text n here.within here.came (subst (Begins IsCondText) here.spelled_so (begins s here.sound)) stuck
+prefix_here : (text : List ℕ) (n : ℕ) (s : State) → HasRead text n s → (n < length text → step s (get_or text n 0) ≡ None) → IsLongestPrefix IsCondText text n
+prefix_here text n s here stuck =
+    longest_prefix step IsCondText start s reads text n here.within here.came (subst (Begins IsCondText) here.spelled_so (begins s here.sound)) stuck
 
 -- there is no step for the next byte
 pub bad_here : (text : List ℕ) (n : ℕ) (s : State) → HasRead text n s → n < length text → step s (get_or text n 0) ≡ None → IsReadAs text (Err (BadAtom n))
 bad_here text n s here more stuck =
-    let front = front_here text n s here (λ _. stuck) in
+    let prefix = prefix_here text n s here (λ _. stuck) in
     record {
       no_condition = λ is.
           let whole : take (length text) text ≡ text = take_all (length text) text (omega arith) in
-          let le = front.longest (length text) (omega arith) ([], subst IsCondText (sym (append-nil (take (length text) text) ∙ whole)) is) in
+          let le = prefix.longest (length text) (omega arith) ([], subst IsCondText (sym (append-nil (take (length text) text) ∙ whole)) is) in
           omega arith;
-      front = front;
+      prefix = prefix;
       shallow = here.shallow;
     }
 
@@ -119,11 +119,11 @@ bad_at_end text s here none =
           let whole : take (length text) text ≡ text = take_all (length text) text (omega arith) in
           let same = same_Some r.state s (sym r.came ∙ ap (run step start) (sym is.1 ∙ sym whole) ∙ here.came) in
           none is.0 (ap ended (sym same) ∙ r.at_end);
-      front = front_here text (length text) s here (λ lt. absurd (omega arith));
+      prefix = prefix_here text (length text) s here (λ lt. absurd (omega arith));
       shallow = here.shallow;
     }
 
-ended_spelled : (s : State) (stack : List Frame) (c : Cond) → ended s ≡ Some (stack, c) → spelled s ≡ spelled_stack stack ++ cond_text c
+ended_spelled : (s : State) (stack : List OpenGroup) (c : Cond) → ended s ≡ Some (stack, c) → spelled s ≡ spelled_stack stack ++ cond_text c
 ended_spelled (After stack' c') stack c e = let p = same_Some (stack', c') (stack, c) e in ap (λ q. spelled_stack q.0 ++ cond_text q.1) p
 ended_spelled (Word stack' word) stack c e =
     let m = mapped (λ bare. (stack', Plain bare)) (look bares word) (stack, c) e in

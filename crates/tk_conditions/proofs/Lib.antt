@@ -1,7 +1,7 @@
 pub mod EndLemmas
 pub mod CondLemmas
 pub mod Depth
-pub mod Fronts
+pub mod Prefixes
 pub mod Members
-pub mod OneAnswer
+pub mod AnswerIsUnique
 pub mod ReaderLemmas

@@ -9,57 +9,57 @@ use Rattle.std.proofs.lemmas.List.Sums.{sum_by-cons}
 use Rattle.tk_events.specs.declared.kinds.Kind.{Kind}
 use Rattle.tk_conditions.specs.declared.conditions.Condition as real
 use Rattle.tk_conditions.specs.declared.conditions.Condition.{Condition}
-use Rattle.tk_conditions.specs.declared.frames.Frame as frame
-use Rattle.tk_conditions.specs.declared.frames.Frame.TheVariants as frames
+use Rattle.tk_conditions.specs.declared.open_groups.OpenGroup as group
+use Rattle.tk_conditions.specs.declared.open_groups.OpenGroup.TheVariants as groups
 use Rattle.tk_conditions.specs.Brackets.{is_group}
-use Rattle.tk_conditions.specs.Cond.{Cond, Plain, With, OfKind, HasPairs, All, Any, Not, Conds, Nothing, More, Pairs, NoPairs, MorePairs, Texted, Id, Name, Skipped, FailedWith, AbortedWith, texted_text, kind_text}
+use Rattle.tk_conditions.specs.Cond.{Cond, Plain, With, OfKind, HasPairs, All, Any, Not, Conds, Nothing, More, Pairs, NoPairs, MorePairs, TextAtom, Id, Name, Skipped, FailedWith, AbortedWith, text_atom_text, kind_text}
 use Rattle.tk_conditions.specs.CondOf.{cond_of, conds_from, pairs_from}
-use Rattle.tk_conditions.specs.Reader.{frame_of, frames_from, frames_of, depth_of, rest_of, state_at, GoesOnAsText, Goes}
-use Rattle.tk_conditions.specs.Reading.{Frame, OpenNot, OpenAll, OpenAny, State, Word, InText, InKind, InPairs, After, begins_with, look, is_front, all_kinds, kinds, close, close_empty, closed, closed_empty, joined, Opener, OfText, OfKinds, OfPairs, OfAll, OfAny, OfNot, opened, behind_word, bares, openers, special_of, text_step, ends_at, next_text, last_text, step, start, ended}
+use Rattle.tk_conditions.specs.Reader.{group_of, groups_from, groups_of, depth_of, rest_of, state_at, ContinuesAsText, CanContinue}
+use Rattle.tk_conditions.specs.Reading.{OpenGroup, OpenNot, OpenAll, OpenAny, State, Word, InText, InKind, InPairs, After, begins_with, look, is_prefix, all_kinds, kinds, close, close_empty, closed, closed_empty, joined, Opener, OfText, OfKinds, OfPairs, OfAll, OfAny, OfNot, opened, after_word, bares, openers, special_of, text_step, ends_at, next_text, last_text, step, start, ended}
 use Rattle.std.specs.Str.{IsUtf8}
 use Rattle.std.proofs.lemmas.Str.{IsUtf8-append, IsUtf8-take, IsUtf8-drop, IsUtf8-from_ascii, IsCharBoundary-before_ascii, IsCharBoundary-after_ascii}
 use Rattle.std.proofs.lemmas.Str.Ascii.{IsAscii-nil, IsAscii-cons}
-use Rattle.tk_conditions.specs.declared.readers.Place.{Place}
-use Rattle.tk_conditions.specs.declared.readers.Place.TheVariants as places
-use Rattle.tk_conditions.specs.declared.parts.Escape.{Escape}
-use Rattle.tk_conditions.specs.declared.parts.Escape.TheVariants.{Outside, Percent, Digit}
+use Rattle.tk_conditions.specs.declared.readers.Position.{Position}
+use Rattle.tk_conditions.specs.declared.readers.Position.TheVariants as positions
+use Rattle.tk_conditions.specs.declared.partial_texts.Escape.{Escape}
+use Rattle.tk_conditions.specs.declared.partial_texts.Escape.TheVariants.{Outside, Percent, Digit}
 use Rattle.tk_conditions.specs.declared.faults.TheConstants.{MAX_DEPTH}
 use Rattle.tk_conditions.specs.declared.faults.CondFault.TheVariants.{Deep}
 use Rattle.tk_conditions.specs.Answer.{IsReadAs}
 use Rattle.tk_conditions.proofs.Depth.{words_of}
-use Rattle.tk_conditions.proofs.Fronts.{if_some, guarded, mapped}
+use Rattle.tk_conditions.proofs.Prefixes.{if_some, guarded, mapped}
 use Rattle.tk_conditions.proofs.EndLemmas.{height, HasRead, reads_none, reads_more, deep_here}
 use Rattle.tk_conditions.proofs.Members.{cond_of-All, cond_of-Any}
 
 -- one more bracket
-pub frames_push : (below : List Frame) (stack : List frame.Frame) (f : frame.Frame) → frames_from below (stack ++ f ∷ []) ≡ frame_of f ∷ frames_from below stack
-frames_push below [] f = refl
-frames_push below (g ∷ stack) f = frames_push (frame_of g ∷ below) stack f
+pub groups_push : (below : List OpenGroup) (stack : List group.OpenGroup) (f : group.OpenGroup) → groups_from below (stack ++ f ∷ []) ≡ group_of f ∷ groups_from below stack
+groups_push below [] f = refl
+groups_push below (g ∷ stack) f = groups_push (group_of g ∷ below) stack f
 
-pub frames_length : (below : List Frame) (stack : List frame.Frame) → length (frames_from below stack) ≡ length below + length stack
-frames_length below [] = omega arith
-frames_length below (g ∷ stack) = let h = frames_length (frame_of g ∷ below) stack in omega arith
+pub groups_length : (below : List OpenGroup) (stack : List group.OpenGroup) → length (groups_from below stack) ≡ length below + length stack
+groups_length below [] = omega arith
+groups_length below (g ∷ stack) = let h = groups_length (group_of g ∷ below) stack in omega arith
 
 -- the last bracket, and the others
-pub popped : (stack rest : List frame.Frame) (f : frame.Frame) → stack ≡ rest ++ f ∷ [] → frames_of stack ≡ frame_of f ∷ frames_of rest
-popped stack rest f e = ap frames_of e ∙ frames_push [] rest f
+pub popped : (stack rest : List group.OpenGroup) (f : group.OpenGroup) → stack ≡ rest ++ f ∷ [] → groups_of stack ≡ group_of f ∷ groups_of rest
+popped stack rest f e = ap groups_of e ∙ groups_push [] rest f
 
--- a delimiter behind a condition, by what its bracket makes of it
-pub close_frame : (f : Frame) (stack : List Frame) (c : Cond) (b : ℕ) → close (f ∷ stack) c b ≡ (if b == 41 then Some (After stack (closed f c)) else (if b == 44 then option_map (λ g. Word (g ∷ stack) []) (joined f c) else None))
-close_frame OpenNot stack c b =
+-- a delimiter after a condition, by what its bracket makes of it
+pub close_group : (f : OpenGroup) (stack : List OpenGroup) (c : Cond) (b : ℕ) → close (f ∷ stack) c b ≡ (if b == 41 then Some (After stack (closed f c)) else (if b == 44 then option_map (λ g. Word (g ∷ stack) []) (joined f c) else None))
+close_group OpenNot stack c b =
     elim (b == 44) as (λ t. (if b == 41 then Some (After stack (Not c)) else None) ≡ (if b == 41 then Some (After stack (Not c)) else (if t then None else None))) [ true ↦ refl | false ↦ refl ]
-close_frame (OpenAll cs) stack c b = refl
-close_frame (OpenAny cs) stack c b = refl
+close_group (OpenAll cs) stack c b = refl
+close_group (OpenAny cs) stack c b = refl
 
 abbrev nothing : Option State
 nothing = None
 
-pub close_empty_frame : (f : Frame) (stack : List Frame) (b : ℕ) → close_empty (f ∷ stack) b ≡ (if b == 41 then option_map (After stack) (closed_empty f) else None)
-close_empty_frame OpenNot stack b = elim (b == 41) as (λ t. nothing ≡ (if t then nothing else nothing)) [ true ↦ refl | false ↦ refl ]
-close_empty_frame (OpenAll Nothing) stack b = refl
-close_empty_frame (OpenAll (More cs c)) stack b = elim (b == 41) as (λ t. nothing ≡ (if t then nothing else nothing)) [ true ↦ refl | false ↦ refl ]
-close_empty_frame (OpenAny Nothing) stack b = refl
-close_empty_frame (OpenAny (More cs c)) stack b = elim (b == 41) as (λ t. nothing ≡ (if t then nothing else nothing)) [ true ↦ refl | false ↦ refl ]
+pub close_empty_group : (f : OpenGroup) (stack : List OpenGroup) (b : ℕ) → close_empty (f ∷ stack) b ≡ (if b == 41 then option_map (After stack) (closed_empty f) else None)
+close_empty_group OpenNot stack b = elim (b == 41) as (λ t. nothing ≡ (if t then nothing else nothing)) [ true ↦ refl | false ↦ refl ]
+close_empty_group (OpenAll Nothing) stack b = refl
+close_empty_group (OpenAll (More cs c)) stack b = elim (b == 41) as (λ t. nothing ≡ (if t then nothing else nothing)) [ true ↦ refl | false ↦ refl ]
+close_empty_group (OpenAny Nothing) stack b = refl
+close_empty_group (OpenAny (More cs c)) stack b = elim (b == 41) as (λ t. nothing ≡ (if t then nothing else nothing)) [ true ↦ refl | false ↦ refl ]
 
 pub conds_some : (cs : Conds) (c : Cond) (rest : List Condition) → (ds : Conds) × (d : Cond) × (conds_from (More cs c) rest ≡ More ds d)
 conds_some cs c [] = (cs, c, refl)
@@ -77,10 +77,10 @@ pub some_items : (members : Vec Condition Global) (b : Bool) → b ≡ (vec_len 
 some_items members b is e = let ne = eqb-false (vec_len members) 0 (sym is ∙ e) in omega (arith, members.ok.0)
 
 -- a bracket that has no member
-pub empty_All : (members : Vec Condition Global) → members.items ≡ [] → option_map cond_of (Some (real.All members)) ≡ closed_empty (frame_of (frames.All members))
+pub empty_All : (members : Vec Condition Global) → members.items ≡ [] → option_map cond_of (Some (real.All members)) ≡ closed_empty (group_of (groups.All members))
 empty_All members e = ap (λ c. Some c) (cond_of-All members ∙ ap (λ xs. All (conds_from Nothing xs)) e) ∙ ap (λ xs. closed_empty (OpenAll (conds_from Nothing xs))) (sym e)
 
-pub empty_Any : (members : Vec Condition Global) → members.items ≡ [] → option_map cond_of (Some (real.Any members)) ≡ closed_empty (frame_of (frames.Any members))
+pub empty_Any : (members : Vec Condition Global) → members.items ≡ [] → option_map cond_of (Some (real.Any members)) ≡ closed_empty (group_of (groups.Any members))
 empty_Any members e = ap (λ c. Some c) (cond_of-Any members ∙ ap (λ xs. Any (conds_from Nothing xs)) e) ∙ ap (λ xs. closed_empty (OpenAny (conds_from Nothing xs))) (sym e)
 
 -- a bracket that has some
@@ -105,13 +105,13 @@ pairs_some pairs key value (p ∷ rest) = pairs_some (MorePairs pairs key value)
 count_more : (n : ℕ) (word : List ℕ) (words : List (List ℕ)) → count_by is_group (word ∷ words) ≡ (if is_group word then 1 else 0) + count_by is_group words
 count_more n word words = sum_by-cons _ word words
 
-stack_height : (stack : List Frame) → count_by is_group (words_of stack) ≡ length stack
+stack_height : (stack : List OpenGroup) → count_by is_group (words_of stack) ≡ length stack
 stack_height [] = refl
 stack_height (OpenNot ∷ stack) = let h = stack_height stack in count_more 0 (codes "not") (words_of stack) ∙ (omega arith)
 stack_height (OpenAll cs ∷ stack) = let h = stack_height stack in count_more 0 (codes "all") (words_of stack) ∙ (omega arith)
 stack_height (OpenAny cs ∷ stack) = let h = stack_height stack in count_more 0 (codes "any") (words_of stack) ∙ (omega arith)
 
-no_group : (texted : Texted) → is_group (texted_text texted) ≡ false
+no_group : (text_atom : TextAtom) → is_group (text_atom_text text_atom) ≡ false
 no_group Id = refl
 no_group Name = refl
 no_group Skipped = refl
@@ -120,10 +120,10 @@ no_group AbortedWith = refl
 
 pub height_is : (s : State) → height s ≡ depth_of s
 height_is (Word stack word) = stack_height stack
-height_is (InText stack texted part) =
-    count_more 0 (texted_text texted) (words_of stack) ∙ ap (λ b. (if b then 1 else 0) + count_by is_group (words_of stack)) (no_group texted) ∙ zero-add (count_by is_group (words_of stack)) ∙ stack_height stack
+height_is (InText stack text_atom partial) =
+    count_more 0 (text_atom_text text_atom) (words_of stack) ∙ ap (λ b. (if b then 1 else 0) + count_by is_group (words_of stack)) (no_group text_atom) ∙ zero-add (count_by is_group (words_of stack)) ∙ stack_height stack
 height_is (InKind stack word) = stack_height stack
-height_is (InPairs stack pairs key part) = stack_height stack
+height_is (InPairs stack pairs key partial) = stack_height stack
 height_is (After stack c) = stack_height stack
 
 -- one text begins with another
@@ -133,23 +133,23 @@ begins_is (b ∷ word) [] = refl
 begins_is (b ∷ word) (c ∷ text) = elim (b == c) as (λ t. (if t then begins_with word text else false) ≡ (t && starts_with nat_eq text word)) [ true ↦ begins_is word text | false ↦ refl ]
 
 -- how deep the reader is
-pub depth_at : (stack : List Frame) (place : Place) → depth_of (state_at stack place) ≡ length stack
-depth_at stack (places.Word word) = refl
-depth_at stack (places.Text texted part) = refl
-depth_at stack (places.Kind word) = refl
-depth_at stack (places.Pairs pairs key part) = refl
-depth_at stack (places.After c) = refl
+pub depth_at : (stack : List OpenGroup) (position : Position) → depth_of (state_at stack position) ≡ length stack
+depth_at stack (positions.Word word) = refl
+depth_at stack (positions.Text text_atom partial) = refl
+depth_at stack (positions.Kind word) = refl
+depth_at stack (positions.Pairs pairs key partial) = refl
+depth_at stack (positions.After c) = refl
 
-pub depth_is : (stack : List frame.Frame) (place : Place) → depth_of (state_at (frames_of stack) place) ≡ length stack
-depth_is stack place = depth_at (frames_of stack) place ∙ frames_length [] stack ∙ zero-add (length stack)
+pub depth_is : (stack : List group.OpenGroup) (position : Position) → depth_of (state_at (groups_of stack) position) ≡ length stack
+depth_is stack position = depth_at (groups_of stack) position ∙ groups_length [] stack ∙ zero-add (length stack)
 
 -- a condition has ended, and no bracket is open
 pub ended_depth : (s : State) (c : Cond) → ended s ≡ Some ([], c) → depth_of s ≡ 0
 ended_depth (Word stack word) c e = let m = mapped (λ bare. (stack, Plain bare)) (look bares word) ([], c) e in ap (λ q. length q.0) m.2
 ended_depth (After stack d) c e = ap (λ q. length q.0) (same_Some (stack, d) ([], c) e)
-ended_depth (InText stack texted part) c e = absurd (none-some ([], c) e)
+ended_depth (InText stack text_atom partial) c e = absurd (none-some ([], c) e)
 ended_depth (InKind stack word) c e = absurd (none-some ([], c) e)
-ended_depth (InPairs stack pairs key part) c e = absurd (none-some ([], c) e)
+ended_depth (InPairs stack pairs key partial) c e = absurd (none-some ([], c) e)
 
 -- a row of the table of kinds that isn't the word's
 look_drop : (list : List Kind) (word : List ℕ) (i : ℕ) (d : Kind) → i < length list → bytes_eq word (kind_text (get_or list i d)) ≡ false → look (drop i (map (λ kind. (kind_text kind, kind)) list)) word ≡ look (drop (suc i) (map (λ kind. (kind_text kind, kind)) list)) word
@@ -161,7 +161,7 @@ pub look_next : (word : List ℕ) (i : ℕ) (d : Kind) → i < length all_kinds 
 look_next word i d lt e = let same : suc i ≡ i + 1 = omega arith in look_drop all_kinds word i d lt e ∙ ap (λ n. look (drop n kinds) word) same
 
 -- no whole pair, and a text or pairs before it
-pub last_none : (stack : List Frame) (pairs : List (List ℕ × List ℕ)) (key : Option (List ℕ)) (text : List ℕ) → key ≡ None → (0 < length pairs) ⊎ (0 < length text) → last_text stack (pairs_from NoPairs pairs) key text ≡ None
+pub last_none : (stack : List OpenGroup) (pairs : List (List ℕ × List ℕ)) (key : Option (List ℕ)) (text : List ℕ) → key ≡ None → (0 < length pairs) ⊎ (0 < length text) → last_text stack (pairs_from NoPairs pairs) key text ≡ None
 last_none stack (p ∷ pairs) key text none some = let r = pairs_some NoPairs p.0 p.1 pairs in ap (λ k. last_text stack (pairs_from NoPairs (p ∷ pairs)) k text) none ∙ ap (λ ps. last_text stack ps None text) r.3
 last_none stack [] key [] none some = ⊎_elim {C = last_text stack NoPairs key [] ≡ None} (λ (lt : 0 < 0). absurd (omega arith)) (λ (lt : 0 < 0). absurd (omega arith)) some
 last_none stack [] key (x ∷ text) none some = ap (λ k. last_text stack NoPairs k (x ∷ text)) none
@@ -188,9 +188,9 @@ utf8_after a rest b u lt =
 -- an ASCII byte in place of an escape
 utf8_swap : (a mid rest : List ℕ) (b c d : ℕ) → IsUtf8 ((a ++ b ∷ mid) ++ c ∷ rest) → b < 128 → c < 128 → d < 128 → IsUtf8 ((a ++ d ∷ []) ++ rest)
 utf8_swap a mid rest b c d u lb lc ld =
-    let front : IsUtf8 a = utf8_before a (mid ++ c ∷ rest) b (subst IsUtf8 (append_assoc a (b ∷ mid) (c ∷ rest)) u) lb in
+    let prefix : IsUtf8 a = utf8_before a (mid ++ c ∷ rest) b (subst IsUtf8 (append_assoc a (b ∷ mid) (c ∷ rest)) u) lb in
     let back : IsUtf8 rest = utf8_after (a ++ b ∷ mid) rest c u lc in
-    IsUtf8-append (a ++ d ∷ []) rest (IsUtf8-append a (d ∷ []) front (IsUtf8-from_ascii (d ∷ []) (IsAscii-cons d [] ld IsAscii-nil))) back
+    IsUtf8-append (a ++ d ∷ []) rest (IsUtf8-append a (d ∷ []) prefix (IsUtf8-from_ascii (d ∷ []) (IsAscii-cons d [] ld IsAscii-nil))) back
 
 special_ascii : (b c : ℕ) → special_of b ≡ Some c → (b < 128) × (c < 128)
 special_ascii b c e = ⊎_elim {C = (b < 128) × (c < 128)}
@@ -208,7 +208,7 @@ special_ascii b c e = ⊎_elim {C = (b < 128) × (c < 128)}
     small x y b c e f lx ly = (omega arith, omega arith)
 
 abbrev pub KeepsPart : List ℕ × Escape → List ℕ → Type 0
-KeepsPart part rest = IsUtf8 ((part.0 ++ rest_of part.1) ++ rest)
+KeepsPart partial rest = IsUtf8 ((partial.0 ++ rest_of partial.1) ++ rest)
 
 -- one byte more of a text
 part_keeps : (p q : List ℕ × Escape) (b : ℕ) (rest : List ℕ) → KeepsPart p (b ∷ rest) → text_step p b ≡ Some q → KeepsPart q rest
@@ -237,7 +237,7 @@ part_keeps (bytes, Digit) q b rest u e =
     (subst (λ l. IsUtf8 (l ++ rest)) (sym (append-nil (bytes ++ m.0 ∷ []))) (utf8_swap bytes (50 ∷ []) rest 37 b m.0 u (omega arith) small.0 small.1))
 
 -- a text that ends here is text
-pub ended_part : (p : List ℕ × Escape) (stop b : ℕ) → stop < 128 → ends_at stop p b ≡ true → GoesOnAsText p b → IsUtf8 p.0
+pub ended_part : (p : List ℕ × Escape) (stop b : ℕ) → stop < 128 → ends_at stop p b ≡ true → ContinuesAsText p b → IsUtf8 p.0
 ended_part (bytes, Outside) stop b lt e u =
     utf8_before bytes u.0 stop (subst (λ l. IsUtf8 (l ++ stop ∷ u.0)) (append-nil bytes) (subst (λ n. IsUtf8 ((bytes ++ []) ++ n ∷ u.0)) (eqb-true b stop e) u.1)) lt
 ended_part (bytes, Percent) stop b lt e u = cc
@@ -245,13 +245,13 @@ ended_part (bytes, Digit) stop b lt e u = cc
 
 -- the text that a state is in, and what follows
 abbrev pub Keeps : State → List ℕ → Type 0
-Keeps (InText stack texted part) rest = KeepsPart part rest
-Keeps (InPairs stack pairs key part) rest = KeepsPart part rest
+Keeps (InText stack text_atom partial) rest = KeepsPart partial rest
+Keeps (InPairs stack pairs key partial) rest = KeepsPart partial rest
 Keeps (Word stack word) rest = Unit {0}
 Keeps (InKind stack word) rest = Unit {0}
 Keeps (After stack c) rest = Unit {0}
 
-close_keeps : (stack : List Frame) (c : Cond) (b : ℕ) (t : State) (rest : List ℕ) → close stack c b ≡ Some t → Keeps t rest
+close_keeps : (stack : List OpenGroup) (c : Cond) (b : ℕ) (t : State) (rest : List ℕ) → close stack c b ≡ Some t → Keeps t rest
 close_keeps [] c b t rest e = absurd (none-some t e)
 close_keeps (f ∷ stack) c b t rest e = ⊎_elim {C = Keeps t rest}
     (λ (h : ((b == 41) ≡ true) × (Some (After stack (closed f c)) ≡ Some t)). subst (λ s. Keeps s rest) (same_Some (After stack (closed f c)) t h.1) tt)
@@ -259,40 +259,40 @@ close_keeps (f ∷ stack) c b t rest e = ⊎_elim {C = Keeps t rest}
     let g = guarded (b == 44) (option_map (λ g. Word (g ∷ stack) []) (joined f c)) t h.1 in
     let m = mapped (λ g. Word (g ∷ stack) []) (joined f c) t g.1 in
     subst (λ s. Keeps s rest) m.2 tt)
-    (if_some (b == 41) (Some (After stack (closed f c))) (if b == 44 then option_map (λ g. Word (g ∷ stack) []) (joined f c) else None) t (sym (close_frame f stack c b) ∙ e))
+    (if_some (b == 41) (Some (After stack (closed f c))) (if b == 44 then option_map (λ g. Word (g ∷ stack) []) (joined f c) else None) t (sym (close_group f stack c b) ∙ e))
 
-close_empty_keeps : (stack : List Frame) (b : ℕ) (t : State) (rest : List ℕ) → close_empty stack b ≡ Some t → Keeps t rest
+close_empty_keeps : (stack : List OpenGroup) (b : ℕ) (t : State) (rest : List ℕ) → close_empty stack b ≡ Some t → Keeps t rest
 close_empty_keeps [] b t rest e = absurd (none-some t e)
 close_empty_keeps (f ∷ stack) b t rest e =
-    let g = guarded (b == 41) (option_map (After stack) (closed_empty f)) t (sym (close_empty_frame f stack b) ∙ e) in
+    let g = guarded (b == 41) (option_map (After stack) (closed_empty f)) t (sym (close_empty_group f stack b) ∙ e) in
     let m = mapped (After stack) (closed_empty f) t g.1 in
     subst (λ s. Keeps s rest) m.2 tt
 
-behind_keeps : (stack : List Frame) (word : List ℕ) (b : ℕ) (t : State) (rest : List ℕ) → behind_word stack word b ≡ Some t → Keeps t rest
-behind_keeps stack [] b t rest e = close_empty_keeps stack b t rest e
-behind_keeps stack (x ∷ word) b t rest e =
+after_keeps : (stack : List OpenGroup) (word : List ℕ) (b : ℕ) (t : State) (rest : List ℕ) → after_word stack word b ≡ Some t → Keeps t rest
+after_keeps stack [] b t rest e = close_empty_keeps stack b t rest e
+after_keeps stack (x ∷ word) b t rest e =
     elim (look bares (x ∷ word)) as (λ o. option_and_then (λ bare. close stack (Plain bare) b) o ≡ Some t → Keeps t rest)
     [ None ↦ λ h. absurd (none-some t h) | Some bare ↦ λ h. close_keeps stack (Plain bare) b t rest h ] e
 
-opened_keeps : (stack : List Frame) (o : Opener) (rest : List ℕ) → IsUtf8 rest → Keeps (opened stack o) rest
-opened_keeps stack (OfText texted) rest u = u
+opened_keeps : (stack : List OpenGroup) (o : Opener) (rest : List ℕ) → IsUtf8 rest → Keeps (opened stack o) rest
+opened_keeps stack (OfText text_atom) rest u = u
 opened_keeps stack OfKinds rest u = tt
 opened_keeps stack OfPairs rest u = u
 opened_keeps stack OfAll rest u = tt
 opened_keeps stack OfAny rest u = tt
 opened_keeps stack OfNot rest u = tt
 
-next_keeps : (stack : List Frame) (pairs : Pairs) (key : Option (List ℕ)) (text rest : List ℕ) → IsUtf8 rest → Keeps (next_text stack pairs key text) rest
+next_keeps : (stack : List OpenGroup) (pairs : Pairs) (key : Option (List ℕ)) (text rest : List ℕ) → IsUtf8 rest → Keeps (next_text stack pairs key text) rest
 next_keeps stack pairs None text rest u = u
 next_keeps stack pairs (Some key) text rest u = u
 
-last_keeps : (stack : List Frame) (pairs : Pairs) (key : Option (List ℕ)) (text rest : List ℕ) (t : State) → last_text stack pairs key text ≡ Some t → Keeps t rest
+last_keeps : (stack : List OpenGroup) (pairs : Pairs) (key : Option (List ℕ)) (text rest : List ℕ) (t : State) → last_text stack pairs key text ≡ Some t → Keeps t rest
 last_keeps stack pairs (Some key) text rest t e = subst (λ s. Keeps s rest) (same_Some (After stack (HasPairs (MorePairs pairs key text))) t e) tt
 last_keeps stack NoPairs None [] rest t e = subst (λ s. Keeps s rest) (same_Some (After stack (HasPairs NoPairs)) t e) tt
 last_keeps stack NoPairs None (x ∷ text) rest t e = absurd (none-some t e)
 last_keeps stack (MorePairs pairs k v) None text rest t e = absurd (none-some t e)
 
-mapped_keeps : (k : List ℕ × Escape → State) → ((part : List ℕ × Escape) (rest : List ℕ) → KeepsPart part rest → Keeps (k part) rest) → (p : List ℕ × Escape) (b : ℕ) (t : State) (rest : List ℕ) → KeepsPart p (b ∷ rest) → option_map k (text_step p b) ≡ Some t → Keeps t rest
+mapped_keeps : (k : List ℕ × Escape → State) → ((partial : List ℕ × Escape) (rest : List ℕ) → KeepsPart partial rest → Keeps (k partial) rest) → (p : List ℕ × Escape) (b : ℕ) (t : State) (rest : List ℕ) → KeepsPart p (b ∷ rest) → option_map k (text_step p b) ≡ Some t → Keeps t rest
 mapped_keeps k all p b t rest u e =
     let m = mapped k (text_step p b) t e in
     subst (λ s. Keeps s rest) m.2 (all m.0 rest (part_keeps p m.0 b rest u m.1))
@@ -301,38 +301,38 @@ mapped_keeps k all p b t rest u e =
 pub step_keeps : (s : State) (b : ℕ) (t : State) (rest : List ℕ) → (b < 128 → IsUtf8 rest) → Keeps s (b ∷ rest) → step s b ≡ Some t → Keeps t rest
 step_keeps (After stack c) b t rest after u e = close_keeps stack c b t rest e
 step_keeps (Word stack word) b t rest after u e = ⊎_elim {C = Keeps t rest}
-    (λ (h : ((b == 41 || b == 44) ≡ true) × (behind_word stack word b ≡ Some t)). behind_keeps stack word b t rest h.1)
-    (λ (h : ((b == 41 || b == 44) ≡ false) × ((if b == 40 then option_map (opened stack) (look openers word) else (if is_front bares (word ++ b ∷ []) || is_front openers (word ++ b ∷ []) then Some (Word stack (word ++ b ∷ [])) else None)) ≡ Some t)).
+    (λ (h : ((b == 41 || b == 44) ≡ true) × (after_word stack word b ≡ Some t)). after_keeps stack word b t rest h.1)
+    (λ (h : ((b == 41 || b == 44) ≡ false) × ((if b == 40 then option_map (opened stack) (look openers word) else (if is_prefix bares (word ++ b ∷ []) || is_prefix openers (word ++ b ∷ []) then Some (Word stack (word ++ b ∷ [])) else None)) ≡ Some t)).
     ⊎_elim {C = Keeps t rest}
     (λ (g : ((b == 40) ≡ true) × (option_map (opened stack) (look openers word) ≡ Some t)).
     let m = mapped (opened stack) (look openers word) t g.1 in
     let at = eqb-true b 40 g.0 in
     subst (λ s. Keeps s rest) m.2 (opened_keeps stack m.0 rest (after (omega arith))))
-    (λ (g : ((b == 40) ≡ false) × ((if is_front bares (word ++ b ∷ []) || is_front openers (word ++ b ∷ []) then Some (Word stack (word ++ b ∷ [])) else None) ≡ Some t)).
-    let w = guarded (is_front bares (word ++ b ∷ []) || is_front openers (word ++ b ∷ [])) (Some (Word stack (word ++ b ∷ []))) t g.1 in
+    (λ (g : ((b == 40) ≡ false) × ((if is_prefix bares (word ++ b ∷ []) || is_prefix openers (word ++ b ∷ []) then Some (Word stack (word ++ b ∷ [])) else None) ≡ Some t)).
+    let w = guarded (is_prefix bares (word ++ b ∷ []) || is_prefix openers (word ++ b ∷ [])) (Some (Word stack (word ++ b ∷ []))) t g.1 in
     subst (λ s. Keeps s rest) (same_Some (Word stack (word ++ b ∷ [])) t w.1) tt)
-    (if_some (b == 40) (option_map (opened stack) (look openers word)) (if is_front bares (word ++ b ∷ []) || is_front openers (word ++ b ∷ []) then Some (Word stack (word ++ b ∷ [])) else None) t h.1))
-    (if_some (b == 41 || b == 44) (behind_word stack word b) (if b == 40 then option_map (opened stack) (look openers word) else (if is_front bares (word ++ b ∷ []) || is_front openers (word ++ b ∷ []) then Some (Word stack (word ++ b ∷ [])) else None)) t e)
-step_keeps (InText stack texted part) b t rest after u e = ⊎_elim {C = Keeps t rest}
-    (λ (h : (ends_at 41 part b ≡ true) × (Some (After stack (With texted part.0)) ≡ Some t)). subst (λ s. Keeps s rest) (same_Some (After stack (With texted part.0)) t h.1) tt)
-    (λ (h : (ends_at 41 part b ≡ false) × (option_map (InText stack texted) (text_step part b) ≡ Some t)). mapped_keeps (InText stack texted) (λ p r v. v) part b t rest u h.1)
-    (if_some (ends_at 41 part b) (Some (After stack (With texted part.0))) (option_map (InText stack texted) (text_step part b)) t e)
+    (if_some (b == 40) (option_map (opened stack) (look openers word)) (if is_prefix bares (word ++ b ∷ []) || is_prefix openers (word ++ b ∷ []) then Some (Word stack (word ++ b ∷ [])) else None) t h.1))
+    (if_some (b == 41 || b == 44) (after_word stack word b) (if b == 40 then option_map (opened stack) (look openers word) else (if is_prefix bares (word ++ b ∷ []) || is_prefix openers (word ++ b ∷ []) then Some (Word stack (word ++ b ∷ [])) else None)) t e)
+step_keeps (InText stack text_atom partial) b t rest after u e = ⊎_elim {C = Keeps t rest}
+    (λ (h : (ends_at 41 partial b ≡ true) × (Some (After stack (With text_atom partial.0)) ≡ Some t)). subst (λ s. Keeps s rest) (same_Some (After stack (With text_atom partial.0)) t h.1) tt)
+    (λ (h : (ends_at 41 partial b ≡ false) × (option_map (InText stack text_atom) (text_step partial b) ≡ Some t)). mapped_keeps (InText stack text_atom) (λ p r v. v) partial b t rest u h.1)
+    (if_some (ends_at 41 partial b) (Some (After stack (With text_atom partial.0))) (option_map (InText stack text_atom) (text_step partial b)) t e)
 step_keeps (InKind stack word) b t rest after u e = ⊎_elim {C = Keeps t rest}
     (λ (h : ((b == 41) ≡ true) × (option_map (λ kind. After stack (OfKind kind)) (look kinds word) ≡ Some t)).
     let m = mapped (λ kind. After stack (OfKind kind)) (look kinds word) t h.1 in subst (λ s. Keeps s rest) m.2 tt)
-    (λ (h : ((b == 41) ≡ false) × ((if is_front kinds (word ++ b ∷ []) then Some (InKind stack (word ++ b ∷ [])) else None) ≡ Some t)).
-    let w = guarded (is_front kinds (word ++ b ∷ [])) (Some (InKind stack (word ++ b ∷ []))) t h.1 in
+    (λ (h : ((b == 41) ≡ false) × ((if is_prefix kinds (word ++ b ∷ []) then Some (InKind stack (word ++ b ∷ [])) else None) ≡ Some t)).
+    let w = guarded (is_prefix kinds (word ++ b ∷ [])) (Some (InKind stack (word ++ b ∷ []))) t h.1 in
     subst (λ s. Keeps s rest) (same_Some (InKind stack (word ++ b ∷ [])) t w.1) tt)
-    (if_some (b == 41) (option_map (λ kind. After stack (OfKind kind)) (look kinds word)) (if is_front kinds (word ++ b ∷ []) then Some (InKind stack (word ++ b ∷ [])) else None) t e)
-step_keeps (InPairs stack pairs key part) b t rest after u e = ⊎_elim {C = Keeps t rest}
-    (λ (h : (ends_at 44 part b ≡ true) × (Some (next_text stack pairs key part.0) ≡ Some t)).
-    subst (λ s. Keeps s rest) (same_Some (next_text stack pairs key part.0) t h.1) (next_keeps stack pairs key part.0 rest (after (stop_ascii part b 44 (omega arith) h.0))))
-    (λ (h : (ends_at 44 part b ≡ false) × ((if ends_at 41 part b then last_text stack pairs key part.0 else option_map (InPairs stack pairs key) (text_step part b)) ≡ Some t)).
+    (if_some (b == 41) (option_map (λ kind. After stack (OfKind kind)) (look kinds word)) (if is_prefix kinds (word ++ b ∷ []) then Some (InKind stack (word ++ b ∷ [])) else None) t e)
+step_keeps (InPairs stack pairs key partial) b t rest after u e = ⊎_elim {C = Keeps t rest}
+    (λ (h : (ends_at 44 partial b ≡ true) × (Some (next_text stack pairs key partial.0) ≡ Some t)).
+    subst (λ s. Keeps s rest) (same_Some (next_text stack pairs key partial.0) t h.1) (next_keeps stack pairs key partial.0 rest (after (stop_ascii partial b 44 (omega arith) h.0))))
+    (λ (h : (ends_at 44 partial b ≡ false) × ((if ends_at 41 partial b then last_text stack pairs key partial.0 else option_map (InPairs stack pairs key) (text_step partial b)) ≡ Some t)).
     ⊎_elim {C = Keeps t rest}
-    (λ (g : (ends_at 41 part b ≡ true) × (last_text stack pairs key part.0 ≡ Some t)). last_keeps stack pairs key part.0 rest t g.1)
-    (λ (g : (ends_at 41 part b ≡ false) × (option_map (InPairs stack pairs key) (text_step part b) ≡ Some t)). mapped_keeps (InPairs stack pairs key) (λ p r v. v) part b t rest u g.1)
-    (if_some (ends_at 41 part b) (last_text stack pairs key part.0) (option_map (InPairs stack pairs key) (text_step part b)) t h.1))
-    (if_some (ends_at 44 part b) (Some (next_text stack pairs key part.0)) (if ends_at 41 part b then last_text stack pairs key part.0 else option_map (InPairs stack pairs key) (text_step part b)) t e)
+    (λ (g : (ends_at 41 partial b ≡ true) × (last_text stack pairs key partial.0 ≡ Some t)). last_keeps stack pairs key partial.0 rest t g.1)
+    (λ (g : (ends_at 41 partial b ≡ false) × (option_map (InPairs stack pairs key) (text_step partial b) ≡ Some t)). mapped_keeps (InPairs stack pairs key) (λ p r v. v) partial b t rest u g.1)
+    (if_some (ends_at 41 partial b) (last_text stack pairs key partial.0) (option_map (InPairs stack pairs key) (text_step partial b)) t h.1))
+    (if_some (ends_at 44 partial b) (Some (next_text stack pairs key partial.0)) (if ends_at 41 partial b then last_text stack pairs key partial.0 else option_map (InPairs stack pairs key) (text_step partial b)) t e)
   where
     stop_ascii : (p : List ℕ × Escape) (b stop : ℕ) → stop < 128 → ends_at stop p b ≡ true → b < 128
     stop_ascii (bytes, Outside) b stop lt e = let at = eqb-true b stop e in omega arith
@@ -348,9 +348,9 @@ pub record IsRead (text : List ℕ) (n : ℕ) (s : State) : Type 0 where
 pub read_none : (text : List ℕ) → IsUtf8 text → IsRead text 0 start
 read_none text u = record { has = reads_none text; utf8 = u; keeps = tt }
 
-pub read_goes : (text : List ℕ) (n : ℕ) (s : State) → IsRead text n s → n < length text → Goes s (get_or text n 0)
-read_goes text n (InText stack texted part) h lt = (drop (n + 1) text, subst (KeepsPart part) (drop_more text n 0 lt) h.keeps)
-read_goes text n (InPairs stack pairs key part) h lt = (drop (n + 1) text, subst (KeepsPart part) (drop_more text n 0 lt) h.keeps)
+pub read_goes : (text : List ℕ) (n : ℕ) (s : State) → IsRead text n s → n < length text → CanContinue s (get_or text n 0)
+read_goes text n (InText stack text_atom partial) h lt = (drop (n + 1) text, subst (KeepsPart partial) (drop_more text n 0 lt) h.keeps)
+read_goes text n (InPairs stack pairs key partial) h lt = (drop (n + 1) text, subst (KeepsPart partial) (drop_more text n 0 lt) h.keeps)
 read_goes text n (Word stack word) h lt = tt
 read_goes text n (InKind stack word) h lt = tt
 read_goes text n (After stack c) h lt = tt

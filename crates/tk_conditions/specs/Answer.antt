@@ -4,16 +4,16 @@ use Rattle.tk_conditions.specs.declared.conditions.Condition.{Condition}
 use Rattle.tk_conditions.specs.Brackets.{open_brackets}
 use Rattle.tk_conditions.specs.Cond.{cond_text, IsCondText}
 use Rattle.tk_conditions.specs.CondOf.{cond_of}
-use Rattle.tk_ids.specs.Prefix.{Begins, IsLongestFront}
+use Rattle.tk_ids.specs.Prefix.{Begins, IsLongestPrefix}
 use Rattle.tk_conditions.specs.declared.faults.TheConstants.{MAX_DEPTH}
 use Rattle.tk_conditions.specs.declared.faults.CondFault.{CondFault}
 use Rattle.tk_conditions.specs.declared.faults.CondFault.TheVariants.{BadAtom, Deep, Memory}
 
--- in no front of the first n bytes are more than `MAX_DEPTH` brackets open
+-- in no prefix of the first n bytes are more than `MAX_DEPTH` brackets open
 abbrev pub IsShallowTo : List ℕ → ℕ → Type 0
 IsShallowTo text n = (m : ℕ) → m ≤ n → open_brackets (take m text) ≤ MAX_DEPTH
 
--- a condition's text begins with the first n bytes, and more than `MAX_DEPTH` brackets are open behind them
+-- a condition's text begins with the first n bytes, and more than `MAX_DEPTH` brackets are open after them
 pub record IsDeepAt (text : List ℕ) (n : ℕ) : Type 0 where
   pub within : n ≤ length text
   pub begins : Begins IsCondText (take n text)
@@ -21,7 +21,7 @@ pub record IsDeepAt (text : List ℕ) (n : ℕ) : Type 0 where
 
 pub record IsBadAt (text : List ℕ) (at : ℕ) : Type 0 where
   pub no_condition : ¬ IsCondText text
-  pub front : IsLongestFront IsCondText text at
+  pub prefix : IsLongestPrefix IsCondText text at
   pub shallow : IsShallowTo text at
 
 abbrev pub IsReadAs : List ℕ → Result Condition CondFault → Type 0

@@ -14,12 +14,12 @@ pub data Bare : Type 0 where
   Aborted : Bare
 
 -- atoms with a text
-pub data Texted : Type 0 where
-  Id : Texted
-  Name : Texted
-  Skipped : Texted
-  FailedWith : Texted
-  AbortedWith : Texted
+pub data TextAtom : Type 0 where
+  Id : TextAtom
+  Name : TextAtom
+  Skipped : TextAtom
+  FailedWith : TextAtom
+  AbortedWith : TextAtom
 
 -- pairs of texts, the last one outermost
 pub data Pairs : Type 0 where
@@ -29,7 +29,7 @@ pub data Pairs : Type 0 where
 mutual
   pub data Cond : Type 0 where
     Plain : Bare → Cond
-    With : Texted → List ℕ → Cond
+    With : TextAtom → List ℕ → Cond
     OfKind : Kind → Cond
     HasPairs : Pairs → Cond
     All : Conds → Cond
@@ -50,12 +50,12 @@ bare_text Succeeded = codes "succeeded"
 bare_text Failed = codes "failed"
 bare_text Aborted = codes "aborted"
 
-abbrev pub texted_text : Texted → List ℕ
-texted_text Id = codes "id"
-texted_text Name = codes "name"
-texted_text Skipped = codes "skipped"
-texted_text FailedWith = codes "failed"
-texted_text AbortedWith = codes "aborted"
+abbrev pub text_atom_text : TextAtom → List ℕ
+text_atom_text Id = codes "id"
+text_atom_text Name = codes "name"
+text_atom_text Skipped = codes "skipped"
+text_atom_text FailedWith = codes "failed"
+text_atom_text AbortedWith = codes "aborted"
 
 -- the name of a kind: its word
 abbrev pub kind_text : Kind → List ℕ
@@ -82,7 +82,7 @@ abbrev mutual
 abbrev mutual
   pub cond_text : Cond → List ℕ
   cond_text (Plain bare) = bare_text bare
-  cond_text (With texted text) = texted_text texted ++ 40 ∷ escaped text ++ 41 ∷ []
+  cond_text (With text_atom text) = text_atom_text text_atom ++ 40 ∷ escaped text ++ 41 ∷ []
   cond_text (OfKind kind) = codes "kind(" ++ kind_text kind ++ 41 ∷ []
   cond_text (HasPairs pairs) = codes "entry(" ++ pairs_text pairs ++ 41 ∷ []
   cond_text (All cs) = codes "all(" ++ list_text cs ++ 41 ∷ []

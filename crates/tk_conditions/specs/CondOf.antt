@@ -27,7 +27,7 @@ abbrev mutual
   cond_of (real.Entry pairs) = HasPairs (pairs_from NoPairs pairs)
   cond_of (All' shape row) = All (row_from Nothing row)
   cond_of (Any' shape row) = Any (row_from Nothing row)
-  cond_of (Not' place member) = Not (cond_of member)
+  cond_of (Not' position member) = Not (cond_of member)
 
   pub row_from : {n : _} → Conds → Row_of-Condition n → Conds
   row_from cs end_of-Condition = cs

@@ -18,9 +18,9 @@ AreAlike (Err Deep) (Err Deep) = Unit {0}
 AreAlike (Err Deep) (Err Memory) = Unit {0}
 AreAlike _ _ = ⊥
 
-abbrev pub OneAnswer : Type 0
-OneAnswer = (text : List ℕ) (a b : Result Condition CondFault) → IsReadAs text a → IsReadAs text b → AreAlike a b
+abbrev pub AnswerIsUnique : Type 0
+AnswerIsUnique = (text : List ℕ) (a b : Result Condition CondFault) → IsReadAs text a → IsReadAs text b → AreAlike a b
 
 -- no two conditions have one text
-abbrev pub OneText : Type 0
-OneText = (c d : Cond) → cond_text c ≡ cond_text d → c ≡ d
+abbrev pub TextIsUnique : Type 0
+TextIsUnique = (c d : Cond) → cond_text c ≡ cond_text d → c ≡ d

@@ -3,9 +3,9 @@
 
 mod conditions;
 mod faults;
-mod frames;
 pub mod laws;
-mod parts;
+mod open_groups;
+mod partial_texts;
 mod readers;
 mod reading;
 mod words;

@@ -2,8 +2,8 @@
 ghost use Rattle.std.specs.Prelude.{◌≡◌, ◌||◌, option_map, bytes_eq};
 ghost use Rattle.tk_conditions.specs.Cond.{Plain, With};
 ghost use Rattle.tk_conditions.specs.CondOf.{cond_of};
-ghost use Rattle.tk_conditions.specs.Reader.{opener_of, texted_of};
-ghost use Rattle.tk_conditions.specs.Reading.{bares, openers, kinds, look, begins_with, is_front};
+ghost use Rattle.tk_conditions.specs.Reader.{opener_of, text_atom_of};
+ghost use Rattle.tk_conditions.specs.Reading.{bares, openers, kinds, look, begins_with, is_prefix};
 
 use crate::conditions::Condition;
 use tk_events::Kind;
@@ -11,7 +11,7 @@ use tk_ids::Text;
 
 /// An atom with a text.
 #[derive(Clone, Copy)]
-pub(crate) enum Texted {
+pub(crate) enum TextAtom {
     Id,
     Name,
     Skipped,
@@ -19,17 +19,17 @@ pub(crate) enum Texted {
     Aborted,
 }
 
-impl Texted {
+impl TextAtom {
     /// The atom with this text.
     pub(crate) fn condition(self, text: Text) -> Condition
-        ensures { cond_of result ≡ With (texted_of self) text }
+        ensures { cond_of result ≡ With (text_atom_of self) text }
     {
         match self {
-            Texted::Id => Condition::Id(text),
-            Texted::Name => Condition::Name(text),
-            Texted::Skipped => Condition::Skipped(text),
-            Texted::Failed => Condition::Failed(Some(text)),
-            Texted::Aborted => Condition::Aborted(Some(text)),
+            TextAtom::Id => Condition::Id(text),
+            TextAtom::Name => Condition::Name(text),
+            TextAtom::Skipped => Condition::Skipped(text),
+            TextAtom::Failed => Condition::Failed(Some(text)),
+            TextAtom::Aborted => Condition::Aborted(Some(text)),
         }
     }
 }
@@ -37,7 +37,7 @@ impl Texted {
 /// What a word with a bracket opens.
 #[derive(Clone, Copy)]
 pub(crate) enum Opener {
-    Text(Texted),
+    Text(TextAtom),
     Kind,
     Entry,
     All,
@@ -101,15 +101,15 @@ pub(crate) fn opener_named(word: &[u8]) -> Option<Opener>
     ensures { option_map opener_of result ≡ look openers word.now }
 {
     if is(word, "id") {
-        Some(Opener::Text(Texted::Id))
+        Some(Opener::Text(TextAtom::Id))
     } else if is(word, "name") {
-        Some(Opener::Text(Texted::Name))
+        Some(Opener::Text(TextAtom::Name))
     } else if is(word, "skipped") {
-        Some(Opener::Text(Texted::Skipped))
+        Some(Opener::Text(TextAtom::Skipped))
     } else if is(word, "failed") {
-        Some(Opener::Text(Texted::Failed))
+        Some(Opener::Text(TextAtom::Failed))
     } else if is(word, "aborted") {
-        Some(Opener::Text(Texted::Aborted))
+        Some(Opener::Text(TextAtom::Aborted))
     } else if is(word, "kind") {
         Some(Opener::Kind)
     } else if is(word, "entry") {
@@ -134,7 +134,7 @@ fn begins(word: &[u8], name: &str) -> bool
 
 /// Whether the name of a kind begins so.
 pub(crate) fn begins_kind(word: &[u8]) -> bool
-    ensures { result ≡ is_front kinds word.now }
+    ensures { result ≡ is_prefix kinds word.now }
 {
     for kind in &KINDS {
         if begins(word, kind.word()) {
@@ -145,7 +145,7 @@ pub(crate) fn begins_kind(word: &[u8]) -> bool
 }
 
 fn begins_bare(word: &[u8]) -> bool
-    ensures { result ≡ is_front bares word.now }
+    ensures { result ≡ is_prefix bares word.now }
 {
     begins(word, "test")
         || begins(word, "container")
@@ -157,7 +157,7 @@ fn begins_bare(word: &[u8]) -> bool
 }
 
 fn begins_opener(word: &[u8]) -> bool
-    ensures { result ≡ is_front openers word.now }
+    ensures { result ≡ is_prefix openers word.now }
 {
     begins(word, "id")
         || begins(word, "name")
@@ -173,7 +173,7 @@ fn begins_opener(word: &[u8]) -> bool
 
 /// Whether a word of conditions begins so.
 pub(crate) fn begins_word(word: &[u8]) -> bool
-    ensures { result ≡ (is_front bares word.now || is_front openers word.now) }
+    ensures { result ≡ (is_prefix bares word.now || is_prefix openers word.now) }
 {
     begins_bare(word) || begins_opener(word)
 }

@@ -4,18 +4,18 @@ use Rattle.std.proofs.lemmas.List.{map-append, drop-drop, drop_at}
 use Rattle.std.proofs.lemmas.Grind.{flat_map-append}
 use Rattle.tk_cutting.specs.declared.counts.TheConstants.{MAX_EVENTS}
 use Rattle.tk_cutting.specs.declared.nodes.Node.{Node}
-use Rattle.tk_cutting.specs.declared.nodes.Placed.{Placed}
+use Rattle.tk_cutting.specs.declared.nodes.NumberedNode.{NumberedNode}
 use Rattle.tk_cutting.specs.declared.steps.Act.TheVariants.{Finish, Register, Skip}
 use Rattle.tk_cutting.specs.declared.cuttings.Cutting.{Cutting}
-use Rattle.tk_cutting.specs.Trees.{Tree, tree, Forest, no_trees, more, forest, IsForest, IsSplit, front, contents}
+use Rattle.tk_cutting.specs.Trees.{Tree, tree, Forest, no_trees, more, forest, IsForest, IsSplit, first_tree, contents}
 use Rattle.tk_cutting.specs.Script.{move, opening, moves, moves_below}
 use Rattle.tk_cutting.specs.Weights.{weight, weights}
 use Rattle.tk_cutting.specs.Cutting.{Part, Piece, opens, runs, closes, parts, parts_below, moves_of, from_each, piece, head, tail, opened, all_static, all_concurrent, on_spine, is_free, is_leaf}
-use Rattle.tk_cutting.specs.Adds.{Adds, Fits, Sits, HasNode, found, piece_at, heads, tails, begun_at, ended_at}
+use Rattle.tk_cutting.specs.Adds.{Adds, Fits, HasStampAt, HasNode, found, piece_at, heads, tails, begun_at, ended_at}
 use Rattle.tk_cutting.specs.Events.{begun, ended}
-use Rattle.tk_cutting.specs.Asks.{IsNeed}
-use Rattle.tk_cutting.specs.declared.cuttings.Sited.{Sited}
-use Rattle.tk_cutting.specs.declared.cuttings.Spot.{Spot}
+use Rattle.tk_cutting.specs.LockNeeds.{IsNeed}
+use Rattle.tk_cutting.specs.declared.cuttings.PlanUnit.{PlanUnit}
+use Rattle.tk_cutting.specs.declared.cuttings.SpineStamp.{SpineStamp}
 use Rattle.std.proofs.lemmas.List.Elements.{All-append}
 use Rattle.std.proofs.Math.Seq.{take-append_seam}
 use Rattle.tk_cutting.proofs.Grows.{forest_nil}
@@ -38,7 +38,7 @@ each_more : {A : Type 0} (f : ℕ → Part → List A) (old mid : Cutting) (xs y
     → from_each f old.first (xs ++ ys) ≡ from_each f old.first xs ++ from_each f mid.first ys
 each_more f old mid xs ys at = from_each-append f old.first xs ys ∙ ap (λ n. from_each f old.first xs ++ from_each f n ys) (sym at)
 
-pub adds-append : (all : List Placed) (keys : List (List ℕ)) (old mid new : Cutting) (xs ys : List Part)
+pub adds-append : (all : List NumberedNode) (keys : List (List ℕ)) (old mid new : Cutting) (xs ys : List Part)
     → Adds all keys old mid xs → Adds all keys mid new ys → Adds all keys old new (xs ++ ys)
 adds-append all keys old mid new xs ys a b =
     let at : mid.first ≡ old.first + length (flat_map moves_of xs) = a.first in
@@ -54,7 +54,7 @@ adds-append all keys old mid new xs ys a b =
       first = b.first ∙ ap (λ n. n + length (flat_map moves_of ys)) at ∙ omega (arith, ap length (flat_map-append moves_of xs ys), length-append (flat_map moves_of xs) (flat_map moves_of ys));
     }
 
-pub adds-none : (all : List Placed) (keys : List (List ℕ)) (old : Cutting) → Adds all keys old old []
+pub adds-none : (all : List NumberedNode) (keys : List (List ℕ)) (old : Cutting) → Adds all keys old old []
 adds-none all keys old = record {
   spine = sym (append-nil _);
   units = sym (append-nil _);
@@ -95,66 +95,66 @@ spine_facts b n f e =
 pub spine_weight : (b : Bool) (n : Node) (k : ℕ) (f : Forest) → on_spine b n f ≡ true → weight (tree n k f) ≡ 2 + length n.entries + weights f
 spine_weight b n k f e = ap (λ s. cond s 1 (2 + length n.entries + weights f)) (spine_facts b n f e).0
 
-drop_next : (at : ℕ) (all rest : List Placed) (p : Placed) → drop at all ≡ p ∷ rest → drop (at + 1) all ≡ rest
+drop_next : (at : ℕ) (all rest : List NumberedNode) (p : NumberedNode) → drop at all ≡ p ∷ rest → drop (at + 1) all ≡ rest
 drop_next at all rest p e = sym (drop-drop 1 at all) ∙ ap (drop 1) e
 
-pub unit_adds : (all : List Placed) (keys : List (List ℕ)) (old new : Cutting) (b : Bool) (n : Node) (k : ℕ) (f : Forest)
+pub unit_adds : (all : List NumberedNode) (keys : List (List ℕ)) (old new : Cutting) (b : Bool) (n : Node) (k : ℕ) (f : Forest)
     → on_spine b n f ≡ false → Adds all keys old new (runs (tree n k f) ∷ []) → Adds all keys old new (parts b (tree n k f))
 unit_adds all keys old new b n k f e a = subst (Adds all keys old new) (sym (ap (λ s. cond s (opens n k ∷ (parts_below false f ++ closes n k ∷ [])) (runs (tree n k f) ∷ [])) e)) a
 
-pub spine_adds : (keys : List (List ℕ)) (old one two new : Cutting) (b : Bool) (p : Placed) (f : Forest) (place : ℕ) (below all rest : List Placed)
+pub spine_adds : (keys : List (List ℕ)) (old one two new : Cutting) (b : Bool) (p : NumberedNode) (f : Forest) (position : ℕ) (below all rest : List NumberedNode)
     → on_spine b p.node f ≡ true
     → Adds all keys old one (opens p.node p.number ∷ [])
-    → ((every after : List Placed) → drop (place + 1) every ≡ below ++ after → Adds every keys one two (parts_below false f))
+    → ((every after : List NumberedNode) → drop (position + 1) every ≡ below ++ after → Adds every keys one two (parts_below false f))
     → Adds all keys two new (closes p.node p.number ∷ [])
-    → drop place all ≡ p ∷ (below ++ rest) → Adds all keys old new (parts b (tree p.node p.number f))
-spine_adds keys old one two new b p f place below all rest e x y z at =
-    let whole = adds-append all keys old one new _ _ x (adds-append all keys one two new _ _ (y all rest (drop_next place all _ p at)) z) in
+    → drop position all ≡ p ∷ (below ++ rest) → Adds all keys old new (parts b (tree p.node p.number f))
+spine_adds keys old one two new b p f position below all rest e x y z at =
+    let whole = adds-append all keys old one new _ _ x (adds-append all keys one two new _ _ (y all rest (drop_next position all _ p at)) z) in
     subst (Adds all keys old new) (sym (ap (λ s. cond s (opens p.node p.number ∷ (parts_below false f ++ closes p.node p.number ∷ [])) (runs (tree p.node p.number f) ∷ [])) e)) whole
 
 -- ---- one tree after another
 
 -- of some trees, what is left is still to be cut
-pub record Goes (keys : List (List ℕ)) (is_root : Bool) (place at : ℕ) (nodes left : List Placed) (old now : Cutting) : Type 0 where
+pub record Goes (keys : List (List ℕ)) (is_root : Bool) (position at : ℕ) (nodes left : List NumberedNode) (old now : Cutting) : Type 0 where
   pub trees : IsForest left
   pub statics : all_static (forest left) ≡ true
   pub within : length left ≤ length nodes
-  pub places : at + length left ≡ place + length nodes
+  pub positions : at + length left ≡ position + length nodes
   pub events : now.first + weights (forest left) ≡ old.first + weights (forest nodes)
-  pub stands : (all rest : List Placed) → drop place all ≡ nodes ++ rest → drop at all ≡ left ++ rest
-  pub adds : (all rest : List Placed) → drop place all ≡ nodes ++ rest → (new : Cutting)
+  pub stands : (all rest : List NumberedNode) → drop position all ≡ nodes ++ rest → drop at all ≡ left ++ rest
+  pub adds : (all rest : List NumberedNode) → drop position all ≡ nodes ++ rest → (new : Cutting)
       → Adds all keys now new (parts_below is_root (forest left)) → Adds all keys old new (parts_below is_root (forest nodes))
 
-pub goes_end : (keys : List (List ℕ)) (is_root : Bool) (place at : ℕ) (nodes left : List Placed) (old now : Cutting) → Goes keys is_root place at nodes left old now → length left < 1
+pub goes_end : (keys : List (List ℕ)) (is_root : Bool) (position at : ℕ) (nodes left : List NumberedNode) (old now : Cutting) → Goes keys is_root position at nodes left old now → length left < 1
     → (now.first ≡ old.first + weights (forest nodes))
-    × ((all rest : List Placed) → drop place all ≡ nodes ++ rest → Adds all keys old now (parts_below is_root (forest nodes)))
-goes_end keys is_root place at nodes [] old now g h = (
+    × ((all rest : List NumberedNode) → drop position all ≡ nodes ++ rest → Adds all keys old now (parts_below is_root (forest nodes)))
+goes_end keys is_root position at nodes [] old now g h = (
   omega (arith, g.events, ap weights forest_nil),
   λ all rest e. g.adds all rest e now (subst (λ f. Adds all keys now now (parts_below is_root f)) (sym forest_nil) (adds-none all keys now)),
 )
-goes_end keys is_root place at nodes (p ∷ ps) old now g h = absurd (omega arith)
+goes_end keys is_root position at nodes (p ∷ ps) old now g h = absurd (omega arith)
 
-pub static_tree : (p : Placed) (after below others : List Placed) → IsSplit p after below others → all_static (forest (p ∷ after)) ≡ true
+pub static_tree : (p : NumberedNode) (after below others : List NumberedNode) → IsSplit p after below others → all_static (forest (p ∷ after)) ≡ true
     → (weights (forest (p ∷ after)) ≡ weight (tree p.node p.number (forest below)) + weights (forest others)) × (all_static (forest others) ≡ true)
 static_tree p after below others s e =
     let both = if_both p.node.is_static (all_static (forest others)) (sym (ap all_static s.trees) ∙ e) in
     (ap weights s.trees ∙ ap (λ b. cond b 0 1 + weight (tree p.node p.number (forest below)) + weights (forest others)) both.0 ∙ omega arith, both.1)
 
-pub goes_next : (keys : List (List ℕ)) (is_root : Bool) (place at : ℕ) (nodes after below others : List Placed) (p : Placed) (old now new : Cutting)
-    → Goes keys is_root place at nodes (p ∷ after) old now → IsSplit p after below others
+pub goes_next : (keys : List (List ℕ)) (is_root : Bool) (position at : ℕ) (nodes after below others : List NumberedNode) (p : NumberedNode) (old now new : Cutting)
+    → Goes keys is_root position at nodes (p ∷ after) old now → IsSplit p after below others
     → new.first ≡ now.first + weight (tree p.node p.number (forest below))
-    → ((all rest : List Placed) → drop at all ≡ p ∷ (below ++ rest) → Adds all keys now new (parts is_root (tree p.node p.number (forest below))))
-    → Goes keys is_root place (at + p.span) nodes others old new
-goes_next keys is_root place at nodes after below others p old now new g s first add =
+    → ((all rest : List NumberedNode) → drop at all ≡ p ∷ (below ++ rest) → Adds all keys now new (parts is_root (tree p.node p.number (forest below))))
+    → Goes keys is_root position (at + p.span) nodes others old new
+goes_next keys is_root position at nodes after below others p old now new g s first add =
     let one = static_tree p after below others s g.statics in
     let len = ap length s.whole ∙ length-append below others in
-    let here : (all rest : List Placed) → drop place all ≡ nodes ++ rest → drop at all ≡ p ∷ (below ++ (others ++ rest))
+    let here : (all rest : List NumberedNode) → drop position all ≡ nodes ++ rest → drop at all ≡ p ∷ (below ++ (others ++ rest))
     = λ all rest e. g.stands all rest e ∙ ap (λ l. p ∷ (l ++ rest)) s.whole ∙ ap (λ l. p ∷ l) (append_assoc below others rest) in
     record {
       trees = s.second;
       statics = one.1;
       within = omega (arith, g.within, len);
-      places = omega (arith, g.places, len, s.span);
+      positions = omega (arith, g.positions, len, s.span);
       events = omega (arith, g.events, one.0, first);
       stands = λ all rest e. sym (drop-drop p.span at all) ∙ ap (drop p.span) (here all rest e) ∙ drop_at (p ∷ below) (others ++ rest) p.span (sym s.span);
       adds = λ all rest e last. λ a. g.adds all rest e last (
@@ -175,36 +175,36 @@ all_one P x h (suc k) d l = absurd (omega arith)
 all_pushed : {A : Type 0} (P : A → Type 0) (xs ys : List A) (x : A) → ys ≡ xs ++ x ∷ [] → P x → All P xs → All P ys
 all_pushed P xs ys x e h all = subst (All P) (sym e) (All-append P xs (x ∷ []) all (all_one P x h))
 
-pub begin_adds : (all rest : List Placed) (keys : List (List ℕ)) (old new : Cutting) (p : Placed) (s : Spot)
-    → drop s.place all ≡ p ∷ rest → s.stamp ≡ old.first → old.first + (1 + length p.node.entries) ≤ MAX_EVENTS
+pub begin_adds : (all rest : List NumberedNode) (keys : List (List ℕ)) (old new : Cutting) (p : NumberedNode) (s : SpineStamp)
+    → drop s.position all ≡ p ∷ rest → s.stamp ≡ old.first → old.first + (1 + length p.node.entries) ≤ MAX_EVENTS
     → new.spine.items ≡ old.spine.items ++ p.number ∷ []
     → new.opened.items ≡ old.opened.items ++ s ∷ []
     → new.units.items ≡ old.units.items → new.pieces.items ≡ old.pieces.items → new.closed.items ≡ old.closed.items
     → new.first ≡ old.first + (1 + length p.node.entries)
     → Adds all keys old new (opens p.node p.number ∷ [])
 begin_adds all rest keys old new p s at same limit spine opened units pieces closed first =
-    let there : begun_at (drop s.place all) s.stamp ≡ begun p.number old.first p.node = ap₂ begun_at at same in
-    let sits : Sits all s = record { top = p; rest = rest; place = at; limit = omega (arith, same, limit) } in
+    let there : begun_at (drop s.position all) s.stamp ≡ begun p.number old.first p.node = ap₂ begun_at at same in
+    let sits : HasStampAt all s = record { top = p; rest = rest; position = at; limit = omega (arith, same, limit) } in
     record {
       spine = spine;
       units = units ∙ sym (append-nil _);
       pieces = ap (found all) pieces ∙ sym (append-nil _);
       fits = λ h. subst (All (Fits all keys)) (sym pieces) h;
       heads = ap (heads all) opened ∙ flat_map-append _ old.opened.items (s ∷ []) ∙ ap (λ l. heads all old.opened.items ++ (l ++ [])) there;
-      opened = all_pushed (Sits all) old.opened.items new.opened.items s opened sits;
+      opened = all_pushed (HasStampAt all) old.opened.items new.opened.items s opened sits;
       tails = ap (tails all) closed ∙ sym (append-nil _);
       closed = λ h. subst (All (HasNode all)) (sym closed) h;
       first = first ∙ ap (λ m. old.first + m) (sym (opening_events p.node p.number));
     }
 
-pub end_adds : (all rest : List Placed) (keys : List (List ℕ)) (old new : Cutting) (p : Placed) (s : Spot)
-    → drop s.place all ≡ p ∷ rest → s.stamp ≡ old.first
+pub end_adds : (all rest : List NumberedNode) (keys : List (List ℕ)) (old new : Cutting) (p : NumberedNode) (s : SpineStamp)
+    → drop s.position all ≡ p ∷ rest → s.stamp ≡ old.first
     → new.closed.items ≡ old.closed.items ++ s ∷ []
     → new.spine.items ≡ old.spine.items → new.units.items ≡ old.units.items → new.pieces.items ≡ old.pieces.items → new.opened.items ≡ old.opened.items
     → new.first ≡ old.first + 1
     → Adds all keys old new (closes p.node p.number ∷ [])
 end_adds all rest keys old new p s at same closed spine units pieces opened first =
-    let there : ended_at (drop s.place all) s.stamp ≡ ended p.number old.first p.node ∷ [] = ap₂ ended_at at same in
+    let there : ended_at (drop s.position all) s.stamp ≡ ended p.number old.first p.node ∷ [] = ap₂ ended_at at same in
     let sits : HasNode all s = (p, rest, at) in
     record {
       spine = spine ∙ sym (append-nil _);
@@ -212,19 +212,19 @@ end_adds all rest keys old new p s at same closed spine units pieces opened firs
       pieces = ap (found all) pieces ∙ sym (append-nil _);
       fits = λ h. subst (All (Fits all keys)) (sym pieces) h;
       heads = ap (heads all) opened ∙ sym (append-nil _);
-      opened = λ h. subst (All (Sits all)) (sym opened) h;
+      opened = λ h. subst (All (HasStampAt all)) (sym opened) h;
       tails = ap (tails all) closed ∙ flat_map-append _ old.closed.items (s ∷ []) ∙ ap (λ l. tails all old.closed.items ++ (l ++ [])) there;
       closed = all_pushed (HasNode all) old.closed.items new.closed.items s closed sits;
       first = first;
     }
 
-front_of : (p : Placed) (below rest : List Placed) → p.span ≡ suc (length below) → front p (below ++ rest) ≡ tree p.node p.number (forest below)
-front_of p below rest s =
+prefix_of : (p : NumberedNode) (below rest : List NumberedNode) → p.span ≡ suc (length below) → first_tree p (below ++ rest) ≡ tree p.node p.number (forest below)
+prefix_of p below rest s =
     let one : p.span - 1 ≡ length below = omega (arith, s) in
     ap (λ ps. tree p.node p.number (forest ps)) (ap (λ n. take n (below ++ rest)) one ∙ take-append_seam below rest)
 
-pub add_adds : (all : List Placed) (keys : List (List ℕ)) (old new : Cutting) (p : Placed) (below rest : List Placed) (u : Sited)
-    → drop u.place all ≡ p ∷ (below ++ rest) → p.span ≡ suc (length below) → IsForest below → IsNeed keys (contents (p ∷ below)) u.need → u.first ≡ old.first
+pub add_adds : (all : List NumberedNode) (keys : List (List ℕ)) (old new : Cutting) (p : NumberedNode) (below rest : List NumberedNode) (u : PlanUnit)
+    → drop u.position all ≡ p ∷ (below ++ rest) → p.span ≡ suc (length below) → IsForest below → IsNeed keys (contents (p ∷ below)) u.need → u.first ≡ old.first
     → old.first + weight (tree p.node p.number (forest below)) ≤ MAX_EVENTS
     → new.spine.items ≡ old.spine.items → new.opened.items ≡ old.opened.items → new.closed.items ≡ old.closed.items
     → new.units.items ≡ old.units.items ++ p.number ∷ [] → new.pieces.items ≡ old.pieces.items ++ u ∷ []
@@ -232,16 +232,16 @@ pub add_adds : (all : List Placed) (keys : List (List ℕ)) (old new : Cutting) 
     → Adds all keys old new (runs (tree p.node p.number (forest below)) ∷ [])
 add_adds all keys old new p below rest u at span trees need same limit spine opened closed units pieces first =
     let t : Tree = tree p.node p.number (forest below) in
-    let fit : Fits all keys u = record { top = p; below = below; rest = rest; place = at; span = span; trees = trees; need = need; limit = subst (λ i. i + weight (tree p.node p.number (forest below)) ≤ MAX_EVENTS) (sym same) limit } in
-    let there : piece_at (drop u.place all) u.first ≡ record { tree = t; first = old.first } ∷ []
-    = ap (λ ps. piece_at ps u.first) at ∙ ap₂ (λ a i. record { tree = a; first = i } ∷ []) (front_of p below rest span) same in
+    let fit : Fits all keys u = record { top = p; below = below; rest = rest; position = at; span = span; trees = trees; need = need; limit = subst (λ i. i + weight (tree p.node p.number (forest below)) ≤ MAX_EVENTS) (sym same) limit } in
+    let there : piece_at (drop u.position all) u.first ≡ record { tree = t; first = old.first } ∷ []
+    = ap (λ ps. piece_at ps u.first) at ∙ ap₂ (λ a i. record { tree = a; first = i } ∷ []) (prefix_of p below rest span) same in
     record {
       spine = spine ∙ sym (append-nil _);
       units = units;
       pieces = ap (found all) pieces ∙ flat_map-append _ old.pieces.items (u ∷ []) ∙ ap (λ l. found all old.pieces.items ++ l) (append-nil _ ∙ there);
       fits = λ h. subst (All (Fits all keys)) (sym pieces) (All-append (Fits all keys) old.pieces.items (u ∷ []) h (all_one (Fits all keys) u fit));
       heads = ap (heads all) opened ∙ sym (append-nil _);
-      opened = λ h. subst (All (Sits all)) (sym opened) h;
+      opened = λ h. subst (All (HasStampAt all)) (sym opened) h;
       tails = ap (tails all) closed ∙ sym (append-nil _);
       closed = λ h. subst (All (HasNode all)) (sym closed) h;
       first = first ∙ ap (λ m. old.first + m) (sym (ap length (append-nil (moves t)) ∙ moves-length t));
@@ -249,21 +249,21 @@ add_adds all keys old new p below rest u at span trees need same limit spine ope
 
 -- ---- the pieces that the units are
 
-abbrev pub piece_of : {all : List Placed} {keys : List (List ℕ)} {u : Sited} → Fits all keys u → Piece
+abbrev pub piece_of : {all : List NumberedNode} {keys : List (List ℕ)} {u : PlanUnit} → Fits all keys u → Piece
 piece_of {u = u} f = record { tree = tree f.top.node f.top.number (forest f.below); first = u.first }
 
-fits_piece : (all : List Placed) (keys : List (List ℕ)) (u : Sited) (f : Fits all keys u) → piece_at (drop u.place all) u.first ≡ piece_of f ∷ []
-fits_piece all keys u f = ap (λ ps. piece_at ps u.first) f.place ∙ ap (λ a. record { tree = a; first = u.first } ∷ []) (front_of f.top f.below f.rest f.span)
+fits_piece : (all : List NumberedNode) (keys : List (List ℕ)) (u : PlanUnit) (f : Fits all keys u) → piece_at (drop u.position all) u.first ≡ piece_of f ∷ []
+fits_piece all keys u f = ap (λ ps. piece_at ps u.first) f.position ∙ ap (λ a. record { tree = a; first = u.first } ∷ []) (prefix_of f.top f.below f.rest f.span)
 
-rest_fits : (all : List Placed) (keys : List (List ℕ)) (u : Sited) (us : List Sited) → All (Fits all keys) (u ∷ us) → All (Fits all keys) us
+rest_fits : (all : List NumberedNode) (keys : List (List ℕ)) (u : PlanUnit) (us : List PlanUnit) → All (Fits all keys) (u ∷ us) → All (Fits all keys) us
 rest_fits all keys u us h k d l = h (suc k) d (omega (arith, l))
 
-pub found_length : (all : List Placed) (keys : List (List ℕ)) (us : List Sited) → All (Fits all keys) us → length (found all us) ≡ length us
+pub found_length : (all : List NumberedNode) (keys : List (List ℕ)) (us : List PlanUnit) → All (Fits all keys) us → length (found all us) ≡ length us
 found_length all keys [] h = refl
 found_length all keys (u ∷ us) h =
     ap (λ l. length (l ++ found all us)) (fits_piece all keys u (h zero u (omega arith))) ∙ ap suc (found_length all keys us (rest_fits all keys u us h))
 
-pub found_get : (all : List Placed) (keys : List (List ℕ)) (us : List Sited) → All (Fits all keys) us → (i : ℕ) (d : Sited) → i < length us
+pub found_get : (all : List NumberedNode) (keys : List (List ℕ)) (us : List PlanUnit) → All (Fits all keys) us → (i : ℕ) (d : PlanUnit) → i < length us
     → (f : Fits all keys (slice_index_or us i d)) × (slice_get (found all us) i ≡ Some (piece_of f))
 found_get all keys [] h i d l = absurd (omega arith)
 found_get all keys (u ∷ us) h zero d l = (h zero d l, ap (λ ps. slice_get (ps ++ found all us) 0) (fits_piece all keys u (h zero d l)))

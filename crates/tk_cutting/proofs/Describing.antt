@@ -4,7 +4,7 @@ use Rattle.tk_ids.specs.declared.tables.TheConstants.{MAX_DESCRIPTORS}
 use Rattle.tk_ids.specs.IdText.{Pair}
 use Rattle.tk_ids.specs.declared.tables.Descriptor.{Descriptor}
 use Rattle.tk_cutting.specs.declared.nodes.Node.{Node}
-use Rattle.tk_cutting.specs.declared.nodes.Placed.{Placed}
+use Rattle.tk_cutting.specs.declared.nodes.NumberedNode.{NumberedNode}
 use Rattle.tk_cutting.specs.Trees.{Tree, tree, Forest, no_trees, more, flat, flats, forest, IsForest}
 use Rattle.tk_cutting.specs.Numbers.{of_kind}
 use Rattle.tk_cutting.specs.Ids.{descriptors, descriptors_below}
@@ -15,7 +15,7 @@ either_append : (b : Bool) (n : Node) (xs ys zs : List Node) → zs ≡ xs ++ ys
 either_append true n xs ys zs e = ap (λ l. n ∷ l) e
 either_append false n xs ys zs e = e
 
-pub statics-append : (xs ys : List Placed) → of_kind true (xs ++ ys) ≡ of_kind true xs ++ of_kind true ys
+pub statics-append : (xs ys : List NumberedNode) → of_kind true (xs ++ ys) ≡ of_kind true xs ++ of_kind true ys
 statics-append [] ys = refl
 statics-append (x ∷ xs) ys = either_append x.node.is_static x.node (of_kind true xs) (of_kind true ys) _ (statics-append xs ys)
 
@@ -35,9 +35,9 @@ mutual
       ∙ sym (length-append (of_kind true (flat t)) (of_kind true (flats f)))
       ∙ ap length (sym (statics-append (flat t) (flats f)))
 
-pub statics_length : (ps : List Placed) (table : List Descriptor) → IsPlanned ps table → length table ≡ length (of_kind true ps)
+pub statics_length : (ps : List NumberedNode) (table : List Descriptor) → IsPlanned ps table → length table ≡ length (of_kind true ps)
 unfolding IsForest
 statics_length ps table p = ap length p.described ∙ descriptors_below-length [] (forest ps) ∙ ap (λ qs. length (of_kind true qs)) (sym p.trees)
 
-pub few_nodes : (ps : List Placed) (table : List Descriptor) → IsPlanned ps table → length ps ≤ 2 * MAX_DESCRIPTORS
+pub few_nodes : (ps : List NumberedNode) (table : List Descriptor) → IsPlanned ps table → length ps ≤ 2 * MAX_DESCRIPTORS
 few_nodes ps table p = omega (arith, statics_length ps table p, p.few_static, p.few_dynamic, order_length ps)

@@ -4,7 +4,7 @@ use Rattle.std.proofs.lemmas.List.{drop_all, take_all}
 use Rattle.tk_cutting.specs.declared.counts.TheConstants.{MAX_EVENTS}
 use Rattle.tk_ids.specs.declared.tables.TheConstants.{MAX_DESCRIPTORS}
 use Rattle.tk_ids.specs.declared.tables.Descriptor.{Descriptor}
-use Rattle.tk_cutting.specs.declared.nodes.Placed.{Placed}
+use Rattle.tk_cutting.specs.declared.nodes.NumberedNode.{NumberedNode}
 use Rattle.tk_cutting.specs.Trees.{Forest, no_trees, more, tree, forest, IsForest}
 use Rattle.tk_cutting.specs.Weights.{weights}
 use Rattle.tk_cutting.specs.Cutting.{all_static}
@@ -14,7 +14,7 @@ use Rattle.tk_cutting.proofs.Moving.{below-length}
 use Rattle.tk_cutting.proofs.Describing.{statics_length, few_nodes}
 use Rattle.tk_cutting.proofs.Renumbering.{renumbered, numbered-length}
 
-pub with_numbers : (items passed new : List Placed) (table : List Descriptor) (n k : ℕ) → IsPlanned items table → n ≡ length items → k ≡ length table → passed ≡ items
+pub with_numbers : (items passed new : List NumberedNode) (table : List Descriptor) (n k : ℕ) → IsPlanned items table → n ≡ length items → k ≡ length table → passed ≡ items
     → new ≡ numbered_from 0 k passed → take n (new ++ drop (length new) items) ≡ numbered items
 with_numbers items passed new table n k p size statics same e =
     let is : new ≡ numbered items = e ∙ ap₂ (λ s ps. numbered_from 0 s ps) (statics ∙ statics_length items table p) same in
@@ -27,13 +27,13 @@ rooted_static (more (tree n k g) no_trees) e = ap (λ b. b && true) e
 rooted_static (more (tree n k g) (more t f)) e = absurd (grind arith)
 
 -- what cutting asks of the nodes
-pub record Ready (now : List Placed) : Type 0 where
+pub record Ready (now : List NumberedNode) : Type 0 where
   pub trees : IsForest now
   pub statics : all_static (forest now) ≡ true
   pub few : length now ≤ 2 * MAX_DESCRIPTORS
   pub events : weights (forest now) ≤ MAX_EVENTS
 
-pub ready : (items now : List Placed) (table : List Descriptor) → IsPlanned items table → now ≡ numbered items → Ready now
+pub ready : (items now : List NumberedNode) (table : List Descriptor) → IsPlanned items table → now ≡ numbered items → Ready now
 ready items now table p e =
     let q = renumbered items table p in
     subst Ready (sym e) (record {

@@ -1,7 +1,7 @@
 -- Nodes in preorder, taken apart.
 use Rattle.std.proofs.Common.{◌≡◌, ℕ, zero, suc, ◌-◌, ◌≤◌, List, [], ◌∷◌, ◌++◌, length, take, drop, refl, sym, ap, ap₂, ◌∙◌, arith, length-append}
 use Rattle.std.proofs.Math.Seq.{take-append_seam, drop-append_seam}
-use Rattle.tk_cutting.specs.declared.nodes.Placed.{Placed}
+use Rattle.tk_cutting.specs.declared.nodes.NumberedNode.{NumberedNode}
 use Rattle.tk_cutting.specs.Trees.{tree, Forest, no_trees, more, flats, grow, forest, IsForest, IsSplit}
 
 pub grow-flats : (f : Forest) (n : ℕ) → length (flats f) ≤ n → grow n (flats f) ≡ f
@@ -21,19 +21,19 @@ pub forest-flats : (f : Forest) → forest (flats f) ≡ f
 unfolding forest
 forest-flats f = grow-flats f (length (flats f)) (omega arith)
 
-pub is_forest : (ps : List Placed) (f : Forest) → ps ≡ flats f → IsForest ps
+pub is_forest : (ps : List NumberedNode) (f : Forest) → ps ≡ flats f → IsForest ps
 unfolding IsForest
 is_forest ps f e = e ∙ ap flats (sym (ap forest e ∙ forest-flats f))
 
-seam : (n : ℕ) (xs ys zs : List Placed) → n ≡ length xs → zs ≡ xs ++ ys → (take n zs ≡ xs) × (drop n zs ≡ ys)
+seam : (n : ℕ) (xs ys zs : List NumberedNode) → n ≡ length xs → zs ≡ xs ++ ys → (take n zs ≡ xs) × (drop n zs ≡ ys)
 seam n xs ys zs h e = (ap₂ take h e ∙ take-append_seam xs ys, ap₂ drop h e ∙ drop-append_seam xs ys)
 
-pub record Parts (p : Placed) (ps : List Placed) : Type 0 where
+pub record Parts (p : NumberedNode) (ps : List NumberedNode) : Type 0 where
   pub one : 1 ≤ p.span
   pub within : p.span - 1 ≤ length ps
   pub split : IsSplit p ps (take (p.span - 1) ps) (drop (p.span - 1) ps)
 
-parted_at : (p : Placed) (ps : List Placed) (g f : Forest) → p.span ≡ suc (length (flats g)) → ps ≡ flats g ++ flats f → Parts p ps
+parted_at : (p : NumberedNode) (ps : List NumberedNode) (g f : Forest) → p.span ≡ suc (length (flats g)) → ps ≡ flats g ++ flats f → Parts p ps
 unfolding IsForest
 parted_at p ps g f s e =
     let both = ap length e ∙ length-append (flats g) (flats f) in
@@ -51,20 +51,20 @@ parted_at p ps g f s e =
       };
     }
 
-head_of : Placed → List Placed → Placed
+head_of : NumberedNode → List NumberedNode → NumberedNode
 head_of p [] = p
 head_of p (q ∷ qs) = q
 
-tail_of : List Placed → List Placed
+tail_of : List NumberedNode → List NumberedNode
 tail_of [] = []
 tail_of (q ∷ qs) = qs
 
-parted_by : (f : Forest) (p : Placed) (ps : List Placed) → p ∷ ps ≡ flats f → Parts p ps
+parted_by : (f : Forest) (p : NumberedNode) (ps : List NumberedNode) → p ∷ ps ≡ flats f → Parts p ps
 unfolding head_of tail_of
 parted_by no_trees p ps e = absurd (grind arith)
 parted_by (more (tree m k g) f) p ps e = parted_at p ps g f (ap (λ qs. (head_of p qs).span) e) (ap tail_of e)
 
-pub parted : (p : Placed) (ps : List Placed) → IsForest (p ∷ ps) → Parts p ps
+pub parted : (p : NumberedNode) (ps : List NumberedNode) → IsForest (p ∷ ps) → Parts p ps
 unfolding IsForest
 parted p ps e = parted_by (forest (p ∷ ps)) p ps e
 

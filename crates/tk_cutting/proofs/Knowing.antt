@@ -3,7 +3,7 @@ use Rattle.std.proofs.Common.{◌≡◌, ℕ, zero, suc, ◌+◌, ◌<◌, List,
 use Rattle.std.proofs.lemmas.Option.{slice_get_within}
 use Rattle.std.proofs.lemmas.List.Elements.{All-nil, All-cons, All-head, All-tail, All-append, All-drop}
 use Rattle.tk_cutting.specs.declared.nodes.Node.{Node}
-use Rattle.tk_cutting.specs.declared.nodes.Placed.{Placed}
+use Rattle.tk_cutting.specs.declared.nodes.NumberedNode.{NumberedNode}
 use Rattle.tk_cutting.specs.declared.steps.Act.TheVariants.{Register, Skip, Start, Report, Finish}
 use Rattle.tk_cutting.specs.declared.steps.Move.{Move}
 use Rattle.tk_cutting.specs.declared.steps.Step.{Step}
@@ -12,31 +12,31 @@ use Rattle.tk_cutting.specs.Script.{move, reports, opening, registration, moves,
 use Rattle.tk_cutting.specs.Numbers.{of_kind, in_order, IsNumbered}
 use Rattle.tk_cutting.specs.Known.{IsKnown}
 use Rattle.tk_cutting.proofs.Ordering.{order_length, all_numbered}
-use Rattle.tk_cutting.proofs.Parting.{all_front, all_back, all_single}
+use Rattle.tk_cutting.proofs.Parting.{all_prefix, all_back, all_single}
 
 pub seam_some : {A : Type 0} (xs ys : List A) (x : A) (k : ℕ) → k ≡ length xs → slice_get (xs ++ x ∷ ys) k ≡ Some x
 seam_some [] ys x k e = ap (slice_get (x ∷ ys)) e
 seam_some (z ∷ xs) ys x zero e = absurd (omega (arith, e))
 seam_some (z ∷ xs) ys x (suc k) e = seam_some xs ys x k (omega (arith, e))
 
-pub order_within : (nodes : List Placed) (k : ℕ) (n : Node) → slice_get (in_order nodes) k ≡ Some n → k < length nodes
+pub order_within : (nodes : List NumberedNode) (k : ℕ) (n : Node) → slice_get (in_order nodes) k ≡ Some n → k < length nodes
 order_within nodes k n e = omega (arith, slice_get_within (in_order nodes) k n e, length-append (of_kind true nodes) (of_kind false nodes), order_length nodes)
 
 -- the nodes that are found by their numbers
-module _ (nodes : List Placed) where
-  abbrev pub Found : Placed → Type 0
+module _ (nodes : List NumberedNode) where
+  abbrev pub Found : NumberedNode → Type 0
   Found p = slice_get (in_order nodes) p.number ≡ Some p.node
 
   abbrev pub KnownMove : Move → Type 0
   KnownMove m = IsKnown nodes m.node m.act
 
-  reports_known : (k : ℕ) (n : Node) → slice_get (in_order nodes) k ≡ Some n → (front es : List (List (List ℕ × List ℕ))) (i : ℕ) → n.entries ≡ front ++ es → i ≡ length front
+  reports_known : (k : ℕ) (n : Node) → slice_get (in_order nodes) k ≡ Some n → (prefix es : List (List (List ℕ × List ℕ))) (i : ℕ) → n.entries ≡ prefix ++ es → i ≡ length prefix
       → All KnownMove (reports k i es)
-  reports_known k n e front [] i f g = All-nil KnownMove
-  reports_known k n e front (x ∷ es) i f g =
+  reports_known k n e prefix [] i f g = All-nil KnownMove
+  reports_known k n e prefix (x ∷ es) i f g =
       All-cons KnownMove (move k (Report i)) (reports k (i + 1) es)
-      (record { node = n; is = e; within = order_within nodes k n e; does = ap is_some (ap (λ l. slice_get l i) f ∙ seam_some front es x i g) })
-      (reports_known k n e (front ++ x ∷ []) es (i + 1) (f ∙ sym (append_assoc front (x ∷ []) es)) (omega (arith, g, length-append front (x ∷ []))))
+      (record { node = n; is = e; within = order_within nodes k n e; does = ap is_some (ap (λ l. slice_get l i) f ∙ seam_some prefix es x i g) })
+      (reports_known k n e (prefix ++ x ∷ []) es (i + 1) (f ∙ sym (append_assoc prefix (x ∷ []) es)) (omega (arith, g, length-append prefix (x ∷ []))))
 
   opening_known : (k : ℕ) (n : Node) → slice_get (in_order nodes) k ≡ Some n → All KnownMove (opening n k)
   opening_known k n e =
@@ -54,7 +54,7 @@ module _ (nodes : List Placed) where
       All-append KnownMove (opening n k) _ (opening_known k n e)
       (All-append KnownMove (moves_below k f) _ (below (order_within nodes k n e)) (all_single KnownMove _ (record { node = n; is = e; within = order_within nodes k n e; does = tt })))
 
-  first_found : (t : Tree) (ps : List Placed) → All Found (flat t ++ ps) → (parent : ℕ) → parent < length nodes → All KnownMove (registration parent t)
+  first_found : (t : Tree) (ps : List NumberedNode) → All Found (flat t ++ ps) → (parent : ℕ) → parent < length nodes → All KnownMove (registration parent t)
   first_found (tree n k f) ps h parent l = registration_by n.is_static parent k n refl l (All-head Found _ (flats f ++ ps) h)
 
   mutual
@@ -66,7 +66,7 @@ module _ (nodes : List Placed) where
     below_known parent no_trees l h = All-nil KnownMove
     below_known parent (more t f) l h =
         All-append KnownMove (registration parent t) _ (first_found t (flats f) h parent l)
-        (All-append KnownMove (moves t) (moves_below parent f) (moves_known t (all_front Found (flat t) (flats f) h)) (below_known parent f l (all_back Found (flat t) (flats f) h)))
+        (All-append KnownMove (moves t) (moves_below parent f) (moves_known t (all_prefix Found (flat t) (flats f) h)) (below_known parent f l (all_back Found (flat t) (flats f) h)))
 
   abbrev pub KnownStep : Step → Type 0
   KnownStep s = IsKnown nodes s.node s.act
@@ -76,11 +76,11 @@ module _ (nodes : List Placed) where
   steps_known i (m ∷ ms) h = All-cons KnownStep (record { node = m.node; stamp = i; act = m.act }) (stamped (i + 1) ms) (All-head KnownMove m ms h) (steps_known (i + 1) ms (All-tail KnownMove m ms h))
 
 -- a unit's tree
-pub unit_known : (nodes : List Placed) → IsNumbered nodes → (place : ℕ) (top : Placed) (below rest : List Placed) → drop place nodes ≡ top ∷ (below ++ rest) → IsForest below → (first : ℕ)
+pub unit_known : (nodes : List NumberedNode) → IsNumbered nodes → (position : ℕ) (top : NumberedNode) (below rest : List NumberedNode) → drop position nodes ≡ top ∷ (below ++ rest) → IsForest below → (first : ℕ)
     → All (λ s. IsKnown nodes s.node s.act) (stamped first (moves (tree top.node top.number (forest below))))
 unfolding IsForest
-unit_known nodes numbers place top below rest at trees first =
+unit_known nodes numbers position top below rest at trees first =
     let all = all_numbered nodes numbers in
-    let here : All (Found nodes) (top ∷ (below ++ rest)) = subst (All (Found nodes)) at (All-drop (Found nodes) place nodes all) in
-    let under : All (Found nodes) (flats (forest below)) = subst (All (Found nodes)) trees (all_front (Found nodes) below rest (All-tail (Found nodes) top (below ++ rest) here)) in
+    let here : All (Found nodes) (top ∷ (below ++ rest)) = subst (All (Found nodes)) at (All-drop (Found nodes) position nodes all) in
+    let under : All (Found nodes) (flats (forest below)) = subst (All (Found nodes)) trees (all_prefix (Found nodes) below rest (All-tail (Found nodes) top (below ++ rest) here)) in
     steps_known nodes first _ (moves_known nodes (tree top.node top.number (forest below)) (All-cons (Found nodes) _ (flats (forest below)) (All-head (Found nodes) top (below ++ rest) here) under))

@@ -5,11 +5,11 @@ pub mod Cuts
 pub mod Standing
 pub mod Planning
 pub mod Ordering
-pub mod Telling
+pub mod SpineEvents
 pub mod Parting
 pub mod Knowing
 pub mod Sending
-pub mod Retelling
+pub mod StepEvents
 pub mod Keying
 pub mod Founding
 pub mod Describing

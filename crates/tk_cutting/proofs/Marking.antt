@@ -9,9 +9,9 @@ use Rattle.std.proofs.lemmas.Nat.Bits.{bit_at_or, bit_at-zero, bit_at-pow_same, 
 use Rattle.tk_book.specs.Wants.{Wants}
 use Rattle.tk_book.specs.Needs.{Access, nothing, reads, writes, access_of, access, weight, word_of}
 use Rattle.tk_book.proofs.Packing.{packed-same}
-use Rattle.tk_cutting.specs.declared.nodes.Placed.{Placed}
+use Rattle.tk_cutting.specs.declared.nodes.NumberedNode.{NumberedNode}
 use Rattle.tk_cutting.specs.Planned.{IsNeedOf, need_word, unit_asks}
-use Rattle.tk_cutting.specs.Asks.{over, at_resource}
+use Rattle.tk_cutting.specs.LockNeeds.{over, at_resource}
 
 pub over-assoc : (a b c : Access) → over (over a b) c ≡ over a (over b c)
 over-assoc nothing b c = refl
@@ -90,5 +90,5 @@ none_marked r a = ap₂ (λ x y. over (access_of x y) a) (bit_at-zero r) (bit_at
 
 -- ---- a need as a word
 
-pub word_needed : (nodes : List Placed) (unit : ℕ) (w : Wants) → IsNeedOf nodes unit w → word_of w ≡ need_word nodes unit
+pub word_needed : (nodes : List NumberedNode) (unit : ℕ) (w : Wants) → IsNeedOf nodes unit w → word_of w ≡ need_word nodes unit
 word_needed nodes unit w h = packed-same 16 (λ r. weight (access w r)) (λ r. weight (unit_asks nodes unit r)) (λ r l. ap weight (h r l))

@@ -5,7 +5,7 @@ use Rattle.std.proofs.lemmas.List.{drop_more, drop_all, take_all}
 use Rattle.tk_cutting.proofs.Grows.{forest_nil, forest-flats, is_forest, parted}
 use Rattle.tk_cutting.specs.declared.steps.Act.TheVariants.{Report}
 use Rattle.tk_cutting.specs.declared.nodes.Node.{Node}
-use Rattle.tk_cutting.specs.declared.nodes.Placed.{Placed}
+use Rattle.tk_cutting.specs.declared.nodes.NumberedNode.{NumberedNode}
 use Rattle.tk_cutting.specs.declared.steps.Move.{Move}
 use Rattle.tk_cutting.specs.declared.steps.Step.{Step}
 use Rattle.tk_cutting.specs.Trees.{Tree, tree, Forest, no_trees, more, flat, flats, grow, forest, IsForest, IsSplit}
@@ -42,16 +42,16 @@ mutual
       ∙ ap₂ (λ a b. a + b) (registration-length parent t) (length-append (moves t) _ ∙ ap₂ (λ a b. a + b) (moves-length t) (below-length parent f))
       ∙ omega arith
 
-pub is_leaf_when_empty : (ps : List Placed) → is_leaf (forest ps) ≡ (length ps == 0)
+pub is_leaf_when_empty : (ps : List NumberedNode) → is_leaf (forest ps) ≡ (length ps == 0)
 unfolding forest grow
 is_leaf_when_empty [] = refl
 is_leaf_when_empty (p ∷ ps) = grind arith
 
-pub concurrent_end : (ps : List Placed) → length ps < 1 → all_concurrent (forest ps) ≡ true
+pub concurrent_end : (ps : List NumberedNode) → length ps < 1 → all_concurrent (forest ps) ≡ true
 concurrent_end [] h = ap all_concurrent forest_nil
 concurrent_end (p ∷ ps) h = absurd (omega arith)
 
-pub concurrent_next : (p : Placed) (after below others : List Placed) → IsSplit p after below others
+pub concurrent_next : (p : NumberedNode) (after below others : List NumberedNode) → IsSplit p after below others
     → all_concurrent (forest (p ∷ after)) ≡ ((p.node.is_static && p.node.is_concurrent) && all_concurrent (forest others))
 concurrent_next p after below others s = ap all_concurrent s.trees
 
@@ -60,11 +60,11 @@ pushed olds news xs ys m e f = ap (λ l. olds ++ l) f ∙ sym (append_assoc olds
 
 -- ---- one more tree
 
-pub below_next : (parent : ℕ) (p : Placed) (after below others : List Placed) → IsSplit p after below others
+pub below_next : (parent : ℕ) (p : NumberedNode) (after below others : List NumberedNode) → IsSplit p after below others
     → moves_below parent (forest (p ∷ after)) ≡ registration parent (tree p.node p.number (forest below)) ++ (moves (tree p.node p.number (forest below)) ++ moves_below parent (forest others))
 below_next parent p after below others s = ap (moves_below parent) s.trees
 
-pub below_end : (parent : ℕ) (ps : List Placed) → length ps < 1 → moves_below parent (forest ps) ≡ []
+pub below_end : (parent : ℕ) (ps : List NumberedNode) → length ps < 1 → moves_below parent (forest ps) ≡ []
 below_end parent [] h = ap (moves_below parent) forest_nil
 below_end parent (p ∷ ps) h = absurd (omega arith)
 
@@ -83,7 +83,7 @@ stamped_next n i ms m h e =
 pub stamped_end : (n i : ℕ) (ms : List Move) → length ms ≤ i → stamped (n + i) (drop i ms) ≡ []
 stamped_end n i ms h = ap (stamped (n + i)) (drop_all i ms h)
 
-pub weights_end : (ps : List Placed) → length ps < 1 → weights (forest ps) ≡ 0
+pub weights_end : (ps : List NumberedNode) → length ps < 1 → weights (forest ps) ≡ 0
 weights_end [] h = ap weights forest_nil
 weights_end (p ∷ ps) h = absurd (omega arith)
 
@@ -103,24 +103,24 @@ unfolding join
 weights-join no_trees f = omega arith
 weights-join (more t g) f = ap (λ w. registered t + weight t + w) (weights-join g f) ∙ omega arith
 
-pub after_node : (p : Placed) (after below others : List Placed) → IsSplit p after below others
+pub after_node : (p : NumberedNode) (after below others : List NumberedNode) → IsSplit p after below others
     → IsForest after × (weights (forest after) ≡ weights (forest below) + weights (forest others))
 unfolding IsForest
 after_node p after below others s =
     let same : after ≡ flats (join (forest below) (forest others)) = s.whole ∙ ap₂ (λ a b. a ++ b) s.first s.second ∙ sym (flats-join (forest below) (forest others)) in
     (is_forest after _ same, ap (λ ps. weights (forest ps)) same ∙ ap weights (forest-flats _) ∙ weights-join (forest below) (forest others))
 
-open_weight : (p : Placed) (below others : Forest) → is_some p.node.skip ≡ false
+open_weight : (p : NumberedNode) (below others : Forest) → is_some p.node.skip ≡ false
     → weights (more (tree p.node p.number below) others) ≡ cond p.node.is_static 0 1 + (2 + length p.node.entries) + (weights below + weights others)
 open_weight p below others h = ap (λ b. cond p.node.is_static 0 1 + cond b 1 (2 + length p.node.entries + weights below) + weights others) h ∙ omega arith
 
 -- a node that isn't skipped is counted, and then what comes after it
-pub weights_open : (p : Placed) (after below others : List Placed) → IsSplit p after below others → is_some p.node.skip ≡ false
+pub weights_open : (p : NumberedNode) (after below others : List NumberedNode) → IsSplit p after below others → is_some p.node.skip ≡ false
     → weights (forest (p ∷ after)) ≡ cond p.node.is_static 0 1 + (2 + length p.node.entries) + weights (forest after)
 weights_open p after below others s h =
     ap weights s.trees ∙ open_weight p (forest below) (forest others) h ∙ ap (λ w. cond p.node.is_static 0 1 + (2 + length p.node.entries) + w) (sym (after_node p after below others s).1)
 
-pub first_and_rest : (ps : List Placed) (p : Placed) → 1 ≤ length ps → p ≡ get_or ps 0 p → p ∷ take (length ps - 1) (drop 1 ps) ≡ ps
+pub first_and_rest : (ps : List NumberedNode) (p : NumberedNode) → 1 ≤ length ps → p ≡ get_or ps 0 p → p ∷ take (length ps - 1) (drop 1 ps) ≡ ps
 first_and_rest [] p h e = absurd (omega arith)
 first_and_rest (q ∷ qs) p h e = ap₂ (λ a b. a ∷ b) e (take_all _ qs (omega arith))
 
@@ -138,11 +138,11 @@ stamped_report first k i es olds news h e =
 own_by : (b : Bool) (n : Node) → is_some n.skip ≡ b → own n ≡ cond n.is_static 0 1 + cond b 1 (2 + length n.entries)
 own_by b n e = ap (λ s. cond n.is_static 0 1 + cond s 1 (2 + length n.entries)) e
 
-pub counted_open : (p : Placed) (after below others : List Placed) → IsSplit p after below others → is_some p.node.skip ≡ false
+pub counted_open : (p : NumberedNode) (after below others : List NumberedNode) → IsSplit p after below others → is_some p.node.skip ≡ false
     → weights (forest (p ∷ after)) ≡ own p.node + weights (forest after)
 counted_open p after below others s h = weights_open p after below others s h ∙ ap (λ w. w + weights (forest after)) (sym (own_by false p.node h))
 
-pub counted_skipped : (p : Placed) (after below others : List Placed) → IsSplit p after below others → is_some p.node.skip ≡ true
+pub counted_skipped : (p : NumberedNode) (after below others : List NumberedNode) → IsSplit p after below others → is_some p.node.skip ≡ true
     → weights (forest (p ∷ after)) ≡ own p.node + weights (forest others)
 counted_skipped p after below others s h =
     ap weights s.trees
@@ -153,14 +153,14 @@ at_least : (b : Bool) (r x y o : ℕ) → r + cond b 1 x ≤ r + cond b 1 (x + y
 at_least true r x y o = omega arith
 at_least false r x y o = omega arith
 
-pub own_within : (p : Placed) (after : List Placed) → IsForest (p ∷ after) → own p.node ≤ weights (forest (p ∷ after))
+pub own_within : (p : NumberedNode) (after : List NumberedNode) → IsForest (p ∷ after) → own p.node ≤ weights (forest (p ∷ after))
 own_within p after h =
     let s = (parted p after h).split in
     omega (arith, ap weights s.trees, at_least (is_some p.node.skip) (cond p.node.is_static 0 1) (2 + length p.node.entries) (weights (forest (take (p.span - 1) after))) (weights (forest (drop (p.span - 1) after))))
 
 -- ---- what is counted is no more than the whole
 
-pub tree_within : (p : Placed) (after below others : List Placed) → IsSplit p after below others
+pub tree_within : (p : NumberedNode) (after below others : List NumberedNode) → IsSplit p after below others
     → weight (tree p.node p.number (forest below)) + weights (forest others) ≤ weights (forest (p ∷ after))
 tree_within p after below others s = omega (arith, ap weights s.trees)
 

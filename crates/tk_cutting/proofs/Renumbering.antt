@@ -4,7 +4,7 @@ use Rattle.std.proofs.lemmas.List.{drop-map, take-map, length-map}
 use Rattle.std.specs.List.{list_all}
 use Rattle.tk_ids.specs.IdText.{Pair}
 use Rattle.tk_ids.specs.declared.tables.Descriptor.{Descriptor}
-use Rattle.tk_cutting.specs.declared.nodes.Placed.{Placed}
+use Rattle.tk_cutting.specs.declared.nodes.NumberedNode.{NumberedNode}
 use Rattle.tk_cutting.specs.Trees.{Tree, tree, Forest, no_trees, more, grow, forest, contents}
 use Rattle.tk_cutting.specs.Weights.{weight, weights}
 use Rattle.tk_cutting.specs.Numbers.{with_number, numbered_from, numbered, of_kind, IsNumbered}
@@ -24,10 +24,10 @@ abbrev mutual
   bare_all no_trees = no_trees
   bare_all (more t f) = more (bare t) (bare_all f)
 
-abbrev zeroed : List Placed → List Placed
+abbrev zeroed : List NumberedNode → List NumberedNode
 zeroed = map (with_number 0)
 
-grow-bare : (n : ℕ) (ps : List Placed) → bare_all (grow n ps) ≡ grow n (zeroed ps)
+grow-bare : (n : ℕ) (ps : List NumberedNode) → bare_all (grow n ps) ≡ grow n (zeroed ps)
 unfolding grow
 grow-bare zero ps = refl
 grow-bare (suc n) [] = refl
@@ -36,24 +36,24 @@ grow-bare (suc n) (p ∷ ps) =
     (grow-bare n (take (p.span - 1) ps) ∙ ap (grow n) (sym (take-map (with_number 0) (p.span - 1) ps)))
     (grow-bare n (drop (p.span - 1) ps) ∙ ap (grow n) (sym (drop-map (with_number 0) (p.span - 1) ps)))
 
-forest-bare : (ps : List Placed) → bare_all (forest ps) ≡ forest (zeroed ps)
+forest-bare : (ps : List NumberedNode) → bare_all (forest ps) ≡ forest (zeroed ps)
 unfolding forest
 forest-bare ps = grow-bare (length ps) ps ∙ ap (λ n. grow n (zeroed ps)) (sym (length-map ps (with_number 0)))
 
-zeroed_by : (b : Bool) (s d : ℕ) (p : Placed) (x y z : List Placed) → zeroed x ≡ z → zeroed y ≡ z → zeroed (cond b (with_number s p ∷ x) (with_number d p ∷ y)) ≡ with_number 0 p ∷ z
+zeroed_by : (b : Bool) (s d : ℕ) (p : NumberedNode) (x y z : List NumberedNode) → zeroed x ≡ z → zeroed y ≡ z → zeroed (cond b (with_number s p ∷ x) (with_number d p ∷ y)) ≡ with_number 0 p ∷ z
 zeroed_by true s d p x y z e f = ap (λ l. with_number 0 p ∷ l) e
 zeroed_by false s d p x y z e f = ap (λ l. with_number 0 p ∷ l) f
 
-zeroed_numbered : (s d : ℕ) (ps : List Placed) → zeroed (numbered_from s d ps) ≡ zeroed ps
+zeroed_numbered : (s d : ℕ) (ps : List NumberedNode) → zeroed (numbered_from s d ps) ≡ zeroed ps
 zeroed_numbered s d [] = refl
 zeroed_numbered s d (p ∷ ps) = zeroed_by p.node.is_static s d p _ _ _ (zeroed_numbered (s + 1) d ps) (zeroed_numbered s (d + 1) ps)
 
-same_bare : (ps : List Placed) → bare_all (forest (numbered ps)) ≡ bare_all (forest ps)
+same_bare : (ps : List NumberedNode) → bare_all (forest (numbered ps)) ≡ bare_all (forest ps)
 same_bare ps = forest-bare (numbered ps) ∙ ap forest (zeroed_numbered 0 _ ps) ∙ sym (forest-bare ps)
 
 -- ---- what is blind to them
 
-blind : {A : Type 0} (g : Forest → A) → ((f : Forest) → g (bare_all f) ≡ g f) → (ps : List Placed) → g (forest (numbered ps)) ≡ g (forest ps)
+blind : {A : Type 0} (g : Forest → A) → ((f : Forest) → g (bare_all f) ≡ g f) → (ps : List NumberedNode) → g (forest (numbered ps)) ≡ g (forest ps)
 blind g h ps = sym (h (forest (numbered ps))) ∙ ap g (same_bare ps) ∙ h (forest ps)
 
 rooted-bare : (f : Forest) → is_rooted (bare_all f) ≡ is_rooted f
@@ -87,30 +87,30 @@ mutual
 
 -- ---- lists without numbers
 
-through : {A : Type 0} (g : List Placed → A) → ((ps : List Placed) → g (zeroed ps) ≡ g ps) → (s d : ℕ) (ps : List Placed) → g (numbered_from s d ps) ≡ g ps
+through : {A : Type 0} (g : List NumberedNode → A) → ((ps : List NumberedNode) → g (zeroed ps) ≡ g ps) → (s d : ℕ) (ps : List NumberedNode) → g (numbered_from s d ps) ≡ g ps
 through g h s d ps = sym (h (numbered_from s d ps)) ∙ ap g (zeroed_numbered s d ps) ∙ h ps
 
-contents-zeroed : (ps : List Placed) → contents (zeroed ps) ≡ contents ps
+contents-zeroed : (ps : List NumberedNode) → contents (zeroed ps) ≡ contents ps
 contents-zeroed [] = refl
 contents-zeroed (p ∷ ps) = ap (λ l. p.node ∷ l) (contents-zeroed ps)
 
-spans-zeroed : (ps : List Placed) → map (λ p. p.span) (zeroed ps) ≡ map (λ p. p.span) ps
+spans-zeroed : (ps : List NumberedNode) → map (λ p. p.span) (zeroed ps) ≡ map (λ p. p.span) ps
 spans-zeroed [] = refl
 spans-zeroed (p ∷ ps) = ap (λ l. p.span ∷ l) (spans-zeroed ps)
 
-statics-zeroed : (ps : List Placed) → of_kind true (zeroed ps) ≡ of_kind true ps
+statics-zeroed : (ps : List NumberedNode) → of_kind true (zeroed ps) ≡ of_kind true ps
 statics-zeroed [] = refl
 statics-zeroed (p ∷ ps) = ap (λ l. cond p.node.is_static (p.node ∷ l) l) (statics-zeroed ps)
 
-dynamics-zeroed : (ps : List Placed) → of_kind false (zeroed ps) ≡ of_kind false ps
+dynamics-zeroed : (ps : List NumberedNode) → of_kind false (zeroed ps) ≡ of_kind false ps
 dynamics-zeroed [] = refl
 dynamics-zeroed (p ∷ ps) = ap (λ l. cond p.node.is_static l (p.node ∷ l)) (dynamics-zeroed ps)
 
-numbered-zeroed : (s d : ℕ) (ps : List Placed) → numbered_from s d (zeroed ps) ≡ numbered_from s d ps
+numbered-zeroed : (s d : ℕ) (ps : List NumberedNode) → numbered_from s d (zeroed ps) ≡ numbered_from s d ps
 numbered-zeroed s d [] = refl
 numbered-zeroed s d (p ∷ ps) = ap₂ (λ x y. cond p.node.is_static (with_number s p ∷ x) (with_number d p ∷ y)) (numbered-zeroed (s + 1) d ps) (numbered-zeroed s (d + 1) ps)
 
-pub numbered_once : (ps : List Placed) → IsNumbered (numbered ps)
+pub numbered_once : (ps : List NumberedNode) → IsNumbered (numbered ps)
 numbered_once ps =
     let n = length (of_kind true ps) in
     sym (
@@ -120,7 +120,7 @@ numbered_once ps =
 
 -- ---- so a plan stays one
 
-pub renumbered : (ps : List Placed) (table : List Descriptor) → IsPlanned ps table → IsPlanned (numbered ps) table
+pub renumbered : (ps : List NumberedNode) (table : List Descriptor) → IsPlanned ps table → IsPlanned (numbered ps) table
 renumbered ps table p =
     let n = length (of_kind true ps) in
     let same : contents (numbered ps) ≡ contents ps = through contents contents-zeroed 0 n ps in
@@ -136,8 +136,8 @@ renumbered ps table p =
       few_events = omega (arith, p.few_events, below-length 0 (forest ps), below-length 0 (forest (numbered ps)), blind weights weights-bare ps);
     }
 
-pub same_contents_numbered : (ps : List Placed) → contents (numbered ps) ≡ contents ps
+pub same_contents_numbered : (ps : List NumberedNode) → contents (numbered ps) ≡ contents ps
 same_contents_numbered ps = through contents contents-zeroed 0 _ ps
 
-pub numbered-length : (ps : List Placed) → length (numbered ps) ≡ length ps
+pub numbered-length : (ps : List NumberedNode) → length (numbered ps) ≡ length ps
 numbered-length ps = sym (length-map (numbered ps) (with_number 0)) ∙ ap length (zeroed_numbered 0 _ ps) ∙ length-map ps (with_number 0)

@@ -10,7 +10,7 @@ use Rattle.tk_events.specs.declared.kinds.Kind.TheVariants.{Finished, Reporting}
 use Rattle.tk_events.specs.declared.payloads.Payload.TheVariants.{Outcome, Report}
 use Rattle.tk_events.specs.Event.{is_lawful}
 use Rattle.tk_cutting.specs.declared.nodes.Node.{Node}
-use Rattle.tk_cutting.specs.declared.nodes.Placed.{Placed}
+use Rattle.tk_cutting.specs.declared.nodes.NumberedNode.{NumberedNode}
 use Rattle.tk_cutting.specs.Trees.{Tree, tree, Forest, no_trees, more, flat, flats, forest, IsForest, contents}
 use Rattle.tk_cutting.specs.Script.{moves, opening}
 use Rattle.tk_cutting.specs.Events.{reported, begun, ended, IsStatic, AreStatic}
@@ -24,7 +24,7 @@ use Rattle.tk_cutting.proofs.Keying.{key_within, ids_below-length}
 use Rattle.tk_cutting.proofs.Founding.{rooted_static}
 use Rattle.tk_cutting.proofs.Describing.{statics-append, statics_length}
 use Rattle.tk_cutting.proofs.Planning.{counted}
-use Rattle.tk_cutting.proofs.Parting.{all_front, all_back, all_single}
+use Rattle.tk_cutting.proofs.Parting.{all_prefix, all_back, all_single}
 
 abbrev top_static : Tree → Bool
 top_static (tree n k f) = n.is_static
@@ -37,7 +37,7 @@ module _ (table : List Descriptor) where
   abbrev Fit : Node → ℕ → Type 0
   Fit n k = (is_lawful_node n ≡ true) × (k < length table)
 
-  abbrev FitPlaced : Placed → Type 0
+  abbrev FitPlaced : NumberedNode → Type 0
   FitPlaced p = (is_lawful_node p.node ≡ true) × (p.node.is_static ≡ true → p.number < length table)
 
   abbrev FitPart : Part → Type 0
@@ -63,7 +63,7 @@ module _ (table : List Descriptor) where
     below_fit b (more t f) e h =
         let both = static_both t f e in
         All-append FitPart (parts b t) (parts_below b f)
-        (parts_fit b t both.0 (all_front FitPlaced (flat t) (flats f) h)) (below_fit b f both.1 (all_back FitPlaced (flat t) (flats f) h))
+        (parts_fit b t both.0 (all_prefix FitPlaced (flat t) (flats f) h)) (below_fit b f both.1 (all_back FitPlaced (flat t) (flats f) h))
 
   -- ---- their events
 
@@ -115,12 +115,12 @@ tails_few i (closes n k ∷ ps) = omega (arith, tails_few (i + 1) ps)
 
 -- ---- of a plan
 
-lawful_at : (ps : List Placed) (k : ℕ) (d : Placed) → list_all is_lawful_node (contents ps) ≡ true → k < length ps → is_lawful_node (slice_index_or ps k d).node ≡ true
+lawful_at : (ps : List NumberedNode) (k : ℕ) (d : NumberedNode) → list_all is_lawful_node (contents ps) ≡ true → k < length ps → is_lawful_node (slice_index_or ps k d).node ≡ true
 lawful_at [] k d h l = absurd (omega arith)
 lawful_at (p ∷ ps) zero d h l = (if_both (is_lawful_node p.node) _ h).0
 lawful_at (p ∷ ps) (suc k) d h l = lawful_at ps k d (if_both (is_lawful_node p.node) _ h).1 (omega (arith, l))
 
-nodes_fit : (nodes : List Placed) (table : List Descriptor) → IsPlanned nodes table → IsNumbered nodes → All (FitPlaced table) nodes
+nodes_fit : (nodes : List NumberedNode) (table : List Descriptor) → IsPlanned nodes table → IsNumbered nodes → All (FitPlaced table) nodes
 unfolding IsForest
 nodes_fit nodes table plan numbers k d l =
     let ids = ids_below [] (forest nodes) in
@@ -129,21 +129,21 @@ nodes_fit nodes table plan numbers k d l =
       λ e. key_within nodes table plan numbers k (slice_index_or nodes k d) (get_or ids k []) (slice_get-get_or nodes k d l) (slice_get-get_or ids k [] (omega (arith, l, long))) e,
     )
 
-spine_fits : (nodes : List Placed) (table : List Descriptor) → IsPlanned nodes table → IsNumbered nodes → All (FitPart table) (parts_below true (forest nodes))
+spine_fits : (nodes : List NumberedNode) (table : List Descriptor) → IsPlanned nodes table → IsNumbered nodes → All (FitPart table) (parts_below true (forest nodes))
 unfolding IsForest
 spine_fits nodes table plan numbers =
     below_fit table true (forest nodes) (rooted_static (forest nodes) plan.root) (subst (All (FitPlaced table)) plan.trees (nodes_fit nodes table plan numbers))
 
-all_few : (nodes : List Placed) (table : List Descriptor) → IsPlanned nodes table → length (flat_map moves_of (parts_below true (forest nodes))) ≤ MAX_EVENTS
+all_few : (nodes : List NumberedNode) (table : List Descriptor) → IsPlanned nodes table → length (flat_map moves_of (parts_below true (forest nodes))) ≤ MAX_EVENTS
 all_few nodes table plan = omega (arith, plan.few_events, ap length (parts_below-moves true 0 (forest nodes) (rooted_static (forest nodes) plan.root)))
 
-pub before_static : (nodes : List Placed) (table : List Descriptor) → IsPlanned nodes table → IsNumbered nodes → AreStatic table (before_of (forest nodes))
+pub before_static : (nodes : List NumberedNode) (table : List Descriptor) → IsPlanned nodes table → IsNumbered nodes → AreStatic table (before_of (forest nodes))
 before_static nodes table plan numbers = record {
   each = heads_static table 0 (parts_below true (forest nodes)) (spine_fits nodes table plan numbers);
   few = omega (arith, heads_few 0 (parts_below true (forest nodes)), all_few nodes table plan);
 }
 
-pub after_static : (nodes : List Placed) (table : List Descriptor) → IsPlanned nodes table → IsNumbered nodes → AreStatic table (after_of (forest nodes))
+pub after_static : (nodes : List NumberedNode) (table : List Descriptor) → IsPlanned nodes table → IsNumbered nodes → AreStatic table (after_of (forest nodes))
 after_static nodes table plan numbers = record {
   each = tails_static table 0 (parts_below true (forest nodes)) (spine_fits nodes table plan numbers);
   few = omega (arith, tails_few 0 (parts_below true (forest nodes)), all_few nodes table plan);
@@ -182,7 +182,7 @@ mutual
         length-append (of_kind true (flat t)) (of_kind true (flats f)),
       )
 
-pub few_units : (nodes : List Placed) (table : List Descriptor) → IsPlanned nodes table → length (units_of (forest nodes)) ≤ MAX_DESCRIPTORS
+pub few_units : (nodes : List NumberedNode) (table : List Descriptor) → IsPlanned nodes table → length (units_of (forest nodes)) ≤ MAX_DESCRIPTORS
 unfolding IsForest
 few_units nodes table plan =
     omega (

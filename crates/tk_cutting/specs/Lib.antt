@@ -7,9 +7,9 @@ pub mod Trees
 pub mod Script
 pub mod Weights
 pub mod Events
-pub mod Told
+pub mod StepEvents
 pub mod Cutting
-pub mod Asks
+pub mod LockNeeds
 pub mod Marked
 pub mod Adds
 pub mod Keys

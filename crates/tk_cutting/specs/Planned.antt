@@ -3,7 +3,7 @@ use Rattle.std.specs.Prelude.{◌≡◌, ◌≤◌, ◌<◌, ◌&&◌, ℕ, List
 use Rattle.std.specs.List.{list_all}
 use Rattle.tk_cutting.specs.declared.counts.TheConstants.{MAX_EVENTS}
 use Rattle.tk_ids.specs.declared.tables.TheConstants.{MAX_DESCRIPTORS}
-use Rattle.tk_cutting.specs.declared.asking.TheConstants.{MAX_KEYS}
+use Rattle.tk_cutting.specs.declared.needs.TheConstants.{MAX_KEYS}
 use Rattle.tk_ids.specs.declared.tables.Descriptor.{Descriptor}
 use Rattle.tk_events.specs.declared.kinds.Kind.TheVariants.{Finished, Reporting}
 use Rattle.tk_events.specs.declared.payloads.Payload.TheVariants.{Outcome, Report}
@@ -12,18 +12,18 @@ use Rattle.tk_book.specs.Wants.{Wants}
 use Rattle.tk_book.specs.Words.{packed}
 use Rattle.tk_book.specs.Needs.{Access, nothing, access, weight}
 use Rattle.tk_cutting.specs.declared.nodes.Node.{Node}
-use Rattle.tk_cutting.specs.declared.nodes.Placed.{Placed}
+use Rattle.tk_cutting.specs.declared.nodes.NumberedNode.{NumberedNode}
 use Rattle.tk_cutting.specs.Trees.{Forest, no_trees, more, tree, IsForest, forest, contents, flat}
 use Rattle.tk_cutting.specs.Script.{moves_below}
 use Rattle.tk_cutting.specs.Cutting.{Piece, pieces_of}
-use Rattle.tk_cutting.specs.Asks.{nodes_ask}
+use Rattle.tk_cutting.specs.LockNeeds.{nodes_ask}
 use Rattle.tk_cutting.specs.Keys.{lock_keys}
 use Rattle.tk_cutting.specs.Numbers.{of_kind}
 use Rattle.tk_cutting.specs.Ids.{ids_below, descriptors_below, AreDistinct}
 
 -- what a clause sees of a plan: its nodes in preorder, and the descriptors of the static ones
 pub record Outline : Type 0 where
-  pub nodes : List Placed
+  pub nodes : List NumberedNode
   pub table : List Descriptor
 
 -- one tree, whose root is static
@@ -38,7 +38,7 @@ is_lawful_node n = is_lawful Finished (Outcome n.status n.message) && list_all (
 
 -- A tree under one static root. No two of its nodes have one id, and its static nodes are those of the table, in preorder.
 -- Nothing of it speaks of the nodes' numbers.
-pub record IsPlanned (nodes : List Placed) (table : List Descriptor) : Type 0 where
+pub record IsPlanned (nodes : List NumberedNode) (table : List Descriptor) : Type 0 where
   pub trees : IsForest nodes
   pub root : is_rooted (forest nodes) ≡ true
   pub lawful : list_all is_lawful_node (contents nodes) ≡ true
@@ -55,15 +55,15 @@ piece_asks keys None r = nothing
 piece_asks keys (Some u) r = nodes_ask keys (contents (flat u.tree)) r
 
 -- the same of the plan's unit of that number
-abbrev pub unit_asks : List Placed → ℕ → ℕ → Access
+abbrev pub unit_asks : List NumberedNode → ℕ → ℕ → Access
 unit_asks nodes unit r = piece_asks (lock_keys (contents nodes)) (slice_get (pieces_of (forest nodes)) unit) r
 
 -- the need asks what the nodes of the unit ask
-abbrev pub IsNeedOf : List Placed → ℕ → Wants → Type 0
+abbrev pub IsNeedOf : List NumberedNode → ℕ → Wants → Type 0
 IsNeedOf nodes unit w = (r : ℕ) → r < 16 → access w r ≡ unit_asks nodes unit r
 
 -- that need as a word
-abbrev pub need_word : List Placed → ℕ → ℕ
+abbrev pub need_word : List NumberedNode → ℕ → ℕ
 need_word nodes unit = packed 16 (λ r. weight (unit_asks nodes unit r))
 
 -- one list stands within another, without a gap

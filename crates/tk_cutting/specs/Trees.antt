@@ -1,7 +1,7 @@
 -- A plan is a tree of nodes. Each has its number.
 use Rattle.std.specs.Prelude.{◌≡◌, ℕ, zero, suc, ◌-◌, List, [], ◌∷◌, ◌++◌, length, take, drop, map}
 use Rattle.tk_cutting.specs.declared.nodes.Node.{Node}
-use Rattle.tk_cutting.specs.declared.nodes.Placed.{Placed}
+use Rattle.tk_cutting.specs.declared.nodes.NumberedNode.{NumberedNode}
 
 mutual
   pub data Tree : Type 0 where
@@ -13,32 +13,32 @@ mutual
 
 -- in preorder, each with the number of nodes from it down
 abbrev mutual
-  pub flat : Tree → List Placed
+  pub flat : Tree → List NumberedNode
   flat (tree n k f) = record { node = n; number = k; span = suc (length (flats f)) } ∷ flats f
 
-  pub flats : Forest → List Placed
+  pub flats : Forest → List NumberedNode
   flats no_trees = []
   flats (more t f) = flat t ++ flats f
 
 -- the trees that some nodes in preorder are, cut by their spans; the first number is not less than that of the nodes
-unfoldable pub grow : ℕ → List Placed → Forest
+unfoldable pub grow : ℕ → List NumberedNode → Forest
 grow zero ps = no_trees
 grow (suc n) [] = no_trees
 grow (suc n) (p ∷ ps) = more (tree p.node p.number (grow n (take (p.span - 1) ps))) (grow n (drop (p.span - 1) ps))
 
-unfoldable pub forest : List Placed → Forest
+unfoldable pub forest : List NumberedNode → Forest
 forest ps = grow (length ps) ps
 
 -- nodes in preorder
-unfoldable pub IsForest : List Placed → Type 0
+unfoldable pub IsForest : List NumberedNode → Type 0
 IsForest ps = ps ≡ flats (forest ps)
 
 -- the tree whose nodes come first
-abbrev pub front : Placed → List Placed → Tree
-front p ps = tree p.node p.number (forest (take (p.span - 1) ps))
+abbrev pub first_tree : NumberedNode → List NumberedNode → Tree
+first_tree p ps = tree p.node p.number (forest (take (p.span - 1) ps))
 
 -- what comes after a first node, split into what is below it and the other trees
-pub record IsSplit (p : Placed) (after below others : List Placed) : Type 0 where
+pub record IsSplit (p : NumberedNode) (after below others : List NumberedNode) : Type 0 where
   pub span : p.span ≡ suc (length below)
   pub whole : after ≡ below ++ others
   pub first : IsForest below
@@ -48,13 +48,13 @@ pub record IsSplit (p : Placed) (after below others : List Placed) : Type 0 wher
 abbrev pub number_of : Tree → ℕ
 number_of (tree n k f) = k
 
-abbrev pub contents : List Placed → List Node
+abbrev pub contents : List NumberedNode → List Node
 contents = map (λ p. p.node)
 
 -- a tree stands at the place
-pub record Stands (all : List Placed) (at : ℕ) : Type 0 where
-  pub top : Placed
-  pub below : List Placed
-  pub rest : List Placed
-  pub place : drop at all ≡ top ∷ (below ++ rest)
+pub record HasTreeAt (all : List NumberedNode) (at : ℕ) : Type 0 where
+  pub top : NumberedNode
+  pub below : List NumberedNode
+  pub rest : List NumberedNode
+  pub position : drop at all ≡ top ∷ (below ++ rest)
   pub span : top.span ≡ suc (length below)

@@ -4,13 +4,13 @@ ghost use Rattle.tk_cutting.specs.Trees.{IsForest, forest, tree};
 ghost use Rattle.tk_cutting.specs.Script.{moves_below};
 ghost use Rattle.tk_cutting.specs.Weights.{own, weight, weights};
 
-use crate::nodes::{Node, Placed};
+use crate::nodes::{Node, NumberedNode};
 use crate::splits::split;
 
 /// How many events a plan has at most.
 pub const MAX_EVENTS: u64 = 1_048_576;
 
-/// How many events a node gives by itself, as far as there may be so many.
+/// How many events a node emits by itself, counted up to the limit of a plan.
 fn own_events(node: &Node) -> u64
     ensures same { min result (MAX_EVENTS + 1) ≡ min (own node.now) (MAX_EVENTS + 1) }
     ensures bound { result ≤ MAX_EVENTS + 4 }
@@ -23,20 +23,20 @@ fn own_events(node: &Node) -> u64
     registration + 2 + entries.min(MAX_EVENTS + 1)
 }
 
-/// How many events some trees have, as far as there may be so many.
-fn count_all(nodes: &[Placed]) -> u64
+/// How many events some trees have, counted up to the limit of a plan.
+fn count_all(nodes: &[NumberedNode]) -> u64
     requires { IsForest nodes.now }
     ensures { min result (MAX_EVENTS + 1) ≡ min (weights (forest nodes.now)) (MAX_EVENTS + 1) }
 {
     let mut count = 0;
     let mut rest = nodes;
-    while let [placed, after @ ..] = rest {
-        count += own_events(&placed.node);
+    while let [numbered_node, after @ ..] = rest {
+        count += own_events(&numbered_node.node);
         if count > MAX_EVENTS {
             return count;
         }
-        let (_, others) = split(placed, after);
-        if placed.node.skip.is_some() {
+        let (_, others) = split(numbered_node, after);
+        if numbered_node.node.skip.is_some() {
             rest = others;
         } else {
             rest = after;
@@ -47,7 +47,7 @@ fn count_all(nodes: &[Placed]) -> u64
 
 /// How many events the script of a plan's root has, where these are the plan's nodes in preorder;
 /// none where there are more than `MAX_EVENTS`.
-pub fn count_events(nodes: &[Placed]) -> Option<u32>
+pub fn count_events(nodes: &[NumberedNode]) -> Option<u32>
     requires { IsForest nodes.now }
     ensures { MatchOption result (MAX_EVENTS < length (moves_below 0 (forest nodes.now)))
         (λ n. (n ≡ length (moves_below 0 (forest nodes.now))) × (n ≤ MAX_EVENTS)) }
@@ -61,13 +61,13 @@ pub fn count_events(nodes: &[Placed]) -> Option<u32>
 }
 
 /// How many events a tree has.
-pub(crate) fn count_tree(placed: &Placed, below: &[Placed]) -> u64
+pub(crate) fn count_tree(numbered_node: &NumberedNode, below: &[NumberedNode]) -> u64
     requires below { IsForest below.now }
-    requires limit { weight (tree placed.now.node placed.now.number (forest below.now)) ≤ MAX_EVENTS }
-    ensures { result ≡ weight (tree placed.now.node placed.now.number (forest below.now)) }
+    requires limit { weight (tree numbered_node.now.node numbered_node.now.number (forest below.now)) ≤ MAX_EVENTS }
+    ensures { result ≡ weight (tree numbered_node.now.node numbered_node.now.number (forest below.now)) }
 {
-    if placed.node.skip.is_some() {
+    if numbered_node.node.skip.is_some() {
         return 1;
     }
-    2 + placed.node.entries.as_slice().len() as u64 + count_all(below)
+    2 + numbered_node.node.entries.as_slice().len() as u64 + count_all(below)
 }

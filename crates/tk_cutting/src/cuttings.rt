@@ -8,29 +8,29 @@ ghost use Rattle.tk_cutting.specs.Kept.{IsCut};
 ghost use Rattle.tk_cutting.specs.Keys.{lock_keys};
 ghost use Rattle.tk_ids.specs.declared.tables.TheConstants.{MAX_DESCRIPTORS};
 ghost use Rattle.tk_cutting.specs.declared.counts.TheConstants.{MAX_EVENTS};
-ghost use Rattle.tk_cutting.specs.declared.asking.TheConstants.{MAX_KEYS};
+ghost use Rattle.tk_cutting.specs.declared.needs.TheConstants.{MAX_KEYS};
 
-use crate::asking::need_of;
 use crate::counts::count_tree;
-use crate::nodes::Placed;
+use crate::needs::need_of;
+use crate::nodes::NumberedNode;
 use crate::spines::is_on_spine;
 use crate::splits::split;
 use std::alloc::{AllocError, Global};
 use tk_book::Need;
 use tk_ids::Text;
 
-/// Where the nodes of a unit begin, how many events come before it, and what it needs.
+/// A unit: the position of its first node, how many events come before it, and what it needs.
 #[derive(Clone, Copy)]
-pub(crate) struct Sited {
-    pub place: usize,
+pub(crate) struct PlanUnit {
+    pub position: usize,
     pub first: u64,
     pub need: Need,
 }
 
-/// The place of a node of the spine, and a stamp of its events.
+/// The position of a node of the spine, and the stamp of its first event there.
 #[derive(Clone, Copy)]
-pub(crate) struct Spot {
-    pub place: usize,
+pub(crate) struct SpineStamp {
+    pub position: usize,
     pub stamp: u64,
 }
 
@@ -41,11 +41,11 @@ pub(crate) struct Cutting {
     pub spine: Vec<u32>,
     /// The numbers of the units' top nodes.
     pub units: Vec<u32>,
-    pub pieces: Vec<Sited>,
+    pub pieces: Vec<PlanUnit>,
     /// The spine's nodes with the stamps of their starts, in preorder.
-    pub opened: Vec<Spot>,
+    pub opened: Vec<SpineStamp>,
     /// The spine's nodes with the stamps of their finishes, in postorder.
-    pub closed: Vec<Spot>,
+    pub closed: Vec<SpineStamp>,
     /// How many events there are so far.
     pub first: u64,
 }
@@ -70,30 +70,30 @@ impl Cutting {
     }
 
     /// Adds a start on the spine with its entries.
-    fn begin(&mut self, placed: &Placed, place: usize) -> Result<(), AllocError>
-        requires { self.old.first + (1 + length placed.now.node.entries) ≤ MAX_EVENTS }
-        ensures first { OnOk result (self.new.first ≡ self.old.first + (1 + length placed.now.node.entries)) }
-        ensures adds { OnOk result ((all rest : List Placed) → (keys : List (List ℕ)) → drop place all ≡ placed.now ∷ rest
-            → Adds all keys self.old self.new (opens placed.now.node placed.now.number ∷ [])) }
+    fn begin(&mut self, numbered_node: &NumberedNode, position: usize) -> Result<(), AllocError>
+        requires { self.old.first + (1 + length numbered_node.now.node.entries) ≤ MAX_EVENTS }
+        ensures first { OnOk result (self.new.first ≡ self.old.first + (1 + length numbered_node.now.node.entries)) }
+        ensures adds { OnOk result ((all rest : List NumberedNode) → (keys : List (List ℕ)) → drop position all ≡ numbered_node.now ∷ rest
+            → Adds all keys self.old self.new (opens numbered_node.now.node numbered_node.now.number ∷ [])) }
     {
-        self.spine.push(placed.number)?;
-        self.opened.push(Spot {
-            place,
+        self.spine.push(numbered_node.number)?;
+        self.opened.push(SpineStamp {
+            position,
             stamp: self.first,
         })?;
-        self.first += 1 + placed.node.entries.as_slice().len() as u64;
+        self.first += 1 + numbered_node.node.entries.as_slice().len() as u64;
         Ok(())
     }
 
     /// Adds a finish on the spine.
-    fn end(&mut self, placed: &Placed, place: usize) -> Result<(), AllocError>
+    fn end(&mut self, numbered_node: &NumberedNode, position: usize) -> Result<(), AllocError>
         requires { self.old.first ≤ MAX_EVENTS }
         ensures first { OnOk result (self.new.first ≡ self.old.first + 1) }
-        ensures adds { OnOk result ((all rest : List Placed) → (keys : List (List ℕ)) → drop place all ≡ placed.now ∷ rest
-            → Adds all keys self.old self.new (closes placed.now.node placed.now.number ∷ [])) }
+        ensures adds { OnOk result ((all rest : List NumberedNode) → (keys : List (List ℕ)) → drop position all ≡ numbered_node.now ∷ rest
+            → Adds all keys self.old self.new (closes numbered_node.now.node numbered_node.now.number ∷ [])) }
     {
-        self.closed.push(Spot {
-            place,
+        self.closed.push(SpineStamp {
+            position,
             stamp: self.first,
         })?;
         self.first += 1;
@@ -104,25 +104,25 @@ impl Cutting {
     fn add(
         &mut self,
         keys: &[Text],
-        placed: &Placed,
-        below: &[Placed],
-        place: usize,
+        numbered_node: &NumberedNode,
+        below: &[NumberedNode],
+        position: usize,
     ) -> Result<(), AllocError>
         requires keys { length keys.now ≤ MAX_KEYS }
         requires below { IsForest below.now }
-        requires span { placed.now.span ≡ suc (length below.now) }
-        requires limit { self.old.first + weight (tree placed.now.node placed.now.number (forest below.now)) ≤ MAX_EVENTS }
-        ensures first { OnOk result (self.new.first ≡ self.old.first + weight (tree placed.now.node placed.now.number (forest below.now))) }
-        ensures adds { OnOk result ((all rest : List Placed) → drop place all ≡ placed.now ∷ (below.now ++ rest)
-            → Adds all keys.now self.old self.new (runs (tree placed.now.node placed.now.number (forest below.now)) ∷ [])) }
+        requires span { numbered_node.now.span ≡ suc (length below.now) }
+        requires limit { self.old.first + weight (tree numbered_node.now.node numbered_node.now.number (forest below.now)) ≤ MAX_EVENTS }
+        ensures first { OnOk result (self.new.first ≡ self.old.first + weight (tree numbered_node.now.node numbered_node.now.number (forest below.now))) }
+        ensures adds { OnOk result ((all rest : List NumberedNode) → drop position all ≡ numbered_node.now ∷ (below.now ++ rest)
+            → Adds all keys.now self.old self.new (runs (tree numbered_node.now.node numbered_node.now.number (forest below.now)) ∷ [])) }
     {
-        self.units.push(placed.number)?;
-        self.pieces.push(Sited {
-            place,
+        self.units.push(numbered_node.number)?;
+        self.pieces.push(PlanUnit {
+            position,
             first: self.first,
-            need: need_of(keys, placed, below),
+            need: need_of(keys, numbered_node, below),
         })?;
-        self.first += count_tree(placed, below);
+        self.first += count_tree(numbered_node, below);
         Ok(())
     }
 }
@@ -130,28 +130,28 @@ impl Cutting {
 #[cycle(cutting)]
 fn cut_tree(
     keys: &[Text],
-    placed: &Placed,
-    below: &[Placed],
-    place: usize,
+    numbered_node: &NumberedNode,
+    below: &[NumberedNode],
+    position: usize,
     is_root: bool,
     cutting: &mut Cutting,
 ) -> Result<(), AllocError>
     requires keys { length keys.now ≤ MAX_KEYS }
     requires below { IsForest below.now }
-    requires span { placed.now.span ≡ suc (length below.now) }
-    requires place { place + 1 + length below.now ≤ 2 ^ 32 }
-    requires limit { cutting.old.first + weight (tree placed.now.node placed.now.number (forest below.now)) ≤ MAX_EVENTS }
-    ensures first { OnOk result (cutting.new.first ≡ cutting.old.first + weight (tree placed.now.node placed.now.number (forest below.now))) }
-    ensures adds { OnOk result ((all rest : List Placed) → drop place all ≡ placed.now ∷ (below.now ++ rest)
-        → Adds all keys.now cutting.old cutting.new (parts is_root (tree placed.now.node placed.now.number (forest below.now)))) }
+    requires span { numbered_node.now.span ≡ suc (length below.now) }
+    requires position { position + 1 + length below.now ≤ 2 ^ 32 }
+    requires limit { cutting.old.first + weight (tree numbered_node.now.node numbered_node.now.number (forest below.now)) ≤ MAX_EVENTS }
+    ensures first { OnOk result (cutting.new.first ≡ cutting.old.first + weight (tree numbered_node.now.node numbered_node.now.number (forest below.now))) }
+    ensures adds { OnOk result ((all rest : List NumberedNode) → drop position all ≡ numbered_node.now ∷ (below.now ++ rest)
+        → Adds all keys.now cutting.old cutting.new (parts is_root (tree numbered_node.now.node numbered_node.now.number (forest below.now)))) }
 {
-    if !is_on_spine(is_root, &placed.node, below) {
-        cutting.add(keys, placed, below, place)?;
+    if !is_on_spine(is_root, &numbered_node.node, below) {
+        cutting.add(keys, numbered_node, below, position)?;
         return Ok(());
     }
-    cutting.begin(placed, place)?;
-    cut_all(keys, below, place + 1, false, cutting)?;
-    cutting.end(placed, place)?;
+    cutting.begin(numbered_node, position)?;
+    cut_all(keys, below, position + 1, false, cutting)?;
+    cutting.end(numbered_node, position)?;
     Ok(())
 }
 
@@ -159,33 +159,37 @@ fn cut_tree(
 #[cycle(cutting)]
 fn cut_all(
     keys: &[Text],
-    nodes: &[Placed],
-    place: usize,
+    nodes: &[NumberedNode],
+    position: usize,
     is_root: bool,
     cutting: &mut Cutting,
 ) -> Result<(), AllocError>
     requires keys { length keys.now ≤ MAX_KEYS }
     requires nodes { IsForest nodes.now }
     requires statics { all_static (forest nodes.now) ≡ true }
-    requires place { place + length nodes.now ≤ 2 ^ 32 }
+    requires position { position + length nodes.now ≤ 2 ^ 32 }
     requires limit { cutting.old.first + weights (forest nodes.now) ≤ MAX_EVENTS }
     ensures first { OnOk result (cutting.new.first ≡ cutting.old.first + weights (forest nodes.now)) }
-    ensures adds { OnOk result ((all rest : List Placed) → drop place all ≡ nodes.now ++ rest
+    ensures adds { OnOk result ((all rest : List NumberedNode) → drop position all ≡ nodes.now ++ rest
         → Adds all keys.now cutting.old cutting.new (parts_below is_root (forest nodes.now))) }
 {
     let mut rest = nodes;
-    let mut at = place;
-    while let [placed, after @ ..] = rest {
-        let (below, others) = split(placed, after);
-        cut_tree(keys, placed, below, at, is_root, cutting)?;
-        at += placed.span;
+    let mut at = position;
+    while let [numbered_node, after @ ..] = rest {
+        let (below, others) = split(numbered_node, after);
+        cut_tree(keys, numbered_node, below, at, is_root, cutting)?;
+        at += numbered_node.span;
         rest = others;
     }
     Ok(())
 }
 
 /// Cuts a plan's nodes.
-pub(crate) fn cut(alloc: Global, keys: &[Text], nodes: &[Placed]) -> Result<Cutting, AllocError>
+pub(crate) fn cut(
+    alloc: Global,
+    keys: &[Text],
+    nodes: &[NumberedNode],
+) -> Result<Cutting, AllocError>
     requires keys { keys.now ≡ lock_keys (contents nodes.now) }
     requires few_keys { length keys.now ≤ MAX_KEYS }
     requires trees { IsForest nodes.now }

@@ -1,12 +1,12 @@
 //! The events of the spine's nodes.
 ghost use Rattle.std.specs.Prelude.{◌≡◌, ◌++◌, ◌∷◌, [], ◌+◌, ◌≤◌, ◌^◌, List, OnOk, IfOk, IsSome, length};
 ghost use Rattle.tk_cutting.specs.Events.{begun, ended};
-ghost use Rattle.tk_cutting.specs.Told.{payload_of};
+ghost use Rattle.tk_cutting.specs.StepEvents.{payload_of};
 ghost use Rattle.tk_cutting.specs.Known.{Does};
-ghost use Rattle.tk_cutting.specs.declared.nodes.Placed.{Placed};
+ghost use Rattle.tk_cutting.specs.declared.nodes.NumberedNode.{NumberedNode};
 ghost use Rattle.tk_cutting.specs.declared.counts.TheConstants.{MAX_EVENTS};
 
-use crate::nodes::{Node, Placed};
+use crate::nodes::{Node, NumberedNode};
 use crate::steps::Act;
 use std::alloc::{AllocError, Global};
 use tk_events::{Event, Kind, Payload};
@@ -39,7 +39,7 @@ fn reason(node: &Node) -> Result<Payload, AllocError>
 
 /// What a node says as it does that.
 pub(crate) fn payload(alloc: Global, node: &Node, act: Act) -> Result<Payload, AllocError>
-    requires { (nodes : List Placed) × Does nodes node.now act }
+    requires { (nodes : List NumberedNode) × Does nodes node.now act }
     ensures { IfOk result (λ p. p ≡ payload_of node.now act) }
 {
     match act {
@@ -57,23 +57,23 @@ pub(crate) fn payload(alloc: Global, node: &Node, act: Act) -> Result<Payload, A
 /// Adds a node's start and its entries, with their stamps.
 pub(crate) fn push_begun(
     alloc: Global,
-    placed: &Placed,
+    numbered_node: &NumberedNode,
     stamp: u64,
     events: &mut Vec<Event>,
 ) -> Result<(), AllocError>
-    requires { stamp + length placed.now.node.entries ≤ MAX_EVENTS }
-    ensures { OnOk result (events.new.items ≡ events.old.items ++ begun placed.now.number stamp placed.now.node) }
+    requires { stamp + length numbered_node.now.node.entries ≤ MAX_EVENTS }
+    ensures { OnOk result (events.new.items ≡ events.old.items ++ begun numbered_node.now.number stamp numbered_node.now.node) }
 {
     events.push(Event {
         kind: Kind::Started,
-        key: placed.number,
+        key: numbered_node.number,
         stamp,
         payload: Payload::Nothing,
     })?;
-    for (index, entry) in placed.node.entries.as_slice().iter().enumerate() {
+    for (index, entry) in numbered_node.node.entries.as_slice().iter().enumerate() {
         events.push(Event {
             kind: Kind::Reporting,
-            key: placed.number,
+            key: numbered_node.number,
             stamp: stamp + 1 + index as u64,
             payload: Payload::Report(entry.try_clone(alloc)?),
         })?;
@@ -83,17 +83,17 @@ pub(crate) fn push_begun(
 
 /// Adds a node's finish.
 pub(crate) fn push_ended(
-    placed: &Placed,
+    numbered_node: &NumberedNode,
     stamp: u64,
     events: &mut Vec<Event>,
 ) -> Result<(), AllocError>
-    ensures { OnOk result (events.new.items ≡ events.old.items ++ ended placed.now.number stamp placed.now.node ∷ []) }
+    ensures { OnOk result (events.new.items ≡ events.old.items ++ ended numbered_node.now.number stamp numbered_node.now.node ∷ []) }
 {
     events.push(Event {
         kind: Kind::Finished,
-        key: placed.number,
+        key: numbered_node.number,
         stamp,
-        payload: outcome(&placed.node)?,
+        payload: outcome(&numbered_node.node)?,
     })?;
     Ok(())
 }

@@ -1,8 +1,8 @@
 //! Laws of plans, which hold of the definitions alone.
 ghost use Rattle.std.specs.Prelude.{◌≡◌};
-ghost use Rattle.tk_cutting.specs.declared.asking.TheConstants.{MAX_KEYS};
+ghost use Rattle.tk_cutting.specs.declared.needs.TheConstants.{MAX_KEYS};
 ghost use Rattle.tk_cutting.specs.declared.counts.TheConstants.{MAX_EVENTS};
-ghost use Rattle.tk_cutting.specs.Laws.{LosesNothing, KeepsStamps, TellsSteps, FindsNodes, HasKeys};
+ghost use Rattle.tk_cutting.specs.Laws.{LosesNothing, KeepsStamps, SpineEventsAreSteps, FindsNodes, HasKeys};
 
 /// Cutting loses nothing and adds nothing: the parts into which a tree is cut, one after another,
 /// are what the tree does.
@@ -16,8 +16,8 @@ pub fn keeps_stamps()
 {}
 
 /// What a node of the spine tells before its children and after them are its steps.
-pub fn tells_steps()
-    ensures { TellsSteps }
+pub fn spine_events_are_steps()
+    ensures { SpineEventsAreSteps }
 {}
 
 /// The node of number k is item k of the static nodes and then the others, each in preorder.

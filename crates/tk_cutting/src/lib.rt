@@ -1,11 +1,11 @@
 //! How a plan is cut into its spine and its units, and what each of them does.
 #![tactic(auto)]
 
-mod asking;
 mod counts;
 mod cuttings;
 mod events;
 pub mod laws;
+mod needs;
 mod nodes;
 mod numbering;
 mod orders;
@@ -15,8 +15,8 @@ mod spines;
 mod splits;
 mod steps;
 
-pub use asking::MAX_KEYS;
 pub use counts::{MAX_EVENTS, count_events};
-pub use nodes::{Entries, Lock, Locks, Node, Placed};
+pub use needs::MAX_KEYS;
+pub use nodes::{Entries, Lock, Locks, Node, NumberedNode};
 pub use plans::Plan;
 pub use steps::{Act, Step};

@@ -98,7 +98,7 @@ pub struct Node {
 
 /// A node in preorder.
 #[derive(Debug, Drop)]
-pub struct Placed {
+pub struct NumberedNode {
     pub node: Node,
     /// A static node's number is its key in the table. The dynamic nodes' numbers follow.
     pub number: u32,

@@ -2,7 +2,7 @@
 ghost use Rattle.std.specs.Prelude.{◌≡◌, ◌+◌, ◌≤◌, ◌<◌, ◌^◌, length, if◌then◌else◌};
 ghost use Rattle.tk_cutting.specs.Numbers.{numbered_from};
 
-use crate::nodes::Placed;
+use crate::nodes::NumberedNode;
 
 /// The numbers that the next nodes take.
 #[derive(Drop)]
@@ -31,7 +31,7 @@ impl Next {
 
 /// Gives each static node the number of those before it, and each other node a number from
 /// `statics` on.
-pub(crate) fn set_numbers(statics: u32, nodes: &mut [Placed])
+pub(crate) fn set_numbers(statics: u32, nodes: &mut [NumberedNode])
     requires { statics + length nodes.old ≤ 2 ^ 31 }
     ensures { nodes.new ≡ numbered_from 0 statics nodes.old }
 {

@@ -5,9 +5,9 @@ ghost use Rattle.tk_ids.specs.declared.tables.TheConstants.{MAX_DESCRIPTORS};
 
 use crate::cuttings::{Cutting, cut};
 use crate::events::{payload, push_begun, push_ended};
-use crate::nodes::{Node, Placed};
+use crate::nodes::{Node, NumberedNode};
 use crate::numbering::set_numbers;
-use crate::orders::places_of;
+use crate::orders::positions_of;
 use crate::scripts::{push_tree, stamp_all};
 use crate::splits::tree_at;
 use crate::steps::Step;
@@ -21,11 +21,11 @@ use tk_ids::{DType, Segment, Table, Text};
 /// A plan: a tree of nodes, of which the static ones stand in a table, and how it is cut.
 #[derive(Drop)]
 pub struct Plan {
-    nodes: Vec<Placed>,
+    nodes: Vec<NumberedNode>,
     table: Arc<Table>,
     cutting: Cutting,
-    /// The nodes' places, in the order of their numbers.
-    places: Vec<usize>,
+    /// The nodes' positions, in the order of their numbers.
+    positions: Vec<usize>,
 }
 
 impl Model for Plan {
@@ -37,7 +37,7 @@ impl Model for Plan {
 
     ghost view = { λ p. record { nodes = p.nodes.items; table = arc_value p.table } };
 
-    ghost invariant = { λ p. IsPlan p.nodes.items (arc_value p.table) p.cutting p.places.items };
+    ghost invariant = { λ p. IsPlan p.nodes.items (arc_value p.table) p.cutting p.positions.items };
 }
 
 impl Plan {
@@ -48,7 +48,7 @@ impl Plan {
     ghost use Rattle.tk_book.specs.Needs.{word_of};
     ghost use Rattle.tk_cutting.specs.Events.{AreStatic};
     ghost use Rattle.tk_cutting.specs.Known.{IsKnown};
-    ghost use Rattle.tk_cutting.specs.Told.{payload_of};
+    ghost use Rattle.tk_cutting.specs.StepEvents.{payload_of};
     ghost use Rattle.tk_cutting.specs.Planned.{IsPlanned, IsNeedOf, need_word, IsWithin};
     ghost use Rattle.tk_cutting.specs.Numbers.{in_order, entry_of, numbered, IsNumbered};
 
@@ -56,23 +56,24 @@ impl Plan {
     /// and the lock keys, save `global`, by first appearance.
     pub fn new(
         alloc: Global,
-        mut nodes: Vec<Placed>,
+        mut nodes: Vec<NumberedNode>,
         table: Arc<Table>,
         keys: &[Text],
     ) -> Result<Plan, AllocError>
         requires planned { IsPlanned nodes.items (arc_value table) }
         requires keys { keys.now ≡ lock_keys (contents nodes.items) }
-        ensures { IfOk result (λ plan. plan ≡ record { nodes = numbered nodes.items; table = arc_value table }) }
+        ensures { IfOk result (λ plan.
+            plan ≡ record { nodes = numbered nodes.items; table = arc_value table }) }
     {
         let statics = table.len() as u32;
         set_numbers(statics, nodes.as_mut_slice());
         let cutting = cut(alloc, keys, nodes.as_slice())?;
-        let places = places_of(alloc, nodes.as_slice())?;
+        let positions = positions_of(alloc, nodes.as_slice())?;
         Ok(Plan {
             nodes,
             table,
             cutting,
-            places,
+            positions,
         })
     }
 
@@ -119,9 +120,9 @@ impl Plan {
         ensures known { IfOk result (λ steps. All (λ s. IsKnown self.now.nodes s.node s.act) steps.items) }
     {
         let piece = self.cutting.pieces[unit as usize];
-        let (placed, below) = tree_at(self.nodes.as_slice(), piece.place);
+        let (numbered_node, below) = tree_at(self.nodes.as_slice(), piece.position);
         let mut moves = Vec::new(alloc);
-        push_tree(placed, below, &mut moves)?;
+        push_tree(numbered_node, below, &mut moves)?;
         stamp_all(alloc, piece.first, moves.as_slice())
     }
 
@@ -131,8 +132,8 @@ impl Plan {
         ensures lawful { IfOk result (λ events. AreStatic self.now.table events.items) }
     {
         let mut events = Vec::new(alloc);
-        for spot in self.cutting.opened.as_slice() {
-            push_begun(alloc, &self.nodes[spot.place], spot.stamp, &mut events)?;
+        for spine in self.cutting.opened.as_slice() {
+            push_begun(alloc, &self.nodes[spine.position], spine.stamp, &mut events)?;
         }
         Ok(events)
     }
@@ -143,8 +144,8 @@ impl Plan {
         ensures lawful { IfOk result (λ events. AreStatic self.now.table events.items) }
     {
         let mut events = Vec::new(alloc);
-        for spot in self.cutting.closed.as_slice() {
-            push_ended(&self.nodes[spot.place], spot.stamp, &mut events)?;
+        for spine in self.cutting.closed.as_slice() {
+            push_ended(&self.nodes[spine.position], spine.stamp, &mut events)?;
         }
         Ok(events)
     }
@@ -161,15 +162,16 @@ impl Plan {
         requires { number < length self.now.nodes }
         ensures { slice_get (in_order self.now.nodes) number ≡ Some result.now }
     {
-        let place = self.places[number as usize];
-        &self.nodes[place].node
+        let position = self.positions[number as usize];
+        &self.nodes[position].node
     }
 
     /// What the event of a step says beside its kind. Of a registration this is nothing: whoever
     /// registers makes the descriptor.
     pub fn payload(&self, alloc: Global, step: Step) -> Result<Payload, AllocError>
         requires { IsKnown self.now.nodes step.node step.act }
-        ensures { IfOk result (λ p. option_map (λ n. payload_of n step.act) (slice_get (in_order self.now.nodes) step.node) ≡ Some p) }
+        ensures { IfOk result (λ p. option_map (λ n.
+            payload_of n step.act) (slice_get (in_order self.now.nodes) step.node) ≡ Some p) }
     {
         payload(alloc, self.node(step.node), step.act)
     }
@@ -177,7 +179,8 @@ impl Plan {
     /// The name of the node of a number.
     pub fn name(&self, node: u32) -> &str
         requires { node < length self.now.nodes }
-        ensures { option_map (λ n. n.name) (slice_get (in_order self.now.nodes) node) ≡ Some result.now }
+        ensures { option_map (λ n.
+            n.name) (slice_get (in_order self.now.nodes) node) ≡ Some result.now }
     {
         self.node(node).name.as_str()
     }
@@ -185,7 +188,8 @@ impl Plan {
     /// The last segment of the node's id.
     pub fn segment(&self, node: u32) -> &Segment
         requires { node < length self.now.nodes }
-        ensures { option_map (λ n. n.segment) (slice_get (in_order self.now.nodes) node) ≡ Some result.now }
+        ensures { option_map (λ n.
+            n.segment) (slice_get (in_order self.now.nodes) node) ≡ Some result.now }
     {
         &self.node(node).segment
     }
@@ -200,7 +204,8 @@ impl Plan {
     /// Why the node is skipped, if it is.
     pub fn reason(&self, node: u32) -> Option<&str>
         requires { node < length self.now.nodes }
-        ensures { option_map (λ n. n.skip) (slice_get (in_order self.now.nodes) node) ≡ Some (option_map (λ r. r.now) result) }
+        ensures { option_map (λ n.
+            n.skip) (slice_get (in_order self.now.nodes) node) ≡ Some (option_map (λ r. r.now) result) }
     {
         match &self.node(node).skip {
             Some(reason) => Some(reason.as_str()),
@@ -220,8 +225,10 @@ impl Plan {
     /// How the node finishes, and the message.
     pub fn outcome(&self, node: u32) -> (Status, Option<&str>)
         requires { node < length self.now.nodes }
-        ensures status { option_map (λ n. n.status) (slice_get (in_order self.now.nodes) node) ≡ Some result.0 }
-        ensures message { option_map (λ n. n.message) (slice_get (in_order self.now.nodes) node) ≡ Some (option_map (λ m. m.now) result.1) }
+        ensures status { option_map (λ n.
+            n.status) (slice_get (in_order self.now.nodes) node) ≡ Some result.0 }
+        ensures message { option_map (λ n.
+            n.message) (slice_get (in_order self.now.nodes) node) ≡ Some (option_map (λ m. m.now) result.1) }
     {
         let node = self.node(node);
         match &node.message {

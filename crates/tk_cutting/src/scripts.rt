@@ -6,7 +6,7 @@ ghost use Rattle.tk_cutting.specs.Script.{moves_below, stamped};
 ghost use Rattle.tk_cutting.specs.Weights.{weight, weights};
 ghost use Rattle.tk_cutting.specs.declared.counts.TheConstants.{MAX_EVENTS};
 
-use crate::nodes::{Node, Placed};
+use crate::nodes::{Node, NumberedNode};
 use crate::splits::split;
 use crate::steps::{Act, Move, Step};
 use std::alloc::{AllocError, Global};
@@ -30,23 +30,23 @@ fn push_opening(node: &Node, number: u32, moves: &mut Vec<Move>) -> Result<(), A
 
 #[cycle(moving)]
 pub(crate) fn push_tree(
-    placed: &Placed,
-    below: &[Placed],
+    numbered_node: &NumberedNode,
+    below: &[NumberedNode],
     moves: &mut Vec<Move>,
 ) -> Result<(), AllocError>
     requires below { IsForest below.now }
-    requires limit { weight (tree placed.now.node placed.now.number (forest below.now)) ≤ MAX_EVENTS }
-    ensures { OnOk result (moves.new.items ≡ moves.old.items ++ Script.moves (tree placed.now.node placed.now.number (forest below.now))) }
+    requires limit { weight (tree numbered_node.now.node numbered_node.now.number (forest below.now)) ≤ MAX_EVENTS }
+    ensures { OnOk result (moves.new.items ≡ moves.old.items ++ Script.moves (tree numbered_node.now.node numbered_node.now.number (forest below.now))) }
 {
-    let node = placed.number;
-    if placed.node.skip.is_some() {
+    let node = numbered_node.number;
+    if numbered_node.node.skip.is_some() {
         moves.push(Move {
             node,
             act: Act::Skip,
         })?;
         return Ok(());
     }
-    push_opening(&placed.node, node, moves)?;
+    push_opening(&numbered_node.node, node, moves)?;
     push_all(node, below, moves)?;
     moves.push(Move {
         node,
@@ -57,21 +57,21 @@ pub(crate) fn push_tree(
 
 /// Adds what some trees do below a parent.
 #[cycle(moving)]
-fn push_all(parent: u32, nodes: &[Placed], moves: &mut Vec<Move>) -> Result<(), AllocError>
+fn push_all(parent: u32, nodes: &[NumberedNode], moves: &mut Vec<Move>) -> Result<(), AllocError>
     requires nodes { IsForest nodes.now }
     requires limit { weights (forest nodes.now) ≤ MAX_EVENTS }
     ensures { OnOk result (moves.new.items ≡ moves.old.items ++ moves_below parent (forest nodes.now)) }
 {
     let mut rest = nodes;
-    while let [placed, after @ ..] = rest {
-        let (below, others) = split(placed, after);
-        if !placed.node.is_static {
+    while let [numbered_node, after @ ..] = rest {
+        let (below, others) = split(numbered_node, after);
+        if !numbered_node.node.is_static {
             moves.push(Move {
-                node: placed.number,
+                node: numbered_node.number,
                 act: Act::Register { parent },
             })?;
         }
-        push_tree(placed, below, moves)?;
+        push_tree(numbered_node, below, moves)?;
         rest = others;
     }
     Ok(())

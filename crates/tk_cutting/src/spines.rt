@@ -4,7 +4,7 @@ ghost use Rattle.tk_cutting.specs.Trees.{IsForest, forest};
 ghost use Rattle.tk_cutting.specs.Cutting.{all_concurrent, on_spine};
 ghost use Rattle.tk_cutting.specs.Cutting as Cutting;
 
-use crate::nodes::{Node, Placed};
+use crate::nodes::{Node, NumberedNode};
 use crate::splits::split;
 
 fn is_concurrent_child(node: &Node) -> bool
@@ -13,14 +13,14 @@ fn is_concurrent_child(node: &Node) -> bool
     node.is_static && node.is_concurrent
 }
 
-fn are_concurrent(below: &[Placed]) -> bool
+fn are_concurrent(below: &[NumberedNode]) -> bool
     requires { IsForest below.now }
     ensures { result ≡ all_concurrent (forest below.now) }
 {
     let mut rest = below;
-    while let [placed, after @ ..] = rest {
-        let (_, others) = split(placed, after);
-        if !is_concurrent_child(&placed.node) {
+    while let [numbered_node, after @ ..] = rest {
+        let (_, others) = split(numbered_node, after);
+        if !is_concurrent_child(&numbered_node.node) {
             return false;
         }
         rest = others;
@@ -28,13 +28,13 @@ fn are_concurrent(below: &[Placed]) -> bool
     true
 }
 
-fn is_leaf(below: &[Placed]) -> bool
+fn is_leaf(below: &[NumberedNode]) -> bool
     ensures { result ≡ Cutting.is_leaf (forest below.now) }
 {
     below.is_empty()
 }
 
-fn is_free(node: &Node, below: &[Placed]) -> bool
+fn is_free(node: &Node, below: &[NumberedNode]) -> bool
     requires { IsForest below.now }
     ensures { result ≡ Cutting.is_free node.now (forest below.now) }
 {
@@ -46,7 +46,7 @@ fn is_free(node: &Node, below: &[Placed]) -> bool
 }
 
 /// Whether a node stands on the spine, given the nodes below it.
-pub(crate) fn is_on_spine(is_root: bool, node: &Node, below: &[Placed]) -> bool
+pub(crate) fn is_on_spine(is_root: bool, node: &Node, below: &[NumberedNode]) -> bool
     requires { IsForest below.now }
     ensures { result ≡ on_spine is_root node.now (forest below.now) }
 {

@@ -1,25 +1,31 @@
 //! Nodes in preorder, taken apart.
 ghost use Rattle.std.specs.Prelude.{◌≡◌, ◌∷◌, ◌++◌, List, suc, length, drop};
-ghost use Rattle.tk_cutting.specs.Trees.{IsForest, IsSplit, Stands};
+ghost use Rattle.tk_cutting.specs.Trees.{IsForest, IsSplit, HasTreeAt};
 
-use crate::nodes::Placed;
+use crate::nodes::NumberedNode;
 
 /// What comes after a node, split into the nodes below it and the others.
-pub(crate) fn split<'p>(placed: &Placed, after: &'p [Placed]) -> (&'p [Placed], &'p [Placed])
-    requires { IsForest (placed.now ∷ after.now) }
-    ensures { IsSplit placed.now after.now result.0.now result.1.now }
+pub(crate) fn split<'p>(
+    numbered_node: &NumberedNode,
+    after: &'p [NumberedNode],
+) -> (&'p [NumberedNode], &'p [NumberedNode])
+    requires { IsForest (numbered_node.now ∷ after.now) }
+    ensures { IsSplit numbered_node.now after.now result.0.now result.1.now }
 {
-    after.split_at(placed.span - 1)
+    after.split_at(numbered_node.span - 1)
 }
 
 /// The node at a place, and those below it.
-pub(crate) fn tree_at<'p>(nodes: &'p [Placed], place: usize) -> (&'p Placed, &'p [Placed])
-    requires { Stands nodes.now place }
-    ensures { (top : Placed) → (below rest : List Placed) → drop place nodes.now ≡ top ∷ (below ++ rest) → top.span ≡ suc (length below)
+pub(crate) fn tree_at<'p>(
+    nodes: &'p [NumberedNode],
+    position: usize,
+) -> (&'p NumberedNode, &'p [NumberedNode])
+    requires { HasTreeAt nodes.now position }
+    ensures { (top : NumberedNode) → (below rest : List NumberedNode) → drop position nodes.now ≡ top ∷ (below ++ rest) → top.span ≡ suc (length below)
         → (result.0.now ≡ top) × (result.1.now ≡ below) }
 {
-    let placed = &nodes[place];
-    let (_, after) = nodes.split_at(place + 1);
-    let (below, _) = after.split_at(placed.span - 1);
-    (placed, below)
+    let numbered_node = &nodes[position];
+    let (_, after) = nodes.split_at(position + 1);
+    let (below, _) = after.split_at(numbered_node.span - 1);
+    (numbered_node, below)
 }

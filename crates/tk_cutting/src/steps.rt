@@ -16,9 +16,9 @@ pub enum Act {
 }
 
 impl Act {
-    ghost use Rattle.tk_cutting.specs.Told.{kind_of};
+    ghost use Rattle.tk_cutting.specs.StepEvents.{kind_of};
 
-    /// The kind of event by which it is told.
+    /// The kind of the event that it emits.
     pub fn kind(self) -> Kind
         ensures { result ≡ kind_of self }
     {

@@ -1,7 +1,7 @@
-pub mod Hands
+pub mod UnstartedWorkers
 pub mod Emitted
-pub mod Frames
+pub mod BeforeAndAfter
 pub mod Outcomes
-pub mod Places
-pub mod Takings
+pub mod Positions
+pub mod Collecting
 pub mod Tokens

@@ -6,14 +6,14 @@ use Rattle.std.proofs.lemmas.List.Quantifiers.{all_pairs_push}
 use Rattle.atomic_table.specs.Seated.{TableId}
 use Rattle.tk_events.specs.declared.events.Event.{Event}
 use Rattle.tk_claim.specs.Claims.{ClaimName}
-use Rattle.tk_engine.specs.declared.intakes.Intake.{Intake}
-use Rattle.tk_engine.specs.declared.teams.Team.{Team}
+use Rattle.tk_engine.specs.declared.event_collectors.EventCollector.{EventCollector}
+use Rattle.tk_engine.specs.declared.worker_threads.JoinedWorkers.{JoinedWorkers}
 use Rattle.tk_engine.specs.declared.workers.Outcome.{Outcome}
-use Rattle.tk_engine.specs.Intakes.{Follows, IsIntake, IsSettled}
-use Rattle.tk_engine.specs.Teams.{IsConducted}
+use Rattle.tk_engine.specs.EventCollectors.{Follows, IsCollector, NoneIsAwaited}
+use Rattle.tk_engine.specs.WorkerThreads.{WorkersWereRun}
 use Rattle.tk_engine.specs.Workers.{IsDone, AreDone}
-use Rattle.tk_engine.proofs.Places.{nil_of_length, snoc_all}
-use Rattle.tk_engine.proofs.Takings.{follows-trans}
+use Rattle.tk_engine.proofs.Positions.{nil_of_length, snoc_all}
+use Rattle.tk_engine.proofs.Collecting.{follows-trans}
 
 module _ (may : ℕ → ℕ → ℕ → List Event → Type 0) (units : ℕ) (session : TableId) (claim : ClaimName) where
   abbrev IsOwn : Outcome → Type 0
@@ -46,30 +46,30 @@ module _ (may : ℕ → ℕ → ℕ → List Event → Type 0) (units : ℕ) (se
 
 module _ (may : ℕ → ℕ → ℕ → List Event → Type 0) (units : ℕ) (claim : ClaimName) where
   -- nobody is left to start
-  pub nobody_left : (n : ℕ) (old new : Team) → n ≡ 0 → vec_len new.outcomes ≡ 0 → Follows old.intake new.intake → IsIntake new.intake → IsSettled new.intake
-      → new.intake.is_refused ≡ old.intake.is_refused → IsConducted may units claim n old new
-  nobody_left n old new none empty follows intake settled same =
+  pub nobody_left : (n : ℕ) (old new : JoinedWorkers) → n ≡ 0 → vec_len new.outcomes ≡ 0 → Follows old.collector new.collector → IsCollector new.collector → NoneIsAwaited new.collector
+      → new.collector.is_refused ≡ old.collector.is_refused → WorkersWereRun may units claim n old new
+  nobody_left n old new none empty follows collector none_is_awaited same =
       let items : new.outcomes.items ≡ [] = nil_of_length new.outcomes.items (sym (new.outcomes.ok.0) ∙ empty) in record {
         follows = follows;
-        intake = intake;
-        settled = settled;
-        each = rw items (none_done may units old.intake.receiver.session claim n);
+        collector = collector;
+        none_is_awaited = none_is_awaited;
+        each = rw items (none_done may units old.collector.receiver.session claim n);
         refused = λ was is. let e : false ≡ true = sym was ∙ sym same ∙ is in cc;
         count = λ going. empty ∙ sym none;
         done = λ going i o e. let there : slice_get [] i ≡ Some o = rw items at e in cc;
       }
 
   -- the next worker was joined
-  pub one_joined : (m n : ℕ) (old mid new : Team) (o : Outcome) → n ≡ m + 1 → IsConducted may units claim m old mid → new.intake ≡ mid.intake
-      → new.outcomes.items ≡ mid.outcomes.items ++ o ∷ [] → IsDone may units old.intake.receiver.session claim (m + 1) o → IsConducted may units claim n old new
+  pub one_joined : (m n : ℕ) (old mid new : JoinedWorkers) (o : Outcome) → n ≡ m + 1 → WorkersWereRun may units claim m old mid → new.collector ≡ mid.collector
+      → new.outcomes.items ≡ mid.outcomes.items ++ o ∷ [] → IsDone may units old.collector.receiver.session claim (m + 1) o → WorkersWereRun may units claim n old new
   one_joined m n old mid new o more was same items done =
-      let session = old.intake.receiver.session in
-      let refused : new.intake.is_refused ≡ mid.intake.is_refused = ap (λ (a : Intake). a.is_refused) same in
+      let session = old.collector.receiver.session in
+      let refused : new.collector.is_refused ≡ mid.collector.is_refused = ap (λ (a : EventCollector). a.is_refused) same in
       let longer : vec_len new.outcomes ≡ vec_len mid.outcomes + 1 = (let long = ap (λ l. length l) items in omega (arith, new.outcomes.ok.0, mid.outcomes.ok.0, long, length-append mid.outcomes.items (o ∷ []))) in
       record {
         follows = rw same was.follows;
-        intake = rw same was.intake;
-        settled = rw same was.settled;
+        collector = rw same was.collector;
+        none_is_awaited = rw same was.none_is_awaited;
         each = rw (items, more) (one_done may units session claim m (m + 1) mid.outcomes.items o (omega arith) was.each done);
         refused = λ started missing. let fewer = was.refused started (sym refused ∙ missing) in omega (arith, fewer, longer, more);
         count = λ going. let all = was.count (sym refused ∙ going) in omega (arith, all, longer, more);
@@ -79,15 +79,15 @@ module _ (may : ℕ → ℕ → ℕ → List Event → Type 0) (units : ℕ) (cl
       }
 
   -- the next worker's thread was not started
-  pub one_refused : (m n : ℕ) (old mid new : Team) → n ≡ m + 1 → Follows old.intake mid.intake → mid.intake.is_refused ≡ true → vec_len new.outcomes ≤ m
-      → IsConducted may units claim m mid new → IsConducted may units claim n old new
+  pub one_refused : (m n : ℕ) (old mid new : JoinedWorkers) → n ≡ m + 1 → Follows old.collector mid.collector → mid.collector.is_refused ≡ true → vec_len new.outcomes ≤ m
+      → WorkersWereRun may units claim m mid new → WorkersWereRun may units claim n old new
   one_refused m n old mid new more first missing few was =
-      let not_going : new.intake.is_refused ≡ false → ⊥ = (λ going. let e : true ≡ false = sym missing ∙ was.follows.refused going in cc) in
+      let not_going : new.collector.is_refused ≡ false → ⊥ = (λ going. let e : true ≡ false = sym missing ∙ was.follows.refused going in cc) in
       record {
-        follows = follows-trans old.intake mid.intake new.intake first was.follows;
-        intake = was.intake;
-        settled = was.settled;
-        each = rw more (still_done may units old.intake.receiver.session claim m (m + 1) new.outcomes.items (omega arith) (rw first.session at was.each));
+        follows = follows-trans old.collector mid.collector new.collector first was.follows;
+        collector = was.collector;
+        none_is_awaited = was.none_is_awaited;
+        each = rw more (still_done may units old.collector.receiver.session claim m (m + 1) new.outcomes.items (omega arith) (rw first.session at was.each));
         refused = λ _ _. omega (arith, few, more);
         count = λ going. absurd (not_going going);
         done = λ going. absurd (not_going going);

@@ -14,21 +14,21 @@ use Rattle.tk_replay.specs.Core.{entries}
 use Rattle.tk_claim.specs.Claims.{ClaimName, Claimant, Claims}
 use Rattle.tk_queue.specs.declared.receivers.CloseReason.{CloseReason}
 use Rattle.tk_queue.specs.declared.receivers.CloseReason.TheVariants.{Missing, Twice, NotDrained}
-use Rattle.tk_queue.specs.Ends.{Emits as Sent, Receives, tokens_of, lists, is_marked, IsFault}
-use Rattle.tk_runs.specs.Run.{IsShared}
+use Rattle.tk_queue.specs.Ends.{SenderView as Sent, ReceiverView, tokens_of, lists, is_marked, IsFault}
+use Rattle.tk_run_record.specs.Run.{IsShared}
 use Rattle.tk_engine.specs.declared.engines.UnitFault.{UnitFault}
 use Rattle.tk_engine.specs.declared.workers.Outcome.{Outcome}
 use Rattle.tk_engine.specs.declared.workers.Failure.{Failure}
-use Rattle.tk_engine.specs.declared.intakes.Intake.{Intake}
-use Rattle.tk_engine.specs.Intakes.{IsIntake, IsSettled}
+use Rattle.tk_engine.specs.declared.event_collectors.EventCollector.{EventCollector}
+use Rattle.tk_engine.specs.EventCollectors.{IsCollector, NoneIsAwaited}
 use Rattle.tk_engine.specs.Results.{IsTallied}
 use Rattle.tk_queue.specs.Known.{entries_by}
-use Rattle.tk_runs.proofs.Workers.{in_the_middle}
+use Rattle.tk_run_record.proofs.Workers.{in_the_middle}
 use Rattle.tk_engine.specs.declared.runs.RunFault.{RunFault}
 use Rattle.tk_engine.specs.declared.runs.RunFault.TheVariants as fault
-use Rattle.tk_engine.specs.Sorting.{AllWhole, CanClose, IsFirstFailure, IsTeamFault, IsLate}
+use Rattle.tk_engine.specs.Outcomes.{AllCompleted, CanClose, IsFirstFailure, IsFaultOfWorkers, IsFaultOfUnits}
 use Rattle.tk_engine.specs.Workers.{AllDone}
-use Rattle.tk_engine.proofs.Places.{map_at, all_from}
+use Rattle.tk_engine.proofs.Positions.{map_at, all_from}
 use Rattle.tk_engine.proofs.Emitted.{emits_along}
 
 -- ---- tokens that are numbered from k + 1 on
@@ -83,13 +83,13 @@ list_at k (suc i) (u ∷ ts) t h e =
 
 -- ---- a session that can be closed
 
-numbered : (r : Receives) (ts : List Sent) → CanClose r ts → Numbered 0 ts
+numbered : (r : ReceiverView) (ts : List Sent) → CanClose r ts → Numbered 0 ts
 numbered r ts can = λ i t e. let n = can.workers i t e in omega arith
 
-has_one : (r : Receives) (ts : List Sent) → CanClose r ts → (w : ℕ) → IsWorkerOf r.workers w → tokens_of w ts ≡ 1
+has_one : (r : ReceiverView) (ts : List Sent) → CanClose r ts → (w : ℕ) → IsWorkerOf r.workers w → tokens_of w ts ≡ 1
 has_one r ts can w own = let n = can.count in once 0 w ts (numbered r ts can) own.0 (let high : w ≤ r.workers = own.1 in omega arith)
 
-pub no_fault : (r : Receives) (ts : List Sent) (why : CloseReason) → CanClose r ts → IsFault why r ts → ⊥
+pub no_fault : (r : ReceiverView) (ts : List Sent) (why : CloseReason) → CanClose r ts → IsFault why r ts → ⊥
 no_fault r ts (Missing w) can h = let one = has_one r ts can w h.worker in let none : tokens_of w ts ≡ 0 = h.holds in absurd (omega arith)
 no_fault r ts (Twice w) can h = let one = has_one r ts can w h.1.worker in let two : 1 < tokens_of w ts = h.1.holds in absurd (omega arith)
 no_fault r ts (NotDrained w) can h =
@@ -100,13 +100,13 @@ no_fault r ts (NotDrained w) can h =
     let taken : is_marked w r.taken ≡ true = rw same at (can.marks (w - 1) (omega arith)) in
     let left : is_marked w r.taken ≡ false = h.1.holds in cc
 
-pub sessions : (r : Receives) (ts : List Sent) → CanClose r ts → All (λ t. t.session ≡ r.session) ts
+pub sessions : (r : ReceiverView) (ts : List Sent) → CanClose r ts → All (λ t. t.session ≡ r.session) ts
 sessions r ts can = all_from (λ t. t.session ≡ r.session) ts can.session
 
 -- ---- outcomes
 
 -- the outcome of a token, and its seat
-token_at : (os : List Outcome) (ts : List Sent) (ss : List Claimant) → AllWhole os ts ss → (i : ℕ) (t : Sent) → slice_get ts i ≡ Some t
+token_at : (os : List Outcome) (ts : List Sent) (ss : List Claimant) → AllCompleted os ts ss → (i : ℕ) (t : Sent) → slice_get ts i ≡ Some t
     → (o : Outcome) × (slice_get os i ≡ Some o) × (o.failure ≡ None) × (t ≡ o.ended) × (slice_get ss i ≡ Some o.claim_seat)
 token_at [] ts ss (a, b) i t e = let none : slice_get [] i ≡ Some t = rw a at e in cc
 token_at (o ∷ os) ts ss (none, us, rs, a, b, rest) zero t e =
@@ -116,7 +116,7 @@ token_at (o ∷ os) ts ss (none, us, rs, a, b, rest) (suc i) t e =
     let h = token_at os us rs rest i t later in (h.0, h.1, h.2, h.3, rw b (h.4))
 
 -- the outcome of a seat, and its token
-pub seat_at : (os : List Outcome) (ts : List Sent) (ss : List Claimant) → AllWhole os ts ss → (i : ℕ) (s : Claimant) → slice_get ss i ≡ Some s
+pub seat_at : (os : List Outcome) (ts : List Sent) (ss : List Claimant) → AllCompleted os ts ss → (i : ℕ) (s : Claimant) → slice_get ss i ≡ Some s
     → (o : Outcome) × (slice_get os i ≡ Some o) × (o.failure ≡ None) × (s ≡ o.claim_seat) × (slice_get ts i ≡ Some o.ended)
 seat_at [] ts ss (a, b) i s e = let none : slice_get [] i ≡ Some s = rw b at e in cc
 seat_at (o ∷ os) ts ss (none, us, rs, a, b, rest) zero s e =
@@ -125,46 +125,46 @@ seat_at (o ∷ os) ts ss (none, us, rs, a, b, rest) (suc i) s e =
     let later : slice_get (o.claim_seat ∷ rs) (suc i) ≡ Some s = rw b at e in
     let h = seat_at os us rs rest i s later in (h.0, h.1, h.2, h.3, rw a (h.4))
 
-length-tokens : (os : List Outcome) (ts : List Sent) (ss : List Claimant) → AllWhole os ts ss → length ts ≡ length os
+length-tokens : (os : List Outcome) (ts : List Sent) (ss : List Claimant) → AllCompleted os ts ss → length ts ≡ length os
 length-tokens [] ts ss (a, b) = ap (λ l. length l) a
 length-tokens (o ∷ os) ts ss (none, us, rs, a, b, rest) = ap (λ l. length l) a ∙ ap suc (length-tokens os us rs rest)
 
-pub length-seats : (os : List Outcome) (ts : List Sent) (ss : List Claimant) → AllWhole os ts ss → length ss ≡ length os
+pub length-seats : (os : List Outcome) (ts : List Sent) (ss : List Claimant) → AllCompleted os ts ss → length ss ≡ length os
 length-seats [] ts ss (a, b) = ap (λ l. length l) b
 length-seats (o ∷ os) ts ss (none, us, rs, a, b, rest) = ap (λ l. length l) b ∙ ap suc (length-seats os us rs rest)
 
 -- ---- the end of a run
 
 -- each mark was taken
-all_marked : (a : Intake) → IsIntake a → IsSettled a → a.is_refused ≡ false → (i : ℕ) → i < length a.awaited.items → is_marked (i + 1) a.receiver.taken ≡ true
-all_marked a intake settled going i within =
+all_marked : (a : EventCollector) → IsCollector a → NoneIsAwaited a → a.is_refused ≡ false → (i : ℕ) → i < length a.awaited.items → is_marked (i + 1) a.receiver.taken ≡ true
+all_marked a collector none_is_awaited going i within =
     let here = slice_get-get_or a.awaited.items i true within in
-    let gone : get_or a.awaited.items i true ≡ false = settled i (get_or a.awaited.items i true) here in
-    intake.marked going i (here ∙ ap Some gone)
+    let gone : get_or a.awaited.items i true ≡ false = none_is_awaited i (get_or a.awaited.items i true) here in
+    collector.marked going i (here ∙ ap Some gone)
 
-module _ (may : ℕ → ℕ → ℕ → List Event → Type 0) (units workers : ℕ) (claim : ClaimName) (os : List Outcome) (ts : List Sent) (ss : List Claimant) (whole : AllWhole os ts ss) (count : length os ≡ workers) where
-  pub can_close : (a : Intake) → IsIntake a → IsSettled a → a.is_refused ≡ false → length a.awaited.items ≡ workers → a.receiver.workers ≡ workers
+module _ (may : ℕ → ℕ → ℕ → List Event → Type 0) (units workers : ℕ) (claim : ClaimName) (os : List Outcome) (ts : List Sent) (ss : List Claimant) (whole : AllCompleted os ts ss) (count : length os ≡ workers) where
+  pub can_close : (a : EventCollector) → IsCollector a → NoneIsAwaited a → a.is_refused ≡ false → length a.awaited.items ≡ workers → a.receiver.workers ≡ workers
       → AllDone may units a.receiver.session claim os → CanClose a.receiver ts
-  can_close a intake settled going width is_workers done = record {
+  can_close a collector none_is_awaited going width is_workers done = record {
     session = λ i t e. let h = token_at os ts ss whole i t e in ap (λ (x : Sent). x.session) (h.3) ∙ (done i (h.0) (h.1)).session_is;
     count = length-tokens os ts ss whole ∙ count ∙ sym is_workers;
     workers = λ i t e. let h = token_at os ts ss whole i t e in ap (λ (x : Sent). x.worker) (h.3) ∙ (done i (h.0) (h.1)).worker;
-    marks = λ i within. all_marked a intake settled going i (omega arith);
+    marks = λ i within. all_marked a collector none_is_awaited going i (omega arith);
   }
 
   pub of_claim : (session : TableId) → AllDone may units session claim os → All (λ s. s.claim ≡ claim) ss
   of_claim session done = all_from (λ s. s.claim ≡ claim) ss (λ i s e. let h = seat_at os ts ss whole i s e in ap (λ (x : Claimant). x.claim) (h.3) ∙ (done i (h.0) (h.1)).claim_is)
 
   -- what the workers of a team share
-  pub shared : (r : Receives) (drew : ℕ) → 0 < workers → r.workers ≡ workers → CanClose r ts → Mix r.workers (entries r.taken) (lists ts) → AllDone may units r.session claim os
+  pub shared : (r : ReceiverView) (drew : ℕ) → 0 < workers → r.workers ≡ workers → CanClose r ts → Mix r.workers (entries r.taken) (lists ts) → AllDone may units r.session claim os
       → Claims (map (λ (s : Claimant). s.numbers) ss) drew → ((i : ℕ) (s : Claimant) → slice_get ss i ≡ Some s → s.spent ≡ true → drew ≡ units)
       → IsShared may units workers (entries r.taken)
   shared r drew some is_workers can mix done claims spent =
       let seats : length ss ≡ workers = length-seats os ts ss whole ∙ count in
       let first : (s : Claimant) × (slice_get ss 0 ≡ Some s) = first_of ss (omega arith) in
       let h = seat_at os ts ss whole 0 (first.0) (first.1) in
-      let told : first.0.spent ≡ true = ap (λ (x : Claimant). x.spent) (h.3) ∙ (done 0 (h.0) (h.1)).all (h.2) in
-      let all : drew ≡ units = spent 0 (first.0) (first.1) told in
+      let stated : first.0.spent ≡ true = ap (λ (x : Claimant). x.spent) (h.3) ∙ (done 0 (h.0) (h.1)).all (h.2) in
+      let all : drew ≡ units = spent 0 (first.0) (first.1) stated in
       record {
         drawn = map (λ (s : Claimant). s.numbers) ss;
         lists = lists ts;
@@ -199,7 +199,7 @@ failure_is_unit units [] u why all h = absurd h
 failure_is_unit units (o ∷ os) u why all (inl is) = let one = All-head (λ (x : Outcome). IfSome x.failure (λ f. f.unit < units)) o os all in subst (λ (f : Option Failure). IfSome f (λ g. g.unit < units)) is one
 failure_is_unit units (o ∷ os) u why all (inr h) = failure_is_unit units os u why (All-tail (λ (x : Outcome). IfSome x.failure (λ f. f.unit < units)) o os all) h.1
 
-pub late : (units : ℕ) (a : Intake) (os : List Outcome) (f : RunFault) → All (λ o. IfSome o.failure (λ f. f.unit < units)) os → IsTeamFault a os f → IsLate units f
+pub late : (units : ℕ) (a : EventCollector) (os : List Outcome) (f : RunFault) → All (λ o. IfSome o.failure (λ f. f.unit < units)) os → IsFaultOfWorkers a os f → IsFaultOfUnits units f
 late units a os fault.Workers all h = absurd h
 late units a os fault.Capacity all h = absurd h
 late units a os (fault.Engine unit why) all h = failure_is_unit units os unit why all h

@@ -1,21 +1,21 @@
--- What an engine emits into a sink, and what it tells before and after.
+-- What an engine emits into a sink, and its events before and after the units.
 use Rattle.std.specs.Prelude.{◌≡◌, ℕ, ◌<◌, ◌≤◌, true, List, length, All}
 use Rattle.tk_events.specs.declared.events.Event.{Event}
 use Rattle.tk_queue.specs.Known.{is_plain}
 use Rattle.tk_queue.specs.Limits.{most_events}
-use Rattle.tk_queue.specs.Ends.{Emits}
+use Rattle.tk_queue.specs.Ends.{SenderView}
 
 -- b is of the same session, table and worker as a
-pub record IsSame (a b : Emits) : Type 0 where
+pub record IsSame (a b : SenderView) : Type 0 where
   pub session : b.session ≡ a.session
   pub table : b.table ≡ a.table
   pub worker : b.worker ≡ a.worker
 
--- an event that worker 0 may tell, where n descriptors are static
-abbrev pub IsOfFrame : ℕ → Event → Type 0
-IsOfFrame n e = (e.key < n) × (is_plain e ≡ true)
+-- an event that worker 0 may emit, where n descriptors are static
+abbrev pub IsStaticEvent : ℕ → Event → Type 0
+IsStaticEvent n e = (e.key < n) × (is_plain e ≡ true)
 
--- events that worker 0 may tell: each is lawful, of a static descriptor and no registration, and they are not too many
-pub record IsFrame (n : ℕ) (es : List Event) : Type 0 where
-  pub each : All (IsOfFrame n) es
+-- events that worker 0 may emit: each is lawful, of a static descriptor and no registration, and there are at most `most_events`
+pub record AreBeforeOrAfter (n : ℕ) (es : List Event) : Type 0 where
+  pub each : All (IsStaticEvent n) es
   pub few : length es ≤ most_events

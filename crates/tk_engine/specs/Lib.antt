@@ -1,10 +1,10 @@
 pub use Rattle.tk_claim.specs.Claims
-pub use Rattle.tk_runs.specs.Run
+pub use Rattle.tk_run_record.specs.Run
 pub mod Engines
-pub mod Intakes
+pub mod EventCollectors
 pub mod Results
 pub mod Sinks
-pub mod Sorting
-pub mod Starts
-pub mod Teams
+pub mod Outcomes
+pub mod PreparedRuns
+pub mod WorkerThreads
 pub mod Workers

@@ -1,4 +1,4 @@
--- What a run has recorded, and what its session told when it was closed.
+-- What a run has recorded, and what closing its session returned.
 use Rattle.std.specs.Prelude.{◌≡◌, ℕ, List, length, slice_index}
 use Rattle.tk_events.specs.declared.events.Entry.{Entry}
 use Rattle.tk_columns.specs.Recorded.{Recorded}

@@ -7,13 +7,13 @@ use Rattle.tk_events.specs.declared.events.Event.{Event}
 use Rattle.tk_book.specs.Books.{BookName, empty}
 use Rattle.tk_claim.specs.Claims.{ClaimName, Claimant, fresh}
 use Rattle.tk_queue.specs.Ends.{fresh_senders}
-use Rattle.tk_runs.specs.Run.{Emits}
-use Rattle.tk_engine.specs.declared.workers.Hand.{Hand}
+use Rattle.tk_run_record.specs.Run.{Emits}
+use Rattle.tk_engine.specs.declared.workers.WorkerHandles.{WorkerHandles}
 use Rattle.tk_engine.specs.declared.workers.Outcome.{Outcome}
-use Rattle.tk_engine.specs.declared.crews.Crew.{Crew}
+use Rattle.tk_engine.specs.declared.unstarted_workers.UnstartedWorkers.{UnstartedWorkers}
 
--- nothing was done with the hand, which is of this claim, book and table
-pub record IsReady (claim : ClaimName) (book : BookName) (table : List Descriptor) (h : Hand) : Type 0 where
+-- nothing was done with the handles, which are of this claim, book and table
+pub record IsReady (claim : ClaimName) (book : BookName) (table : List Descriptor) (h : WorkerHandles) : Type 0 where
   pub table_is : h.sender.table ≡ table
   pub sent : h.sender.sent ≡ []
   pub claim_is : h.claim_seat.claim ≡ claim
@@ -44,15 +44,15 @@ pub record IsDone (may : ℕ → ℕ → ℕ → List Event → Type 0) (units :
   pub stopped : IfSome o.failure (λ f. IsStopped may w o.claim_seat o.ended.sent f.unit)
 
 -- the senders and seats of the workers 1, 2, .., who have done nothing
-pub record IsCrew (session : TableId) (claim : ClaimName) (book : BookName) (table : List Descriptor) (c : Crew) : Type 0 where
+pub record AreUnstarted (session : TableId) (claim : ClaimName) (book : BookName) (table : List Descriptor) (c : UnstartedWorkers) : Type 0 where
   pub senders : c.senders.items ≡ fresh_senders session table (length c.senders.items)
   pub as_many_claim_seats : length c.claim_seats.items ≡ length c.senders.items
   pub as_many_book_seats : length c.book_seats.items ≡ length c.senders.items
   pub claim_seats : All (λ s. s ≡ fresh claim) c.claim_seats.items
   pub book_seats : All (λ s. s ≡ empty book) c.book_seats.items
 
--- the hand was the last of the crew, and the rest is left
-pub record IsLast (all rest : Crew) (h : Hand) : Type 0 where
+-- the handles are those of the last worker, and the rest is left
+pub record IsLastWorker (all rest : UnstartedWorkers) (h : WorkerHandles) : Type 0 where
   pub sender : all.senders.items ≡ rest.senders.items ++ h.sender ∷ []
   pub claim_seat : all.claim_seats.items ≡ rest.claim_seats.items ++ h.claim_seat ∷ []
   pub book_seat : all.book_seats.items ≡ rest.book_seats.items ++ h.book_seat ∷ []

@@ -5,7 +5,7 @@ ghost use Rattle.tk_ids.specs.declared.tables.Descriptor.{Descriptor};
 ghost use Rattle.tk_events.specs.declared.events.Event.{Event};
 ghost use Rattle.tk_book.specs.Wants.{Wants};
 ghost use Rattle.tk_queue.specs.Known.{registrations};
-ghost use Rattle.tk_engine.specs.Engines.{IsSame, IsFrame};
+ghost use Rattle.tk_engine.specs.Engines.{IsSame, AreBeforeOrAfter};
 
 use crate::sinks::{Sink, SinkFault};
 use std::alloc::{AllocError, Global};
@@ -76,12 +76,12 @@ pub trait Engine: Sync {
     /// The events before all units. They are lawful, of static descriptors, and no registrations.
     fn before(&self, alloc: Global) -> Result<Vec<Event>, AllocError>
         ensures is { IfOk result (λ v. v.items ≡ before self.now) }
-        ensures frame { OnOk result (IsFrame (length (table self.now)) (before self.now)) };
+        ensures static_events { OnOk result (AreBeforeOrAfter (length (table self.now)) (before self.now)) };
 
     /// The events after all units. They are lawful, of static descriptors, and no registrations.
     fn after(&self, alloc: Global) -> Result<Vec<Event>, AllocError>
         ensures is { IfOk result (λ v. v.items ≡ after self.now) }
-        ensures frame { OnOk result (IsFrame (length (table self.now)) (after self.now)) };
+        ensures static_events { OnOk result (AreBeforeOrAfter (length (table self.now)) (after self.now)) };
 
     /// What a unit needs while it runs.
     fn need(&self, unit: u32) -> Need

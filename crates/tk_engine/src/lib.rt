@@ -1,13 +1,13 @@
 //! Engines, the sinks into which their units emit, and the run of an engine by one worker or by several.
 #![tactic(auto)]
 
-mod crews;
 mod engines;
-mod intakes;
+mod event_collectors;
 mod results;
 mod runs;
 mod sinks;
-mod teams;
+mod unstarted_workers;
+mod worker_threads;
 mod workers;
 
 pub use engines::{Engine, MAX_UNITS, UnitFault};

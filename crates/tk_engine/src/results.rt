@@ -1,7 +1,7 @@
 //! What a run has recorded.
 ghost use Rattle.std.specs.Prelude.{◌≡◌, IfOk};
 ghost use Rattle.tk_columns.specs.declared.selections.Selection.TheVariants.{Tests, Containers};
-ghost use Rattle.tk_columns.specs.Selections.{all_of, keeping, selects};
+ghost use Rattle.tk_columns.specs.Selections.{all_of, filtered_by, selects};
 ghost use Rattle.tk_engine.specs.Results.{Ran};
 
 use std::alloc::{AllocError, Global};
@@ -38,7 +38,7 @@ impl Results {
         &self.recording
     }
 
-    /// How many events each worker emitted, as the session told when it was closed.
+    /// How many events each worker emitted, as `Receiver::close` returned it.
     pub fn closed(&self) -> &Closed
         ensures { result.now ≡ self.now.closed }
     {
@@ -54,14 +54,16 @@ impl Results {
 
     /// The events of tests.
     pub fn test_events(&self, alloc: Global) -> Result<Events<'_>, AllocError>
-        ensures { IfOk result (λ events. events ≡ keeping (selects Tests self.now.recorded) (all_of self.now.recorded)) }
+        ensures { IfOk result (λ events.
+            events ≡ filtered_by (selects Tests self.now.recorded) (all_of self.now.recorded)) }
     {
         self.all_events(alloc)?.pick(alloc, Selection::Tests)
     }
 
     /// The events of containers.
     pub fn container_events(&self, alloc: Global) -> Result<Events<'_>, AllocError>
-        ensures { IfOk result (λ events. events ≡ keeping (selects Containers self.now.recorded) (all_of self.now.recorded)) }
+        ensures { IfOk result (λ events.
+            events ≡ filtered_by (selects Containers self.now.recorded) (all_of self.now.recorded)) }
     {
         self.all_events(alloc)?.pick(alloc, Selection::Containers)
     }

@@ -1,7 +1,7 @@
 //! Where a unit's events go.
 ghost use Rattle.std.specs.Prelude.{◌≡◌, None, Ok, IfOk, IfErr, OnOk, OnErr};
 ghost use Rattle.tk_engine.specs.Sinks.{IsSendCause, IsRegisterCause};
-ghost use Rattle.tk_queue.specs.Ends.{Emits, sends, refusal_of, IsRegisteredAs};
+ghost use Rattle.tk_queue.specs.Ends.{SenderView, sends, refusal_of, IsRegisteredAs};
 
 use std::sync::Wait;
 use tk_events::Event;
@@ -19,7 +19,7 @@ pub enum SinkFault {
 /// table, the worker, and the list that it emitted. What is taken is added as a sender adds it, and what is refused changes
 /// nothing.
 pub trait Sink {
-    ghost meaning: { Self → Emits };
+    ghost meaning: { Self → SenderView };
 
     /// Emits an event.
     fn emit<R: Wait>(&mut self, rt: &R, event: Event) -> Result<(), SinkFault>
@@ -36,7 +36,8 @@ pub trait Sink {
         dtype: DType,
         stamp: u64,
     ) -> Result<u32, SinkFault>
-        ensures ok { IfOk result (λ key. IsRegisteredAs (meaning self.old) (meaning self.new) parent segment.now name.now dtype stamp (Ok key)) }
+        ensures ok { IfOk result (λ key.
+            IsRegisteredAs (meaning self.old) (meaning self.new) parent segment.now name.now dtype stamp (Ok key)) }
         ensures err { OnErr result (meaning self.new ≡ meaning self.old) };
 }
 
@@ -63,7 +64,8 @@ impl Sink for Sender {
         dtype: DType,
         stamp: u64,
     ) -> Result<u32, SinkFault>
-        ensures ok { IfOk result (λ key. IsRegisteredAs self.old self.new parent segment.now name.now dtype stamp (Ok key)) }
+        ensures ok { IfOk result (λ key.
+            IsRegisteredAs self.old self.new parent segment.now name.now dtype stamp (Ok key)) }
         ensures err { OnErr result (self.new ≡ self.old) }
         ensures cause { IfErr result (IsRegisterCause self.old self.new parent segment.now name.now dtype stamp) }
     {

@@ -2,7 +2,7 @@
 ghost use Rattle.std.specs.Prelude.{◌≡◌, ◌<◌, List, [], ◌++◌, None, Some, true, IfNone, IfSome, IfOk, IfErr, OnOk, OnErr};
 ghost use Rattle.tk_events.specs.declared.events.Event.{Event};
 ghost use Rattle.tk_queue.specs.Known.{registrations};
-ghost use Rattle.tk_runs.specs.Run.{Emits};
+ghost use Rattle.tk_run_record.specs.Run.{Emits};
 ghost use Rattle.tk_engine.specs.Engines.{IsSame};
 ghost use Rattle.tk_engine.specs.Workers.{IsReady, IsDone, IsStopped};
 
@@ -13,9 +13,9 @@ use tk_book::{Book, BookSeat};
 use tk_claim::{Claim, ClaimSeat};
 use tk_queue::{Ended, Sender};
 
-/// What a worker starts with.
+/// What one worker's thread owns: its sender and its seats of the claim and the book.
 #[derive(Drop)]
-pub(crate) struct Hand {
+pub(crate) struct WorkerHandles {
     pub sender: Sender,
     pub claim_seat: ClaimSeat,
     pub book_seat: BookSeat,
@@ -28,7 +28,7 @@ pub(crate) struct Failure {
     pub why: UnitFault,
 }
 
-/// What a worker has left.
+/// What a worker's thread returns: its token, its seat of the claim, and its first failure.
 #[derive(Drop)]
 pub(crate) struct Outcome {
     pub ended: Ended,
@@ -39,7 +39,8 @@ pub(crate) struct Outcome {
 impl Outcome {
     /// The token and the seat of a worker that had no failure, or its failure.
     pub(crate) fn into_parts(self) -> Result<(Ended, ClaimSeat), Failure>
-        ensures ok { IfOk result (λ r. (self.failure ≡ None) × (r.0 ≡ self.ended) × (r.1 ≡ self.claim_seat)) }
+        ensures ok { IfOk result (λ r.
+            (self.failure ≡ None) × (r.0 ≡ self.ended) × (r.1 ≡ self.claim_seat)) }
         ensures err { IfErr result (λ failed. self.failure ≡ Some failed) }
     {
         let Outcome {
@@ -102,7 +103,8 @@ fn run_units<R: Wait, E: Engine>(
     ensures all { IfNone result (claim_seat.new.spent ≡ true) }
     ensures emits { IfNone result (Emits (E.may engine.now) sender.old.worker 0 claim_seat.new.numbers sender.new.sent) }
     ensures unit { IfSome result (λ failure. failure.unit < E.units engine.now) }
-    ensures stopped { IfSome result (λ failure. IsStopped (E.may engine.now) sender.old.worker claim_seat.new sender.new.sent failure.unit) }
+    ensures stopped { IfSome result (λ failure.
+        IsStopped (E.may engine.now) sender.old.worker claim_seat.new sender.new.sent failure.unit) }
 {
     for _ in rt.forever() {
         let Some(unit) = claim.draw(claim_seat) else {
@@ -122,17 +124,17 @@ pub(crate) fn work<R: Wait, E: Engine>(
     engine: &E,
     claim: &Claim,
     book: &Book,
-    hand: Hand,
+    handles: WorkerHandles,
 ) -> Outcome
     requires limit { claim.now.limit ≡ E.units engine.now }
-    requires ready { IsReady claim.now book.now (E.table engine.now) hand }
-    ensures { IsDone (E.may engine.now) (E.units engine.now) hand.sender.session claim.now hand.sender.worker result }
+    requires ready { IsReady claim.now book.now (E.table engine.now) handles }
+    ensures { IsDone (E.may engine.now) (E.units engine.now) handles.sender.session claim.now handles.sender.worker result }
 {
-    let Hand {
+    let WorkerHandles {
         mut sender,
         mut claim_seat,
         mut book_seat,
-    } = hand;
+    } = handles;
     let failure = run_units(
         rt,
         alloc,

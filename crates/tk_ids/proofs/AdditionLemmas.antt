@@ -8,8 +8,8 @@ use Rattle.tk_ids.specs.declared.tables.Descriptor.{Descriptor}
 use Rattle.tk_ids.specs.declared.tables.TableFault.{TableFault}
 use Rattle.tk_ids.specs.declared.tables.TableFault.TheVariants.{NoParent, Twice, Full, Id, Memory}
 use Rattle.tk_ids.specs.IdText.{Pair, FitsLimits}
-use Rattle.tk_ids.specs.Table.{HasId, id_below, IsAddedAs, IsInsertedAs}
-use Rattle.tk_ids.specs.Laws.{OneAddition, OneInsertion}
+use Rattle.tk_ids.specs.Table.{HasId, child_id, IsAddedAs, IsInsertedAs}
+use Rattle.tk_ids.specs.Laws.{AdditionIsUnique, InsertionIsUnique}
 
 not_full : (old : List Descriptor) → length old < MAX_DESCRIPTORS → length old ≡ MAX_DESCRIPTORS → ⊥
 not_full old lt is = omega (arith, lt, is)
@@ -26,12 +26,12 @@ module _ (old new other : List Descriptor) (parent : Option ℕ) (segment : Pair
 
   -- an id that is made here
   abbrev Made : List Pair → Type 0
-  Made id = id_below old parent segment ≡ Some id
+  Made id = child_id old parent segment ≡ Some id
 
   one_id : (x y : List Pair) → Made x → Made y → x ≡ y
   one_id x y a b = same_Some x y (sym a ∙ b)
 
-  no_id : (x : List Pair) → Made x → id_below old parent segment ≡ None → ⊥
+  no_id : (x : List Pair) → Made x → child_id old parent segment ≡ None → ⊥
   no_id x a b = none-some x (sym b ∙ a)
 
   added : (a b : Result ℕ TableFault) → Left a → Right b → a ≢ Err Memory → b ≢ Err Memory → Same a b
@@ -87,8 +87,8 @@ module _ (old new other : List Descriptor) (parent : Option ℕ) (segment : Pair
   added (Err (Id (id_faults.BadEscape n))) b h k na nb = absurd h
   added (Err (Id id_faults.Memory)) b h k na nb = absurd h
 
-pub one_addition : OneAddition
-one_addition = added
+pub addition_is_unique : AdditionIsUnique
+addition_is_unique = added
 
 module _ (old new other : List Descriptor) (d : Descriptor) where
   inserted : (a b : Result ℕ TableFault) → IsInsertedAs old new d a → IsInsertedAs old other d b → a ≢ Err Memory → b ≢ Err Memory → (a ≡ b) × (new ≡ other)
@@ -113,5 +113,5 @@ module _ (old new other : List Descriptor) (d : Descriptor) where
   inserted (Err Full) (Err Twice) h k na nb = absurd (h.1 k.1)
   inserted (Err Full) (Err Full) h k na nb = (refl, h.3 ∙ sym k.3)
 
-pub one_insertion : OneInsertion
-one_insertion = inserted
+pub insertion_is_unique : InsertionIsUnique
+insertion_is_unique = inserted

@@ -5,15 +5,15 @@ use Rattle.std.proofs.Common.{Bool, true, ◌≡◌, ◌≢◌, ℕ, ◌<◌, �
 use Rattle.std.proofs.lemmas.List.{length-take-le, length-append}
 use Rattle.tk_ids.specs.declared.ids.IdFault.{IdFault}
 use Rattle.tk_ids.specs.declared.ids.IdFault.TheVariants.{Empty, BadSegment, BadEscape, TooLong, Memory}
-use Rattle.tk_ids.specs.Prefix.{IsLongestFront}
+use Rattle.tk_ids.specs.Prefix.{IsLongestPrefix}
 use Rattle.tk_ids.specs.IdText.{Pair, IsId, IsIdText, IsEngine, id_text, FitsLimits, EndsInEscape}
 use Rattle.tk_ids.specs.Reading.{State, Behind, step}
-use Rattle.tk_ids.specs.Answer.{IsBadAt, IsReadAs, IsFaultBehind}
-use Rattle.tk_ids.proofs.ReadingLemmas.{HasRead, stuck_longest, stuck_refutes, end_is, one_text}
+use Rattle.tk_ids.specs.Answer.{IsBadAt, IsReadAs, IsFaultAfter}
+use Rattle.tk_ids.proofs.ReadingLemmas.{HasRead, stuck_longest, stuck_refutes, end_is, text_is_unique}
 
 pub bad_where_stuck : (text : List ℕ) (n : ℕ) (s : State) → HasRead text n s → n < length text → step s (get_or text n 0) ≡ None → IsBadAt text n
 bad_where_stuck text n s h lt stuck =
-    record { some = omega arith; no_id = stuck_refutes text n s h lt stuck; front = stuck_longest text n s h (λ _. stuck) }
+    record { some = omega arith; no_id = stuck_refutes text n s h lt stuck; prefix = stuck_longest text n s h (λ _. stuck) }
 
 pub bad_at_end : (text : List ℕ) (n : ℕ) (s : State) → HasRead text n s → 0 < length text → length text ≤ n → ((done : List Pair) → s ≡ Behind done → ⊥) → IsBadAt text (length text)
 bad_at_end text n s h some le open_at =
@@ -22,19 +22,19 @@ bad_at_end text n s h some le open_at =
     record {
       some = some;
       no_id = λ is. open_at is.0 (end_is text n s is.0 h le is.1 is.2);
-      front = subst (IsLongestFront IsIdText text) all (stuck_longest text n s h (λ lt. absurd (omega arith)));
+      prefix = subst (IsLongestPrefix IsIdText text) all (stuck_longest text n s h (λ lt. absurd (omega arith)));
     }
 
-pub fault_is : (text front : List ℕ) (n : ℕ) (fault : IdFault) → IsBadAt text n → front ≡ take n text → IsFaultBehind front fault → IsReadAs text (Err fault)
-fault_is text front n (BadSegment at) bad is h =
-    let here : at ≡ n = h.0 ∙ ap length is ∙ length-take-le n text bad.front.within in
+pub fault_is : (text prefix : List ℕ) (n : ℕ) (fault : IdFault) → IsBadAt text n → prefix ≡ take n text → IsFaultAfter prefix fault → IsReadAs text (Err fault)
+fault_is text prefix n (BadSegment at) bad is h =
+    let here : at ≡ n = h.0 ∙ ap length is ∙ length-take-le n text bad.prefix.within in
     (subst (IsBadAt text) (sym here) bad, λ e. h.1 (subst EndsInEscape (ap (λ k. take k text) here ∙ sym is) e))
-fault_is text front n (BadEscape at) bad is h =
-    let here : at ≡ n = h.0 ∙ ap length is ∙ length-take-le n text bad.front.within in
+fault_is text prefix n (BadEscape at) bad is h =
+    let here : at ≡ n = h.0 ∙ ap length is ∙ length-take-le n text bad.prefix.within in
     (subst (IsBadAt text) (sym here) bad, subst EndsInEscape (is ∙ sym (ap (λ k. take k text) here)) h.1)
-fault_is text front n Empty bad is h = absurd h
-fault_is text front n TooLong bad is h = absurd h
-fault_is text front n Memory bad is h = absurd h
+fault_is text prefix n Empty bad is h = absurd h
+fault_is text prefix n TooLong bad is h = absurd h
+fault_is text prefix n Memory bad is h = absurd h
 
 pub id_text_some : (id : List Pair) → IsId id → 0 < length (id_text id)
 id_text_some [] ok = absurd (omega (arith, ok.0))
@@ -43,39 +43,39 @@ id_text_some (s ∷ t ∷ id) ok = simp length-append (omega arith)
 
 same_at : (text : List ℕ) (m n : ℕ) → IsBadAt text m → IsBadAt text n → m ≡ n
 same_at text m n a b =
-    let le = b.front.longest m a.front.within a.front.begins in
-    let ge = a.front.longest n b.front.within b.front.begins in
+    let le = b.prefix.longest m a.prefix.within a.prefix.begins in
+    let ge = a.prefix.longest n b.prefix.within b.prefix.begins in
     omega arith
 
 -- a text has one answer, where memory doesn't run out
-pub one_answer : (text : List ℕ) (a b : Result (List Pair) IdFault) → IsReadAs text a → IsReadAs text b → a ≢ Err Memory → b ≢ Err Memory → a ≡ b
-one_answer text (Err Memory) b h k na nb = absurd (na refl)
-one_answer text a (Err Memory) h k na nb = absurd (nb refl)
-one_answer text (Ok x) (Ok y) h k na nb = ap Ok (one_text x y h.0 k.0 (sym h.1 ∙ k.1))
-one_answer text (Ok x) (Err Empty) h k na nb = let some = id_text_some x h.0 in let e = ap length (sym h.1 ∙ k) in absurd (omega (arith, some, e))
-one_answer text (Ok x) (Err (BadSegment n)) h k na nb = absurd (k.0.no_id (x, h.0, h.1))
-one_answer text (Ok x) (Err (BadEscape n)) h k na nb = absurd (k.0.no_id (x, h.0, h.1))
-one_answer text (Ok x) (Err TooLong) h k na nb = absurd (k.3 (subst FitsLimits (one_text x k.0 h.0 k.1 (sym h.1 ∙ k.2)) h.2))
-one_answer text (Err TooLong) (Ok x) k h na nb = absurd (k.3 (subst FitsLimits (one_text x k.0 h.0 k.1 (sym h.1 ∙ k.2)) h.2))
-one_answer text (Err TooLong) (Err TooLong) h k na nb = refl
-one_answer text (Err TooLong) (Err Empty) h k na nb = let some = id_text_some h.0 h.1 in let e = ap length (sym h.2 ∙ k) in absurd (omega (arith, some, e))
-one_answer text (Err TooLong) (Err (BadSegment n)) h k na nb = absurd (k.0.no_id (h.0, h.1, h.2))
-one_answer text (Err TooLong) (Err (BadEscape n)) h k na nb = absurd (k.0.no_id (h.0, h.1, h.2))
-one_answer text (Err Empty) (Ok x) k h na nb = let some = id_text_some x h.0 in let e = ap length (sym h.1 ∙ k) in absurd (omega (arith, some, e))
-one_answer text (Err Empty) (Err Empty) h k na nb = refl
-one_answer text (Err Empty) (Err (BadSegment n)) h k na nb = let some = k.0.some in let e = ap length h in absurd (omega (arith, some, e))
-one_answer text (Err Empty) (Err (BadEscape n)) h k na nb = let some = k.0.some in let e = ap length h in absurd (omega (arith, some, e))
-one_answer text (Err Empty) (Err TooLong) k h na nb = let some = id_text_some h.0 h.1 in let e = ap length (sym h.2 ∙ k) in absurd (omega (arith, some, e))
-one_answer text (Err (BadSegment m)) (Ok x) k h na nb = absurd (k.0.no_id (x, h.0, h.1))
-one_answer text (Err (BadSegment m)) (Err Empty) k h na nb = let some = k.0.some in let e = ap length h in absurd (omega (arith, some, e))
-one_answer text (Err (BadSegment m)) (Err (BadSegment n)) h k na nb = ap (λ i. Err (BadSegment i)) (same_at text m n h.0 k.0)
-one_answer text (Err (BadSegment m)) (Err (BadEscape n)) h k na nb = absurd (h.1 (subst (λ i. EndsInEscape (take i text)) (same_at text n m k.0 h.0) k.1))
-one_answer text (Err (BadSegment m)) (Err TooLong) k h na nb = absurd (k.0.no_id (h.0, h.1, h.2))
-one_answer text (Err (BadEscape m)) (Ok x) k h na nb = absurd (k.0.no_id (x, h.0, h.1))
-one_answer text (Err (BadEscape m)) (Err Empty) k h na nb = let some = k.0.some in let e = ap length h in absurd (omega (arith, some, e))
-one_answer text (Err (BadEscape m)) (Err (BadSegment n)) k h na nb = absurd (h.1 (subst (λ i. EndsInEscape (take i text)) (same_at text m n k.0 h.0) k.1))
-one_answer text (Err (BadEscape m)) (Err (BadEscape n)) h k na nb = ap (λ i. Err (BadEscape i)) (same_at text m n h.0 k.0)
-one_answer text (Err (BadEscape m)) (Err TooLong) k h na nb = absurd (k.0.no_id (h.0, h.1, h.2))
+pub answer_is_unique : (text : List ℕ) (a b : Result (List Pair) IdFault) → IsReadAs text a → IsReadAs text b → a ≢ Err Memory → b ≢ Err Memory → a ≡ b
+answer_is_unique text (Err Memory) b h k na nb = absurd (na refl)
+answer_is_unique text a (Err Memory) h k na nb = absurd (nb refl)
+answer_is_unique text (Ok x) (Ok y) h k na nb = ap Ok (text_is_unique x y h.0 k.0 (sym h.1 ∙ k.1))
+answer_is_unique text (Ok x) (Err Empty) h k na nb = let some = id_text_some x h.0 in let e = ap length (sym h.1 ∙ k) in absurd (omega (arith, some, e))
+answer_is_unique text (Ok x) (Err (BadSegment n)) h k na nb = absurd (k.0.no_id (x, h.0, h.1))
+answer_is_unique text (Ok x) (Err (BadEscape n)) h k na nb = absurd (k.0.no_id (x, h.0, h.1))
+answer_is_unique text (Ok x) (Err TooLong) h k na nb = absurd (k.3 (subst FitsLimits (text_is_unique x k.0 h.0 k.1 (sym h.1 ∙ k.2)) h.2))
+answer_is_unique text (Err TooLong) (Ok x) k h na nb = absurd (k.3 (subst FitsLimits (text_is_unique x k.0 h.0 k.1 (sym h.1 ∙ k.2)) h.2))
+answer_is_unique text (Err TooLong) (Err TooLong) h k na nb = refl
+answer_is_unique text (Err TooLong) (Err Empty) h k na nb = let some = id_text_some h.0 h.1 in let e = ap length (sym h.2 ∙ k) in absurd (omega (arith, some, e))
+answer_is_unique text (Err TooLong) (Err (BadSegment n)) h k na nb = absurd (k.0.no_id (h.0, h.1, h.2))
+answer_is_unique text (Err TooLong) (Err (BadEscape n)) h k na nb = absurd (k.0.no_id (h.0, h.1, h.2))
+answer_is_unique text (Err Empty) (Ok x) k h na nb = let some = id_text_some x h.0 in let e = ap length (sym h.1 ∙ k) in absurd (omega (arith, some, e))
+answer_is_unique text (Err Empty) (Err Empty) h k na nb = refl
+answer_is_unique text (Err Empty) (Err (BadSegment n)) h k na nb = let some = k.0.some in let e = ap length h in absurd (omega (arith, some, e))
+answer_is_unique text (Err Empty) (Err (BadEscape n)) h k na nb = let some = k.0.some in let e = ap length h in absurd (omega (arith, some, e))
+answer_is_unique text (Err Empty) (Err TooLong) k h na nb = let some = id_text_some h.0 h.1 in let e = ap length (sym h.2 ∙ k) in absurd (omega (arith, some, e))
+answer_is_unique text (Err (BadSegment m)) (Ok x) k h na nb = absurd (k.0.no_id (x, h.0, h.1))
+answer_is_unique text (Err (BadSegment m)) (Err Empty) k h na nb = let some = k.0.some in let e = ap length h in absurd (omega (arith, some, e))
+answer_is_unique text (Err (BadSegment m)) (Err (BadSegment n)) h k na nb = ap (λ i. Err (BadSegment i)) (same_at text m n h.0 k.0)
+answer_is_unique text (Err (BadSegment m)) (Err (BadEscape n)) h k na nb = absurd (h.1 (subst (λ i. EndsInEscape (take i text)) (same_at text n m k.0 h.0) k.1))
+answer_is_unique text (Err (BadSegment m)) (Err TooLong) k h na nb = absurd (k.0.no_id (h.0, h.1, h.2))
+answer_is_unique text (Err (BadEscape m)) (Ok x) k h na nb = absurd (k.0.no_id (x, h.0, h.1))
+answer_is_unique text (Err (BadEscape m)) (Err Empty) k h na nb = let some = k.0.some in let e = ap length h in absurd (omega (arith, some, e))
+answer_is_unique text (Err (BadEscape m)) (Err (BadSegment n)) k h na nb = absurd (h.1 (subst (λ i. EndsInEscape (take i text)) (same_at text m n k.0 h.0) k.1))
+answer_is_unique text (Err (BadEscape m)) (Err (BadEscape n)) h k na nb = ap (λ i. Err (BadEscape i)) (same_at text m n h.0 k.0)
+answer_is_unique text (Err (BadEscape m)) (Err TooLong) k h na nb = absurd (k.0.no_id (h.0, h.1, h.2))
 
 -- an id of one segment with this tag is an engine's
 pub engine_exact : (id : List Pair) (s : Pair) (tag : List ℕ) (r : Bool) → 1 ≤ length id → length id < 2 → s ≡ get_or id 0 s → tag ≡ s.tag → r ≡ bytes_eq tag (codes "engine") → (r ≡ true → IsEngine id) × (IsEngine id → r ≡ true)

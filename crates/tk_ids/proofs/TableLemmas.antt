@@ -15,8 +15,8 @@ use Rattle.tk_ids.specs.declared.tables.TableFault.{TableFault}
 use Rattle.tk_ids.specs.declared.tables.TableFault.TheVariants.{NoParent, Twice, Full, Id, Memory}
 use Rattle.tk_ids.specs.declared.ids.IdFault.TheVariants as id_faults
 use Rattle.tk_ids.specs.IdText.{Pair, IsId, id_text, FitsLimits}
-use Rattle.tk_ids.specs.Table.{ids_of, HasId, AreDifferent, IsKept, IsIdBelow, IsAddedAs}
-use Rattle.tk_ids.proofs.ReadingLemmas.{one_text}
+use Rattle.tk_ids.specs.Table.{ids_of, HasId, AreDifferent, IsKept, IsChildId, IsAddedAs}
+use Rattle.tk_ids.proofs.ReadingLemmas.{text_is_unique}
 
 abbrev pub texts : List (List ℕ × Descriptor) → List (List ℕ)
 texts es = map (λ e. e.0) es
@@ -31,7 +31,7 @@ text_at (x ∷ es) (suc k) id all e = text_at es k id all.1 e
 
 pub id_at : (es : List (List ℕ × Descriptor)) (k : ℕ) (id : List Pair) → AllByRecursion IsKept es → IsId id → slice_get (texts es) k ≡ Some (id_text id) → slice_get (ids_of (descriptors es)) k ≡ Some id
 id_at [] k id all ok e = absurd (none-some (id_text id) e)
-id_at (x ∷ es) zero id all ok e = ap Some (one_text x.1.id id all.0.1 ok (sym all.0.0 ∙ same_Some x.0 (id_text id) e))
+id_at (x ∷ es) zero id all ok e = ap Some (text_is_unique x.1.id id all.0.1 ok (sym all.0.0 ∙ same_Some x.0 (id_text id) e))
 id_at (x ∷ es) (suc k) id all ok e = id_at es k id all.1 ok e
 
 pub at_position : (t : List ℕ) (ks : List (List ℕ)) (k : ℕ) → position (bytes_eq t) ks ≡ Some k → slice_get ks k ≡ Some t
@@ -57,16 +57,16 @@ differs_at t [] k u all e = absurd (none-some u e)
 differs_at t (x ∷ ks) zero u all e = subst (λ y. bytes_eq t y ≡ false) (same_Some x u e) all.0
 differs_at t (x ∷ ks) (suc k) u all e = differs_at t ks k u all.1 e
 
-pub same_place : (ks : List (List ℕ)) (j k : ℕ) (t : List ℕ) → IsDistinct bytes_eq ks → slice_get ks j ≡ Some t → slice_get ks k ≡ Some t → j ≡ k
+pub same_position : (ks : List (List ℕ)) (j k : ℕ) (t : List ℕ) → IsDistinct bytes_eq ks → slice_get ks j ≡ Some t → slice_get ks k ≡ Some t → j ≡ k
 unfolding IsDistinct
-same_place [] j k t h a b = absurd (none-some t a)
-same_place (x ∷ ks) zero zero t h a b = refl
-same_place (x ∷ ks) zero (suc k) t h a b = absurd (false≢true (sym (differs_at x ks k t h.0 b) ∙ (bytes_eq-Decides x t).1 (same_Some x t a)))
-same_place (x ∷ ks) (suc j) zero t h a b = absurd (false≢true (sym (differs_at x ks j t h.0 a) ∙ (bytes_eq-Decides x t).1 (same_Some x t b)))
-same_place (x ∷ ks) (suc j) (suc k) t h a b = ap suc (same_place ks j k t h.1 a b)
+same_position [] j k t h a b = absurd (none-some t a)
+same_position (x ∷ ks) zero zero t h a b = refl
+same_position (x ∷ ks) zero (suc k) t h a b = absurd (false≢true (sym (differs_at x ks k t h.0 b) ∙ (bytes_eq-Decides x t).1 (same_Some x t a)))
+same_position (x ∷ ks) (suc j) zero t h a b = absurd (false≢true (sym (differs_at x ks j t h.0 a) ∙ (bytes_eq-Decides x t).1 (same_Some x t b)))
+same_position (x ∷ ks) (suc j) (suc k) t h a b = ap suc (same_position ks j k t h.1 a b)
 
 pub different : (es : List (List ℕ × Descriptor)) → AllByRecursion IsKept es → IsDistinct bytes_eq (texts es) → AreDifferent (descriptors es)
-different es all h j k id a b = same_place (texts es) j k (id_text id) h (text_at es j id all a) (text_at es k id all b)
+different es all h j k id a b = same_position (texts es) j k (id_text id) h (text_at es j id all a) (text_at es k id all b)
 
 pub AllByRecursion-push-kept : (es : List (List ℕ × Descriptor)) (e : List ℕ × Descriptor) → AllByRecursion IsKept es → IsKept e → AllByRecursion IsKept (es ++ e ∷ [])
 AllByRecursion-push-kept [] e all ok = (ok, tt)
@@ -108,7 +108,7 @@ is_there table id (Some k) at found = (k, at)
 is_there table id None at found = absurd cc
 
 -- what making the id refuses, adding refuses
-pub added_refused : (es : List (List ℕ × Descriptor)) (table : List Descriptor) (parent : Option ℕ) (segment : Pair) (name : List ℕ) (dtype : DType) (fault : TableFault) → AllByRecursion IsKept es → descriptors es ≡ table → IsIdBelow table parent segment (Err fault) → IsAddedAs table table parent segment name dtype (Err fault)
+pub added_refused : (es : List (List ℕ × Descriptor)) (table : List Descriptor) (parent : Option ℕ) (segment : Pair) (name : List ℕ) (dtype : DType) (fault : TableFault) → AllByRecursion IsKept es → descriptors es ≡ table → IsChildId table parent segment (Err fault) → IsAddedAs table table parent segment name dtype (Err fault)
 added_refused es table parent segment name dtype NoParent all view h = (h, refl)
 added_refused es table parent segment name dtype Twice all view h = absurd h
 added_refused es table parent segment name dtype Full all view h =

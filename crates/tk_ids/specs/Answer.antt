@@ -2,14 +2,14 @@
 use Rattle.std.specs.Prelude.{◌≡◌, ℕ, ◌<◌, List, [], ◌⊎◌, length, take, Result, Ok, Err}
 use Rattle.tk_ids.specs.declared.ids.IdFault.{IdFault}
 use Rattle.tk_ids.specs.declared.ids.IdFault.TheVariants.{Empty, BadSegment, BadEscape, TooLong, Memory}
-use Rattle.tk_ids.specs.Prefix.{IsLongestFront}
+use Rattle.tk_ids.specs.Prefix.{IsLongestPrefix}
 use Rattle.tk_ids.specs.IdText.{Pair, IsId, IsIdText, id_text, FitsLimits, EndsInEscape}
 
 -- a text that is no id's and isn't empty, which goes along with an id's text for `at` bytes and no more
 pub record IsBadAt (text : List ℕ) (at : ℕ) : Type 0 where
   pub some : 0 < length text
   pub no_id : ¬ IsIdText text
-  pub front : IsLongestFront IsIdText text at
+  pub prefix : IsLongestPrefix IsIdText text at
 
 -- the answer to a text; want of memory may come at any
 abbrev pub IsReadAs : List ℕ → Result (List Pair) IdFault → Type 0
@@ -20,11 +20,11 @@ IsReadAs text (Err (BadEscape at)) = IsBadAt text at × EndsInEscape (take at te
 IsReadAs text (Err TooLong) = (id : List Pair) × IsId id × (text ≡ id_text id) × ¬ FitsLimits id
 IsReadAs text (Err Memory) = Unit {0}
 
--- the fault of a text that goes wrong behind this front
-abbrev pub IsFaultBehind : List ℕ → IdFault → Type 0
-IsFaultBehind front (BadSegment at) = (at ≡ length front) × ¬ EndsInEscape front
-IsFaultBehind front (BadEscape at) = (at ≡ length front) × EndsInEscape front
-IsFaultBehind front _ = ⊥
+-- the fault of a text that goes wrong after this prefix
+abbrev pub IsFaultAfter : List ℕ → IdFault → Type 0
+IsFaultAfter prefix (BadSegment at) = (at ≡ length prefix) × ¬ EndsInEscape prefix
+IsFaultAfter prefix (BadEscape at) = (at ≡ length prefix) × EndsInEscape prefix
+IsFaultAfter prefix _ = ⊥
 
 -- what making a segment of a tag and a value answers; want of memory may come at any
 abbrev pub IsSegmentOf : List ℕ → List ℕ → Result Pair IdFault → Type 0

@@ -37,11 +37,11 @@ abbrev pub id_text : List Pair → List ℕ
 id_text segments = join_with_byte 47 (map segment_text segments)
 
 -- a tag or a value: a text that isn't empty
-abbrev pub IsPart : List ℕ → Type 0
-IsPart text = (0 < length text) × IsUtf8 text
+abbrev pub IsNonEmptyText : List ℕ → Type 0
+IsNonEmptyText text = (0 < length text) × IsUtf8 text
 
 abbrev pub IsSegment : Pair → Type 0
-IsSegment s = IsPart s.tag × IsPart s.value
+IsSegment s = IsNonEmptyText s.tag × IsNonEmptyText s.value
 
 abbrev pub IsId : List Pair → Type 0
 IsId segments = (0 < length segments) × AllByRecursion IsSegment segments
@@ -58,10 +58,10 @@ FitsLimits id = (length (id_text id) ≤ MAX_BYTES) × (length id ≤ MAX_SEGMEN
 abbrev pub IsEngine : List Pair → Type 0
 IsEngine id = (value : List ℕ) × (id ≡ record { tag = codes "engine"; value = value } ∷ [])
 
--- the text ends within an escape, behind `%` or behind one digit: an escaped text has `%` nowhere else
+-- the text ends within an escape, after `%` or after one digit: an escaped text has `%` nowhere else
 abbrev pub EndsInEscape : List ℕ → Type 0
-EndsInEscape text = ((front : List ℕ) × (text ≡ front ++ 37 ∷ [])) ⊎ ((front : List ℕ) × (digit : ℕ) × (text ≡ front ++ 37 ∷ digit ∷ []))
+EndsInEscape text = ((prefix : List ℕ) × (text ≡ prefix ++ 37 ∷ [])) ⊎ ((prefix : List ℕ) × (digit : ℕ) × (text ≡ prefix ++ 37 ∷ digit ∷ []))
 
 -- the id without its last segment
-abbrev pub front_of : List Pair → List Pair
-front_of id = take (length id - 1) id
+abbrev pub parent_of : List Pair → List Pair
+parent_of id = take (length id - 1) id

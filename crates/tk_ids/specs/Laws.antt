@@ -11,26 +11,26 @@ use Rattle.tk_ids.specs.Answer.{IsReadAs}
 use Rattle.tk_ids.specs.Table.{IsAddedAs, IsInsertedAs}
 
 -- two ids never have one text
-abbrev pub OneText : Type 0
-OneText = (a b : List Pair) → IsId a → IsId b → id_text a ≡ id_text b → a ≡ b
+abbrev pub TextIsUnique : Type 0
+TextIsUnique = (a b : List Pair) → IsId a → IsId b → id_text a ≡ id_text b → a ≡ b
 
 -- a text has one answer, where memory doesn't run out
-abbrev pub OneAnswer : Type 0
-OneAnswer =
+abbrev pub AnswerIsUnique : Type 0
+AnswerIsUnique =
     (text : List ℕ) (a b : Result (List Pair) IdFault) →
     IsReadAs text a → IsReadAs text b →
     a ≢ Err Memory → b ≢ Err Memory → a ≡ b
 
 -- adding a descriptor has one answer and leaves one table, where memory doesn't run out
-abbrev pub OneAddition : Type 0
-OneAddition =
+abbrev pub AdditionIsUnique : Type 0
+AdditionIsUnique =
     (old new other : List Descriptor) (parent : Option ℕ) (segment : Pair) (name : List ℕ) (dtype : DType) (a b : Result ℕ TableFault) →
     IsAddedAs old new parent segment name dtype a → IsAddedAs old other parent segment name dtype b →
     a ≢ Err table_faults.Memory → b ≢ Err table_faults.Memory → (a ≡ b) × (new ≡ other)
 
 -- and so has inserting one
-abbrev pub OneInsertion : Type 0
-OneInsertion =
+abbrev pub InsertionIsUnique : Type 0
+InsertionIsUnique =
     (old new other : List Descriptor) (d : Descriptor) (a b : Result ℕ TableFault) →
     IsInsertedAs old new d a → IsInsertedAs old other d b →
     a ≢ Err table_faults.Memory → b ≢ Err table_faults.Memory → (a ≡ b) × (new ≡ other)

@@ -7,7 +7,7 @@ use Rattle.tk_ids.specs.declared.tables.DType.TheVariants.{Container, Test, Both
 use Rattle.tk_ids.specs.declared.tables.Descriptor.{Descriptor}
 use Rattle.tk_ids.specs.declared.tables.TableFault.{TableFault}
 use Rattle.tk_ids.specs.declared.tables.TableFault.TheVariants.{NoParent, Twice, Full, Id, Memory}
-use Rattle.tk_ids.specs.IdText.{Pair, IsId, id_text, FitsLimits, front_of}
+use Rattle.tk_ids.specs.IdText.{Pair, IsId, id_text, FitsLimits, parent_of}
 
 abbrev pub IsTest : DType → Type 0
 IsTest Container = ⊥
@@ -31,39 +31,39 @@ abbrev pub AreDifferent : List Descriptor → Type 0
 AreDifferent table = (j k : ℕ) (id : List Pair) → slice_get (ids_of table) j ≡ Some id → slice_get (ids_of table) k ≡ Some id → j ≡ k
 
 -- the id of a child of this parent, or of a root; none where there is no such parent
-abbrev pub id_below : List Descriptor → Option ℕ → Pair → Option (List Pair)
-id_below table None segment = Some (segment ∷ [])
-id_below table (Some parent) segment = option_map (λ d. d.id ++ segment ∷ []) (slice_get table parent)
+abbrev pub child_id : List Descriptor → Option ℕ → Pair → Option (List Pair)
+child_id table None segment = Some (segment ∷ [])
+child_id table (Some parent) segment = option_map (λ d. d.id ++ segment ∷ []) (slice_get table parent)
 
 -- what making that id answers, at a table that may be full; want of memory may come at any
-abbrev pub IsIdBelow : List Descriptor → Option ℕ → Pair → Result (List Pair) TableFault → Type 0
-IsIdBelow table parent segment (Ok id) = (id_below table parent segment ≡ Some id) × FitsLimits id
-IsIdBelow table parent segment (Err NoParent) = id_below table parent segment ≡ None
-IsIdBelow table parent segment (Err Twice) = ⊥
-IsIdBelow table parent segment (Err Full) =
-    (id : List Pair) × (id_below table parent segment ≡ Some id)
+abbrev pub IsChildId : List Descriptor → Option ℕ → Pair → Result (List Pair) TableFault → Type 0
+IsChildId table parent segment (Ok id) = (child_id table parent segment ≡ Some id) × FitsLimits id
+IsChildId table parent segment (Err NoParent) = child_id table parent segment ≡ None
+IsChildId table parent segment (Err Twice) = ⊥
+IsChildId table parent segment (Err Full) =
+    (id : List Pair) × (child_id table parent segment ≡ Some id)
     × ¬ (FitsLimits id) × (length table ≡ MAX_DESCRIPTORS)
-IsIdBelow table parent segment (Err (Id id_faults.TooLong)) =
-    (id : List Pair) × (id_below table parent segment ≡ Some id)
+IsChildId table parent segment (Err (Id id_faults.TooLong)) =
+    (id : List Pair) × (child_id table parent segment ≡ Some id)
     × ¬ (FitsLimits id) × (length table < MAX_DESCRIPTORS)
-IsIdBelow table parent segment (Err (Id _)) = ⊥
-IsIdBelow table parent segment (Err Memory) = Unit {0}
+IsChildId table parent segment (Err (Id _)) = ⊥
+IsChildId table parent segment (Err Memory) = Unit {0}
 
 -- What adding a descriptor answers, and the table after it. Want of memory may come at any.
 abbrev pub IsAddedAs : List Descriptor → List Descriptor → Option ℕ → Pair → List ℕ → DType → Result ℕ TableFault → Type 0
 IsAddedAs old new parent segment name dtype (Ok key) =
-    (id : List Pair) × (id_below old parent segment ≡ Some id)
+    (id : List Pair) × (child_id old parent segment ≡ Some id)
     × FitsLimits id × ¬ (HasId old id) × (length old < MAX_DESCRIPTORS)
     × (key ≡ length old) × (new ≡ old ++ record { id = id; name = name; dtype = dtype } ∷ [])
-IsAddedAs old new parent segment name dtype (Err NoParent) = (id_below old parent segment ≡ None) × (new ≡ old)
+IsAddedAs old new parent segment name dtype (Err NoParent) = (child_id old parent segment ≡ None) × (new ≡ old)
 IsAddedAs old new parent segment name dtype (Err Twice) =
-    (id : List Pair) × (id_below old parent segment ≡ Some id)
+    (id : List Pair) × (child_id old parent segment ≡ Some id)
     × HasId old id × (new ≡ old)
 IsAddedAs old new parent segment name dtype (Err Full) =
-    (id : List Pair) × (id_below old parent segment ≡ Some id)
+    (id : List Pair) × (child_id old parent segment ≡ Some id)
     × ¬ (HasId old id) × (length old ≡ MAX_DESCRIPTORS) × (new ≡ old)
 IsAddedAs old new parent segment name dtype (Err (Id id_faults.TooLong)) =
-    (id : List Pair) × (id_below old parent segment ≡ Some id)
+    (id : List Pair) × (child_id old parent segment ≡ Some id)
     × ¬ (HasId old id) × ¬ (FitsLimits id) × (length old < MAX_DESCRIPTORS) × (new ≡ old)
 IsAddedAs old new parent segment name dtype (Err (Id _)) = ⊥
 IsAddedAs old new parent segment name dtype (Err Memory) = new ≡ old
@@ -74,9 +74,9 @@ IsKept e = (e.0 ≡ id_text e.1.id) × IsId e.1.id × FitsLimits e.1.id
 
 -- the id is a root's, or a descriptor has the id without its last segment
 abbrev pub HasParent : List Descriptor → List Pair → Type 0
-HasParent table id = 1 < length id → HasId table (front_of id)
+HasParent table id = 1 < length id → HasId table (parent_of id)
 
--- the descriptor may stand behind these
+-- the descriptor may stand after these
 pub record TakesNext (table : List Descriptor) (d : Descriptor) : Type 0 where
   pub parent : HasParent table d.id
   pub absent : ¬ HasId table d.id

@@ -1,7 +1,7 @@
 //! Unique ids.
 ghost use Rattle.std.specs.Prelude.{◌≡◌, ℕ, List, MatchOption, IfOk, IfErr, IsOk, OnOk, length, [], ◌∷◌, ◌++◌, ◌<◌, ◌≤◌, ◌⊎◌, IsTrue, ◌↔◌};
 ghost use Rattle.tk_ids.specs.IdText.{EndsInEscape};
-ghost use Rattle.tk_ids.specs.Answer.{IsFaultBehind};
+ghost use Rattle.tk_ids.specs.Answer.{IsFaultAfter};
 
 use crate::reading::Reader;
 use crate::texts::Text;
@@ -52,11 +52,11 @@ pub const MAX_BYTES: usize = 4096;
 pub const MAX_SEGMENTS: usize = 64;
 
 /// How many bytes are reserved for a segment's text before it is written; a longer one grows.
-const SEGMENT_ROOM: usize = 64;
+const SEGMENT_CAPACITY: usize = 64;
 
 /// What a segment keeps.
 #[derive(Debug, Drop)]
-struct Parts {
+struct SegmentTexts {
     tag: Text,
     value: Text,
 }
@@ -64,31 +64,31 @@ struct Parts {
 /// A tag and a value, neither of them empty. Clones share them.
 #[derive(Debug, Drop)]
 pub struct Segment {
-    parts: Arc<Parts>,
+    parts: Arc<SegmentTexts>,
 }
 
 impl Model for Segment {
     ghost use Rattle.std.specs.Arc.{arc_value};
-    ghost use Rattle.tk_ids.specs.IdText.{Pair, IsPart};
+    ghost use Rattle.tk_ids.specs.IdText.{Pair, IsNonEmptyText};
 
     ghost Value = { Pair };
 
     ghost view = { λ s. record { tag = (arc_value s.parts).tag; value = (arc_value s.parts).value } };
 
-    ghost invariant = { λ s. IsPart (arc_value s.parts).tag × IsPart (arc_value s.parts).value };
+    ghost invariant = { λ s. IsNonEmptyText (arc_value s.parts).tag × IsNonEmptyText (arc_value s.parts).value };
 }
 
 impl Segment {
-    ghost use Rattle.tk_ids.specs.IdText.{IsPart};
+    ghost use Rattle.tk_ids.specs.IdText.{IsNonEmptyText};
     ghost use Rattle.tk_ids.specs.Answer.{IsSegmentOf};
 
-    pub(crate) fn of_parts(alloc: Global, tag: Text, value: Text) -> Result<Segment, AllocError>
-        requires tag { IsPart tag }
-        requires value { IsPart value }
+    pub(crate) fn from_parts(alloc: Global, tag: Text, value: Text) -> Result<Segment, AllocError>
+        requires tag { IsNonEmptyText tag }
+        requires value { IsNonEmptyText value }
         ensures { IfOk result (λ s. s ≡ record { tag = tag; value = value }) }
     {
         Ok(Segment {
-            parts: Arc::new(alloc, Parts { tag, value })?,
+            parts: Arc::new(alloc, SegmentTexts { tag, value })?,
         })
     }
 
@@ -100,7 +100,7 @@ impl Segment {
             return Err(IdFault::Empty);
         }
         let (tag, value) = (Text::copy(alloc, tag)?, Text::copy(alloc, value)?);
-        Ok(Segment::of_parts(alloc, tag, value)?)
+        Ok(Segment::from_parts(alloc, tag, value)?)
     }
 
     /// Another segment with the same tag and value.
@@ -115,7 +115,7 @@ impl Segment {
     /// The tag, without escapes.
     pub fn tag(&self) -> &str
         ensures value { result.now ≡ self.now.tag }
-        ensures part { IsPart result.now }
+        ensures partial { IsNonEmptyText result.now }
     {
         self.parts.tag.as_str()
     }
@@ -123,7 +123,7 @@ impl Segment {
     /// The value, without escapes.
     pub fn value(&self) -> &str
         ensures value { result.now ≡ self.now.value }
-        ensures part { IsPart result.now }
+        ensures partial { IsNonEmptyText result.now }
     {
         self.parts.value.as_str()
     }
@@ -131,7 +131,7 @@ impl Segment {
 
 /// What an id keeps: its segments, and its text beside them.
 #[derive(Debug, Drop)]
-struct Path {
+struct IdFields {
     text: Text,
     segments: Vec<Segment>,
 }
@@ -139,7 +139,7 @@ struct Path {
 /// The path of a descriptor from its root: one segment or more.
 #[derive(Debug, Drop)]
 pub struct UniqueId {
-    path: Box<Path>,
+    path: Box<IdFields>,
 }
 
 impl Model for UniqueId {
@@ -155,8 +155,8 @@ impl Model for UniqueId {
         × FitsLimits u.path.value.segments.items };
 }
 
-/// The same segments once more, with room for one behind them.
-fn copies(alloc: Global, segments: &[Segment]) -> Result<Vec<Segment>, AllocError>
+/// The same segments once more, with room for one after them.
+fn clone_segments(alloc: Global, segments: &[Segment]) -> Result<Vec<Segment>, AllocError>
     requires few { length segments.now ≤ MAX_SEGMENTS }
     ensures { IfOk result (λ v. v.items ≡ segments.now) }
 {
@@ -168,43 +168,43 @@ fn copies(alloc: Global, segments: &[Segment]) -> Result<Vec<Segment>, AllocErro
 }
 
 /// Whether a text ends within an escape.
-fn ends_in_escape(front: &[u8]) -> bool
-    ensures { IsTrue result ↔ EndsInEscape front.now }
+fn ends_in_escape(prefix: &[u8]) -> bool
+    ensures { IsTrue result ↔ EndsInEscape prefix.now }
 {
-    let n = front.len();
-    (n >= 1 && front[n - 1] == b'%') || (n >= 2 && front[n - 2] == b'%')
+    let n = prefix.len();
+    (n >= 1 && prefix[n - 1] == b'%') || (n >= 2 && prefix[n - 2] == b'%')
 }
 
-/// The fault of a text that goes wrong behind this front.
-fn fault_behind(front: &[u8]) -> IdFault
-    ensures { IsFaultBehind front.now result }
+/// The fault of a text that goes wrong after this prefix.
+fn fault_after(prefix: &[u8]) -> IdFault
+    ensures { IsFaultAfter prefix.now result }
 {
-    if ends_in_escape(front) {
-        IdFault::BadEscape(front.len())
+    if ends_in_escape(prefix) {
+        IdFault::BadEscape(prefix.len())
     } else {
-        IdFault::BadSegment(front.len())
+        IdFault::BadSegment(prefix.len())
     }
 }
 
 impl UniqueId {
-    ghost use Rattle.tk_ids.specs.IdText.{IsId, id_text, IsEngine, FitsLimits, front_of};
+    ghost use Rattle.tk_ids.specs.IdText.{IsId, id_text, IsEngine, FitsLimits, parent_of};
     ghost use Rattle.tk_ids.specs.Answer.{IsReadAs, IsMadeOf};
 
     /// The id of these segments, with its text.
-    fn of_parts(alloc: Global, text: Text, segments: Vec<Segment>) -> Result<UniqueId, AllocError>
+    fn from_parts(alloc: Global, text: Text, segments: Vec<Segment>) -> Result<UniqueId, AllocError>
         requires id { IsId segments.items }
         requires text { text ≡ id_text segments.items }
         requires fits { FitsLimits segments.items }
         ensures { IfOk result (λ id. id ≡ segments.items) }
     {
         Ok(UniqueId {
-            path: Box::new(alloc, Path { text, segments })?,
+            path: Box::new(alloc, IdFields { text, segments })?,
         })
     }
 
     /// The id that a text spells: `[tag:value]` for each segment, joined by `/`, where `%`, `+`,
     /// `[`, `]`, `:` and `/` stand as `%25`, `%2B`, `%5B`, `%5D`, `%3A` and `%2F`. Only these
-    /// spellings are read. A text that is no id's is bad at the length of its longest front with
+    /// spellings are read. A text that is no id's is bad at the length of its longest prefix with
     /// which some id's text begins.
     pub fn read(alloc: Global, text: &str) -> Result<UniqueId, IdFault>
         ensures { IsReadAs text.now result }
@@ -216,17 +216,17 @@ impl UniqueId {
         let mut reader = Reader::new(alloc);
         for (at, byte) in bytes.iter().enumerate() {
             if !reader.feed(alloc, *byte)? {
-                return Err(fault_behind(&bytes[..at]));
+                return Err(fault_after(&bytes[..at]));
             }
         }
         let Some(segments) = reader.finish() else {
-            return Err(fault_behind(bytes));
+            return Err(fault_after(bytes));
         };
         if bytes.len() > MAX_BYTES || segments.len() > MAX_SEGMENTS {
             return Err(IdFault::TooLong);
         }
         let text = Text::copy(alloc, text)?;
-        Ok(UniqueId::of_parts(alloc, text, segments)?)
+        Ok(UniqueId::from_parts(alloc, text, segments)?)
     }
 
     /// The id's text.
@@ -271,15 +271,15 @@ impl UniqueId {
         ensures { IfOk result (λ id. id ≡ self.now) }
     {
         let text = self.as_text().try_clone()?;
-        let segments = copies(alloc, self.segments())?;
-        UniqueId::of_parts(alloc, text, segments)
+        let segments = clone_segments(alloc, self.segments())?;
+        UniqueId::from_parts(alloc, text, segments)
     }
 
     /// The text of the id without its last segment, where it has more than one.
-    pub(crate) fn front_text(&self, alloc: Global) -> Result<Option<Text>, AllocError>
-        ensures { IfOk result (λ front. MatchOption front (length self.now ≡ 1)
-            (λ text. (1 < length self.now) × IsId (front_of self.now)
-            × FitsLimits (front_of self.now) × (text ≡ id_text (front_of self.now)))) }
+    pub(crate) fn parent_text(&self, alloc: Global) -> Result<Option<Text>, AllocError>
+        ensures { IfOk result (λ prefix. MatchOption prefix (length self.now ≡ 1)
+            (λ text. (1 < length self.now) × IsId (parent_of self.now)
+            × FitsLimits (parent_of self.now) × (text ≡ id_text (parent_of self.now)))) }
     {
         let text = self.as_text();
         let segments = self.segments();
@@ -290,21 +290,21 @@ impl UniqueId {
         let mut last = Vec::new(alloc);
         push_segment(&mut last, &segments[count])?;
         let bytes = text.as_str().as_bytes();
-        let front = Vec::from_slice(alloc, &bytes[..bytes.len() - last.len() - 1])?;
-        Ok(Some(Text::from_utf8(front)))
+        let prefix = Vec::from_slice(alloc, &bytes[..bytes.len() - last.len() - 1])?;
+        Ok(Some(Text::from_utf8(prefix)))
     }
 
     /// The id without its last segment, where it has more than one.
     pub fn parent(&self, alloc: Global) -> Result<Option<UniqueId>, AllocError>
         ensures { IfOk result (λ parent. MatchOption parent (length self.now ≡ 1)
-            (λ id. (1 < length self.now) × (id ≡ front_of self.now))) }
+            (λ id. (1 < length self.now) × (id ≡ parent_of self.now))) }
     {
-        let Some(text) = self.front_text(alloc)? else {
+        let Some(text) = self.parent_text(alloc)? else {
             return Ok(None);
         };
         let segments = self.segments();
-        let segments = copies(alloc, &segments[..segments.len() - 1])?;
-        Ok(Some(UniqueId::of_parts(alloc, text, segments)?))
+        let segments = clone_segments(alloc, &segments[..segments.len() - 1])?;
+        Ok(Some(UniqueId::from_parts(alloc, text, segments)?))
     }
 
     /// The id of one segment.
@@ -318,7 +318,7 @@ impl UniqueId {
         }
         let mut segments = Vec::new(alloc);
         segments.push(segment.try_clone()?)?;
-        Ok(UniqueId::of_parts(alloc, Text::from_utf8(bytes), segments)?)
+        Ok(UniqueId::from_parts(alloc, Text::from_utf8(bytes), segments)?)
     }
 
     /// The text of the id with one segment more.
@@ -327,7 +327,7 @@ impl UniqueId {
         ensures id { OnOk result (IsId (self.now ++ segment.now ∷ [])) }
     {
         let text = self.as_text().as_str().as_bytes();
-        let mut bytes = Vec::with_capacity(alloc, text.len() + SEGMENT_ROOM)?;
+        let mut bytes = Vec::with_capacity(alloc, text.len() + SEGMENT_CAPACITY)?;
         bytes.extend_from_slice(text)?;
         bytes.push(b'/')?;
         push_segment(&mut bytes, segment)?;
@@ -342,8 +342,8 @@ impl UniqueId {
         if text.len() > MAX_BYTES || self.segments().len() >= MAX_SEGMENTS {
             return Err(IdFault::TooLong);
         }
-        let mut segments = copies(alloc, self.segments())?;
+        let mut segments = clone_segments(alloc, self.segments())?;
         segments.push(segment.try_clone()?)?;
-        Ok(UniqueId::of_parts(alloc, text, segments)?)
+        Ok(UniqueId::from_parts(alloc, text, segments)?)
     }
 }

@@ -1,6 +1,6 @@
 //! Reading the text of an id, byte by byte.
 ghost use Rattle.std.specs.Prelude.{◌≡◌, ◌≢◌, ℕ, List, [], IfOk, OnOk, MatchOption, if◌then◌else◌, Some, None, IsUtf8, ◌∷◌, ◌++◌};
-ghost use Rattle.tk_ids.specs.Reading.{byte_of, is_first_digit, part_step, ends_at};
+ghost use Rattle.tk_ids.specs.Reading.{byte_of, is_first_digit, text_step, ends_at};
 ghost use Rattle.tk_ids.specs.IdText.{digits_of};
 
 use crate::ids::Segment;
@@ -18,12 +18,12 @@ pub(crate) enum Escape {
 
 /// A tag or a value, as far as it is read.
 #[derive(Drop)]
-pub(crate) struct Part {
+pub(crate) struct PartialText {
     bytes: Vec<u8>,
     escape: Escape,
 }
 
-impl Model for Part {
+impl Model for PartialText {
     ghost use Rattle.std.specs.Prelude.{ℕ, List};
     ghost use Rattle.tk_ids.specs.declared.reading.Escape.{Escape};
 
@@ -62,11 +62,11 @@ pub(crate) fn digits_of_byte(byte: u8) -> Option<(u8, u8)>
     }
 }
 
-impl Part {
-    fn new(alloc: Global) -> Part
+impl PartialText {
+    fn new(alloc: Global) -> PartialText
         ensures { result ≡ ([], Escape.Plain) }
     {
-        Part {
+        PartialText {
             bytes: Vec::new(alloc),
             escape: Escape::Plain,
         }
@@ -87,10 +87,10 @@ impl Part {
         matches!(self.escape, Escape::Plain) && byte == stop && !self.bytes.is_empty()
     }
 
-    /// Takes one more byte, and tells whether it may stand there.
+    /// Takes one more byte, and returns whether it may stand there.
     fn feed(&mut self, byte: u8) -> Result<bool, AllocError>
         ensures { IfOk result
-            (λ fed. part_step self.old byte ≡ (if fed then Some self.new else None)) }
+            (λ accepted. text_step self.old byte ≡ (if accepted then Some self.new else None)) }
     {
         match self.escape {
             Escape::Plain => {
@@ -133,13 +133,13 @@ impl Part {
 
 /// Where a text is in a segment.
 #[derive(Drop)]
-pub(crate) enum Place {
+pub(crate) enum SegmentPosition {
     /// Before its `[`.
     Before,
     Tag,
     /// In its value. The tag is read.
     Value(Text),
-    /// Behind its `]`.
+    /// After its `]`.
     Behind,
 }
 
@@ -147,8 +147,8 @@ pub(crate) enum Place {
 #[derive(Drop)]
 pub(crate) struct Reader {
     segments: Vec<Segment>,
-    place: Place,
-    part: Part,
+    position: SegmentPosition,
+    partial: PartialText,
 }
 
 impl Model for Reader {
@@ -157,12 +157,12 @@ impl Model for Reader {
 
     ghost Value = { State };
 
-    ghost view = { λ r. state_of r.segments.items r.place r.part };
+    ghost view = { λ r. state_of r.segments.items r.position r.partial };
 }
 
 impl Reader {
     ghost use Rattle.tk_ids.specs.Reading.{step, Before, Behind};
-    ghost use Rattle.tk_ids.specs.Reader.{GoesOnAsText, IsSound};
+    ghost use Rattle.tk_ids.specs.Reader.{ContinuesAsText, IsSound};
     ghost use Rattle.tk_ids.specs.IdText.{Pair};
 
     pub(crate) fn new(alloc: Global) -> Reader
@@ -170,62 +170,62 @@ impl Reader {
     {
         Reader {
             segments: Vec::new(alloc),
-            place: Place::Before,
-            part: Part::new(alloc),
+            position: SegmentPosition::Before,
+            partial: PartialText::new(alloc),
         }
     }
 
-    /// Takes one more byte, and tells whether it may stand there.
+    /// Takes one more byte, and returns whether it may stand there.
     pub(crate) fn feed(&mut self, alloc: Global, byte: u8) -> Result<bool, AllocError>
         requires sound { IsSound self.old }
-        requires text { GoesOnAsText self.old (byte ∷ []) }
+        requires text { ContinuesAsText self.old (byte ∷ []) }
         ensures { IfOk result
-            (λ fed. step self.old byte ≡ (if fed then Some self.new else None)) }
+            (λ accepted. step self.old byte ≡ (if accepted then Some self.new else None)) }
     {
-        match &self.place {
-            Place::Before => {
+        match &self.position {
+            SegmentPosition::Before => {
                 if byte != b'[' {
                     return Ok(false);
                 }
-                self.part.clear();
-                self.place = Place::Tag;
+                self.partial.clear();
+                self.position = SegmentPosition::Tag;
             }
-            Place::Tag => {
-                if !self.part.ends(b':', byte) {
-                    return self.part.feed(byte);
+            SegmentPosition::Tag => {
+                if !self.partial.ends(b':', byte) {
+                    return self.partial.feed(byte);
                 }
-                self.place = Place::Value(self.part.take(alloc)?);
+                self.position = SegmentPosition::Value(self.partial.take(alloc)?);
             }
-            Place::Value(_) => {
-                if !self.part.ends(b']', byte) {
-                    return self.part.feed(byte);
+            SegmentPosition::Value(_) => {
+                if !self.partial.ends(b']', byte) {
+                    return self.partial.feed(byte);
                 }
-                let value = self.part.take(alloc)?;
-                match std::mem::replace(&mut self.place, Place::Behind) {
-                    Place::Value(tag) => {
-                        let segment = Segment::of_parts(alloc, tag, value)?;
+                let value = self.partial.take(alloc)?;
+                match std::mem::replace(&mut self.position, SegmentPosition::Behind) {
+                    SegmentPosition::Value(tag) => {
+                        let segment = Segment::from_parts(alloc, tag, value)?;
                         self.segments.push(segment)?;
                     }
                     _ => unreachable!(),
                 }
             }
-            Place::Behind => {
+            SegmentPosition::Behind => {
                 if byte != b'/' {
                     return Ok(false);
                 }
-                self.place = Place::Before;
+                self.position = SegmentPosition::Before;
             }
         }
         Ok(true)
     }
 
-    /// The segments, where the text ends behind one.
+    /// The segments, where the text ends after one.
     pub(crate) fn finish(self) -> Option<Vec<Segment>>
         ensures { MatchOption result ((done : List Pair) → self ≢ Behind done)
             (λ segments. self ≡ Behind segments.items) }
     {
-        match self.place {
-            Place::Behind => Some(self.segments),
+        match self.position {
+            SegmentPosition::Behind => Some(self.segments),
             _ => None,
         }
     }

@@ -118,7 +118,7 @@ impl Model for Table {
 }
 
 impl Table {
-    ghost use Rattle.tk_ids.specs.Table.{ids_of, HasId, AreDifferent, id_below, IsIdBelow, IsAddedAs, HasParent, IsInsertedAs};
+    ghost use Rattle.tk_ids.specs.Table.{ids_of, HasId, AreDifferent, child_id, IsChildId, IsAddedAs, HasParent, IsInsertedAs};
     ghost use Rattle.tk_ids.specs.IdText.{Pair, IsId, id_text};
     ghost use Rattle.tk_ids.specs.Answer.{IsMadeOf};
 
@@ -166,14 +166,14 @@ impl Table {
     }
 
     /// The id of a child of this parent, or of a root; nothing where there is no such parent.
-    fn made_below(
+    fn child_descriptor(
         &self,
         alloc: Global,
         parent: Option<u32>,
         segment: &Segment,
     ) -> Option<Result<UniqueId, IdFault>>
-        ensures { MatchOption result (id_below self.now parent segment.now ≡ None)
-            (λ made. (id : List Pair) × (id_below self.now parent segment.now ≡ Some id)
+        ensures { MatchOption result (child_id self.now parent segment.now ≡ None)
+            (λ made. (id : List Pair) × (child_id self.now parent segment.now ≡ Some id)
             × IsMadeOf id made) }
     {
         match parent {
@@ -186,15 +186,15 @@ impl Table {
     }
 
     /// The same, with the fault of the table.
-    fn id_below(
+    fn child_id(
         &self,
         alloc: Global,
         parent: Option<u32>,
         segment: &Segment,
     ) -> Result<UniqueId, TableFault>
-        ensures { IsIdBelow self.now parent segment.now result }
+        ensures { IsChildId self.now parent segment.now result }
     {
-        match self.made_below(alloc, parent, segment) {
+        match self.child_descriptor(alloc, parent, segment) {
             None => Err(TableFault::NoParent),
             Some(Ok(id)) => Ok(id),
             Some(Err(IdFault::Memory)) => Err(TableFault::Memory),
@@ -229,7 +229,7 @@ impl Table {
         ensures { IsAddedAs self.old self.new parent segment.now name.now dtype result }
     {
         let _entries = &self.by_text;
-        let id = self.id_below(alloc, parent, segment)?;
+        let id = self.child_id(alloc, parent, segment)?;
         if self.find(&id).is_some() {
             return Err(TableFault::Twice);
         }
@@ -254,7 +254,7 @@ impl Table {
     fn has_parent(&self, alloc: Global, id: &UniqueId) -> Result<bool, AllocError>
         ensures { IfOk result (λ has. IsTrue has ↔ HasParent self.now id.now) }
     {
-        match id.front_text(alloc)? {
+        match id.parent_text(alloc)? {
             None => Ok(true),
             Some(text) => Ok(self.has_text(&text)),
         }

@@ -3,7 +3,7 @@ pub mod Counts
 pub mod Lanes
 pub mod Nibbles
 pub mod Picking
-pub mod Places
+pub mod Positions
 pub mod Search
 pub mod Tallies
 pub mod Views

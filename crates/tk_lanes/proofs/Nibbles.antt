@@ -20,26 +20,26 @@ pow_bytes (suc k) =
 
 byte_at : (word k : ℕ) → word < 2 ^ 64 → k < 8 → get_or (bytes_of word) k 0 ≡ word / 2 ^ (8 * k) % 256
 byte_at word k fits lt =
-    let place : k ≡ 8 * 0 + k = omega arith in
-    ap (λ n. get_or (bytes_of word) n 0) place ∙ get_or_narrower (2 ^ 64) 8 256 8 (word ∷ []) 0 k refl (fits, tt) lt (omega arith)
+    let position : k ≡ 8 * 0 + k = omega arith in
+    ap (λ n. get_or (bytes_of word) n 0) position ∙ get_or_narrower (2 ^ 64) 8 256 8 (word ∷ []) 0 k refl (fits, tt) lt (omega arith)
     ∙ ap (λ n. word / n % 256) (pow_bytes k)
 
 pub even_lane : (word k : ℕ) → word < 2 ^ 64 → k < 8 → get_or (zip2 bit_and (bytes_of word) (replicate 8 15)) k 0 ≡ lane_at word (2 * k)
 even_lane word k fits lt =
-    let place : 8 * k ≡ 4 * (2 * k) = omega arith in
+    let position : 8 * k ≡ 4 * (2 * k) = omega arith in
     let low : word / 2 ^ (8 * k) % 256 % 16 ≡ word / 2 ^ (8 * k) % 16 = omega arith in
     get_or-zip2 bit_and (bytes_of word) (replicate 8 15) k 0 0 0 lt lt
     ∙ ap (bit_and (get_or (bytes_of word) k 0)) (get_or-replicate 8 k 15 0 lt)
     ∙ and_mask (get_or (bytes_of word) k 0) 4
-    ∙ ap (λ n. n % 16) (byte_at word k fits lt) ∙ low ∙ ap (λ n. word / 2 ^ n % 16) place
+    ∙ ap (λ n. n % 16) (byte_at word k fits lt) ∙ low ∙ ap (λ n. word / 2 ^ n % 16) position
 
 pub odd_lane : (word k : ℕ) → word < 2 ^ 64 → k < 8 → get_or (zip2 (λ a b. a / 2 ^ b) (bytes_of word) (replicate 8 4)) k 0 ≡ lane_at word (2 * k + 1)
 odd_lane word k fits lt =
-    let place : 8 * k + 4 ≡ 4 * (2 * k + 1) = omega arith in
+    let position : 8 * k + 4 ≡ 4 * (2 * k + 1) = omega arith in
     let high : word / 2 ^ (8 * k) % 256 / 16 ≡ word / 2 ^ (8 * k) / 16 % 16 = omega arith in
     get_or-zip2 (λ a b. a / 2 ^ b) (bytes_of word) (replicate 8 4) k 0 0 0 lt lt
     ∙ ap (λ b. get_or (bytes_of word) k 0 / 2 ^ b) (get_or-replicate 8 k 4 0 lt)
-    ∙ ap (λ n. n / 16) (byte_at word k fits lt) ∙ high ∙ ap (λ n. n % 16) (shr-shr word (8 * k) 4) ∙ ap (λ n. word / 2 ^ n % 16) place
+    ∙ ap (λ n. n / 16) (byte_at word k fits lt) ∙ high ∙ ap (λ n. n % 16) (shr-shr word (8 * k) 4) ∙ ap (λ n. word / 2 ^ n % 16) position
 
 -- ---- no lane of a mask is set
 

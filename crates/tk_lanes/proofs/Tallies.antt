@@ -16,7 +16,7 @@ use Rattle.tk_lanes.proofs.Counts.{set_bits_is}
 use Rattle.tk_lanes.proofs.Words.{holds_packed}
 use Rattle.tk_lanes.proofs.Writes.{test_and}
 use Rattle.tk_lanes.proofs.Views.{held_both, set_bits_held}
-use Rattle.tk_lanes.proofs.Places.{counted_to, counted_more, counted_all, counted_few}
+use Rattle.tk_lanes.proofs.Positions.{counted_to, counted_more, counted_all, counted_few}
 
 none_more : (n : ℕ) → 0 + n ≡ n
 none_more n = omega arith

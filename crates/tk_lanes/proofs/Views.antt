@@ -109,7 +109,7 @@ pub first_is : (flags : List Bool) (from : ℕ) (words : List ℕ) (o : Option �
 first_is flags from words None holds clear = none_set flags words from holds clear
 first_is flags from words (Some at) holds first = next_set flags words from at holds first
 
--- a bit, shifted to the front of its word, is its flag
+-- a bit, shifted to the start of its word, is its flag
 pub bit_read : (flags : List Bool) (words : List ℕ) (at word : ℕ) → HoldsFlags flags words → at < length flags → word ≡ get_or words (at / 64) word → (bit_and (word / 2 ^ (at % 64)) 1 == 1) ≡ get_or flags at false
 bit_read flags words at word holds lt is =
     let within : at / 64 < length words = omega (arith, holds.size) in

@@ -5,10 +5,10 @@ ghost use Rattle.std.specs.Prelude.{◌≡◌, ◌≤◌, ◌<◌, ◌^◌, ◌*
 ghost use Rattle.std.specs.Simd.Lanes.{zip2};
 ghost use Rattle.std.specs.List.{items_where_true};
 ghost use Rattle.tk_lanes.specs.Bits.{shares_bit};
-ghost use Rattle.tk_lanes.specs.Lists.{places};
+ghost use Rattle.tk_lanes.specs.Lists.{positions};
 ghost use Rattle.tk_lanes.specs.Flags.{IsNextSet, IsNoneSet};
 
-use crate::parts::equal_in_word;
+use crate::mask_words::equal_in_word;
 use std::alloc::{AllocError, Global};
 use std::marker::Model;
 
@@ -64,7 +64,7 @@ impl Flags {
         Ok(Flags { words, len })
     }
 
-    /// A set flag for each of so many positions.
+    /// `len` set flags.
     pub fn all(alloc: Global, len: usize) -> Result<Flags, AllocError>
         requires { len ≤ 2 ^ 32 }
         ensures { IfOk result (λ flags. flags ≡ replicate len true) }
@@ -74,7 +74,7 @@ impl Flags {
         Ok(Flags { words, len })
     }
 
-    /// A clear flag for each of so many positions.
+    /// `len` clear flags.
     pub fn none(alloc: Global, len: usize) -> Result<Flags, AllocError>
         requires { len ≤ 2 ^ 32 }
         ensures { IfOk result (λ flags. flags ≡ replicate len false) }
@@ -146,7 +146,7 @@ impl Flags {
         crate::first_from(&self.words, from)
     }
 
-    /// Writes the bytes of a column at the set flags of one block of 64 to the front of a buffer,
+    /// Writes the bytes of a column at the set flags of one block of 64 to the start of a buffer,
     /// in order, and says how many. The rest of the buffer stays.
     pub fn gather(&self, column: &[u8], block: usize, buffer: &mut [u8; 64]) -> usize
         requires size { length column.now ≡ length self.now }
@@ -161,14 +161,14 @@ impl Flags {
     }
 
     /// The positions whose flags are set, in increasing order.
-    pub fn places(&self, alloc: Global) -> Result<Vec<usize>, AllocError>
-        ensures { IfOk result (λ list. list.items ≡ places (λ flag. flag) self.now) }
+    pub fn positions(&self, alloc: Global) -> Result<Vec<usize>, AllocError>
+        ensures { IfOk result (λ list. list.items ≡ positions (λ flag. flag) self.now) }
     {
         let mut list = Vec::new(alloc);
         let mut from = 0;
-        'places: while let Some(place) = self.first_from(from) {
-            list.push(place)?;
-            from = place + 1;
+        'positions: while let Some(position) = self.first_from(from) {
+            list.push(position)?;
+            from = position + 1;
         }
         Ok(list)
     }
@@ -189,7 +189,9 @@ impl Flags {
     /// How many of the bytes of a column at set flags equal 0, 1, .. 7, in one pass. It takes no memory.
     pub fn tally(&self, column: &[u8]) -> [usize; 8]
         requires { length column.now ≡ length self.now }
-        ensures value { (k : ℕ) → k < 8 → slice_index result k ≡ count_by (λ x. x == k) (items_where_true self.now column.now) }
+        ensures value { (k : ℕ) → k < 8
+            → slice_index result k ≡ count_by (λ x.
+            x == k) (items_where_true self.now column.now) }
         ensures bound { (k : ℕ) → k < 8 → slice_index result k ≤ 2 ^ 32 }
     {
         let mut counts = [0; 8];
@@ -206,7 +208,8 @@ impl Flags {
     fn count_in_block(&self, column: &[u8], block: usize, value: u8) -> usize
         requires size { length column.now ≡ length self.now }
         requires within { 64 * block < length self.now }
-        ensures value { result ≡ count_by (λ x. x == value) (items_where_true (take 64 (drop (64 * block) self.now)) (take 64 (drop (64 * block) column.now))) }
+        ensures value { result ≡ count_by (λ x.
+            x == value) (items_where_true (take 64 (drop (64 * block) self.now)) (take 64 (drop (64 * block) column.now))) }
         ensures bound { result ≤ 64 }
     {
         let start = 64 * block;

@@ -6,8 +6,8 @@ mod admission;
 mod columns;
 mod flag_lists;
 mod gathering;
+mod mask_words;
 mod masks;
-mod parts;
 
 pub use admission::admits;
 pub use columns::{count_byte, mask_byte, mask_flag, mask_u32};

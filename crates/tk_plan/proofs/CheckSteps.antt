@@ -19,10 +19,10 @@ use Rattle.tk_plan.specs.Answers.{Refuses}
 use Rattle.tk_plan.specs.Refusals.{Faults}
 use Rattle.tk_plan.specs.Checks.{first}
 use Rattle.tk_plan.specs.Progress.{IsNoted, IsChecked, IsAdded, room_checks}
-use Rattle.tk_plan.specs.Sites.{Site, segment_of, node_of, repeats_key}
+use Rattle.tk_plan.specs.NodeInputs.{NodeInput, segment_of, node_of, repeats_key}
 use Rattle.tk_plan.specs.PlanOf.{checks, node_check, id_fault, same_segment, is_kind}
-use Rattle.tk_plan.specs.declared.readers.Reader.{Reader}
-use Rattle.tk_plan.specs.declared.readers.Checked.{Checked}
+use Rattle.tk_plan.specs.declared.plan_readers.Reader.{Reader}
+use Rattle.tk_plan.specs.declared.plan_readers.Checked.{Checked}
 use Rattle.tk_plan.specs.declared.faults.PlanFault.{PlanFault}
 use Rattle.tk_plan.specs.declared.faults.PlanFault.TheVariants.{Json, Field, Id, Table, TooManyResources, EntryKeyTwice, TooManyEvents, Deep, Memory}
 
@@ -37,25 +37,25 @@ faults_also v w TooManyEvents f r = f TooManyEvents r
 faults_also v w Deep f r = f Deep r
 faults_also v w Memory f r = tt
 
-pub faults_from_place : (wrong : Option (List ℕ)) (w : Option PlanFault) (e : PlanFault) → ((p : List ℕ) → wrong ≡ Some p → w ≡ Some (Field p)) → Refuses wrong e → Faults w e
-faults_from_place wrong w (Field p) f r = f p r
-faults_from_place wrong w Memory f r = tt
-faults_from_place wrong w Json f r = absurd r
-faults_from_place wrong w (Id i) f r = absurd r
-faults_from_place wrong w (Table i) f r = absurd r
-faults_from_place wrong w TooManyResources f r = absurd r
-faults_from_place wrong w EntryKeyTwice f r = absurd r
-faults_from_place wrong w TooManyEvents f r = absurd r
-faults_from_place wrong w Deep f r = absurd r
+pub faults_from_path : (wrong : Option (List ℕ)) (w : Option PlanFault) (e : PlanFault) → ((p : List ℕ) → wrong ≡ Some p → w ≡ Some (Field p)) → Refuses wrong e → Faults w e
+faults_from_path wrong w (Field p) f r = f p r
+faults_from_path wrong w Memory f r = tt
+faults_from_path wrong w Json f r = absurd r
+faults_from_path wrong w (Id i) f r = absurd r
+faults_from_path wrong w (Table i) f r = absurd r
+faults_from_path wrong w TooManyResources f r = absurd r
+faults_from_path wrong w EntryKeyTwice f r = absurd r
+faults_from_path wrong w TooManyEvents f r = absurd r
+faults_from_path wrong w Deep f r = absurd r
 
 -- nothing is wrong with the node alone
-pub record Passes (s : Site) : Type 0 where
+pub record Passes (s : NodeInput) : Type 0 where
   pub level : s.level ≤ 60
   pub members : node_check s ≡ None
   pub once : repeats_key s.value ≡ false
   pub id : option_map Id (id_fault s.above (segment_of s)) ≡ None
 
-module _ (before : List Node) (s : Site) where
+module _ (before : List Node) (s : NodeInput) where
   pub deep_fault : 60 < s.level → first (checks before s) ≡ Some Deep
   unfolding checks
   deep_fault h = rw (lt-ltb 60 s.level h) refl
@@ -115,9 +115,9 @@ all-push p (m ∷ ns) n h k = by (p m) (list_all p ns) (list_all p (ns ++ n ∷ 
     by true b c h f = f h
     by false b c h f = h
 
-told : (b : Bool) (ds : List Descriptor) (d : Descriptor) → length (ds ++ cond b (d ∷ []) []) ≡ length ds + cond b 1 0
-told true ds d = length-append ds (d ∷ [])
-told false ds d = length-append ds []
+stated : (b : Bool) (ds : List Descriptor) (d : Descriptor) → length (ds ++ cond b (d ∷ []) []) ≡ length ds + cond b 1 0
+stated true ds d = length-append ds (d ∷ [])
+stated false ds d = length-append ds []
 
 turned : (b : Bool) → ◌≡◌ {A = ℕ} (cond b 0 1) (cond (not b) 1 0)
 turned true = refl
@@ -128,7 +128,7 @@ few : (b : Bool) (ns : List Node) (s d : ℕ) → s ≡ count_by (is_kind true) 
 few true ns s d es ed hs hd room = (omega arith, omega arith)
 few false ns s d es ed hs hd room = (omega arith, omega arith)
 
-pub noted_added : (old mid new : Reader) (s : Site) (later : List Pair) (c : Checked) → IsNoted old → IsChecked old mid s later c → IsAdded mid new c.node c.id → IsNoted new
+pub noted_added : (old mid new : Reader) (s : NodeInput) (later : List Pair) (c : Checked) → IsNoted old → IsChecked old mid s later c → IsAdded mid new c.node c.id → IsNoted new
 noted_added old mid new s later c noted k a =
     let ns = contents old.nodes.items in
     let n = c.node in
@@ -136,7 +136,7 @@ noted_added old mid new s later c noted k a =
     let nodes : contents new.nodes.items ≡ ns ++ n ∷ [] =
     ap contents (a.nodes ∙ ap (λ l. l ++ record { node = n; number = 0; span = 1 } ∷ []) k.nodes) ∙ map-append _ old.nodes.items (record { node = n; number = 0; span = 1 } ∷ []) in
     let ds : length new.descriptors.items ≡ length old.descriptors.items + cond n.is_static 1 0 =
-    ap length (a.descriptors ∙ ap (λ l. l ++ descriptor_in c.id n) k.descriptors) ∙ told n.is_static old.descriptors.items (descriptor c.id n) in
+    ap length (a.descriptors ∙ ap (λ l. l ++ descriptor_in c.id n) k.descriptors) ∙ stated n.is_static old.descriptors.items (descriptor c.id n) in
     let dyn : new.dynamics ≡ old.dynamics + cond n.is_static 0 1 = a.dynamics ∙ ap (λ d. d + cond n.is_static 0 1) k.dynamics in
     let room : count_by (is_kind n.is_static) ns < 65536 = subst (λ b. count_by (is_kind b) ns < 65536) (sym kind) k.room in
     let within = few n.is_static ns (length old.descriptors.items) old.dynamics noted.statics noted.dynamics noted.few_statics noted.few_dynamics room in

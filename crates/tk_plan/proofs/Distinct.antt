@@ -10,10 +10,10 @@ use Rattle.tk_cutting.specs.declared.nodes.Node.{Node}
 use Rattle.tk_cutting.specs.Trees.{Tree, tree, Forest, no_trees, more}
 use Rattle.tk_cutting.specs.Ids.{ids, ids_below, AreDistinct}
 use Rattle.tk_plan.specs.Checks.{first, or_else}
-use Rattle.tk_plan.specs.Sites.{Site, repeats_key, segment_in, segment_of, node_of, below, sites, sites_in, children_in, dynamic_in, children_of, dynamic_of, grown, forest_of}
+use Rattle.tk_plan.specs.NodeInputs.{NodeInput, repeats_key, segment_in, segment_of, node_of, below, node_inputs, node_inputs_in, children_in, dynamic_in, children_of, dynamic_of, grown, forest_of}
 use Rattle.tk_plan.specs.PlanOf.{checks, verdict, same_segment, node_check, id_fault, is_kind, when}
 use Rattle.tk_ids.specs.declared.tables.TheConstants.{MAX_DESCRIPTORS}
-use Rattle.tk_cutting.specs.declared.asking.TheConstants.{MAX_KEYS}
+use Rattle.tk_cutting.specs.declared.needs.TheConstants.{MAX_KEYS}
 use Rattle.tk_plan.specs.declared.limits.TheConstants.{MAX_LEVELS}
 use Rattle.tk_cutting.specs.Keys.{lock_keys}
 use Rattle.tk_plan.specs.declared.faults.PlanFault.{PlanFault}
@@ -33,30 +33,30 @@ abbrev mutual
   AreApart earlier no_trees = Unit {0}
   AreApart earlier (more t f) = (list_any (same_segment (segment_at t)) earlier ≡ false) × IsApart t × AreApart (earlier ++ segment_at t ∷ []) f
 
-segment_grown : (n : ℕ) (s : Site) → segment_at (grown n s) ≡ segment_of s
+segment_grown : (n : ℕ) (s : NodeInput) → segment_at (grown n s) ≡ segment_of s
 unfolding grown
 segment_grown zero s = refl
 segment_grown (suc n) s = refl
 
 -- each site knows the segments of those before it
-abbrev pub IsRun : List Pair → List Site → Type 0
+abbrev pub IsRun : List Pair → List NodeInput → Type 0
 IsRun earlier [] = Unit {0}
 IsRun earlier (x ∷ xs) = (x.earlier ≡ earlier) × IsRun (earlier ++ segment_of x ∷ []) xs
 
-run_in : (array : List ℕ) (level : ℕ) (above : List Pair) (b : Bool) (i : ℕ) (earlier : List Pair) (ds : List Data) → IsRun earlier (sites_in array level above b i earlier ds)
+run_in : (array : List ℕ) (level : ℕ) (above : List Pair) (b : Bool) (i : ℕ) (earlier : List Pair) (ds : List Data) → IsRun earlier (node_inputs_in array level above b i earlier ds)
 run_in array level above b i earlier [] = tt
 run_in array level above b i earlier (d ∷ ds) = (refl, run_in array level above b (i + 1) (earlier ++ segment_in d ∷ []) ds)
 
-segments_in : (array : List ℕ) (level : ℕ) (above : List Pair) (b : Bool) (i : ℕ) (earlier : List Pair) (ds : List Data) → map segment_of (sites_in array level above b i earlier ds) ≡ map segment_in ds
+segments_in : (array : List ℕ) (level : ℕ) (above : List Pair) (b : Bool) (i : ℕ) (earlier : List Pair) (ds : List Data) → map segment_of (node_inputs_in array level above b i earlier ds) ≡ map segment_in ds
 segments_in array level above b i earlier [] = refl
 segments_in array level above b i earlier (d ∷ ds) = ap (λ l. segment_in d ∷ l) (segments_in array level above b (i + 1) (earlier ++ segment_in d ∷ []) ds)
 
-run_append : (earlier : List Pair) (xs ys : List Site) → IsRun earlier xs → IsRun (earlier ++ map segment_of xs) ys → IsRun earlier (xs ++ ys)
+run_append : (earlier : List Pair) (xs ys : List NodeInput) → IsRun earlier xs → IsRun (earlier ++ map segment_of xs) ys → IsRun earlier (xs ++ ys)
 run_append earlier [] ys r q = subst (λ e. IsRun e ys) (append-nil earlier) q
 run_append earlier (x ∷ xs) ys r q =
     (r.0, run_append (earlier ++ segment_of x ∷ []) xs ys r.1 (subst (λ e. IsRun e ys) (sym (append_assoc earlier (segment_of x ∷ []) (map segment_of xs))) q))
 
-run_below : (s : Site) → IsRun [] (below s)
+run_below : (s : NodeInput) → IsRun [] (below s)
 run_below s =
     let cs = children_of s.is_static s.value in
     let here : map segment_of (children_in s cs) ≡ map segment_in cs = segments_in _ _ _ _ _ _ cs in
@@ -85,7 +85,7 @@ fifth_none None None (Some x) d e f g h = cc
 fifth_none None (Some x) c d e f g h = cc
 fifth_none (Some x) b c d e f g h = cc
 
-new_here : (before : List Node) (s : Site) → first (checks before s) ≡ None → list_any (same_segment (segment_of s)) s.earlier ≡ false
+new_here : (before : List Node) (s : NodeInput) → first (checks before s) ≡ None → list_any (same_segment (segment_of s)) s.earlier ≡ false
 unfolding checks
 new_here before s e =
     when_none _ (Table Twice) (fifth_none
@@ -94,29 +94,29 @@ new_here before s e =
     (when (nat_le MAX_DESCRIPTORS (count_by (is_kind s.is_static) before)) (Table Full))
     (when (nat_lt MAX_KEYS (length (lock_keys (before ++ node_of s ∷ [])))) TooManyResources) e)
 
-check_none : (n : ℕ) (before : List Node) (s : Site) → verdict before (sites n s) ≡ None → first (checks before s) ≡ None
-unfolding sites
+check_none : (n : ℕ) (before : List Node) (s : NodeInput) → verdict before (node_inputs n s) ≡ None → first (checks before s) ≡ None
+unfolding node_inputs
 check_none zero before s e = none_first _ _ (sym (verdict-cons before s []) ∙ e)
-check_none (suc n) before s e = none_first _ _ (sym (verdict-cons before s (flat_map (sites n) (below s))) ∙ e)
+check_none (suc n) before s e = none_first _ _ (sym (verdict-cons before s (flat_map (node_inputs n) (below s))) ∙ e)
 
-apart_all : (n : ℕ) → ((before : List Node) (s : Site) → verdict before (sites n s) ≡ None → IsApart (grown n s)) → (before : List Node) (earlier : List Pair) (xs : List Site) → IsRun earlier xs
-    → verdict before (flat_map (sites n) xs) ≡ None → AreApart earlier (forest_of (map (grown n) xs))
+apart_all : (n : ℕ) → ((before : List Node) (s : NodeInput) → verdict before (node_inputs n s) ≡ None → IsApart (grown n s)) → (before : List Node) (earlier : List Pair) (xs : List NodeInput) → IsRun earlier xs
+    → verdict before (flat_map (node_inputs n) xs) ≡ None → AreApart earlier (forest_of (map (grown n) xs))
 apart_all n each before earlier [] r e = tt
 apart_all n each before earlier (x ∷ xs) r e =
-    let both = sym (verdict-append before (sites n x) (flat_map (sites n) xs)) ∙ e in
-    let mine : verdict before (sites n x) ≡ None = none_first _ _ both in
+    let both = sym (verdict-append before (node_inputs n x) (flat_map (node_inputs n) xs)) ∙ e in
+    let mine : verdict before (node_inputs n x) ≡ None = none_first _ _ both in
     let segment = segment_grown n x in (
       ap₂ (λ s l. list_any (same_segment s) l) segment (sym r.0) ∙ new_here before x (check_none n before x mine),
       each before x mine,
       subst (λ s. AreApart (earlier ++ s ∷ []) (forest_of (map (grown n) xs))) (sym segment)
-          (apart_all n each (before ++ map node_of (sites n x)) (earlier ++ segment_of x ∷ []) xs r.1 (none_second _ _ both)),
+          (apart_all n each (before ++ map node_of (node_inputs n x)) (earlier ++ segment_of x ∷ []) xs r.1 (none_second _ _ both)),
     )
 
-pub apart_grown : (n : ℕ) (before : List Node) (s : Site) → verdict before (sites n s) ≡ None → IsApart (grown n s)
-unfolding grown sites
+pub apart_grown : (n : ℕ) (before : List Node) (s : NodeInput) → verdict before (node_inputs n s) ≡ None → IsApart (grown n s)
+unfolding grown node_inputs
 apart_grown zero before s e = tt
 apart_grown (suc n) before s e =
-    apart_all n (apart_grown n) (before ++ node_of s ∷ []) [] (below s) (run_below s) (none_second _ _ (sym (verdict-cons before s (flat_map (sites n) (below s))) ∙ e))
+    apart_all n (apart_grown n) (before ++ node_of s ∷ []) [] (below s) (run_below s) (none_second _ _ (sym (verdict-cons before s (flat_map (node_inputs n) (below s))) ∙ e))
 
 -- ---- ids
 

@@ -36,12 +36,12 @@ not_a_pair check at d (a ∷ []) e h = pair_of_list check at d (a ∷ []) e
 not_a_pair check at d (a ∷ b ∷ []) e h = absurd (h refl)
 not_a_pair check at d (a ∷ b ∷ x ∷ vs) e h = pair_of_list check at d (a ∷ b ∷ x ∷ vs) e ∙ grind arith
 
-pub wrong_first : (check : Check) (at place : List ℕ) (d : Data) (vs : List Value) (v : Value) → Some (items_view vs) ≡ as_array d → length vs ≡ 2
-    → check (item_at at 0) (view (get_or vs 0 v)) ≡ Some place → pair_of check at d ≡ Some place
-wrong_first check at place d [] v e h w = absurd (omega arith)
-wrong_first check at place d (a ∷ []) v e h w = absurd (omega arith)
-wrong_first check at place d (a ∷ b ∷ []) v e h w = pair_of_list check at d (a ∷ b ∷ []) e ∙ rw w refl
-wrong_first check at place d (a ∷ b ∷ x ∷ vs) v e h w = absurd (omega arith)
+pub wrong_first : (check : Check) (at path : List ℕ) (d : Data) (vs : List Value) (v : Value) → Some (items_view vs) ≡ as_array d → length vs ≡ 2
+    → check (item_at at 0) (view (get_or vs 0 v)) ≡ Some path → pair_of check at d ≡ Some path
+wrong_first check at path d [] v e h w = absurd (omega arith)
+wrong_first check at path d (a ∷ []) v e h w = absurd (omega arith)
+wrong_first check at path d (a ∷ b ∷ []) v e h w = pair_of_list check at d (a ∷ b ∷ []) e ∙ rw w refl
+wrong_first check at path d (a ∷ b ∷ x ∷ vs) v e h w = absurd (omega arith)
 
 pub array_items : (check : Check) (at : List ℕ) (d : Data) (vs : List Value) → Some (items_view vs) ≡ as_array d → array_of check at d ≡ items_wrong check at 0 (map view vs)
 array_items check at d vs e = ap (array_of check at) (is_array d (items_view vs) e) ∙ ap (items_wrong check at 0) (list_of-items_view vs)

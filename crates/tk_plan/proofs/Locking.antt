@@ -5,15 +5,15 @@ use Rattle.serde_json.specs.Data.{Data}
 use Rattle.serde_json.specs.View.{view}
 use Rattle.serde_json.specs.declared.value.Value.{Value}
 use Rattle.tk_plan.specs.Checks.{Check, or_else, items_wrong, array_of, item_at}
-use Rattle.tk_plan.specs.Contents.{said_lock}
+use Rattle.tk_plan.specs.Contents.{json_lock}
 
 -- the items that are left are still to be checked
 pub items_next : (check : Check) (at : List ℕ) (d : Data) (i : ℕ) (left : List Data) (x : Data) (rest : List Data) → array_of check at d ≡ items_wrong check at i left
     → left ≡ x ∷ rest → check (item_at at i) x ≡ None → array_of check at d ≡ items_wrong check at (i + 1) rest
 items_next check at d i left x rest g split w = g ∙ ap (items_wrong check at i) split ∙ ap (λ o. or_else o (items_wrong check at (i + 1) rest)) w
 
-pub locks_next : (vs : List Value) (i : ℕ) (v : Value) → i < length vs → v ≡ get_or vs i v → map said_lock (map view (take (i + 1) vs)) ≡ map said_lock (map view (take i vs)) ++ said_lock (view v) ∷ []
+pub locks_next : (vs : List Value) (i : ℕ) (v : Value) → i < length vs → v ≡ get_or vs i v → map json_lock (map view (take (i + 1) vs)) ≡ map json_lock (map view (take i vs)) ++ json_lock (view v) ∷ []
 locks_next vs i v h e =
-    ap (λ l. map said_lock (map view l)) (take_more vs i v h ∙ ap (λ x. take i vs ++ x ∷ []) (sym e))
-    ∙ ap (map said_lock) (map-append view (take i vs) (v ∷ []))
-    ∙ map-append said_lock (map view (take i vs)) (view v ∷ [])
+    ap (λ l. map json_lock (map view l)) (take_more vs i v h ∙ ap (λ x. take i vs ++ x ∷ []) (sym e))
+    ∙ ap (map json_lock) (map-append view (take i vs) (v ∷ []))
+    ∙ map-append json_lock (map view (take i vs)) (view v ∷ [])

@@ -16,10 +16,10 @@ use Rattle.serde_json.specs.View.{view, items_view}
 use Rattle.serde_json.specs.declared.value.Value.{Value}
 use Rattle.tk_plan.specs.Contents.{listed}
 use Rattle.tk_plan.proofs.Items.{listed_items, array_items}
-use Rattle.tk_events.specs.Event.{is_rising, is_before}
+use Rattle.tk_events.specs.Event.{is_strictly_increasing, is_before}
 use Rattle.tk_plan.specs.Checks.{text, pair_of, array_of, items_wrong, or_else, item_at}
 use Rattle.tk_plan.specs.Rows.{entry}
-use Rattle.tk_plan.specs.Contents.{said_pair, said_entry, put_all, repeats, repeats_after}
+use Rattle.tk_plan.specs.Contents.{json_pair, json_entry, put_all, repeats, repeats_after}
 
 abbrev pub Texts : Type 0
 Texts = List ℕ × List ℕ
@@ -74,12 +74,12 @@ any_append k x [] = refl
 any_append k x (y ∷ ks) = ap (λ b. bytes_eq k y || b) (any_append k x ks) ∙ or_swap (bytes_eq k y) (bytes_eq k x) (list_any (bytes_eq k) ks)
 
 abbrev pub pairs_in : List Data → List Texts
-pairs_in ds = map (λ p. said_pair (Some p)) ds
+pairs_in ds = map (λ p. json_pair (Some p)) ds
 
 -- an entry of which some items are left, where the others were put
 pub record GoesOn (at : List ℕ) (d : Data) (i : ℕ) (put : List Texts) (is_twice : Bool) (left : List Data) : Type 0 where
   pub wrong : entry at d ≡ items_wrong (pair_of text) at i left
-  pub pairs : said_entry d ≡ put_all put (pairs_in left)
+  pub pairs : json_entry d ≡ put_all put (pairs_in left)
   pub earlier : List (List ℕ)
   pub keys : (k : List ℕ) → has_key k put ≡ list_any (bytes_eq k) earlier
   pub twice : repeats d ≡ is_twice || repeats_after earlier (pairs_in left)
@@ -101,11 +101,11 @@ module _ (at : List ℕ) (d : Data) (i : ℕ) (put : List Texts) (b : Bool) (lef
   goes_fault x rest p split w = g.wrong ∙ ap (items_wrong (pair_of text) at i) split ∙ ap (λ o. or_else o (items_wrong (pair_of text) at (i + 1) rest)) w
 
   pub goes_next : (x : Data) (rest : List Data) (k v : List ℕ) (new : List Texts) (c : Bool) → left ≡ x ∷ rest → pair_of text (item_at at i) x ≡ None
-      → k ≡ (said_pair (Some x)).0 → v ≡ (said_pair (Some x)).1 → new ≡ insert_entry (slice_cmp nat_cmp) put k v → c ≡ b || has_key k put
+      → k ≡ (json_pair (Some x)).0 → v ≡ (json_pair (Some x)).1 → new ≡ insert_entry (slice_cmp nat_cmp) put k v → c ≡ b || has_key k put
       → GoesOn at d (i + 1) new c rest
   goes_next x rest k v new c split w ek ev is twice =
-      let xk = (said_pair (Some x)).0 in
-      let xv = (said_pair (Some x)).1 in
+      let xk = (json_pair (Some x)).0 in
+      let xv = (json_pair (Some x)).1 in
       let put_is : new ≡ insert_entry (slice_cmp nat_cmp) put xk xv = is ∙ ap₂ (insert_entry (slice_cmp nat_cmp) put) ek ev in
       let seen : c ≡ b || list_any (bytes_eq xk) g.earlier = twice ∙ ap (λ y. b || has_key y put) ek ∙ ap (λ h. b || h) (g.keys xk) in
       record {
@@ -117,24 +117,24 @@ module _ (at : List ℕ) (d : Data) (i : ℕ) (put : List Texts) (b : Bool) (lef
             ∙ ap (λ h. h || repeats_after (g.earlier ++ xk ∷ []) (pairs_in rest)) (sym seen);
       }
 
-  pub goes_end : left ≡ [] → (entry at d ≡ None) × (said_entry d ≡ put) × (repeats d ≡ b)
+  pub goes_end : left ≡ [] → (entry at d ≡ None) × (json_entry d ≡ put) × (repeats d ≡ b)
   goes_end none = (g.wrong ∙ ap (items_wrong (pair_of text) at i) none, g.pairs ∙ ap (λ l. put_all put (pairs_in l)) none, g.twice ∙ ap (λ l. b || repeats_after g.earlier (pairs_in l)) none ∙ or_false b)
 
-rising_next : (p q : Texts) (b : Bool) → slice_cmp nat_cmp p.0 q.0 ≡ Less → b ≡ true → is_before p.0 q.0 && b ≡ true
-rising_next p q b h e = rw (h, e) refl
+increasing_next : (p q : Texts) (b : Bool) → slice_cmp nat_cmp p.0 q.0 ≡ Less → b ≡ true → is_before p.0 q.0 && b ≡ true
+increasing_next p q b h e = rw (h, e) refl
 
 -- a map's entries rise
-pub map_rises : (es : List Texts) → IsStrictlySortedBy (slice_cmp nat_cmp) (keys_of es) → is_rising es ≡ true
+pub map_is_increasing : (es : List Texts) → IsStrictlySortedBy (slice_cmp nat_cmp) (keys_of es) → is_strictly_increasing es ≡ true
 unfolding IsStrictlySortedBy
-map_rises [] h = refl
-map_rises (p ∷ []) h = refl
-map_rises (p ∷ q ∷ es) h = rising_next p q (is_rising (q ∷ es)) h.0.0 (map_rises (q ∷ es) h.1)
+map_is_increasing [] h = refl
+map_is_increasing (p ∷ []) h = refl
+map_is_increasing (p ∷ q ∷ es) h = increasing_next p q (is_strictly_increasing (q ∷ es)) h.0.0 (map_is_increasing (q ∷ es) h.1)
 
 -- ---- all the entries of a node
 
-all_append : (es : List (List Texts)) (e : List Texts) → list_all is_rising es ≡ true → is_rising e ≡ true → list_all is_rising (es ++ e ∷ []) ≡ true
+all_append : (es : List (List Texts)) (e : List Texts) → list_all is_strictly_increasing es ≡ true → is_strictly_increasing e ≡ true → list_all is_strictly_increasing (es ++ e ∷ []) ≡ true
 all_append [] e h k = rw k refl
-all_append (x ∷ es) e h k = all_by (is_rising x) (list_all is_rising es) (list_all is_rising (es ++ e ∷ [])) h (λ r. all_append es e r k)
+all_append (x ∷ es) e h k = all_by (is_strictly_increasing x) (list_all is_strictly_increasing es) (list_all is_strictly_increasing (es ++ e ∷ [])) h (λ r. all_append es e r k)
   where
     all_by : (a b c : Bool) → a && b ≡ true → (b ≡ true → c ≡ true) → a && c ≡ true
     all_by true b c h f = f h
@@ -142,8 +142,8 @@ all_append (x ∷ es) e h k = all_by (is_rising x) (list_all is_rising es) (list
 
 pub record Reported (at : List ℕ) (d : Data) (i : ℕ) (es : List (List Texts)) (is_twice : Bool) (left : List Data) : Type 0 where
   pub wrong : array_of entry at d ≡ items_wrong entry at i left
-  pub entries : map said_entry (listed (Some d)) ≡ es ++ map said_entry left
-  pub rising : list_all is_rising es ≡ true
+  pub entries : map json_entry (listed (Some d)) ≡ es ++ map json_entry left
+  pub increasing : list_all is_strictly_increasing es ≡ true
   pub twice : list_any repeats (listed (Some d)) ≡ is_twice || list_any repeats left
 
 pub report_start : (at : List ℕ) (d : Data) (vs items : List Value) (es : List (List Texts)) → Some (items_view vs) ≡ as_array d → items ≡ vs → es ≡ []
@@ -152,8 +152,8 @@ report_start at d vs items es e is none =
     let all : listed (Some d) ≡ map view items = listed_items d vs e ∙ ap (map view) (sym is) in
     record {
       wrong = array_items entry at d vs e ∙ ap (λ l. items_wrong entry at 0 (map view l)) (sym is);
-      entries = ap (map said_entry) all ∙ ap (λ l. l ++ map said_entry (map view items)) (sym none);
-      rising = ap (list_all is_rising) none;
+      entries = ap (map json_entry) all ∙ ap (λ l. l ++ map json_entry (map view items)) (sym none);
+      increasing = ap (list_all is_strictly_increasing) none;
       twice = ap (list_any repeats) all;
     }
 
@@ -162,13 +162,13 @@ module _ (at : List ℕ) (d : Data) (i : ℕ) (es : List (List Texts)) (b : Bool
   report_fault x rest p split w = g.wrong ∙ ap (items_wrong entry at i) split ∙ ap (λ o. or_else o (items_wrong entry at (i + 1) rest)) w
 
   pub report_next : (x : Data) (rest : List Data) (e : List Texts) (new : List (List Texts)) (c : Bool) → left ≡ x ∷ rest → entry (item_at at i) x ≡ None
-      → e ≡ said_entry x → is_rising e ≡ true → new ≡ es ++ e ∷ [] → c ≡ b || repeats x → Reported at d (i + 1) new c rest
+      → e ≡ json_entry x → is_strictly_increasing e ≡ true → new ≡ es ++ e ∷ [] → c ≡ b || repeats x → Reported at d (i + 1) new c rest
   report_next x rest e new c split w is rises pushed twice = record {
     wrong = g.wrong ∙ ap (items_wrong entry at i) split ∙ ap (λ o. or_else o (items_wrong entry at (i + 1) rest)) w;
-    entries = g.entries ∙ ap (λ l. es ++ map said_entry l) split ∙ sym (append_assoc es (said_entry x ∷ []) (map said_entry rest)) ∙ ap (λ l. l ++ map said_entry rest) (ap (λ y. es ++ y ∷ []) (sym is) ∙ sym pushed);
-    rising = ap (list_all is_rising) pushed ∙ all_append es e g.rising rises;
+    entries = g.entries ∙ ap (λ l. es ++ map json_entry l) split ∙ sym (append_assoc es (json_entry x ∷ []) (map json_entry rest)) ∙ ap (λ l. l ++ map json_entry rest) (ap (λ y. es ++ y ∷ []) (sym is) ∙ sym pushed);
+    increasing = ap (list_all is_strictly_increasing) pushed ∙ all_append es e g.increasing rises;
     twice = g.twice ∙ ap (λ l. b || list_any repeats l) split ∙ sym (or_assoc b (repeats x) (list_any repeats rest)) ∙ ap (λ h. h || list_any repeats rest) (sym twice);
   }
 
-  pub report_end : left ≡ [] → (array_of entry at d ≡ None) × (es ≡ map said_entry (listed (Some d))) × (b ≡ list_any repeats (listed (Some d)))
-  report_end none = (g.wrong ∙ ap (items_wrong entry at i) none, sym (g.entries ∙ ap (λ l. es ++ map said_entry l) none ∙ append-nil es), sym (g.twice ∙ ap (λ l. b || list_any repeats l) none ∙ or_false b))
+  pub report_end : left ≡ [] → (array_of entry at d ≡ None) × (es ≡ map json_entry (listed (Some d))) × (b ≡ list_any repeats (listed (Some d)))
+  report_end none = (g.wrong ∙ ap (items_wrong entry at i) none, sym (g.entries ∙ ap (λ l. es ++ map json_entry l) none ∙ append-nil es), sym (g.twice ∙ ap (λ l. b || list_any repeats l) none ∙ or_false b))

@@ -7,7 +7,7 @@ use Rattle.tk_cutting.specs.Planned.{Outline}
 use Rattle.tk_plan.specs.Gives.{Answered, outline}
 use Rattle.tk_plan.specs.PlanOf.{PlanOf, top, root_of, first_fault, ok_unless, verdict}
 use Rattle.tk_plan.specs.Refusals.{IsFault}
-use Rattle.tk_plan.specs.Sites.{sites, grown}
+use Rattle.tk_plan.specs.NodeInputs.{node_inputs, grown}
 use Rattle.tk_plan.specs.declared.faults.PlanFault.{PlanFault}
 use Rattle.tk_plan.specs.declared.faults.PlanFault.TheVariants.{Json, Field, Id, Table, TooManyResources, EntryKeyTwice, TooManyEvents, Deep, Memory}
 use Rattle.tk_plan.proofs.Distinct.{apart_grown, distinct_in, are_distinct, none_first, none_second}
@@ -20,7 +20,7 @@ pub plan_ids : (v : Data) (t : Tree) → PlanOf v ≡ Ok t → AreDistinct (ids 
 plan_ids v t e =
     let s = root_of v in
     let k = no_fault_in (first_fault (top [] v) s (grown 60 s)) (grown 60 s) t e in
-    let fine : verdict [] (sites 60 s) ≡ None = none_first _ _ (none_second (option_map Field (top [] v)) _ k.0) in
+    let fine : verdict [] (node_inputs 60 s) ≡ None = none_first _ _ (none_second (option_map Field (top [] v)) _ k.0) in
     subst (λ u. AreDistinct (ids [] u)) k.1 (are_distinct (ids [] (grown 60 s)) (distinct_in [] (grown 60 s) (apart_grown 60 [] s fine)))
 
 settled : (P : PlanFault → Type 0) (e : PlanFault) → IsFault P e → (e ≡ Memory → ⊥) → P e

@@ -7,7 +7,7 @@ use Rattle.serde_json.specs.Data.{Data, null}
 use Rattle.serde_json.specs.Find.{get}
 use Rattle.tk_ids.specs.declared.tables.Descriptor.{Descriptor}
 use Rattle.tk_cutting.specs.declared.nodes.Node.{Node}
-use Rattle.tk_cutting.specs.declared.nodes.Placed.{Placed}
+use Rattle.tk_cutting.specs.declared.nodes.NumberedNode.{NumberedNode}
 use Rattle.tk_cutting.specs.Trees.{Tree, Forest, no_trees, more, flat, flats, forest, IsForest, contents}
 use Rattle.tk_cutting.specs.Ids.{ids, ids_below, descriptors, descriptors_below, AreDistinct}
 use Rattle.tk_cutting.specs.Keys.{lock_keys}
@@ -20,8 +20,8 @@ use Rattle.tk_plan.specs.Checks.{first}
 use Rattle.tk_plan.specs.PlanOf.{PlanOf, top, root_at, root_of, first_fault, events_fault, ok_unless, verdict, is_kind, when}
 use Rattle.tk_plan.specs.Progress.{IsNoted}
 use Rattle.tk_plan.specs.Refusals.{IsFault}
-use Rattle.tk_plan.specs.Sites.{Site, sites, grown}
-use Rattle.tk_plan.specs.declared.readers.Reader.{Reader}
+use Rattle.tk_plan.specs.NodeInputs.{NodeInput, node_inputs, grown}
+use Rattle.tk_plan.specs.declared.plan_readers.Reader.{Reader}
 use Rattle.tk_plan.specs.declared.faults.PlanFault.{PlanFault}
 use Rattle.tk_plan.specs.declared.faults.PlanFault.TheVariants.{Json, Field, Id, Table, TooManyResources, EntryKeyTwice, TooManyEvents, Deep, Memory}
 use Rattle.tk_plan.proofs.Distinct.{apart_grown, distinct_in, are_distinct}
@@ -48,27 +48,27 @@ refuses_as wrong Q EntryKeyTwice f r = absurd r
 refuses_as wrong Q TooManyEvents f r = absurd r
 refuses_as wrong Q Deep f r = absurd r
 
-answer : Option (List ℕ) → Option PlanFault → Site → Tree → Result Tree PlanFault
+answer : Option (List ℕ) → Option PlanFault → NodeInput → Tree → Result Tree PlanFault
 answer top nodes s t = ok_unless (first (option_map Field top ∷ nodes ∷ events_fault t ∷ [])) t
 
 pub top_fault : (v : Data) (p : List ℕ) → top [] v ≡ Some p → PlanOf v ≡ Err (Field p)
 top_fault v p e = ap (λ o. ok_unless (first_fault o (root_of v) (grown 60 (root_of v))) (grown 60 (root_of v))) e
 
 module _ (v r : Data) (found : get (codes "root") v ≡ Some r) (fine : top [] v ≡ None) where
-  at_root : PlanOf v ≡ answer None (verdict [] (sites 60 (root_at r))) (root_at r) (grown 60 (root_at r))
+  at_root : PlanOf v ≡ answer None (verdict [] (node_inputs 60 (root_at r))) (root_at r) (grown 60 (root_at r))
   unfolding answer
   at_root =
       ap (λ o. ok_unless (first_fault (top [] v) (root_at (unwrap_or o null)) (grown 60 (root_at (unwrap_or o null)))) (grown 60 (root_at (unwrap_or o null)))) found
       ∙ ap (λ o. ok_unless (first_fault o (root_at r) (grown 60 (root_at r))) (grown 60 (root_at r))) fine
 
-  pub node_fault : (s : Site) (f : PlanFault) → s ≡ root_at r → verdict [] (sites 60 s) ≡ Some f → PlanOf v ≡ Err f
+  pub node_fault : (s : NodeInput) (f : PlanFault) → s ≡ root_at r → verdict [] (node_inputs 60 s) ≡ Some f → PlanOf v ≡ Err f
   unfolding at_root answer
-  node_fault s f is e = at_root ∙ ap (λ o. answer None o (root_at r) (grown 60 (root_at r))) (ap (λ x. verdict [] (sites 60 x)) (sym is) ∙ e)
+  node_fault s f is e = at_root ∙ ap (λ o. answer None o (root_at r) (grown 60 (root_at r))) (ap (λ x. verdict [] (node_inputs 60 x)) (sym is) ∙ e)
 
-  pub no_node_fault : (s : Site) → s ≡ root_at r → verdict [] (sites 60 s) ≡ None → PlanOf v ≡ ok_unless (events_fault (grown 60 s)) (grown 60 s)
+  pub no_node_fault : (s : NodeInput) → s ≡ root_at r → verdict [] (node_inputs 60 s) ≡ None → PlanOf v ≡ ok_unless (events_fault (grown 60 s)) (grown 60 s)
   unfolding at_root answer
   no_node_fault s is e =
-      at_root ∙ ap (λ o. answer None o (root_at r) (grown 60 (root_at r))) (ap (λ x. verdict [] (sites 60 x)) (sym is) ∙ e)
+      at_root ∙ ap (λ o. answer None o (root_at r) (grown 60 (root_at r))) (ap (λ x. verdict [] (node_inputs 60 x)) (sym is) ∙ e)
       ∙ shortened (events_fault (grown 60 (root_at r))) (grown 60 (root_at r)) ∙ ap (λ x. ok_unless (events_fault (grown 60 x)) (grown 60 x)) (sym is)
     where
       shortened : (o : Option PlanFault) (t : Tree) → ok_unless (first (o ∷ [])) t ≡ ok_unless o t
@@ -77,17 +77,17 @@ module _ (v r : Data) (found : get (codes "root") v ≡ Some r) (fine : top [] v
 
 -- ---- the tree and its nodes
 
-root_static : (n : ℕ) (s : Site) → s.is_static ≡ true → is_rooted (more (grown n s) no_trees) ≡ true
+root_static : (n : ℕ) (s : NodeInput) → s.is_static ≡ true → is_rooted (more (grown n s) no_trees) ≡ true
 unfolding grown
 root_static zero s h = h
 root_static (suc n) s h = h
 
-root_moves : (n : ℕ) (s : Site) → s.is_static ≡ true → moves_below 0 (more (grown n s) no_trees) ≡ moves (grown n s)
+root_moves : (n : ℕ) (s : NodeInput) → s.is_static ≡ true → moves_below 0 (more (grown n s) no_trees) ≡ moves (grown n s)
 unfolding grown
 root_moves zero s h = rw h (append-nil _)
 root_moves (suc n) s h = rw h (append-nil _)
 
-of_kind_count : (ps : List Placed) → length (of_kind false ps) ≡ count_by (is_kind false) (contents ps)
+of_kind_count : (ps : List NumberedNode) → length (of_kind false ps) ≡ count_by (is_kind false) (contents ps)
 of_kind_count [] = refl
 of_kind_count (p ∷ ps) =
     by p.node.is_static (of_kind false ps) (count_by (is_kind false) (contents ps)) (of_kind_count ps) ∙ sym (sum_by-append (λ n. cond (is_kind false n) 1 0) (p.node ∷ []) (contents ps))
@@ -96,7 +96,7 @@ of_kind_count (p ∷ ps) =
     by true l c e = e ∙ omega arith
     by false l c e = ap suc e ∙ omega arith
 
-module _ (s : Site) (static : s.is_static ≡ true) (nodes : List Placed) (is : nodes ≡ flat (grown 60 s)) where
+module _ (s : NodeInput) (static : s.is_static ≡ true) (nodes : List NumberedNode) (is : nodes ≡ flat (grown 60 s)) where
   abbrev whole : Forest
   whole = more (grown 60 s) no_trees
 
@@ -122,7 +122,7 @@ module _ (s : Site) (static : s.is_static ≡ true) (nodes : List Placed) (is : 
   unfolding moves_are
   not_many h = ap (λ b. when b TooManyEvents) (le-ltb _ _ (subst (λ m. length m ≤ 2 ^ 20) moves_are h))
 
-  pub planned : (r : Reader) (table : List Descriptor) → r.nodes.items ≡ nodes → IsNoted r → s.above ≡ [] → verdict [] (sites 60 s) ≡ None → r.descriptors.items ≡ descriptors s.above (grown 60 s) → table ≡ r.descriptors.items
+  pub planned : (r : Reader) (table : List Descriptor) → r.nodes.items ≡ nodes → IsNoted r → s.above ≡ [] → verdict [] (node_inputs 60 s) ≡ None → r.descriptors.items ≡ descriptors s.above (grown 60 s) → table ≡ r.descriptors.items
       → length (moves_below 0 (forest nodes)) ≤ 2 ^ 20 → IsPlanned nodes table
   unfolding forest_is trees
   planned r table same noted none fine described t few =

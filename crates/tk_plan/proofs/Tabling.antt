@@ -4,13 +4,13 @@ use Rattle.std.proofs.lemmas.List.{map-append}
 use Rattle.std.proofs.Math.Seq.{take-append_seam}
 use Rattle.std.specs.List.{list_any}
 use Rattle.serde_json.specs.Data.{Data}
-use Rattle.tk_ids.specs.IdText.{Pair, front_of}
+use Rattle.tk_ids.specs.IdText.{Pair, parent_of}
 use Rattle.tk_ids.specs.Table.{ids_of, HasId, HasParent}
 use Rattle.tk_ids.specs.declared.tables.Descriptor.{Descriptor}
 use Rattle.tk_cutting.specs.Trees.{Tree, tree, Forest, no_trees, more}
 use Rattle.tk_cutting.specs.Ids.{ids, ids_below, descriptor, descriptors, descriptors_below}
 use Rattle.tk_plan.specs.PlanOf.{same_segment, verdict}
-use Rattle.tk_plan.specs.Sites.{Site, segment_in, below, sites, sites_in, children_of, children_in, dynamic_of, dynamic_in, grown, forest_of}
+use Rattle.tk_plan.specs.NodeInputs.{NodeInput, segment_in, below, node_inputs, node_inputs_in, children_of, children_in, dynamic_of, dynamic_in, grown, forest_of}
 use Rattle.tk_plan.specs.Tables.{Follow}
 use Rattle.tk_plan.proofs.Distinct.{segment_at, IsApart, AreApart, apart_grown, Among, among_split, among_at, Begins, begins_below, begins_in, same_next, same_self, any_left, any_right, longer, true_false}
 
@@ -24,35 +24,35 @@ abbrev mutual
   AreUnder up no_trees = Unit {0}
   AreUnder up (more t f) = IsUnder up t × AreUnder up f
 
-abbrev AllUnder : Bool → List Site → Type 0
+abbrev AllUnder : Bool → List NodeInput → Type 0
 AllUnder up [] = Unit {0}
 AllUnder up (x ∷ xs) = (x.is_static ≡ true → up ≡ true) × AllUnder up xs
 
-under_in : (array : List ℕ) (level : ℕ) (above : List Pair) (up b : Bool) (i : ℕ) (earlier : List Pair) (ds : List Data) → (b ≡ true → up ≡ true) → AllUnder up (sites_in array level above b i earlier ds)
+under_in : (array : List ℕ) (level : ℕ) (above : List Pair) (up b : Bool) (i : ℕ) (earlier : List Pair) (ds : List Data) → (b ≡ true → up ≡ true) → AllUnder up (node_inputs_in array level above b i earlier ds)
 under_in array level above up b i earlier [] h = tt
 under_in array level above up b i earlier (d ∷ ds) h = (h, under_in array level above up b (i + 1) (earlier ++ segment_in d ∷ []) ds h)
 
-under_append : (up : Bool) (xs ys : List Site) → AllUnder up xs → AllUnder up ys → AllUnder up (xs ++ ys)
+under_append : (up : Bool) (xs ys : List NodeInput) → AllUnder up xs → AllUnder up ys → AllUnder up (xs ++ ys)
 under_append up [] ys a b = b
 under_append up (x ∷ xs) ys a b = (a.0, under_append up xs ys a.1 b)
 
-under_children : (array : List ℕ) (level : ℕ) (above earlier : List Pair) (b : Bool) (v : Data) → AllUnder b (sites_in array level above true 0 earlier (children_of b v))
+under_children : (array : List ℕ) (level : ℕ) (above earlier : List Pair) (b : Bool) (v : Data) → AllUnder b (node_inputs_in array level above true 0 earlier (children_of b v))
 under_children array level above earlier true v = under_in array level above true true 0 earlier (children_of true v) (λ e. e)
 under_children array level above earlier false v = tt
 
 false_true : (b : Bool) → false ≡ true → b ≡ true
 false_true b e = cc
 
-under_below : (s : Site) → AllUnder s.is_static (below s)
+under_below : (s : NodeInput) → AllUnder s.is_static (below s)
 under_below s =
     under_append s.is_static (children_in s (children_of s.is_static s.value)) (dynamic_in s (children_of s.is_static s.value) (dynamic_of s.value)) (under_children _ _ _ [] s.is_static s.value)
     (under_in _ _ _ s.is_static false 0 _ (dynamic_of s.value) (false_true s.is_static))
 
-under_all : (n : ℕ) → ((up : Bool) (s : Site) → (s.is_static ≡ true → up ≡ true) → IsUnder up (grown n s)) → (up : Bool) (xs : List Site) → AllUnder up xs → AreUnder up (forest_of (map (grown n) xs))
+under_all : (n : ℕ) → ((up : Bool) (s : NodeInput) → (s.is_static ≡ true → up ≡ true) → IsUnder up (grown n s)) → (up : Bool) (xs : List NodeInput) → AllUnder up xs → AreUnder up (forest_of (map (grown n) xs))
 under_all n each up [] h = tt
 under_all n each up (x ∷ xs) h = (each up x h.0, under_all n each up xs h.1)
 
-under_grown : (n : ℕ) (up : Bool) (s : Site) → (s.is_static ≡ true → up ≡ true) → IsUnder up (grown n s)
+under_grown : (n : ℕ) (up : Bool) (s : NodeInput) → (s.is_static ≡ true → up ≡ true) → IsUnder up (grown n s)
 unfolding grown
 under_grown zero up s h = (h, tt)
 under_grown (suc n) up s h = (h, under_all n (under_grown n) s.is_static (below s) (under_below s))
@@ -119,14 +119,14 @@ Ready table above up = up ≡ true → (above ≡ []) ⊎ Held table above
 abbrev Fresh : List Descriptor → List Pair → List Pair → Type 0
 Fresh table above earlier = (id : List Pair) (s : Pair) → Held table id → Begins above s id → list_any (same_segment s) earlier ≡ true
 
-front_is : (above : List Pair) (s : Pair) → front_of (above ++ s ∷ []) ≡ above
-front_is above s =
+prefix_is : (above : List Pair) (s : Pair) → parent_of (above ++ s ∷ []) ≡ above
+prefix_is above s =
     let count : length (above ++ s ∷ []) - 1 ≡ length above = omega (arith, length-append above (s ∷ [])) in
     ap (λ n. take n (above ++ s ∷ [])) count ∙ take-append_seam above (s ∷ [])
 
 parent_held : (table : List Descriptor) (above : List Pair) (s : Pair) → (above ≡ []) ⊎ Held table above → HasParent table (above ++ s ∷ [])
 parent_held table above s (inl e) h = absurd (let n = ap length e in omega (arith, h, n, length-append above (s ∷ [])))
-parent_held table above s (inr a) h = subst (HasId table) (sym (front_is above s)) (at_among above (ids_of table) a)
+parent_held table above s (inr a) h = subst (HasId table) (sym (prefix_is above s)) (at_among above (ids_of table) a)
 
 ready_later : (table ds : List Descriptor) (above : List Pair) (up : Bool) → Ready table above up → Ready (table ++ ds) above up
 ready_later table ds above up r e = by (r e)
@@ -174,5 +174,5 @@ mutual
       last : (above id : List Pair) (s t : Pair) → Begins above s id → Begins above t id → list_any (same_segment s) (t ∷ []) ≡ true
       last above id s t b own = let same = same_next above b.rest own.rest s t (sym b.is ∙ own.is) in subst (λ x. list_any (same_segment s) (x ∷ []) ≡ true) same (ap (λ y. y || false) (same_self s))
 
-pub plan_follows : (n : ℕ) (s : Site) → s.above ≡ [] → verdict [] (sites n s) ≡ None → Follow [] (descriptors s.above (grown n s))
+pub plan_follows : (n : ℕ) (s : NodeInput) → s.above ≡ [] → verdict [] (node_inputs n s) ≡ None → Follow [] (descriptors s.above (grown n s))
 plan_follows n s none fine = follows [] s.above true (grown n s) (apart_grown n [] s fine) (under_grown n true s (λ e. refl)) (λ e. inl none) (λ id a b. a)

@@ -6,7 +6,7 @@ use Rattle.tk_cutting.specs.declared.nodes.Node.{Node}
 use Rattle.tk_cutting.specs.Trees.{Tree, flat, flats, contents}
 use Rattle.tk_cutting.specs.Ids.{descriptors, descriptors_below}
 use Rattle.tk_plan.specs.Checks.{first, or_else}
-use Rattle.tk_plan.specs.Sites.{Site, node_of, below, sites, forest_of, grown}
+use Rattle.tk_plan.specs.NodeInputs.{NodeInput, node_of, below, node_inputs, forest_of, grown}
 use Rattle.tk_plan.specs.PlanOf.{checks, joined, verdict}
 
 or_else_assoc : {A : Type 0} (a b c : Option A) → or_else (or_else a b) c ≡ or_else a (or_else b c)
@@ -17,18 +17,18 @@ first-append : {A : Type 0} (xs ys : List (Option A)) → first (xs ++ ys) ≡ o
 first-append [] ys = refl
 first-append (x ∷ xs) ys = ap (or_else x) (first-append xs ys) ∙ sym (or_else_assoc x (first xs) (first ys))
 
-joined-append : (before : List Node) (xs ys : List Site) → joined before (xs ++ ys) ≡ joined before xs ++ joined (before ++ map node_of xs) ys
+joined-append : (before : List Node) (xs ys : List NodeInput) → joined before (xs ++ ys) ≡ joined before xs ++ joined (before ++ map node_of xs) ys
 unfolding joined
 joined-append before [] ys = ap (λ b. joined b ys) (sym (append-nil before))
 joined-append before (x ∷ xs) ys =
     ap (λ l. checks before x ++ l) (joined-append (before ++ node_of x ∷ []) xs ys ∙ ap (λ b. joined (before ++ node_of x ∷ []) xs ++ joined b ys) (append_assoc before (node_of x ∷ []) (map node_of xs)))
     ∙ sym (append_assoc (checks before x) _ _)
 
-pub verdict-append : (before : List Node) (xs ys : List Site) → verdict before (xs ++ ys) ≡ or_else (verdict before xs) (verdict (before ++ map node_of xs) ys)
+pub verdict-append : (before : List Node) (xs ys : List NodeInput) → verdict before (xs ++ ys) ≡ or_else (verdict before xs) (verdict (before ++ map node_of xs) ys)
 verdict-append before xs ys = ap first (joined-append before xs ys) ∙ first-append (joined before xs) _
 
 -- the first node, and those after it
-pub verdict-cons : (before : List Node) (x : Site) (ys : List Site) → verdict before (x ∷ ys) ≡ or_else (first (checks before x)) (verdict (before ++ node_of x ∷ []) ys)
+pub verdict-cons : (before : List Node) (x : NodeInput) (ys : List NodeInput) → verdict before (x ∷ ys) ≡ or_else (first (checks before x)) (verdict (before ++ node_of x ∷ []) ys)
 unfolding joined
 verdict-cons before x ys = first-append (checks before x) _
 
@@ -42,12 +42,12 @@ pub descriptors-forest : (above : List Pair) (ts : List Tree) → descriptors_be
 descriptors-forest above [] = refl
 descriptors-forest above (t ∷ ts) = ap (λ l. descriptors above t ++ l) (descriptors-forest above ts)
 
-pub nodes-all : (g : Site → Tree) (h : Site → List Site) → ((s : Site) → contents (flat (g s)) ≡ map node_of (h s))
-    → (ss : List Site) → contents (flat_map flat (map g ss)) ≡ map node_of (flat_map h ss)
+pub nodes-all : (g : NodeInput → Tree) (h : NodeInput → List NodeInput) → ((s : NodeInput) → contents (flat (g s)) ≡ map node_of (h s))
+    → (ss : List NodeInput) → contents (flat_map flat (map g ss)) ≡ map node_of (flat_map h ss)
 nodes-all g h each [] = refl
 nodes-all g h each (s ∷ ss) = map-append _ (flat (g s)) _ ∙ ap₂ (λ a b. a ++ b) (each s) (nodes-all g h each ss) ∙ sym (map-append node_of (h s) _)
 
-pub nodes-grown : (n : ℕ) (s : Site) → contents (flat (grown n s)) ≡ map node_of (sites n s)
-unfolding grown sites
+pub nodes-grown : (n : ℕ) (s : NodeInput) → contents (flat (grown n s)) ≡ map node_of (node_inputs n s)
+unfolding grown node_inputs
 nodes-grown zero s = refl
-nodes-grown (suc n) s = ap (λ l. node_of s ∷ l) (ap contents (flats-forest (map (grown n) (below s))) ∙ nodes-all (grown n) (sites n) (nodes-grown n) (below s))
+nodes-grown (suc n) s = ap (λ l. node_of s ∷ l) (ap contents (flats-forest (map (grown n) (below s))) ∙ nodes-all (grown n) (node_inputs n) (nodes-grown n) (below s))

@@ -5,7 +5,7 @@ use Rattle.tk_plan.specs.declared.faults.PlanFault.TheVariants.{Field, Memory}
 
 -- The fault names the place that is wrong, unless memory ran out.
 abbrev pub Refuses : Option (List ℕ) → PlanFault → Type 0
-Refuses wrong (Field place) = wrong ≡ Some place
+Refuses wrong (Field path) = wrong ≡ Some path
 Refuses wrong Memory = Unit {0}
 Refuses wrong _ = ⊥
 

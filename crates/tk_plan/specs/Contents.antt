@@ -15,23 +15,23 @@ use Rattle.tk_events.specs.declared.kinds.Status.TheVariants.{Successful, Aborte
 use Rattle.tk_cutting.specs.declared.nodes.Lock.{Lock}
 use Rattle.tk_plan.specs.Checks.{list_of}
 
-abbrev pub said_text : Option Data → List ℕ
-said_text (Some (string s)) = s
-said_text _ = []
+abbrev pub json_text : Option Data → List ℕ
+json_text (Some (string s)) = s
+json_text _ = []
 
 -- a text that may be missing
-abbrev pub said_optional : Option Data → Option (List ℕ)
-said_optional (Some (string s)) = Some s
-said_optional _ = None
+abbrev pub json_optional : Option Data → Option (List ℕ)
+json_optional (Some (string s)) = Some s
+json_optional _ = None
 
 -- false where it is missing
-abbrev pub said_truth : Option Data → Bool
-said_truth (Some (boolean b)) = b
-said_truth _ = false
+abbrev pub json_truth : Option Data → Bool
+json_truth (Some (boolean b)) = b
+json_truth _ = false
 
-abbrev pub said_dtype : Option Data → DType
-said_dtype (Some (string s)) = if bytes_eq s (codes "container") then Container else (if bytes_eq s (codes "test") then Test else Both)
-said_dtype _ = Both
+abbrev pub json_dtype : Option Data → DType
+json_dtype (Some (string s)) = if bytes_eq s (codes "container") then Container else (if bytes_eq s (codes "test") then Test else Both)
+json_dtype _ = Both
 
 -- the items of an array
 abbrev pub listed : Option Data → List Data
@@ -39,49 +39,49 @@ listed (Some (array ds)) = list_of ds
 listed _ = []
 
 abbrev pub two_texts : List Data → List ℕ × List ℕ
-two_texts (a ∷ b ∷ ds) = (said_text (Some a), said_text (Some b))
+two_texts (a ∷ b ∷ ds) = (json_text (Some a), json_text (Some b))
 two_texts _ = ([], [])
 
 -- an array of two texts
-abbrev pub said_pair : Option Data → List ℕ × List ℕ
-said_pair d = two_texts (listed d)
+abbrev pub json_pair : Option Data → List ℕ × List ℕ
+json_pair d = two_texts (listed d)
 
 -- a tag and a value
-abbrev pub said_segment : Option Data → Pair
-said_segment d = record { tag = (said_pair d).0; value = (said_pair d).1 }
+abbrev pub json_segment : Option Data → Pair
+json_segment d = record { tag = (json_pair d).0; value = (json_pair d).1 }
 
 -- a node may run beside its siblings only where its mode is `concurrent`
-abbrev pub said_concurrent : Option Data → Bool
-said_concurrent (Some (string s)) = bytes_eq s (codes "concurrent")
-said_concurrent _ = false
+abbrev pub json_concurrent : Option Data → Bool
+json_concurrent (Some (string s)) = bytes_eq s (codes "concurrent")
+json_concurrent _ = false
 
 -- a lock writes, unless its mode is `read`
-abbrev pub said_writes : Option Data → Bool
-said_writes (Some (string s)) = not (bytes_eq s (codes "read"))
-said_writes _ = true
+abbrev pub json_writes : Option Data → Bool
+json_writes (Some (string s)) = not (bytes_eq s (codes "read"))
+json_writes _ = true
 
-abbrev pub said_lock : Data → Lock
-said_lock d = record { key = said_text (get (codes "key") d); writes = said_writes (get (codes "mode") d) }
+abbrev pub json_lock : Data → Lock
+json_lock d = record { key = json_text (get (codes "key") d); writes = json_writes (get (codes "mode") d) }
 
-abbrev pub said_locks : Option Data → List Lock
-said_locks d = map said_lock (listed d)
+abbrev pub json_locks : Option Data → List Lock
+json_locks d = map json_lock (listed d)
 
 -- a node is successful where it has no result
-abbrev pub said_status : Option Data → Status
-said_status (Some (string s)) = if bytes_eq s (codes "aborted") then Aborted else (if bytes_eq s (codes "failed") then Failed else Successful)
-said_status _ = Successful
+abbrev pub json_status : Option Data → Status
+json_status (Some (string s)) = if bytes_eq s (codes "aborted") then Aborted else (if bytes_eq s (codes "failed") then Failed else Successful)
+json_status _ = Successful
 
 -- the status of a result
 abbrev pub status_in : Option Data → Status
-status_in d = said_status (option_and_then (get (codes "status")) d)
+status_in d = json_status (option_and_then (get (codes "status")) d)
 
 -- the message of a result
 abbrev pub message_in : Option Data → Option (List ℕ)
-message_in d = said_optional (option_and_then (get (codes "message")) d)
+message_in d = json_optional (option_and_then (get (codes "message")) d)
 
 -- the pairs of an entry, as they are written
 abbrev pub written : Data → List (List ℕ × List ℕ)
-written d = map (λ p. said_pair (Some p)) (listed (Some d))
+written d = map (λ p. json_pair (Some p)) (listed (Some d))
 
 -- the pairs in increasing byte order of their keys, after those that are in that order
 abbrev pub put_all : List (List ℕ × List ℕ) → List (List ℕ × List ℕ) → List (List ℕ × List ℕ)
@@ -91,11 +91,11 @@ put_all put (p ∷ ps) = put_all (insert_entry (slice_cmp nat_cmp) put p.0 p.1) 
 abbrev pub by_key : List (List ℕ × List ℕ) → List (List ℕ × List ℕ)
 by_key ps = put_all [] ps
 
-abbrev pub said_entry : Data → List (List ℕ × List ℕ)
-said_entry d = by_key (written d)
+abbrev pub json_entry : Data → List (List ℕ × List ℕ)
+json_entry d = by_key (written d)
 
-abbrev pub said_entries : Option Data → List (List (List ℕ × List ℕ))
-said_entries d = map said_entry (listed d)
+abbrev pub json_entries : Option Data → List (List (List ℕ × List ℕ))
+json_entries d = map json_entry (listed d)
 
 -- a pair has the key of a pair before it, or of one of these
 abbrev pub repeats_after : List (List ℕ) → List (List ℕ × List ℕ) → Bool

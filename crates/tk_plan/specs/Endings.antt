@@ -2,13 +2,13 @@
 use Rattle.std.specs.Prelude.{◌≡◌, true, List, Option, map}
 use Rattle.std.specs.List.{list_all, list_any}
 use Rattle.serde_json.specs.Data.{Data}
-use Rattle.tk_events.specs.Event.{is_rising, is_lawful}
+use Rattle.tk_events.specs.Event.{is_strictly_increasing, is_lawful}
 use Rattle.tk_events.specs.declared.kinds.Kind.TheVariants.{Finished}
 use Rattle.tk_events.specs.declared.payloads.Payload.TheVariants.{Outcome}
-use Rattle.tk_plan.specs.Contents.{status_in, message_in, said_entry, repeats as repeats_in}
-use Rattle.tk_plan.specs.declared.pairings.Ending.{Ending}
-use Rattle.tk_plan.specs.declared.pairings.Report.{Report}
-use Rattle.tk_plan.specs.declared.pairings.Reports.{Reports}
+use Rattle.tk_plan.specs.Contents.{status_in, message_in, json_entry, repeats as repeats_in}
+use Rattle.tk_plan.specs.declared.member_values.Ending.{Ending}
+use Rattle.tk_plan.specs.declared.member_values.Report.{Report}
+use Rattle.tk_plan.specs.declared.member_values.Reports.{Reports}
 
 pub record IsEnding (d : Option Data) (e : Ending) : Type 0 where
   pub status : e.status ≡ status_in d
@@ -16,11 +16,11 @@ pub record IsEnding (d : Option Data) (e : Ending) : Type 0 where
   pub lawful : is_lawful Finished (Outcome e.status e.message) ≡ true
 
 pub record IsReport (d : Data) (r : Report) : Type 0 where
-  pub pairs : r.pairs ≡ said_entry d
-  pub rising : is_rising r.pairs ≡ true
+  pub pairs : r.pairs ≡ json_entry d
+  pub increasing : is_strictly_increasing r.pairs ≡ true
   pub repeats : r.repeats ≡ repeats_in d
 
 pub record AreReports (ds : List Data) (r : Reports) : Type 0 where
-  pub entries : r.entries ≡ map said_entry ds
-  pub rising : list_all is_rising r.entries ≡ true
+  pub entries : r.entries ≡ map json_entry ds
+  pub increasing : list_all is_strictly_increasing r.entries ≡ true
   pub repeats : r.repeats ≡ list_any repeats_in ds

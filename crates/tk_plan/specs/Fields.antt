@@ -4,17 +4,17 @@ use Rattle.serde_json.specs.Data.{Data}
 use Rattle.serde_json.specs.Find.{get}
 use Rattle.serde_json.specs.View.{view}
 use Rattle.tk_plan.specs.Checks.{Row}
-use Rattle.tk_plan.specs.Contents.{said_text, said_optional, said_dtype, listed}
+use Rattle.tk_plan.specs.Contents.{json_text, json_optional, json_dtype, listed}
 use Rattle.tk_plan.specs.Rows.{dtype_row, segment_row, name_row, mode_row, isolated_row, locks_row, skip_row, result_row, entries_row}
-use Rattle.tk_plan.specs.Sites.{concurrent_of, isolated_of, locks_of, children_of, dynamic_of}
+use Rattle.tk_plan.specs.NodeInputs.{concurrent_of, isolated_of, locks_of, children_of, dynamic_of}
 use Rattle.tk_plan.specs.Pointers.{IsPairOf}
 use Rattle.tk_plan.specs.Endings.{IsEnding, AreReports}
-use Rattle.tk_plan.specs.declared.fields.Heading.{Heading}
-use Rattle.tk_plan.specs.declared.fields.Concurrency.{Concurrency}
-use Rattle.tk_plan.specs.declared.fields.Content.{Content}
-use Rattle.tk_plan.specs.declared.fields.Fields.{Fields}
-use Rattle.tk_plan.specs.declared.readers.Checked.{Checked}
-use Rattle.tk_plan.specs.declared.readers.Named.{Named}
+use Rattle.tk_plan.specs.declared.node_fields.Heading.{Heading}
+use Rattle.tk_plan.specs.declared.node_fields.Concurrency.{Concurrency}
+use Rattle.tk_plan.specs.declared.node_fields.Content.{Content}
+use Rattle.tk_plan.specs.declared.node_fields.Fields.{Fields}
+use Rattle.tk_plan.specs.declared.plan_readers.Checked.{Checked}
+use Rattle.tk_plan.specs.declared.plan_readers.Named.{Named}
 
 abbrev pub heading_rows : List Row
 heading_rows = dtype_row ∷ segment_row ∷ name_row ∷ []
@@ -27,9 +27,9 @@ abbrev pub content_rows : List Row
 content_rows = skip_row ∷ result_row ∷ entries_row ∷ []
 
 pub record IsHeading (d : Data) (h : Heading) : Type 0 where
-  pub dtype : h.dtype ≡ said_dtype (get (codes "type") d)
+  pub dtype : h.dtype ≡ json_dtype (get (codes "type") d)
   pub segment : IsPairOf (get (codes "segment") d) h.segment
-  pub name : h.name ≡ said_text (get (codes "name") d)
+  pub name : h.name ≡ json_text (get (codes "name") d)
 
 pub record IsConcurrency (is_static : Bool) (d : Data) (m : Concurrency) : Type 0 where
   pub is_concurrent : m.is_concurrent ≡ concurrent_of is_static d
@@ -37,11 +37,11 @@ pub record IsConcurrency (is_static : Bool) (d : Data) (m : Concurrency) : Type 
   pub locks : m.locks ≡ locks_of is_static d
 
 pub record IsContent (d : Data) (c : Content) : Type 0 where
-  pub skip : c.skip ≡ said_optional (get (codes "skip") d)
+  pub skip : c.skip ≡ json_optional (get (codes "skip") d)
   pub ending : IsEnding (get (codes "result") d) c.ending
   pub reports : AreReports (listed (get (codes "entries") d)) c.reports
 
-pub record Says (is_static : Bool) (d : Data) (f : Fields) : Type 0 where
+pub record HasFields (is_static : Bool) (d : Data) (f : Fields) : Type 0 where
   pub heading : IsHeading d f.heading
   pub concurrency : IsConcurrency is_static d f.concurrency
   pub content : IsContent d f.content

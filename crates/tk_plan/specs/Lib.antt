@@ -2,7 +2,7 @@ pub use Rattle.tk_cutting.specs.Trees
 pub use Rattle.tk_cutting.specs.Script
 pub use Rattle.tk_cutting.specs.Events
 pub use Rattle.tk_cutting.specs.Cutting
-pub use Rattle.tk_cutting.specs.Asks
+pub use Rattle.tk_cutting.specs.LockNeeds
 pub use Rattle.tk_cutting.specs.Keys
 pub use Rattle.tk_cutting.specs.Numbers
 pub use Rattle.tk_cutting.specs.Ids
@@ -11,7 +11,7 @@ pub use Rattle.tk_cutting.specs.Laws
 pub mod Checks
 pub mod Rows
 pub mod Contents
-pub mod Sites
+pub mod NodeInputs
 pub mod PlanOf
 pub mod Refusals
 pub mod Gives

@@ -14,5 +14,5 @@ abbrev pub IdsDiffer : Type 0
 IdsDiffer = (v : Data) (t : Tree) → PlanOf v ≡ Ok t → AreDistinct (ids [] t)
 
 -- bytes have one answer, where memory doesn't run out
-abbrev pub OneAnswer : Type 0
-OneAnswer = (bytes : List ℕ) (a b : Result Outline PlanFault) → Answered (plan_in bytes) a → Answered (plan_in bytes) b → a ≢ Err Memory → b ≢ Err Memory → a ≡ b
+abbrev pub AnswerIsUnique : Type 0
+AnswerIsUnique = (bytes : List ℕ) (a b : Result Outline PlanFault) → Answered (plan_in bytes) a → Answered (plan_in bytes) b → a ≢ Err Memory → b ≢ Err Memory → a ≡ b

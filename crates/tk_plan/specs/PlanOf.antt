@@ -17,10 +17,10 @@ use Rattle.tk_cutting.specs.Trees.{Tree}
 use Rattle.tk_cutting.specs.Script.{moves}
 use Rattle.tk_plan.specs.Checks.{Check, first, object_of, must}
 use Rattle.tk_plan.specs.Rows.{static_node, dynamic_node}
-use Rattle.tk_plan.specs.Sites.{Site, segment_of, node_of, repeats_key, sites, grown}
+use Rattle.tk_plan.specs.NodeInputs.{NodeInput, segment_of, node_of, repeats_key, node_inputs, grown}
 use Rattle.tk_plan.specs.declared.faults.PlanFault.{PlanFault}
 use Rattle.tk_plan.specs.declared.faults.PlanFault.TheVariants.{Field, Id, Table, TooManyResources, EntryKeyTwice, TooManyEvents, Deep}
-use Rattle.tk_cutting.specs.declared.asking.TheConstants.{MAX_KEYS}
+use Rattle.tk_cutting.specs.declared.needs.TheConstants.{MAX_KEYS}
 use Rattle.tk_plan.specs.declared.limits.TheConstants.{MAX_LEVELS}
 
 abbrev pub when : {A : Type 0} → Bool → A → Option A
@@ -44,8 +44,8 @@ same_segment a b = bytes_eq a.tag b.tag && bytes_eq a.value b.value
 
 -- ---- checks
 
-abbrev pub node_check : Site → Option (List ℕ)
-node_check s = if s.is_static then static_node s.place s.value else dynamic_node s.place s.value
+abbrev pub node_check : NodeInput → Option (List ℕ)
+node_check s = if s.is_static then static_node s.path s.value else dynamic_node s.path s.value
 
 -- static, or dynamic
 abbrev pub is_kind : Bool → Node → Bool
@@ -53,7 +53,7 @@ is_kind true n = n.is_static
 is_kind false n = not n.is_static
 
 -- What may be wrong with a node, given the nodes before it in preorder.
-unfoldable pub checks : List Node → Site → List (Option PlanFault)
+unfoldable pub checks : List Node → NodeInput → List (Option PlanFault)
 checks before s =
     when (nat_lt MAX_LEVELS s.level) Deep
     ∷ option_map Field (node_check s)
@@ -65,11 +65,11 @@ checks before s =
     ∷ []
 
 -- the checks of each node in turn
-unfoldable pub joined : List Node → List Site → List (Option PlanFault)
+unfoldable pub joined : List Node → List NodeInput → List (Option PlanFault)
 joined before [] = []
 joined before (s ∷ ss) = checks before s ++ joined (before ++ node_of s ∷ []) ss
 
-abbrev pub verdict : List Node → List Site → Option PlanFault
+abbrev pub verdict : List Node → List NodeInput → Option PlanFault
 verdict before ss = first (joined before ss)
 
 -- ---- the whole value
@@ -85,10 +85,10 @@ anything at d = None
 abbrev pub top : Check
 top = object_of (must (codes "version") one ∷ must (codes "root") anything ∷ [])
 
-abbrev pub root_at : Data → Site
-root_at d = record { place = codes "/root"; level = 1; is_static = true; above = []; earlier = []; value = d }
+abbrev pub root_at : Data → NodeInput
+root_at d = record { path = codes "/root"; level = 1; is_static = true; above = []; earlier = []; value = d }
 
-abbrev pub root_of : Data → Site
+abbrev pub root_of : Data → NodeInput
 root_of v = root_at (unwrap_or (get (codes "root") v) null)
 
 -- the root's script is too long
@@ -100,8 +100,8 @@ ok_unless (Some e) x = Err e
 ok_unless None x = Ok x
 
 -- a fault of the top object, of the nodes, or of the whole tree
-abbrev pub first_fault : Option (List ℕ) → Site → Tree → Option PlanFault
-first_fault top s t = first (option_map Field top ∷ verdict [] (sites MAX_LEVELS s) ∷ events_fault t ∷ [])
+abbrev pub first_fault : Option (List ℕ) → NodeInput → Tree → Option PlanFault
+first_fault top s t = first (option_map Field top ∷ verdict [] (node_inputs MAX_LEVELS s) ∷ events_fault t ∷ [])
 
 -- The first fault, or else the tree.
 abbrev pub PlanOf : Data → Result Tree PlanFault

@@ -6,19 +6,19 @@ use Rattle.tk_ids.specs.IdText.{Pair}
 use Rattle.tk_ids.specs.declared.tables.Descriptor.{Descriptor}
 use Rattle.tk_ids.specs.declared.tables.TheConstants.{MAX_DESCRIPTORS}
 use Rattle.tk_ids.specs.declared.tables.TableFault.TheVariants.{Twice, Full}
-use Rattle.tk_cutting.specs.declared.asking.TheConstants.{MAX_KEYS}
+use Rattle.tk_cutting.specs.declared.needs.TheConstants.{MAX_KEYS}
 use Rattle.tk_cutting.specs.declared.nodes.Node.{Node}
-use Rattle.tk_cutting.specs.declared.nodes.Placed.{Placed}
+use Rattle.tk_cutting.specs.declared.nodes.NumberedNode.{NumberedNode}
 use Rattle.tk_cutting.specs.Ids.{descriptor_in, descriptors}
 use Rattle.tk_cutting.specs.Keys.{lock_keys}
 use Rattle.tk_cutting.specs.Planned.{is_lawful_node}
 use Rattle.tk_cutting.specs.Trees.{flat, contents}
 use Rattle.tk_plan.specs.PlanOf.{is_kind, same_segment, when}
-use Rattle.tk_plan.specs.Sites.{Site, segment_of, id_of, node_of, children_of, dynamic_of, grown}
+use Rattle.tk_plan.specs.NodeInputs.{NodeInput, segment_of, id_of, node_of, children_of, dynamic_of, grown}
 use Rattle.tk_plan.specs.declared.faults.PlanFault.{PlanFault}
 use Rattle.tk_plan.specs.declared.faults.PlanFault.TheVariants.{Table, TooManyResources}
-use Rattle.tk_plan.specs.declared.readers.Reader.{Reader}
-use Rattle.tk_plan.specs.declared.readers.Checked.{Checked}
+use Rattle.tk_plan.specs.declared.plan_readers.Reader.{Reader}
+use Rattle.tk_plan.specs.declared.plan_readers.Checked.{Checked}
 
 -- what is kept beside the nodes fits them
 pub record IsNoted (r : Reader) : Type 0 where
@@ -49,7 +49,7 @@ pub record IsEntered (old new : Reader) (earlier later : List Pair) (is_static :
   pub siblings : later ≡ earlier ++ segment ∷ []
 
 -- a node was checked, and its keys were noted
-pub record IsChecked (old new : Reader) (s : Site) (later : List Pair) (c : Checked) : Type 0 where
+pub record IsChecked (old new : Reader) (s : NodeInput) (later : List Pair) (c : Checked) : Type 0 where
   pub node : c.node ≡ node_of s
   pub id : c.id ≡ id_of s
   pub children : map view c.children.now ≡ children_of s.is_static s.value
@@ -79,13 +79,13 @@ pub record IsAdded (old new : Reader) (n : Node) (id : List Pair) : Type 0 where
   pub keys : new.keys.keys ≡ old.keys.keys
 
 -- nodes were read, with the descriptors of the static ones
-pub record Adds (old new : Reader) (placed : List Placed) (ds : List Descriptor) : Type 0 where
-  pub nodes : new.nodes.items ≡ old.nodes.items ++ placed
+pub record Adds (old new : Reader) (numbered_node : List NumberedNode) (ds : List Descriptor) : Type 0 where
+  pub nodes : new.nodes.items ≡ old.nodes.items ++ numbered_node
   pub descriptors : new.descriptors.items ≡ old.descriptors.items ++ ds
   pub noted : IsNoted new
 
 -- the node there and all below it were read, and no others
-pub record HasRead (s : Site) (r : Reader) : Type 0 where
+pub record HasRead (s : NodeInput) (r : Reader) : Type 0 where
   pub nodes : r.nodes.items ≡ flat (grown 60 s)
   pub descriptors : r.descriptors.items ≡ descriptors s.above (grown 60 s)
   pub noted : IsNoted r

@@ -5,13 +5,13 @@ use Rattle.serde_json.specs.View.{view}
 use Rattle.tk_ids.specs.IdText.{Pair}
 use Rattle.tk_ids.specs.declared.ids.IdFault.{IdFault}
 use Rattle.tk_ids.specs.declared.ids.IdFault.TheVariants as id_faults
-use Rattle.tk_plan.specs.Sites as spec
+use Rattle.tk_plan.specs.NodeInputs as spec
 use Rattle.tk_plan.specs.Pointers.{pointer}
 use Rattle.tk_plan.specs.declared.faults.PlanFault.{PlanFault}
 use Rattle.tk_plan.specs.declared.faults.PlanFault.TheVariants.{Id, Memory}
-use Rattle.tk_plan.specs.declared.pairings.TwoTexts.{TwoTexts}
-use Rattle.tk_plan.specs.declared.readers.Named.{Named}
-use Rattle.tk_plan.specs.declared.sites.Site.{Site}
+use Rattle.tk_plan.specs.declared.member_values.TwoTexts.{TwoTexts}
+use Rattle.tk_plan.specs.declared.plan_readers.Named.{Named}
+use Rattle.tk_plan.specs.declared.node_inputs.NodeInput.{NodeInput}
 
 -- the root has no id above it
 abbrev pub above_of : Option (Bor (List Pair)) → List Pair
@@ -19,11 +19,11 @@ above_of None = []
 above_of (Some id) = id.now
 
 -- a site, after siblings with the earlier segments
-abbrev pub seen : List Pair → Site → spec.Site
-seen earlier s = record { place = pointer s.place; level = s.level; is_static = s.is_static; above = above_of s.above; earlier = earlier; value = view s.value.now }
+abbrev pub seen : List Pair → NodeInput → spec.NodeInput
+seen earlier s = record { path = pointer s.path; level = s.level; is_static = s.is_static; above = above_of s.above; earlier = earlier; value = view s.value.now }
 
-abbrev pub segment_said : TwoTexts → Pair
-segment_said p = record { tag = p.first.now; value = p.second.now }
+abbrev pub json_segment_text : TwoTexts → Pair
+json_segment_text p = record { tag = p.first.now; value = p.second.now }
 
 abbrev pub as_plan_fault : IdFault → PlanFault
 as_plan_fault id_faults.Empty = Id id_faults.Empty

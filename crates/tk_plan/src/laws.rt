@@ -1,9 +1,11 @@
 //! Laws of plans, which hold of the definitions alone.
 ghost use Rattle.std.specs.Prelude.{◌≡◌};
 ghost use Rattle.tk_plan.specs.declared.limits.TheConstants.{MAX_LEVELS};
-ghost use Rattle.tk_plan.specs.PlanLaws.{IdsDiffer, OneAnswer};
+ghost use Rattle.tk_plan.specs.PlanLaws.{IdsDiffer, AnswerIsUnique};
 
-pub use tk_cutting::laws::{finds_nodes, has_keys, keeps_stamps, loses_nothing, tells_steps};
+pub use tk_cutting::laws::{
+    finds_nodes, has_keys, keeps_stamps, loses_nothing, spine_events_are_steps,
+};
 
 /// No two nodes of a plan have one id.
 pub fn ids_differ()
@@ -12,8 +14,8 @@ pub fn ids_differ()
 
 /// Bytes have one answer. So `read_plan` answers a plan exactly where the bytes are one,
 /// and each fault exactly where it is the first, unless memory runs out.
-pub fn one_answer()
-    ensures { OneAnswer }
+pub fn answer_is_unique()
+    ensures { AnswerIsUnique }
 {}
 
 /// A plan has at most 60 levels.

@@ -4,34 +4,34 @@
 //! - One node: its members together in `fields`, its checks in `checking`.
 //! - Single members: `members`, `lock_members`, and `endings` for the result and the entries. What
 //!   these readers hand on: `pairings`.
-//! - Where a value stands: `places`, and `pointers` to write a place out. A value that stands for a
-//!   node, with its place: `sites`.
+//! - Where a value stands: `paths`, and `pointers` to write a place out. A value that stands for a
+//!   node, with its place: `node_inputs`.
 //! - What is kept while reading: `readers`, the segments of one parent's children in `siblings`,
 //!   lock keys in `noting`.
 //! - Limits, laws and faults: `limits`, `laws`, `faults`.
 #![tactic(auto)]
 
-mod checking;
-mod endings;
 mod faults;
-mod fields;
+mod json_members;
+mod json_paths;
 pub mod laws;
 mod limits;
+mod lock_keys;
 mod lock_members;
-mod members;
-mod noting;
-mod pairings;
-mod places;
-mod pointers;
-mod readers;
-mod reading;
-mod readings;
+mod member_values;
+mod node_checks;
+mod node_fields;
+mod node_inputs;
+mod node_reading;
+mod path_texts;
+mod plan_readers;
+mod plan_reading;
+mod result_members;
 mod siblings;
-mod sites;
 
 pub use faults::PlanFault;
 pub use limits::MAX_LEVELS;
-pub use readings::read_plan;
+pub use plan_reading::read_plan;
 pub use tk_cutting::{
-    Act, Entries, Lock, Locks, MAX_EVENTS, MAX_KEYS, Node, Placed, Plan, Step, count_events,
+    Act, Entries, Lock, Locks, MAX_EVENTS, MAX_KEYS, Node, NumberedNode, Plan, Step, count_events,
 };

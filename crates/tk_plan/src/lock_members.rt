@@ -6,20 +6,20 @@ ghost use Rattle.tk_plan.specs.Checks.{array_of, row};
 ghost use Rattle.tk_plan.specs.Rows.{lock_mode_row, locks_row, lock as is_lock};
 ghost use Rattle.tk_plan.specs.Pointers.{pointer};
 ghost use Rattle.tk_plan.specs.Answers.{Reads};
-ghost use Rattle.tk_plan.specs.Contents.{said_writes, said_lock, said_locks};
+ghost use Rattle.tk_plan.specs.Contents.{json_writes, json_lock, json_locks};
 
 use crate::faults::PlanFault;
-use crate::members::{known_members, text_member};
-use crate::places::Place;
-use crate::pointers::{field, member_place};
+use crate::json_members::{known_members, text_member};
+use crate::json_paths::JsonPath;
+use crate::path_texts::{field, member_path};
 use serde_json::Value;
 use std::alloc::Global;
 use tk_cutting::{Lock, Locks};
 
 /// Whether the lock writes.
-fn lock_mode_member(alloc: Global, at: Place<'_>, object: &Value) -> Result<bool, PlanFault>
+fn lock_mode_member(alloc: Global, at: JsonPath<'_>, object: &Value) -> Result<bool, PlanFault>
     ensures { Reads (row (pointer at.entry) (view object.now) lock_mode_row)
-        (λ w. w ≡ said_writes (get (codes "mode") (view object.now))) result }
+        (λ w. w ≡ json_writes (get (codes "mode") (view object.now))) result }
 {
     let Some(value) = object.get("mode") else {
         return Ok(true);
@@ -27,13 +27,13 @@ fn lock_mode_member(alloc: Global, at: Place<'_>, object: &Value) -> Result<bool
     match value.as_str() {
         Some("read") => Ok(false),
         Some("read_write") => Ok(true),
-        _ => Err(field(member_place(alloc, at, "mode")?)),
+        _ => Err(field(member_path(alloc, at, "mode")?)),
     }
 }
 
-fn lock(alloc: Global, at: Place<'_>, value: &Value) -> Result<Lock, PlanFault>
+fn lock(alloc: Global, at: JsonPath<'_>, value: &Value) -> Result<Lock, PlanFault>
     ensures { Reads (is_lock (pointer at.entry) (view value.now))
-        (λ l. l ≡ said_lock (view value.now)) result }
+        (λ l. l ≡ json_lock (view value.now)) result }
 {
     known_members(alloc, at, value, &["key", "mode"])?;
     let key = text_member(alloc, at, value, "key")?;
@@ -43,26 +43,30 @@ fn lock(alloc: Global, at: Place<'_>, value: &Value) -> Result<Lock, PlanFault>
 
 fn locks(alloc: Global, at: &str, value: &Value) -> Result<Locks, PlanFault>
     ensures { Reads (array_of is_lock at.now (view value.now))
-        (λ l. l ≡ said_locks (Some (view value.now))) result }
+        (λ l. l ≡ json_locks (Some (view value.now))) result }
 {
     let Some(items) = value.as_array() else {
         return Err(field(String::from_str(alloc, at)?));
     };
     let mut locks = Vec::new(alloc);
     for (index, item) in items.iter().enumerate() {
-        locks.push(lock(alloc, Place::Item(at, index), item)?)?;
+        locks.push(lock(alloc, JsonPath::Item(at, index), item)?)?;
     }
     Ok(Locks::new(locks))
 }
 
-pub(crate) fn locks_member(alloc: Global, at: Place<'_>, object: &Value) -> Result<Locks, PlanFault>
+pub(crate) fn locks_member(
+    alloc: Global,
+    at: JsonPath<'_>,
+    object: &Value,
+) -> Result<Locks, PlanFault>
     ensures { Reads (row (pointer at.entry) (view object.now) locks_row)
-        (λ l. l ≡ said_locks (get (codes "locks") (view object.now))) result }
+        (λ l. l ≡ json_locks (get (codes "locks") (view object.now))) result }
 {
     match object.get("locks") {
         Some(value) => {
-            let place = member_place(alloc, at, "locks")?;
-            locks(alloc, &place, value)
+            let path = member_path(alloc, at, "locks")?;
+            locks(alloc, &path, value)
         }
         None => Ok(Locks::new(Vec::new(alloc))),
     }

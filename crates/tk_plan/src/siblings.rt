@@ -2,9 +2,9 @@
 ghost use Rattle.std.specs.Prelude.{◌≡◌, ◌++◌, ◌∷◌, [], not, IfOk, if◌then◌else◌};
 ghost use Rattle.std.specs.List.{list_any};
 ghost use Rattle.tk_plan.specs.PlanOf.{same_segment};
-ghost use Rattle.tk_plan.specs.Seen.{segment_said};
+ghost use Rattle.tk_plan.specs.Seen.{json_segment_text};
 
-use crate::pairings::TwoTexts;
+use crate::member_values::TwoTexts;
 use indexmap::IndexSet;
 use std::alloc::{AllocError, Global};
 use std::marker::Model;
@@ -36,8 +36,10 @@ impl<'v> Siblings<'v> {
 
     /// Puts a segment at the end, where it isn't there; whether it was put.
     pub fn insert(&mut self, segment: TwoTexts<'v>) -> Result<bool, AllocError>
-        ensures answer { IfOk result (λ is_new. is_new ≡ not (list_any (same_segment (segment_said segment.entry)) self.old)) }
-        ensures segments { IfOk result (λ is_new. self.new ≡ (if is_new then self.old ++ segment_said segment.entry ∷ [] else self.old)) }
+        ensures answer { IfOk result (λ is_new.
+            is_new ≡ not (list_any (same_segment (json_segment_text segment.entry)) self.old)) }
+        ensures segments { IfOk result (λ is_new.
+            self.new ≡ (if is_new then self.old ++ json_segment_text segment.entry ∷ [] else self.old)) }
     {
         Ok(self.keys.insert((segment.first, segment.second))?)
     }

@@ -15,14 +15,14 @@ use Rattle.tk_streams.specs.declared.transfers.LoadFault.TheVariants as loads
 use Rattle.tk_report.specs.declared.faults.ReportFault.{ReportFault}
 use Rattle.tk_report.specs.declared.faults.ReportFault.TheVariants as reports
 use Rattle.tk_record.specs.declared.reading.TheConstants.{MAX_TEXT}
-use Rattle.tk_streams.specs.Stream.{AppendsFront}
+use Rattle.tk_streams.specs.Stream.{AppendsPrefix}
 use Rattle.tk_replay.specs.ReplayText.{IsWritten, IsOfInput}
 use Rattle.tk_replay.specs.ReplayText.{IsAnswer as IsPlayedAs}
 use Rattle.tk_report.specs.Answers.{OfPlan, MayWork, IsNoPlan, IsNotRun}
-use Rattle.tk_ask.specs.Asked.{AddsAnswer, AddsFront, IsRefusal}
+use Rattle.tk_ask.specs.Asked.{AddsAnswer, AddsPrefix, IsRefusal}
 use Rattle.tk_ask.specs.Asked as asked
 
--- the bytes are a plan within the limit, it may be run by so many workers, and its report was written
+-- the bytes are a plan within the limit, it may be run by `workers` workers, and its report was written
 abbrev pub IsPlanReported : ℕ → List ℕ → Option (List ℕ) → Option (List ℕ) → Type 0
 IsPlanReported workers input old new = OfPlan input (Appends old new) × MayWork workers × (length input ≤ MAX_TEXT)
 
@@ -32,23 +32,23 @@ IsDone (jobs.Ask question) input is_yes old new = AddsAnswer (map string_bytes q
 IsDone jobs.Replay input is_yes old new = (is_yes ≡ true) × IsWritten input old new
 IsDone (jobs.Run workers) input is_yes old new = (is_yes ≡ true) × IsPlanReported workers input old new
 
--- why a question is not answered; nothing was written then, but at a broken device a front of the answer
+-- why a question is not answered; nothing was written then, but at a broken device a prefix of the answer
 abbrev pub IsAskFault : List (List ℕ) → Option (List ℕ) → Option (List ℕ) → Option (List ℕ) → AskFault → Type 0
 IsAskFault question input old new fault =
     IsRefusal question input fault
     × ((fault ≡ asks.Device) ⊎ (new ≡ old))
-    × (fault ≡ asks.Device → IfSome input (λ bytes. AddsFront question bytes old new))
+    × (fault ≡ asks.Device → IfSome input (λ bytes. AddsPrefix question bytes old new))
 
 -- why a script is not replayed; where that is for the input nothing was written
 abbrev pub IsReplayFault : Option (List ℕ) → Option (List ℕ) → Option (List ℕ) → ReplayFault → Type 0
 IsReplayFault input old new replays.Device = Unit {0}
 IsReplayFault input old new fault = IfSome input (λ bytes. IsPlayedAs bytes (Err fault)) × (IsOfInput fault → new ≡ old)
 
--- Why a plan that is run by so many workers is not reported. The number of workers is judged behind the plan.
+-- Why a plan that is run by so many workers is not reported. The number of workers is judged after the plan.
 abbrev pub IsReportFault : ℕ → Option (List ℕ) → Option (List ℕ) → Option (List ℕ) → ReportFault → Type 0
 IsReportFault workers input old new (reports.Plan fault) = IfSome input (λ bytes. IsNoPlan bytes fault) × (new ≡ old)
 IsReportFault workers input old new (reports.Run fault) = IfSome input (λ bytes. IsNotRun bytes workers fault) × (new ≡ old)
-IsReportFault workers input old new reports.Device = IfSome input (λ bytes. OfPlan bytes (AppendsFront old new)) × MayWork workers
+IsReportFault workers input old new reports.Device = IfSome input (λ bytes. OfPlan bytes (AppendsPrefix old new)) × MayWork workers
 IsReportFault workers input old new reports.Memory = new ≡ old
 
 -- the fault is of the words alone
@@ -67,7 +67,7 @@ IsRefused (jobs.Run workers) input old new (faults.Report fault) = IsReportFault
 IsRefused job input old new _ = ⊥
 
 -- Only a broken device is told as one: a question tells of the source in what it reads and of the target in what it writes, a
--- replay of either, and a run of the source before and of the target behind its plan.
+-- replay of either, and a run of the source before and of the target after its plan.
 abbrev pub IsBroken : Bool → Bool → Fault → Type 0
 IsBroken source target (faults.Ask (asks.Read reads.Device)) = source ≡ true
 IsBroken source target (faults.Ask asks.Device) = target ≡ true

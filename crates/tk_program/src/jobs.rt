@@ -21,7 +21,8 @@ fn run_plan<R: Threads + Wait + Sync, S: Source, T: Target>(
     source: &mut S,
     target: &mut T,
 ) -> Result<(), Fault>
-    ensures reported { OnOk result (IfSome (S.remaining source.old) (λ input. IsPlanReported workers input (T.contents target.old) (T.contents target.new))) }
+    ensures reported { OnOk result (IfSome (S.remaining source.old) (λ input.
+        IsPlanReported workers input (T.contents target.old) (T.contents target.new))) }
     ensures unread { IfErr result (λ fault. IsOfWords fault → source.new ≡ source.old) }
     ensures refused { IfErr result (IsRefused (jobs.Run workers) (S.remaining source.old) (T.contents target.old) (T.contents target.new)) }
     ensures device { IfErr result (IsBroken (S.broken source.new) (T.broken target.new)) }
@@ -49,7 +50,8 @@ pub fn do_job<R: Threads + Wait + Sync, S: Source, T: Target>(
     source: &mut S,
     target: &mut T,
 ) -> Result<bool, Fault>
-    ensures done { IfOk result (λ is_yes. IfSome (S.remaining source.old) (λ input. IsDone job.entry input is_yes (T.contents target.old) (T.contents target.new))) }
+    ensures done { IfOk result (λ is_yes. IfSome (S.remaining source.old) (λ input.
+        IsDone job.entry input is_yes (T.contents target.old) (T.contents target.new))) }
     ensures unread { IfErr result (λ fault. IsOfWords fault → source.new ≡ source.old) }
     ensures refused { IfErr result (IsRefused job.entry (S.remaining source.old) (T.contents target.old) (T.contents target.new)) }
     ensures device { IfErr result (IsBroken (S.broken source.new) (T.broken target.new)) }

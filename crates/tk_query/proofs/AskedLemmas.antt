@@ -8,10 +8,10 @@ use Rattle.std.proofs.lemmas.Option.{same_Some, none-some}
 use Rattle.tk_lanes.specs.Flags.{IsNextSet, IsNoneSet}
 use Rattle.tk_events.specs.declared.events.Entry.{Entry}
 use Rattle.tk_columns.specs.Recorded.{Recorded}
-use Rattle.tk_columns.specs.Selections.{Placed, Selected, placed, placed_from}
+use Rattle.tk_columns.specs.Selections.{PositionedEntry, Selected, positioned, positioned_from}
 use Rattle.tk_conditions.specs.declared.conditions.Condition.{Condition}
-use Rattle.tk_query.specs.declared.acts.Act.{Act}
-use Rattle.tk_query.specs.Acts.{act_of, act_at}
+use Rattle.tk_query.specs.declared.execution_steps.ExecutionStep.{ExecutionStep}
+use Rattle.tk_query.specs.ExecutionSteps.{step_of, step_at}
 use Rattle.tk_query.specs.Holds.{holds}
 use Rattle.tk_query.specs.Asked.{event_at, is_there, fits}
 use Rattle.tk_query.specs.InOrder.{IsNextFit, HasNoFit}
@@ -23,24 +23,24 @@ entry_in (f ∷ flags) (e ∷ es) (suc i) = entry_in flags es i
 entry_in _ _ i = None
 
 -- no event stands before the first place
-event_below : (flags : List Bool) (es : List Entry) (n q : ℕ) → q < n → event_at (items_where_true flags (placed_from n es)) q ≡ None
-unfolding placed_from
+event_below : (flags : List Bool) (es : List Entry) (n q : ℕ) → q < n → event_at (items_where_true flags (positioned_from n es)) q ≡ None
+unfolding positioned_from
 event_below [] es n q lt = refl
 event_below (f ∷ flags) [] n q lt = refl
 event_below (true ∷ flags) (e ∷ es) n q lt =
-    ap (λ b. if b then Some e else event_at (items_where_true flags (placed_from (n + 1) es)) q) (ne_eqb n q (λ same. omega arith)) ∙ event_below flags es (n + 1) q (omega arith)
+    ap (λ b. if b then Some e else event_at (items_where_true flags (positioned_from (n + 1) es)) q) (ne_eqb n q (λ same. omega arith)) ∙ event_below flags es (n + 1) q (omega arith)
 event_below (false ∷ flags) (e ∷ es) n q lt = event_below flags es (n + 1) q (omega arith)
 
-event_placed : (flags : List Bool) (es : List Entry) (n i q : ℕ) → q ≡ n + i → event_at (items_where_true flags (placed_from n es)) q ≡ entry_in flags es i
-unfolding placed_from
-event_placed [] es n i q at = refl
-event_placed (f ∷ flags) [] n i q at = refl
-event_placed (true ∷ flags) (e ∷ es) n zero q at =
-    ap (λ b. if b then Some e else event_at (items_where_true flags (placed_from (n + 1) es)) q) (eq-eqb n q (omega arith))
-event_placed (false ∷ flags) (e ∷ es) n zero q at = event_below flags es (n + 1) q (omega arith)
-event_placed (true ∷ flags) (e ∷ es) n (suc i) q at =
-    ap (λ b. if b then Some e else event_at (items_where_true flags (placed_from (n + 1) es)) q) (ne_eqb n q (λ same. omega arith)) ∙ event_placed flags es (n + 1) i q (omega arith)
-event_placed (false ∷ flags) (e ∷ es) n (suc i) q at = event_placed flags es (n + 1) i q (omega arith)
+event_positioned : (flags : List Bool) (es : List Entry) (n i q : ℕ) → q ≡ n + i → event_at (items_where_true flags (positioned_from n es)) q ≡ entry_in flags es i
+unfolding positioned_from
+event_positioned [] es n i q at = refl
+event_positioned (f ∷ flags) [] n i q at = refl
+event_positioned (true ∷ flags) (e ∷ es) n zero q at =
+    ap (λ b. if b then Some e else event_at (items_where_true flags (positioned_from (n + 1) es)) q) (eq-eqb n q (omega arith))
+event_positioned (false ∷ flags) (e ∷ es) n zero q at = event_below flags es (n + 1) q (omega arith)
+event_positioned (true ∷ flags) (e ∷ es) n (suc i) q at =
+    ap (λ b. if b then Some e else event_at (items_where_true flags (positioned_from (n + 1) es)) q) (ne_eqb n q (λ same. omega arith)) ∙ event_positioned flags es (n + 1) i q (omega arith)
+event_positioned (false ∷ flags) (e ∷ es) n (suc i) q at = event_positioned flags es (n + 1) i q (omega arith)
 
 entry_set : (flags : List Bool) (es : List Entry) (i : ℕ) → get_or flags i false ≡ true → entry_in flags es i ≡ slice_get es i
 entry_set [] es i set = absurd (true≢false (sym set))
@@ -56,11 +56,11 @@ entry_clear (f ∷ flags) (e ∷ es) (suc i) clear = entry_clear flags es i clea
 
 -- the flags say which the events are
 pub record AreFlags (asked : Selected) (flags : List Bool) : Type 0 where
-  pub kept : asked.kept ≡ items_where_true flags (placed asked.recorded.entries)
+  pub kept : asked.kept ≡ items_where_true flags (positioned asked.recorded.entries)
 
 module _ (asked : Selected) (flags : List Bool) (are : AreFlags asked flags) where
   asked_is : (i : ℕ) → event_at asked.kept i ≡ entry_in flags asked.recorded.entries i
-  asked_is i = ap (λ kept. event_at kept i) are.kept ∙ event_placed flags asked.recorded.entries 0 i i (sym (zero-add i))
+  asked_is i = ap (λ kept. event_at kept i) are.kept ∙ event_positioned flags asked.recorded.entries 0 i i (sym (zero-add i))
 
   asked_set : (i : ℕ) → get_or flags i false ≡ true → event_at asked.kept i ≡ slice_get asked.recorded.entries i
   asked_set i set = asked_is i ∙ entry_set flags asked.recorded.entries i set
@@ -79,11 +79,11 @@ module _ (asked : Selected) (flags : List Bool) (are : AreFlags asked flags) whe
   pub fits_clear : (c : Condition) (i : ℕ) → get_or flags i false ≡ false → fits asked c i ≡ false
   fits_clear c i clear = ap (is_there (holds asked.recorded c)) (asked_clear i clear)
 
-  pub act_set : (r : Recorded) → r ≡ asked.recorded → (i : ℕ) (o : Option Act) → get_or flags i false ≡ true → o ≡ option_and_then act_of (slice_get r.entries i) → act_at asked i ≡ o
-  act_set r same i o set h = ap (option_and_then act_of) (asked_set i set ∙ ap (λ (s : Recorded). slice_get s.entries i) (sym same)) ∙ sym h
+  pub step_set : (r : Recorded) → r ≡ asked.recorded → (i : ℕ) (o : Option ExecutionStep) → get_or flags i false ≡ true → o ≡ option_and_then step_of (slice_get r.entries i) → step_at asked i ≡ o
+  step_set r same i o set h = ap (option_and_then step_of) (asked_set i set ∙ ap (λ (s : Recorded). slice_get s.entries i) (sym same)) ∙ sym h
 
-  pub act_clear : (i : ℕ) → get_or flags i false ≡ false → act_at asked i ≡ None
-  act_clear i clear = ap (option_and_then act_of) (asked_clear i clear)
+  pub step_clear : (i : ℕ) → get_or flags i false ≡ false → step_at asked i ≡ None
+  step_clear i clear = ap (option_and_then step_of) (asked_clear i clear)
 
 -- from one position on, the condition holds of no event up to another
 pub record HasNone (asked : Selected) (c : Condition) (from next : ℕ) : Type 0 where
@@ -125,19 +125,19 @@ none_left asked flags are c from next has clear q le = ⊎_elim {C = fits asked 
     (cases_lt q next)
 
 -- the k-th event stands at its position in the record
-kept_in : (flags : List Bool) (es : List Entry) (n k : ℕ) (x : Placed) → slice_get (items_where_true flags (placed_from n es)) k ≡ Some x → (i : ℕ) × (x.position ≡ n + i) × (slice_get es i ≡ Some x.entry)
-unfolding placed_from
+kept_in : (flags : List Bool) (es : List Entry) (n k : ℕ) (x : PositionedEntry) → slice_get (items_where_true flags (positioned_from n es)) k ≡ Some x → (i : ℕ) × (x.position ≡ n + i) × (slice_get es i ≡ Some x.entry)
+unfolding positioned_from
 kept_in [] es n k x e = absurd (none-some x e)
 kept_in (f ∷ flags) [] n k x e = absurd (none-some x e)
 kept_in (true ∷ flags) (y ∷ es) n zero x e =
-    let first : Placed = record { position = n; entry = y } in
+    let first : PositionedEntry = record { position = n; entry = y } in
     let same = same_Some first x e in
-    let at = ap (λ (p : Placed). p.position) same in
-    (0, omega arith, ap (λ (p : Placed). Some p.entry) same)
+    let at = ap (λ (p : PositionedEntry). p.position) same in
+    (0, omega arith, ap (λ (p : PositionedEntry). Some p.entry) same)
 kept_in (true ∷ flags) (y ∷ es) n (suc k) x e = let r = kept_in flags es (n + 1) k x e in let at = r.1 in (suc r.0, omega arith, r.2)
 kept_in (false ∷ flags) (y ∷ es) n k x e = let r = kept_in flags es (n + 1) k x e in let at = r.1 in (suc r.0, omega arith, r.2)
 
-pub kept_at : (asked : Selected) (flags : List Bool) → AreFlags asked flags → (k : ℕ) (x : Placed) → slice_get asked.kept k ≡ Some x → slice_get asked.recorded.entries x.position ≡ Some x.entry
+pub kept_at : (asked : Selected) (flags : List Bool) → AreFlags asked flags → (k : ℕ) (x : PositionedEntry) → slice_get asked.kept k ≡ Some x → slice_get asked.recorded.entries x.position ≡ Some x.entry
 kept_at asked flags are k x e =
     let r = kept_in flags asked.recorded.entries 0 k x (ap (λ kept. slice_get kept k) (sym are.kept) ∙ e) in
     let at : r.0 ≡ x.position = sym (r.1 ∙ zero-add r.0) in
@@ -155,10 +155,10 @@ map_get p (x ∷ es) zero e h = ap p (same_Some x e h)
 map_get p (x ∷ es) (suc i) e h = map_get p es i e h
 
 -- narrowing by the mask of a test keeps those that pass
-pub narrowed_is : (asked : Selected) (flags : List Bool) → AreFlags asked flags → (p : Entry → Bool) (mask : List Bool) → mask ≡ map p asked.recorded.entries → filter (λ x. get_or mask x.position false) asked.kept ≡ filter (λ x. p x.entry) asked.kept
-narrowed_is asked flags are p mask e =
-    ap (λ (m : List Bool). filter (λ (x : Placed). get_or m x.position false) asked.kept) e
-    ∙ filter_same (λ (x : Placed). get_or (map p asked.recorded.entries) x.position false) (λ (x : Placed). p x.entry) asked.kept
+pub intersected_is : (asked : Selected) (flags : List Bool) → AreFlags asked flags → (p : Entry → Bool) (mask : List Bool) → mask ≡ map p asked.recorded.entries → filter (λ x. get_or mask x.position false) asked.kept ≡ filter (λ x. p x.entry) asked.kept
+intersected_is asked flags are p mask e =
+    ap (λ (m : List Bool). filter (λ (x : PositionedEntry). get_or m x.position false) asked.kept) e
+    ∙ filter_same (λ (x : PositionedEntry). get_or (map p asked.recorded.entries) x.position false) (λ (x : PositionedEntry). p x.entry) asked.kept
     (λ k x at. map_get p asked.recorded.entries x.position x.entry (kept_at asked flags are k x at))
 
 -- the same test, the same list of answers

@@ -35,17 +35,17 @@ pub engine_is : (id : List Pair) (b : Bool) → (IsTrue b ↔ IsEngine id) → b
 engine_is id b h = same_bool b (is_engine id) (λ e. true_engine id (h.0 e)) (λ e. h.1 (engine_true id e))
 
 -- a text within another
-begins_rest : (front text : List ℕ) → begins front text ≡ true → (rest : List ℕ) × (text ≡ front ++ rest)
+begins_rest : (prefix text : List ℕ) → begins prefix text ≡ true → (rest : List ℕ) × (text ≡ prefix ++ rest)
 begins_rest [] text e = (text, refl)
-begins_rest (b ∷ front) [] e = cc
-begins_rest (b ∷ front) (c ∷ text) e =
-    let parts = and_parts (eqb b c) (begins front text) e in
-    let r = begins_rest front text parts.1 in
+begins_rest (b ∷ prefix) [] e = cc
+begins_rest (b ∷ prefix) (c ∷ text) e =
+    let parts = and_parts (eqb b c) (begins prefix text) e in
+    let r = begins_rest prefix text parts.1 in
     (r.0, ap (λ n. n ∷ text) (sym (eqb-true b c parts.0)) ∙ ap (λ l. b ∷ l) r.1)
 
-begun : (front rest : List ℕ) → begins front (front ++ rest) ≡ true
+begun : (prefix rest : List ℕ) → begins prefix (prefix ++ rest) ≡ true
 begun [] rest = refl
-begun (b ∷ front) rest = ap (λ t. t && begins front (front ++ rest)) (eq-eqb b b refl) ∙ begun front rest
+begun (b ∷ prefix) rest = ap (λ t. t && begins prefix (prefix ++ rest)) (eq-eqb b b refl) ∙ begun prefix rest
 
 or_left : (a b : Bool) → a ≡ true → (a || b) ≡ true
 or_left true b e = refl
@@ -59,12 +59,12 @@ within_begun : (part text : List ℕ) → begins part text ≡ true → has_with
 within_begun part [] e = e
 within_begun part (b ∷ text) e = or_left (begins part (b ∷ text)) (has_within part text) e
 
-within_behind : (part front text : List ℕ) → has_within part text ≡ true → has_within part (front ++ text) ≡ true
-within_behind part [] text e = e
-within_behind part (b ∷ front) text e = or_right (begins part (b ∷ (front ++ text))) (has_within part (front ++ text)) (within_behind part front text e)
+within_after : (part prefix text : List ℕ) → has_within part text ≡ true → has_within part (prefix ++ text) ≡ true
+within_after part [] text e = e
+within_after part (b ∷ prefix) text e = or_right (begins part (b ∷ (prefix ++ text))) (has_within part (prefix ++ text)) (within_after part prefix text e)
 
 within_true : (part text : List ℕ) → HasSubslice text part → has_within part text ≡ true
-within_true part text h = ap (has_within part) h.2 ∙ within_behind part h.0 (part ++ h.1) (within_begun part (part ++ h.1) (begun part h.1))
+within_true part text h = ap (has_within part) h.2 ∙ within_after part h.0 (part ++ h.1) (within_begun part (part ++ h.1) (begun part h.1))
 
 true_within : (part text : List ℕ) → has_within part text ≡ true → HasSubslice text part
 true_within part [] e = let r = begins_rest part [] e in ([], r.0, r.1)
@@ -77,12 +77,12 @@ pub within_is : (part text : List ℕ) (b : Bool) → ((b ≡ true) ↔ HasSubsl
 within_is part text b h = same_bool b (has_within part text) (λ e. within_true part text (h.0 e)) (λ e. h.1 (true_within part text e))
 
 -- the pairs of an entry
-pairs_behind : (pairs : Pairs) (rest : List (List ℕ × List ℕ)) → pairs_list (pairs_from pairs rest) ≡ pairs_list pairs ++ rest
-pairs_behind pairs [] = sym (append-nil (pairs_list pairs))
-pairs_behind pairs (p ∷ rest) = pairs_behind (MorePairs pairs p.0 p.1) rest ∙ append_assoc (pairs_list pairs) (p ∷ []) rest
+pairs_after : (pairs : Pairs) (rest : List (List ℕ × List ℕ)) → pairs_list (pairs_from pairs rest) ≡ pairs_list pairs ++ rest
+pairs_after pairs [] = sym (append-nil (pairs_list pairs))
+pairs_after pairs (p ∷ rest) = pairs_after (MorePairs pairs p.0 p.1) rest ∙ append_assoc (pairs_list pairs) (p ∷ []) rest
 
 pub pairs_are : (rest : List (List ℕ × List ℕ)) → pairs_list (pairs_from NoPairs rest) ≡ rest
-pairs_are rest = pairs_behind NoPairs rest
+pairs_are rest = pairs_after NoPairs rest
 
 -- the members of a condition
 and_assoc : (a b c : Bool) → ((a && b) && c) ≡ (a && (b && c))
@@ -101,16 +101,16 @@ or_false : (a : Bool) → a ≡ (a || false)
 or_false true = refl
 or_false false = refl
 
-all_behind : (r : Recorded) (e : Entry) (cs : Conds) (members : List Condition) → all_hold r (conds_from cs members) e ≡ (all_hold r cs e && list_all (λ m. holds r m e) members)
-all_behind r e cs [] = and_true (all_hold r cs e)
-all_behind r e cs (m ∷ members) = all_behind r e (More cs (cond_of m)) members ∙ and_assoc (all_hold r cs e) (holds r m e) (list_all (λ n. holds r n e) members)
+all_after : (r : Recorded) (e : Entry) (cs : Conds) (members : List Condition) → all_hold r (conds_from cs members) e ≡ (all_hold r cs e && list_all (λ m. holds r m e) members)
+all_after r e cs [] = and_true (all_hold r cs e)
+all_after r e cs (m ∷ members) = all_after r e (More cs (cond_of m)) members ∙ and_assoc (all_hold r cs e) (holds r m e) (list_all (λ n. holds r n e) members)
 
-any_behind : (r : Recorded) (e : Entry) (cs : Conds) (members : List Condition) → any_holds r (conds_from cs members) e ≡ (any_holds r cs e || list_any (λ m. holds r m e) members)
-any_behind r e cs [] = or_false (any_holds r cs e)
-any_behind r e cs (m ∷ members) = any_behind r e (More cs (cond_of m)) members ∙ or_assoc (any_holds r cs e) (holds r m e) (list_any (λ n. holds r n e) members)
+any_after : (r : Recorded) (e : Entry) (cs : Conds) (members : List Condition) → any_holds r (conds_from cs members) e ≡ (any_holds r cs e || list_any (λ m. holds r m e) members)
+any_after r e cs [] = or_false (any_holds r cs e)
+any_after r e cs (m ∷ members) = any_after r e (More cs (cond_of m)) members ∙ or_assoc (any_holds r cs e) (holds r m e) (list_any (λ n. holds r n e) members)
 
 pub holds-All : (r : Recorded) (members : Vec Condition Global) (e : Entry) → holds r (real.All members) e ≡ list_all (λ m. holds r m e) members.items
-holds-All r members e = ap (λ c. cond_holds r c e) (cond_of-All members) ∙ all_behind r e Nothing members.items
+holds-All r members e = ap (λ c. cond_holds r c e) (cond_of-All members) ∙ all_after r e Nothing members.items
 
 pub holds-Any : (r : Recorded) (members : Vec Condition Global) (e : Entry) → holds r (real.Any members) e ≡ list_any (λ m. holds r m e) members.items
-holds-Any r members e = ap (λ c. cond_holds r c e) (cond_of-Any members) ∙ any_behind r e Nothing members.items
+holds-Any r members e = ap (λ c. cond_holds r c e) (cond_of-Any members) ∙ any_after r e Nothing members.items

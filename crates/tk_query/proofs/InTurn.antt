@@ -3,18 +3,18 @@ use Rattle.std.proofs.Common.{◌≡◌, ℕ, ◌+◌, ◌<◌, ◌≤◌, ◌�
 use Rattle.std.proofs.lemmas.List.{append-nil, append_assoc, take_more}
 use Rattle.std.proofs.lemmas.Bool.{cases_lt, true≢false}
 use Rattle.std.proofs.Math.Seq.{take-length}
-use Rattle.tk_query.specs.InOrder.{HoldInTurn, CanHoldInTurn, IsNotBehind, IsLeastInTurn, IsFirstStuck, IsNextFit, HasNoFit}
+use Rattle.tk_query.specs.InOrder.{HoldInTurn, CanHoldInTurn, IsNotAfter, IsLeastInTurn, IsFirstStuck, IsNextFit, HasNoFit}
 
--- no place is behind the one at the same index
+-- no place is after the one at the same index
 abbrev AreNoGreater : List ℕ → List ℕ → Type 0
 AreNoGreater [] [] = Unit {0}
 AreNoGreater (p ∷ ps) (q ∷ qs) = (p ≤ q) × AreNoGreater ps qs
 AreNoGreater _ _ = ⊥
 
-not_behind : (ps qs : List ℕ) → AreNoGreater ps qs → IsNotBehind ps qs
-not_behind [] qs h = tt
-not_behind (p ∷ ps) [] h = absurd h
-not_behind (p ∷ ps) (q ∷ qs) h = ⊎_elim {C = (p < q) ⊎ ((p ≡ q) × IsNotBehind ps qs)} (λ (lt : p < q). inl lt) (λ (le : q ≤ p). inr (omega arith, not_behind ps qs h.1)) (cases_lt p q)
+not_after : (ps qs : List ℕ) → AreNoGreater ps qs → IsNotAfter ps qs
+not_after [] qs h = tt
+not_after (p ∷ ps) [] h = absurd h
+not_after (p ∷ ps) (q ∷ qs) h = ⊎_elim {C = (p < q) ⊎ ((p ≡ q) × IsNotAfter ps qs)} (λ (lt : p < q). inl lt) (λ (le : q ≤ p). inr (omega arith, not_after ps qs h.1)) (cases_lt p q)
 
 one_more : (ps qs : List ℕ) (p q : ℕ) → AreNoGreater ps qs → p ≤ q → AreNoGreater (ps ++ p ∷ []) (qs ++ q ∷ [])
 one_more [] [] p q h le = (le, tt)
@@ -23,13 +23,13 @@ one_more (x ∷ ps) [] p q h le = absurd h
 one_more (x ∷ ps) (y ∷ qs) p q h le = (h.0, one_more ps qs p q h.1 le)
 
 -- where a list of places ends: the next one may stand there
-abbrev behind : ℕ → List ℕ → ℕ
-behind from [] = from
-behind from (p ∷ ps) = behind (p + 1) ps
+abbrev after : ℕ → List ℕ → ℕ
+after from [] = from
+after from (p ∷ ps) = after (p + 1) ps
 
-behind_more : (from : ℕ) (ps : List ℕ) (p : ℕ) → behind from (ps ++ p ∷ []) ≡ p + 1
-behind_more from [] p = refl
-behind_more from (q ∷ ps) p = behind_more (q + 1) ps p
+after_more : (from : ℕ) (ps : List ℕ) (p : ℕ) → after from (ps ++ p ∷ []) ≡ p + 1
+after_more from [] p = refl
+after_more from (q ∷ ps) p = after_more (q + 1) ps p
 
 module _ {C : Type 0} (fits : C → ℕ → Bool) where
   earlier : (from low : ℕ) (cs : List C) (ps : List ℕ) → low ≤ from → HoldInTurn fits from cs ps → HoldInTurn fits low cs ps
@@ -38,7 +38,7 @@ module _ {C : Type 0} (fits : C → ℕ → Bool) where
   earlier from low (c ∷ cs) [] le h = absurd h
   earlier from low (c ∷ cs) (p ∷ ps) le h = (omega arith, h.1, h.2)
 
-  hold_more : (from : ℕ) (cs : List C) (ps : List ℕ) (c : C) (p : ℕ) → HoldInTurn fits from cs ps → behind from ps ≤ p → fits c p ≡ true → HoldInTurn fits from (cs ++ c ∷ []) (ps ++ p ∷ [])
+  hold_more : (from : ℕ) (cs : List C) (ps : List ℕ) (c : C) (p : ℕ) → HoldInTurn fits from cs ps → after from ps ≤ p → fits c p ≡ true → HoldInTurn fits from (cs ++ c ∷ []) (ps ++ p ∷ [])
   hold_more from [] [] c p h le f = (le, f, tt)
   hold_more from [] (q ∷ ps) c p h le f = absurd h
   hold_more from (d ∷ cs) [] c p h le f = absurd h
@@ -46,17 +46,17 @@ module _ {C : Type 0} (fits : C → ℕ → Bool) where
 
   -- a place list for more conditions is one for the first ones, and the rest of it
   pub record IsSplit (cs : List C) (ps qs : List ℕ) (next : ℕ) : Type 0 where
-    pub front : List ℕ
+    pub prefix : List ℕ
     pub rest : List ℕ
-    pub whole : qs ≡ front ++ rest
-    pub front_first : AreNoGreater ps front
+    pub whole : qs ≡ prefix ++ rest
+    pub prefix_first : AreNoGreater ps prefix
     pub rest_holds : HoldInTurn fits next cs rest
 
-  -- Behind the first k conditions: they hold at these places, and no other places leave more room.
+  -- After the first k conditions: they hold at these places, and no other places leave more room.
   pub record IsReached (cs : List C) (k next : ℕ) (ps : List ℕ) : Type 0 where
     pub within : k ≤ length cs
     pub here : HoldInTurn fits 0 (take k cs) ps
-    pub end : behind 0 ps ≡ next
+    pub end : after 0 ps ≡ next
     pub least : (more : List C) (qs : List ℕ) → HoldInTurn fits 0 (take k cs ++ more) qs → IsSplit more ps qs next
     pub before : (j : ℕ) → j < k → CanHoldInTurn fits (take (j + 1) cs)
 
@@ -66,7 +66,7 @@ module _ {C : Type 0} (fits : C → ℕ → Bool) where
         within = omega arith;
         here = tt;
         end = refl;
-        least = λ more qs h. record { front = []; rest = qs; whole = refl; front_first = tt; rest_holds = h };
+        least = λ more qs h. record { prefix = []; rest = qs; whole = refl; prefix_first = tt; rest_holds = h };
         before = λ j h. absurd (omega arith);
       }
 
@@ -74,33 +74,33 @@ module _ {C : Type 0} (fits : C → ℕ → Bool) where
   fits_apart c p q from fit from_on here =
       ⊎_elim {C = p ≤ q} (λ (lt : q < p). absurd (true≢false (sym here ∙ fit.first q from_on lt))) (λ (le : p ≤ q). le) (cases_lt q p)
 
-  split_step : (c : C) (more : List C) (ps front rest : List ℕ) (next p : ℕ) → IsNextFit fits c next p → AreNoGreater ps front → HoldInTurn fits next (c ∷ more) rest → IsSplit more (ps ++ p ∷ []) (front ++ rest) (p + 1)
-  split_step c more ps front [] next p fit no_greater h = absurd h
-  split_step c more ps front (q ∷ rest) next p fit no_greater h =
+  split_step : (c : C) (more : List C) (ps prefix rest : List ℕ) (next p : ℕ) → IsNextFit fits c next p → AreNoGreater ps prefix → HoldInTurn fits next (c ∷ more) rest → IsSplit more (ps ++ p ∷ []) (prefix ++ rest) (p + 1)
+  split_step c more ps prefix [] next p fit no_greater h = absurd h
+  split_step c more ps prefix (q ∷ rest) next p fit no_greater h =
       let le : p ≤ q = fits_apart c p q next fit h.0 h.1 in
       record {
-        front = front ++ q ∷ [];
+        prefix = prefix ++ q ∷ [];
         rest = rest;
-        whole = sym (append_assoc front (q ∷ []) rest);
-        front_first = one_more ps front p q no_greater le;
+        whole = sym (append_assoc prefix (q ∷ []) rest);
+        prefix_first = one_more ps prefix p q no_greater le;
         rest_holds = earlier (q + 1) (p + 1) more rest (omega arith) h.2;
       }
 
   taken_more : (cs : List C) (k : ℕ) (d : C) (more : List C) → k < length cs → take (k + 1) cs ++ more ≡ take k cs ++ (get_or cs k d ∷ more)
-  taken_more cs k d more h = ap (λ front. front ++ more) (take_more cs k d h) ∙ append_assoc (take k cs) (get_or cs k d ∷ []) more
+  taken_more cs k d more h = ap (λ prefix. prefix ++ more) (take_more cs k d h) ∙ append_assoc (take k cs) (get_or cs k d ∷ []) more
 
   pub reached_more : (cs : List C) (k next : ℕ) (ps : List ℕ) (d : C) (p : ℕ) → IsReached cs k next ps → k < length cs → IsNextFit fits (get_or cs k d) next p → IsReached cs (k + 1) (p + 1) (ps ++ p ∷ [])
   reached_more cs k next ps d p r h fit =
       let c = get_or cs k d in
       let here : HoldInTurn fits 0 (take (k + 1) cs) (ps ++ p ∷ []) =
-      subst (λ front. HoldInTurn fits 0 front (ps ++ p ∷ [])) (sym (take_more cs k d h)) (hold_more 0 (take k cs) ps c p r.here (subst (λ n. n ≤ p) (sym r.end) fit.from_on) fit.fit) in
+      subst (λ prefix. HoldInTurn fits 0 prefix (ps ++ p ∷ [])) (sym (take_more cs k d h)) (hold_more 0 (take k cs) ps c p r.here (subst (λ n. n ≤ p) (sym r.end) fit.from_on) fit.fit) in
       record {
         within = omega arith;
         here = here;
-        end = behind_more 0 ps p;
+        end = after_more 0 ps p;
         least = λ more qs hold.
-            let s = r.least (c ∷ more) qs (subst (λ front. HoldInTurn fits 0 front qs) (taken_more cs k d more h) hold) in
-            subst (λ list. IsSplit more (ps ++ p ∷ []) list (p + 1)) (sym s.whole) (split_step c more ps s.front s.rest next p fit s.front_first s.rest_holds);
+            let s = r.least (c ∷ more) qs (subst (λ prefix. HoldInTurn fits 0 prefix qs) (taken_more cs k d more h) hold) in
+            subst (λ list. IsSplit more (ps ++ p ∷ []) list (p + 1)) (sym s.whole) (split_step c more ps s.prefix s.rest next p fit s.prefix_first s.rest_holds);
         before = λ j lt. ⊎_elim {C = CanHoldInTurn fits (take (j + 1) cs)}
             (λ (below : j < k). r.before j below)
             (λ (above : k ≤ j). let same : k ≡ j = omega arith in subst (λ n. CanHoldInTurn fits (take (n + 1) cs)) same (ps ++ p ∷ [], here))
@@ -116,7 +116,7 @@ module _ {C : Type 0} (fits : C → ℕ → Bool) where
       record {
         within = h;
         stuck = λ can.
-            let s = r.least (get_or cs k d ∷ []) can.0 (subst (λ front. HoldInTurn fits 0 front can.0) (take_more cs k d h) can.1) in
+            let s = r.least (get_or cs k d ∷ []) can.0 (subst (λ prefix. HoldInTurn fits 0 prefix can.0) (take_more cs k d h) can.1) in
             none_fits (get_or cs k d) next s.rest none s.rest_holds;
         before = r.before;
       }
@@ -129,9 +129,9 @@ module _ {C : Type 0} (fits : C → ℕ → Bool) where
   reached_end cs k next ps r e =
       let all : take k cs ≡ cs = ap (λ n. take n cs) e ∙ take-length cs in
       record {
-        holds = subst (λ front. HoldInTurn fits 0 front ps) all r.here;
+        holds = subst (λ prefix. HoldInTurn fits 0 prefix ps) all r.here;
         least = λ qs h.
-            let s = r.least [] qs (subst (λ front. HoldInTurn fits 0 front qs) (sym (append-nil (take k cs) ∙ all)) h) in
-            let same : qs ≡ s.front = s.whole ∙ ap (λ list. s.front ++ list) (nothing_left next s.rest s.rest_holds) ∙ append-nil s.front in
-            subst (λ list. IsNotBehind ps list) (sym same) (not_behind ps s.front s.front_first);
+            let s = r.least [] qs (subst (λ prefix. HoldInTurn fits 0 prefix qs) (sym (append-nil (take k cs) ∙ all)) h) in
+            let same : qs ≡ s.prefix = s.whole ∙ ap (λ list. s.prefix ++ list) (nothing_left next s.rest s.rest_holds) ∙ append-nil s.prefix in
+            subst (λ list. IsNotAfter ps list) (sym same) (not_after ps s.prefix s.prefix_first);
       }

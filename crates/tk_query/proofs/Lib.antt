@@ -4,4 +4,4 @@ pub mod InTurn
 pub mod MatchLemmas
 pub mod Paired
 pub mod MaskLemmas
-pub mod OneAnswer
+pub mod AnswerIsUnique

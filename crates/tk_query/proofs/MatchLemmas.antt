@@ -6,7 +6,7 @@ use Rattle.std.proofs.lemmas.Bool.{cases_lt}
 use Rattle.std.proofs.lemmas.Option.{same_Some, none-some}
 use Rattle.tk_events.specs.declared.events.Entry.{Entry}
 use Rattle.tk_columns.specs.Recorded.{Recorded}
-use Rattle.tk_columns.specs.Selections.{Placed, Selected, positions_of, events_of}
+use Rattle.tk_columns.specs.Selections.{PositionedEntry, Selected, positions_of, events_of}
 use Rattle.tk_conditions.specs.declared.conditions.Condition.{Condition}
 use Rattle.tk_query.specs.Holds.{holds}
 use Rattle.tk_query.specs.Asked.{fits}
@@ -43,11 +43,11 @@ tested : (asked : Selected) (flags : List Bool) → AreFlags asked flags → (r 
     → MatchOption (slice_get r.entries position) (b ≡ false) (λ e. b ≡ holds r c e) → IsTested asked.recorded (events_of asked) k c b
 tested asked flags are r same k position c b at given =
     let h = subst (λ (s : Recorded). MatchOption (slice_get s.entries position) (b ≡ false) (λ e. b ≡ holds s c e)) same given in
-    let x = get_map (λ (x : Placed). x.position) asked.kept k position at in
+    let x = get_map (λ (x : PositionedEntry). x.position) asked.kept k position at in
     let stands : slice_get asked.recorded.entries position ≡ Some x.0.entry = ap (slice_get asked.recorded.entries) (sym x.2) ∙ kept_at asked flags are k x.0 x.1 in
     record {
       event = x.0.entry;
-      event_is = map_some (λ (x : Placed). x.entry) asked.kept k x.0 x.1;
+      event_is = map_some (λ (x : PositionedEntry). x.entry) asked.kept k x.0 x.1;
       tests = subst (λ o. MatchOption o (b ≡ false) (λ e. b ≡ holds asked.recorded c e)) stands h;
     }
 

@@ -9,12 +9,12 @@ use Rattle.tk_query.specs.Pairing.{opened, opened_by, ended, ended_by}
 use Rattle.tk_query.specs.Executions.{IsSpan, IsSkip, IsExecution, AreExecutions}
 use Rattle.tk_query.specs.declared.execution_lists.Ending.{Ending}
 use Rattle.tk_query.specs.declared.execution_lists.Ending.TheVariants.{Skipped}
-use Rattle.tk_query.specs.declared.acts.Mark.{Mark}
-use Rattle.tk_query.specs.declared.acts.Mark.TheVariants.{Starts, Skips, Ends}
-use Rattle.tk_query.specs.declared.acts.Act.{Act}
+use Rattle.tk_query.specs.declared.execution_steps.Transition.{Transition}
+use Rattle.tk_query.specs.declared.execution_steps.Transition.TheVariants.{Starts, Skips, Ends}
+use Rattle.tk_query.specs.declared.execution_steps.ExecutionStep.{ExecutionStep}
 use Rattle.tk_query.specs.declared.execution_lists.Execution.{Execution}
 
-abbrev pub open_step : Option Act → ℕ → ℕ → Option (ℕ × ℕ) → Option (ℕ × ℕ)
+abbrev pub open_step : Option ExecutionStep → ℕ → ℕ → Option (ℕ × ℕ) → Option (ℕ × ℕ)
 open_step None n key started = started
 open_step (Some a) n key started = cond (nat_eq a.key key) (opened_by a n) started
 
@@ -22,7 +22,7 @@ abbrev pub to_list : Option Execution → List Execution
 to_list None = []
 to_list (Some x) = x ∷ []
 
-abbrev pub end_step : Option Act → ℕ → (ℕ → Option (ℕ × ℕ)) → List Execution
+abbrev pub end_step : Option ExecutionStep → ℕ → (ℕ → Option (ℕ × ℕ)) → List Execution
 end_step None n started = []
 end_step (Some a) n started = to_list (ended_by a n (started a.key))
 
@@ -43,47 +43,47 @@ same_execution x first last start ending e f g h =
     ∙ ap (λ (n : ℕ). let y : Execution = record { key = x.key; first = x.first; last = x.last; start = n; stop = x.stop; ending = ending } in y) g
     ∙ ap (λ (n : Ending). let y : Execution = record { key = x.key; first = x.first; last = x.last; start = x.start; stop = x.stop; ending = n } in y) h
 
-same_act : (a : Act) (key stamp : ℕ) (mark : Mark) → a.key ≡ key → a.stamp ≡ stamp → a.mark ≡ mark → a ≡ record { key = key; stamp = stamp; mark = mark }
-same_act a key stamp mark e f g =
-    ap (λ (n : ℕ). let b : Act = record { key = n; stamp = a.stamp; mark = a.mark } in b) e
-    ∙ ap (λ (n : ℕ). let b : Act = record { key = key; stamp = n; mark = a.mark } in b) f
-    ∙ ap (λ (m : Mark). let b : Act = record { key = key; stamp = stamp; mark = m } in b) g
+same_step : (a : ExecutionStep) (key stamp : ℕ) (transition : Transition) → a.key ≡ key → a.stamp ≡ stamp → a.transition ≡ transition → a ≡ record { key = key; stamp = stamp; transition = transition }
+same_step a key stamp transition e f g =
+    ap (λ (n : ℕ). let b : ExecutionStep = record { key = n; stamp = a.stamp; transition = a.transition } in b) e
+    ∙ ap (λ (n : ℕ). let b : ExecutionStep = record { key = key; stamp = n; transition = a.transition } in b) f
+    ∙ ap (λ (m : Transition). let b : ExecutionStep = record { key = key; stamp = stamp; transition = m } in b) g
 
-module _ (acts : ℕ → Option Act) where
+module _ (steps : ℕ → Option ExecutionStep) where
   abbrev pub open_before : ℕ → ℕ → Option (ℕ × ℕ)
   open_before zero key = None
-  open_before (suc n) key = open_step (acts n) n key (open_before n key)
+  open_before (suc n) key = open_step (steps n) n key (open_before n key)
 
   abbrev pub ended_before : ℕ → List Execution
   ended_before zero = []
-  ended_before (suc n) = ended_before n ++ end_step (acts n) n (open_before n)
+  ended_before (suc n) = ended_before n ++ end_step (steps n) n (open_before n)
 
   record IsOpen (n key i s : ℕ) : Type 0 where
     below : i < n
-    starts : acts i ≡ Some (record { key = key; stamp = s; mark = Starts })
-    between : (m : ℕ) (a : Act) → i < m → m < n → acts m ≡ Some a → a.key ≢ key
+    starts : steps i ≡ Some (record { key = key; stamp = s; transition = Starts })
+    between : (m : ℕ) (a : ExecutionStep) → i < m → m < n → steps m ≡ Some a → a.key ≢ key
 
   -- nothing of the key at n
-  stays_open : (n key i s : ℕ) → IsOpen n key i s → ((a : Act) → acts n ≡ Some a → a.key ≢ key) → IsOpen (suc n) key i s
+  stays_open : (n key i s : ℕ) → IsOpen n key i s → ((a : ExecutionStep) → steps n ≡ Some a → a.key ≢ key) → IsOpen (suc n) key i s
   stays_open n key i s h none =
       record {
         below = let b = h.below in omega arith;
         starts = h.starts;
         between = λ m a lt le e. ⊎_elim {C = a.key ≢ key}
             (λ (below : m < n). h.between m a lt below e)
-            (λ (above : n ≤ m). let same : m ≡ n = omega arith in none a (ap acts (sym same) ∙ e))
+            (λ (above : n ≤ m). let same : m ≡ n = omega arith in none a (ap steps (sym same) ∙ e))
             (cases_lt m n);
       }
 
-  opens_here : (n key i s : ℕ) (a : Act) (mark : Mark) → acts n ≡ Some a → a.mark ≡ mark → a.key ≡ key → opened mark n a.stamp ≡ Some (i, s) → IsOpen (suc n) key i s
+  opens_here : (n key i s : ℕ) (a : ExecutionStep) (transition : Transition) → steps n ≡ Some a → a.transition ≡ transition → a.key ≡ key → opened transition n a.stamp ≡ Some (i, s) → IsOpen (suc n) key i s
   opens_here n key i s a Starts e f g h =
       let p = same_Some (n, a.stamp) (i, s) h in
       let at : n ≡ i = ap (λ q. q.0) p in
       let stamp : a.stamp ≡ s = ap (λ q. q.1) p in
-      let here : a ≡ record { key = key; stamp = s; mark = Starts } = same_act a key s Starts g stamp f in
+      let here : a ≡ record { key = key; stamp = s; transition = Starts } = same_step a key s Starts g stamp f in
       record {
         below = omega arith;
-        starts = ap acts (sym at) ∙ e ∙ ap (λ b. Some b) here;
+        starts = ap steps (sym at) ∙ e ∙ ap (λ b. Some b) here;
         between = λ m b lt le e. absurd (omega arith);
       }
   opens_here n key i s a Skips e f g h = absurd (none-some (i, s) h)
@@ -92,12 +92,12 @@ module _ (acts : ℕ → Option Act) where
   open_is : (n key i s : ℕ) → open_before n key ≡ Some (i, s) → IsOpen n key i s
   open_is zero key i s h = absurd (none-some (i, s) h)
   open_is (suc n) key i s h =
-      elim (acts n) as (λ o. acts n ≡ o → open_step o n key (open_before n key) ≡ Some (i, s) → IsOpen (suc n) key i s) [
+      elim (steps n) as (λ o. steps n ≡ o → open_step o n key (open_before n key) ≡ Some (i, s) → IsOpen (suc n) key i s) [
         | None ↦ λ e g. stays_open n key i s (open_is n key i s g) (λ a f. absurd (none-some a (sym e ∙ f)))
         | Some a ↦ λ e g.
             (elim (nat_eq a.key key) as (λ b. nat_eq a.key key ≡ b → cond b (opened_by a n) (open_before n key) ≡ Some (i, s) → IsOpen (suc n) key i s) [
-              | true ↦ λ same f. opens_here n key i s a a.mark e refl (eqb-true a.key key same) f
-              | false ↦ λ other f. stays_open n key i s (open_is n key i s f) (λ b f'. subst (λ (c : Act). c.key ≢ key) (same_Some a b (sym e ∙ f')) (eqb-false a.key key other))
+              | true ↦ λ same f. opens_here n key i s a a.transition e refl (eqb-true a.key key same) f
+              | false ↦ λ other f. stays_open n key i s (open_is n key i s f) (λ b f'. subst (λ (c : ExecutionStep). c.key ≢ key) (same_Some a b (sym e ∙ f')) (eqb-false a.key key other))
             ])
             refl g
       ]
@@ -105,10 +105,10 @@ module _ (acts : ℕ → Option Act) where
 
   is_open : (n key i s : ℕ) → IsOpen n key i s → open_before n key ≡ Some (i, s)
   is_open zero key i s h = let b = h.below in absurd (omega arith)
-  is_open (suc n) key i s h = ⊎_elim {C = open_step (acts n) n key (open_before n key) ≡ Some (i, s)}
+  is_open (suc n) key i s h = ⊎_elim {C = open_step (steps n) n key (open_before n key) ≡ Some (i, s)}
       (λ (below : i < n).
       let before = is_open n key i s (record { below = below; starts = h.starts; between = λ m a lt le e. h.between m a lt (omega arith) e }) in
-      elim (acts n) as (λ o. acts n ≡ o → open_step o n key (open_before n key) ≡ Some (i, s)) [
+      elim (steps n) as (λ o. steps n ≡ o → open_step o n key (open_before n key) ≡ Some (i, s)) [
         | None ↦ λ e. before
         | Some a ↦ λ e. ap (λ b. cond b (opened_by a n) (open_before n key)) (ne_eqb a.key key (h.between n a below (omega arith) e)) ∙ before
       ]
@@ -116,62 +116,62 @@ module _ (acts : ℕ → Option Act) where
       (λ (above : n ≤ i).
       let b = h.below in
       let at : i ≡ n = omega arith in
-      ap (λ o. open_step o n key (open_before n key)) (ap acts (sym at) ∙ h.starts)
+      ap (λ o. open_step o n key (open_before n key)) (ap steps (sym at) ∙ h.starts)
       ∙ ap (λ b. cond b (Some (n, s)) (open_before n key)) (eq-eqb key key refl)
       ∙ ap (λ m. Some (m, s)) (sym at))
       (cases_lt i n)
 
   EndsHere : Execution → ℕ → Type 0
-  EndsHere x n = IsExecution acts x × (x.last ≡ n)
+  EndsHere x n = IsExecution steps x × (x.last ≡ n)
 
-  mark_sound : (n : ℕ) (a : Act) (mark : Mark) → acts n ≡ Some a → a.mark ≡ mark → (x : Execution) → Contains (to_list (ended a n mark (open_before n a.key))) x → IsExecution acts x × (x.last ≡ n)
-  mark_sound n a Starts e f x h = absurd (contains_none x h)
-  mark_sound n a Skips e f x h =
+  transition_sound : (n : ℕ) (a : ExecutionStep) (transition : Transition) → steps n ≡ Some a → a.transition ≡ transition → (x : Execution) → Contains (to_list (ended a n transition (open_before n a.key))) x → IsExecution steps x × (x.last ≡ n)
+  transition_sound n a Starts e f x h = absurd (contains_none x h)
+  transition_sound n a Skips e f x h =
       let y : Execution = record { key = a.key; first = n; last = n; start = a.stamp; stop = a.stamp; ending = Skipped } in
-      let here : IsSkip acts y = record { one = refl; stamps = refl; skips = e ∙ ap (λ b. Some b) (same_act a a.key a.stamp Skips refl refl f); ending = refl } in
-      subst (λ z. IsExecution acts z × (z.last ≡ n)) (contains_one y x h) (inl here, refl)
-  mark_sound n a (Ends ending) e f x h =
-      elim (open_before n a.key) as (λ o. open_before n a.key ≡ o → Contains (to_list (ended a n (Ends ending) o)) x → IsExecution acts x × (x.last ≡ n)) [
+      let here : IsSkip steps y = record { one = refl; stamps = refl; skips = e ∙ ap (λ b. Some b) (same_step a a.key a.stamp Skips refl refl f); ending = refl } in
+      subst (λ z. IsExecution steps z × (z.last ≡ n)) (contains_one y x h) (inl here, refl)
+  transition_sound n a (Ends ending) e f x h =
+      elim (open_before n a.key) as (λ o. open_before n a.key ≡ o → Contains (to_list (ended a n (Ends ending) o)) x → IsExecution steps x × (x.last ≡ n)) [
         | None ↦ λ g there. absurd (contains_none x there)
         | Some started ↦ λ g there.
             let y : Execution = record { key = a.key; first = started.0; last = n; start = started.1; stop = a.stamp; ending = ending } in
             let was = open_is n a.key started.0 started.1 g in
-            let here : IsSpan acts y = record { before = was.below; starts = was.starts; ends = e ∙ ap (λ b. Some b) (same_act a a.key a.stamp (Ends ending) refl refl f); between = was.between } in
-            subst (λ z. IsExecution acts z × (z.last ≡ n)) (contains_one y x there) (inr here, refl)
+            let here : IsSpan steps y = record { before = was.below; starts = was.starts; ends = e ∙ ap (λ b. Some b) (same_step a a.key a.stamp (Ends ending) refl refl f); between = was.between } in
+            subst (λ z. IsExecution steps z × (z.last ≡ n)) (contains_one y x there) (inr here, refl)
       ]
       refl h
 
-  end_sound : (n : ℕ) (x : Execution) → Contains (end_step (acts n) n (open_before n)) x → IsExecution acts x × (x.last ≡ n)
+  end_sound : (n : ℕ) (x : Execution) → Contains (end_step (steps n) n (open_before n)) x → IsExecution steps x × (x.last ≡ n)
   end_sound n x h =
-      elim (acts n) as (λ o. acts n ≡ o → Contains (end_step o n (open_before n)) x → IsExecution acts x × (x.last ≡ n))
-      [ None ↦ λ e there. absurd (contains_none x there) | Some a ↦ λ e there. mark_sound n a a.mark e refl x there ]
+      elim (steps n) as (λ o. steps n ≡ o → Contains (end_step o n (open_before n)) x → IsExecution steps x × (x.last ≡ n))
+      [ None ↦ λ e there. absurd (contains_none x there) | Some a ↦ λ e there. transition_sound n a a.transition e refl x there ]
       refl h
 
-  end_complete : (n : ℕ) (x : Execution) → IsExecution acts x → x.last ≡ n → Contains (end_step (acts n) n (open_before n)) x
-  end_complete n x h at = ⊎_elim {C = Contains (end_step (acts n) n (open_before n)) x}
-      (λ (skip : IsSkip acts x).
-      subst (λ o. Contains (end_step o n (open_before n)) x) (sym (ap acts (sym at) ∙ skip.skips))
+  end_complete : (n : ℕ) (x : Execution) → IsExecution steps x → x.last ≡ n → Contains (end_step (steps n) n (open_before n)) x
+  end_complete n x h at = ⊎_elim {C = Contains (end_step (steps n) n (open_before n)) x}
+      (λ (skip : IsSkip steps x).
+      subst (λ o. Contains (end_step o n (open_before n)) x) (sym (ap steps (sym at) ∙ skip.skips))
       (contains_it _ x (same_execution x n n x.stop Skipped (sym at ∙ sym skip.one) (sym at) (sym skip.stamps) (sym skip.ending))))
-      (λ (span : IsSpan acts x).
+      (λ (span : IsSpan steps x).
       let b = span.before in
       let was = is_open n x.key x.first x.start (record { below = omega arith; starts = span.starts; between = λ m a lt le e. span.between m a lt (omega arith) e }) in
-      subst (λ o. Contains (end_step o n (open_before n)) x) (sym (ap acts (sym at) ∙ span.ends))
-      (subst (λ o. Contains (to_list (ended (record { key = x.key; stamp = x.stop; mark = Ends x.ending }) n (Ends x.ending) o)) x) (sym was)
+      subst (λ o. Contains (end_step o n (open_before n)) x) (sym (ap steps (sym at) ∙ span.ends))
+      (subst (λ o. Contains (to_list (ended (record { key = x.key; stamp = x.stop; transition = Ends x.ending }) n (Ends x.ending) o)) x) (sym was)
       (contains_it _ x (same_execution x x.first n x.start x.ending refl (sym at) refl refl))))
       h
 
-  below_sound : (n : ℕ) (x : Execution) → Contains (ended_before n) x → IsExecution acts x × (x.last < n)
+  below_sound : (n : ℕ) (x : Execution) → Contains (ended_before n) x → IsExecution steps x × (x.last < n)
   below_sound zero x h = absurd (contains_none x h)
-  below_sound (suc n) x h = ⊎_elim {C = IsExecution acts x × (x.last < suc n)}
+  below_sound (suc n) x h = ⊎_elim {C = IsExecution steps x × (x.last < suc n)}
       (λ (old : Contains (ended_before n) x). let r = below_sound n x old in let lt = r.1 in (r.0, omega arith))
-      (λ (new : Contains (end_step (acts n) n (open_before n)) x). let r = end_sound n x new in let at = r.1 in (r.0, omega arith))
-      (Contains-append_cases (ended_before n) (end_step (acts n) n (open_before n)) x h)
+      (λ (new : Contains (end_step (steps n) n (open_before n)) x). let r = end_sound n x new in let at = r.1 in (r.0, omega arith))
+      (Contains-append_cases (ended_before n) (end_step (steps n) n (open_before n)) x h)
 
-  below_complete : (n : ℕ) (x : Execution) → IsExecution acts x → x.last < n → Contains (ended_before n) x
+  below_complete : (n : ℕ) (x : Execution) → IsExecution steps x → x.last < n → Contains (ended_before n) x
   below_complete zero x h lt = absurd (omega arith)
-  below_complete (suc n) x h lt = ⊎_elim {C = Contains (ended_before n ++ end_step (acts n) n (open_before n)) x}
-      (λ (below : x.last < n). Contains-append_left (ended_before n) (end_step (acts n) n (open_before n)) x (below_complete n x h below))
-      (λ (above : n ≤ x.last). Contains-append_right (ended_before n) (end_step (acts n) n (open_before n)) x (end_complete n x h (omega arith)))
+  below_complete (suc n) x h lt = ⊎_elim {C = Contains (ended_before n ++ end_step (steps n) n (open_before n)) x}
+      (λ (below : x.last < n). Contains-append_left (ended_before n) (end_step (steps n) n (open_before n)) x (below_complete n x h below))
+      (λ (above : n ≤ x.last). Contains-append_right (ended_before n) (end_step (steps n) n (open_before n)) x (end_complete n x h (omega arith)))
       (cases_lt x.last n)
 
   abbrev InOrder : List Execution → Type 0
@@ -197,34 +197,34 @@ module _ (acts : ℕ → Option Act) where
   to_list_order xs None order below = subst InOrder (sym (append-nil xs)) order
   to_list_order xs (Some y) order below = order_more xs y order (λ x has. below x has y (contains_it y y refl))
 
-  end_step_is : (o : Option Act) (n : ℕ) (f : ℕ → Option (ℕ × ℕ)) → (e : Option Execution) × (end_step o n f ≡ to_list e)
+  end_step_is : (o : Option ExecutionStep) (n : ℕ) (f : ℕ → Option (ℕ × ℕ)) → (e : Option Execution) × (end_step o n f ≡ to_list e)
   end_step_is None n f = (None, refl)
   end_step_is (Some a) n f = (ended_by a n (f a.key), refl)
 
   in_order : (n : ℕ) → InOrder (ended_before n)
   in_order zero = order_none
   in_order (suc n) =
-      let step = end_step_is (acts n) n (open_before n) in
+      let step = end_step_is (steps n) n (open_before n) in
       subst (λ new. InOrder (ended_before n ++ new)) (sym step.1)
       (to_list_order (ended_before n) step.0 (in_order n) (λ x old y new.
       let earlier = (below_sound n x old).1 in
       let at = (end_sound n y (subst (λ list. Contains list y) (sym step.1) new)).1 in
       omega arith))
 
-  -- behind the last act, all executions are there
-  pub all_ended : (n : ℕ) → ((m : ℕ) → n ≤ m → acts m ≡ None) → AreExecutions acts (ended_before n)
+  -- after the last act, all executions are there
+  pub all_ended : (n : ℕ) → ((m : ℕ) → n ≤ m → steps m ≡ None) → AreExecutions steps (ended_before n)
   all_ended n none =
       record {
         each = λ x. (λ has. (below_sound n x has).0, λ is. below_complete n x is (last_below n none x is));
         order = in_order n;
       }
     where
-      last_below : (n : ℕ) → ((m : ℕ) → n ≤ m → acts m ≡ None) → (x : Execution) → IsExecution acts x → x.last < n
+      last_below : (n : ℕ) → ((m : ℕ) → n ≤ m → steps m ≡ None) → (x : Execution) → IsExecution steps x → x.last < n
       last_below n none x h = ⊎_elim {C = x.last < n}
           (λ (lt : x.last < n). lt)
           (λ (past : n ≤ x.last). ⊎_elim {C = x.last < n}
-          (λ (skip : IsSkip acts x). absurd (none-some _ (sym (none x.last past) ∙ skip.skips)))
-          (λ (span : IsSpan acts x). absurd (none-some _ (sym (none x.last past) ∙ span.ends)))
+          (λ (skip : IsSkip steps x). absurd (none-some _ (sym (none x.last past) ∙ skip.skips)))
+          (λ (span : IsSpan steps x). absurd (none-some _ (sym (none x.last past) ∙ span.ends)))
           h)
           (cases_lt x.last n)
 
@@ -237,7 +237,7 @@ module _ (acts : ℕ → Option Act) where
   paired_none starts h = record { open_starts = h; ended_so_far = refl }
 
   -- nothing happens at n
-  pub paired_past : (n : ℕ) (starts : ℕ → Option (ℕ × ℕ)) (xs : List Execution) → IsPaired n starts xs → acts n ≡ None → IsPaired (n + 1) starts xs
+  pub paired_past : (n : ℕ) (starts : ℕ → Option (ℕ × ℕ)) (xs : List Execution) → IsPaired n starts xs → steps n ≡ None → IsPaired (n + 1) starts xs
   paired_past n starts xs h e =
       let next : n + 1 ≡ suc n = omega arith in
       subst (λ k. IsPaired k starts xs) (sym next)
@@ -246,8 +246,8 @@ module _ (acts : ℕ → Option Act) where
         ended_so_far = h.ended_so_far ∙ sym (append-nil (ended_before n)) ∙ ap (λ o. ended_before n ++ end_step o n (open_before n)) (sym e);
       })
 
-  pub paired_act : (n : ℕ) (starts more : ℕ → Option (ℕ × ℕ)) (xs : List Execution) (a : Act) → IsPaired n starts xs → acts n ≡ Some a → ((key : ℕ) → more key ≡ cond (nat_eq a.key key) (opened_by a n) (starts key)) → IsPaired (n + 1) more (xs ++ to_list (ended_by a n (starts a.key)))
-  paired_act n starts more xs a h e step =
+  pub paired_step : (n : ℕ) (starts more : ℕ → Option (ℕ × ℕ)) (xs : List Execution) (a : ExecutionStep) → IsPaired n starts xs → steps n ≡ Some a → ((key : ℕ) → more key ≡ cond (nat_eq a.key key) (opened_by a n) (starts key)) → IsPaired (n + 1) more (xs ++ to_list (ended_by a n (starts a.key)))
+  paired_step n starts more xs a h e step =
       let next : n + 1 ≡ suc n = omega arith in
       subst (λ k. IsPaired k more (xs ++ to_list (ended_by a n (starts a.key)))) (sym next)
       (record {
@@ -256,14 +256,14 @@ module _ (acts : ℕ → Option Act) where
       })
 
   -- nothing happens from n on, up to m
-  pub paired_skip : (n k : ℕ) (starts : ℕ → Option (ℕ × ℕ)) (xs : List Execution) → IsPaired n starts xs → ((i : ℕ) → n ≤ i → i < n + k → acts i ≡ None) → IsPaired (n + k) starts xs
+  pub paired_skip : (n k : ℕ) (starts : ℕ → Option (ℕ × ℕ)) (xs : List Execution) → IsPaired n starts xs → ((i : ℕ) → n ≤ i → i < n + k → steps i ≡ None) → IsPaired (n + k) starts xs
   paired_skip n zero starts xs h none = let same : n ≡ n + zero = omega arith in subst (λ m. IsPaired m starts xs) same h
   paired_skip n (suc k) starts xs h none =
       let same : (n + k) + 1 ≡ n + suc k = omega arith in
       subst (λ m. IsPaired m starts xs) same
       (paired_past (n + k) starts xs (paired_skip n k starts xs h (λ i le lt. none i le (omega arith))) (none (n + k) (omega arith) (omega arith)))
 
-  pub paired_up_to : (n m : ℕ) (starts : ℕ → Option (ℕ × ℕ)) (xs : List Execution) → n ≤ m → IsPaired n starts xs → ((i : ℕ) → n ≤ i → i < m → acts i ≡ None) → IsPaired m starts xs
+  pub paired_up_to : (n m : ℕ) (starts : ℕ → Option (ℕ × ℕ)) (xs : List Execution) → n ≤ m → IsPaired n starts xs → ((i : ℕ) → n ≤ i → i < m → steps i ≡ None) → IsPaired m starts xs
   paired_up_to n m starts xs le h none =
       let same : n + (m - n) ≡ m = omega arith in
       subst (λ k. IsPaired k starts xs) same (paired_skip n (m - n) starts xs h (λ i low high. none i low (omega arith)))

@@ -2,12 +2,12 @@
 use Rattle.std.specs.Prelude.{ℕ, Bool, false, ◌==◌, if◌then◌else◌, List, [], ◌∷◌, Option, Some, None}
 use Rattle.tk_events.specs.declared.events.Entry.{Entry}
 use Rattle.tk_columns.specs.declared.records.EntryView.{EntryView}
-use Rattle.tk_columns.specs.Selections.{Placed, Selected}
+use Rattle.tk_columns.specs.Selections.{PositionedEntry, Selected}
 use Rattle.tk_conditions.specs.declared.conditions.Condition.{Condition}
 use Rattle.tk_query.specs.Holds.{holds}
 
 -- the event that stands at this position
-abbrev pub event_at : List Placed → ℕ → Option Entry
+abbrev pub event_at : List PositionedEntry → ℕ → Option Entry
 event_at [] position = None
 event_at (x ∷ kept) position = if x.position == position then Some x.entry else event_at kept position
 

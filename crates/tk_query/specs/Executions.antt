@@ -4,29 +4,29 @@ use Rattle.std.specs.List.{Contains, AllPairs}
 use Rattle.tk_query.specs.declared.execution_lists.Ending.{Ending}
 use Rattle.tk_query.specs.declared.execution_lists.Ending.TheVariants.{Skipped, Aborted, Successful, Failed}
 use Rattle.tk_query.specs.declared.execution_lists.Execution.{Execution}
-use Rattle.tk_query.specs.declared.acts.Mark.TheVariants.{Starts, Skips, Ends}
-use Rattle.tk_query.specs.declared.acts.Act.{Act}
+use Rattle.tk_query.specs.declared.execution_steps.Transition.TheVariants.{Starts, Skips, Ends}
+use Rattle.tk_query.specs.declared.execution_steps.ExecutionStep.{ExecutionStep}
 
 -- The key starts at the first position and finishes at the last one, and does nothing between.
-pub record IsSpan (acts : ℕ → Option Act) (x : Execution) : Type 0 where
+pub record IsSpan (steps : ℕ → Option ExecutionStep) (x : Execution) : Type 0 where
   pub before : x.first < x.last
-  pub starts : acts x.first ≡ Some (record { key = x.key; stamp = x.start; mark = Starts })
-  pub ends : acts x.last ≡ Some (record { key = x.key; stamp = x.stop; mark = Ends x.ending })
-  pub between : (m : ℕ) (a : Act) → x.first < m → m < x.last → acts m ≡ Some a → a.key ≢ x.key
+  pub starts : steps x.first ≡ Some (record { key = x.key; stamp = x.start; transition = Starts })
+  pub ends : steps x.last ≡ Some (record { key = x.key; stamp = x.stop; transition = Ends x.ending })
+  pub between : (m : ℕ) (a : ExecutionStep) → x.first < m → m < x.last → steps m ≡ Some a → a.key ≢ x.key
 
 -- the key is skipped there
-pub record IsSkip (acts : ℕ → Option Act) (x : Execution) : Type 0 where
+pub record IsSkip (steps : ℕ → Option ExecutionStep) (x : Execution) : Type 0 where
   pub one : x.first ≡ x.last
   pub stamps : x.start ≡ x.stop
-  pub skips : acts x.last ≡ Some (record { key = x.key; stamp = x.stop; mark = Skips })
+  pub skips : steps x.last ≡ Some (record { key = x.key; stamp = x.stop; transition = Skips })
   pub ending : x.ending ≡ Skipped
 
-abbrev pub IsExecution : (ℕ → Option Act) → Execution → Type 0
-IsExecution acts x = IsSkip acts x ⊎ IsSpan acts x
+abbrev pub IsExecution : (ℕ → Option ExecutionStep) → Execution → Type 0
+IsExecution steps x = IsSkip steps x ⊎ IsSpan steps x
 
 -- all of them, in the order of their ends
-pub record AreExecutions (acts : ℕ → Option Act) (xs : List Execution) : Type 0 where
-  pub each : (x : Execution) → Contains xs x ↔ IsExecution acts x
+pub record AreExecutions (steps : ℕ → Option ExecutionStep) (xs : List Execution) : Type 0 where
+  pub each : (x : Execution) → Contains xs x ↔ IsExecution steps x
   pub order : AllPairs (λ x y. x.last < y.last) xs
 
 abbrev pub ending_code : Ending → ℕ

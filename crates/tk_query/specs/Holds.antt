@@ -12,15 +12,15 @@ use Rattle.tk_columns.specs.DTypes.{is_test, is_container}
 use Rattle.tk_columns.specs.Entries.{of_kind, of_status, desc}
 use Rattle.tk_columns.specs.Recorded.{Recorded}
 use Rattle.tk_columns.specs.Selections.{has_type}
-use Rattle.tk_conditions.specs.Cond.{Bare, Test, Container, Engine, Started, Succeeded, Failed, Aborted, Texted, Id, Name, Skipped, FailedWith, AbortedWith, Pairs, NoPairs, MorePairs, Cond, Plain, With, OfKind, HasPairs, All, Any, Not, Conds, Nothing, More}
+use Rattle.tk_conditions.specs.Cond.{Bare, Test, Container, Engine, Started, Succeeded, Failed, Aborted, TextAtom, Id, Name, Skipped, FailedWith, AbortedWith, Pairs, NoPairs, MorePairs, Cond, Plain, With, OfKind, HasPairs, All, Any, Not, Conds, Nothing, More}
 use Rattle.tk_conditions.specs.CondOf.{cond_of}
 use Rattle.tk_conditions.specs.declared.conditions.Condition.{Condition}
 
 -- the text begins with this one
 abbrev pub begins : List ℕ → List ℕ → Bool
 begins [] text = true
-begins (b ∷ front) [] = false
-begins (b ∷ front) (c ∷ text) = b == c && begins front text
+begins (b ∷ prefix) [] = false
+begins (b ∷ prefix) (c ∷ text) = b == c && begins prefix text
 
 -- the text contains this one
 abbrev pub has_within : List ℕ → List ℕ → Bool
@@ -72,17 +72,17 @@ bare_holds r Succeeded e = of_status status.Successful e
 bare_holds r Failed e = of_status status.Failed e
 bare_holds r Aborted e = of_status status.Aborted e
 
-abbrev pub texted_holds : Recorded → Texted → List ℕ → Entry → Bool
-texted_holds r Id text e = has_descriptor (λ d. has_within text (id_text d.id)) (desc r e.event.key)
-texted_holds r Name text e = has_descriptor (λ d. bytes_eq d.name text) (desc r e.event.key)
-texted_holds r Skipped text e = of_kind kind.Skipped e && has_reason text e.event.payload
-texted_holds r FailedWith text e = of_status status.Failed e && has_message text e.event.payload
-texted_holds r AbortedWith text e = of_status status.Aborted e && has_message text e.event.payload
+abbrev pub text_atom_holds : Recorded → TextAtom → List ℕ → Entry → Bool
+text_atom_holds r Id text e = has_descriptor (λ d. has_within text (id_text d.id)) (desc r e.event.key)
+text_atom_holds r Name text e = has_descriptor (λ d. bytes_eq d.name text) (desc r e.event.key)
+text_atom_holds r Skipped text e = of_kind kind.Skipped e && has_reason text e.event.payload
+text_atom_holds r FailedWith text e = of_status status.Failed e && has_message text e.event.payload
+text_atom_holds r AbortedWith text e = of_status status.Aborted e && has_message text e.event.payload
 
 abbrev mutual
   pub cond_holds : Recorded → Cond → Entry → Bool
   cond_holds r (Plain bare) e = bare_holds r bare e
-  cond_holds r (With texted text) e = texted_holds r texted text e
+  cond_holds r (With text_atom text) e = text_atom_holds r text_atom text e
   cond_holds r (OfKind kind) e = of_kind kind e
   cond_holds r (HasPairs pairs) e = of_kind kind.Reporting e && reports (pairs_list pairs) e.event.payload
   cond_holds r (All cs) e = all_hold r cs e

@@ -11,15 +11,15 @@ module _ {C : Type 0} (fits : C → ℕ → Bool) where
   abbrev pub CanHoldInTurn : List C → Type 0
   CanHoldInTurn cs = (ps : List ℕ) × HoldInTurn 0 cs ps
 
--- not behind, in lexicographic order
-abbrev pub IsNotBehind : List ℕ → List ℕ → Type 0
-IsNotBehind [] qs = Unit {0}
-IsNotBehind (p ∷ ps) [] = ⊥
-IsNotBehind (p ∷ ps) (q ∷ qs) = (p < q) ⊎ ((p ≡ q) × IsNotBehind ps qs)
+-- not after, in lexicographic order
+abbrev pub IsNotAfter : List ℕ → List ℕ → Type 0
+IsNotAfter [] qs = Unit {0}
+IsNotAfter (p ∷ ps) [] = ⊥
+IsNotAfter (p ∷ ps) (q ∷ qs) = (p < q) ⊎ ((p ≡ q) × IsNotAfter ps qs)
 
 pub record IsLeastInTurn {C : Type 0} (fits : C → ℕ → Bool) (cs : List C) (ps : List ℕ) : Type 0 where
   pub holds : HoldInTurn fits 0 cs ps
-  pub least : (qs : List ℕ) → HoldInTurn fits 0 cs qs → IsNotBehind ps qs
+  pub least : (qs : List ℕ) → HoldInTurn fits 0 cs qs → IsNotAfter ps qs
 
 -- k is the least number such that the conditions 0 to k hold in turn nowhere
 pub record IsFirstStuck {C : Type 0} (fits : C → ℕ → Bool) (cs : List C) (k : ℕ) : Type 0 where

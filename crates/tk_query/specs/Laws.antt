@@ -7,15 +7,15 @@ use Rattle.tk_query.specs.declared.answers.Loose.{Loose}
 use Rattle.tk_query.specs.declared.answers.InOrder.{InOrder}
 use Rattle.tk_query.specs.declared.answers.InOrder.TheVariants.{Yes, No}
 use Rattle.tk_query.specs.declared.execution_lists.Execution.{Execution}
-use Rattle.tk_query.specs.Acts.{act_at}
+use Rattle.tk_query.specs.ExecutionSteps.{step_at}
 use Rattle.tk_query.specs.Executions.{AreExecutions}
 use Rattle.tk_query.specs.Matches.{IsExact, IsLoose, IsInOrder}
 
-abbrev pub OneExact : Type 0
-OneExact = (asked : Selected) (cs : List Condition) (a b : Exact) → IsExact asked cs a → IsExact asked cs b → a ≡ b
+abbrev pub ExactIsUnique : Type 0
+ExactIsUnique = (asked : Selected) (cs : List Condition) (a b : Exact) → IsExact asked cs a → IsExact asked cs b → a ≡ b
 
-abbrev pub OneLoose : Type 0
-OneLoose = (asked : Selected) (cs : List Condition) (a b : Loose) → IsLoose asked cs a → IsLoose asked cs b → a ≡ b
+abbrev pub LooseIsUnique : Type 0
+LooseIsUnique = (asked : Selected) (cs : List Condition) (a b : Loose) → IsLoose asked cs a → IsLoose asked cs b → a ≡ b
 
 -- the same answer: the same positions, or the same number
 abbrev pub AreAlike : InOrder → InOrder → Type 0
@@ -23,8 +23,8 @@ AreAlike (Yes p) (Yes q) = p.items ≡ q.items
 AreAlike (No j) (No k) = j ≡ k
 AreAlike _ _ = ⊥
 
-abbrev pub OneInOrder : Type 0
-OneInOrder = (asked : Selected) (cs : List Condition) (a b : InOrder) → IsInOrder asked cs a → IsInOrder asked cs b → AreAlike a b
+abbrev pub InOrderIsUnique : Type 0
+InOrderIsUnique = (asked : Selected) (cs : List Condition) (a b : InOrder) → IsInOrder asked cs a → IsInOrder asked cs b → AreAlike a b
 
-abbrev pub OneList : Type 0
-OneList = (asked : Selected) (xs ys : List Execution) → AreExecutions (act_at asked) xs → AreExecutions (act_at asked) ys → xs ≡ ys
+abbrev pub ListIsUnique : Type 0
+ListIsUnique = (asked : Selected) (xs ys : List Execution) → AreExecutions (step_at asked) xs → AreExecutions (step_at asked) ys → xs ≡ ys

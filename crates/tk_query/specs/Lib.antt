@@ -5,7 +5,7 @@ pub mod Holds
 pub mod Asked
 pub mod InOrder
 pub mod Matches
-pub mod Acts
+pub mod ExecutionSteps
 pub mod Executions
 pub mod Pairing
 pub mod Laws

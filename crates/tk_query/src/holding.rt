@@ -54,7 +54,8 @@ fn has_within(text: &str, part: &str) -> bool
 }
 
 fn id_has(recording: &Record, event: &EntryView, text: &Text) -> bool
-    ensures { result ≡ has_descriptor (λ d. has_within text.now (id_text d.id)) (desc recording.now event.now.key) }
+    ensures { result ≡ has_descriptor (λ d.
+        has_within text.now (id_text d.id)) (desc recording.now event.now.key) }
 {
     match recording.describe(event.key) {
         Some(descriptor) => has_within(descriptor.id.as_text().as_str(), text.as_str()),
@@ -69,7 +70,8 @@ fn same(text: &Text, other: &Text) -> bool
 }
 
 fn is_named(recording: &Record, event: &EntryView, name: &Text) -> bool
-    ensures { result ≡ has_descriptor (λ d. bytes_eq d.name name.now) (desc recording.now event.now.key) }
+    ensures { result ≡ has_descriptor (λ d.
+        bytes_eq d.name name.now) (desc recording.now event.now.key) }
 {
     match recording.describe(event.key) {
         Some(descriptor) => same(&descriptor.name, name),
@@ -177,7 +179,8 @@ pub(crate) fn holds(recording: &Record, condition: &Condition, event: &EntryView
 
 #[cycle(holds)]
 fn all_hold(recording: &Record, members: &[Condition], event: &EntryView) -> bool
-    ensures { result ≡ list_all (λ member. holds recording.now member (entry_of event.now)) members.now }
+    ensures { result ≡ list_all (λ member.
+        holds recording.now member (entry_of event.now)) members.now }
 {
     for member in members {
         if !holds(recording, member, event) {
@@ -189,7 +192,8 @@ fn all_hold(recording: &Record, members: &[Condition], event: &EntryView) -> boo
 
 #[cycle(holds)]
 fn any_holds(recording: &Record, members: &[Condition], event: &EntryView) -> bool
-    ensures { result ≡ list_any (λ member. holds recording.now member (entry_of event.now)) members.now }
+    ensures { result ≡ list_any (λ member.
+        holds recording.now member (entry_of event.now)) members.now }
 {
     for member in members {
         if holds(recording, member, event) {
@@ -201,7 +205,8 @@ fn any_holds(recording: &Record, members: &[Condition], event: &EntryView) -> bo
 
 /// Whether a condition holds of the entry at a position. Past the last one it holds of none.
 pub(crate) fn holds_at(recording: &Record, condition: &Condition, position: usize) -> bool
-    ensures { MatchOption (slice_get recording.now.entries position) (result ≡ false) (λ e. result ≡ holds recording.now condition.now e) }
+    ensures { MatchOption (slice_get recording.now.entries position) (result ≡ false) (λ e.
+        result ≡ holds recording.now condition.now e) }
 {
     match recording.entry(position) {
         Some(event) => holds(recording, condition, &event),

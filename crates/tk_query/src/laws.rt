@@ -1,10 +1,10 @@
 //! What the definitions of the answers imply.
-ghost use Rattle.tk_query.specs.Laws.{OneExact, OneLoose, OneInOrder, OneList};
+ghost use Rattle.tk_query.specs.Laws.{ExactIsUnique, LooseIsUnique, InOrderIsUnique, ListIsUnique};
 
 /// The same events and the same conditions have one answer.
-pub fn one_answer()
-    ensures exact { OneExact }
-    ensures loose { OneLoose }
-    ensures in_order { OneInOrder }
-    ensures executions { OneList }
+pub fn answer_is_unique()
+    ensures exact { ExactIsUnique }
+    ensures loose { LooseIsUnique }
+    ensures in_order { InOrderIsUnique }
+    ensures executions { ListIsUnique }
 {}

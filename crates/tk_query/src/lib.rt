@@ -1,9 +1,9 @@
 //! Questions about the events of a record: conditions, matchers, executions.
 #![tactic(auto)]
 
-mod acts;
 mod answers;
 mod execution_lists;
+mod execution_steps;
 mod holding;
 pub mod laws;
 mod masks;

@@ -1,7 +1,7 @@
 //! Selecting events by a condition.
 ghost use Rattle.std.specs.Prelude.{◌≡◌, if◌then◌else◌, map, IfOk};
 ghost use Rattle.std.specs.List.{list_all, list_any};
-ghost use Rattle.tk_columns.specs.Selections.{keeping};
+ghost use Rattle.tk_columns.specs.Selections.{filtered_by};
 ghost use Rattle.tk_query.specs.Holds.{holds};
 
 use crate::holding::holds_at;
@@ -19,7 +19,8 @@ fn byte_of(flag: bool) -> u8
 
 /// For each entry whether the condition holds of it, asked one by one.
 fn each_mask(alloc: Global, recording: &Record, condition: &Condition) -> Result<Flags, AllocError>
-    ensures { IfOk result (λ flags. flags ≡ map (holds recording.now condition.now) recording.now.entries) }
+    ensures { IfOk result (λ flags.
+        flags ≡ map (holds recording.now condition.now) recording.now.entries) }
 {
     let mut column = Vec::with_capacity(alloc, recording.len())?;
     for position in 0..recording.len() {
@@ -31,7 +32,8 @@ fn each_mask(alloc: Global, recording: &Record, condition: &Condition) -> Result
 /// For each entry, whether the condition holds of it.
 #[cycle(masks)]
 fn mask(alloc: Global, recording: &Record, condition: &Condition) -> Result<Flags, AllocError>
-    ensures { IfOk result (λ flags. flags ≡ map (holds recording.now condition.now) recording.now.entries) }
+    ensures { IfOk result (λ flags.
+        flags ≡ map (holds recording.now condition.now) recording.now.entries) }
 {
     match condition {
         Condition::Test => recording.flags(alloc, Rule::Test),
@@ -54,7 +56,8 @@ fn mask(alloc: Global, recording: &Record, condition: &Condition) -> Result<Flag
 
 #[cycle(masks)]
 fn all_mask(alloc: Global, recording: &Record, members: &[Condition]) -> Result<Flags, AllocError>
-    ensures { IfOk result (λ flags. flags ≡ map (λ e. list_all (λ member. holds recording.now member e) members.now) recording.now.entries) }
+    ensures { IfOk result (λ flags. flags ≡ map (λ e.
+        list_all (λ member. holds recording.now member e) members.now) recording.now.entries) }
 {
     let mut flags = Flags::all(alloc, recording.len())?;
     for member in members {
@@ -65,7 +68,8 @@ fn all_mask(alloc: Global, recording: &Record, members: &[Condition]) -> Result<
 
 #[cycle(masks)]
 fn any_mask(alloc: Global, recording: &Record, members: &[Condition]) -> Result<Flags, AllocError>
-    ensures { IfOk result (λ flags. flags ≡ map (λ e. list_any (λ member. holds recording.now member e) members.now) recording.now.entries) }
+    ensures { IfOk result (λ flags. flags ≡ map (λ e.
+        list_any (λ member. holds recording.now member e) members.now) recording.now.entries) }
 {
     let mut flags = Flags::none(alloc, recording.len())?;
     for member in members {
@@ -80,10 +84,11 @@ pub fn select<'r>(
     events: &Events<'r>,
     condition: &Condition,
 ) -> Result<Events<'r>, AllocError>
-    ensures { IfOk result (λ kept. kept ≡ keeping (holds events.now.recorded condition.now) events.now) }
+    ensures { IfOk result (λ kept.
+        kept ≡ filtered_by (holds events.now.recorded condition.now) events.now) }
 {
     let recording = events.recorded();
     prove!(events.flags().len() == recording.len());
     let flags = mask(alloc, recording, condition)?;
-    Ok(events.narrow(flags))
+    Ok(events.intersect(flags))
 }

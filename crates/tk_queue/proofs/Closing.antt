@@ -5,10 +5,10 @@ use Rattle.std.proofs.lemmas.Bool.{cases_eq, true_from_ne_false}
 use Rattle.std.proofs.lemmas.List.Elements.{All-nil, All-cons, All-head, All-tail}
 use Rattle.std.proofs.lemmas.List.Sums.{sum_by-cons}
 use Rattle.tk_columns.specs.Mixing.{IsWorkerOf, Mix}
-use Rattle.tk_replay.specs.Limits.{most_workers, places}
+use Rattle.tk_replay.specs.Limits.{most_workers, worker_slots}
 use Rattle.tk_replay.specs.Core.{Core, IsCore, worker_of, items_of, entry, entries, script}
 use Rattle.tk_queue.specs.Session.{Stands, Concludes, receiver}
-use Rattle.tk_queue.specs.Ends.{Least, Emits, lists, tokens_of, token_of, is_marked, is_mark_of}
+use Rattle.tk_queue.specs.Ends.{Least, SenderView, lists, tokens_of, token_of, is_marked, is_mark_of}
 use Rattle.tk_events.specs.declared.events.Event.{Event}
 use Rattle.tk_replay.specs.declared.items.Item.{Item}
 use Rattle.tk_replay.specs.declared.items.Item.TheVariants.{Entry as Emitted, End}
@@ -23,22 +23,22 @@ none_more P n before here w is = ⊎_elim (λ (h : IsWorkerOf n w). before w h) 
 
 -- the row of counts, filled for the workers 1 to n
 pub record Counted (n : ℕ) (counts : List ℕ) (of_worker : ℕ → ℕ) : Type 0 where
-  pub long : length counts ≡ places
+  pub long : length counts ≡ worker_slots
   pub each : (w : ℕ) → IsWorkerOf n w → slice_index counts w ≡ of_worker w
   pub others : (w : ℕ) → ¬ IsWorkerOf n w → slice_index counts w ≡ 0
 
-pub some_token : (n : ℕ) (tokens : List Emits) → ((w : ℕ) → IsWorkerOf n w → ¬ (tokens_of w tokens ≡ 0)) → (w : ℕ) → IsWorkerOf n w → 0 < tokens_of w tokens
+pub some_token : (n : ℕ) (tokens : List SenderView) → ((w : ℕ) → IsWorkerOf n w → ¬ (tokens_of w tokens ≡ 0)) → (w : ℕ) → IsWorkerOf n w → 0 < tokens_of w tokens
 some_token n tokens there w is = let not_none : ¬ (tokens_of w tokens ≡ 0) = there w is in let k = tokens_of w tokens in positive k not_none where
   positive : (k : ℕ) → ¬ (k ≡ 0) → 0 < k
   positive k some = omega arith
 
-pub one_token : (n : ℕ) (tokens : List Emits) → ((w : ℕ) → IsWorkerOf n w → ¬ (tokens_of w tokens ≡ 0)) → ((w : ℕ) → IsWorkerOf n w → ¬ (1 < tokens_of w tokens)) → (w : ℕ) → IsWorkerOf n w → tokens_of w tokens ≡ 1
+pub one_token : (n : ℕ) (tokens : List SenderView) → ((w : ℕ) → IsWorkerOf n w → ¬ (tokens_of w tokens ≡ 0)) → ((w : ℕ) → IsWorkerOf n w → ¬ (1 < tokens_of w tokens)) → (w : ℕ) → IsWorkerOf n w → tokens_of w tokens ≡ 1
 one_token n tokens there once w is = only (tokens_of w tokens) (there w is) (once w is) where
   only : (k : ℕ) → ¬ (k ≡ 0) → ¬ (1 < k) → k ≡ 1
   only k some few = omega arith
 
 -- the row of marks tells which marks were taken
-pub marks_missing : (n : ℕ) (marked : List Bool) (taken : List Item) → n ≤ most_workers → ((w : ℕ) → w < places → slice_index_or marked w false ≡ is_marked w taken) → (w : ℕ)
+pub marks_missing : (n : ℕ) (marked : List Bool) (taken : List Item) → n ≤ most_workers → ((w : ℕ) → w < worker_slots → slice_index_or marked w false ≡ is_marked w taken) → (w : ℕ)
     → Least n (λ v. slice_index_or marked v false ≡ false) w → Least n (λ v. is_marked v taken ≡ false) w
 marks_missing n marked taken few marks w least = record {
   worker = least.worker;
@@ -46,25 +46,25 @@ marks_missing n marked taken few marks w least = record {
   below = λ v is lt unmarked. let at_most : v ≤ n = is.1 in least.below v is lt (marks v (omega arith) ∙ unmarked);
 }
 
-pub marks_whole : (n : ℕ) (marked : List Bool) (taken : List Item) → n ≤ most_workers → ((w : ℕ) → w < places → slice_index_or marked w false ≡ is_marked w taken)
+pub marks_whole : (n : ℕ) (marked : List Bool) (taken : List Item) → n ≤ most_workers → ((w : ℕ) → w < worker_slots → slice_index_or marked w false ≡ is_marked w taken)
     → ((w : ℕ) → IsWorkerOf n w → ¬ (slice_index_or marked w false ≡ false)) → (w : ℕ) → IsWorkerOf n w → is_marked w taken ≡ true
 marks_whole n marked taken few marks none w is = let at_most : w ≤ n = is.1 in sym (marks w (omega arith)) ∙ true_from_ne_false (slice_index_or marked w false) (none w is)
 
 -- ---- what the receiver knows once it took in all tokens
 
-same_if : (w : ℕ) (t : Emits) (ts : List Emits) → t.worker ≡ w → lists (t ∷ ts) w ≡ t.sent
+same_if : (w : ℕ) (t : SenderView) (ts : List SenderView) → t.worker ≡ w → lists (t ∷ ts) w ≡ t.sent
 same_if w t ts e = ap (λ (b : Bool). if b then t.sent else lists ts w) (eq-eqb t.worker w e)
 
-other_if : (w : ℕ) (t : Emits) (ts : List Emits) → t.worker ≢ w → lists (t ∷ ts) w ≡ lists ts w
+other_if : (w : ℕ) (t : SenderView) (ts : List SenderView) → t.worker ≢ w → lists (t ∷ ts) w ≡ lists ts w
 other_if w t ts n = ap (λ (b : Bool). if b then t.sent else lists ts w) (ne_eqb t.worker w n)
 
-other_count : (w : ℕ) (t : Emits) (ts : List Emits) → t.worker ≢ w → tokens_of w (t ∷ ts) ≡ tokens_of w ts
-other_count w t ts n = sum_by-cons (λ (u : Emits). if u.worker == w then 1 else 0) t ts ∙ ap (λ (b : Bool). (if b then 1 else 0) + tokens_of w ts) (ne_eqb t.worker w n) ∙ zero_plus (tokens_of w ts) where
+other_count : (w : ℕ) (t : SenderView) (ts : List SenderView) → t.worker ≢ w → tokens_of w (t ∷ ts) ≡ tokens_of w ts
+other_count w t ts n = sum_by-cons (λ (u : SenderView). if u.worker == w then 1 else 0) t ts ∙ ap (λ (b : Bool). (if b then 1 else 0) + tokens_of w ts) (ne_eqb t.worker w n) ∙ zero_plus (tokens_of w ts) where
   zero_plus : (k : ℕ) → 0 + k ≡ k
   zero_plus k = omega arith
 
 -- a token of w has what w sent, and w has ended
-found : (c : Core) (w : ℕ) (tokens : List Emits) → All (Stands c) (map token_of tokens) → 0 < tokens_of w tokens → (c.ended w ≡ true) × (lists tokens w ≡ c.sent w)
+found : (c : Core) (w : ℕ) (tokens : List SenderView) → All (Stands c) (map token_of tokens) → 0 < tokens_of w tokens → (c.ended w ≡ true) × (lists tokens w ≡ c.sent w)
 found c w [] all some = absurd (omega arith)
 found c w (t ∷ ts) all some = ⊎_elim
     (λ (e : t.worker ≡ w).
@@ -86,15 +86,15 @@ marked_among w (End v ∷ xs) = ⊎_elim
     ap (λ (b : Bool). is_marked w (if b then End v ∷ items_of w xs else items_of w xs)) no ∙ marked_among w xs ∙ sym (ap (λ (b : Bool). b || is_marked w xs) no))
     (cases_eq v w)
 
-front_nil : (xs ys : List Item) → xs ++ ys ≡ [] → xs ≡ []
-front_nil [] ys e = refl
-front_nil (x ∷ xs) ys e = cc
+prefix_nil : (xs ys : List Item) → xs ++ ys ≡ [] → xs ≡ []
+prefix_nil [] ys e = refl
+prefix_nil (x ∷ xs) ys e = cc
 
 -- what has the mark is all of it
 upto_mark : (w : ℕ) (es : List Event) (xs ys : List Item) → xs ++ ys ≡ map (entry w) es ++ End w ∷ [] → is_marked w xs ≡ true → xs ≡ map (entry w) es ++ End w ∷ []
 upto_mark w es [] ys e marked = absurd (true≢false (sym marked))
 upto_mark w [] (x ∷ xs) ys e marked =
-    let none : xs ≡ [] = front_nil xs ys (cc) in
+    let none : xs ≡ [] = prefix_nil xs ys (cc) in
     let head : x ≡ End w = cc in
     cc
 upto_mark w (a ∷ es) (x ∷ xs) ys e marked =
@@ -114,7 +114,7 @@ all_workers n c k before (Emitted e ∷ xs) whole =
 all_workers n c k before (End w ∷ xs) whole = all_workers n c k (before ++ End w ∷ []) xs (whole ∙ sym (append_assoc before (End w ∷ []) xs))
 
 -- where each worker has a token and its mark was taken, what was taken mixes the tokens' lists
-pub mixes : (known n : ℕ) (taken : List Item) (tokens : List Emits) (items : List Item)
+pub mixes : (known n : ℕ) (taken : List Item) (tokens : List SenderView) (items : List Item)
     → ((w : ℕ) → IsWorkerOf n w → tokens_of w tokens ≡ 1) → ((w : ℕ) → IsWorkerOf n w → is_marked w taken ≡ true)
     → Concludes (receiver known n taken (map token_of tokens)) items → Mix n (entries taken) (lists tokens)
 mixes known n taken tokens items once drained concludes =

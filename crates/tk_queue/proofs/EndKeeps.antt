@@ -20,19 +20,19 @@ use Rattle.tk_events.specs.Registration.{registered_key}
 use Rattle.tk_columns.specs.Entries.{described, of_kind, registers, registered, desc, desc_in}
 use Rattle.tk_columns.specs.Record.{is_next}
 use Rattle.tk_columns.specs.Mixing.{IsWorkerOf, of_worker}
-use Rattle.tk_replay.specs.Limits.{most_workers, places}
+use Rattle.tk_replay.specs.Limits.{most_workers, worker_slots}
 use Rattle.tk_replay.specs.declared.items.Item.{Item}
 use Rattle.tk_replay.specs.declared.items.Item.TheVariants.{Entry as Emitted, End}
 use Rattle.tk_replay.specs.Core.{worker_of, entry, entries}
 use Rattle.tk_replay.proofs.CoreSteps.{filter-append}
 use Rattle.tk_queue.specs.declared.senders.SendFault.TheVariants as unsent
-use Rattle.tk_queue.specs.declared.lines.View.{View}
+use Rattle.tk_queue.specs.declared.session_rules.PassView.{PassView}
 use Rattle.tk_queue.specs.Limits.{most_events}
-use Rattle.tk_queue.specs.Known.{MayEmit, is_dynamic, is_plain, registrations, entry_by, entries_by, is_known_behind}
+use Rattle.tk_queue.specs.Known.{MayEmit, is_dynamic, is_plain, registrations, entry_by, entries_by, is_known_after}
 use Rattle.tk_queue.specs.Session.{sender, receiver, pushed, popped, Pops, MayTake, MayPush}
 use Rattle.tk_queue.specs.Session.{Follows as FollowsAmong}
-use Rattle.tk_queue.specs.Ends.{Emits, fresh_senders, knows, refusal_of, HasRoom, IsNew, IsChildMade, id_registered, IsSender, IsReceiver, IsRecordable, MayFollow, sent_of, taken_of, is_marked, is_mark_of}
-use Rattle.tk_queue.proofs.KnownKeys.{emission_none, emission_more, some_desc, known_behind, own_entries, some_among, registers_among}
+use Rattle.tk_queue.specs.Ends.{SenderView, fresh_senders, knows, refusal_of, HasRoom, IsNew, IsChildMade, id_registered, IsSender, IsReceiver, IsRecordable, MayFollow, sent_of, taken_of, is_marked, is_mark_of}
+use Rattle.tk_queue.proofs.KnownKeys.{emission_none, emission_more, some_desc, known_after, own_entries, some_among, registers_among}
 
 -- ---- a sender
 
@@ -40,7 +40,7 @@ none_either : (b : Bool) → cond {A = Option (List Pair)} b None None ≡ None
 none_either true = refl
 none_either false = refl
 
-pub sender_fresh : (v : View) (table : List Descriptor) (worker : ℕ) → v ≡ sender (length table) worker [] false → 0 < worker → worker ≤ most_workers → IsSender v table worker [] 0
+pub sender_fresh : (v : PassView) (table : List Descriptor) (worker : ℕ) → v ≡ sender (length table) worker [] false → 0 < worker → worker ≤ most_workers → IsSender v table worker [] 0
 sender_fresh v table worker e low high =
     subst (λ u. IsSender u table worker [] 0) (sym e) (record {
       is = refl;
@@ -54,10 +54,10 @@ sender_fresh v table worker e low high =
     })
 
 -- the senders so far, and the next
-pub fresh_more : (old new : TableId) (table : List Descriptor) (before : ℕ) (senders more : List Emits) (one : Emits) → old ≡ new → senders ≡ fresh_senders old table before → more ≡ senders ++ one ∷ []
+pub fresh_more : (old new : TableId) (table : List Descriptor) (before : ℕ) (senders more : List SenderView) (one : SenderView) → old ≡ new → senders ≡ fresh_senders old table before → more ≡ senders ++ one ∷ []
     → one ≡ record { session = new; table = table; worker = before + 1; sent = [] } → more ≡ fresh_senders new table (before + 1)
 fresh_more old new table before senders more one same are is next =
-    is ∙ ap (λ l. l ++ one ∷ []) (are ∙ ap (λ s. fresh_senders s table before) same) ∙ ap (λ (x : Emits). fresh_senders new table before ++ x ∷ []) next ∙ sym (rw add-one refl)
+    is ∙ ap (λ l. l ++ one ∷ []) (are ∙ ap (λ s. fresh_senders s table before) same) ∙ ap (λ (x : SenderView). fresh_senders new table before ++ x ∷ []) next ∙ sym (rw add-one refl)
 
 desc_in_more : (es : List Entry) (e : Entry) (key : ℕ) → desc_in (es ++ e ∷ []) key ≡ option_or (desc_in es key) (registered key e)
 desc_in_more [] e key = or_none (registered key e) where
@@ -82,7 +82,7 @@ registrations-more es e = sum_by-append weight es (e ∷ []) ∙ ap (λ n. regis
   plus_zero k = omega arith
 
 -- after one more event
-keeps : (v w : View) (table : List Descriptor) (worker emitted : ℕ) (ids later : List (List Pair)) (e : Event) → IsSender v table worker ids emitted → w ≡ pushed v (entry worker e)
+keeps : (v w : PassView) (table : List Descriptor) (worker emitted : ℕ) (ids later : List (List Pair)) (e : Event) → IsSender v table worker ids emitted → w ≡ pushed v (entry worker e)
     → MayEmit (length table) worker (sent_of v) e → emitted < most_events
     → ((key : ℕ) → option_map (λ (d : Descriptor). d.id) (desc_in (entries_by worker (sent_of v ++ e ∷ [])) key) ≡ id_registered worker later key)
     → length later ≡ length ids + weight e → length later ≤ MAX_DESCRIPTORS → IsSender w table worker later (emitted + 1)
@@ -103,7 +103,7 @@ or_none (Some x) = refl
 not_registered : (worker : ℕ) (e : Event) (key : ℕ) → is_dynamic e ≡ false → registered key (entry_by worker e) ≡ None
 not_registered worker e key plain = ap (λ (b : Bool). if b && (e.key == key) then described e.payload else None) plain
 
-pub sender_sends : (v w : View) (table : List Descriptor) (worker emitted : ℕ) (ids : List (List Pair)) (e : Event) → IsSender v table worker ids emitted → w ≡ pushed v (entry worker e)
+pub sender_sends : (v w : PassView) (table : List Descriptor) (worker emitted : ℕ) (ids : List (List Pair)) (e : Event) → IsSender v table worker ids emitted → w ≡ pushed v (entry worker e)
     → MayEmit (length table) worker (sent_of v) e → emitted < most_events → is_dynamic e ≡ false → IsSender w table worker ids (emitted + 1)
 sender_sends v w table worker emitted ids e h moved may room plain =
     keeps v w table worker emitted ids ids e h moved may room
@@ -111,10 +111,10 @@ sender_sends v w table worker emitted ids e h moved may room plain =
     (let z : weight e ≡ 0 = ap (λ (b : Bool). cond {A = ℕ} b 1 0) plain in omega arith)
     h.few_ids
 
-slice_get_front : {X : Type 0} (xs ys : List X) (k : ℕ) → k < length xs → slice_get (xs ++ ys) k ≡ slice_get xs k
-slice_get_front [] ys k lt = absurd (omega arith)
-slice_get_front (x ∷ xs) ys zero lt = refl
-slice_get_front (x ∷ xs) ys (suc k) lt = slice_get_front xs ys k (omega arith)
+slice_get_prefix : {X : Type 0} (xs ys : List X) (k : ℕ) → k < length xs → slice_get (xs ++ ys) k ≡ slice_get xs k
+slice_get_prefix [] ys k lt = absurd (omega arith)
+slice_get_prefix (x ∷ xs) ys zero lt = refl
+slice_get_prefix (x ∷ xs) ys (suc k) lt = slice_get_prefix xs ys k (omega arith)
 
 slice_get_last : {X : Type 0} (xs : List X) (x : X) (k : ℕ) → k ≡ length xs → slice_get (xs ++ x ∷ []) k ≡ Some x
 slice_get_last [] x zero is = refl
@@ -131,7 +131,7 @@ no_id : (o : Option Descriptor) → option_map (λ (d : Descriptor). d.id) o ≡
 no_id None h = refl
 no_id (Some d) h = absurd cc
 
--- the ids behind the first key of a worker
+-- the ids after the first key of a worker
 id_at : (worker : ℕ) (ids : List (List Pair)) (j key : ℕ) → key ≡ registered_key worker j → id_registered worker ids key ≡ slice_get ids j
 id_at worker ids j key is = ⊎_elim
     (λ (lt : key < registered_key worker 0). absurd (omega arith))
@@ -146,7 +146,7 @@ ids_more worker ids id key apart =
     (λ (lt : key < registered_key worker 0). ap (λ (b : Bool). if b then None else slice_get (ids ++ id ∷ []) (key - registered_key worker 0)) (below lt) ∙ sym (ap (λ (b : Bool). if b then None else slice_get ids (key - registered_key worker 0)) (below lt)))
     (λ (le : registered_key worker 0 ≤ key).
     id_at worker (ids ++ id ∷ []) (key - registered_key worker 0) key (omega arith)
-    ∙ ⊎_elim (λ (lt : key - registered_key worker 0 < length ids). slice_get_front ids (id ∷ []) (key - registered_key worker 0) lt)
+    ∙ ⊎_elim (λ (lt : key - registered_key worker 0 < length ids). slice_get_prefix ids (id ∷ []) (key - registered_key worker 0) lt)
     (λ (past : length ids ≤ key - registered_key worker 0).
     slice_get_beyond (ids ++ id ∷ []) (key - registered_key worker 0) (omega (arith, length-append ids (id ∷ []))) ∙ sym (slice_get_beyond ids (key - registered_key worker 0) past))
     (cases_lt (key - registered_key worker 0) (length ids))
@@ -171,7 +171,7 @@ all_true : (a b c d : Bool) → a ≡ true → b ≡ true → c ≡ true → d �
 all_true a b c d p q r t = λ i. ((p i && q i) && r i) && t i
 
 -- the next registration may be emitted
-registration_may : (v : View) (table : List Descriptor) (worker emitted key stamp : ℕ) (ids : List (List Pair)) (d : Descriptor) → IsSender v table worker ids emitted → key ≡ registered_key worker (length ids)
+registration_may : (v : PassView) (table : List Descriptor) (worker emitted key stamp : ℕ) (ids : List (List Pair)) (d : Descriptor) → IsSender v table worker ids emitted → key ≡ registered_key worker (length ids)
     → length ids < MAX_DESCRIPTORS → MayEmit (length table) worker (sent_of v) (record { kind = Dynamic; key = key; stamp = stamp; payload = Described d })
 registration_may v table worker emitted key stamp ids d h is few =
     let n = count_by (registers worker) (entries_by worker (sent_of v)) in
@@ -184,25 +184,25 @@ registration_may v table worker emitted key stamp ids d h is few =
     }
 
 -- the worker registered nothing yet under its next key
-next_unregistered : (v : View) (table : List Descriptor) (worker emitted key : ℕ) (ids : List (List Pair)) → IsSender v table worker ids emitted → key ≡ registered_key worker (length ids) → desc_in (entries_by worker (sent_of v)) key ≡ None
+next_unregistered : (v : PassView) (table : List Descriptor) (worker emitted key : ℕ) (ids : List (List Pair)) → IsSender v table worker ids emitted → key ≡ registered_key worker (length ids) → desc_in (entries_by worker (sent_of v)) key ≡ None
 next_unregistered v table worker emitted key ids h is =
     no_id (desc_in (entries_by worker (sent_of v)) key) (h.leads key ∙ id_at worker ids (length ids) key is ∙ slice_get_beyond ids (length ids) (omega arith))
 
 -- nor is that key a static one
-pub next_is_new : (t : TableId) (v : View) (table : List Descriptor) (worker emitted key : ℕ) (ids : List (List Pair)) (s : Emits) → IsSender v table worker ids emitted
+pub next_is_new : (t : TableId) (v : PassView) (table : List Descriptor) (worker emitted key : ℕ) (ids : List (List Pair)) (s : SenderView) → IsSender v table worker ids emitted
     → record { session = t; table = table; worker = worker; sent = sent_of v } ≡ s → length table ≤ MAX_DESCRIPTORS → key ≡ registered_key worker (length ids) → IsNew s key
 next_is_new t v table worker emitted key ids s h is few at =
     let low = h.low in
-    subst (λ (y : Emits). IsNew y key) is
+    subst (λ (y : SenderView). IsNew y key) is
     (ap (λ o. option_or o (desc_in (entries_by worker (sent_of v)) key)) (slice_get_beyond table key (omega arith)) ∙ next_unregistered v table worker emitted key ids h at)
 
 -- the next key by the sender's ids
-pub next_key_is : (t : TableId) (v : View) (table : List Descriptor) (worker emitted : ℕ) (ids : List (List Pair)) (s : Emits) {key : ℕ} → IsSender v table worker ids emitted
+pub next_key_is : (t : TableId) (v : PassView) (table : List Descriptor) (worker emitted : ℕ) (ids : List (List Pair)) (s : SenderView) {key : ℕ} → IsSender v table worker ids emitted
     → record { session = t; table = table; worker = worker; sent = sent_of v } ≡ s → key ≡ registered_key s.worker (registrations s.sent) → key ≡ registered_key worker (length ids)
 next_key_is t v table worker emitted ids s h is at =
-    at ∙ ap (λ (y : Emits). registered_key y.worker (registrations y.sent)) (sym is) ∙ ap (registered_key worker) (sym h.number)
+    at ∙ ap (λ (y : SenderView). registered_key y.worker (registrations y.sent)) (sym is) ∙ ap (registered_key worker) (sym h.number)
 
-pub sender_registers : (v w : View) (table : List Descriptor) (worker emitted key stamp : ℕ) (ids : List (List Pair)) (d : Descriptor) → IsSender v table worker ids emitted
+pub sender_registers : (v w : PassView) (table : List Descriptor) (worker emitted key stamp : ℕ) (ids : List (List Pair)) (d : Descriptor) → IsSender v table worker ids emitted
     → key ≡ registered_key worker (length ids) → w ≡ pushed v (entry worker (record { kind = Dynamic; key = key; stamp = stamp; payload = Described d }))
     → emitted < most_events → length ids < MAX_DESCRIPTORS → IsSender w table worker (ids ++ d.id ∷ []) (emitted + 1)
 sender_registers v w table worker emitted key stamp ids d h is moved room few =
@@ -236,7 +236,7 @@ not_true true h = absurd (false≢true h)
 not_true false h = refl
 
 -- what is not refused is known, plain and within the limit
-pub not_refused : (s : Emits) (e : Event) → refusal_of s e ≡ None → (knows s e.key ≡ true) × (is_plain e ≡ true) × (length s.sent < most_events)
+pub not_refused : (s : SenderView) (e : Event) → refusal_of s e ≡ None → (knows s e.key ≡ true) × (is_plain e ≡ true) × (length s.sent < most_events)
 not_refused s e h = by_tests (knows s e.key) (is_plain e) (nat_lt (length s.sent) most_events) refl h where
   by_tests : (k p l : Bool) → nat_lt (length s.sent) most_events ≡ l
       → (if not k then Some (unsent.UnknownNode e) else if not p then Some (unsent.Unlawful e) else if not l then Some (unsent.Limit e) else None) ≡ None → (k ≡ true) × (p ≡ true) × (length s.sent < most_events)
@@ -253,26 +253,26 @@ plain_may table w es e plain known = record {
       ∙ sym (some_desc table (entries_by w es) e.key) ∙ known;
 }
 
-pub admitted_may : (t : TableId) (v : View) (table : List Descriptor) (worker emitted : ℕ) (ids : List (List Pair)) (s : Emits) (a b : Event) → IsSender v table worker ids emitted
+pub admitted_may : (t : TableId) (v : PassView) (table : List Descriptor) (worker emitted : ℕ) (ids : List (List Pair)) (s : SenderView) (a b : Event) → IsSender v table worker ids emitted
     → record { session = t; table = table; worker = worker; sent = sent_of v } ≡ s → (a ≡ b) × (refusal_of s b ≡ None)
     → MayEmit (length table) worker (sent_of v) a × (emitted < most_events) × (is_dynamic a ≡ false)
 admitted_may t v table worker emitted ids s a b h is ok =
-    let n = not_refused (record { session = t; table = table; worker = worker; sent = sent_of v }) a (subst (λ (y : Emits × Event). refusal_of y.0 y.1 ≡ None) (λ i. (sym is i, sym ok.0 i)) ok.1) in
+    let n = not_refused (record { session = t; table = table; worker = worker; sent = sent_of v }) a (subst (λ (y : SenderView × Event). refusal_of y.0 y.1 ≡ None) (λ i. (sym is i, sym ok.0 i)) ok.1) in
     (plain_may table worker (sent_of v) a n.1 n.0, subst (λ k. k < most_events) (sym h.counted) n.2, not_true (is_dynamic a) (and_right (is_lawful a.kind a.payload) (not (is_dynamic a)) n.1))
 
-pub may_push : (v : View) (table : List Descriptor) (worker emitted : ℕ) (ids : List (List Pair)) (e : Event) → IsSender v table worker ids emitted → MayEmit (length table) worker (sent_of v) e → emitted < most_events → MayPush v (entry worker e)
+pub may_push : (v : PassView) (table : List Descriptor) (worker emitted : ℕ) (ids : List (List Pair)) (e : Event) → IsSender v table worker ids emitted → MayEmit (length table) worker (sent_of v) e → emitted < most_events → MayPush v (entry worker e)
 may_push v table worker emitted ids e h may room =
     subst (λ u. MayPush u (entry worker e)) (sym h.is) (refl, (refl, may, subst (λ k. k < most_events) h.counted room))
 
 -- a worker's next registration may be pushed
-pub may_push_registration : (v : View) (table : List Descriptor) (worker emitted key stamp : ℕ) (ids : List (List Pair)) (d : Descriptor) → IsSender v table worker ids emitted
+pub may_push_registration : (v : PassView) (table : List Descriptor) (worker emitted key stamp : ℕ) (ids : List (List Pair)) (d : Descriptor) → IsSender v table worker ids emitted
     → key ≡ registered_key worker (length ids) → emitted < most_events → length ids < MAX_DESCRIPTORS
     → MayPush v (entry worker (record { kind = Dynamic; key = key; stamp = stamp; payload = Described d }))
 may_push_registration v table worker emitted key stamp ids d h is room few =
     may_push v table worker emitted ids (record { kind = Dynamic; key = key; stamp = stamp; payload = Described d }) h (registration_may v table worker emitted key stamp ids d h is few) room
 
 -- what `child` tells of the sender's fields
-pub made_may : (t : TableId) (v : View) (table : List Descriptor) (worker emitted : ℕ) (ids : List (List Pair)) (s : Emits) (parent : ℕ) (segment : Pair) (name : List ℕ) (dtype : DType) (made : List Pair × Descriptor)
+pub made_may : (t : TableId) (v : PassView) (table : List Descriptor) (worker emitted : ℕ) (ids : List (List Pair)) (s : SenderView) (parent : ℕ) (segment : Pair) (name : List ℕ) (dtype : DType) (made : List Pair × Descriptor)
     → IsSender v table worker ids emitted → record { session = t; table = table; worker = worker; sent = sent_of v } ≡ s → IsChildMade s parent segment name dtype (Ok made)
     → (emitted < most_events) × (length ids < MAX_DESCRIPTORS) × (made.0 ≡ made.1.id)
 made_may t v table worker emitted ids s parent segment name dtype made h is ok =
@@ -316,8 +316,8 @@ or_true : (b : Bool) → (b || true) ≡ true
 or_true true = refl
 or_true false = refl
 
-pub receiver_fresh : (v : View) (table : List Descriptor) (workers : ℕ) (marked : List Bool) → v ≡ receiver (length table) workers [] [] → workers ≤ most_workers → length marked ≡ places
-    → ((w : ℕ) → w < places → slice_index_or marked w false ≡ false) → IsReceiver v table workers marked
+pub receiver_fresh : (v : PassView) (table : List Descriptor) (workers : ℕ) (marked : List Bool) → v ≡ receiver (length table) workers [] [] → workers ≤ most_workers → length marked ≡ worker_slots
+    → ((w : ℕ) → w < worker_slots → slice_index_or marked w false ≡ false) → IsReceiver v table workers marked
 receiver_fresh v table workers marked e few long none = subst (λ u. IsReceiver u table workers marked) (sym e) (record {
   is = refl;
   recordable = record { limit = few; workers = All-nil (λ x. IsWorkerOf workers x.worker); few = λ w. omega arith };
@@ -325,13 +325,13 @@ receiver_fresh v table workers marked e few long none = subst (λ u. IsReceiver 
   marks = none;
 })
 
-taken_now : (v w : View) (table : List Descriptor) (workers : ℕ) (marked : List Bool) (x : Item) → IsReceiver v table workers marked → Pops v x w → w ≡ receiver (length table) workers (taken_of v ++ x ∷ []) []
+taken_now : (v w : PassView) (table : List Descriptor) (workers : ℕ) (marked : List Bool) (x : Item) → IsReceiver v table workers marked → Pops v x w → w ≡ receiver (length table) workers (taken_of v ++ x ∷ []) []
 taken_now v w table workers marked x h p = p.0 ∙ ap (λ u. popped u x) h.is
 
-pub follows_now : (v w : View) (table : List Descriptor) (workers : ℕ) (marked : List Bool) (x : Item) → IsReceiver v table workers marked → Pops v x w → IsWorkerOf workers (worker_of x) × FollowsAmong (length table) (taken_of v) x
+pub follows_now : (v w : PassView) (table : List Descriptor) (workers : ℕ) (marked : List Bool) (x : Item) → IsReceiver v table workers marked → Pops v x w → IsWorkerOf workers (worker_of x) × FollowsAmong (length table) (taken_of v) x
 follows_now v w table workers marked x h p = subst (λ u. MayTake u x) h.is p.1
 
-pub takes_entry : (v w : View) (table : List Descriptor) (workers : ℕ) (marked : List Bool) (e : Entry) → IsReceiver v table workers marked → Pops v (Emitted e) w → IsReceiver w table workers marked
+pub takes_entry : (v w : PassView) (table : List Descriptor) (workers : ℕ) (marked : List Bool) (e : Entry) → IsReceiver v table workers marked → Pops v (Emitted e) w → IsReceiver w table workers marked
 takes_entry v w table workers marked e h p =
     let f = follows_now v w table workers marked (Emitted e) h p in
     let taken = entries (taken_of v) in
@@ -348,10 +348,10 @@ takes_entry v w table workers marked e h p =
       marks = λ u lt. h.marks u lt ∙ sym (marked-append u (taken_of v) (Emitted e ∷ []) ∙ or_false (is_marked u (taken_of v)));
     })
 
-pub takes_mark : (v w : View) (table : List Descriptor) (workers : ℕ) (marked : List Bool) (k : ℕ) → IsReceiver v table workers marked → Pops v (End k) w → (k < places) × IsReceiver w table workers (set marked k true)
+pub takes_mark : (v w : PassView) (table : List Descriptor) (workers : ℕ) (marked : List Bool) (k : ℕ) → IsReceiver v table workers marked → Pops v (End k) w → (k < worker_slots) × IsReceiver w table workers (set marked k true)
 takes_mark v w table workers marked k h p =
     let f = follows_now v w table workers marked (End k) h p in
-    let within : k < places = let is = f.0 in let high : k ≤ workers = is.1 in let few = h.recordable.limit in omega arith in (
+    let within : k < worker_slots = let is = f.0 in let high : k ≤ workers = is.1 in let few = h.recordable.limit in omega arith in (
       within,
       subst (λ u. IsReceiver u table workers (set marked k true)) (sym (taken_now v w table workers marked (End k) h p))
           (record {
@@ -373,10 +373,10 @@ takes_mark v w table workers marked k h p =
       length_set (b ∷ l) zero = refl
       length_set (b ∷ l) (suc i) = ap suc (length_set l i)
 
--- what is known behind a worker's own entries is known behind all
-pub known_among : (n : ℕ) (es : List Entry) (e : Entry) → is_known_behind n (entries_by e.worker (of_worker e.worker es)) e ≡ true → is_known_behind n es e ≡ true
+-- what is known after a worker's own entries is known after all
+pub known_among : (n : ℕ) (es : List Entry) (e : Entry) → is_known_after n (entries_by e.worker (of_worker e.worker es)) e ≡ true → is_known_after n es e ≡ true
 known_among n es e h =
-    by_kind (of_kind Dynamic e) (subst (λ l. is_known_behind n l e ≡ true) (own_entries e.worker es) h)
+    by_kind (of_kind Dynamic e) (subst (λ l. is_known_after n l e ≡ true) (own_entries e.worker es) h)
   where
     mine : List Entry
     mine = filter (λ x. x.worker == e.worker) es
@@ -394,6 +394,6 @@ known_among n es e h =
 pub follows_recorded : (table : List Descriptor) (taken : List Item) (e : Entry) → FollowsAmong (length table) taken (Emitted e) → MayFollow table (entries taken) e
 follows_recorded table taken e f = record {
   lawful = f.0.lawful;
-  known = known_behind table (entries taken) e ∙ known_among (length table) (entries taken) e f.0.known;
+  known = known_after table (entries taken) e ∙ known_among (length table) (entries taken) e f.0.known;
   room = f.1;
 }

@@ -1,4 +1,4 @@
--- Which keys are known behind some entries.
+-- Which keys are known after some entries.
 use Rattle.std.proofs.Common.{◌≡◌, ◌≢◌, ◌⊎◌, ◌==◌, ℕ, zero, suc, ◌<◌, ◌≤◌, ◌+◌, Bool, true, false, ◌&&◌, ◌||◌, if◌then◌else◌, cond, List, [], ◌∷◌, ◌++◌, length, map, sym, refl, ap, ◌∙◌, subst, inl, inr, ⊎_elim, arith, length-append, eq-eqb, ne_eqb}
 use Rattle.std.specs.Prelude.{Option, Some, None, is_some, slice_get, filter, count_by, nat_lt}
 use Rattle.std.specs.Option.{option_or}
@@ -13,7 +13,7 @@ use Rattle.tk_columns.specs.Entries.{of_kind, registers, registered, desc, desc_
 use Rattle.tk_columns.specs.Record.{is_next, is_known}
 use Rattle.tk_columns.specs.Mixing.{of_worker}
 use Rattle.tk_queue.specs.Limits.{most_events}
-use Rattle.tk_queue.specs.Known.{entry_by, entries_by, is_known_behind, MayEmit, Emission}
+use Rattle.tk_queue.specs.Known.{entry_by, entries_by, is_known_after, MayEmit, Emission}
 
 -- where a list with one more at its end is cut: at the end, or before it
 pub cut_snoc : (xs : List Event) (x : Event) (before : List Event) (e : Event) (after : List Event) → xs ++ x ∷ [] ≡ before ++ e ∷ after
@@ -66,8 +66,8 @@ is_some_within {X} xs k =
 pub some_desc : (table : List Descriptor) (es : List Entry) (key : ℕ) → is_some (desc (record { table = table; entries = es }) key) ≡ (nat_lt key (length table) || is_some (desc_in es key))
 some_desc table es key = or_some (slice_get table key) (desc_in es key) ∙ ap (λ b. b || is_some (desc_in es key)) (is_some_within table key)
 
-pub known_behind : (table : List Descriptor) (es : List Entry) (e : Entry) → is_known (record { table = table; entries = es }) e ≡ is_known_behind (length table) es e
-known_behind table es e = ap (λ (b : Bool). if of_kind Dynamic e then is_next (record { table = []; entries = es }) e else b) (some_desc table es e.event.key)
+pub known_after : (table : List Descriptor) (es : List Entry) (e : Entry) → is_known (record { table = table; entries = es }) e ≡ is_known_after (length table) es e
+known_after table es e = ap (λ (b : Bool). if of_kind Dynamic e then is_next (record { table = []; entries = es }) e else b) (some_desc table es e.event.key)
 
 -- ---- the entries of a worker
 

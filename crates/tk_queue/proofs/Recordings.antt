@@ -19,7 +19,7 @@ use Rattle.tk_columns.specs.Mixing.{IsWorkerOf, of_worker}
 use Rattle.tk_replay.specs.Limits.{most_workers}
 use Rattle.tk_queue.specs.Limits.{most_events}
 use Rattle.tk_queue.specs.Recording.{IsNeverRefused, IsShort}
-use Rattle.tk_queue.proofs.KnownKeys.{known_behind}
+use Rattle.tk_queue.proofs.KnownKeys.{known_after}
 use Rattle.tk_queue.proofs.EndKeeps.{few_more}
 
 -- the entries of workers other than w
@@ -56,7 +56,7 @@ fewer_workers n (e ∷ es) all =
     (All-cons (λ x. IsWorkerOf n x.worker) e (without (suc n) es) (let low : 0 < e.worker = head.0 in let high : e.worker ≤ suc n = head.1 in (omega arith, omega arith)) rest))
     (cases_eq e.worker (suc n))
 
--- as many workers emit no more than so many events together
+-- n workers emit together no more than n times what one may emit
 short_by : (n most : ℕ) (es : List Entry) → All (λ e. IsWorkerOf n e.worker) es → ((w : ℕ) → length (of_worker w es) ≤ most) → length es ≤ n * most
 short_by zero most [] all few = omega arith
 short_by zero most (e ∷ es) all few = let head = All-head (λ (x : Entry). IsWorkerOf zero x.worker) e es all in absurd (let low : 0 < e.worker = head.0 in let high : e.worker ≤ 0 = head.1 in omega arith)
@@ -83,12 +83,12 @@ short_by (suc n) most es all few =
 pub is_short : IsShort
 is_short n taken r = short_by n most_events taken r.workers r.few
 
--- ---- behind entries of worker 0
+-- ---- after entries of worker 0
 
-none_in_front : (w : ℕ) (front : List Entry) → All (λ x. x.worker ≡ 0) front → 0 < w → count_by (registers w) front ≡ 0
-none_in_front w [] all low = refl
-none_in_front w (x ∷ xs) all low =
-    let rest = none_in_front w xs (All-tail (λ (y : Entry). y.worker ≡ 0) x xs all) low in
+none_in_prefix : (w : ℕ) (prefix : List Entry) → All (λ x. x.worker ≡ 0) prefix → 0 < w → count_by (registers w) prefix ≡ 0
+none_in_prefix w [] all low = refl
+none_in_prefix w (x ∷ xs) all low =
+    let rest = none_in_prefix w xs (All-tail (λ (y : Entry). y.worker ≡ 0) x xs all) low in
     let zero' : x.worker ≡ 0 = All-head (λ (y : Entry). y.worker ≡ 0) x xs all in
     let other : (x.worker == w) ≡ false = ne_eqb x.worker w (λ same. absurd (omega arith)) in
     let one : cond {A = ℕ} (registers w x) 1 0 ≡ 0 = ap (λ (b : Bool). cond {A = ℕ} b 1 0) (ap (λ b. of_kind Dynamic x && b) other ∙ and_false (of_kind Dynamic x)) in
@@ -97,8 +97,8 @@ none_in_front w (x ∷ xs) all low =
       and_false true = refl
       and_false false = refl
 
-counted_behind : (w : ℕ) (front taken : List Entry) → All (λ x. x.worker ≡ 0) front → 0 < w → count_by (registers w) (front ++ taken) ≡ count_by (registers w) taken
-counted_behind w front taken all low = omega (arith, none_in_front w front all low, sum_by-append (λ (y : Entry). cond {A = ℕ} (registers w y) 1 0) front taken)
+counted_after : (w : ℕ) (prefix taken : List Entry) → All (λ x. x.worker ≡ 0) prefix → 0 < w → count_by (registers w) (prefix ++ taken) ≡ count_by (registers w) taken
+counted_after w prefix taken all low = omega (arith, none_in_prefix w prefix all low, sum_by-append (λ (y : Entry). cond {A = ℕ} (registers w y) 1 0) prefix taken)
 
 or_some : {X : Type 0} (a b : Option X) → is_some (option_or a b) ≡ (is_some a || is_some b)
 or_some None b = refl
@@ -108,13 +108,13 @@ or_true : (b : Bool) → (b || true) ≡ true
 or_true true = refl
 or_true false = refl
 
-some_behind : (front taken : List Entry) (key : ℕ) → is_some (desc_in taken key) ≡ true → is_some (desc_in (front ++ taken) key) ≡ true
-some_behind [] taken key h = h
-some_behind (x ∷ xs) taken key h = or_some (registered key x) (desc_in (xs ++ taken) key) ∙ ap (λ b. is_some (registered key x) || b) (some_behind xs taken key h) ∙ or_true (is_some (registered key x))
+some_after : (prefix taken : List Entry) (key : ℕ) → is_some (desc_in taken key) ≡ true → is_some (desc_in (prefix ++ taken) key) ≡ true
+some_after [] taken key h = h
+some_after (x ∷ xs) taken key h = or_some (registered key x) (desc_in (xs ++ taken) key) ∙ ap (λ b. is_some (registered key x) || b) (some_after xs taken key h) ∙ or_true (is_some (registered key x))
 
-known_past : (table : List Descriptor) (front taken : List Entry) (e : Entry) → All (λ x. x.worker ≡ 0) front → 0 < e.worker → is_known (record { table = table; entries = taken }) e ≡ true
-    → is_known (record { table = table; entries = front ++ taken }) e ≡ true
-known_past table front taken e all low h = known_behind table (front ++ taken) e ∙ by_kind (of_kind Dynamic e) (sym (known_behind table taken e) ∙ h)
+known_past : (table : List Descriptor) (prefix taken : List Entry) (e : Entry) → All (λ x. x.worker ≡ 0) prefix → 0 < e.worker → is_known (record { table = table; entries = taken }) e ≡ true
+    → is_known (record { table = table; entries = prefix ++ taken }) e ≡ true
+known_past table prefix taken e all low h = known_after table (prefix ++ taken) e ∙ by_kind (of_kind Dynamic e) (sym (known_after table taken e) ∙ h)
   where
     n : ℕ
     n = length table
@@ -124,19 +124,19 @@ known_past table front taken e all low h = known_behind table (front ++ taken) e
     or_mono false b c f h = f h
 
     by_kind : (k : Bool) → (if k then is_next (record { table = []; entries = taken }) e else (nat_lt e.event.key n || is_some (desc_in taken e.event.key))) ≡ true
-        → (if k then is_next (record { table = []; entries = front ++ taken }) e else (nat_lt e.event.key n || is_some (desc_in (front ++ taken) e.event.key))) ≡ true
-    by_kind true h = subst (λ c. ((ltb 0 e.worker && nat_le e.worker most_workers && nat_lt c MAX_DESCRIPTORS) && (e.event.key == registered_key e.worker c)) ≡ true) (sym (counted_behind e.worker front taken all low)) h
-    by_kind false h = or_mono (nat_lt e.event.key n) (is_some (desc_in taken e.event.key)) (is_some (desc_in (front ++ taken) e.event.key)) (some_behind front taken e.event.key) h
+        → (if k then is_next (record { table = []; entries = prefix ++ taken }) e else (nat_lt e.event.key n || is_some (desc_in (prefix ++ taken) e.event.key))) ≡ true
+    by_kind true h = subst (λ c. ((ltb 0 e.worker && nat_le e.worker most_workers && nat_lt c MAX_DESCRIPTORS) && (e.event.key == registered_key e.worker c)) ≡ true) (sym (counted_after e.worker prefix taken all low)) h
+    by_kind false h = or_mono (nat_lt e.event.key n) (is_some (desc_in taken e.event.key)) (is_some (desc_in (prefix ++ taken) e.event.key)) (some_after prefix taken e.event.key) h
 
 pub is_never_refused : IsNeverRefused
-is_never_refused n table front taken e zeros short r own may =
-    let known = known_past table front taken e zeros own.0 may.known in
+is_never_refused n table prefix taken e zeros short r own may =
+    let known = known_past table prefix taken e zeros own.0 may.known in
     let within : length (taken ++ e ∷ []) ≤ n * most_events = short_by n most_events (taken ++ e ∷ []) (All-push (λ x. IsWorkerOf n x.worker) taken e r.workers own) (few_more taken e r.few may.room) in
     let limit = r.limit in
     let high : e.worker ≤ n = own.1 in
-    let room : nat_lt (length (front ++ taken)) MAX_ENTRIES ≡ true = lt-ltb (length (front ++ taken)) MAX_ENTRIES (omega (arith, length-append front taken, length-append taken (e ∷ []))) in
+    let room : nat_lt (length (prefix ++ taken)) MAX_ENTRIES ≡ true = lt-ltb (length (prefix ++ taken)) MAX_ENTRIES (omega (arith, length-append prefix taken, length-append taken (e ∷ []))) in
     let worker : nat_lt most_workers e.worker ≡ false = le-ltb most_workers e.worker (omega arith) in
-    no_fault (is_known (record { table = table; entries = front ++ taken }) e) (nat_lt most_workers e.worker) (is_lawful e.event.kind e.event.payload) (nat_lt (length (front ++ taken)) MAX_ENTRIES) known worker may.lawful room
+    no_fault (is_known (record { table = table; entries = prefix ++ taken }) e) (nat_lt most_workers e.worker) (is_lawful e.event.kind e.event.payload) (nat_lt (length (prefix ++ taken)) MAX_ENTRIES) known worker may.lawful room
   where
     no_fault : (k w l room : Bool) → k ≡ true → w ≡ false → l ≡ true → room ≡ true
         → (if not k then Some (appends.UnknownKey e) else if w || not l then Some (appends.Unlawful e) else if not room then Some (appends.Full e) else None) ≡ None

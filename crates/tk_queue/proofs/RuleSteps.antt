@@ -11,10 +11,10 @@ use Rattle.crossbeam_queue.proofs.Lists.{at_set}
 use Rattle.tk_events.specs.declared.events.Event.{Event}
 use Rattle.tk_replay.specs.declared.items.Item.{Item}
 use Rattle.tk_replay.specs.declared.items.Item.TheVariants.{Entry as Emitted, End}
-use Rattle.tk_queue.specs.declared.lines.Sending.{Sending}
-use Rattle.tk_queue.specs.declared.lines.Taking.{Taking}
-use Rattle.tk_queue.specs.declared.lines.View.{View}
-use Rattle.tk_queue.specs.declared.lines.View.TheVariants.{Sender, Receiver, Spent}
+use Rattle.tk_queue.specs.declared.session_rules.SenderPass.{SenderPass}
+use Rattle.tk_queue.specs.declared.session_rules.ReceiverPass.{ReceiverPass}
+use Rattle.tk_queue.specs.declared.session_rules.PassView.{PassView}
+use Rattle.tk_queue.specs.declared.session_rules.PassView.TheVariants.{Sender, Receiver, Spent}
 use Rattle.tk_columns.specs.Mixing.{IsWorkerOf, of_worker}
 use Rattle.tk_replay.specs.Core.{Core, IsCore, worker_of, push, put, take_first, items_of, entries}
 use Rattle.tk_queue.specs.Limits.{most_events}
@@ -26,22 +26,22 @@ use Rattle.tk_replay.proofs.CoreSteps.{filter-append, takes, put-same, put-other
 use Rattle.tk_queue.proofs.SharedSteps.{events_in, events_in-append, events_among, events_scripted, pushes_core, widens, waiting_worker}
 
 -- F of each pass
-abbrev Each : (ℕ → View → Type 0) → List View → Type 0
-Each F views = (pass : ℕ) (v : View) → get_elem? views pass ≡ some v → F pass v
+abbrev Each : (ℕ → PassView → Type 0) → List PassView → Type 0
+Each F views = (pass : ℕ) (v : PassView) → get_elem? views pass ≡ some v → F pass v
 
-each_set : (F : ℕ → View → Type 0) (views : List View) (pass : ℕ) (w : View) → F pass w → ((j : ℕ) (u : View) → j ≢ pass → get_elem? views j ≡ some u → F j u) → Each F (set views pass w)
-each_set F views pass w mine others j u e = ⊎_elim (λ (x : (j ≡ pass) × (w ≡ u)). subst (λ (y : ℕ × View). F y.0 y.1) (λ i. (sym x.0 i, x.1 i)) mine)
+each_set : (F : ℕ → PassView → Type 0) (views : List PassView) (pass : ℕ) (w : PassView) → F pass w → ((j : ℕ) (u : PassView) → j ≢ pass → get_elem? views j ≡ some u → F j u) → Each F (set views pass w)
+each_set F views pass w mine others j u e = ⊎_elim (λ (x : (j ≡ pass) × (w ≡ u)). subst (λ (y : ℕ × PassView). F y.0 y.1) (λ i. (sym x.0 i, x.1 i)) mine)
     (λ (x : (j ≢ pass) × (get_elem? views j ≡ some u)). others j u x.0 x.1) (at_set views pass j w u e)
 
-at_end : (l : List View) (a b : View) (j : ℕ) → get_elem? (l ++ a ∷ []) j ≡ some b → (get_elem? l j ≡ some b) ⊎ ((j ≡ length l) × (a ≡ b))
+at_end : (l : List PassView) (a b : PassView) (j : ℕ) → get_elem? (l ++ a ∷ []) j ≡ some b → (get_elem? l j ≡ some b) ⊎ ((j ≡ length l) × (a ≡ b))
 at_end [] a b zero e = inr (refl, some-injective a b e)
 at_end [] a b (suc j) e = absurd (some-ne-none b (sym e))
 at_end (x ∷ xs) a b zero e = inl e
 at_end (x ∷ xs) a b (suc j) e = ⊎_elim (λ h. inl h) (λ (h : (j ≡ length xs) × (a ≡ b)). inr (ap suc h.0, h.1)) (at_end xs a b j e)
 
-each_snoc : (F : ℕ → View → Type 0) (views : List View) (w : View) → Each F views → F (length views) w → Each F (views ++ w ∷ [])
+each_snoc : (F : ℕ → PassView → Type 0) (views : List PassView) (w : PassView) → Each F views → F (length views) w → Each F (views ++ w ∷ [])
 each_snoc F views w old new j u e = ⊎_elim (λ (h : get_elem? views j ≡ some u). old j u h)
-    (λ (h : (j ≡ length views) × (w ≡ u)). subst (λ (y : ℕ × View). F y.0 y.1) (λ i. (sym h.0 i, h.1 i)) new) (at_end views w u j e)
+    (λ (h : (j ≡ length views) × (w ≡ u)). subst (λ (y : ℕ × PassView). F y.0 y.1) (λ i. (sym h.0 i, h.1 i)) new) (at_end views w u j e)
 
 -- the core changed for worker w alone, who had not ended, and the list of what was taken stayed
 record Moves (w : ℕ) (c d : Core) : Type 0 where
@@ -49,17 +49,17 @@ record Moves (w : ℕ) (c d : Core) : Type 0 where
   was : c.ended w ≡ false
   others : (v : ℕ) → v ≢ w → (d.sent v ≡ c.sent v) × (d.ended v ≡ c.ended v)
 
-token_stays : (w : ℕ) (c d : Core) → Moves w c d → (t : Sending) → Stands c t → Stands d t
+token_stays : (w : ℕ) (c d : Core) → Moves w c d → (t : SenderPass) → Stands c t → Stands d t
 token_stays w c d m t st =
     let apart : t.worker ≢ w = λ h. true≢false (sym st.0 ∙ ap c.ended h ∙ m.was) in
     let o = m.others t.worker apart in (o.1 ∙ st.0, st.1 ∙ sym o.0)
 
-fits_stays : (known workers reader : ℕ) (seat : ℕ → ℕ) (w : ℕ) (c d : Core) → Moves w c d → (pass : ℕ) (u : View) → pass ≢ seat w → Fits known workers reader seat c pass u → Fits known workers reader seat d pass u
-fits_stays known workers reader seat w c d m pass (Sender s) apart f =
-    let other : s.worker ≢ w = λ h. apart (f.0 ∙ ap seat h) in
+fits_stays : (known workers reader : ℕ) (pass_of : ℕ → ℕ) (w : ℕ) (c d : Core) → Moves w c d → (pass : ℕ) (u : PassView) → pass ≢ pass_of w → Fits known workers reader pass_of c pass u → Fits known workers reader pass_of d pass u
+fits_stays known workers reader pass_of w c d m pass (Sender s) apart f =
+    let other : s.worker ≢ w = λ h. apart (f.0 ∙ ap pass_of h) in
     let o = m.others s.worker other in (f.0, f.1, f.2 ∙ sym o.0, f.3 ∙ sym o.1, f.4)
-fits_stays known workers reader seat w c d m pass (Receiver r) apart f = (f.0, f.1, f.2 ∙ sym m.taken, All-weaker (Stands c) (Stands d) (token_stays w c d m) r.tokens f.3, f.4)
-fits_stays known workers reader seat w c d m pass Spent apart f = tt
+fits_stays known workers reader pass_of w c d m pass (Receiver r) apart f = (f.0, f.1, f.2 ∙ sym m.taken, All-weaker (Stands c) (Stands d) (token_stays w c d m) r.tokens f.3, f.4)
+fits_stays known workers reader pass_of w c d m pass Spent apart f = tt
 
 push_moves : (x : Item) (c : Core) → c.ended (worker_of x) ≡ false → Moves (worker_of x) c (push x c)
 push_moves (Emitted e) c was = record { taken = refl; was = was; others = λ v n. (put-other c.sent e.worker (c.sent e.worker ++ e.event ∷ []) v n, refl) }
@@ -69,18 +69,18 @@ push_waits : (x : Item) (c : Core) → (push x c).waiting ≡ c.waiting ++ x ∷
 push_waits (Emitted e) c = refl
 push_waits (End w) c = refl
 
-push_fits : (known workers reader : ℕ) (seat : ℕ → ℕ) (c : Core) (pass : ℕ) (s : Sending) (x : Item) → worker_of x ≡ s.worker → Fits known workers reader seat c pass (Sender s)
-    → Fits known workers reader seat (push x c) pass (pushed (Sender s) x)
-push_fits known workers reader seat c pass s (Emitted e) own f =
+push_fits : (known workers reader : ℕ) (pass_of : ℕ → ℕ) (c : Core) (pass : ℕ) (s : SenderPass) (x : Item) → worker_of x ≡ s.worker → Fits known workers reader pass_of c pass (Sender s)
+    → Fits known workers reader pass_of (push x c) pass (pushed (Sender s) x)
+push_fits known workers reader pass_of c pass s (Emitted e) own f =
     (f.0, f.1, ap (λ l. l ++ e.event ∷ []) f.2 ∙ sym (ap (put c.sent e.worker (c.sent e.worker ++ e.event ∷ [])) (sym own) ∙ put-same c.sent e.worker (c.sent e.worker ++ e.event ∷ []) ∙ ap (λ w. c.sent w ++ e.event ∷ []) own), f.3, f.4)
-push_fits known workers reader seat c pass s (End w) own f = (f.0, f.1, f.2, sym (ap (put c.ended w true) (sym own) ∙ put-same c.ended w true), f.4)
+push_fits known workers reader pass_of c pass s (End w) own f = (f.0, f.1, f.2, sym (ap (put c.ended w true) (sym own) ∙ put-same c.ended w true), f.4)
 
-own_worker : (s : Sending) (x : Item) → IsNext s x → worker_of x ≡ s.worker
+own_worker : (s : SenderPass) (x : Item) → IsNext s x → worker_of x ≡ s.worker
 own_worker s (Emitted e) next = next.0
 own_worker s (End w) next = next
 
 -- what each worker sent may be emitted, after the push too
-push_emitted : (known : ℕ) (c : Core) (s : Sending) (x : Item) → IsNext s x → s.sent ≡ c.sent s.worker → s.known ≡ known → ((w : ℕ) → Emission known w (c.sent w)) → (w : ℕ) → Emission known w ((push x c).sent w)
+push_emitted : (known : ℕ) (c : Core) (s : SenderPass) (x : Item) → IsNext s x → s.sent ≡ c.sent s.worker → s.known ≡ known → ((w : ℕ) → Emission known w (c.sent w)) → (w : ℕ) → Emission known w ((push x c).sent w)
 push_emitted known c s (Emitted e) next same k m w = ⊎_elim
     (λ (is : w ≡ e.worker).
     let mine : c.sent e.worker ≡ s.sent = ap c.sent next.0 ∙ sym same in
@@ -93,7 +93,7 @@ push_emitted known c s (Emitted e) next same k m w = ⊎_elim
 push_emitted known c s (End v) next same k m w = m w
 
 -- a push is the core's step, and the pass of its sender is the only one whose view changes
-pub push_step : (pass : ℕ) (s : Sending) (x : Item) → s.ended ≡ false → IsNext s x → (items : List Item) (views : List View) (h : Session items views) → get_elem? views pass ≡ some (Sender s)
+pub push_step : (pass : ℕ) (s : SenderPass) (x : Item) → s.ended ≡ false → IsNext s x → (items : List Item) (views : List PassView) (h : Session items views) → get_elem? views pass ≡ some (Sender s)
     → (t : Session (items ++ x ∷ []) (set views pass (pushed (Sender s) x))) × (t.core ≡ push x h.core)
 push_step pass s x open' next items views h at =
     let own = own_worker s x next in
@@ -106,26 +106,26 @@ push_step pass s x open' next items views h at =
         known = h.known;
         workers = h.workers;
         reader = h.reader;
-        seat = h.seat;
+        pass_of = h.pass_of;
         waits = push_waits x h.core ∙ ap (λ l. l ++ x ∷ []) h.waits;
         lawful = pushes_core h.workers x h.core (subst (IsWorkerOf h.workers) (sym own) mine.1) was h.lawful;
         emitted = push_emitted h.known h.core s x next mine.2 mine.4 h.emitted;
-        fits = each_set (Fits h.known h.workers h.reader h.seat d) views pass (pushed (Sender s) x) (push_fits h.known h.workers h.reader h.seat h.core pass s x own mine)
-            (λ j u other e. fits_stays h.known h.workers h.reader h.seat (worker_of x) h.core d m j u (λ i. other (i ∙ ap h.seat own ∙ sym mine.0)) (h.fits j u e));
+        fits = each_set (Fits h.known h.workers h.reader h.pass_of d) views pass (pushed (Sender s) x) (push_fits h.known h.workers h.reader h.pass_of h.core pass s x own mine)
+            (λ j u other e. fits_stays h.known h.workers h.reader h.pass_of (worker_of x) h.core d m j u (λ i. other (i ∙ ap h.pass_of own ∙ sym mine.0)) (h.fits j u e));
       },
       refl,
     )
 
 -- a sender that has not ended may push an entry of its own, or its mark
-pub pushes : (n pass : ℕ) (s : Sending) (x : Item) → s.ended ≡ false → IsNext s x → Pushes Session n pass (Sender s) x (λ w. w ≡ pushed (Sender s) x)
+pub pushes : (n pass : ℕ) (s : SenderPass) (x : Item) → s.ended ≡ false → IsNext s x → Pushes Session n pass (Sender s) x (λ w. w ≡ pushed (Sender s) x)
 pushes n pass s x open' next items views _ h at = (pushed (Sender s) x, (push_step pass s x open' next items views h at).0, refl)
 
 -- no other pass sees what was taken
-take_fits : (known workers reader : ℕ) (seat : ℕ → ℕ) (x : Item) (xs : List Item) (c : Core) (pass : ℕ) (u : View) → pass ≢ reader → Fits known workers reader seat c pass u
-    → Fits known workers reader seat (take_first x xs c) pass u
-take_fits known workers reader seat x xs c pass (Sender s) apart f = f
-take_fits known workers reader seat x xs c pass (Receiver r) apart f = absurd (apart f.0)
-take_fits known workers reader seat x xs c pass Spent apart f = tt
+take_fits : (known workers reader : ℕ) (pass_of : ℕ → ℕ) (x : Item) (xs : List Item) (c : Core) (pass : ℕ) (u : PassView) → pass ≢ reader → Fits known workers reader pass_of c pass u
+    → Fits known workers reader pass_of (take_first x xs c) pass u
+take_fits known workers reader pass_of x xs c pass (Sender s) apart f = f
+take_fits known workers reader pass_of x xs c pass (Receiver r) apart f = absurd (apart f.0)
+take_fits known workers reader pass_of x xs c pass Spent apart f = tt
 
 -- the first waiting item follows what was taken of its worker
 follows : (known n : ℕ) (x : Item) (xs : List Item) (c : Core) → c.waiting ≡ x ∷ xs → IsCore n c → ((w : ℕ) → Emission known w (c.sent w)) → Follows known c.taken x
@@ -143,7 +143,7 @@ follows known n (Emitted e) xs c waits k m =
 follows known n (End w) xs c waits k m = tt
 
 -- a pop is the core's step
-pub take_step : (pass : ℕ) (r : Taking) (x : Item) (items : List Item) (views : List View) (h : Session (x ∷ items) views) → get_elem? views pass ≡ some (Receiver r)
+pub take_step : (pass : ℕ) (r : ReceiverPass) (x : Item) (items : List Item) (views : List PassView) (h : Session (x ∷ items) views) → get_elem? views pass ≡ some (Receiver r)
     → (t : Session items (set views pass (popped (Receiver r) x))) × (t.core ≡ take_first x items h.core)
 take_step pass r x items views h at =
     let mine = h.fits pass (Receiver r) at in
@@ -153,18 +153,18 @@ take_step pass r x items views h at =
         known = h.known;
         workers = h.workers;
         reader = h.reader;
-        seat = h.seat;
+        pass_of = h.pass_of;
         waits = refl;
         lawful = takes h.workers x items h.core h.waits h.lawful;
         emitted = h.emitted;
-        fits = each_set (Fits h.known h.workers h.reader h.seat d) views pass (popped (Receiver r) x) (mine.0, mine.1, ap (λ l. l ++ x ∷ []) mine.2, mine.3, mine.4)
-            (λ j u other e. take_fits h.known h.workers h.reader h.seat x items h.core j u (λ i. other (i ∙ sym mine.0)) (h.fits j u e));
+        fits = each_set (Fits h.known h.workers h.reader h.pass_of d) views pass (popped (Receiver r) x) (mine.0, mine.1, ap (λ l. l ++ x ∷ []) mine.2, mine.3, mine.4)
+            (λ j u other e. take_fits h.known h.workers h.reader h.pass_of x items h.core j u (λ i. other (i ∙ sym mine.0)) (h.fits j u e));
       },
       refl,
     )
 
 -- what the receiver learns of the first waiting item
-may_take : (pass : ℕ) (r : Taking) (x : Item) (items : List Item) (views : List View) (h : Session (x ∷ items) views) → get_elem? views pass ≡ some (Receiver r) → MayTake (Receiver r) x
+may_take : (pass : ℕ) (r : ReceiverPass) (x : Item) (items : List Item) (views : List PassView) (h : Session (x ∷ items) views) → get_elem? views pass ≡ some (Receiver r) → MayTake (Receiver r) x
 may_take pass r x items views h at =
     let mine = h.fits pass (Receiver r) at in (
       subst (λ n. IsWorkerOf n (worker_of x)) (sym mine.1) (waiting_worker h.workers x items h.core h.waits h.lawful),
@@ -172,7 +172,7 @@ may_take pass r x items views h at =
     )
 
 -- the receiver may take
-pub pops : (pass : ℕ) (r : Taking) → PopsUnder Session pass (Receiver r) (Pops (Receiver r))
+pub pops : (pass : ℕ) (r : ReceiverPass) → PopsUnder Session pass (Receiver r) (Pops (Receiver r))
 pops pass r x items views h at = (popped (Receiver r) x, (take_step pass r x items views h at).0, (refl, may_take pass r x items views h at))
 
 -- the first state of a session, which has no worker yet
@@ -183,7 +183,7 @@ begins_fresh = (
     known = 0;
     workers = 0;
     reader = 0;
-    seat = λ w. 0;
+    pass_of = λ w. 0;
     waits = refl;
     lawful = record { kept = λ w. refl; others = λ w n. (refl, refl) };
     emitted = emission_none 0;
@@ -196,100 +196,100 @@ pub begins : Session [] (new_receiver ∷ [])
 begins = begins_fresh.0
 
 -- a further worker's seat is no other pass
-fork_fits : (known workers reader : ℕ) (seat : ℕ → ℕ) (new : ℕ) (c : Core) (pass : ℕ) (u : View) → pass ≢ reader → Fits known workers reader seat c pass u → Fits known (workers + 1) reader (put seat (workers + 1) new) c pass u
-fork_fits known workers reader seat new c pass (Sender s) apart f =
+fork_fits : (known workers reader : ℕ) (pass_of : ℕ → ℕ) (new : ℕ) (c : Core) (pass : ℕ) (u : PassView) → pass ≢ reader → Fits known workers reader pass_of c pass u → Fits known (workers + 1) reader (put pass_of (workers + 1) new) c pass u
+fork_fits known workers reader pass_of new c pass (Sender s) apart f =
     let is = f.1 in
     let other : s.worker ≢ workers + 1 = λ h. absurd (let le : s.worker ≤ workers = is.1 in omega arith) in
-    (f.0 ∙ sym (put-other seat (workers + 1) new s.worker other), (is.0, omega arith), f.2, f.3, f.4)
-fork_fits known workers reader seat new c pass (Receiver r) apart f = absurd (apart f.0)
-fork_fits known workers reader seat new c pass Spent apart f = tt
+    (f.0 ∙ sym (put-other pass_of (workers + 1) new s.worker other), (is.0, omega arith), f.2, f.3, f.4)
+fork_fits known workers reader pass_of new c pass (Receiver r) apart f = absurd (apart f.0)
+fork_fits known workers reader pass_of new c pass Spent apart f = tt
 
 -- the receiver may make the next sender
-pub fork_step : (pass : ℕ) (r : Taking) (items : List Item) (views : List View) (h : Session items views) → get_elem? views pass ≡ some (Receiver r)
+pub fork_step : (pass : ℕ) (r : ReceiverPass) (items : List Item) (views : List PassView) (h : Session items views) → get_elem? views pass ≡ some (Receiver r)
     → (t : Session items (set views pass (one_more (Receiver r)) ++ next_sender (Receiver r) ∷ [])) × (t.core ≡ h.core)
 fork_step pass r items views h at =
     let mine = h.fits pass (Receiver r) at in
-    let left : View = one_more (Receiver r) in
-    let vs : List View = set views pass left in
-    let seat : ℕ → ℕ = put h.seat (h.workers + 1) (length vs) in
-    let F : ℕ → View → Type 0 = Fits h.known (h.workers + 1) h.reader seat h.core in
+    let left : PassView = one_more (Receiver r) in
+    let vs : List PassView = set views pass left in
+    let pass_of : ℕ → ℕ = put h.pass_of (h.workers + 1) (length vs) in
+    let F : ℕ → PassView → Type 0 = Fits h.known (h.workers + 1) h.reader pass_of h.core in
     let w : r.workers + 1 ≡ h.workers + 1 = ap (λ n. n + 1) mine.1 in
     let fresh = h.lawful.others (h.workers + 1) (λ is. absurd (let le : h.workers + 1 ≤ h.workers = is.1 in omega arith)) in
     let old : Each F vs = each_set F views pass left (mine.0, w, mine.2, mine.3, mine.4)
-    (λ j u other e. fork_fits h.known h.workers h.reader h.seat (length vs) h.core j u (λ i. other (i ∙ sym mine.0)) (h.fits j u e)) in (
+    (λ j u other e. fork_fits h.known h.workers h.reader h.pass_of (length vs) h.core j u (λ i. other (i ∙ sym mine.0)) (h.fits j u e)) in (
       record {
         core = h.core;
         known = h.known;
         workers = h.workers + 1;
         reader = h.reader;
-        seat = seat;
+        pass_of = pass_of;
         waits = h.waits;
         lawful = widens h.workers h.core h.lawful;
         emitted = h.emitted;
         fits = each_snoc F vs (next_sender (Receiver r)) old
-            (sym (ap seat w ∙ put-same h.seat (h.workers + 1) (length vs)), subst (IsWorkerOf (h.workers + 1)) (sym w) (omega arith, omega arith), sym (ap h.core.sent w ∙ fresh.0), sym (ap h.core.ended w ∙ fresh.1), mine.4);
+            (sym (ap pass_of w ∙ put-same h.pass_of (h.workers + 1) (length vs)), subst (IsWorkerOf (h.workers + 1)) (sym w) (omega arith, omega arith), sym (ap h.core.sent w ∙ fresh.0), sym (ap h.core.ended w ∙ fresh.1), mine.4);
       },
       refl,
     )
 
-pub forks : (pass : ℕ) (r : Taking) → Forks Session pass (Receiver r) (one_more (Receiver r)) (next_sender (Receiver r))
+pub forks : (pass : ℕ) (r : ReceiverPass) → Forks Session pass (Receiver r) (one_more (Receiver r)) (next_sender (Receiver r))
 forks pass r items views h at = (fork_step pass r items views h at).0
 
 -- before there is a sender, the number of static descriptors may be any
-bit_fits : (known new reader : ℕ) (seat : ℕ → ℕ) (c : Core) (pass : ℕ) (u : View) → pass ≢ reader → Fits known 0 reader seat c pass u → Fits new 0 reader seat c pass u
-bit_fits known new reader seat c pass (Sender s) apart f = let is = f.1 in absurd (let low : 0 < s.worker = is.0 in let high : s.worker ≤ 0 = is.1 in omega arith)
-bit_fits known new reader seat c pass (Receiver r) apart f = absurd (apart f.0)
-bit_fits known new reader seat c pass Spent apart f = tt
+bit_fits : (known new reader : ℕ) (pass_of : ℕ → ℕ) (c : Core) (pass : ℕ) (u : PassView) → pass ≢ reader → Fits known 0 reader pass_of c pass u → Fits new 0 reader pass_of c pass u
+bit_fits known new reader pass_of c pass (Sender s) apart f = let is = f.1 in absurd (let low : 0 < s.worker = is.0 in let high : s.worker ≤ 0 = is.1 in omega arith)
+bit_fits known new reader pass_of c pass (Receiver r) apart f = absurd (apart f.0)
+bit_fits known new reader pass_of c pass Spent apart f = tt
 
--- the number of static descriptors may be told bit by bit
-pub bit_step : (b pass : ℕ) (r : Taking) → r.workers ≡ 0 → (items : List Item) (views : List View) (h : Session items views) → get_elem? views pass ≡ some (Receiver r)
+-- the number of static descriptors may be set bit by bit
+pub bit_step : (b pass : ℕ) (r : ReceiverPass) → r.workers ≡ 0 → (items : List Item) (views : List PassView) (h : Session items views) → get_elem? views pass ≡ some (Receiver r)
     → (t : Session items (set views pass (with_bit b (Receiver r)) ++ Spent ∷ [])) × (t.core ≡ h.core)
 bit_step b pass r none items views h at =
     let mine = h.fits pass (Receiver r) at in
-    let left : View = with_bit b (Receiver r) in
-    let vs : List View = set views pass left in
+    let left : PassView = with_bit b (Receiver r) in
+    let vs : List PassView = set views pass left in
     let new : ℕ = 2 * r.known + b in
     let zero' : h.workers ≡ 0 = sym mine.1 ∙ none in
-    let F : ℕ → View → Type 0 = Fits new 0 h.reader h.seat h.core in
+    let F : ℕ → PassView → Type 0 = Fits new 0 h.reader h.pass_of h.core in
     let k : IsCore 0 h.core = subst (λ n. IsCore n h.core) zero' h.lawful in (
       record {
         core = h.core;
         known = new;
         workers = 0;
         reader = h.reader;
-        seat = h.seat;
+        pass_of = h.pass_of;
         waits = h.waits;
         lawful = k;
         emitted = λ w. subst (Emission new w) (sym (k.others w (λ is. absurd (let low = is.0 in let high = is.1 in omega arith))).0) (emission_none new w);
         fits = each_snoc F vs Spent
             (each_set F views pass left (mine.0, none, mine.2, mine.3, refl)
-            (λ j u other e. bit_fits h.known new h.reader h.seat h.core j u (λ i. other (i ∙ sym mine.0)) (subst (λ n. Fits h.known n h.reader h.seat h.core j u) zero' (h.fits j u e))))
+            (λ j u other e. bit_fits h.known new h.reader h.pass_of h.core j u (λ i. other (i ∙ sym mine.0)) (subst (λ n. Fits h.known n h.reader h.pass_of h.core j u) zero' (h.fits j u e))))
             tt;
       },
       refl,
     )
 
-pub bits : (b pass : ℕ) (r : Taking) → r.workers ≡ 0 → Forks Session pass (Receiver r) (with_bit b (Receiver r)) Spent
+pub bits : (b pass : ℕ) (r : ReceiverPass) → r.workers ≡ 0 → Forks Session pass (Receiver r) (with_bit b (Receiver r)) Spent
 bits b pass r none items views h at = (bit_step b pass r none items views h at).0
 
 -- the receiver may take in a sender that has ended
-pub merge_step : (pass : ℕ) (r : Taking) (other : ℕ) (s : Sending) → s.ended ≡ true → (items : List Item) (views : List View) (h : Session items views) → get_elem? views pass ≡ some (Receiver r) → ¬ (other ≡ pass)
+pub merge_step : (pass : ℕ) (r : ReceiverPass) (other : ℕ) (s : SenderPass) → s.ended ≡ true → (items : List Item) (views : List PassView) (h : Session items views) → get_elem? views pass ≡ some (Receiver r) → ¬ (other ≡ pass)
     → get_elem? (set views pass (with_token (Receiver r) (Sender s))) other ≡ some (Sender s)
     → (t : Session items (set (set views pass (with_token (Receiver r) (Sender s))) other Spent)) × (t.core ≡ h.core)
 merge_step pass r other s done items views h at two at' =
-    let both : View = with_token (Receiver r) (Sender s) in
-    let vs : List View = set views pass both in
+    let both : PassView = with_token (Receiver r) (Sender s) in
+    let vs : List PassView = set views pass both in
     let mine = h.fits pass (Receiver r) at in
     let was : get_elem? views other ≡ some (Sender s) = ⊎_elim (λ (x : (other ≡ pass) × (both ≡ Sender s)). absurd (two x.0)) (λ (x : (other ≢ pass) × (get_elem? views other ≡ some (Sender s))). x.1) (at_set views pass other both (Sender s) at') in
     let theirs = h.fits other (Sender s) was in
-    let F : ℕ → View → Type 0 = Fits h.known h.workers h.reader h.seat h.core in
+    let F : ℕ → PassView → Type 0 = Fits h.known h.workers h.reader h.pass_of h.core in
     let token : Stands h.core s = (sym theirs.3 ∙ done, theirs.2) in (
       record {
         core = h.core;
         known = h.known;
         workers = h.workers;
         reader = h.reader;
-        seat = h.seat;
+        pass_of = h.pass_of;
         waits = h.waits;
         lawful = h.lawful;
         emitted = h.emitted;
@@ -298,52 +298,52 @@ merge_step pass r other s done items views h at two at' =
       refl,
     )
 
-pub merges : (pass : ℕ) (r : Taking) (other : ℕ) (s : Sending) → s.ended ≡ true → Merges Session pass (Receiver r) other (Sender s) (with_token (Receiver r) (Sender s)) Spent
+pub merges : (pass : ℕ) (r : ReceiverPass) (other : ℕ) (s : SenderPass) → s.ended ≡ true → Merges Session pass (Receiver r) other (Sender s) (with_token (Receiver r) (Sender s)) Spent
 merges pass r other s done items views h at two at' = (merge_step pass r other s done items views h at two at').0
 
 -- what the receiver learns of the whole
-pub learns : (pass : ℕ) (r : Taking) → Learns Session pass (Receiver r) (Concludes (Receiver r))
+pub learns : (pass : ℕ) (r : ReceiverPass) → Learns Session pass (Receiver r) (Concludes (Receiver r))
 learns pass r items views h at =
     let mine = h.fits pass (Receiver r) at in
     (h.core, subst (λ n. IsCore n h.core) (sym mine.1) h.lawful, h.waits, sym mine.2, mine.3)
 
-pub learns_nothing : (pass : ℕ) (v : View) → Learns Session pass v (λ items. ⊤)
+pub learns_nothing : (pass : ℕ) (v : PassView) → Learns Session pass v (λ items. ⊤)
 learns_nothing pass v items views h at = tt
 
-pub pushes_own : (n pass : ℕ) (v : View) (x : Item) → MayPush v x → Pushes Session n pass v x (λ w. w ≡ pushed v x)
+pub pushes_own : (n pass : ℕ) (v : PassView) (x : Item) → MayPush v x → Pushes Session n pass v x (λ w. w ≡ pushed v x)
 pushes_own n pass (Sender s) x may = pushes n pass s x may.0 may.1
 pushes_own n pass (Receiver r) x may = absurd may
 pushes_own n pass Spent x may = absurd may
 
-pub pops_own : (pass : ℕ) (v : View) → IsReader v → PopsUnder Session pass v (Pops v)
+pub pops_own : (pass : ℕ) (v : PassView) → IsReader v → PopsUnder Session pass v (Pops v)
 pops_own pass (Receiver r) may = pops pass r
 pops_own pass (Sender s) may = absurd may
 pops_own pass Spent may = absurd may
 
-pub forks_own : (pass : ℕ) (v : View) → IsReader v → Forks Session pass v (one_more v) (next_sender v)
+pub forks_own : (pass : ℕ) (v : PassView) → IsReader v → Forks Session pass v (one_more v) (next_sender v)
 forks_own pass (Receiver r) may = forks pass r
 forks_own pass (Sender s) may = absurd may
 forks_own pass Spent may = absurd may
 
-pub bits_own : (b pass : ℕ) (v : View) → IsFirst v → Forks Session pass v (with_bit b v) Spent
+pub bits_own : (b pass : ℕ) (v : PassView) → IsFirst v → Forks Session pass v (with_bit b v) Spent
 bits_own b pass (Receiver r) none = bits b pass r none
 bits_own b pass (Sender s) none = absurd none
 bits_own b pass Spent none = absurd none
 
-pub merges_own : (pass : ℕ) (v : View) (other : ℕ) (w : View) → MayTakeIn v w → Merges Session pass v other w (with_token v w) Spent
+pub merges_own : (pass : ℕ) (v : PassView) (other : ℕ) (w : PassView) → MayTakeIn v w → Merges Session pass v other w (with_token v w) Spent
 merges_own pass (Receiver r) other (Sender s) may = merges pass r other s may
 merges_own pass (Receiver r) other (Receiver q) may = absurd may
 merges_own pass (Receiver r) other Spent may = absurd may
 merges_own pass (Sender s) other w may = absurd may
 merges_own pass Spent other w may = absurd may
 
-pub learns_own : (pass : ℕ) (v : View) → IsReader v → Learns Session pass v (Concludes v)
+pub learns_own : (pass : ℕ) (v : PassView) → IsReader v → Learns Session pass v (Concludes v)
 learns_own pass (Receiver r) may = learns pass r
 learns_own pass (Sender s) may = absurd may
 learns_own pass Spent may = absurd may
 
-pub may_take_in : (v w : View) (k n : ℕ) (taken : List Item) (tokens : List Sending) (j worker : ℕ) (sent : List Event) → v ≡ receiver k n taken tokens → w ≡ sender j worker sent true → MayTakeIn v w
-may_take_in v w k n taken tokens j worker sent e f = subst (λ (y : View × View). MayTakeIn y.0 y.1) (λ i. (sym e i, sym f i)) refl
+pub may_take_in : (v w : PassView) (k n : ℕ) (taken : List Item) (tokens : List SenderPass) (j worker : ℕ) (sent : List Event) → v ≡ receiver k n taken tokens → w ≡ sender j worker sent true → MayTakeIn v w
+may_take_in v w k n taken tokens j worker sent e f = subst (λ (y : PassView × PassView). MayTakeIn y.0 y.1) (λ i. (sym e i, sym f i)) refl
 
 pub holds_states : HoldsStates Session
 holds_states items views = ((λ h. (h.core, (h, refl))), λ h. h.1.0)
@@ -378,7 +378,7 @@ join_is_none c items views pass (Receiver r) other Spent h at two at' may = absu
 join_is_none c items views pass (Sender s) other w h at two at' may = absurd may
 join_is_none c items views pass Spent other w h at two at' may = absurd may
 
-set_same : (views : List View) (pass : ℕ) (v : View) → get_elem? views pass ≡ some v → set views pass v ≡ views
+set_same : (views : List PassView) (pass : ℕ) (v : PassView) → get_elem? views pass ≡ some v → set views pass v ≡ views
 set_same [] pass v at = absurd (some-ne-none v (sym at))
 set_same (u ∷ us) zero v at = ap (λ x. x ∷ us) (sym (some-injective u v at))
 set_same (u ∷ us) (suc pass) v at = ap (λ l. u ∷ l) (set_same us pass v at)

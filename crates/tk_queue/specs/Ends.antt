@@ -17,7 +17,7 @@ use Rattle.tk_columns.specs.Recorded.{Recorded}
 use Rattle.tk_columns.specs.Entries.{desc, desc_in}
 use Rattle.tk_columns.specs.Record.{is_known}
 use Rattle.tk_columns.specs.Mixing.{IsWorkerOf, of_worker}
-use Rattle.tk_replay.specs.Limits.{most_workers, places}
+use Rattle.tk_replay.specs.Limits.{most_workers, worker_slots}
 use Rattle.tk_replay.specs.declared.items.Item.{Item}
 use Rattle.tk_replay.specs.declared.items.Item.TheVariants.{Entry as Emitted, End}
 use Rattle.tk_replay.specs.Core.{entries}
@@ -25,9 +25,9 @@ use Rattle.tk_queue.specs.declared.senders.SendFault.{SendFault}
 use Rattle.tk_queue.specs.declared.senders.SendFault.TheVariants.{UnknownNode, Unlawful, Limit}
 use Rattle.tk_queue.specs.declared.senders.RegisterFault.{RegisterFault}
 use Rattle.tk_queue.specs.declared.senders.RegisterFault.TheVariants as unregistered
-use Rattle.tk_queue.specs.declared.lines.Sending.{Sending}
-use Rattle.tk_queue.specs.declared.lines.View.{View}
-use Rattle.tk_queue.specs.declared.lines.View.TheVariants.{Sender as Sends, Receiver as Takes}
+use Rattle.tk_queue.specs.declared.session_rules.SenderPass.{SenderPass}
+use Rattle.tk_queue.specs.declared.session_rules.PassView.{PassView}
+use Rattle.tk_queue.specs.declared.session_rules.PassView.TheVariants.{Sender as Sends, Receiver as Takes}
 use Rattle.tk_queue.specs.declared.receivers.CloseReason.{CloseReason}
 use Rattle.tk_queue.specs.declared.receivers.CloseReason.TheVariants.{Missing, Twice, NotDrained}
 use Rattle.tk_queue.specs.Limits.{most_events}
@@ -39,25 +39,25 @@ abbrev pub capacity_of : TableId → ℕ
 capacity_of session = session.slots
 
 -- the session, its table of static descriptors, the worker, and the events that it emitted there, in order
-pub record Emits : Type 0 where
+pub record SenderView : Type 0 where
   pub session : TableId
   pub table : List Descriptor
   pub worker : ℕ
   pub sent : List Event
 
-abbrev pub sends : Emits → Event → Emits
+abbrev pub sends : SenderView → Event → SenderView
 sends s e = record { session = s.session; table = s.table; worker = s.worker; sent = s.sent ++ e ∷ [] }
 
 -- the record of what the sender alone emitted
-abbrev pub own : Emits → Recorded
+abbrev pub own : SenderView → Recorded
 own s = record { table = s.table; entries = entries_by s.worker s.sent }
 
 -- whether the descriptor is static, or the sender registered it
-abbrev pub knows : Emits → ℕ → Bool
+abbrev pub knows : SenderView → ℕ → Bool
 knows s key = is_some (desc (own s) key)
 
 -- the first reason why the event is not sent, if there is one; a full queue is none of the sender's
-abbrev pub refusal_of : Emits → Event → Option SendFault
+abbrev pub refusal_of : SenderView → Event → Option SendFault
 refusal_of s e =
     if not (knows s e.key) then Some (UnknownNode e)
     else if not (is_plain e) then Some (Unlawful e)
@@ -65,7 +65,7 @@ refusal_of s e =
     else None
 
 -- there is room for one registration more
-abbrev pub HasRoom : Emits → Type 0
+abbrev pub HasRoom : SenderView → Type 0
 HasRoom s = (length s.sent < most_events) × (registrations s.sent < MAX_DESCRIPTORS)
 
 -- the descriptor below a parent
@@ -73,15 +73,15 @@ abbrev pub child : Descriptor → Pair → List ℕ → DType → Descriptor
 child above segment name dtype = record { id = above.id ++ segment ∷ []; name = name; dtype = dtype }
 
 -- the sender's next registration
-abbrev pub registration : Emits → ℕ → Descriptor → Event
+abbrev pub registration : SenderView → ℕ → Descriptor → Event
 registration s stamp d = record { kind = Dynamic; key = registered_key s.worker (registrations s.sent); stamp = stamp; payload = Described d }
 
 -- no descriptor has the key, static or registered by the sender
-abbrev pub IsNew : Emits → ℕ → Type 0
+abbrev pub IsNew : SenderView → ℕ → Type 0
 IsNew s key = desc (own s) key ≡ None
 
 -- What registering a descriptor answers, and the sender after it. Want of memory may come at any.
-abbrev pub IsRegisteredAs : Emits → Emits → ℕ → Pair → List ℕ → DType → ℕ → Result ℕ RegisterFault → Type 0
+abbrev pub IsRegisteredAs : SenderView → SenderView → ℕ → Pair → List ℕ → DType → ℕ → Result ℕ RegisterFault → Type 0
 IsRegisteredAs old new parent segment name dtype stamp (Ok key) =
     (above : Descriptor) × (desc (own old) parent ≡ Some above) × HasRoom old × FitsLimits (above.id ++ segment ∷ [])
     × (key ≡ registered_key old.worker (registrations old.sent)) × (new ≡ sends old (registration old stamp (child above segment name dtype)))
@@ -94,7 +94,7 @@ IsRegisteredAs old new parent segment name dtype stamp (Err (unregistered.Id _))
 IsRegisteredAs old new parent segment name dtype stamp (Err unregistered.Memory) = new ≡ old
 
 -- what making that descriptor answers, with its id once more
-abbrev pub IsChildMade : Emits → ℕ → Pair → List ℕ → DType → Result (List Pair × Descriptor) RegisterFault → Type 0
+abbrev pub IsChildMade : SenderView → ℕ → Pair → List ℕ → DType → Result (List Pair × Descriptor) RegisterFault → Type 0
 IsChildMade s parent segment name dtype (Ok made) =
     (above : Descriptor) × (desc (own s) parent ≡ Some above) × HasRoom s × FitsLimits (above.id ++ segment ∷ [])
     × (made.0 ≡ above.id ++ segment ∷ []) × (made.1 ≡ child above segment name dtype)
@@ -105,7 +105,7 @@ IsChildMade s parent segment name dtype (Err (unregistered.Id id_faults.TooLong)
 IsChildMade s parent segment name dtype (Err (unregistered.Id _)) = ⊥
 IsChildMade s parent segment name dtype (Err unregistered.Memory) = Unit {0}
 
-abbrev pub sent_of : View → List Event
+abbrev pub sent_of : PassView → List Event
 sent_of (Sends s) = s.sent
 sent_of v = []
 
@@ -114,7 +114,7 @@ abbrev pub id_registered : ℕ → List (List Pair) → ℕ → Option (List Pai
 id_registered worker ids key = if nat_lt key (registered_key worker 0) then None else slice_get ids (key - registered_key worker 0)
 
 -- the fields of a sender stand for what its pass knows
-pub record IsSender (v : View) (table : List Descriptor) (worker : ℕ) (ids : List (List Pair)) (emitted : ℕ) : Type 0 where
+pub record IsSender (v : PassView) (table : List Descriptor) (worker : ℕ) (ids : List (List Pair)) (emitted : ℕ) : Type 0 where
   pub is : v ≡ sender (length table) worker (sent_of v) false
   pub counted : emitted ≡ length (sent_of v)
   pub leads : (key : ℕ) → option_map (λ (d : Descriptor). d.id) (desc_in (entries_by worker (sent_of v)) key) ≡ id_registered worker ids key
@@ -125,37 +125,37 @@ pub record IsSender (v : View) (table : List Descriptor) (worker : ℕ) (ids : L
   pub high : worker ≤ most_workers
 
 -- the fields of a token stand for what its pass knows
-pub record IsEnded (v : View) (table : List Descriptor) (worker emitted : ℕ) : Type 0 where
+pub record IsEnded (v : PassView) (table : List Descriptor) (worker emitted : ℕ) : Type 0 where
   pub is : v ≡ sender (length table) worker (sent_of v) true
   pub counted : emitted ≡ length (sent_of v)
   pub few : worker ≤ most_workers
 
 -- the session, its table of static descriptors, the number of its workers, and the items that were taken, in order
-pub record Receives : Type 0 where
+pub record ReceiverView : Type 0 where
   pub session : TableId
   pub table : List Descriptor
   pub workers : ℕ
   pub taken : List Item
 
-abbrev pub takes : Receives → Item → Receives
+abbrev pub takes : ReceiverView → Item → ReceiverView
 takes r x = record { session = r.session; table = r.table; workers = r.workers; taken = r.taken ++ x ∷ [] }
 
-abbrev pub fresh_receiver : TableId → List Descriptor → ℕ → Receives
+abbrev pub fresh_receiver : TableId → List Descriptor → ℕ → ReceiverView
 fresh_receiver session table n = record { session = session; table = table; workers = n; taken = [] }
 
 -- the senders of the workers 1 to n, who have emitted nothing
-abbrev pub fresh_senders : TableId → List Descriptor → ℕ → List Emits
+abbrev pub fresh_senders : TableId → List Descriptor → ℕ → List SenderView
 fresh_senders session table zero = []
 fresh_senders session table (suc n) = fresh_senders session table n ++ record { session = session; table = table; worker = suc n; sent = [] } ∷ []
 
--- the entry may stand behind those that were taken: it is lawful, its key is known after them, and its worker has room
+-- the entry may stand after those that were taken: it is lawful, its key is known after them, and its worker has room
 pub record MayFollow (table : List Descriptor) (taken : List Entry) (e : Entry) : Type 0 where
   pub lawful : is_lawful e.event.kind e.event.payload ≡ true
   pub known : is_known (record { table = table; entries = taken }) e ≡ true
   pub room : length (of_worker e.worker taken) < most_events
 
 -- what an item that is taken next may be
-abbrev pub Follows : Receives → Item → Type 0
+abbrev pub Follows : ReceiverView → Item → Type 0
 Follows r (Emitted e) = MayFollow r.table (entries r.taken) e
 Follows r (End w) = Unit {0}
 
@@ -165,7 +165,7 @@ pub record IsRecordable (n : ℕ) (taken : List Entry) : Type 0 where
   pub workers : All (λ e. IsWorkerOf n e.worker) taken
   pub few : (w : ℕ) → length (of_worker w taken) ≤ most_events
 
-abbrev pub taken_of : View → List Item
+abbrev pub taken_of : PassView → List Item
 taken_of (Takes r) = r.taken
 taken_of v = []
 
@@ -178,18 +178,18 @@ abbrev pub is_marked : ℕ → List Item → Bool
 is_marked w items = list_any (is_mark_of w) items
 
 -- the fields of a receiver stand for what its pass knows
-pub record IsReceiver (v : View) (table : List Descriptor) (workers : ℕ) (marked : List Bool) : Type 0 where
+pub record IsReceiver (v : PassView) (table : List Descriptor) (workers : ℕ) (marked : List Bool) : Type 0 where
   pub is : v ≡ receiver (length table) workers (taken_of v) []
   pub recordable : IsRecordable workers (entries (taken_of v))
-  pub long : length marked ≡ places
-  pub marks : (w : ℕ) → w < places → slice_index_or marked w false ≡ is_marked w (taken_of v)
+  pub long : length marked ≡ worker_slots
+  pub marks : (w : ℕ) → w < worker_slots → slice_index_or marked w false ≡ is_marked w (taken_of v)
 
 -- how many tokens worker w has
-abbrev pub tokens_of : ℕ → List Emits → ℕ
+abbrev pub tokens_of : ℕ → List SenderView → ℕ
 tokens_of w tokens = count_by (λ t. t.worker == w) tokens
 
 -- the lists of the tokens, by the worker, and none without a token
-abbrev pub lists : List Emits → ℕ → List Event
+abbrev pub lists : List SenderView → ℕ → List Event
 lists [] w = []
 lists (t ∷ ts) w = if t.worker == w then t.sent else lists ts w
 
@@ -200,16 +200,16 @@ pub record Least (n : ℕ) (P : ℕ → Type 0) (w : ℕ) : Type 0 where
   pub below : (v : ℕ) → IsWorkerOf n v → v < w → ¬ P v
 
 -- each worker has one token, and its mark was taken
-pub record IsComplete (r : Receives) (tokens : List Emits) : Type 0 where
+pub record IsComplete (r : ReceiverView) (tokens : List SenderView) : Type 0 where
   pub once : (w : ℕ) → IsWorkerOf r.workers w → tokens_of w tokens ≡ 1
   pub drained : (w : ℕ) → IsWorkerOf r.workers w → is_marked w r.taken ≡ true
 
 -- the first reason that stands, at the least worker
-abbrev pub IsFault : CloseReason → Receives → List Emits → Type 0
+abbrev pub IsFault : CloseReason → ReceiverView → List SenderView → Type 0
 IsFault (Missing w) r tokens = Least r.workers (λ v. tokens_of v tokens ≡ 0) w
 IsFault (Twice w) r tokens = ((v : ℕ) → IsWorkerOf r.workers v → 0 < tokens_of v tokens) × Least r.workers (λ v. 1 < tokens_of v tokens) w
 IsFault (NotDrained w) r tokens = ((v : ℕ) → IsWorkerOf r.workers v → tokens_of v tokens ≡ 1) × Least r.workers (λ v. is_marked v r.taken ≡ false) w
 
 -- what the pass of a token knows
-abbrev pub token_of : Emits → Sending
+abbrev pub token_of : SenderView → SenderPass
 token_of t = record { known = length t.table; worker = t.worker; sent = t.sent; ended = true }

@@ -27,14 +27,14 @@ registrations es = count_by is_dynamic es
 abbrev pub is_plain : Event → Bool
 is_plain e = is_lawful e.kind e.payload && not (is_dynamic e)
 
--- whether the entry has a known key behind these entries, where n descriptors are static
-abbrev pub is_known_behind : ℕ → List Entry → Entry → Bool
-is_known_behind n es e = if of_kind Dynamic e then is_next (record { table = []; entries = es }) e else (nat_lt e.event.key n || is_some (desc_in es e.event.key))
+-- whether the entry has a known key after these entries, where n descriptors are static
+abbrev pub is_known_after : ℕ → List Entry → Entry → Bool
+is_known_after n es e = if of_kind Dynamic e then is_next (record { table = []; entries = es }) e else (nat_lt e.event.key n || is_some (desc_in es e.event.key))
 
 -- worker w may emit e after the events of before, where n descriptors are static
 pub record MayEmit (n w : ℕ) (before : List Event) (e : Event) : Type 0 where
   pub lawful : is_lawful e.kind e.payload ≡ true
-  pub known : is_known_behind n (entries_by w before) (entry_by w e) ≡ true
+  pub known : is_known_after n (entries_by w before) (entry_by w e) ≡ true
 
 -- each event might be emitted after those before it, and they are no more than the limit
 pub record Emission (n w : ℕ) (es : List Event) : Type 0 where

@@ -1,5 +1,5 @@
 pub use Rattle.tk_replay.specs.Core
-pub use Rattle.tk_replay.specs.Line
+pub use Rattle.tk_replay.specs.CoreState
 pub use Rattle.tk_replay.specs.Replay
 pub use Rattle.tk_replay.specs.Laws
 pub use Rattle.tk_replay.specs.Script

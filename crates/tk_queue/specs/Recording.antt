@@ -7,11 +7,11 @@ use Rattle.tk_columns.specs.Mixing.{IsWorkerOf}
 use Rattle.tk_queue.specs.Limits.{most_events}
 use Rattle.tk_queue.specs.Ends.{MayFollow, IsRecordable}
 
--- Behind the entries that were taken, and no more than so many of worker 0 before them, a record has no fault to find with the entry that is taken next
+-- After the entries that were taken, and no more than so many of worker 0 before them, a record has no fault to find with the entry that is taken next
 abbrev pub IsNeverRefused : Type 0
-IsNeverRefused = (n : ℕ) (table : List Descriptor) (front taken : List Entry) (e : Entry) → All (λ x. x.worker ≡ 0) front → length front ≤ most_events
-    → IsRecordable n taken → IsWorkerOf n e.worker → MayFollow table taken e → fault_of (record { table = table; entries = front ++ taken }) e ≡ None
+IsNeverRefused = (n : ℕ) (table : List Descriptor) (prefix taken : List Entry) (e : Entry) → All (λ x. x.worker ≡ 0) prefix → length prefix ≤ most_events
+    → IsRecordable n taken → IsWorkerOf n e.worker → MayFollow table taken e → fault_of (record { table = table; entries = prefix ++ taken }) e ≡ None
 
--- as many workers as there are emit no more than so many events together
+-- all workers together emit no more than what a record has room for
 abbrev pub IsShort : Type 0
 IsShort = (n : ℕ) (taken : List Entry) → IsRecordable n taken → length taken ≤ n * most_events

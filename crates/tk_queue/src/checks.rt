@@ -3,7 +3,7 @@ ghost use Rattle.std.specs.Prelude.{◌≡◌, ◌+◌, ◌<◌, ◌≤◌, leng
 ghost use Rattle.tk_columns.specs.Mixing.{IsWorkerOf};
 ghost use Rattle.tk_queue.specs.Ends.{tokens_of, lists, Least};
 
-use crate::limits::PLACES;
+use crate::limits::WORKER_SLOTS;
 use crate::senders::Ended;
 use tk_events::MAX_WORKERS;
 
@@ -29,12 +29,12 @@ fn emitted_by(ended: &[Ended], worker: u8) -> u64
     0
 }
 
-pub fn counts(ended: &[Ended], workers: u8) -> [u64; PLACES]
+pub fn counts(ended: &[Ended], workers: u8) -> [u64; WORKER_SLOTS]
     requires { workers ≤ MAX_WORKERS }
     ensures each { (w : ℕ) → IsWorkerOf workers w → slice_index result w ≡ length (lists ended.now w) }
     ensures others { (w : ℕ) → ¬ IsWorkerOf workers w → slice_index result w ≡ 0 }
 {
-    let mut emitted = [0; PLACES];
+    let mut emitted = [0; WORKER_SLOTS];
     for before in 0..workers {
         emitted[before as usize + 1] = emitted_by(ended, before + 1);
     }
@@ -43,7 +43,8 @@ pub fn counts(ended: &[Ended], workers: u8) -> [u64; PLACES]
 
 /// The first worker without a token.
 pub fn missing(ended: &[Ended], workers: u8) -> Option<u8>
-    ensures { MatchOption result ((w : ℕ) → IsWorkerOf workers w → ¬ (tokens_of w ended.now ≡ 0)) (Least workers (λ w. tokens_of w ended.now ≡ 0)) }
+    ensures { MatchOption result ((w : ℕ) → IsWorkerOf workers w → ¬ (tokens_of w ended.now ≡ 0)) (Least workers (λ w.
+        tokens_of w ended.now ≡ 0)) }
 {
     for before in 0..workers {
         if count(ended, before + 1) == 0 {
@@ -55,7 +56,8 @@ pub fn missing(ended: &[Ended], workers: u8) -> Option<u8>
 
 /// The first worker with more than one token.
 pub fn twice(ended: &[Ended], workers: u8) -> Option<u8>
-    ensures { MatchOption result ((w : ℕ) → IsWorkerOf workers w → ¬ (1 < tokens_of w ended.now)) (Least workers (λ w. 1 < tokens_of w ended.now)) }
+    ensures { MatchOption result ((w : ℕ) → IsWorkerOf workers w → ¬ (1 < tokens_of w ended.now)) (Least workers (λ w.
+        1 < tokens_of w ended.now)) }
 {
     for before in 0..workers {
         if count(ended, before + 1) > 1 {
@@ -66,9 +68,10 @@ pub fn twice(ended: &[Ended], workers: u8) -> Option<u8>
 }
 
 /// The first worker whose mark was not taken.
-pub fn not_drained(marked: &[bool; PLACES], workers: u8) -> Option<u8>
+pub fn not_drained(marked: &[bool; WORKER_SLOTS], workers: u8) -> Option<u8>
     requires { workers ≤ MAX_WORKERS }
-    ensures { MatchOption result ((w : ℕ) → IsWorkerOf workers w → ¬ (slice_index_or marked.now w false ≡ false)) (Least workers (λ w. slice_index_or marked.now w false ≡ false)) }
+    ensures { MatchOption result ((w : ℕ) → IsWorkerOf workers w → ¬ (slice_index_or marked.now w false ≡ false)) (Least workers (λ w.
+        slice_index_or marked.now w false ≡ false)) }
 {
     for before in 0..workers {
         if !marked[before as usize + 1] {

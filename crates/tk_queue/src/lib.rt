@@ -4,13 +4,13 @@
 mod checks;
 pub mod laws;
 mod limits;
-mod lines;
 mod pushes;
 mod receivers;
 mod senders;
+mod session_rules;
 mod sessions;
 
-pub use limits::{MAX_EVENTS, MAX_PLACES};
+pub use limits::{MAX_CAPACITY, MAX_EVENTS};
 pub use receivers::{CloseFault, CloseReason, Closed, Receiver};
 pub use senders::{Ended, RegisterFault, SendFault, Sender};
 pub use sessions::{OpenFault, open};

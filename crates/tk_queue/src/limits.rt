@@ -5,7 +5,7 @@ use tk_events::MAX_WORKERS;
 pub const MAX_EVENTS: u64 = 1 << 20;
 
 /// How many items a session's queue may hold.
-pub const MAX_PLACES: usize = 1024;
+pub const MAX_CAPACITY: usize = 1024;
 
-/// As many places as there are numbers up to the last worker's, 0 among them.
-pub(crate) const PLACES: usize = MAX_WORKERS as usize + 1;
+/// A slot for each worker, and one for worker 0.
+pub(crate) const WORKER_SLOTS: usize = MAX_WORKERS as usize + 1;

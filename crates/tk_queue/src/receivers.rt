@@ -8,9 +8,9 @@ ghost use Rattle.tk_queue.specs.Session.{receiver};
 ghost use Rattle.tk_queue.specs.Ends.{fresh_receiver, takes, Follows, IsRecordable, lists, IsComplete};
 
 use crate::checks::{counts, missing, not_drained, twice};
-use crate::limits::PLACES;
-use crate::lines::{Line, Popped, Seat, TakeIn, Whole};
+use crate::limits::WORKER_SLOTS;
 use crate::senders::Ended;
+use crate::session_rules::{AllSent, EventQueue, JoinSender, QueuePass, ReceiverPop};
 use std::alloc::Global;
 use std::marker::Model;
 use std::sync::{Arc, Wait};
@@ -22,43 +22,43 @@ use tk_replay::Item;
 /// list of what was taken.
 #[derive(Drop)]
 pub struct Receiver {
-    line: Arc<Line, Global>,
-    seat: Seat,
+    queue: Arc<EventQueue, Global>,
+    pass: QueuePass,
     table: Arc<Table>,
     workers: u8,
     // Whether the mark of the worker with this number was taken.
-    marked: [bool; PLACES],
+    marked: [bool; WORKER_SLOTS],
 }
 
 impl Model for Receiver {
     ghost use Rattle.std.specs.Prelude.{◌≡◌};
     ghost use Rattle.std.specs.Arc.{arc_value};
     ghost use Rattle.crossbeam_queue.specs.Passes.{view as seen, IsPassOf};
-    ghost use Rattle.tk_queue.specs.Ends.{Receives, IsReceiver, taken_of};
+    ghost use Rattle.tk_queue.specs.Ends.{ReceiverView, IsReceiver, taken_of};
 
-    ghost Value = { Receives };
+    ghost Value = { ReceiverView };
 
-    ghost view = { λ r. record { session = r.seat.table_id; table = arc_value r.table; workers = r.workers; taken = taken_of (seen r.seat) } };
+    ghost view = { λ r. record { session = r.pass.table_id; table = arc_value r.table; workers = r.workers; taken = taken_of (seen r.pass) } };
 
-    ghost invariant = { λ r. IsPassOf (arc_value r.line) r.seat × IsReceiver (seen r.seat) (arc_value r.table) r.workers r.marked };
+    ghost invariant = { λ r. IsPassOf (arc_value r.queue) r.pass × IsReceiver (seen r.pass) (arc_value r.table) r.workers r.marked };
 }
 
 /// How many events each worker of a closed session emitted. Contracts see the list of these numbers,
 /// by the workers' numbers.
 #[derive(Drop)]
 pub struct Closed {
-    emitted: [u64; PLACES],
+    emitted: [u64; WORKER_SLOTS],
 }
 
 impl Model for Closed {
     ghost use Rattle.std.specs.Prelude.{◌≡◌, List, ℕ, length};
-    ghost use Rattle.tk_replay.specs.Limits.{places};
+    ghost use Rattle.tk_replay.specs.Limits.{worker_slots};
 
     ghost Value = { List ℕ };
 
     ghost view = { λ c. c.emitted };
 
-    ghost invariant = { λ c. length c.emitted ≡ places };
+    ghost invariant = { λ c. length c.emitted ≡ worker_slots };
 }
 
 /// Why a session was not closed.
@@ -85,7 +85,7 @@ impl Closed {
     pub fn emitted(&self, worker: u8) -> u64
         ensures { result ≡ slice_index self.now worker }
     {
-        if (worker as usize) < PLACES {
+        if (worker as usize) < WORKER_SLOTS {
             self.emitted[worker as usize]
         } else {
             0
@@ -96,23 +96,23 @@ impl Closed {
 impl Receiver {
     ghost use Rattle.tk_queue.specs.Ends.{IsFault};
 
-    pub(crate) fn seated(
-        line: Arc<Line, Global>,
-        seat: Seat,
+    pub(crate) fn with_pass(
+        queue: Arc<EventQueue, Global>,
+        pass: QueuePass,
         table: Arc<Table>,
         workers: u8,
     ) -> Receiver
-        requires queue { IsPassOf (arc_value line) seat }
-        requires fresh { view seat ≡ receiver (length (arc_value table)) workers [] [] }
+        requires queue { IsPassOf (arc_value queue) pass }
+        requires fresh { view pass ≡ receiver (length (arc_value table)) workers [] [] }
         requires few { workers ≤ MAX_WORKERS }
-        ensures { result ≡ fresh_receiver seat.table_id (arc_value table) workers }
+        ensures { result ≡ fresh_receiver pass.table_id (arc_value table) workers }
     {
         Receiver {
-            line,
-            seat,
+            queue,
+            pass,
             table,
             workers,
-            marked: [false; PLACES],
+            marked: [false; WORKER_SLOTS],
         }
     }
 
@@ -124,7 +124,7 @@ impl Receiver {
         ensures recordable { IsRecordable self.new.workers (entries self.new.taken) }
         ensures none { IfNone result (self.new ≡ self.old) }
     {
-        match self.line.pop_as::<Popped, R>(rt, &mut self.seat) {
+        match self.queue.pop_as::<ReceiverPop, R>(rt, &mut self.pass) {
             Some(Item::End(worker)) => {
                 self.marked[worker as usize] = true;
                 Some(Item::End(worker))
@@ -152,21 +152,22 @@ impl Receiver {
         requires session { All (λ token. token.session ≡ self.session) ended.items }
         requires complete { IsComplete self ended.items }
         ensures mix { Mix self.workers (entries self.taken) (lists ended.items) }
-        ensures each { (w : ℕ) → IsWorkerOf self.workers w → slice_index result w ≡ length (lists ended.items w) }
+        ensures each { (w : ℕ) → IsWorkerOf self.workers w
+            → slice_index result w ≡ length (lists ended.items w) }
         ensures others { (w : ℕ) → ¬ IsWorkerOf self.workers w → slice_index result w ≡ 0 }
     {
         let emitted = counts(&ended, self.workers);
         let Receiver {
-            line,
-            mut seat,
+            queue,
+            mut pass,
             table: _,
             workers: _,
             marked: _,
         } = self;
         for token in ended {
-            line.absorb::<TakeIn>(&mut seat, token.into_seat());
+            queue.absorb::<JoinSender>(&mut pass, token.into_pass());
         }
-        line.learn_as::<Whole>(&mut seat);
+        queue.learn_as::<AllSent>(&mut pass);
         Closed { emitted }
     }
 
@@ -177,8 +178,10 @@ impl Receiver {
         requires { All (λ token. token.session ≡ self.session) ended.items }
         ensures complete { OnOk result (IsComplete self ended.items) }
         ensures mix { OnOk result (Mix self.workers (entries self.taken) (lists ended.items)) }
-        ensures each { IfOk result (λ closed. (w : ℕ) → IsWorkerOf self.workers w → slice_index closed w ≡ length (lists ended.items w)) }
-        ensures others { IfOk result (λ closed. (w : ℕ) → ¬ IsWorkerOf self.workers w → slice_index closed w ≡ 0) }
+        ensures each { IfOk result (λ closed. (w : ℕ) → IsWorkerOf self.workers w
+            → slice_index closed w ≡ length (lists ended.items w)) }
+        ensures others { IfOk result (λ closed.
+            (w : ℕ) → ¬ IsWorkerOf self.workers w → slice_index closed w ≡ 0) }
         ensures fault { IfErr result (λ fault. IsFault fault.why self ended.items) }
         ensures back { IfErr result (λ fault. (fault.receiver ≡ self) × (fault.ended.items ≡ ended.items)) }
     {

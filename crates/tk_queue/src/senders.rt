@@ -8,8 +8,8 @@ ghost use Rattle.tk_events.specs.Registration.{registered_key};
 ghost use Rattle.tk_queue.specs.Ends.{own, knows, sends, refusal_of, HasRoom, IsNew, IsChildMade, IsRegisteredAs};
 
 use crate::limits::MAX_EVENTS;
-use crate::lines::{Line, Seat};
 use crate::pushes::{push, try_push};
+use crate::session_rules::{EventQueue, QueuePass};
 use std::alloc::{AllocError, AllocFailed, Global};
 use std::marker::Model;
 use std::sync::{Arc, Wait};
@@ -68,8 +68,8 @@ impl From<AllocError> for RegisterFault {
 #[derive(Drop)]
 pub struct Sender {
     alloc: Global,
-    line: Arc<Line, Global>,
-    seat: Seat,
+    queue: Arc<EventQueue, Global>,
+    pass: QueuePass,
     table: Arc<Table>,
     worker: u8,
     emitted: u64,
@@ -81,19 +81,19 @@ impl Model for Sender {
     ghost use Rattle.std.specs.Prelude.{◌≡◌, length};
     ghost use Rattle.std.specs.Arc.{arc_value};
     ghost use Rattle.crossbeam_queue.specs.Passes.{view as seen, IsPassOf};
-    ghost use Rattle.tk_queue.specs.Ends.{Emits, IsSender, sent_of};
+    ghost use Rattle.tk_queue.specs.Ends.{SenderView, IsSender, sent_of};
 
-    ghost Value = { Emits };
+    ghost Value = { SenderView };
 
-    ghost view = { λ s. record { session = s.seat.table_id; table = arc_value s.table; worker = s.worker; sent = sent_of (seen s.seat) } };
+    ghost view = { λ s. record { session = s.pass.table_id; table = arc_value s.table; worker = s.worker; sent = sent_of (seen s.pass) } };
 
-    ghost invariant = { λ s. IsPassOf (arc_value s.line) s.seat × IsSender (seen s.seat) (arc_value s.table) s.worker s.registered.items s.emitted };
+    ghost invariant = { λ s. IsPassOf (arc_value s.queue) s.pass × IsSender (seen s.pass) (arc_value s.table) s.worker s.registered.items s.emitted };
 }
 
 /// The token of a sender that has ended. Contracts see what they saw of the sender.
 #[derive(Drop)]
 pub struct Ended {
-    seat: Seat,
+    pass: QueuePass,
     table: Arc<Table>,
     worker: u8,
     emitted: u64,
@@ -103,13 +103,13 @@ impl Model for Ended {
     ghost use Rattle.std.specs.Prelude.{◌≡◌, [], length};
     ghost use Rattle.std.specs.Arc.{arc_value};
     ghost use Rattle.crossbeam_queue.specs.Passes.{view as seen};
-    ghost use Rattle.tk_queue.specs.Ends.{Emits, IsEnded, sent_of};
+    ghost use Rattle.tk_queue.specs.Ends.{SenderView, IsEnded, sent_of};
 
-    ghost Value = { Emits };
+    ghost Value = { SenderView };
 
-    ghost view = { λ t. record { session = t.seat.table_id; table = arc_value t.table; worker = t.worker; sent = sent_of (seen t.seat) } };
+    ghost view = { λ t. record { session = t.pass.table_id; table = arc_value t.table; worker = t.worker; sent = sent_of (seen t.pass) } };
 
-    ghost invariant = { λ t. (t.seat.me.1 ≡ []) × IsEnded (seen t.seat) (arc_value t.table) t.worker t.emitted };
+    ghost invariant = { λ t. (t.pass.me.1 ≡ []) × IsEnded (seen t.pass) (arc_value t.table) t.worker t.emitted };
 }
 
 impl Sender {
@@ -117,22 +117,22 @@ impl Sender {
     ghost use Rattle.crossbeam_queue.specs.Passes.{view, IsPassOf};
     ghost use Rattle.tk_queue.specs.Session.{sender};
 
-    pub(crate) fn seated(
+    pub(crate) fn with_pass(
         alloc: Global,
-        line: Arc<Line, Global>,
-        seat: Seat,
+        queue: Arc<EventQueue, Global>,
+        pass: QueuePass,
         table: Arc<Table>,
         worker: u8,
     ) -> Sender
-        requires queue { IsPassOf (arc_value line) seat }
-        requires fresh { view seat ≡ sender (length (arc_value table)) worker [] false }
+        requires queue { IsPassOf (arc_value queue) pass }
+        requires fresh { view pass ≡ sender (length (arc_value table)) worker [] false }
         requires worker { (0 < worker) × (worker ≤ MAX_WORKERS) }
-        ensures { result ≡ record { session = seat.table_id; table = arc_value table; worker = worker; sent = [] } }
+        ensures { result ≡ record { session = pass.table_id; table = arc_value table; worker = worker; sent = [] } }
     {
         Sender {
             alloc,
-            line,
-            seat,
+            queue,
+            pass,
             table,
             worker,
             emitted: 0,
@@ -195,7 +195,8 @@ impl Sender {
     /// Emits the event if there is room in the queue.
     pub fn try_send<R: Wait>(&mut self, rt: &R, event: Event) -> Result<(), SendFault>
         ensures sent { OnOk result ((refusal_of self.old event ≡ None) × (self.new ≡ sends self.old event)) }
-        ensures refused { IfErr result (λ fault. (refusal_of self.old event ≡ Some fault) ⊎ ((refusal_of self.old event ≡ None) × (fault ≡ SendFault.Full event))) }
+        ensures refused { IfErr result (λ fault. (refusal_of self.old event ≡ Some fault)
+            ⊎ ((refusal_of self.old event ≡ None) × (fault ≡ SendFault.Full event))) }
         ensures kept { OnErr result (self.new ≡ self.old) }
     {
         let event = self.admitted(event)?;
@@ -203,7 +204,7 @@ impl Sender {
             worker: self.worker,
             event,
         };
-        match try_push(rt, &self.line, &mut self.seat, Item::Entry(entry)) {
+        match try_push(rt, &self.queue, &mut self.pass, Item::Entry(entry)) {
             Ok(()) => {
                 self.emitted += 1;
                 Ok(())
@@ -224,7 +225,7 @@ impl Sender {
             worker: self.worker,
             event,
         };
-        push(rt, &self.line, &mut self.seat, Item::Entry(entry));
+        push(rt, &self.queue, &mut self.pass, Item::Entry(entry));
         self.emitted += 1;
         Ok(())
     }
@@ -292,7 +293,7 @@ impl Sender {
             worker: self.worker,
             event,
         };
-        push(rt, &self.line, &mut self.seat, Item::Entry(registration));
+        push(rt, &self.queue, &mut self.pass, Item::Entry(registration));
         self.emitted += 1;
         Ok(key)
     }
@@ -303,16 +304,16 @@ impl Sender {
     {
         let Sender {
             alloc: _,
-            line,
-            mut seat,
+            queue,
+            mut pass,
             table,
             worker,
             emitted,
             registered: _,
         } = self;
-        push(rt, &line, &mut seat, Item::End(worker));
+        push(rt, &queue, &mut pass, Item::End(worker));
         Ended {
-            seat,
+            pass,
             table,
             worker,
             emitted,
@@ -345,11 +346,11 @@ impl Ended {
         self.emitted
     }
 
-    pub(crate) fn into_seat(self) -> Seat
+    pub(crate) fn into_pass(self) -> QueuePass
         ensures session { result.table_id ≡ self.session }
         ensures back { result.me.1 ≡ [] }
         ensures known { view result ≡ sender (length self.table) self.worker self.sent true }
     {
-        self.seat
+        self.pass
     }
 }

@@ -5,10 +5,10 @@ ghost use Rattle.crossbeam_queue.specs.Passes.{view, IsPassOf};
 ghost use Rattle.tk_queue.specs.Session.{receiver};
 ghost use Rattle.tk_queue.specs.Ends.{capacity_of, fresh_receiver, fresh_senders};
 
-use crate::limits::MAX_PLACES;
-use crate::lines::{Doubled, DoubledAndOne, Line, NextSender, Seat};
+use crate::limits::MAX_CAPACITY;
 use crate::receivers::Receiver;
 use crate::senders::Sender;
+use crate::session_rules::{EventQueue, QueuePass, SplitSender, WithOneBit, WithZeroBit};
 use std::alloc::{AllocError, Global};
 use std::sync::Arc;
 use tk_events::MAX_WORKERS;
@@ -19,27 +19,27 @@ use tk_ids::Table;
 pub enum OpenFault {
     /// The number of workers isn't 1 to `MAX_WORKERS`.
     Workers,
-    /// The capacity isn't 1 to `MAX_PLACES`.
+    /// The capacity isn't 1 to `MAX_CAPACITY`.
     Capacity,
     /// Memory was refused.
     Memory,
 }
 
-// Tells the rule the number of static descriptors, its highest bit first.
-fn tell(line: &Line, seat: &mut Seat, known: u32)
-    requires queue { IsPassOf line.now seat.old }
-    requires fresh { view seat.old ≡ receiver 0 0 [] [] }
-    ensures queue { IsPassOf line.now seat.new }
-    ensures told { view seat.new ≡ receiver known 0 [] [] }
+// Sets the number of static descriptors in the queue's rule, its highest bit first.
+fn set_static_count(shared_queue: &EventQueue, pass: &mut QueuePass, known: u32)
+    requires queue { IsPassOf shared_queue.now pass.old }
+    requires fresh { view pass.old ≡ receiver 0 0 [] [] }
+    ensures queue { IsPassOf shared_queue.now pass.new }
+    ensures count_is_set { view pass.new ≡ receiver known 0 [] [] }
 {
     if known == 0 {
         return;
     }
-    tell(line, seat, known / 2);
+    set_static_count(shared_queue, pass, known / 2);
     if known % 2 == 0 {
-        line.another::<Doubled>(seat);
+        shared_queue.another::<WithZeroBit>(pass);
     } else {
-        line.another::<DoubledAndOne>(seat);
+        shared_queue.another::<WithOneBit>(pass);
     }
 }
 
@@ -51,20 +51,24 @@ fn make(
 ) -> Result<(Vec<Sender>, Receiver), AllocError>
     requires workers { workers ≤ MAX_WORKERS }
     requires capacity { 0 < capacity }
-    ensures ends { IfOk result (λ made. (made.1 ≡ fresh_receiver made.1.session (arc_value table) workers) × (made.0.items ≡ fresh_senders made.1.session (arc_value table) workers)) }
+    ensures ends { IfOk result (λ made. (made.1 ≡ fresh_receiver made.1.session (arc_value table) workers)
+        × (made.0.items ≡ fresh_senders made.1.session (arc_value table) workers)) }
     ensures places { IfOk result (λ made. capacity_of made.1.session ≡ capacity) }
 {
-    let (queue, mut seat) = Line::ruled(alloc, capacity)?;
-    tell(&queue, &mut seat, table.len() as u32);
-    let line = Arc::new(alloc, queue)?;
+    let (queue, mut pass) = EventQueue::ruled(alloc, capacity)?;
+    set_static_count(&queue, &mut pass, table.len() as u32);
+    let shared_queue = Arc::new(alloc, queue)?;
     let mut senders = Vec::with_capacity(alloc, workers as usize)?;
     for before in 0..workers {
-        let own_line = Arc::try_clone(&line)?;
+        let own_queue = Arc::try_clone(&shared_queue)?;
         let own_table = Arc::try_clone(&table)?;
-        let next = line.another::<NextSender>(&mut seat);
-        senders.push(Sender::seated(alloc, own_line, next, own_table, before + 1))?;
+        let next = shared_queue.another::<SplitSender>(&mut pass);
+        senders.push(Sender::with_pass(alloc, own_queue, next, own_table, before + 1))?;
     }
-    Ok((senders, Receiver::seated(line, seat, table, workers)))
+    Ok((
+        senders,
+        Receiver::with_pass(shared_queue, pass, table, workers),
+    ))
 }
 
 /// Opens a session of the workers 1 to `workers`, each of which has emitted nothing, over a table of
@@ -76,15 +80,16 @@ pub fn open(
     capacity: usize,
 ) -> Result<(Vec<Sender>, Receiver), OpenFault>
     ensures workers { (result ≡ Err OpenFault.Workers) ↔ ((workers ≡ 0) ⊎ (MAX_WORKERS < workers)) }
-    ensures capacity { (result ≡ Err OpenFault.Capacity) ↔ (((0 < workers) × (workers ≤ MAX_WORKERS)) × ((capacity ≡ 0) ⊎ (MAX_PLACES < capacity))) }
+    ensures capacity { (result ≡ Err OpenFault.Capacity) ↔ (((0 < workers) × (workers ≤ MAX_WORKERS)) × ((capacity ≡ 0) ⊎ (MAX_CAPACITY < capacity))) }
     ensures receiver { IfOk result (λ made. made.1 ≡ fresh_receiver made.1.session (arc_value table) workers) }
-    ensures senders { IfOk result (λ made. made.0.items ≡ fresh_senders made.1.session (arc_value table) workers) }
+    ensures senders { IfOk result (λ made.
+        made.0.items ≡ fresh_senders made.1.session (arc_value table) workers) }
     ensures places { IfOk result (λ made. capacity_of made.1.session ≡ capacity) }
 {
     if workers == 0 || workers > MAX_WORKERS as usize {
         return Err(OpenFault::Workers);
     }
-    if capacity == 0 || capacity > MAX_PLACES {
+    if capacity == 0 || capacity > MAX_CAPACITY {
         return Err(OpenFault::Capacity);
     }
     match make(alloc, table, workers as u8, capacity) {

@@ -4,4 +4,4 @@ pub mod ReplaySteps
 pub mod ScriptForms
 pub mod TurnSteps
 pub mod TextSteps
-pub mod OneAnswer
+pub mod AnswerIsUnique

@@ -15,7 +15,7 @@ use Rattle.tk_replay.specs.declared.items.Item.TheVariants.{Entry as Emitted, En
 use Rattle.tk_replay.specs.declared.replays.ReplayFault.{ReplayFault}
 use Rattle.tk_replay.specs.declared.replays.ReplayFault.TheVariants as faults
 use Rattle.tk_columns.specs.Recorded.{Recorded}
-use Rattle.tk_replay.specs.Line.{Line, fresh}
+use Rattle.tk_replay.specs.CoreState.{CoreState, fresh}
 use Rattle.tk_replay.specs.Replay.{Moment, Stop, Faulty, Refuses, turn_step, take_item, append_to, after, plays, start, zeros, Suits, IsStop, StopsAt, IsReplayed}
 
 pub plays_more : (scripts : List (List Event)) (turns : List Turn) (t : Turn) (m n o : Moment) → plays scripts turns m ≡ Some n → turn_step scripts n t ≡ Ok o → plays scripts (turns ++ t ∷ []) m ≡ Some o
@@ -34,7 +34,7 @@ not_Err : (s : Stop) (n : Moment) → (let r : Result Moment Stop = Err s in r) 
 not_Err s n e = absurd cc
 
 abbrev Keeps : Moment → Moment → Type 0
-Keeps m n = (n.line.workers ≡ m.line.workers) × (n.emitted ≡ m.emitted)
+Keeps m n = (n.core.workers ≡ m.core.workers) × (n.emitted ≡ m.emitted)
 
 append_keeps : (m n : Moment) (xs : List Item) (e : Entry) (o : Option AppendFault) → append_to m xs e o ≡ Ok n → Keeps m n
 append_keeps m n xs e None h = subst (Keeps m) (same_Ok _ n h) (refl, refl)
@@ -45,8 +45,8 @@ take_keeps m n [] h = subst (Keeps m) (same_Ok m n h) (refl, refl)
 take_keeps m n (End w ∷ xs) h = subst (Keeps m) (same_Ok _ n h) (refl, refl)
 take_keeps m n (Emitted e ∷ xs) h = append_keeps m n xs e (fault_of m.taken e) h
 
-pub suits_taken : (scripts : List (List Event)) (m n : Moment) → take_item m m.line.waiting ≡ Ok n → Suits m scripts → Suits n scripts
-suits_taken scripts m n h s = let k = take_keeps m n m.line.waiting h in (k.0 ∙ s.0, ap length k.1 ∙ s.1)
+pub suits_taken : (scripts : List (List Event)) (m n : Moment) → take_item m m.core.waiting ≡ Ok n → Suits m scripts → Suits n scripts
+suits_taken scripts m n h s = let k = take_keeps m n m.core.waiting h in (k.0 ∙ s.0, ap length k.1 ∙ s.1)
 
 pub zeros_long : (n : ℕ) → length (zeros n) ≡ n
 zeros_long zero = refl
@@ -62,17 +62,17 @@ stopped table scripts turns i d m (faults.BadLine n) lt before stop = absurd sto
 stopped table scripts turns i d m faults.TooLarge lt before stop = absurd stop
 stopped table scripts turns i d m faults.Device lt before stop = absurd stop
 
-moment_is : (a b : Line) (c d : List ℕ) (e f : Recorded) → a ≡ b → c ≡ d → e ≡ f → (let m : Moment = record { line = a; emitted = c; taken = e } in m) ≡ record { line = b; emitted = d; taken = f }
+moment_is : (a b : CoreState) (c d : List ℕ) (e f : Recorded) → a ≡ b → c ≡ d → e ≡ f → (let m : Moment = record { core = a; emitted = c; taken = e } in m) ≡ record { core = b; emitted = d; taken = f }
 moment_is a b c d e f p q r = rw (p, q, r) refl
 
 recorded_is : (a b : List Descriptor) (c d : List Entry) → a ≡ b → c ≡ d → (let m : Recorded = record { table = a; entries = c } in m) ≡ record { table = b; entries = d }
 recorded_is a b c d p q = rw (p, q) refl
 
-abbrev started : Line → List ℕ → Recorded → Moment
-started line counts taken = record { line = line; emitted = counts; taken = taken }
+abbrev started : CoreState → List ℕ → Recorded → Moment
+started core counts taken = record { core = core; emitted = counts; taken = taken }
 
-pub begins : (table : List Descriptor) (scripts : List (List Event)) (n : ℕ) (line : Line) (counts : List ℕ) (taken : Recorded) → n ≡ length scripts → line ≡ fresh n → counts ≡ zeros n → taken.table ≡ table → taken.entries ≡ [] → Suits (started line counts taken) scripts × (Some (start table (length scripts)) ≡ Some (started line counts taken))
-begins table scripts n line counts taken long is zero_ of_table none = (
-  (ap (λ (l : Line). l.workers) is ∙ long, ap length zero_ ∙ zeros_long n ∙ long),
-  ap Some (sym (moment_is line (fresh (length scripts)) counts (zeros (length scripts)) taken (record { table = table; entries = [] }) (is ∙ ap fresh long) (zero_ ∙ ap zeros long) (recorded_is taken.table table taken.entries [] of_table none))),
+pub begins : (table : List Descriptor) (scripts : List (List Event)) (n : ℕ) (core : CoreState) (counts : List ℕ) (taken : Recorded) → n ≡ length scripts → core ≡ fresh n → counts ≡ zeros n → taken.table ≡ table → taken.entries ≡ [] → Suits (started core counts taken) scripts × (Some (start table (length scripts)) ≡ Some (started core counts taken))
+begins table scripts n core counts taken long is zero_ of_table none = (
+  (ap (λ (l : CoreState). l.workers) is ∙ long, ap length zero_ ∙ zeros_long n ∙ long),
+  ap Some (sym (moment_is core (fresh (length scripts)) counts (zeros (length scripts)) taken (record { table = table; entries = [] }) (is ∙ ap fresh long) (zero_ ∙ ap zeros long) (recorded_is taken.table table taken.entries [] of_table none))),
 )

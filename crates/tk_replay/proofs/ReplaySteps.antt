@@ -10,12 +10,12 @@ use Rattle.tk_columns.specs.declared.records.AppendFault.{AppendFault}
 use Rattle.tk_columns.specs.Recorded.{Recorded}
 use Rattle.tk_columns.specs.Record.{fault_of}
 use Rattle.tk_columns.specs.Mixing.{IsWorkerOf}
-use Rattle.tk_replay.specs.Limits.{most_workers, places}
+use Rattle.tk_replay.specs.Limits.{most_workers, worker_slots}
 use Rattle.tk_replay.specs.declared.items.Item.{Item}
 use Rattle.tk_replay.specs.declared.items.Item.TheVariants.{Entry as Emitted, End}
 use Rattle.tk_replay.specs.declared.items.Turn.{Turn}
 use Rattle.tk_replay.specs.declared.items.Turn.TheVariants.{Worker, Take}
-use Rattle.tk_replay.specs.Line.{has_ended, fresh}
+use Rattle.tk_replay.specs.CoreState.{has_ended, fresh}
 use Rattle.tk_replay.specs.Core.{Core, put, emit, finish, take_first, entries}
 use Rattle.tk_replay.specs.Replay.{Moment, Stop, Faulty, IsTurn, script_of, count_of, next, append_to, take_item, turn_step, after, plays, start, zeros}
 use Rattle.tk_replay.specs.Laws.{IsMomentOf, ReplaysCore}
@@ -34,7 +34,7 @@ one_more script sent i e at is =
 apart_below : (n v w : ℕ) → IsWorkerOf n v → IsWorkerOf n w → v ≢ w → v - 1 ≢ w - 1
 apart_below n v w p q d e = d (let a = p.0 in let b = q.0 in omega arith)
 
-emitted_step : (scripts : List (List Event)) (m : Moment) (c : Core) (w : ℕ) (e : Event) → IsMomentOf scripts m c → IsWorkerOf (length scripts) w → has_ended m.line w ≡ false → slice_get (script_of scripts w) (count_of m w) ≡ Some e → IsMomentOf scripts (next w m (Some e)) (emit w e c)
+emitted_step : (scripts : List (List Event)) (m : Moment) (c : Core) (w : ℕ) (e : Event) → IsMomentOf scripts m c → IsWorkerOf (length scripts) w → has_ended m.core w ≡ false → slice_get (script_of scripts w) (count_of m w) ≡ Some e → IsMomentOf scripts (next w m (Some e)) (emit w e c)
 emitted_step scripts m c w e is at open' some = record {
   lawful = emits (length scripts) w e c at (is.ended w at ∙ open') is.lawful;
   waits = ap (λ l. l ++ Emitted (record { worker = w; event = e }) ∷ []) is.waits;
@@ -72,14 +72,14 @@ all_of [] (suc k) e = refl
 all_of (x ∷ xs) zero e = absurd cc
 all_of (x ∷ xs) (suc k) e = ap (λ l. x ∷ l) (all_of xs k e)
 
-ended_step : (scripts : List (List Event)) (m : Moment) (c : Core) (w : ℕ) → length scripts ≤ most_workers → IsMomentOf scripts m c → IsWorkerOf (length scripts) w → has_ended m.line w ≡ false → slice_get (script_of scripts w) (count_of m w) ≡ None → IsMomentOf scripts (next w m None) (finish w c)
+ended_step : (scripts : List (List Event)) (m : Moment) (c : Core) (w : ℕ) → length scripts ≤ most_workers → IsMomentOf scripts m c → IsWorkerOf (length scripts) w → has_ended m.core w ≡ false → slice_get (script_of scripts w) (count_of m w) ≡ None → IsMomentOf scripts (next w m None) (finish w c)
 ended_step scripts m c w few is at open' none = record {
   lawful = finishes (length scripts) w c at (is.ended w at ∙ open') is.lawful;
   waits = ap (λ l. l ++ End w ∷ []) is.waits;
   taken = is.taken;
   sent = is.sent;
   ended = λ v one. ⊎_elim
-      (λ (same : v ≡ w). subst (λ u. put c.ended w true u ≡ get_or (slice_set m.line.ended w true) u false) (sym same) (put-same c.ended w true ∙ sym here))
+      (λ (same : v ≡ w). subst (λ u. put c.ended w true u ≡ get_or (slice_set m.core.ended w true) u false) (sym same) (put-same c.ended w true ∙ sym here))
       (λ (apart : v ≢ w). put-other c.ended w true v apart ∙ is.ended v one ∙ sym (there v apart))
       (cases_eq v w);
   whole = λ v one done. ⊎_elim
@@ -87,16 +87,16 @@ ended_step scripts m c w few is at open' none = record {
       (λ (apart : v ≢ w). is.whole v one (sym (put-other c.ended w true v apart) ∙ done))
       (cases_eq v w);
   counts = is.counts;
-  marks = length-set m.line.ended w true ∙ is.marks;
+  marks = length-set m.core.ended w true ∙ is.marks;
 }
   where
-    within : w < length m.line.ended
+    within : w < length m.core.ended
     within = let b = at.1 in omega (arith, is.marks)
 
-    here : get_or (slice_set m.line.ended w true) w false ≡ true
+    here : get_or (slice_set m.core.ended w true) w false ≡ true
     here = let lt = within in rw get_or-set_same refl
 
-    there : (v : ℕ) → v ≢ w → get_or (slice_set m.line.ended w true) v false ≡ get_or m.line.ended v false
+    there : (v : ℕ) → v ≢ w → get_or (slice_set m.core.ended w true) v false ≡ get_or m.core.ended v false
     there v d = rw get_or-set_other refl
 
 entries-snoc : (xs : List Item) (x : Item) → entries (xs ++ x ∷ []) ≡ entries xs ++ entries (x ∷ [])
@@ -108,8 +108,8 @@ entries-snoc (End w ∷ xs) x = entries-snoc xs x
 abbrev Behind : List (List Event) → Moment → Type 0
 Behind scripts m = (c : Core) × IsMomentOf scripts m c
 
-taken_step : (scripts : List (List Event)) (m : Moment) (c : Core) (x : Item) (xs : List Item) (r : Recorded) → IsMomentOf scripts m c → m.line.waiting ≡ x ∷ xs → entries (c.taken ++ x ∷ []) ≡ r.entries
-    → Behind scripts (record { line = record { workers = m.line.workers; ended = m.line.ended; waiting = xs }; emitted = m.emitted; taken = r })
+taken_step : (scripts : List (List Event)) (m : Moment) (c : Core) (x : Item) (xs : List Item) (r : Recorded) → IsMomentOf scripts m c → m.core.waiting ≡ x ∷ xs → entries (c.taken ++ x ∷ []) ≡ r.entries
+    → Behind scripts (record { core = record { workers = m.core.workers; ended = m.core.ended; waiting = xs }; emitted = m.emitted; taken = r })
 taken_step scripts m c x xs r is first more = (
   take_first x xs c,
   record {
@@ -124,16 +124,16 @@ taken_step scripts m c x xs r is first more = (
   },
 )
 
-appended_step : (scripts : List (List Event)) (m n : Moment) (c : Core) (e : Entry) (xs : List Item) (o : Option AppendFault) → IsMomentOf scripts m c → m.line.waiting ≡ Emitted e ∷ xs → append_to m xs e o ≡ Ok n → Behind scripts n
+appended_step : (scripts : List (List Event)) (m n : Moment) (c : Core) (e : Entry) (xs : List Item) (o : Option AppendFault) → IsMomentOf scripts m c → m.core.waiting ≡ Emitted e ∷ xs → append_to m xs e o ≡ Ok n → Behind scripts n
 appended_step scripts m n c e xs None is first h = subst (Behind scripts) (same_Ok _ n h) (taken_step scripts m c (Emitted e) xs _ is first (entries-snoc c.taken (Emitted e) ∙ ap (λ l. l ++ e ∷ []) is.taken))
 appended_step scripts m n c e xs (Some f) is first h = absurd cc
 
-take_step : (scripts : List (List Event)) (m n : Moment) (c : Core) (xs : List Item) → IsMomentOf scripts m c → m.line.waiting ≡ xs → take_item m xs ≡ Ok n → Behind scripts n
+take_step : (scripts : List (List Event)) (m n : Moment) (c : Core) (xs : List Item) → IsMomentOf scripts m c → m.core.waiting ≡ xs → take_item m xs ≡ Ok n → Behind scripts n
 take_step scripts m n c [] is first h = subst (Behind scripts) (same_Ok m n h) (c, is)
 take_step scripts m n c (End w ∷ xs) is first h = subst (Behind scripts) (same_Ok _ n h) (taken_step scripts m c (End w) xs m.taken is first (entries-snoc c.taken (End w) ∙ append-nil (entries c.taken) ∙ is.taken))
 take_step scripts m n c (Emitted e ∷ xs) is first h = appended_step scripts m n c e xs (fault_of m.taken e) is first h
 
-next_step : (scripts : List (List Event)) (m : Moment) (c : Core) (w : ℕ) (o : Option Event) → length scripts ≤ most_workers → IsMomentOf scripts m c → IsWorkerOf (length scripts) w → has_ended m.line w ≡ false → slice_get (script_of scripts w) (count_of m w) ≡ o → Behind scripts (next w m o)
+next_step : (scripts : List (List Event)) (m : Moment) (c : Core) (w : ℕ) (o : Option Event) → length scripts ≤ most_workers → IsMomentOf scripts m c → IsWorkerOf (length scripts) w → has_ended m.core w ≡ false → slice_get (script_of scripts w) (count_of m w) ≡ o → Behind scripts (next w m o)
 next_step scripts m c w (Some e) few is at open' some = (emit w e c, emitted_step scripts m c w e is at open' some)
 next_step scripts m c w None few is at open' none = (finish w c, ended_step scripts m c w few is at open' none)
 
@@ -143,9 +143,9 @@ worked false m n e = (refl, same_Ok m n e)
 
 one_step : (scripts : List (List Event)) (m n : Moment) (c : Core) (t : Turn) → length scripts ≤ most_workers → IsTurn (length scripts) t → IsMomentOf scripts m c → turn_step scripts m t ≡ Ok n → Behind scripts n
 one_step scripts m n c (Worker w) few at is h =
-    let k = worked (has_ended m.line w) (next w m (slice_get (script_of scripts w) (count_of m w))) n h in
+    let k = worked (has_ended m.core w) (next w m (slice_get (script_of scripts w) (count_of m w))) n h in
     subst (Behind scripts) k.1 (next_step scripts m c w (slice_get (script_of scripts w) (count_of m w)) few is at k.0 refl)
-one_step scripts m n c Take few at is h = take_step scripts m n c m.line.waiting is refl h
+one_step scripts m n c Take few at is h = take_step scripts m n c m.core.waiting is refl h
 
 all_steps : (scripts : List (List Event)) (turns : List Turn) (m n : Moment) (c : Core) → length scripts ≤ most_workers → AllByRecursion (IsTurn (length scripts)) turns → IsMomentOf scripts m c → plays scripts turns m ≡ Some n → Behind scripts n
 all_steps scripts [] m n c few all is e = subst (Behind scripts) (same_Some m n e) (c, is)
@@ -157,13 +157,13 @@ all_steps scripts (t ∷ turns) m n c few all is e =
 
 zeros_at : (n k : ℕ) → get_or (zeros n) k 0 ≡ 0
 zeros_at zero k = refl
-zeros_at (suc n) k = zero_behind (zeros n) k (zeros_at n)
+zeros_at (suc n) k = zero_after (zeros n) k (zeros_at n)
   where
-    zero_behind : (xs : List ℕ) (k : ℕ) → ((j : ℕ) → get_or xs j 0 ≡ 0) → get_or (xs ++ 0 ∷ []) k 0 ≡ 0
-    zero_behind [] zero h = refl
-    zero_behind [] (suc k) h = refl
-    zero_behind (x ∷ xs) zero h = h zero
-    zero_behind (x ∷ xs) (suc k) h = zero_behind xs k (λ j. h (suc j))
+    zero_after : (xs : List ℕ) (k : ℕ) → ((j : ℕ) → get_or xs j 0 ≡ 0) → get_or (xs ++ 0 ∷ []) k 0 ≡ 0
+    zero_after [] zero h = refl
+    zero_after [] (suc k) h = refl
+    zero_after (x ∷ xs) zero h = h zero
+    zero_after (x ∷ xs) (suc k) h = zero_after xs k (λ j. h (suc j))
 
 false_at : (n k : ℕ) → get_or (replicate n false) k false ≡ false
 false_at zero k = refl
@@ -171,7 +171,7 @@ false_at (suc n) zero = refl
 false_at (suc n) (suc k) = false_at n k
 
 not_ended : (n w : ℕ) → has_ended (fresh n) w ≡ false
-not_ended n w = false_at places w
+not_ended n w = false_at worker_slots w
 
 pub replays_core : ReplaysCore
 replays_core table scripts turns m few all e = all_steps scripts turns (start table (length scripts)) m

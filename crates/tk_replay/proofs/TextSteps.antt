@@ -12,11 +12,11 @@ use Rattle.tk_events.specs.declared.events.Entry.{Entry}
 use Rattle.tk_columns.specs.Mixing.{IsWorkerOf, of_worker}
 use Rattle.tk_record.specs.Spelling.{joined, node_line, entry_line, IsDescriptor, HasEntryLine}
 use Rattle.tk_record.specs.Reading.{in_line, entry_of}
-use Rattle.tk_record.specs.Text.{fed, nodes_text, entries_text, AreNodes}
-use Rattle.tk_record.specs.Path.{LacksFeed, LacksNodeStart, IsNodesFront}
+use Rattle.tk_record.specs.Text.{with_line_feed, nodes_text, entries_text, AreNodes}
+use Rattle.tk_record.specs.Path.{LacksFeed, LacksNodeStart, IsNodesPrefix}
 use Rattle.tk_record.proofs.Forms.{one_value}
 use Rattle.tk_record.proofs.RecordLines.{entry_line_form, entry_no_feed}
-use Rattle.tk_record.proofs.Behind.{same_line, no_node, no_entry_at_node, no_node_start, one_more}
+use Rattle.tk_record.proofs.After.{same_line, no_node, no_entry_at_node, no_node_start, one_more}
 use Rattle.tk_replay.specs.declared.items.Turn.{Turn}
 use Rattle.tk_replay.specs.declared.replays.Replayed.{Replayed}
 use Rattle.tk_replay.specs.declared.replays.ReplayFault.{ReplayFault}
@@ -24,13 +24,13 @@ use Rattle.tk_replay.specs.declared.replays.ReplayFault.TheVariants as faults
 use Rattle.tk_replay.specs.Limits.{most_workers}
 use Rattle.tk_replay.specs.Script.{IsCount, workers_line, workers_of, AreTurns, turns_line, turns_of}
 use Rattle.tk_replay.specs.Replay.{IsReplayed, plays, start}
-use Rattle.tk_replay.specs.ReplayText.{Scenario, header, AreOwn, scripts_by, NoCount, NoLineOf, Says, IsPlayed}
-use Rattle.tk_replay.specs.Fronts.{LacksEntryStart, IsEntriesFront, IsCountFault, IsListFault, IsFaultBehind, NoTurns, IsFollowed, IsEndFault}
+use Rattle.tk_replay.specs.ReplayText.{Scenario, header, AreOwn, scripts_by, NoCount, NoLineOf, IsTextOf, IsPlayed}
+use Rattle.tk_replay.specs.Prefixes.{LacksEntryStart, IsEntriesPrefix, IsCountFault, IsListFault, IsFaultAfter, NoTurns, IsFollowed, IsEndFault}
 use Rattle.tk_replay.proofs.ScriptForms.{workers_line_form, turns_line_form, workers_no_feed, turns_no_feed}
 
 -- ---- single lines
 
-pub regroup : (x m : List ℕ) → fed x ++ m ≡ x ++ 10 ∷ m
+pub regroup : (x m : List ℕ) → with_line_feed x ++ m ≡ x ++ 10 ∷ m
 regroup x m = append_assoc x (10 ∷ []) m
 
 -- without a line feed there is no line
@@ -42,10 +42,10 @@ feed_stands x m rest lacks e =
     let is_here : (get_or rest (length x) 0 == 10) ≡ true = rw (e, here) refl in
     absurd cc
 
-unfed : (x m rest : List ℕ) → LacksFeed rest → rest ≢ fed x ++ m
+unfed : (x m rest : List ℕ) → LacksFeed rest → rest ≢ with_line_feed x ++ m
 unfed x m rest lacks e = feed_stands x m rest lacks (e ∙ regroup x m)
 
-pub count_found : (input line more : List ℕ) (w : ℕ) → input ≡ line ++ 10 ∷ more → in_line workers_of line ≡ Some w → IsCount w × (input ≡ fed (workers_line w) ++ more)
+pub count_found : (input line more : List ℕ) (w : ℕ) → input ≡ line ++ 10 ∷ more → in_line workers_of line ≡ Some w → IsCount w × (input ≡ with_line_feed (workers_line w) ++ more)
 count_found input line more w is read =
     let f = workers_line_form.found line w read in
     (f.0, is ∙ ap (λ (t : List ℕ). t ++ 10 ∷ more) f.1 ∙ sym (regroup (workers_line w) more))
@@ -58,7 +58,7 @@ count_none input line more is lacks read n m has eq =
 pub count_unfed : (input : List ℕ) → LacksFeed input → NoCount input
 count_unfed input lacks n m has = unfed (workers_line n) m input lacks
 
-pub turns_found : (n : ℕ) (input line more : List ℕ) (ts : List Turn) → n ≤ most_workers → input ≡ line ++ 10 ∷ more → in_line (turns_of n) line ≡ Some ts → AreTurns n ts × (input ≡ fed (turns_line ts) ++ more)
+pub turns_found : (n : ℕ) (input line more : List ℕ) (ts : List Turn) → n ≤ most_workers → input ≡ line ++ 10 ∷ more → in_line (turns_of n) line ≡ Some ts → AreTurns n ts × (input ≡ with_line_feed (turns_line ts) ++ more)
 turns_found n input line more ts few is read =
     let f = (turns_line_form n few).found line ts read in
     (f.0, is ∙ ap (λ (t : List ℕ). t ++ 10 ∷ more) f.1 ∙ sym (regroup (turns_line ts) more))
@@ -71,17 +71,17 @@ turns_none n input line more few is lacks read ts m are eq =
 pub turns_unfed : (n : ℕ) (input : List ℕ) → LacksFeed input → NoTurns n input
 turns_unfed n input lacks ts m are = unfed (turns_line ts) m input lacks
 
--- ---- which line a front may begin
+-- ---- which line a prefix may begin
 
 heads : (x y : ℕ) (a b : List ℕ) → x ∷ a ≡ y ∷ b → x ≡ y
 heads x y a b e = cc
 
-pub turns_begins : (ts : List Turn) (m : List ℕ) → (t : List ℕ) × (fed (turns_line ts) ++ m ≡ 83 ∷ t)
+pub turns_begins : (ts : List Turn) (m : List ℕ) → (t : List ℕ) × (with_line_feed (turns_line ts) ++ m ≡ 83 ∷ t)
 unfolding joined
 turns_begins [] m = (_, refl)
 turns_begins (t ∷ ts) m = (_, refl)
 
-pub entry_begins : (e : Entry) (m : List ℕ) → (t : List ℕ) × (fed (entry_line e) ++ m ≡ 69 ∷ 124 ∷ t)
+pub entry_begins : (e : Entry) (m : List ℕ) → (t : List ℕ) × (with_line_feed (entry_line e) ++ m ≡ 69 ∷ 124 ∷ t)
 unfolding joined
 entry_begins e m = (_, refl)
 
@@ -95,7 +95,7 @@ entry_start r rest e is = (drop 2 rest, (starts_is Decides-eqb rest (69 ∷ 124 
 pub lacks_entry_start : (r : Bool) (rest : List ℕ) → r ≡ starts_with eqb rest (69 ∷ 124 ∷ []) → r ≡ false → LacksEntryStart rest
 lacks_entry_start r rest e is = λ more eq. let t : r ≡ true = (starts_is Decides-eqb rest (69 ∷ 124 ∷ []) r e).1 more eq in absurd cc
 
-no_entry_start : (rest : List ℕ) → LacksEntryStart rest → (e : Entry) (m : List ℕ) → rest ≢ fed (entry_line e) ++ m
+no_entry_start : (rest : List ℕ) → LacksEntryStart rest → (e : Entry) (m : List ℕ) → rest ≢ with_line_feed (entry_line e) ++ m
 no_entry_start rest lacks e m eq = let b = entry_begins e m in lacks b.0 (eq ∙ b.1)
 
 -- ---- lines of descriptors
@@ -120,7 +120,7 @@ bad_node n input table rest k is nodes none number = inl (record {
   table = table;
   entries = [];
   rest = rest;
-  front = is;
+  prefix = is;
   nodes = nodes;
   own = tt;
   none = none;
@@ -135,7 +135,7 @@ AreOwn-push n (x ∷ xs) e own has is = (own.0, AreOwn-push n xs e own.1 has is)
 
 -- what the loop over the entries keeps
 pub record SoFar (n : ℕ) (input : List ℕ) (entries : List Entry) (rest : List ℕ) : Type 0 where
-  pub front : input ≡ entries_text entries ++ rest
+  pub prefix : input ≡ entries_text entries ++ rest
   pub own : AreOwn n entries
   pub no_node : entries ≡ [] → LacksNodeStart rest
 
@@ -144,29 +144,29 @@ push_nonempty es e n = let h : length (es ++ e ∷ []) ≡ 0 = ap length n in ab
 
 pub so_more : (n : ℕ) (input : List ℕ) (entries : List Entry) (rest line more : List ℕ) (e : Entry) → SoFar n input entries rest → rest ≡ line ++ 10 ∷ more → HasEntryLine e × (line ≡ entry_line e) → IsWorkerOf n e.worker → SoFar n input (entries ++ e ∷ []) more
 so_more n input entries rest line more e so split found is = record {
-  front = one_more entry_line entries e input line more (so.front ∙ ap (λ (t : List ℕ). entries_text entries ++ t) split) found.1;
+  prefix = one_more entry_line entries e input line more (so.prefix ∙ ap (λ (t : List ℕ). entries_text entries ++ t) split) found.1;
   own = AreOwn-push n entries e so.own found.0 is;
   no_node = λ none. absurd (push_nonempty entries e none);
 }
 
-pub bad_entry : (n nodes : ℕ) (input : List ℕ) (entries : List Entry) (rest : List ℕ) (k : ℕ) → SoFar n input entries rest → ((e : Entry) (m : List ℕ) → HasEntryLine e → IsWorkerOf n e.worker → rest ≢ fed (entry_line e) ++ m) → NoTurns n rest
-    → k ≡ nodes + length entries + 3 → IsFaultBehind n nodes input (faults.BadLine k)
+pub bad_entry : (n nodes : ℕ) (input : List ℕ) (entries : List Entry) (rest : List ℕ) (k : ℕ) → SoFar n input entries rest → ((e : Entry) (m : List ℕ) → HasEntryLine e → IsWorkerOf n e.worker → rest ≢ with_line_feed (entry_line e) ++ m) → NoTurns n rest
+    → k ≡ nodes + length entries + 3 → IsFaultAfter n nodes input (faults.BadLine k)
 bad_entry n nodes input entries rest k so none no_turns number table fits long = inl (record {
   table = table;
   entries = entries;
   rest = rest;
-  front = ap (λ (t : List ℕ). nodes_text table ++ t) so.front;
+  prefix = ap (λ (t : List ℕ). nodes_text table ++ t) so.prefix;
   nodes = fits;
   own = so.own;
   none = record { node = λ d m empty _ _. no_node_start rest (so.no_node empty) d m; entry = none; turns = no_turns };
   number = omega arith;
 })
 
-pub bad_entry_unfed : (n nodes : ℕ) (input : List ℕ) (entries : List Entry) (rest : List ℕ) (k : ℕ) → SoFar n input entries rest → LacksFeed rest → k ≡ nodes + length entries + 3 → IsFaultBehind n nodes input (faults.BadLine k)
+pub bad_entry_unfed : (n nodes : ℕ) (input : List ℕ) (entries : List Entry) (rest : List ℕ) (k : ℕ) → SoFar n input entries rest → LacksFeed rest → k ≡ nodes + length entries + 3 → IsFaultAfter n nodes input (faults.BadLine k)
 bad_entry_unfed n nodes input entries rest k so lacks number = bad_entry n nodes input entries rest k so (λ e m _ _. unfed (entry_line e) m rest lacks) (turns_unfed n rest lacks) number
 
 pub bad_entry_line : (n nodes : ℕ) (input : List ℕ) (entries : List Entry) (rest line more t : List ℕ) (k : ℕ) → SoFar n input entries rest → rest ≡ line ++ 10 ∷ more → LacksFeed line → rest ≡ 69 ∷ 124 ∷ t
-    → ((e : Entry) → HasEntryLine e → IsWorkerOf n e.worker → line ≢ entry_line e) → k ≡ nodes + length entries + 3 → IsFaultBehind n nodes input (faults.BadLine k)
+    → ((e : Entry) → HasEntryLine e → IsWorkerOf n e.worker → line ≢ entry_line e) → k ≡ nodes + length entries + 3 → IsFaultAfter n nodes input (faults.BadLine k)
 bad_entry_line n nodes input entries rest line more t k so is lacks start bad number =
     bad_entry n nodes input entries rest k so
     (λ e m has own eq. bad e has own (same_line line (entry_line e) more m lacks (entry_no_feed e has) (sym is ∙ eq ∙ regroup (entry_line e) m)).0)
@@ -178,16 +178,16 @@ foreign n line e found none x has is same = none (subst (λ (y : Entry). IsWorke
 
 -- ---- the line of the turns
 
-pub end_fault : (n nodes number : ℕ) (input : List ℕ) (entries : List Entry) (rest : List ℕ) (fault : ReplayFault) → IsEntriesFront n input entries rest → number ≡ nodes + length entries + 3 → IsEndFault n number rest fault → IsFaultBehind n nodes input fault
+pub end_fault : (n nodes number : ℕ) (input : List ℕ) (entries : List Entry) (rest : List ℕ) (fault : ReplayFault) → IsEntriesPrefix n input entries rest → number ≡ nodes + length entries + 3 → IsEndFault n number rest fault → IsFaultAfter n nodes input fault
 end_fault n nodes number input entries rest (faults.BadLine k) f is fault = ⊎_elim
-    (λ (x : (k ≡ number) × NoTurns n rest). bad_entry n nodes input entries rest k (record { front = f.front; own = f.own; no_node = f.no_node }) (λ e m _ _. no_entry_start rest f.no_entry e m) x.1 (x.0 ∙ is))
+    (λ (x : (k ≡ number) × NoTurns n rest). bad_entry n nodes input entries rest k (record { prefix = f.prefix; own = f.own; no_node = f.no_node }) (λ e m _ _. no_entry_start rest f.no_entry e m) x.1 (x.0 ∙ is))
     (λ (y : (k ≡ number + 1) × IsFollowed n rest). λ table fits long.
     let z = y.1 in inr (record {
       table = table;
       entries = entries;
       turns = z.0;
       rest = z.1;
-      front = ap (λ (t : List ℕ). nodes_text table ++ t) (f.front ∙ ap (λ (t : List ℕ). entries_text entries ++ t) z.3);
+      prefix = ap (λ (t : List ℕ). nodes_text table ++ t) (f.prefix ∙ ap (λ (t : List ℕ). entries_text entries ++ t) z.3);
       nodes = fits;
       own = f.own;
       are = z.2;
@@ -213,7 +213,7 @@ count_played input body (faults.Append i x) is fault = absurd fault
 count_played input body faults.TooLarge is fault = absurd fault
 count_played input body faults.Device is fault = absurd fault
 
-pub list_played : (n : ℕ) (input body rest : List ℕ) (fault : ReplayFault) → input ≡ header ++ body → IsCount n × (body ≡ fed (workers_line n) ++ rest) → IsListFault n rest fault → IsPlayed input (Err fault)
+pub list_played : (n : ℕ) (input body rest : List ℕ) (fault : ReplayFault) → input ≡ header ++ body → IsCount n × (body ≡ with_line_feed (workers_line n) ++ rest) → IsListFault n rest fault → IsPlayed input (Err fault)
 list_played n input body rest (faults.BadLine k) is count fault = (body, is, inr (n, rest, count.0, count.1, fault))
 list_played n input body rest faults.Memory is count fault = tt
 list_played n input body rest faults.NoHeader is count fault = absurd fault
@@ -222,16 +222,16 @@ list_played n input body rest (faults.Append i x) is count fault = absurd fault
 list_played n input body rest faults.TooLarge is count fault = absurd fault
 list_played n input body rest faults.Device is count fault = absurd fault
 
-pub behind_played : (n nodes : ℕ) (input body rest more : List ℕ) (table : List Descriptor) (fault : ReplayFault) → input ≡ header ++ body → IsCount n × (body ≡ fed (workers_line n) ++ rest) → IsNodesFront rest table more → nodes ≡ length table
-    → IsFaultBehind n nodes more fault → IsPlayed input (Err fault)
-behind_played n nodes input body rest more table fault is count front long f =
-    list_played n input body rest fault is count (subst (λ (t : List ℕ). IsListFault n t fault) (sym front.front) (f table front.fitting (sym long)))
+pub after_played : (n nodes : ℕ) (input body rest more : List ℕ) (table : List Descriptor) (fault : ReplayFault) → input ≡ header ++ body → IsCount n × (body ≡ with_line_feed (workers_line n) ++ rest) → IsNodesPrefix rest table more → nodes ≡ length table
+    → IsFaultAfter n nodes more fault → IsPlayed input (Err fault)
+after_played n nodes input body rest more table fault is count prefix long f =
+    list_played n input body rest fault is count (subst (λ (t : List ℕ). IsListFault n t fault) (sym prefix.prefix) (f table prefix.fitting (sym long)))
 
-pub says : (n : ℕ) (input body rest more last : List ℕ) (table : List Descriptor) (entries : List Entry) (turns : List Turn) → input ≡ header ++ body → IsCount n × (body ≡ fed (workers_line n) ++ rest) → IsNodesFront rest table more
-    → IsEntriesFront n more entries last → AreTurns n turns × (last ≡ fed (turns_line turns)) → Says input (record { workers = n; table = table; entries = entries; turns = turns })
+pub says : (n : ℕ) (input body rest more last : List ℕ) (table : List Descriptor) (entries : List Entry) (turns : List Turn) → input ≡ header ++ body → IsCount n × (body ≡ with_line_feed (workers_line n) ++ rest) → IsNodesPrefix rest table more
+    → IsEntriesPrefix n more entries last → AreTurns n turns × (last ≡ with_line_feed (turns_line turns)) → IsTextOf input (record { workers = n; table = table; entries = entries; turns = turns })
 says n input body rest more last table entries turns is count nodes own ends = (
   record { count = count.0; nodes = nodes.fitting; own = own.own; turns = ends.0 },
-  is ∙ ap (λ (t : List ℕ). header ++ t) (count.1 ∙ ap (λ (t : List ℕ). fed (workers_line n) ++ t) (nodes.front ∙ ap (λ (t : List ℕ). nodes_text table ++ t) (own.front ∙ ap (λ (t : List ℕ). entries_text entries ++ t) ends.1))),
+  is ∙ ap (λ (t : List ℕ). header ++ t) (count.1 ∙ ap (λ (t : List ℕ). with_line_feed (workers_line n) ++ t) (nodes.prefix ∙ ap (λ (t : List ℕ). nodes_text table ++ t) (own.prefix ∙ ap (λ (t : List ℕ). entries_text entries ++ t) ends.1))),
 )
 
 pub scripts_long : (entries : List Entry) (n : ℕ) → length (scripts_by entries n) ≡ n
@@ -247,7 +247,7 @@ scripts_here f scripts entries others n same is = is ∙ ap (λ (es : List Entry
 pub replay_here : (t u : List Descriptor) (s r : List (List Event)) (x y : List Turn) (a : Result Replayed ReplayFault) → t ≡ u → s ≡ r → x ≡ y → IsReplayed t s x a → IsReplayed u r y a
 replay_here t u s r x y a p q e is = subst (λ (z : List Descriptor × List (List Event) × List Turn). IsReplayed z.0 z.1 z.2 a) (λ i. (p i, q i, e i)) is
 
-pub replay_fault : (input : List ℕ) (p : Scenario) (fault : ReplayFault) → Says input p → IsReplayed p.table (scripts_by p.entries p.workers) p.turns (Err fault) → IsPlayed input (Err fault)
+pub replay_fault : (input : List ℕ) (p : Scenario) (fault : ReplayFault) → IsTextOf input p → IsReplayed p.table (scripts_by p.entries p.workers) p.turns (Err fault) → IsPlayed input (Err fault)
 replay_fault input p (faults.AfterEnd i) is r = (p, is, r)
 replay_fault input p (faults.Append i x) is r = (p, is, r)
 replay_fault input p faults.Memory is r = tt
@@ -256,7 +256,7 @@ replay_fault input p (faults.BadLine k) is r = absurd r
 replay_fault input p faults.TooLarge is r = absurd r
 replay_fault input p faults.Device is r = absurd r
 
-pub replay_done : (input : List ℕ) (p : Scenario) (done : Replayed) → Says input p → IsReplayed p.table (scripts_by p.entries p.workers) p.turns (Ok done) → IsPlayed input (Ok done.taken)
+pub replay_done : (input : List ℕ) (p : Scenario) (done : Replayed) → IsTextOf input p → IsReplayed p.table (scripts_by p.entries p.workers) p.turns (Ok done) → IsPlayed input (Ok done.taken)
 replay_done input p done is r = (
   p,
   r.0,

@@ -4,26 +4,26 @@ use Rattle.std.specs.List.{AllByRecursion}
 use Rattle.tk_ids.specs.declared.tables.Descriptor.{Descriptor}
 use Rattle.tk_events.specs.declared.events.Event.{Event}
 use Rattle.tk_columns.specs.Mixing.{IsWorkerOf}
-use Rattle.tk_replay.specs.Limits.{most_workers, places}
+use Rattle.tk_replay.specs.Limits.{most_workers, worker_slots}
 use Rattle.tk_replay.specs.declared.items.Turn.{Turn}
 use Rattle.tk_columns.specs.Recorded.{Recorded}
 use Rattle.tk_replay.specs.declared.replays.ReplayFault.{ReplayFault}
 use Rattle.tk_replay.specs.declared.replays.ReplayFault.TheVariants as faults
 use Rattle.tk_replay.specs.ReplayText.{IsPlayed}
-use Rattle.tk_replay.specs.Line.{has_ended}
+use Rattle.tk_replay.specs.CoreState.{has_ended}
 use Rattle.tk_replay.specs.Core.{Core, IsCore, entries}
 use Rattle.tk_replay.specs.Replay.{Moment, IsTurn, script_of, count_of, plays, start}
 
 -- the moment is the core's state in which each worker sent as much of its script as is counted, and all of it where it ended
 pub record IsMomentOf (scripts : List (List Event)) (m : Moment) (c : Core) : Type 0 where
   pub lawful : IsCore (length scripts) c
-  pub waits : c.waiting ≡ m.line.waiting
+  pub waits : c.waiting ≡ m.core.waiting
   pub taken : entries c.taken ≡ m.taken.entries
   pub sent : (w : ℕ) → IsWorkerOf (length scripts) w → c.sent w ≡ take (count_of m w) (script_of scripts w)
-  pub ended : (w : ℕ) → IsWorkerOf (length scripts) w → c.ended w ≡ has_ended m.line w
+  pub ended : (w : ℕ) → IsWorkerOf (length scripts) w → c.ended w ≡ has_ended m.core w
   pub whole : (w : ℕ) → IsWorkerOf (length scripts) w → c.ended w ≡ true → c.sent w ≡ script_of scripts w
   pub counts : length m.emitted ≡ length scripts
-  pub marks : length m.line.ended ≡ places
+  pub marks : length m.core.ended ≡ worker_slots
 
 -- so each worker's items, taken and waiting, are the events that it emitted so far, then its mark if it ended
 abbrev pub ReplaysCore : Type 0
@@ -36,5 +36,5 @@ IsSettled (Err faults.Memory) = ⊥
 IsSettled _ = Unit {0}
 
 -- no input has two answers
-abbrev pub OneAnswer : Type 0
-OneAnswer = (input : List ℕ) (a b : Result Recorded ReplayFault) → IsSettled a → IsSettled b → IsPlayed input a → IsPlayed input b → a ≡ b
+abbrev pub AnswerIsUnique : Type 0
+AnswerIsUnique = (input : List ℕ) (a b : Result Recorded ReplayFault) → IsSettled a → IsSettled b → IsPlayed input a → IsPlayed input b → a ≡ b

@@ -1,8 +1,8 @@
 pub mod Limits
 pub mod Core
-pub mod Line
+pub mod CoreState
 pub mod Replay
 pub mod Script
 pub mod ReplayText
-pub mod Fronts
+pub mod Prefixes
 pub mod Laws

@@ -6,6 +6,6 @@ use Rattle.tk_events.specs.declared.registrations.TheConstants.{MAX_WORKERS}
 abbrev pub most_workers : ℕ
 most_workers = MAX_WORKERS
 
--- as many places as there are numbers up to the last worker's, 0 among them
-abbrev pub places : ℕ
-places = MAX_WORKERS + 1
+-- a slot for each worker, and one for worker 0
+abbrev pub worker_slots : ℕ
+worker_slots = MAX_WORKERS + 1

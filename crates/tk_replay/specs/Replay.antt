@@ -16,11 +16,11 @@ use Rattle.tk_replay.specs.declared.items.Turn.TheVariants.{Worker, Take}
 use Rattle.tk_replay.specs.declared.replays.ReplayFault.{ReplayFault}
 use Rattle.tk_replay.specs.declared.replays.ReplayFault.TheVariants as faults
 use Rattle.tk_replay.specs.declared.replays.Replayed.{Replayed}
-use Rattle.tk_replay.specs.Line.{Line, has_ended, fresh, emits, ends}
+use Rattle.tk_replay.specs.CoreState.{CoreState, has_ended, fresh, emits, ends}
 
 -- a moment of a replay; `emitted` counts each worker's events, from worker 1 on
 pub record Moment : Type 0 where
-  pub line : Line
+  pub core : CoreState
   pub emitted : List ℕ
   pub taken : Recorded
 
@@ -38,31 +38,31 @@ count_of m w = get_or m.emitted (w - 1) 0
 
 -- the worker's next event was emitted, or its mark
 abbrev pub next : ℕ → Moment → Option Event → Moment
-next w m (Some e) = record { line = emits w e m.line; emitted = slice_set m.emitted (w - 1) (count_of m w + 1); taken = m.taken }
-next w m None = record { line = ends w m.line; emitted = m.emitted; taken = m.taken }
+next w m (Some e) = record { core = emits w e m.core; emitted = slice_set m.emitted (w - 1) (count_of m w + 1); taken = m.taken }
+next w m None = record { core = ends w m.core; emitted = m.emitted; taken = m.taken }
 
-abbrev pub waits : Line → List Item → Line
+abbrev pub waits : CoreState → List Item → CoreState
 waits c xs = record { workers = c.workers; ended = c.ended; waiting = xs }
 
 abbrev pub append_to : Moment → List Item → Entry → Option AppendFault → Result Moment Stop
-append_to m xs e None = Ok (record { line = waits m.line xs; emitted = m.emitted; taken = with_entry m.taken e })
+append_to m xs e None = Ok (record { core = waits m.core xs; emitted = m.emitted; taken = with_entry m.taken e })
 append_to m xs e (Some fault) = Err (Refuses fault)
 
 -- the first of the waiting items is taken; a mark isn't recorded
 abbrev pub take_item : Moment → List Item → Result Moment Stop
 take_item m [] = Ok m
 take_item m (Emitted e ∷ xs) = append_to m xs e (fault_of m.taken e)
-take_item m (End w ∷ xs) = Ok (record { line = waits m.line xs; emitted = m.emitted; taken = m.taken })
+take_item m (End w ∷ xs) = Ok (record { core = waits m.core xs; emitted = m.emitted; taken = m.taken })
 
 abbrev pub turn_step : List (List Event) → Moment → Turn → Result Moment Stop
-turn_step scripts m (Worker w) = if has_ended m.line w then Err Faulty else Ok (next w m (slice_get (script_of scripts w) (count_of m w)))
-turn_step scripts m Take = take_item m m.line.waiting
+turn_step scripts m (Worker w) = if has_ended m.core w then Err Faulty else Ok (next w m (slice_get (script_of scripts w) (count_of m w)))
+turn_step scripts m Take = take_item m m.core.waiting
 
 abbrev pub after : {A : Type 0} → Result A Stop → (A → Option A) → Option A
 after (Ok a) f = f a
 after (Err stop) f = None
 
--- the moment behind all of the turns, where none stops
+-- the moment after all of the turns, where none stops
 abbrev pub plays : List (List Event) → List Turn → Moment → Option Moment
 plays scripts [] m = Some m
 plays scripts (t ∷ turns) m = after (turn_step scripts m t) (plays scripts turns)
@@ -73,7 +73,7 @@ zeros (suc n) = zeros n ++ 0 ∷ []
 
 -- before the first turn of a replay with n workers
 abbrev pub start : List Descriptor → ℕ → Moment
-start table n = record { line = fresh n; emitted = zeros n; taken = record { table = table; entries = [] } }
+start table n = record { core = fresh n; emitted = zeros n; taken = record { table = table; entries = [] } }
 
 -- the turns go on to turn i, which stops
 pub record StopsAt (table : List Descriptor) (scripts : List (List Event)) (turns : List Turn) (i : ℕ) (why : Stop) : Type 0 where
@@ -86,7 +86,7 @@ pub record StopsAt (table : List Descriptor) (scripts : List (List Event)) (turn
 -- what the replay shows of its last moment
 pub record Shows (r : Replayed) (m : Moment) : Type 0 where
   pub taken : r.taken ≡ m.taken
-  pub waiting : r.waiting.items ≡ m.line.waiting
+  pub waiting : r.waiting.items ≡ m.core.waiting
   pub emitted : r.emitted.items ≡ m.emitted
 
 -- what a replay answers; want of memory may come at any
@@ -122,4 +122,4 @@ IsStop n step _ = ⊥
 
 -- as many workers and counts as there are scripts
 abbrev pub Suits : Moment → List (List Event) → Type 0
-Suits m scripts = (m.line.workers ≡ length scripts) × (length m.emitted ≡ length scripts)
+Suits m scripts = (m.core.workers ≡ length scripts) × (length m.emitted ≡ length scripts)

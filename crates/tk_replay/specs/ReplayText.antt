@@ -10,10 +10,10 @@ use Rattle.tk_columns.specs.Recorded.{Recorded}
 use Rattle.tk_columns.specs.Mixing.{IsWorkerOf, of_worker}
 use Rattle.tk_record.specs.declared.reading.TheConstants.{MAX_TEXT}
 use Rattle.tk_record.specs.Spelling.{node_line, entry_line, IsDescriptor, HasEntryLine}
-use Rattle.tk_record.specs.Text.{fed, nodes_text, entries_text, AreNodes, text}
+use Rattle.tk_record.specs.Text.{with_line_feed, nodes_text, entries_text, AreNodes, text}
 use Rattle.tk_record.specs.declared.writing.WriteFault.{WriteFault}
 use Rattle.tk_record.specs.declared.writing.WriteFault.TheVariants as writing
-use Rattle.tk_streams.specs.Stream.{AppendsFront}
+use Rattle.tk_streams.specs.Stream.{AppendsPrefix}
 use Rattle.tk_streams.specs.declared.transfers.LoadFault.{LoadFault}
 use Rattle.tk_streams.specs.declared.transfers.LoadFault.TheVariants as loading
 use Rattle.tk_replay.specs.declared.items.Turn.{Turn}
@@ -34,7 +34,7 @@ header = codes "testkit-replay|1" ++ 10 ∷ []
 
 -- the header, the number of workers, the static descriptors, the entries, and the turns, each line with its line feed
 abbrev pub replay_text : Scenario → List ℕ
-replay_text p = header ++ (fed (workers_line p.workers) ++ (nodes_text p.table ++ (entries_text p.entries ++ fed (turns_line p.turns))))
+replay_text p = header ++ (with_line_feed (workers_line p.workers) ++ (nodes_text p.table ++ (entries_text p.entries ++ with_line_feed (turns_line p.turns))))
 
 -- each entry has a line, and is of one of the workers 1 to n
 abbrev pub AreOwn : ℕ → List Entry → Type 0
@@ -53,59 +53,59 @@ scripts_by entries (suc n) = scripts_by entries n ++ of_worker (suc n) entries �
 
 -- ---- a line that may not stand where it stands
 
--- no line of a number of workers stands at the front
+-- no line of a number of workers stands at the start
 abbrev pub NoCount : List ℕ → Type 0
-NoCount rest = (n : ℕ) (more : List ℕ) → IsCount n → rest ≢ fed (workers_line n) ++ more
+NoCount rest = (n : ℕ) (more : List ℕ) → IsCount n → rest ≢ with_line_feed (workers_line n) ++ more
 
--- no line that may follow these descriptors and entries stands at the front
+-- no line that may follow these descriptors and entries stands at the start
 pub record NoLineOf (n : ℕ) (table : List Descriptor) (entries : List Entry) (rest : List ℕ) : Type 0 where
-  pub node : (d : Descriptor) (more : List ℕ) → entries ≡ [] → IsDescriptor d → TakesNext table d → rest ≢ fed (node_line d) ++ more
-  pub entry : (e : Entry) (more : List ℕ) → HasEntryLine e → IsWorkerOf n e.worker → rest ≢ fed (entry_line e) ++ more
-  pub turns : (turns : List Turn) (more : List ℕ) → AreTurns n turns → rest ≢ fed (turns_line turns) ++ more
+  pub node : (d : Descriptor) (more : List ℕ) → entries ≡ [] → IsDescriptor d → TakesNext table d → rest ≢ with_line_feed (node_line d) ++ more
+  pub entry : (e : Entry) (more : List ℕ) → HasEntryLine e → IsWorkerOf n e.worker → rest ≢ with_line_feed (entry_line e) ++ more
+  pub turns : (turns : List Turn) (more : List ℕ) → AreTurns n turns → rest ≢ with_line_feed (turns_line turns) ++ more
 
--- behind the number of workers, line k is none that may follow the descriptors and entries before it, or is missing
+-- after the number of workers, line k is none that may follow the descriptors and entries before it, or is missing
 pub record IsBadLine (n : ℕ) (input : List ℕ) (k : ℕ) : Type 0 where
   pub table : List Descriptor
   pub entries : List Entry
   pub rest : List ℕ
-  pub front : input ≡ nodes_text table ++ (entries_text entries ++ rest)
+  pub prefix : input ≡ nodes_text table ++ (entries_text entries ++ rest)
   pub nodes : AreNodes [] table
   pub own : AreOwn n entries
   pub none : NoLineOf n table entries rest
   pub number : k ≡ length table + length entries + 3
 
--- behind the number of workers, line k stands behind the turns
-pub record IsLineBehind (n : ℕ) (input : List ℕ) (k : ℕ) : Type 0 where
+-- after the number of workers, line k stands after the turns
+pub record IsLineAfter (n : ℕ) (input : List ℕ) (k : ℕ) : Type 0 where
   pub table : List Descriptor
   pub entries : List Entry
   pub turns : List Turn
   pub rest : List ℕ
-  pub front : input ≡ nodes_text table ++ (entries_text entries ++ (fed (turns_line turns) ++ rest))
+  pub prefix : input ≡ nodes_text table ++ (entries_text entries ++ (with_line_feed (turns_line turns) ++ rest))
   pub nodes : AreNodes [] table
   pub own : AreOwn n entries
   pub are : AreTurns n turns
   pub more : rest ≢ []
   pub number : k ≡ length table + length entries + 4
 
--- the first line behind the number of workers that may not stand there is line k
-abbrev pub IsBadBehind : ℕ → List ℕ → ℕ → Type 0
-IsBadBehind n input k = IsBadLine n input k ⊎ IsLineBehind n input k
+-- the first line after the number of workers that may not stand there is line k
+abbrev pub IsBadAfter : ℕ → List ℕ → ℕ → Type 0
+IsBadAfter n input k = IsBadLine n input k ⊎ IsLineAfter n input k
 
--- the first line behind the header that may not stand there is line k: the one of the number of workers, or a later one
+-- the first line after the header that may not stand there is line k: the one of the number of workers, or a later one
 abbrev pub IsBad : List ℕ → ℕ → Type 0
-IsBad input k = ((k ≡ 2) × NoCount input) ⊎ ((n : ℕ) × (rest : List ℕ) × IsCount n × (input ≡ fed (workers_line n) ++ rest) × IsBadBehind n rest k)
+IsBad input k = ((k ≡ 2) × NoCount input) ⊎ ((n : ℕ) × (rest : List ℕ) × IsCount n × (input ≡ with_line_feed (workers_line n) ++ rest) × IsBadAfter n rest k)
 
 -- the input is the text of this replay
-abbrev pub Says : List ℕ → Scenario → Type 0
-Says input p = HasReplayText p × (input ≡ replay_text p)
+abbrev pub IsTextOf : List ℕ → Scenario → Type 0
+IsTextOf input p = HasReplayText p × (input ≡ replay_text p)
 
 -- what playing an input within the limit answers, with the record of what is taken; want of memory may come at any
 abbrev pub IsPlayed : List ℕ → Result Recorded ReplayFault → Type 0
-IsPlayed input (Ok r) = (p : Scenario) × (m : Moment) × Says input p × (plays (scripts_by p.entries p.workers) p.turns (start p.table p.workers) ≡ Some m) × (r ≡ m.taken)
+IsPlayed input (Ok r) = (p : Scenario) × (m : Moment) × IsTextOf input p × (plays (scripts_by p.entries p.workers) p.turns (start p.table p.workers) ≡ Some m) × (r ≡ m.taken)
 IsPlayed input (Err faults.NoHeader) = (rest : List ℕ) → input ≢ header ++ rest
 IsPlayed input (Err (faults.BadLine k)) = (rest : List ℕ) × (input ≡ header ++ rest) × IsBad rest k
-IsPlayed input (Err (faults.AfterEnd i)) = (p : Scenario) × Says input p × StopsAt p.table (scripts_by p.entries p.workers) p.turns i Faulty
-IsPlayed input (Err (faults.Append i fault)) = (p : Scenario) × Says input p × StopsAt p.table (scripts_by p.entries p.workers) p.turns i (Refuses fault)
+IsPlayed input (Err (faults.AfterEnd i)) = (p : Scenario) × IsTextOf input p × StopsAt p.table (scripts_by p.entries p.workers) p.turns i Faulty
+IsPlayed input (Err (faults.Append i fault)) = (p : Scenario) × IsTextOf input p × StopsAt p.table (scripts_by p.entries p.workers) p.turns i (Refuses fault)
 IsPlayed input (Err faults.TooLarge) = ⊥
 IsPlayed input (Err faults.Device) = ⊥
 IsPlayed input (Err faults.Memory) = Unit {0}
@@ -133,7 +133,7 @@ Plays input = (length input ≤ MAX_TEXT) × ((r : Recorded) × IsPlayed input (
 
 -- a prefix of the record of what is taken was written
 abbrev pub IsPartlyWritten : List ℕ → Option (List ℕ) → Option (List ℕ) → Type 0
-IsPartlyWritten input old new = (length input ≤ MAX_TEXT) × ((r : Recorded) × IsPlayed input (Ok r) × AppendsFront old new (text r))
+IsPartlyWritten input old new = (length input ≤ MAX_TEXT) × ((r : Recorded) × IsPlayed input (Ok r) × AppendsPrefix old new (text r))
 
 -- faults of loading and of writing, as faults of replays
 abbrev pub load_fault : LoadFault → ReplayFault

@@ -1,7 +1,7 @@
 //! The queue's core.
 ghost use Rattle.std.specs.Prelude.{◌≡◌, ◌<◌, ◌≤◌, ◌∷◌, [], true, false, IfOk, OnOk, OnErr, IfErr, MatchOption, MatchResult, length};
 ghost use Rattle.tk_columns.specs.Mixing.{IsWorkerOf};
-ghost use Rattle.tk_replay.specs.Line.{has_ended, emits, ends, fresh, with_first, IsCoreFault};
+ghost use Rattle.tk_replay.specs.CoreState.{has_ended, emits, ends, fresh, with_first, IsCoreFault};
 
 use crate::items::Item;
 use std::alloc::{AllocError, Global};
@@ -21,26 +21,26 @@ pub enum CoreFault {
 }
 
 /// A place for each number up to the last worker's.
-const PLACES: usize = MAX_WORKERS as usize + 1;
+const WORKER_SLOTS: usize = MAX_WORKERS as usize + 1;
 
 /// What waits, and who has ended.
 #[derive(Drop)]
 pub struct Core {
     workers: u8,
-    ended: [bool; PLACES],
+    ended: [bool; WORKER_SLOTS],
     waiting: VecDeque<Item>,
 }
 
 impl Model for Core {
     ghost use Rattle.std.specs.Prelude.{◌≤◌, ◌≡◌, length};
-    ghost use Rattle.tk_replay.specs.Limits.{most_workers, places};
-    ghost use Rattle.tk_replay.specs.Line.{Line};
+    ghost use Rattle.tk_replay.specs.Limits.{most_workers, worker_slots};
+    ghost use Rattle.tk_replay.specs.CoreState.{CoreState};
 
-    ghost Value = { Line };
+    ghost Value = { CoreState };
 
     ghost view = { λ c. record { workers = c.workers; ended = c.ended; waiting = c.waiting.items } };
 
-    ghost invariant = { λ c. (c.workers ≤ most_workers) × (length c.ended ≡ places) };
+    ghost invariant = { λ c. (c.workers ≤ most_workers) × (length c.ended ≡ worker_slots) };
 }
 
 impl Core {
@@ -51,7 +51,7 @@ impl Core {
     {
         Core {
             workers,
-            ended: [false; PLACES],
+            ended: [false; WORKER_SLOTS],
             waiting: VecDeque::new(alloc),
         }
     }
@@ -103,7 +103,8 @@ impl Core {
 
     /// Takes the first waiting item.
     pub fn take(&mut self) -> Option<Item>
-        ensures { MatchOption result ((self.old.waiting ≡ []) × (self.new ≡ self.old)) (λ item. self.old ≡ with_first item self.new) }
+        ensures { MatchOption result ((self.old.waiting ≡ []) × (self.new ≡ self.old)) (λ item.
+            self.old ≡ with_first item self.new) }
     {
         self.waiting.pop_front()
     }

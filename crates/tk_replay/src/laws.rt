@@ -1,5 +1,5 @@
 //! Laws of replays, which hold of the definitions alone.
-ghost use Rattle.tk_replay.specs.Laws.{ReplaysCore, OneAnswer};
+ghost use Rattle.tk_replay.specs.Laws.{ReplaysCore, AnswerIsUnique};
 
 /// Each moment of a replay is a state of the core, in which each worker sent what it emitted.
 pub fn replays_the_core()
@@ -7,6 +7,6 @@ pub fn replays_the_core()
 {}
 
 /// No input has two answers, want of memory aside.
-pub fn one_answer()
-    ensures { OneAnswer }
+pub fn answer_is_unique()
+    ensures { AnswerIsUnique }
 {}

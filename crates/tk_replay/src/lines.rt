@@ -8,7 +8,7 @@ use std::alloc::{AllocError, Global};
 use tk_events::MAX_WORKERS;
 use tk_record::{Fields, read_u8};
 
-/// The number of one of so many workers.
+/// The number of a worker, 1 to `workers`.
 fn read_worker(field: &[u8], workers: u8) -> Option<u8>
     ensures { result ≡ worker_of workers field.now }
 {
@@ -58,7 +58,9 @@ fn read_steps(
     fields: Fields<'_>,
     workers: u8,
 ) -> Result<Option<Vec<Turn>>, AllocError>
-    ensures { IfOk result (λ turns. MatchOption turns (turns_from workers fields.entry ≡ None) (λ found. turns_from workers fields.entry ≡ Some found.items)) }
+    ensures { IfOk result (λ turns.
+        MatchOption turns (turns_from workers fields.entry ≡ None) (λ found.
+        turns_from workers fields.entry ≡ Some found.items)) }
 {
     let mut turns = Vec::new(alloc);
     let mut rest = fields;
@@ -72,14 +74,16 @@ fn read_steps(
     Ok(Some(turns))
 }
 
-/// The turns that the line tells, of a session of so many workers.
+/// The turns that a line lists, of a session of `workers` workers.
 #[tactic(auto, unfolding(crate::specs::Script::turns_of))]
 pub(crate) fn read_turns(
     alloc: Global,
     line: &[u8],
     workers: u8,
 ) -> Result<Option<Vec<Turn>>, AllocError>
-    ensures { IfOk result (λ turns. MatchOption turns (in_line (turns_of workers) line.now ≡ None) (λ found. in_line (turns_of workers) line.now ≡ Some found.items)) }
+    ensures { IfOk result (λ turns.
+        MatchOption turns (in_line (turns_of workers) line.now ≡ None) (λ found.
+        in_line (turns_of workers) line.now ≡ Some found.items)) }
 {
     let Some((letter, fields)) = Fields::of(line).split() else {
         return Ok(None);

@@ -3,7 +3,7 @@ ghost use Rattle.std.specs.Prelude.{◌≡◌, ◌<◌, ◌≤◌, ◌-◌, ◌�
 ghost use Rattle.std.specs.Arc.{arc_value};
 ghost use Rattle.tk_columns.specs.Entries.{with_entry};
 ghost use Rattle.tk_columns.specs.Mixing.{IsWorkerOf};
-ghost use Rattle.tk_replay.specs.Line.{has_ended, fresh};
+ghost use Rattle.tk_replay.specs.CoreState.{has_ended, fresh};
 ghost use Rattle.tk_replay.specs.Replay.{IsReplayed, IsTurn, next, count_of, take_item, turn_step, refusal, IsStop, Suits, Refuses, IsMemory, start, zeros};
 ghost use Rattle.tk_replay.specs.declared.replays.ReplayFault.TheVariants.{Memory};
 
@@ -102,7 +102,7 @@ impl Model for Playing {
 
     ghost Value = { Moment };
 
-    ghost view = { λ p. record { line = p.core; emitted = p.emitted.items; taken = p.taken } };
+    ghost view = { λ p. record { core = p.core; emitted = p.emitted.items; taken = p.taken } };
 }
 
 fn copy_event(alloc: Global, script: &[Event], count: usize) -> Result<Option<Event>, AllocError>
@@ -117,20 +117,22 @@ fn copy_event(alloc: Global, script: &[Event], count: usize) -> Result<Option<Ev
 impl Playing {
     /// The worker's turn.
     fn work(&mut self, alloc: Global, script: &[Event], worker: u8) -> Result<(), CoreFault>
-        requires worker { IsWorkerOf self.old.line.workers worker }
+        requires worker { IsWorkerOf self.old.core.workers worker }
         requires counted { worker ≤ length self.old.emitted }
-        ensures ok { OnOk result ((has_ended self.old.line worker ≡ false) × (self.new ≡ next worker self.old (slice_get script.now (count_of self.old worker)))) }
-        ensures err { IfErr result (λ fault. ((fault ≡ CoreFault.AfterEnd) × (has_ended self.old.line worker ≡ true)) ⊎ (fault ≡ CoreFault.Memory)) }
+        ensures ok { OnOk result ((has_ended self.old.core worker ≡ false) × (self.new ≡ next worker self.old (slice_get script.now (count_of self.old worker)))) }
+        ensures err { IfErr result (λ fault.
+            ((fault ≡ CoreFault.AfterEnd) × (has_ended self.old.core worker ≡ true))
+            ⊎ (fault ≡ CoreFault.Memory)) }
     {
-        let place = worker as usize - 1;
-        let count = self.emitted[place];
+        let slot = worker as usize - 1;
+        let count = self.emitted[slot];
         let Ok(event) = copy_event(alloc, script, count) else {
             return Err(CoreFault::Memory);
         };
         match event {
             Some(event) => match self.core.emit(worker, event) {
                 Ok(()) => {
-                    self.emitted[place] = count + 1;
+                    self.emitted[slot] = count + 1;
                     Ok(())
                 }
                 Err((fault, _)) => Err(fault),
@@ -141,8 +143,9 @@ impl Playing {
 
     /// The turn of taking.
     fn take(&mut self) -> Result<(), AppendFault>
-        ensures ok { OnOk result (take_item self.old self.old.line.waiting ≡ Ok self.new) }
-        ensures err { IfErr result (λ fault. (take_item self.old self.old.line.waiting ≡ Err (Refuses fault)) ⊎ IsMemory fault) }
+        ensures ok { OnOk result (take_item self.old self.old.core.waiting ≡ Ok self.new) }
+        ensures err { IfErr result (λ fault.
+            (take_item self.old self.old.core.waiting ≡ Err (Refuses fault)) ⊎ IsMemory fault) }
     {
         match self.core.take() {
             None => Ok(()),
@@ -163,7 +166,8 @@ impl Playing {
         requires suits { Suits self.old (map (λ s. s.items) scripts.now) }
         ensures ok { OnOk result (turn_step (map (λ s. s.items) scripts.now) self.old turn ≡ Ok self.new) }
         ensures suits { OnOk result (Suits self.new (map (λ s. s.items) scripts.now)) }
-        ensures err { IfErr result (λ fault. IsStop number (turn_step (map (λ s. s.items) scripts.now) self.old turn) fault) }
+        ensures err { IfErr result (λ fault.
+            IsStop number (turn_step (map (λ s. s.items) scripts.now) self.old turn) fault) }
     {
         match turn {
             Turn::Worker(worker) => {

@@ -3,7 +3,7 @@ use Rattle.std.specs.Prelude.{◌≡◌, ◌≢◌, ℕ, ◌<◌, ◌≤◌, Lis
 use Rattle.std.specs.Io.KnownBytes.{Appends}
 use Rattle.tk_events.specs.declared.registrations.TheConstants.{MAX_WORKERS}
 use Rattle.tk_columns.specs.Recorded.{Recorded}
-use Rattle.tk_streams.specs.Stream.{AppendsFront}
+use Rattle.tk_streams.specs.Stream.{AppendsPrefix}
 use Rattle.tk_cutting.specs.Cutting.{units_of}
 use Rattle.tk_cutting.specs.Trees.{Tree, forest}
 use Rattle.tk_plan.specs.declared.faults.PlanFault.{PlanFault}
@@ -11,17 +11,17 @@ use Rattle.tk_plan.specs.declared.faults.PlanFault.TheVariants as plans
 use Rattle.tk_plan.specs.Gives.{plan_in, outline, Answered}
 use Rattle.tk_engine.specs.declared.runs.RunFault.{RunFault}
 use Rattle.tk_engine.specs.declared.runs.RunFault.TheVariants as runs
-use Rattle.tk_reports.specs.Reports.{report_of_record}
-use Rattle.tk_laws.specs.Reports.{report_of_plan}
+use Rattle.tk_record_report.specs.Reports.{report_of_record}
+use Rattle.tk_run_laws.specs.Reports.{report_of_plan}
 use Rattle.tk_report.specs.declared.faults.ReportFault.{ReportFault}
 use Rattle.tk_report.specs.declared.faults.ReportFault.TheVariants.{Plan, Run, Device, Memory}
 
--- the report of a record was written, or a front of it to a broken device; nothing for want of memory
+-- the report of a record was written, or a prefix of it to a broken device; nothing for want of memory
 abbrev pub IsRunReport : Recorded → Option (List ℕ) → Option (List ℕ) → Result (Unit {0}) ReportFault → Type 0
 IsRunReport r old new (Ok _) = Appends old new (report_of_record r)
 IsRunReport r old new (Err (Plan f)) = ⊥
 IsRunReport r old new (Err (Run f)) = ⊥
-IsRunReport r old new (Err Device) = AppendsFront old new (report_of_record r)
+IsRunReport r old new (Err Device) = AppendsPrefix old new (report_of_record r)
 IsRunReport r old new (Err Memory) = new ≡ old
 
 abbrev pub plan_text : Tree → List ℕ
@@ -55,10 +55,10 @@ IsNotRun bytes workers fault = (t : Tree) × (plan_in bytes ≡ Ok t) × IsRunFa
 abbrev pub IsNoPlan : List ℕ → PlanFault → Type 0
 IsNoPlan bytes fault = Answered (plan_in bytes) (Err fault) × (fault ≢ plans.Memory)
 
--- What reporting a plan that is run by so many workers answers.
+-- What reporting a plan that is run by `workers` workers answers.
 abbrev pub IsReported : List ℕ → ℕ → Option (List ℕ) → Option (List ℕ) → Result (Unit {0}) ReportFault → Type 0
 IsReported bytes workers old new (Ok _) = OfPlan bytes (Appends old new) × MayWork workers
 IsReported bytes workers old new (Err (Plan f)) = IsNoPlan bytes f × (new ≡ old)
 IsReported bytes workers old new (Err (Run f)) = IsNotRun bytes workers f × (new ≡ old)
-IsReported bytes workers old new (Err Device) = OfPlan bytes (AppendsFront old new) × MayWork workers
+IsReported bytes workers old new (Err Device) = OfPlan bytes (AppendsPrefix old new) × MayWork workers
 IsReported bytes workers old new (Err Memory) = new ≡ old

@@ -1,8 +1,8 @@
 //! Writing the report of a run, and running a plan for its report.
 ghost use Rattle.std.specs.Prelude.{◌≡◌, true, OnOk, OnErr, IsErrOf};
 ghost use Rattle.std.specs.Io.KnownBytes.{Appends};
-ghost use Rattle.tk_streams.specs.Stream.{AppendsFront};
-ghost use Rattle.tk_reports.specs.Reports.{report_of_record};
+ghost use Rattle.tk_streams.specs.Stream.{AppendsPrefix};
+ghost use Rattle.tk_record_report.specs.Reports.{report_of_record};
 ghost use Rattle.tk_report.specs.Answers.{IsReported, IsRunReport};
 
 use crate::faults::ReportFault;
@@ -10,10 +10,10 @@ use std::alloc::Global;
 use std::sync::Wait;
 use std::thread::Threads;
 use tk_engine::{Results, execute};
-use tk_laws::laws::one_report;
 use tk_plan::read_plan;
 use tk_record::{Target, WriteFault};
-use tk_reports::write_report_of;
+use tk_record_report::write_report_of;
+use tk_run_laws::laws::report_is_unique;
 use tk_scripted::Scripted;
 
 /// How many places the queue of a plan's run has.
@@ -55,7 +55,7 @@ pub fn plan_report<R: Threads + Wait + Sync, T: Target>(
     let plan = read_plan(alloc, bytes)?;
     let engine = Scripted::new(plan);
     let results = execute(rt, alloc, &engine, workers, CAPACITY)?;
-    one_report();
+    report_is_unique();
     let _table = engine.plan().table();
     write_report(alloc, &results, target)
 }

@@ -1,4 +1,4 @@
-pub use Rattle.tk_laws.specs.Scripts
+pub use Rattle.tk_run_laws.specs.Scripts
 pub mod Masks
 pub mod Keys
 pub mod Plays

@@ -2,7 +2,7 @@
 use Rattle.std.specs.Prelude.{ℕ, zero, suc, ◌+◌, ◌*◌, Bool, true, false, List, if◌then◌else◌}
 use Rattle.tk_book.specs.Wants.{Wants}
 use Rattle.tk_book.specs.Needs.{Access, nothing, reads, writes}
-use Rattle.tk_cutting.specs.declared.nodes.Placed.{Placed}
+use Rattle.tk_cutting.specs.declared.nodes.NumberedNode.{NumberedNode}
 use Rattle.tk_cutting.specs.Planned.{unit_asks}
 
 -- the number whose bit i, below the k-th, is whether f holds at i
@@ -21,7 +21,7 @@ is_write reads = false
 is_write writes = true
 
 -- a read of each resource that the unit's nodes read and none writes, and a write of each that one writes
-abbrev pub need_of : List Placed → ℕ → Wants
+abbrev pub need_of : List NumberedNode → ℕ → Wants
 need_of nodes unit = record {
   reads = mask 16 (λ r. is_read (unit_asks nodes unit r));
   writes = mask 16 (λ r. is_write (unit_asks nodes unit r));

@@ -1,8 +1,8 @@
 //! What holds of each run of a plan's engine.
 ghost use Rattle.std.specs.Prelude.{ℕ, length};
-ghost use Rattle.tk_reports.specs.Labels.{events, labels, name};
-ghost use Rattle.tk_laws.specs.Listening.{Listens, ListensByKey};
-ghost use Rattle.tk_laws.specs.Scripts.{IsRunOf};
+ghost use Rattle.tk_record_report.specs.Labels.{events, labels, name};
+ghost use Rattle.tk_run_laws.specs.Listening.{Listens, ListensByKey};
+ghost use Rattle.tk_run_laws.specs.Scripts.{IsRunOf};
 
 use crate::scripted::Scripted;
 use tk_engine::Results;
@@ -16,6 +16,6 @@ pub fn listener(engine: &Scripted, results: &Results)
 {
     let _ = results;
     let _table = engine.plan().table();
-    tk_laws::laws::listener();
-    tk_laws::laws::listener_by_key();
+    tk_run_laws::laws::listener();
+    tk_run_laws::laws::listener_by_key();
 }

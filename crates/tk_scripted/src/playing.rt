@@ -8,9 +8,9 @@ ghost use Rattle.tk_cutting.specs.Cutting.{script_of, units_of};
 ghost use Rattle.tk_cutting.specs.Numbers.{IsNumbered};
 ghost use Rattle.tk_cutting.specs.Planned.{IsPlanned};
 ghost use Rattle.tk_cutting.specs.Trees.{forest};
-ghost use Rattle.tk_laws.specs.Scripts.{may, played};
+ghost use Rattle.tk_run_laws.specs.Scripts.{may, played};
 ghost use Rattle.tk_scripted.specs.Keys.{kept};
-ghost use Rattle.tk_scripted.specs.Plays.{IsPlayFault, IsPlayed, IsRegistered, Tells, next_key};
+ghost use Rattle.tk_scripted.specs.Plays.{IsPlayFault, IsPlayed, IsRegistered, IsEmitted, next_key};
 
 use crate::keys::Keys;
 use std::alloc::Global;
@@ -18,10 +18,10 @@ use std::sync::Wait;
 use tk_cutting::{Act, Plan, Step};
 use tk_engine::{Sink, UnitFault};
 use tk_events::Event;
-use tk_laws::laws::{nodes_are_found, scripts_are_playable};
+use tk_run_laws::laws::{nodes_are_found, scripts_are_playable};
 
 /// Emits the event of a step that is no registration.
-fn tell<R: Wait, S: Sink>(
+fn emit_step<R: Wait, S: Sink>(
     rt: &R,
     alloc: Global,
     plan: &Plan,
@@ -30,7 +30,7 @@ fn tell<R: Wait, S: Sink>(
     sink: &mut S,
 ) -> Result<(), UnitFault>
     requires known { IsKnown plan.now.nodes step.node step.act }
-    ensures ok { OnOk result (Tells plan.now.nodes (S.meaning sink.old) (S.meaning sink.new) step key) }
+    ensures ok { OnOk result (IsEmitted plan.now.nodes (S.meaning sink.old) (S.meaning sink.new) step key) }
     ensures err { OnErr result (S.meaning sink.new ≡ S.meaning sink.old) }
     ensures cause { IfErr result IsPlayFault }
 {
@@ -56,7 +56,8 @@ fn register<R: Wait, S: Sink>(
     sink: &mut S,
 ) -> Result<u32, UnitFault>
     requires known { IsKnown plan.now.nodes step.node step.act }
-    ensures ok { IfOk result (λ key. IsRegistered plan.now.nodes (S.meaning sink.old) (S.meaning sink.new) step above key) }
+    ensures ok { IfOk result (λ key.
+        IsRegistered plan.now.nodes (S.meaning sink.old) (S.meaning sink.new) step above key) }
     ensures err { OnErr result (S.meaning sink.new ≡ S.meaning sink.old) }
     ensures cause { IfErr result IsPlayFault }
 {
@@ -104,7 +105,7 @@ fn play<R: Wait, S: Sink>(
         }
         Act::Skip | Act::Start | Act::Report(_) | Act::Finish => {
             let key = keys.of(statics, step.node);
-            tell(rt, alloc, plan, step, key, sink)?;
+            emit_step(rt, alloc, plan, step, key, sink)?;
             Ok(())
         }
     }

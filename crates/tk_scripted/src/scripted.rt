@@ -50,7 +50,7 @@ impl Engine for Scripted {
     ghost use Rattle.std.specs.Prelude.{length};
     ghost use Rattle.tk_cutting.specs.Trees.{forest};
     ghost use Rattle.tk_cutting.specs.Cutting.{before_of, after_of, units_of};
-    ghost use Rattle.tk_laws.specs.Scripts.{may as plays};
+    ghost use Rattle.tk_run_laws.specs.Scripts.{may as plays};
     ghost use Rattle.tk_scripted.specs.Masks.{need_of};
 
     ghost table = { λ s. s.table };

@@ -35,8 +35,8 @@ impl<'a> Source for ByteSource<'a> {
 
     fn read_some(&mut self, buffer: &mut [u8]) -> Result<usize, Broken> {
         let count = buffer.len().min(self.rest.len());
-        let (front, rest) = self.rest.split_at(count);
-        buffer[..count].copy_from_slice(front);
+        let (prefix, rest) = self.rest.split_at(count);
+        buffer[..count].copy_from_slice(prefix);
         self.rest = rest;
         Ok(count)
     }

@@ -15,7 +15,7 @@ pub trait Source {
     /// Whether a call has answered `Broken`.
     ghost broken: { Self → Bool };
 
-    /// Reads into the front of the buffer, and answers how many bytes it read. At a buffer that is
+    /// Reads into the start of the buffer, and answers how many bytes it read. At a buffer that is
     /// not empty, 0 is the end of the input. A read that fails takes no byte.
     fn read_some(&mut self, buffer: &mut [u8]) -> Result<usize, Broken>
         ensures bytes { ReadTakes (remaining self.old) (remaining self.new) result buffer.new }
@@ -36,7 +36,7 @@ pub trait Target {
     /// Whether a call has answered `Broken`.
     ghost broken: { Self → Bool };
 
-    /// Writes the front of the bytes, and answers how many it wrote: at least one, unless there are
+    /// Writes the prefix of the bytes, and answers how many it wrote: at least one, unless there are
     /// none.
     fn write_some(&mut self, bytes: &[u8]) -> Result<usize, Broken>
         ensures bytes { WriteAdds (contents self.old) (contents self.new) result bytes.now }

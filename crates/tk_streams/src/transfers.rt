@@ -1,7 +1,7 @@
 //! Reading to the end of a source, and writing all of a text.
 ghost use Rattle.std.specs.Prelude.{◌≡◌, ◌<◌, ◌≤◌, ◌+◌, ◌++◌, ℕ, List, [], length, take, true, false, Option, Some, None, IfSome, IfOk, OnOk, OnErr, IsErrOf, IsErr, ◌^◌};
 ghost use Rattle.std.specs.Io.KnownBytes.{Consumes, Appends, IsAtEnd};
-ghost use Rattle.tk_streams.specs.Stream.{ConsumesUpTo, IsLoaded, AppendsFront};
+ghost use Rattle.tk_streams.specs.Stream.{ConsumesUpTo, IsLoaded, AppendsPrefix};
 ghost use Rattle.tk_streams.specs.declared.transfers.LoadFault.TheVariants.{Memory};
 
 use crate::streams::{Broken, Source, Target};
@@ -33,10 +33,12 @@ const CHUNK: usize = 65_536;
 /// reading once there are more: after the read that went past the limit, which took at most 65,536
 /// bytes, the source is not read again.
 pub fn load<S: Source>(alloc: Global, source: &mut S, limit: usize) -> Result<Vec<u8>, LoadFault>
-    ensures ok { IfOk result (λ bytes. IsLoaded (S.remaining source.old) (S.remaining source.new) bytes.items) }
+    ensures ok { IfOk result (λ bytes.
+        IsLoaded (S.remaining source.old) (S.remaining source.new) bytes.items) }
     ensures within { IfOk result (λ bytes. length bytes.items ≤ limit) }
     ensures ready { OnOk result (S.broken source.new ≡ false) }
-    ensures too_large { IsErrOf result LoadFault.TooLarge → IfSome (S.remaining source.old) (λ bytes. limit < length bytes) }
+    ensures too_large { IsErrOf result LoadFault.TooLarge
+        → IfSome (S.remaining source.old) (λ bytes. limit < length bytes) }
     ensures device { IsErrOf result LoadFault.Device → S.broken source.new ≡ true }
     ensures stops { OnErr result
         (ConsumesUpTo (limit + 65536) (S.remaining source.old) (S.remaining source.new)) }
@@ -63,10 +65,10 @@ pub fn load<S: Source>(alloc: Global, source: &mut S, limit: usize) -> Result<Ve
     }
 }
 
-/// Writes all of the bytes. At `Broken` a front of them was written.
+/// Writes all of the bytes. At `Broken` a prefix of them was written.
 pub fn write_all<T: Target>(target: &mut T, bytes: &[u8]) -> Result<(), Broken>
     ensures ok { OnOk result (Appends (T.contents target.old) (T.contents target.new) bytes.now) }
-    ensures err { OnErr result (AppendsFront (T.contents target.old) (T.contents target.new) bytes.now) }
+    ensures err { OnErr result (AppendsPrefix (T.contents target.old) (T.contents target.new) bytes.now) }
     ensures broken { OnErr result (T.broken target.new ≡ true) }
 {
     let mut rest = bytes;

@@ -16,7 +16,7 @@ returns-in_err-question g c =
       refusal = refused_words words _ fault asked;
       unwritten = inr refl;
       device = λ e. absurd (no_device words fault asked e);
-      front = λ e. absurd (no_device words fault asked e);
+      prefix = λ e. absurd (no_device words fault asked e);
       source_device = λ e. absurd (no_source words fault asked e);
     })
 
@@ -28,7 +28,7 @@ returns-in-Err-Memory g c = record {
   refusal = tt;
   unwritten = inr refl;
   device = λ e. absurd (memory_no_device e);
-  front = λ e. absurd (memory_no_device e);
+  prefix = λ e. absurd (memory_no_device e);
   source_device = λ e. absurd (memory_no_source e);
 }
 
@@ -40,7 +40,7 @@ returns-in-Err g c = record {
   refusal = ((c.in_ok-question.question, c.in_ok-question.ensures), search rules, λ other. c.in-Err.ensures.answer (λ e. other (same_read _ _ e)));
   unwritten = inr refl;
   device = λ e. absurd (read_no_device _ e);
-  front = λ e. absurd (read_no_device _ e);
+  prefix = λ e. absurd (read_no_device _ e);
   source_device = λ e. c.in-Err.ensures.device (ap (λ f. Err f) (read_source _ e));
 }
 
@@ -54,7 +54,7 @@ returns-in_err-answer g c =
       refusal = tt;
       unwritten = inr refl;
       device = λ e. absurd (memory_no_device e);
-      front = λ e. absurd (memory_no_device e);
+      prefix = λ e. absurd (memory_no_device e);
       source_device = λ e. absurd (memory_no_source e);
     })
 
@@ -69,7 +69,7 @@ returns-in-Ok-write_all g c =
       refusal = tt;
       unwritten = tt;
       device = λ e. absurd (is_answered _ _ e);
-      front = λ e. absurd (is_answered _ _ e);
+      prefix = λ e. absurd (is_answered _ _ e);
       source_device = λ e. absurd (is_answered _ _ e);
     }
 
@@ -83,7 +83,7 @@ returns g c =
       refusal = (c.in_ok-question.question, c.in_ok-question.ensures);
       unwritten = inl refl;
       device = λ _. c.in-Err-write_all.ensures.broken;
-      front = λ _. partly (map string_bytes c.args.words.now) _ c.in_ok-question.question c.in-Ok.record c.in_ok-answer.answer.is_yes (string_bytes c.in_ok-answer.answer.text) c.as_bytes.result.now _ _
+      prefix = λ _. partly (map string_bytes c.args.words.now) _ c.in_ok-question.question c.in-Ok.record c.in_ok-answer.answer.is_yes (string_bytes c.in_ok-answer.answer.text) c.as_bytes.result.now _ _
           c.in_ok-question.ensures (c.in-Ok.ensures.answer (λ e. absurd (is_read _ _ e))) c.in_ok-answer.ensures bytes c.in-Err-write_all.ensures.err;
       source_device = λ e. absurd (device_no_source e);
     }

@@ -1,4 +1,4 @@
-use Rattle.tk_cutting.proofs.Retelling.{keeps_stamps}
+use Rattle.tk_cutting.proofs.StepEvents.{keeps_stamps}
 use Rattle.tk_cutting.proofs.laws.keeps_stamps.Goals as goal
 
 pub returns : goal.returns

@@ -8,7 +8,7 @@ pub push_all-push_tree-requires : goal.push_all-push_tree-requires
 push_all-push_tree-requires t c =
     let split = c.split.ensures in
     let whole = ap length split.whole in
-    let same = ap (λ ps. weights (forest ps)) (first_and_rest c.loop-rest.rest.now c.placed-item.result c.in-len1-up.len_at_least c.placed-item.is) in (
+    let same = ap (λ ps. weights (forest ps)) (first_and_rest c.loop-rest.rest.now c.numbered_node-item.result c.in-len1-up.len_at_least c.numbered_node-item.is) in (
       omega (arith, whole, length-append c.split.result.0.now c.split.result.1.now),
       (split.first, omega (arith, same, tree_within _ _ _ _ split, c.loop-rest.invariant.2)),
     )

@@ -1,6 +1,6 @@
 use Rattle.std.proofs.Common.{◌≡◌, ◌+◌, ◌∷◌, [], ◌++◌, sym, ◌∙◌, zero-add}
 use Rattle.tk_queue.specs.Known.{registrations}
-use Rattle.tk_runs.specs.Run.{Emits}
+use Rattle.tk_run_record.specs.Run.{Emits}
 use Rattle.tk_engine.proofs.Emitted.{emits_more}
 use Rattle.tk_engine.proofs.workers.run_units.Goals as goal
 

@@ -1,5 +1,5 @@
 use Rattle.std.proofs.Common.{◌≡◌, None}
-use Rattle.tk_runs.specs.Run.{Emits}
+use Rattle.tk_run_record.specs.Run.{Emits}
 use Rattle.tk_engine.specs.Engines.{IsSame}
 use Rattle.tk_engine.proofs.workers.run_units.Given as goal
 

@@ -3,7 +3,7 @@ use Rattle.std.proofs.lemmas.List.{drop_all, take_all}
 use Rattle.serde_json.specs.View.{view}
 use Rattle.tk_plan.specs.Checks.{items_wrong}
 use Rattle.tk_plan.specs.Rows.{lock}
-use Rattle.tk_plan.specs.Contents.{said_lock}
+use Rattle.tk_plan.specs.Contents.{json_lock}
 use Rattle.tk_plan.proofs.Items.{array_items, listed_items, values_next}
 use Rattle.tk_plan.proofs.Locking.{items_next, locks_next}
 use Rattle.tk_plan.proofs.lock_members.locks.Goals as goal
@@ -18,7 +18,7 @@ returns c =
     let none : drop l.index xs ≡ [] = drop_all l.index xs (omega arith) in
     let all : take l.index xs ≡ xs = take_all l.index xs (omega arith) in (
       l.invariant.0 ∙ ap (λ vs. items_wrong lock c.args.at.now l.index (map view vs)) none,
-      c.new.ensures ∙ l.invariant.1 ∙ ap (λ vs. map said_lock (map view vs)) (all ∙ c.deref-item-items.ensures.value) ∙ ap (map said_lock) (sym (listed_items _ _ c.in-Some.ensures)),
+      c.new.ensures ∙ l.invariant.1 ∙ ap (λ vs. map json_lock (map view vs)) (all ∙ c.deref-item-items.ensures.value) ∙ ap (map json_lock) (sym (listed_items _ _ c.in-Some.ensures)),
     )
 
 pub loop-index-preserved : goal.loop-index-preserved

@@ -1,9 +1,9 @@
 use Rattle.std.proofs.Common.{map, ap, ◌∙◌}
 use Rattle.tk_columns.specs.Recorded.{Recorded}
-use Rattle.tk_columns.specs.Selections.{Placed, Selected}
+use Rattle.tk_columns.specs.Selections.{PositionedEntry, Selected}
 use Rattle.std.proofs.Common.{List}
 use Rattle.tk_query.specs.Holds.{holds}
-use Rattle.tk_query.proofs.AskedLemmas.{AreFlags, narrowed_is}
+use Rattle.tk_query.proofs.AskedLemmas.{AreFlags, intersected_is}
 use Rattle.tk_query.proofs.masks.select.Goals as goal
 
 pub returns : goal.returns
@@ -11,7 +11,7 @@ returns c =
     let asked = c.args.events.now in
     let flags = c.flags.result.now in
     let are : AreFlags asked flags = record { kept = c.flags.ensures.kept } in
-    c.narrow.ensures
-    ∙ ap (λ (kept : List Placed). let s : Selected = record { recorded = asked.recorded; kept = kept } in s)
-    (narrowed_is asked flags are (holds asked.recorded c.args.condition.now) c.in_ok-flags.flags
+    c.intersect.ensures
+    ∙ ap (λ (kept : List PositionedEntry). let s : Selected = record { recorded = asked.recorded; kept = kept } in s)
+    (intersected_is asked flags are (holds asked.recorded c.args.condition.now) c.in_ok-flags.flags
     (c.in_ok-flags.ensures ∙ ap (λ (r : Recorded). map (holds r c.args.condition.now) r.entries) c.recorded-recording.ensures))

@@ -1,20 +1,20 @@
 use Rattle.std.proofs.Common.{◌+◌, ◌++◌, nat_eq, sym, ap, ◌∙◌, subst, append-nil}
 use Rattle.std.specs.HashMap.{get}
-use Rattle.tk_query.specs.Acts.{act_at}
+use Rattle.tk_query.specs.ExecutionSteps.{step_at}
 use Rattle.tk_query.specs.Executions.{AreExecutions}
-use Rattle.tk_query.proofs.AskedLemmas.{AreFlags, act_set, act_clear}
-use Rattle.tk_query.proofs.Paired.{paired_past, paired_act, paired_up_to, all_ended, to_list, IsPaired}
+use Rattle.tk_query.proofs.AskedLemmas.{AreFlags, step_set, step_clear}
+use Rattle.tk_query.proofs.Paired.{paired_past, paired_step, paired_up_to, all_ended, to_list, IsPaired}
 use Rattle.tk_query.proofs.pairing.executions.Goals as goal
 
-pub events-preserved-in_default-act_at : goal.events-preserved-in_default-act_at
-events-preserved-in_default-act_at c =
+pub events-preserved-in_default-step_at : goal.events-preserved-in_default-step_at
+events-preserved-in_default-step_at c =
     let asked = c.args.events.now in
     let flags = c.flags.result.now in
     let are : AreFlags asked flags = record { kept = c.flags.ensures.kept } in
     let set = c.in-Some.ensures.value in
-    let here = paired_up_to (act_at asked) c.events.next c.in-Some.position (get nat_eq c.events.starts) c.events.items.items set.from c.events.invariant (λ i low high. act_clear asked flags are i (set.least i low high)) in
-    paired_past (act_at asked) c.in-Some.position (get nat_eq c.events.starts) c.events.items.items here
-    (act_set asked flags are c.recorded.result.now c.recorded.ensures c.in-Some.position c.act_at.result set.set c.act_at.ensures ∙ c.in_default-act_at.is)
+    let here = paired_up_to (step_at asked) c.events.next c.in-Some.position (get nat_eq c.events.starts) c.events.items.items set.from c.events.invariant (λ i low high. step_clear asked flags are i (set.least i low high)) in
+    paired_past (step_at asked) c.in-Some.position (get nat_eq c.events.starts) c.events.items.items here
+    (step_set asked flags are c.recorded.result.now c.recorded.ensures c.in-Some.position c.step_at.result set.set c.step_at.ensures ∙ c.in_default-step_at.is)
 
 pub events-preserved-in-Continue-branch-3 : goal.events-preserved-in-Continue-branch-3
 events-preserved-in-Continue-branch-3 c =
@@ -23,10 +23,10 @@ events-preserved-in-Continue-branch-3 c =
     let are : AreFlags asked flags = record { kept = c.flags.ensures.kept } in
     let set = c.in-Some.ensures.value in
     let items = c.events.items.items in
-    let here = paired_up_to (act_at asked) c.events.next c.in-Some.position (get nat_eq c.events.starts) items set.from c.events.invariant (λ i low high. act_clear asked flags are i (set.least i low high)) in
-    let acts = act_set asked flags are c.recorded.result.now c.recorded.ensures c.in-Some.position c.act_at.result set.set c.act_at.ensures ∙ c.in-Some-act_at.is in
-    let paired = paired_act (act_at asked) c.in-Some.position (get nat_eq c.events.starts) (get nat_eq c.take_act.new.starts) items c.in-Some-act_at.act here acts c.in_ok-execution.ensures.starts in
-    subst (IsPaired (act_at asked) (c.in-Some.position + 1) (get nat_eq c.take_act.new.starts))
+    let here = paired_up_to (step_at asked) c.events.next c.in-Some.position (get nat_eq c.events.starts) items set.from c.events.invariant (λ i low high. step_clear asked flags are i (set.least i low high)) in
+    let steps = step_set asked flags are c.recorded.result.now c.recorded.ensures c.in-Some.position c.step_at.result set.set c.step_at.ensures ∙ c.in-Some-step_at.is in
+    let paired = paired_step (step_at asked) c.in-Some.position (get nat_eq c.events.starts) (get nat_eq c.take_step.new.starts) items c.in-Some-step_at.step here steps c.in_ok-execution.ensures.starts in
+    subst (IsPaired (step_at asked) (c.in-Some.position + 1) (get nat_eq c.take_step.new.starts))
     (sym (c.in_ok-push-in-Some-2.ensures.items ∙ ap (λ o. items ++ to_list o) (sym c.in-Some-2.is ∙ c.in_ok-execution.ensures.ended))) paired
 
 pub events-preserved : goal.events-preserved
@@ -36,10 +36,10 @@ events-preserved c =
     let are : AreFlags asked flags = record { kept = c.flags.ensures.kept } in
     let set = c.in-Some.ensures.value in
     let items = c.events.items.items in
-    let here = paired_up_to (act_at asked) c.events.next c.in-Some.position (get nat_eq c.events.starts) items set.from c.events.invariant (λ i low high. act_clear asked flags are i (set.least i low high)) in
-    let acts = act_set asked flags are c.recorded.result.now c.recorded.ensures c.in-Some.position c.act_at.result set.set c.act_at.ensures ∙ c.in-Some-act_at.is in
-    let paired = paired_act (act_at asked) c.in-Some.position (get nat_eq c.events.starts) (get nat_eq c.take_act.new.starts) items c.in-Some-act_at.act here acts c.in_ok-execution.ensures.starts in
-    subst (IsPaired (act_at asked) (c.in-Some.position + 1) (get nat_eq c.take_act.new.starts))
+    let here = paired_up_to (step_at asked) c.events.next c.in-Some.position (get nat_eq c.events.starts) items set.from c.events.invariant (λ i low high. step_clear asked flags are i (set.least i low high)) in
+    let steps = step_set asked flags are c.recorded.result.now c.recorded.ensures c.in-Some.position c.step_at.result set.set c.step_at.ensures ∙ c.in-Some-step_at.is in
+    let paired = paired_step (step_at asked) c.in-Some.position (get nat_eq c.events.starts) (get nat_eq c.take_step.new.starts) items c.in-Some-step_at.step here steps c.in_ok-execution.ensures.starts in
+    subst (IsPaired (step_at asked) (c.in-Some.position + 1) (get nat_eq c.take_step.new.starts))
     (sym (sym (append-nil items) ∙ ap (λ o. items ++ to_list o) (sym c.in-None.is ∙ c.in_ok-execution.ensures.ended))) paired
 
 pub returns : goal.returns
@@ -48,5 +48,5 @@ returns c =
     let flags = c.flags.result.now in
     let are : AreFlags asked flags = record { kept = c.flags.ensures.kept } in
     let clear = c.in_default.ensures.value in
-    subst (AreExecutions (act_at asked)) (sym (c.of.ensures ∙ c.events.invariant.ended_so_far))
-    (all_ended (act_at asked) c.events.next (λ m le. act_clear asked flags are m (clear.none m le)))
+    subst (AreExecutions (step_at asked)) (sym (c.of.ensures ∙ c.events.invariant.ended_so_far))
+    (all_ended (step_at asked) c.events.next (λ m le. step_clear asked flags are m (clear.none m le)))

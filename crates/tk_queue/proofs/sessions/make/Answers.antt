@@ -2,7 +2,7 @@ use Rattle.std.proofs.Common.{◌≡◌, ◌+◌, [], sym, refl, ap, subst, ◌�
 use Rattle.std.specs.Arc.{arc_value}
 use Rattle.atomic_table.specs.Seated.{TableId}
 use Rattle.tk_queue.specs.Session.{IsReader, one_more}
-use Rattle.tk_queue.specs.Ends.{Receives}
+use Rattle.tk_queue.specs.Ends.{ReceiverView}
 use Rattle.tk_queue.proofs.EndKeeps.{fresh_more}
 use Rattle.tk_queue.proofs.RuleSteps.{begins, forks_own}
 use Rattle.tk_queue.proofs.sessions.make.Goals as goal
@@ -21,11 +21,11 @@ loop-before-preserved c =
     record {
       same = search rules;
       known = c.another-next.ensures.rule.0 ∙ ap one_more c.loop-before.invariant.known;
-      made = fresh_more _ _ _ _ _ _ _ (sym q.0.0) c.loop-before.invariant.made c.in_ok-push.ensures.items (c.seated.ensures ∙ (λ i. record { session = sid i; table = same_table i; worker = c.loop-before.before + 1; sent = [] }));
+      made = fresh_more _ _ _ _ _ _ _ (sym q.0.0) c.loop-before.invariant.made c.in_ok-push.ensures.items (c.with_pass.ensures ∙ (λ i. record { session = sid i; table = same_table i; worker = c.loop-before.before + 1; sent = [] }));
     }
 
 pub returns-clause-places : goal.returns-clause-places
 returns-clause-places c =
-    let same : arc_value c.in_ok-line.line ≡ c.in_ok-queue.queue = c.in_ok-line.ensures.ok in
-    let below : (arc_value c.in_ok-line.line).table.shared.table_id ≡ c.in_ok-queue.queue.table.shared.table_id = rw same refl in
-    ap (λ (r : Receives). r.session.slots) c.seated-2.ensures ∙ ap (λ (t : TableId). t.slots) (c.loop-before.invariant.same.0 ∙ below) ∙ c.in_ok-queue.queue.sized.1 ∙ c.in_ok-queue.ensures.0
+    let same : arc_value c.in_ok-shared_queue.shared_queue ≡ c.in_ok-queue.queue = c.in_ok-shared_queue.ensures.ok in
+    let below : (arc_value c.in_ok-shared_queue.shared_queue).table.shared.table_id ≡ c.in_ok-queue.queue.table.shared.table_id = rw same refl in
+    ap (λ (r : ReceiverView). r.session.slots) c.with_pass-2.ensures ∙ ap (λ (t : TableId). t.slots) (c.loop-before.invariant.same.0 ∙ below) ∙ c.in_ok-queue.queue.sized.1 ∙ c.in_ok-queue.ensures.0

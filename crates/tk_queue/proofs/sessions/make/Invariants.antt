@@ -7,7 +7,7 @@ use Rattle.tk_queue.proofs.sessions.make.Given as goal
 
 abbrev pub invariant-loop-before : goal.invariant-loop-before
 invariant-loop-before l = record {
-  same : IsPassOf (arc_value l.line) l.seat;
-  known : view l.seat ≡ receiver (length (arc_value l.table)) l.before [] [];
-  made : l.senders.items ≡ fresh_senders l.seat.table_id (arc_value l.table) l.before;
+  same : IsPassOf (arc_value l.shared_queue) l.pass;
+  known : view l.pass ≡ receiver (length (arc_value l.table)) l.before [] [];
+  made : l.senders.items ≡ fresh_senders l.pass.table_id (arc_value l.table) l.before;
 }

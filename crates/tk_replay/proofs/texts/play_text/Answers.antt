@@ -5,7 +5,7 @@ use Rattle.std.proofs.lemmas.Result.{err_from_is_err_and}
 use Rattle.tk_events.specs.declared.registrations.TheConstants.{MAX_WORKERS}
 use Rattle.tk_replay.specs.declared.items.Turn.{Turn}
 use Rattle.tk_replay.specs.Replay.{IsTurn}
-use Rattle.tk_replay.proofs.TextSteps.{behind_played, end_fault, says, scripts_count, scripts_here, replay_here, replay_fault, replay_done}
+use Rattle.tk_replay.proofs.TextSteps.{after_played, end_fault, says, scripts_count, scripts_here, replay_here, replay_fault, replay_done}
 use Rattle.tk_replay.proofs.texts.play_text.Goals as goal
 
 pub returns-in_err-turns : goal.returns-in_err-turns
@@ -13,7 +13,7 @@ returns-in_err-turns c =
     let p = err_from_is_err_and c.from_residual-in_err-turns.result c.from_residual-in_err-turns.ensures.1 in
     let fault = c.in_err-turns.field-0.0 in
     let number = c.len-nodes.result + c.len.result + 3 in
-    rw (p.1, p.2) (behind_played c.in_ok-workers.workers c.len-nodes.result c.args.input.now c.in-Some.body.now c.in_ok-workers.rest.now c.in_ok-table.rest.now c.in_ok-table.table fault
+    rw (p.1, p.2) (after_played c.in_ok-workers.workers c.len-nodes.result c.args.input.now c.in-Some.body.now c.in_ok-workers.rest.now c.in_ok-table.rest.now c.in_ok-table.table fault
     c.in-Some.ensures c.in_ok-workers.ensures c.in_ok-table.ensures c.len-nodes.ensures.len
     (end_fault c.in_ok-workers.workers c.len-nodes.result number c.in_ok-table.rest.now c.in_ok-entries.entries.items c.in_ok-entries.rest.now fault c.in_ok-entries.ensures
     (omega (arith, c.len.ensures, c.in_ok-entries.entries.ok.0)) c.in_err-turns.ensures))

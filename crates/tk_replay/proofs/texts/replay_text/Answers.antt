@@ -7,7 +7,7 @@ use Rattle.tk_record.specs.Text.{text}
 use Rattle.tk_record.specs.declared.reading.TheConstants.{MAX_TEXT}
 use Rattle.tk_record.specs.declared.writing.WriteFault.{WriteFault}
 use Rattle.tk_record.specs.declared.writing.WriteFault.TheVariants as writing
-use Rattle.tk_streams.specs.Stream.{IsLoaded, AppendsFront}
+use Rattle.tk_streams.specs.Stream.{IsLoaded, AppendsPrefix}
 use Rattle.tk_streams.specs.declared.transfers.LoadFault.{LoadFault}
 use Rattle.tk_streams.specs.declared.transfers.LoadFault.TheVariants as loading
 use Rattle.tk_replay.specs.ReplayText.{IsAnswer, IsOfInput, IsPlayed, IsWritten, Plays, IsPartlyWritten, load_fault, write_fault}
@@ -32,7 +32,7 @@ some_plays : (old : Option (List ℕ)) (r : Recorded) → IfSome old (λ input. 
 some_plays None r h = tt
 some_plays (Some input) r h = (h.0, (r, h.1))
 
-partly : (old : Option (List ℕ)) (r : Recorded) (before after : Option (List ℕ)) → IfSome old (λ input. (length input ≤ MAX_TEXT) × IsPlayed input (Ok r)) → AppendsFront before after (text r)
+partly : (old : Option (List ℕ)) (r : Recorded) (before after : Option (List ℕ)) → IfSome old (λ input. (length input ≤ MAX_TEXT) × IsPlayed input (Ok r)) → AppendsPrefix before after (text r)
     → IfSome old (λ input. IsPartlyWritten input before after)
 partly None r before after h added = tt
 partly (Some input) r before after h added = (h.0, (r, h.1, added))

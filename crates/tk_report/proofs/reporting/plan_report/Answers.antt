@@ -2,9 +2,9 @@ use Rattle.std.proofs.Common.{◌≡◌, ◌∙◌, Ok, Err, ap, sym, subst, ref
 use Rattle.std.proofs.lemmas.Result.{err_from_is_err_and}
 use Rattle.tk_cutting.specs.Numbers.{IsNumbered}
 use Rattle.tk_cutting.specs.Planned.{Outline, IsPlanned}
-use Rattle.tk_laws.specs.Scripts.{IsRunOf}
+use Rattle.tk_run_laws.specs.Scripts.{IsRunOf}
 use Rattle.tk_plan.specs.Gives.{plan_in, Answered}
-use Rattle.tk_report.proofs.Telling.{has_places, may_work, no_plan, not_run, plan_no_device, run_no_device, told}
+use Rattle.tk_report.proofs.RunEvents.{has_places, may_work, no_plan, not_run, plan_no_device, run_no_device, stated}
 use Rattle.tk_report.proofs.reporting.plan_report.Goals as goal
 
 pub returns-in_err-plan : goal.returns-in_err-plan
@@ -33,8 +33,8 @@ returns-clause-answer g c =
     let plan = c.in_ok-plan.plan in
     let run = c.in_ok-results.results in
     let is : c.plan.result.now ≡ plan = c.plan.ensures ∙ c.new-engine.ensures in
-    told c.args.bytes.now c.args.workers (g.T.Target.contents c.args.target.now) (g.T.Target.contents c.write_report.new.target) c.write_report.result plan run.recorded c.in_ok-plan.ensures
-    (c.one_report.ensures plan.nodes plan.table c.args.workers run.recorded
+    stated c.args.bytes.now c.args.workers (g.T.Target.contents c.args.target.now) (g.T.Target.contents c.write_report.new.target) c.write_report.result plan run.recorded c.in_ok-plan.ensures
+    (c.report_is_unique.ensures plan.nodes plan.table c.args.workers run.recorded
     (subst (λ (p : Outline). IsPlanned p.nodes p.table) is c.table-table.ensures.planned) (subst (λ (p : Outline). IsNumbered p.nodes) is c.table-table.ensures.numbered)
     (subst (λ (p : Outline). IsRunOf p.nodes p.table c.args.workers run.recorded) c.new-engine.ensures c.in_ok-results.ensures.run))
     (may_work c.args.workers (λ out. let bad = c.in_ok-results.ensures.workers.1 out in cc)) c.write_report.ensures.answer

@@ -3,8 +3,8 @@ use Rattle.std.proofs.lemmas.List.{take_rest}
 use Rattle.tk_streams.proofs.Known.{Appends-then}
 use Rattle.tk_streams.proofs.transfers.write_all.Goals as goal
 
-parts : (bytes front rest : List ℕ) (count : ℕ) → bytes ≡ front ++ rest → bytes ≡ (front ++ take count rest) ++ drop count rest
-parts bytes front rest count e = e ∙ ap (λ (t : List ℕ). front ++ t) (sym (take-append-drop count rest)) ∙ sym (append_assoc front (take count rest) (drop count rest))
+parts : (bytes prefix rest : List ℕ) (count : ℕ) → bytes ≡ prefix ++ rest → bytes ≡ (prefix ++ take count rest) ++ drop count rest
+parts bytes prefix rest count e = e ∙ ap (λ (t : List ℕ). prefix ++ t) (sym (take-append-drop count rest)) ∙ sym (append_assoc prefix (take count rest) (drop count rest))
 
 pub loop-rest-preserved : goal.loop-rest-preserved
 loop-rest-preserved g c =

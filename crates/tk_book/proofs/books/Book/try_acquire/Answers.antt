@@ -2,7 +2,7 @@ use Rattle.std.proofs.Common.{◌∙◌, ◌≡◌, ◌+◌, ◌<◌, ◌^◌, �
 use Rattle.atomic_table.specs.Table.{Me}
 use Rattle.tk_book.specs.Wants.{Wants}
 use Rattle.tk_book.specs.Books.{BookName, Holder}
-use Rattle.tk_book.specs.declared.rules.Noted.{Noted}
+use Rattle.tk_book.specs.declared.rules.SeatNote.{SeatNote}
 use Rattle.tk_book.proofs.Packing.{has_room}
 use Rattle.tk_book.proofs.Locking.{looks, takes}
 use Rattle.tk_book.proofs.books.Book.try_acquire.Goals as goal
@@ -16,7 +16,7 @@ overflow_add-seen c = let room : c.load-seen.result + c.word-word.result < 2 ^ 6
 
 pub compare_exchange_with-found-requires : goal.compare_exchange_with-found-requires
 compare_exchange_with-found-requires c = let same = ap (λ (z : Holder). z.book) c.seat.view_is ∙ c.requires.of_this ∙ sym c.self.view_is in let after = c.load-seen.ensures.2.0 in
-    let none : c.load-seen.new.seat.me.0.held ≡ None ∷ [] = ap (λ (m : Me Wants Noted). m.0.held) after ∙ c.seat.invariant.one ∙ ap (λ (h : Option Wants). h ∷ []) (ap (λ (z : Holder). z.holds) c.seat.view_is ∙ c.requires.empty) in (
+    let none : c.load-seen.new.seat.me.0.held ≡ None ∷ [] = ap (λ (m : Me Wants SeatNote). m.0.held) after ∙ c.seat.invariant.one ∙ ap (λ (h : Option Wants). h ∷ []) (ap (λ (z : Holder). z.holds) c.seat.view_is ∙ c.requires.empty) in (
       c.load-seen.ensures.0 ∙ ap (λ (z : BookName). z.table) same,
       omega arith,
       takes _ _ _ c.load-seen.new.seat.me c.args.need c.load-seen.result c.word-word.result c.word-word.ensures none (c.if-not-admits.ensures.0 refl),

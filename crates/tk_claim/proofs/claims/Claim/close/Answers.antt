@@ -2,7 +2,7 @@ use Rattle.std.proofs.Common.{◌≡◌, ◌∷◌, ◌++◌, [], arith, ap, sym
 use Rattle.std.proofs.lemmas.Grind.{common_steps}
 use Rattle.std.proofs.lemmas.List.Elements.{All-pop}
 use Rattle.tk_claim.specs.Claims.{ClaimName, Claimant, Claims}
-use Rattle.tk_claim.proofs.Dealing.{Pooled, joins, pools, pools_more, closes}
+use Rattle.tk_claim.proofs.Drawing.{Pooled, joins, pools, pools_more, closes}
 use Rattle.tk_claim.proofs.claims.Claim.close.Goals as goal
 
 pub join_seat-requires : goal.join_seat-requires
@@ -41,8 +41,8 @@ returns c = let held = c.loop-next.invariant in let all = held.pooled.0 in
     let limit : key.limit ≡ c.args.self.limit = ap (λ (z : ClaimName). z.limit) c.self.view_is in
     let count : key.seats ≡ length all = ap (λ (z : ClaimName). z.seats) c.self.view_is ∙ sym c.requires.all ∙ ap (λ (l : List Claimant). length l) (sym same) in
     let is : c.min.result ≡ min c.word-next.result c.args.self.limit = c.min.ensures ∙ ap (λ (k : ℕ). min c.word-next.result k) (c.from.ensures ∙ c.self.invariant.limit_same ∙ limit) in
-    let told = closes c.args.self key all c.loop-next.seat.id c.loop-next.seat.me _ _ c.word-next.result limit count held.pooled.2 c.close_with-closed.ensures.values.2 c.word-next.ensures in
+    let stated = closes c.args.self key all c.loop-next.seat.id c.loop-next.seat.me _ _ c.word-next.result limit count held.pooled.2 c.close_with-closed.ensures.values.2 c.word-next.ensures in
     let both : Claims (map (λ (s : Claimant). s.numbers) c.args.seats.items) c.min.result × All (λ (s : Claimant). s.spent ≡ true → c.min.result ≡ c.args.self.limit) c.args.seats.items =
     subst (λ (m : ℕ). Claims (map (λ (s : Claimant). s.numbers) c.args.seats.items) m × All (λ (s : Claimant). s.spent ≡ true → m ≡ c.args.self.limit) c.args.seats.items) (sym is)
-    (subst (λ (l : List Claimant). Claims (map (λ (s : Claimant). s.numbers) l) (min c.word-next.result c.args.self.limit) × All (λ (s : Claimant). s.spent ≡ true → min c.word-next.result c.args.self.limit ≡ c.args.self.limit) l) same told) in
+    (subst (λ (l : List Claimant). Claims (map (λ (s : Claimant). s.numbers) l) (min c.word-next.result c.args.self.limit) × All (λ (s : Claimant). s.spent ≡ true → min c.word-next.result c.args.self.limit ≡ c.args.self.limit) l) same stated) in
     record { claims = both.0; spent = both.1 }

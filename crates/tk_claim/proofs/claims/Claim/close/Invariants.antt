@@ -1,6 +1,6 @@
 use Rattle.std.proofs.Common.{◌≡◌, ◌++◌, vec_len, List, All}
 use Rattle.tk_claim.specs.Claims.{Claimant}
-use Rattle.tk_claim.proofs.Dealing.{Pooled}
+use Rattle.tk_claim.proofs.Drawing.{Pooled}
 use Rattle.tk_claim.proofs.claims.Claim.close.Given as goal
 
 abbrev pub invariant-loop-next : goal.invariant-loop-next

@@ -1,5 +1,5 @@
 use Rattle.std.proofs.Common.{arith}
-use Rattle.tk_claim.proofs.Dealing.{opens}
+use Rattle.tk_claim.proofs.Drawing.{opens}
 use Rattle.tk_claim.proofs.claims.Claim.open.Goals as goal
 
 pub of_words-requires : goal.of_words-requires

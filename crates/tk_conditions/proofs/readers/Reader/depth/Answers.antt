@@ -3,4 +3,4 @@ use Rattle.tk_conditions.proofs.ReaderLemmas.{depth_is}
 use Rattle.tk_conditions.proofs.readers.Reader.depth.Goals as goal
 
 pub returns : goal.returns
-returns c = let s = c.args.self.now in let d = depth_is s.stack.items s.place in omega (arith, s.stack.ok.0)
+returns c = let s = c.args.self.now in let d = depth_is s.stack.items s.position in omega (arith, s.stack.ok.0)

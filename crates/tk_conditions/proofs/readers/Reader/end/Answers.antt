@@ -7,7 +7,7 @@ use Rattle.tk_conditions.proofs.readers.Reader.end.Goals as goal
 pub returns-then-not-is_empty : goal.returns-then-not-is_empty
 returns-then-not-is_empty c = λ d e.
     let s = c.args.self in
-    let deep = depth_is s.stack.items s.place in
+    let deep = depth_is s.stack.items s.position in
     let none = ended_depth (state_of s) d e in
     let ne = eqb-false _ 0 (sym c.is_empty.ensures ∙ c.if-not-is_empty.true) in
     omega (arith, s.stack.ok.0)

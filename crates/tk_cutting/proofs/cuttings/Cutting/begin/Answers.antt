@@ -4,5 +4,5 @@ use Rattle.tk_cutting.proofs.cuttings.Cutting.begin.Goals as goal
 
 pub returns-clause-adds : goal.returns-clause-adds
 returns-clause-adds c = λ all rest keys e.
-    begin_adds all rest keys _ _ c.args.placed.now _ e refl c.requires c.in_ok-push.ensures.items c.in_ok-push-2.ensures.items refl refl refl
+    begin_adds all rest keys _ _ c.args.numbered_node.now _ e refl c.requires c.in_ok-push.ensures.items c.in_ok-push-2.ensures.items refl refl refl
     (ap (λ l. c.args.self.now.first + (1 + length l)) c.as_slice.ensures)

@@ -1,9 +1,9 @@
 use Rattle.std.proofs.Common.{◌≤◌, ap, sym, ◌∙◌, subst, arith, length}
 use Rattle.std.specs.Arc.{arc_value}
-use Rattle.tk_cutting.specs.declared.asking.TheConstants.{MAX_KEYS}
+use Rattle.tk_cutting.specs.declared.needs.TheConstants.{MAX_KEYS}
 use Rattle.tk_cutting.specs.Keys.{lock_keys}
 use Rattle.tk_cutting.specs.Kept.{IsPlan, IsCut}
-use Rattle.tk_cutting.specs.Numbers.{IsPlaced}
+use Rattle.tk_cutting.specs.Numbers.{ArePositionsByNumber}
 use Rattle.tk_cutting.specs.Trees.{contents}
 use Rattle.tk_cutting.proofs.Describing.{few_nodes}
 use Rattle.tk_cutting.proofs.Renumbering.{renumbered, numbered_once, same_contents_numbered}
@@ -31,12 +31,12 @@ pub invariant_of-result : goal.invariant_of-result
 invariant_of-result c =
     let is = with_numbers c.args.nodes.items _ _ _ c.args.nodes.len _ c.requires.planned (omega (arith, c.args.nodes.ok)) (c.len-statics.ensures.len ∙ ap length c.deref.ensures) c.as_mut_slice.ensures.value c.set_numbers.ensures in
     let cutting = c.in_ok-cutting.cutting in
-    let places = c.in_ok-places.places.items in
-    subst (λ ps. IsPlan ps (arc_value c.args.table) cutting places) (sym is) (record {
+    let positions = c.in_ok-positions.positions.items in
+    subst (λ ps. IsPlan ps (arc_value c.args.table) cutting positions) (sym is) (record {
       planned = renumbered c.args.nodes.items _ c.requires.planned;
       numbered = numbered_once c.args.nodes.items;
       cut = subst (λ ps. IsCut ps cutting) (c.as_slice.ensures.value ∙ is) c.in_ok-cutting.ensures;
-      placed = subst (λ ps. IsPlaced ps places) (c.as_slice-2.ensures.value ∙ is) c.in_ok-places.ensures;
+      numbered_node = subst (λ ps. ArePositionsByNumber ps positions) (c.as_slice-2.ensures.value ∙ is) c.in_ok-positions.ensures;
     })
 
 pub returns : goal.returns

@@ -75,9 +75,9 @@ returns-clause-known c =
     let found = unit_found _ _ _ _ p.0 c.tree_at.result.0.now c.tree_at.result.1.now p.1 c.as_slice.ensures.value c.tree_at.ensures in
     let t = tree c.tree_at.result.0.now.node c.tree_at.result.0.now.number (forest c.tree_at.result.1.now) in
     let made : c.as_slice-2.result.now ≡ moves t = c.as_slice-2.ensures.value ∙ c.in_ok-push_tree.ensures ∙ ap (λ l. l ++ moves t) c.new-moves.ensures.items in
-    let at = c.tree_at.ensures p.0.top p.0.below p.0.rest (ap (drop c.index-piece.result.now.place) c.as_slice.ensures.value ∙ p.0.place) p.0.span in
-    let place = p.0.place ∙ ap₂ (λ a b. a ∷ (b ++ p.0.rest)) (sym at.0) (sym at.1) in
-    let known = unit_known c.self.inside.nodes.items c.self.invariant.numbered c.index-piece.result.now.place _ _ p.0.rest place found.trees c.index-piece.result.now.first in
+    let at = c.tree_at.ensures p.0.top p.0.below p.0.rest (ap (drop c.index-piece.result.now.position) c.as_slice.ensures.value ∙ p.0.position) p.0.span in
+    let position = p.0.position ∙ ap₂ (λ a b. a ∷ (b ++ p.0.rest)) (sym at.0) (sym at.1) in
+    let known = unit_known c.self.inside.nodes.items c.self.invariant.numbered c.index-piece.result.now.position _ _ p.0.rest position found.trees c.index-piece.result.now.first in
     all_ok _ (stamped c.index-piece.result.now.first c.as_slice-2.result.now) (λ l. All (λ s. IsKnown c.args.self.now.nodes s.node s.act) l)
     c.stamp_all.ensures (
     subst (λ ms. All (λ s. IsKnown c.args.self.now.nodes s.node s.act) (stamped c.index-piece.result.now.first ms)) (sym made)

@@ -1,5 +1,5 @@
 use Rattle.std.proofs.Common.{ℕ, ◌+◌, eqb, sym, ap₂, ◌∙◌, arith}
-use Rattle.tk_lanes.proofs.Places.{counted_more}
+use Rattle.tk_lanes.proofs.Positions.{counted_more}
 use Rattle.tk_lanes.proofs.flag_lists.Flags.count_byte.Goals as goal
 
 pub loop-block-preserved : goal.loop-block-preserved

@@ -1,5 +1,5 @@
 use Rattle.std.proofs.Common.{◌≡◌, ◌*◌, ◌≤◌, eqb}
-use Rattle.tk_lanes.proofs.Places.{counted_to}
+use Rattle.tk_lanes.proofs.Positions.{counted_to}
 use Rattle.tk_lanes.proofs.flag_lists.Flags.count_byte.Given as goal
 
 abbrev pub invariant-loop-block : goal.invariant-loop-block

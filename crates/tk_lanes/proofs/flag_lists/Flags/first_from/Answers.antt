@@ -1,7 +1,7 @@
 use Rattle.std.proofs.Common.{◌≤◌, ◌^◌, length, sym, ap, subst, arith}
 use Rattle.tk_lanes.specs.Bits.{HoldsFlags}
 use Rattle.tk_lanes.proofs.Views.{short, length-first_bits, first_is}
-use Rattle.tk_lanes.proofs.Places.{bounded}
+use Rattle.tk_lanes.proofs.Positions.{bounded}
 use Rattle.tk_lanes.proofs.flag_lists.Flags.first_from.Goals as goal
 
 pub first_from-requires : goal.first_from-requires

@@ -1,5 +1,5 @@
 use Rattle.std.proofs.Common.{◌≤◌, ◌+◌, ◌*◌, eqb, length, arith}
-use Rattle.tk_lanes.proofs.Places.{counted_few}
+use Rattle.tk_lanes.proofs.Positions.{counted_few}
 use Rattle.tk_lanes.proofs.Tallies.{counted_within, tallied_more, tallied_one, tallied_all}
 use Rattle.tk_lanes.proofs.flag_lists.Flags.tally.Goals as goal
 

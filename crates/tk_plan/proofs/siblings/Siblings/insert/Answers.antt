@@ -1,10 +1,10 @@
 use Rattle.std.proofs.Common.{◌≡◌, ◌∙◌, not, ap}
 use Rattle.tk_plan.specs.Met.{segments_of}
-use Rattle.tk_plan.specs.Seen.{segment_said}
+use Rattle.tk_plan.specs.Seen.{json_segment_text}
 use Rattle.tk_plan.proofs.Meeting.{any_met}
 use Rattle.tk_plan.proofs.siblings.Siblings.insert.Goals as goal
 
 pub returns-clause-answer : goal.returns-clause-answer
 returns-clause-answer c =
     let e : c.args.self.now ≡ segments_of c.self.inside.keys.keys = cc in
-    c.in_ok-insert.ensures.added ∙ ap not (any_met (segment_said c.args.segment) c.self.inside.keys.keys c.args.self.now e)
+    c.in_ok-insert.ensures.added ∙ ap not (any_met (json_segment_text c.args.segment) c.self.inside.keys.keys c.args.self.now e)

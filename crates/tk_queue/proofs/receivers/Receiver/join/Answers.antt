@@ -11,7 +11,7 @@ nothing_left [] h = refl
 nothing_left (x ∷ xs) h = absurd (omega arith)
 
 pub absorb-requires-clause-rule : goal.absorb-requires-clause-rule
-absorb-requires-clause-rule c = merges_own _ _ _ _ (may_take_in _ _ _ _ _ _ _ _ _ c.loop-token.invariant.known c.into_seat.ensures.known)
+absorb-requires-clause-rule c = merges_own _ _ _ _ (may_take_in _ _ _ _ _ _ _ _ _ c.loop-token.invariant.known c.into_pass.ensures.known)
 
 pub learn_as-requires-clause-rule : goal.learn_as-requires-clause-rule
 learn_as-requires-clause-rule c = learns_own _ _ (subst IsReader (sym c.loop-token.invariant.known) tt)

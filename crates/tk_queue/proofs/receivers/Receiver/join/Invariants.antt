@@ -8,9 +8,9 @@ use Rattle.tk_queue.proofs.receivers.Receiver.join.Given as goal
 
 abbrev pub invariant-loop-token : goal.invariant-loop-token
 invariant-loop-token l = record {
-  same : IsPassOf (arc_value l.line) l.seat;
-  session : l.seat.table_id ≡ l.initial.seat.table_id;
-  known : view l.seat ≡ receiver (length l.fn.self.table) l.fn.self.workers l.fn.self.taken (map token_of l.yielded);
+  same : IsPassOf (arc_value l.queue) l.pass;
+  session : l.pass.table_id ≡ l.initial.pass.table_id;
+  known : view l.pass ≡ receiver (length l.fn.self.table) l.fn.self.workers l.fn.self.taken (map token_of l.yielded);
   rest : l.yielded ++ into_iter_items l.token-iterator ≡ into_iter_items l.initial.token-iterator;
   left : into_iter_len l.token-iterator ≡ length (into_iter_items l.token-iterator);
 }

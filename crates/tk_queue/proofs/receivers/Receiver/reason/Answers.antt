@@ -15,11 +15,11 @@ returns-in-Some-twice-clause-fault c =
 pub returns-in_err-worker-clause-ok : goal.returns-in_err-worker-clause-ok
 returns-in_err-worker-clause-ok c = if_none_from _ _ (subst (λ r. IsComplete r c.args.ended.now) c.self.view_is (record {
   once = one_token c.self.inside.workers c.args.ended.now c.in_default.ensures c.in_default-twice.ensures;
-  drained = marks_whole c.self.inside.workers c.self.inside.marked (taken_of (view c.self.inside.seat)) c.self.invariant.1.recordable.limit c.self.invariant.1.marks c.in_err-worker.ensures;
+  drained = marks_whole c.self.inside.workers c.self.inside.marked (taken_of (view c.self.inside.pass)) c.self.invariant.1.recordable.limit c.self.invariant.1.marks c.in_err-worker.ensures;
 }))
 
 pub returns-clause-fault : goal.returns-clause-fault
 returns-clause-fault c = subst (λ r. IsFault (NotDrained c.in_ok-worker.worker) r c.args.ended.now) c.self.view_is (
   one_token c.self.inside.workers c.args.ended.now c.in_default.ensures c.in_default-twice.ensures,
-  marks_missing c.self.inside.workers c.self.inside.marked (taken_of (view c.self.inside.seat)) c.self.invariant.1.recordable.limit c.self.invariant.1.marks c.in_ok-worker.worker c.in_ok-worker.ensures,
+  marks_missing c.self.inside.workers c.self.inside.marked (taken_of (view c.self.inside.pass)) c.self.invariant.1.recordable.limit c.self.invariant.1.marks c.in_ok-worker.worker c.in_ok-worker.ensures,
 )

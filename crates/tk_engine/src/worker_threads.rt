@@ -1,0 +1,121 @@
+//! The threads of a run.
+ghost use Rattle.std.specs.Prelude.{◌≡◌, ◌<◌, ◌≤◌, [], ◌∷◌, ◌++◌, vec_len, vec_capacity};
+ghost use Rattle.tk_engine.specs.WorkerThreads.{CanRunWorkers, WorkersWereRun};
+ghost use Rattle.tk_engine.specs.Workers.{IsReady, IsDone};
+
+use crate::engines::Engine;
+use crate::event_collectors::EventCollector;
+use crate::unstarted_workers::UnstartedWorkers;
+use crate::workers::{Outcome, WorkerHandles, work};
+use std::alloc::Global;
+use std::snapshot::Snapshot;
+use std::sync::Wait;
+use std::thread;
+use std::thread::{Promise, Scope, Threads};
+use tk_book::Book;
+use tk_claim::Claim;
+
+/// What a worker's thread promises of the outcome that it returns.
+#[derive(Drop)]
+pub(crate) struct WorkerPromise<'e, E> {
+    engine: &'e E,
+    claim: &'e Claim,
+    handles: Snapshot<WorkerHandles>,
+}
+
+impl<'e, E: Engine> Promise<Outcome> for WorkerPromise<'e, E> {
+    ghost kept_by = { λ p r. IsDone (E.may p.engine.now) (E.units p.engine.now) p.handles.value.sender.session p.claim.now p.handles.value.sender.worker r };
+}
+
+/// The receiver's side of a run, and what each worker has left that was joined.
+#[derive(Drop)]
+pub(crate) struct JoinedWorkers {
+    pub collector: EventCollector,
+    pub outcomes: Vec<Outcome>,
+}
+
+// Adds an outcome, for which there is room.
+fn add(outcomes: &mut Vec<Outcome>, outcome: Outcome)
+    requires { vec_len outcomes.old < vec_capacity outcomes.old }
+    ensures items { outcomes.new.items ≡ outcomes.old.items ++ outcome ∷ [] }
+    ensures capacity { vec_capacity outcomes.old ≤ vec_capacity outcomes.new }
+{
+    let Ok(()) = outcomes.push(outcome) else {
+        unreachable!()
+    };
+}
+
+// Starts a thread for the last worker, does the same with the rest, collects events where none is left, and joins on the
+// way back.
+fn spawn_workers<'s, 'e, R: Threads + Wait + Sync, E: Engine>(
+    rt: &'e R,
+    alloc: Global,
+    scope: &Scope<'s, &'e ()>,
+    engine: &'e E,
+    claim: &'e Claim,
+    book: &'e Book,
+    mut unstarted: UnstartedWorkers,
+    mut joined: JoinedWorkers,
+) -> JoinedWorkers
+    requires limit { claim.now.limit ≡ E.units engine.now }
+    requires ready { CanRunWorkers claim.now book.now (E.table engine.now) unstarted joined }
+    ensures run_to_the_end { WorkersWereRun (E.may engine.now) (E.units engine.now) claim.now (vec_len unstarted.senders) joined result }
+    ensures capacity { vec_capacity joined.outcomes ≤ vec_capacity result.outcomes }
+    ensures at_most { vec_len result.outcomes ≤ vec_len unstarted.senders }
+{
+    let Some(handles) = unstarted.take() else {
+        joined.collector.collect_all(rt);
+        return joined;
+    };
+    let worker = handles.sender.worker();
+    let promise = WorkerPromise {
+        engine,
+        claim,
+        handles: Snapshot::of(&handles),
+    };
+    let run = move || -> Outcome
+        requires { (claim.now.limit ≡ E.units engine.now)
+            × IsReady claim.now book.now (E.table engine.now) handles }
+        ensures { IsDone (E.may engine.entry.now) (E.units engine.entry.now) handles.sender.session claim.entry.now handles.sender.worker result }
+    { work(rt, alloc, engine, claim, book, handles) };
+    match scope.spawn_with(promise, run) {
+        Ok(thread) => {
+            let mut joined = spawn_workers(
+                rt, alloc, scope, engine, claim, book, unstarted, joined,
+            );
+            let outcome = thread.join(rt);
+            add(&mut joined.outcomes, outcome);
+            joined
+        }
+        Err(refused) => {
+            drop(refused);
+            joined.collector.refuse(worker);
+            spawn_workers(rt, alloc, scope, engine, claim, book, unstarted, joined)
+        }
+    }
+}
+
+/// Runs each worker in a thread of its own, while this thread collects what they send.
+pub(crate) fn run_workers<R: Threads + Wait + Sync, E: Engine>(
+    rt: &R,
+    alloc: Global,
+    engine: &E,
+    claim: &Claim,
+    book: &Book,
+    unstarted: UnstartedWorkers,
+    joined: JoinedWorkers,
+) -> JoinedWorkers
+    requires limit { claim.now.limit ≡ E.units engine.now }
+    requires ready { CanRunWorkers claim.now book.now (E.table engine.now) unstarted joined }
+    ensures { WorkersWereRun (E.may engine.now) (E.units engine.now) claim.now (vec_len unstarted.senders) joined result }
+{
+    thread::scope(
+        thread::scope_env(),
+        rt,
+        move |scope| -> JoinedWorkers
+            requires { (claim.now.limit ≡ E.units engine.now)
+                × CanRunWorkers claim.now book.now (E.table engine.now) unstarted joined }
+            ensures { WorkersWereRun (E.may engine.entry.now) (E.units engine.entry.now) claim.entry.now (vec_len unstarted.senders) joined result }
+        { spawn_workers(rt, alloc, scope, engine, claim, book, unstarted, joined) },
+    )
+}

@@ -1,6 +1,0 @@
-use Rattle.tk_plan.specs.Gives.{plan_in}
-use Rattle.tk_plan.proofs.PlanLawSteps.{answers_agree}
-use Rattle.tk_plan.proofs.laws.one_answer.Goals as goal
-
-pub returns : goal.returns
-returns c = λ bytes a b x y m n. answers_agree (plan_in bytes) a b x y m n

@@ -1,0 +1,20 @@
+use Rattle.std.proofs.Common.{◌-◌, ◌+◌, ◌*◌, map, drop}
+use Rattle.serde_json.specs.View.{view}
+use Rattle.tk_plan.specs.Checks.{member_at}
+use Rattle.tk_plan.specs.Pointers.{pointer}
+use Rattle.tk_plan.specs.NodeInputs.{node_inputs_in}
+use Rattle.tk_plan.proofs.Going.{Goes, Met}
+use Rattle.tk_plan.proofs.node_reading.+reading.Given as goal
+
+abbrev pub decreases-read_all : goal.decreases-read_all
+decreases-read_all l = 2 * (60 - l.parent.level) + 1
+
+abbrev pub decreases-read_node : goal.decreases-read_node
+decreases-read_node l = 2 * (61 - l.node_input.level)
+
+abbrev pub invariant-read_all-loop-index : goal.invariant-read_all-loop-index
+invariant-read_all-loop-index l =
+    Goes (60 - l.parent.level) l.id l.initial.reader l.reader
+    (node_inputs_in (member_at (pointer l.parent.path) l.name) (l.parent.level + 1) l.id l.is_static 0 l.initial.siblings (map view l.values))
+    (node_inputs_in (member_at (pointer l.parent.path) l.name) (l.parent.level + 1) l.id l.is_static l.index l.siblings (map view (drop l.index l.values)))
+    × Met l.initial.siblings l.siblings (map view l.values) (map view (drop l.index l.values))

@@ -1,0 +1,230 @@
+//! Readers of single members.
+ghost use Rattle.std.specs.Prelude.{◌≡◌, ℕ, List, Some, None, IfSome, codes, flat_map, map};
+ghost use Rattle.std.specs.List.{list_any};
+ghost use Rattle.std.specs.Str.{bytes_eq};
+ghost use Rattle.serde_json.specs.Find.{get};
+ghost use Rattle.serde_json.specs.View.{view};
+ghost use Rattle.tk_plan.specs.Checks.{escape, item_at, text as is_text, any_array, pair_of, row, must, may, unknown};
+ghost use Rattle.tk_plan.specs.Rows.{dtype_row, segment_row, mode_row, isolated_row};
+ghost use Rattle.tk_plan.specs.Pointers.{pointer, IsPairOf};
+ghost use Rattle.tk_plan.specs.Answers.{Reads};
+ghost use Rattle.tk_plan.specs.Contents.{json_text, json_optional, json_truth, json_dtype, json_concurrent, listed};
+
+use crate::faults::PlanFault;
+use crate::json_paths::JsonPath;
+use crate::member_values::TwoTexts;
+use crate::path_texts::{escaped_path, field, item_path, member_path, whole_path};
+use serde_json::Value;
+use std::alloc::Global;
+use tk_ids::{DType, Text};
+
+/// A text that has to be there.
+pub(crate) fn text_member(
+    alloc: Global,
+    at: JsonPath<'_>,
+    object: &Value,
+    name: &str,
+) -> Result<Text, PlanFault>
+    requires { flat_map escape name.now ≡ name.now }
+    ensures { Reads (row (pointer at.entry) (view object.now) (must name.now is_text))
+        (λ t. t ≡ json_text (get name.now (view object.now))) result }
+{
+    match object.get(name).and_then(Value::as_str) {
+        Some(text) => Ok(Text::copy(alloc, text)?),
+        None => Err(field(member_path(alloc, at, name)?)),
+    }
+}
+
+/// A text that may be missing.
+pub(crate) fn optional_member(
+    alloc: Global,
+    at: JsonPath<'_>,
+    object: &Value,
+    name: &str,
+) -> Result<Option<Text>, PlanFault>
+    requires { flat_map escape name.now ≡ name.now }
+    ensures { Reads (row (pointer at.entry) (view object.now) (may name.now is_text))
+        (λ t. t ≡ json_optional (get name.now (view object.now))) result }
+{
+    let Some(value) = object.get(name) else {
+        return Ok(None);
+    };
+    match value.as_str() {
+        Some(text) => Ok(Some(Text::copy(alloc, text)?)),
+        None => Err(field(member_path(alloc, at, name)?)),
+    }
+}
+
+pub(crate) fn dtype_member(
+    alloc: Global,
+    at: JsonPath<'_>,
+    object: &Value,
+) -> Result<DType, PlanFault>
+    ensures { Reads (row (pointer at.entry) (view object.now) dtype_row)
+        (λ t. t ≡ json_dtype (get (codes "type") (view object.now))) result }
+{
+    match object.get("type").and_then(Value::as_str) {
+        Some("container") => Ok(DType::Container),
+        Some("test") => Ok(DType::Test),
+        Some("both") => Ok(DType::Both),
+        _ => Err(field(member_path(alloc, at, "type")?)),
+    }
+}
+
+/// Whether the mode is `concurrent`.
+pub(crate) fn mode_member(
+    alloc: Global,
+    at: JsonPath<'_>,
+    object: &Value,
+) -> Result<bool, PlanFault>
+    ensures { Reads (row (pointer at.entry) (view object.now) mode_row)
+        (λ b. b ≡ json_concurrent (get (codes "mode") (view object.now))) result }
+{
+    let Some(value) = object.get("mode") else {
+        return Ok(false);
+    };
+    match value.as_str() {
+        Some("same_thread") => Ok(false),
+        Some("concurrent") => Ok(true),
+        _ => Err(field(member_path(alloc, at, "mode")?)),
+    }
+}
+
+pub(crate) fn isolated_member(
+    alloc: Global,
+    at: JsonPath<'_>,
+    object: &Value,
+) -> Result<bool, PlanFault>
+    ensures { Reads (row (pointer at.entry) (view object.now) isolated_row)
+        (λ b. b ≡ json_truth (get (codes "isolated") (view object.now))) result }
+{
+    let Some(value) = object.get("isolated") else {
+        return Ok(false);
+    };
+    match value.as_bool() {
+        Some(is_isolated) => Ok(is_isolated),
+        None => Err(field(member_path(alloc, at, "isolated")?)),
+    }
+}
+
+/// A text that is an item of the array there.
+fn item_text<'v>(
+    alloc: Global,
+    at: JsonPath<'_>,
+    index: usize,
+    item: &'v Value,
+) -> Result<&'v str, PlanFault>
+    ensures { Reads (is_text (item_at (pointer at.entry) index) (view item.now))
+        (λ t. t.now ≡ json_text (Some (view item.now))) result }
+{
+    match item.as_str() {
+        Some(text) => Ok(text),
+        None => Err(field(item_path(alloc, at, index)?)),
+    }
+}
+
+/// An array of two texts.
+pub(crate) fn two_texts<'v>(
+    alloc: Global,
+    at: JsonPath<'_>,
+    value: &'v Value,
+) -> Result<TwoTexts<'v>, PlanFault>
+    ensures { Reads (pair_of is_text (pointer at.entry) (view value.now)) (IsPairOf (Some (view value.now))) result }
+{
+    let Some(items) = value.as_array() else {
+        return Err(field(whole_path(alloc, at)?));
+    };
+    if items.len() != 2 {
+        return Err(field(whole_path(alloc, at)?));
+    }
+    let first = item_text(alloc, at, 0, &items[0])?;
+    let second = item_text(alloc, at, 1, &items[1])?;
+    Ok(TwoTexts { first, second })
+}
+
+/// The two texts, where it is an array of two.
+fn pair_in<'v>(value: &'v Value) -> Option<TwoTexts<'v>>
+    ensures pair { IfSome result (IsPairOf (Some (view value.now))) }
+    ensures fine { IfSome result (λ _. (at : List ℕ) → pair_of is_text at (view value.now) ≡ None) }
+{
+    match value.as_array()?.as_slice() {
+        [first, second] => Some(TwoTexts {
+            first: first.as_str()?,
+            second: second.as_str()?,
+        }),
+        _ => None,
+    }
+}
+
+/// Its place is written out only where it is wrong.
+pub(crate) fn segment_member<'v>(
+    alloc: Global,
+    at: JsonPath<'_>,
+    object: &'v Value,
+) -> Result<TwoTexts<'v>, PlanFault>
+    ensures { Reads (row (pointer at.entry) (view object.now) segment_row)
+        (IsPairOf (get (codes "segment") (view object.now))) result }
+{
+    let Some(value) = object.get("segment") else {
+        return Err(field(member_path(alloc, at, "segment")?));
+    };
+    match pair_in(value) {
+        Some(pair) => Ok(pair),
+        None => {
+            let path = member_path(alloc, at, "segment")?;
+            two_texts(alloc, JsonPath::Whole(&path), value)
+        }
+    }
+}
+
+/// The items of a member that may be missing.
+pub(crate) fn array_member<'v>(
+    alloc: Global,
+    at: JsonPath<'_>,
+    object: &'v Value,
+    name: &str,
+) -> Result<&'v [Value], PlanFault>
+    requires { flat_map escape name.now ≡ name.now }
+    ensures { Reads (row (pointer at.entry) (view object.now) (may name.now any_array))
+        (λ vs. map view vs.now ≡ listed (get name.now (view object.now))) result }
+{
+    match object.get(name) {
+        Some(value) => match value.as_array() {
+            Some(items) => Ok(items.as_slice()),
+            None => Err(field(member_path(alloc, at, name)?)),
+        },
+        None => Ok(&[]),
+    }
+}
+
+fn is_among(names: &[&str], name: &str) -> bool
+    ensures { result ≡ list_any (λ n. bytes_eq n name.now) (map (λ n. n.now) names.now) }
+{
+    for known in names {
+        if *known == name {
+            return true;
+        }
+    }
+    false
+}
+
+/// Refuses what is no object, and an object with other members.
+pub(crate) fn known_members(
+    alloc: Global,
+    at: JsonPath<'_>,
+    value: &Value,
+    names: &[&str],
+) -> Result<(), PlanFault>
+    ensures { Reads (unknown (map (λ n. n.now) names.now) (pointer at.entry) (view value.now))
+        (λ _. Unit {0}) result }
+{
+    let Some(members) = value.as_object() else {
+        return Err(field(whole_path(alloc, at)?));
+    };
+    for (name, _) in members.iter() {
+        if !is_among(names, name.as_str()) {
+            return Err(field(escaped_path(alloc, at, name.as_str())?));
+        }
+    }
+    Ok(())
+}

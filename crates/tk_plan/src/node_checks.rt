@@ -1,0 +1,175 @@
+//! The checks of a node.
+ghost use Rattle.std.specs.Prelude.{◌≡◌, ◌++◌, ◌∷◌, [], option_map, nat_le};
+ghost use Rattle.std.specs.List.{count_by};
+ghost use Rattle.serde_json.specs.View.{view};
+ghost use Rattle.tk_ids.specs.Answer.{IsMadeOf};
+ghost use Rattle.tk_ids.specs.declared.tables.TheConstants.{MAX_DESCRIPTORS};
+ghost use Rattle.tk_cutting.specs.Keys.{note_locks};
+ghost use Rattle.tk_cutting.specs.Trees.{contents};
+ghost use Rattle.tk_plan.specs.Answers.{Reads};
+ghost use Rattle.tk_plan.specs.Checks.{first};
+ghost use Rattle.tk_plan.specs.Fields.{HasFields, checked_of};
+ghost use Rattle.tk_plan.specs.PlanOf.{id_fault, node_check, is_kind, checks};
+ghost use Rattle.tk_plan.specs.Refusals.{Meets};
+ghost use Rattle.tk_plan.specs.Seen.{seen, above_of, json_segment_text, as_plan_fault, IsNamed};
+ghost use Rattle.tk_plan.specs.Progress.{IsNoted, IsEntered, IsChecked, room_checks};
+
+use crate::faults::PlanFault;
+use crate::limits::MAX_LEVELS;
+use crate::lock_keys::note_all;
+use crate::member_values::TwoTexts;
+use crate::node_fields::{Fields, dynamic_fields, static_fields};
+use crate::node_inputs::NodeInput;
+use crate::plan_readers::{Checked, Named, Reader};
+use crate::siblings::Siblings;
+use std::alloc::Global;
+use tk_cutting::{Lock, MAX_KEYS, Node};
+use tk_ids::{IdFault, MAX_DESCRIPTORS, Segment, TableFault, UniqueId};
+
+fn fields_of<'v>(alloc: Global, node_input: NodeInput<'_, 'v>) -> Result<Fields<'v>, PlanFault>
+    ensures { Reads (node_check (seen [] node_input.entry)) (HasFields node_input.entry.is_static (view node_input.entry.value.now)) result }
+{
+    if node_input.is_static {
+        static_fields(alloc, node_input.path, node_input.value)
+    } else {
+        dynamic_fields(alloc, node_input.path, node_input.value)
+    }
+}
+
+fn refused(fault: IdFault) -> PlanFault
+    ensures { result ≡ as_plan_fault fault }
+{
+    match fault {
+        IdFault::Empty => PlanFault::Id(IdFault::Empty),
+        IdFault::BadSegment(at) => PlanFault::Id(IdFault::BadSegment(at)),
+        IdFault::BadEscape(at) => PlanFault::Id(IdFault::BadEscape(at)),
+        IdFault::TooLong => PlanFault::Id(IdFault::TooLong),
+        IdFault::Memory => PlanFault::Memory,
+    }
+}
+
+fn id_below(alloc: Global, above: Option<&UniqueId>, segment: &Segment) -> Result<UniqueId, IdFault>
+    ensures { IsMadeOf (above_of above.entry ++ segment.now ∷ []) result }
+{
+    match above {
+        Some(id) => id.append(alloc, segment),
+        None => UniqueId::of(alloc, segment),
+    }
+}
+
+/// The segment of these texts, and the id that ends in it.
+fn named(alloc: Global, above: Option<&UniqueId>, texts: TwoTexts<'_>) -> Result<Named, PlanFault>
+    ensures { Meets (option_map PlanFault.Id (id_fault (above_of above.entry) (json_segment_text texts.entry)))
+        (IsNamed (above_of above.entry) (json_segment_text texts.entry)) result }
+{
+    let segment = match Segment::new(alloc, texts.first, texts.second) {
+        Ok(segment) => segment,
+        Err(fault) => return Err(refused(fault)),
+    };
+    match id_below(alloc, above, &segment) {
+        Ok(id) => Ok(Named { segment, id }),
+        Err(fault) => Err(refused(fault)),
+    }
+}
+
+/// Whether there are as many nodes of the kind as there may be.
+fn is_full(reader: &Reader, is_static: bool) -> bool
+    requires { IsNoted reader.now }
+    ensures { result ≡ nat_le MAX_DESCRIPTORS (count_by (is_kind is_static) (contents reader.now.nodes.items)) }
+{
+    let count = if is_static {
+        reader.descriptors.len()
+    } else {
+        reader.dynamics
+    };
+    count >= MAX_DESCRIPTORS
+}
+
+/// Makes the node that these fields describe, with its id and the values in its arrays.
+fn into_checked<'v>(is_static: bool, named: Named, fields: Fields<'v>) -> Checked<'v>
+    ensures { result ≡ checked_of is_static named fields.entry }
+{
+    let Fields {
+        heading,
+        concurrency,
+        content,
+        children,
+        dynamic,
+    } = fields;
+    let node = Node {
+        is_static,
+        dtype: heading.dtype,
+        segment: named.segment,
+        name: heading.name,
+        is_concurrent: concurrency.is_concurrent,
+        is_isolated: concurrency.is_isolated,
+        locks: concurrency.locks,
+        skip: content.skip,
+        status: content.ending.status,
+        message: content.ending.message,
+        entries: content.reports.entries,
+    };
+    Checked {
+        node,
+        id: named.id,
+        children,
+        dynamic,
+    }
+}
+
+/// Notes a node's segment among its siblings' and its lock keys among the plan's, where there is room for them.
+fn note_node<'v>(
+    alloc: Global,
+    reader: &mut Reader,
+    siblings: &mut Siblings<'v>,
+    is_static: bool,
+    segment: TwoTexts<'v>,
+    locks: &[Lock],
+) -> Result<(), PlanFault>
+    requires { IsNoted reader.old }
+    ensures { let keys = note_locks reader.old.keys.keys locks.now in
+        Meets (first (room_checks (contents reader.old.nodes.items) siblings.old is_static (json_segment_text segment.entry) keys))
+        (λ _. IsEntered reader.old reader.new siblings.old siblings.new is_static (json_segment_text segment.entry) keys) result }
+{
+    if !siblings.insert(segment)? {
+        return Err(PlanFault::Table(TableFault::Twice));
+    }
+    if is_full(reader, is_static) {
+        return Err(PlanFault::Table(TableFault::Full));
+    }
+    note_all(alloc, &mut reader.keys, locks)?;
+    if reader.keys.len() > MAX_KEYS {
+        return Err(PlanFault::TooManyResources);
+    }
+    Ok(())
+}
+
+/// Checks one node, given those before it, and notes its segment and its lock keys.
+pub(crate) fn check_node<'v>(
+    alloc: Global,
+    reader: &mut Reader,
+    siblings: &mut Siblings<'v>,
+    node_input: NodeInput<'_, 'v>,
+) -> Result<Checked<'v>, PlanFault>
+    requires { IsNoted reader.old }
+    ensures { Meets (first (checks (contents reader.old.nodes.items) (seen siblings.old node_input.entry)))
+        (IsChecked reader.old reader.new (seen siblings.old node_input.entry) siblings.new) result }
+{
+    if node_input.level > MAX_LEVELS {
+        return Err(PlanFault::Deep);
+    }
+    let fields = fields_of(alloc, node_input)?;
+    if fields.content.reports.repeats {
+        return Err(PlanFault::EntryKeyTwice);
+    }
+    let named = named(alloc, node_input.above, fields.heading.segment)?;
+    note_node(
+        alloc,
+        reader,
+        siblings,
+        node_input.is_static,
+        fields.heading.segment,
+        fields.concurrency.locks.as_slice(),
+    )?;
+    Ok(into_checked(node_input.is_static, named, fields))
+}

@@ -1,0 +1,159 @@
+//! The members of a node.
+ghost use Rattle.std.specs.Prelude.{◌≡◌, true, false, map};
+ghost use Rattle.serde_json.specs.View.{view};
+ghost use Rattle.tk_plan.specs.Checks.{row, first};
+ghost use Rattle.tk_plan.specs.Rows.{static_node, dynamic_node};
+ghost use Rattle.tk_plan.specs.Pointers.{pointer};
+ghost use Rattle.tk_plan.specs.Answers.{Reads};
+ghost use Rattle.tk_plan.specs.Fields.{heading_rows, concurrency_rows, content_rows, IsHeading, IsConcurrency, IsContent, HasFields};
+
+use crate::faults::PlanFault;
+use crate::json_members::{
+    array_member, dtype_member, isolated_member, known_members, mode_member, optional_member,
+    segment_member, text_member,
+};
+use crate::json_paths::JsonPath;
+use crate::lock_members::locks_member;
+use crate::member_values::{Ending, Reports, TwoTexts};
+use crate::result_members::{entries_member, result_member};
+use serde_json::Value;
+use std::alloc::Global;
+use tk_cutting::Locks;
+use tk_ids::{DType, Text};
+
+/// What the members `type`, `segment` and `name` of a node say.
+#[derive(Drop)]
+pub(crate) struct Heading<'v> {
+    pub dtype: DType,
+    pub segment: TwoTexts<'v>,
+    pub name: Text,
+}
+
+/// What the members `mode`, `isolated` and `locks` of a node say.
+#[derive(Drop)]
+pub(crate) struct Concurrency {
+    pub is_concurrent: bool,
+    pub is_isolated: bool,
+    pub locks: Locks,
+}
+
+/// What the members `skip`, `result` and `entries` of a node say.
+#[derive(Drop)]
+pub(crate) struct Content {
+    pub skip: Option<Text>,
+    pub ending: Ending,
+    pub reports: Reports,
+}
+
+/// What the members of a node say.
+#[derive(Drop)]
+pub(crate) struct Fields<'v> {
+    pub heading: Heading<'v>,
+    pub concurrency: Concurrency,
+    pub content: Content,
+    pub children: &'v [Value],
+    pub dynamic: &'v [Value],
+}
+
+/// Reads the members `type`, `segment` and `name`.
+fn heading_members<'v>(
+    alloc: Global,
+    at: JsonPath<'_>,
+    object: &'v Value,
+) -> Result<Heading<'v>, PlanFault>
+    ensures { Reads (first (map (row (pointer at.entry) (view object.now)) heading_rows)) (IsHeading (view object.now)) result }
+{
+    let dtype = dtype_member(alloc, at, object)?;
+    let segment = segment_member(alloc, at, object)?;
+    let name = text_member(alloc, at, object, "name")?;
+    Ok(Heading {
+        dtype,
+        segment,
+        name,
+    })
+}
+
+/// Reads the members `mode`, `isolated` and `locks`, which only a static node has.
+fn concurrency_members(
+    alloc: Global,
+    at: JsonPath<'_>,
+    object: &Value,
+) -> Result<Concurrency, PlanFault>
+    ensures { Reads (first (map (row (pointer at.entry) (view object.now)) concurrency_rows)) (IsConcurrency true (view object.now)) result }
+{
+    let is_concurrent = mode_member(alloc, at, object)?;
+    let is_isolated = isolated_member(alloc, at, object)?;
+    let locks = locks_member(alloc, at, object)?;
+    Ok(Concurrency {
+        is_concurrent,
+        is_isolated,
+        locks,
+    })
+}
+
+/// Reads the members `skip`, `result` and `entries`.
+fn content_members(alloc: Global, at: JsonPath<'_>, object: &Value) -> Result<Content, PlanFault>
+    ensures { Reads (first (map (row (pointer at.entry) (view object.now)) content_rows)) (IsContent (view object.now)) result }
+{
+    let skip = optional_member(alloc, at, object, "skip")?;
+    let ending = result_member(alloc, at, object)?;
+    let reports = entries_member(alloc, at, object)?;
+    Ok(Content {
+        skip,
+        ending,
+        reports,
+    })
+}
+
+pub(crate) fn static_fields<'v>(
+    alloc: Global,
+    at: JsonPath<'_>,
+    value: &'v Value,
+) -> Result<Fields<'v>, PlanFault>
+    ensures { Reads (static_node (pointer at.entry) (view value.now)) (HasFields true (view value.now)) result }
+{
+    let names = [
+        "type", "segment", "name", "mode", "isolated", "locks", "skip", "result", "entries",
+        "children", "dynamic",
+    ];
+    known_members(alloc, at, value, &names)?;
+    let heading = heading_members(alloc, at, value)?;
+    let concurrency = concurrency_members(alloc, at, value)?;
+    let content = content_members(alloc, at, value)?;
+    let children = array_member(alloc, at, value, "children")?;
+    let dynamic = array_member(alloc, at, value, "dynamic")?;
+    Ok(Fields {
+        heading,
+        concurrency,
+        content,
+        children,
+        dynamic,
+    })
+}
+
+pub(crate) fn dynamic_fields<'v>(
+    alloc: Global,
+    at: JsonPath<'_>,
+    value: &'v Value,
+) -> Result<Fields<'v>, PlanFault>
+    ensures { Reads (dynamic_node (pointer at.entry) (view value.now)) (HasFields false (view value.now)) result }
+{
+    let names = [
+        "type", "segment", "name", "skip", "result", "entries", "dynamic",
+    ];
+    known_members(alloc, at, value, &names)?;
+    let heading = heading_members(alloc, at, value)?;
+    let content = content_members(alloc, at, value)?;
+    let dynamic = array_member(alloc, at, value, "dynamic")?;
+    Ok(Fields {
+        heading,
+        concurrency: Concurrency {
+            is_concurrent: false,
+            is_isolated: false,
+            locks: Locks::new(Vec::new(alloc)),
+        },
+        content,
+        children: &[],
+        dynamic,
+    })
+}

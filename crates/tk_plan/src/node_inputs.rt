@@ -1,0 +1,17 @@
+//! Values that stand for nodes.
+
+use crate::json_paths::JsonPath;
+use serde_json::Value;
+use tk_ids::UniqueId;
+
+/// A value that stands for a node.
+#[derive(Clone, Copy, Drop)]
+pub(crate) struct NodeInput<'a, 'v> {
+    pub path: JsonPath<'a>,
+    /// The root has level 1.
+    pub level: u32,
+    pub is_static: bool,
+    /// The parent's id.
+    pub above: Option<&'a UniqueId>,
+    pub value: &'v Value,
+}

@@ -1,0 +1,155 @@
+//! Reading a plan's nodes.
+ghost use Rattle.std.specs.Prelude.{◌≡◌, ◌≤◌, ◌+◌, ◌-◌, ◌++◌, ◌∷◌, [], map, flat_map, IfOk, OnOk};
+ghost use Rattle.serde_json.specs.View.{view};
+ghost use Rattle.tk_cutting.specs.Trees.{flat, contents};
+ghost use Rattle.tk_cutting.specs.Ids.{descriptors};
+ghost use Rattle.tk_plan.specs.Checks.{escape, member_at};
+ghost use Rattle.tk_plan.specs.Pointers.{pointer};
+ghost use Rattle.tk_plan.specs.PlanOf.{verdict, root_at};
+ghost use Rattle.tk_plan.specs.Progress.{IsNoted, IsDescribed, IsAdded, Adds, HasRead};
+ghost use Rattle.tk_plan.specs.Refusals.{Meets};
+ghost use Rattle.tk_plan.specs.Seen.{seen};
+ghost use Rattle.tk_plan.specs.NodeInputs.{node_inputs, node_inputs_in, grown, segment_in, segment_of};
+
+use crate::faults::PlanFault;
+use crate::json_paths::JsonPath;
+use crate::node_checks::check_node;
+use crate::node_inputs::NodeInput;
+use crate::path_texts::member_path;
+use crate::plan_readers::{Checked, Reader};
+use crate::siblings::Siblings;
+use serde_json::Value;
+use std::alloc::{AllocError, Global};
+use tk_cutting::{Node, NumberedNode};
+use tk_ids::{Descriptor, UniqueId};
+
+/// Puts the descriptor of a node at the end, where the node is static, and else counts the node.
+fn add_descriptor(reader: &mut Reader, node: &Node, id: UniqueId) -> Result<(), AllocError>
+    requires { reader.old.dynamics ≤ 65536 }
+    ensures { OnOk result (IsDescribed reader.old reader.new node.now id) }
+{
+    if node.is_static {
+        let name = node.name.try_clone()?;
+        let dtype = node.dtype;
+        reader.descriptors.push(Descriptor { id, name, dtype })?;
+    } else {
+        reader.dynamics += 1;
+    }
+    Ok(())
+}
+
+/// Puts a node at the end.
+fn add_node(reader: &mut Reader, node: Node, id: UniqueId) -> Result<(), AllocError>
+    requires { reader.old.dynamics ≤ 65536 }
+    ensures { OnOk result (IsAdded reader.old reader.new node id) }
+{
+    add_descriptor(reader, &node, id)?;
+    reader.nodes.push(NumberedNode {
+        node,
+        number: 0,
+        span: 1,
+    })?;
+    Ok(())
+}
+
+/// Puts a node that was checked at the end, and answers its id for the nodes below it.
+fn add_checked(
+    alloc: Global,
+    reader: &mut Reader,
+    checked: Checked<'_>,
+) -> Result<UniqueId, AllocError>
+    requires { reader.old.dynamics ≤ 65536 }
+    ensures added { OnOk result (IsAdded reader.old reader.new checked.entry.node checked.entry.id) }
+    ensures id { IfOk result (λ id. id ≡ checked.entry.id) }
+{
+    let id = checked.id.try_clone(alloc)?;
+    add_node(reader, checked.node, checked.id)?;
+    Ok(id)
+}
+
+/// Reads a node and all below it.
+#[cycle(reading)]
+fn read_node<'v>(
+    alloc: Global,
+    reader: &mut Reader,
+    siblings: &mut Siblings<'v>,
+    node_input: NodeInput<'_, 'v>,
+) -> Result<(), PlanFault>
+    requires noted { IsNoted reader.old }
+    requires level { node_input.level ≤ 61 }
+    ensures { let s = seen siblings.old node_input.entry in
+        let t = grown (61 - node_input.entry.level) s in
+        Meets (verdict (contents reader.old.nodes.items) (node_inputs (61 - node_input.entry.level) s))
+        (λ _. Adds reader.old reader.new (flat t) (descriptors s.above t) × (siblings.new ≡ siblings.old ++ segment_of s ∷ [])) result }
+{
+    let at = reader.nodes.len();
+    let checked = check_node(alloc, reader, siblings, node_input)?;
+    let children = checked.children;
+    let dynamic = checked.dynamic;
+    let id = add_checked(alloc, reader, checked)?;
+    let mut below = Siblings::new(alloc);
+    read_all(
+        alloc, reader, &mut below, node_input, "children", true, &id, children,
+    )?;
+    read_all(
+        alloc, reader, &mut below, node_input, "dynamic", false, &id, dynamic,
+    )?;
+    let span = reader.nodes.len() - at;
+    reader.nodes[at].span = span;
+    Ok(())
+}
+
+/// Reads the nodes in a member of a node, whose id is given.
+#[cycle(reading)]
+fn read_all<'v>(
+    alloc: Global,
+    reader: &mut Reader,
+    siblings: &mut Siblings<'v>,
+    parent: NodeInput<'_, '_>,
+    name: &str,
+    is_static: bool,
+    id: &UniqueId,
+    values: &'v [Value],
+) -> Result<(), PlanFault>
+    requires noted { IsNoted reader.old }
+    requires level { parent.level ≤ 60 }
+    requires plain { flat_map escape name.now ≡ name.now }
+    ensures { let ss = node_inputs_in (member_at (pointer parent.entry.path) name.now) (parent.entry.level + 1) id.now is_static 0 siblings.old (map view values.now) in
+        let ts = map (grown (60 - parent.entry.level)) ss in
+        Meets (verdict (contents reader.old.nodes.items) (flat_map (node_inputs (60 - parent.entry.level)) ss))
+        (λ _. Adds reader.old reader.new (flat_map flat ts) (flat_map (descriptors id.now) ts) × (siblings.new ≡ siblings.old ++ map segment_in (map view values.now))) result }
+{
+    if values.is_empty() {
+        return Ok(());
+    }
+    let array = member_path(alloc, parent.path, name)?;
+    for (index, value) in values.iter().enumerate() {
+        let node_input = NodeInput {
+            path: JsonPath::Item(&array, index),
+            level: parent.level + 1,
+            is_static,
+            above: Some(id),
+            value,
+        };
+        read_node(alloc, reader, siblings, node_input)?;
+    }
+    Ok(())
+}
+
+/// Reads the root and all below it.
+pub(crate) fn read_nodes(alloc: Global, root: &Value) -> Result<Reader, PlanFault>
+    ensures { let s = root_at (view root.now) in
+        Meets (verdict [] (node_inputs 60 s)) (HasRead s) result }
+{
+    let mut reader = Reader::new(alloc);
+    let mut siblings = Siblings::new(alloc);
+    let node_input = NodeInput {
+        path: JsonPath::Whole("/root"),
+        level: 1,
+        is_static: true,
+        above: None,
+        value: root,
+    };
+    read_node(alloc, &mut reader, &mut siblings, node_input)?;
+    Ok(reader)
+}

@@ -1,0 +1,135 @@
+//! Reading a plan.
+ghost use Rattle.std.specs.Prelude.{◌≡◌, ◌≤◌, ◌<◌, ◌++◌, ◌∷◌, [], Some, codes, length, IfOk, OnOk};
+ghost use Rattle.serde_json.specs.Find.{get};
+ghost use Rattle.serde_json.specs.View.{view};
+ghost use Rattle.tk_plan.specs.Answers.{Reads};
+ghost use Rattle.tk_plan.specs.Checks.{row, must};
+ghost use Rattle.tk_plan.specs.PlanOf.{PlanOf, one, anything, top};
+ghost use Rattle.tk_plan.specs.Gives.{plan_in, Answered};
+ghost use Rattle.tk_plan.specs.Progress.{IsNoted};
+ghost use Rattle.tk_plan.specs.Tables.{Follow};
+ghost use Rattle.tk_cutting.specs.Numbers.{numbered};
+ghost use Rattle.tk_cutting.specs.Planned.{IsPlanned};
+ghost use Rattle.tk_ids.specs.Table.{HasId, HasParent};
+ghost use Rattle.std.specs.Arc.{arc_value};
+ghost use Rattle.tk_ids.specs.declared.tables.TheConstants.{MAX_DESCRIPTORS};
+
+use crate::faults::PlanFault;
+use crate::json_members::known_members;
+use crate::json_paths::JsonPath;
+use crate::lock_keys::key_list;
+use crate::node_reading::read_nodes;
+use crate::path_texts::{field, member_path};
+use crate::plan_readers::Reader;
+use serde_json::Value;
+use std::alloc::{AllocError, Global};
+use std::sync::Arc;
+use tk_cutting::{Plan, count_events};
+use tk_ids::{Descriptor, Table, TableFault};
+
+fn version_member(alloc: Global, object: &Value) -> Result<(), PlanFault>
+    ensures { Reads (row [] (view object.now) (must (codes "version") one)) (λ _. Unit {0}) result }
+{
+    match object.get("version").and_then(Value::as_u64) {
+        Some(1) => Ok(()),
+        _ => Err(field(member_path(alloc, JsonPath::Whole(""), "version")?)),
+    }
+}
+
+fn root_member<'v>(alloc: Global, object: &'v Value) -> Result<&'v Value, PlanFault>
+    ensures { Reads (row [] (view object.now) (must (codes "root") anything))
+        (λ v. get (codes "root") (view object.now) ≡ Some (view v.now)) result }
+{
+    match object.get("root") {
+        Some(root) => Ok(root),
+        None => Err(field(member_path(alloc, JsonPath::Whole(""), "root")?)),
+    }
+}
+
+fn root<'v>(alloc: Global, value: &'v Value) -> Result<&'v Value, PlanFault>
+    ensures { Reads (top [] (view value.now))
+        (λ v. get (codes "root") (view value.now) ≡ Some (view v.now)) result }
+{
+    known_members(alloc, JsonPath::Whole(""), value, &["version", "root"])?;
+    version_member(alloc, value)?;
+    root_member(alloc, value)
+}
+
+/// Puts a descriptor into the table.
+fn insert_descriptor(
+    alloc: Global,
+    table: &mut Table,
+    descriptor: Descriptor,
+) -> Result<(), AllocError>
+    requires parent { HasParent table.old descriptor.id }
+    requires new { ¬ HasId table.old descriptor.id }
+    requires room { length table.old < MAX_DESCRIPTORS }
+    ensures { OnOk result (table.new ≡ table.old ++ descriptor ∷ []) }
+{
+    match table.insert(alloc, descriptor) {
+        Ok(_) => Ok(()),
+        Err(TableFault::Memory) => Err(AllocError),
+        Err(TableFault::NoParent) => unreachable!(),
+        Err(TableFault::Twice) => unreachable!(),
+        Err(TableFault::Full) => unreachable!(),
+        Err(TableFault::Id(_)) => unreachable!(),
+    }
+}
+
+/// The table of these descriptors.
+fn table_of(alloc: Global, descriptors: Vec<Descriptor>) -> Result<Arc<Table>, AllocError>
+    requires follow { Follow [] descriptors.items }
+    requires few { length descriptors.items ≤ MAX_DESCRIPTORS }
+    ensures { IfOk result (λ table. arc_value table ≡ descriptors.items) }
+{
+    let mut table = Table::new(alloc);
+    for descriptor in descriptors {
+        insert_descriptor(alloc, &mut table, descriptor)?;
+    }
+    Ok(Arc::new(alloc, table)?)
+}
+
+/// The plan of the nodes that were read.
+fn plan_from(alloc: Global, reader: Reader) -> Result<Plan, AllocError>
+    requires follow { Follow [] reader.descriptors.items }
+    requires noted { IsNoted reader }
+    requires planned { IsPlanned reader.nodes.items reader.descriptors.items }
+    ensures { IfOk result (λ plan.
+        plan ≡ record { nodes = numbered reader.nodes.items; table = reader.descriptors.items }) }
+{
+    let Reader {
+        nodes,
+        descriptors,
+        dynamics: _,
+        keys,
+    } = reader;
+    let keys = key_list(alloc, keys)?;
+    let table = table_of(alloc, descriptors)?;
+    Plan::new(alloc, nodes, table, keys.as_slice())
+}
+
+fn plan_of(alloc: Global, value: &Value) -> Result<Plan, PlanFault>
+    ensures { Answered (PlanOf (view value.now)) result }
+{
+    let root = root(alloc, value)?;
+    let reader = read_nodes(alloc, root)?;
+    match count_events(reader.nodes.as_slice()) {
+        None => Err(PlanFault::TooManyEvents),
+        Some(_) => Ok(plan_from(alloc, reader)?),
+    }
+}
+
+/// Reads a plan.
+pub fn read_plan(alloc: Global, bytes: &[u8]) -> Result<Plan, PlanFault>
+    ensures { Answered (plan_in bytes.now) result }
+{
+    match Value::from_slice(alloc, bytes) {
+        Ok(value) => plan_of(alloc, &value),
+        Err(error) => {
+            if error.is_memory() {
+                return Err(PlanFault::Memory);
+            }
+            Err(PlanFault::Json)
+        }
+    }
+}

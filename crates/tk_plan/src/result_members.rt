@@ -1,0 +1,136 @@
+//! Readers of a node's result and of its entries.
+ghost use Rattle.std.specs.Prelude.{◌≡◌, IfOk, OnOk, Some, codes, true};
+ghost use Rattle.serde_json.specs.Find.{get};
+ghost use Rattle.serde_json.specs.View.{view};
+ghost use Rattle.tk_events.specs.Event.{is_strictly_increasing};
+ghost use Rattle.tk_plan.specs.Checks.{array_of, item_at, row};
+ghost use Rattle.tk_plan.specs.Rows.{status_row, result_row, entries_row, entry as is_entry, result as is_result};
+ghost use Rattle.tk_plan.specs.Pointers.{pointer};
+ghost use Rattle.tk_plan.specs.Answers.{Reads};
+ghost use Rattle.tk_plan.specs.Contents.{json_status, listed};
+ghost use Rattle.tk_plan.specs.Endings.{IsEnding, IsReport, AreReports};
+
+use crate::faults::PlanFault;
+use crate::json_members::{known_members, optional_member, two_texts};
+use crate::json_paths::JsonPath;
+use crate::member_values::{Ending, Report, Reports};
+use crate::path_texts::{field, item_path, member_path};
+use serde_json::Value;
+use std::alloc::{AllocError, Global};
+use std::collections::BTreeMap;
+use tk_cutting::Entries;
+use tk_events::{Pairs, Status};
+use tk_ids::Text;
+
+fn status_member(alloc: Global, at: JsonPath<'_>, object: &Value) -> Result<Status, PlanFault>
+    ensures { Reads (row (pointer at.entry) (view object.now) status_row)
+        (λ s. s ≡ json_status (get (codes "status") (view object.now))) result }
+{
+    match object.get("status").and_then(Value::as_str) {
+        Some("successful") => Ok(Status::Successful),
+        Some("aborted") => Ok(Status::Aborted),
+        Some("failed") => Ok(Status::Failed),
+        _ => Err(field(member_path(alloc, at, "status")?)),
+    }
+}
+
+fn ending(alloc: Global, at: JsonPath<'_>, value: &Value) -> Result<Ending, PlanFault>
+    ensures { Reads (is_result (pointer at.entry) (view value.now)) (IsEnding (Some (view value.now))) result }
+{
+    known_members(alloc, at, value, &["status", "message"])?;
+    let status = status_member(alloc, at, value)?;
+    let message = optional_member(alloc, at, value, "message")?;
+    if status == Status::Successful && message.is_some() {
+        return Err(field(member_path(alloc, at, "message")?));
+    }
+    Ok(Ending { status, message })
+}
+
+pub(crate) fn result_member(
+    alloc: Global,
+    at: JsonPath<'_>,
+    object: &Value,
+) -> Result<Ending, PlanFault>
+    ensures { Reads (row (pointer at.entry) (view object.now) result_row)
+        (IsEnding (get (codes "result") (view object.now))) result }
+{
+    match object.get("result") {
+        Some(value) => {
+            let path = member_path(alloc, at, "result")?;
+            ending(alloc, JsonPath::Whole(&path), value)
+        }
+        None => Ok(Ending {
+            status: Status::Successful,
+            message: None,
+        }),
+    }
+}
+
+/// The pairs in the order of their keys.
+fn pairs_of(alloc: Global, map: BTreeMap<Text, Text>) -> Result<Pairs, AllocError>
+    ensures pairs { IfOk result (λ pairs. pairs ≡ map.entries) }
+    ensures increasing { OnOk result (is_strictly_increasing map.entries ≡ true) }
+{
+    let mut pairs = Vec::new(alloc);
+    for pair in map {
+        pairs.push(pair)?;
+    }
+    Ok(Pairs::of(pairs))
+}
+
+fn entry(alloc: Global, array: &str, index: usize, value: &Value) -> Result<Report, PlanFault>
+    ensures { Reads (is_entry (item_at array.now index) (view value.now)) (IsReport (view value.now)) result }
+{
+    let Some(items) = value.as_array() else {
+        return Err(field(item_path(alloc, JsonPath::Whole(array), index)?));
+    };
+    let mut map = BTreeMap::new(alloc);
+    let mut repeats = false;
+    for (inner, item) in items.iter().enumerate() {
+        let pair = two_texts(alloc, JsonPath::Inner(array, index, inner), item)?;
+        let key = Text::copy(alloc, pair.first)?;
+        let stated = Text::copy(alloc, pair.second)?;
+        repeats = repeats | map.insert(key, stated)?.is_some();
+    }
+    let pairs = pairs_of(alloc, map)?;
+    Ok(Report { pairs, repeats })
+}
+
+fn entries(alloc: Global, at: &str, value: &Value) -> Result<Reports, PlanFault>
+    ensures { Reads (array_of is_entry at.now (view value.now)) (AreReports (listed (Some (view value.now)))) result }
+{
+    let Some(items) = value.as_array() else {
+        return Err(field(String::from_str(alloc, at)?));
+    };
+    let mut entries = Vec::new(alloc);
+    let mut repeats = false;
+    for (index, item) in items.iter().enumerate() {
+        let report = entry(alloc, at, index, item)?;
+        repeats = repeats | report.repeats;
+        entries.push(report.pairs)?;
+    }
+    Ok(Reports {
+        entries: Entries::new(entries),
+        repeats,
+    })
+}
+
+pub(crate) fn entries_member(
+    alloc: Global,
+    at: JsonPath<'_>,
+    object: &Value,
+) -> Result<Reports, PlanFault>
+    ensures { Reads (row (pointer at.entry) (view object.now) entries_row)
+        (AreReports (listed (get (codes "entries") (view object.now)))) result }
+{
+    match object.get("entries") {
+        Some(value) => {
+            let path = member_path(alloc, at, "entries")?;
+            entries(alloc, &path, value)
+        }
+        None => Ok(Reports {
+            entries: Entries::new(Vec::new(alloc)),
+            repeats: false,
+        }),
+    }
+}

@@ -1,0 +1,135 @@
+//! The queue of a session, its rule, and what each step shows. Most types here are for the proofs alone.
+use crossbeam_queue::protocol::{Join, Lesson, Outcome, Protocol, Split};
+use crossbeam_queue::{Pass, RuledArrayQueue};
+use std::collections::LinkedList;
+use tk_events::Event;
+use tk_replay::Item;
+
+/// What a sender's pass knows: the number of static descriptors, and its worker, what it sent and
+/// whether it ended. No value of it is made.
+pub struct SenderPass {
+    pub known: u32,
+    pub worker: u8,
+    pub sent: LinkedList<Event>,
+    pub ended: bool,
+}
+
+/// What the receiver's pass knows: the number of static descriptors, how many senders there are,
+/// the items that it took, and what the senders whose tokens it took in had sent. No value of it is
+/// made.
+pub struct ReceiverPass {
+    pub known: u32,
+    pub workers: u8,
+    pub taken: LinkedList<Item>,
+    pub tokens: LinkedList<SenderPass>,
+}
+
+/// What a pass knows. No value of it is made.
+pub enum PassView {
+    Sender(SenderPass),
+    Receiver(ReceiverPass),
+    Spent,
+}
+
+/// The rule of a session.
+pub struct SessionRule;
+
+impl Protocol<Item, PassView> for SessionRule {
+    ghost use Rattle.tk_queue.specs.Session.{Session, new_receiver};
+
+    ghost holds = { Session };
+
+    ghost first = { new_receiver };
+}
+
+/// A sender's push, of an entry or of its mark.
+pub struct SenderPush;
+
+impl Outcome<Item, PassView> for SenderPush {
+    ghost use Rattle.std.specs.Prelude.{◌≡◌};
+    ghost use Rattle.tk_queue.specs.Session.{pushed};
+
+    ghost then = { λ v x w. w ≡ pushed v x };
+}
+
+impl Lesson<Item, PassView> for SenderPush {
+    ghost use Rattle.std.specs.Prelude.{⊤};
+
+    ghost fact = { λ v items. ⊤ };
+}
+
+/// The receiver's pop.
+pub struct ReceiverPop;
+
+impl Outcome<Item, PassView> for ReceiverPop {
+    ghost use Rattle.tk_queue.specs.Session.{Pops};
+
+    ghost then = { Pops };
+}
+
+impl Lesson<Item, PassView> for ReceiverPop {
+    ghost use Rattle.std.specs.Prelude.{⊤};
+
+    ghost fact = { λ v items. ⊤ };
+}
+
+/// Before it makes a sender, the receiver doubles the number of static descriptors. The other half
+/// is no one's.
+pub struct WithZeroBit;
+
+impl Split<PassView> for WithZeroBit {
+    ghost use Rattle.tk_queue.specs.Session.{with_bit};
+    ghost use Rattle.tk_queue.specs.declared.session_rules.PassView.TheVariants.{Spent};
+
+    ghost left = { λ v. with_bit 0 v };
+
+    ghost right = { λ v. Spent };
+}
+
+/// The same, and one more.
+pub struct WithOneBit;
+
+impl Split<PassView> for WithOneBit {
+    ghost use Rattle.tk_queue.specs.Session.{with_bit};
+    ghost use Rattle.tk_queue.specs.declared.session_rules.PassView.TheVariants.{Spent};
+
+    ghost left = { λ v. with_bit 1 v };
+
+    ghost right = { λ v. Spent };
+}
+
+/// The receiver makes the next sender.
+pub struct SplitSender;
+
+impl Split<PassView> for SplitSender {
+    ghost use Rattle.tk_queue.specs.Session.{one_more, next_sender};
+
+    ghost left = { one_more };
+
+    ghost right = { next_sender };
+}
+
+/// The receiver takes in the token of a sender that has ended.
+pub struct JoinSender;
+
+impl Join<PassView> for JoinSender {
+    ghost use Rattle.tk_queue.specs.Session.{with_token};
+    ghost use Rattle.tk_queue.specs.declared.session_rules.PassView.TheVariants.{Spent};
+
+    ghost both = { with_token };
+
+    ghost spent = { Spent };
+}
+
+/// What the receiver knows of the whole session.
+pub struct AllSent;
+
+impl Lesson<Item, PassView> for AllSent {
+    ghost use Rattle.tk_queue.specs.Session.{Concludes};
+
+    ghost fact = { Concludes };
+}
+
+pub type EventQueue = RuledArrayQueue<Item, PassView, SessionRule>;
+
+pub type QueuePass = Pass<Item, PassView>;

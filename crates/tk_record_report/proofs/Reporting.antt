@@ -1,0 +1,26 @@
+-- A report, from its parts.
+use Rattle.std.proofs.Common.{◌≡◌, ℕ, List, [], ◌++◌, ap, ap₂, ◌∙◌}
+use Rattle.std.specs.List.{flat_map}
+use Rattle.std.proofs.lemmas.List.Folds.{flat_map-map}
+use Rattle.tk_columns.specs.declared.tallies.Statistics.{Statistics}
+use Rattle.tk_columns.specs.Recorded.{Recorded}
+use Rattle.tk_columns.specs.Selections.{Selected, all_of, events_of}
+use Rattle.tk_columns.specs.Statistics.{statistics_of}
+use Rattle.tk_ask.specs.Answers.{statistics_text}
+use Rattle.tk_ask.proofs.AnswerLemmas.{all_events}
+use Rattle.tk_record_report.specs.Labels.{Label, labels}
+use Rattle.tk_record_report.specs.Reports.{id_lines, id_texts, label_line, report_of_record, written_so}
+use Rattle.tk_record_report.specs.Kept.{kept_text, lines_of}
+use Rattle.tk_record_report.proofs.Keeping.{Entries}
+
+ids_are : (ls : List Label) → flat_map kept_text (lines_of ls) ≡ flat_map (id_lines ls) (id_texts ls)
+ids_are ls = flat_map-map kept_text (λ x. (x, flat_map label_line (written_so x ls))) (id_texts ls)
+
+pub report_is : (r : Recorded) (selected : Selected) (s : Statistics) (kept : Entries) (first second third : List ℕ) →
+    selected ≡ all_of r → s ≡ statistics_of (events_of selected) → kept ≡ lines_of (labels r) →
+    first ≡ [] → second ≡ first ++ statistics_text s → third ≡ second ++ flat_map kept_text kept → third ≡ report_of_record r
+report_is r selected s kept first second third all s_is kept_is first_is second_is third_is =
+    let counted : s ≡ statistics_of r.entries = s_is ∙ ap (λ (x : Selected). statistics_of (events_of x)) all ∙ ap statistics_of (all_events 0 r.entries) in
+    let prefix : second ≡ statistics_text (statistics_of r.entries) = second_is ∙ ap₂ (λ (t : List ℕ) (x : Statistics). t ++ statistics_text x) first_is counted in
+    let back : flat_map kept_text kept ≡ flat_map (id_lines (labels r)) (id_texts (labels r)) = ap (flat_map kept_text) kept_is ∙ ids_are (labels r) in
+    third_is ∙ ap₂ (λ (a b : List ℕ). a ++ b) prefix back
