@@ -16,7 +16,7 @@ use Rattle.tk_report.specs.declared.faults.ReportFault.{ReportFault}
 use Rattle.tk_report.specs.declared.faults.ReportFault.TheVariants as reports
 use Rattle.tk_record.specs.declared.reading.TheConstants.{MAX_TEXT}
 use Rattle.tk_streams.specs.Stream.{AppendsPrefix}
-use Rattle.tk_replay.specs.ReplayText.{IsWritten, IsOfInput}
+use Rattle.tk_replay.specs.ReplayText.{IsWritten, IsPartlyWritten, IsOfInput}
 use Rattle.tk_replay.specs.ReplayText.{IsAnswer as IsPlayedAs}
 use Rattle.tk_report.specs.Answers.{OfPlan, MayWork, IsNoPlan, IsNotRun}
 use Rattle.tk_ask.specs.Asked.{AddsAnswer, AddsPrefix, IsRefusal}
@@ -39,10 +39,17 @@ IsAskFault question input old new fault =
     × ((fault ≡ asks.Device) ⊎ (new ≡ old))
     × (fault ≡ asks.Device → IfSome input (λ bytes. AddsPrefix question bytes old new))
 
--- why a script is not replayed; where that is for the input nothing was written
+-- nothing was written, or the input plays and a prefix of the record text was
+abbrev pub IsPartlyReplayed : Option (List ℕ) → Option (List ℕ) → Option (List ℕ) → Type 0
+IsPartlyReplayed input old new = (new ≡ old) ⊎ IfSome input (λ bytes. IsPartlyWritten bytes old new)
+
+-- why a script is not replayed, and what was written then; where that is for the input, nothing was
 abbrev pub IsReplayFault : Option (List ℕ) → Option (List ℕ) → Option (List ℕ) → ReplayFault → Type 0
-IsReplayFault input old new replays.Device = Unit {0}
-IsReplayFault input old new fault = IfSome input (λ bytes. IsPlayedAs bytes (Err fault)) × (IsOfInput fault → new ≡ old)
+IsReplayFault input old new replays.Device = IsPartlyReplayed input old new
+IsReplayFault input old new fault =
+    IfSome input (λ bytes. IsPlayedAs bytes (Err fault))
+    × (IsOfInput fault → new ≡ old)
+    × IsPartlyReplayed input old new
 
 -- Why a plan that is run by so many workers is not reported. The number of workers is judged after the plan.
 abbrev pub IsReportFault : ℕ → Option (List ℕ) → Option (List ℕ) → Option (List ℕ) → ReportFault → Type 0
