@@ -18,7 +18,7 @@ pub record IsWorkerCount (workers : ℕ) : Type 0 where
 -- nothing was taken, the queue has so many places, the record has what comes before, and each worker is awaited
 pub record IsFreshCollector (table : List Descriptor) (before : List Event) (workers capacity : ℕ) (a : EventCollector) : Type 0 where
   pub receiver : a.receiver ≡ fresh_receiver a.receiver.session table workers
-  pub positions : capacity_of a.receiver.session ≡ capacity
+  pub places : capacity_of a.receiver.session ≡ capacity
   pub table_is : a.recording.table ≡ table
   pub entries : a.recording.entries ≡ entries_by 0 before
   pub static_events : AreBeforeOrAfter (length table) before
