@@ -90,7 +90,7 @@ fn demo_plan_is_cut(rt: HostRuntime) {
     }
 }
 
-// Whether a plan of so many events is one unit, with nothing on the spine.
+// Whether a plan is one unit that gives `events` events, with nothing on the spine.
 fn is_one_unit(alloc: Global, plan: &Plan, events: u32) -> bool {
     plan.spine().is_empty()
         && have_needs(plan, &[1])

@@ -97,7 +97,7 @@ fn sent<R: Wait>(rt: &R, sender: &mut Sender) -> Option<u64> {
     None
 }
 
-// The same of a session of one sender and so many places.
+// The same of a session of one sender and this capacity.
 fn sent_through<R: Wait>(rt: &R, alloc: Global, places: usize) -> Option<u64> {
     let (mut senders, _receiver) = open(alloc, one_node(alloc, DType::Test)?, 1, places).ok()?;
     sent(rt, &mut senders.pop()?)

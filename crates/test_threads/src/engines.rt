@@ -1,4 +1,4 @@
-//! Engines of two lists of deeds, one for unit 0 and one for each other unit.
+//! Engines of two lists of steps, one for unit 0 and one for each other unit.
 ghost use Rattle.std.specs.Prelude.{◌≡◌, ◌<◌, []};
 ghost use Rattle.std.specs.Arc.{arc_value};
 ghost use Rattle.test_threads.specs.Grown.{Grew};
@@ -20,7 +20,7 @@ pub enum UnitStep {
     Start(u64),
     /// Counts as a unit that has begun.
     Begin,
-    /// Waits until so many units have begun, at most 10,000,000 turns, and then fails with this number.
+    /// Waits until the first number of units have begun, at most 10,000,000 turns, and then fails with the second.
     Await(u32, u32),
     /// Counts as begun for 100,000 turns, and fails with this number if another unit has begun meanwhile.
     Alone(u32),
@@ -30,7 +30,7 @@ pub enum UnitStep {
     FailAsWorker,
 }
 
-/// An engine over a table of one node, whose unit 0 does the one list of deeds, and each other unit the other one.
+/// An engine over a table of one node, whose unit 0 does the one list of steps, and each other unit the other one.
 #[derive(Drop)]
 pub struct StepEngine<'a> {
     table: Arc<Table>,
@@ -74,7 +74,7 @@ impl StepEngine<'_> {
         self.begun.load(Ordering::SeqCst)
     }
 
-    // Whether so many units begin within 10,000,000 turns.
+    // Whether `units` units begin within 10,000,000 turns.
     fn have_begun(&self, units: u32) -> bool {
         for _ in 0..10_000_000 {
             if self.begun().count_ones() >= units {
@@ -94,7 +94,7 @@ impl StepEngine<'_> {
         self.begun.fetch_sub(bit(unit), Ordering::SeqCst) == bit(unit)
     }
 
-    // The number with which the deed of a unit fails. It emits nothing.
+    // The number with which the step of a unit fails. It emits nothing.
     fn fault_of(&self, step: UnitStep, unit: u32) -> Option<u32> {
         match step {
             UnitStep::Begin => {

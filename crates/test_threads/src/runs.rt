@@ -63,7 +63,7 @@ fn outcome_of(ran: &Result<Results, RunFault>) -> Outcome {
     }
 }
 
-// A run of so many units of this need, of which the first does the one list of deeds and the others the other one: what it
+// A run of units of this need, of which the first does the one list of steps and the others the other one: what it
 // answered, and the sum of the bits of the units that began.
 fn run<R: Threads + Wait + Sync>(
     rt: &R,

@@ -15,7 +15,7 @@ pub record IsWorkerCount (workers : ℕ) : Type 0 where
   pub some : 0 < workers
   pub few : workers ≤ MAX_WORKERS
 
--- nothing was taken, the queue has so many places, the record has what comes before, and each worker is awaited
+-- nothing was taken, the queue has the capacity, the record has what comes before, and each worker is awaited
 pub record IsFreshCollector (table : List Descriptor) (before : List Event) (workers capacity : ℕ) (a : EventCollector) : Type 0 where
   pub receiver : a.receiver ≡ fresh_receiver a.receiver.session table workers
   pub places : capacity_of a.receiver.session ≡ capacity

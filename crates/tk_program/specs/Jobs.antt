@@ -51,7 +51,7 @@ IsReplayFault input old new fault =
     × (IsOfInput fault → new ≡ old)
     × IsPartlyReplayed input old new
 
--- Why a plan that is run by so many workers is not reported. The number of workers is judged after the plan.
+-- Why a plan that is run by this number of workers is not reported. The number of workers is judged after the plan.
 abbrev pub IsReportFault : ℕ → Option (List ℕ) → Option (List ℕ) → Option (List ℕ) → ReportFault → Type 0
 IsReportFault workers input old new (reports.Plan fault) = IfSome input (λ bytes. IsNoPlan bytes fault) × (new ≡ old)
 IsReportFault workers input old new (reports.Run fault) = IfSome input (λ bytes. IsNotRun bytes workers fault) × (new ≡ old)

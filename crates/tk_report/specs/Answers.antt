@@ -47,7 +47,7 @@ IsRunFault workers units (runs.Engine unit why) = MayWork workers × (unit < uni
 IsRunFault workers units runs.Memory = ⊥
 IsRunFault workers units runs.Threads = MayWork workers
 
--- the plan of the bytes is not run by so many workers for this fault
+-- the plan of the bytes is not run by this number of workers for this fault
 abbrev pub IsNotRun : List ℕ → ℕ → RunFault → Type 0
 IsNotRun bytes workers fault = (t : Tree) × (plan_in bytes ≡ Ok t) × IsRunFault workers (unit_count t) fault
 
