@@ -19,21 +19,21 @@ extern void *__libc_memalign(size_t, size_t);
 
 static char kind[16];
 static atomic_long left;
-static int told;
+static int notice_to;
 
 __attribute__((constructor)) static void begin(void) {
     const char *asked = getenv("REFUSE"), *to = getenv("REFUSED_TO");
     const char *number = asked ? strchr(asked, ' ') : NULL;
     if (!number || !to || number - asked >= (long)sizeof kind) return;
     memcpy(kind, asked, number - asked);
-    told = atoi(to);
+    notice_to = atoi(to);
     atomic_store(&left, atol(number));
 }
 
 // (each request of the kind counts, from whichever thread it comes; before the number is read none does)
 static int is_refused(const char *requested) {
     if (strcmp(kind, requested) != 0 || atomic_fetch_sub(&left, 1) != 1) return 0;
-    return syscall(SYS_write, told, "!", 1) == 1 || (abort(), 1);
+    return syscall(SYS_write, notice_to, "!", 1) == 1 || (abort(), 1);
 }
 
 static void *memory_refused(void) {
