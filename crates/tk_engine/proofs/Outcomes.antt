@@ -12,17 +12,14 @@ use Rattle.tk_engine.specs.declared.workers.Outcome.{Outcome}
 use Rattle.tk_engine.specs.EventCollectors.{Follows, IsCollector, NoneIsAwaited}
 use Rattle.tk_engine.specs.WorkerThreads.{WorkersWereRun}
 use Rattle.tk_engine.specs.Workers.{IsDone, AreDone}
-use Rattle.tk_engine.proofs.Positions.{nil_of_length, snoc_all}
+use Rattle.tk_engine.proofs.Positions.{snoc_all}
 use Rattle.tk_engine.proofs.Collecting.{follows-trans}
 
 module _ (may : ℕ → ℕ → ℕ → List Event → Type 0) (units : ℕ) (session : TableId) (claim : ClaimName) where
   abbrev IsOwn : Outcome → Type 0
   IsOwn o = IsDone may units session claim o.ended.worker o
 
-  none_done : (n : ℕ) → AreDone may units session claim n []
-  none_done n = record { each = All-nil IsOwn; few = All-nil (λ o. o.ended.worker ≤ n); rising = λ i j d first last. absurd (omega (arith, first, last)) }
-
-  -- so they are where there are more workers
+  -- outcomes of the first m workers are outcomes of the first n, where n is at least m
   still_done : (m n : ℕ) (os : List Outcome) → m ≤ n → AreDone may units session claim m os → AreDone may units session claim n os
   still_done m n os more done = record {
     each = done.each;
@@ -45,20 +42,6 @@ module _ (may : ℕ → ℕ → ℕ → List Event → Type 0) (units : ℕ) (se
   failures_are_units n os done = All-weaker IsOwn (λ o. IfSome o.failure (λ f. f.unit < units)) (λ o own. own.unit) os done.each
 
 module _ (may : ℕ → ℕ → ℕ → List Event → Type 0) (units : ℕ) (claim : ClaimName) where
-  -- nobody is left to start
-  pub nobody_left : (n : ℕ) (old new : JoinedWorkers) → n ≡ 0 → vec_len new.outcomes ≡ 0 → Follows old.collector new.collector → IsCollector new.collector → NoneIsAwaited new.collector
-      → new.collector.is_refused ≡ old.collector.is_refused → WorkersWereRun may units claim n old new
-  nobody_left n old new none empty follows collector none_is_awaited same =
-      let items : new.outcomes.items ≡ [] = nil_of_length new.outcomes.items (sym (new.outcomes.ok.0) ∙ empty) in record {
-        follows = follows;
-        collector = collector;
-        none_is_awaited = none_is_awaited;
-        each = rw items (none_done may units old.collector.receiver.session claim n);
-        refused = λ was is. let e : false ≡ true = sym was ∙ sym same ∙ is in cc;
-        count = λ going. empty ∙ sym none;
-        done = λ going i o e. let there : slice_get [] i ≡ Some o = rw items at e in cc;
-      }
-
   -- the next worker was joined
   pub one_joined : (m n : ℕ) (old mid new : JoinedWorkers) (o : Outcome) → n ≡ m + 1 → WorkersWereRun may units claim m old mid → new.collector ≡ mid.collector
       → new.outcomes.items ≡ mid.outcomes.items ++ o ∷ [] → IsDone may units old.collector.receiver.session claim (m + 1) o → WorkersWereRun may units claim n old new

@@ -3,7 +3,7 @@ use Rattle.std.specs.Prelude.{vec_len}
 use Rattle.tk_queue.specs.Ends.{SenderView}
 use Rattle.tk_engine.specs.Workers.{IsReady, IsDone}
 use Rattle.tk_engine.proofs.UnstartedWorkers.{unstarted_ready, unstarted_sender, unstarted_rest, one_fewer}
-use Rattle.tk_engine.proofs.Outcomes.{nobody_left, one_joined, one_refused}
+use Rattle.tk_engine.proofs.Outcomes.{one_joined, one_refused}
 use Rattle.tk_engine.proofs.worker_threads.+spawn_workers.Goals as goal
 
 pub spawn_with-requires-clause-runs : goal.spawn_with-requires-clause-runs
