@@ -4,24 +4,19 @@ All that changes with a further version of the texts stands here, so that the mo
 and do not repeat it. `LATEST` is the version that the program writes, and the highest that it reads.
 """
 
-LATEST = 1
+LATEST = 2
 """The version of record and replay texts that is written, and the highest that is read; so of plans."""
 
 VERSIONS = tuple(range(1, LATEST + 1))
 """The versions of record texts, replay texts and plans that are read."""
 
-HAS_FILES = LATEST >= 2
-"""Whether there are events of kind `file`: the tail, the condition, the statistic and the member of plans."""
-
 FILE_VERSION = 2
 """The version from which on a text may have files."""
 
-MAX_WORKERS = 8 if LATEST == 1 else 15
+MAX_WORKERS = 15
 """How many workers a record, a replay and a run may have."""
 
-STATISTICS = ("skipped", "started", "finished", "aborted", "succeeded", "failed", "reporting", "dynamic") + (
-    ("files",) if HAS_FILES else ()
-)
+STATISTICS = ("skipped", "started", "finished", "aborted", "succeeded", "failed", "reporting", "dynamic", "files")
 """The names of the statistics, in the order of their lines."""
 
 SELECTIONS = ("all", "tests", "containers") + STATISTICS

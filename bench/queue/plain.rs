@@ -75,7 +75,7 @@ struct Record { workers: Vec<u8>, kinds: Vec<u8>, statuses: Vec<u8>, types: Vec<
 impl Record {
     fn append(&mut self, table: &[u8], entry: Entry) -> bool {
         let Some(dtype) = table.get(entry.event.key as usize) else { return false };
-        if entry.worker > 8 || entry.event.kind != Kind::Started || self.workers.len() >= 1 << 24 { return false; }
+        if entry.worker > 15 || entry.event.kind != Kind::Started || self.workers.len() >= 1 << 25 { return false; }
         self.workers.push(entry.worker);
         self.kinds.push(entry.event.kind as u8);
         self.statuses.push(0);

@@ -2,7 +2,7 @@
 """Writes a record text of about N MiB, with one segment an id or, with --full, with ids of two segments: big.py MIB [--full]"""
 import sys
 mib = float(sys.argv[1]); full = "--full" in sys.argv
-out = ["testkit-record|1\n"]
+out = ["testkit-record|2\n"]
 if full:
     out.append("N|C|[engine:e]|engine\n"); out += ["N|T|[engine:e]/[method:test%d()]|test %d\n" % (i, i) for i in range(2000)]
 else:

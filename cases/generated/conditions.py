@@ -1,6 +1,5 @@
 """Generated conditions."""
 
-import form
 from generated.numbers import Numbers
 from model.conditions import Condition, write_condition
 
@@ -41,7 +40,10 @@ ATOMS = [
     ("entry", (("m", ""), ("l", "w"), ("k", "v"))),
     ("entry", (("a(", "b),%"),)),
     ("entry", (("k", "w"),)),
-] + ([("kind", "file"), ("file", "out/log.txt"), ("file", "a(b),%")] if form.HAS_FILES else [])
+    ("kind", "file"),
+    ("file", "out/log.txt"),
+    ("file", "a(b),%"),
+]
 """Every form of an atom, most of them with several texts."""
 
 

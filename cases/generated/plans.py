@@ -62,7 +62,7 @@ def node(numbers: Numbers, segment: list, levels: int, is_static: bool) -> Value
         made["result"] = result(numbers)
     if numbers.below(3) == 0:
         made["entries"] = [entry(numbers) for _ in range(numbers.below(4))]
-    if form.HAS_FILES and numbers.below(4) == 0:
+    if numbers.below(4) == 0:
         made["files"] = numbers.some_of(["a", "a|b", "out/log.txt"], 2)
     add_below(numbers, made, levels, is_static)
     return made

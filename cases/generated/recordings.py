@@ -36,7 +36,9 @@ TAILS = [
     "report|k|v|l|w",
     "report|k|v|l|w|m|",
     "report|a(|b),%",
-] + (["file|out/log.txt", "file|a(b),%"] if form.HAS_FILES else [])
+    "file|out/log.txt",
+    "file|a(b),%",
+]
 """What stands behind the stamp of an event that isn't a registration."""
 
 PARENTS = ["[engine:e]", "[engine:e]/[class:A]/[t:m]", "[suite:s]/[engine:x]"]

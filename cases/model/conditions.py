@@ -12,11 +12,11 @@ from model.texts import write_id
 Condition = tuple
 Pairs = Tuple[Tuple[str, str], ...]
 
-KINDS = ("dynamic", "skip", "start", "finish", "report") + (("file",) if form.HAS_FILES else ())
+KINDS = ("dynamic", "skip", "start", "finish", "report", "file")
 PLAIN_WORDS = ("test", "container", "engine", "started", "succeeded", "failed", "aborted")
 """The atoms of one word."""
 
-TEXT_WORDS = ("id", "name", "skipped", "failed", "aborted") + (("file",) if form.HAS_FILES else ())
+TEXT_WORDS = ("id", "name", "skipped", "failed", "aborted", "file")
 """The atoms with a text."""
 
 GROUP_WORDS = ("all", "any", "not")

@@ -16,6 +16,7 @@ from tables import (
     questions,
     record_lines,
     replays,
+    schedules,
     unique_ids,
 )
 
@@ -33,6 +34,7 @@ MODULES = [
     devices,
     limits,
     documents,
+    schedules,
 ]
 
 

@@ -139,7 +139,7 @@ STATS_WORDS = [
     fault("stats words/empty word", ["ask", "stats", ""], EMPTY, "bad word 0"),
     fault("stats words/option", "ask stats --failed=1", EMPTY, "bad word 0"),
     fault("stats words/before the input", "ask stats x", "no record", "bad word 0"),
-] + ([] if form.HAS_FILES else [fault("stats words/files", "ask stats files=0", EMPTY, "bad word 0")])
+]
 
 COUNT_WORDS = [
     fault("count words/none", "ask count", EMPTY, "bad word 0"),
@@ -151,7 +151,7 @@ COUNT_WORDS = [
     fault("count words/three", "ask count all all all", EMPTY, "bad word 1"),
     fault("count words/unknown and one more", "ask count some all", EMPTY, "bad word 0"),
     fault("count words/expectation", "ask count failed=1", EMPTY, "bad word 0"),
-] + ([] if form.HAS_FILES else [fault("count words/files", "ask count files", EMPTY, "bad word 0")])
+]
 
 MATCH_WORDS = [
     fault("match words/none", "ask match", EMPTY, "bad word 0"),

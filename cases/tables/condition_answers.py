@@ -1,6 +1,5 @@
 """Of which events each condition holds."""
 
-import form
 from tables.building import answer, no, record
 
 EVENTS = record(
@@ -102,7 +101,10 @@ POSITIONS = [
     ("not(" * 31 + "test" + ")" * 31, [0, 15]),
     ("all(" * 32 + "started" + ")" * 32, [0, 1, 16]),
     ("any(all(" * 16 + "started" + "))" * 16, [0, 1, 16]),
-] + ([("kind(file)", []), ("file()", []), ("file(a)", [])] if form.HAS_FILES else [])
+    ("kind(file)", []),
+    ("file()", []),
+    ("file(a)", []),
+]
 
 
 def at_all_positions(condition: str, positions: list) -> list:

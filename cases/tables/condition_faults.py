@@ -1,6 +1,5 @@
 """Conditions that are refused, each with the length of its longest prefix that begins a condition."""
 
-import form
 from tables.building import fault, no
 from tables.texts import EMPTY
 
@@ -130,7 +129,10 @@ BAD_AT = [
     ("not(" * 32 + "test" + ")" * 33, 164),
     ("not(" * 32 + "test" + ")" * 32 + "not(", 164),
     ("all(not(x)," + "not(" * 40, 8),
-] + ([("file", 4), ("file(", 5), ("file(a,b)", 6)] if form.HAS_FILES else [("file(a)", 1), ("kind(file)", 7)])
+    ("file", 4),
+    ("file(", 5),
+    ("file(a,b)", 6),
+]
 
 DEEP = [
     "not(" * 33 + "test" + ")" * 33,

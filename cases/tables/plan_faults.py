@@ -250,7 +250,6 @@ MEMBERS = [
         (',"id":"x","children":3', "/root/id"),
         (',"":1', "/root/"),
     ]
-    + ([] if form.HAS_FILES else [(',"files":["a"]', "/root/files")])
 ]
 
 ORDER_OF_MEMBERS = [
@@ -500,7 +499,7 @@ FILES = [
         (',"files":3,"entries":3', "/root/entries"),
         (',"files":3,"children":3', "/root/files"),
     ]
-] if form.HAS_FILES else []
+]
 
 CASES = (
     JSON

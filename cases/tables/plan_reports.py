@@ -440,6 +440,6 @@ FILES = [
         "  file|a\\pb",
         "  finish|ok",
     ),
-] if form.HAS_FILES else []
+]
 
 CASES = MEMBERS + DYNAMIC + CUTS + FILES

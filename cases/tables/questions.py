@@ -308,6 +308,6 @@ FILE_CASES = [
     answer("files/kind", "ask match in-order kind(file)", FILES, "yes 1\n"),
     no("files/another path", "ask match loosely file(out)", FILES, "no 0\n"),
     answer("files/executions", "ask executions", FILES, "0 succeeded 0 2\n"),
-] if form.HAS_FILES else []
+]
 
 CASES = STATS + EXPECTATIONS + COUNTS + MATCHES + EXECUTIONS + FILE_CASES

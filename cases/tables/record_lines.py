@@ -199,7 +199,6 @@ BAD_ENTRIES = [
         "E|1|65536|0|dynamic|T|[engine:e]/[d:1]|\\",
         "E|9|7|0|finish|ok|a form that is bad comes before an unknown key",
     ]
-    + ([] if form.HAS_FILES else ["E|1|0|0|file|out/log.txt"])
 ]
 
 REFUSED_ENTRIES = [
@@ -369,7 +368,7 @@ FILES = [
     third_line("E|1|0|0|file", "is bad"),
     third_line("E|1|0|0|file|a|b", "is bad"),
     good_line("E|1|0|0|file|a\\pb", files=1),
-] if form.HAS_FILES else []
+]
 
 CASES = (
     HEADERS

@@ -229,7 +229,8 @@ EVERY_TAIL = [
     "E|1|65537|14|dynamic|T|[x:\\p]|a\\pb",
     "E|1|65538|15|dynamic|B|[engine:e]|e",
     "E|1|65538|18446744073709551615|skip|spät 🦀\0\r",
-] + (["E|1|0|16|file|a\\pb"] if form.HAS_FILES else [])
+    "E|1|0|16|file|a\\pb",
+]
 """Each form of a tail, with each escape of a text field."""
 
 NODES = [
@@ -290,6 +291,6 @@ FILES = [
         "line 4 is bad",
     ),
     refused("file without a path", ["W|1", NODE, "E|1|0|0|file|", "S|1|t"], "step 1 is unlawful"),
-] if form.HAS_FILES else []
+]
 
 CASES = SMALL + STEPS + FORMS + WORKERS + KEYS + LONGER + FILES

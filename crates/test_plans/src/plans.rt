@@ -14,6 +14,10 @@ fn one_test() -> &'static [u8] {
     b"{\"version\":1,\"root\":{\"type\":\"test\",\"segment\":[\"engine\",\"e\"],\"name\":\"e\"}}"
 }
 
+fn with_files() -> &'static [u8] {
+    b"{\"version\":2,\"root\":{\"type\":\"test\",\"segment\":[\"engine\",\"e\"],\"name\":\"e\",\"files\":[\"a\",\"b\"]}}"
+}
+
 // Whether the units have these needs.
 fn have_needs(plan: &Plan, words: &[u64]) -> bool {
     if plan.units().len() != words.len() {
@@ -100,10 +104,28 @@ fn is_one_unit(alloc: Global, plan: &Plan, events: u32) -> bool {
 
 #[test]
 fn roots_off_the_spine(rt: HostRuntime) {
-    for (text, events) in [(same_thread(), 4), (one_test(), 2)] {
+    for (text, events) in [(same_thread(), 4), (one_test(), 2), (with_files(), 4)] {
         match read_plan(rt.alloc(), text) {
             Ok(plan) => assert!(rt; is_one_unit(rt.alloc(), &plan, events), "{events}"),
             Err(_) => assert!(rt; false, "no plan"),
         }
+    }
+}
+
+// The script of a test that publishes two files.
+fn of_files() -> [(u32, u64, Act); 4] {
+    [
+        (0, 0, Act::Start),
+        (0, 1, Act::File(0)),
+        (0, 2, Act::File(1)),
+        (0, 3, Act::Finish),
+    ]
+}
+
+#[test]
+fn files_of_a_node(rt: HostRuntime) {
+    match read_plan(rt.alloc(), with_files()) {
+        Ok(plan) => assert!(rt; ends_with(rt.alloc(), &plan, &of_files())),
+        Err(_) => assert!(rt; false, "no plan"),
     }
 }

@@ -17,7 +17,7 @@ fn ran<R: Threads + Wait + Sync>(rt: &R, alloc: Global) -> Option<Results> {
 // How many events the workers emitted, without those before and after the units.
 fn emitted(results: &Results) -> u64 {
     let mut all = 0u64;
-    for worker in 1..=8u8 {
+    for worker in 1..=15u8 {
         all = all.saturating_add(results.closed().emitted(worker));
     }
     all

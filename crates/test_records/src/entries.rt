@@ -1,13 +1,13 @@
-//! Entries of lines: what a record takes of copies of them, what it refuses, and how many it holds.
-use std::alloc::{AllocError, Global};
-use test_support::{record_of, start};
-use tk_columns::{AppendFault, Events, Record};
+//! Entries of lines: what a record takes of copies of them, and what it refuses.
+use std::alloc::Global;
+use test_support::record_of;
+use tk_columns::{AppendFault, Record};
 use tk_events::{Entry, Event};
-use tk_record::read_event_line;
+use tk_record::{Version, read_event_line};
 
 // The text of a record of one node and no entry.
 fn one_container() -> &'static [u8] {
-    b"testkit-record|1\nN|C|[engine:e]|e\n"
+    b"testkit-record|2\nN|C|[engine:e]|e\n"
 }
 
 fn answer(appended: &Result<(), AppendFault>) -> &'static str {
@@ -27,7 +27,7 @@ fn append(record: &mut Record, worker: u8, event: Event) -> &'static str {
 
 // What appending a copy of a line's event answers.
 fn append_line(alloc: Global, record: &mut Record, line: &str) -> &'static str {
-    match read_event_line(alloc, line.as_bytes()) {
+    match read_event_line(alloc, line.as_bytes(), Version::Two) {
         Ok(entry) => match entry.event.try_clone(alloc) {
             Ok(event) => append(record, entry.worker, event),
             Err(_) => "no copy",
@@ -39,8 +39,8 @@ fn append_line(alloc: Global, record: &mut Record, line: &str) -> &'static str {
 // What is answered to lines that are appended in turn, with an event of each kind.
 fn rows() -> &'static str {
     "unknown-key E|1|7|0|start
-unlawful E|9|0|0|start
-appended E|8|0|0|start
+unlawful E|16|0|0|start
+appended E|15|0|0|start
 unknown-key E|1|65537|0|dynamic|T|[d:1]|one
 appended E|1|65536|0|dynamic|T|[d:1]|one
 appended E|1|65537|0|dynamic|T|[d:1]|one
@@ -48,6 +48,9 @@ unlawful E|1|0|0|report|b|1|a|2
 appended E|1|0|0|report|Z|1|a|2|ä|3
 appended E|1|0|0|skip|off
 appended E|1|0|0|finish|fail|boom
+appended E|15|983040|0|dynamic|T|[engine:e]/[d:1]|one
+appended E|1|0|0|file|out/log.txt
+unlawful E|1|0|0|file|
 "
 }
 
@@ -65,36 +68,6 @@ fn entries_of_lines(rt: HostRuntime) {
             for row in rows().lines() {
                 assert!(rt; holds(rt.alloc(), &mut record, row), "{row}");
             }
-        }
-        None => assert!(rt; false, "no record"),
-    }
-}
-
-// How many starts are appended until one is refused, and why.
-fn fill(record: &mut Record) -> (u32, &'static str) {
-    for count in 0..20_000_000u32 {
-        let answer = append(record, 1, start(0, 7));
-        if answer != "appended" {
-            return (count, answer);
-        }
-    }
-    (20_000_000, "appended")
-}
-
-// How many positions the starts of worker 1 have.
-fn count_positions(alloc: Global, record: &Record) -> Result<usize, AllocError> {
-    let events = Events::all(alloc, record)?
-        .started(alloc)?
-        .by_worker(alloc, 1)?;
-    Ok(events.positions(alloc)?.len())
-}
-
-#[test]
-fn a_full_record(rt: HostRuntime) {
-    match record_of(rt.alloc(), one_container()) {
-        Some(mut record) => {
-            assert!(rt; fill(&mut record) == (16_777_216, "full"));
-            assert!(rt; matches!(count_positions(rt.alloc(), &record), Ok(16_777_216)));
         }
         None => assert!(rt; false, "no record"),
     }

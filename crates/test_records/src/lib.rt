@@ -9,6 +9,8 @@ mod entries;
 #[cfg(test)]
 mod executions;
 #[cfg(test)]
+mod faults;
+#[cfg(test)]
 mod loading;
 #[cfg(test)]
 mod matches;

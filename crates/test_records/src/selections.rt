@@ -5,7 +5,7 @@ use tk_columns::{Events, Record, Selection};
 
 // The text of a record with events of each kind and each status.
 fn each_kind() -> &'static [u8] {
-    b"testkit-record|1\nN|B|[engine:e]|e\nE|1|65536|0|dynamic|T|[d:1]|one\nE|1|65536|1|start\nE|2|0|2|skip|off\nE|3|0|3|finish|ok\nE|3|0|4|finish|abort\nE|3|0|5|finish|fail\nE|3|0|6|report|k|v\n"
+    b"testkit-record|2\nN|B|[engine:e]|e\nE|1|65536|0|dynamic|T|[d:1]|one\nE|1|65536|1|start\nE|2|0|2|skip|off\nE|3|0|3|finish|ok\nE|3|0|4|finish|abort\nE|3|0|5|finish|fail\nE|3|0|6|report|k|v\nE|3|0|7|file|out/log.txt\n"
 }
 
 // The events of a selection, by the call that has its name.
@@ -26,6 +26,7 @@ fn named<'r>(
         Selection::Failed => events.failed(alloc),
         Selection::Reporting => events.reporting(alloc),
         Selection::Dynamic => events.dynamic(alloc),
+        Selection::Files => events.files(alloc),
     }
 }
 
@@ -90,13 +91,14 @@ succeeded [4]
 failed [2]
 reporting []
 dynamic []
+files []
 "
 }
 
 fn of_each_kind() -> &'static str {
-    "all [0, 1, 2, 3, 4, 5, 6]
-tests [0, 1, 2, 3, 4, 5, 6]
-containers [2, 3, 4, 5, 6]
+    "all [0, 1, 2, 3, 4, 5, 6, 7]
+tests [0, 1, 2, 3, 4, 5, 6, 7]
+containers [2, 3, 4, 5, 6, 7]
 skipped [2]
 started [1]
 finished [3, 4, 5]
@@ -105,6 +107,7 @@ succeeded [3]
 failed [5]
 reporting [6]
 dynamic [0]
+files [7]
 "
 }
 

@@ -1,12 +1,17 @@
 //! Record texts that are read and written again.
-use std::alloc::Global;
-use test_support::{one_start, record_of, two_tests};
+use std::alloc::{AllocError, Global};
+use test_support::{record_of, two_tests};
 use tk_record::{Record, write_record};
 use tk_streams::ByteTarget;
 
-// Each tail, with escapes and without.
+// The lines of each tail of version 1, with escapes and without.
 fn each_tail() -> &'static [u8] {
-    b"testkit-record|1\nN|B|[engine:a%2Fb]|\\\\\\p\\n\nE|1|65536|0|dynamic|T|[engine:a%2Fb]/[d:1]|one\nE|1|65536|1|start\nE|2|0|2|skip|a\\pb\nE|0|0|3|finish|ok\nE|0|0|4|finish|abort\nE|0|0|5|finish|abort|\nE|0|0|6|finish|fail\nE|0|0|18446744073709551615|finish|fail|\\n\nE|8|65536|0|report\nE|8|65536|0|report|a|1|b|\n"
+    b"N|B|[engine:a%2Fb]|\\\\\\p\\n\nE|1|65536|0|dynamic|T|[engine:a%2Fb]/[d:1]|one\nE|1|65536|1|start\nE|2|0|2|skip|a\\pb\nE|0|0|3|finish|ok\nE|0|0|4|finish|abort\nE|0|0|5|finish|abort|\nE|0|0|6|finish|fail\nE|0|0|18446744073709551615|finish|fail|\\n\nE|15|65536|0|report\nE|15|65536|0|report|a|1|b|\n"
+}
+
+// The tails of files.
+fn files() -> &'static [u8] {
+    b"testkit-record|2\nN|T|[engine:e]|e\nE|1|0|0|start\nE|1|0|1|file|out/log.txt\nE|1|0|2|file|a\\pb\n"
 }
 
 fn is_written(alloc: Global, record: &Record, text: &[u8]) -> bool {
@@ -14,17 +19,33 @@ fn is_written(alloc: Global, record: &Record, text: &[u8]) -> bool {
     write_record(alloc, record, &mut target).is_ok() && target.bytes() == text
 }
 
-// Whether the record of a text is written as the same text.
-fn is_written_again(alloc: Global, text: &[u8]) -> bool {
+// Whether the record of a text is written as that other text.
+fn is_written_as(alloc: Global, text: &[u8], written: &[u8]) -> bool {
     match record_of(alloc, text) {
-        Some(record) => is_written(alloc, &record, text),
+        Some(record) => is_written(alloc, &record, written),
         None => false,
     }
 }
 
+fn with_header(alloc: Global, header: &[u8], lines: &[u8]) -> Result<Vec<u8>, AllocError> {
+    let mut text = Vec::from_slice(alloc, header)?;
+    text.extend_from_slice(lines)?;
+    Ok(text)
+}
+
+// Whether lines that are read in either version are written in version 2.
+fn is_renewed(alloc: Global, lines: &[u8]) -> Result<bool, AllocError> {
+    let first = with_header(alloc, b"testkit-record|1\n", lines)?;
+    let second = with_header(alloc, b"testkit-record|2\n", lines)?;
+    Ok(
+        is_written_as(alloc, first.as_slice(), second.as_slice())
+            && is_written_as(alloc, second.as_slice(), second.as_slice()),
+    )
+}
+
 #[test]
 fn texts_written_again(rt: HostRuntime) {
-    assert!(rt; is_written_again(rt.alloc(), two_tests()));
-    assert!(rt; is_written_again(rt.alloc(), each_tail()));
-    assert!(rt; is_written_again(rt.alloc(), one_start()));
+    assert!(rt; is_written_as(rt.alloc(), two_tests(), two_tests()));
+    assert!(rt; is_written_as(rt.alloc(), files(), files()));
+    assert!(rt; matches!(is_renewed(rt.alloc(), each_tail()), Ok(true)));
 }

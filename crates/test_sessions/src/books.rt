@@ -97,10 +97,10 @@ fn writer_excludes(rt: HostRuntime) -> Result<(), Fail> {
 }
 
 #[test]
-fn most_readers(rt: HostRuntime) -> Result<(), Fail> {
+fn one_to_fifteen_seats(rt: HostRuntime) -> Result<(), Fail> {
     assert!(rt; matches!(Book::open(rt.alloc(), 0), Err(BookFault::Seats)));
-    assert!(rt; matches!(Book::open(rt.alloc(), 9), Err(BookFault::Seats)));
-    let (book, seats) = Book::open(rt.alloc(), 8)?;
+    assert!(rt; matches!(Book::open(rt.alloc(), 16), Err(BookFault::Seats)));
+    let (book, seats) = Book::open(rt.alloc(), 15)?;
     assert_eq!(rt; book.close(seats), 0);
     Ok(())
 }

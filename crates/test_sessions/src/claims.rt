@@ -51,8 +51,8 @@ fn a_claim_on_nothing(rt: HostRuntime) -> Result<(), Fail> {
 }
 
 #[test]
-fn one_to_eight_seats(rt: HostRuntime) {
+fn one_to_fifteen_seats(rt: HostRuntime) {
     assert!(rt; refuses_seats(rt.alloc(), 0));
-    assert!(rt; !refuses_seats(rt.alloc(), 8));
-    assert!(rt; refuses_seats(rt.alloc(), 9));
+    assert!(rt; !refuses_seats(rt.alloc(), 15));
+    assert!(rt; refuses_seats(rt.alloc(), 16));
 }

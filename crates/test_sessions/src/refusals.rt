@@ -5,9 +5,13 @@ use std::alloc::Global;
 use std::sync::Wait;
 use std::test::*;
 use test_support::{one_node, small_replay, small_replay_taken, start};
+use tk_book::{Book, BookFault, Holdings, Need};
+use tk_claim::{Claim, ClaimFault};
 use tk_events::Kind;
 use tk_ids::{DType, Segment};
-use tk_queue::{Core, CoreFault, Receiver, RegisterFault, ReplayFault, Sender, open, replay_text};
+use tk_queue::{
+    Core, CoreFault, OpenFault, Receiver, RegisterFault, ReplayFault, Sender, open, replay_text,
+};
 use tk_streams::{ByteSource, ByteTarget, Target};
 
 /// How a call ended.
@@ -111,4 +115,76 @@ fn a_registration(rt: HostRuntime) -> Result<(), Fail> {
     assert!(rt; take(&rt, &mut receiver) == TakenItem::Entry(2, Kind::Dynamic, 131_072, 5));
     assert!(rt; take(&rt, &mut receiver) == TakenItem::Nothing);
     Ok(())
+}
+
+fn done_if(is_done: bool) -> Ending {
+    if is_done { Ending::Done } else { Ending::Wrong }
+}
+
+// Opens a claim from which nothing is drawn.
+fn claim_opened(alloc: Global) -> Ending {
+    match Claim::open(alloc, 3, 2) {
+        Ok((claim, seats)) => done_if(claim.close(seats) == 0),
+        Err(ClaimFault::Memory) => Ending::Refused,
+        Err(ClaimFault::Seats) => Ending::Wrong,
+    }
+}
+
+// Opens a book in which nothing is held.
+fn book_opened(alloc: Global) -> Ending {
+    match Book::open(alloc, 2) {
+        Ok((book, seats)) => done_if(book.close(seats) == 0),
+        Err(BookFault::Memory) => Ending::Refused,
+        Err(BookFault::Seats) => Ending::Wrong,
+    }
+}
+
+// Makes holdings of two seats, of which each may hold what the other one doesn't.
+fn holdings_made(alloc: Global) -> Ending {
+    match Holdings::new(alloc, 2) {
+        Ok(mut holdings) => {
+            done_if(holdings.grant(0, Need::of(0, 4)) && holdings.grant(1, Need::of(0, 2)))
+        }
+        Err(_) => Ending::Refused,
+    }
+}
+
+// Opens a session of two workers.
+fn session_opened(alloc: Global) -> Ending {
+    let Some(table) = one_node(alloc, DType::Test) else {
+        return Ending::Refused;
+    };
+    match open(alloc, table, 2, 4) {
+        Ok((senders, _)) => done_if(senders.len() == 2),
+        Err(OpenFault::Memory) => Ending::Refused,
+        Err(_) => Ending::Wrong,
+    }
+}
+
+#[test]
+fn a_claim(rt: HostRuntime) {
+    let first = claim_opened(rt.alloc());
+    assert_ne!(rt; first, Ending::Wrong);
+    assert!(rt; first == Ending::Done || claim_opened(rt.alloc()) == Ending::Done);
+}
+
+#[test]
+fn a_book(rt: HostRuntime) {
+    let first = book_opened(rt.alloc());
+    assert_ne!(rt; first, Ending::Wrong);
+    assert!(rt; first == Ending::Done || book_opened(rt.alloc()) == Ending::Done);
+}
+
+#[test]
+fn some_holdings(rt: HostRuntime) {
+    let first = holdings_made(rt.alloc());
+    assert_ne!(rt; first, Ending::Wrong);
+    assert!(rt; first == Ending::Done || holdings_made(rt.alloc()) == Ending::Done);
+}
+
+#[test]
+fn a_session(rt: HostRuntime) {
+    let first = session_opened(rt.alloc());
+    assert_ne!(rt; first, Ending::Wrong);
+    assert!(rt; first == Ending::Done || session_opened(rt.alloc()) == Ending::Done);
 }

@@ -9,6 +9,5 @@ mod texts;
 pub use devices::{OneByteSource, OneByteTarget};
 pub use samples::{one_node, record_of, start};
 pub use texts::{
-    demo_plan, demo_report, one_start, small_replay, small_replay_taken, two_tests,
-    two_tests_report,
+    demo_plan, demo_report, small_replay, small_replay_taken, two_tests, two_tests_report,
 };

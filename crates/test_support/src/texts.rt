@@ -2,27 +2,22 @@
 
 /// The text of a record of two tests, of which one fails and the other one is skipped.
 pub fn two_tests() -> &'static [u8] {
-    b"testkit-record|1\nN|C|[engine:e]|e\nN|T|[engine:e]/[t:1]|one\nN|T|[engine:e]/[t:2]|two\nE|0|0|0|start\nE|1|1|1|start\nE|1|1|2|finish|fail|boom\nE|2|2|1|skip|off\nE|0|0|9|finish|ok\n"
+    b"testkit-record|2\nN|C|[engine:e]|e\nN|T|[engine:e]/[t:1]|one\nN|T|[engine:e]/[t:2]|two\nE|0|0|0|start\nE|1|1|1|start\nE|1|1|2|finish|fail|boom\nE|2|2|1|skip|off\nE|0|0|9|finish|ok\n"
 }
 
 /// The report of the record of two tests.
 pub fn two_tests_report() -> &'static [u8] {
-    b"skipped 1\nstarted 2\nfinished 2\naborted 0\nsucceeded 1\nfailed 1\nreporting 0\ndynamic 0\n[engine:e]\n  start\n  finish|ok\n[engine:e]/[t:1]\n  start\n  finish|fail|boom\n[engine:e]/[t:2]\n  skip|off\n"
+    b"skipped 1\nstarted 2\nfinished 2\naborted 0\nsucceeded 1\nfailed 1\nreporting 0\ndynamic 0\nfiles 0\n[engine:e]\n  start\n  finish|ok\n[engine:e]/[t:1]\n  start\n  finish|fail|boom\n[engine:e]/[t:2]\n  skip|off\n"
 }
 
-/// The text of a record of one start.
-pub fn one_start() -> &'static [u8] {
-    b"testkit-record|1\nN|T|[engine:e]|e\nE|1|0|0|start\n"
-}
-
-/// The text of a replay of two workers, in which all is taken.
+/// The text of a replay of two workers, in version 1, in which all is taken.
 pub fn small_replay() -> &'static [u8] {
     b"testkit-replay|1\nW|2\nN|T|[engine:e]|e\nE|1|0|10|start\nE|1|0|11|finish|ok\nE|2|0|20|report|k|v\nS|1|2|1|t|1|2|t|t|t|t\n"
 }
 
-/// The record text that the small replay prints.
+/// The record text that the small replay prints, in version 2.
 pub fn small_replay_taken() -> &'static [u8] {
-    b"testkit-record|1\nN|T|[engine:e]|e\nE|1|0|10|start\nE|2|0|20|report|k|v\nE|1|0|11|finish|ok\n"
+    b"testkit-record|2\nN|T|[engine:e]|e\nE|1|0|10|start\nE|2|0|20|report|k|v\nE|1|0|11|finish|ok\n"
 }
 
 /// The text of the demo plan.
@@ -39,5 +34,5 @@ pub fn demo_plan() -> &'static [u8] {
 
 /// The report of the demo plan, for every number of workers.
 pub fn demo_report() -> &'static [u8] {
-    b"skipped 1\nstarted 7\nfinished 7\naborted 0\nsucceeded 6\nfailed 1\nreporting 0\ndynamic 1\n[engine:demo]\n  start\n  finish|ok\n[engine:demo]/[class:A]\n  start\n  finish|ok\n[engine:demo]/[class:A]/[method:m]\n  start\n  finish|ok\n[engine:demo]/[class:B]\n  start\n  finish|ok\n[engine:demo]/[class:B]/[method:m]\n  start\n  finish|fail|boom\n[engine:demo]/[class:C]\n  skip|off\n[engine:demo]/[class:D]\n  start\n  finish|ok\n[engine:demo]/[class:D]/[dyn:1]\n  dynamic|T|[engine:demo]/[class:D]/[dyn:1]|one\n  start\n  finish|ok\n"
+    b"skipped 1\nstarted 7\nfinished 7\naborted 0\nsucceeded 6\nfailed 1\nreporting 0\ndynamic 1\nfiles 0\n[engine:demo]\n  start\n  finish|ok\n[engine:demo]/[class:A]\n  start\n  finish|ok\n[engine:demo]/[class:A]/[method:m]\n  start\n  finish|ok\n[engine:demo]/[class:B]\n  start\n  finish|ok\n[engine:demo]/[class:B]/[method:m]\n  start\n  finish|fail|boom\n[engine:demo]/[class:C]\n  skip|off\n[engine:demo]/[class:D]\n  start\n  finish|ok\n[engine:demo]/[class:D]/[dyn:1]\n  dynamic|T|[engine:demo]/[class:D]/[dyn:1]|one\n  start\n  finish|ok\n"
 }

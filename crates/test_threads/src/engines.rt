@@ -20,6 +20,8 @@ pub enum UnitStep {
     Start(u64),
     /// Counts as a unit that has begun.
     Begin,
+    /// Counts as a unit that has come to its end.
+    End,
     /// Waits until the first number of units have begun, at most 10,000,000 turns, and then fails with the second.
     Await(u32, u32),
     /// Counts as begun for 100,000 turns, and fails with this number if another unit has begun meanwhile.
@@ -40,6 +42,7 @@ pub struct StepEngine<'a> {
     first: &'a [UnitStep],
     others: &'a [UnitStep],
     begun: AtomicU64,
+    ended: AtomicU64,
 }
 
 /// Such an engine; None for want of memory.
@@ -60,6 +63,7 @@ pub fn engine<'a>(
         first,
         others,
         begun: AtomicU64::new(0),
+        ended: AtomicU64::new(0),
     })
 }
 
@@ -72,6 +76,11 @@ impl StepEngine<'_> {
     /// The sum of a bit for each unit that has begun. Each of 60 units has its own.
     pub fn begun(&self) -> u64 {
         self.begun.load(Ordering::SeqCst)
+    }
+
+    /// The sum of the bits of the units that have come to their end.
+    pub fn ended(&self) -> u64 {
+        self.ended.load(Ordering::SeqCst)
     }
 
     // Whether `units` units begin within 10,000,000 turns.
@@ -99,6 +108,10 @@ impl StepEngine<'_> {
         match step {
             UnitStep::Begin => {
                 self.begun.fetch_add(bit(unit), Ordering::SeqCst);
+                None
+            }
+            UnitStep::End => {
+                self.ended.fetch_add(bit(unit), Ordering::SeqCst);
                 None
             }
             UnitStep::Await(units, fault) if !self.have_begun(units) => Some(fault),

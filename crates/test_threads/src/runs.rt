@@ -1,4 +1,4 @@
-//! Engines that are run by one to eight workers.
+//! Engines that are run by one to fifteen workers.
 use crate::engines::{UnitStep, engine};
 use std::alloc::Global;
 use std::sync::Wait;
@@ -21,8 +21,10 @@ enum Outcome {
     Capacity,
     /// A unit failed with a number of its own.
     Own(u32, u32),
-    /// For want of memory, or a thread was refused.
+    /// For want of memory.
     Refused,
+    /// A thread was refused.
+    NoThread,
     /// A sink refused an event.
     Other,
 }
@@ -59,6 +61,7 @@ fn outcome_of(ran: &Result<Results, RunFault>) -> Outcome {
         Err(RunFault::Capacity) => Outcome::Capacity,
         Err(RunFault::Engine(unit, UnitFault::Own(number))) => Outcome::Own(*unit, *number),
         Err(RunFault::Engine(_, UnitFault::Sink(_))) => Outcome::Other,
+        Err(RunFault::Threads) => Outcome::NoThread,
         Err(_) => Outcome::Refused,
     }
 }
@@ -89,9 +92,9 @@ fn read_of_all() -> Need {
 }
 
 #[test]
-fn one_to_eight_workers_run_all_units(rt: HostRuntime) {
+fn one_to_fifteen_workers_run_all_units(rt: HostRuntime) {
     let steps = [UnitStep::Start(0), UnitStep::Start(1)];
-    for workers in 1..=8usize {
+    for workers in 1..=15usize {
         let (ran, _) = run(
             &rt,
             rt.alloc(),
@@ -117,7 +120,7 @@ fn one_to_eight_workers_run_all_units(rt: HostRuntime) {
 
 #[test]
 fn no_unit_is_a_run(rt: HostRuntime) {
-    let (ran, _) = run(&rt, rt.alloc(), 0, read_of_all(), [&[][..], &[][..]], 8, 1);
+    let (ran, _) = run(&rt, rt.alloc(), 0, read_of_all(), [&[][..], &[][..]], 15, 1);
     assert!(rt;
         matches!(
             ran,
@@ -179,7 +182,7 @@ fn one_shared_book(rt: HostRuntime) {
 #[test]
 fn workers_and_capacity(rt: HostRuntime) {
     let steps = [&[UnitStep::Start(0)][..], &[][..]];
-    for workers in [0, 9] {
+    for workers in [0, 16] {
         let (ran, _) = run(&rt, rt.alloc(), 1, read_of_all(), steps, workers, 1);
         assert!(rt; matches!(ran, Outcome::Workers), "{workers}");
     }
@@ -187,7 +190,7 @@ fn workers_and_capacity(rt: HostRuntime) {
         let (ran, _) = run(&rt, rt.alloc(), 1, read_of_all(), steps, 1, places);
         assert!(rt; matches!(ran, Outcome::Capacity), "{places}");
     }
-    let (ran, _) = run(&rt, rt.alloc(), 1, read_of_all(), steps, 8, 1024);
+    let (ran, _) = run(&rt, rt.alloc(), 1, read_of_all(), steps, 15, 1024);
     assert!(rt; matches!(ran, Outcome::Recorded { entries: 1, .. }));
 }
 
@@ -211,7 +214,7 @@ fn a_failure_names_its_unit(rt: HostRuntime) {
 /// Each of 60 units waits until every worker has one.
 #[test]
 fn each_unit_is_run_once(rt: HostRuntime) {
-    for workers in [1u32, 2, 8] {
+    for workers in [1u32, 2, 15] {
         let steps = [UnitStep::Begin, UnitStep::Await(workers, 1)];
         let (ran, begun) = run(
             &rt,
@@ -230,7 +233,7 @@ fn each_unit_is_run_once(rt: HostRuntime) {
 /// Each worker fails at its first unit, once all have one: what is answered is the fault of worker 1, and its unit.
 #[test]
 fn all_workers_fail(rt: HostRuntime) {
-    for workers in [1u32, 2, 8] {
+    for workers in [1u32, 2, 15] {
         let steps = [
             UnitStep::Begin,
             UnitStep::Await(workers, 1),
@@ -253,19 +256,36 @@ fn all_workers_fail(rt: HostRuntime) {
     }
 }
 
-/// A run through one place, with ample memory and with any one request for memory refused.
+// A run of two units with 1,000 starts each, by two workers through one place: what it answered, and the sums of the bits
+// of the units that began and that came to their end.
+fn run_of_starts<R: Threads + Wait + Sync>(rt: &R, alloc: Global) -> (Outcome, u64, u64) {
+    let mut steps = [UnitStep::Start(0); 1_002];
+    steps[0] = UnitStep::Begin;
+    steps[1_001] = UnitStep::End;
+    match engine(alloc, 2, read_of_all(), &steps, &steps) {
+        Some(engine) => {
+            let outcome = outcome_of(&execute(rt, alloc, &engine, 2, 1));
+            (outcome, engine.begun(), engine.ended())
+        }
+        None => (Outcome::Refused, 0, 0),
+    }
+}
+
+/// Such a run with ample memory, and with any one request for memory or any one thread refused. The workers that were
+/// started draw both units and run them to their end, even where the other worker has no thread.
 #[test]
 fn a_refused_run(rt: HostRuntime) {
-    let starts = [UnitStep::Start(0); 1000];
-    let (first, _) = run(&rt, rt.alloc(), 2, read_of_all(), [&starts, &starts], 2, 1);
-    assert!(rt;
-        matches!(
-            first,
-            Outcome::Recorded { entries: 2_000, .. } | Outcome::Refused
-        )
-    );
-    if matches!(first, Outcome::Refused) {
-        let (again, _) = run(&rt, rt.alloc(), 2, read_of_all(), [&starts, &starts], 2, 1);
+    let (first, begun, ended) = run_of_starts(&rt, rt.alloc());
+    assert_eq!(rt; begun, ended);
+    let is_whole = begun == 3;
+    match first {
+        Outcome::Recorded { entries, .. } => assert!(rt; is_whole && entries == 2_000),
+        Outcome::NoThread => assert!(rt; is_whole),
+        Outcome::Refused => assert!(rt; is_whole || begun == 0),
+        _ => assert!(rt; false, "a unit failed"),
+    }
+    if matches!(first, Outcome::Refused | Outcome::NoThread) {
+        let (again, _, _) = run_of_starts(&rt, rt.alloc());
         assert!(rt; matches!(again, Outcome::Recorded { entries: 2_000, .. }));
     }
 }

@@ -104,18 +104,18 @@ fn two_threads_at_capacity_one(rt: HostRuntime) -> Result<(), Fail> {
     Ok(())
 }
 
-// Eight senders on eight threads, 10,000 events each.
-fn eight_through<R>(rt: R, alloc: Global, capacity: usize) -> Result<[u64; 16], Fail>
+// Fifteen senders on fifteen threads, 5,000 events each.
+fn fifteen_through<R>(rt: R, alloc: Global, capacity: usize) -> Result<[u64; 16], Fail>
 where
     R: Threads + Wait + Copy + Send + 'static,
 {
     let table = one_node(alloc, DType::Test).ok_or("no table")?;
-    let (senders, mut receiver) = open(alloc, table, 8, capacity)?;
-    let mut threads = Vec::with_capacity(alloc, 8)?;
+    let (senders, mut receiver) = open(alloc, table, 15, capacity)?;
+    let mut threads = Vec::with_capacity(alloc, 15)?;
     for sender in senders {
-        threads.push(thread::spawn(&rt, move || send_all(&rt, sender, 10_000).is_some())?)?;
+        threads.push(thread::spawn(&rt, move || send_all(&rt, sender, 5_000).is_some())?)?;
     }
-    let taken = take_all(&rt, &mut receiver, 8).ok_or("out of order")?;
+    let taken = take_all(&rt, &mut receiver, 15).ok_or("out of order")?;
     for thread in threads {
         if !thread.join(&rt) {
             return Err(Fail::new("refused"));
@@ -125,11 +125,11 @@ where
 }
 
 #[test]
-fn eight_threads(rt: HostRuntime) -> Result<(), Fail> {
+fn fifteen_threads(rt: HostRuntime) -> Result<(), Fail> {
     for capacity in [1, 2, 64, 1024] {
-        let taken = eight_through(rt, rt.alloc(), capacity)?;
-        for worker in 1..9usize {
-            assert_eq!(rt; taken[worker], 10_000, "{capacity}");
+        let taken = fifteen_through(rt, rt.alloc(), capacity)?;
+        for worker in 1..16usize {
+            assert_eq!(rt; taken[worker], 5_000, "{capacity}");
         }
     }
     Ok(())

@@ -6,4 +6,6 @@ mod ids;
 #[cfg(test)]
 mod lanes;
 #[cfg(test)]
+mod refusals;
+#[cfg(test)]
 mod tables;

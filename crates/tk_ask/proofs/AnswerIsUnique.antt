@@ -62,7 +62,7 @@ answered_same y z o p e f = rw (e, f) refl
 
 pub answer_is_unique : AnswerIsUnique
 answer_is_unique words input (Answered y o) (Answered z u) s t a b =
-    let r = recorded.text_is_unique a.2 b.2 a.3.1.0 b.3.1.0 (sym a.3.1.1 ∙ b.3.1.1) in
+    let r = (recorded.text_is_unique a.3.1.0 b.3.1.0 a.2 b.2 a.3.1.1 b.3.1.1 (sym a.3.1.2 ∙ b.3.1.2)).1 in
     let same = one_reply a.0 b.0 b.2 y z o u (one_reading words (Ok a.0) (Ok b.0) tt tt a.1 b.1) (subst (λ (x : Recorded). IsAnswerTo a.0 x y o) r a.4) b.4 in
     answered_same y z o u same.0 same.1
 answer_is_unique words input (Answered y o) (Refused g) s t a b = absurd (not_refused words input y o g a (cause words input g t b))

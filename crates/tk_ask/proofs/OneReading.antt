@@ -7,7 +7,7 @@ use Rattle.std.proofs.lemmas.Fmt.{decimal_injective}
 use Rattle.std.proofs.lemmas.Option.{same_Some, none-some}
 use Rattle.tk_columns.specs.declared.tallies.Expected.{Expected}
 use Rattle.tk_columns.specs.declared.selections.Selection.{Selection}
-use Rattle.tk_columns.specs.declared.selections.Selection.TheVariants.{All, Tests, Containers, Skipped, Started, Finished, Aborted, Succeeded, Failed, Reporting, Dynamic}
+use Rattle.tk_columns.specs.declared.selections.Selection.TheVariants.{All, Tests, Containers, Skipped, Started, Finished, Aborted, Succeeded, Failed, Reporting, Dynamic, Files}
 use Rattle.tk_columns.specs.Selections.{selection_name}
 use Rattle.tk_columns.specs.Statistics.{nothing_expected}
 use Rattle.tk_conditions.specs.declared.conditions.Condition.{Condition}
@@ -47,7 +47,8 @@ selection_of name =
     if bytes_eq name (codes "aborted") then Aborted else (
     if bytes_eq name (codes "succeeded") then Succeeded else (
     if bytes_eq name (codes "failed") then Failed else (
-    if bytes_eq name (codes "reporting") then Reporting else Dynamic)))))))))
+    if bytes_eq name (codes "reporting") then Reporting else (
+    if bytes_eq name (codes "dynamic") then Dynamic else Files))))))))))
 
 named : (s : Selection) → selection_of (selection_name s) ≡ s
 named All = refl
@@ -61,6 +62,7 @@ named Succeeded = refl
 named Failed = refl
 named Reporting = refl
 named Dynamic = refl
+named Files = refl
 
 one_selection : (s t : Selection) → selection_name s ≡ selection_name t → s ≡ t
 one_selection s t e = sym (named s) ∙ ap (λ (name : List ℕ). selection_of name) e ∙ named t

@@ -1,15 +1,18 @@
 -- Words of questions: what one word more does.
-use Rattle.std.proofs.Common.{◌≡◌, ◌≢◌, ◌<◌, ◌++◌, ◌∷◌, [], ℕ, zero, suc, List, length, map, take, get_or, true, Some, Ok, refl, sym, ap, subst, ◌∙◌, arith, inl, inr}
+use Rattle.std.proofs.Common.{◌≡◌, ◌≢◌, ◌+◌, ◌<◌, ◌++◌, ◌∷◌, [], ℕ, zero, suc, List, length, map, take, get_or, true, Some, Ok, Err, refl, sym, ap, subst, ◌∙◌, arith, inl, inr}
 use Rattle.std.specs.Prelude.{not, ◌==◌}
 use Rattle.std.specs.List.{list_all, slice_get}
 use Rattle.std.proofs.lemmas.List.Folds.{list_all_at}
 use Rattle.tk_columns.specs.declared.tallies.Expected.{Expected}
 use Rattle.tk_columns.specs.declared.selections.Selection.{Selection}
-use Rattle.tk_columns.specs.declared.selections.Selection.TheVariants.{All, Tests, Containers, Skipped, Started, Finished, Aborted, Succeeded, Failed, Reporting, Dynamic}
+use Rattle.tk_columns.specs.declared.selections.Selection.TheVariants.{All, Tests, Containers, Skipped, Started, Finished, Aborted, Succeeded, Failed, Reporting, Dynamic, Files}
 use Rattle.tk_columns.specs.Selections.{selection_name}
 use Rattle.tk_conditions.specs.declared.conditions.Condition.{Condition}
+use Rattle.tk_conditions.specs.declared.faults.CondFault.{CondFault}
+use Rattle.tk_conditions.specs.declared.faults.CondFault.TheVariants as condition_faults
 use Rattle.tk_conditions.specs.Answer.{IsReadAs}
-use Rattle.tk_ask.specs.Questions.{Expecting, IsNextExpected, AreConditions, IsBadWord, count, executions}
+use Rattle.tk_ask.specs.declared.faults.AskFault.TheVariants as faults
+use Rattle.tk_ask.specs.Questions.{Expecting, IsNextExpected, AreConditions, IsConditionFault, IsBadWord, count, executions}
 
 lacks : (name : List ℕ) → list_all (λ b. not (b == 61)) name ≡ true → (i : ℕ) → i < length name → get_or name i 0 ≢ 61
 lacks name all i lt is =
@@ -29,6 +32,7 @@ name_lacks Succeeded = lacks (selection_name Succeeded) refl
 name_lacks Failed = lacks (selection_name Failed) refl
 name_lacks Reporting = lacks (selection_name Reporting) refl
 name_lacks Dynamic = lacks (selection_name Dynamic) refl
+name_lacks Files = lacks (selection_name Files) refl
 
 -- one word more
 pub expecting_snoc : (first : Expected) (words : List (List ℕ)) (middle : Expected) (word : List ℕ) (next : Expected) →
@@ -62,6 +66,13 @@ pub conditions_more : (texts : List (List ℕ)) (i : ℕ) (text : List ℕ) (cs 
     take (suc i) texts ≡ take i texts ++ text ∷ [] → AreConditions (take i texts) cs → IsReadAs text (Ok c) → AreConditions (take (suc i) texts) (cs ++ c ∷ [])
 conditions_more texts i text cs c e before more =
     subst (λ (t : List (List ℕ)). AreConditions t (cs ++ c ∷ [])) (sym e) (conditions_snoc (take i texts) cs text c before more)
+
+-- a text that is no condition
+pub bad_condition : {A : Type 0} (f : A → List ℕ) → (words : List A) (i : ℕ) (word : A) (text : List ℕ) (cs : List Condition) (fault : CondFault) →
+    i < length words → word ≡ get_or words i word → text ≡ f word → AreConditions (take i (map f words)) cs → IsReadAs text (Err fault) → fault ≢ condition_faults.Memory →
+    IsConditionFault (map f words) (faults.Condition (i + 1) fault)
+bad_condition f words i word text cs fault lt e same before bad read =
+    (i, refl, record { conditions = cs; before = before; text = f word; at = text_at f words i word lt e; bad = subst (λ (t : List ℕ). IsReadAs t (Err fault)) same bad; read = read })
 
 -- a word after the selection
 pub one_too_many : {A : Type 0} (f : A → List ℕ) → (words : List A) (word : A) (s : Selection) (more : List A) → words ≡ word ∷ more → f word ≡ selection_name s → 0 < length more → IsBadWord (count ∷ map f words) 1

@@ -1,5 +1,5 @@
 -- What asking a question does: it reads a record text to its end, and writes the answer.
-use Rattle.std.specs.Prelude.{◌≡◌, ◌≢◌, ℕ, Bool, List, Option, Ok, Err, IfSome}
+use Rattle.std.specs.Prelude.{◌≢◌, ℕ, Bool, List, Option, Ok, Err, IfSome}
 use Rattle.std.specs.Io.KnownBytes.{Appends}
 use Rattle.tk_columns.specs.Recorded.{Recorded}
 use Rattle.tk_streams.specs.Stream.{AppendsPrefix}
@@ -11,6 +11,10 @@ use Rattle.tk_ask.specs.declared.faults.AskFault.TheVariants as faults
 use Rattle.tk_ask.specs.declared.questions.Question.{Question}
 use Rattle.tk_ask.specs.Questions.{Asks, IsAskedAs}
 use Rattle.tk_ask.specs.Answers.{IsAnswerTo}
+
+-- the input is read as a record, and this is the answer to the question about it
+abbrev pub IsAnswerAbout : Question → List ℕ → Bool → List ℕ → Type 0
+IsAnswerAbout question input is_yes output = (r : Recorded) × IsAnswer input (Ok r) × IsAnswerTo question r is_yes output
 
 -- the words ask a question, the input is read as a record, and this is the answer to the question about it
 abbrev pub IsAnswered : List (List ℕ) → List ℕ → Bool → List ℕ → Type 0
@@ -31,6 +35,12 @@ IsOfWords faults.Question = Unit {0}
 IsOfWords (faults.Word i) = Unit {0}
 IsOfWords (faults.Condition i fault) = Unit {0}
 IsOfWords _ = ⊥
+
+-- why there is no answer about an input: it is no record text, its device broke, or memory was refused
+abbrev pub IsReadRefusal : Option (List ℕ) → AskFault → Type 0
+IsReadRefusal input (faults.Read fault) = (fault ≢ read.Memory) × (fault ≢ read.Device → IfSome input (λ bytes. IsAnswer bytes (Err fault)))
+IsReadRefusal input faults.Memory = Unit {0}
+IsReadRefusal input _ = ⊥
 
 -- Where each refusal comes: the words are judged before the input is read. Want of memory in reading a condition or the input is
 -- `Memory`, never `Condition i Memory` or `Read Memory`.

@@ -2,13 +2,34 @@
 ghost use Rattle.std.specs.Prelude.{◌≡◌, ◌⊎◌, true, Err, IfErr, IfOk, IfSome, IsErrOf, OnOk, map, string_bytes};
 ghost use Rattle.std.specs.Io.KnownBytes.{IsAtEnd};
 ghost use Rattle.tk_record.specs.declared.reading.ReadFault.TheVariants as read_faults;
-ghost use Rattle.tk_ask.specs.Asked.{AddsAnswer, AddsPrefix, IsOfWords, IsRefusal};
+ghost use Rattle.tk_ask.specs.Asked.{AddsAnswer, AddsPrefix, IsAnswerAbout, IsOfWords, IsReadRefusal, IsRefusal};
 
-use crate::answers::answer_to;
+use crate::answers::{Answer, answer_to};
 use crate::faults::AskFault;
-use crate::questions::read_question;
+use crate::questions::{Question, read_question};
 use std::alloc::Global;
 use tk_record::{ReadFault, Source, Target, read_record, write_all};
+
+/// The answer to the question about the record whose text the source gives.
+fn answer_about<S: Source>(
+    alloc: Global,
+    source: &mut S,
+    question: &Question,
+) -> Result<Answer, AskFault>
+    ensures answer { IfOk result (λ answer. IfSome (S.remaining source.old) (λ input.
+        IsAnswerAbout question.now input answer.is_yes (string_bytes answer.text))) }
+    ensures end { OnOk result (IsAtEnd (S.remaining source.new)) }
+    ensures refusal { IfErr result (λ fault. IsReadRefusal (S.remaining source.old) fault) }
+    ensures device { IsErrOf result (AskFault.Read read_faults.Device)
+        → S.broken source.new ≡ true }
+{
+    let record = match read_record(alloc, source) {
+        Ok(record) => record,
+        Err(ReadFault::Memory) => return Err(AskFault::Memory),
+        Err(fault) => return Err(AskFault::Read(fault)),
+    };
+    Ok(answer_to(alloc, &record, question)?)
+}
 
 /// Answers the question that the words ask about the record whose text the source gives, and says
 /// whether the answer is a yes: false where a match says no, or an expectation fails. The words
@@ -33,12 +54,7 @@ pub fn ask<S: Source, T: Target>(
     ensures source_device { result ≡ Err (AskFault.Read read_faults.Device) → S.broken source.new ≡ true }
 {
     let question = read_question(alloc, words)?;
-    let record = match read_record(alloc, source) {
-        Ok(record) => record,
-        Err(ReadFault::Memory) => return Err(AskFault::Memory),
-        Err(fault) => return Err(AskFault::Read(fault)),
-    };
-    let answer = answer_to(alloc, &record, &question)?;
+    let answer = answer_about(alloc, source, &question)?;
     match write_all(target, answer.text.as_str().as_bytes()) {
         Ok(()) => Ok(answer.is_yes),
         Err(_) => Err(AskFault::Device),

@@ -22,7 +22,7 @@ pub enum Mode {
 /// What is asked of a record.
 #[derive(Drop)]
 pub enum Question {
-    /// The eight statistics, and which of them differ from what is expected.
+    /// The nine statistics, and which of them differ from what is expected.
     Stats(Expected),
     /// How many events a selection keeps.
     Count(Selection),

@@ -6,6 +6,7 @@ ghost use Rattle.tk_book.specs.Held.{Lawful, held_lane, held_word};
 ghost use Rattle.tk_book.specs.Books.{empty};
 ghost use Rattle.tk_book.specs.LockWord.{seat_note};
 ghost use Rattle.tk_book.specs.Tries.{WasFree, WasBusy, WasFreeAtLast};
+ghost use Rattle.tk_limits.specs.declared.limits.TheConstants.{MAX_WORKERS};
 ghost use Rattle.tk_book.specs.declared.books.BookFault.TheVariants.{Seats};
 
 use crate::needs::Need;
@@ -16,9 +17,7 @@ use std::alloc::{AllocError, Global};
 use std::marker::Model;
 use std::sync::Wait;
 use tk_lanes::admits;
-
-/// How many seats a book may have. Up to fifteen readers have room in one lane.
-pub const MAX_SEATS: usize = 8;
+use tk_limits::MAX_WORKERS;
 
 /// A word by which several seats take resources and give them back.
 #[derive(Drop)]
@@ -69,7 +68,7 @@ pub enum Busy {
 /// Why a book was not opened.
 #[derive(Debug, Drop)]
 pub enum BookFault {
-    /// No seat, or more than `MAX_SEATS`.
+    /// No seat, or more than `MAX_WORKERS`.
     Seats,
     Memory,
 }
@@ -107,10 +106,10 @@ impl Book {
         ensures book { IfOk result (λ r. r.0.seats ≡ seats) }
         ensures all { IfOk result (λ r. length r.1.items ≡ seats) }
         ensures seats { IfOk result (λ r. All (λ s. s ≡ empty r.0) r.1.items) }
-        ensures in_range { IfOk result (λ _. (0 < seats) × (seats ≤ MAX_SEATS)) }
-        ensures fault { IfErr result (λ f. (f ≡ Seats) ↔ ((seats ≡ 0) ⊎ (MAX_SEATS < seats))) }
+        ensures in_range { IfOk result (λ _. (0 < seats) × (seats ≤ MAX_WORKERS)) }
+        ensures fault { IfErr result (λ f. (f ≡ Seats) ↔ ((seats ≡ 0) ⊎ (MAX_WORKERS < seats))) }
     {
-        if seats == 0 || seats > MAX_SEATS {
+        if seats == 0 || seats > MAX_WORKERS as usize {
             return Err(BookFault::Seats);
         }
         let Ok((table, first)) = Table::of_words(alloc, &[0], &seats) else {

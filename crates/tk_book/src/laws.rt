@@ -1,6 +1,5 @@
 //! The law of a book's word.
 ghost use Rattle.std.specs.Prelude.{◌≡◌, ◌↔◌, List, Option};
-ghost use Rattle.tk_book.specs.declared.books.TheConstants.{MAX_SEATS};
 ghost use Rattle.tk_book.specs.Wants.{Wants};
 ghost use Rattle.tk_book.specs.Held.{Lawful, WritersAreAlone};
 ghost use Rattle.tk_book.specs.Steps.{IsSumOfHoldings, ExchangeIsGrant, FailureIsNone, LoadIsNone, SubtractionIsRelease};
@@ -13,18 +12,17 @@ use atomic_table::{Play, TableRule};
 /// nothing.
 pub fn each_step_is_of_the_holdings()
     ensures state { IsSumOfHoldings ⟦<LockRule as TableRule<Need, SeatNote, usize>>⟧.holds }
-    ensures grant { ExchangeIsGrant ⟦<LockRule as TableRule<Need, SeatNote, usize>>⟧.holds ⟦<AcquireStep as Play<Need, SeatNote>>⟧.then }
-    ensures failure { FailureIsNone ⟦<LockRule as TableRule<Need, SeatNote, usize>>⟧.holds ⟦<AcquireStep as Play<Need, SeatNote>>⟧.then }
-    ensures load { LoadIsNone ⟦<LockRule as TableRule<Need, SeatNote, usize>>⟧.holds ⟦<LoadStep as Play<Need, SeatNote>>⟧.then }
-    ensures release { SubtractionIsRelease ⟦<LockRule as TableRule<Need, SeatNote, usize>>⟧.holds ⟦<ReleaseStep as Play<Need, SeatNote>>⟧.then }
+    ensures grant { ExchangeIsGrant ⟦<LockRule as TableRule<Need, SeatNote, usize>>⟧.holds
+        ⟦<AcquireStep as Play<Need, SeatNote>>⟧.then }
+    ensures failure { FailureIsNone ⟦<LockRule as TableRule<Need, SeatNote, usize>>⟧.holds
+        ⟦<AcquireStep as Play<Need, SeatNote>>⟧.then }
+    ensures load { LoadIsNone ⟦<LockRule as TableRule<Need, SeatNote, usize>>⟧.holds
+        ⟦<LoadStep as Play<Need, SeatNote>>⟧.then }
+    ensures release { SubtractionIsRelease ⟦<LockRule as TableRule<Need, SeatNote, usize>>⟧.holds
+        ⟦<ReleaseStep as Play<Need, SeatNote>>⟧.then }
 {}
 
 /// No two seats' needs conflict exactly where each that writes a resource is alone there.
 pub fn writers_are_alone()
     ensures { (held : List (Option Wants)) → Lawful held ↔ WritersAreAlone held }
-{}
-
-/// A book has at most eight seats.
-pub fn limits()
-    ensures { MAX_SEATS ≡ 8 }
 {}

@@ -7,6 +7,6 @@ pub mod laws;
 mod needs;
 mod rules;
 
-pub use books::{Book, BookFault, BookSeat, Busy, MAX_SEATS};
+pub use books::{Book, BookFault, BookSeat, Busy};
 pub use grants::Holdings;
 pub use needs::Need;

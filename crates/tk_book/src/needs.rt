@@ -43,7 +43,8 @@ fn lane_of(reads: u16, writes: u16, resource: u32) -> u64
 impl Need {
     /// Bit i of a mask is resource i. A write stands over a read.
     pub fn of(reads: u16, writes: u16) -> Need
-        ensures { (r : ℕ) → r < 16 → access result r ≡ access_of (bit_at reads r) (bit_at writes r) }
+        ensures { (r : ℕ) → r < 16
+            → access result r ≡ access_of (bit_at reads r) (bit_at writes r) }
     {
         Need {
             reads: reads & !writes,

@@ -14,7 +14,7 @@ use Rattle.tk_claim.specs.declared.rules.ClaimLimits.{ClaimLimits}
 use Rattle.tk_claim.specs.declared.rules.Drawn.{Drawn}
 use Rattle.tk_claim.specs.Claims.{times, once_below, IsStrictlyIncreasing, Claims, ClaimName, Claimant}
 use Rattle.tk_claim.specs.ClaimViews.{IsClaimant, claimant_of}
-use Rattle.tk_claim.specs.declared.claims.TheConstants.{MAX_SEATS}
+use Rattle.tk_limits.specs.declared.limits.TheConstants.{MAX_WORKERS}
 use Rattle.tk_claim.specs.declared.claims.ClaimSeat.TheInside as seat
 use Rattle.atomic_table.specs.declared.shared.Seat.{Seat}
 use Rattle.tk_claim.specs.Drawing.{drawn, no_limits, Fits, DrawsFitWord, Drew}
@@ -121,7 +121,7 @@ stopped old new x was drew ge = ⊎_elim
     drew
 
 -- the claim begins with no draw, and the first seat has all parts
-pub opens : (claim_limits : ClaimLimits) → claim_limits.seats ≤ MAX_SEATS → claim_limits.limit < 2 ^ 32 → DrawsFitWord claim_limits (opening (0 ∷ []) [] (drawn claim_limits claim_limits.seats 0 []))
+pub opens : (claim_limits : ClaimLimits) → claim_limits.seats ≤ MAX_WORKERS → claim_limits.limit < 2 ^ 32 → DrawsFitWord claim_limits (opening (0 ∷ []) [] (drawn claim_limits claim_limits.seats 0 []))
 opens claim_limits few small = record {
   few = few;
   small = small;

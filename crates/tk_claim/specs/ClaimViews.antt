@@ -1,6 +1,6 @@
 -- What a clause sees of a claim and of its seats.
 use Rattle.std.specs.Prelude.{◌≡◌, ◌^◌, ◌<◌, ◌≤◌, [], cond}
-use Rattle.tk_claim.specs.declared.claims.TheConstants.{MAX_SEATS}
+use Rattle.tk_limits.specs.declared.limits.TheConstants.{MAX_WORKERS}
 use Rattle.tk_claim.specs.declared.claims.Claim.TheInside as claim
 use Rattle.tk_claim.specs.declared.claims.ClaimSeat.TheInside as seat
 use Rattle.tk_claim.specs.Claims.{ClaimName, Claimant, IsStrictlyIncreasing}
@@ -14,7 +14,7 @@ pub record IsClaim (c : claim.Inside) : Type 0 where
   pub no_slot : c.table.shared.table_id.slots ≡ 0
   pub small : c.table.shared.key.limit < 2 ^ 32
   pub some_seat : 0 < c.table.shared.key.seats
-  pub few_seats : c.table.shared.key.seats ≤ MAX_SEATS
+  pub few_seats : c.table.shared.key.seats ≤ MAX_WORKERS
 
 abbrev pub claimant_of : seat.Inside → Claimant
 claimant_of s = record { claim = record { table = s.seat.table_id; limit = s.seat.me.0.claim_limits.limit; seats = s.seat.me.0.claim_limits.seats }; numbers = s.seat.me.0.numbers; spent = s.spent }

@@ -3,7 +3,7 @@ use Rattle.std.specs.Prelude.{◌≡◌, ℕ, ◌+◌, ◌-◌, ◌^◌, ◌<◌
 use mathlib.Core.Option.{some}
 use lib.ListN.{get_elem?}
 use Rattle.atomic_table.specs.Table.{State, Me, Step}
-use Rattle.tk_claim.specs.declared.claims.TheConstants.{MAX_SEATS}
+use Rattle.tk_limits.specs.declared.limits.TheConstants.{MAX_WORKERS}
 use Rattle.tk_claim.specs.declared.rules.ClaimLimits.{ClaimLimits}
 use Rattle.tk_claim.specs.declared.rules.Drawn.{Drawn}
 use Rattle.tk_claim.specs.Claims.{times, once_below}
@@ -20,7 +20,7 @@ pub record Fits (claim_limits : ClaimLimits) (next : ℕ) (v : Drawn) : Type 0 w
 
 -- the word is how many draws there were, and those below the limit are the numbers drawn
 pub record DrawsFitWord (claim_limits : ClaimLimits) (s : State (Unit {0}) Drawn) : Type 0 where
-  pub few : claim_limits.seats ≤ MAX_SEATS
+  pub few : claim_limits.seats ≤ MAX_WORKERS
   pub small : claim_limits.limit < 2 ^ 32
   pub next : ℕ
   pub word : s.words ≡ next ∷ []

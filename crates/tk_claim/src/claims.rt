@@ -8,9 +8,7 @@ use crate::rules::{ClaimLimits, ClaimRule, DrawStep, Drawn};
 use atomic_table::{Seat, Table};
 use std::alloc::{AllocError, Global};
 use std::marker::Model;
-
-/// How many seats a claim may have.
-pub const MAX_SEATS: usize = 8;
+use tk_limits::MAX_WORKERS;
 
 /// A word from which several seats draw the numbers below a limit.
 #[derive(Drop)]
@@ -53,7 +51,7 @@ impl Model for ClaimSeat {
 /// Why a claim was not opened.
 #[derive(Debug, Drop)]
 pub enum ClaimFault {
-    /// No seat, or more than `MAX_SEATS`.
+    /// No seat, or more than `MAX_WORKERS`.
     Seats,
     /// Memory was refused.
     Memory,
@@ -93,10 +91,10 @@ impl Claim {
         ensures claim { IfOk result (λ r. r.0.seats ≡ seats) }
         ensures all { IfOk result (λ r. length r.1.items ≡ seats) }
         ensures seats { IfOk result (λ r. All (λ s. s ≡ fresh r.0) r.1.items) }
-        ensures in_range { IfOk result (λ _. (0 < seats) × (seats ≤ MAX_SEATS)) }
-        ensures fault { IfErr result (λ f. (f ≡ Seats) ↔ ((seats ≡ 0) ⊎ (MAX_SEATS < seats))) }
+        ensures in_range { IfOk result (λ _. (0 < seats) × (seats ≤ MAX_WORKERS)) }
+        ensures fault { IfErr result (λ f. (f ≡ Seats) ↔ ((seats ≡ 0) ⊎ (MAX_WORKERS < seats))) }
     {
-        if seats == 0 || seats > MAX_SEATS {
+        if seats == 0 || seats > MAX_WORKERS as usize {
             return Err(ClaimFault::Seats);
         }
         let claim_limits = ClaimLimits { limit: n, seats };

@@ -2,7 +2,6 @@
 #![tactic(auto)]
 
 mod claims;
-pub mod laws;
 mod rules;
 
-pub use claims::{Claim, ClaimFault, ClaimSeat, MAX_SEATS};
+pub use claims::{Claim, ClaimFault, ClaimSeat};

@@ -10,7 +10,7 @@ use Rattle.tk_conditions.specs.declared.partial_texts.Escape.{Escape}
 use Rattle.tk_conditions.specs.declared.partial_texts.Escape.TheVariants.{Outside, Percent, Digit}
 use Rattle.tk_events.specs.declared.kinds.Kind.{Kind}
 use Rattle.tk_events.specs.declared.kinds.Kind.TheVariants as event
-use Rattle.tk_conditions.specs.Cond.{Bare, Test, Container, Engine, Started, Succeeded, Failed, Aborted, TextAtom, Id, Name, Skipped, FailedWith, AbortedWith, Pairs, NoPairs, MorePairs, Cond, Plain, With, OfKind, HasPairs, All, Any, Not, Conds, Nothing, More, bare_text, text_atom_text, kind_text, spelled_by, escaped, pairs_text, pairs_lead, cond_text, list_text, lead_text}
+use Rattle.tk_conditions.specs.Cond.{Bare, Test, Container, Engine, Started, Succeeded, Failed, Aborted, TextAtom, Id, Name, Skipped, FailedWith, AbortedWith, File, Pairs, NoPairs, MorePairs, Cond, Plain, With, OfKind, HasPairs, All, Any, Not, Conds, Nothing, More, bare_text, text_atom_text, kind_text, spelled_by, escaped, pairs_text, pairs_lead, cond_text, list_text, lead_text}
 use Rattle.tk_conditions.specs.Reading.{OpenGroup, OpenNot, OpenAll, OpenAny, State, Word, InText, InKind, InPairs, After, text_step, look, bares, close, ended, step, start}
 
 -- the machine has come to the end of the condition c, with this stack below it
@@ -87,6 +87,7 @@ reads_text_atom Name stack = refl
 reads_text_atom Skipped stack = refl
 reads_text_atom FailedWith stack = refl
 reads_text_atom AbortedWith stack = refl
+reads_text_atom File stack = refl
 
 reads_kind : (kind : Kind) (stack : List OpenGroup) → run step (InKind stack []) (kind_text kind ++ 41 ∷ []) ≡ Some (After stack (OfKind kind))
 reads_kind event.Dynamic stack = refl
@@ -94,6 +95,7 @@ reads_kind event.Skipped stack = refl
 reads_kind event.Started stack = refl
 reads_kind event.Finished stack = refl
 reads_kind event.Reporting stack = refl
+reads_kind event.File stack = refl
 
 -- one pair, up to the end of its value
 reads_pair : (stack : List OpenGroup) (pairs : Pairs) (key value : List ℕ) → run step (InPairs stack pairs None ([], Outside)) (escaped key ++ 44 ∷ escaped value) ≡ Some (InPairs stack pairs (Some key) (value, Outside))

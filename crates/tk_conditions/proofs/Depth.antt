@@ -104,7 +104,7 @@ abbrev OpensAs : List ℕ → Opener → Type 0
 OpensAs word o = (stack : List OpenGroup) → (word ∷ words_of stack, []) ≡ brackets (opened stack o)
 
 opens_as : (word : List ℕ) (o : Opener) → look openers word ≡ Some o → OpensAs word o
-opens_as word o e = look_entry OpensAs openers word o ((λ stack. refl), ((λ stack. refl), ((λ stack. refl), ((λ stack. refl), ((λ stack. refl), ((λ stack. refl), ((λ stack. refl), ((λ stack. refl), ((λ stack. refl), ((λ stack. refl), tt)))))))))) e
+opens_as word o e = look_entry OpensAs openers word o ((λ stack. refl), ((λ stack. refl), ((λ stack. refl), ((λ stack. refl), ((λ stack. refl), ((λ stack. refl), ((λ stack. refl), ((λ stack. refl), ((λ stack. refl), ((λ stack. refl), ((λ stack. refl), tt))))))))))) e
 
 -- no name of a kind has a delimiter in it
 abbrev HasNone : List ℕ → Type 0
@@ -117,6 +117,7 @@ kind_has_none event.Skipped = search rules
 kind_has_none event.Started = search rules
 kind_has_none event.Finished = search rules
 kind_has_none event.Reporting = search rules
+kind_has_none event.File = search rules
 
 last_has_none : (word rest : List ℕ) (b : ℕ) → HasNone ((word ++ b ∷ []) ++ rest) → ((b == 40) ≡ false) × ((b == 44) ≡ false)
 last_has_none [] rest b h = (h.0, h.1)

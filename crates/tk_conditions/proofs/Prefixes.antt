@@ -10,7 +10,7 @@ use Rattle.tk_conditions.specs.declared.partial_texts.Escape.{Escape}
 use Rattle.tk_conditions.specs.declared.partial_texts.Escape.TheVariants.{Outside, Percent, Digit}
 use Rattle.tk_events.specs.declared.kinds.Kind.{Kind}
 use Rattle.tk_events.specs.declared.kinds.Kind.TheVariants as event
-use Rattle.tk_conditions.specs.Cond.{Test, Container, Engine, Started, Succeeded, Failed, Aborted, TextAtom, Id, Name, Skipped, FailedWith, AbortedWith, Pairs, NoPairs, MorePairs, Cond, Plain, With, OfKind, HasPairs, All, Any, Not, Nothing, More, bare_text, text_atom_text, kind_text, spelled_by, escaped, pairs_lead, cond_text, lead_text, IsCondText}
+use Rattle.tk_conditions.specs.Cond.{Test, Container, Engine, Started, Succeeded, Failed, Aborted, TextAtom, Id, Name, Skipped, FailedWith, AbortedWith, File, Pairs, NoPairs, MorePairs, Cond, Plain, With, OfKind, HasPairs, All, Any, Not, Nothing, More, bare_text, text_atom_text, kind_text, spelled_by, escaped, pairs_lead, cond_text, lead_text, IsCondText}
 use Rattle.tk_conditions.specs.Reading.{all_kinds, OpenGroup, OpenNot, OpenAll, OpenAny, State, Word, InText, InKind, InPairs, After, text_step, special_of, look, bares, kinds, openers, Opener, OfText, OfKinds, OfPairs, OfAll, OfAny, OfNot, opened, close, close_empty, after_word, begins_with, is_prefix, step, next_text, last_text}
 
 abbrev pub spelled_stack : List OpenGroup → List ℕ
@@ -190,7 +190,7 @@ opens_to : (word : List ℕ) (o : Opener) → look openers word ≡ Some o → O
 opens_to word o e = look_entry OpensTo openers word o all e
   where
     all : AllEntries OpensTo openers
-    all = ((λ stack. sym (append_assoc (spelled_stack stack) (codes "id") (40 ∷ []))), ((λ stack. sym (append_assoc (spelled_stack stack) (codes "name") (40 ∷ []))), ((λ stack. sym (append_assoc (spelled_stack stack) (codes "skipped") (40 ∷ []))), ((λ stack. sym (append_assoc (spelled_stack stack) (codes "failed") (40 ∷ []))), ((λ stack. sym (append_assoc (spelled_stack stack) (codes "aborted") (40 ∷ []))), ((λ stack. sym (append_assoc (spelled_stack stack) (codes "kind") (40 ∷ []))), ((λ stack. sym (append_assoc (spelled_stack stack) (codes "entry") (40 ∷ []))), ((λ stack. append-nil (spelled_stack stack ++ codes "all(") ∙ sym (append_assoc (spelled_stack stack) (codes "all") (40 ∷ []))), ((λ stack. append-nil (spelled_stack stack ++ codes "any(") ∙ sym (append_assoc (spelled_stack stack) (codes "any") (40 ∷ []))), ((λ stack. append-nil (spelled_stack stack ++ codes "not(") ∙ sym (append_assoc (spelled_stack stack) (codes "not") (40 ∷ []))), tt))))))))))
+    all = ((λ stack. sym (append_assoc (spelled_stack stack) (codes "id") (40 ∷ []))), ((λ stack. sym (append_assoc (spelled_stack stack) (codes "name") (40 ∷ []))), ((λ stack. sym (append_assoc (spelled_stack stack) (codes "skipped") (40 ∷ []))), ((λ stack. sym (append_assoc (spelled_stack stack) (codes "failed") (40 ∷ []))), ((λ stack. sym (append_assoc (spelled_stack stack) (codes "aborted") (40 ∷ []))), ((λ stack. sym (append_assoc (spelled_stack stack) (codes "file") (40 ∷ []))), ((λ stack. sym (append_assoc (spelled_stack stack) (codes "kind") (40 ∷ []))), ((λ stack. sym (append_assoc (spelled_stack stack) (codes "entry") (40 ∷ []))), ((λ stack. append-nil (spelled_stack stack ++ codes "all(") ∙ sym (append_assoc (spelled_stack stack) (codes "all") (40 ∷ []))), ((λ stack. append-nil (spelled_stack stack ++ codes "any(") ∙ sym (append_assoc (spelled_stack stack) (codes "any") (40 ∷ []))), ((λ stack. append-nil (spelled_stack stack ++ codes "not(") ∙ sym (append_assoc (spelled_stack stack) (codes "not") (40 ∷ []))), tt)))))))))))
 
 inside_text : (stack : List OpenGroup) (text_atom : TextAtom) (partial : List ℕ × Escape) (b : ℕ) (t : State) → option_map (InText stack text_atom) (text_step partial b) ≡ Some t → spelled t ≡ spelled (InText stack text_atom partial) ++ b ∷ []
 inside_text stack text_atom partial b t e =
@@ -387,7 +387,7 @@ pub begins : (s : State) → IsSound s → Begins IsCondText (spelled s)
 begins (After stack c) h = completes stack c
 begins (Word stack word) h = ⊎_elim {C = Begins IsCondText (spelled_stack stack ++ word)}
     (λ (f : is_prefix bares word ≡ true). prefix_begins stack word (prefix_entry BeginsCond bares word (([], Plain Test, refl), (([], Plain Container, refl), (([], Plain Engine, refl), (([], Plain Started, refl), (([], Plain Succeeded, refl), (([], Plain Failed, refl), (([], Plain Aborted, refl), tt))))))) f))
-    (λ (f : is_prefix openers word ≡ true). prefix_begins stack word (prefix_entry BeginsCond openers word ((codes "()", With Id [], refl), ((codes "()", With Name [], refl), ((codes "()", With Skipped [], refl), ((codes "()", With FailedWith [], refl), ((codes "()", With AbortedWith [], refl), ((codes "(skip)", OfKind event.Skipped, refl), ((codes "()", HasPairs NoPairs, refl), ((codes "()", All Nothing, refl), ((codes "()", Any Nothing, refl), ((codes "(test)", Not (Plain Test), refl), tt)))))))))) f))
+    (λ (f : is_prefix openers word ≡ true). prefix_begins stack word (prefix_entry BeginsCond openers word ((codes "()", With Id [], refl), ((codes "()", With Name [], refl), ((codes "()", With Skipped [], refl), ((codes "()", With FailedWith [], refl), ((codes "()", With AbortedWith [], refl), ((codes "()", With File [], refl), ((codes "(skip)", OfKind event.Skipped, refl), ((codes "()", HasPairs NoPairs, refl), ((codes "()", All Nothing, refl), ((codes "()", Any Nothing, refl), ((codes "(test)", Not (Plain Test), refl), tt))))))))))) f))
     (or_cases (is_prefix bares word) (is_prefix openers word) h)
 begins (InKind stack word) h =
     let r = prefix_entry (λ text. (kind : Kind) × (kind_text kind ≡ text)) kinds word (each_kind (λ text kind. (k : Kind) × (kind_text k ≡ text)) (λ kind. (kind, refl)) all_kinds) h in

@@ -12,7 +12,7 @@ use Rattle.tk_conditions.specs.declared.conditions.Condition.{Condition}
 use Rattle.tk_conditions.specs.declared.open_groups.OpenGroup as group
 use Rattle.tk_conditions.specs.declared.open_groups.OpenGroup.TheVariants as groups
 use Rattle.tk_conditions.specs.Brackets.{is_group}
-use Rattle.tk_conditions.specs.Cond.{Cond, Plain, With, OfKind, HasPairs, All, Any, Not, Conds, Nothing, More, Pairs, NoPairs, MorePairs, TextAtom, Id, Name, Skipped, FailedWith, AbortedWith, text_atom_text, kind_text}
+use Rattle.tk_conditions.specs.Cond.{Cond, Plain, With, OfKind, HasPairs, All, Any, Not, Conds, Nothing, More, Pairs, NoPairs, MorePairs, TextAtom, Id, Name, Skipped, FailedWith, AbortedWith, File, text_atom_text, kind_text}
 use Rattle.tk_conditions.specs.CondOf.{cond_of, conds_from, pairs_from}
 use Rattle.tk_conditions.specs.Reader.{group_of, groups_from, groups_of, depth_of, rest_of, state_at, ContinuesAsText, CanContinue}
 use Rattle.tk_conditions.specs.Reading.{OpenGroup, OpenNot, OpenAll, OpenAny, State, Word, InText, InKind, InPairs, After, begins_with, look, is_prefix, all_kinds, kinds, close, close_empty, closed, closed_empty, joined, Opener, OfText, OfKinds, OfPairs, OfAll, OfAny, OfNot, opened, after_word, bares, openers, special_of, text_step, ends_at, next_text, last_text, step, start, ended}
@@ -117,6 +117,7 @@ no_group Name = refl
 no_group Skipped = refl
 no_group FailedWith = refl
 no_group AbortedWith = refl
+no_group File = refl
 
 pub height_is : (s : State) → height s ≡ depth_of s
 height_is (Word stack word) = stack_height stack

@@ -20,6 +20,7 @@ pub data TextAtom : Type 0 where
   Skipped : TextAtom
   FailedWith : TextAtom
   AbortedWith : TextAtom
+  File : TextAtom
 
 -- pairs of texts, the last one outermost
 pub data Pairs : Type 0 where
@@ -56,6 +57,7 @@ text_atom_text Name = codes "name"
 text_atom_text Skipped = codes "skipped"
 text_atom_text FailedWith = codes "failed"
 text_atom_text AbortedWith = codes "aborted"
+text_atom_text File = codes "file"
 
 -- the name of a kind: its word
 abbrev pub kind_text : Kind → List ℕ

@@ -2,7 +2,7 @@
 use Rattle.std.specs.Prelude.{ℕ, List, [], ◌∷◌, Some, None}
 use Rattle.tk_conditions.specs.declared.conditions.Condition as real
 use Rattle.tk_conditions.specs.declared.conditions.Condition.{Condition, All', Any', Not', Row_of-Condition, end_of-Condition, more_of-Condition}
-use Rattle.tk_conditions.specs.Cond.{Test, Container, Engine, Started, Succeeded, Failed, Aborted, Id, Name, Skipped, FailedWith, AbortedWith, Pairs, NoPairs, MorePairs, Cond, Plain, With, OfKind, HasPairs, All, Any, Not, Conds, Nothing, More}
+use Rattle.tk_conditions.specs.Cond.{Test, Container, Engine, Started, Succeeded, Failed, Aborted, Id, Name, Skipped, FailedWith, AbortedWith, File, Pairs, NoPairs, MorePairs, Cond, Plain, With, OfKind, HasPairs, All, Any, Not, Conds, Nothing, More}
 
 -- pairs, after others
 abbrev pub pairs_from : Pairs → List (List ℕ × List ℕ) → Pairs
@@ -24,6 +24,7 @@ abbrev mutual
   cond_of (real.Failed (Some text)) = With FailedWith text
   cond_of (real.Aborted None) = Plain Aborted
   cond_of (real.Aborted (Some text)) = With AbortedWith text
+  cond_of (real.File text) = With File text
   cond_of (real.Entry pairs) = HasPairs (pairs_from NoPairs pairs)
   cond_of (All' shape row) = All (row_from Nothing row)
   cond_of (Any' shape row) = Any (row_from Nothing row)

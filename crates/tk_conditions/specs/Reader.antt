@@ -11,7 +11,7 @@ use Rattle.tk_conditions.specs.declared.open_groups.OpenGroup.TheVariants as gro
 use Rattle.tk_conditions.specs.declared.readers.Position.{Position}
 use Rattle.tk_conditions.specs.declared.readers.Position.TheVariants as positions
 use Rattle.tk_conditions.specs.declared.readers.Reader.{Reader}
-use Rattle.tk_conditions.specs.Cond.{TextAtom, Id, Name, Skipped, FailedWith, AbortedWith, NoPairs, Nothing}
+use Rattle.tk_conditions.specs.Cond.{TextAtom, Id, Name, Skipped, FailedWith, AbortedWith, File, NoPairs, Nothing}
 use Rattle.tk_conditions.specs.CondOf.{cond_of, conds_from, pairs_from}
 use Rattle.tk_conditions.specs.Reading.{OpenGroup, OpenNot, OpenAll, OpenAny, Opener, OfText, OfKinds, OfPairs, OfAll, OfAny, OfNot, State, Word, InText, InKind, InPairs, After}
 
@@ -21,6 +21,7 @@ text_atom_of text_atoms.Name = Name
 text_atom_of text_atoms.Skipped = Skipped
 text_atom_of text_atoms.Failed = FailedWith
 text_atom_of text_atoms.Aborted = AbortedWith
+text_atom_of text_atoms.File = File
 
 abbrev pub opener_of : opener.Opener → Opener
 opener_of (openers.Text t) = OfText (text_atom_of t)

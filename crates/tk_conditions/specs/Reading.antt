@@ -1,7 +1,7 @@
 -- The machine that reads a condition: the open brackets, and what is read at their top.
 use Rattle.std.specs.Prelude.{ℕ, Bool, true, false, List, [], ◌∷◌, ◌++◌, Option, Some, None, option_and_then, option_map, ◌==◌, ◌||◌, if◌then◌else◌, bytes_eq, codes, map}
 use Rattle.std.specs.List.{list_any}
-use Rattle.tk_conditions.specs.Cond.{Bare, Test, Container, Engine, Started, Succeeded, Failed, Aborted, TextAtom, Id, Name, Skipped, FailedWith, AbortedWith, Pairs, NoPairs, MorePairs, Cond, Plain, With, OfKind, HasPairs, All, Any, Not, Conds, Nothing, More, kind_text}
+use Rattle.tk_conditions.specs.Cond.{Bare, Test, Container, Engine, Started, Succeeded, Failed, Aborted, TextAtom, Id, Name, Skipped, FailedWith, AbortedWith, File, Pairs, NoPairs, MorePairs, Cond, Plain, With, OfKind, HasPairs, All, Any, Not, Conds, Nothing, More, kind_text}
 use Rattle.tk_conditions.specs.declared.partial_texts.Escape.{Escape}
 use Rattle.tk_conditions.specs.declared.partial_texts.Escape.TheVariants.{Outside, Percent, Digit}
 use Rattle.tk_events.specs.declared.kinds.Kind.{Kind}
@@ -29,7 +29,7 @@ abbrev pub bares : List (List ℕ × Bare)
 bares = (codes "test", Test) ∷ (codes "container", Container) ∷ (codes "engine", Engine) ∷ (codes "started", Started) ∷ (codes "succeeded", Succeeded) ∷ (codes "failed", Failed) ∷ (codes "aborted", Aborted) ∷ []
 
 abbrev pub all_kinds : List Kind
-all_kinds = event.Dynamic ∷ event.Skipped ∷ event.Started ∷ event.Finished ∷ event.Reporting ∷ []
+all_kinds = event.Dynamic ∷ event.Skipped ∷ event.Started ∷ event.Finished ∷ event.Reporting ∷ event.File ∷ []
 
 abbrev pub kinds : List (List ℕ × Kind)
 kinds = map (λ kind. (kind_text kind, kind)) all_kinds
@@ -44,7 +44,7 @@ pub data Opener : Type 0 where
   OfNot : Opener
 
 abbrev pub openers : List (List ℕ × Opener)
-openers = (codes "id", OfText Id) ∷ (codes "name", OfText Name) ∷ (codes "skipped", OfText Skipped) ∷ (codes "failed", OfText FailedWith) ∷ (codes "aborted", OfText AbortedWith) ∷ (codes "kind", OfKinds) ∷ (codes "entry", OfPairs) ∷ (codes "all", OfAll) ∷ (codes "any", OfAny) ∷ (codes "not", OfNot) ∷ []
+openers = (codes "id", OfText Id) ∷ (codes "name", OfText Name) ∷ (codes "skipped", OfText Skipped) ∷ (codes "failed", OfText FailedWith) ∷ (codes "aborted", OfText AbortedWith) ∷ (codes "file", OfText File) ∷ (codes "kind", OfKinds) ∷ (codes "entry", OfPairs) ∷ (codes "all", OfAll) ∷ (codes "any", OfAny) ∷ (codes "not", OfNot) ∷ []
 
 -- the text begins with prefix
 abbrev pub begins_with : List ℕ → List ℕ → Bool

@@ -27,6 +27,8 @@ pub enum Condition {
     Failed(Option<Text>),
     /// It finished as aborted, and with this message where one is named.
     Aborted(Option<Text>),
+    /// It publishes the file that lies at this path.
+    File(Text),
     /// It reports these pairs and no others.
     Entry(Pairs),
     /// Each of these holds.

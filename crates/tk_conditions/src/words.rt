@@ -17,6 +17,7 @@ pub(crate) enum TextAtom {
     Skipped,
     Failed,
     Aborted,
+    File,
 }
 
 impl TextAtom {
@@ -30,6 +31,7 @@ impl TextAtom {
             TextAtom::Skipped => Condition::Skipped(text),
             TextAtom::Failed => Condition::Failed(Some(text)),
             TextAtom::Aborted => Condition::Aborted(Some(text)),
+            TextAtom::File => Condition::File(text),
         }
     }
 }
@@ -46,12 +48,13 @@ pub(crate) enum Opener {
 }
 
 /// Every kind, in the order of the kinds' codes.
-const KINDS: [Kind; 5] = [
+const KINDS: [Kind; 6] = [
     Kind::Dynamic,
     Kind::Skipped,
     Kind::Started,
     Kind::Finished,
     Kind::Reporting,
+    Kind::File,
 ];
 
 /// The kind of this name.
@@ -110,6 +113,8 @@ pub(crate) fn opener_named(word: &[u8]) -> Option<Opener>
         Some(Opener::Text(TextAtom::Failed))
     } else if is(word, "aborted") {
         Some(Opener::Text(TextAtom::Aborted))
+    } else if is(word, "file") {
+        Some(Opener::Text(TextAtom::File))
     } else if is(word, "kind") {
         Some(Opener::Kind)
     } else if is(word, "entry") {
@@ -164,6 +169,7 @@ fn begins_opener(word: &[u8]) -> bool
         || begins(word, "skipped")
         || begins(word, "failed")
         || begins(word, "aborted")
+        || begins(word, "file")
         || begins(word, "kind")
         || begins(word, "entry")
         || begins(word, "all")

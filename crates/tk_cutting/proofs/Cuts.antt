@@ -2,14 +2,14 @@
 use Rattle.std.proofs.Common.{◌≡◌, ℕ, zero, suc, ◌+◌, ◌-◌, ◌≤◌, ◌<◌, List, [], ◌∷◌, ◌++◌, length, drop, take, map, flat_map, All, true, false, Bool, cond, is_some, slice_get, slice_index_or, Some, ◌&&◌, not, ◌==◌, refl, sym, ap, ap₂, ◌∙◌, subst, arith, length-append, append_assoc, append-nil}
 use Rattle.std.proofs.lemmas.List.{map-append, drop-drop, drop_at}
 use Rattle.std.proofs.lemmas.Grind.{flat_map-append}
-use Rattle.tk_cutting.specs.declared.counts.TheConstants.{MAX_EVENTS}
+use Rattle.tk_limits.specs.declared.limits.TheConstants.{MAX_EVENTS}
 use Rattle.tk_cutting.specs.declared.nodes.Node.{Node}
 use Rattle.tk_cutting.specs.declared.nodes.NumberedNode.{NumberedNode}
 use Rattle.tk_cutting.specs.declared.steps.Act.TheVariants.{Finish, Register, Skip}
 use Rattle.tk_cutting.specs.declared.cuttings.Cutting.{Cutting}
 use Rattle.tk_cutting.specs.Trees.{Tree, tree, Forest, no_trees, more, forest, IsForest, IsSplit, first_tree, contents}
 use Rattle.tk_cutting.specs.Script.{move, opening, moves, moves_below}
-use Rattle.tk_cutting.specs.Weights.{weight, weights}
+use Rattle.tk_cutting.specs.Weights.{publications, weight, weights}
 use Rattle.tk_cutting.specs.Cutting.{Part, Piece, opens, runs, closes, parts, parts_below, moves_of, from_each, piece, head, tail, opened, all_static, all_concurrent, on_spine, is_free, is_leaf}
 use Rattle.tk_cutting.specs.Adds.{Adds, Fits, HasStampAt, HasNode, found, piece_at, heads, tails, begun_at, ended_at}
 use Rattle.tk_cutting.specs.Events.{begun, ended}
@@ -19,7 +19,7 @@ use Rattle.tk_cutting.specs.declared.cuttings.SpineStamp.{SpineStamp}
 use Rattle.std.proofs.lemmas.List.Elements.{All-append}
 use Rattle.std.proofs.Math.Seq.{take-append_seam}
 use Rattle.tk_cutting.proofs.Grows.{forest_nil}
-use Rattle.tk_cutting.proofs.Moving.{moves-length, length-reports}
+use Rattle.tk_cutting.proofs.Moving.{moves-length, length-opening}
 
 pub from_each-append : {A : Type 0} (f : ℕ → Part → List A) (i : ℕ) (xs ys : List Part)
     → from_each f i (xs ++ ys) ≡ from_each f i xs ++ from_each f (i + length (flat_map moves_of xs)) ys
@@ -92,8 +92,8 @@ spine_facts b n f e =
     let four = (if_both (not n.is_isolated) _ three).1 in
     (is_false _ two.0, concurrent_static f four)
 
-pub spine_weight : (b : Bool) (n : Node) (k : ℕ) (f : Forest) → on_spine b n f ≡ true → weight (tree n k f) ≡ 2 + length n.entries + weights f
-spine_weight b n k f e = ap (λ s. cond s 1 (2 + length n.entries + weights f)) (spine_facts b n f e).0
+pub spine_weight : (b : Bool) (n : Node) (k : ℕ) (f : Forest) → on_spine b n f ≡ true → weight (tree n k f) ≡ 2 + publications n + weights f
+spine_weight b n k f e = ap (λ s. cond s 1 (2 + publications n + weights f)) (spine_facts b n f e).0
 
 drop_next : (at : ℕ) (all rest : List NumberedNode) (p : NumberedNode) → drop at all ≡ p ∷ rest → drop (at + 1) all ≡ rest
 drop_next at all rest p e = sym (drop-drop 1 at all) ∙ ap (drop 1) e
@@ -165,8 +165,8 @@ goes_next keys is_root position at nodes after below others p old now new g s fi
 
 -- ---- one part
 
-opening_events : (n : Node) (k : ℕ) → length (opening n k ++ []) ≡ 1 + length n.entries
-opening_events n k = ap length (append-nil (opening n k)) ∙ ap suc (length-reports k 0 n.entries) ∙ omega arith
+opening_events : (n : Node) (k : ℕ) → length (opening n k ++ []) ≡ 1 + publications n
+opening_events n k = ap length (append-nil (opening n k)) ∙ length-opening n k
 
 all_one : {A : Type 0} (P : A → Type 0) (x : A) → P x → All P (x ∷ [])
 all_one P x h zero d l = h
@@ -176,11 +176,11 @@ all_pushed : {A : Type 0} (P : A → Type 0) (xs ys : List A) (x : A) → ys ≡
 all_pushed P xs ys x e h all = subst (All P) (sym e) (All-append P xs (x ∷ []) all (all_one P x h))
 
 pub begin_adds : (all rest : List NumberedNode) (keys : List (List ℕ)) (old new : Cutting) (p : NumberedNode) (s : SpineStamp)
-    → drop s.position all ≡ p ∷ rest → s.stamp ≡ old.first → old.first + (1 + length p.node.entries) ≤ MAX_EVENTS
+    → drop s.position all ≡ p ∷ rest → s.stamp ≡ old.first → old.first + (1 + publications p.node) ≤ MAX_EVENTS
     → new.spine.items ≡ old.spine.items ++ p.number ∷ []
     → new.opened.items ≡ old.opened.items ++ s ∷ []
     → new.units.items ≡ old.units.items → new.pieces.items ≡ old.pieces.items → new.closed.items ≡ old.closed.items
-    → new.first ≡ old.first + (1 + length p.node.entries)
+    → new.first ≡ old.first + (1 + publications p.node)
     → Adds all keys old new (opens p.node p.number ∷ [])
 begin_adds all rest keys old new p s at same limit spine opened units pieces closed first =
     let there : begun_at (drop s.position all) s.stamp ≡ begun p.number old.first p.node = ap₂ begun_at at same in

@@ -1,16 +1,17 @@
 -- Each step of a script is one that its node may make.
-use Rattle.std.proofs.Common.{◌≡◌, ℕ, zero, suc, ◌+◌, ◌<◌, List, [], ◌∷◌, ◌++◌, Bool, cond, true, false, is_some, Some, All, length, drop, slice_get, refl, sym, ap, ◌∙◌, subst, arith, length-append, append_assoc}
+use Rattle.std.proofs.Common.{◌≡◌, ℕ, zero, suc, ◌+◌, ◌<◌, List, [], ◌∷◌, ◌++◌, Bool, cond, true, false, is_some, Some, All, length, drop, slice_get, refl, ap, subst, arith, length-append}
 use Rattle.std.proofs.lemmas.Option.{slice_get_within}
 use Rattle.std.proofs.lemmas.List.Elements.{All-nil, All-cons, All-head, All-tail, All-append, All-drop}
 use Rattle.tk_cutting.specs.declared.nodes.Node.{Node}
 use Rattle.tk_cutting.specs.declared.nodes.NumberedNode.{NumberedNode}
-use Rattle.tk_cutting.specs.declared.steps.Act.TheVariants.{Register, Skip, Start, Report, Finish}
+use Rattle.tk_cutting.specs.declared.steps.Act.{Act}
+use Rattle.tk_cutting.specs.declared.steps.Act.TheVariants.{Register, Skip, Start, Report, File, Finish}
 use Rattle.tk_cutting.specs.declared.steps.Move.{Move}
 use Rattle.tk_cutting.specs.declared.steps.Step.{Step}
 use Rattle.tk_cutting.specs.Trees.{Tree, tree, Forest, no_trees, more, flat, flats, forest, IsForest}
-use Rattle.tk_cutting.specs.Script.{move, reports, opening, registration, moves, moves_below, stamped}
+use Rattle.tk_cutting.specs.Script.{move, each_act, opening, registration, moves, moves_below, stamped}
 use Rattle.tk_cutting.specs.Numbers.{of_kind, in_order, IsNumbered}
-use Rattle.tk_cutting.specs.Known.{IsKnown}
+use Rattle.tk_cutting.specs.Known.{Does, IsKnown}
 use Rattle.tk_cutting.proofs.Ordering.{order_length, all_numbered}
 use Rattle.tk_cutting.proofs.Parting.{all_prefix, all_back, all_single}
 
@@ -18,6 +19,11 @@ pub seam_some : {A : Type 0} (xs ys : List A) (x : A) (k : ℕ) → k ≡ length
 seam_some [] ys x k e = ap (slice_get (x ∷ ys)) e
 seam_some (z ∷ xs) ys x zero e = absurd (omega (arith, e))
 seam_some (z ∷ xs) ys x (suc k) e = seam_some xs ys x k (omega (arith, e))
+
+item_there : {A : Type 0} (xs : List A) (j : ℕ) → j < length xs → is_some (slice_get xs j) ≡ true
+item_there [] j h = absurd (omega (arith, h))
+item_there (x ∷ xs) zero h = refl
+item_there (x ∷ xs) (suc j) h = item_there xs j (omega (arith, h))
 
 pub order_within : (nodes : List NumberedNode) (k : ℕ) (n : Node) → slice_get (in_order nodes) k ≡ Some n → k < length nodes
 order_within nodes k n e = omega (arith, slice_get_within (in_order nodes) k n e, length-append (of_kind true nodes) (of_kind false nodes), order_length nodes)
@@ -30,17 +36,20 @@ module _ (nodes : List NumberedNode) where
   abbrev pub KnownMove : Move → Type 0
   KnownMove m = IsKnown nodes m.node m.act
 
-  reports_known : (k : ℕ) (n : Node) → slice_get (in_order nodes) k ≡ Some n → (prefix es : List (List (List ℕ × List ℕ))) (i : ℕ) → n.entries ≡ prefix ++ es → i ≡ length prefix
-      → All KnownMove (reports k i es)
-  reports_known k n e prefix [] i f g = All-nil KnownMove
-  reports_known k n e prefix (x ∷ es) i f g =
-      All-cons KnownMove (move k (Report i)) (reports k (i + 1) es)
-      (record { node = n; is = e; within = order_within nodes k n e; does = ap is_some (ap (λ l. slice_get l i) f ∙ seam_some prefix es x i g) })
-      (reports_known k n e (prefix ++ x ∷ []) es (i + 1) (f ∙ sym (append_assoc prefix (x ∷ []) es)) (omega (arith, g, length-append prefix (x ∷ []))))
+  acts_known : {A : Type 0} (act : ℕ → Act) (k : ℕ) (n : Node) → slice_get (in_order nodes) k ≡ Some n → (xs : List A) (i m : ℕ) → i + length xs ≡ m → ((j : ℕ) → j < m → Does nodes n (act j))
+      → All KnownMove (each_act act k i xs)
+  acts_known act k n e [] i m whole does = All-nil KnownMove
+  acts_known act k n e (x ∷ xs) i m whole does =
+      All-cons KnownMove (move k (act i)) (each_act act k (i + 1) xs)
+      (record { node = n; is = e; within = order_within nodes k n e; does = does i (omega (arith, whole)) })
+      (acts_known act k n e xs (i + 1) m (omega (arith, whole)) does)
 
   opening_known : (k : ℕ) (n : Node) → slice_get (in_order nodes) k ≡ Some n → All KnownMove (opening n k)
   opening_known k n e =
-      All-cons KnownMove (move k Start) (reports k 0 n.entries) (record { node = n; is = e; within = order_within nodes k n e; does = tt }) (reports_known k n e [] n.entries 0 refl refl)
+      All-cons KnownMove (move k Start) _ (record { node = n; is = e; within = order_within nodes k n e; does = tt })
+      (All-append KnownMove (each_act Report k 0 n.entries) (each_act File k 0 n.files)
+      (acts_known Report k n e n.entries 0 (length n.entries) (omega arith) (item_there n.entries))
+      (acts_known File k n e n.files 0 (length n.files) (omega arith) (item_there n.files)))
 
   registration_by : (b : Bool) (parent k : ℕ) (n : Node) → n.is_static ≡ b → parent < length nodes → slice_get (in_order nodes) k ≡ Some n
       → All KnownMove (cond b [] (move k (Register parent) ∷ []))

@@ -3,18 +3,23 @@ use Rattle.std.proofs.Common.{◌≡◌, ℕ, suc, ◌+◌, ◌-◌, ◌≤◌, 
 use Rattle.tk_cutting.specs.Cutting.{is_leaf, all_concurrent}
 use Rattle.std.proofs.lemmas.List.{drop_more, drop_all, take_all}
 use Rattle.tk_cutting.proofs.Grows.{forest_nil, forest-flats, is_forest, parted}
-use Rattle.tk_cutting.specs.declared.steps.Act.TheVariants.{Report}
+use Rattle.tk_cutting.specs.declared.steps.Act.{Act}
+use Rattle.tk_cutting.specs.declared.steps.Act.TheVariants.{Report, File}
 use Rattle.tk_cutting.specs.declared.nodes.Node.{Node}
 use Rattle.tk_cutting.specs.declared.nodes.NumberedNode.{NumberedNode}
 use Rattle.tk_cutting.specs.declared.steps.Move.{Move}
-use Rattle.tk_cutting.specs.declared.steps.Step.{Step}
 use Rattle.tk_cutting.specs.Trees.{Tree, tree, Forest, no_trees, more, flat, flats, grow, forest, IsForest, IsSplit}
-use Rattle.tk_cutting.specs.Script.{reports, opening, registration, moves, moves_below, stamped}
-use Rattle.tk_cutting.specs.Weights.{registered, own, weight, weights}
+use Rattle.tk_cutting.specs.Script.{each_act, opening, registration, moves, moves_below, stamped}
+use Rattle.tk_cutting.specs.Weights.{registered, publications, own, weight, weights}
 
-pub length-reports : (k i : ℕ) (es : List (List (List ℕ × List ℕ))) → length (reports k i es) ≡ length es
-length-reports k i [] = refl
-length-reports k i (e ∷ es) = ap suc (length-reports k (i + 1) es)
+pub length-acts : {A : Type 0} (act : ℕ → Act) (k i : ℕ) (xs : List A) → length (each_act act k i xs) ≡ length xs
+length-acts act k i [] = refl
+length-acts act k i (x ∷ xs) = ap suc (length-acts act k (i + 1) xs)
+
+pub length-opening : (n : Node) (k : ℕ) → length (opening n k) ≡ 1 + publications n
+length-opening n k =
+    ap suc (length-append (each_act Report k 0 n.entries) (each_act File k 0 n.files) ∙ ap₂ (λ a b. a + b) (length-acts Report k 0 n.entries) (length-acts File k 0 n.files))
+    ∙ omega arith
 
 length-either : (b : Bool) (m : Move) → length (cond b [] (m ∷ [])) ≡ cond b 0 1
 length-either true m = refl
@@ -31,7 +36,7 @@ mutual
   pub moves-length : (t : Tree) → length (moves t) ≡ weight t
   moves-length (tree n k f) = length-skipped (is_some n.skip) _ _ _ (
       length-append (opening n k) _
-      ∙ ap₂ (λ a b. suc a + b) (length-reports k 0 n.entries) (length-append (moves_below k f) _ ∙ ap (λ a. a + 1) (below-length k f))
+      ∙ ap₂ (λ a b. a + b) (length-opening n k) (length-append (moves_below k f) _ ∙ ap (λ a. a + 1) (below-length k f))
       ∙ omega arith
       )
 
@@ -68,11 +73,11 @@ pub below_end : (parent : ℕ) (ps : List NumberedNode) → length ps < 1 → mo
 below_end parent [] h = ap (moves_below parent) forest_nil
 below_end parent (p ∷ ps) h = absurd (omega arith)
 
-pub reports_next : (k i : ℕ) (es : List (List (List ℕ × List ℕ))) → i < length es → reports k i (drop i es) ≡ record { node = k; act = Report i } ∷ reports k (i + 1) (drop (i + 1) es)
-reports_next k i es h = ap (reports k i) (drop_more es i [] h)
+pub acts_next : {X : Type 0} (act : ℕ → Act) (k i : ℕ) (xs : List (List X)) → i < length xs → each_act act k i (drop i xs) ≡ record { node = k; act = act i } ∷ each_act act k (i + 1) (drop (i + 1) xs)
+acts_next act k i xs h = ap (each_act act k i) (drop_more xs i [] h)
 
-pub reports_end : (k i : ℕ) (es : List (List (List ℕ × List ℕ))) → length es ≤ i → reports k i (drop i es) ≡ []
-reports_end k i es h = ap (reports k i) (drop_all i es h)
+pub acts_end : {X : Type 0} (act : ℕ → Act) (k i : ℕ) (xs : List (List X)) → length xs ≤ i → each_act act k i (drop i xs) ≡ []
+acts_end act k i xs h = ap (each_act act k i) (drop_all i xs h)
 
 pub stamped_next : (n i : ℕ) (ms : List Move) (m : Move) → i < length ms → m ≡ get_or ms i m
     → stamped (n + i) (drop i ms) ≡ record { node = m.node; stamp = n + i; act = m.act } ∷ stamped (n + (i + 1)) (drop (i + 1) ms)
@@ -111,32 +116,23 @@ after_node p after below others s =
     (is_forest after _ same, ap (λ ps. weights (forest ps)) same ∙ ap weights (forest-flats _) ∙ weights-join (forest below) (forest others))
 
 open_weight : (p : NumberedNode) (below others : Forest) → is_some p.node.skip ≡ false
-    → weights (more (tree p.node p.number below) others) ≡ cond p.node.is_static 0 1 + (2 + length p.node.entries) + (weights below + weights others)
-open_weight p below others h = ap (λ b. cond p.node.is_static 0 1 + cond b 1 (2 + length p.node.entries + weights below) + weights others) h ∙ omega arith
+    → weights (more (tree p.node p.number below) others) ≡ cond p.node.is_static 0 1 + (2 + publications p.node) + (weights below + weights others)
+open_weight p below others h = ap (λ b. cond p.node.is_static 0 1 + cond b 1 (2 + publications p.node + weights below) + weights others) h ∙ omega arith
 
 -- a node that isn't skipped is counted, and then what comes after it
 pub weights_open : (p : NumberedNode) (after below others : List NumberedNode) → IsSplit p after below others → is_some p.node.skip ≡ false
-    → weights (forest (p ∷ after)) ≡ cond p.node.is_static 0 1 + (2 + length p.node.entries) + weights (forest after)
+    → weights (forest (p ∷ after)) ≡ cond p.node.is_static 0 1 + (2 + publications p.node) + weights (forest after)
 weights_open p after below others s h =
-    ap weights s.trees ∙ open_weight p (forest below) (forest others) h ∙ ap (λ w. cond p.node.is_static 0 1 + (2 + length p.node.entries) + w) (sym (after_node p after below others s).1)
+    ap weights s.trees ∙ open_weight p (forest below) (forest others) h ∙ ap (λ w. cond p.node.is_static 0 1 + (2 + publications p.node) + w) (sym (after_node p after below others s).1)
 
 pub first_and_rest : (ps : List NumberedNode) (p : NumberedNode) → 1 ≤ length ps → p ≡ get_or ps 0 p → p ∷ take (length ps - 1) (drop 1 ps) ≡ ps
 first_and_rest [] p h e = absurd (omega arith)
 first_and_rest (q ∷ qs) p h e = ap₂ (λ a b. a ∷ b) e (take_all _ qs (omega arith))
 
-pub stamped_report : (first k i : ℕ) (es : List (List (List ℕ × List ℕ))) (olds news : List Step) → i < length es
-    → news ≡ olds ++ record { node = k; stamp = first + 1 + i; act = Report i } ∷ []
-    → olds ++ stamped (first + 1 + i) (reports k i (drop i es)) ≡ news ++ stamped (first + 1 + (i + 1)) (reports k (i + 1) (drop (i + 1) es))
-stamped_report first k i es olds news h e =
-    ap (λ ms. olds ++ stamped (first + 1 + i) ms) (reports_next k i es h)
-    ∙ ap (λ j. olds ++ (record { node = k; stamp = first + 1 + i; act = Report i } ∷ stamped j (reports k (i + 1) (drop (i + 1) es)))) (omega arith)
-    ∙ sym (append_assoc olds (record { node = k; stamp = first + 1 + i; act = Report i } ∷ []) _)
-    ∙ ap (λ l. l ++ stamped (first + 1 + (i + 1)) (reports k (i + 1) (drop (i + 1) es))) (sym e)
-
 -- ---- a node by itself
 
-own_by : (b : Bool) (n : Node) → is_some n.skip ≡ b → own n ≡ cond n.is_static 0 1 + cond b 1 (2 + length n.entries)
-own_by b n e = ap (λ s. cond n.is_static 0 1 + cond s 1 (2 + length n.entries)) e
+own_by : (b : Bool) (n : Node) → is_some n.skip ≡ b → own n ≡ cond n.is_static 0 1 + cond b 1 (2 + publications n)
+own_by b n e = ap (λ s. cond n.is_static 0 1 + cond s 1 (2 + publications n)) e
 
 pub counted_open : (p : NumberedNode) (after below others : List NumberedNode) → IsSplit p after below others → is_some p.node.skip ≡ false
     → weights (forest (p ∷ after)) ≡ own p.node + weights (forest after)
@@ -146,7 +142,7 @@ pub counted_skipped : (p : NumberedNode) (after below others : List NumberedNode
     → weights (forest (p ∷ after)) ≡ own p.node + weights (forest others)
 counted_skipped p after below others s h =
     ap weights s.trees
-    ∙ ap (λ b. cond p.node.is_static 0 1 + cond b 1 (2 + length p.node.entries + weights (forest below)) + weights (forest others)) h
+    ∙ ap (λ b. cond p.node.is_static 0 1 + cond b 1 (2 + publications p.node + weights (forest below)) + weights (forest others)) h
     ∙ ap (λ w. w + weights (forest others)) (sym (own_by true p.node h))
 
 at_least : (b : Bool) (r x y o : ℕ) → r + cond b 1 x ≤ r + cond b 1 (x + y) + o
@@ -156,7 +152,7 @@ at_least false r x y o = omega arith
 pub own_within : (p : NumberedNode) (after : List NumberedNode) → IsForest (p ∷ after) → own p.node ≤ weights (forest (p ∷ after))
 own_within p after h =
     let s = (parted p after h).split in
-    omega (arith, ap weights s.trees, at_least (is_some p.node.skip) (cond p.node.is_static 0 1) (2 + length p.node.entries) (weights (forest (take (p.span - 1) after))) (weights (forest (drop (p.span - 1) after))))
+    omega (arith, ap weights s.trees, at_least (is_some p.node.skip) (cond p.node.is_static 0 1) (2 + publications p.node) (weights (forest (take (p.span - 1) after))) (weights (forest (drop (p.span - 1) after))))
 
 -- ---- what is counted is no more than the whole
 
@@ -164,5 +160,5 @@ pub tree_within : (p : NumberedNode) (after below others : List NumberedNode) �
     → weight (tree p.node p.number (forest below)) + weights (forest others) ≤ weights (forest (p ∷ after))
 tree_within p after below others s = omega (arith, ap weights s.trees)
 
-pub open_is : (n : Node) (k : ℕ) (f : Forest) → is_some n.skip ≡ false → weight (tree n k f) ≡ 2 + length n.entries + weights f
-open_is n k f e = ap (λ b. cond b 1 (2 + length n.entries + weights f)) e
+pub open_is : (n : Node) (k : ℕ) (f : Forest) → is_some n.skip ≡ false → weight (tree n k f) ≡ 2 + publications n + weights f
+open_is n k f e = ap (λ b. cond b 1 (2 + publications n + weights f)) e

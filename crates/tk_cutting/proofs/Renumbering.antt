@@ -6,7 +6,7 @@ use Rattle.tk_ids.specs.IdText.{Pair}
 use Rattle.tk_ids.specs.declared.tables.Descriptor.{Descriptor}
 use Rattle.tk_cutting.specs.declared.nodes.NumberedNode.{NumberedNode}
 use Rattle.tk_cutting.specs.Trees.{Tree, tree, Forest, no_trees, more, grow, forest, contents}
-use Rattle.tk_cutting.specs.Weights.{weight, weights}
+use Rattle.tk_cutting.specs.Weights.{publications, weight, weights}
 use Rattle.tk_cutting.specs.Numbers.{with_number, numbered_from, numbered, of_kind, IsNumbered}
 use Rattle.tk_cutting.specs.Ids.{ids, ids_below, descriptor_in, descriptors, descriptors_below, AreDistinct}
 use Rattle.tk_cutting.specs.Keys.{lock_keys}
@@ -79,7 +79,7 @@ mutual
 
 mutual
   weight-bare : (t : Tree) → weight (bare t) ≡ weight t
-  weight-bare (tree n k f) = ap (λ w. cond (is_some n.skip) 1 (2 + length n.entries + w)) (weights-bare f)
+  weight-bare (tree n k f) = ap (λ w. cond (is_some n.skip) 1 (2 + publications n + w)) (weights-bare f)
 
   weights-bare : (f : Forest) → weights (bare_all f) ≡ weights f
   weights-bare no_trees = refl

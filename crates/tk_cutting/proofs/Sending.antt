@@ -1,24 +1,26 @@
 -- What the spine's events are.
-use Rattle.std.proofs.Common.{◌≡◌, ℕ, zero, suc, ◌+◌, ◌≤◌, ◌<◌, List, [], ◌∷◌, ◌++◌, Bool, cond, true, false, All, length, flat_map, get_or, slice_index_or, refl, ap, ◌∙◌, subst, arith, length-append}
+use Rattle.std.proofs.Common.{◌≡◌, ◌≢◌, ℕ, zero, suc, ◌+◌, ◌≤◌, ◌<◌, List, [], ◌∷◌, ◌++◌, Bool, cond, true, false, All, length, flat_map, get_or, slice_index_or, refl, ap, ◌∙◌, subst, arith, length-append}
 use Rattle.std.specs.List.{list_all}
 use Rattle.std.proofs.lemmas.Option.{slice_get-get_or}
 use Rattle.std.proofs.lemmas.List.Elements.{All-nil, All-cons, All-head, All-tail, All-append}
-use Rattle.tk_cutting.specs.declared.counts.TheConstants.{MAX_EVENTS}
+use Rattle.tk_limits.specs.declared.limits.TheConstants.{MAX_EVENTS}
 use Rattle.tk_ids.specs.declared.tables.TheConstants.{MAX_DESCRIPTORS}
 use Rattle.tk_ids.specs.declared.tables.Descriptor.{Descriptor}
-use Rattle.tk_events.specs.declared.kinds.Kind.TheVariants.{Finished, Reporting}
-use Rattle.tk_events.specs.declared.payloads.Payload.TheVariants.{Outcome, Report}
+use Rattle.tk_events.specs.declared.kinds.Kind.{Kind}
+use Rattle.tk_events.specs.declared.kinds.Kind.TheVariants.{Dynamic, Finished, Reporting, File}
+use Rattle.tk_events.specs.declared.payloads.Payload.{Payload}
+use Rattle.tk_events.specs.declared.payloads.Payload.TheVariants.{Outcome, Report, Path}
 use Rattle.tk_events.specs.Event.{is_lawful}
 use Rattle.tk_cutting.specs.declared.nodes.Node.{Node}
 use Rattle.tk_cutting.specs.declared.nodes.NumberedNode.{NumberedNode}
 use Rattle.tk_cutting.specs.Trees.{Tree, tree, Forest, no_trees, more, flat, flats, forest, IsForest, contents}
 use Rattle.tk_cutting.specs.Script.{moves, opening}
-use Rattle.tk_cutting.specs.Events.{reported, begun, ended, IsStatic, AreStatic}
+use Rattle.tk_cutting.specs.Events.{published, begun, ended, IsStatic, AreStatic}
 use Rattle.tk_cutting.specs.Cutting.{Part, opens, runs, closes, parts, parts_below, from_each, head, tail, piece, moves_of, on_spine, all_static, before_of, after_of, units_of, pieces_of}
 use Rattle.tk_cutting.specs.Numbers.{IsNumbered, of_kind}
 use Rattle.tk_cutting.specs.Ids.{ids_below}
 use Rattle.tk_cutting.specs.Planned.{IsPlanned, is_lawful_node}
-use Rattle.tk_cutting.proofs.Moving.{length-reports}
+use Rattle.tk_cutting.proofs.Moving.{length-opening}
 use Rattle.tk_cutting.proofs.Cuts.{if_both, spine_facts, parts_below-moves, from_each-append}
 use Rattle.tk_cutting.proofs.Keying.{key_within, ids_below-length}
 use Rattle.tk_cutting.proofs.Founding.{rooted_static}
@@ -67,16 +69,21 @@ module _ (table : List Descriptor) where
 
   -- ---- their events
 
-  reports_static : (k i : ℕ) (es : List (List (List ℕ × List ℕ))) → k < length table → list_all (λ e. is_lawful Reporting (Report e)) es ≡ true → All (IsStatic table) (reported k i es)
-  reports_static k i [] l h = All-nil (IsStatic table)
-  reports_static k i (e ∷ es) l h =
-      let both = if_both (is_lawful Reporting (Report e)) _ h in
-      All-cons (IsStatic table) _ (reported k (i + 1) es) (record { known = l; lawful = both.0; registers_none = λ same. cc }) (reports_static k (i + 1) es l both.1)
+  published_static : {A : Type 0} (kind : Kind) (payload : A → Payload) → kind ≢ Dynamic → (k i : ℕ) (xs : List A) → k < length table → list_all (λ x. is_lawful kind (payload x)) xs ≡ true
+      → All (IsStatic table) (published kind payload k i xs)
+  published_static kind payload other k i [] l h = All-nil (IsStatic table)
+  published_static kind payload other k i (x ∷ xs) l h =
+      let both = if_both (is_lawful kind (payload x)) _ h in
+      All-cons (IsStatic table) _ (published kind payload k (i + 1) xs) (record { known = l; lawful = both.0; registers_none = other }) (published_static kind payload other k (i + 1) xs l both.1)
 
   begun_static : (k i : ℕ) (n : Node) → Fit n k → All (IsStatic table) (begun k i n)
   begun_static k i n fit =
-      All-cons (IsStatic table) _ (reported k (i + 1) n.entries) (record { known = fit.1; lawful = refl; registers_none = λ same. cc })
-      (reports_static k (i + 1) n.entries fit.1 (if_both (is_lawful Finished (Outcome n.status n.message)) _ fit.0).1)
+      let own = if_both (is_lawful Finished (Outcome n.status n.message)) _ fit.0 in
+      let both = if_both (list_all (λ e. is_lawful Reporting (Report e)) n.entries) _ own.1 in
+      All-cons (IsStatic table) _ _ (record { known = fit.1; lawful = refl; registers_none = λ same. cc })
+      (All-append (IsStatic table) (published Reporting Report k (i + 1) n.entries) (published File Path k (i + 1 + length n.entries) n.files)
+      (published_static Reporting Report (λ same. cc) k (i + 1) n.entries fit.1 both.0)
+      (published_static File Path (λ same. cc) k (i + 1 + length n.entries) n.files fit.1 both.1))
 
   ended_static : (k i : ℕ) (n : Node) → Fit n k → All (IsStatic table) (ended k i n ∷ [])
   ended_static k i n fit =
@@ -96,14 +103,18 @@ module _ (table : List Descriptor) where
 
 -- ---- how many there are
 
-length-reported : (k i : ℕ) (es : List (List (List ℕ × List ℕ))) → length (reported k i es) ≡ length es
-length-reported k i [] = refl
-length-reported k i (e ∷ es) = ap suc (length-reported k (i + 1) es)
+length-published : {A : Type 0} (kind : Kind) (payload : A → Payload) (k i : ℕ) (xs : List A) → length (published kind payload k i xs) ≡ length xs
+length-published kind payload k i [] = refl
+length-published kind payload k i (x ∷ xs) = ap suc (length-published kind payload k (i + 1) xs)
+
+length-begun : (k i : ℕ) (n : Node) → length (begun k i n) ≡ length (opening n k)
+length-begun k i n =
+    omega (arith, length-append (published Reporting Report k (i + 1) n.entries) (published File Path k (i + 1 + length n.entries) n.files), length-published Reporting Report k (i + 1) n.entries, length-published File Path k (i + 1 + length n.entries) n.files, length-opening n k)
 
 heads_few : (i : ℕ) (ps : List Part) → length (from_each head i ps) ≤ length (flat_map moves_of ps)
 heads_few i [] = omega arith
 heads_few i (opens n k ∷ ps) =
-    omega (arith, heads_few (i + length (moves_of (opens n k))) ps, length-reported k (i + 1) n.entries, length-reports k 0 n.entries, length-append (begun k i n) (from_each head (i + length (moves_of (opens n k))) ps), length-append (opening n k) (flat_map moves_of ps))
+    omega (arith, heads_few (i + length (moves_of (opens n k))) ps, length-begun k i n, length-append (begun k i n) (from_each head (i + length (moves_of (opens n k))) ps), length-append (opening n k) (flat_map moves_of ps))
 heads_few i (runs t ∷ ps) = omega (arith, heads_few (i + length (moves t)) ps, length-append (moves t) (flat_map moves_of ps))
 heads_few i (closes n k ∷ ps) = omega (arith, heads_few (i + 1) ps)
 

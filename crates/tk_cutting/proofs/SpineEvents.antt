@@ -1,11 +1,12 @@
 -- The events of nodes that stand at spots.
 use Rattle.std.proofs.Common.{◌≡◌, ℕ, ◌+◌, ◌≤◌, ◌<◌, List, [], ◌∷◌, ◌++◌, length, drop, get_or, All, slice_index_or, sym, ap, ◌∙◌, subst, arith, append_assoc, append-nil, length-drop}
 use Rattle.std.proofs.lemmas.List.{drop_more, drop_all, get_or-drop}
-use Rattle.tk_cutting.specs.declared.counts.TheConstants.{MAX_EVENTS}
+use Rattle.tk_limits.specs.declared.limits.TheConstants.{MAX_EVENTS}
 use Rattle.tk_events.specs.declared.events.Event.{Event}
 use Rattle.tk_cutting.specs.declared.nodes.NumberedNode.{NumberedNode}
 use Rattle.tk_cutting.specs.declared.cuttings.SpineStamp.{SpineStamp}
 use Rattle.tk_cutting.specs.Events.{begun, ended}
+use Rattle.tk_cutting.specs.Weights.{publications}
 use Rattle.tk_cutting.specs.Adds.{HasStampAt, HasNode, heads, tails, begun_at, ended_at}
 
 pub node_within : (all : List NumberedNode) (s : SpineStamp) → HasNode all s → s.position < length all
@@ -17,8 +18,8 @@ sits_node all s h = (h.top, h.rest, h.position)
 top_is : (all : List NumberedNode) (s : SpineStamp) (p q : NumberedNode) (rest : List NumberedNode) → drop s.position all ≡ q ∷ rest → p ≡ get_or all s.position p → p ≡ q
 top_is all s p q rest e f = f ∙ ap (λ i. get_or all i p) (omega arith) ∙ sym (get_or-drop s.position all 0 p) ∙ ap (λ ps. get_or ps 0 p) e
 
-pub stamps_small : (all : List NumberedNode) (s : SpineStamp) (p : NumberedNode) → HasStampAt all s → p ≡ get_or all s.position p → s.stamp + length p.node.entries ≤ MAX_EVENTS
-stamps_small all s p h e = subst (λ q. s.stamp + length q.node.entries ≤ MAX_EVENTS) (sym (top_is all s p h.top h.rest h.position e)) h.limit
+pub stamps_small : (all : List NumberedNode) (s : SpineStamp) (p : NumberedNode) → HasStampAt all s → p ≡ get_or all s.position p → s.stamp + publications p.node ≤ MAX_EVENTS
+stamps_small all s p h e = subst (λ q. s.stamp + publications q.node ≤ MAX_EVENTS) (sym (top_is all s p h.top h.rest h.position e)) h.limit
 
 next : (olds news xs ys zs : List Event) → news ≡ olds ++ xs → ys ≡ xs ++ zs → olds ++ ys ≡ news ++ zs
 next olds news xs ys zs e f = ap (λ l. olds ++ l) f ∙ sym (append_assoc olds xs zs) ∙ ap (λ l. l ++ zs) (sym e)

@@ -1,6 +1,6 @@
 -- What cutting some nodes adds to what was cut.
 use Rattle.std.specs.Prelude.{◌≡◌, ◌≤◌, ℕ, suc, ◌+◌, List, [], ◌∷◌, ◌++◌, length, drop, map, flat_map, All}
-use Rattle.tk_cutting.specs.declared.counts.TheConstants.{MAX_EVENTS}
+use Rattle.tk_limits.specs.declared.limits.TheConstants.{MAX_EVENTS}
 use Rattle.tk_events.specs.declared.events.Event.{Event}
 use Rattle.tk_cutting.specs.declared.nodes.NumberedNode.{NumberedNode}
 use Rattle.tk_cutting.specs.declared.cuttings.PlanUnit.{PlanUnit}
@@ -9,7 +9,7 @@ use Rattle.tk_cutting.specs.declared.cuttings.Cutting.{Cutting}
 use Rattle.tk_cutting.specs.Trees.{IsForest, forest, tree, first_tree, number_of, contents}
 use Rattle.tk_cutting.specs.Events.{begun, ended}
 use Rattle.tk_cutting.specs.Cutting.{Part, Piece, opened, piece, from_each, head, tail, moves_of}
-use Rattle.tk_cutting.specs.Weights.{weight}
+use Rattle.tk_cutting.specs.Weights.{publications, weight}
 use Rattle.tk_cutting.specs.LockNeeds.{IsNeed}
 
 -- the piece whose nodes come first
@@ -21,7 +21,7 @@ piece_at (p ∷ ps) i = record { tree = first_tree p ps; first = i } ∷ []
 abbrev pub found : List NumberedNode → List PlanUnit → List Piece
 found all = flat_map (λ u. piece_at (drop u.position all) u.first)
 
--- the start and the entries of the node that comes first
+-- the start, the entries and the files of the node that comes first
 abbrev pub begun_at : List NumberedNode → ℕ → List Event
 begun_at [] i = []
 begun_at (p ∷ ps) i = begun p.number i p.node
@@ -54,12 +54,12 @@ pub record Fits (all : List NumberedNode) (keys : List (List ℕ)) (u : PlanUnit
 abbrev pub HasNode : List NumberedNode → SpineStamp → Type 0
 HasNode all s = (top : NumberedNode) × (rest : List NumberedNode) × (drop s.position all ≡ top ∷ rest)
 
--- and the stamps of its start and its entries are small
+-- and the stamps of its start, its entries and its files are small
 pub record HasStampAt (all : List NumberedNode) (s : SpineStamp) : Type 0 where
   pub top : NumberedNode
   pub rest : List NumberedNode
   pub position : drop s.position all ≡ top ∷ rest
-  pub limit : s.stamp + length top.node.entries ≤ MAX_EVENTS
+  pub limit : s.stamp + publications top.node ≤ MAX_EVENTS
 
 pub record Adds (all : List NumberedNode) (keys : List (List ℕ)) (old new : Cutting) (ps : List Part) : Type 0 where
   pub spine : new.spine.items ≡ old.spine.items ++ flat_map opened ps

@@ -100,7 +100,7 @@ pieces_of root = from_each piece 0 (parts_below true root)
 abbrev pub units_of : Forest → List ℕ
 units_of root = map (λ u. number_of u.tree) (pieces_of root)
 
--- the spine's starts with their entries, in preorder
+-- the spine's starts with their entries and files, in preorder
 abbrev pub before_of : Forest → List Event
 before_of root = from_each head 0 (parts_below true root)
 

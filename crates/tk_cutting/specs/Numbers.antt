@@ -45,3 +45,8 @@ pub record ArePositionsByNumber (all : List NumberedNode) (positions : List ℕ)
 abbrev pub entry_of : Option Node → ℕ → Option (List (List ℕ × List ℕ))
 entry_of None i = None
 entry_of (Some n) i = slice_get n.entries i
+
+-- the path of one of a node's files
+abbrev pub path_of : Option Node → ℕ → Option (List ℕ)
+path_of None i = None
+path_of (Some n) i = slice_get n.files i

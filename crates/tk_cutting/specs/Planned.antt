@@ -1,12 +1,12 @@
 -- What a plan is.
 use Rattle.std.specs.Prelude.{◌≡◌, ◌≤◌, ◌<◌, ◌&&◌, ℕ, List, [], Option, Some, None, Bool, true, false, slice_get, length, ◌++◌}
 use Rattle.std.specs.List.{list_all}
-use Rattle.tk_cutting.specs.declared.counts.TheConstants.{MAX_EVENTS}
+use Rattle.tk_limits.specs.declared.limits.TheConstants.{MAX_EVENTS}
 use Rattle.tk_ids.specs.declared.tables.TheConstants.{MAX_DESCRIPTORS}
 use Rattle.tk_cutting.specs.declared.needs.TheConstants.{MAX_KEYS}
 use Rattle.tk_ids.specs.declared.tables.Descriptor.{Descriptor}
-use Rattle.tk_events.specs.declared.kinds.Kind.TheVariants.{Finished, Reporting}
-use Rattle.tk_events.specs.declared.payloads.Payload.TheVariants.{Outcome, Report}
+use Rattle.tk_events.specs.declared.kinds.Kind.TheVariants.{Finished, Reporting, File}
+use Rattle.tk_events.specs.declared.payloads.Payload.TheVariants.{Outcome, Report, Path}
 use Rattle.tk_events.specs.Event.{is_lawful}
 use Rattle.tk_book.specs.Wants.{Wants}
 use Rattle.tk_book.specs.Words.{packed}
@@ -34,7 +34,9 @@ is_rooted (more (tree n k g) (more t f)) = false
 
 -- the events that the node gives may be sent
 abbrev pub is_lawful_node : Node → Bool
-is_lawful_node n = is_lawful Finished (Outcome n.status n.message) && list_all (λ e. is_lawful Reporting (Report e)) n.entries
+is_lawful_node n =
+    is_lawful Finished (Outcome n.status n.message)
+    && (list_all (λ e. is_lawful Reporting (Report e)) n.entries && list_all (λ p. is_lawful File (Path p)) n.files)
 
 -- A tree under one static root. No two of its nodes have one id, and its static nodes are those of the table, in preorder.
 -- Nothing of it speaks of the nodes' numbers.

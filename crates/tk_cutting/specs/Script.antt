@@ -2,7 +2,7 @@
 use Rattle.std.specs.Prelude.{ℕ, ◌+◌, List, [], ◌∷◌, ◌++◌, is_some, if◌then◌else◌}
 use Rattle.tk_cutting.specs.declared.nodes.Node.{Node}
 use Rattle.tk_cutting.specs.declared.steps.Act.{Act}
-use Rattle.tk_cutting.specs.declared.steps.Act.TheVariants.{Register, Skip, Start, Report, Finish}
+use Rattle.tk_cutting.specs.declared.steps.Act.TheVariants.{Register, Skip, Start, Report, File, Finish}
 use Rattle.tk_cutting.specs.declared.steps.Move.{Move}
 use Rattle.tk_cutting.specs.declared.steps.Step.{Step}
 use Rattle.tk_cutting.specs.Trees.{Tree, tree, Forest, no_trees, more}
@@ -10,19 +10,20 @@ use Rattle.tk_cutting.specs.Trees.{Tree, tree, Forest, no_trees, more}
 abbrev pub move : ℕ → Act → Move
 move k a = record { node = k; act = a }
 
-abbrev pub reports : ℕ → ℕ → List (List (List ℕ × List ℕ)) → List Move
-reports k i [] = []
-reports k i (e ∷ es) = move k (Report i) ∷ reports k (i + 1) es
+-- an act for each of some things, by their numbers from a first one on
+abbrev pub each_act : {A : Type 0} → (ℕ → Act) → ℕ → ℕ → List A → List Move
+each_act act k i [] = []
+each_act act k i (x ∷ xs) = move k (act i) ∷ each_act act k (i + 1) xs
 
--- a node's start, then its entries in order
+-- a node's start, then its entries in order, then its files in order
 abbrev pub opening : Node → ℕ → List Move
-opening n k = move k Start ∷ reports k 0 n.entries
+opening n k = move k Start ∷ (each_act Report k 0 n.entries ++ each_act File k 0 n.files)
 
 -- a dynamic child is registered first
 abbrev pub registration : ℕ → Tree → List Move
 registration parent (tree n k f) = if n.is_static then [] else move k (Register parent) ∷ []
 
--- A skipped node gives one skip; any other its start, its entries, what its children give, and its finish.
+-- A skipped node gives one skip; any other its start, its entries, its files, what its children give, and its finish.
 abbrev mutual
   pub moves : Tree → List Move
   moves (tree n k f) = if is_some n.skip then move k Skip ∷ [] else opening n k ++ (moves_below k f ++ move k Finish ∷ [])

@@ -7,13 +7,17 @@ use Rattle.tk_cutting.specs.Trees.{Tree, tree, Forest, no_trees, more}
 abbrev pub registered : Tree → ℕ
 registered (tree n k f) = if n.is_static then 0 else 1
 
+-- how many entries and files a node publishes
+abbrev pub publications : Node → ℕ
+publications n = length n.entries + length n.files
+
 -- those of a node by itself, with its registration
 abbrev pub own : Node → ℕ
-own n = (if n.is_static then 0 else 1) + (if is_some n.skip then 1 else 2 + length n.entries)
+own n = (if n.is_static then 0 else 1) + (if is_some n.skip then 1 else 2 + publications n)
 
 abbrev mutual
   pub weight : Tree → ℕ
-  weight (tree n k f) = if is_some n.skip then 1 else 2 + length n.entries + weights f
+  weight (tree n k f) = if is_some n.skip then 1 else 2 + publications n + weights f
 
   pub weights : Forest → ℕ
   weights no_trees = 0

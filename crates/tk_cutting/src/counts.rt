@@ -2,13 +2,18 @@
 ghost use Rattle.std.specs.Prelude.{◌≡◌, ◌+◌, ◌≤◌, ◌<◌, ◌^◌, min, MatchOption, length};
 ghost use Rattle.tk_cutting.specs.Trees.{IsForest, forest, tree};
 ghost use Rattle.tk_cutting.specs.Script.{moves_below};
-ghost use Rattle.tk_cutting.specs.Weights.{own, weight, weights};
+ghost use Rattle.tk_cutting.specs.Weights.{own, publications, weight, weights};
 
 use crate::nodes::{Node, NumberedNode};
 use crate::splits::split;
+use tk_limits::MAX_EVENTS;
 
-/// How many events a plan has at most.
-pub const MAX_EVENTS: u64 = 1_048_576;
+/// How many entries and files a node publishes.
+pub(crate) fn count_publications(node: &Node) -> u64
+    ensures { result ≡ publications node.now }
+{
+    node.entries.as_slice().len() as u64 + node.files.as_slice().len() as u64
+}
 
 /// How many events a node emits by itself, counted up to the limit of a plan.
 fn own_events(node: &Node) -> u64
@@ -19,8 +24,7 @@ fn own_events(node: &Node) -> u64
     if node.skip.is_some() {
         return registration + 1;
     }
-    let entries = node.entries.as_slice().len() as u64;
-    registration + 2 + entries.min(MAX_EVENTS + 1)
+    registration + 2 + count_publications(node).min(MAX_EVENTS + 1)
 }
 
 /// How many events some trees have, counted up to the limit of a plan.
@@ -69,5 +73,5 @@ pub(crate) fn count_tree(numbered_node: &NumberedNode, below: &[NumberedNode]) -
     if numbered_node.node.skip.is_some() {
         return 1;
     }
-    2 + numbered_node.node.entries.as_slice().len() as u64 + count_all(below)
+    2 + count_publications(&numbered_node.node) + count_all(below)
 }

@@ -1,16 +1,16 @@
 //! Cutting a plan.
 ghost use Rattle.std.specs.Prelude.{◌≡◌, ◌≤◌, ◌+◌, ◌*◌, ◌^◌, ℕ, List, suc, true, ◌∷◌, ◌++◌, [], IfOk, OnOk, length, drop};
 ghost use Rattle.tk_cutting.specs.Trees.{IsForest, forest, tree, contents};
-ghost use Rattle.tk_cutting.specs.Weights.{weight, weights};
+ghost use Rattle.tk_cutting.specs.Weights.{publications, weight, weights};
 ghost use Rattle.tk_cutting.specs.Cutting.{opens, runs, closes, parts, parts_below, all_static};
 ghost use Rattle.tk_cutting.specs.Adds.{Adds};
 ghost use Rattle.tk_cutting.specs.Kept.{IsCut};
 ghost use Rattle.tk_cutting.specs.Keys.{lock_keys};
 ghost use Rattle.tk_ids.specs.declared.tables.TheConstants.{MAX_DESCRIPTORS};
-ghost use Rattle.tk_cutting.specs.declared.counts.TheConstants.{MAX_EVENTS};
+ghost use Rattle.tk_limits.specs.declared.limits.TheConstants.{MAX_EVENTS};
 ghost use Rattle.tk_cutting.specs.declared.needs.TheConstants.{MAX_KEYS};
 
-use crate::counts::count_tree;
+use crate::counts::{count_publications, count_tree};
 use crate::needs::need_of;
 use crate::nodes::NumberedNode;
 use crate::spines::is_on_spine;
@@ -69,10 +69,10 @@ impl Cutting {
         }
     }
 
-    /// Adds a start on the spine with its entries.
+    /// Adds a start on the spine with its entries and its files.
     fn begin(&mut self, numbered_node: &NumberedNode, position: usize) -> Result<(), AllocError>
-        requires { self.old.first + (1 + length numbered_node.now.node.entries) ≤ MAX_EVENTS }
-        ensures first { OnOk result (self.new.first ≡ self.old.first + (1 + length numbered_node.now.node.entries)) }
+        requires { self.old.first + (1 + publications numbered_node.now.node) ≤ MAX_EVENTS }
+        ensures first { OnOk result (self.new.first ≡ self.old.first + (1 + publications numbered_node.now.node)) }
         ensures adds { OnOk result ((all rest : List NumberedNode) → (keys : List (List ℕ)) → drop position all ≡ numbered_node.now ∷ rest
             → Adds all keys self.old self.new (opens numbered_node.now.node numbered_node.now.number ∷ [])) }
     {
@@ -81,7 +81,7 @@ impl Cutting {
             position,
             stamp: self.first,
         })?;
-        self.first += 1 + numbered_node.node.entries.as_slice().len() as u64;
+        self.first += 1 + count_publications(&numbered_node.node);
         Ok(())
     }
 

@@ -3,8 +3,9 @@ ghost use Rattle.std.specs.Prelude.{◌≡◌, ◌++◌, ◌∷◌, [], ◌+◌,
 ghost use Rattle.tk_cutting.specs.Events.{begun, ended};
 ghost use Rattle.tk_cutting.specs.StepEvents.{payload_of};
 ghost use Rattle.tk_cutting.specs.Known.{Does};
+ghost use Rattle.tk_cutting.specs.Weights.{publications};
 ghost use Rattle.tk_cutting.specs.declared.nodes.NumberedNode.{NumberedNode};
-ghost use Rattle.tk_cutting.specs.declared.counts.TheConstants.{MAX_EVENTS};
+ghost use Rattle.tk_limits.specs.declared.limits.TheConstants.{MAX_EVENTS};
 
 use crate::nodes::{Node, NumberedNode};
 use crate::steps::Act;
@@ -48,20 +49,24 @@ pub(crate) fn payload(alloc: Global, node: &Node, act: Act) -> Result<Payload, A
             let entry = &node.entries.as_slice()[index as usize];
             Ok(Payload::Report(entry.try_clone(alloc)?))
         }
+        Act::File(index) => {
+            let path = &node.files.as_slice()[index as usize];
+            Ok(Payload::Path(path.try_clone()?))
+        }
         Act::Finish => outcome(node),
         Act::Register { parent: _ } => Ok(Payload::Nothing),
         Act::Start => Ok(Payload::Nothing),
     }
 }
 
-/// Adds a node's start and its entries, with their stamps.
+/// Adds a node's start, its entries and its files, with their stamps.
 pub(crate) fn push_begun(
     alloc: Global,
     numbered_node: &NumberedNode,
     stamp: u64,
     events: &mut Vec<Event>,
 ) -> Result<(), AllocError>
-    requires { stamp + length numbered_node.now.node.entries ≤ MAX_EVENTS }
+    requires { stamp + publications numbered_node.now.node ≤ MAX_EVENTS }
     ensures { OnOk result (events.new.items ≡ events.old.items ++ begun numbered_node.now.number stamp numbered_node.now.node) }
 {
     events.push(Event {
@@ -70,12 +75,22 @@ pub(crate) fn push_begun(
         stamp,
         payload: Payload::Nothing,
     })?;
-    for (index, entry) in numbered_node.node.entries.as_slice().iter().enumerate() {
+    let entries = numbered_node.node.entries.as_slice();
+    'entries: for (index, entry) in entries.iter().enumerate() {
         events.push(Event {
             kind: Kind::Reporting,
             key: numbered_node.number,
             stamp: stamp + 1 + index as u64,
             payload: Payload::Report(entry.try_clone(alloc)?),
+        })?;
+    }
+    let first = stamp + 1 + entries.len() as u64;
+    'files: for (index, path) in numbered_node.node.files.as_slice().iter().enumerate() {
+        events.push(Event {
+            kind: Kind::File,
+            key: numbered_node.number,
+            stamp: first + index as u64,
+            payload: Payload::Path(path.try_clone()?),
         })?;
     }
     Ok(())

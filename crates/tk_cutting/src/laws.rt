@@ -1,7 +1,6 @@
 //! Laws of plans, which hold of the definitions alone.
 ghost use Rattle.std.specs.Prelude.{◌≡◌};
 ghost use Rattle.tk_cutting.specs.declared.needs.TheConstants.{MAX_KEYS};
-ghost use Rattle.tk_cutting.specs.declared.counts.TheConstants.{MAX_EVENTS};
 ghost use Rattle.tk_cutting.specs.Laws.{LosesNothing, KeepsStamps, SpineEventsAreSteps, FindsNodes, HasKeys};
 
 /// Cutting loses nothing and adds nothing: the parts into which a tree is cut, one after another,
@@ -31,8 +30,7 @@ pub fn has_keys()
     ensures { HasKeys }
 {}
 
-/// A plan has at most 15 lock keys besides `global`, and gives at most 2^20 events.
+/// A plan has at most 15 lock keys besides `global`.
 pub fn limits()
-    ensures keys { MAX_KEYS ≡ 15 }
-    ensures events { MAX_EVENTS ≡ 1048576 }
+    ensures { MAX_KEYS ≡ 15 }
 {}

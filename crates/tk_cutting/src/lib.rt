@@ -15,8 +15,9 @@ mod spines;
 mod splits;
 mod steps;
 
-pub use counts::{MAX_EVENTS, count_events};
+pub use counts::count_events;
 pub use needs::MAX_KEYS;
-pub use nodes::{Entries, Lock, Locks, Node, NumberedNode};
+pub use nodes::{Entries, Files, Lock, Locks, Node, NumberedNode};
 pub use plans::Plan;
 pub use steps::{Act, Step};
+pub use tk_limits::MAX_EVENTS;

@@ -74,6 +74,36 @@ impl Entries {
     }
 }
 
+/// The paths of the files that a node publishes.
+#[derive(Debug, Drop)]
+pub struct Files {
+    paths: Vec<Text>,
+}
+
+impl Model for Files {
+    ghost use Rattle.std.specs.Prelude.{List, ℕ};
+
+    ghost Value = { List (List ℕ) };
+
+    ghost view = { λ f. f.paths.items };
+}
+
+impl Files {
+    /// The files of these paths, in their order.
+    pub fn new(paths: Vec<Text>) -> Files
+        ensures { result ≡ paths.items }
+    {
+        Files { paths }
+    }
+
+    /// The paths, in their order.
+    pub fn as_slice(&self) -> &[Text]
+        ensures { result.now ≡ self.now }
+    {
+        self.paths.as_slice()
+    }
+}
+
 /// What a plan says of one node.
 #[derive(Debug, Drop)]
 pub struct Node {
@@ -94,6 +124,7 @@ pub struct Node {
     pub status: Status,
     pub message: Option<Text>,
     pub entries: Entries,
+    pub files: Files,
 }
 
 /// A node in preorder.

@@ -50,7 +50,7 @@ impl Plan {
     ghost use Rattle.tk_cutting.specs.Known.{IsKnown};
     ghost use Rattle.tk_cutting.specs.StepEvents.{payload_of};
     ghost use Rattle.tk_cutting.specs.Planned.{IsPlanned, IsNeedOf, need_word, IsWithin};
-    ghost use Rattle.tk_cutting.specs.Numbers.{in_order, entry_of, numbered, IsNumbered};
+    ghost use Rattle.tk_cutting.specs.Numbers.{in_order, entry_of, path_of, numbered, IsNumbered};
 
     /// The plan of nodes in preorder, whose numbers it sets, given the table of the static ones
     /// and the lock keys, save `global`, by first appearance.
@@ -126,7 +126,7 @@ impl Plan {
         stamp_all(alloc, piece.first, moves.as_slice())
     }
 
-    /// The starts of the spine's nodes with their entries, in preorder.
+    /// The starts of the spine's nodes with their entries and their files, in preorder.
     pub fn before(&self, alloc: Global) -> Result<Vec<Event>, AllocError>
         ensures events { IfOk result (λ events. events.items ≡ before_of (forest self.now.nodes)) }
         ensures lawful { IfOk result (λ events. AreStatic self.now.table events.items) }
@@ -220,6 +220,15 @@ impl Plan {
         ensures { entry_of (slice_get (in_order self.now.nodes) node) entry ≡ Some result.now }
     {
         self.node(node).entries.as_slice()[entry as usize].as_slice()
+    }
+
+    /// The path of one of the node's files, which count from 0.
+    pub fn path(&self, node: u32, file: u32) -> &str
+        requires node { node < length self.now.nodes }
+        requires file { IsSome (path_of (slice_get (in_order self.now.nodes) node) file) }
+        ensures { path_of (slice_get (in_order self.now.nodes) node) file ≡ Some result.now }
+    {
+        self.node(node).files.as_slice()[file as usize].as_str()
     }
 
     /// How the node finishes, and the message.

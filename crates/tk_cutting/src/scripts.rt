@@ -3,8 +3,8 @@ ghost use Rattle.std.specs.Prelude.{◌≡◌, ◌++◌, ◌+◌, ◌≤◌, ◌
 ghost use Rattle.tk_cutting.specs.Trees.{IsForest, forest, tree};
 ghost use Rattle.tk_cutting.specs.Script as Script;
 ghost use Rattle.tk_cutting.specs.Script.{moves_below, stamped};
-ghost use Rattle.tk_cutting.specs.Weights.{weight, weights};
-ghost use Rattle.tk_cutting.specs.declared.counts.TheConstants.{MAX_EVENTS};
+ghost use Rattle.tk_cutting.specs.Weights.{publications, weight, weights};
+ghost use Rattle.tk_limits.specs.declared.limits.TheConstants.{MAX_EVENTS};
 
 use crate::nodes::{Node, NumberedNode};
 use crate::splits::split;
@@ -12,17 +12,23 @@ use crate::steps::{Act, Move, Step};
 use std::alloc::{AllocError, Global};
 
 fn push_opening(node: &Node, number: u32, moves: &mut Vec<Move>) -> Result<(), AllocError>
-    requires { length node.now.entries ≤ MAX_EVENTS }
+    requires { publications node.now ≤ MAX_EVENTS }
     ensures { OnOk result (moves.new.items ≡ moves.old.items ++ Script.opening node.now number) }
 {
     moves.push(Move {
         node: number,
         act: Act::Start,
     })?;
-    for index in 0..node.entries.as_slice().len() as u32 {
+    'entries: for index in 0..node.entries.as_slice().len() as u32 {
         moves.push(Move {
             node: number,
             act: Act::Report(index),
+        })?;
+    }
+    'files: for index in 0..node.files.as_slice().len() as u32 {
+        moves.push(Move {
+            node: number,
+            act: Act::File(index),
         })?;
     }
     Ok(())

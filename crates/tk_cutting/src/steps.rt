@@ -12,6 +12,8 @@ pub enum Act {
     Start,
     /// The node publishes its entry of that number, from 0.
     Report(u32),
+    /// The node publishes its file of that number, from 0.
+    File(u32),
     Finish,
 }
 
@@ -27,6 +29,7 @@ impl Act {
             Act::Skip => Kind::Skipped,
             Act::Start => Kind::Started,
             Act::Report(_) => Kind::Reporting,
+            Act::File(_) => Kind::File,
             Act::Finish => Kind::Finished,
         }
     }

@@ -1,7 +1,7 @@
 -- What an engine emits into a sink, and its events before and after the units.
-use Rattle.std.specs.Prelude.{◌≡◌, ℕ, ◌<◌, ◌≤◌, true, List, length, All}
+use Rattle.std.specs.Prelude.{◌≡◌, ℕ, ◌<◌, ◌≤◌, ◌++◌, true, List, length, All}
 use Rattle.tk_events.specs.declared.events.Event.{Event}
-use Rattle.tk_queue.specs.Known.{is_plain}
+use Rattle.tk_queue.specs.Known.{is_plain, registrations}
 use Rattle.tk_queue.specs.Limits.{most_events}
 use Rattle.tk_queue.specs.Ends.{SenderView}
 
@@ -10,6 +10,14 @@ pub record IsSame (a b : SenderView) : Type 0 where
   pub session : b.session ≡ a.session
   pub table : b.table ≡ a.table
   pub worker : b.worker ≡ a.worker
+
+-- what b sent is what a sent, and a list after it
+abbrev pub Extends : SenderView → SenderView → Type 0
+Extends a b = (l : List Event) × (b.sent ≡ a.sent ++ l)
+
+-- and a unit may emit that list for the worker, which had registered what a sent
+abbrev pub ExtendsAs : (ℕ → ℕ → List Event → Type 0) → SenderView → SenderView → Type 0
+ExtendsAs may a b = (l : List Event) × (b.sent ≡ a.sent ++ l) × may a.worker (registrations a.sent) l
 
 -- an event that worker 0 may emit, where n descriptors are static
 abbrev pub IsStaticEvent : ℕ → Event → Type 0

@@ -1,11 +1,10 @@
 //! What is run: a table, events before and after, and units with their needs.
-ghost use Rattle.std.specs.Prelude.{◌≡◌, ℕ, ◌<◌, ◌≤◌, List, ◌++◌, length, Some, IfOk, OnOk, OnErr};
+ghost use Rattle.std.specs.Prelude.{◌≡◌, ℕ, ◌<◌, ◌≤◌, List, length, Some, IfOk, OnOk, OnErr};
 ghost use Rattle.std.specs.Arc.{arc_value};
 ghost use Rattle.tk_ids.specs.declared.tables.Descriptor.{Descriptor};
 ghost use Rattle.tk_events.specs.declared.events.Event.{Event};
 ghost use Rattle.tk_book.specs.Wants.{Wants};
-ghost use Rattle.tk_queue.specs.Known.{registrations};
-ghost use Rattle.tk_engine.specs.Engines.{IsSame, AreBeforeOrAfter};
+ghost use Rattle.tk_engine.specs.Engines.{IsSame, Extends, ExtendsAs, AreBeforeOrAfter};
 
 use crate::sinks::{Sink, SinkFault};
 use std::alloc::{AllocError, Global};
@@ -20,11 +19,11 @@ pub const MAX_UNITS: u32 = 65_536;
 /// Why a unit stopped.
 #[derive(Debug, Drop)]
 pub enum UnitFault {
-    /// The sink took no event.
+    /// The sink refused an event or a registration.
     Sink(SinkFault),
     /// Memory was refused.
     Memory,
-    /// A fault of the engine's own.
+    /// A fault of the engine's own, with a number of its choice, as one for each thing that it can't go on without.
     Own(u32),
 }
 
@@ -48,8 +47,11 @@ impl From<AllocError> for UnitFault {
     }
 }
 
-/// What is run. Its meaning is the table of its static descriptors, the lists of events before and after, the number of its
-/// units, each unit's need, and the lists that each unit may emit.
+/// A test engine, whose units of work [`execute`](crate::execute) runs in parallel.
+///
+/// JUnit: a `HierarchicalTestEngine`; a unit is a subtree of nodes that one thread runs. The meaning of an engine is its
+/// table, the events before and after the units, the number of the units, each unit's need, and which lists of events each
+/// unit may emit (`may`). The narrower `may` is, the more a run of the engine is proved to say.
 pub trait Engine: Sync {
     ghost table: { Self → List Descriptor };
 
@@ -61,34 +63,52 @@ pub trait Engine: Sync {
 
     ghost need: { Self → ℕ → Wants };
 
-    // may e u w k l: unit u may emit l for worker w that had registered k descriptors before
+    // may e u w k l: unit u may emit l for worker w, which had registered k descriptors before
     ghost may: { Self → ℕ → ℕ → ℕ → List Event → Type 0 };
 
-    /// The table of the static descriptors.
+    /// The table of the static descriptors. A descriptor's key is its number in it.
     fn table(&self) -> &Arc<Table>
         ensures { arc_value result.now ≡ table self.now };
 
-    /// How many units there are.
+    /// How many units there are, at most `MAX_UNITS`. They are numbered from 0.
     fn units(&self) -> u32
         ensures is { result ≡ units self.now }
         ensures limit { result ≤ MAX_UNITS };
 
-    /// The events before all units. They are lawful, of static descriptors, and no registrations.
+    /// The events before all units, which worker 0 emits. They are lawful, of static descriptors, and no registrations, and
+    /// at most `MAX_EVENTS`.
+    ///
+    /// # Errors
+    /// Memory was refused.
     fn before(&self, alloc: Global) -> Result<Vec<Event>, AllocError>
         ensures is { IfOk result (λ v. v.items ≡ before self.now) }
-        ensures static_events { OnOk result (AreBeforeOrAfter (length (table self.now)) (before self.now)) };
+        ensures static_events { OnOk result
+            (AreBeforeOrAfter (length (table self.now)) (before self.now)) };
 
-    /// The events after all units. They are lawful, of static descriptors, and no registrations.
+    /// The events after all units, which worker 0 emits, of the same kind as those before.
+    ///
+    /// # Errors
+    /// Memory was refused.
     fn after(&self, alloc: Global) -> Result<Vec<Event>, AllocError>
         ensures is { IfOk result (λ v. v.items ≡ after self.now) }
-        ensures static_events { OnOk result (AreBeforeOrAfter (length (table self.now)) (after self.now)) };
+        ensures static_events { OnOk result
+            (AreBeforeOrAfter (length (table self.now)) (after self.now)) };
 
-    /// What a unit needs while it runs.
+    /// Which resources a unit reads and writes while it runs. JUnit: its `ResourceLock`s, and `@Isolated`.
     fn need(&self, unit: u32) -> Need
         requires { unit < units self.now }
         ensures { result ≡ need self.now unit };
 
-    /// Runs a unit: emits one of the lists that it may emit. The seat holds the unit's need.
+    /// Runs one unit, and emits its events into `sink` in the order in which they happen.
+    ///
+    /// [`execute`](crate::execute) calls this from the thread of the worker that drew `unit`; up to `MAX_WORKERS` threads
+    /// call it at once, each with another unit. `seat` holds the locks that `need` asked for, from before the call until
+    /// after it. A static descriptor's key is its number in the table, the key of a dynamic one is what `sink.register`
+    /// answered. JUnit: the body of a `HierarchicalTestEngine`'s node.
+    ///
+    /// # Errors
+    /// `Sink` where the sink refused an event, `Memory`, or `Own(n)` with a number of the engine's own choice. The worker
+    /// then stops, and `execute` answers `RunFault::Engine(unit, fault)` of the lowest worker that had a fault.
     fn run<R: Wait, S: Sink>(
         &self,
         rt: &R,
@@ -101,6 +121,7 @@ pub trait Engine: Sync {
         requires holds { seat.now.holds ≡ Some (need self.now unit) }
         requires table { (S.meaning sink.old).table ≡ table self.now }
         ensures same { IsSame (S.meaning sink.old) (S.meaning sink.new) }
-        ensures ok { OnOk result ((l : List Event) × ((S.meaning sink.new).sent ≡ (S.meaning sink.old).sent ++ l) × may self.now unit (S.meaning sink.old).worker (registrations (S.meaning sink.old).sent) l) }
-        ensures err { OnErr result ((l : List Event) × ((S.meaning sink.new).sent ≡ (S.meaning sink.old).sent ++ l)) };
+        ensures ok { OnOk result
+            (ExtendsAs (may self.now unit) (S.meaning sink.old) (S.meaning sink.new)) }
+        ensures err { OnErr result (Extends (S.meaning sink.old) (S.meaning sink.new)) };
 }

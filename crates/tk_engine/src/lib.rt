@@ -14,4 +14,4 @@ pub use engines::{Engine, MAX_UNITS, UnitFault};
 pub use results::Results;
 pub use runs::{RunFault, execute};
 pub use sinks::{Sink, SinkFault};
-pub use tk_claim::{Claim, ClaimFault, ClaimSeat, MAX_SEATS};
+pub use tk_claim::{Claim, ClaimFault, ClaimSeat};

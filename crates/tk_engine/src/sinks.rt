@@ -8,25 +8,38 @@ use tk_events::Event;
 use tk_ids::{DType, Segment};
 use tk_queue::{RegisterFault, SendFault, Sender};
 
-/// Why a sink took no event. It is handed on as it came.
+/// Why a sink took no event. `execute` hands it on as it came.
 #[derive(Debug, Drop)]
 pub enum SinkFault {
+    /// An event was refused, and comes back.
     Send(SendFault),
+    /// A registration was refused.
     Register(RegisterFault),
 }
 
-/// Takes the events of a unit, for one worker of a session. Its meaning is what contracts see of a sender: the session, the
-/// table, the worker, and the list that it emitted. What is taken is added as a sender adds it, and what is refused changes
-/// nothing.
+/// Takes the events of a unit, for one worker of a session. JUnit: an `EngineExecutionListener`.
+///
+/// Its meaning is what contracts see of a sender: the session, the table, the worker, and the list that it emitted. What is
+/// taken is added as a sender adds it, and what is refused changes nothing.
 pub trait Sink {
     ghost meaning: { Self → SenderView };
 
-    /// Emits an event.
+    /// Emits an event of a static descriptor, or of one that this sink registered.
+    ///
+    /// # Errors
+    /// `Send` where the event is unlawful, a registration, of an unknown descriptor, or one too many (`MAX_EVENTS`).
     fn emit<R: Wait>(&mut self, rt: &R, event: Event) -> Result<(), SinkFault>
-        ensures ok { OnOk result ((refusal_of (meaning self.old) event ≡ None) × (meaning self.new ≡ sends (meaning self.old) event)) }
+        ensures ok { OnOk result ((refusal_of (meaning self.old) event ≡ None)
+            × (meaning self.new ≡ sends (meaning self.old) event)) }
         ensures err { OnErr result (meaning self.new ≡ meaning self.old) };
 
-    /// Registers a descriptor below its parent, emits its registration with that stamp, and answers its key.
+    /// Registers a dynamic descriptor below its parent, emits its registration with that stamp, and answers its key.
+    ///
+    /// `parent` is the key of a static descriptor or of one that this sink registered; the new descriptor's id is the
+    /// parent's with `segment` appended. JUnit: `dynamicTestRegistered`.
+    ///
+    /// # Errors
+    /// `Register` where the parent is unknown, the id would be too long, a limit is reached, or memory was refused.
     fn register<R: Wait>(
         &mut self,
         rt: &R,
@@ -45,7 +58,8 @@ impl Sink for Sender {
     ghost meaning = { λ s. s };
 
     fn emit<R: Wait>(&mut self, rt: &R, event: Event) -> Result<(), SinkFault>
-        ensures ok { OnOk result ((refusal_of self.old event ≡ None) × (self.new ≡ sends self.old event)) }
+        ensures ok { OnOk result ((refusal_of self.old event ≡ None)
+            × (self.new ≡ sends self.old event)) }
         ensures err { OnErr result (self.new ≡ self.old) }
         ensures cause { IfErr result (IsSendCause self.old event) }
     {
@@ -67,7 +81,8 @@ impl Sink for Sender {
         ensures ok { IfOk result (λ key.
             IsRegisteredAs self.old self.new parent segment.now name.now dtype stamp (Ok key)) }
         ensures err { OnErr result (self.new ≡ self.old) }
-        ensures cause { IfErr result (IsRegisterCause self.old self.new parent segment.now name.now dtype stamp) }
+        ensures cause { IfErr result
+            (IsRegisterCause self.old self.new parent segment.now name.now dtype stamp) }
     {
         match Sender::register(self, rt, parent, segment, name, dtype, stamp) {
             Ok(key) => Ok(key),

@@ -59,7 +59,8 @@ fn spawn_workers<'s, 'e, R: Threads + Wait + Sync, E: Engine>(
 ) -> JoinedWorkers
     requires limit { claim.now.limit ≡ E.units engine.now }
     requires ready { CanRunWorkers claim.now book.now (E.table engine.now) unstarted joined }
-    ensures run_to_the_end { WorkersWereRun (E.may engine.now) (E.units engine.now) claim.now (vec_len unstarted.senders) joined result }
+    ensures run_to_the_end { WorkersWereRun (E.may engine.now) (E.units engine.now) claim.now
+        (vec_len unstarted.senders) joined result }
     ensures capacity { vec_capacity joined.outcomes ≤ vec_capacity result.outcomes }
     ensures at_most { vec_len result.outcomes ≤ vec_len unstarted.senders }
 {
@@ -76,7 +77,8 @@ fn spawn_workers<'s, 'e, R: Threads + Wait + Sync, E: Engine>(
     let run = move || -> Outcome
         requires { (claim.now.limit ≡ E.units engine.now)
             × IsReady claim.now book.now (E.table engine.now) handles }
-        ensures { IsDone (E.may engine.entry.now) (E.units engine.entry.now) handles.sender.session claim.entry.now handles.sender.worker result }
+        ensures { IsDone (E.may engine.entry.now) (E.units engine.entry.now) handles.sender.session
+            claim.entry.now handles.sender.worker result }
     { work(rt, alloc, engine, claim, book, handles) };
     match scope.spawn_with(promise, run) {
         Ok(thread) => {
@@ -107,7 +109,8 @@ pub(crate) fn run_workers<R: Threads + Wait + Sync, E: Engine>(
 ) -> JoinedWorkers
     requires limit { claim.now.limit ≡ E.units engine.now }
     requires ready { CanRunWorkers claim.now book.now (E.table engine.now) unstarted joined }
-    ensures { WorkersWereRun (E.may engine.now) (E.units engine.now) claim.now (vec_len unstarted.senders) joined result }
+    ensures { WorkersWereRun (E.may engine.now) (E.units engine.now) claim.now
+        (vec_len unstarted.senders) joined result }
 {
     thread::scope(
         thread::scope_env(),
@@ -115,7 +118,8 @@ pub(crate) fn run_workers<R: Threads + Wait + Sync, E: Engine>(
         move |scope| -> JoinedWorkers
             requires { (claim.now.limit ≡ E.units engine.now)
                 × CanRunWorkers claim.now book.now (E.table engine.now) unstarted joined }
-            ensures { WorkersWereRun (E.may engine.entry.now) (E.units engine.entry.now) claim.entry.now (vec_len unstarted.senders) joined result }
+            ensures { WorkersWereRun (E.may engine.entry.now) (E.units engine.entry.now)
+                claim.entry.now (vec_len unstarted.senders) joined result }
         { spawn_workers(rt, alloc, scope, engine, claim, book, unstarted, joined) },
     )
 }

@@ -72,7 +72,8 @@ fn run_unit<R: Wait, E: Engine>(
     ensures book { seat.new.book ≡ seat.old.book }
     ensures released { seat.new.holds ≡ None }
     ensures same { IsSame sender.old sender.new }
-    ensures ok { OnOk result ((l : List Event) × (sender.new.sent ≡ sender.old.sent ++ l) × E.may engine.now unit sender.old.worker (registrations sender.old.sent) l) }
+    ensures ok { OnOk result ((l : List Event) × (sender.new.sent ≡ sender.old.sent ++ l)
+        × E.may engine.now unit sender.old.worker (registrations sender.old.sent) l) }
     ensures err { OnErr result ((l : List Event) × (sender.new.sent ≡ sender.old.sent ++ l)) }
 {
     book.acquire(rt, seat, engine.need(unit));
@@ -101,7 +102,8 @@ fn run_units<R: Wait, E: Engine>(
     ensures same { IsSame sender.old sender.new }
     ensures claim { claim_seat.new.claim ≡ claim_seat.old.claim }
     ensures all { IfNone result (claim_seat.new.spent ≡ true) }
-    ensures emits { IfNone result (Emits (E.may engine.now) sender.old.worker 0 claim_seat.new.numbers sender.new.sent) }
+    ensures emits { IfNone result
+        (Emits (E.may engine.now) sender.old.worker 0 claim_seat.new.numbers sender.new.sent) }
     ensures unit { IfSome result (λ failure. failure.unit < E.units engine.now) }
     ensures stopped { IfSome result (λ failure.
         IsStopped (E.may engine.now) sender.old.worker claim_seat.new sender.new.sent failure.unit) }
@@ -128,7 +130,8 @@ pub(crate) fn work<R: Wait, E: Engine>(
 ) -> Outcome
     requires limit { claim.now.limit ≡ E.units engine.now }
     requires ready { IsReady claim.now book.now (E.table engine.now) handles }
-    ensures { IsDone (E.may engine.now) (E.units engine.now) handles.sender.session claim.now handles.sender.worker result }
+    ensures { IsDone (E.may engine.now) (E.units engine.now) handles.sender.session claim.now
+        handles.sender.worker result }
 {
     let WorkerHandles {
         mut sender,

@@ -10,4 +10,5 @@ mod registrations;
 pub use events::{Entry, Event};
 pub use kinds::{Kind, Status};
 pub use payloads::{Pairs, Payload};
-pub use registrations::{MAX_WORKERS, is_worker, registered_key};
+pub use registrations::{is_worker, registered_key};
+pub use tk_limits::MAX_WORKERS;

@@ -153,7 +153,8 @@ impl Flags {
         requires within { 64 * block < length self.now }
         ensures count { result ≤ 64 }
         ensures rest { drop result buffer.new ≡ drop result buffer.old }
-        ensures picked { take result buffer.new ≡ items_where_true (take 64 (drop (64 * block) self.now)) (take 64 (drop (64 * block) column.now)) }
+        ensures picked { take result buffer.new ≡ items_where_true
+            (take 64 (drop (64 * block) self.now)) (take 64 (drop (64 * block) column.now)) }
     {
         let start = 64 * block;
         let end = (start + 64).min(self.len);

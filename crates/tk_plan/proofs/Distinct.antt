@@ -43,13 +43,13 @@ abbrev pub IsRun : List Pair → List NodeInput → Type 0
 IsRun earlier [] = Unit {0}
 IsRun earlier (x ∷ xs) = (x.earlier ≡ earlier) × IsRun (earlier ++ segment_of x ∷ []) xs
 
-run_in : (array : List ℕ) (level : ℕ) (above : List Pair) (b : Bool) (i : ℕ) (earlier : List Pair) (ds : List Data) → IsRun earlier (node_inputs_in array level above b i earlier ds)
-run_in array level above b i earlier [] = tt
-run_in array level above b i earlier (d ∷ ds) = (refl, run_in array level above b (i + 1) (earlier ++ segment_in d ∷ []) ds)
+run_in : (array : List ℕ) (level : ℕ) (above : List Pair) (b fs : Bool) (i : ℕ) (earlier : List Pair) (ds : List Data) → IsRun earlier (node_inputs_in array level above b fs i earlier ds)
+run_in array level above b fs i earlier [] = tt
+run_in array level above b fs i earlier (d ∷ ds) = (refl, run_in array level above b fs (i + 1) (earlier ++ segment_in d ∷ []) ds)
 
-segments_in : (array : List ℕ) (level : ℕ) (above : List Pair) (b : Bool) (i : ℕ) (earlier : List Pair) (ds : List Data) → map segment_of (node_inputs_in array level above b i earlier ds) ≡ map segment_in ds
-segments_in array level above b i earlier [] = refl
-segments_in array level above b i earlier (d ∷ ds) = ap (λ l. segment_in d ∷ l) (segments_in array level above b (i + 1) (earlier ++ segment_in d ∷ []) ds)
+segments_in : (array : List ℕ) (level : ℕ) (above : List Pair) (b fs : Bool) (i : ℕ) (earlier : List Pair) (ds : List Data) → map segment_of (node_inputs_in array level above b fs i earlier ds) ≡ map segment_in ds
+segments_in array level above b fs i earlier [] = refl
+segments_in array level above b fs i earlier (d ∷ ds) = ap (λ l. segment_in d ∷ l) (segments_in array level above b fs (i + 1) (earlier ++ segment_in d ∷ []) ds)
 
 run_append : (earlier : List Pair) (xs ys : List NodeInput) → IsRun earlier xs → IsRun (earlier ++ map segment_of xs) ys → IsRun earlier (xs ++ ys)
 run_append earlier [] ys r q = subst (λ e. IsRun e ys) (append-nil earlier) q
@@ -59,9 +59,9 @@ run_append earlier (x ∷ xs) ys r q =
 run_below : (s : NodeInput) → IsRun [] (below s)
 run_below s =
     let cs = children_of s.is_static s.value in
-    let here : map segment_of (children_in s cs) ≡ map segment_in cs = segments_in _ _ _ _ _ _ cs in
-    run_append [] (children_in s cs) (dynamic_in s cs (dynamic_of s.value)) (run_in _ _ _ _ _ _ cs)
-    (subst (λ e. IsRun e (dynamic_in s cs (dynamic_of s.value))) (sym here) (run_in _ _ _ _ _ (map segment_in cs) (dynamic_of s.value)))
+    let here : map segment_of (children_in s cs) ≡ map segment_in cs = segments_in _ _ _ _ _ _ _ cs in
+    run_append [] (children_in s cs) (dynamic_in s cs (dynamic_of s.value)) (run_in _ _ _ _ _ _ _ cs)
+    (subst (λ e. IsRun e (dynamic_in s cs (dynamic_of s.value))) (sym here) (run_in _ _ _ _ _ _ (map segment_in cs) (dynamic_of s.value)))
 
 -- ---- from a verdict
 

@@ -51,12 +51,12 @@ contents_after : (old new : List NumberedNode) (k : ℕ) (x : NodeInput) → new
 contents_after old new k x e = ap contents e ∙ map-append _ old (flat (grown k x)) ∙ ap (λ l. contents old ++ l) (nodes-grown k x)
 
 -- the sites that are left, from the next on
-pub node_input_next : (array : List ℕ) (level : ℕ) (above : List Pair) (b : Bool) (i : ℕ) (met new : List Pair) (vs : List Value) (v : Value) → i < length vs → v ≡ get_or vs i v → new ≡ met ++ segment_in (view v) ∷ []
-    → node_inputs_in array level above b i met (map view (drop i vs))
-    ≡ record { path = item_at array i; level = level; is_static = b; above = above; earlier = met; value = view v } ∷ node_inputs_in array level above b (i + 1) new (map view (drop (i + 1) vs))
-node_input_next array level above b i met new vs v h e n =
-    ap (node_inputs_in array level above b i met) (values_next vs i v h e)
-    ∙ ap (λ m. record { path = item_at array i; level = level; is_static = b; above = above; earlier = met; value = view v } ∷ node_inputs_in array level above b (i + 1) m (map view (drop (i + 1) vs))) (sym n)
+pub node_input_next : (array : List ℕ) (level : ℕ) (above : List Pair) (b fs : Bool) (i : ℕ) (met new : List Pair) (vs : List Value) (v : Value) → i < length vs → v ≡ get_or vs i v → new ≡ met ++ segment_in (view v) ∷ []
+    → node_inputs_in array level above b fs i met (map view (drop i vs))
+    ≡ record { path = item_at array i; level = level; is_static = b; takes_files = fs; above = above; earlier = met; value = view v } ∷ node_inputs_in array level above b fs (i + 1) new (map view (drop (i + 1) vs))
+node_input_next array level above b fs i met new vs v h e n =
+    ap (node_inputs_in array level above b fs i met) (values_next vs i v h e)
+    ∙ ap (λ m. record { path = item_at array i; level = level; is_static = b; takes_files = fs; above = above; earlier = met; value = view v } ∷ node_inputs_in array level above b fs (i + 1) m (map view (drop (i + 1) vs))) (sym n)
 
 module _ (k m : ℕ) (above up : List Pair) (old now : Reader) (all rest left : List NodeInput) (x y : NodeInput) (levels : m ≡ k) (same : y ≡ x) (split : rest ≡ x ∷ left) (g : Goes k above old now all rest) where
   here : verdict (contents now.nodes.items) (node_inputs m y) ≡ verdict (contents now.nodes.items) (node_inputs k x)
@@ -90,15 +90,15 @@ unfolding joined
 goes_end k above old now all g = (g.verdict, record { nodes = sym (g.nodes ∙ append-nil now.nodes.items); descriptors = sym (g.described ∙ append-nil now.descriptors.items); noted = g.noted })
 
 -- where there is nothing to read
-pub goes_nowhere : (k : ℕ) (above : List Pair) (old : Reader) (array : List ℕ) (level : ℕ) (b : Bool) (earlier : List Pair) (ds : List Data) → ds ≡ [] → IsNoted old
-    → (verdict (contents old.nodes.items) (flat_map (node_inputs k) (node_inputs_in array level above b 0 earlier ds)) ≡ None)
-    × Adds old old (flat_map flat (map (grown k) (node_inputs_in array level above b 0 earlier ds))) (flat_map (descriptors above) (map (grown k) (node_inputs_in array level above b 0 earlier ds)))
+pub goes_nowhere : (k : ℕ) (above : List Pair) (old : Reader) (array : List ℕ) (level : ℕ) (b fs : Bool) (earlier : List Pair) (ds : List Data) → ds ≡ [] → IsNoted old
+    → (verdict (contents old.nodes.items) (flat_map (node_inputs k) (node_inputs_in array level above b fs 0 earlier ds)) ≡ None)
+    × Adds old old (flat_map flat (map (grown k) (node_inputs_in array level above b fs 0 earlier ds))) (flat_map (descriptors above) (map (grown k) (node_inputs_in array level above b fs 0 earlier ds)))
 unfolding joined
-goes_nowhere k above old array level b earlier ds none noted = (
-  ap (λ l. verdict (contents old.nodes.items) (flat_map (node_inputs k) (node_inputs_in array level above b 0 earlier l))) none,
+goes_nowhere k above old array level b fs earlier ds none noted = (
+  ap (λ l. verdict (contents old.nodes.items) (flat_map (node_inputs k) (node_inputs_in array level above b fs 0 earlier l))) none,
   record {
-    nodes = sym (append-nil old.nodes.items) ∙ ap (λ l. old.nodes.items ++ flat_map flat (map (grown k) (node_inputs_in array level above b 0 earlier l))) (sym none);
-    descriptors = sym (append-nil old.descriptors.items) ∙ ap (λ l. old.descriptors.items ++ flat_map (descriptors above) (map (grown k) (node_inputs_in array level above b 0 earlier l))) (sym none);
+    nodes = sym (append-nil old.nodes.items) ∙ ap (λ l. old.nodes.items ++ flat_map flat (map (grown k) (node_inputs_in array level above b fs 0 earlier l))) (sym none);
+    descriptors = sym (append-nil old.descriptors.items) ∙ ap (λ l. old.descriptors.items ++ flat_map (descriptors above) (map (grown k) (node_inputs_in array level above b fs 0 earlier l))) (sym none);
     noted = noted;
   },
 )
@@ -112,12 +112,12 @@ check_fault (suc m) before s f e = verdict-cons before s (flat_map (node_inputs 
 
 -- the two arrays of a node
 pub parts_of : (s : NodeInput) (cs ds : List Data) (id e1 e2 : List Pair) → cs ≡ children_of s.is_static s.value → ds ≡ dynamic_of s.value → id ≡ id_of s → e1 ≡ [] → e2 ≡ e1 ++ map segment_in cs
-    → below s ≡ node_inputs_in (member_at s.path (codes "children")) (s.level + 1) id true 0 e1 cs ++ node_inputs_in (member_at s.path (codes "dynamic")) (s.level + 1) id false 0 e2 ds
+    → below s ≡ node_inputs_in (member_at s.path (codes "children")) (s.level + 1) id true s.takes_files 0 e1 cs ++ node_inputs_in (member_at s.path (codes "dynamic")) (s.level + 1) id false s.takes_files 0 e2 ds
 parts_of s cs ds id e1 e2 children dynamic is none met =
     let two : e2 ≡ map segment_in cs = met ∙ ap (λ e. e ++ map segment_in cs) none in
-    ap₂ (λ a b. node_inputs_in (member_at s.path (codes "children")) (s.level + 1) (id_of s) true 0 [] a ++ node_inputs_in (member_at s.path (codes "dynamic")) (s.level + 1) (id_of s) false 0 (map segment_in a) b) (sym children) (sym dynamic)
-    ∙ ap₂ (λ a b. node_inputs_in (member_at s.path (codes "children")) (s.level + 1) (id_of s) true 0 a cs ++ node_inputs_in (member_at s.path (codes "dynamic")) (s.level + 1) (id_of s) false 0 b ds) (sym none) (sym two)
-    ∙ ap (λ a. node_inputs_in (member_at s.path (codes "children")) (s.level + 1) a true 0 e1 cs ++ node_inputs_in (member_at s.path (codes "dynamic")) (s.level + 1) a false 0 e2 ds) (sym is)
+    ap₂ (λ a b. node_inputs_in (member_at s.path (codes "children")) (s.level + 1) (id_of s) true s.takes_files 0 [] a ++ node_inputs_in (member_at s.path (codes "dynamic")) (s.level + 1) (id_of s) false s.takes_files 0 (map segment_in a) b) (sym children) (sym dynamic)
+    ∙ ap₂ (λ a b. node_inputs_in (member_at s.path (codes "children")) (s.level + 1) (id_of s) true s.takes_files 0 a cs ++ node_inputs_in (member_at s.path (codes "dynamic")) (s.level + 1) (id_of s) false s.takes_files 0 b ds) (sym none) (sym two)
+    ∙ ap (λ a. node_inputs_in (member_at s.path (codes "children")) (s.level + 1) a true s.takes_files 0 e1 cs ++ node_inputs_in (member_at s.path (codes "dynamic")) (s.level + 1) a false s.takes_files 0 e2 ds) (sym is)
 
 pub contents_pushed : (old : List NumberedNode) (p : NumberedNode) (n : Node) → p.node ≡ n → contents (old ++ p ∷ []) ≡ contents old ++ n ∷ []
 contents_pushed old p n e = map-append _ old (p ∷ []) ∙ ap (λ m. contents old ++ m ∷ []) e

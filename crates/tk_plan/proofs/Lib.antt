@@ -13,6 +13,7 @@ pub mod CheckSteps
 pub mod Going
 pub mod Distinct
 pub mod Tabling
+pub mod Filing
 pub mod Values
 pub mod Planning
 pub mod PlanLawSteps

@@ -17,7 +17,7 @@ use Rattle.tk_cutting.specs.Script.{moves, moves_below}
 use Rattle.tk_cutting.proofs.Grows.{is_forest, forest-flats}
 use Rattle.tk_plan.specs.Answers.{Refuses}
 use Rattle.tk_plan.specs.Checks.{first}
-use Rattle.tk_plan.specs.PlanOf.{PlanOf, top, root_at, root_of, first_fault, events_fault, ok_unless, verdict, is_kind, when}
+use Rattle.tk_plan.specs.PlanOf.{PlanOf, top, takes_files_in, root_at, root_of, first_fault, events_fault, ok_unless, verdict, is_kind, when}
 use Rattle.tk_plan.specs.Progress.{IsNoted}
 use Rattle.tk_plan.specs.Refusals.{IsFault}
 use Rattle.tk_plan.specs.NodeInputs.{NodeInput, node_inputs, grown}
@@ -55,21 +55,21 @@ pub top_fault : (v : Data) (p : List ℕ) → top [] v ≡ Some p → PlanOf v �
 top_fault v p e = ap (λ o. ok_unless (first_fault o (root_of v) (grown 60 (root_of v))) (grown 60 (root_of v))) e
 
 module _ (v r : Data) (found : get (codes "root") v ≡ Some r) (fine : top [] v ≡ None) where
-  at_root : PlanOf v ≡ answer None (verdict [] (node_inputs 60 (root_at r))) (root_at r) (grown 60 (root_at r))
+  at_root : PlanOf v ≡ answer None (verdict [] (node_inputs 60 (root_at (takes_files_in v) r))) (root_at (takes_files_in v) r) (grown 60 (root_at (takes_files_in v) r))
   unfolding answer
   at_root =
-      ap (λ o. ok_unless (first_fault (top [] v) (root_at (unwrap_or o null)) (grown 60 (root_at (unwrap_or o null)))) (grown 60 (root_at (unwrap_or o null)))) found
-      ∙ ap (λ o. ok_unless (first_fault o (root_at r) (grown 60 (root_at r))) (grown 60 (root_at r))) fine
+      ap (λ o. ok_unless (first_fault (top [] v) (root_at (takes_files_in v) (unwrap_or o null)) (grown 60 (root_at (takes_files_in v) (unwrap_or o null)))) (grown 60 (root_at (takes_files_in v) (unwrap_or o null)))) found
+      ∙ ap (λ o. ok_unless (first_fault o (root_at (takes_files_in v) r) (grown 60 (root_at (takes_files_in v) r))) (grown 60 (root_at (takes_files_in v) r))) fine
 
-  pub node_fault : (s : NodeInput) (f : PlanFault) → s ≡ root_at r → verdict [] (node_inputs 60 s) ≡ Some f → PlanOf v ≡ Err f
+  pub node_fault : (s : NodeInput) (f : PlanFault) → s ≡ root_at (takes_files_in v) r → verdict [] (node_inputs 60 s) ≡ Some f → PlanOf v ≡ Err f
   unfolding at_root answer
-  node_fault s f is e = at_root ∙ ap (λ o. answer None o (root_at r) (grown 60 (root_at r))) (ap (λ x. verdict [] (node_inputs 60 x)) (sym is) ∙ e)
+  node_fault s f is e = at_root ∙ ap (λ o. answer None o (root_at (takes_files_in v) r) (grown 60 (root_at (takes_files_in v) r))) (ap (λ x. verdict [] (node_inputs 60 x)) (sym is) ∙ e)
 
-  pub no_node_fault : (s : NodeInput) → s ≡ root_at r → verdict [] (node_inputs 60 s) ≡ None → PlanOf v ≡ ok_unless (events_fault (grown 60 s)) (grown 60 s)
+  pub no_node_fault : (s : NodeInput) → s ≡ root_at (takes_files_in v) r → verdict [] (node_inputs 60 s) ≡ None → PlanOf v ≡ ok_unless (events_fault (grown 60 s)) (grown 60 s)
   unfolding at_root answer
   no_node_fault s is e =
-      at_root ∙ ap (λ o. answer None o (root_at r) (grown 60 (root_at r))) (ap (λ x. verdict [] (node_inputs 60 x)) (sym is) ∙ e)
-      ∙ shortened (events_fault (grown 60 (root_at r))) (grown 60 (root_at r)) ∙ ap (λ x. ok_unless (events_fault (grown 60 x)) (grown 60 x)) (sym is)
+      at_root ∙ ap (λ o. answer None o (root_at (takes_files_in v) r) (grown 60 (root_at (takes_files_in v) r))) (ap (λ x. verdict [] (node_inputs 60 x)) (sym is) ∙ e)
+      ∙ shortened (events_fault (grown 60 (root_at (takes_files_in v) r))) (grown 60 (root_at (takes_files_in v) r)) ∙ ap (λ x. ok_unless (events_fault (grown 60 x)) (grown 60 x)) (sym is)
     where
       shortened : (o : Option PlanFault) (t : Tree) → ok_unless (first (o ∷ [])) t ≡ ok_unless o t
       shortened None t = refl

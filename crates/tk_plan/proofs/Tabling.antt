@@ -28,25 +28,25 @@ abbrev AllUnder : Bool → List NodeInput → Type 0
 AllUnder up [] = Unit {0}
 AllUnder up (x ∷ xs) = (x.is_static ≡ true → up ≡ true) × AllUnder up xs
 
-under_in : (array : List ℕ) (level : ℕ) (above : List Pair) (up b : Bool) (i : ℕ) (earlier : List Pair) (ds : List Data) → (b ≡ true → up ≡ true) → AllUnder up (node_inputs_in array level above b i earlier ds)
-under_in array level above up b i earlier [] h = tt
-under_in array level above up b i earlier (d ∷ ds) h = (h, under_in array level above up b (i + 1) (earlier ++ segment_in d ∷ []) ds h)
+under_in : (array : List ℕ) (level : ℕ) (above : List Pair) (up b fs : Bool) (i : ℕ) (earlier : List Pair) (ds : List Data) → (b ≡ true → up ≡ true) → AllUnder up (node_inputs_in array level above b fs i earlier ds)
+under_in array level above up b fs i earlier [] h = tt
+under_in array level above up b fs i earlier (d ∷ ds) h = (h, under_in array level above up b fs (i + 1) (earlier ++ segment_in d ∷ []) ds h)
 
 under_append : (up : Bool) (xs ys : List NodeInput) → AllUnder up xs → AllUnder up ys → AllUnder up (xs ++ ys)
 under_append up [] ys a b = b
 under_append up (x ∷ xs) ys a b = (a.0, under_append up xs ys a.1 b)
 
-under_children : (array : List ℕ) (level : ℕ) (above earlier : List Pair) (b : Bool) (v : Data) → AllUnder b (node_inputs_in array level above true 0 earlier (children_of b v))
-under_children array level above earlier true v = under_in array level above true true 0 earlier (children_of true v) (λ e. e)
-under_children array level above earlier false v = tt
+under_children : (array : List ℕ) (level : ℕ) (above earlier : List Pair) (b fs : Bool) (v : Data) → AllUnder b (node_inputs_in array level above true fs 0 earlier (children_of b v))
+under_children array level above earlier true fs v = under_in array level above true true fs 0 earlier (children_of true v) (λ e. e)
+under_children array level above earlier false fs v = tt
 
 false_true : (b : Bool) → false ≡ true → b ≡ true
 false_true b e = cc
 
 under_below : (s : NodeInput) → AllUnder s.is_static (below s)
 under_below s =
-    under_append s.is_static (children_in s (children_of s.is_static s.value)) (dynamic_in s (children_of s.is_static s.value) (dynamic_of s.value)) (under_children _ _ _ [] s.is_static s.value)
-    (under_in _ _ _ s.is_static false 0 _ (dynamic_of s.value) (false_true s.is_static))
+    under_append s.is_static (children_in s (children_of s.is_static s.value)) (dynamic_in s (children_of s.is_static s.value) (dynamic_of s.value)) (under_children _ _ _ [] s.is_static s.takes_files s.value)
+    (under_in _ _ _ s.is_static false s.takes_files 0 _ (dynamic_of s.value) (false_true s.is_static))
 
 under_all : (n : ℕ) → ((up : Bool) (s : NodeInput) → (s.is_static ≡ true → up ≡ true) → IsUnder up (grown n s)) → (up : Bool) (xs : List NodeInput) → AllUnder up xs → AreUnder up (forest_of (map (grown n) xs))
 under_all n each up [] h = tt

@@ -97,6 +97,13 @@ json_entry d = by_key (written d)
 abbrev pub json_entries : Option Data → List (List (List ℕ × List ℕ))
 json_entries d = map json_entry (listed d)
 
+-- the path of a file
+abbrev pub json_path : Data → List ℕ
+json_path d = json_text (Some d)
+
+abbrev pub json_files : Option Data → List (List ℕ)
+json_files d = map json_path (listed d)
+
 -- a pair has the key of a pair before it, or of one of these
 abbrev pub repeats_after : List (List ℕ) → List (List ℕ × List ℕ) → Bool
 repeats_after keys [] = false

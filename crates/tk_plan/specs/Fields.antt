@@ -1,12 +1,16 @@
 -- What readers of a node's members hand on.
-use Rattle.std.specs.Prelude.{◌≡◌, Bool, List, [], ◌∷◌, map, codes}
+use Rattle.std.specs.Prelude.{◌≡◌, ℕ, Bool, true, List, [], ◌∷◌, map, codes}
+use Rattle.std.specs.List.{list_all}
 use Rattle.serde_json.specs.Data.{Data}
 use Rattle.serde_json.specs.Find.{get}
 use Rattle.serde_json.specs.View.{view}
 use Rattle.tk_plan.specs.Checks.{Row}
 use Rattle.tk_plan.specs.Contents.{json_text, json_optional, json_dtype, listed}
-use Rattle.tk_plan.specs.Rows.{dtype_row, segment_row, name_row, mode_row, isolated_row, locks_row, skip_row, result_row, entries_row}
-use Rattle.tk_plan.specs.NodeInputs.{concurrent_of, isolated_of, locks_of, children_of, dynamic_of}
+use Rattle.tk_plan.specs.Rows.{dtype_row, segment_row, name_row, mode_row, isolated_row, locks_row, skip_row, result_row, entries_row, files_rows}
+use Rattle.tk_events.specs.Event.{is_lawful}
+use Rattle.tk_events.specs.declared.kinds.Kind.TheVariants.{File}
+use Rattle.tk_events.specs.declared.payloads.Payload.TheVariants.{Path}
+use Rattle.tk_plan.specs.NodeInputs.{concurrent_of, isolated_of, locks_of, files_of, children_of, dynamic_of}
 use Rattle.tk_plan.specs.Pointers.{IsPairOf}
 use Rattle.tk_plan.specs.Endings.{IsEnding, AreReports}
 use Rattle.tk_plan.specs.declared.node_fields.Heading.{Heading}
@@ -23,8 +27,8 @@ heading_rows = dtype_row ∷ segment_row ∷ name_row ∷ []
 abbrev pub concurrency_rows : List Row
 concurrency_rows = mode_row ∷ isolated_row ∷ locks_row ∷ []
 
-abbrev pub content_rows : List Row
-content_rows = skip_row ∷ result_row ∷ entries_row ∷ []
+abbrev pub content_rows : Bool → List Row
+content_rows takes_files = skip_row ∷ result_row ∷ entries_row ∷ files_rows takes_files
 
 pub record IsHeading (d : Data) (h : Heading) : Type 0 where
   pub dtype : h.dtype ≡ json_dtype (get (codes "type") d)
@@ -36,15 +40,20 @@ pub record IsConcurrency (is_static : Bool) (d : Data) (m : Concurrency) : Type 
   pub is_isolated : m.is_isolated ≡ isolated_of is_static d
   pub locks : m.locks ≡ locks_of is_static d
 
-pub record IsContent (d : Data) (c : Content) : Type 0 where
+pub record AreFiles (takes_files : Bool) (d : Data) (files : List (List ℕ)) : Type 0 where
+  pub paths : files ≡ files_of takes_files d
+  pub lawful : list_all (λ p. is_lawful File (Path p)) files ≡ true
+
+pub record IsContent (takes_files : Bool) (d : Data) (c : Content) : Type 0 where
   pub skip : c.skip ≡ json_optional (get (codes "skip") d)
   pub ending : IsEnding (get (codes "result") d) c.ending
   pub reports : AreReports (listed (get (codes "entries") d)) c.reports
+  pub files : AreFiles takes_files d c.files
 
-pub record HasFields (is_static : Bool) (d : Data) (f : Fields) : Type 0 where
+pub record HasFields (is_static takes_files : Bool) (d : Data) (f : Fields) : Type 0 where
   pub heading : IsHeading d f.heading
   pub concurrency : IsConcurrency is_static d f.concurrency
-  pub content : IsContent d f.content
+  pub content : IsContent takes_files d f.content
   pub children : map view f.children.now ≡ children_of is_static d
   pub dynamic : map view f.dynamic.now ≡ dynamic_of d
 
@@ -63,6 +72,7 @@ checked_of is_static n f = record {
     status = f.content.ending.status;
     message = f.content.ending.message;
     entries = f.content.reports.entries;
+    files = f.content.files;
   };
   id = n.id;
   children = f.children;

@@ -8,14 +8,15 @@ use Rattle.tk_cutting.specs.declared.nodes.Node.{Node}
 use Rattle.tk_cutting.specs.declared.nodes.Lock.{Lock}
 use Rattle.tk_cutting.specs.Trees.{Tree, tree, Forest, no_trees, more}
 use Rattle.tk_plan.specs.Checks.{member_at, item_at}
-use Rattle.tk_plan.specs.Contents.{json_text, json_optional, json_truth, json_dtype, json_segment, json_concurrent, json_locks, status_in, message_in, json_entries, repeats, listed}
+use Rattle.tk_plan.specs.Contents.{json_text, json_optional, json_truth, json_dtype, json_segment, json_concurrent, json_locks, status_in, message_in, json_entries, json_files, repeats, listed}
 
--- A value that stands for a node: its place as a JSON Pointer, its level, its parent's id,
--- and the segments of the children before it.
+-- A value that stands for a node: its place as a JSON Pointer, its level, whether the plan is of version 2, in which a
+-- node may have files, its parent's id, and the segments of the children before it.
 pub record NodeInput : Type 0 where
   pub path : List ℕ
   pub level : ℕ
   pub is_static : Bool
+  pub takes_files : Bool
   pub above : List Pair
   pub earlier : List Pair
   pub value : Data
@@ -50,6 +51,11 @@ children_of false d = []
 abbrev pub dynamic_of : Data → List Data
 dynamic_of d = listed (get (codes "dynamic") d)
 
+-- in version 1 a node has no files
+abbrev pub files_of : Bool → Data → List (List ℕ)
+files_of true d = json_files (get (codes "files") d)
+files_of false d = []
+
 -- some entry has a key twice
 abbrev pub repeats_key : Data → Bool
 repeats_key d = list_any repeats (listed (get (codes "entries") d))
@@ -68,21 +74,30 @@ node_of s = record {
   status = status_in (get (codes "result") s.value);
   message = message_in (get (codes "result") s.value);
   entries = json_entries (get (codes "entries") s.value);
+  files = files_of s.takes_files s.value;
 }
 
 -- the items of the array at that place from item i on, below that id, after children with the earlier segments
-abbrev pub node_inputs_in : List ℕ → ℕ → List Pair → Bool → ℕ → List Pair → List Data → List NodeInput
-node_inputs_in array level above is_static i earlier [] = []
-node_inputs_in array level above is_static i earlier (d ∷ ds) =
-    record { path = item_at array i; level = level; is_static = is_static; above = above; earlier = earlier; value = d }
-    ∷ node_inputs_in array level above is_static (i + 1) (earlier ++ segment_in d ∷ []) ds
+abbrev pub node_inputs_in : List ℕ → ℕ → List Pair → Bool → Bool → ℕ → List Pair → List Data → List NodeInput
+node_inputs_in array level above is_static takes_files i earlier [] = []
+node_inputs_in array level above is_static takes_files i earlier (d ∷ ds) =
+    record {
+      path = item_at array i;
+      level = level;
+      is_static = is_static;
+      takes_files = takes_files;
+      above = above;
+      earlier = earlier;
+      value = d;
+    }
+    ∷ node_inputs_in array level above is_static takes_files (i + 1) (earlier ++ segment_in d ∷ []) ds
 
 abbrev pub children_in : NodeInput → List Data → List NodeInput
-children_in s cs = node_inputs_in (member_at s.path (codes "children")) (s.level + 1) (id_of s) true 0 [] cs
+children_in s cs = node_inputs_in (member_at s.path (codes "children")) (s.level + 1) (id_of s) true s.takes_files 0 [] cs
 
 -- the dynamic children follow the static ones
 abbrev pub dynamic_in : NodeInput → List Data → List Data → List NodeInput
-dynamic_in s cs ds = node_inputs_in (member_at s.path (codes "dynamic")) (s.level + 1) (id_of s) false 0 (map segment_in cs) ds
+dynamic_in s cs ds = node_inputs_in (member_at s.path (codes "dynamic")) (s.level + 1) (id_of s) false s.takes_files 0 (map segment_in cs) ds
 
 abbrev pub below : NodeInput → List NodeInput
 below s = children_in s (children_of s.is_static s.value) ++ dynamic_in s (children_of s.is_static s.value) (dynamic_of s.value)

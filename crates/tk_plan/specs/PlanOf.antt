@@ -10,7 +10,7 @@ use Rattle.tk_ids.specs.declared.ids.IdFault.{IdFault}
 use Rattle.tk_ids.specs.declared.ids.IdFault.TheVariants.{Empty, TooLong}
 use Rattle.tk_ids.specs.declared.tables.TheConstants.{MAX_DESCRIPTORS}
 use Rattle.tk_ids.specs.declared.tables.TableFault.TheVariants.{Twice, Full}
-use Rattle.tk_cutting.specs.declared.counts.TheConstants.{MAX_EVENTS}
+use Rattle.tk_limits.specs.declared.limits.TheConstants.{MAX_EVENTS}
 use Rattle.tk_cutting.specs.declared.nodes.Node.{Node}
 use Rattle.tk_cutting.specs.Keys.{lock_keys}
 use Rattle.tk_cutting.specs.Trees.{Tree}
@@ -45,7 +45,7 @@ same_segment a b = bytes_eq a.tag b.tag && bytes_eq a.value b.value
 -- ---- checks
 
 abbrev pub node_check : NodeInput → Option (List ℕ)
-node_check s = if s.is_static then static_node s.path s.value else dynamic_node s.path s.value
+node_check s = if s.is_static then static_node s.takes_files s.path s.value else dynamic_node s.takes_files s.path s.value
 
 -- static, or dynamic
 abbrev pub is_kind : Bool → Node → Bool
@@ -74,22 +74,39 @@ verdict before ss = first (joined before ss)
 
 -- ---- the whole value
 
--- the number 1, written without fraction or exponent
-abbrev pub one : Check
-one at (number (unsigned n)) = if n == 1 then None else Some at
-one at _ = Some at
+-- the number 1 or 2, written without fraction or exponent
+abbrev pub one_or_two : Check
+one_or_two at (number (unsigned n)) = if n == 1 || n == 2 then None else Some at
+one_or_two at _ = Some at
+
+-- the number 2, likewise
+abbrev pub is_two : Option Data → Bool
+is_two (Some (number (unsigned n))) = n == 2
+is_two _ = false
+
+-- whether nodes may have files: the version is 2
+abbrev pub takes_files_in : Data → Bool
+takes_files_in v = is_two (get (codes "version") v)
 
 abbrev pub anything : Check
 anything at d = None
 
 abbrev pub top : Check
-top = object_of (must (codes "version") one ∷ must (codes "root") anything ∷ [])
+top = object_of (must (codes "version") one_or_two ∷ must (codes "root") anything ∷ [])
 
-abbrev pub root_at : Data → NodeInput
-root_at d = record { path = codes "/root"; level = 1; is_static = true; above = []; earlier = []; value = d }
+abbrev pub root_at : Bool → Data → NodeInput
+root_at takes_files d = record {
+  path = codes "/root";
+  level = 1;
+  is_static = true;
+  takes_files = takes_files;
+  above = [];
+  earlier = [];
+  value = d;
+}
 
 abbrev pub root_of : Data → NodeInput
-root_of v = root_at (unwrap_or (get (codes "root") v) null)
+root_of v = root_at (takes_files_in v) (unwrap_or (get (codes "root") v) null)
 
 -- the root's script is too long
 abbrev pub events_fault : Tree → Option PlanFault

@@ -1,5 +1,5 @@
 -- The members of a node, in the order in which they are checked.
-use Rattle.std.specs.Prelude.{List, [], ◌∷◌, Bool, false, codes, Option, Some, None, is_some, ◌&&◌, if◌then◌else◌}
+use Rattle.std.specs.Prelude.{◌==◌, List, [], ◌∷◌, ◌++◌, length, Bool, true, false, codes, Option, Some, None, is_some, ◌&&◌, if◌then◌else◌}
 use Rattle.std.specs.Str.{bytes_eq}
 use Rattle.serde_json.specs.Data.{Data, string}
 use Rattle.serde_json.specs.Find.{get}
@@ -60,6 +60,19 @@ entry = array_of (pair_of text)
 abbrev pub entries_row : Row
 entries_row = may (codes "entries") (array_of entry)
 
+-- a text that isn't empty
+abbrev pub nonempty_text : Check
+nonempty_text at (string s) = if length s == 0 then Some at else None
+nonempty_text at _ = Some at
+
+abbrev pub files_row : Row
+files_row = may (codes "files") (array_of nonempty_text)
+
+-- only in version 2 a node may have files
+abbrev pub files_rows : Bool → List Row
+files_rows true = files_row ∷ []
+files_rows false = []
+
 -- their items are checked as nodes
 abbrev pub children_row : Row
 children_row = may (codes "children") any_array
@@ -67,8 +80,8 @@ children_row = may (codes "children") any_array
 abbrev pub dynamic_row : Row
 dynamic_row = may (codes "dynamic") any_array
 
-abbrev pub static_rows : List Row
-static_rows =
+abbrev pub static_rows : Bool → List Row
+static_rows takes_files =
     dtype_row
     ∷ segment_row
     ∷ name_row
@@ -78,24 +91,22 @@ static_rows =
     ∷ skip_row
     ∷ result_row
     ∷ entries_row
-    ∷ children_row
-    ∷ dynamic_row
-    ∷ []
+    ∷ (files_rows takes_files ++ children_row ∷ dynamic_row ∷ [])
 
 -- a dynamic node has no mode, is not isolated, and has neither locks nor static children
-abbrev pub dynamic_rows : List Row
-dynamic_rows =
+abbrev pub dynamic_rows : Bool → List Row
+dynamic_rows takes_files =
     dtype_row
     ∷ segment_row
     ∷ name_row
     ∷ skip_row
     ∷ result_row
     ∷ entries_row
-    ∷ dynamic_row
-    ∷ []
+    ∷ (files_rows takes_files ++ dynamic_row ∷ [])
 
-abbrev pub static_node : Check
-static_node = object_of static_rows
+-- the check of a node, where the plan is of version 2 or not
+abbrev pub static_node : Bool → Check
+static_node takes_files = object_of (static_rows takes_files)
 
-abbrev pub dynamic_node : Check
-dynamic_node = object_of dynamic_rows
+abbrev pub dynamic_node : Bool → Check
+dynamic_node takes_files = object_of (dynamic_rows takes_files)

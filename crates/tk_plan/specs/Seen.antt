@@ -20,7 +20,7 @@ above_of (Some id) = id.now
 
 -- a site, after siblings with the earlier segments
 abbrev pub seen : List Pair → NodeInput → spec.NodeInput
-seen earlier s = record { path = pointer s.path; level = s.level; is_static = s.is_static; above = above_of s.above; earlier = earlier; value = view s.value.now }
+seen earlier s = record { path = pointer s.path; level = s.level; is_static = s.is_static; takes_files = s.takes_files; above = above_of s.above; earlier = earlier; value = view s.value.now }
 
 abbrev pub json_segment_text : TwoTexts → Pair
 json_segment_text p = record { tag = p.first.now; value = p.second.now }

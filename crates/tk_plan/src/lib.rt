@@ -1,17 +1,18 @@
 //! Plans, read from JSON.
 //!
-//! - The whole plan, from its bytes: `readings`. All nodes in preorder: `reading`.
-//! - One node: its members together in `fields`, its checks in `checking`.
-//! - Single members: `members`, `lock_members`, and `endings` for the result and the entries. What
-//!   these readers hand on: `pairings`.
-//! - Where a value stands: `paths`, and `pointers` to write a place out. A value that stands for a
-//!   node, with its place: `node_inputs`.
-//! - What is kept while reading: `readers`, the segments of one parent's children in `siblings`,
-//!   lock keys in `noting`.
+//! - The whole plan, from its bytes: `plan_reading`. All nodes in preorder: `node_reading`.
+//! - One node: its members together in `node_fields`, its checks in `node_checks`.
+//! - Single members: `json_members`, `lock_members`, `file_members`, and `result_members` for the
+//!   result and the entries. What these readers hand on: `member_values`.
+//! - Where a value stands: `json_paths`, and `path_texts` to write a place out. A value that stands
+//!   for a node, with its place: `node_inputs`.
+//! - What is kept while reading: `plan_readers`, the segments of one parent's children in
+//!   `siblings`, lock keys in `lock_keys`.
 //! - Limits, laws and faults: `limits`, `laws`, `faults`.
 #![tactic(auto)]
 
 mod faults;
+mod file_members;
 mod json_members;
 mod json_paths;
 pub mod laws;
@@ -33,5 +34,6 @@ pub use faults::PlanFault;
 pub use limits::MAX_LEVELS;
 pub use plan_reading::read_plan;
 pub use tk_cutting::{
-    Act, Entries, Lock, Locks, MAX_EVENTS, MAX_KEYS, Node, NumberedNode, Plan, Step, count_events,
+    Act, Entries, Files, Lock, Locks, MAX_EVENTS, MAX_KEYS, Node, NumberedNode, Plan, Step,
+    count_events,
 };

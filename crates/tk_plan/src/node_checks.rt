@@ -27,12 +27,22 @@ use tk_cutting::{Lock, MAX_KEYS, Node};
 use tk_ids::{IdFault, MAX_DESCRIPTORS, Segment, TableFault, UniqueId};
 
 fn fields_of<'v>(alloc: Global, node_input: NodeInput<'_, 'v>) -> Result<Fields<'v>, PlanFault>
-    ensures { Reads (node_check (seen [] node_input.entry)) (HasFields node_input.entry.is_static (view node_input.entry.value.now)) result }
+    ensures { Reads (node_check (seen [] node_input.entry)) (HasFields node_input.entry.is_static node_input.entry.takes_files (view node_input.entry.value.now)) result }
 {
     if node_input.is_static {
-        static_fields(alloc, node_input.path, node_input.value)
+        static_fields(
+            alloc,
+            node_input.path,
+            node_input.value,
+            node_input.takes_files,
+        )
     } else {
-        dynamic_fields(alloc, node_input.path, node_input.value)
+        dynamic_fields(
+            alloc,
+            node_input.path,
+            node_input.value,
+            node_input.takes_files,
+        )
     }
 }
 
@@ -108,6 +118,7 @@ fn into_checked<'v>(is_static: bool, named: Named, fields: Fields<'v>) -> Checke
         status: content.ending.status,
         message: content.ending.message,
         entries: content.reports.entries,
+        files: content.files,
     };
     Checked {
         node,

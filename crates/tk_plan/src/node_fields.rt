@@ -1,13 +1,14 @@
 //! The members of a node.
 ghost use Rattle.std.specs.Prelude.{◌≡◌, true, false, map};
 ghost use Rattle.serde_json.specs.View.{view};
-ghost use Rattle.tk_plan.specs.Checks.{row, first};
-ghost use Rattle.tk_plan.specs.Rows.{static_node, dynamic_node};
+ghost use Rattle.tk_plan.specs.Checks.{row, first, unknown};
+ghost use Rattle.tk_plan.specs.Rows.{static_rows, dynamic_rows, static_node, dynamic_node};
 ghost use Rattle.tk_plan.specs.Pointers.{pointer};
 ghost use Rattle.tk_plan.specs.Answers.{Reads};
 ghost use Rattle.tk_plan.specs.Fields.{heading_rows, concurrency_rows, content_rows, IsHeading, IsConcurrency, IsContent, HasFields};
 
 use crate::faults::PlanFault;
+use crate::file_members::files_member;
 use crate::json_members::{
     array_member, dtype_member, isolated_member, known_members, mode_member, optional_member,
     segment_member, text_member,
@@ -18,7 +19,7 @@ use crate::member_values::{Ending, Reports, TwoTexts};
 use crate::result_members::{entries_member, result_member};
 use serde_json::Value;
 use std::alloc::Global;
-use tk_cutting::Locks;
+use tk_cutting::{Files, Locks};
 use tk_ids::{DType, Text};
 
 /// What the members `type`, `segment` and `name` of a node say.
@@ -37,12 +38,13 @@ pub(crate) struct Concurrency {
     pub locks: Locks,
 }
 
-/// What the members `skip`, `result` and `entries` of a node say.
+/// What the members `skip`, `result`, `entries` and `files` of a node say.
 #[derive(Drop)]
 pub(crate) struct Content {
     pub skip: Option<Text>,
     pub ending: Ending,
     pub reports: Reports,
+    pub files: Files,
 }
 
 /// What the members of a node say.
@@ -91,35 +93,89 @@ fn concurrency_members(
     })
 }
 
-/// Reads the members `skip`, `result` and `entries`.
-fn content_members(alloc: Global, at: JsonPath<'_>, object: &Value) -> Result<Content, PlanFault>
-    ensures { Reads (first (map (row (pointer at.entry) (view object.now)) content_rows)) (IsContent (view object.now)) result }
+/// Reads the members `skip`, `result` and `entries`, and `files` where a node may have it.
+fn content_members(
+    alloc: Global,
+    at: JsonPath<'_>,
+    object: &Value,
+    takes_files: bool,
+) -> Result<Content, PlanFault>
+    ensures { Reads (first (map (row (pointer at.entry) (view object.now)) (content_rows takes_files)))
+        (IsContent takes_files (view object.now)) result }
 {
     let skip = optional_member(alloc, at, object, "skip")?;
     let ending = result_member(alloc, at, object)?;
     let reports = entries_member(alloc, at, object)?;
+    let files = files_member(alloc, at, object, takes_files)?;
     Ok(Content {
         skip,
         ending,
         reports,
+        files,
     })
+}
+
+/// Refuses what is no object, and an object with a member that a static node doesn't have.
+fn known_in_static(
+    alloc: Global,
+    at: JsonPath<'_>,
+    value: &Value,
+    takes_files: bool,
+) -> Result<(), PlanFault>
+    ensures { Reads (unknown (map (λ r. r.name) (static_rows takes_files)) (pointer at.entry) (view value.now))
+        (λ _. Unit {0}) result }
+{
+    if takes_files {
+        let names = [
+            "type", "segment", "name", "mode", "isolated", "locks", "skip", "result", "entries",
+            "files", "children", "dynamic",
+        ];
+        known_members(alloc, at, value, &names)
+    } else {
+        let names = [
+            "type", "segment", "name", "mode", "isolated", "locks", "skip", "result", "entries",
+            "children", "dynamic",
+        ];
+        known_members(alloc, at, value, &names)
+    }
+}
+
+/// Refuses what is no object, and an object with a member that a dynamic node doesn't have.
+fn known_in_dynamic(
+    alloc: Global,
+    at: JsonPath<'_>,
+    value: &Value,
+    takes_files: bool,
+) -> Result<(), PlanFault>
+    ensures { Reads (unknown (map (λ r. r.name) (dynamic_rows takes_files)) (pointer at.entry) (view value.now))
+        (λ _. Unit {0}) result }
+{
+    if takes_files {
+        let names = [
+            "type", "segment", "name", "skip", "result", "entries", "files", "dynamic",
+        ];
+        known_members(alloc, at, value, &names)
+    } else {
+        let names = [
+            "type", "segment", "name", "skip", "result", "entries", "dynamic",
+        ];
+        known_members(alloc, at, value, &names)
+    }
 }
 
 pub(crate) fn static_fields<'v>(
     alloc: Global,
     at: JsonPath<'_>,
     value: &'v Value,
+    takes_files: bool,
 ) -> Result<Fields<'v>, PlanFault>
-    ensures { Reads (static_node (pointer at.entry) (view value.now)) (HasFields true (view value.now)) result }
+    ensures { Reads (static_node takes_files (pointer at.entry) (view value.now))
+        (HasFields true takes_files (view value.now)) result }
 {
-    let names = [
-        "type", "segment", "name", "mode", "isolated", "locks", "skip", "result", "entries",
-        "children", "dynamic",
-    ];
-    known_members(alloc, at, value, &names)?;
+    known_in_static(alloc, at, value, takes_files)?;
     let heading = heading_members(alloc, at, value)?;
     let concurrency = concurrency_members(alloc, at, value)?;
-    let content = content_members(alloc, at, value)?;
+    let content = content_members(alloc, at, value, takes_files)?;
     let children = array_member(alloc, at, value, "children")?;
     let dynamic = array_member(alloc, at, value, "dynamic")?;
     Ok(Fields {
@@ -135,15 +191,14 @@ pub(crate) fn dynamic_fields<'v>(
     alloc: Global,
     at: JsonPath<'_>,
     value: &'v Value,
+    takes_files: bool,
 ) -> Result<Fields<'v>, PlanFault>
-    ensures { Reads (dynamic_node (pointer at.entry) (view value.now)) (HasFields false (view value.now)) result }
+    ensures { Reads (dynamic_node takes_files (pointer at.entry) (view value.now))
+        (HasFields false takes_files (view value.now)) result }
 {
-    let names = [
-        "type", "segment", "name", "skip", "result", "entries", "dynamic",
-    ];
-    known_members(alloc, at, value, &names)?;
+    known_in_dynamic(alloc, at, value, takes_files)?;
     let heading = heading_members(alloc, at, value)?;
-    let content = content_members(alloc, at, value)?;
+    let content = content_members(alloc, at, value, takes_files)?;
     let dynamic = array_member(alloc, at, value, "dynamic")?;
     Ok(Fields {
         heading,

@@ -11,6 +11,8 @@ pub(crate) struct NodeInput<'a, 'v> {
     /// The root has level 1.
     pub level: u32,
     pub is_static: bool,
+    /// Whether the plan is of version 2, in which a node may have files.
+    pub takes_files: bool,
     /// The parent's id.
     pub above: Option<&'a UniqueId>,
     pub value: &'v Value,

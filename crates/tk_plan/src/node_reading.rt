@@ -114,7 +114,7 @@ fn read_all<'v>(
     requires noted { IsNoted reader.old }
     requires level { parent.level ≤ 60 }
     requires plain { flat_map escape name.now ≡ name.now }
-    ensures { let ss = node_inputs_in (member_at (pointer parent.entry.path) name.now) (parent.entry.level + 1) id.now is_static 0 siblings.old (map view values.now) in
+    ensures { let ss = node_inputs_in (member_at (pointer parent.entry.path) name.now) (parent.entry.level + 1) id.now is_static parent.entry.takes_files 0 siblings.old (map view values.now) in
         let ts = map (grown (60 - parent.entry.level)) ss in
         Meets (verdict (contents reader.old.nodes.items) (flat_map (node_inputs (60 - parent.entry.level)) ss))
         (λ _. Adds reader.old reader.new (flat_map flat ts) (flat_map (descriptors id.now) ts) × (siblings.new ≡ siblings.old ++ map segment_in (map view values.now))) result }
@@ -128,6 +128,7 @@ fn read_all<'v>(
             path: JsonPath::Item(&array, index),
             level: parent.level + 1,
             is_static,
+            takes_files: parent.takes_files,
             above: Some(id),
             value,
         };
@@ -137,8 +138,12 @@ fn read_all<'v>(
 }
 
 /// Reads the root and all below it.
-pub(crate) fn read_nodes(alloc: Global, root: &Value) -> Result<Reader, PlanFault>
-    ensures { let s = root_at (view root.now) in
+pub(crate) fn read_nodes(
+    alloc: Global,
+    takes_files: bool,
+    root: &Value,
+) -> Result<Reader, PlanFault>
+    ensures { let s = root_at takes_files (view root.now) in
         Meets (verdict [] (node_inputs 60 s)) (HasRead s) result }
 {
     let mut reader = Reader::new(alloc);
@@ -147,6 +152,7 @@ pub(crate) fn read_nodes(alloc: Global, root: &Value) -> Result<Reader, PlanFaul
         path: JsonPath::Whole("/root"),
         level: 1,
         is_static: true,
+        takes_files,
         above: None,
         value: root,
     };

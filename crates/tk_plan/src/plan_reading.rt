@@ -4,7 +4,7 @@ ghost use Rattle.serde_json.specs.Find.{get};
 ghost use Rattle.serde_json.specs.View.{view};
 ghost use Rattle.tk_plan.specs.Answers.{Reads};
 ghost use Rattle.tk_plan.specs.Checks.{row, must};
-ghost use Rattle.tk_plan.specs.PlanOf.{PlanOf, one, anything, top};
+ghost use Rattle.tk_plan.specs.PlanOf.{PlanOf, one_or_two, is_two, takes_files_in, anything, top};
 ghost use Rattle.tk_plan.specs.Gives.{plan_in, Answered};
 ghost use Rattle.tk_plan.specs.Progress.{IsNoted};
 ghost use Rattle.tk_plan.specs.Tables.{Follow};
@@ -27,11 +27,14 @@ use std::sync::Arc;
 use tk_cutting::{Plan, count_events};
 use tk_ids::{Descriptor, Table, TableFault};
 
-fn version_member(alloc: Global, object: &Value) -> Result<(), PlanFault>
-    ensures { Reads (row [] (view object.now) (must (codes "version") one)) (λ _. Unit {0}) result }
+/// Whether nodes may have files: the version is 2, and not 1.
+fn version_member(alloc: Global, object: &Value) -> Result<bool, PlanFault>
+    ensures { Reads (row [] (view object.now) (must (codes "version") one_or_two))
+        (λ b. b ≡ is_two (get (codes "version") (view object.now))) result }
 {
     match object.get("version").and_then(Value::as_u64) {
-        Some(1) => Ok(()),
+        Some(1) => Ok(false),
+        Some(2) => Ok(true),
         _ => Err(field(member_path(alloc, JsonPath::Whole(""), "version")?)),
     }
 }
@@ -46,13 +49,15 @@ fn root_member<'v>(alloc: Global, object: &'v Value) -> Result<&'v Value, PlanFa
     }
 }
 
-fn root<'v>(alloc: Global, value: &'v Value) -> Result<&'v Value, PlanFault>
+/// Whether nodes may have files, and the root.
+fn top_members<'v>(alloc: Global, value: &'v Value) -> Result<(bool, &'v Value), PlanFault>
     ensures { Reads (top [] (view value.now))
-        (λ v. get (codes "root") (view value.now) ≡ Some (view v.now)) result }
+        (λ t. (t.0 ≡ takes_files_in (view value.now)) × (get (codes "root") (view value.now) ≡ Some (view t.1.now))) result }
 {
     known_members(alloc, JsonPath::Whole(""), value, &["version", "root"])?;
-    version_member(alloc, value)?;
-    root_member(alloc, value)
+    let takes_files = version_member(alloc, value)?;
+    let root = root_member(alloc, value)?;
+    Ok((takes_files, root))
 }
 
 /// Puts a descriptor into the table.
@@ -111,8 +116,8 @@ fn plan_from(alloc: Global, reader: Reader) -> Result<Plan, AllocError>
 fn plan_of(alloc: Global, value: &Value) -> Result<Plan, PlanFault>
     ensures { Answered (PlanOf (view value.now)) result }
 {
-    let root = root(alloc, value)?;
-    let reader = read_nodes(alloc, root)?;
+    let (takes_files, root) = top_members(alloc, value)?;
+    let reader = read_nodes(alloc, takes_files, root)?;
     match count_events(reader.nodes.as_slice()) {
         None => Err(PlanFault::TooManyEvents),
         Some(_) => Ok(plan_from(alloc, reader)?),

@@ -87,7 +87,7 @@ plan_text plans.Deep = codes "plan too deep"
 plan_text plans.Memory = codes "out of memory"
 
 abbrev pub run_text : RunFault → List ℕ
-run_text runs.Workers = codes "workers must be 1 to 8"
+run_text runs.Workers = codes "workers must be 1 to 15"
 run_text runs.Capacity = codes "places must be 1 to 1024"
 run_text (runs.Engine unit why) = codes "unit " ++ decimal unit ++ codes " failed"
 run_text runs.Memory = codes "out of memory"

@@ -6,13 +6,13 @@ use Rattle.tk_ids.specs.declared.tables.Descriptor.{Descriptor}
 use Rattle.tk_events.specs.declared.kinds.Kind.TheVariants as kind
 use Rattle.tk_events.specs.declared.kinds.Status.TheVariants as status
 use Rattle.tk_events.specs.declared.payloads.Payload.{Payload}
-use Rattle.tk_events.specs.declared.payloads.Payload.TheVariants.{Reason, Outcome, Report}
+use Rattle.tk_events.specs.declared.payloads.Payload.TheVariants.{Reason, Outcome, Report, Path}
 use Rattle.tk_events.specs.declared.events.Entry.{Entry}
 use Rattle.tk_columns.specs.DTypes.{is_test, is_container}
 use Rattle.tk_columns.specs.Entries.{of_kind, of_status, desc}
 use Rattle.tk_columns.specs.Recorded.{Recorded}
 use Rattle.tk_columns.specs.Selections.{has_type}
-use Rattle.tk_conditions.specs.Cond.{Bare, Test, Container, Engine, Started, Succeeded, Failed, Aborted, TextAtom, Id, Name, Skipped, FailedWith, AbortedWith, Pairs, NoPairs, MorePairs, Cond, Plain, With, OfKind, HasPairs, All, Any, Not, Conds, Nothing, More}
+use Rattle.tk_conditions.specs.Cond.{Bare, Test, Container, Engine, Started, Succeeded, Failed, Aborted, TextAtom, Id, Name, Skipped, FailedWith, AbortedWith, File, Pairs, NoPairs, MorePairs, Cond, Plain, With, OfKind, HasPairs, All, Any, Not, Conds, Nothing, More}
 use Rattle.tk_conditions.specs.CondOf.{cond_of}
 use Rattle.tk_conditions.specs.declared.conditions.Condition.{Condition}
 
@@ -41,6 +41,11 @@ is_engine _ = false
 abbrev pub has_reason : List ℕ → Payload → Bool
 has_reason text (Reason given) = bytes_eq given text
 has_reason text _ = false
+
+-- the path is this one
+abbrev pub has_path : List ℕ → Payload → Bool
+has_path text (Path given) = bytes_eq given text
+has_path text _ = false
 
 -- the message is there, and is this one
 abbrev pub has_message : List ℕ → Payload → Bool
@@ -78,6 +83,7 @@ text_atom_holds r Name text e = has_descriptor (λ d. bytes_eq d.name text) (des
 text_atom_holds r Skipped text e = of_kind kind.Skipped e && has_reason text e.event.payload
 text_atom_holds r FailedWith text e = of_status status.Failed e && has_message text e.event.payload
 text_atom_holds r AbortedWith text e = of_status status.Aborted e && has_message text e.event.payload
+text_atom_holds r File text e = of_kind kind.File e && has_path text e.event.payload
 
 abbrev mutual
   pub cond_holds : Recorded → Cond → Entry → Bool

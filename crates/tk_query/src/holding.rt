@@ -6,7 +6,7 @@ ghost use Rattle.tk_ids.specs.IdText.{id_text};
 ghost use Rattle.tk_columns.specs.DTypes.{is_test, is_container};
 ghost use Rattle.tk_columns.specs.Entries.{of_kind, of_status, desc};
 ghost use Rattle.tk_columns.specs.Selections.{has_type};
-ghost use Rattle.tk_query.specs.Holds.{holds, has_descriptor, has_within, has_reason, has_message, is_engine, same_pair, all_within, reports};
+ghost use Rattle.tk_query.specs.Holds.{holds, has_descriptor, has_within, has_reason, has_path, has_message, is_engine, same_pair, all_within, reports};
 ghost use Rattle.tk_query.specs.Asked.{entry_of};
 
 use tk_columns::{EntryView, Record};
@@ -103,6 +103,15 @@ fn has_reason(payload: &Payload, text: &Text) -> bool
     }
 }
 
+fn has_path(payload: &Payload, text: &Text) -> bool
+    ensures { result ≡ has_path text.now payload.now }
+{
+    match payload {
+        Payload::Path(given) => same(given, text),
+        _ => false,
+    }
+}
+
 fn has_message(payload: &Payload, text: &Text) -> bool
     ensures { result ≡ has_message text.now payload.now }
 {
@@ -169,6 +178,7 @@ pub(crate) fn holds(recording: &Record, condition: &Condition, event: &EntryView
         Condition::Failed(Some(text)) => finished_with(event, Status::Failed, text),
         Condition::Aborted(None) => finished_so(event, Status::Aborted),
         Condition::Aborted(Some(text)) => finished_with(event, Status::Aborted, text),
+        Condition::File(text) => is_of_kind(event, Kind::File) && has_path(event.payload, text),
         Condition::Entry(pairs) => is_of_kind(event, Kind::Reporting)
             && reports(event.payload, pairs),
         Condition::All(members) => all_hold(recording, members, event),

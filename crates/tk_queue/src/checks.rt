@@ -31,7 +31,8 @@ fn emitted_by(ended: &[Ended], worker: u8) -> u64
 
 pub fn counts(ended: &[Ended], workers: u8) -> [u64; WORKER_SLOTS]
     requires { workers ≤ MAX_WORKERS }
-    ensures each { (w : ℕ) → IsWorkerOf workers w → slice_index result w ≡ length (lists ended.now w) }
+    ensures each { (w : ℕ) → IsWorkerOf workers w
+        → slice_index result w ≡ length (lists ended.now w) }
     ensures others { (w : ℕ) → ¬ IsWorkerOf workers w → slice_index result w ≡ 0 }
 {
     let mut emitted = [0; WORKER_SLOTS];

@@ -3,7 +3,7 @@ ghost use Rattle.std.specs.Prelude.{◌≡◌};
 ghost use Rattle.tk_queue.specs.Steps.{HoldsStates, BeginsFresh, PushIsStep, FullIsNone, TakeIsStep, EmptyIsNone, SplitIsNone, BitIsNone, JoinIsNone};
 ghost use Rattle.tk_queue.specs.Recording.{IsNeverRefused, IsShort};
 
-use crate::limits::{MAX_CAPACITY, MAX_EVENTS};
+use crate::limits::MAX_CAPACITY;
 use crate::session_rules::{
     JoinSender, PassView, ReceiverPop, SenderPush, SessionRule, SplitSender, WithOneBit,
     WithZeroBit,
@@ -20,16 +20,19 @@ pub fn each_step_is_of_the_core()
     ensures full { FullIsNone }
     ensures take { TakeIsStep ⟦<ReceiverPop as Outcome<Item, PassView>>⟧.then }
     ensures empty { EmptyIsNone }
-    ensures split { SplitIsNone ⟦<SplitSender as Split<PassView>>⟧.left ⟦<SplitSender as Split<PassView>>⟧.right }
-    ensures bit_zero { BitIsNone ⟦<WithZeroBit as Split<PassView>>⟧.left ⟦<WithZeroBit as Split<PassView>>⟧.right }
-    ensures bit_one { BitIsNone ⟦<WithOneBit as Split<PassView>>⟧.left ⟦<WithOneBit as Split<PassView>>⟧.right }
-    ensures join { JoinIsNone ⟦<JoinSender as Join<PassView>>⟧.both ⟦<JoinSender as Join<PassView>>⟧.spent }
+    ensures split { SplitIsNone ⟦<SplitSender as Split<PassView>>⟧.left
+        ⟦<SplitSender as Split<PassView>>⟧.right }
+    ensures bit_zero { BitIsNone ⟦<WithZeroBit as Split<PassView>>⟧.left
+        ⟦<WithZeroBit as Split<PassView>>⟧.right }
+    ensures bit_one { BitIsNone ⟦<WithOneBit as Split<PassView>>⟧.left
+        ⟦<WithOneBit as Split<PassView>>⟧.right }
+    ensures join { JoinIsNone ⟦<JoinSender as Join<PassView>>⟧.both
+        ⟦<JoinSender as Join<PassView>>⟧.spent }
 {}
 
-/// How many events one worker may emit, and how many items the queue may hold.
+/// The queue holds at most 1,024 items.
 pub fn limits()
-    ensures events { MAX_EVENTS ≡ 1048576 }
-    ensures places { MAX_CAPACITY ≡ 1024 }
+    ensures capacity { MAX_CAPACITY ≡ 1024 }
 {}
 
 /// A record of the entries that were taken so far, after some of worker 0, has no reason to refuse

@@ -10,8 +10,9 @@ mod senders;
 mod session_rules;
 mod sessions;
 
-pub use limits::{MAX_CAPACITY, MAX_EVENTS};
+pub use limits::MAX_CAPACITY;
 pub use receivers::{CloseFault, CloseReason, Closed, Receiver};
 pub use senders::{Ended, RegisterFault, SendFault, Sender};
 pub use sessions::{OpenFault, open};
+pub use tk_limits::MAX_EVENTS;
 pub use tk_replay::{Core, CoreFault, Item, ReplayFault, Replayed, Turn, replay, replay_text};

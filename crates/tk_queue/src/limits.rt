@@ -1,9 +1,6 @@
 //! The limits of a session.
 use tk_events::MAX_WORKERS;
 
-/// How many events one worker may emit.
-pub const MAX_EVENTS: u64 = 1 << 20;
-
 /// How many items a session's queue may hold.
 pub const MAX_CAPACITY: usize = 1024;
 

@@ -183,7 +183,8 @@ impl Receiver {
         ensures others { IfOk result (λ closed.
             (w : ℕ) → ¬ IsWorkerOf self.workers w → slice_index closed w ≡ 0) }
         ensures fault { IfErr result (λ fault. IsFault fault.why self ended.items) }
-        ensures back { IfErr result (λ fault. (fault.receiver ≡ self) × (fault.ended.items ≡ ended.items)) }
+        ensures back { IfErr result (λ fault.
+            (fault.receiver ≡ self) × (fault.ended.items ≡ ended.items)) }
     {
         if let Some(why) = self.reason(&ended) {
             return Err(CloseFault {

@@ -7,7 +7,6 @@ ghost use Rattle.tk_queue.specs.Known.{is_plain, registrations};
 ghost use Rattle.tk_events.specs.Registration.{registered_key};
 ghost use Rattle.tk_queue.specs.Ends.{own, knows, sends, refusal_of, HasRoom, IsNew, IsChildMade, IsRegisteredAs};
 
-use crate::limits::MAX_EVENTS;
 use crate::pushes::{push, try_push};
 use crate::session_rules::{EventQueue, QueuePass};
 use std::alloc::{AllocError, AllocFailed, Global};
@@ -15,6 +14,7 @@ use std::marker::Model;
 use std::sync::{Arc, Wait};
 use tk_events::{Entry, Event, Kind, MAX_WORKERS, Payload, registered_key};
 use tk_ids::{DType, Descriptor, IdFault, MAX_DESCRIPTORS, Segment, Table, Text, UniqueId};
+use tk_limits::MAX_EVENTS;
 use tk_replay::Item;
 
 /// Why an event was not sent. It comes back.
@@ -127,7 +127,8 @@ impl Sender {
         requires queue { IsPassOf (arc_value queue) pass }
         requires fresh { view pass ≡ sender (length (arc_value table)) worker [] false }
         requires worker { (0 < worker) × (worker ≤ MAX_WORKERS) }
-        ensures { result ≡ record { session = pass.table_id; table = arc_value table; worker = worker; sent = [] } }
+        ensures { result ≡ record
+            { session = pass.table_id; table = arc_value table; worker = worker; sent = [] } }
     {
         Sender {
             alloc,
@@ -194,7 +195,8 @@ impl Sender {
 
     /// Emits the event if there is room in the queue.
     pub fn try_send<R: Wait>(&mut self, rt: &R, event: Event) -> Result<(), SendFault>
-        ensures sent { OnOk result ((refusal_of self.old event ≡ None) × (self.new ≡ sends self.old event)) }
+        ensures sent { OnOk result ((refusal_of self.old event ≡ None)
+            × (self.new ≡ sends self.old event)) }
         ensures refused { IfErr result (λ fault. (refusal_of self.old event ≡ Some fault)
             ⊎ ((refusal_of self.old event ≡ None) × (fault ≡ SendFault.Full event))) }
         ensures kept { OnErr result (self.new ≡ self.old) }
@@ -216,7 +218,8 @@ impl Sender {
 
     /// Emits the event, and waits until there is room in the queue.
     pub fn send<R: Wait>(&mut self, rt: &R, event: Event) -> Result<(), SendFault>
-        ensures sent { OnOk result ((refusal_of self.old event ≡ None) × (self.new ≡ sends self.old event)) }
+        ensures sent { OnOk result ((refusal_of self.old event ≡ None)
+            × (self.new ≡ sends self.old event)) }
         ensures refused { IfErr result (λ fault. refusal_of self.old event ≡ Some fault) }
         ensures kept { OnErr result (self.new ≡ self.old) }
     {

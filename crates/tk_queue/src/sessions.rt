@@ -80,8 +80,11 @@ pub fn open(
     capacity: usize,
 ) -> Result<(Vec<Sender>, Receiver), OpenFault>
     ensures workers { (result ≡ Err OpenFault.Workers) ↔ ((workers ≡ 0) ⊎ (MAX_WORKERS < workers)) }
-    ensures capacity { (result ≡ Err OpenFault.Capacity) ↔ (((0 < workers) × (workers ≤ MAX_WORKERS)) × ((capacity ≡ 0) ⊎ (MAX_CAPACITY < capacity))) }
-    ensures receiver { IfOk result (λ made. made.1 ≡ fresh_receiver made.1.session (arc_value table) workers) }
+    ensures capacity { (result ≡ Err OpenFault.Capacity)
+        ↔ (((0 < workers) × (workers ≤ MAX_WORKERS))
+        × ((capacity ≡ 0) ⊎ (MAX_CAPACITY < capacity))) }
+    ensures receiver { IfOk result (λ made.
+        made.1 ≡ fresh_receiver made.1.session (arc_value table) workers) }
     ensures senders { IfOk result (λ made.
         made.0.items ≡ fresh_senders made.1.session (arc_value table) workers) }
     ensures places { IfOk result (λ made. capacity_of made.1.session ≡ capacity) }

@@ -3,17 +3,20 @@ use Rattle.std.proofs.Common.{◌≡◌, ◌≢◌, ◌⊎◌, ◌≤◌, ◌+�
 use Rattle.std.proofs.lemmas.Option.{same_Some, none-some}
 use Rattle.std.proofs.lemmas.List.{append_cancel_left}
 use Rattle.tk_ids.specs.declared.tables.Descriptor.{Descriptor}
-use Rattle.tk_ids.specs.Table.{TakesNext}
 use Rattle.tk_events.specs.declared.events.Event.{Event}
 use Rattle.tk_events.specs.declared.events.Entry.{Entry}
 use Rattle.tk_columns.specs.Recorded.{Recorded}
 use Rattle.tk_columns.specs.Mixing.{IsWorkerOf}
-use Rattle.tk_record.specs.Spelling.{node_line, entry_line, IsDescriptor, HasEntryLine}
-use Rattle.tk_record.specs.Reading.{in_line, node_of, entry_of}
+use Rattle.tk_record.specs.Spelling.{node_line, entry_line}
+use Rattle.tk_record.specs.declared.versions.Version.{Version}
+use Rattle.tk_record.specs.Versions.{HasLineIn}
+use Rattle.tk_record.specs.Reading.{in_line}
 use Rattle.tk_record.specs.Text.{with_line_feed, nodes_text, entries_text, AreNodes}
+use Rattle.tk_record.specs.Path.{LacksNode}
 use Rattle.tk_record.proofs.Forms.{one_value}
-use Rattle.tk_record.proofs.RecordLines.{node_line_form, entry_line_form, node_no_feed, entry_no_feed}
-use Rattle.tk_record.proofs.After.{same_line, no_node_at_entry, node_begins}
+use Rattle.tk_record.proofs.AnswerIsUnique.{same_entry, cons_same, one_nodes}
+use Rattle.tk_record.proofs.Headers.{one_header}
+use Rattle.tk_record.proofs.After.{same_line, regroup, no_node_at_entry, node_begins}
 use Rattle.tk_replay.specs.declared.items.Turn.{Turn}
 use Rattle.tk_replay.specs.declared.replays.ReplayFault.{ReplayFault}
 use Rattle.tk_replay.specs.declared.replays.ReplayFault.TheVariants as faults
@@ -23,7 +26,7 @@ use Rattle.tk_replay.specs.Script.{IsCount, workers_line, workers_of, AreTurns, 
 use Rattle.tk_replay.specs.ReplayText.{Scenario, header, AreOwn, scripts_by, NoCount, NoLineOf, IsBad, IsTextOf, IsPlayed}
 use Rattle.tk_replay.specs.Laws.{IsSettled, AnswerIsUnique}
 use Rattle.tk_replay.proofs.ScriptForms.{workers_line_form, turns_line_form, workers_no_feed, turns_no_feed}
-use Rattle.tk_replay.proofs.TextSteps.{regroup, turns_begins, entry_begins, scripts_long}
+use Rattle.tk_replay.proofs.TextSteps.{turns_begins, entry_begins, scripts_long}
 
 -- ---- lines that stand at one place are one
 
@@ -40,54 +43,26 @@ same_turns n x y a b few p q e =
     let s = same_line (turns_line x) (turns_line y) a b (turns_no_feed n few x p) (turns_no_feed n few y q) (same_with_line_feed (turns_line x) (turns_line y) a b e) in
     (one_value (in_line (turns_of n)) (AreTurns n) turns_line (turns_line_form n few) x y p q s.0, s.1)
 
-same_entry : (d b : Entry) (x y : List ℕ) → HasEntryLine d → HasEntryLine b → with_line_feed (entry_line d) ++ x ≡ with_line_feed (entry_line b) ++ y → (d ≡ b) × (x ≡ y)
-same_entry d b x y f g e =
-    let s = same_line (entry_line d) (entry_line b) x y (entry_no_feed d f) (entry_no_feed b g) (same_with_line_feed (entry_line d) (entry_line b) x y e) in
-    (one_value (in_line entry_of) HasEntryLine entry_line entry_line_form d b f g s.0, s.1)
-
-same_node : (d b : Descriptor) (x y : List ℕ) → IsDescriptor d → IsDescriptor b → with_line_feed (node_line d) ++ x ≡ with_line_feed (node_line b) ++ y → (d ≡ b) × (x ≡ y)
-same_node d b x y f g e =
-    let s = same_line (node_line d) (node_line b) x y (node_no_feed d f) (node_no_feed b g) (same_with_line_feed (node_line d) (node_line b) x y e) in
-    (one_value (in_line node_of) IsDescriptor node_line node_line_form d b f g s.0, s.1)
-
 -- ---- two ways to cut a list of lines and what blocks it are one
 
-abbrev NodeBlock : List Descriptor → List ℕ → Type 0
-NodeBlock table rest = (d : Descriptor) (more : List ℕ) → IsDescriptor d → TakesNext table d → rest ≢ with_line_feed (node_line d) ++ more
+abbrev EntryBlock : Version → ℕ → List ℕ → Type 0
+EntryBlock version n rest = (e : Entry) (more : List ℕ) → HasLineIn version e → IsWorkerOf n e.worker → rest ≢ with_line_feed (entry_line e) ++ more
 
-abbrev EntryBlock : ℕ → List ℕ → Type 0
-EntryBlock n rest = (e : Entry) (more : List ℕ) → HasEntryLine e → IsWorkerOf n e.worker → rest ≢ with_line_feed (entry_line e) ++ more
-
-cons_same : {A : Type 0} (d b : A) (a c : List A) → d ≡ b → a ≡ c → d ∷ a ≡ b ∷ c
-cons_same d b a c p q = rw (p, q) refl
-
-one_nodes : (p a c : List Descriptor) (x y : List ℕ) → AreNodes p a → AreNodes p c → NodeBlock (p ++ a) x → NodeBlock (p ++ c) y → nodes_text a ++ x ≡ nodes_text c ++ y → (a ≡ c) × (x ≡ y)
-unfolding AreNodes
-one_nodes p [] [] x y f g lx ly e = (refl, e)
-one_nodes p [] (d ∷ c) x y f g lx ly e = absurd (lx d (nodes_text c ++ y) g.0 (subst (λ (t : List Descriptor). TakesNext t d) (sym (append-nil p)) g.1) (e ∙ append_assoc (with_line_feed (node_line d)) (nodes_text c) y))
-one_nodes p (d ∷ a) [] x y f g lx ly e = absurd (ly d (nodes_text a ++ x) f.0 (subst (λ (t : List Descriptor). TakesNext t d) (sym (append-nil p)) f.1) (sym e ∙ append_assoc (with_line_feed (node_line d)) (nodes_text a) x))
-one_nodes p (d ∷ a) (b ∷ c) x y f g lx ly e =
-    let s = same_node d b (nodes_text a ++ x) (nodes_text c ++ y) f.0 g.0 (sym (append_assoc (with_line_feed (node_line d)) (nodes_text a) x) ∙ e ∙ append_assoc (with_line_feed (node_line b)) (nodes_text c) y) in
-    let more = one_nodes (p ++ d ∷ []) a c x y f.2 (subst (λ (v : Descriptor). AreNodes (p ++ v ∷ []) c) (sym s.0) g.2)
-    (subst (λ (t : List Descriptor). NodeBlock t x) (sym (append_assoc p (d ∷ []) a)) lx)
-    (subst (λ (t : List Descriptor). NodeBlock t y) (ap (λ (v : Descriptor). p ++ v ∷ c) (sym s.0) ∙ sym (append_assoc p (d ∷ []) c)) ly) s.1 in
-    (cons_same d b a c s.0 more.0, more.1)
-
-one_entries : (n : ℕ) (a c : List Entry) (x y : List ℕ) → AreOwn n a → AreOwn n c → EntryBlock n x → EntryBlock n y → entries_text a ++ x ≡ entries_text c ++ y → (a ≡ c) × (x ≡ y)
-one_entries n [] [] x y f g lx ly e = (refl, e)
-one_entries n [] (d ∷ c) x y f g lx ly e = absurd (lx d (entries_text c ++ y) g.0.0 g.0.1 (e ∙ append_assoc (with_line_feed (entry_line d)) (entries_text c) y))
-one_entries n (d ∷ a) [] x y f g lx ly e = absurd (ly d (entries_text a ++ x) f.0.0 f.0.1 (sym e ∙ append_assoc (with_line_feed (entry_line d)) (entries_text a) x))
-one_entries n (d ∷ a) (b ∷ c) x y f g lx ly e =
-    let s = same_entry d b (entries_text a ++ x) (entries_text c ++ y) f.0.0 g.0.0 (sym (append_assoc (with_line_feed (entry_line d)) (entries_text a) x) ∙ e ∙ append_assoc (with_line_feed (entry_line b)) (entries_text c) y) in
-    let more = one_entries n a c x y f.1 g.1 lx ly s.1 in
+one_entries : (version : Version) (n : ℕ) (a c : List Entry) (x y : List ℕ) → AreOwn version n a → AreOwn version n c → EntryBlock version n x → EntryBlock version n y → entries_text a ++ x ≡ entries_text c ++ y → (a ≡ c) × (x ≡ y)
+one_entries version n [] [] x y f g lx ly e = (refl, e)
+one_entries version n [] (d ∷ c) x y f g lx ly e = absurd (lx d (entries_text c ++ y) g.0.0 g.0.1 (e ∙ append_assoc (with_line_feed (entry_line d)) (entries_text c) y))
+one_entries version n (d ∷ a) [] x y f g lx ly e = absurd (ly d (entries_text a ++ x) f.0.0 f.0.1 (sym e ∙ append_assoc (with_line_feed (entry_line d)) (entries_text a) x))
+one_entries version n (d ∷ a) (b ∷ c) x y f g lx ly e =
+    let s = same_entry d b (entries_text a ++ x) (entries_text c ++ y) f.0.0.line g.0.0.line (sym (append_assoc (with_line_feed (entry_line d)) (entries_text a) x) ∙ e ∙ append_assoc (with_line_feed (entry_line b)) (entries_text c) y) in
+    let more = one_entries version n a c x y f.1 g.1 lx ly s.1 in
     (cons_same d b a c s.0 more.0, more.1)
 
 -- ---- where reading stops after the number of workers
 
 -- what stands after the descriptors and the entries: nothing that may follow, or the line of the turns and what is after it
-data Tail (n : ℕ) (table : List Descriptor) (entries : List Entry) (rest : List ℕ) : Type 0 where
-  bad : NoLineOf n table entries rest → Tail n table entries rest
-  turned : (turns : List Turn) (last : List ℕ) → AreTurns n turns → rest ≡ with_line_feed (turns_line turns) ++ last → Tail n table entries rest
+data Tail (version : Version) (n : ℕ) (table : List Descriptor) (entries : List Entry) (rest : List ℕ) : Type 0 where
+  bad : NoLineOf version n table entries rest → Tail version n table entries rest
+  turned : (turns : List Turn) (last : List ℕ) → AreTurns n turns → rest ≡ with_line_feed (turns_line turns) ++ last → Tail version n table entries rest
 
 heads : (x y : ℕ) (a b : List ℕ) → x ∷ a ≡ y ∷ b → x ≡ y
 heads x y a b e = cc
@@ -106,14 +81,14 @@ no_entry_at_turns : (turns : List Turn) (last : List ℕ) (x : Entry) (m : List 
 no_entry_at_turns turns last x m e =
     let s = turns_begins turns last in let b = entry_begins x m in not_entry 83 refl (heads 83 69 s.0 (124 ∷ b.0) (sym s.1 ∙ e ∙ b.1))
 
-tail_blocks_entries : (n : ℕ) (table : List Descriptor) (entries : List Entry) (rest : List ℕ) → Tail n table entries rest → EntryBlock n rest
-tail_blocks_entries n table entries rest (bad none) = none.entry
-tail_blocks_entries n table entries rest (turned turns last are is) = λ e m _ _ eq. no_entry_at_turns turns last e m (sym is ∙ eq)
+tail_blocks_entries : (version : Version) (n : ℕ) (table : List Descriptor) (entries : List Entry) (rest : List ℕ) → Tail version n table entries rest → EntryBlock version n rest
+tail_blocks_entries version n table entries rest (bad none) = none.entry
+tail_blocks_entries version n table entries rest (turned turns last are is) = λ e m _ _ eq. no_entry_at_turns turns last e m (sym is ∙ eq)
 
-tail_blocks_nodes : (n : ℕ) (table : List Descriptor) (entries : List Entry) (rest : List ℕ) → Tail n table entries rest → (es : List Entry) → entries ≡ es → NodeBlock table (entries_text es ++ rest)
-tail_blocks_nodes n table entries rest (bad none) [] is = λ d m has takes. none.node d m is has takes
-tail_blocks_nodes n table entries rest (turned turns last are at) [] is = λ d m _ _ eq. no_node_at_turns turns last d m (sym at ∙ eq)
-tail_blocks_nodes n table entries rest t (e ∷ es) is = λ d m _ _ eq. no_node_at_entry e (entries_text es ++ rest) d m (sym (append_assoc (with_line_feed (entry_line e)) (entries_text es) rest) ∙ eq)
+tail_blocks_nodes : (version : Version) (n : ℕ) (table : List Descriptor) (entries : List Entry) (rest : List ℕ) → Tail version n table entries rest → (es : List Entry) → entries ≡ es → LacksNode table (entries_text es ++ rest)
+tail_blocks_nodes version n table entries rest (bad none) [] is = λ d m has takes. none.node d m is has takes
+tail_blocks_nodes version n table entries rest (turned turns last are at) [] is = λ d m _ _ eq. no_node_at_turns turns last d m (sym at ∙ eq)
+tail_blocks_nodes version n table entries rest t (e ∷ es) is = λ d m _ _ eq. no_node_at_entry e (entries_text es ++ rest) d m (sym (append_assoc (with_line_feed (entry_line e)) (entries_text es) rest) ∙ eq)
 
 -- ---- turns
 
@@ -153,30 +128,30 @@ run_stopped scripts (u ∷ turns) i (suc j) m x t why e at stops =
 -- ---- what an answer says of where reading stopped
 
 -- the answer at that tail
-abbrev Verdict : (n : ℕ) (table : List Descriptor) (entries : List Entry) (rest : List ℕ) → Tail n table entries rest → Result Recorded ReplayFault → Type 0
-Verdict n table entries rest (bad none) a = a ≡ Err (faults.BadLine (length table + length entries + 3))
-Verdict n table entries rest (turned turns last are is) a =
+abbrev Verdict : (version : Version) (n : ℕ) (table : List Descriptor) (entries : List Entry) (rest : List ℕ) → Tail version n table entries rest → Result Recorded ReplayFault → Type 0
+Verdict version n table entries rest (bad none) a = a ≡ Err (faults.BadLine (length table + length entries + 3))
+Verdict version n table entries rest (turned turns last are is) a =
     ((last ≢ []) × (a ≡ Err (faults.BadLine (length table + length entries + 4)))) ⊎ ((last ≡ []) × (a ≡ run (scripts_by entries n) turns 0 (start table (length (scripts_by entries n)))))
 
 -- the answer to what stands after the number of workers
-record AnsweredAt (n : ℕ) (input : List ℕ) (a : Result Recorded ReplayFault) : Type 0 where
+record AnsweredAt (version : Version) (n : ℕ) (input : List ℕ) (a : Result Recorded ReplayFault) : Type 0 where
   table : List Descriptor
   entries : List Entry
   rest : List ℕ
   prefix : input ≡ nodes_text table ++ (entries_text entries ++ rest)
   nodes : AreNodes [] table
-  own : AreOwn n entries
-  tail : Tail n table entries rest
-  verdict : Verdict n table entries rest tail a
+  own : AreOwn version n entries
+  tail : Tail version n table entries rest
+  verdict : Verdict version n table entries rest tail a
 
 same_line_number : (n : ℕ) (t u : List Descriptor) (es fs : List Entry) → t ≡ u → es ≡ fs → length t + length es + n ≡ length u + length fs + n
 same_line_number n t u es fs p q = λ i. length (p i) + length (q i) + n
 
-agree : (n : ℕ) (t u : List Descriptor) (es fs : List Entry) (r s : List ℕ) (x : Tail n t es r) (y : Tail n u fs s) (a b : Result Recorded ReplayFault) → n ≤ most_workers → t ≡ u → es ≡ fs → r ≡ s → Verdict n t es r x a → Verdict n u fs s y b → a ≡ b
-agree n t u es fs r s (bad none) (bad other) a b few p q e v w = v ∙ ap (λ k. Err (faults.BadLine k)) (same_line_number 3 t u es fs p q) ∙ sym w
-agree n t u es fs r s (bad none) (turned ts last are is) a b few p q e v w = absurd (none.turns ts last are (e ∙ is))
-agree n t u es fs r s (turned ts last are is) (bad none) a b few p q e v w = absurd (none.turns ts last are (sym e ∙ is))
-agree n t u es fs r s (turned ts last are is) (turned others end those at) a b few p q e v w =
+agree : (version : Version) (n : ℕ) (t u : List Descriptor) (es fs : List Entry) (r s : List ℕ) (x : Tail version n t es r) (y : Tail version n u fs s) (a b : Result Recorded ReplayFault) → n ≤ most_workers → t ≡ u → es ≡ fs → r ≡ s → Verdict version n t es r x a → Verdict version n u fs s y b → a ≡ b
+agree version n t u es fs r s (bad none) (bad other) a b few p q e v w = v ∙ ap (λ k. Err (faults.BadLine k)) (same_line_number 3 t u es fs p q) ∙ sym w
+agree version n t u es fs r s (bad none) (turned ts last are is) a b few p q e v w = absurd (none.turns ts last are (e ∙ is))
+agree version n t u es fs r s (turned ts last are is) (bad none) a b few p q e v w = absurd (none.turns ts last are (sym e ∙ is))
+agree version n t u es fs r s (turned ts last are is) (turned others end those at) a b few p q e v w =
     let same = same_turns n ts others last end few are those (sym is ∙ e ∙ at) in
     ⊎_elim
     (λ (x : (last ≢ []) × (a ≡ Err (faults.BadLine (length t + length es + 4)))). ⊎_elim
@@ -188,24 +163,24 @@ agree n t u es fs r s (turned ts last are is) (turned others end those at) a b f
     x.1 ∙ (λ i. run (scripts_by (q i) n) (same.0 i) 0 (start (p i) (length (scripts_by (q i) n)))) ∙ sym y.1) w)
     v
 
-one_verdict : (n : ℕ) (input : List ℕ) (a b : Result Recorded ReplayFault) → n ≤ most_workers → AnsweredAt n input a → AnsweredAt n input b → a ≡ b
-one_verdict n input a b few p q =
+one_verdict : (version : Version) (n : ℕ) (input : List ℕ) (a b : Result Recorded ReplayFault) → n ≤ most_workers → AnsweredAt version n input a → AnsweredAt version n input b → a ≡ b
+one_verdict version n input a b few p q =
     let s = one_nodes [] p.table q.table (entries_text p.entries ++ p.rest) (entries_text q.entries ++ q.rest) p.nodes q.nodes
-    (tail_blocks_nodes n p.table p.entries p.rest p.tail p.entries refl) (tail_blocks_nodes n q.table q.entries q.rest q.tail q.entries refl) (sym p.prefix ∙ q.prefix) in
-    let m = one_entries n p.entries q.entries p.rest q.rest p.own q.own (tail_blocks_entries n p.table p.entries p.rest p.tail) (tail_blocks_entries n q.table q.entries q.rest q.tail) s.1 in
-    agree n p.table q.table p.entries q.entries p.rest q.rest p.tail q.tail a b few s.0 m.0 m.1 p.verdict q.verdict
+    (tail_blocks_nodes version n p.table p.entries p.rest p.tail p.entries refl) (tail_blocks_nodes version n q.table q.entries q.rest q.tail q.entries refl) (sym p.prefix ∙ q.prefix) in
+    let m = one_entries version n p.entries q.entries p.rest q.rest p.own q.own (tail_blocks_entries version n p.table p.entries p.rest p.tail) (tail_blocks_entries version n q.table q.entries q.rest q.tail) s.1 in
+    agree version n p.table q.table p.entries q.entries p.rest q.rest p.tail q.tail a b few s.0 m.0 m.1 p.verdict q.verdict
 
 -- ---- what an answer says of the input
 
 data Answered (input : List ℕ) (a : Result Recorded ReplayFault) : Type 0 where
-  headless : ((rest : List ℕ) → input ≢ header ++ rest) → a ≡ Err faults.NoHeader → Answered input a
-  uncounted : (body : List ℕ) → input ≡ header ++ body → NoCount body → a ≡ Err (faults.BadLine 2) → Answered input a
-  counted : (body rest : List ℕ) (n : ℕ) → input ≡ header ++ body → IsCount n → body ≡ with_line_feed (workers_line n) ++ rest → AnsweredAt n rest a → Answered input a
+  headless : ((version : Version) (rest : List ℕ) → input ≢ header version ++ rest) → a ≡ Err faults.NoHeader → Answered input a
+  uncounted : (version : Version) (body : List ℕ) → input ≡ header version ++ body → NoCount body → a ≡ Err (faults.BadLine 2) → Answered input a
+  counted : (version : Version) (body rest : List ℕ) (n : ℕ) → input ≡ header version ++ body → IsCount n → body ≡ with_line_feed (workers_line n) ++ rest → AnsweredAt version n rest a → Answered input a
 
 -- a whole text, and what its turns come to
 whole_answered : (p : Scenario) (a : Result Recorded ReplayFault) (input : List ℕ) → IsTextOf input p → a ≡ run (scripts_by p.entries p.workers) p.turns 0 (start p.table (length (scripts_by p.entries p.workers))) → Answered input a
 whole_answered p a input is outcome =
-    counted (with_line_feed (workers_line p.workers) ++ (nodes_text p.table ++ (entries_text p.entries ++ with_line_feed (turns_line p.turns)))) (nodes_text p.table ++ (entries_text p.entries ++ with_line_feed (turns_line p.turns))) p.workers is.1 is.0.count refl
+    counted p.version (with_line_feed (workers_line p.workers) ++ (nodes_text p.table ++ (entries_text p.entries ++ with_line_feed (turns_line p.turns)))) (nodes_text p.table ++ (entries_text p.entries ++ with_line_feed (turns_line p.turns))) p.workers is.1 is.0.count refl
     (record {
       table = p.table;
       entries = p.entries;
@@ -222,9 +197,9 @@ stopped_answered p input i why is stop =
     whole_answered p (Err (fault_at i why)) input is
     (sym (run_stopped (scripts_by p.entries p.workers) p.turns 0 i (start p.table (length (scripts_by p.entries p.workers))) stop.moment stop.turn why stop.before stop.at stop.stops ∙ ap (λ n. Err (fault_at n why)) (let z : 0 + i ≡ i = omega arith in z)))
 
-bad_answered : (input body : List ℕ) (k : ℕ) → input ≡ header ++ body → IsBad body k → Answered input (Err (faults.BadLine k))
-bad_answered input body k is (inl x) = uncounted body is x.1 (ap (λ n. Err (faults.BadLine n)) x.0)
-bad_answered input body k is (inr (n, rest, count, prefix, inl line)) = counted body rest n is count prefix (record {
+bad_answered : (version : Version) (input body : List ℕ) (k : ℕ) → input ≡ header version ++ body → IsBad version body k → Answered input (Err (faults.BadLine k))
+bad_answered version input body k is (inl x) = uncounted version body is x.1 (ap (λ n. Err (faults.BadLine n)) x.0)
+bad_answered version input body k is (inr (n, rest, count, prefix, inl line)) = counted version body rest n is count prefix (record {
   table = line.table;
   entries = line.entries;
   rest = line.rest;
@@ -234,7 +209,7 @@ bad_answered input body k is (inr (n, rest, count, prefix, inl line)) = counted 
   tail = bad line.none;
   verdict = ap (λ m. Err (faults.BadLine m)) line.number;
 })
-bad_answered input body k is (inr (n, rest, count, prefix, inr line)) = counted body rest n is count prefix (record {
+bad_answered version input body k is (inr (n, rest, count, prefix, inr line)) = counted version body rest n is count prefix (record {
   table = line.table;
   entries = line.entries;
   rest = with_line_feed (turns_line line.turns) ++ line.rest;
@@ -250,28 +225,33 @@ answered input (Ok r) s (p, m, is, played, taken) =
     whole_answered p (Ok r) input is (ap (λ (x : Recorded). Ok x) taken ∙ sym (run_played (scripts_by p.entries p.workers) p.turns 0 (start p.table (length (scripts_by p.entries p.workers))) m
     (ap (λ n. plays (scripts_by p.entries p.workers) p.turns (start p.table n)) (scripts_long p.entries p.workers) ∙ played)))
 answered input (Err faults.NoHeader) s none = headless none refl
-answered input (Err (faults.BadLine k)) s (body, is, line) = bad_answered input body k is line
+answered input (Err (faults.BadLine k)) s (version, body, is, line) = bad_answered version input body k is line
 answered input (Err (faults.AfterEnd i)) s (p, is, stop) = stopped_answered p input i Faulty is stop
 answered input (Err (faults.Append i f)) s (p, is, stop) = stopped_answered p input i (Refuses f) is stop
 answered input (Err faults.TooLarge) s p = absurd p
 answered input (Err faults.Device) s p = absurd p
 answered input (Err faults.Memory) s p = absurd s
 
-same_body : (input x y : List ℕ) → input ≡ header ++ x → input ≡ header ++ y → x ≡ y
-same_body input x y p q = append_cancel_left header x y (sym p ∙ q)
+same_version : (input : List ℕ) (v w : Version) (x y : List ℕ) → input ≡ header v ++ x → input ≡ header w ++ y → v ≡ w
+unfolding header
+same_version input v w x y p q = one_header _ v w x y (sym p ∙ q)
+
+same_body : (input : List ℕ) (v w : Version) (x y : List ℕ) → input ≡ header v ++ x → input ≡ header w ++ y → x ≡ y
+same_body input v w x y p q = append_cancel_left (header v) x y (sym p ∙ q ∙ ap (λ (u : Version). header u ++ y) (sym (same_version input v w x y p q)))
 
 both_answered : (input : List ℕ) (a b : Result Recorded ReplayFault) → Answered input a → Answered input b → a ≡ b
 both_answered input a b (headless none p) (headless other q) = p ∙ sym q
-both_answered input a b (headless none p) (uncounted body is lacks q) = absurd (none body is)
-both_answered input a b (headless none p) (counted body rest n is count prefix t) = absurd (none body is)
-both_answered input a b (uncounted body is lacks p) (headless none q) = absurd (none body is)
-both_answered input a b (counted body rest n is count prefix t) (headless none q) = absurd (none body is)
-both_answered input a b (uncounted body is lacks p) (uncounted other at others q) = p ∙ sym q
-both_answered input a b (uncounted body is lacks p) (counted other rest n at count prefix t) = absurd (lacks n rest count (same_body input body other is at ∙ prefix))
-both_answered input a b (counted body rest n at count prefix t) (uncounted other is lacks p) = absurd (lacks n rest count (same_body input other body is at ∙ prefix))
-both_answered input a b (counted body rest n is count prefix t) (counted other end m at number begins u) =
-    let s = same_count n m rest end count number (sym prefix ∙ same_body input body other is at ∙ begins) in
-    one_verdict n rest a b count.1 t (subst (λ (y : ℕ × List ℕ). AnsweredAt y.0 y.1 b) (λ i. (sym s.0 i, sym s.1 i)) u)
+both_answered input a b (headless none p) (uncounted v body is lacks q) = absurd (none v body is)
+both_answered input a b (headless none p) (counted v body rest n is count prefix t) = absurd (none v body is)
+both_answered input a b (uncounted v body is lacks p) (headless none q) = absurd (none v body is)
+both_answered input a b (counted v body rest n is count prefix t) (headless none q) = absurd (none v body is)
+both_answered input a b (uncounted v body is lacks p) (uncounted w other at others q) = p ∙ sym q
+both_answered input a b (uncounted v body is lacks p) (counted w other rest n at count prefix t) = absurd (lacks n rest count (same_body input v w body other is at ∙ prefix))
+both_answered input a b (counted v body rest n at count prefix t) (uncounted w other is lacks p) = absurd (lacks n rest count (same_body input w v other body is at ∙ prefix))
+both_answered input a b (counted v body rest n is count prefix t) (counted w other end m at number begins u) =
+    let version = same_version input v w body other is at in
+    let s = same_count n m rest end count number (sym prefix ∙ same_body input v w body other is at ∙ begins) in
+    one_verdict v n rest a b count.1 t (subst (λ (y : Version × ℕ × List ℕ). AnsweredAt y.0 y.1 y.2 b) (λ i. (sym version i, sym s.0 i, sym s.1 i)) u)
 
 pub answer_is_unique : AnswerIsUnique
 answer_is_unique input a b sa sb p q = both_answered input a b (answered input a sa p) (answered input b sb q)

@@ -1,22 +1,25 @@
 -- The lines of a replay text, and where reading one stops.
-use Rattle.std.proofs.Common.{◌≡◌, ◌≢◌, ◌==◌, ◌<◌, ◌≤◌, ◌+◌, ℕ, zero, suc, Bool, true, false, List, [], ◌∷◌, ◌++◌, length, drop, eqb, get_or, map, Some, None, Result, Ok, Err, refl, sym, ap, subst, ◌∙◌, append_assoc, arith, inl, inr, ⊎_elim}
+use Rattle.std.proofs.Common.{◌≡◌, ◌≢◌, ◌≤◌, ◌+◌, ℕ, zero, suc, Bool, true, false, List, [], ◌∷◌, ◌++◌, length, drop, eqb, map, Some, None, Result, Ok, Err, refl, sym, ap, subst, ◌∙◌, arith, inl, inr, ⊎_elim}
 use Rattle.std.specs.List.{starts_with}
 use Rattle.std.proofs.lemmas.Option.{none-some}
-use Rattle.std.proofs.lemmas.List.{get_or_at, length-append, length-map}
+use Rattle.std.proofs.lemmas.List.{length-append, length-map}
 use Rattle.std.proofs.lemmas.Slice.Eq.{starts_is}
 use Rattle.std.proofs.lemmas.Bool.Decides.{Decides-eqb}
 use Rattle.tk_ids.specs.declared.tables.Descriptor.{Descriptor}
-use Rattle.tk_ids.specs.Table.{TakesNext}
 use Rattle.tk_events.specs.declared.events.Event.{Event}
 use Rattle.tk_events.specs.declared.events.Entry.{Entry}
 use Rattle.tk_columns.specs.Mixing.{IsWorkerOf, of_worker}
-use Rattle.tk_record.specs.Spelling.{joined, node_line, entry_line, IsDescriptor, HasEntryLine}
+use Rattle.tk_record.specs.Spelling.{joined, entry_line, HasEntryLine}
+use Rattle.tk_record.specs.declared.versions.Version.{Version}
+use Rattle.tk_record.specs.Versions.{HasLineIn}
 use Rattle.tk_record.specs.Reading.{in_line, entry_of}
-use Rattle.tk_record.specs.Text.{with_line_feed, nodes_text, entries_text, AreNodes}
-use Rattle.tk_record.specs.Path.{LacksFeed, LacksNodeStart, IsNodesPrefix}
+use Rattle.tk_record.specs.Text.{with_line_feed, nodes_text, entries_text}
+use Rattle.tk_record.specs.Path.{LacksFeed, LacksNodeStart, IsNodesPrefix, IsNodesFault}
+use Rattle.tk_record.specs.declared.node_lines.NodesFault.{NodesFault}
+use Rattle.tk_record.specs.declared.node_lines.NodesFault.TheVariants as listing
 use Rattle.tk_record.proofs.Forms.{one_value}
 use Rattle.tk_record.proofs.RecordLines.{entry_line_form, entry_no_feed}
-use Rattle.tk_record.proofs.After.{same_line, no_node, no_entry_at_node, no_node_start, one_more}
+use Rattle.tk_record.proofs.After.{same_line, regroup, feed_stands, no_entry_at_node, no_node_start, one_more, push_nonempty}
 use Rattle.tk_replay.specs.declared.items.Turn.{Turn}
 use Rattle.tk_replay.specs.declared.replays.Replayed.{Replayed}
 use Rattle.tk_replay.specs.declared.replays.ReplayFault.{ReplayFault}
@@ -24,23 +27,11 @@ use Rattle.tk_replay.specs.declared.replays.ReplayFault.TheVariants as faults
 use Rattle.tk_replay.specs.Limits.{most_workers}
 use Rattle.tk_replay.specs.Script.{IsCount, workers_line, workers_of, AreTurns, turns_line, turns_of}
 use Rattle.tk_replay.specs.Replay.{IsReplayed, plays, start}
-use Rattle.tk_replay.specs.ReplayText.{Scenario, header, AreOwn, scripts_by, NoCount, NoLineOf, IsTextOf, IsPlayed}
+use Rattle.tk_replay.specs.ReplayText.{Scenario, header, AreOwn, scripts_by, NoCount, IsTextOf, IsPlayed, nodes_fault}
 use Rattle.tk_replay.specs.Prefixes.{LacksEntryStart, IsEntriesPrefix, IsCountFault, IsListFault, IsFaultAfter, NoTurns, IsFollowed, IsEndFault}
 use Rattle.tk_replay.proofs.ScriptForms.{workers_line_form, turns_line_form, workers_no_feed, turns_no_feed}
 
 -- ---- single lines
-
-pub regroup : (x m : List ℕ) → with_line_feed x ++ m ≡ x ++ 10 ∷ m
-regroup x m = append_assoc x (10 ∷ []) m
-
--- without a line feed there is no line
-feed_stands : (x m rest : List ℕ) → LacksFeed rest → rest ≡ x ++ 10 ∷ m → ⊥
-feed_stands x m rest lacks e =
-    let here : get_or (x ++ 10 ∷ m) (length x) 0 ≡ 10 = get_or_at x 10 m 0 (length x) refl in
-    let far : length x < length rest = rw e (omega (arith, length-append x (10 ∷ m))) in
-    let not_here : (get_or rest (length x) 0 == 10) ≡ false = lacks (length x) 0 far in
-    let is_here : (get_or rest (length x) 0 == 10) ≡ true = rw (e, here) refl in
-    absurd cc
 
 unfed : (x m rest : List ℕ) → LacksFeed rest → rest ≢ with_line_feed x ++ m
 unfed x m rest lacks e = feed_stands x m rest lacks (e ∙ regroup x m)
@@ -98,60 +89,28 @@ lacks_entry_start r rest e is = λ more eq. let t : r ≡ true = (starts_is Deci
 no_entry_start : (rest : List ℕ) → LacksEntryStart rest → (e : Entry) (m : List ℕ) → rest ≢ with_line_feed (entry_line e) ++ m
 no_entry_start rest lacks e m eq = let b = entry_begins e m in lacks b.0 (eq ∙ b.1)
 
--- ---- lines of descriptors
-
-pub none_unfed : (n : ℕ) (table : List Descriptor) (entries : List Entry) (rest : List ℕ) → LacksFeed rest → NoLineOf n table entries rest
-none_unfed n table entries rest lacks = record {
-  node = λ d m _ _ _. unfed (node_line d) m rest lacks;
-  entry = λ e m _ _. unfed (entry_line e) m rest lacks;
-  turns = λ ts m _. unfed (turns_line ts) m rest lacks;
-}
-
-pub none_at_node : (n : ℕ) (table : List Descriptor) (rest line more t : List ℕ) → rest ≡ line ++ 10 ∷ more → LacksFeed line → rest ≡ 78 ∷ 124 ∷ t → ((d : Descriptor) → IsDescriptor d → TakesNext table d → line ≢ node_line d)
-    → NoLineOf n table [] rest
-none_at_node n table rest line more t is lacks start bad = record {
-  node = λ d m _ has takes. no_node table rest line more is lacks bad d m has takes;
-  entry = λ e m has _. no_entry_at_node rest t start e m has;
-  turns = λ ts m are. no_turns_at 78 rest (124 ∷ t) (λ e. absurd (omega arith)) start n ts m are;
-}
-
-pub bad_node : (n : ℕ) (input : List ℕ) (table : List Descriptor) (rest : List ℕ) (k : ℕ) → input ≡ nodes_text table ++ rest → AreNodes [] table → NoLineOf n table [] rest → k ≡ length table → IsListFault n input (faults.BadLine (k + 3))
-bad_node n input table rest k is nodes none number = inl (record {
-  table = table;
-  entries = [];
-  rest = rest;
-  prefix = is;
-  nodes = nodes;
-  own = tt;
-  none = none;
-  number = omega arith;
-})
-
 -- ---- lines of entries
 
-pub AreOwn-push : (n : ℕ) (entries : List Entry) (e : Entry) → AreOwn n entries → HasEntryLine e → IsWorkerOf n e.worker → AreOwn n (entries ++ e ∷ [])
-AreOwn-push n [] e own has is = ((has, is), tt)
-AreOwn-push n (x ∷ xs) e own has is = (own.0, AreOwn-push n xs e own.1 has is)
+pub AreOwn-push : (version : Version) (n : ℕ) (entries : List Entry) (e : Entry) → AreOwn version n entries → HasLineIn version e → IsWorkerOf n e.worker → AreOwn version n (entries ++ e ∷ [])
+AreOwn-push version n [] e own has is = ((has, is), tt)
+AreOwn-push version n (x ∷ xs) e own has is = (own.0, AreOwn-push version n xs e own.1 has is)
 
 -- what the loop over the entries keeps
-pub record SoFar (n : ℕ) (input : List ℕ) (entries : List Entry) (rest : List ℕ) : Type 0 where
+pub record SoFar (version : Version) (n : ℕ) (input : List ℕ) (entries : List Entry) (rest : List ℕ) : Type 0 where
   pub prefix : input ≡ entries_text entries ++ rest
-  pub own : AreOwn n entries
+  pub own : AreOwn version n entries
   pub no_node : entries ≡ [] → LacksNodeStart rest
 
-push_nonempty : (es : List Entry) (e : Entry) → es ++ e ∷ [] ≢ []
-push_nonempty es e n = let h : length (es ++ e ∷ []) ≡ 0 = ap length n in absurd (omega (arith, length-append es (e ∷ [])))
-
-pub so_more : (n : ℕ) (input : List ℕ) (entries : List Entry) (rest line more : List ℕ) (e : Entry) → SoFar n input entries rest → rest ≡ line ++ 10 ∷ more → HasEntryLine e × (line ≡ entry_line e) → IsWorkerOf n e.worker → SoFar n input (entries ++ e ∷ []) more
-so_more n input entries rest line more e so split found is = record {
+pub so_more : (version : Version) (n : ℕ) (input : List ℕ) (entries : List Entry) (rest line more : List ℕ) (e : Entry) → SoFar version n input entries rest → rest ≡ line ++ 10 ∷ more → HasLineIn version e × (line ≡ entry_line e) → IsWorkerOf n e.worker → SoFar version n input (entries ++ e ∷ []) more
+so_more version n input entries rest line more e so split found is = record {
   prefix = one_more entry_line entries e input line more (so.prefix ∙ ap (λ (t : List ℕ). entries_text entries ++ t) split) found.1;
-  own = AreOwn-push n entries e so.own found.0 is;
+  own = AreOwn-push version n entries e so.own found.0 is;
   no_node = λ none. absurd (push_nonempty entries e none);
 }
 
-pub bad_entry : (n nodes : ℕ) (input : List ℕ) (entries : List Entry) (rest : List ℕ) (k : ℕ) → SoFar n input entries rest → ((e : Entry) (m : List ℕ) → HasEntryLine e → IsWorkerOf n e.worker → rest ≢ with_line_feed (entry_line e) ++ m) → NoTurns n rest
-    → k ≡ nodes + length entries + 3 → IsFaultAfter n nodes input (faults.BadLine k)
-bad_entry n nodes input entries rest k so none no_turns number table fits long = inl (record {
+pub bad_entry : (version : Version) (n nodes : ℕ) (input : List ℕ) (entries : List Entry) (rest : List ℕ) (k : ℕ) → SoFar version n input entries rest → ((e : Entry) (m : List ℕ) → HasLineIn version e → IsWorkerOf n e.worker → rest ≢ with_line_feed (entry_line e) ++ m) → NoTurns n rest
+    → k ≡ nodes + length entries + 3 → IsFaultAfter version n nodes input (faults.BadLine k)
+bad_entry version n nodes input entries rest k so none no_turns number table fits long = inl (record {
   table = table;
   entries = entries;
   rest = rest;
@@ -162,25 +121,25 @@ bad_entry n nodes input entries rest k so none no_turns number table fits long =
   number = omega arith;
 })
 
-pub bad_entry_unfed : (n nodes : ℕ) (input : List ℕ) (entries : List Entry) (rest : List ℕ) (k : ℕ) → SoFar n input entries rest → LacksFeed rest → k ≡ nodes + length entries + 3 → IsFaultAfter n nodes input (faults.BadLine k)
-bad_entry_unfed n nodes input entries rest k so lacks number = bad_entry n nodes input entries rest k so (λ e m _ _. unfed (entry_line e) m rest lacks) (turns_unfed n rest lacks) number
+pub bad_entry_unfed : (version : Version) (n nodes : ℕ) (input : List ℕ) (entries : List Entry) (rest : List ℕ) (k : ℕ) → SoFar version n input entries rest → LacksFeed rest → k ≡ nodes + length entries + 3 → IsFaultAfter version n nodes input (faults.BadLine k)
+bad_entry_unfed version n nodes input entries rest k so lacks number = bad_entry version n nodes input entries rest k so (λ e m _ _. unfed (entry_line e) m rest lacks) (turns_unfed n rest lacks) number
 
-pub bad_entry_line : (n nodes : ℕ) (input : List ℕ) (entries : List Entry) (rest line more t : List ℕ) (k : ℕ) → SoFar n input entries rest → rest ≡ line ++ 10 ∷ more → LacksFeed line → rest ≡ 69 ∷ 124 ∷ t
-    → ((e : Entry) → HasEntryLine e → IsWorkerOf n e.worker → line ≢ entry_line e) → k ≡ nodes + length entries + 3 → IsFaultAfter n nodes input (faults.BadLine k)
-bad_entry_line n nodes input entries rest line more t k so is lacks start bad number =
-    bad_entry n nodes input entries rest k so
-    (λ e m has own eq. bad e has own (same_line line (entry_line e) more m lacks (entry_no_feed e has) (sym is ∙ eq ∙ regroup (entry_line e) m)).0)
+pub bad_entry_line : (version : Version) (n nodes : ℕ) (input : List ℕ) (entries : List Entry) (rest line more t : List ℕ) (k : ℕ) → SoFar version n input entries rest → rest ≡ line ++ 10 ∷ more → LacksFeed line → rest ≡ 69 ∷ 124 ∷ t
+    → ((e : Entry) → HasLineIn version e → IsWorkerOf n e.worker → line ≢ entry_line e) → k ≡ nodes + length entries + 3 → IsFaultAfter version n nodes input (faults.BadLine k)
+bad_entry_line version n nodes input entries rest line more t k so is lacks start bad number =
+    bad_entry version n nodes input entries rest k so
+    (λ e m has own eq. bad e has own (same_line line (entry_line e) more m lacks (entry_no_feed e has.line) (sym is ∙ eq ∙ regroup (entry_line e) m)).0)
     (no_turns_at 69 rest (124 ∷ t) (λ e. absurd (omega arith)) start n) number
 
 -- the line is that of an entry of no worker of the session
-pub foreign : (n : ℕ) (line : List ℕ) (e : Entry) → HasEntryLine e × (line ≡ entry_line e) → ¬ IsWorkerOf n e.worker → (x : Entry) → HasEntryLine x → IsWorkerOf n x.worker → line ≢ entry_line x
-foreign n line e found none x has is same = none (subst (λ (y : Entry). IsWorkerOf n y.worker) (sym (one_value (in_line entry_of) HasEntryLine entry_line entry_line_form e x found.0 has (sym found.1 ∙ same))) is)
+pub foreign : (version : Version) (n : ℕ) (line : List ℕ) (e : Entry) → HasLineIn version e × (line ≡ entry_line e) → ¬ IsWorkerOf n e.worker → (x : Entry) → HasLineIn version x → IsWorkerOf n x.worker → line ≢ entry_line x
+foreign version n line e found none x has is same = none (subst (λ (y : Entry). IsWorkerOf n y.worker) (sym (one_value (in_line entry_of) HasEntryLine entry_line entry_line_form e x found.0.line has.line (sym found.1 ∙ same))) is)
 
 -- ---- the line of the turns
 
-pub end_fault : (n nodes number : ℕ) (input : List ℕ) (entries : List Entry) (rest : List ℕ) (fault : ReplayFault) → IsEntriesPrefix n input entries rest → number ≡ nodes + length entries + 3 → IsEndFault n number rest fault → IsFaultAfter n nodes input fault
-end_fault n nodes number input entries rest (faults.BadLine k) f is fault = ⊎_elim
-    (λ (x : (k ≡ number) × NoTurns n rest). bad_entry n nodes input entries rest k (record { prefix = f.prefix; own = f.own; no_node = f.no_node }) (λ e m _ _. no_entry_start rest f.no_entry e m) x.1 (x.0 ∙ is))
+pub end_fault : (version : Version) (n nodes number : ℕ) (input : List ℕ) (entries : List Entry) (rest : List ℕ) (fault : ReplayFault) → IsEntriesPrefix version n input entries rest → number ≡ nodes + length entries + 3 → IsEndFault n number rest fault → IsFaultAfter version n nodes input fault
+end_fault version n nodes number input entries rest (faults.BadLine k) f is fault = ⊎_elim
+    (λ (x : (k ≡ number) × NoTurns n rest). bad_entry version n nodes input entries rest k (record { prefix = f.prefix; own = f.own; no_node = f.no_node }) (λ e m _ _. no_entry_start rest f.no_entry e m) x.1 (x.0 ∙ is))
     (λ (y : (k ≡ number + 1) × IsFollowed n rest). λ table fits long.
     let z = y.1 in inr (record {
       table = table;
@@ -195,43 +154,61 @@ end_fault n nodes number input entries rest (faults.BadLine k) f is fault = ⊎_
       number = let p = y.0 in omega arith;
     }))
     fault
-end_fault n nodes number input entries rest faults.Memory f is fault = λ table fits long. tt
-end_fault n nodes number input entries rest faults.NoHeader f is fault = absurd fault
-end_fault n nodes number input entries rest (faults.AfterEnd i) f is fault = absurd fault
-end_fault n nodes number input entries rest (faults.Append i x) f is fault = absurd fault
-end_fault n nodes number input entries rest faults.TooLarge f is fault = absurd fault
-end_fault n nodes number input entries rest faults.Device f is fault = absurd fault
+end_fault version n nodes number input entries rest faults.Memory f is fault = λ table fits long. tt
+end_fault version n nodes number input entries rest faults.NoHeader f is fault = absurd fault
+end_fault version n nodes number input entries rest (faults.AfterEnd i) f is fault = absurd fault
+end_fault version n nodes number input entries rest (faults.Append i x) f is fault = absurd fault
+end_fault version n nodes number input entries rest faults.TooLarge f is fault = absurd fault
+end_fault version n nodes number input entries rest faults.Device f is fault = absurd fault
 
 -- ---- the whole
 
-pub count_played : (input body : List ℕ) (fault : ReplayFault) → input ≡ header ++ body → IsCountFault body fault → IsPlayed input (Err fault)
-count_played input body (faults.BadLine k) is fault = (body, is, inl fault)
-count_played input body faults.Memory is fault = absurd fault
-count_played input body faults.NoHeader is fault = absurd fault
-count_played input body (faults.AfterEnd i) is fault = absurd fault
-count_played input body (faults.Append i x) is fault = absurd fault
-count_played input body faults.TooLarge is fault = absurd fault
-count_played input body faults.Device is fault = absurd fault
+pub count_played : (version : Version) (input body : List ℕ) (fault : ReplayFault) → input ≡ header version ++ body → IsCountFault body fault → IsPlayed input (Err fault)
+count_played version input body (faults.BadLine k) is fault = (version, body, is, inl fault)
+count_played version input body faults.Memory is fault = absurd fault
+count_played version input body faults.NoHeader is fault = absurd fault
+count_played version input body (faults.AfterEnd i) is fault = absurd fault
+count_played version input body (faults.Append i x) is fault = absurd fault
+count_played version input body faults.TooLarge is fault = absurd fault
+count_played version input body faults.Device is fault = absurd fault
 
-pub list_played : (n : ℕ) (input body rest : List ℕ) (fault : ReplayFault) → input ≡ header ++ body → IsCount n × (body ≡ with_line_feed (workers_line n) ++ rest) → IsListFault n rest fault → IsPlayed input (Err fault)
-list_played n input body rest (faults.BadLine k) is count fault = (body, is, inr (n, rest, count.0, count.1, fault))
-list_played n input body rest faults.Memory is count fault = tt
-list_played n input body rest faults.NoHeader is count fault = absurd fault
-list_played n input body rest (faults.AfterEnd i) is count fault = absurd fault
-list_played n input body rest (faults.Append i x) is count fault = absurd fault
-list_played n input body rest faults.TooLarge is count fault = absurd fault
-list_played n input body rest faults.Device is count fault = absurd fault
+pub list_played : (version : Version) (n : ℕ) (input body rest : List ℕ) (fault : ReplayFault) → input ≡ header version ++ body → IsCount n × (body ≡ with_line_feed (workers_line n) ++ rest) → IsListFault version n rest fault → IsPlayed input (Err fault)
+list_played version n input body rest (faults.BadLine k) is count fault = (version, body, is, inr (n, rest, count.0, count.1, fault))
+list_played version n input body rest faults.Memory is count fault = tt
+list_played version n input body rest faults.NoHeader is count fault = absurd fault
+list_played version n input body rest (faults.AfterEnd i) is count fault = absurd fault
+list_played version n input body rest (faults.Append i x) is count fault = absurd fault
+list_played version n input body rest faults.TooLarge is count fault = absurd fault
+list_played version n input body rest faults.Device is count fault = absurd fault
 
-pub after_played : (n nodes : ℕ) (input body rest more : List ℕ) (table : List Descriptor) (fault : ReplayFault) → input ≡ header ++ body → IsCount n × (body ≡ with_line_feed (workers_line n) ++ rest) → IsNodesPrefix rest table more → nodes ≡ length table
-    → IsFaultAfter n nodes more fault → IsPlayed input (Err fault)
-after_played n nodes input body rest more table fault is count prefix long f =
-    list_played n input body rest fault is count (subst (λ (t : List ℕ). IsListFault n t fault) (sym prefix.prefix) (f table prefix.fitting (sym long)))
+-- the answer where a descriptor's line is bad
+pub nodes_played : (version : Version) (n : ℕ) (input body rest : List ℕ) (fault : NodesFault) → input ≡ header version ++ body → IsCount n × (body ≡ with_line_feed (workers_line n) ++ rest) → IsNodesFault 3 rest fault → IsPlayed input (Err (nodes_fault fault))
+nodes_played version n input body rest (listing.BadLine k) is count bad = list_played version n input body rest (faults.BadLine k) is count (inl (record {
+  table = bad.table;
+  entries = [];
+  rest = 78 ∷ 124 ∷ bad.more;
+  prefix = bad.prefix;
+  nodes = bad.fitting;
+  own = tt;
+  none = record {
+    node = λ d m _ has takes. bad.none d m has takes;
+    entry = λ e m has _. no_entry_at_node version (78 ∷ 124 ∷ bad.more) bad.more refl e m has;
+    turns = λ ts m are. no_turns_at 78 (78 ∷ 124 ∷ bad.more) (124 ∷ bad.more) (λ e. absurd (omega arith)) refl n ts m are;
+  };
+  number = omega (arith, bad.number);
+}))
+nodes_played version n input body rest listing.Memory is count bad = tt
 
-pub says : (n : ℕ) (input body rest more last : List ℕ) (table : List Descriptor) (entries : List Entry) (turns : List Turn) → input ≡ header ++ body → IsCount n × (body ≡ with_line_feed (workers_line n) ++ rest) → IsNodesPrefix rest table more
-    → IsEntriesPrefix n more entries last → AreTurns n turns × (last ≡ with_line_feed (turns_line turns)) → IsTextOf input (record { workers = n; table = table; entries = entries; turns = turns })
-says n input body rest more last table entries turns is count nodes own ends = (
+pub after_played : (version : Version) (n nodes : ℕ) (input body rest more : List ℕ) (table : List Descriptor) (fault : ReplayFault) → input ≡ header version ++ body → IsCount n × (body ≡ with_line_feed (workers_line n) ++ rest) → IsNodesPrefix rest table more → nodes ≡ length table
+    → IsFaultAfter version n nodes more fault → IsPlayed input (Err fault)
+after_played version n nodes input body rest more table fault is count prefix long f =
+    list_played version n input body rest fault is count (subst (λ (t : List ℕ). IsListFault version n t fault) (sym prefix.prefix) (f table prefix.fitting (sym long)))
+
+pub says : (version : Version) (n : ℕ) (input body rest more last : List ℕ) (table : List Descriptor) (entries : List Entry) (turns : List Turn) → input ≡ header version ++ body → IsCount n × (body ≡ with_line_feed (workers_line n) ++ rest) → IsNodesPrefix rest table more
+    → IsEntriesPrefix version n more entries last → AreTurns n turns × (last ≡ with_line_feed (turns_line turns)) → IsTextOf input (record { version = version; workers = n; table = table; entries = entries; turns = turns })
+says version n input body rest more last table entries turns is count nodes own ends = (
   record { count = count.0; nodes = nodes.fitting; own = own.own; turns = ends.0 },
-  is ∙ ap (λ (t : List ℕ). header ++ t) (count.1 ∙ ap (λ (t : List ℕ). with_line_feed (workers_line n) ++ t) (nodes.prefix ∙ ap (λ (t : List ℕ). nodes_text table ++ t) (own.prefix ∙ ap (λ (t : List ℕ). entries_text entries ++ t) ends.1))),
+  is ∙ ap (λ (t : List ℕ). header version ++ t) (count.1 ∙ ap (λ (t : List ℕ). with_line_feed (workers_line n) ++ t) (nodes.prefix ∙ ap (λ (t : List ℕ). nodes_text table ++ t) (own.prefix ∙ ap (λ (t : List ℕ). entries_text entries ++ t) ends.1))),
 )
 
 pub scripts_long : (entries : List Entry) (n : ℕ) → length (scripts_by entries n) ≡ n

@@ -4,6 +4,7 @@ use Rattle.tk_ids.specs.declared.tables.Descriptor.{Descriptor}
 use Rattle.tk_events.specs.declared.events.Entry.{Entry}
 use Rattle.tk_record.specs.Text.{with_line_feed, nodes_text, entries_text, AreNodes}
 use Rattle.tk_record.specs.Path.{LacksNodeStart}
+use Rattle.tk_record.specs.declared.versions.Version.{Version}
 use Rattle.tk_replay.specs.declared.items.Turn.{Turn}
 use Rattle.tk_replay.specs.declared.replays.ReplayFault.{ReplayFault}
 use Rattle.tk_replay.specs.declared.replays.ReplayFault.TheVariants as faults
@@ -15,9 +16,9 @@ abbrev pub LacksEntryStart : List ℕ → Type 0
 LacksEntryStart rest = (more : List ℕ) → rest ≢ 69 ∷ 124 ∷ more
 
 -- the input begins with the lines of these entries, and no further such line
-pub record IsEntriesPrefix (n : ℕ) (input : List ℕ) (entries : List Entry) (rest : List ℕ) : Type 0 where
+pub record IsEntriesPrefix (version : Version) (n : ℕ) (input : List ℕ) (entries : List Entry) (rest : List ℕ) : Type 0 where
   pub prefix : input ≡ entries_text entries ++ rest
-  pub own : AreOwn n entries
+  pub own : AreOwn version n entries
   pub no_node : entries ≡ [] → LacksNodeStart rest
   pub no_entry : LacksEntryStart rest
 
@@ -27,14 +28,14 @@ IsCountFault input (faults.BadLine k) = (k ≡ 2) × NoCount input
 IsCountFault input _ = ⊥
 
 -- the fault of a line after the number of workers
-abbrev pub IsListFault : ℕ → List ℕ → ReplayFault → Type 0
-IsListFault n input (faults.BadLine k) = IsBadAfter n input k
-IsListFault n input faults.Memory = Unit {0}
-IsListFault n input _ = ⊥
+abbrev pub IsListFault : Version → ℕ → List ℕ → ReplayFault → Type 0
+IsListFault version n input (faults.BadLine k) = IsBadAfter version n input k
+IsListFault version n input faults.Memory = Unit {0}
+IsListFault version n input _ = ⊥
 
 -- the fault of a line after these descriptors
-abbrev pub IsFaultAfter : ℕ → ℕ → List ℕ → ReplayFault → Type 0
-IsFaultAfter n nodes input fault = (table : List Descriptor) → AreNodes [] table → length table ≡ nodes → IsListFault n (nodes_text table ++ input) fault
+abbrev pub IsFaultAfter : Version → ℕ → ℕ → List ℕ → ReplayFault → Type 0
+IsFaultAfter version n nodes input fault = (table : List Descriptor) → AreNodes [] table → length table ≡ nodes → IsListFault version n (nodes_text table ++ input) fault
 
 -- no line of turns stands at the start
 abbrev pub NoTurns : ℕ → List ℕ → Type 0

@@ -9,8 +9,12 @@ use Rattle.tk_events.specs.declared.events.Entry.{Entry}
 use Rattle.tk_columns.specs.Recorded.{Recorded}
 use Rattle.tk_columns.specs.Mixing.{IsWorkerOf, of_worker}
 use Rattle.tk_record.specs.declared.reading.TheConstants.{MAX_TEXT}
-use Rattle.tk_record.specs.Spelling.{node_line, entry_line, IsDescriptor, HasEntryLine}
+use Rattle.tk_record.specs.declared.versions.Version.{Version}
+use Rattle.tk_record.specs.Versions.{HasLineIn, header_of}
+use Rattle.tk_record.specs.Spelling.{node_line, entry_line, IsDescriptor}
 use Rattle.tk_record.specs.Text.{with_line_feed, nodes_text, entries_text, AreNodes, text}
+use Rattle.tk_record.specs.declared.node_lines.NodesFault.{NodesFault}
+use Rattle.tk_record.specs.declared.node_lines.NodesFault.TheVariants as listing
 use Rattle.tk_record.specs.declared.writing.WriteFault.{WriteFault}
 use Rattle.tk_record.specs.declared.writing.WriteFault.TheVariants as writing
 use Rattle.tk_streams.specs.Stream.{AppendsPrefix}
@@ -24,26 +28,27 @@ use Rattle.tk_replay.specs.Replay.{Moment, Faulty, Refuses, plays, start, StopsA
 
 -- what a replay text says
 pub record Scenario : Type 0 where
+  pub version : Version
   pub workers : ℕ
   pub table : List Descriptor
   pub entries : List Entry
   pub turns : List Turn
 
-unfoldable pub header : List ℕ
-header = codes "testkit-replay|1" ++ 10 ∷ []
+unfoldable pub header : Version → List ℕ
+header version = header_of (codes "testkit-replay|") version
 
 -- the header, the number of workers, the static descriptors, the entries, and the turns, each line with its line feed
 abbrev pub replay_text : Scenario → List ℕ
-replay_text p = header ++ (with_line_feed (workers_line p.workers) ++ (nodes_text p.table ++ (entries_text p.entries ++ with_line_feed (turns_line p.turns))))
+replay_text p = header p.version ++ (with_line_feed (workers_line p.workers) ++ (nodes_text p.table ++ (entries_text p.entries ++ with_line_feed (turns_line p.turns))))
 
--- each entry has a line, and is of one of the workers 1 to n
-abbrev pub AreOwn : ℕ → List Entry → Type 0
-AreOwn n entries = AllByRecursion (λ e. HasEntryLine e × IsWorkerOf n e.worker) entries
+-- each entry has a line in the version, and is of one of the workers 1 to n
+abbrev pub AreOwn : Version → ℕ → List Entry → Type 0
+AreOwn version n entries = AllByRecursion (λ e. HasLineIn version e × IsWorkerOf n e.worker) entries
 
 pub record HasReplayText (p : Scenario) : Type 0 where
   pub count : IsCount p.workers
   pub nodes : AreNodes [] p.table
-  pub own : AreOwn p.workers p.entries
+  pub own : AreOwn p.version p.workers p.entries
   pub turns : AreTurns p.workers p.turns
 
 -- the scripts of the workers 1 to n: each worker's is its entries in order
@@ -58,42 +63,42 @@ abbrev pub NoCount : List ℕ → Type 0
 NoCount rest = (n : ℕ) (more : List ℕ) → IsCount n → rest ≢ with_line_feed (workers_line n) ++ more
 
 -- no line that may follow these descriptors and entries stands at the start
-pub record NoLineOf (n : ℕ) (table : List Descriptor) (entries : List Entry) (rest : List ℕ) : Type 0 where
+pub record NoLineOf (version : Version) (n : ℕ) (table : List Descriptor) (entries : List Entry) (rest : List ℕ) : Type 0 where
   pub node : (d : Descriptor) (more : List ℕ) → entries ≡ [] → IsDescriptor d → TakesNext table d → rest ≢ with_line_feed (node_line d) ++ more
-  pub entry : (e : Entry) (more : List ℕ) → HasEntryLine e → IsWorkerOf n e.worker → rest ≢ with_line_feed (entry_line e) ++ more
+  pub entry : (e : Entry) (more : List ℕ) → HasLineIn version e → IsWorkerOf n e.worker → rest ≢ with_line_feed (entry_line e) ++ more
   pub turns : (turns : List Turn) (more : List ℕ) → AreTurns n turns → rest ≢ with_line_feed (turns_line turns) ++ more
 
 -- after the number of workers, line k is none that may follow the descriptors and entries before it, or is missing
-pub record IsBadLine (n : ℕ) (input : List ℕ) (k : ℕ) : Type 0 where
+pub record IsBadLine (version : Version) (n : ℕ) (input : List ℕ) (k : ℕ) : Type 0 where
   pub table : List Descriptor
   pub entries : List Entry
   pub rest : List ℕ
   pub prefix : input ≡ nodes_text table ++ (entries_text entries ++ rest)
   pub nodes : AreNodes [] table
-  pub own : AreOwn n entries
-  pub none : NoLineOf n table entries rest
+  pub own : AreOwn version n entries
+  pub none : NoLineOf version n table entries rest
   pub number : k ≡ length table + length entries + 3
 
 -- after the number of workers, line k stands after the turns
-pub record IsLineAfter (n : ℕ) (input : List ℕ) (k : ℕ) : Type 0 where
+pub record IsLineAfter (version : Version) (n : ℕ) (input : List ℕ) (k : ℕ) : Type 0 where
   pub table : List Descriptor
   pub entries : List Entry
   pub turns : List Turn
   pub rest : List ℕ
   pub prefix : input ≡ nodes_text table ++ (entries_text entries ++ (with_line_feed (turns_line turns) ++ rest))
   pub nodes : AreNodes [] table
-  pub own : AreOwn n entries
+  pub own : AreOwn version n entries
   pub are : AreTurns n turns
   pub more : rest ≢ []
   pub number : k ≡ length table + length entries + 4
 
 -- the first line after the number of workers that may not stand there is line k
-abbrev pub IsBadAfter : ℕ → List ℕ → ℕ → Type 0
-IsBadAfter n input k = IsBadLine n input k ⊎ IsLineAfter n input k
+abbrev pub IsBadAfter : Version → ℕ → List ℕ → ℕ → Type 0
+IsBadAfter version n input k = IsBadLine version n input k ⊎ IsLineAfter version n input k
 
 -- the first line after the header that may not stand there is line k: the one of the number of workers, or a later one
-abbrev pub IsBad : List ℕ → ℕ → Type 0
-IsBad input k = ((k ≡ 2) × NoCount input) ⊎ ((n : ℕ) × (rest : List ℕ) × IsCount n × (input ≡ with_line_feed (workers_line n) ++ rest) × IsBadAfter n rest k)
+abbrev pub IsBad : Version → List ℕ → ℕ → Type 0
+IsBad version input k = ((k ≡ 2) × NoCount input) ⊎ ((n : ℕ) × (rest : List ℕ) × IsCount n × (input ≡ with_line_feed (workers_line n) ++ rest) × IsBadAfter version n rest k)
 
 -- the input is the text of this replay
 abbrev pub IsTextOf : List ℕ → Scenario → Type 0
@@ -102,8 +107,8 @@ IsTextOf input p = HasReplayText p × (input ≡ replay_text p)
 -- what playing an input within the limit answers, with the record of what is taken; want of memory may come at any
 abbrev pub IsPlayed : List ℕ → Result Recorded ReplayFault → Type 0
 IsPlayed input (Ok r) = (p : Scenario) × (m : Moment) × IsTextOf input p × (plays (scripts_by p.entries p.workers) p.turns (start p.table p.workers) ≡ Some m) × (r ≡ m.taken)
-IsPlayed input (Err faults.NoHeader) = (rest : List ℕ) → input ≢ header ++ rest
-IsPlayed input (Err (faults.BadLine k)) = (rest : List ℕ) × (input ≡ header ++ rest) × IsBad rest k
+IsPlayed input (Err faults.NoHeader) = (version : Version) (rest : List ℕ) → input ≢ header version ++ rest
+IsPlayed input (Err (faults.BadLine k)) = (version : Version) × (rest : List ℕ) × (input ≡ header version ++ rest) × IsBad version rest k
 IsPlayed input (Err (faults.AfterEnd i)) = (p : Scenario) × IsTextOf input p × StopsAt p.table (scripts_by p.entries p.workers) p.turns i Faulty
 IsPlayed input (Err (faults.Append i fault)) = (p : Scenario) × IsTextOf input p × StopsAt p.table (scripts_by p.entries p.workers) p.turns i (Refuses fault)
 IsPlayed input (Err faults.TooLarge) = ⊥
@@ -135,11 +140,15 @@ Plays input = (length input ≤ MAX_TEXT) × ((r : Recorded) × IsPlayed input (
 abbrev pub IsPartlyWritten : List ℕ → Option (List ℕ) → Option (List ℕ) → Type 0
 IsPartlyWritten input old new = (length input ≤ MAX_TEXT) × ((r : Recorded) × IsPlayed input (Ok r) × AppendsPrefix old new (text r))
 
--- faults of loading and of writing, as faults of replays
+-- faults of loading, of single steps and of writing, as faults of replays
 abbrev pub load_fault : LoadFault → ReplayFault
 load_fault loading.TooLarge = faults.TooLarge
 load_fault loading.Device = faults.Device
 load_fault loading.Memory = faults.Memory
+
+abbrev pub nodes_fault : NodesFault → ReplayFault
+nodes_fault (listing.BadLine n) = faults.BadLine n
+nodes_fault listing.Memory = faults.Memory
 
 abbrev pub write_fault : WriteFault → ReplayFault
 write_fault writing.Device = faults.Device

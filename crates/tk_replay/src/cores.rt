@@ -44,7 +44,7 @@ impl Model for Core {
 }
 
 impl Core {
-    /// A queue of this many workers, of whom none emitted anything.
+    /// A queue of `workers` workers, of whom none emitted anything.
     pub fn new(alloc: Global, workers: u8) -> Core
         requires { (0 < workers) × (workers ≤ MAX_WORKERS) }
         ensures { result ≡ fresh workers }

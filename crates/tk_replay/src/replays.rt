@@ -15,13 +15,13 @@ use std::sync::Arc;
 use tk_columns::{AppendFault, Record};
 use tk_events::{Event, MAX_WORKERS};
 use tk_ids::Table;
-use tk_record::WriteFault;
+use tk_record::{NodesFault, WriteFault};
 use tk_streams::LoadFault;
 
 /// Why a replay has no result.
 #[derive(Debug, Drop)]
 pub enum ReplayFault {
-    /// The text doesn't begin with the header line.
+    /// The text doesn't begin with the header line of a version.
     NoHeader,
     /// A line has no form that may stand there.
     BadLine(usize),
@@ -63,6 +63,19 @@ impl From<LoadFault> for ReplayFault {
             LoadFault::TooLarge => ReplayFault::TooLarge,
             LoadFault::Device => ReplayFault::Device,
             LoadFault::Memory => ReplayFault::Memory,
+        }
+    }
+}
+
+impl From<NodesFault> for ReplayFault {
+    ghost use Rattle.tk_replay.specs.ReplayText.{nodes_fault};
+
+    ghost from_gives = { λ f e. e ≡ nodes_fault f };
+
+    fn from(e: NodesFault) -> ReplayFault {
+        match e {
+            NodesFault::BadLine(number) => ReplayFault::BadLine(number),
+            NodesFault::Memory => ReplayFault::Memory,
         }
     }
 }

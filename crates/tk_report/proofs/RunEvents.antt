@@ -1,15 +1,15 @@
 -- What was written of a plan's run is the plan's report.
-use Rattle.std.proofs.Common.{◌≡◌, ◌≢◌, ◌<◌, ◌≤◌, ◌⊎◌, ℕ, List, Option, Result, Ok, Err, length, refl, sym, ap, ◌∙◌, subst, arith, inl, inr, ⊎_elim}
+use Rattle.std.proofs.Common.{◌≡◌, ◌≢◌, ◌<◌, ◌≤◌, ◌⊎◌, ℕ, List, Option, Result, Ok, Err, length, refl, ap, ◌∙◌, subst, arith, inl, inr, ⊎_elim}
 use Rattle.std.proofs.lemmas.Bool.{cases_lt}
 use Rattle.std.specs.Io.KnownBytes.{Appends}
-use Rattle.tk_events.specs.declared.registrations.TheConstants.{MAX_WORKERS}
+use Rattle.tk_limits.specs.declared.limits.TheConstants.{MAX_WORKERS}
 use Rattle.std.specs.Prelude.{IsErrOf}
 use Rattle.tk_columns.specs.Recorded.{Recorded}
 use Rattle.tk_streams.specs.Stream.{AppendsPrefix}
 use Rattle.tk_cutting.specs.Cutting.{units_of}
 use Rattle.tk_cutting.specs.Trees.{forest}
 use Rattle.tk_cutting.specs.Planned.{Outline}
-use Rattle.tk_plan.specs.Gives.{plan_in, outline, Answered}
+use Rattle.tk_plan.specs.Gives.{plan_in, Answered}
 use Rattle.tk_plan.specs.declared.faults.PlanFault.{PlanFault}
 use Rattle.tk_plan.specs.declared.faults.PlanFault.TheVariants as plans
 use Rattle.tk_engine.specs.declared.engines.UnitFault.{UnitFault}

@@ -1,7 +1,7 @@
 -- What the calls that report answer, and what was written then.
 use Rattle.std.specs.Prelude.{◌≡◌, ◌≢◌, ℕ, ◌<◌, ◌≤◌, List, Option, Result, Ok, Err, length}
 use Rattle.std.specs.Io.KnownBytes.{Appends}
-use Rattle.tk_events.specs.declared.registrations.TheConstants.{MAX_WORKERS}
+use Rattle.tk_limits.specs.declared.limits.TheConstants.{MAX_WORKERS}
 use Rattle.tk_columns.specs.Recorded.{Recorded}
 use Rattle.tk_streams.specs.Stream.{AppendsPrefix}
 use Rattle.tk_cutting.specs.Cutting.{units_of}

@@ -19,14 +19,18 @@ use tk_scripted::Scripted;
 /// How many places the queue of a plan's run has.
 pub const CAPACITY: usize = 64;
 
-/// Writes the report of a run: the eight statistics, then each id that has an event, in the order
-/// of the ids' texts, with the tails of its events. `Device` or `Memory` may come.
+/// Writes the report of a run into `target`: the nine statistics, then each id that has an event, in the order of the ids'
+/// texts, with the tails of its events in the record's order.
+///
+/// # Errors
+/// `Device` where the target broke, after a prefix of the report; `Memory`, before anything is written.
 pub fn write_report<T: Target>(
     alloc: Global,
     results: &Results,
     target: &mut T,
 ) -> Result<(), ReportFault>
-    ensures answer { IsRunReport results.now.recorded (T.contents target.old) (T.contents target.new) result }
+    ensures answer { IsRunReport results.now.recorded (T.contents target.old)
+        (T.contents target.new) result }
     ensures device { IsErrOf result ReportFault.Device → T.broken target.new ≡ true }
 {
     match write_report_of(alloc, results.recorded(), target) {
@@ -36,8 +40,10 @@ pub fn write_report<T: Target>(
     }
 }
 
-/// Reads a plan, runs it by `workers` workers, each in a thread of its own, and writes the report of
-/// the run. It is the plan's report, however many workers there are.
+/// Reads a plan, runs it by 1 to `MAX_WORKERS` workers, each in a thread of its own, and writes the report of the run into
+/// `target`.
+///
+/// `bytes` are a plan's JSON text, of version 1 or 2. What is written is the plan's report, however many workers there are.
 ///
 /// # Errors
 /// `Plan`, `Run` or `Device`. Want of memory is `Memory`, also in reading the plan and in running it; a unit
@@ -49,7 +55,8 @@ pub fn plan_report<R: Threads + Wait + Sync, T: Target>(
     workers: usize,
     target: &mut T,
 ) -> Result<(), ReportFault>
-    ensures answer { IsReported bytes.now workers (T.contents target.old) (T.contents target.new) result }
+    ensures answer { IsReported bytes.now workers (T.contents target.old) (T.contents target.new)
+        result }
     ensures device { IsErrOf result ReportFault.Device → T.broken target.new ≡ true }
 {
     let plan = read_plan(alloc, bytes)?;

@@ -10,14 +10,14 @@ use Rattle.tk_cutting.specs.StepEvents as telling
 use Rattle.tk_cutting.proofs.Cuts.{from_each-append, spine_facts, parts-moves, parts_below-moves}
 use Rattle.tk_cutting.proofs.StepEvents.{spine_events_are_steps}
 use Rattle.tk_cutting.specs.declared.nodes.Node.{Node}
-use Rattle.tk_cutting.specs.declared.steps.Act.TheVariants.{Finish, Register, Report, Skip, Start}
+use Rattle.tk_cutting.specs.declared.steps.Act.TheVariants.{File, Finish, Register, Report, Skip, Start}
 use Rattle.tk_ids.specs.IdText.{Pair}
-use Rattle.tk_run_laws.proofs.Model.{Forest, Item, Part, Step, Tree, after, after_below, before, before_below, finish, is_open, more, no_trees, opening, parts, parts_below, performed, plain, reports, script, static_event, static_events, step, steps, steps_below, tree}
+use Rattle.tk_run_laws.proofs.Model.{Forest, Item, Part, Publication, Step, Tree, act_of, after, after_below, before, before_below, entries_from, files_from, finish, is_open, more, no_trees, opening, parts, parts_below, performed, plain, publications, published, script, static_event, static_events, step, steps, steps_below, tree}
 
 abbrev mutual
   pub modelled : Bool → ℕ → List Pair → plan.Tree → Tree
   modelled is_root parent above (plan.tree n k f) = tree
-      (record { number = k; parent = parent; id = above ++ n.segment ∷ []; is_static = n.is_static; may_open = cut.on_spine is_root n f; skip = n.skip; entries = n.entries; node = n })
+      (record { number = k; parent = parent; id = above ++ n.segment ∷ []; is_static = n.is_static; may_open = cut.on_spine is_root n f; skip = n.skip; node = n })
       (modelled_below false k (above ++ n.segment ∷ []) f)
 
   pub modelled_below : Bool → ℕ → List Pair → plan.Forest → Forest
@@ -36,36 +36,50 @@ stamped-length : (p : ℕ) (xs : List _) → length (done.stamped p xs) ≡ leng
 stamped-length p [] = refl
 stamped-length p (x ∷ xs) = ap suc (stamped-length (p + 1) xs)
 
-plain_reports : (p : ℕ) (n : Item) (i : ℕ) (es : List (List (List ℕ × List ℕ))) → map plain (reports p n i es) ≡ done.stamped p (done.reports n.number i es)
-plain_reports p n i [] = refl
-plain_reports p n i (e ∷ es) = ap (λ l. record { node = n.number; stamp = p; act = Report i } ∷ l) (plain_reports (p + 1) n (i + 1) es)
+entry_acts : (k i : ℕ) (es : List (List (List ℕ × List ℕ))) → map (λ x. done.move k (act_of x)) (entries_from i es) ≡ done.each_act Report k i es
+entry_acts k i [] = refl
+entry_acts k i (e ∷ es) = ap (λ l. done.move k (Report i) ∷ l) (entry_acts k (i + 1) es)
 
-plain_opening : (p : ℕ) (n : Item) → map plain (opening p n) ≡ done.stamped p (done.move n.number Start ∷ done.reports n.number 0 n.entries)
-plain_opening p n = ap (λ l. record { node = n.number; stamp = p; act = Start } ∷ l) (plain_reports (p + 1) n 0 n.entries)
+file_acts : (k i : ℕ) (fs : List (List ℕ)) → map (λ x. done.move k (act_of x)) (files_from i fs) ≡ done.each_act File k i fs
+file_acts k i [] = refl
+file_acts k i (f ∷ fs) = ap (λ l. done.move k (File i) ∷ l) (file_acts k (i + 1) fs)
+
+opening_moves : (n : Item) → done.move n.number Start ∷ map (λ x. done.move n.number (act_of x)) (publications n) ≡ done.opening n.node n.number
+opening_moves n =
+    ap (λ l. done.move n.number Start ∷ l)
+    (map-append (λ x. done.move n.number (act_of x)) (entries_from 0 n.node.entries) (files_from 0 n.node.files)
+    ∙ ap₂ (λ a b. a ++ b) (entry_acts n.number 0 n.node.entries) (file_acts n.number 0 n.node.files))
+
+plain_published : (p : ℕ) (n : Item) (xs : List Publication) → map plain (published p n xs) ≡ done.stamped p (map (λ x. done.move n.number (act_of x)) xs)
+plain_published p n [] = refl
+plain_published p n (x ∷ xs) = ap (λ l. record { node = n.number; stamp = p; act = act_of x } ∷ l) (plain_published (p + 1) n xs)
+
+plain_opening : (p : ℕ) (n : Item) → map plain (opening p n) ≡ done.stamped p (done.opening n.node n.number)
+plain_opening p n = ap (λ l. record { node = n.number; stamp = p; act = Start } ∷ l) (plain_published (p + 1) n (publications n)) ∙ ap (done.stamped p) (opening_moves n)
 
 plain_length : (p : ℕ) (ss : List Step) (ms : List _) → map plain ss ≡ done.stamped p ms → length ss ≡ length ms
 plain_length p ss ms e = sym (length-map ss plain) ∙ (ap length e ∙ stamped-length p ms)
 
-opening_length : (p : ℕ) (n : Item) → length (opening p n) ≡ length (done.move n.number Start ∷ done.reports n.number 0 n.entries)
-opening_length p n = plain_length p (opening p n) (done.move n.number Start ∷ done.reports n.number 0 n.entries) (plain_opening p n)
+opening_length : (p : ℕ) (n : Item) → length (opening p n) ≡ length (done.opening n.node n.number)
+opening_length p n = plain_length p (opening p n) (done.opening n.node n.number) (plain_opening p n)
 
 plain_performed : (p : ℕ) (n : Item) (o : Option (List ℕ)) (below : ℕ → List Step) (ms : List _) → ((q : ℕ) → map plain (below q) ≡ done.stamped q ms)
-    → map plain (performed p n o below) ≡ done.stamped p (if is_some o then done.move n.number Skip ∷ [] else (done.move n.number Start ∷ done.reports n.number 0 n.entries) ++ (ms ++ done.move n.number Finish ∷ []))
+    → map plain (performed p n o below) ≡ done.stamped p (if is_some o then done.move n.number Skip ∷ [] else done.opening n.node n.number ++ (ms ++ done.move n.number Finish ∷ []))
 plain_performed p n (Some r) below ms h = refl
 plain_performed p n None below ms h =
     let j = p + length (opening p n) in
-    let i = p + length (done.move n.number Start ∷ done.reports n.number 0 n.entries) in
+    let i = p + length (done.opening n.node n.number) in
     let at : j ≡ i = ap (λ m. p + m) (opening_length p n) in
     let end : j + length (below j) ≡ i + length ms = ap₂ (λ a b. a + b) at (plain_length j (below j) ms (h j)) in
     map-append plain (opening p n) _
     ∙ (ap₂ (λ a b. a ++ b) (plain_opening p n)
     (map-append plain (below j) (finish (j + length (below j)) n ∷ []) ∙ ap₂ (λ a b. a ++ b) (h j ∙ ap (λ q. done.stamped q ms) at) (ap (λ q. record { node = n.number; stamp = q; act = Finish } ∷ []) end))
-    ∙ sym (stamped-append p (done.move n.number Start ∷ done.reports n.number 0 n.entries) (ms ++ done.move n.number Finish ∷ []) ∙ ap (λ l. done.stamped p (done.move n.number Start ∷ done.reports n.number 0 n.entries) ++ l) (stamped-append i ms (done.move n.number Finish ∷ []))))
+    ∙ sym (stamped-append p (done.opening n.node n.number) (ms ++ done.move n.number Finish ∷ []) ∙ ap (λ l. done.stamped p (done.opening n.node n.number) ++ l) (stamped-append i ms (done.move n.number Finish ∷ []))))
 
 mutual
   pub plain_steps : (b : Bool) (parent : ℕ) (above : List Pair) (p : ℕ) (t : plan.Tree) → map plain (steps p (modelled b parent above t)) ≡ done.stamped p (done.registration parent t ++ done.moves t)
   plain_steps b parent above p (plan.tree n k f) =
-      let item : Item = record { number = k; parent = parent; id = above ++ n.segment ∷ []; is_static = n.is_static; may_open = cut.on_spine b n f; skip = n.skip; entries = n.entries; node = n } in
+      let item : Item = record { number = k; parent = parent; id = above ++ n.segment ∷ []; is_static = n.is_static; may_open = cut.on_spine b n f; skip = n.skip; node = n } in
       let m = modelled_below false k (above ++ n.segment ∷ []) f in
       let own = λ (q : ℕ). plain_performed q item n.skip (λ q. steps_below q m) (done.moves_below k f) (λ q. plain_below false k (above ++ n.segment ∷ []) q f) in
       elim n.is_static as (λ s.
@@ -125,26 +139,25 @@ pub record CutsBelow (p : ℕ) (m : Forest) (ps : List cut.Part) : Type 0 where
   pub before : static_events (before_below p m) ≡ cut.from_each cut.head p ps
   pub after : static_events (after_below p m) ≡ cut.from_each cut.tail p ps
 
-emitted_reports : (p : ℕ) (n : Item) (i : ℕ) (es : List (List (List ℕ × List ℕ))) → static_events (reports p n i es) ≡ map (telling.event_of_step n.node) (map plain (reports p n i es))
-emitted_reports p n i [] = refl
-emitted_reports p n i (e ∷ es) = ap (λ l. static_event (step p n (Report i)) ∷ l) (emitted_reports (p + 1) n (i + 1) es)
+emitted_published : (p : ℕ) (n : Item) (xs : List Publication) → static_events (published p n xs) ≡ map (telling.event_of_step n.node) (map plain (published p n xs))
+emitted_published p n [] = refl
+emitted_published p n (x ∷ xs) = ap (λ l. static_event (step p n (act_of x)) ∷ l) (emitted_published (p + 1) n xs)
 
-begun_same : (p : ℕ) (n : Item) → n.entries ≡ n.node.entries → static_events (opening p n) ≡ cut.head p (cut.opens n.node n.number)
-begun_same p n e =
-    ap (λ l. static_event (step p n Start) ∷ l) (emitted_reports (p + 1) n 0 n.entries)
+begun_same : (p : ℕ) (n : Item) → static_events (opening p n) ≡ cut.head p (cut.opens n.node n.number)
+begun_same p n =
+    ap (λ l. static_event (step p n Start) ∷ l) (emitted_published (p + 1) n (publications n))
     ∙ (ap (map (telling.event_of_step n.node)) (plain_opening p n)
-    ∙ (ap (λ es. map (telling.event_of_step n.node) (done.stamped p (done.move n.number Start ∷ done.reports n.number 0 es))) e
-    ∙ sym (spine_events_are_steps n.node n.number p).0))
+    ∙ sym (spine_events_are_steps n.node n.number p).0)
 
 -- a tree that is cut open
-cuts_open : (p : ℕ) (n : Item) (g : Forest) (f : plan.Forest) → is_open n ≡ true → n.entries ≡ n.node.entries → cut.all_static f ≡ true
+cuts_open : (p : ℕ) (n : Item) (g : Forest) (f : plan.Forest) → is_open n ≡ true → cut.all_static f ≡ true
     → ((q : ℕ) → length (steps_below q g) ≡ length (done.moves_below n.number f))
     → ((q : ℕ) → CutsBelow q g (cut.parts_below false f))
     → Cuts p (tree n g) (cut.opens n.node n.number ∷ (cut.parts_below false f ++ cut.closes n.node n.number ∷ []))
-cuts_open p n g f e same statics size inner =
+cuts_open p n g f e statics size inner =
     let k = p + length (opening p n) in
     let i = p + length (done.opening n.node n.number) in
-    let at : k ≡ i = ap (λ m. p + m) (opening_length p n) ∙ ap (λ es. p + length (done.move n.number Start ∷ done.reports n.number 0 es)) same in
+    let at : k ≡ i = ap (λ m. p + m) (opening_length p n) in
     let below = subst (λ q. CutsBelow q g (cut.parts_below false f)) refl (inner k) in
     record {
       units = ap (λ b. map run_of (if b then parts_below k g else record { first = p; whole = tree n g } ∷ [])) e
@@ -152,7 +165,7 @@ cuts_open p n g f e same statics size inner =
           ∙ ap (map run_piece) (sym (open_each cut.piece p n.node n.number f statics ∙ append-nil _))));
       before = ap (λ b. static_events (if b then opening p n ++ before_below k g else [])) e
           ∙ (map-append static_event (opening p n) (before_below k g)
-          ∙ (ap₂ (λ a b. a ++ b) (begun_same p n same) (below.before ∙ ap (λ q. cut.from_each cut.head q (cut.parts_below false f)) at ∙ sym (append-nil _))
+          ∙ (ap₂ (λ a b. a ++ b) (begun_same p n) (below.before ∙ ap (λ q. cut.from_each cut.head q (cut.parts_below false f)) at ∙ sym (append-nil _))
           ∙ sym (open_each cut.head p n.node n.number f statics)));
       after = ap (λ b. static_events (if b then after_below k g ++ finish (k + length (steps_below k g)) n ∷ [] else [])) e
           ∙ (map-append static_event (after_below k g) (finish (k + length (steps_below k g)) n ∷ [])
@@ -180,14 +193,14 @@ is_static (plan.tree n k f) = n.is_static
 mutual
   cuts : (b : Bool) (parent : ℕ) (above : List Pair) (p : ℕ) (t : plan.Tree) → is_static t ≡ true → Cuts p (modelled b parent above t) (cut.parts b t)
   cuts b parent above p (plan.tree n k f) e =
-      let item : Item = record { number = k; parent = parent; id = above ++ n.segment ∷ []; is_static = n.is_static; may_open = cut.on_spine b n f; skip = n.skip; entries = n.entries; node = n } in
+      let item : Item = record { number = k; parent = parent; id = above ++ n.segment ∷ []; is_static = n.is_static; may_open = cut.on_spine b n f; skip = n.skip; node = n } in
       let g = modelled_below false k (above ++ n.segment ∷ []) f in
       let same = open_same b item f e refl refl in
       ⊎_elim
       (λ y.
       let statics = (spine_facts b n f y).1 in
       subst (λ s. Cuts p (tree item g) (cond s (cut.opens n k ∷ (cut.parts_below false f ++ cut.closes n k ∷ [])) (cut.runs (plan.tree n k f) ∷ []))) (sym y)
-      (cuts_open p item g f (same ∙ y) refl statics (λ q. plain_length q _ _ (plain_below false k (above ++ n.segment ∷ []) q f)) (λ q. cuts_below false k (above ++ n.segment ∷ []) q f statics)))
+      (cuts_open p item g f (same ∙ y) statics (λ q. plain_length q _ _ (plain_below false k (above ++ n.segment ∷ []) q f)) (λ q. cuts_below false k (above ++ n.segment ∷ []) q f statics)))
       (λ y.
       subst (λ s. Cuts p (tree item g) (cond s (cut.opens n k ∷ (cut.parts_below false f ++ cut.closes n k ∷ [])) (cut.runs (plan.tree n k f) ∷ []))) (sym y)
       (cuts_whole p item g (plan.tree n k f) (same ∙ y) (plain_steps b parent above p (plan.tree n k f) ∙ ap (done.stamped p) (static_moves parent n k f e))))

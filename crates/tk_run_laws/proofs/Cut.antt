@@ -4,9 +4,9 @@ use Rattle.std.proofs.lemmas.Bool.{cases_Bool}
 use Rattle.std.proofs.lemmas.List.{map-append}
 use Rattle.std.proofs.lemmas.List.Elements.{filter-append}
 use Rattle.std.proofs.lemmas.Grind.{flat_map-append}
-use Rattle.tk_cutting.specs.declared.steps.Act.TheVariants.{Register, Report, Skip, Start}
+use Rattle.tk_cutting.specs.declared.steps.Act.TheVariants.{Register, Skip, Start}
 use Rattle.tk_ids.specs.IdText.{Pair}
-use Rattle.tk_run_laws.proofs.Model.{Forest, HasNone, IsChain, IsChainBelow, Item, Part, Step, Tree, about, after, after_below, before, before_below, count, finish, is_open, more, no_trees, nodes, nodes_below, opening, parts, parts_below, performed, reports, script, shown, step, step_label, steps, steps_below, tree}
+use Rattle.tk_run_laws.proofs.Model.{Forest, HasNone, IsChain, IsChainBelow, Item, Part, Publication, Step, Tree, about, act_of, after, after_below, before, before_below, count, finish, is_open, more, no_trees, nodes, nodes_below, opening, parts, parts_below, performed, publications, published, script, shown, step, step_label, steps, steps_below, tree}
 
 pub count-append : {A : Type 0} (p : A → Bool) (xs ys : List A) → count p (xs ++ ys) ≡ count p xs + count p ys
 count-append p [] ys = omega arith
@@ -22,16 +22,16 @@ shown-append q xs ys = ap (about q) (map-append step_label xs ys) ∙ filter-app
 shown_not : (q : List Pair → Bool) (s : Step) (ss : List Step) → q s.node.id ≡ false → shown q ss ≡ [] → shown q (s ∷ ss) ≡ []
 shown_not q s ss e h = rw e h
 
-shown-reports : (q : List Pair → Bool) (p : ℕ) (n : Item) (i : ℕ) (es : List (List (List ℕ × List ℕ))) → q n.id ≡ false → shown q (reports p n i es) ≡ []
-shown-reports q p n i [] e = refl
-shown-reports q p n i (x ∷ xs) e = shown_not q (step p n (Report i)) _ e (shown-reports q (p + 1) n (i + 1) xs e)
+shown-published : (q : List Pair → Bool) (p : ℕ) (n : Item) (xs : List Publication) → q n.id ≡ false → shown q (published p n xs) ≡ []
+shown-published q p n [] e = refl
+shown-published q p n (x ∷ xs) e = shown_not q (step p n (act_of x)) _ e (shown-published q (p + 1) n xs e)
 
 shown-performed : (q : List Pair → Bool) (p : ℕ) (n : Item) (o : Option (List ℕ)) (below : ℕ → List Step) → q n.id ≡ false
     → ((k : ℕ) → shown q (below k) ≡ []) → shown q (performed p n o below) ≡ []
 shown-performed q p n (Some r) below e h = shown_not q (step p n (Skip)) [] e refl
 shown-performed q p n None below e h =
     shown-append q (opening p n) _
-    ∙ ap₂ (λ a b. a ++ b) (shown_not q (step p n Start) _ e (shown-reports q (p + 1) n 0 n.entries e))
+    ∙ ap₂ (λ a b. a ++ b) (shown_not q (step p n Start) _ e (shown-published q (p + 1) n (publications n) e))
     (shown-append q (below (p + length (opening p n))) _ ∙ ap₂ (λ a b. a ++ b) (h (p + length (opening p n))) (shown_not q (finish 0 n) [] e refl))
 
 none_head : (q : List Pair → Bool) (n : Item) (ns : List Item) → HasNone q (n ∷ ns) → (q n.id ≡ false) × HasNone q ns

@@ -4,7 +4,7 @@ use Rattle.std.proofs.lemmas.Bool.{cases_Bool}
 use Rattle.std.proofs.lemmas.Grind.{flat_map-append}
 use Rattle.tk_cutting.specs.declared.steps.Act.TheVariants.{Register}
 use Rattle.tk_run_laws.proofs.Cut.{count-append}
-use Rattle.tk_run_laws.proofs.Model.{Forest, Item, Part, Step, Tree, count, drawn_ids, finish, ids_emitted, is_open, more, no_trees, nodes, nodes_below, opening, parts, parts_below, performed, reports, script, step, steps, steps_below, steps_of, times, tree, units}
+use Rattle.tk_run_laws.proofs.Model.{Forest, Item, Part, Publication, Step, Tree, a_file, an_entry, count, drawn_ids, finish, ids_emitted, is_open, more, no_trees, nodes, nodes_below, opening, parts, parts_below, performed, publications, published, script, step, steps, steps_below, steps_of, times, tree, units}
 use Rattle.tk_run_laws.specs.Scripts.{is_registration}
 
 abbrev pub is_dynamic_node : Item → Bool
@@ -13,9 +13,10 @@ is_dynamic_node n = if n.is_static then false else true
 pub emitted_length : (xs ys : List Step) → length (ids_emitted (xs ++ ys)) ≡ length (ids_emitted xs) + length (ids_emitted ys)
 emitted_length xs ys = ap length (flat_map-append (λ s. if is_registration s.act then s.node.number ∷ [] else []) xs ys) ∙ length-append (ids_emitted xs) (ids_emitted ys)
 
-none_reports : (p : ℕ) (n : Item) (i : ℕ) (es : List (List (List ℕ × List ℕ))) → ids_emitted (reports p n i es) ≡ []
-none_reports p n i [] = refl
-none_reports p n i (e ∷ es) = none_reports (p + 1) n (i + 1) es
+none_published : (p : ℕ) (n : Item) (xs : List Publication) → ids_emitted (published p n xs) ≡ []
+none_published p n [] = refl
+none_published p n (an_entry i ∷ xs) = none_published (p + 1) n xs
+none_published p n (a_file i ∷ xs) = none_published (p + 1) n xs
 
 few_sum : (whole first last middle m : ℕ) → whole ≡ first + last → last ≡ middle + 0 → first ≡ 0 → middle ≤ m → whole ≤ m
 few_sum whole first last middle m a b c d = omega (arith, a, b, c, d)
@@ -26,7 +27,7 @@ few_performed p n None below m h =
     let k = p + length (opening p n) in
     let a = emitted_length (opening p n) (below k ++ finish (k + length (below k)) n ∷ []) in
     let b = emitted_length (below k) (finish (k + length (below k)) n ∷ []) in
-    let c : length (ids_emitted (opening p n)) ≡ 0 = ap length (none_reports (p + 1) n 0 n.entries) in
+    let c : length (ids_emitted (opening p n)) ≡ 0 = ap length (none_published (p + 1) n (publications n)) in
     let d = h k in
     few_sum (length (ids_emitted (performed p n None below))) (length (ids_emitted (opening p n))) (length (ids_emitted (below k ++ finish (k + length (below k)) n ∷ []))) (length (ids_emitted (below k))) m a b c d
 

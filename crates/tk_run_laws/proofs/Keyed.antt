@@ -5,13 +5,13 @@ use Rattle.tk_cutting.specs.Numbers.{in_order}
 use Rattle.tk_cutting.specs.StepEvents.{kind_of, payload_of}
 use Rattle.tk_cutting.specs.declared.nodes.NumberedNode.{NumberedNode}
 use Rattle.tk_cutting.specs.declared.steps.Act.{Act}
-use Rattle.tk_cutting.specs.declared.steps.Act.TheVariants.{Finish, Register, Report, Skip, Start}
+use Rattle.tk_cutting.specs.declared.steps.Act.TheVariants.{File, Finish, Register, Report, Skip, Start}
 use Rattle.tk_ids.specs.IdText.{Pair}
 use Rattle.tk_ids.specs.Table.{ids_of}
 use Rattle.tk_ids.specs.declared.tables.Descriptor.{Descriptor}
 use Rattle.tk_run_laws.proofs.Cut.{open_is}
 use Rattle.tk_run_laws.proofs.Lists.{each-append, each_split}
-use Rattle.tk_run_laws.proofs.Model.{Each, Forest, IsKeyed, IsStatic, Item, Knows, Named, Part, Step, Tree, after, after_below, before, before_below, ids_emitted, is_open, more, no_trees, nodes, nodes_below, opening, part_steps, parts, parts_below, performed, plain, reports, script, static_events, step, step_label, steps, steps_below, steps_of, emitted_after, tree, units}
+use Rattle.tk_run_laws.proofs.Model.{Each, Forest, IsKeyed, IsStatic, Item, Knows, Named, Part, Publication, Step, Tree, a_file, after, after_below, an_entry, before, before_below, ids_emitted, is_open, more, no_trees, nodes, nodes_below, opening, part_steps, parts, parts_below, performed, plain, publications, published, script, static_events, step, step_label, steps, steps_below, steps_of, emitted_after, tree, units}
 use Rattle.tk_record_report.specs.Labels.{Label, label}
 use Rattle.tk_run_laws.specs.Scripts.{id_at, is_registration, key_for, key_of, position, played, payload_for, payload_of_node}
 
@@ -59,9 +59,10 @@ module _ (all : List NumberedNode) (table : List Descriptor) where
     ),
   )
 
-  named_reports : (ids : List ℕ) (p : ℕ) (n : Item) (i : ℕ) (es : List (List (List ℕ × List ℕ))) → IsKeyed all table n → Knows ids n → Named all table ids (reports p n i es)
-  named_reports ids p n i [] k h = tt
-  named_reports ids p n i (e ∷ es) k h = (k, ((λ d. h), named_reports ids (p + 1) n (i + 1) es k h))
+  named_published : (ids : List ℕ) (p : ℕ) (n : Item) (xs : List Publication) → IsKeyed all table n → Knows ids n → Named all table ids (published p n xs)
+  named_published ids p n [] k h = tt
+  named_published ids p n (an_entry i ∷ xs) k h = (k, ((λ d. h), named_published ids (p + 1) n xs k h))
+  named_published ids p n (a_file i ∷ xs) k h = (k, ((λ d. h), named_published ids (p + 1) n xs k h))
 
   named_performed : (ids : List ℕ) (p : ℕ) (n : Item) (o : Option (List ℕ)) (below : ℕ → List Step) → IsKeyed all table n → Knows ids n
       → ((i : List ℕ) (k : ℕ) → Named all table i (below k)) → Named all table ids (performed p n o below)
@@ -69,7 +70,7 @@ module _ (all : List NumberedNode) (table : List Descriptor) where
   named_performed ids p n None below own h g =
       let i = ids ++ ids_emitted (opening p n) in
       let k = p + length (opening p n) in
-      named-append ids (opening p n) _ (own, ((λ d. h), named_reports ids (p + 1) n 0 n.entries own h))
+      named-append ids (opening p n) _ (own, ((λ d. h), named_published ids (p + 1) n (publications n) own h))
       (named-append i (below k) _ (g i k) (own, ((λ d. knows_more i (ids_emitted (below k)) n (knows_more ids (ids_emitted (opening p n)) n h)), tt)))
 
   mutual
@@ -118,15 +119,16 @@ module _ (all : List NumberedNode) (table : List Descriptor) where
   pub named_unit : (f : Forest) → Each (IsKeyed all table) (nodes_below f) → (u : ℕ) → Named all table [] (part_steps f u)
   named_unit f h u = named_at (units f) u (named_parts_below 0 f h)
 
-  static_reports : (p : ℕ) (n : Item) (i : ℕ) (es : List (List (List ℕ × List ℕ))) → slice_get (ids_of table) n.number ≡ Some n.id → Each (IsStatic all table) (reports p n i es)
-  static_reports p n i [] h = tt
-  static_reports p n i (e ∷ es) h = ((refl, h), static_reports (p + 1) n (i + 1) es h)
+  static_published : (p : ℕ) (n : Item) (xs : List Publication) → slice_get (ids_of table) n.number ≡ Some n.id → Each (IsStatic all table) (published p n xs)
+  static_published p n [] h = tt
+  static_published p n (an_entry i ∷ xs) h = ((refl, h), static_published (p + 1) n xs h)
+  static_published p n (a_file i ∷ xs) h = ((refl, h), static_published (p + 1) n xs h)
 
   mutual
     pub static_before : (p : ℕ) (t : Tree) → Each (IsKeyed all table) (nodes t) → Each (IsStatic all table) (before p t)
     static_before p (tree n f) h = ⊎_elim
         (λ e. let k = h.0.static (open_is n e).0 in
-        rw e (each-append (IsStatic all table) (opening p n) _ ((refl, k), static_reports (p + 1) n 0 n.entries k) (static_before_below (p + length (opening p n)) f h.1)))
+        rw e (each-append (IsStatic all table) (opening p n) _ ((refl, k), static_published (p + 1) n (publications n) k) (static_before_below (p + length (opening p n)) f h.1)))
         (λ e. rw e tt)
         (cases_Bool (is_open n))
 
@@ -208,6 +210,7 @@ module _ (all : List NumberedNode) (table : List Descriptor) where
   said_static n Skip e = refl
   said_static n Start e = refl
   said_static n (Report i) e = refl
+  said_static n (File i) e = refl
   said_static n Finish e = refl
 
   pub labels_static : (names : ℕ → List Pair) (ss : List Step) → Each (IsStatic all table) ss → ((k : ℕ) (x : List Pair) → slice_get (ids_of table) k ≡ Some x → names k ≡ x)

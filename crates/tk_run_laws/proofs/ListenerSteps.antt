@@ -1,21 +1,21 @@
 -- A run of a plan lets a listener rely on what the plan's script lets it rely on.
-use Rattle.std.proofs.Common.{◌≡◌, ◌≢◌, ℕ, ◌+◌, ◌⊎◌, Bool, true, false, not, cond, ◌&&◌, ◌||◌, List, [], ◌∷◌, ◌++◌, filter, Option, Some, None, refl, sym, ap, ap₂, ◌∙◌, subst, append_assoc, if◌then◌else◌, inl, inr, ⊎_elim, arith, tests}
+use Rattle.std.proofs.Common.{◌≡◌, ◌≢◌, ℕ, ◌⊎◌, Bool, true, false, not, cond, ◌&&◌, ◌||◌, List, [], ◌∷◌, ◌++◌, filter, Option, Some, None, refl, sym, ap, ap₂, ◌∙◌, subst, append_assoc, if◌then◌else◌, inl, inr, ⊎_elim, arith, tests}
 use Rattle.std.specs.List.{list_any}
 use Rattle.std.proofs.lemmas.Bool.{cases_Bool}
 use Rattle.std.proofs.lemmas.List.Elements.{filter-append}
 use Rattle.tk_columns.specs.Recorded.{Recorded}
 use Rattle.tk_cutting.specs.declared.nodes.NumberedNode.{NumberedNode}
-use Rattle.tk_cutting.specs.declared.steps.Act.TheVariants.{Finish, Register, Report, Start}
+use Rattle.tk_cutting.specs.declared.steps.Act.TheVariants.{File, Finish, Register, Report, Start}
 use Rattle.tk_events.specs.Event.{kind_code}
 use Rattle.tk_events.specs.declared.kinds.Kind.{Kind}
 use Rattle.tk_events.specs.declared.kinds.Kind.TheVariants.{Dynamic, Finished, Skipped, Started}
 use Rattle.tk_ids.specs.IdText.{Pair}
 use Rattle.tk_ids.specs.declared.tables.Descriptor.{Descriptor}
 use Rattle.tk_run_laws.proofs.Lists.{each_from}
-use Rattle.tk_run_laws.proofs.Model.{Forest, Item, Models, item_label, nodes_below, plan_labels}
+use Rattle.tk_run_laws.proofs.Model.{Forest, Item, Models, Publication, a_file, an_entry, item_label, nodes_below, plan_labels, publications}
 use Rattle.tk_run_laws.proofs.Orders.{Only, any_kept, filter_kept, followed_kept, preceded, precedes_kept}
 use Rattle.tk_run_laws.proofs.SameReports.{chain_one_below}
-use Rattle.tk_run_laws.proofs.Scripts.{chain_pair_below, either, entry_labels, own_labels, own_law_below, ran_labels, script_finish, script_start}
+use Rattle.tk_run_laws.proofs.Scripts.{chain_pair_below, either, own_labels, own_law_below, published_labels, ran_labels, script_finish, script_start}
 use Rattle.tk_run_laws.proofs.Through.{chain_law}
 use Rattle.tk_record_report.specs.Labels.{Label, labels, same_id, same_kind}
 use Rattle.tk_run_laws.specs.Listening.{IsOnce, Listens, finishes, is_followed, is_of, is_ran, precedes, registers, skips, starts}
@@ -38,17 +38,21 @@ ran_of i l = is_of i l && is_ran l.kind
 
 -- ---- one id
 
-no_ran_reports : (i : List Pair) (n : Item) (j : ℕ) (es : List (List (List ℕ × List ℕ))) → filter (ran_of i) (entry_labels n j es) ≡ []
-no_ran_reports i n j [] = refl
-no_ran_reports i n j (e ∷ es) = elim (same_id n.id i) as (λ b. cond (b && false) (item_label n (Report j) ∷ filter (ran_of i) (entry_labels n (j + 1) es)) (filter (ran_of i) (entry_labels n (j + 1) es)) ≡ [])
-    [ true ↦ no_ran_reports i n (j + 1) es | false ↦ no_ran_reports i n (j + 1) es ]
+left_out : (b : Bool) (l : Label) (ls : List Label) → ls ≡ [] → cond (b && false) (l ∷ ls) ls ≡ []
+left_out true l ls h = h
+left_out false l ls h = h
+
+none_ran_published : (i : List Pair) (n : Item) (xs : List Publication) → filter (ran_of i) (published_labels n xs) ≡ []
+none_ran_published i n [] = refl
+none_ran_published i n (an_entry j ∷ xs) = left_out (same_id n.id i) (item_label n (Report j)) _ (none_ran_published i n xs)
+none_ran_published i n (a_file j ∷ xs) = left_out (same_id n.id i) (item_label n (File j)) _ (none_ran_published i n xs)
 
 once_ran : (i : List Pair) (n : Item) (o : Option (List ℕ)) → same_id n.id i ≡ true → IsOnce (filter (ran_of i) (ran_labels n o))
 once_ran i n (Some r) h = rw h refl
 once_ran i n None h =
     let last : Label = item_label n Finish in
-    let rest : filter (ran_of i) (entry_labels n 0 n.entries ++ last ∷ []) ≡ last ∷ []
-    = filter-append (ran_of i) (entry_labels n 0 n.entries) (last ∷ []) ∙ (ap₂ (λ a b. a ++ b) (no_ran_reports i n 0 n.entries) (ap (λ b. cond (b && true) (last ∷ []) []) h)) in
+    let rest : filter (ran_of i) (published_labels n (publications n) ++ last ∷ []) ≡ last ∷ []
+    = filter-append (ran_of i) (published_labels n (publications n)) (last ∷ []) ∙ (ap₂ (λ a b. a ++ b) (none_ran_published i n (publications n)) (ap (λ b. cond (b && true) (last ∷ []) []) h)) in
     subst IsOnce (sym (ap₂ (λ b l. cond (b && true) (item_label n Start ∷ l) l) h rest)) (refl, refl)
 
 once_own : (i : List Pair) (n : Item) → same_id n.id i ≡ true → IsOnce (filter (ran_of i) (own_labels n))
@@ -59,15 +63,18 @@ once_own i n h =
       | false ↦ elim (same_id n.id i) as (λ b. IsOnce (cond (b && false) (item_label n (Register n.parent) ∷ filter (ran_of i) (ran_labels n n.skip)) (filter (ran_of i) (ran_labels n n.skip)))) [ true ↦ own | false ↦ own ]
     ]
 
-no_register_reports : (i : List Pair) (n : Item) (j : ℕ) (es : List (List (List ℕ × List ℕ))) → list_any (registers i) (entry_labels n j es ++ item_label n Finish ∷ []) ≡ false
-no_register_reports i n j [] = elim (same_id n.id i) as (λ b. ((b && false) || false) ≡ false) [ true ↦ refl | false ↦ refl ]
-no_register_reports i n j (e ∷ es) = let h = no_register_reports i n (j + 1) es in
-    elim (same_id n.id i) as (λ b. ((b && false) || list_any (registers i) (entry_labels n (j + 1) es ++ item_label n Finish ∷ [])) ≡ false) [ true ↦ h | false ↦ h ]
+not_this : (b c : Bool) → c ≡ false → ((b && false) || c) ≡ false
+not_this true c h = h
+not_this false c h = h
+
+none_register_published : (i : List Pair) (n : Item) (xs : List Publication) → list_any (registers i) (published_labels n xs ++ item_label n Finish ∷ []) ≡ false
+none_register_published i n [] = not_this (same_id n.id i) false refl
+none_register_published i n (an_entry j ∷ xs) = not_this (same_id n.id i) _ (none_register_published i n xs)
+none_register_published i n (a_file j ∷ xs) = not_this (same_id n.id i) _ (none_register_published i n xs)
 
 pub no_register : (i : List Pair) (n : Item) (o : Option (List ℕ)) → list_any (registers i) (ran_labels n o) ≡ false
-no_register i n (Some r) = elim (same_id n.id i) as (λ b. ((b && false) || false) ≡ false) [ true ↦ refl | false ↦ refl ]
-no_register i n None = let h = no_register_reports i n 0 n.entries in
-    elim (same_id n.id i) as (λ b. ((b && false) || list_any (registers i) (entry_labels n 0 n.entries ++ item_label n Finish ∷ [])) ≡ false) [ true ↦ h | false ↦ h ]
+no_register i n (Some r) = not_this (same_id n.id i) false refl
+no_register i n None = not_this (same_id n.id i) _ (none_register_published i n (publications n))
 
 register_own : (i : List Pair) (n : Item) → same_id n.id i ≡ true → list_any (registers i) (own_labels n) ≡ true → precedes (registers i) (ran_of i) (own_labels n) ≡ true
 register_own i n h =

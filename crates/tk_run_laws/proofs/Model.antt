@@ -1,6 +1,6 @@
 -- Plans as trees of nodes with their ids, and what is said of them.
 use Rattle.std.proofs.Common.{◌≡◌, ◌≤◌, ℕ, ◌+◌, ◌⊎◌, List, [], ◌∷◌, ◌++◌, length, Bool, true, false, not, ◌&&◌, ◌==◌, Option, Some, None, is_some, if◌then◌else◌, map, filter, flat_map, slice_get, nat_lt}
-use Rattle.tk_events.specs.declared.payloads.Payload.TheVariants.{Nothing, Reason, Outcome, Report as Reported, Described}
+use Rattle.tk_events.specs.declared.payloads.Payload.TheVariants.{Nothing, Reason, Outcome, Report as Reported, Described, Path}
 use Rattle.tk_cutting.specs.declared.steps.Step.{Step as PlanStep}
 use Rattle.tk_cutting.specs.Events.{event}
 use Rattle.tk_cutting.specs.Cutting.{after_of, before_of, root_script, script_of, units_of}
@@ -10,7 +10,7 @@ use Rattle.tk_cutting.specs.Trees.{forest}
 use Rattle.tk_cutting.specs.declared.nodes.Node.{Node}
 use Rattle.tk_cutting.specs.declared.nodes.NumberedNode.{NumberedNode}
 use Rattle.tk_cutting.specs.declared.steps.Act.{Act}
-use Rattle.tk_cutting.specs.declared.steps.Act.TheVariants.{Finish, Register, Report, Skip, Start}
+use Rattle.tk_cutting.specs.declared.steps.Act.TheVariants.{File, Finish, Register, Report, Skip, Start}
 use Rattle.tk_events.specs.declared.events.Event.{Event}
 use Rattle.tk_events.specs.declared.payloads.Payload.{Payload}
 use Rattle.tk_ids.specs.IdText.{Pair}
@@ -28,7 +28,6 @@ pub record Item : Type 0 where
   pub is_static : Bool
   pub may_open : Bool
   pub skip : Option (List ℕ)
-  pub entries : List (List (List ℕ × List ℕ))
   pub node : Node
 
 mutual
@@ -61,12 +60,33 @@ plain s = record { node = s.node.number; stamp = s.stamp; act = s.act }
 
 -- ---- scripts; p is where the tree's steps begin
 
-abbrev pub reports : ℕ → Item → ℕ → List (List (List ℕ × List ℕ)) → List Step
-reports p n i [] = []
-reports p n i (e ∷ es) = step p n (Report i) ∷ reports (p + 1) n (i + 1) es
+-- what a node publishes once it has started: an entry or a file, by its number
+pub data Publication : Type 0 where
+  an_entry : ℕ → Publication
+  a_file : ℕ → Publication
+
+abbrev pub act_of : Publication → Act
+act_of (an_entry i) = Report i
+act_of (a_file i) = File i
+
+abbrev pub entries_from : ℕ → List (List (List ℕ × List ℕ)) → List Publication
+entries_from i [] = []
+entries_from i (e ∷ es) = an_entry i ∷ entries_from (i + 1) es
+
+abbrev pub files_from : ℕ → List (List ℕ) → List Publication
+files_from i [] = []
+files_from i (f ∷ fs) = a_file i ∷ files_from (i + 1) fs
+
+-- the node's entries, then its files
+abbrev pub publications : Item → List Publication
+publications n = entries_from 0 n.node.entries ++ files_from 0 n.node.files
+
+abbrev pub published : ℕ → Item → List Publication → List Step
+published p n [] = []
+published p n (x ∷ xs) = step p n (act_of x) ∷ published (p + 1) n xs
 
 abbrev pub opening : ℕ → Item → List Step
-opening p n = step p n Start ∷ reports (p + 1) n 0 n.entries
+opening p n = step p n Start ∷ published (p + 1) n (publications n)
 
 abbrev pub finish : ℕ → Item → Step
 finish p n = step p n Finish
@@ -241,6 +261,7 @@ id_emitted Nothing = []
 id_emitted (Reason r) = []
 id_emitted (Outcome s m) = []
 id_emitted (Reported e) = []
+id_emitted (Path p) = []
 
 abbrev pub tells : ℕ → Event → List (List Pair)
 tells k e = if is_dynamic e && (e.key == k) then id_emitted e.payload else []

@@ -9,7 +9,7 @@ use Rattle.tk_cutting.specs.StepEvents.{kind_of}
 use Rattle.tk_cutting.specs.Trees.{forest}
 use Rattle.tk_cutting.specs.declared.nodes.NumberedNode.{NumberedNode}
 use Rattle.tk_cutting.specs.declared.steps.Act.{Act}
-use Rattle.tk_cutting.specs.declared.steps.Act.TheVariants.{Finish, Register, Report, Skip, Start}
+use Rattle.tk_cutting.specs.declared.steps.Act.TheVariants.{File, Finish, Register, Report, Skip, Start}
 use Rattle.tk_events.specs.Event.{kind_code}
 use Rattle.tk_events.specs.declared.events.Event.{Event}
 use Rattle.tk_events.specs.declared.kinds.Kind.TheVariants.{Dynamic}
@@ -52,6 +52,7 @@ dynamic_kind (Register p) = refl
 dynamic_kind Skip = refl
 dynamic_kind Start = refl
 dynamic_kind (Report i) = refl
+dynamic_kind (File i) = refl
 dynamic_kind Finish = refl
 
 pub registrations_is : (es : List Event) → registered es ≡ registrations es
@@ -67,6 +68,7 @@ module _ (all : List NumberedNode) (table : List Descriptor) where
   tells_act k base p known n Skip e = refl
   tells_act k base p known n Start e = refl
   tells_act k base p known n (Report i) e = refl
+  tells_act k base p known n (File i) e = refl
   tells_act k base p known n Finish e = refl
 
   pub emitted_played : (k base : ℕ) (ids : List ℕ) (ss : List Step) → Named all table ids ss

@@ -12,7 +12,7 @@ use Rattle.tk_cutting.specs.declared.steps.Act.TheVariants.{Register}
 use Rattle.tk_events.specs.declared.events.Entry.{Entry}
 use Rattle.tk_events.specs.declared.events.Event.{Event}
 use Rattle.tk_events.specs.declared.payloads.Payload.{Payload}
-use Rattle.tk_events.specs.declared.payloads.Payload.TheVariants.{Described, Nothing, Outcome, Reason, Report as Reported}
+use Rattle.tk_events.specs.declared.payloads.Payload.TheVariants.{Described, Nothing, Outcome, Path, Reason, Report as Reported}
 use Rattle.tk_ids.specs.IdText.{Pair}
 use Rattle.tk_ids.specs.Table.{ids_of}
 use Rattle.tk_ids.specs.declared.tables.Descriptor.{Descriptor}
@@ -101,6 +101,7 @@ few_emitted Nothing = omega arith
 few_emitted (Reason r) = omega arith
 few_emitted (Outcome s r) = omega arith
 few_emitted (Reported p) = omega arith
+few_emitted (Path p) = omega arith
 few_emitted (Described d) = omega arith
 
 -- the registrations of two keys of one id are registrations of the id

@@ -16,7 +16,7 @@ use Rattle.tk_run_laws.proofs.Bridge.{modelled, modelled_below}
 use Rattle.tk_run_laws.proofs.Grounds.{models, trees_of}
 use Rattle.tk_run_laws.proofs.Keyed.{knows_more, position_last}
 use Rattle.tk_run_laws.proofs.Lists.{each-append, each_split}
-use Rattle.tk_run_laws.proofs.Model.{Each, Forest, IsKeyed, Item, Knows, Part, Step, Tree, ids_emitted, is_open, more, no_trees, nodes, nodes_below, opening, part_steps, parts, parts_below, performed, plain, reports, script, step, steps, steps_below, steps_of, tree, units}
+use Rattle.tk_run_laws.proofs.Model.{Each, Forest, IsKeyed, Item, Knows, Part, Publication, Step, Tree, a_file, an_entry, ids_emitted, is_open, more, no_trees, nodes, nodes_below, opening, part_steps, parts, parts_below, performed, plain, publications, published, script, step, steps, steps_below, steps_of, tree, units}
 use Rattle.tk_run_laws.specs.Scripts.{ArePlayable, HasKey, IsChildAt, id_at, is_registration}
 
 -- each node stands below that one, and its children below it
@@ -58,9 +58,10 @@ module _ (all : List NumberedNode) (table : List Descriptor) where
   key_there ids n k (inl s) = let l = k.within ∙ s in inl (grind (arith, tests, l), k.static s ∙ ap Some (sym k.id))
   key_there ids n k (inr s) = let l = k.within ∙ s.0 in inr (grind (arith, tests, l), s.1)
 
-  plays_reports : (ids : List ℕ) (p : ℕ) (n : Item) (i : ℕ) (es : List (List (List ℕ × List ℕ))) → HasKey all table ids n.number → Plays ids (reports p n i es)
-  plays_reports ids p n i [] h = tt
-  plays_reports ids p n i (e ∷ es) h = (h, plays_reports ids (p + 1) n (i + 1) es h)
+  plays_published : (ids : List ℕ) (p : ℕ) (n : Item) (xs : List Publication) → HasKey all table ids n.number → Plays ids (published p n xs)
+  plays_published ids p n [] h = tt
+  plays_published ids p n (an_entry i ∷ xs) h = (h, plays_published ids (p + 1) n xs h)
+  plays_published ids p n (a_file i ∷ xs) h = (h, plays_published ids (p + 1) n xs h)
 
   plays_performed : (ids : List ℕ) (p : ℕ) (n : Item) (o : Option (List ℕ)) (below : ℕ → List Step) → IsKeyed all table n → Knows ids n
       → ((i : List ℕ) (k : ℕ) → Knows i n → Plays i (below k)) → Plays ids (performed p n o below)
@@ -69,7 +70,7 @@ module _ (all : List NumberedNode) (table : List Descriptor) where
       let i = ids ++ ids_emitted (opening p n) in
       let k = p + length (opening p n) in
       let there = knows_more ids (ids_emitted (opening p n)) n h in
-      plays-append ids (opening p n) _ (key_there ids n own h, plays_reports ids (p + 1) n 0 n.entries (key_there ids n own h))
+      plays-append ids (opening p n) _ (key_there ids n own h, plays_published ids (p + 1) n (publications n) (key_there ids n own h))
       (plays-append i (below k) _ (g i k there) (key_there (i ++ ids_emitted (below k)) n own (knows_more i (ids_emitted (below k)) n there), tt))
 
   child_at : (m n : Item) → IsKeyed all table m → IsKeyed all table n → n.parent ≡ m.number → n.id ≡ m.id ++ n.node.segment ∷ [] → IsChildAt all n.parent n.number
@@ -132,7 +133,7 @@ module _ (all : List NumberedNode) (table : List Descriptor) where
 
 mutual
   under : (b : Bool) (m : Item) (t : plan.Tree) → IsUnder m (modelled b m.number m.id t)
-  under b m (plan.tree n k f) = ((refl, refl), under_below false (record { number = k; parent = m.number; id = m.id ++ n.segment ∷ []; is_static = n.is_static; may_open = cut.on_spine b n f; skip = n.skip; entries = n.entries; node = n }) f)
+  under b m (plan.tree n k f) = ((refl, refl), under_below false (record { number = k; parent = m.number; id = m.id ++ n.segment ∷ []; is_static = n.is_static; may_open = cut.on_spine b n f; skip = n.skip; node = n }) f)
 
   under_below : (b : Bool) (m : Item) (f : plan.Forest) → AreUnder m (modelled_below b m.number m.id f)
   under_below b m plan.no_trees = tt
@@ -148,7 +149,7 @@ is_static (plan.tree n k f) = n.is_static
 mutual
   top : (b : Bool) (parent : ℕ) (above : List Pair) (t : plan.Tree) → is_static t ≡ true → IsTop (modelled b parent above t)
   top b parent above (plan.tree n k f) e =
-      let item : Item = record { number = k; parent = parent; id = above ++ n.segment ∷ []; is_static = n.is_static; may_open = cut.on_spine b n f; skip = n.skip; entries = n.entries; node = n } in (
+      let item : Item = record { number = k; parent = parent; id = above ++ n.segment ∷ []; is_static = n.is_static; may_open = cut.on_spine b n f; skip = n.skip; node = n } in (
         e,
         (
           under_below false item f,

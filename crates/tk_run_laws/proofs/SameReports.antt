@@ -144,12 +144,12 @@ module _ (text : List Pair → List ℕ) where
 
 -- ---- counts
 
-abbrev statistics : ℕ → ℕ → ℕ → ℕ → ℕ → ℕ → ℕ → ℕ → Statistics
-statistics a b c d e f g h = record { skipped = a; started = b; finished = c; aborted = d; succeeded = e; failed = f; reporting = g; dynamic = h }
+abbrev statistics : ℕ → ℕ → ℕ → ℕ → ℕ → ℕ → ℕ → ℕ → ℕ → Statistics
+statistics a b c d e f g h i = record { skipped = a; started = b; finished = c; aborted = d; succeeded = e; failed = f; reporting = g; dynamic = h; files = i }
 
-same_eight : {a b c d e f g h s t u v w x y z : ℕ} → a ≡ s → b ≡ t → c ≡ u → d ≡ v → e ≡ w → f ≡ x → g ≡ y → h ≡ z
-    → statistics a b c d e f g h ≡ statistics s t u v w x y z
-same_eight i j k l m n o p = cc
+same_nine : {a b c d e f g h i r s t u v w x y z : ℕ} → a ≡ r → b ≡ s → c ≡ t → d ≡ u → e ≡ v → f ≡ w → g ≡ x → h ≡ y → i ≡ z
+    → statistics a b c d e f g h i ≡ statistics r s t u v w x y z
+same_nine j k l m n o p q r = cc
 
 flat_same : {A B : Type 0} (f g : A → List B) → ((x : A) → f x ≡ g x) → (xs : List A) → flat_map f xs ≡ flat_map g xs
 flat_same f g e [] = refl
@@ -176,10 +176,10 @@ module _ (r q : Recorded) (same : SameTexts (labels r) (labels q)) where
   same_count p = counted_by (name r) p r.entries ∙ (count_same id_text p (labels r) (labels q) same ∙ sym (counted_by (name q) p q.entries))
 
   statistics_same : statistics_of r.entries ≡ statistics_of q.entries
-  statistics_same = same_eight
+  statistics_same = same_nine
       (same_count (kind_test kind.Skipped)) (same_count (kind_test kind.Started)) (same_count (kind_test kind.Finished))
       (same_count (status_test status.Aborted)) (same_count (status_test status.Successful)) (same_count (status_test status.Failed))
-      (same_count (kind_test kind.Reporting)) (same_count (kind_test kind.Dynamic))
+      (same_count (kind_test kind.Reporting)) (same_count (kind_test kind.Dynamic)) (same_count (kind_test kind.File))
 
   pub report_same : report_of_record r ≡ report_of_record q
   unfolding so

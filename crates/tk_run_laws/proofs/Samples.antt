@@ -35,6 +35,7 @@ node is_static dtype segment name is_concurrent skip status message = record {
   status = status;
   message = message;
   entries = [];
+  files = [];
 }
 
 abbrev numbered_node : Node → ℕ → ℕ → NumberedNode
@@ -61,7 +62,7 @@ abbrev pub line : List ℕ → List ℕ
 line text = text ++ 10 ∷ []
 
 abbrev pub demo_counts : List (List ℕ)
-demo_counts = codes "skipped 1" ∷ codes "started 7" ∷ codes "finished 7" ∷ codes "aborted 0" ∷ codes "succeeded 6" ∷ codes "failed 1" ∷ codes "reporting 0" ∷ codes "dynamic 1" ∷ []
+demo_counts = codes "skipped 1" ∷ codes "started 7" ∷ codes "finished 7" ∷ codes "aborted 0" ∷ codes "succeeded 6" ∷ codes "failed 1" ∷ codes "reporting 0" ∷ codes "dynamic 1" ∷ codes "files 0" ∷ []
 
 abbrev demo_ids : List (List ℕ)
 demo_ids =
@@ -114,12 +115,12 @@ one_test = numbered_node (node true Test (pair (codes "engine") (codes "e")) (co
 abbrev one_table : List Descriptor
 one_table = descriptors_below [] (forest one_test)
 
-abbrev one_lines : List (List ℕ)
-one_lines =
+abbrev one_counts : List (List ℕ)
+one_counts =
     codes "skipped 0" ∷ codes "started 1" ∷ codes "finished 1" ∷ codes "aborted 0" ∷ codes "succeeded 1" ∷ codes "failed 0" ∷ codes "reporting 0" ∷ codes "dynamic 0"
-    ∷ ran (codes "[engine:e]")
+    ∷ codes "files 0" ∷ []
 
-one_statistics : statistics_text (statistics_of (script_record one_test one_table).entries) ≡ flat_map line (codes "skipped 0" ∷ codes "started 1" ∷ codes "finished 1" ∷ codes "aborted 0" ∷ codes "succeeded 1" ∷ codes "failed 0" ∷ codes "reporting 0" ∷ codes "dynamic 0" ∷ [])
+one_statistics : statistics_text (statistics_of (script_record one_test one_table).entries) ≡ flat_map line one_counts
 unfolding forest grow digits
 one_statistics = refl
 
@@ -131,6 +132,40 @@ one_written : flat_map (id_lines (labels (script_record one_test one_table))) (c
 unfolding forest grow joined
 one_written = refl
 
-pub report_is_unique : report_of_plan one_test one_table ≡ flat_map line one_lines
-report_is_unique =
+pub one_report : report_of_plan one_test one_table ≡ flat_map line (one_counts ++ ran (codes "[engine:e]"))
+one_report =
     ap₂ (λ a b. a ++ b) one_statistics (ap (flat_map (id_lines (labels (script_record one_test one_table)))) one_texts ∙ one_written)
+
+-- ---- the plan of one test with two files
+
+abbrev two_files : List NumberedNode
+two_files =
+    numbered_node (record (node true Test (pair (codes "engine") (codes "e")) (codes "e") false None Successful None) { files = codes "a" ∷ codes "b" ∷ [] }) 0 1
+    ∷ []
+
+abbrev files_table : List Descriptor
+files_table = descriptors_below [] (forest two_files)
+
+abbrev files_counts : List (List ℕ)
+files_counts =
+    codes "skipped 0" ∷ codes "started 1" ∷ codes "finished 1" ∷ codes "aborted 0" ∷ codes "succeeded 1" ∷ codes "failed 0" ∷ codes "reporting 0" ∷ codes "dynamic 0"
+    ∷ codes "files 2" ∷ []
+
+abbrev files_lines : List (List ℕ)
+files_lines = codes "[engine:e]" ∷ codes "  start" ∷ codes "  file|a" ∷ codes "  file|b" ∷ codes "  finish|ok" ∷ []
+
+files_statistics : statistics_text (statistics_of (script_record two_files files_table).entries) ≡ flat_map line files_counts
+unfolding forest grow digits
+files_statistics = refl
+
+files_texts : id_texts (labels (script_record two_files files_table)) ≡ codes "[engine:e]" ∷ []
+unfolding forest grow
+files_texts = refl
+
+files_written : flat_map (id_lines (labels (script_record two_files files_table))) (codes "[engine:e]" ∷ []) ≡ flat_map line files_lines
+unfolding forest grow joined
+files_written = refl
+
+pub files_report : report_of_plan two_files files_table ≡ flat_map line (files_counts ++ files_lines)
+files_report =
+    ap₂ (λ a b. a ++ b) files_statistics (ap (flat_map (id_lines (labels (script_record two_files files_table)))) files_texts ∙ files_written)

@@ -3,12 +3,12 @@ use Rattle.std.proofs.Common.{◌≡◌, ◌≢◌, ◌≤◌, ℕ, ◌+◌, ◌
 use Rattle.std.specs.List.{list_any}
 use Rattle.std.proofs.lemmas.Bool.{cases_Bool}
 use Rattle.std.proofs.lemmas.List.{map-append}
-use Rattle.tk_cutting.specs.declared.steps.Act.TheVariants.{Finish, Register, Report, Skip, Start}
+use Rattle.tk_cutting.specs.declared.steps.Act.TheVariants.{Finish, Register, Skip, Start}
 use Rattle.tk_ids.specs.IdText.{Pair}
 use Rattle.tk_run_laws.proofs.Cut.{count-append, shown-append, shown_none, shown_none_below}
 use Rattle.tk_run_laws.proofs.Ids.{same_decides}
 use Rattle.tk_run_laws.proofs.Lists.{each_split}
-use Rattle.tk_run_laws.proofs.Model.{AreBuilt, Each, Forest, HasNone, IsBuilt, IsChain, IsChainBelow, Item, Step, Tree, count, finish, item_label, more, no_trees, nodes, nodes_below, opening, performed, reports, shown, step, step_label, steps, steps_below, tree}
+use Rattle.tk_run_laws.proofs.Model.{AreBuilt, Each, Forest, HasNone, IsBuilt, IsChain, IsChainBelow, Item, Publication, Step, Tree, act_of, count, finish, item_label, more, no_trees, nodes, nodes_below, opening, performed, publications, published, shown, step, step_label, steps, steps_below, tree}
 use Rattle.tk_run_laws.proofs.Orders.{followed-append, followed_end, followed_none, precedes-append, precedes_here, precedes_none}
 use Rattle.tk_run_laws.proofs.SameReports.{at_most_tail, chain_one_below, first_one, none_left, none_tail, rest_one, rest_zero, zero_or}
 use Rattle.tk_record_report.specs.Labels.{Label, same_id}
@@ -41,9 +41,9 @@ module _ (p : List Pair) (s : Pair) (F : List Label → Type 0)
     (nothing : (xs : List Label) → list_any (is_of (p ++ s ∷ [])) xs ≡ false → F xs)
     (parent : (n : Item) (k : ℕ) (below : ℕ → List Step) → same_id n.id p ≡ true → same_id n.id (p ++ s ∷ []) ≡ false → F (map step_label (performed k n None below)))
   where
-    no_reports : (k : ℕ) (n : Item) (i : ℕ) (es : List (List (List ℕ × List ℕ))) → same_id n.id (p ++ s ∷ []) ≡ false → list_any (is_of (p ++ s ∷ [])) (map step_label (reports k n i es)) ≡ false
-    no_reports k n i [] h = refl
-    no_reports k n i (e ∷ es) h = rw h (no_reports (k + 1) n (i + 1) es h)
+    none_published : (k : ℕ) (n : Item) (xs : List Publication) → same_id n.id (p ++ s ∷ []) ≡ false → list_any (is_of (p ++ s ∷ [])) (map step_label (published k n xs)) ≡ false
+    none_published k n [] h = refl
+    none_published k n (x ∷ xs) h = rw h (none_published (k + 1) n xs h)
 
     one_step : (x : Step) → same_id x.node.id (p ++ s ∷ []) ≡ false → F (map step_label (x ∷ []))
     one_step x h = nothing (map step_label (x ∷ [])) (ap (λ b. b || false) h)
@@ -56,7 +56,7 @@ module _ (p : List Pair) (s : Pair) (F : List Label → Type 0)
         let j = k + length (opening k n) in
         let last = finish (j + length (below j)) n in
         subst F (sym (map-append step_label (opening k n) (below j ++ last ∷ []) ∙ ap (λ l. map step_label (opening k n) ++ l) (map-append step_label (below j) (last ∷ []))))
-        (joins (map step_label (opening k n)) _ (nothing _ (ap₂ (λ b c. b || c) h (no_reports (k + 1) n 0 n.entries h)))
+        (joins (map step_label (opening k n)) _ (nothing _ (ap₂ (λ b c. b || c) h (none_published (k + 1) n (publications n) h)))
         (joins (map step_label (below j)) _ (c j) (one_step last h)))
 
     mutual
@@ -82,7 +82,7 @@ pub script_start : (p : List Pair) (s : Pair) (above : List Pair) (k : ℕ) (f :
 script_start p s = of_forest p s (λ l. precedes (starts p) (is_of (p ++ s ∷ [])) l ≡ true)
     (precedes-append (starts p) (is_of (p ++ s ∷ [])))
     (precedes_none (starts p) (is_of (p ++ s ∷ [])))
-    (λ n k below is not. precedes_here (starts p) (is_of (p ++ s ∷ [])) (step_label (step k n Start)) (map step_label (reports (k + 1) n 0 n.entries ++ (below (k + length (opening k n)) ++ finish (k + length (opening k n) + length (below (k + length (opening k n)))) n ∷ []))) not (ap (λ b. b && true) is))
+    (λ n k below is not. precedes_here (starts p) (is_of (p ++ s ∷ [])) (step_label (step k n Start)) (map step_label (published (k + 1) n (publications n) ++ (below (k + length (opening k n)) ++ finish (k + length (opening k n) + length (below (k + length (opening k n)))) n ∷ []))) not (ap (λ b. b && true) is))
 
 pub script_finish : (p : List Pair) (s : Pair) (above : List Pair) (k : ℕ) (f : Forest) → AreBuilt above f → above ≢ p → is_followed (is_of (p ++ s ∷ [])) (finishes p) (map step_label (steps_below k f)) ≡ true
 script_finish p s = of_forest p s (λ l. is_followed (is_of (p ++ s ∷ [])) (finishes p) l ≡ true)
@@ -172,14 +172,14 @@ module _ (p : List Pair) (s : Pair) where
 
 -- ---- the labels of one id
 
-abbrev pub entry_labels : Item → ℕ → List (List (List ℕ × List ℕ)) → List Label
-entry_labels n i [] = []
-entry_labels n i (e ∷ es) = item_label n (Report i) ∷ entry_labels n (i + 1) es
+abbrev pub published_labels : Item → List Publication → List Label
+published_labels n [] = []
+published_labels n (x ∷ xs) = item_label n (act_of x) ∷ published_labels n xs
 
 -- what a node gives of its own
 abbrev pub ran_labels : Item → Option (List ℕ) → List Label
 ran_labels n (Some r) = item_label n Skip ∷ []
-ran_labels n None = item_label n Start ∷ (entry_labels n 0 n.entries ++ item_label n Finish ∷ [])
+ran_labels n None = item_label n Start ∷ (published_labels n (publications n) ++ item_label n Finish ∷ [])
 
 abbrev pub own_labels : Item → List Label
 own_labels n = if n.is_static then ran_labels n n.skip else item_label n (Register n.parent) ∷ ran_labels n n.skip
@@ -188,9 +188,9 @@ module _ (P : Item → Type 0) (i : List Pair) where
   abbrev one : List Pair → Bool
   one = λ j. same_id j i
 
-  own_reports : (k : ℕ) (n : Item) (j : ℕ) (es : List (List (List ℕ × List ℕ))) → same_id n.id i ≡ true → shown one (reports k n j es) ≡ entry_labels n j es
-  own_reports k n j [] h = refl
-  own_reports k n j (e ∷ es) h = rw h (ap (λ l. item_label n (Report j) ∷ l) (own_reports (k + 1) n (j + 1) es h))
+  own_published : (k : ℕ) (n : Item) (xs : List Publication) → same_id n.id i ≡ true → shown one (published k n xs) ≡ published_labels n xs
+  own_published k n [] h = refl
+  own_published k n (x ∷ xs) h = rw h (ap (λ l. item_label n (act_of x) ∷ l) (own_published (k + 1) n xs h))
 
   shown_yes : (x : Step) (xs : List Step) (l : List Label) → same_id x.node.id i ≡ true → shown one xs ≡ l → shown one (x ∷ xs) ≡ step_label x ∷ l
   shown_yes x xs l h e = rw h (ap (λ m. step_label x ∷ m) e)
@@ -204,12 +204,12 @@ module _ (P : Item → Type 0) (i : List Pair) where
       let j = k + length (opening k n) in
       let last = finish (j + length (below j)) n in
       shown-append one (opening k n) (below j ++ last ∷ []) ∙ ap₂ (λ a b. a ++ b)
-      (shown_yes (step k n Start) (reports (k + 1) n 0 n.entries) _ h (own_reports (k + 1) n 0 n.entries h))
+      (shown_yes (step k n Start) (published (k + 1) n (publications n)) _ h (own_published (k + 1) n (publications n) h))
       (shown-append one (below j) (last ∷ []) ∙ ap₂ (λ a b. a ++ b) (none j) (shown_yes last [] [] h refl))
 
-  no_own_reports : (k : ℕ) (n : Item) (j : ℕ) (es : List (List (List ℕ × List ℕ))) → same_id n.id i ≡ false → shown one (reports k n j es) ≡ []
-  no_own_reports k n j [] h = refl
-  no_own_reports k n j (e ∷ es) h = shown_no (step k n (Report j)) _ [] h (no_own_reports (k + 1) n (j + 1) es h)
+  none_own_published : (k : ℕ) (n : Item) (xs : List Publication) → same_id n.id i ≡ false → shown one (published k n xs) ≡ []
+  none_own_published k n [] h = refl
+  none_own_published k n (x ∷ xs) h = shown_no (step k n (act_of x)) _ [] h (none_own_published (k + 1) n xs h)
 
   abbrev pub IsOwn : List Label → Type 0
   IsOwn l = (l ≡ []) ⊎ ((n : Item) × (same_id n.id i ≡ true) × (l ≡ own_labels n) × P n)
@@ -220,7 +220,7 @@ module _ (P : Item → Type 0) (i : List Pair) where
       let j = k + length (opening k n) in
       let last = finish (j + length (below j)) n in
       subst IsOwn (sym (shown-append one (opening k n) (below j ++ last ∷ []) ∙ ap₂ (λ a b. a ++ b)
-      (shown_no (step k n Start) (reports (k + 1) n 0 n.entries) [] h (no_own_reports (k + 1) n 0 n.entries h))
+      (shown_no (step k n Start) (published (k + 1) n (publications n)) [] h (none_own_published (k + 1) n (publications n) h))
       (shown-append one (below j) (last ∷ []) ∙ (ap (λ l. shown one (below j) ++ l) (shown_no last [] [] h refl) ∙ append-nil (shown one (below j)))))) (g j)
 
   by_static : (n : Item) (k : ℕ) (f : Forest) → shown one (performed k n n.skip (λ j. steps_below j f)) ≡ ran_labels n n.skip

@@ -16,7 +16,7 @@ use Rattle.tk_cutting.specs.declared.nodes.NumberedNode.{NumberedNode}
 use Rattle.tk_events.specs.declared.events.Entry.{Entry}
 use Rattle.tk_events.specs.declared.events.Event.{Event}
 use Rattle.tk_events.specs.declared.payloads.Payload.{Payload}
-use Rattle.tk_events.specs.declared.payloads.Payload.TheVariants.{Described, Nothing, Outcome, Reason}
+use Rattle.tk_events.specs.declared.payloads.Payload.TheVariants.{Described, Nothing, Outcome, Path, Reason}
 use Rattle.tk_ids.specs.IdText.{Pair}
 use Rattle.tk_ids.specs.Table.{ids_of}
 use Rattle.tk_ids.specs.declared.tables.Descriptor.{Descriptor}
@@ -158,6 +158,7 @@ described_by true Nothing o l e = e
 described_by true (Reason r) o l e = e
 described_by true (Outcome s r) o l e = e
 described_by true (Report p) o l e = e
+described_by true (Path p) o l e = e
 
 pub name_in : (k : ℕ) (es : List Entry) → id_in (desc_in es k) ≡ first_or_nil (event_of_step k (events es))
 name_in k [] = refl

@@ -11,7 +11,7 @@ use Rattle.tk_columns.specs.Recorded.{Recorded}
 use Rattle.tk_cutting.specs.declared.nodes.Node.{Node}
 use Rattle.tk_cutting.specs.declared.nodes.NumberedNode.{NumberedNode}
 use Rattle.tk_cutting.specs.declared.steps.Act.{Act}
-use Rattle.tk_cutting.specs.declared.steps.Act.TheVariants.{Register, Skip, Start, Report, Finish}
+use Rattle.tk_cutting.specs.declared.steps.Act.TheVariants.{Register, Skip, Start, Report, File, Finish}
 use Rattle.tk_cutting.specs.declared.steps.Step.{Step}
 use Rattle.tk_cutting.specs.Trees.{forest}
 use Rattle.tk_cutting.specs.Cutting.{before_of, after_of, units_of, script_of, root_script}
@@ -27,6 +27,7 @@ is_registration (Register parent) = true
 is_registration Skip = false
 is_registration Start = false
 is_registration (Report i) = false
+is_registration (File i) = false
 is_registration Finish = false
 
 -- the id of the node of a number, where the nodes' ids stand in the order of the nodes
@@ -89,6 +90,7 @@ IsPlayable nodes table known k (Register parent) = HasKey nodes table known pare
 IsPlayable nodes table known k Skip = HasKey nodes table known k
 IsPlayable nodes table known k Start = HasKey nodes table known k
 IsPlayable nodes table known k (Report i) = HasKey nodes table known k
+IsPlayable nodes table known k (File i) = HasKey nodes table known k
 IsPlayable nodes table known k Finish = HasKey nodes table known k
 
 -- so it is of each step, after those before it

@@ -19,7 +19,7 @@ use Rattle.tk_queue.specs.Ends.{SenderView, own, registration, child}
 use Rattle.tk_cutting.specs.declared.nodes.Node.{Node}
 use Rattle.tk_cutting.specs.declared.nodes.NumberedNode.{NumberedNode}
 use Rattle.tk_cutting.specs.declared.steps.Act.{Act}
-use Rattle.tk_cutting.specs.declared.steps.Act.TheVariants.{Register, Skip, Start, Report, Finish}
+use Rattle.tk_cutting.specs.declared.steps.Act.TheVariants.{Register, Skip, Start, Report, File, Finish}
 use Rattle.tk_cutting.specs.declared.steps.Step.{Step}
 use Rattle.tk_cutting.specs.Trees.{forest}
 use Rattle.tk_cutting.specs.Cutting.{script_of}
@@ -30,6 +30,7 @@ use Rattle.tk_cutting.specs.Ids.{descriptor}
 use Rattle.tk_cutting.specs.StepEvents.{kind_of, payload_of}
 use Rattle.tk_run_laws.specs.Scripts.{ArePlayable, IsPlayable, HasKey, id_at, is_registration, key_of, key_for, known_in, known_after, played, payload_of_node, step_event}
 use Rattle.tk_run_laws.specs.Laws.{ScriptsArePlayable, NodesAreFound}
+use Rattle.tk_engine.specs.Engines.{IsSame}
 use Rattle.tk_engine.proofs.Emitted.{registrations-append}
 use Rattle.tk_scripted.specs.Keys.{key_in, noted, key_found}
 use Rattle.tk_scripted.specs.Plays.{IsPlayed, IsRegistered, IsEmitted, next_key}
@@ -66,6 +67,7 @@ module _ (nodes : List NumberedNode) (table : List Descriptor) where
     by_act Skip = refl
     by_act Start = refl
     by_act (Report i) = refl
+    by_act (File i) = refl
     by_act Finish = refl
 
   -- as many registrations as nodes are registered
@@ -90,6 +92,7 @@ has_key nodes table known k (Register parent) e h = cc
 has_key nodes table known k Skip e h = h
 has_key nodes table known k Start e h = h
 has_key nodes table known k (Report i) e h = h
+has_key nodes table known k (File i) e h = h
 has_key nodes table known k Finish e h = h
 
 some_same : {A : Type 0} {x y : A} → Some x ≡ Some y → x ≡ y
@@ -215,11 +218,20 @@ module _ (nodes : List NumberedNode) (table : List Descriptor) (planned : IsPlan
 
 -- ---- at a step
 
-pub plain_act : (a : Act) → (a ≡ Skip) ⊎ ((a ≡ Start) ⊎ (((i : ℕ) × (a ≡ Report i)) ⊎ (a ≡ Finish))) → is_registration a ≡ false
+-- a sink that took an event is otherwise as it was
+pub emitted_same : (nodes : List NumberedNode) (old new : SenderView) (s : Step) (key : ℕ) → IsEmitted nodes old new s key → IsSame old new
+emitted_same nodes old new s key t = record {
+  session = ap (λ e. e.session) t.sent;
+  table = ap (λ e. e.table) t.sent;
+  worker = ap (λ e. e.worker) t.sent;
+}
+
+pub plain_act : (a : Act) → (a ≡ Skip) ⊎ ((a ≡ Start) ⊎ (((i : ℕ) × (a ≡ Report i)) ⊎ (((i : ℕ) × (a ≡ File i)) ⊎ (a ≡ Finish)))) → is_registration a ≡ false
 plain_act a (inl e) = ap is_registration e
 plain_act a (inr (inl e)) = ap is_registration e
 plain_act a (inr (inr (inl (i, e)))) = ap is_registration e
-plain_act a (inr (inr (inr e))) = ap is_registration e
+plain_act a (inr (inr (inr (inl (i, e))))) = ap is_registration e
+plain_act a (inr (inr (inr (inr e)))) = ap is_registration e
 
 pub cut_at : {A : Type 0} (xs : List A) (i : ℕ) (d : A) → i < length xs → xs ≡ take i xs ++ get_or xs i d ∷ drop (suc i) xs
 cut_at [] i d lt = absurd (omega arith)

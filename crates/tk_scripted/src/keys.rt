@@ -22,7 +22,8 @@ impl Keys {
 
     /// Notes the key of a node, unless it has one.
     pub fn note(&mut self, node: u32, key: u32) -> Result<(), AllocError>
-        ensures { OnOk result ((other : ℕ) → kept self.new other ≡ noted (kept self.old) node key other) }
+        ensures { OnOk result ((other : ℕ)
+            → kept self.new other ≡ noted (kept self.old) node key other) }
     {
         if self.by_node.get(&node).is_none() {
             self.by_node.insert(node, key)?;

@@ -10,9 +10,11 @@ use tk_engine::Results;
 /// What a listener may rely on holds of a record that is a run of the engine, as each is that `execute` answers for it: by the
 /// descriptors' ids, and by their keys.
 pub fn listener(engine: &Scripted, results: &Results)
-    requires { (workers : ℕ) × IsRunOf engine.now.nodes engine.now.table workers results.now.recorded }
+    requires { (workers : ℕ)
+        × IsRunOf engine.now.nodes engine.now.table workers results.now.recorded }
     ensures by_id { Listens (labels results.now.recorded) }
-    ensures by_key { ListensByKey (length engine.now.table) (name results.now.recorded) (events results.now.recorded.entries) }
+    ensures by_key { ListensByKey (length engine.now.table) (name results.now.recorded)
+        (events results.now.recorded.entries) }
 {
     let _ = results;
     let _table = engine.plan().table();

@@ -1,8 +1,7 @@
 //! Playing the script of a unit.
 ghost use Rattle.std.specs.Prelude.{◌≡◌, ◌<◌, ◌+◌, ◌++◌, ℕ, List, [], length, take, All, OnOk, OnErr, IfOk, IfErr};
 ghost use Rattle.tk_events.specs.declared.events.Event.{Event};
-ghost use Rattle.tk_queue.specs.Known.{registrations};
-ghost use Rattle.tk_engine.specs.Engines.{IsSame};
+ghost use Rattle.tk_engine.specs.Engines.{IsSame, Extends, ExtendsAs};
 ghost use Rattle.tk_cutting.specs.Known.{IsKnown};
 ghost use Rattle.tk_cutting.specs.Cutting.{script_of, units_of};
 ghost use Rattle.tk_cutting.specs.Numbers.{IsNumbered};
@@ -30,7 +29,8 @@ fn emit_step<R: Wait, S: Sink>(
     sink: &mut S,
 ) -> Result<(), UnitFault>
     requires known { IsKnown plan.now.nodes step.node step.act }
-    ensures ok { OnOk result (IsEmitted plan.now.nodes (S.meaning sink.old) (S.meaning sink.new) step key) }
+    ensures ok { OnOk result
+        (IsEmitted plan.now.nodes (S.meaning sink.old) (S.meaning sink.new) step key) }
     ensures err { OnErr result (S.meaning sink.new ≡ S.meaning sink.old) }
     ensures cause { IfErr result IsPlayFault }
 {
@@ -86,10 +86,13 @@ fn play<R: Wait, S: Sink>(
     requires script { (unit : ℕ) × (steps.now ≡ script_of (forest plan.now.nodes) unit) }
     requires known { All (λ s. IsKnown plan.now.nodes s.node s.act) steps.now }
     requires table { (S.meaning sink.old).table ≡ plan.now.table }
-    requires played { IsPlayed plan.now.nodes plan.now.table (S.meaning sink.old).worker sent (take at steps.now) (S.meaning sink.old).sent (kept keys.old) }
+    requires played { IsPlayed plan.now.nodes plan.now.table (S.meaning sink.old).worker sent
+        (take at steps.now) (S.meaning sink.old).sent (kept keys.old) }
     ensures same { IsSame (S.meaning sink.old) (S.meaning sink.new) }
-    ensures ok { OnOk result (IsPlayed plan.now.nodes plan.now.table (S.meaning sink.old).worker sent (take (at + 1) steps.now) (S.meaning sink.new).sent (kept keys.new)) }
-    ensures err { OnErr result ((l : List Event) × ((S.meaning sink.new).sent ≡ (S.meaning sink.old).sent ++ l)) }
+    ensures ok { OnOk result
+        (IsPlayed plan.now.nodes plan.now.table (S.meaning sink.old).worker sent
+        (take (at + 1) steps.now) (S.meaning sink.new).sent (kept keys.new)) }
+    ensures err { OnErr result (Extends (S.meaning sink.old) (S.meaning sink.new)) }
     ensures cause { IfErr result IsPlayFault }
 {
     scripts_are_playable();
@@ -103,7 +106,7 @@ fn play<R: Wait, S: Sink>(
             keys.note(step.node, key)?;
             Ok(())
         }
-        Act::Skip | Act::Start | Act::Report(_) | Act::Finish => {
+        Act::Skip | Act::Start | Act::Report(_) | Act::File(_) | Act::Finish => {
             let key = keys.of(statics, step.node);
             emit_step(rt, alloc, plan, step, key, sink)?;
             Ok(())
@@ -126,7 +129,9 @@ fn play_each<R: Wait, S: Sink>(
     requires known { All (λ s. IsKnown plan.now.nodes s.node s.act) steps.now }
     requires table { (S.meaning sink.old).table ≡ plan.now.table }
     ensures same { IsSame (S.meaning sink.old) (S.meaning sink.new) }
-    ensures ok { OnOk result ((S.meaning sink.new).sent ≡ sent ++ played plan.now.nodes (length plan.now.table) (next_key (S.meaning sink.old).worker sent) [] steps.now) }
+    ensures ok { OnOk result ((S.meaning sink.new).sent ≡ sent
+        ++ played plan.now.nodes (length plan.now.table) (next_key (S.meaning sink.old).worker sent)
+        [] steps.now) }
     ensures err { OnErr result ((l : List Event) × ((S.meaning sink.new).sent ≡ sent ++ l)) }
     ensures cause { IfErr result IsPlayFault }
 {
@@ -148,9 +153,9 @@ pub(crate) fn play_unit<R: Wait, S: Sink>(
     requires unit { unit < length (units_of (forest plan.now.nodes)) }
     requires table { (S.meaning sink.old).table ≡ plan.now.table }
     ensures same { IsSame (S.meaning sink.old) (S.meaning sink.new) }
-    ensures ok { OnOk result ((l : List Event) × ((S.meaning sink.new).sent ≡ (S.meaning sink.old).sent ++ l)
-        × may plan.now.nodes plan.now.table unit (S.meaning sink.old).worker (registrations (S.meaning sink.old).sent) l) }
-    ensures err { OnErr result ((l : List Event) × ((S.meaning sink.new).sent ≡ (S.meaning sink.old).sent ++ l)) }
+    ensures ok { OnOk result (ExtendsAs (may plan.now.nodes plan.now.table unit)
+        (S.meaning sink.old) (S.meaning sink.new)) }
+    ensures err { OnErr result (Extends (S.meaning sink.old) (S.meaning sink.new)) }
     ensures cause { IfErr result IsPlayFault }
 {
     let _table = plan.table();

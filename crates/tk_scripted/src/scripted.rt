@@ -1,9 +1,7 @@
 //! The engine of a plan.
-ghost use Rattle.std.specs.Prelude.{◌≡◌, ◌<◌, ◌++◌, List, OnOk, OnErr, IfErr};
+ghost use Rattle.std.specs.Prelude.{◌≡◌, ◌<◌, OnOk, OnErr, IfErr};
 ghost use Rattle.tk_cutting.specs.Planned.{Outline};
-ghost use Rattle.tk_engine.specs.Engines.{IsSame};
-ghost use Rattle.tk_events.specs.declared.events.Event.{Event};
-ghost use Rattle.tk_queue.specs.Known.{registrations};
+ghost use Rattle.tk_engine.specs.Engines.{IsSame, Extends, ExtendsAs};
 ghost use Rattle.tk_scripted.specs.Plays.{IsPlayFault};
 
 use crate::playing::play_unit;
@@ -99,8 +97,9 @@ impl Engine for Scripted {
         requires unit { unit < length (units_of (forest self.now.nodes)) }
         requires table { (S.meaning sink.old).table ≡ self.now.table }
         ensures same { IsSame (S.meaning sink.old) (S.meaning sink.new) }
-        ensures ok { OnOk result ((l : List Event) × ((S.meaning sink.new).sent ≡ (S.meaning sink.old).sent ++ l) × plays self.now.nodes self.now.table unit (S.meaning sink.old).worker (registrations (S.meaning sink.old).sent) l) }
-        ensures err { OnErr result ((l : List Event) × ((S.meaning sink.new).sent ≡ (S.meaning sink.old).sent ++ l)) }
+        ensures ok { OnOk result (ExtendsAs (plays self.now.nodes self.now.table unit)
+            (S.meaning sink.old) (S.meaning sink.new)) }
+        ensures err { OnErr result (Extends (S.meaning sink.old) (S.meaning sink.new)) }
         ensures cause { IfErr result IsPlayFault }
     {
         play_unit(rt, alloc, &self.plan, unit, sink)

@@ -68,7 +68,8 @@ pub fn load<S: Source>(alloc: Global, source: &mut S, limit: usize) -> Result<Ve
 /// Writes all of the bytes. At `Broken` a prefix of them was written.
 pub fn write_all<T: Target>(target: &mut T, bytes: &[u8]) -> Result<(), Broken>
     ensures ok { OnOk result (Appends (T.contents target.old) (T.contents target.new) bytes.now) }
-    ensures err { OnErr result (AppendsPrefix (T.contents target.old) (T.contents target.new) bytes.now) }
+    ensures err { OnErr result
+        (AppendsPrefix (T.contents target.old) (T.contents target.new) bytes.now) }
     ensures broken { OnErr result (T.broken target.new ≡ true) }
 {
     let mut rest = bytes;

@@ -1,5 +1,5 @@
 use Rattle.std.proofs.Common.{◌≡◌, ◌+◌, ◌≤◌, length}
-use Rattle.tk_cutting.specs.declared.counts.TheConstants.{MAX_EVENTS}
+use Rattle.tk_limits.specs.declared.limits.TheConstants.{MAX_EVENTS}
 use Rattle.tk_cutting.specs.Trees.{IsForest, forest}
 use Rattle.tk_cutting.specs.Weights.{weights}
 use Rattle.tk_cutting.proofs.counts.count_all.Given as goal

@@ -1,8 +1,15 @@
-use Rattle.std.proofs.Common.{◌∙◌, ap, arith, length}
-use Rattle.tk_cutting.proofs.Moving.{reports_next, pushed}
+use Rattle.std.proofs.Common.{◌++◌, ◌∙◌, ap, arith, length}
+use Rattle.tk_cutting.specs.declared.steps.Act.TheVariants.{Report, File}
+use Rattle.tk_cutting.specs.Script.{each_act}
+use Rattle.tk_cutting.proofs.Moving.{acts_next, pushed}
 use Rattle.tk_cutting.proofs.scripts.push_opening.Goals as goal
 
-pub loop-index-preserved : goal.loop-index-preserved
-loop-index-preserved c =
-    let next = reports_next c.args.number c.loop-index.index c.args.node.now.entries (omega (arith, ap length c.as_slice.ensures, c.loop-index-test.true)) in
-    c.loop-index.invariant ∙ pushed _ _ _ _ _ c.in_ok-push-2.ensures.items next
+pub entries-preserved : goal.entries-preserved
+entries-preserved c =
+    let next = acts_next Report c.args.number c.entries.index c.args.node.now.entries (omega (arith, ap length c.as_slice.ensures, c.entries-test.true)) in
+    c.entries.invariant ∙ pushed _ _ _ _ _ c.in_ok-push-2.ensures.items (ap (λ l. l ++ each_act File c.args.number 0 c.args.node.now.files) next)
+
+pub files-preserved : goal.files-preserved
+files-preserved c =
+    let next = acts_next File c.args.number c.files.index c.args.node.now.files (omega (arith, ap length c.as_slice-2.ensures, c.files-test.true)) in
+    c.files.invariant ∙ pushed _ _ _ _ _ c.in_ok-push-3.ensures.items next

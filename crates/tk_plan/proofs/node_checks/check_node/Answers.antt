@@ -79,11 +79,12 @@ returns c =
           status = f.1.content.ending.status i;
           message = f.1.content.ending.message i;
           entries = f.1.content.reports.entries i;
+          files = f.1.content.files.paths i;
         };
         id = n.1.id ∙ ap (λ x. s.above ++ x ∷ []) seg;
         children = f.1.children;
         dynamic = f.1.dynamic;
-        lawful = both _ _ f.1.content.ending.lawful f.1.content.reports.increasing;
+        lawful = both _ _ f.1.content.ending.lawful (both _ _ f.1.content.reports.increasing f.1.content.files.lawful);
         level = c.if-node_input-gt-MAX_LEVELS.false;
         nodes = e.1.nodes;
         descriptors = e.1.descriptors;

@@ -27,10 +27,10 @@ read_all-returns-in_err-read_node t c =
     let v : Value = c.index-values-index.result in
     let path : c.deref.result.now ≡ array = grind arith in
     let met = c.loop-index.siblings in
-    let split = node_input_next array (c.args.parent.level + 1) c.args.id.now c.args.is_static i met (met ++ segment_in (view v) ∷ []) c.args.values.now v c.loop-index-test.true c.index-values-index.is refl in
-    let y : spec.NodeInput = record { path = item_at c.deref.result.now i; level = c.args.parent.level + 1; is_static = c.args.is_static; above = c.args.id.now; earlier = met; value = view v } in
-    let x : spec.NodeInput = record { path = item_at array i; level = c.args.parent.level + 1; is_static = c.args.is_static; above = c.args.id.now; earlier = met; value = view v } in
-    let is : y ≡ x = λ j. record { path = item_at (path j) i; level = c.args.parent.level + 1; is_static = c.args.is_static; above = c.args.id.now; earlier = met; value = view v } in
+    let split = node_input_next array (c.args.parent.level + 1) c.args.id.now c.args.is_static c.args.parent.takes_files i met (met ++ segment_in (view v) ∷ []) c.args.values.now v c.loop-index-test.true c.index-values-index.is refl in
+    let y : spec.NodeInput = record { path = item_at c.deref.result.now i; level = c.args.parent.level + 1; is_static = c.args.is_static; takes_files = c.args.parent.takes_files; above = c.args.id.now; earlier = met; value = view v } in
+    let x : spec.NodeInput = record { path = item_at array i; level = c.args.parent.level + 1; is_static = c.args.is_static; takes_files = c.args.parent.takes_files; above = c.args.id.now; earlier = met; value = view v } in
+    let is : y ≡ x = λ j. record { path = item_at (path j) i; level = c.args.parent.level + 1; is_static = c.args.is_static; takes_files = c.args.parent.takes_files; above = c.args.id.now; earlier = met; value = view v } in
     rw (p.1, p.2) (faults_also _ _ _ (λ f w. goes_fault _ _ _ c.args.id.now _ _ _ _ _ _ _ (omega arith) is split c.loop-index.invariant.0 f w) c.in_err-read_node.ensures)
 
 pub read_all-loop-index-preserved : goal.read_all-loop-index-preserved
@@ -41,10 +41,10 @@ read_all-loop-index-preserved t c =
     let path : c.deref.result.now ≡ array = grind arith in
     let met = c.loop-index.siblings in
     let done = c.in_ok-read_node.ensures in
-    let split = node_input_next array (c.args.parent.level + 1) c.args.id.now c.args.is_static i met c.read_node.new.siblings c.args.values.now v c.loop-index-test.true c.index-values-index.is done.1.1 in
-    let y : spec.NodeInput = record { path = item_at c.deref.result.now i; level = c.args.parent.level + 1; is_static = c.args.is_static; above = c.args.id.now; earlier = met; value = view v } in
-    let x : spec.NodeInput = record { path = item_at array i; level = c.args.parent.level + 1; is_static = c.args.is_static; above = c.args.id.now; earlier = met; value = view v } in
-    let is : y ≡ x = λ j. record { path = item_at (path j) i; level = c.args.parent.level + 1; is_static = c.args.is_static; above = c.args.id.now; earlier = met; value = view v } in (
+    let split = node_input_next array (c.args.parent.level + 1) c.args.id.now c.args.is_static c.args.parent.takes_files i met c.read_node.new.siblings c.args.values.now v c.loop-index-test.true c.index-values-index.is done.1.1 in
+    let y : spec.NodeInput = record { path = item_at c.deref.result.now i; level = c.args.parent.level + 1; is_static = c.args.is_static; takes_files = c.args.parent.takes_files; above = c.args.id.now; earlier = met; value = view v } in
+    let x : spec.NodeInput = record { path = item_at array i; level = c.args.parent.level + 1; is_static = c.args.is_static; takes_files = c.args.parent.takes_files; above = c.args.id.now; earlier = met; value = view v } in
+    let is : y ≡ x = λ j. record { path = item_at (path j) i; level = c.args.parent.level + 1; is_static = c.args.is_static; takes_files = c.args.parent.takes_files; above = c.args.id.now; earlier = met; value = view v } in (
       goes_next _ _ _ c.args.id.now _ _ _ _ _ _ _ (omega arith) is split c.loop-index.invariant.0 _ done.0 refl done.1.0,
       met_next _ _ _ _ _ _ (view v) (values_next c.args.values.now i v c.loop-index-test.true c.index-values-index.is) done.1.1 c.loop-index.invariant.1,
     )
@@ -53,8 +53,8 @@ pub read_all-returns : goal.read_all-returns
 read_all-returns t c =
     let none : drop c.loop-index.index c.args.values.now ≡ [] = drop_all c.loop-index.index c.args.values.now (omega arith) in
     let array = member_at (pointer c.args.parent.path) c.args.name.now in
-    let all = node_inputs_in array (c.args.parent.level + 1) c.args.id.now c.args.is_static 0 c.args.siblings.now (map view c.args.values.now) in
-    let over = subst (λ vs. Goes (60 - c.args.parent.level) c.args.id.now c.args.reader.now c.loop-index.reader all (node_inputs_in array (c.args.parent.level + 1) c.args.id.now c.args.is_static c.loop-index.index c.loop-index.siblings (map view vs))) none c.loop-index.invariant.0 in
+    let all = node_inputs_in array (c.args.parent.level + 1) c.args.id.now c.args.is_static c.args.parent.takes_files 0 c.args.siblings.now (map view c.args.values.now) in
+    let over = subst (λ vs. Goes (60 - c.args.parent.level) c.args.id.now c.args.reader.now c.loop-index.reader all (node_inputs_in array (c.args.parent.level + 1) c.args.id.now c.args.is_static c.args.parent.takes_files c.loop-index.index c.loop-index.siblings (map view vs))) none c.loop-index.invariant.0 in
     let end = goes_end _ _ _ _ _ over in
     (end.0, (end.1, met_end _ _ _ _ (ap (map view) none) c.loop-index.invariant.1))
 
@@ -160,5 +160,5 @@ read_all-returns-then-is_empty t c =
     let count : length c.args.values.now ≡ 0 = grind (arith, nat_tests) in
     let none : c.args.values.now ≡ [] = no_values _ count in
     let noted : IsNoted c.args.reader.now = search rules in
-    let nowhere = goes_nowhere (60 - c.args.parent.level) c.args.id.now c.args.reader.now (member_at (pointer c.args.parent.path) c.args.name.now) (c.args.parent.level + 1) c.args.is_static c.args.siblings.now _ (ap (map view) none) noted in
+    let nowhere = goes_nowhere (60 - c.args.parent.level) c.args.id.now c.args.reader.now (member_at (pointer c.args.parent.path) c.args.name.now) (c.args.parent.level + 1) c.args.is_static c.args.parent.takes_files c.args.siblings.now _ (ap (map view) none) noted in
     (nowhere.0, (nowhere.1, sym (ap (λ l. c.args.siblings.now ++ map segment_in (map view l)) none ∙ append-nil c.args.siblings.now)))

@@ -15,6 +15,6 @@ decreases-read_node l = 2 * (61 - l.node_input.level)
 abbrev pub invariant-read_all-loop-index : goal.invariant-read_all-loop-index
 invariant-read_all-loop-index l =
     Goes (60 - l.parent.level) l.id l.initial.reader l.reader
-    (node_inputs_in (member_at (pointer l.parent.path) l.name) (l.parent.level + 1) l.id l.is_static 0 l.initial.siblings (map view l.values))
-    (node_inputs_in (member_at (pointer l.parent.path) l.name) (l.parent.level + 1) l.id l.is_static l.index l.siblings (map view (drop l.index l.values)))
+    (node_inputs_in (member_at (pointer l.parent.path) l.name) (l.parent.level + 1) l.id l.is_static l.parent.takes_files 0 l.initial.siblings (map view l.values))
+    (node_inputs_in (member_at (pointer l.parent.path) l.name) (l.parent.level + 1) l.id l.is_static l.parent.takes_files l.index l.siblings (map view (drop l.index l.values)))
     × Met l.initial.siblings l.siblings (map view l.values) (map view (drop l.index l.values))

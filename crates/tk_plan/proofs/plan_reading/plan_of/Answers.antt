@@ -11,30 +11,30 @@ use Rattle.tk_plan.proofs.Tabling.{plan_follows}
 use Rattle.tk_plan.proofs.Planning.{refuses_as, fault_as, top_fault, node_fault, no_node_fault, trees, too_many, not_many, planned}
 use Rattle.tk_plan.proofs.plan_reading.plan_of.Goals as goal
 
-pub returns-in_err-root : goal.returns-in_err-root
-returns-in_err-root c =
+pub returns-in_err-takes_files : goal.returns-in_err-takes_files
+returns-in_err-takes_files c =
     let p = err_from_is_err_and c.from_residual.result c.from_residual.ensures.1 in
-    rw (p.1, p.2) (refuses_as _ (λ e. PlanOf (view c.args.value.now) ≡ Err e) _ (λ path w. top_fault (view c.args.value.now) path w) c.in_err-root.ensures)
+    rw (p.1, p.2) (refuses_as _ (λ e. PlanOf (view c.args.value.now) ≡ Err e) _ (λ path w. top_fault (view c.args.value.now) path w) c.in_err-takes_files.ensures)
 
 pub returns-in_err-reader : goal.returns-in_err-reader
 returns-in_err-reader c =
     let p = err_from_is_err_and c.from_residual-in_err-reader.result c.from_residual-in_err-reader.ensures.1 in
-    let r = view c.in_ok-root.root.now in
-    rw (p.1, p.2) (fault_as (λ f. verdict [] (node_inputs 60 (root_at r)) ≡ Some f) (λ e. PlanOf (view c.args.value.now) ≡ Err e) _ (λ f w. node_fault (view c.args.value.now) r c.in_ok-root.ensures.1 c.in_ok-root.ensures.0 (root_at r) f refl w) c.in_err-reader.ensures)
+    let r = view c.in_ok-takes_files.root.now in
+    rw (p.1, p.2) (fault_as (λ f. verdict [] (node_inputs 60 (root_at c.in_ok-takes_files.takes_files r)) ≡ Some f) (λ e. PlanOf (view c.args.value.now) ≡ Err e) _ (λ f w. node_fault (view c.args.value.now) r c.in_ok-takes_files.ensures.1.1 c.in_ok-takes_files.ensures.0 (root_at c.in_ok-takes_files.takes_files r) f (ap (λ b. root_at b r) c.in_ok-takes_files.ensures.1.0) w) c.in_err-reader.ensures)
 
 pub count_events-requires : goal.count_events-requires
-count_events-requires c = trees (root_at (view c.in_ok-root.root.now)) refl _ (c.as_slice.ensures.value ∙ c.in_ok-reader.ensures.1.nodes)
+count_events-requires c = trees (root_at c.in_ok-takes_files.takes_files (view c.in_ok-takes_files.root.now)) refl _ (c.as_slice.ensures.value ∙ c.in_ok-reader.ensures.1.nodes)
 
 pub returns-in-None : goal.returns-in-None
 returns-in-None c =
-    let r = view c.in_ok-root.root.now in
+    let r = view c.in_ok-takes_files.root.now in
     let read = c.in_ok-reader.ensures in
-    no_node_fault (view c.args.value.now) r c.in_ok-root.ensures.1 c.in_ok-root.ensures.0 (root_at r) refl read.0
-    ∙ ap (λ o. ok_unless o (grown 60 (root_at r))) (too_many (root_at r) refl _ (c.as_slice.ensures.value ∙ read.1.nodes) c.in-None.ensures)
+    no_node_fault (view c.args.value.now) r c.in_ok-takes_files.ensures.1.1 c.in_ok-takes_files.ensures.0 (root_at c.in_ok-takes_files.takes_files r) (ap (λ b. root_at b r) c.in_ok-takes_files.ensures.1.0) read.0
+    ∙ ap (λ o. ok_unless o (grown 60 (root_at c.in_ok-takes_files.takes_files r))) (too_many (root_at c.in_ok-takes_files.takes_files r) refl _ (c.as_slice.ensures.value ∙ read.1.nodes) c.in-None.ensures)
 
 pub plan_from-requires : goal.plan_from-requires
 plan_from-requires c =
-    let s = root_at (view c.in_ok-root.root.now) in
+    let s = root_at c.in_ok-takes_files.takes_files (view c.in_ok-takes_files.root.now) in
     let read = c.in_ok-reader.ensures in
     let r = c.in_ok-reader.reader in
     let few = subst (λ l. length (moves_below 0 (forest l)) ≤ 2 ^ 20) c.as_slice.ensures.value (subst (λ x. x ≤ 2 ^ 20) c.in-Some.ensures.0 c.in-Some.ensures.1) in
@@ -46,10 +46,10 @@ plan_from-requires c =
 
 pub returns-in_ok-plan_from-in-Some : goal.returns-in_ok-plan_from-in-Some
 returns-in_ok-plan_from-in-Some c =
-    let r = view c.in_ok-root.root.now in
+    let r = view c.in_ok-takes_files.root.now in
     let read = c.in_ok-reader.ensures in (
-      grown 60 (root_at r),
-      no_node_fault (view c.args.value.now) r c.in_ok-root.ensures.1 c.in_ok-root.ensures.0 (root_at r) refl read.0
-          ∙ ap (λ o. ok_unless o (grown 60 (root_at r))) (not_many (root_at r) refl _ (c.as_slice.ensures.value ∙ read.1.nodes) (subst (λ x. x ≤ 2 ^ 20) c.in-Some.ensures.0 c.in-Some.ensures.1)),
+      grown 60 (root_at c.in_ok-takes_files.takes_files r),
+      no_node_fault (view c.args.value.now) r c.in_ok-takes_files.ensures.1.1 c.in_ok-takes_files.ensures.0 (root_at c.in_ok-takes_files.takes_files r) (ap (λ b. root_at b r) c.in_ok-takes_files.ensures.1.0) read.0
+          ∙ ap (λ o. ok_unless o (grown 60 (root_at c.in_ok-takes_files.takes_files r))) (not_many (root_at c.in_ok-takes_files.takes_files r) refl _ (c.as_slice.ensures.value ∙ read.1.nodes) (subst (λ x. x ≤ 2 ^ 20) c.in-Some.ensures.0 c.in-Some.ensures.1)),
       c.in_ok-plan_from-in-Some.ensures ∙ (λ j. record { nodes = numbered (read.1.nodes j); table = read.1.descriptors j }),
     )

@@ -3,7 +3,7 @@ use Rattle.std.specs.Prelude.{IsSome, Some}
 use Rattle.tk_cutting.specs.declared.steps.Act.TheVariants.{Register}
 use Rattle.tk_scripted.specs.Keys.{kept, key_found}
 use Rattle.tk_scripted.specs.Plays.{IsPlayed}
-use Rattle.tk_scripted.proofs.Stepping.{emitted_found, emitted_plays, registered_found, registered_plays, plain_act, cut_at, take_more}
+use Rattle.tk_scripted.proofs.Stepping.{emitted_found, emitted_plays, emitted_same, registered_found, registered_plays, plain_act, cut_at, take_more}
 use Rattle.tk_scripted.proofs.playing.play.Goals as goal
 
 pub of-above-requires : goal.of-above-requires
@@ -47,7 +47,7 @@ returns-in_ok-emit_step-in-Skip g c =
     let step = get_or steps at (record { node = 0; stamp = 0; act = Register 0 }) in
     let event_of_step = c.in_ok-emit_step-in-Skip.ensures.ok in
     record {
-      same = record { session = ap (λ e. e.session) event_of_step.sent; table = ap (λ e. e.table) event_of_step.sent; worker = ap (λ e. e.worker) event_of_step.sent };
+      same = emitted_same c.args.plan.now.nodes (g.S.Sink.meaning s) (g.S.Sink.meaning c.emit_step.new.sink) step c.of-key.result event_of_step;
       ok = subst (λ prefix. IsPlayed c.args.plan.now.nodes c.args.plan.now.table (g.S.Sink.meaning s).worker g.sent prefix (g.S.Sink.meaning c.emit_step.new.sink).sent (kept c.args.keys.now)) (sym (take_more steps at _ c.requires.1.1.0))
           (emitted_plays c.args.plan.now.nodes c.args.plan.now.table planned.0 planned.1 c.scripts_are_playable.ensures c.nodes_are_found.ensures
           script.0 (take at steps) (drop (suc at) steps) g.sent (g.S.Sink.meaning s) (g.S.Sink.meaning c.emit_step.new.sink) (kept c.args.keys.now) c.requires.1.1.1.1.1.1.1

@@ -1,0 +1,67 @@
+//! Readers of files.
+ghost use Rattle.std.specs.Prelude.{◌≡◌, Some, map};
+ghost use Rattle.serde_json.specs.View.{view};
+ghost use Rattle.tk_plan.specs.Checks.{array_of, first, item_at, row};
+ghost use Rattle.tk_plan.specs.Rows.{files_rows, nonempty_text};
+ghost use Rattle.tk_plan.specs.Pointers.{pointer};
+ghost use Rattle.tk_plan.specs.Answers.{Reads};
+ghost use Rattle.tk_plan.specs.Contents.{json_path, json_files};
+ghost use Rattle.tk_plan.specs.Fields.{AreFiles};
+
+use crate::faults::PlanFault;
+use crate::json_paths::JsonPath;
+use crate::path_texts::{field, item_path, member_path};
+use serde_json::Value;
+use std::alloc::Global;
+use tk_cutting::Files;
+use tk_ids::Text;
+
+/// The path of a file, an item of the array there.
+fn path(alloc: Global, array: &str, index: usize, item: &Value) -> Result<Text, PlanFault>
+    ensures { Reads (nonempty_text (item_at array.now index) (view item.now))
+        (λ t. t ≡ json_path (view item.now)) result }
+{
+    let Some(text) = item.as_str() else {
+        return Err(field(item_path(alloc, JsonPath::Whole(array), index)?));
+    };
+    if text.is_empty() {
+        return Err(field(item_path(alloc, JsonPath::Whole(array), index)?));
+    }
+    Ok(Text::copy(alloc, text)?)
+}
+
+fn files(alloc: Global, at: &str, value: &Value) -> Result<Files, PlanFault>
+    ensures { Reads (array_of nonempty_text at.now (view value.now))
+        (λ f. f ≡ json_files (Some (view value.now))) result }
+{
+    let Some(items) = value.as_array() else {
+        return Err(field(String::from_str(alloc, at)?));
+    };
+    let mut paths = Vec::new(alloc);
+    for (index, item) in items.iter().enumerate() {
+        paths.push(path(alloc, at, index, item)?)?;
+    }
+    Ok(Files::new(paths))
+}
+
+/// The files, which a node has only in a plan of version 2.
+pub(crate) fn files_member(
+    alloc: Global,
+    at: JsonPath<'_>,
+    object: &Value,
+    takes_files: bool,
+) -> Result<Files, PlanFault>
+    ensures { Reads (first (map (row (pointer at.entry) (view object.now)) (files_rows takes_files)))
+        (AreFiles takes_files (view object.now)) result }
+{
+    if !takes_files {
+        return Ok(Files::new(Vec::new(alloc)));
+    }
+    match object.get("files") {
+        Some(value) => {
+            let path = member_path(alloc, at, "files")?;
+            files(alloc, &path, value)
+        }
+        None => Ok(Files::new(Vec::new(alloc))),
+    }
+}
