@@ -8,7 +8,6 @@ from tables import (
     condition_answers,
     condition_faults,
     devices,
-    documents,
     limits,
     plan_faults,
     plan_reports,
@@ -33,7 +32,6 @@ MODULES = [
     prefixes,
     devices,
     limits,
-    documents,
     schedules,
 ]
 

@@ -34,30 +34,20 @@ fn is_of_key(alloc: Global, record: &Record, key: u32, want: &str) -> bool {
     }
 }
 
-/// Positions are those in the record.
-#[test]
-fn executions_of_a_key(rt: HostRuntime) {
-    match record_of(rt.alloc(), two_tests()) {
-        Some(record) => {
-            assert!(rt;
-                is_of_key(
-                    rt.alloc(),
-                    &record,
-                    0,
-                    "Executions { items: [Execution { key: 0, first: 0, last: 4, start: 0, stop: 9, ending: Successful }] }"
-                )
-            );
-            assert!(rt;
-                is_of_key(
-                    rt.alloc(),
-                    &record,
-                    2,
-                    "Executions { items: [Execution { key: 2, first: 3, last: 3, start: 1, stop: 1, ending: Skipped }] }"
-                )
-            );
-        }
-        None => assert!(rt; false, "no record"),
-    }
+// Whether the executions of two keys of the record of two tests are as stated. Positions are those
+// in the record.
+fn are_of_keys(alloc: Global, record: &Record) -> bool {
+    is_of_key(
+        alloc,
+        record,
+        0,
+        "Executions { items: [Execution { key: 0, first: 0, last: 4, start: 0, stop: 9, ending: Successful }] }",
+    ) && is_of_key(
+        alloc,
+        record,
+        2,
+        "Executions { items: [Execution { key: 2, first: 3, last: 3, start: 1, stop: 1, ending: Skipped }] }",
+    )
 }
 
 // Whether `count` executions are kept.
@@ -93,9 +83,12 @@ fn are_filtered_of_record(alloc: Global, record: &Record) -> bool {
 }
 
 #[test]
-fn execution_filters(rt: HostRuntime) {
-    match record_of(rt.alloc(), two_tests()) {
-        Some(record) => assert!(rt; are_filtered_of_record(rt.alloc(), &record)),
-        None => assert!(rt; false, "no record"),
-    }
+fn executions_of_two_tests(rt: HostRuntime) {
+    let hold = match record_of(rt.alloc(), two_tests()) {
+        Some(record) => {
+            are_of_keys(rt.alloc(), &record) && are_filtered_of_record(rt.alloc(), &record)
+        }
+        None => false,
+    };
+    assert!(rt; hold);
 }

@@ -3,6 +3,10 @@
 #![tactic(auto)]
 
 #[cfg(test)]
+mod appending;
+#[cfg(test)]
+mod conditions;
+#[cfg(test)]
 mod devices;
 #[cfg(test)]
 mod entries;

@@ -1,10 +1,8 @@
-//! Matches of a worker's events, and those that a condition selects.
+//! Matches of a worker's events.
 use std::alloc::{AllocError, Global};
 use test_support::{record_of, two_tests};
 use tk_columns::{Events, Record};
-use tk_query::{
-    Condition, Exact, InOrder, Loose, match_exactly, match_in_order, match_loosely, select,
-};
+use tk_query::{Condition, Exact, InOrder, Loose, match_exactly, match_in_order, match_loosely};
 
 // Whether conditions match the events exactly, loosely and in order at the positions 1 and 2.
 fn match_all(alloc: Global, events: &Events<'_>, list: &[Condition]) -> bool {
@@ -27,12 +25,6 @@ fn of_worker<'r>(alloc: Global, record: &'r Record) -> Result<Events<'r>, AllocE
     Events::all(alloc, record)?.by_worker(alloc, 1)
 }
 
-// How many of the events of worker 1 are no start.
-fn others(alloc: Global, record: &Record) -> Result<usize, AllocError> {
-    let condition = Condition::Not(Box::new(alloc, Condition::Started)?);
-    Ok(select(alloc, &of_worker(alloc, record)?, &condition)?.count())
-}
-
 fn are_matched(alloc: Global, record: &Record) -> bool {
     let turns = [Condition::Started, Condition::Failed(None)];
     let turned = [Condition::Failed(None), Condition::Started];
@@ -47,11 +39,9 @@ fn are_matched(alloc: Global, record: &Record) -> bool {
 /// Positions are those in the record.
 #[test]
 fn matches_of_a_worker(rt: HostRuntime) {
-    match record_of(rt.alloc(), two_tests()) {
-        Some(record) => {
-            assert!(rt; are_matched(rt.alloc(), &record));
-            assert!(rt; matches!(others(rt.alloc(), &record), Ok(1)));
-        }
-        None => assert!(rt; false, "no record"),
-    }
+    let hold = match record_of(rt.alloc(), two_tests()) {
+        Some(record) => are_matched(rt.alloc(), &record),
+        None => false,
+    };
+    assert!(rt; hold);
 }

@@ -1,8 +1,9 @@
 //! Calls on records, with ample memory and with any one request for memory refused. Calls of which
 //! one answers `Memory` are made once more, and then all have to succeed.
+use crate::appending::{Answer, append};
 use std::alloc::Global;
-use test_support::{record_of, start, two_tests, two_tests_report};
-use tk_columns::{AppendFault, Events, Record};
+use test_support::{start, two_tests, two_tests_report};
+use tk_columns::{Events, Record};
 use tk_events::Entry;
 use tk_query::{Condition, InOrder, executions, match_in_order, read_condition, select};
 use tk_record::{ReadFault, WriteFault, read_record, write_record, write_tail};
@@ -19,11 +20,19 @@ fn is_written(answer: Result<(), WriteFault>, target: &ByteTarget, text: &[u8]) 
     }
 }
 
-// The record of two tests; none for want of memory.
+// The record of two tests, or whether memory was refused.
 fn two_tests_record(alloc: Global) -> Result<Record, bool> {
     match read_record(alloc, &mut ByteSource::new(two_tests())) {
         Ok(record) => Ok(record),
         Err(fault) => Err(matches!(fault, ReadFault::Memory)),
+    }
+}
+
+// The record of two tests, also where one request for memory is refused.
+fn read_again(alloc: Global) -> Result<Record, bool> {
+    match two_tests_record(alloc) {
+        Err(true) => two_tests_record(alloc),
+        answer => answer,
     }
 }
 
@@ -50,27 +59,26 @@ fn is_tail_written(alloc: Global, record: &Record) -> Option<bool> {
     Some(tail.as_str() == "finish|fail|boom")
 }
 
+// Whether the texts of a record are written, also where one request for memory is refused.
+fn texts_hold(alloc: Global, record: &Record) -> bool {
+    let written = match are_written(alloc, record) {
+        None => are_written(alloc, record),
+        answer => answer,
+    };
+    let tail = match is_tail_written(alloc, record) {
+        None => is_tail_written(alloc, record),
+        answer => answer,
+    };
+    written == Some(true) && tail == Some(true)
+}
+
 #[test]
 fn texts(rt: HostRuntime) {
-    let alloc = rt.alloc();
-    let record = match two_tests_record(alloc) {
-        Err(true) => two_tests_record(alloc),
-        answer => answer,
+    let hold = match read_again(rt.alloc()) {
+        Ok(record) => texts_hold(rt.alloc(), &record),
+        Err(_) => false,
     };
-    let Ok(record) = record else {
-        assert!(rt; false, "no record");
-        return;
-    };
-    let written = match are_written(alloc, &record) {
-        None => are_written(alloc, &record),
-        answer => answer,
-    };
-    let tail = match is_tail_written(alloc, &record) {
-        None => is_tail_written(alloc, &record),
-        answer => answer,
-    };
-    assert!(rt; written == Some(true));
-    assert!(rt; tail == Some(true));
+    assert!(rt; hold);
 }
 
 // Whether the failures of tests are selected, at their positions.
@@ -98,45 +106,64 @@ fn are_executed(alloc: Global, record: &Record) -> Option<bool> {
     Some(list.len() == 3 && list.failed(alloc).ok()?.len() == 1)
 }
 
+// Whether the questions are answered, also where one request for memory is refused.
+fn questions_hold(alloc: Global, record: &Record) -> bool {
+    let selected = match are_selected(alloc, record) {
+        None => are_selected(alloc, record),
+        answer => answer,
+    };
+    let matched = match is_matched(alloc, record) {
+        None => is_matched(alloc, record),
+        answer => answer,
+    };
+    let executed = match are_executed(alloc, record) {
+        None => are_executed(alloc, record),
+        answer => answer,
+    };
+    selected == Some(true) && matched == Some(true) && executed == Some(true)
+}
+
 #[test]
 fn questions(rt: HostRuntime) {
-    let alloc = rt.alloc();
-    let record = match record_of(alloc, two_tests()) {
-        None => record_of(alloc, two_tests()),
-        record => record,
+    let hold = match read_again(rt.alloc()) {
+        Ok(record) => questions_hold(rt.alloc(), &record),
+        Err(_) => false,
     };
-    let Some(record) = record else {
-        assert!(rt; false, "no record");
-        return;
-    };
-    let selected = match are_selected(alloc, &record) {
-        None => are_selected(alloc, &record),
-        answer => answer,
-    };
-    let matched = match is_matched(alloc, &record) {
-        None => is_matched(alloc, &record),
-        answer => answer,
-    };
-    let executed = match are_executed(alloc, &record) {
-        None => are_executed(alloc, &record),
-        answer => answer,
-    };
-    assert!(rt; selected == Some(true));
-    assert!(rt; matched == Some(true));
-    assert!(rt; executed == Some(true));
+    assert!(rt; hold);
 }
 
 // Whether a start is appended; none for want of memory, and then the record is as it was.
 fn is_appended(record: &mut Record, stamp: u64) -> Option<bool> {
     let before = record.len();
     let event = start(0, stamp);
-    match record.append(Entry { worker: 1, event }) {
-        Ok(()) => Some(record.len() == before + 1),
-        Err(AppendFault::Memory(entry)) if record.len() == before && entry.event.stamp == stamp => {
-            None
-        }
-        Err(_) => Some(false),
+    match append(record, Entry { worker: 1, event }) {
+        Answer::Appended => Some(record.len() == before + 1),
+        Answer::Memory(back) if record.len() == before && back == stamp => None,
+        _ => Some(false),
     }
+}
+
+// Whether twenty starts are appended, also where one request for memory is refused.
+fn are_appended(record: &mut Record) -> bool {
+    for stamp in 0..20 {
+        let appended = match is_appended(record, stamp) {
+            None => is_appended(record, stamp),
+            answer => answer,
+        };
+        if appended != Some(true) {
+            return false;
+        }
+    }
+    record.len() == 25
+}
+
+#[test]
+fn appended_entries(rt: HostRuntime) {
+    let hold = match read_again(rt.alloc()) {
+        Ok(mut record) => are_appended(&mut record),
+        Err(_) => false,
+    };
+    assert!(rt; hold);
 }
 
 // Whether a condition is read.
@@ -145,23 +172,6 @@ fn is_condition_read(alloc: Global) -> bool {
 }
 
 #[test]
-fn appended_entries(rt: HostRuntime) {
-    let alloc = rt.alloc();
-    let record = match record_of(alloc, two_tests()) {
-        None => record_of(alloc, two_tests()),
-        record => record,
-    };
-    let Some(mut record) = record else {
-        assert!(rt; false, "no record");
-        return;
-    };
-    for stamp in 0..20 {
-        let appended = match is_appended(&mut record, stamp) {
-            None => is_appended(&mut record, stamp),
-            answer => answer,
-        };
-        assert!(rt; appended == Some(true));
-    }
-    assert_eq!(rt; record.len(), 25);
-    assert!(rt; is_condition_read(alloc) || is_condition_read(alloc));
+fn conditions(rt: HostRuntime) {
+    assert!(rt; is_condition_read(rt.alloc()) || is_condition_read(rt.alloc()));
 }

@@ -52,31 +52,52 @@ fn is_at(alloc: Global, events: Result<Events<'_>, AllocError>, want: &str) -> b
     }
 }
 
-// Whether the positions in a row are those of the selection whose name stands before them.
+// The events that are named: of worker 1, of key 0, or of a selection; none for another name.
+fn events_of<'r>(
+    alloc: Global,
+    events: &Events<'r>,
+    name: &str,
+) -> Option<Result<Events<'r>, AllocError>> {
+    match name {
+        "worker-1" => Some(events.by_worker(alloc, 1)),
+        "key-0" => Some(events.by_key(alloc, 0)),
+        _ => Some(named(alloc, events, Selection::read(name)?)),
+    }
+}
+
+// Whether the positions in a row are those of the events whose name stands before them.
 fn holds(alloc: Global, events: &Events<'_>, row: &str) -> bool {
     match row.split_once(' ') {
-        Some((name, want)) => match Selection::read(name) {
-            Some(selection) => is_at(alloc, named(alloc, events, selection), want),
+        Some((name, want)) => match events_of(alloc, events, name) {
+            Some(found) => is_at(alloc, found, want),
             None => false,
         },
         None => false,
     }
 }
 
-// The first row that does not hold of a text's record.
-fn first_other<'a>(alloc: Global, text: &[u8], rows: &'a str) -> Option<&'a str> {
-    let Some(record) = record_of(alloc, text) else {
-        return Some("no record");
-    };
-    let Ok(events) = Events::all(alloc, &record) else {
-        return Some("no events");
-    };
+fn first_other_of<'a>(alloc: Global, events: &Events<'_>, rows: &'a str) -> Option<&'a str> {
     for row in rows.lines() {
-        if !holds(alloc, &events, row) {
+        if !holds(alloc, events, row) {
             return Some(row);
         }
     }
     None
+}
+
+fn first_other_in<'a>(alloc: Global, record: &Record, rows: &'a str) -> Option<&'a str> {
+    match Events::all(alloc, record) {
+        Ok(events) => first_other_of(alloc, &events, rows),
+        Err(_) => Some("no events"),
+    }
+}
+
+// The first row that does not hold of a text's record.
+fn first_other<'a>(alloc: Global, text: &[u8], rows: &'a str) -> Option<&'a str> {
+    match record_of(alloc, text) {
+        Some(record) => first_other_in(alloc, &record, rows),
+        None => Some("no record"),
+    }
 }
 
 fn of_two_tests() -> &'static str {
@@ -92,6 +113,8 @@ failed [2]
 reporting []
 dynamic []
 files []
+worker-1 [1, 2]
+key-0 [0, 4]
 "
 }
 
@@ -112,26 +135,7 @@ files [7]
 }
 
 #[test]
-fn named_selections(rt: HostRuntime) {
+fn named_events(rt: HostRuntime) {
     assert_eq!(rt; first_other(rt.alloc(), two_tests(), of_two_tests()), None);
     assert_eq!(rt; first_other(rt.alloc(), each_kind(), of_each_kind()), None);
-}
-
-// Whether a worker's events, or a descriptor's, have these positions.
-fn are_at(alloc: Global, record: &Record, of_worker: &str, of_key: &str) -> bool {
-    match Events::all(alloc, record) {
-        Ok(events) => {
-            is_at(alloc, events.by_worker(alloc, 1), of_worker)
-                && is_at(alloc, events.by_key(alloc, 0), of_key)
-        }
-        Err(_) => false,
-    }
-}
-
-#[test]
-fn events_of_a_worker_and_of_a_key(rt: HostRuntime) {
-    match record_of(rt.alloc(), two_tests()) {
-        Some(record) => assert!(rt; are_at(rt.alloc(), &record, "[1, 2]", "[0, 4]")),
-        None => assert!(rt; false, "no record"),
-    }
 }

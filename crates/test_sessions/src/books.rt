@@ -1,6 +1,7 @@
 //! A lock book, needs and holdings on one thread.
-ghost use Rattle.std.specs.Prelude.{◌≡◌};
+ghost use Rattle.std.specs.Prelude.{◌≡◌, All};
 
+use std::alloc::Global;
 use std::sync::Wait;
 use std::test::Fail;
 use tk_book::{Book, BookFault, BookSeat, Busy, Holdings, Need};
@@ -50,34 +51,46 @@ impl Seated<'_> {
     }
 }
 
+// The book's next seat.
+fn next_seat<'b>(book: &'b Book, seats: &mut Vec<BookSeat>) -> Option<Seated<'b>>
+    requires { All (λ seat. seat.book ≡ book.now) seats.old.items }
+    ensures { All (λ seat. seat.book ≡ book.now) seats.new.items }
+{
+    let seat = seats.pop()?;
+    Some(Seated { book, seat })
+}
+
+// Whether three readers keep a writer out until each of them is gone.
+fn share<R: Wait>(
+    rt: &R,
+    first: &mut Seated<'_>,
+    second: &mut Seated<'_>,
+    third: &mut Seated<'_>,
+    writer: &mut Seated<'_>,
+) -> bool {
+    let is_shared = first.acquires(rt, Need::of(4, 0))
+        && second.acquires(rt, Need::of(4, 0))
+        && third.acquires(rt, Need::of(4, 0))
+        && writer.looks() == 0x300
+        && writer.finds(0x300, Need::of(0, 4));
+    let is_released = first.releases() && second.releases() && third.releases();
+    let is_written = writer.acquires(rt, Need::of(0, 4)) && first.looks() == 0xF00;
+    is_shared && is_released && is_written
+}
+
+// The same of a book of four seats.
+fn four_share<R: Wait>(rt: &R, alloc: Global) -> Option<bool> {
+    let (book, mut seats) = Book::open(alloc, 4).ok()?;
+    let mut first = next_seat(&book, &mut seats)?;
+    let mut second = next_seat(&book, &mut seats)?;
+    let mut third = next_seat(&book, &mut seats)?;
+    let mut writer = next_seat(&book, &mut seats)?;
+    Some(share(rt, &mut first, &mut second, &mut third, &mut writer))
+}
+
 #[test]
-fn shared_readers(rt: HostRuntime) -> Result<(), Fail> {
-    let (book, mut seats) = Book::open(rt.alloc(), 4)?;
-    let mut first = Seated {
-        book: &book,
-        seat: seats.pop().ok_or(NO_SEAT)?,
-    };
-    let mut second = Seated {
-        book: &book,
-        seat: seats.pop().ok_or(NO_SEAT)?,
-    };
-    let mut third = Seated {
-        book: &book,
-        seat: seats.pop().ok_or(NO_SEAT)?,
-    };
-    let mut fourth = Seated {
-        book: &book,
-        seat: seats.pop().ok_or(NO_SEAT)?,
-    };
-    assert!(rt; first.acquires(&rt, Need::of(4, 0)));
-    assert!(rt; second.acquires(&rt, Need::of(4, 0)));
-    assert!(rt; third.acquires(&rt, Need::of(4, 0)));
-    assert_eq!(rt; fourth.looks(), 0x300);
-    assert!(rt; fourth.finds(0x300, Need::of(0, 4)));
-    assert!(rt; first.releases() && second.releases() && third.releases());
-    assert!(rt; fourth.acquires(&rt, Need::of(0, 4)));
-    assert_eq!(rt; first.looks(), 0xF00);
-    Ok(())
+fn shared_readers(rt: HostRuntime) {
+    assert!(rt; four_share(&rt, rt.alloc()) == Some(true));
 }
 
 #[test]

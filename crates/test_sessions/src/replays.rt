@@ -1,14 +1,13 @@
 //! The queue's core by hand, and replays of scripts by turns.
 use crate::ends::{TakenItem, plain};
 use std::alloc::Global;
-use std::test::Fail;
 use test_support::{
     OneByteSource, OneByteTarget, one_node, small_replay, small_replay_taken, start,
 };
 use tk_events::{Event, Kind};
 use tk_ids::DType;
 use tk_queue::{Core, CoreFault, Item, ReplayFault, Replayed, Turn, replay, replay_text};
-use tk_streams::ByteTarget;
+use tk_streams::{ByteTarget, Source, Target};
 
 fn is_entry(item: &Item, worker: u8, stamp: u64) -> bool {
     match item {
@@ -29,6 +28,10 @@ fn ends(core: &mut Core, worker: u8) -> bool {
     core.end(worker).is_ok()
 }
 
+fn takes(core: &mut Core, want: TakenItem) -> bool {
+    plain(core.take()) == want
+}
+
 // Whether the start comes back, for that reason.
 fn refuses(core: &mut Core, worker: u8, stamp: u64, why: CoreFault) -> bool {
     match core.emit(worker, start(0, stamp)) {
@@ -40,32 +43,63 @@ fn refuses(core: &mut Core, worker: u8, stamp: u64, why: CoreFault) -> bool {
 #[test]
 fn core_turns(rt: HostRuntime) {
     let mut core = Core::new(rt.alloc(), 2);
-    assert!(rt; emits(&mut core, 1, 7));
-    assert!(rt; ends(&mut core, 1));
-    assert!(rt; refuses(&mut core, 1, 8, CoreFault::AfterEnd));
-    assert!(rt; refuses(&mut core, 3, 9, CoreFault::Worker));
-    assert!(rt; plain(core.take()) == TakenItem::Entry(1, Kind::Started, 0, 7));
-    assert!(rt; plain(core.take()) == TakenItem::End(1));
-    assert!(rt; core.take().is_none());
+    let is_ended = emits(&mut core, 1, 7)
+        && ends(&mut core, 1)
+        && refuses(&mut core, 1, 8, CoreFault::AfterEnd)
+        && refuses(&mut core, 3, 9, CoreFault::Worker);
+    let is_taken = takes(&mut core, TakenItem::Entry(1, Kind::Started, 0, 7))
+        && takes(&mut core, TakenItem::End(1))
+        && takes(&mut core, TakenItem::Nothing);
+    assert!(rt; is_ended && is_taken);
+}
+
+// Whether a thousand starts are emitted.
+fn emits_a_thousand(core: &mut Core) -> bool {
+    for stamp in 0..1_000 {
+        if !emits(core, 1, stamp) {
+            return false;
+        }
+    }
+    core.waiting() == 1_000
+}
+
+// Whether they are taken in their order, and then nothing.
+fn takes_a_thousand(core: &mut Core) -> bool {
+    for stamp in 0..1_000 {
+        if !takes(core, TakenItem::Entry(1, Kind::Started, 0, stamp)) {
+            return false;
+        }
+    }
+    takes(core, TakenItem::Nothing)
 }
 
 #[test]
 fn a_thousand_waiting(rt: HostRuntime) {
     let mut core = Core::new(rt.alloc(), 1);
-    for stamp in 0..1_000 {
-        assert!(rt; emits(&mut core, 1, stamp));
+    let hold = emits_a_thousand(&mut core) && takes_a_thousand(&mut core);
+    assert!(rt; hold);
+}
+
+// A script of starts with these stamps.
+fn script(alloc: Global, stamps: &[u64]) -> Option<Vec<Event>> {
+    let mut events = Vec::new(alloc);
+    for stamp in stamps {
+        events.push(start(0, *stamp)).ok()?;
     }
-    assert!(rt; core.waiting() == 1_000);
-    for stamp in 0..1_000 {
-        assert!(rt; plain(core.take()) == TakenItem::Entry(1, Kind::Started, 0, stamp));
-    }
-    assert!(rt; core.take().is_none());
+    Some(events)
+}
+
+fn scripts(alloc: Global) -> Option<Vec<Vec<Event>>> {
+    let mut scripts = Vec::new(alloc);
+    scripts.push(script(alloc, &[10, 11])?).ok()?;
+    scripts.push(script(alloc, &[20])?).ok()?;
+    Some(scripts)
 }
 
 // Worker 1 emits twice and ends, and nothing is taken from then on.
-fn left_in_the_queue(alloc: Global, scripts: &[Vec<Event>]) -> Result<Replayed, Fail> {
+fn left_in_the_queue(alloc: Global, scripts: &[Vec<Event>]) -> Option<Replayed> {
     if scripts.len() != 2 {
-        return Err(Fail::new("two scripts"));
+        return None;
     }
     let turns = [
         Turn::Take,
@@ -73,43 +107,57 @@ fn left_in_the_queue(alloc: Global, scripts: &[Vec<Event>]) -> Result<Replayed, 
         Turn::Worker(1),
         Turn::Worker(1),
     ];
-    let table = one_node(alloc, DType::Test).ok_or("no table")?;
-    Ok(replay(alloc, table, scripts, &turns)?)
+    replay(alloc, one_node(alloc, DType::Test)?, scripts, &turns).ok()
+}
+
+fn are_waiting(waiting: &[Item]) -> bool {
+    match waiting {
+        [first, second, end] => {
+            is_entry(first, 1, 10) && is_entry(second, 1, 11) && is_end(end, 1)
+        }
+        _ => false,
+    }
+}
+
+fn is_left(alloc: Global, scripts: &[Vec<Event>]) -> bool {
+    match left_in_the_queue(alloc, scripts) {
+        Some(replayed) => {
+            replayed.taken.len() == 0
+                && replayed.emitted.as_slice() == [2, 0].as_slice()
+                && are_waiting(replayed.waiting.as_slice())
+        }
+        None => false,
+    }
 }
 
 #[test]
-fn left_waiting(rt: HostRuntime) -> Result<(), Fail> {
-    let alloc = rt.alloc();
-    let mut scripts = Vec::new(alloc);
-    scripts.push(vec![in alloc; start(0, 10), start(0, 11)]?)?;
-    scripts.push(vec![in alloc; start(0, 20)]?)?;
-    let replayed = left_in_the_queue(alloc, scripts.as_slice())?;
-    assert_eq!(rt; replayed.taken.len(), 0);
-    assert_eq!(rt; replayed.emitted.as_slice(), [2, 0].as_slice());
-    let waiting = replayed.waiting;
-    assert_eq!(rt; waiting.len(), 3);
-    assert!(rt; is_entry(&waiting[0], 1, 10));
-    assert!(rt; is_entry(&waiting[1], 1, 11));
-    assert!(rt; is_end(&waiting[2], 1));
-    Ok(())
+fn left_waiting(rt: HostRuntime) {
+    let hold = match scripts(rt.alloc()) {
+        Some(scripts) => is_left(rt.alloc(), scripts.as_slice()),
+        None => false,
+    };
+    assert!(rt; hold);
+}
+
+// Whether a replay answers that a device broke.
+fn is_device<S: Source, T: Target>(alloc: Global, source: &mut S, target: &mut T) -> bool {
+    matches!(replay_text(alloc, source, target), Err(ReplayFault::Device))
 }
 
 // Whether a replay of a source that breaks at a call tells so, and writes nothing.
 fn reading_breaks(alloc: Global, breaks_at: usize) -> bool {
     let mut source = OneByteSource::new(small_replay(), breaks_at);
     let mut target = ByteTarget::new(alloc);
-    let answer = replay_text(alloc, &mut source, &mut target);
-    matches!(answer, Err(ReplayFault::Device)) && target.bytes().is_empty()
+    is_device(alloc, &mut source, &mut target) && target.bytes().is_empty()
 }
 
 // Whether a replay to a target that breaks at a call answers so, and `breaks_at` bytes went out before.
 fn writing_breaks(alloc: Global, breaks_at: usize) -> bool {
     let mut source = OneByteSource::new(small_replay(), 1_000);
     let mut target = OneByteTarget::new(alloc, breaks_at);
-    let answer = replay_text(alloc, &mut source, &mut target);
+    let is_device = is_device(alloc, &mut source, &mut target);
     let taken = target.taken();
-    let is_prefix = taken.len() == breaks_at && small_replay_taken().starts_with(taken);
-    matches!(answer, Err(ReplayFault::Device)) && is_prefix
+    is_device && taken.len() == breaks_at && small_replay_taken().starts_with(taken)
 }
 
 #[test]

@@ -44,6 +44,31 @@ fn one_thread_session(rt: HostRuntime) -> Result<(), Fail> {
     Ok(())
 }
 
+// Closes once more what was refused, with one token more.
+fn refused_again(fault: CloseFault, token: Ended) -> Option<CloseFault>
+    requires tokens { All (λ one. one.session ≡ fault.receiver.session) fault.ended.items }
+    requires token { token.session ≡ fault.receiver.session }
+    ensures { IfSome result (λ again. All (λ one. one.session ≡ again.receiver.session) again.ended.items) }
+{
+    let mut ended = fault.ended;
+    ended.push(token).ok()?;
+    refusal(fault.receiver, ended)
+}
+
+// How many events worker 1 emitted, where the two marks are taken and then the session is closed.
+fn drained<R: Wait>(rt: &R, fault: CloseFault) -> Option<u64>
+    requires { All (λ one. one.session ≡ fault.receiver.session) fault.ended.items }
+{
+    let mut receiver = fault.receiver;
+    let are_taken = take(rt, &mut receiver) == TakenItem::End(2)
+        && take(rt, &mut receiver) == TakenItem::End(1);
+    if are_taken {
+        emitted(receiver, fault.ended)
+    } else {
+        None
+    }
+}
+
 #[test]
 fn closed_too_early(rt: HostRuntime) -> Result<(), Fail> {
     let table = one_node(rt.alloc(), DType::Test).ok_or("no table")?;
@@ -52,37 +77,32 @@ fn closed_too_early(rt: HostRuntime) -> Result<(), Fail> {
     let first = senders.pop().ok_or(NO_SENDER)?.end(&rt);
     let missing = refusal(receiver, vec![in rt.alloc(); first]?).ok_or("closed")?;
     assert_eq!(rt; missing.why, CloseReason::Missing(2));
-    let CloseFault {
-        why: _,
-        receiver,
-        mut ended,
-    } = missing;
-    ended.push(second)?;
-    let undrained = refusal(receiver, ended).ok_or("closed")?;
+    let undrained = refused_again(missing, second).ok_or("closed")?;
     assert_eq!(rt; undrained.why, CloseReason::NotDrained(1));
-    let CloseFault {
-        why: _,
-        mut receiver,
-        ended,
-    } = undrained;
-    assert!(rt; take(&rt, &mut receiver) == TakenItem::End(2));
-    assert!(rt; take(&rt, &mut receiver) == TakenItem::End(1));
-    assert_eq!(rt; emitted(receiver, ended), Some(0));
+    assert_eq!(rt; drained(&rt, undrained), Some(0));
     Ok(())
 }
 
+// Whether the third start finds the queue full, and goes out once one was taken.
+fn fill<R: Wait>(rt: &R, first: &mut Sender, second: &mut Sender, receiver: &mut Receiver) -> bool {
+    send(rt, first, start(0, 1)) == Answer::Sent
+        && send(rt, second, start(0, 2)) == Answer::Sent
+        && send(rt, first, start(0, 3)) == Answer::Full(3)
+        && take(rt, receiver) == TakenItem::Entry(1, Kind::Started, 0, 1)
+        && send(rt, first, start(0, 3)) == Answer::Sent
+}
+
+// The same of a session of two senders and two places.
+fn two_places_are_filled<R: Wait>(rt: &R, alloc: Global) -> Option<bool> {
+    let (mut senders, mut receiver) = open(alloc, one_node(alloc, DType::Test)?, 2, 2).ok()?;
+    let mut second = senders.pop()?;
+    let mut first = senders.pop()?;
+    Some(fill(rt, &mut first, &mut second, &mut receiver))
+}
+
 #[test]
-fn capacity_two(rt: HostRuntime) -> Result<(), Fail> {
-    let table = one_node(rt.alloc(), DType::Test).ok_or("no table")?;
-    let (mut senders, mut receiver) = open(rt.alloc(), table, 2, 2)?;
-    let mut second = senders.pop().ok_or(NO_SENDER)?;
-    let mut first = senders.pop().ok_or(NO_SENDER)?;
-    assert!(rt; send(&rt, &mut first, start(0, 1)) == Answer::Sent);
-    assert!(rt; send(&rt, &mut second, start(0, 2)) == Answer::Sent);
-    assert!(rt; send(&rt, &mut first, start(0, 3)) == Answer::Full(3));
-    assert!(rt; take(&rt, &mut receiver) == TakenItem::Entry(1, Kind::Started, 0, 1));
-    assert!(rt; send(&rt, &mut first, start(0, 3)) == Answer::Sent);
-    Ok(())
+fn capacity_two(rt: HostRuntime) {
+    assert!(rt; two_places_are_filled(&rt, rt.alloc()) == Some(true));
 }
 
 // How many starts are sent until one comes back since the queue is full.

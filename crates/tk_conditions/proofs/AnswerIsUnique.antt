@@ -1,8 +1,9 @@
 -- A text has one answer.
-use Rattle.std.proofs.Common.{ℕ, ◌≤◌, List, length, Ok, Err, sym, ◌∙◌, arith}
+use Rattle.std.proofs.Common.{ℕ, ◌≤◌, List, length, Ok, Err, refl, sym, ◌∙◌, arith}
 use Rattle.tk_conditions.specs.Answer.{IsBadAt, IsDeepAt, IsShallowTo}
+use Rattle.tk_conditions.specs.Cond.{cond_text}
 use Rattle.tk_conditions.specs.CondOf.{cond_of}
-use Rattle.tk_conditions.specs.Laws.{AnswerIsUnique}
+use Rattle.tk_conditions.specs.Laws.{AnswerIsUnique, TextIsRead}
 use Rattle.tk_conditions.specs.declared.faults.CondFault.TheVariants.{BadAtom, Deep, Memory}
 use Rattle.tk_conditions.proofs.CondLemmas.{one_cond}
 
@@ -29,3 +30,6 @@ answer_is_unique text (Err Deep) (Ok d) h k = not_deep text h.0 (length text) h.
 answer_is_unique text (Err Deep) (Err (BadAtom n)) h k = bad_not_deep text n h.0 k h.1
 answer_is_unique text (Err Deep) (Err Deep) h k = tt
 answer_is_unique text (Err Deep) (Err Memory) h k = tt
+
+pub text_is_read : TextIsRead
+text_is_read c answer shallow read = answer_is_unique (cond_text (cond_of c)) (Ok c) answer (refl, shallow) read

@@ -5,3 +5,4 @@ pub mod Prefixes
 pub mod Members
 pub mod AnswerIsUnique
 pub mod ReaderLemmas
+pub mod WritingLemmas

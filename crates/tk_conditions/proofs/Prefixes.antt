@@ -87,7 +87,7 @@ prefix_entry P (entry ∷ table) word all e = ⊎_elim {C = (rest : List ℕ) ×
     (λ (h : is_prefix table word ≡ true). prefix_entry P table word all.1 h)
     (or_cases (begins_with word entry.0) (is_prefix table word) e)
 
-escaped_append : (a b : List ℕ) → escaped (a ++ b) ≡ escaped a ++ escaped b
+pub escaped_append : (a b : List ℕ) → escaped (a ++ b) ≡ escaped a ++ escaped b
 escaped_append [] b = refl
 escaped_append (x ∷ a) b = ap (λ rest. spelled_by x ++ rest) (escaped_append a b) ∙ sym (append_assoc (spelled_by x) (escaped a) (escaped b))
 

@@ -38,3 +38,7 @@ abbrev mutual
 abbrev pub conds_from : Conds → List Condition → Conds
 conds_from cs [] = cs
 conds_from cs (c ∷ rest) = conds_from (More cs (cond_of c)) rest
+
+-- the two of them
+abbrev pub both : Cond → Cond → Cond
+both a b = All (More (More Nothing a) b)

@@ -1,7 +1,7 @@
 -- What follows from the definitions of conditions' texts.
-use Rattle.std.specs.Prelude.{◌≡◌, ℕ, List, Result, Ok, Err}
+use Rattle.std.specs.Prelude.{◌≡◌, ℕ, List, length, Result, Ok, Err}
 use Rattle.tk_conditions.specs.declared.conditions.Condition.{Condition}
-use Rattle.tk_conditions.specs.Answer.{IsReadAs}
+use Rattle.tk_conditions.specs.Answer.{IsReadAs, IsShallowTo}
 use Rattle.tk_conditions.specs.Cond.{Cond, cond_text}
 use Rattle.tk_conditions.specs.CondOf.{cond_of}
 use Rattle.tk_conditions.specs.declared.faults.CondFault.{CondFault}
@@ -24,3 +24,7 @@ AnswerIsUnique = (text : List ℕ) (a b : Result Condition CondFault) → IsRead
 -- no two conditions have one text
 abbrev pub TextIsUnique : Type 0
 TextIsUnique = (c d : Cond) → cond_text c ≡ cond_text d → c ≡ d
+
+-- a condition's text is read as the condition, where no more brackets are open in it than may be
+abbrev pub TextIsRead : Type 0
+TextIsRead = (c : Condition) (answer : Result Condition CondFault) → let text = cond_text (cond_of c) in IsShallowTo text (length text) → IsReadAs text answer → AreAlike (Ok c) answer

@@ -1,4 +1,4 @@
-//! Conditions on events, and the reading of their texts.
+//! Conditions on events, and the reading and writing of their texts.
 #![tactic(auto)]
 
 mod conditions;
@@ -9,7 +9,9 @@ mod partial_texts;
 mod readers;
 mod reading;
 mod words;
+mod writing;
 
 pub use conditions::Condition;
 pub use faults::{CondFault, MAX_DEPTH};
 pub use reading::read_condition;
+pub use writing::write_condition;

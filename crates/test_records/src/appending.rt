@@ -1,0 +1,29 @@
+//! What appending answers, without the entry that may come back.
+use tk_columns::{AppendFault, Record};
+use tk_events::Entry;
+
+/// What appending an entry answered.
+#[derive(Clone, Copy, PartialEq, Eq)]
+pub(crate) enum Answer {
+    Appended,
+    UnknownKey,
+    Unlawful,
+    Full,
+    /// Memory was refused, and the entry that came back has this stamp.
+    Memory(u64),
+}
+
+fn answer_of(appended: &Result<(), AppendFault>) -> Answer {
+    match appended {
+        Ok(()) => Answer::Appended,
+        Err(AppendFault::UnknownKey(_)) => Answer::UnknownKey,
+        Err(AppendFault::Unlawful(_)) => Answer::Unlawful,
+        Err(AppendFault::Full(_)) => Answer::Full,
+        Err(AppendFault::Memory(entry)) => Answer::Memory(entry.event.stamp),
+    }
+}
+
+/// Appends an entry.
+pub(crate) fn append(record: &mut Record, entry: Entry) -> Answer {
+    answer_of(&record.append(entry))
+}

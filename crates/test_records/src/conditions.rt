@@ -1,0 +1,88 @@
+//! Conditions under JUnit's names, and texts of conditions that are written.
+use std::alloc::{AllocError, Global};
+use tk_query::{Condition, read_condition, write_condition};
+
+fn is_written_as(alloc: Global, condition: &Condition, text: &str) -> bool {
+    match write_condition(alloc, condition) {
+        Ok(written) => written.as_str() == text,
+        Err(_) => false,
+    }
+}
+
+// Whether a text is read, and written again as it was.
+fn is_written_again(alloc: Global, text: &str) -> bool {
+    match read_condition(alloc, text) {
+        Ok(condition) => is_written_as(alloc, &condition, text),
+        Err(_) => false,
+    }
+}
+
+// Texts with atoms and groups of each form, escapes, and empty lists and texts.
+fn texts() -> &'static str {
+    "all(test,any(),not(failed(a%28b%29%2C%25é)),entry(k,v,,),kind(skip))
+any(all(),container,engine,started,succeeded,failed,aborted,aborted(),failed(m))
+not(any(id([engine:e]/[t:1]),name(one),skipped(),file(out/log.txt),entry(),kind(dynamic)))
+"
+}
+
+#[test]
+fn texts_written_again(rt: HostRuntime) {
+    for text in texts().lines() {
+        assert!(rt; is_written_again(rt.alloc(), text), "{text}");
+    }
+}
+
+// Whether a constructor's condition has this text.
+fn is_made_as(alloc: Global, made: Result<Condition, AllocError>, text: &str) -> bool {
+    match made {
+        Ok(condition) => is_written_as(alloc, &condition, text),
+        Err(_) => false,
+    }
+}
+
+// Whether the conditions on descriptors have their texts.
+fn name_descriptors(alloc: Global) -> bool {
+    is_made_as(alloc, Condition::test(alloc, "x"), "all(test,id(x))")
+        && is_made_as(
+            alloc,
+            Condition::container(alloc, "x"),
+            "all(container,id(x))",
+        )
+        && is_made_as(
+            alloc,
+            Condition::dynamic_test_registered(alloc, "x"),
+            "all(kind(dynamic),id(x))",
+        )
+        && is_made_as(
+            alloc,
+            Condition::display_name(alloc, "a(b)"),
+            "name(a%28b%29)",
+        )
+}
+
+// Whether the conditions on finishes and entries have their texts.
+fn name_ends(alloc: Global) -> bool {
+    is_made_as(
+        alloc,
+        Condition::finished_with_failure(alloc, None),
+        "failed",
+    ) && is_made_as(
+        alloc,
+        Condition::finished_with_failure(alloc, Some("")),
+        "failed()",
+    ) && is_made_as(
+        alloc,
+        Condition::aborted_with_reason(alloc, Some("m")),
+        "aborted(m)",
+    ) && is_made_as(
+        alloc,
+        Condition::report_entry(alloc, &[("a", "1,2"), ("b", "")]),
+        "entry(a,1%2C2,b,)",
+    )
+}
+
+#[test]
+fn conditions_by_name(rt: HostRuntime) {
+    assert!(rt; name_descriptors(rt.alloc()));
+    assert!(rt; name_ends(rt.alloc()));
+}
