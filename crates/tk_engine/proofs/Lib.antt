@@ -5,3 +5,4 @@ pub mod Outcomes
 pub mod Positions
 pub mod Collecting
 pub mod Tokens
+pub mod Growing

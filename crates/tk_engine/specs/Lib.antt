@@ -1,6 +1,7 @@
 pub use Rattle.tk_claim.specs.Claims
 pub use Rattle.tk_run_record.specs.Run
 pub mod Engines
+pub mod Grown
 pub mod EventCollectors
 pub mod Results
 pub mod Sinks

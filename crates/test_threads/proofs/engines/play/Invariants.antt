@@ -1,4 +1,4 @@
-use Rattle.test_threads.specs.Grown.{Grew}
+use Rattle.tk_engine.specs.Grown.{Grew}
 use Rattle.test_threads.proofs.engines.play.Given as goal
 
 abbrev pub invariant-loop-step : goal.invariant-loop-step

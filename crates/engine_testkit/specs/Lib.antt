@@ -1,0 +1,13 @@
+pub use Rattle.tk_ids.specs.declared.tables.Descriptor
+pub use Rattle.tk_ids.specs.declared.tables.DType
+pub use Rattle.tk_events.specs.declared.events.Event
+pub use Rattle.tk_events.specs.declared.events.Entry
+pub use Rattle.tk_events.specs.declared.kinds.Kind
+pub use Rattle.tk_events.specs.declared.kinds.Status
+pub use Rattle.tk_events.specs.declared.payloads.Payload
+pub use Rattle.tk_book.specs.Wants
+pub use Rattle.tk_queue.specs.Ends
+pub use Rattle.tk_queue.specs.Known
+pub use Rattle.tk_engine.specs.Run
+pub use Rattle.tk_engine.specs.Engines
+pub use Rattle.tk_engine.specs.Grown

@@ -1,0 +1,134 @@
+//! Engines that the kit catches: each runs one test, which is to start and to fail, with a defect.
+ghost use Rattle.std.specs.Prelude.{[]};
+ghost use Rattle.std.specs.Arc.{arc_value};
+ghost use Rattle.engine_testkit.specs.Grown.{Grew};
+
+use engine_testkit::{
+    BookSeat, DType, Engine, Event, Kind, Need, Payload, Segment, Sink, Status, Table, UnitFault,
+};
+use std::alloc::{AllocError, Global};
+use std::sync::{Arc, Wait};
+
+/// What an engine does wrong.
+#[derive(Clone, Copy)]
+pub enum Defect {
+    /// Its test has no finish.
+    ForgetsFinish,
+    /// Its test finishes before it starts.
+    FinishesFirst,
+    /// Its test fails, and is reported as a success.
+    HidesFailure,
+}
+
+/// An engine of one test, which is to start and to fail.
+#[derive(Drop)]
+pub struct BrokenEngine {
+    table: Arc<Table>,
+    need: Need,
+    defect: Defect,
+}
+
+impl BrokenEngine {
+    /// An engine with this defect; none for want of memory.
+    pub fn new(alloc: Global, defect: Defect) -> Option<BrokenEngine> {
+        let mut table = Table::new(alloc);
+        let segment = Segment::new(alloc, "engine", "broken").ok()?;
+        table
+            .add(alloc, None, &segment, "broken", DType::Test)
+            .ok()?;
+        Some(BrokenEngine {
+            table: Arc::new(alloc, table).ok()?,
+            need: Need::of(0, 0),
+            defect,
+        })
+    }
+}
+
+#[tactic(auto, using(engine_testkit::proofs::Growing::grew_same, engine_testkit::proofs::Growing::grew_one))]
+fn emit<R: Wait, S: Sink>(
+    rt: &R,
+    kind: Kind,
+    payload: Payload,
+    sink: &mut S,
+) -> Result<(), UnitFault>
+    ensures { Grew (S.meaning sink.old) (S.meaning sink.new) }
+{
+    sink.emit(
+        rt,
+        Event {
+            kind,
+            key: 0,
+            stamp: 0,
+            payload,
+        },
+    )?;
+    Ok(())
+}
+
+fn start<R: Wait, S: Sink>(rt: &R, sink: &mut S) -> Result<(), UnitFault>
+    ensures { Grew (S.meaning sink.old) (S.meaning sink.new) }
+{
+    emit(rt, Kind::Started, Payload::Nothing, sink)
+}
+
+fn finish<R: Wait, S: Sink>(rt: &R, status: Status, sink: &mut S) -> Result<(), UnitFault>
+    ensures { Grew (S.meaning sink.old) (S.meaning sink.new) }
+{
+    emit(rt, Kind::Finished, Payload::Outcome(status, None), sink)
+}
+
+impl Engine for BrokenEngine {
+    ghost table = { λ e. arc_value e.table };
+
+    ghost units = { λ e. 1 };
+
+    ghost before = { λ e. [] };
+
+    ghost after = { λ e. [] };
+
+    ghost need = { λ e u. e.need };
+
+    ghost may = { λ e u w k l. Unit {0} };
+
+    fn table(&self) -> &Arc<Table> {
+        &self.table
+    }
+
+    fn units(&self) -> u32 {
+        1
+    }
+
+    fn before(&self, alloc: Global) -> Result<Vec<Event>, AllocError> {
+        Ok(Vec::new(alloc))
+    }
+
+    fn after(&self, alloc: Global) -> Result<Vec<Event>, AllocError> {
+        Ok(Vec::new(alloc))
+    }
+
+    fn need(&self, _unit: u32) -> Need {
+        self.need
+    }
+
+    #[tactic(auto, using(engine_testkit::proofs::Growing::grew_refl, engine_testkit::proofs::Growing::grew_trans))]
+    fn run<R: Wait, S: Sink>(
+        &self,
+        rt: &R,
+        _alloc: Global,
+        _unit: u32,
+        _seat: &BookSeat,
+        sink: &mut S,
+    ) -> Result<(), UnitFault> {
+        match self.defect {
+            Defect::ForgetsFinish => start(rt, sink),
+            Defect::FinishesFirst => {
+                finish(rt, Status::Failed, sink)?;
+                start(rt, sink)
+            }
+            Defect::HidesFailure => {
+                start(rt, sink)?;
+                finish(rt, Status::Successful, sink)
+            }
+        }
+    }
+}

@@ -1,0 +1,148 @@
+//! The engine.
+ghost use Rattle.std.specs.Prelude.{◌≡◌, ◌+◌, ◌<◌, [], ◌∷◌, None, length, ◌≤◌, slice_get, All, IfOk, IfSome, OnOk};
+ghost use Rattle.std.specs.Arc.{arc_value};
+
+use crate::cases::{CaseTable, Function};
+use crate::running::run_table;
+use engine_testkit::{
+    BookSeat, DType, Engine, Event, Kind, Need, Payload, Segment, Sink, Status, Table, TableFault,
+    UnitFault,
+};
+use std::alloc::{AllocError, Global};
+use std::sync::{Arc, Wait};
+
+/// An engine whose units are tables of cases of one function, each with a lock on what the function works with.
+///
+/// Its descriptors are the root `[engine:cases]` and a container for each table.
+#[derive(Drop)]
+pub struct CaseEngine<'a, F> {
+    function: &'a F,
+    tables: &'a [CaseTable<'a>],
+    lock: Need,
+    descriptors: Arc<Table>,
+    ghost described: { length (arc_value descriptors) ≡ length tables.now + 1 },
+    ghost few: { length tables.now < 65536 },
+}
+
+// Adds a container whose name is the value of its segment.
+fn add(
+    alloc: Global,
+    table: &mut Table,
+    parent: Option<u32>,
+    tag: &str,
+    name: &str,
+) -> Result<(), TableFault>
+    ensures { OnOk result ((length table.new ≡ length table.old + 1)
+        × (length table.new ≤ 65536)) }
+{
+    let segment = match Segment::new(alloc, tag, name) {
+        Ok(segment) => segment,
+        Err(fault) => return Err(TableFault::Id(fault)),
+    };
+    table.add(alloc, parent, &segment, name, DType::Container)?;
+    Ok(())
+}
+
+// The root and a container for each table.
+fn descriptors_of(alloc: Global, tables: &[CaseTable<'_>]) -> Result<Table, TableFault>
+    ensures { IfOk result (λ t. (length t ≡ length tables.now + 1) × (length t ≤ 65536)) }
+{
+    let mut table = Table::new(alloc);
+    add(alloc, &mut table, None, "engine", "cases")?;
+    for one in tables {
+        add(alloc, &mut table, Some(0), "table", one.name)?;
+    }
+    Ok(table)
+}
+
+impl<'a, F: Function + Sync> CaseEngine<'a, F> {
+    /// An engine that runs each table under the lock.
+    ///
+    /// # Errors
+    /// A table's name is empty, too long or that of another table, there are 65,536 tables, or memory was refused.
+    pub fn new(
+        alloc: Global,
+        function: &'a F,
+        tables: &'a [CaseTable<'a>],
+        lock: Need,
+    ) -> Result<CaseEngine<'a, F>, TableFault> {
+        let descriptors = Arc::new(alloc, descriptors_of(alloc, tables)?)?;
+        Ok(CaseEngine {
+            function,
+            tables,
+            lock,
+            descriptors,
+        })
+    }
+}
+
+// An event of the root.
+fn event_of_root(kind: Kind, payload: Payload) -> Event
+    ensures { result ≡ record { kind = kind; key = 0; stamp = 0; payload = payload } }
+{
+    Event {
+        kind,
+        key: 0,
+        stamp: 0,
+        payload,
+    }
+}
+
+impl<F: Function + Sync> Engine for CaseEngine<'_, F> {
+    ghost use Rattle.engine_testkit.specs.Kind.TheVariants.{Started, Finished};
+    ghost use Rattle.engine_testkit.specs.Status.TheVariants.{Successful};
+    ghost use Rattle.engine_testkit.specs.Payload.TheVariants.{Nothing, Outcome};
+    ghost use Rattle.example_engine.specs.Telling.{TellsTruth};
+
+    ghost table = { λ e. arc_value e.descriptors };
+
+    ghost units = { λ e. length e.tables.now };
+
+    ghost before = { λ e. record { kind = Started; key = 0; stamp = 0; payload = Nothing } ∷ [] };
+
+    ghost after = { λ e. record { kind = Finished; key = 0; stamp = 0; payload = Outcome Successful None } ∷ [] };
+
+    ghost need = { λ e u. e.lock };
+
+    ghost may = { λ e u w k l. IfSome (slice_get e.tables.now u)
+        (λ t. All (TellsTruth (F.value e.function.now) t.cases.now) l) };
+
+    fn table(&self) -> &Arc<Table> {
+        &self.descriptors
+    }
+
+    fn units(&self) -> u32 {
+        self.tables.len() as u32
+    }
+
+    fn before(&self, alloc: Global) -> Result<Vec<Event>, AllocError> {
+        Ok(vec![in alloc; event_of_root(Kind::Started, Payload::Nothing)]?)
+    }
+
+    fn after(&self, alloc: Global) -> Result<Vec<Event>, AllocError> {
+        let payload = Payload::Outcome(Status::Successful, None);
+        Ok(vec![in alloc; event_of_root(Kind::Finished, payload)]?)
+    }
+
+    fn need(&self, _unit: u32) -> Need {
+        self.lock
+    }
+
+    fn run<R: Wait, S: Sink>(
+        &self,
+        rt: &R,
+        alloc: Global,
+        unit: u32,
+        _seat: &BookSeat,
+        sink: &mut S,
+    ) -> Result<(), UnitFault> {
+        run_table(
+            rt,
+            alloc,
+            self.function,
+            self.tables[unit as usize],
+            unit + 1,
+            sink,
+        )
+    }
+}
