@@ -1,5 +1,4 @@
-//! The one library that an author of an engine names: it passes on the public names of the layers that serve an engine, and
-//! has none of its own. Plans and their reports stay in `tk_plan` and `tk_report`.
+//! The one library that an author of an engine names: it passes on the public names of all layers, and has none of its own.
 //!
 //! An engine implements [`Engine`] and emits into a [`Sink`]; [`execute`] runs it by 1 to [`MAX_WORKERS`] workers, and
 //! [`Results`] answers questions about what was recorded. `crates/example_engine` is an engine written so, with its tests.
@@ -60,6 +59,21 @@ pub use tk_ids::Table;
 pub use tk_ids::TableFault;
 pub use tk_ids::Text;
 pub use tk_ids::UniqueId;
+pub use tk_lanes::Flags;
+pub use tk_plan::Act;
+pub use tk_plan::Entries;
+pub use tk_plan::Files;
+pub use tk_plan::Lock;
+pub use tk_plan::Locks;
+pub use tk_plan::MAX_KEYS;
+pub use tk_plan::MAX_LEVELS;
+pub use tk_plan::Node;
+pub use tk_plan::NumberedNode;
+pub use tk_plan::Plan;
+pub use tk_plan::PlanFault;
+pub use tk_plan::Step;
+pub use tk_plan::count_events;
+pub use tk_plan::read_plan;
 pub use tk_query::CondFault;
 pub use tk_query::Condition;
 pub use tk_query::Ending;
@@ -117,6 +131,12 @@ pub use tk_record::read_u64;
 pub use tk_record::write_field;
 pub use tk_record::write_record;
 pub use tk_record::write_tail;
+pub use tk_report::CAPACITY;
+pub use tk_report::ReportFault;
+pub use tk_report::Scripted;
+pub use tk_report::plan_report;
+pub use tk_report::write_report;
+pub use tk_report::write_report_of;
 pub use tk_streams::Broken;
 pub use tk_streams::ByteSource;
 pub use tk_streams::ByteTarget;
