@@ -92,7 +92,7 @@ impl<F: Function + Sync> Engine for CaseEngine<'_, F> {
     ghost use Rattle.engine_testkit.specs.Kind.TheVariants.{Started, Finished};
     ghost use Rattle.engine_testkit.specs.Status.TheVariants.{Successful};
     ghost use Rattle.engine_testkit.specs.Payload.TheVariants.{Nothing, Outcome};
-    ghost use Rattle.example_engine.specs.Telling.{TellsTruth};
+    ghost use Rattle.example_engine.specs.Soundness.{IsSound};
 
     ghost table = { λ e. arc_value e.descriptors };
 
@@ -105,7 +105,7 @@ impl<F: Function + Sync> Engine for CaseEngine<'_, F> {
     ghost need = { λ e u. e.lock };
 
     ghost may = { λ e u w k l. IfSome (slice_get e.tables.now u)
-        (λ t. All (TellsTruth (F.value e.function.now) t.cases.now) l) };
+        (λ t. All (IsSound (F.value e.function.now) t.cases.now) l) };
 
     fn table(&self) -> &Arc<Table> {
         &self.descriptors

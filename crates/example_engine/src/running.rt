@@ -3,7 +3,7 @@ ghost use Rattle.std.specs.Prelude.{◌≡◌, ◌<◌, None, length, IfOk};
 ghost use Rattle.engine_testkit.specs.Grown.{GrewBy};
 ghost use Rattle.engine_testkit.specs.Status.TheVariants.{Successful};
 ghost use Rattle.engine_testkit.specs.Payload.TheVariants.{Outcome};
-ghost use Rattle.example_engine.specs.Telling.{TellsTruth};
+ghost use Rattle.example_engine.specs.Soundness.{IsSound};
 
 use crate::cases::{Case, CaseTable, Function};
 use engine_testkit::{DType, Event, Kind, Pairs, Payload, Segment, Sink, Status, Text, UnitFault};
@@ -45,8 +45,8 @@ fn emit<F: Function, R: Wait, S: Sink>(
     event: Event,
     sink: &mut S,
 ) -> Result<(), UnitFault>
-    requires { TellsTruth (F.value function.now) cases.now event }
-    ensures { GrewBy (TellsTruth (F.value function.now) cases.now)
+    requires { IsSound (F.value function.now) cases.now event }
+    ensures { GrewBy (IsSound (F.value function.now) cases.now)
         (S.meaning sink.old) (S.meaning sink.new) }
 {
     let (_, _) = (function, cases);
@@ -65,7 +65,7 @@ fn register<F: Function, R: Wait, S: Sink>(
     container: u32,
     sink: &mut S,
 ) -> Result<u32, UnitFault>
-    ensures { GrewBy (TellsTruth (F.value function.now) cases.now)
+    ensures { GrewBy (IsSound (F.value function.now) cases.now)
         (S.meaning sink.old) (S.meaning sink.new) }
 {
     let (_, _) = (function, cases);
@@ -96,7 +96,7 @@ fn run_case<F: Function, R: Wait, S: Sink>(
     sink: &mut S,
 ) -> Result<(), UnitFault>
     requires { index < length cases.now }
-    ensures { GrewBy (TellsTruth (F.value function.now) cases.now)
+    ensures { GrewBy (IsSound (F.value function.now) cases.now)
         (S.meaning sink.old) (S.meaning sink.new) }
 {
     let stamp = index as u64;
@@ -128,7 +128,7 @@ fn emit_of_table<F: Function, R: Wait, S: Sink>(
     payload: Payload,
     sink: &mut S,
 ) -> Result<(), UnitFault>
-    ensures { GrewBy (TellsTruth (F.value function.now) cases.now)
+    ensures { GrewBy (IsSound (F.value function.now) cases.now)
         (S.meaning sink.old) (S.meaning sink.new) }
 {
     let stamp = cases.len() as u64;
@@ -156,7 +156,7 @@ fn run_cases<F: Function, R: Wait, S: Sink>(
     container: u32,
     sink: &mut S,
 ) -> Result<(), UnitFault>
-    ensures { GrewBy (TellsTruth (F.value function.now) table.entry.cases.now)
+    ensures { GrewBy (IsSound (F.value function.now) table.entry.cases.now)
         (S.meaning sink.old) (S.meaning sink.new) }
 {
     let cases = table.cases;
@@ -179,7 +179,7 @@ pub(crate) fn run_table<F: Function, R: Wait, S: Sink>(
     key: u32,
     sink: &mut S,
 ) -> Result<(), UnitFault>
-    ensures { GrewBy (TellsTruth (F.value function.now) table.entry.cases.now)
+    ensures { GrewBy (IsSound (F.value function.now) table.entry.cases.now)
         (S.meaning sink.old) (S.meaning sink.new) }
 {
     let cases = table.cases;

@@ -31,7 +31,7 @@ fn verdict<R: Threads + Wait + Sync>(
 }
 
 #[test]
-fn defects_are_told(rt: HostRuntime) {
+fn defects_are_found(rt: HostRuntime) {
     let no_failure = Mismatch {
         selection: Selection::Failed,
         expected: 1,

@@ -14,7 +14,7 @@ fn asking_breaks(alloc: Global, words: &[String], breaks_at: usize) -> bool {
     target.bytes().is_empty() && matches!(answer, Err(AskFault::Read(ReadFault::Device)))
 }
 
-/// The call after the last byte tells of the end.
+/// The call after the last byte answers that the end is reached.
 #[test]
 fn reading_at_each_call(rt: HostRuntime) -> Result<(), AllocError> {
     let words = vec![in rt.alloc(); String::from_str(rt.alloc(), "stats")?]?;

@@ -26,7 +26,7 @@ impl Seated<'_> {
         self.seat.holds().is_some()
     }
 
-    // Whether the need is not to be had beside what the book's word tells, and the seat holds nothing.
+    // Whether the need conflicts with what the book's word holds, and the seat holds nothing.
     fn finds(&mut self, word: u64, need: Need) -> bool {
         if self.seat.holds().is_some() {
             return false;

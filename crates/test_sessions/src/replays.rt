@@ -144,7 +144,7 @@ fn is_device<S: Source, T: Target>(alloc: Global, source: &mut S, target: &mut T
     matches!(replay_text(alloc, source, target), Err(ReplayFault::Device))
 }
 
-// Whether a replay of a source that breaks at a call tells so, and writes nothing.
+// Whether a replay of a source that breaks at a call answers so, and writes nothing.
 fn reading_breaks(alloc: Global, breaks_at: usize) -> bool {
     let mut source = OneByteSource::new(small_replay(), breaks_at);
     let mut target = ByteTarget::new(alloc);

@@ -18,7 +18,7 @@ import org.junit.platform.engine.reporting.ReportEntry;
 import org.junit.platform.engine.support.descriptor.AbstractTestDescriptor;
 import org.junit.platform.engine.support.descriptor.EngineDescriptor;
 
-/** An engine that tells what Jupiter seldom or never does: odd ids, texts and messages, and forty threads. */
+/** An engine that reports what Jupiter seldom or never does: odd ids, texts and messages, and forty threads. */
 class OddEngine implements TestEngine {
 
     private static final int THREADS = 40;
