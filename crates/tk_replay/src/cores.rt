@@ -44,7 +44,7 @@ impl Model for Core {
 }
 
 impl Core {
-    /// A queue of `workers` workers, of whom none emitted anything.
+    /// The core of `workers` workers, with no item and no worker that has ended.
     pub fn new(alloc: Global, workers: u8) -> Core
         requires { (0 < workers) × (workers ≤ MAX_WORKERS) }
         ensures { result ≡ fresh workers }
