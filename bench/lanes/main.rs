@@ -1,5 +1,5 @@
 //! Times the kernels of tk_lanes beside plain Rust loops over 16 MiB of bytes (or as many numbers, or bits).
-//! Each figure is the best of nine runs; each answer is compared with the plain loop's.
+//! Each figure is the median of nine runs; each answer is compared with the plain loop's.
 use std::hint::black_box;
 use std::time::Instant;
 
@@ -114,19 +114,23 @@ fn admits(word: u64, need: u64) -> bool {
 
 // ---- The measure
 
-/// The least milliseconds of nine runs of each, taken in turn, so that both meet the same load.
-fn best(mut ours: impl FnMut(), mut plain: impl FnMut()) -> (f64, f64) {
-    let mut least = (f64::MAX, f64::MAX);
+/// The median of the milliseconds of nine runs of each, taken in turn, so that both meet the same load.
+fn median(mut ours: impl FnMut(), mut plain: impl FnMut()) -> (f64, f64) {
     let time = |f: &mut dyn FnMut()| {
         let start = Instant::now();
         f();
         start.elapsed().as_secs_f64() * 1e3
     };
+    let (mut first, mut second) = (Vec::new(), Vec::new());
     for _ in 0..9 {
-        least.0 = least.0.min(time(&mut ours));
-        least.1 = least.1.min(time(&mut plain));
+        first.push(time(&mut ours));
+        second.push(time(&mut plain));
     }
-    least
+    let middle = |times: &mut Vec<f64>| {
+        times.sort_by(f64::total_cmp);
+        times[times.len() / 2]
+    };
+    (middle(&mut first), middle(&mut second))
 }
 
 fn line(name: &str, (ours, plain): (f64, f64)) {
@@ -149,39 +153,39 @@ fn main() {
         let numbers: Vec<u32> = items.iter().map(|item| *item as u32).collect();
         let (mut a, mut b) = (vec![0u64; m], vec![0u64; m]);
         let (mut c, mut d) = (0, 0);
-        line("count_byte", best(|| c = unsafe { lanes_count_byte(black_box(items.as_ptr()), n, 3) }, || d = count(black_box(&items), 3)));
+        line("count_byte", median(|| c = unsafe { lanes_count_byte(black_box(items.as_ptr()), n, 3) }, || d = count(black_box(&items), 3)));
         assert_eq!(c, d);
-        line("mask_byte (bit by bit)", best(|| unsafe { lanes_mask_byte(black_box(items.as_ptr()), n, 3, a.as_mut_ptr(), m) }, || mask(black_box(&items), 3, &mut b)));
+        line("mask_byte (bit by bit)", median(|| unsafe { lanes_mask_byte(black_box(items.as_ptr()), n, 3, a.as_mut_ptr(), m) }, || mask(black_box(&items), 3, &mut b)));
         assert_eq!(a, b);
-        line("mask_byte (word by word)", best(|| unsafe { lanes_mask_byte(black_box(items.as_ptr()), n, 3, a.as_mut_ptr(), m) }, || mask_words(black_box(&items), &mut b, |x| x == black_box(3))));
+        line("mask_byte (word by word)", median(|| unsafe { lanes_mask_byte(black_box(items.as_ptr()), n, 3, a.as_mut_ptr(), m) }, || mask_words(black_box(&items), &mut b, |x| x == black_box(3))));
         assert_eq!(a, b);
-        line("mask_flag (word by word)", best(|| unsafe { lanes_mask_flag(black_box(items.as_ptr()), n, 3, a.as_mut_ptr(), m) }, || mask_words(black_box(&items), &mut b, |x| x & 3 != 0)));
+        line("mask_flag (word by word)", median(|| unsafe { lanes_mask_flag(black_box(items.as_ptr()), n, 3, a.as_mut_ptr(), m) }, || mask_words(black_box(&items), &mut b, |x| x & 3 != 0)));
         assert_eq!(a, b);
-        line("mask_u32 (word by word)", best(|| unsafe { lanes_mask_u32(black_box(numbers.as_ptr()), n, 3, a.as_mut_ptr(), m) }, || mask_words(black_box(&numbers), &mut b, |x| x == 3)));
+        line("mask_u32 (word by word)", median(|| unsafe { lanes_mask_u32(black_box(numbers.as_ptr()), n, 3, a.as_mut_ptr(), m) }, || mask_words(black_box(&numbers), &mut b, |x| x == 3)));
         assert_eq!(a, b);
         let (mut o, mut q) = (vec![0u8; n], vec![0u8; n]);
-        line("gather", best(|| c = unsafe { lanes_gather(black_box(items.as_ptr()), n, a.as_ptr(), m, o.as_mut_ptr(), n) }, || d = gather(black_box(&items), &a, &mut q)));
+        line("gather", median(|| c = unsafe { lanes_gather(black_box(items.as_ptr()), n, a.as_ptr(), m, o.as_mut_ptr(), n) }, || d = gather(black_box(&items), &a, &mut q)));
         assert_eq!((c, &o[..c]), (d, &q[..d]));
-        line("ones", best(|| c = unsafe { lanes_ones(black_box(a.as_ptr()), m) }, || d = ones(black_box(&a))));
+        line("ones", median(|| c = unsafe { lanes_ones(black_box(a.as_ptr()), m) }, || d = ones(black_box(&a))));
         assert_eq!(c, d);
         let others: Vec<u64> = (0..m).map(|_| next()).collect();
-        line("and_into", best(|| unsafe { lanes_and_into(a.as_mut_ptr(), m, black_box(others.as_ptr()), m) }, || and(&mut b, black_box(&others))));
+        line("and_into", median(|| unsafe { lanes_and_into(a.as_mut_ptr(), m, black_box(others.as_ptr()), m) }, || and(&mut b, black_box(&others))));
         assert_eq!(a, b);
-        line("or_into", best(|| unsafe { lanes_or_into(a.as_mut_ptr(), m, black_box(others.as_ptr()), m) }, || or(&mut b, black_box(&others))));
+        line("or_into", median(|| unsafe { lanes_or_into(a.as_mut_ptr(), m, black_box(others.as_ptr()), m) }, || or(&mut b, black_box(&others))));
         assert_eq!(a, b);
-        line("not_into", best(|| unsafe { lanes_not_into(a.as_mut_ptr(), m, black_box(n)) }, || not(&mut b, black_box(n))));
+        line("not_into", median(|| unsafe { lanes_not_into(a.as_mut_ptr(), m, black_box(n)) }, || not(&mut b, black_box(n))));
         assert_eq!(a, b);
     }
     let mut last = vec![0u64; m];
     last[m - 1] = 1 << 63;
     let (mut c, mut d) = (0, 0);
     println!(" one call over a mask of 16 Mi bits whose last one is set; 2^20 calls");
-    line("first_from", best(|| c = unsafe { lanes_first_from(black_box(last.as_ptr()), m, 0) }, || d = first_from(black_box(&last), 0)));
+    line("first_from", median(|| c = unsafe { lanes_first_from(black_box(last.as_ptr()), m, 0) }, || d = first_from(black_box(&last), 0)));
     assert_eq!(c, d);
     let words = (0..1u64 << 20).map(|i| i.wrapping_mul(0x9E3779B97F4A7C15));
     line(
         "admits",
-        best(
+        median(
             || c = words.clone().filter(|word| unsafe { lanes_admits(black_box(*word), black_box(0x1111)) }).count(),
             || d = words.clone().filter(|word| admits(black_box(*word), black_box(0x1111))).count(),
         ),

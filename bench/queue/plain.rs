@@ -1,12 +1,14 @@
-// Events a second through a plain bounded queue: a `VecDeque` under a `Mutex`. Whoever waits does so at a `Condvar`, or with the argument `yield` spins
-// and then yields, as the session does. What is taken is pushed into seven columns, as the record keeps them.
+// Events a second through a plain bounded queue: a `VecDeque` under a `Mutex`. Whoever waits does so at a `Condvar`, or with the
+// argument `yield` spins and then yields, as the session does. With the argument `batch` the receiver takes all that is there
+// at once, and sleeps until half of the places are taken or a sender has ended. What is taken is pushed into seven columns, as
+// the record keeps them.
 use std::collections::VecDeque;
 use std::sync::{Arc, Condvar, Mutex};
 use std::time::Instant;
 
-const EVENTS: u64 = 250_000;
+const EVENTS: u64 = 50_000;
 const CAPACITY: usize = 64;
-const ROUNDS: u32 = 5;
+const ROUNDS: u32 = 3;
 
 #[allow(dead_code)]
 #[derive(Clone, Copy, PartialEq)]
@@ -21,7 +23,10 @@ struct Entry { worker: u8, event: Event }
 
 enum Item { Entry(Entry), End }
 
-struct Queue { items: Mutex<VecDeque<Item>>, room: Condvar, some: Condvar, yields: bool }
+#[derive(Clone, Copy, PartialEq)]
+enum Waiting { Sleeps, Yields, Batches }
+
+struct Queue { items: Mutex<VecDeque<Item>>, room: Condvar, some: Condvar, waiting: Waiting }
 
 fn snooze(step: &mut u32) {
     if *step <= 6 {
@@ -34,7 +39,7 @@ fn snooze(step: &mut u32) {
 
 impl Queue {
     fn push(&self, item: Item) {
-        if self.yields {
+        if self.waiting == Waiting::Yields {
             let mut step = 0;
             loop {
                 let mut items = self.items.lock().unwrap();
@@ -45,12 +50,24 @@ impl Queue {
         }
         let mut items = self.items.lock().unwrap();
         while items.len() >= CAPACITY { items = self.room.wait(items).unwrap(); }
+        let is_end = matches!(item, Item::End);
         items.push_back(item);
+        let wakes = self.waiting == Waiting::Sleeps || is_end || items.len() == CAPACITY / 2 || items.len() == CAPACITY;
         drop(items);
-        self.some.notify_one();
+        if wakes { self.some.notify_one(); }
+    }
+    /// Takes all items in place of these, which are none: at least half of a full queue, or an end.
+    fn take_all(&self, taken: &mut VecDeque<Item>) {
+        let mut items = self.items.lock().unwrap();
+        while items.len() < CAPACITY / 2 && !matches!(items.back(), Some(Item::End)) {
+            items = self.some.wait(items).unwrap();
+        }
+        std::mem::swap(&mut *items, taken);
+        drop(items);
+        self.room.notify_all();
     }
     fn pop(&self) -> Item {
-        if self.yields {
+        if self.waiting == Waiting::Yields {
             let mut step = 0;
             loop {
                 if let Some(item) = self.items.lock().unwrap().pop_front() { return item; }
@@ -88,10 +105,14 @@ impl Record {
 }
 
 fn main() {
-    let yields = std::env::args().any(|word| word == "yield");
-    for workers in 1..5u8 {
+    let waiting = match std::env::args().nth(1).as_deref() {
+        Some("yield") => Waiting::Yields,
+        Some("batch") => Waiting::Batches,
+        _ => Waiting::Sleeps,
+    };
+    for workers in [1, 2, 4, 8u8] {
         for _ in 0..ROUNDS {
-            let queue = Arc::new(Queue { items: Mutex::new(VecDeque::with_capacity(CAPACITY)), room: Condvar::new(), some: Condvar::new(), yields });
+            let queue = Arc::new(Queue { items: Mutex::new(VecDeque::with_capacity(CAPACITY)), room: Condvar::new(), some: Condvar::new(), waiting });
             let begun = Instant::now();
             let threads: Vec<_> = (1..=workers).map(|worker| {
                 let queue = queue.clone();
@@ -103,10 +124,14 @@ fn main() {
                 })
             }).collect();
             let (mut record, mut entries, mut ends) = (Record::default(), 0u64, 0);
+            let mut taken = VecDeque::with_capacity(CAPACITY);
             while ends < workers {
-                match queue.pop() {
-                    Item::Entry(entry) => if record.append(&[2], entry) { entries += 1 },
-                    Item::End => ends += 1,
+                if waiting == Waiting::Batches { queue.take_all(&mut taken) } else { taken.push_back(queue.pop()) }
+                for item in taken.drain(..) {
+                    match item {
+                        Item::Entry(entry) => if record.append(&[2], entry) { entries += 1 },
+                        Item::End => ends += 1,
+                    }
                 }
             }
             println!("{workers} {entries} {}", begun.elapsed().as_micros());

@@ -1,6 +1,5 @@
 //! The engine.
-ghost use Rattle.std.specs.Prelude.{◌≡◌, ◌+◌, ◌<◌, [], ◌∷◌, None, length, ◌≤◌, slice_get, All, IfOk, IfSome, OnOk};
-ghost use Rattle.std.specs.Arc.{arc_value};
+ghost use Rattle.std.specs.Prelude.{◌≡◌, ◌+◌, [], ◌∷◌, None, length, ◌≤◌, slice_get, All, IfOk, IfSome, OnOk};
 
 use crate::cases::{CaseTable, Function};
 use crate::running::run_table;
@@ -9,6 +8,7 @@ use engine_testkit::{
     UnitFault,
 };
 use std::alloc::{AllocError, Global};
+use std::marker::Model;
 use std::sync::{Arc, Wait};
 
 /// An engine whose units are tables of cases of one function, each with a lock on what the function works with.
@@ -20,8 +20,19 @@ pub struct CaseEngine<'a, F> {
     tables: &'a [CaseTable<'a>],
     lock: Need,
     descriptors: Arc<Table>,
-    ghost described: { length (arc_value descriptors) ≡ length tables.now + 1 },
-    ghost few: { length tables.now < 65536 },
+}
+
+impl<'a, F: Function> Model for CaseEngine<'a, F> {
+    ghost use Rattle.std.specs.Prelude.{◌≡◌, ◌+◌, ◌<◌, length};
+    ghost use Rattle.std.specs.Arc.{arc_value};
+    ghost use Rattle.example_engine.specs.Suites.{Suite};
+
+    ghost Value = { Suite };
+
+    ghost view = { λ e. record { value = F.value e.function.now; tables = e.tables.now; need = e.lock; descriptors = arc_value e.descriptors } };
+
+    ghost invariant = { λ e. (length (arc_value e.descriptors) ≡ length e.tables.now + 1)
+        × (length e.tables.now < 65536) };
 }
 
 // Adds a container whose name is the value of its segment.
@@ -65,7 +76,11 @@ impl<'a, F: Function + Sync> CaseEngine<'a, F> {
         function: &'a F,
         tables: &'a [CaseTable<'a>],
         lock: Need,
-    ) -> Result<CaseEngine<'a, F>, TableFault> {
+    ) -> Result<CaseEngine<'a, F>, TableFault>
+        ensures function { IfOk result (λ engine. engine.value ≡ F.value function.now) }
+        ensures tables { IfOk result (λ engine. engine.tables ≡ tables.now) }
+        ensures need { IfOk result (λ engine. engine.need ≡ lock) }
+    {
         let descriptors = Arc::new(alloc, descriptors_of(alloc, tables)?)?;
         Ok(CaseEngine {
             function,
@@ -94,18 +109,18 @@ impl<F: Function + Sync> Engine for CaseEngine<'_, F> {
     ghost use Rattle.engine_testkit.specs.Payload.TheVariants.{Nothing, Outcome};
     ghost use Rattle.example_engine.specs.Soundness.{IsSound};
 
-    ghost table = { λ e. arc_value e.descriptors };
+    ghost table = { λ e. e.descriptors };
 
-    ghost units = { λ e. length e.tables.now };
+    ghost units = { λ e. length e.tables };
 
     ghost before = { λ e. record { kind = Started; key = 0; stamp = 0; payload = Nothing } ∷ [] };
 
     ghost after = { λ e. record { kind = Finished; key = 0; stamp = 0; payload = Outcome Successful None } ∷ [] };
 
-    ghost need = { λ e u. e.lock };
+    ghost need = { λ e u. e.need };
 
-    ghost may = { λ e u w k l. IfSome (slice_get e.tables.now u)
-        (λ t. All (IsSound (F.value e.function.now) t.cases.now) l) };
+    ghost may = { λ e u w k l. IfSome (slice_get e.tables u)
+        (λ t. All (IsSound e.value t.cases.now) l) };
 
     fn table(&self) -> &Arc<Table> {
         &self.descriptors

@@ -124,7 +124,7 @@ fn mismatches(alloc: Global, results: &Results) -> Option<usize> {
 fn has_failed(alloc: Global, results: &Results, message: &str) -> Option<bool> {
     let failed = [Condition::Failed(Some(Text::copy(alloc, message).ok()?))];
     let tests = results.test_events(alloc).ok()?;
-    Some(matches!(match_loosely(&tests, &failed), Ok(Loose::Yes)))
+    Some(matches!(match_loosely(alloc, &tests, &failed), Ok(Loose::Yes)))
 }
 
 // What the first test's events are matched with, exactly and in order.

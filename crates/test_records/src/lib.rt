@@ -1,5 +1,5 @@
-//! Records from their texts to what is asked of them: streams, entries, texts, selections, matches,
-//! executions and reports.
+//! From values to what is asked of records: lanes, ids and tables, streams, entries, texts, selections,
+//! matches, executions and reports.
 #![tactic(auto)]
 
 #[cfg(test)]
@@ -15,6 +15,10 @@ mod executions;
 #[cfg(test)]
 mod faults;
 #[cfg(test)]
+mod ids;
+#[cfg(test)]
+mod lanes;
+#[cfg(test)]
 mod loading;
 #[cfg(test)]
 mod matches;
@@ -26,5 +30,9 @@ mod reports;
 mod selections;
 #[cfg(test)]
 mod std_devices;
+#[cfg(test)]
+mod table_refusals;
+#[cfg(test)]
+mod tables;
 #[cfg(test)]
 mod texts;

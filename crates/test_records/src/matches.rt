@@ -8,7 +8,7 @@ use tk_query::{Condition, Exact, InOrder, Loose, match_exactly, match_in_order, 
 fn match_all(alloc: Global, events: &Events<'_>, list: &[Condition]) -> bool {
     let in_order = match_in_order(alloc, events, list);
     matches!(match_exactly(alloc, events, list), Ok(Exact::Yes))
-        && matches!(match_loosely(events, list), Ok(Loose::Yes))
+        && matches!(match_loosely(alloc, events, list), Ok(Loose::Yes))
         && matches!(in_order, Ok(InOrder::Yes(positions)) if positions.as_slice() == [1, 2].as_slice())
 }
 
@@ -16,7 +16,7 @@ fn match_all(alloc: Global, events: &Events<'_>, list: &[Condition]) -> bool {
 fn match_loosely_alone(alloc: Global, events: &Events<'_>, list: &[Condition]) -> bool {
     let in_order = match_in_order(alloc, events, list);
     matches!(match_exactly(alloc, events, list), Ok(Exact::No(0)))
-        && matches!(match_loosely(events, list), Ok(Loose::Yes))
+        && matches!(match_loosely(alloc, events, list), Ok(Loose::Yes))
         && matches!(in_order, Ok(InOrder::No(1)))
 }
 

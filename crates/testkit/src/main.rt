@@ -1,4 +1,5 @@
-//! The program: answers questions about a record text, replays a script of the event queue, and runs a plan for its report.
+//! The program: answers questions about a record text, replays a script of the event queue, and
+//! runs a plan for its report.
 #![tactic(auto)]
 
 use std::process::ExitCode;

@@ -32,8 +32,9 @@ fn answer_about<S: Source>(
 }
 
 /// Answers the question that the words ask about the record whose text the source gives, and says
-/// whether the answer is a yes: false where a match says no, or an expectation fails. The words
-/// are judged before the input is read, and nothing is written before the answer is whole.
+/// whether the answer is a yes: false where a match says no, or an expectation fails.
+///
+/// The words are judged before the input is read, and nothing is written before the answer is whole.
 pub fn ask<S: Source, T: Target>(
     alloc: Global,
     words: &[String],
@@ -41,7 +42,8 @@ pub fn ask<S: Source, T: Target>(
     target: &mut T,
 ) -> Result<bool, AskFault>
     ensures answer { IfOk result (λ is_yes. IfSome (S.remaining source.old) (λ input.
-        AddsAnswer (map string_bytes words.now) input is_yes (T.contents target.old) (T.contents target.new))) }
+        AddsAnswer (map string_bytes words.now) input is_yes
+        (T.contents target.old) (T.contents target.new))) }
     ensures end { OnOk result (IsAtEnd (S.remaining source.new)) }
     ensures unread { IfErr result (λ fault. IsOfWords fault → source.new ≡ source.old) }
     ensures refusal { IfErr result (λ fault.
@@ -50,8 +52,10 @@ pub fn ask<S: Source, T: Target>(
         (fault ≡ AskFault.Device) ⊎ (T.contents target.new ≡ T.contents target.old)) }
     ensures device { IsErrOf result AskFault.Device → T.broken target.new ≡ true }
     ensures prefix { IsErrOf result AskFault.Device → IfSome (S.remaining source.old) (λ input.
-        AddsPrefix (map string_bytes words.now) input (T.contents target.old) (T.contents target.new)) }
-    ensures source_device { result ≡ Err (AskFault.Read read_faults.Device) → S.broken source.new ≡ true }
+        AddsPrefix (map string_bytes words.now) input
+        (T.contents target.old) (T.contents target.new)) }
+    ensures source_device { result ≡ Err (AskFault.Read read_faults.Device)
+        → S.broken source.new ≡ true }
 {
     let question = read_question(alloc, words)?;
     let answer = answer_about(alloc, source, &question)?;

@@ -9,7 +9,8 @@ use tk_record::{Expected, Selection, read_number};
 /// The statistic and the number of a word NAME=N.
 fn read_expectation(word: &str) -> Option<(Selection, u64)>
     ensures some { IfSome result (λ named. IsExpectation word.now named.0 named.1) }
-    ensures none { IfNone result ((selection : Selection) (n : ℕ) → ¬ IsExpectation word.now selection n) }
+    ensures none { IfNone result ((selection : Selection) (n : ℕ)
+        → ¬ IsExpectation word.now selection n) }
 {
     let Some((name, number)) = word.split_once('=') else {
         return None;
@@ -23,7 +24,8 @@ fn read_expectation(word: &str) -> Option<(Selection, u64)>
     Some((selection, number))
 }
 
-/// Expects a number too. None where the selection is no statistic, or a number is expected of it already.
+/// Expects a number of a selection too. None where that is no statistic, or a number is expected of
+/// it already.
 fn expect_too(expected: Expected, selection: Selection, number: u64) -> Option<Expected>
     ensures { result ≡ expecting expected selection number }
 {
@@ -38,7 +40,7 @@ fn expect_too(expected: Expected, selection: Selection, number: u64) -> Option<E
     }
 }
 
-/// Expects what a word says too.
+/// Adds the expectation of a word.
 fn expect_word(expected: Expected, word: &str) -> Option<Expected>
     ensures { IsNextExpected expected word.now result }
 {

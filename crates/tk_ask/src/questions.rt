@@ -46,9 +46,10 @@ impl Mode {
     }
 }
 
-/// The conditions of the words, of which the first has the given number.
+/// The conditions that the words spell, which follow the mode's name.
 fn read_conditions(alloc: Global, words: &[String]) -> Result<Vec<Condition>, AskFault>
-    ensures ok { IfOk result (λ conditions. AreConditions (map string_bytes words.now) conditions.items) }
+    ensures ok { IfOk result (λ conditions.
+        AreConditions (map string_bytes words.now) conditions.items) }
     ensures err { IfErr result (λ fault. IsConditionFault (map string_bytes words.now) fault) }
 {
     let mut conditions = Vec::new(alloc);

@@ -2,10 +2,10 @@
 use Rattle.std.specs.Prelude.{◌≡◌, ◌<◌, [], ◌∷◌}
 use Rattle.tk_book.specs.declared.books.Book.TheInside as book
 use Rattle.tk_book.specs.declared.books.BookSeat.TheInside as seat
-use Rattle.tk_book.specs.Books.{BookName, Holder}
+use Rattle.tk_book.specs.Books.{BookName, book_name, Holder}
 
 abbrev pub name_of : book.Inside → BookName
-name_of b = record { table = b.table.shared.table_id; seats = b.table.shared.key }
+name_of b = book_name b.table.shared.table_id b.table.shared.key
 
 -- a table of one word, with a seat at least
 pub record IsBook (b : book.Inside) : Type 0 where
@@ -14,7 +14,11 @@ pub record IsBook (b : book.Inside) : Type 0 where
   pub some_seat : 0 < b.table.shared.key
 
 abbrev pub holder_of : seat.Inside → Holder
-holder_of s = record { book = record { table = s.seat.table_id; seats = s.seat.me.0.seats }; holds = s.held; read = s.seat.me.0.seen }
+holder_of s = record {
+  book = book_name s.seat.table_id s.seat.me.0.seats;
+  holds = s.held;
+  read = s.seat.me.0.seen;
+}
 
 -- one seat of the table, whose view has what it holds
 pub record IsHolder (s : seat.Inside) : Type 0 where

@@ -4,7 +4,7 @@ use Rattle.std.specs.List.{AllPairs}
 use Rattle.tk_book.specs.Wants.{Wants}
 use Rattle.tk_book.specs.Needs.{Access, nothing, writes, access, Conflict, lane, word_of}
 
--- no conflict stands between what two seats hold
+-- what two seats hold doesn't conflict
 abbrev pub Agree : Option Wants → Option Wants → Type 0
 Agree (Some n) (Some m) = Conflict n m → ⊥
 Agree a b = Unit {0}
@@ -20,19 +20,26 @@ held_access (Some n) r = access n r
 
 -- where one seat writes a resource, no other reads or writes it
 abbrev pub WritersAreAlone : List (Option Wants) → Type 0
-WritersAreAlone held = (i j r : ℕ) (h k : Option Wants) → i ≢ j → r < 16 → slice_get held i ≡ Some h → slice_get held j ≡ Some k → held_access h r ≡ writes → held_access k r ≡ nothing
+WritersAreAlone held =
+    (i j r : ℕ) (h k : Option Wants) → i ≢ j → r < 16
+    → slice_get held i ≡ Some h → slice_get held j ≡ Some k
+    → held_access h r ≡ writes → held_access k r ≡ nothing
 
 -- the seat exists and is empty, and the need conflicts with no other seat's
 abbrev pub MayTake : List (Option Wants) → ℕ → Wants → Type 0
 MayTake held seat n = (slice_get held seat ≡ Some None) × All (Agree (Some n)) held
 
--- The step of a grant: the seat may take the need, and holds it afterwards. All others hold what they held.
-pub record Grants (old : List (Option Wants)) (seat : ℕ) (n : Wants) (new : List (Option Wants)) : Type 0 where
+-- The step of a grant: the seat may take the need, and holds it afterwards. All others hold what
+-- they held.
+pub record Grants (old : List (Option Wants)) (seat : ℕ) (n : Wants) (new : List (Option Wants))
+    : Type 0 where
   pub may_take : MayTake old seat n
   pub after : new ≡ slice_set old seat (Some n)
 
--- The step of a release: the seat held the need, and holds nothing afterwards. All others hold what they held.
-pub record Releases (old : List (Option Wants)) (seat : ℕ) (n : Wants) (new : List (Option Wants)) : Type 0 where
+-- The step of a release: the seat held the need, and holds nothing afterwards. All others hold what
+-- they held.
+pub record Releases (old : List (Option Wants)) (seat : ℕ) (n : Wants) (new : List (Option Wants))
+    : Type 0 where
   pub held : slice_get old seat ≡ Some (Some n)
   pub after : new ≡ slice_set old seat None
 

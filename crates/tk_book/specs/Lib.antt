@@ -8,3 +8,4 @@ pub mod BookViews
 pub mod LockWord
 pub mod Steps
 pub mod Tries
+pub mod FaultTexts

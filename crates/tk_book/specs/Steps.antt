@@ -1,4 +1,5 @@
--- What the steps of a book do to what its seats hold. `holds` is the rule of its word, and `tells` what a step tells.
+-- What the steps of a book do to what its seats hold. `holds` is the rule of the book's word, and
+-- `tells` is what a step tells of the word and of its seat.
 use Rattle.std.specs.Prelude.{◌≡◌, ◌≢◌, ℕ, ◌<◌, ◌≤◌, List, [], ◌∷◌, None, Some, length, sum_by, take, slice_set}
 use mathlib.Core.Option.{none, some}
 use lib.ListN.{get_elem?}
@@ -12,8 +13,8 @@ use Rattle.tk_book.specs.declared.rules.SeatNote.{SeatNote}
 abbrev pub holding_index : List SeatNote → ℕ → ℕ
 holding_index views id = length (holdings (take id views))
 
--- Between any two steps the word is the sum of the words of what the seats hold, no lane's sum is above 15, and no two
--- seats' needs conflict.
+-- Between any two steps the word is the sum of the words of what the seats hold, no lane's sum is
+-- above 15, and no two seats' needs conflict.
 abbrev pub IsSumOfHoldings : (ℕ → State Wants SeatNote → Type 0) → Type 0
 IsSumOfHoldings holds = (seats : ℕ) (s : State Wants SeatNote) → holds seats s
     → (s.words ≡ sum_by held_word (holdings s.views) ∷ [])
@@ -21,29 +22,46 @@ IsSumOfHoldings holds = (seats : ℕ) (s : State Wants SeatNote) → holds seats
     × Lawful (holdings s.views)
 
 -- an exchange that finds the word that it expects is a grant of the need that it was given
-abbrev pub ExchangeIsGrant : (ℕ → State Wants SeatNote → Type 0) → (Step Wants → Me Wants SeatNote → ℕ → Me Wants SeatNote → Type 0) → Type 0
-ExchangeIsGrant holds tells = (seats slots id old new : ℕ) (n : Wants) (me : Me Wants SeatNote) (s : State Wants SeatNote) (w : SeatNote) (a : Act Wants)
+abbrev pub ExchangeIsGrant :
+    (ℕ → State Wants SeatNote → Type 0) →
+    (Step Wants → Me Wants SeatNote → ℕ → Me Wants SeatNote → Type 0) → Type 0
+ExchangeIsGrant holds tells =
+    (seats slots id old new : ℕ) (n : Wants) (me : Me Wants SeatNote)
+    (s : State Wants SeatNote) (w : SeatNote) (a : Act Wants)
     → holds seats s → get_elem? s.views id ≡ some me.0 → me.0.held ≡ None ∷ [] → s.words ≡ old ∷ []
-    → holds seats (stepped s 0 new id me.1 w a) → tells (step slots 0 old new (some n)) me old (w, carried_after me.1 a)
+    → holds seats (stepped s 0 new id me.1 w a)
+    → tells (step slots 0 old new (some n)) me old (w, carried_after me.1 a)
     → Grants (holdings s.views) (holding_index s.views id) n (holdings (slice_set s.views id w))
 
 -- an exchange that finds another word changes nothing of what the seats hold
-abbrev pub FailureIsNone : (ℕ → State Wants SeatNote → Type 0) → (Step Wants → Me Wants SeatNote → ℕ → Me Wants SeatNote → Type 0) → Type 0
-FailureIsNone holds tells = (seats slots id old new x : ℕ) (n : Wants) (me : Me Wants SeatNote) (s : State Wants SeatNote) (w : SeatNote) (a : Act Wants)
+abbrev pub FailureIsNone :
+    (ℕ → State Wants SeatNote → Type 0) →
+    (Step Wants → Me Wants SeatNote → ℕ → Me Wants SeatNote → Type 0) → Type 0
+FailureIsNone holds tells =
+    (seats slots id old new x : ℕ) (n : Wants) (me : Me Wants SeatNote)
+    (s : State Wants SeatNote) (w : SeatNote) (a : Act Wants)
     → holds seats s → get_elem? s.views id ≡ some me.0 → s.words ≡ x ∷ [] → x ≢ old
     → tells (step slots 0 old new (some n)) me x (w, carried_after me.1 a)
     → holdings (slice_set s.views id w) ≡ holdings s.views
 
 -- a load changes nothing of what the seats hold
-abbrev pub LoadIsNone : (ℕ → State Wants SeatNote → Type 0) → (Step Wants → Me Wants SeatNote → ℕ → Me Wants SeatNote → Type 0) → Type 0
-LoadIsNone holds tells = (seats slots id x : ℕ) (me : Me Wants SeatNote) (s : State Wants SeatNote) (w : SeatNote) (a : Act Wants)
+abbrev pub LoadIsNone :
+    (ℕ → State Wants SeatNote → Type 0) →
+    (Step Wants → Me Wants SeatNote → ℕ → Me Wants SeatNote → Type 0) → Type 0
+LoadIsNone holds tells =
+    (seats slots id x : ℕ) (me : Me Wants SeatNote) (s : State Wants SeatNote)
+    (w : SeatNote) (a : Act Wants)
     → holds seats s → get_elem? s.views id ≡ some me.0 → s.words ≡ x ∷ []
     → tells (step slots 0 0 0 none) me x (w, carried_after me.1 a)
     → holdings (slice_set s.views id w) ≡ holdings s.views
 
 -- a subtraction is a release of what the seat holds
-abbrev pub SubtractionIsRelease : (ℕ → State Wants SeatNote → Type 0) → (Step Wants → Me Wants SeatNote → ℕ → Me Wants SeatNote → Type 0) → Type 0
-SubtractionIsRelease holds tells = (seats slots id k x : ℕ) (n : Wants) (me : Me Wants SeatNote) (s : State Wants SeatNote) (w : SeatNote) (a : Act Wants)
+abbrev pub SubtractionIsRelease :
+    (ℕ → State Wants SeatNote → Type 0) →
+    (Step Wants → Me Wants SeatNote → ℕ → Me Wants SeatNote → Type 0) → Type 0
+SubtractionIsRelease holds tells =
+    (seats slots id k x : ℕ) (n : Wants) (me : Me Wants SeatNote)
+    (s : State Wants SeatNote) (w : SeatNote) (a : Act Wants)
     → holds seats s → get_elem? s.views id ≡ some me.0 → me.0.held ≡ Some n ∷ [] → s.words ≡ x ∷ []
     → tells (step slots 0 k 0 none) me x (w, carried_after me.1 a)
     → Releases (holdings s.views) (holding_index s.views id) n (holdings (slice_set s.views id w))

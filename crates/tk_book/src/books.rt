@@ -1,9 +1,10 @@
-//! What the seats of a book hold of sixteen resources, as one word.
-ghost use Rattle.std.specs.Prelude.{◌≡◌, ℕ, ◌<◌, ◌≤◌, ◌⊎◌, ◌↔◌, [], ◌∷◌, ◌++◌, length, map, replicate, sum_by, All, IfOk, IfErr, IsSome};
+//! The lock book: what its seats hold of sixteen resources, as one word.
+ghost use Rattle.std.specs.Prelude.{◌≡◌, ℕ, ◌<◌, ◌≤◌, ◌⊎◌, ◌↔◌, [], ◌∷◌, ◌++◌, length, map, replicate, sum_by, All, IfOk, IfErr, IsSome, Some};
 ghost use Rattle.tk_lanes.specs.Lanes.{lane_at};
 ghost use Rattle.tk_book.specs.Needs.{word_of};
 ghost use Rattle.tk_book.specs.Held.{Lawful, held_lane, held_word};
-ghost use Rattle.tk_book.specs.Books.{empty};
+ghost use Rattle.tk_book.specs.Books.{book_name, empty};
+ghost use Rattle.tk_book.specs.FaultTexts.{book_fault_text};
 ghost use Rattle.tk_book.specs.LockWord.{seat_note};
 ghost use Rattle.tk_book.specs.Tries.{WasFree, WasBusy, WasFreeAtLast};
 ghost use Rattle.tk_limits.specs.declared.limits.TheConstants.{MAX_WORKERS};
@@ -14,12 +15,16 @@ use crate::rules::{AcquireStep, LoadStep, LockRule, ReleaseStep, SeatNote};
 use atomic_table::{Seat, Table};
 use crossbeam_utils::Backoff;
 use std::alloc::{AllocError, Global};
+use std::error::Error;
+use std::fmt;
 use std::marker::Model;
 use std::sync::Wait;
 use tk_lanes::admits;
 use tk_limits::MAX_WORKERS;
 
-/// A word by which several seats take resources and give them back.
+/// A book of locks: one word by which several threads take resources and give them back.
+///
+/// Each thread is lent one of the book's seats. The needs that the seats hold never conflict.
 #[derive(Drop)]
 pub struct Book {
     table: Table<Need, SeatNote, usize, LockRule, Global>,
@@ -37,7 +42,7 @@ impl Model for Book {
     ghost invariant = { IsBook };
 }
 
-/// One of the seats of a book.
+/// One of the seats of a book, which holds one need or none.
 #[derive(Drop)]
 pub struct BookSeat {
     seat: Seat<Need, SeatNote>,
@@ -56,22 +61,36 @@ impl Model for BookSeat {
     ghost invariant = { IsHolder };
 }
 
-/// Why a need was not taken.
+/// Why a seat did not take a need.
 #[derive(Debug, Drop)]
 pub enum Busy {
-    /// The word that was read has no room for it.
+    /// The word that was read doesn't admit the need.
     Held(u64),
-    /// The word that was read had room, and another was found when it was to be exchanged.
+    /// The first word was read and admits the need, but the second was found by the exchange.
     Moved(u64, u64),
 }
 
 /// Why a book was not opened.
-#[derive(Debug, Drop)]
+#[derive(Clone, Copy, Debug, PartialEq, Eq)]
 pub enum BookFault {
-    /// No seat, or more than `MAX_WORKERS`.
+    /// The number of seats isn't 1 to `MAX_WORKERS`.
     Seats,
+    /// A request for memory was refused.
     Memory,
 }
+
+impl fmt::Display for BookFault {
+    ghost output = { λ fault. Some (book_fault_text fault) };
+
+    fn fmt<W: fmt::Write>(&self, f: &mut fmt::Formatter<W>) -> fmt::Result {
+        match self {
+            BookFault::Seats => f.write_str("seats must be 1 to 15"),
+            BookFault::Memory => f.write_str("out of memory"),
+        }
+    }
+}
+
+impl Error for BookFault {}
 
 // Cuts the first seat into `count` seats.
 fn split_seats(
@@ -85,8 +104,8 @@ fn split_seats(
     requires of_this { first.table_id ≡ table.now.shared.table_id }
     requires whole { first.me ≡ (seat_note table.now.shared.key (replicate count None) [], []) }
     ensures { IfOk result (λ all. (length all.items ≡ count)
-        × All (λ s.
-        s ≡ empty (record { table = table.now.shared.table_id; seats = table.now.shared.key })) all.items) }
+        × All (λ s. s ≡ empty (book_name table.now.shared.table_id table.now.shared.key))
+        all.items) }
 {
     let mut all = Vec::with_capacity(alloc, count)?;
     for _ in 1..count {
@@ -101,7 +120,10 @@ fn split_seats(
 }
 
 impl Book {
-    /// A book of which nothing is held, with its seats.
+    /// Opens a book with this many seats, none of which holds anything.
+    ///
+    /// # Errors
+    /// `Seats` where there is none or more than `MAX_WORKERS`, or `Memory`.
     pub fn open(alloc: Global, seats: usize) -> Result<(Book, Vec<BookSeat>), BookFault>
         ensures book { IfOk result (λ r. r.0.seats ≡ seats) }
         ensures all { IfOk result (λ r. length r.1.items ≡ seats) }
@@ -121,7 +143,13 @@ impl Book {
         Ok((Book { table }, all))
     }
 
-    /// Takes the need, if the word that is read has room for it and is still there when it is to be exchanged.
+    /// Takes the need, where the word that is read admits it and the exchange finds the same word.
+    ///
+    /// `seat` must be a seat of this book that holds nothing. It takes one load and at most one
+    /// exchange.
+    ///
+    /// # Errors
+    /// `Held` or `Moved`, with the words that were read. The seat then holds nothing.
     pub fn try_acquire(&self, seat: &mut BookSeat, need: Need) -> Result<(), Busy>
         requires of_this { seat.old.book ≡ self.now }
         requires empty { seat.old.holds ≡ None }
@@ -148,7 +176,9 @@ impl Book {
         }
     }
 
-    /// Takes the need, as soon as it can. It yields the processor between tries.
+    /// Takes the need, trying again until it does. It yields the processor between tries.
+    ///
+    /// `seat` must be a seat of this book that holds nothing.
     pub fn acquire<R: Wait>(&self, rt: &R, seat: &mut BookSeat, need: Need)
         requires of_this { seat.old.book ≡ self.now }
         requires empty { seat.old.holds ≡ None }
@@ -166,7 +196,7 @@ impl Book {
         unreachable!()
     }
 
-    /// Gives back what the seat holds.
+    /// Gives back the need that the seat holds. `seat` must be a seat of this book.
     pub fn release(&self, seat: &mut BookSeat)
         requires of_this { seat.old.book ≡ self.now }
         requires holds { IsSome seat.old.holds }
@@ -183,7 +213,7 @@ impl Book {
         seat.held = None;
     }
 
-    /// The word as it is now. Its lanes are at least the seat's own.
+    /// Reads the word. Each of its lanes is at least what the seat's own need adds to it.
     pub fn look(&self, seat: &mut BookSeat) -> u64
         requires of_this { seat.old.book ≡ self.now }
         ensures book { seat.new.book ≡ seat.old.book }
@@ -194,7 +224,9 @@ impl Book {
         self.table.shared.load::<LoadStep>(&mut seat.seat, 0)
     }
 
-    /// The last word, where no seat holds anything.
+    /// Closes the book, and returns its last word, which is 0.
+    ///
+    /// `seats` must be all seats of this book, none of which holds anything.
     pub fn close(self, seats: Vec<BookSeat>) -> u64
         requires all { length seats.items ≡ self.seats }
         requires of_this { All (λ s. s.book ≡ self) seats.items }
@@ -204,7 +236,10 @@ impl Book {
         self.into_word(seats)
     }
 
-    /// The last word, where seats may still hold needs. It is the sum of these, of which no two conflict.
+    /// Closes the book while seats may hold needs, and returns its last word.
+    ///
+    /// It is the sum of the words of what the seats hold, no two of which conflict. `seats` must be
+    /// all seats of this book.
     pub fn into_word(self, mut seats: Vec<BookSeat>) -> u64
         requires all { length seats.items ≡ self.seats }
         requires of_this { All (λ s. s.book ≡ self) seats.items }
@@ -231,7 +266,7 @@ impl Book {
 }
 
 impl BookSeat {
-    /// What the seat holds.
+    /// The need that the seat holds, or `None`.
     pub fn holds(&self) -> Option<Need>
         ensures { result ≡ self.now.holds }
     {

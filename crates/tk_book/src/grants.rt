@@ -10,7 +10,7 @@ use crate::needs::Need;
 use std::alloc::{AllocError, Global};
 use std::marker::Model;
 
-/// One need or none for each seat, of which no two conflict.
+/// What each seat holds, one need or none, of which no two conflict: a lock book as a plain list.
 #[derive(Drop)]
 pub struct Holdings {
     seats: Vec<Option<Need>>,
@@ -30,7 +30,7 @@ impl Model for Holdings {
 }
 
 impl Holdings {
-    /// Seats that hold nothing.
+    /// Makes this many seats, which hold nothing.
     pub fn new(alloc: Global, seats: usize) -> Result<Holdings, AllocError>
         ensures { IfOk result (λ h. h ≡ replicate seats None) }
     {
@@ -39,8 +39,10 @@ impl Holdings {
         })
     }
 
-    /// Gives `need` to the seat. It is refused where there is no such seat, where the seat holds a need, and where
-    /// another seat holds a need that conflicts with it.
+    /// Gives `need` to the seat, and returns whether it did.
+    ///
+    /// It refuses where there is no such seat, where the seat holds a need, and where another seat
+    /// holds a need that conflicts with this one.
     pub fn grant(&mut self, seat: usize, need: Need) -> bool
         ensures exactly { IsTrue result ↔ MayTake self.old seat need }
         ensures granted { IsTrue result → self.new ≡ slice_set self.old seat (Some need) }
@@ -61,7 +63,7 @@ impl Holdings {
         true
     }
 
-    /// The seat holds nothing any more. Nothing changes where there is no such seat.
+    /// Takes back what the seat holds. Nothing changes where there is no such seat.
     pub fn release(&mut self, seat: usize)
         ensures empty { self.new ≡ slice_set self.old seat None }
         ensures lawful { Lawful self.new }
@@ -71,8 +73,9 @@ impl Holdings {
         }
     }
 
-    /// The sum of the words of what is held, where at most fourteen seats hold something. It admits a need exactly
-    /// where no seat's need conflicts with it.
+    /// The sum of the words of what is held, where at most fourteen seats hold something.
+    ///
+    /// It admits a need exactly where no seat's need conflicts with it.
     pub fn word(&self) -> u64
         requires few { count_by is_some self.now ≤ 14 }
         ensures value { result ≡ sum_by held_word self.now }

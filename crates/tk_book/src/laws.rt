@@ -8,8 +8,8 @@ use crate::needs::Need;
 use crate::rules::{AcquireStep, LoadStep, LockRule, ReleaseStep, SeatNote};
 use atomic_table::{Play, TableRule};
 
-/// Between any two steps a book's word is the sum of what its seats hold, and each step is a grant, a release, or
-/// nothing.
+/// Between any two steps a book's word is the sum of what its seats hold, and each step is a grant,
+/// a release, or nothing.
 pub fn each_step_is_of_the_holdings()
     ensures state { IsSumOfHoldings ⟦<LockRule as TableRule<Need, SeatNote, usize>>⟧.holds }
     ensures grant { ExchangeIsGrant ⟦<LockRule as TableRule<Need, SeatNote, usize>>⟧.holds

@@ -1,4 +1,5 @@
-// What units of work need of sixteen resources, and the book in which workers take and give them back.
+//! What units of work need of sixteen resources, and the book in which workers take these and give
+//! them back.
 #![tactic(auto)]
 
 mod books;

@@ -5,7 +5,9 @@ ghost use Rattle.tk_book.specs.Needs.{access, access_of, weight, Conflict, word_
 
 use std::marker::Model;
 
-/// Nothing, a read or a write of each of sixteen resources.
+/// What a unit needs of each of sixteen resources: nothing, a read, or a write.
+///
+/// Two needs conflict where one writes a resource that the other reads or writes.
 #[derive(Clone, Copy)]
 pub struct Need {
     reads: u16,
@@ -41,7 +43,7 @@ fn lane_of(reads: u16, writes: u16, resource: u32) -> u64
 }
 
 impl Need {
-    /// Bit i of a mask is resource i. A write stands over a read.
+    /// Makes a need of two masks, in which bit i is resource i. What is in both is a write.
     pub fn of(reads: u16, writes: u16) -> Need
         ensures { (r : ℕ) → r < 16
             → access result r ≡ access_of (bit_at reads r) (bit_at writes r) }
@@ -52,7 +54,7 @@ impl Need {
         }
     }
 
-    /// The resources that are read and not written.
+    /// The mask of the resources that are read and not written.
     pub fn reads(self) -> u16
         ensures value { result ≡ self.reads }
         ensures disjoint { bit_and result self.writes ≡ 0 }
@@ -60,7 +62,7 @@ impl Need {
         self.reads
     }
 
-    /// The resources that are written.
+    /// The mask of the resources that are written.
     pub fn writes(self) -> u16
         ensures value { result ≡ self.writes }
         ensures disjoint { bit_and self.reads result ≡ 0 }
@@ -69,7 +71,7 @@ impl Need {
         self.writes
     }
 
-    /// Four bits for each resource: 15 for a write, 1 for a read, else 0.
+    /// The need as a word of four bits for each resource: 15 for a write, 1 for a read, else 0.
     pub fn word(self) -> u64
         ensures { result ≡ word_of self }
     {
@@ -80,7 +82,7 @@ impl Need {
         word
     }
 
-    /// Neither writes what the other reads or writes.
+    /// Whether neither need writes what the other reads or writes.
     pub fn is_compatible(self, other: Need) -> bool
         ensures { IsTrue result ↔ (Conflict self other → ⊥) }
     {

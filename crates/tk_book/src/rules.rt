@@ -3,8 +3,9 @@ use crate::needs::Need;
 use atomic_table::{Join, Play, Split, TableRule};
 use std::collections::LinkedList;
 
-/// What a seat knows: how many seats its book has, what it holds, and the words that it read. A seat that took in others
-/// has what each of them held. No value of it is made.
+/// What a seat knows: how many seats its book has, what it holds, and the words that it read.
+///
+/// A seat that took in others has what each of them held. Only proofs name it: no value is made.
 #[derive(Drop)]
 pub(crate) struct SeatNote {
     seats: usize,
@@ -24,7 +25,7 @@ impl TableRule<Need, SeatNote, usize> for LockRule {
     ghost first = { λ seats. seat_note seats (replicate seats None) [] };
 }
 
-/// A load.
+/// A load of the word.
 pub(crate) struct LoadStep;
 
 impl Play<Need, SeatNote> for LoadStep {
@@ -33,7 +34,7 @@ impl Play<Need, SeatNote> for LoadStep {
     ghost then = { WordWasLoaded };
 }
 
-/// A compare-exchange.
+/// A compare-exchange, by which a seat takes a need.
 pub(crate) struct AcquireStep;
 
 impl Play<Need, SeatNote> for AcquireStep {
@@ -42,7 +43,7 @@ impl Play<Need, SeatNote> for AcquireStep {
     ghost then = { WasExchanged };
 }
 
-/// A subtraction.
+/// A subtraction, by which a seat gives its need back.
 pub(crate) struct ReleaseStep;
 
 impl Play<Need, SeatNote> for ReleaseStep {

@@ -9,7 +9,8 @@ use Rattle.tk_claim.specs.declared.rules.Drawn.{Drawn}
 use Rattle.tk_claim.specs.Claims.{times, once_below}
 
 abbrev pub drawn : ClaimLimits → ℕ → ℕ → List ℕ → Drawn
-drawn claim_limits parts spent numbers = record { claim_limits = claim_limits; parts = parts; spent = spent; numbers = numbers }
+drawn claim_limits parts spent numbers =
+    record { claim_limits = claim_limits; parts = parts; spent = spent; numbers = numbers }
 
 -- what the rule says of one view, where the word is `next`: a view with no part is spent and empty
 pub record Fits (claim_limits : ClaimLimits) (next : ℕ) (v : Drawn) : Type 0 where
@@ -26,13 +27,24 @@ pub record DrawsFitWord (claim_limits : ClaimLimits) (s : State (Unit {0}) Drawn
   pub word : s.words ≡ next ∷ []
   pub parts : sum_by (λ v. v.parts) s.views ≡ claim_limits.seats
   pub spent : sum_by (λ v. v.spent) s.views ≡ next - claim_limits.limit
-  pub once : (x : ℕ) → sum_by (λ v. times x v.numbers) s.views ≡ once_below x (min next claim_limits.limit)
+  pub once : (x : ℕ) →
+      sum_by (λ v. times x v.numbers) s.views ≡ once_below x (min next claim_limits.limit)
   pub each : (i : ℕ) (v : Drawn) → get_elem? s.views i ≡ some v → Fits claim_limits next v
 
--- a draw found a number below the limit, greater than all that the seat had, or it found that there are no more
+-- the view of a seat that drew a number more, and of one that found that there are no more
+abbrev pub with_number : ℕ → Drawn → Drawn
+with_number x v = drawn v.claim_limits v.parts v.spent (v.numbers ++ x ∷ [])
+
+abbrev pub with_no_number : Drawn → Drawn
+with_no_number v = drawn v.claim_limits v.parts (v.spent + 1) v.numbers
+
+-- a draw found a number below the limit, greater than all that the seat had, or it found that there
+-- are no more
 abbrev pub Drew : Step (Unit {0}) → Me (Unit {0}) Drawn → ℕ → Me (Unit {0}) Drawn → Type 0
-Drew st old x new = ((x < old.0.claim_limits.limit) × All (λ y. y < x) old.0.numbers × (new.0 ≡ drawn old.0.claim_limits old.0.parts old.0.spent (old.0.numbers ++ x ∷ [])) × (new.1 ≡ old.1))
-    ⊎ ((old.0.claim_limits.limit ≤ x) × (new.0 ≡ drawn old.0.claim_limits old.0.parts (old.0.spent + 1) old.0.numbers) × (new.1 ≡ old.1))
+Drew st old x new =
+    ((x < old.0.claim_limits.limit) × All (λ y. y < x) old.0.numbers
+    × (new.0 ≡ with_number x old.0) × (new.1 ≡ old.1))
+    ⊎ ((old.0.claim_limits.limit ≤ x) × (new.0 ≡ with_no_number old.0) × (new.1 ≡ old.1))
 
 abbrev pub no_limits : ClaimLimits
 no_limits = record { limit = 0; seats = 0 }

@@ -1,3 +1,4 @@
 pub mod Claims
 pub mod Drawing
 pub mod ClaimViews
+pub mod FaultTexts

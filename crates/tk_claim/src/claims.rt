@@ -1,16 +1,22 @@
 //! Numbers below a limit, each drawn once by one of the seats.
-ghost use Rattle.std.specs.Prelude.{◌≡◌, ◌<◌, ◌≤◌, ◌⊎◌, ◌↔◌, [], ◌∷◌, ◌++◌, true, false, length, map, All, IfOk, IfErr, IfSome, IfNone};
+ghost use Rattle.std.specs.Prelude.{◌≡◌, ◌<◌, ◌≤◌, ◌⊎◌, ◌↔◌, [], ◌∷◌, ◌++◌, true, false, length, map, All, IfOk, IfErr, IfSome, IfNone, Some};
 ghost use Rattle.tk_claim.specs.Claims.{Claims, fresh};
+ghost use Rattle.tk_claim.specs.ClaimViews.{claim_name};
 ghost use Rattle.tk_claim.specs.Drawing.{drawn};
+ghost use Rattle.tk_claim.specs.FaultTexts.{claim_fault_text};
 ghost use Rattle.tk_claim.specs.declared.claims.ClaimFault.TheVariants.{Seats};
 
 use crate::rules::{ClaimLimits, ClaimRule, DrawStep, Drawn};
 use atomic_table::{Seat, Table};
 use std::alloc::{AllocError, Global};
+use std::error::Error;
+use std::fmt;
 use std::marker::Model;
 use tk_limits::MAX_WORKERS;
 
-/// A word from which several seats draw the numbers below a limit.
+/// The numbers below a limit, which several threads draw from one word, each number once.
+///
+/// Each thread is lent one of the claim's seats.
 #[derive(Drop)]
 pub struct Claim {
     table: Table<(), Drawn, ClaimLimits, ClaimRule, Global>,
@@ -29,7 +35,7 @@ impl Model for Claim {
     ghost invariant = { IsClaim };
 }
 
-/// One of the seats of a claim.
+/// One of the seats of a claim, with the numbers that it drew.
 #[derive(Drop)]
 pub struct ClaimSeat {
     seat: Seat<(), Drawn>,
@@ -49,13 +55,26 @@ impl Model for ClaimSeat {
 }
 
 /// Why a claim was not opened.
-#[derive(Debug, Drop)]
+#[derive(Clone, Copy, Debug, PartialEq, Eq)]
 pub enum ClaimFault {
-    /// No seat, or more than `MAX_WORKERS`.
+    /// The number of seats isn't 1 to `MAX_WORKERS`.
     Seats,
-    /// Memory was refused.
+    /// A request for memory was refused.
     Memory,
 }
+
+impl fmt::Display for ClaimFault {
+    ghost output = { λ fault. Some (claim_fault_text fault) };
+
+    fn fmt<W: fmt::Write>(&self, f: &mut fmt::Formatter<W>) -> fmt::Result {
+        match self {
+            ClaimFault::Seats => f.write_str("seats must be 1 to 15"),
+            ClaimFault::Memory => f.write_str("out of memory"),
+        }
+    }
+}
+
+impl Error for ClaimFault {}
 
 // Cuts the first seat into `count` seats.
 fn split_seats(
@@ -69,8 +88,8 @@ fn split_seats(
     requires of_this { first.table_id ≡ table.now.shared.table_id }
     requires whole { first.me ≡ (drawn table.now.shared.key count 0 [], []) }
     ensures { IfOk result (λ all. (length all.items ≡ count)
-        × All (λ s.
-        s ≡ fresh (record { table = table.now.shared.table_id; limit = table.now.shared.key.limit; seats = table.now.shared.key.seats })) all.items) }
+        × All (λ s. s ≡ fresh (claim_name table.now.shared.table_id table.now.shared.key))
+        all.items) }
 {
     let mut all = Vec::with_capacity(alloc, count)?;
     for _ in 1..count {
@@ -85,7 +104,10 @@ fn split_seats(
 }
 
 impl Claim {
-    /// A claim on the numbers below `n`, of which none is drawn, with its seats.
+    /// Opens a claim on the numbers below `n`, of which none is drawn, with this many seats.
+    ///
+    /// # Errors
+    /// `Seats` where there is none or more than `MAX_WORKERS`, or `Memory`.
     pub fn open(alloc: Global, n: u32, seats: usize) -> Result<(Claim, Vec<ClaimSeat>), ClaimFault>
         ensures limit { IfOk result (λ r. r.0.limit ≡ n) }
         ensures claim { IfOk result (λ r. r.0.seats ≡ seats) }
@@ -107,8 +129,9 @@ impl Claim {
         Ok((Claim { table, limit: n }, all))
     }
 
-    /// A number that no seat drew before, or `None` where no number is left. A seat that got `None` gets it again,
-    /// without a step.
+    /// Draws a number that no seat drew before, or returns `None` where no number is left.
+    ///
+    /// `seat` must be a seat of this claim. A seat that got `None` gets it again without a step.
     pub fn draw(&self, seat: &mut ClaimSeat) -> Option<u32>
         requires { seat.old.claim ≡ self.now }
         ensures claim { seat.new.claim ≡ seat.old.claim }
@@ -134,7 +157,9 @@ impl Claim {
         }
     }
 
-    /// How many numbers were drawn: those below it, each once.
+    /// Closes the claim, and returns how many numbers were drawn: all below it, each once.
+    ///
+    /// `seats` must be all seats of this claim.
     pub fn close(self, mut seats: Vec<ClaimSeat>) -> u32
         requires all { length seats.items ≡ self.seats }
         requires of_this { All (λ s. s.claim ≡ self) seats.items }

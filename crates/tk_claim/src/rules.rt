@@ -9,8 +9,8 @@ pub(crate) struct ClaimLimits {
     pub seats: usize,
 }
 
-/// What a seat knows: the limits, how many seats it stands for, how many of them found that no number is left, and the
-/// numbers that it drew. No value of it is made.
+/// What a seat knows: the limits, how many seats it stands for, how many of them found that no
+/// number is left, and the numbers that it drew. Only proofs name it: no value is made.
 #[derive(Drop)]
 pub(crate) struct Drawn {
     claim_limits: ClaimLimits,
@@ -53,7 +53,8 @@ impl Join<Drawn> for ClaimRule {
     ghost use Rattle.std.specs.Prelude.{◌+◌, ◌++◌, []};
     ghost use Rattle.tk_claim.specs.Drawing.{drawn, no_limits};
 
-    ghost both = { λ v w. drawn v.claim_limits (v.parts + w.parts) (v.spent + w.spent) (v.numbers ++ w.numbers) };
+    ghost both = { λ v w.
+        drawn v.claim_limits (v.parts + w.parts) (v.spent + w.spent) (v.numbers ++ w.numbers) };
 
     ghost spent = { drawn no_limits 0 0 [] };
 }

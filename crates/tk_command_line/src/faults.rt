@@ -26,7 +26,8 @@ impl<T: Drop> From<AllocFailed<T>> for CommandLineFault {
     }
 }
 
-/// The fault of a program whose arguments could not be read: memory was refused, or they are no text.
+/// The fault of a program whose arguments could not be read: memory was refused, or they are no
+/// text.
 pub fn arguments_fault(error: &io::Error) -> CommandLineFault
     ensures { result ≡ fault_of_arguments (error_kind error.now) }
 {

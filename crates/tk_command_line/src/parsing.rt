@@ -57,10 +57,10 @@ fn other_job<'w>(alloc: Global, words: &'w [String]) -> Result<Job<'w>, CommandL
     }
 }
 
-/// Reads the job that a command line asks for, its first word the program's name.
+/// Reads the job that a command line asks for; its first word is the program's name.
 ///
-/// The words after `ask` are the question's own, and are not looked at. Tests show what the command-line
-/// crate makes of all other words; no clause says it.
+/// The words after `ask` are the question's own, and are not looked at. Of all other words tests
+/// show what the command-line crate makes of them; no clause says it.
 ///
 /// # Errors
 /// `BadWords`, or `Memory` where memory was refused.

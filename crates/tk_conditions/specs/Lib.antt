@@ -4,5 +4,6 @@ pub mod Cond
 pub mod CondOf
 pub mod Reader
 pub mod Reading
+pub mod FaultTexts
 pub mod Laws
 pub use Rattle.tk_ids.specs.Prefix

@@ -25,6 +25,7 @@ pub enum Condition {
     Kind(Kind),
     /// It is skipped for this reason.
     Skipped(Text),
+    /// It started.
     Started,
     /// It finished successfully.
     Succeeded,
@@ -54,7 +55,7 @@ fn with_id(alloc: Global, condition: Condition, text: &str) -> Result<Condition,
     Ok(Condition::All(members))
 }
 
-fn copy_message(alloc: Global, message: Option<&str>) -> Result<Option<Text>, AllocError>
+fn message_text(alloc: Global, message: Option<&str>) -> Result<Option<Text>, AllocError>
     ensures { IfOk result (λ copied. copied ≡ option_copied message.entry) }
 {
     match message {
@@ -63,8 +64,8 @@ fn copy_message(alloc: Global, message: Option<&str>) -> Result<Option<Text>, Al
     }
 }
 
-/// Constructors under the names of JUnit's `EventConditions`. Its `test()`, `container()`, `engine()` and `started()` are the
-/// variants `Test`, `Container`, `Engine` and `Started`.
+/// Constructors under the names of JUnit's `EventConditions`. Its `test()`, `container()`, `engine()`
+/// and `started()` are the variants `Test`, `Container`, `Engine` and `Started`.
 impl Condition {
     /// Each of the conditions holds. JUnit: `event`.
     pub fn event(conditions: Vec<Condition>) -> Condition
@@ -128,7 +129,9 @@ impl Condition {
         Condition::Succeeded
     }
 
-    /// The execution failed, and with this message where one is given. JUnit: `finishedWithFailure`.
+    /// The execution failed, and with this message where one is given.
+    ///
+    /// JUnit: `finishedWithFailure`.
     pub fn finished_with_failure(
         alloc: Global,
         message: Option<&str>,
@@ -136,10 +139,12 @@ impl Condition {
         ensures { IfOk result (λ condition.
             condition ≡ Condition.Failed (option_copied message.entry)) }
     {
-        Ok(Condition::Failed(copy_message(alloc, message)?))
+        Ok(Condition::Failed(message_text(alloc, message)?))
     }
 
-    /// The execution was aborted, and with this message where one is given. JUnit: `abortedWithReason`.
+    /// The execution was aborted, and with this message where one is given.
+    ///
+    /// JUnit: `abortedWithReason`.
     pub fn aborted_with_reason(
         alloc: Global,
         message: Option<&str>,
@@ -147,10 +152,12 @@ impl Condition {
         ensures { IfOk result (λ condition.
             condition ≡ Condition.Aborted (option_copied message.entry)) }
     {
-        Ok(Condition::Aborted(copy_message(alloc, message)?))
+        Ok(Condition::Aborted(message_text(alloc, message)?))
     }
 
-    /// An entry of these pairs, each a key and a value, and no others was published. JUnit: `reportEntry`.
+    /// An entry of these pairs, each a key and a value, and no others was published.
+    ///
+    /// JUnit: `reportEntry`.
     pub fn report_entry(alloc: Global, pairs: &[(&str, &str)]) -> Result<Condition, AllocError>
         ensures { IfOk result (λ condition.
             condition ≡ Condition.Entry (map (λ p. (p.0.now, p.1.now)) pairs.now)) }

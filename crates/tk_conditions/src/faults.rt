@@ -1,6 +1,10 @@
 //! Why a text is no condition.
+ghost use Rattle.std.specs.Prelude.{Some};
+ghost use Rattle.tk_conditions.specs.FaultTexts.{fault_text};
 
 use std::alloc::AllocError;
+use std::error::Error;
+use std::fmt;
 
 /// The most brackets of `all(`, `any(` and `not(` that may be open at once.
 pub const MAX_DEPTH: usize = 32;
@@ -26,3 +30,17 @@ impl From<AllocError> for CondFault {
         CondFault::Memory
     }
 }
+
+impl fmt::Display for CondFault {
+    ghost output = { λ fault. Some (fault_text fault) };
+
+    fn fmt<W: fmt::Write>(&self, f: &mut fmt::Formatter<W>) -> fmt::Result {
+        match self {
+            CondFault::BadAtom(at) => write!(f, "bad at {at}"),
+            CondFault::Deep => f.write_str("too deep"),
+            CondFault::Memory => f.write_str("out of memory"),
+        }
+    }
+}
+
+impl Error for CondFault {}

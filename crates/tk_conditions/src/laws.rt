@@ -13,8 +13,8 @@ pub fn text_is_unique()
     ensures { TextIsUnique }
 {}
 
-/// What [`crate::write_condition`] writes, [`crate::read_condition`] reads as the same condition, where no more brackets are
-/// open in it than may be.
+/// [`crate::read_condition`] reads what [`crate::write_condition`] writes as the same condition,
+/// where no more brackets are open in it than may be.
 pub fn text_is_read()
     ensures { TextIsRead }
 {}

@@ -18,7 +18,8 @@ pub(crate) enum OpenGroup {
 impl OpenGroup {
     /// The condition that a bracket and its last member are.
     pub(crate) fn close(self, alloc: Global, last: Condition) -> Result<Condition, AllocError>
-        ensures { IfOk result (λ condition. cond_of condition ≡ closed (group_of self) (cond_of last)) }
+        ensures { IfOk result (λ condition.
+            cond_of condition ≡ closed (group_of self) (cond_of last)) }
     {
         match self {
             OpenGroup::Not => Ok(Condition::Not(Box::new(alloc, last)?)),

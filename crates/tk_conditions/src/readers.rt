@@ -24,13 +24,15 @@ pub(crate) enum Position {
     Text(TextAtom, PartialText),
     /// In the name of a kind.
     Kind(Vec<u8>),
-    /// In the pairs of an entry: those that are whole, the key of the next one where it is read, and the text that is read.
+    /// In the pairs of an entry: those that are whole, the key of the next one where it is read, and
+    /// the text that is read.
     Pairs(Pairs, Option<Text>, PartialText),
     /// After a condition.
     After(Condition),
 }
 
-/// A condition, as far as its text is read: the open brackets, the last one at the end, and what is read in it.
+/// A condition, as far as its text is read: the open brackets, the last one at the end, and what is
+/// read in it.
 #[derive(Drop)]
 pub(crate) struct Reader {
     stack: Vec<OpenGroup>,
@@ -51,7 +53,8 @@ fn after(stack: Vec<OpenGroup>, condition: Condition) -> Reader
 
 /// Before a condition in one more bracket.
 fn within(alloc: Global, mut stack: Vec<OpenGroup>, group: OpenGroup) -> Result<Reader, AllocError>
-    ensures { IfOk result (λ next. state_of next ≡ Word (group_of group ∷ groups_of stack.items) []) }
+    ensures { IfOk result (λ next.
+        state_of next ≡ Word (group_of group ∷ groups_of stack.items) []) }
 {
     stack.push(group)?;
     Ok(Reader {
@@ -110,7 +113,8 @@ fn after_word(alloc: Global, stack: Vec<OpenGroup>, word: &[u8], byte: u8) -> Ne
 
 /// After the bracket of a word.
 fn after_opener(alloc: Global, stack: Vec<OpenGroup>, opener: Opener) -> Result<Reader, AllocError>
-    ensures { IfOk result (λ next. opened (groups_of stack.items) (opener_of opener) ≡ state_of next) }
+    ensures { IfOk result (λ next.
+        opened (groups_of stack.items) (opener_of opener) ≡ state_of next) }
 {
     match opener {
         Opener::Text(text_atom) => Ok(Reader {
@@ -163,7 +167,8 @@ fn feed_text(
 ) -> NextReader
     requires text { ContinuesAsText partial byte }
     ensures { IfOk result (λ next.
-        step (InText (groups_of stack.items) (text_atom_of text_atom) partial) byte ≡ option_map state_of next) }
+        step (InText (groups_of stack.items) (text_atom_of text_atom) partial) byte
+        ≡ option_map state_of next) }
 {
     if partial.ends(b')', byte) {
         Ok(Some(after(stack, text_atom.condition(partial.into_text()))))
@@ -227,7 +232,8 @@ fn next_text(
 /// After the bracket that ends pairs.
 fn last_text(stack: Vec<OpenGroup>, mut pairs: Pairs, key: Option<Text>, text: Text) -> NextReader
     ensures { IfOk result (λ next.
-        last_text (groups_of stack.items) (pairs_from NoPairs pairs) key text ≡ option_map state_of next) }
+        last_text (groups_of stack.items) (pairs_from NoPairs pairs) key text
+        ≡ option_map state_of next) }
 {
     match key {
         Some(key) => {
@@ -257,7 +263,8 @@ fn feed_pairs(
 ) -> NextReader
     requires text { ContinuesAsText partial byte }
     ensures { IfOk result (λ next.
-        step (InPairs (groups_of stack.items) (pairs_from NoPairs pairs) key partial) byte ≡ option_map state_of next) }
+        step (InPairs (groups_of stack.items) (pairs_from NoPairs pairs) key partial) byte
+        ≡ option_map state_of next) }
 {
     if partial.ends(b',', byte) {
         Ok(Some(next_text(alloc, stack, pairs, key, partial.into_text())?))

@@ -8,8 +8,10 @@ use std::alloc::Global;
 
 /// The condition that a text spells.
 ///
-/// `Deep` where more than `MAX_DEPTH` brackets are open somewhere in the longest prefix of the text with which a condition's
-/// text begins, else `BadAtom` with the length of that prefix in bytes, where the text is no condition's.
+/// # Errors
+/// `Deep` where more than `MAX_DEPTH` brackets are open somewhere in the longest prefix of the text
+/// with which a condition's text begins, else `BadAtom` with the length of that prefix in bytes,
+/// where the text is no condition's.
 pub fn read_condition(alloc: Global, text: &str) -> Result<Condition, CondFault>
     ensures { IsReadAs text.now result }
 {

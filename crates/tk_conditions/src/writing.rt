@@ -15,7 +15,8 @@ fn push(out: &mut String, text: &str) -> Result<(), AllocError>
 
 /// Writes a letter of a text, escaped where it has to be.
 fn push_letter(out: &mut String, letter: char) -> Result<(), AllocError>
-    ensures { OnOk result (string_bytes out.new ≡ string_bytes out.old ++ escaped (encode_utf8 letter)) }
+    ensures { OnOk result (string_bytes out.new
+        ≡ string_bytes out.old ++ escaped (encode_utf8 letter)) }
 {
     match letter {
         '%' => out.push_str("%25"),
@@ -116,7 +117,9 @@ fn push_members(out: &mut String, opening: &str, members: &[Condition]) -> Resul
     push(out, ")")
 }
 
-/// The text of a condition, which [`crate::read_condition`] reads as the same condition where no more than `MAX_DEPTH` brackets
+/// The text of a condition.
+///
+/// [`crate::read_condition`] reads it as the same condition where no more than `MAX_DEPTH` brackets
 /// of `all(`, `any(` and `not(` are open at once.
 pub fn write_condition(alloc: Global, condition: &Condition) -> Result<Text, AllocError>
     ensures { IfOk result (λ text. text ≡ cond_text (cond_of condition.now)) }

@@ -71,3 +71,9 @@ pub record Adds (all : List NumberedNode) (keys : List (List ℕ)) (old new : Cu
   pub tails : tails all new.closed.items ≡ tails all old.closed.items ++ from_each tail old.first ps
   pub closed : All (HasNode all) old.closed.items → All (HasNode all) new.closed.items
   pub first : new.first ≡ old.first + length (flat_map moves_of ps)
+
+-- cutting these nodes adds those parts, wherever they stand at the position
+abbrev pub AddsAt :
+    ℕ → List NumberedNode → List (List ℕ) → Cutting → Cutting → List Part → Type 0
+AddsAt position nodes keys old new ps =
+    (all rest : List NumberedNode) → drop position all ≡ nodes ++ rest → Adds all keys old new ps

@@ -37,6 +37,10 @@ IsForest ps = ps ≡ flats (forest ps)
 abbrev pub first_tree : NumberedNode → List NumberedNode → Tree
 first_tree p ps = tree p.node p.number (forest (take (p.span - 1) ps))
 
+-- the tree of a node, given the nodes below it
+abbrev pub tree_of : NumberedNode → List NumberedNode → Tree
+tree_of p below = tree p.node p.number (forest below)
+
 -- what comes after a first node, split into what is below it and the other trees
 pub record IsSplit (p : NumberedNode) (after below others : List NumberedNode) : Type 0 where
   pub span : p.span ≡ suc (length below)

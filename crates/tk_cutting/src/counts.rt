@@ -1,6 +1,6 @@
 //! How many events a plan has.
 ghost use Rattle.std.specs.Prelude.{◌≡◌, ◌+◌, ◌≤◌, ◌<◌, ◌^◌, min, MatchOption, length};
-ghost use Rattle.tk_cutting.specs.Trees.{IsForest, forest, tree};
+ghost use Rattle.tk_cutting.specs.Trees.{IsForest, forest, tree_of};
 ghost use Rattle.tk_cutting.specs.Script.{moves_below};
 ghost use Rattle.tk_cutting.specs.Weights.{own, publications, weight, weights};
 
@@ -49,8 +49,9 @@ fn count_all(nodes: &[NumberedNode]) -> u64
     count
 }
 
-/// How many events the script of a plan's root has, where these are the plan's nodes in preorder;
-/// none where there are more than `MAX_EVENTS`.
+/// How many events the script of a plan's root has, or `None` where it has more than `MAX_EVENTS`.
+///
+/// `nodes` are the plan's nodes in preorder.
 pub fn count_events(nodes: &[NumberedNode]) -> Option<u32>
     requires { IsForest nodes.now }
     ensures { MatchOption result (MAX_EVENTS < length (moves_below 0 (forest nodes.now)))
@@ -67,8 +68,8 @@ pub fn count_events(nodes: &[NumberedNode]) -> Option<u32>
 /// How many events a tree has.
 pub(crate) fn count_tree(numbered_node: &NumberedNode, below: &[NumberedNode]) -> u64
     requires below { IsForest below.now }
-    requires limit { weight (tree numbered_node.now.node numbered_node.now.number (forest below.now)) ≤ MAX_EVENTS }
-    ensures { result ≡ weight (tree numbered_node.now.node numbered_node.now.number (forest below.now)) }
+    requires limit { weight (tree_of numbered_node.now below.now) ≤ MAX_EVENTS }
+    ensures { result ≡ weight (tree_of numbered_node.now below.now) }
 {
     if numbered_node.node.skip.is_some() {
         return 1;

@@ -1,9 +1,9 @@
 //! Cutting a plan.
-ghost use Rattle.std.specs.Prelude.{◌≡◌, ◌≤◌, ◌+◌, ◌*◌, ◌^◌, ℕ, List, suc, true, ◌∷◌, ◌++◌, [], IfOk, OnOk, length, drop};
-ghost use Rattle.tk_cutting.specs.Trees.{IsForest, forest, tree, contents};
+ghost use Rattle.std.specs.Prelude.{◌≡◌, ◌≤◌, ◌+◌, ◌*◌, ◌^◌, ℕ, List, suc, true, ◌∷◌, [], IfOk, OnOk, length};
+ghost use Rattle.tk_cutting.specs.Trees.{IsForest, forest, tree_of, contents};
 ghost use Rattle.tk_cutting.specs.Weights.{publications, weight, weights};
 ghost use Rattle.tk_cutting.specs.Cutting.{opens, runs, closes, parts, parts_below, all_static};
-ghost use Rattle.tk_cutting.specs.Adds.{Adds};
+ghost use Rattle.tk_cutting.specs.Adds.{AddsAt};
 ghost use Rattle.tk_cutting.specs.Kept.{IsCut};
 ghost use Rattle.tk_cutting.specs.Keys.{lock_keys};
 ghost use Rattle.tk_ids.specs.declared.tables.TheConstants.{MAX_DESCRIPTORS};
@@ -19,7 +19,7 @@ use std::alloc::{AllocError, Global};
 use tk_book::Need;
 use tk_ids::Text;
 
-/// A unit: the position of its first node, how many events come before it, and what it needs.
+/// A unit: the position of its first node, how many events come before it, and its need.
 #[derive(Clone, Copy)]
 pub(crate) struct PlanUnit {
     pub position: usize,
@@ -34,7 +34,7 @@ pub(crate) struct SpineStamp {
     pub stamp: u64,
 }
 
-/// What was cut so far.
+/// The spine and the units of the nodes that were cut so far.
 #[derive(Drop)]
 pub(crate) struct Cutting {
     /// The numbers of the spine's nodes.
@@ -72,9 +72,11 @@ impl Cutting {
     /// Adds a start on the spine with its entries and its files.
     fn begin(&mut self, numbered_node: &NumberedNode, position: usize) -> Result<(), AllocError>
         requires { self.old.first + (1 + publications numbered_node.now.node) ≤ MAX_EVENTS }
-        ensures first { OnOk result (self.new.first ≡ self.old.first + (1 + publications numbered_node.now.node)) }
-        ensures adds { OnOk result ((all rest : List NumberedNode) → (keys : List (List ℕ)) → drop position all ≡ numbered_node.now ∷ rest
-            → Adds all keys self.old self.new (opens numbered_node.now.node numbered_node.now.number ∷ [])) }
+        ensures first { OnOk result
+            (self.new.first ≡ self.old.first + (1 + publications numbered_node.now.node)) }
+        ensures adds { OnOk result ((keys : List (List ℕ))
+            → AddsAt position (numbered_node.now ∷ []) keys self.old self.new
+            (opens numbered_node.now.node numbered_node.now.number ∷ [])) }
     {
         self.spine.push(numbered_node.number)?;
         self.opened.push(SpineStamp {
@@ -89,8 +91,9 @@ impl Cutting {
     fn end(&mut self, numbered_node: &NumberedNode, position: usize) -> Result<(), AllocError>
         requires { self.old.first ≤ MAX_EVENTS }
         ensures first { OnOk result (self.new.first ≡ self.old.first + 1) }
-        ensures adds { OnOk result ((all rest : List NumberedNode) → (keys : List (List ℕ)) → drop position all ≡ numbered_node.now ∷ rest
-            → Adds all keys self.old self.new (closes numbered_node.now.node numbered_node.now.number ∷ [])) }
+        ensures adds { OnOk result ((keys : List (List ℕ))
+            → AddsAt position (numbered_node.now ∷ []) keys self.old self.new
+            (closes numbered_node.now.node numbered_node.now.number ∷ [])) }
     {
         self.closed.push(SpineStamp {
             position,
@@ -111,10 +114,13 @@ impl Cutting {
         requires keys { length keys.now ≤ MAX_KEYS }
         requires below { IsForest below.now }
         requires span { numbered_node.now.span ≡ suc (length below.now) }
-        requires limit { self.old.first + weight (tree numbered_node.now.node numbered_node.now.number (forest below.now)) ≤ MAX_EVENTS }
-        ensures first { OnOk result (self.new.first ≡ self.old.first + weight (tree numbered_node.now.node numbered_node.now.number (forest below.now))) }
-        ensures adds { OnOk result ((all rest : List NumberedNode) → drop position all ≡ numbered_node.now ∷ (below.now ++ rest)
-            → Adds all keys.now self.old self.new (runs (tree numbered_node.now.node numbered_node.now.number (forest below.now)) ∷ [])) }
+        requires limit { self.old.first + weight (tree_of numbered_node.now below.now)
+            ≤ MAX_EVENTS }
+        ensures first { OnOk result
+            (self.new.first ≡ self.old.first + weight (tree_of numbered_node.now below.now)) }
+        ensures adds { OnOk result
+            (AddsAt position (numbered_node.now ∷ below.now) keys.now self.old self.new
+            (runs (tree_of numbered_node.now below.now) ∷ [])) }
     {
         self.units.push(numbered_node.number)?;
         self.pieces.push(PlanUnit {
@@ -140,10 +146,12 @@ fn cut_tree(
     requires below { IsForest below.now }
     requires span { numbered_node.now.span ≡ suc (length below.now) }
     requires position { position + 1 + length below.now ≤ 2 ^ 32 }
-    requires limit { cutting.old.first + weight (tree numbered_node.now.node numbered_node.now.number (forest below.now)) ≤ MAX_EVENTS }
-    ensures first { OnOk result (cutting.new.first ≡ cutting.old.first + weight (tree numbered_node.now.node numbered_node.now.number (forest below.now))) }
-    ensures adds { OnOk result ((all rest : List NumberedNode) → drop position all ≡ numbered_node.now ∷ (below.now ++ rest)
-        → Adds all keys.now cutting.old cutting.new (parts is_root (tree numbered_node.now.node numbered_node.now.number (forest below.now)))) }
+    requires limit { cutting.old.first + weight (tree_of numbered_node.now below.now) ≤ MAX_EVENTS }
+    ensures first { OnOk result
+        (cutting.new.first ≡ cutting.old.first + weight (tree_of numbered_node.now below.now)) }
+    ensures adds { OnOk result
+        (AddsAt position (numbered_node.now ∷ below.now) keys.now cutting.old cutting.new
+        (parts is_root (tree_of numbered_node.now below.now))) }
 {
     if !is_on_spine(is_root, &numbered_node.node, below) {
         cutting.add(keys, numbered_node, below, position)?;
@@ -155,7 +163,7 @@ fn cut_tree(
     Ok(())
 }
 
-/// Cuts trees that stand side by side, of which the first begins at a place.
+/// Cuts trees that stand side by side; the first begins at `position`.
 #[cycle(cutting)]
 fn cut_all(
     keys: &[Text],
@@ -169,9 +177,10 @@ fn cut_all(
     requires statics { all_static (forest nodes.now) ≡ true }
     requires position { position + length nodes.now ≤ 2 ^ 32 }
     requires limit { cutting.old.first + weights (forest nodes.now) ≤ MAX_EVENTS }
-    ensures first { OnOk result (cutting.new.first ≡ cutting.old.first + weights (forest nodes.now)) }
-    ensures adds { OnOk result ((all rest : List NumberedNode) → drop position all ≡ nodes.now ++ rest
-        → Adds all keys.now cutting.old cutting.new (parts_below is_root (forest nodes.now))) }
+    ensures first { OnOk result
+        (cutting.new.first ≡ cutting.old.first + weights (forest nodes.now)) }
+    ensures adds { OnOk result (AddsAt position nodes.now keys.now cutting.old cutting.new
+        (parts_below is_root (forest nodes.now))) }
 {
     let mut rest = nodes;
     let mut at = position;

@@ -10,22 +10,12 @@ ghost use Rattle.tk_limits.specs.declared.limits.TheConstants.{MAX_EVENTS};
 use crate::nodes::{Node, NumberedNode};
 use crate::steps::Act;
 use std::alloc::{AllocError, Global};
-use tk_events::{Event, Kind, Payload};
-use tk_ids::Text;
-
-fn copy_message(message: &Option<Text>) -> Result<Option<Text>, AllocError>
-    ensures { IfOk result (λ m. m ≡ message.now) }
-{
-    match message {
-        Some(text) => Ok(Some(text.try_clone()?)),
-        None => Ok(None),
-    }
-}
+use tk_events::{Event, Kind, Payload, try_clone_message};
 
 fn outcome(node: &Node) -> Result<Payload, AllocError>
     ensures { IfOk result (λ p. p ≡ Payload.Outcome node.now.status node.now.message) }
 {
-    Ok(Payload::Outcome(node.status, copy_message(&node.message)?))
+    Ok(Payload::Outcome(node.status, try_clone_message(&node.message)?))
 }
 
 fn reason(node: &Node) -> Result<Payload, AllocError>
@@ -38,7 +28,7 @@ fn reason(node: &Node) -> Result<Payload, AllocError>
     }
 }
 
-/// What a node says as it does that.
+/// What a node's event says beside its kind, as the node does `act`.
 pub(crate) fn payload(alloc: Global, node: &Node, act: Act) -> Result<Payload, AllocError>
     requires { (nodes : List NumberedNode) × Does nodes node.now act }
     ensures { IfOk result (λ p. p ≡ payload_of node.now act) }
@@ -67,7 +57,8 @@ pub(crate) fn push_begun(
     events: &mut Vec<Event>,
 ) -> Result<(), AllocError>
     requires { stamp + publications numbered_node.now.node ≤ MAX_EVENTS }
-    ensures { OnOk result (events.new.items ≡ events.old.items ++ begun numbered_node.now.number stamp numbered_node.now.node) }
+    ensures { OnOk result (events.new.items ≡ events.old.items
+        ++ begun numbered_node.now.number stamp numbered_node.now.node) }
 {
     events.push(Event {
         kind: Kind::Started,
@@ -102,7 +93,8 @@ pub(crate) fn push_ended(
     stamp: u64,
     events: &mut Vec<Event>,
 ) -> Result<(), AllocError>
-    ensures { OnOk result (events.new.items ≡ events.old.items ++ ended numbered_node.now.number stamp numbered_node.now.node ∷ []) }
+    ensures { OnOk result (events.new.items ≡ events.old.items
+        ++ ended numbered_node.now.number stamp numbered_node.now.node ∷ []) }
 {
     events.push(Event {
         kind: Kind::Finished,

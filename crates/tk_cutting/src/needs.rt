@@ -56,8 +56,8 @@ fn resource(keys: &[Text], key: &str) -> Option<usize>
 impl NeedMasks {
     fn mark(&mut self, resource: usize, is_write: bool)
         requires { resource < 16 }
-        ensures { (r : ℕ) → r < 16
-            → marked self.new r ≡ over (marked self.old r) (at_resource (Some resource) (access_for is_write) r) }
+        ensures { (r : ℕ) → r < 16 → marked self.new r
+            ≡ over (marked self.old r) (at_resource (Some resource) (access_for is_write) r) }
     {
         let bit = 1u16 << resource;
         if is_write {

@@ -16,8 +16,10 @@ impl Next {
         requires of_static { self.old.of_static < 2 ^ 31 }
         requires of_dynamic { self.old.of_dynamic < 2 ^ 31 }
         ensures number { result ≡ (if is_static then self.old.of_static else self.old.of_dynamic) }
-        ensures of_static { self.new.of_static ≡ (if is_static then self.old.of_static + 1 else self.old.of_static) }
-        ensures of_dynamic { self.new.of_dynamic ≡ (if is_static then self.old.of_dynamic else self.old.of_dynamic + 1) }
+        ensures of_static { self.new.of_static
+            ≡ (if is_static then self.old.of_static + 1 else self.old.of_static) }
+        ensures of_dynamic { self.new.of_dynamic
+            ≡ (if is_static then self.old.of_dynamic else self.old.of_dynamic + 1) }
     {
         if is_static {
             self.of_static += 1;

@@ -12,7 +12,8 @@ fn push_positions(
     positions: &mut Vec<usize>,
 ) -> Result<(), AllocError>
     requires { All (λ i. i < length nodes.now) positions.old.items }
-    ensures nodes { OnOk result (at_positions nodes.now positions.new.items ≡ at_positions nodes.now positions.old.items ++ of_kind is_static nodes.now) }
+    ensures nodes { OnOk result (at_positions nodes.now positions.new.items
+        ≡ at_positions nodes.now positions.old.items ++ of_kind is_static nodes.now) }
     ensures within { OnOk result (All (λ i. i < length nodes.now) positions.new.items) }
 {
     for (index, numbered_node) in nodes.iter().enumerate() {
@@ -23,7 +24,7 @@ fn push_positions(
     Ok(())
 }
 
-/// The places of the nodes, in the order of their numbers.
+/// The positions of the nodes, in the order of their numbers.
 pub(crate) fn positions_of(alloc: Global, nodes: &[NumberedNode]) -> Result<Vec<usize>, AllocError>
     ensures { IfOk result (λ positions. ArePositionsByNumber nodes.now positions.items) }
 {

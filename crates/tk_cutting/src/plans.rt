@@ -52,8 +52,10 @@ impl Plan {
     ghost use Rattle.tk_cutting.specs.Planned.{IsPlanned, IsNeedOf, need_word, IsWithin};
     ghost use Rattle.tk_cutting.specs.Numbers.{in_order, entry_of, path_of, numbered, IsNumbered};
 
-    /// The plan of nodes in preorder, whose numbers it sets, given the table of the static ones
-    /// and the lock keys, save `global`, by first appearance.
+    /// Makes the plan of nodes in preorder, and sets their numbers.
+    ///
+    /// `table` has the descriptors of the static nodes, and `keys` are the lock keys without
+    /// `global`, in the order of their first appearance.
     pub fn new(
         alloc: Global,
         mut nodes: Vec<NumberedNode>,
@@ -102,7 +104,7 @@ impl Plan {
         self.cutting.units.as_slice()
     }
 
-    /// What a unit needs. Units count from 0.
+    /// The resources that a unit reads and writes. Units count from 0.
     pub fn need(&self, unit: u32) -> Need
         requires { unit < length (units_of (forest self.now.nodes)) }
         ensures need { IsNeedOf self.now.nodes unit result }
@@ -111,13 +113,16 @@ impl Plan {
         self.cutting.pieces[unit as usize].need
     }
 
-    /// The steps of a unit.
+    /// The steps of a unit, in their order.
     pub fn script(&self, alloc: Global, unit: u32) -> Result<Vec<Step>, AllocError>
         requires { unit < length (units_of (forest self.now.nodes)) }
-        ensures steps { IfOk result (λ steps. steps.items ≡ script_of (forest self.now.nodes) unit) }
+        ensures steps { IfOk result (λ steps.
+            steps.items ≡ script_of (forest self.now.nodes) unit) }
         // With its stamps it stands in the root's script.
-        ensures within { IfOk result (λ steps. IsWithin steps.items (root_script (forest self.now.nodes))) }
-        ensures known { IfOk result (λ steps. All (λ s. IsKnown self.now.nodes s.node s.act) steps.items) }
+        ensures within { IfOk result (λ steps.
+            IsWithin steps.items (root_script (forest self.now.nodes))) }
+        ensures known { IfOk result (λ steps.
+            All (λ s. IsKnown self.now.nodes s.node s.act) steps.items) }
     {
         let piece = self.cutting.pieces[unit as usize];
         let (numbered_node, below) = tree_at(self.nodes.as_slice(), piece.position);
@@ -157,7 +162,7 @@ impl Plan {
         self.cutting.first as u32
     }
 
-    /// What the plan says of the node of a number.
+    /// What the plan says of the node with this number.
     fn node(&self, number: u32) -> &Node
         requires { number < length self.now.nodes }
         ensures { slice_get (in_order self.now.nodes) number ≡ Some result.now }
@@ -166,46 +171,50 @@ impl Plan {
         &self.nodes[position].node
     }
 
-    /// What the event of a step says beside its kind. Of a registration this is nothing: whoever
-    /// registers makes the descriptor.
+    /// Makes the payload of a step's event.
+    ///
+    /// A registration has none: the sink makes its descriptor.
     pub fn payload(&self, alloc: Global, step: Step) -> Result<Payload, AllocError>
         requires { IsKnown self.now.nodes step.node step.act }
-        ensures { IfOk result (λ p. option_map (λ n.
-            payload_of n step.act) (slice_get (in_order self.now.nodes) step.node) ≡ Some p) }
+        ensures { IfOk result (λ p.
+            option_map (λ n. payload_of n step.act) (slice_get (in_order self.now.nodes) step.node)
+            ≡ Some p) }
     {
         payload(alloc, self.node(step.node), step.act)
     }
 
-    /// The name of the node of a number.
+    /// The name of the node with this number.
     pub fn name(&self, node: u32) -> &str
         requires { node < length self.now.nodes }
-        ensures { option_map (λ n.
-            n.name) (slice_get (in_order self.now.nodes) node) ≡ Some result.now }
+        ensures { option_map (λ n. n.name) (slice_get (in_order self.now.nodes) node)
+            ≡ Some result.now }
     {
         self.node(node).name.as_str()
     }
 
-    /// The last segment of the node's id.
+    /// The last segment of the id of the node with this number.
     pub fn segment(&self, node: u32) -> &Segment
         requires { node < length self.now.nodes }
-        ensures { option_map (λ n.
-            n.segment) (slice_get (in_order self.now.nodes) node) ≡ Some result.now }
+        ensures { option_map (λ n. n.segment) (slice_get (in_order self.now.nodes) node)
+            ≡ Some result.now }
     {
         &self.node(node).segment
     }
 
+    /// Whether the node with this number is a container, a test, or both.
     pub fn dtype(&self, node: u32) -> DType
         requires { node < length self.now.nodes }
-        ensures { option_map (λ n. n.dtype) (slice_get (in_order self.now.nodes) node) ≡ Some result }
+        ensures { option_map (λ n. n.dtype) (slice_get (in_order self.now.nodes) node)
+            ≡ Some result }
     {
         self.node(node).dtype
     }
 
-    /// Why the node is skipped, if it is.
+    /// Why the node with this number is skipped, or `None` where it is not.
     pub fn reason(&self, node: u32) -> Option<&str>
         requires { node < length self.now.nodes }
-        ensures { option_map (λ n.
-            n.skip) (slice_get (in_order self.now.nodes) node) ≡ Some (option_map (λ r. r.now) result) }
+        ensures { option_map (λ n. n.skip) (slice_get (in_order self.now.nodes) node)
+            ≡ Some (option_map (λ r. r.now) result) }
     {
         match &self.node(node).skip {
             Some(reason) => Some(reason.as_str()),
@@ -231,13 +240,13 @@ impl Plan {
         self.node(node).files.as_slice()[file as usize].as_str()
     }
 
-    /// How the node finishes, and the message.
+    /// The status and the message with which the node with this number finishes.
     pub fn outcome(&self, node: u32) -> (Status, Option<&str>)
         requires { node < length self.now.nodes }
-        ensures status { option_map (λ n.
-            n.status) (slice_get (in_order self.now.nodes) node) ≡ Some result.0 }
-        ensures message { option_map (λ n.
-            n.message) (slice_get (in_order self.now.nodes) node) ≡ Some (option_map (λ m. m.now) result.1) }
+        ensures status { option_map (λ n. n.status) (slice_get (in_order self.now.nodes) node)
+            ≡ Some result.0 }
+        ensures message { option_map (λ n. n.message) (slice_get (in_order self.now.nodes) node)
+            ≡ Some (option_map (λ m. m.now) result.1) }
     {
         let node = self.node(node);
         match &node.message {

@@ -1,6 +1,6 @@
 //! What a tree of nodes does.
 ghost use Rattle.std.specs.Prelude.{◌≡◌, ◌++◌, ◌+◌, ◌≤◌, ◌<◌, ◌^◌, OnOk, IfOk, length};
-ghost use Rattle.tk_cutting.specs.Trees.{IsForest, forest, tree};
+ghost use Rattle.tk_cutting.specs.Trees.{IsForest, forest, tree_of};
 ghost use Rattle.tk_cutting.specs.Script as Script;
 ghost use Rattle.tk_cutting.specs.Script.{moves_below, stamped};
 ghost use Rattle.tk_cutting.specs.Weights.{publications, weight, weights};
@@ -41,8 +41,9 @@ pub(crate) fn push_tree(
     moves: &mut Vec<Move>,
 ) -> Result<(), AllocError>
     requires below { IsForest below.now }
-    requires limit { weight (tree numbered_node.now.node numbered_node.now.number (forest below.now)) ≤ MAX_EVENTS }
-    ensures { OnOk result (moves.new.items ≡ moves.old.items ++ Script.moves (tree numbered_node.now.node numbered_node.now.number (forest below.now))) }
+    requires limit { weight (tree_of numbered_node.now below.now) ≤ MAX_EVENTS }
+    ensures { OnOk result (moves.new.items ≡ moves.old.items
+        ++ Script.moves (tree_of numbered_node.now below.now)) }
 {
     let node = numbered_node.number;
     if numbered_node.node.skip.is_some() {
@@ -66,7 +67,8 @@ pub(crate) fn push_tree(
 fn push_all(parent: u32, nodes: &[NumberedNode], moves: &mut Vec<Move>) -> Result<(), AllocError>
     requires nodes { IsForest nodes.now }
     requires limit { weights (forest nodes.now) ≤ MAX_EVENTS }
-    ensures { OnOk result (moves.new.items ≡ moves.old.items ++ moves_below parent (forest nodes.now)) }
+    ensures { OnOk result (moves.new.items ≡ moves.old.items
+        ++ moves_below parent (forest nodes.now)) }
 {
     let mut rest = nodes;
     while let [numbered_node, after @ ..] = rest {

@@ -15,13 +15,14 @@ pub(crate) fn split<'p>(
     after.split_at(numbered_node.span - 1)
 }
 
-/// The node at a place, and those below it.
+/// The node at a position, and the nodes below it.
 pub(crate) fn tree_at<'p>(
     nodes: &'p [NumberedNode],
     position: usize,
 ) -> (&'p NumberedNode, &'p [NumberedNode])
     requires { HasTreeAt nodes.now position }
-    ensures { (top : NumberedNode) → (below rest : List NumberedNode) → drop position nodes.now ≡ top ∷ (below ++ rest) → top.span ≡ suc (length below)
+    ensures { (top : NumberedNode) → (below rest : List NumberedNode)
+        → drop position nodes.now ≡ top ∷ (below ++ rest) → top.span ≡ suc (length below)
         → (result.0.now ≡ top) × (result.1.now ≡ below) }
 {
     let numbered_node = &nodes[position];

@@ -15,15 +15,17 @@ pub record IsSame (a b : SenderView) : Type 0 where
 abbrev pub Extends : SenderView → SenderView → Type 0
 Extends a b = (l : List Event) × (b.sent ≡ a.sent ++ l)
 
--- and a unit may emit that list for the worker, which had registered what a sent
+-- so, where a unit may emit that list for the worker, which had registered what a sent
 abbrev pub ExtendsAs : (ℕ → ℕ → List Event → Type 0) → SenderView → SenderView → Type 0
-ExtendsAs may a b = (l : List Event) × (b.sent ≡ a.sent ++ l) × may a.worker (registrations a.sent) l
+ExtendsAs may a b =
+    (l : List Event) × (b.sent ≡ a.sent ++ l) × may a.worker (registrations a.sent) l
 
 -- an event that worker 0 may emit, where n descriptors are static
 abbrev pub IsStaticEvent : ℕ → Event → Type 0
 IsStaticEvent n e = (e.key < n) × (is_plain e ≡ true)
 
--- events that worker 0 may emit: each is lawful, of a static descriptor and no registration, and there are at most `most_events`
+-- events that worker 0 may emit: each is lawful, of a static descriptor and no registration, and
+-- there are at most `most_events`
 pub record AreBeforeOrAfter (n : ℕ) (es : List Event) : Type 0 where
   pub each : All (IsStaticEvent n) es
   pub few : length es ≤ most_events

@@ -9,3 +9,4 @@ pub mod Outcomes
 pub mod PreparedRuns
 pub mod WorkerThreads
 pub mod Workers
+pub mod FaultTexts

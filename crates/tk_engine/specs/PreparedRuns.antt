@@ -15,8 +15,10 @@ pub record IsWorkerCount (workers : ℕ) : Type 0 where
   pub some : 0 < workers
   pub few : workers ≤ MAX_WORKERS
 
--- nothing was taken, the queue has the capacity, the record has what comes before, and each worker is awaited
-pub record IsFreshCollector (table : List Descriptor) (before : List Event) (workers capacity : ℕ) (a : EventCollector) : Type 0 where
+-- nothing was taken, the queue has the capacity, the record has what comes before, and each worker
+-- is awaited
+pub record IsFreshCollector (table : List Descriptor) (before : List Event) (workers capacity : ℕ)
+    (a : EventCollector) : Type 0 where
   pub receiver : a.receiver ≡ fresh_receiver a.receiver.session table workers
   pub places : capacity_of a.receiver.session ≡ capacity
   pub table_is : a.recording.table ≡ table
@@ -27,8 +29,9 @@ pub record IsFreshCollector (table : List Descriptor) (before : List Event) (wor
   pub room : a.is_out_of_memory ≡ false
   pub started : a.is_refused ≡ false
 
--- a claim on the units, a book, who has done nothing, and room for what each has left
-pub record IsPreparedRun (table : List Descriptor) (before : List Event) (units workers capacity : ℕ) (s : PreparedRun) : Type 0 where
+-- a claim on the units, a book, workers who have done nothing, and room for the outcome of each
+pub record IsPreparedRun (table : List Descriptor) (before : List Event)
+    (units workers capacity : ℕ) (s : PreparedRun) : Type 0 where
   pub limit : s.claim.limit ≡ units
   pub seats : s.claim.seats ≡ workers
   pub unstarted : AreUnstarted s.joined.collector.receiver.session s.claim s.book table s.unstarted

@@ -9,7 +9,8 @@ pub record Ran : Type 0 where
   pub recorded : Recorded
   pub closed : List ℕ
 
--- the number of each of the workers 1 to n is how many of the entries are its own, and that of any other is 0
+-- the number of each of the workers 1 to n is how many of the entries are its own, and that of any
+-- other is 0
 pub record IsTallied (n : ℕ) (numbers : List ℕ) (entries : List Entry) : Type 0 where
   pub each : (w : ℕ) → IsWorkerOf n w → slice_index numbers w ≡ length (of_worker w entries)
   pub others : (w : ℕ) → ¬ IsWorkerOf n w → slice_index numbers w ≡ 0

@@ -13,6 +13,8 @@ IsSendCause s e (Send fault) = refusal_of s e ≡ Some fault
 IsSendCause s e (Register fault) = ⊥
 
 -- the sender's own refusal of the registration
-abbrev pub IsRegisterCause : SenderView → SenderView → ℕ → Pair → List ℕ → DType → ℕ → SinkFault → Type 0
+abbrev pub IsRegisterCause :
+    SenderView → SenderView → ℕ → Pair → List ℕ → DType → ℕ → SinkFault → Type 0
 IsRegisterCause old new parent segment name dtype stamp (Send fault) = ⊥
-IsRegisterCause old new parent segment name dtype stamp (Register fault) = IsRegisteredAs old new parent segment name dtype stamp (Err fault)
+IsRegisterCause old new parent segment name dtype stamp (Register fault) =
+    IsRegisteredAs old new parent segment name dtype stamp (Err fault)

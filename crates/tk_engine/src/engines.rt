@@ -1,19 +1,22 @@
-//! What is run: a table, events before and after, and units with their needs.
+//! What an engine is: a table, events before and after, and units with their needs.
 ghost use Rattle.std.specs.Prelude.{◌≡◌, ℕ, ◌<◌, ◌≤◌, List, length, Some, IfOk, OnOk, OnErr};
 ghost use Rattle.std.specs.Arc.{arc_value};
 ghost use Rattle.tk_ids.specs.declared.tables.Descriptor.{Descriptor};
 ghost use Rattle.tk_events.specs.declared.events.Event.{Event};
 ghost use Rattle.tk_book.specs.Wants.{Wants};
 ghost use Rattle.tk_engine.specs.Engines.{IsSame, Extends, ExtendsAs, AreBeforeOrAfter};
+ghost use Rattle.tk_engine.specs.FaultTexts.{unit_fault_text};
 
 use crate::sinks::{Sink, SinkFault};
 use std::alloc::{AllocError, Global};
+use std::error::Error;
+use std::fmt;
 use std::sync::{Arc, Wait};
 use tk_book::{BookSeat, Need};
 use tk_events::Event;
 use tk_ids::Table;
 
-/// How many units an engine may have.
+/// The most units that an engine may have.
 pub const MAX_UNITS: u32 = 65_536;
 
 /// Why a unit stopped.
@@ -21,11 +24,28 @@ pub const MAX_UNITS: u32 = 65_536;
 pub enum UnitFault {
     /// The sink refused an event or a registration.
     Sink(SinkFault),
-    /// Memory was refused.
+    /// A request for memory was refused.
     Memory,
-    /// A fault of the engine's own, with a number of its choice, as one for each thing that it can't go on without.
+    /// A fault of the engine's own, such as a fixture that it can't set up.
+    ///
+    /// The engine chooses the number, for instance one for each cause. The caller of `execute`
+    /// finds it in `RunFault::Engine`.
     Own(u32),
 }
+
+impl fmt::Display for UnitFault {
+    ghost output = { λ fault. Some (unit_fault_text fault) };
+
+    fn fmt<W: fmt::Write>(&self, f: &mut fmt::Formatter<W>) -> fmt::Result {
+        match self {
+            UnitFault::Sink(fault) => write!(f, "{fault}"),
+            UnitFault::Memory => f.write_str("out of memory"),
+            UnitFault::Own(number) => write!(f, "engine fault {number}"),
+        }
+    }
+}
+
+impl Error for UnitFault {}
 
 impl From<SinkFault> for UnitFault {
     ghost use Rattle.tk_engine.specs.declared.engines.UnitFault.TheVariants.{Sink as Sunk};
@@ -49,9 +69,11 @@ impl From<AllocError> for UnitFault {
 
 /// A test engine, whose units of work [`execute`](crate::execute) runs in parallel.
 ///
-/// JUnit: a `HierarchicalTestEngine`; a unit is a subtree of nodes that one thread runs. The meaning of an engine is its
-/// table, the events before and after the units, the number of the units, each unit's need, and which lists of events each
-/// unit may emit (`may`). The narrower `may` is, the more a run of the engine is proved to say.
+/// JUnit: a `HierarchicalTestEngine`; a unit is a subtree of nodes that one thread runs.
+///
+/// The meaning of an engine is its table, the events before and after the units, the number of the
+/// units, each unit's need, and which lists of events each unit may emit (`may`). The narrower
+/// `may` is, the more is proved of a run of the engine.
 pub trait Engine: Sync {
     ghost table: { Self → List Descriptor };
 
@@ -75,40 +97,46 @@ pub trait Engine: Sync {
         ensures is { result ≡ units self.now }
         ensures limit { result ≤ MAX_UNITS };
 
-    /// The events before all units, which worker 0 emits. They are lawful, of static descriptors, and no registrations, and
-    /// at most `MAX_EVENTS`.
+    /// The events before all units, which worker 0 emits.
+    ///
+    /// There are at most `MAX_EVENTS`. Each is lawful, of a static descriptor and no registration.
     ///
     /// # Errors
-    /// Memory was refused.
+    /// A request for memory was refused.
     fn before(&self, alloc: Global) -> Result<Vec<Event>, AllocError>
         ensures is { IfOk result (λ v. v.items ≡ before self.now) }
         ensures static_events { OnOk result
             (AreBeforeOrAfter (length (table self.now)) (before self.now)) };
 
-    /// The events after all units, which worker 0 emits, of the same kind as those before.
+    /// The events after all units, which worker 0 emits, with the limits of those before.
     ///
     /// # Errors
-    /// Memory was refused.
+    /// A request for memory was refused.
     fn after(&self, alloc: Global) -> Result<Vec<Event>, AllocError>
         ensures is { IfOk result (λ v. v.items ≡ after self.now) }
         ensures static_events { OnOk result
             (AreBeforeOrAfter (length (table self.now)) (after self.now)) };
 
-    /// Which resources a unit reads and writes while it runs. JUnit: its `ResourceLock`s, and `@Isolated`.
+    /// The resources that a unit reads and writes while it runs.
+    ///
+    /// JUnit: the `@ResourceLock`s of its nodes, and `@Isolated`.
     fn need(&self, unit: u32) -> Need
         requires { unit < units self.now }
         ensures { result ≡ need self.now unit };
 
     /// Runs one unit, and emits its events into `sink` in the order in which they happen.
     ///
-    /// [`execute`](crate::execute) calls this from the thread of the worker that drew `unit`; up to `MAX_WORKERS` threads
-    /// call it at once, each with another unit. `seat` holds the locks that `need` asked for, from before the call until
-    /// after it. A static descriptor's key is its number in the table, the key of a dynamic one is what `sink.register`
-    /// answered. JUnit: the body of a `HierarchicalTestEngine`'s node.
+    /// [`execute`](crate::execute) calls this from the thread of the worker that drew `unit`. All
+    /// workers, up to `MAX_WORKERS` threads, may call it at once, each with another unit. `seat`
+    /// holds the locks that `need` asked for, from before the call until after it.
+    ///
+    /// A static descriptor's key is its number in the table; the key of a dynamic one is what
+    /// `sink.register` returned. JUnit: the body of a `HierarchicalTestEngine`'s node.
     ///
     /// # Errors
-    /// `Sink` where the sink refused an event, `Memory`, or `Own(n)` with a number of the engine's own choice. The worker
-    /// then stops, and `execute` answers `RunFault::Engine(unit, fault)` of the lowest worker that had a fault.
+    /// `Sink` where the sink refused an event, `Memory`, or `Own(n)` where the engine itself can't
+    /// go on, with a number of its choice. The worker then stops, and `execute` answers
+    /// `RunFault::Engine(unit, fault)` of the lowest worker that had a fault.
     fn run<R: Wait, S: Sink>(
         &self,
         rt: &R,

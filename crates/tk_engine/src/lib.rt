@@ -1,4 +1,5 @@
-//! Engines, the sinks into which their units emit, and the run of an engine by one worker or by several.
+//! Engines, the sinks into which their units emit, and the run of an engine by one worker or by
+//! several.
 #![tactic(auto)]
 
 mod engines;

@@ -1,4 +1,4 @@
-//! What a run has recorded.
+//! The results of a run.
 ghost use Rattle.std.specs.Prelude.{◌≡◌, IfOk};
 ghost use Rattle.tk_columns.specs.declared.selections.Selection.TheVariants.{Tests, Containers};
 ghost use Rattle.tk_columns.specs.Selections.{all_of, filtered_by, selects};
@@ -9,7 +9,9 @@ use std::marker::Model;
 use tk_columns::{Events, Record, Selection};
 use tk_queue::Closed;
 
-/// The record of a run, and its closed session.
+/// The results of a run: its record, and how many events each worker emitted.
+///
+/// JUnit: `EngineExecutionResults`.
 #[derive(Drop)]
 pub struct Results {
     recording: Record,
@@ -31,7 +33,7 @@ impl Results {
         Results { recording, closed }
     }
 
-    /// The record.
+    /// The record of the run.
     pub fn recorded(&self) -> &Record
         ensures { result.now ≡ self.now.recorded }
     {
@@ -45,7 +47,7 @@ impl Results {
         &self.closed
     }
 
-    /// All events.
+    /// All events of the run.
     pub fn all_events(&self, alloc: Global) -> Result<Events<'_>, AllocError>
         ensures { IfOk result (λ events. events ≡ all_of self.now.recorded) }
     {
@@ -55,7 +57,8 @@ impl Results {
     /// The events of tests.
     pub fn test_events(&self, alloc: Global) -> Result<Events<'_>, AllocError>
         ensures { IfOk result (λ events.
-            events ≡ filtered_by (selects Tests self.now.recorded) (all_of self.now.recorded)) }
+            events
+            ≡ filtered_by (selects Tests self.now.recorded) (all_of self.now.recorded)) }
     {
         self.all_events(alloc)?.pick(alloc, Selection::Tests)
     }
@@ -63,7 +66,8 @@ impl Results {
     /// The events of containers.
     pub fn container_events(&self, alloc: Global) -> Result<Events<'_>, AllocError>
         ensures { IfOk result (λ events.
-            events ≡ filtered_by (selects Containers self.now.recorded) (all_of self.now.recorded)) }
+            events
+            ≡ filtered_by (selects Containers self.now.recorded) (all_of self.now.recorded)) }
     {
         self.all_events(alloc)?.pick(alloc, Selection::Containers)
     }

@@ -1,45 +1,64 @@
 //! Where a unit's events go.
-ghost use Rattle.std.specs.Prelude.{◌≡◌, None, Ok, IfOk, IfErr, OnOk, OnErr};
+ghost use Rattle.std.specs.Prelude.{◌≡◌, None, Some, Ok, IfOk, IfErr, OnOk, OnErr};
+ghost use Rattle.tk_engine.specs.FaultTexts.{sink_fault_text};
 ghost use Rattle.tk_engine.specs.Sinks.{IsSendCause, IsRegisterCause};
 ghost use Rattle.tk_queue.specs.Ends.{SenderView, sends, refusal_of, IsRegisteredAs};
 
+use std::error::Error;
+use std::fmt;
 use std::sync::Wait;
 use tk_events::Event;
 use tk_ids::{DType, Segment};
 use tk_queue::{RegisterFault, SendFault, Sender};
 
-/// Why a sink took no event. `execute` hands it on as it came.
+/// Why a sink took no event.
 #[derive(Debug, Drop)]
 pub enum SinkFault {
-    /// An event was refused, and comes back.
+    /// The sink refused an event, which is in the fault.
     Send(SendFault),
-    /// A registration was refused.
+    /// The sink refused a registration.
     Register(RegisterFault),
 }
 
+impl fmt::Display for SinkFault {
+    ghost output = { λ fault. Some (sink_fault_text fault) };
+
+    fn fmt<W: fmt::Write>(&self, f: &mut fmt::Formatter<W>) -> fmt::Result {
+        match self {
+            SinkFault::Send(fault) => write!(f, "{fault}"),
+            SinkFault::Register(fault) => write!(f, "{fault}"),
+        }
+    }
+}
+
+impl Error for SinkFault {}
+
 /// Takes the events of a unit, for one worker of a session. JUnit: an `EngineExecutionListener`.
 ///
-/// Its meaning is what contracts see of a sender: the session, the table, the worker, and the list that it emitted. What is
-/// taken is added as a sender adds it, and what is refused changes nothing.
+/// Its meaning is what contracts see of a sender: the session, the table, the worker, and the list
+/// that it emitted. What a sink takes is added as a sender adds it; a refusal changes nothing.
 pub trait Sink {
     ghost meaning: { Self → SenderView };
 
     /// Emits an event of a static descriptor, or of one that this sink registered.
     ///
     /// # Errors
-    /// `Send` where the event is unlawful, a registration, of an unknown descriptor, or one too many (`MAX_EVENTS`).
+    /// `Send` where the event is unlawful or a registration, where its descriptor is unknown, or
+    /// where the sink has emitted `MAX_EVENTS` events.
     fn emit<R: Wait>(&mut self, rt: &R, event: Event) -> Result<(), SinkFault>
         ensures ok { OnOk result ((refusal_of (meaning self.old) event ≡ None)
             × (meaning self.new ≡ sends (meaning self.old) event)) }
         ensures err { OnErr result (meaning self.new ≡ meaning self.old) };
 
-    /// Registers a dynamic descriptor below its parent, emits its registration with that stamp, and answers its key.
+    /// Registers a dynamic descriptor below its parent, emits its registration with this stamp, and
+    /// returns its key.
     ///
-    /// `parent` is the key of a static descriptor or of one that this sink registered; the new descriptor's id is the
-    /// parent's with `segment` appended. JUnit: `dynamicTestRegistered`.
+    /// `parent` is the key of a static descriptor or of one that this sink registered; the new
+    /// descriptor's id is the parent's with `segment` appended. JUnit: `dynamicTestRegistered`.
     ///
     /// # Errors
-    /// `Register` where the parent is unknown, the id would be too long, a limit is reached, or memory was refused.
+    /// `Register` where the parent is unknown, where the id would be too long, where a limit is
+    /// reached, or where a request for memory was refused.
     fn register<R: Wait>(
         &mut self,
         rt: &R,
@@ -50,7 +69,8 @@ pub trait Sink {
         stamp: u64,
     ) -> Result<u32, SinkFault>
         ensures ok { IfOk result (λ key.
-            IsRegisteredAs (meaning self.old) (meaning self.new) parent segment.now name.now dtype stamp (Ok key)) }
+            IsRegisteredAs (meaning self.old) (meaning self.new)
+            parent segment.now name.now dtype stamp (Ok key)) }
         ensures err { OnErr result (meaning self.new ≡ meaning self.old) };
 }
 

@@ -7,7 +7,8 @@ use tk_book::BookSeat;
 use tk_claim::ClaimSeat;
 use tk_queue::Sender;
 
-/// The workers whose threads are not started yet: the sender and the seats of each, in the order of their numbers.
+/// The workers whose threads are not started yet: the sender and the seats of each, in the order of
+/// their numbers.
 #[derive(Drop)]
 pub(crate) struct UnstartedWorkers {
     pub senders: Vec<Sender>,

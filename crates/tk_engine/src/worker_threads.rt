@@ -1,4 +1,4 @@
-//! The threads of a run.
+//! The threads of a run's workers.
 ghost use Rattle.std.specs.Prelude.{◌≡◌, ◌<◌, ◌≤◌, [], ◌∷◌, ◌++◌, vec_len, vec_capacity};
 ghost use Rattle.tk_engine.specs.WorkerThreads.{CanRunWorkers, WorkersWereRun};
 ghost use Rattle.tk_engine.specs.Workers.{IsReady, IsDone};
@@ -24,10 +24,11 @@ pub(crate) struct WorkerPromise<'e, E> {
 }
 
 impl<'e, E: Engine> Promise<Outcome> for WorkerPromise<'e, E> {
-    ghost kept_by = { λ p r. IsDone (E.may p.engine.now) (E.units p.engine.now) p.handles.value.sender.session p.claim.now p.handles.value.sender.worker r };
+    ghost kept_by = { λ p r. IsDone (E.may p.engine.now) (E.units p.engine.now)
+        p.handles.value.sender.session p.claim.now p.handles.value.sender.worker r };
 }
 
-/// The receiver's side of a run, and what each worker has left that was joined.
+/// The receiver's side of a run, and the outcome of each worker that was joined.
 #[derive(Drop)]
 pub(crate) struct JoinedWorkers {
     pub collector: EventCollector,
@@ -45,8 +46,8 @@ fn add(outcomes: &mut Vec<Outcome>, outcome: Outcome)
     };
 }
 
-// Starts a thread for the last worker, does the same with the rest, collects events where none is left, and joins on the
-// way back.
+// Starts a thread for the last worker, does the same with the rest, collects events where none is
+// left, and joins on the way back.
 fn spawn_workers<'s, 'e, R: Threads + Wait + Sync, E: Engine>(
     rt: &'e R,
     alloc: Global,

@@ -106,7 +106,8 @@ fn run_units<R: Wait, E: Engine>(
         (Emits (E.may engine.now) sender.old.worker 0 claim_seat.new.numbers sender.new.sent) }
     ensures unit { IfSome result (λ failure. failure.unit < E.units engine.now) }
     ensures stopped { IfSome result (λ failure.
-        IsStopped (E.may engine.now) sender.old.worker claim_seat.new sender.new.sent failure.unit) }
+        IsStopped (E.may engine.now) sender.old.worker claim_seat.new sender.new.sent
+        failure.unit) }
 {
     for _ in rt.forever() {
         let Some(unit) = claim.draw(claim_seat) else {

@@ -1,4 +1,4 @@
-//! Events, as an engine tells them.
+//! What an engine emits: events of descriptors, and the workers that emit them.
 #![tactic(auto)]
 
 mod events;
@@ -9,6 +9,6 @@ mod registrations;
 
 pub use events::{Entry, Event};
 pub use kinds::{Kind, Status};
-pub use payloads::{Pairs, Payload};
+pub use payloads::{Pairs, Payload, try_clone_message};
 pub use registrations::{is_worker, registered_key};
 pub use tk_limits::MAX_WORKERS;

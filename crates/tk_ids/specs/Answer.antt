@@ -5,7 +5,8 @@ use Rattle.tk_ids.specs.declared.ids.IdFault.TheVariants.{Empty, BadSegment, Bad
 use Rattle.tk_ids.specs.Prefix.{IsLongestPrefix}
 use Rattle.tk_ids.specs.IdText.{Pair, IsId, IsIdText, id_text, FitsLimits, EndsInEscape}
 
--- a text that is no id's and isn't empty, which goes along with an id's text for `at` bytes and no more
+-- a text that is no id's and isn't empty, and whose longest prefix with which an id's text begins
+-- has `at` bytes
 pub record IsBadAt (text : List ℕ) (at : ℕ) : Type 0 where
   pub some : 0 < length text
   pub no_id : ¬ IsIdText text
@@ -28,7 +29,9 @@ IsFaultAfter prefix _ = ⊥
 
 -- what making a segment of a tag and a value answers; want of memory may come at any
 abbrev pub IsSegmentOf : List ℕ → List ℕ → Result Pair IdFault → Type 0
-IsSegmentOf tag value (Ok s) = (s ≡ record { tag = tag; value = value }) × (0 < length tag) × (0 < length value)
+IsSegmentOf tag value (Ok s) =
+    (s ≡ record { tag = tag; value = value })
+    × (0 < length tag) × (0 < length value)
 IsSegmentOf tag value (Err Empty) = (tag ≡ []) ⊎ (value ≡ [])
 IsSegmentOf tag value (Err Memory) = Unit {0}
 IsSegmentOf tag value (Err _) = ⊥

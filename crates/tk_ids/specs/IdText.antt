@@ -58,9 +58,12 @@ FitsLimits id = (length (id_text id) ≤ MAX_BYTES) × (length id ≤ MAX_SEGMEN
 abbrev pub IsEngine : List Pair → Type 0
 IsEngine id = (value : List ℕ) × (id ≡ record { tag = codes "engine"; value = value } ∷ [])
 
--- the text ends within an escape, after `%` or after one digit: an escaped text has `%` nowhere else
+-- the text ends within an escape, after `%` or after `%` and one digit: an id's text has `%`
+-- nowhere else
 abbrev pub EndsInEscape : List ℕ → Type 0
-EndsInEscape text = ((prefix : List ℕ) × (text ≡ prefix ++ 37 ∷ [])) ⊎ ((prefix : List ℕ) × (digit : ℕ) × (text ≡ prefix ++ 37 ∷ digit ∷ []))
+EndsInEscape text =
+    ((prefix : List ℕ) × (text ≡ prefix ++ 37 ∷ []))
+    ⊎ ((prefix : List ℕ) × (digit : ℕ) × (text ≡ prefix ++ 37 ∷ digit ∷ []))
 
 -- the id without its last segment
 abbrev pub parent_of : List Pair → List Pair

@@ -24,8 +24,10 @@ AnswerIsUnique =
 -- adding a descriptor has one answer and leaves one table, where memory doesn't run out
 abbrev pub AdditionIsUnique : Type 0
 AdditionIsUnique =
-    (old new other : List Descriptor) (parent : Option ℕ) (segment : Pair) (name : List ℕ) (dtype : DType) (a b : Result ℕ TableFault) →
-    IsAddedAs old new parent segment name dtype a → IsAddedAs old other parent segment name dtype b →
+    (old new other : List Descriptor) (parent : Option ℕ) (segment : Pair) (name : List ℕ)
+    (dtype : DType) (a b : Result ℕ TableFault) →
+    IsAddedAs old new parent segment name dtype a →
+    IsAddedAs old other parent segment name dtype b →
     a ≢ Err table_faults.Memory → b ≢ Err table_faults.Memory → (a ≡ b) × (new ≡ other)
 
 -- and so has inserting one

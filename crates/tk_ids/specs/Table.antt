@@ -28,12 +28,15 @@ HasId table id = (key : ℕ) × (slice_get (ids_of table) key ≡ Some id)
 
 -- no two descriptors have one id
 abbrev pub AreDifferent : List Descriptor → Type 0
-AreDifferent table = (j k : ℕ) (id : List Pair) → slice_get (ids_of table) j ≡ Some id → slice_get (ids_of table) k ≡ Some id → j ≡ k
+AreDifferent table =
+    (j k : ℕ) (id : List Pair) →
+    slice_get (ids_of table) j ≡ Some id → slice_get (ids_of table) k ≡ Some id → j ≡ k
 
 -- the id of a child of this parent, or of a root; none where there is no such parent
 abbrev pub child_id : List Descriptor → Option ℕ → Pair → Option (List Pair)
 child_id table None segment = Some (segment ∷ [])
-child_id table (Some parent) segment = option_map (λ d. d.id ++ segment ∷ []) (slice_get table parent)
+child_id table (Some parent) segment =
+    option_map (λ d. d.id ++ segment ∷ []) (slice_get table parent)
 
 -- what making that id answers, at a table that may be full; want of memory may come at any
 abbrev pub IsChildId : List Descriptor → Option ℕ → Pair → Result (List Pair) TableFault → Type 0
@@ -50,12 +53,15 @@ IsChildId table parent segment (Err (Id _)) = ⊥
 IsChildId table parent segment (Err Memory) = Unit {0}
 
 -- What adding a descriptor answers, and the table after it. Want of memory may come at any.
-abbrev pub IsAddedAs : List Descriptor → List Descriptor → Option ℕ → Pair → List ℕ → DType → Result ℕ TableFault → Type 0
+abbrev pub IsAddedAs :
+    List Descriptor → List Descriptor → Option ℕ → Pair → List ℕ → DType → Result ℕ TableFault →
+    Type 0
 IsAddedAs old new parent segment name dtype (Ok key) =
     (id : List Pair) × (child_id old parent segment ≡ Some id)
     × FitsLimits id × ¬ (HasId old id) × (length old < MAX_DESCRIPTORS)
     × (key ≡ length old) × (new ≡ old ++ record { id = id; name = name; dtype = dtype } ∷ [])
-IsAddedAs old new parent segment name dtype (Err NoParent) = (child_id old parent segment ≡ None) × (new ≡ old)
+IsAddedAs old new parent segment name dtype (Err NoParent) =
+    (child_id old parent segment ≡ None) × (new ≡ old)
 IsAddedAs old new parent segment name dtype (Err Twice) =
     (id : List Pair) × (child_id old parent segment ≡ Some id)
     × HasId old id × (new ≡ old)
@@ -82,11 +88,14 @@ pub record TakesNext (table : List Descriptor) (d : Descriptor) : Type 0 where
   pub absent : ¬ HasId table d.id
   pub room : length table < MAX_DESCRIPTORS
 
--- What putting a descriptor at the end answers, and the table after it. Want of memory may come at any.
-abbrev pub IsInsertedAs : List Descriptor → List Descriptor → Descriptor → Result ℕ TableFault → Type 0
+-- What putting a descriptor at the end answers, and the table after it. Want of memory may come at
+-- any.
+abbrev pub IsInsertedAs :
+    List Descriptor → List Descriptor → Descriptor → Result ℕ TableFault → Type 0
 IsInsertedAs old new d (Ok key) = TakesNext old d × (key ≡ length old) × (new ≡ old ++ d ∷ [])
 IsInsertedAs old new d (Err NoParent) = ¬ HasParent old d.id × (new ≡ old)
 IsInsertedAs old new d (Err Twice) = HasParent old d.id × HasId old d.id × (new ≡ old)
-IsInsertedAs old new d (Err Full) = HasParent old d.id × ¬ (HasId old d.id) × (length old ≡ MAX_DESCRIPTORS) × (new ≡ old)
+IsInsertedAs old new d (Err Full) =
+    HasParent old d.id × ¬ (HasId old d.id) × (length old ≡ MAX_DESCRIPTORS) × (new ≡ old)
 IsInsertedAs old new d (Err (Id _)) = ⊥
 IsInsertedAs old new d (Err Memory) = new ≡ old

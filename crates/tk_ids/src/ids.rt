@@ -1,29 +1,48 @@
 //! Unique ids.
-ghost use Rattle.std.specs.Prelude.{◌≡◌, ℕ, List, MatchOption, IfOk, IfErr, IsOk, OnOk, length, [], ◌∷◌, ◌++◌, ◌<◌, ◌≤◌, ◌⊎◌, IsTrue, ◌↔◌};
+ghost use Rattle.std.specs.Prelude.{◌≡◌, ℕ, List, MatchOption, IfOk, IfErr, IsOk, OnOk, length, [], ◌∷◌, ◌++◌, ◌<◌, ◌≤◌, ◌⊎◌, IsTrue, ◌↔◌, Some};
 ghost use Rattle.tk_ids.specs.IdText.{EndsInEscape};
 ghost use Rattle.tk_ids.specs.Answer.{IsFaultAfter};
+ghost use Rattle.tk_ids.specs.FaultTexts.{id_fault_text};
 
 use crate::reading::Reader;
 use crate::texts::Text;
 use crate::writing::push_segment;
 use std::alloc::{AllocError, AllocFailed, Global};
+use std::error::Error;
+use std::fmt;
 use std::marker::Model;
 use std::sync::Arc;
 
-/// Why there is no id. Positions count bytes from 0.
+/// Why a call gives no segment or no id. Positions count the bytes of the text from 0.
 #[derive(Debug, Clone, Copy, PartialEq, Eq)]
 pub enum IdFault {
-    /// A text is empty that may not be.
+    /// The text of an id, a tag or a value is empty.
     Empty,
-    /// The text is no id's from here on.
+    /// The byte at this position can't follow those before it in the text of any id.
     BadSegment(usize),
-    /// The text is no id's from here on, within an escape.
+    /// The byte at this position can't follow those before it, which end within an escape.
     BadEscape(usize),
-    /// The text is longer than `MAX_BYTES`, or has more segments than `MAX_SEGMENTS`.
+    /// The id's text is longer than `MAX_BYTES`, or it has more segments than `MAX_SEGMENTS`.
     TooLong,
-    /// Memory was refused.
+    /// A request for memory was refused.
     Memory,
 }
+
+impl fmt::Display for IdFault {
+    ghost output = { λ fault. Some (id_fault_text fault) };
+
+    fn fmt<W: fmt::Write>(&self, f: &mut fmt::Formatter<W>) -> fmt::Result {
+        match self {
+            IdFault::Empty => f.write_str("text is empty"),
+            IdFault::BadSegment(at) => write!(f, "bad segment at byte {at}"),
+            IdFault::BadEscape(at) => write!(f, "bad escape at byte {at}"),
+            IdFault::TooLong => f.write_str("id is too long"),
+            IdFault::Memory => f.write_str("out of memory"),
+        }
+    }
+}
+
+impl Error for IdFault {}
 
 impl<T: Drop> From<AllocFailed<T>> for IdFault {
     ghost use Rattle.tk_ids.specs.declared.ids.IdFault.TheVariants.{Memory};
@@ -45,10 +64,10 @@ impl From<AllocError> for IdFault {
     }
 }
 
-/// How many bytes the text of an id has at most.
+/// The most bytes that the text of an id may have.
 pub const MAX_BYTES: usize = 4096;
 
-/// How many segments an id has at most.
+/// The most segments that an id may have.
 pub const MAX_SEGMENTS: usize = 64;
 
 /// How many bytes are reserved for a segment's text before it is written; a longer one grows.
@@ -61,7 +80,7 @@ struct SegmentTexts {
     value: Text,
 }
 
-/// A tag and a value, neither of them empty. Clones share them.
+/// One step of an id: a tag and a value, neither of them empty. Clones share both texts.
 #[derive(Debug, Drop)]
 pub struct Segment {
     parts: Arc<SegmentTexts>,
@@ -73,9 +92,11 @@ impl Model for Segment {
 
     ghost Value = { Pair };
 
-    ghost view = { λ s. record { tag = (arc_value s.parts).tag; value = (arc_value s.parts).value } };
+    ghost view = { λ s. record
+        { tag = (arc_value s.parts).tag; value = (arc_value s.parts).value } };
 
-    ghost invariant = { λ s. IsNonEmptyText (arc_value s.parts).tag × IsNonEmptyText (arc_value s.parts).value };
+    ghost invariant = { λ s. IsNonEmptyText (arc_value s.parts).tag
+        × IsNonEmptyText (arc_value s.parts).value };
 }
 
 impl Segment {
@@ -92,7 +113,10 @@ impl Segment {
         })
     }
 
-    /// A segment with this tag and this value.
+    /// Makes a segment of copies of `tag` and `value`, which stand without escapes.
+    ///
+    /// # Errors
+    /// `Empty` where one of them is empty, or `Memory`.
     pub fn new(alloc: Global, tag: &str, value: &str) -> Result<Segment, IdFault>
         ensures { IsSegmentOf tag.now value.now result }
     {
@@ -103,7 +127,7 @@ impl Segment {
         Ok(Segment::from_parts(alloc, tag, value)?)
     }
 
-    /// Another segment with the same tag and value.
+    /// Another segment that shares the tag and the value.
     pub fn try_clone(&self) -> Result<Segment, AllocError>
         ensures { IfOk result (λ s. s ≡ self.now) }
     {
@@ -202,10 +226,14 @@ impl UniqueId {
         })
     }
 
-    /// The id that a text spells: `[tag:value]` for each segment, joined by `/`, where `%`, `+`,
-    /// `[`, `]`, `:` and `/` stand as `%25`, `%2B`, `%5B`, `%5D`, `%3A` and `%2F`. Only these
-    /// spellings are read. A text that is no id's is bad at the length of its longest prefix with
-    /// which some id's text begins.
+    /// Reads an id from its text: `[tag:value]` for each segment, joined by `/`, where `%`, `+`,
+    /// `[`, `]`, `:` and `/` in a tag or a value stand as `%25`, `%2B`, `%5B`, `%5D`, `%3A` and
+    /// `%2F`. No other spelling is read.
+    ///
+    /// # Errors
+    /// `Empty` where the text is empty. `BadSegment(n)` or `BadEscape(n)` where it is no id's
+    /// text: n is the length of its longest prefix with which some id's text begins. `TooLong`, or
+    /// `Memory`.
     pub fn read(alloc: Global, text: &str) -> Result<UniqueId, IdFault>
         ensures { IsReadAs text.now result }
     {
@@ -229,7 +257,7 @@ impl UniqueId {
         Ok(UniqueId::from_parts(alloc, text, segments)?)
     }
 
-    /// The id's text.
+    /// The id's text, as a `Text` of its own.
     pub fn write(&self) -> Result<Text, AllocError>
         ensures text { IfOk result (λ t. t ≡ id_text self.now) }
         // What every id is.
@@ -249,7 +277,7 @@ impl UniqueId {
         &self.path.text
     }
 
-    /// The segments, from the root's on.
+    /// The segments, beginning with the root's.
     pub fn segments(&self) -> &[Segment]
         ensures { result.now ≡ self.now }
     {
@@ -266,7 +294,7 @@ impl UniqueId {
         }
     }
 
-    /// Another id with the same segments.
+    /// Makes another id with the same segments.
     pub fn try_clone(&self, alloc: Global) -> Result<UniqueId, AllocError>
         ensures { IfOk result (λ id. id ≡ self.now) }
     {
@@ -294,7 +322,7 @@ impl UniqueId {
         Ok(Some(Text::from_utf8(prefix)))
     }
 
-    /// The id without its last segment, where it has more than one.
+    /// The id without its last segment, or `None` where it has only one.
     pub fn parent(&self, alloc: Global) -> Result<Option<UniqueId>, AllocError>
         ensures { IfOk result (λ parent. MatchOption parent (length self.now ≡ 1)
             (λ id. (1 < length self.now) × (id ≡ parent_of self.now))) }
@@ -307,7 +335,10 @@ impl UniqueId {
         Ok(Some(UniqueId::from_parts(alloc, text, segments)?))
     }
 
-    /// The id of one segment.
+    /// Makes the id of a root: one segment.
+    ///
+    /// # Errors
+    /// `TooLong`, or `Memory`.
     pub fn of(alloc: Global, segment: &Segment) -> Result<UniqueId, IdFault>
         ensures { IsMadeOf (segment.now ∷ []) result }
     {
@@ -334,7 +365,10 @@ impl UniqueId {
         Ok(Text::from_utf8(bytes))
     }
 
-    /// The id with one segment more.
+    /// Makes the id of a child: the segments of this id, and `segment` after them.
+    ///
+    /// # Errors
+    /// `TooLong`, or `Memory`.
     pub fn append(&self, alloc: Global, segment: &Segment) -> Result<UniqueId, IdFault>
         ensures { IsMadeOf (self.now ++ segment.now ∷ []) result }
     {

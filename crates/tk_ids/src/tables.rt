@@ -1,15 +1,19 @@
 //! The table of static descriptors.
 ghost use Rattle.std.specs.Prelude.{◌≡◌, ◌↔◌, ℕ, List, [], length, IsTrue, false, IfOk, IfSome, IfNone, Some, slice_get, None, MatchOption, ◌≤◌, ◌<◌, ◌∷◌, ◌++◌, OnOk, OnErr};
 ghost use Rattle.std.specs.Option.{option_copied};
+ghost use Rattle.std.specs.Slice.Iter.{iter_rest};
 ghost use Rattle.tk_ids.specs.declared.tables.TheConstants.{MAX_DESCRIPTORS};
+ghost use Rattle.tk_ids.specs.FaultTexts.{table_fault_text};
 
 use crate::ids::{IdFault, Segment, UniqueId};
 use crate::texts::Text;
 use indexmap::IndexMap;
 use std::alloc::{AllocError, AllocFailed, Global};
+use std::error::Error;
 use std::marker::Model;
+use std::{fmt, slice};
 
-/// What a descriptor may have in it.
+/// Whether a descriptor is a container, a test, or both.
 #[derive(Clone, Copy, PartialEq, Eq, Debug)]
 pub enum DType {
     Container,
@@ -56,20 +60,36 @@ impl Descriptor {
     }
 }
 
-/// Why a descriptor isn't added.
+/// Why a table refuses a descriptor.
 #[derive(Clone, Copy, Debug, PartialEq, Eq)]
 pub enum TableFault {
-    /// There is no such parent.
+    /// The table has no descriptor with the parent's key, or with the parent's id.
     NoParent,
-    /// The id is there.
+    /// The table has a descriptor with this id.
     Twice,
-    /// There are `MAX_DESCRIPTORS` descriptors.
+    /// The table has `MAX_DESCRIPTORS` descriptors.
     Full,
-    /// There is no such id.
+    /// The parent's id can't have this segment appended.
     Id(IdFault),
-    /// Memory was refused.
+    /// A request for memory was refused.
     Memory,
 }
+
+impl fmt::Display for TableFault {
+    ghost output = { λ fault. Some (table_fault_text fault) };
+
+    fn fmt<W: fmt::Write>(&self, f: &mut fmt::Formatter<W>) -> fmt::Result {
+        match self {
+            TableFault::NoParent => f.write_str("no such parent"),
+            TableFault::Twice => f.write_str("id is already in the table"),
+            TableFault::Full => f.write_str("table is full"),
+            TableFault::Id(fault) => write!(f, "{fault}"),
+            TableFault::Memory => f.write_str("out of memory"),
+        }
+    }
+}
+
+impl Error for TableFault {}
 
 impl<T: Drop> From<AllocFailed<T>> for TableFault {
     ghost use Rattle.tk_ids.specs.declared.tables.TableFault.TheVariants.{Memory};
@@ -91,10 +111,12 @@ impl From<AllocError> for TableFault {
     }
 }
 
-/// How many descriptors a table has at most.
+/// The most descriptors that a table may have.
 pub const MAX_DESCRIPTORS: usize = 65536;
 
-/// Descriptors with different ids. A descriptor's key is its place.
+/// Descriptors, no two with one id, in the order in which they were added.
+///
+/// A descriptor's key is its position, counted from 0.
 #[derive(Drop)]
 pub struct Table {
     by_text: IndexMap<Text, Descriptor>,
@@ -122,13 +144,22 @@ impl Table {
     ghost use Rattle.tk_ids.specs.IdText.{Pair, IsId, id_text};
     ghost use Rattle.tk_ids.specs.Answer.{IsMadeOf};
 
-    /// A table with no descriptor.
+    /// Makes an empty table.
     pub fn new(alloc: Global) -> Table
         ensures { result ≡ [] }
     {
         Table {
             by_text: IndexMap::new(alloc),
         }
+    }
+
+    /// Makes an empty table with room for as many descriptors as `capacity`.
+    pub fn with_capacity(alloc: Global, capacity: usize) -> Result<Table, AllocError>
+        ensures { IfOk result (λ table. table ≡ []) }
+    {
+        Ok(Table {
+            by_text: IndexMap::with_capacity(alloc, capacity)?,
+        })
     }
 
     /// How many descriptors there are.
@@ -139,12 +170,26 @@ impl Table {
         self.by_text.len()
     }
 
+    /// Whether there is no descriptor.
+    pub fn is_empty(&self) -> bool
+        ensures { IsTrue result ↔ (self.now ≡ []) }
+    {
+        self.by_text.is_empty()
+    }
+
     /// Whether there are `MAX_DESCRIPTORS` descriptors.
-    pub fn is_full(&self) -> bool
+    fn is_full(&self) -> bool
         ensures full { IsTrue result → length self.now ≡ MAX_DESCRIPTORS }
         ensures room { result ≡ false → length self.now < MAX_DESCRIPTORS }
     {
         self.len() >= MAX_DESCRIPTORS
+    }
+
+    /// The descriptors, in the order of their keys.
+    pub fn iter(&self) -> slice::Iter<'_, Descriptor>
+        ensures { iter_rest result ≡ self.now }
+    {
+        self.by_text.values().as_slice().iter()
     }
 
     /// The descriptor with this key.
@@ -215,9 +260,12 @@ impl Table {
         Ok(())
     }
 
-    /// Adds a descriptor below its parent, or as a root, and gives its key. The id is the parent's
-    /// with the segment appended, or the segment alone. Of several faults the first is answered,
-    /// in the order of `TableFault`, and the table is then as it was.
+    /// Adds a descriptor below the parent with this key, or as a root, and returns its key.
+    ///
+    /// The descriptor's id is the parent's with `segment` appended, or `segment` alone.
+    ///
+    /// # Errors
+    /// The first fault in the order of `TableFault`. The table is then unchanged.
     pub fn add(
         &mut self,
         alloc: Global,
@@ -260,8 +308,11 @@ impl Table {
         }
     }
 
-    /// Puts a descriptor at the end, and gives its key. The table must have its parent, whose id
-    /// is its own without the last segment. At a fault the table is as it was.
+    /// Adds a descriptor under its own id, and returns its key.
+    ///
+    /// # Errors
+    /// `NoParent` where the id has more than one segment and no descriptor has the id without the
+    /// last; `Twice`, `Full` or `Memory`. The table is then unchanged.
     pub fn insert(&mut self, alloc: Global, descriptor: Descriptor) -> Result<u32, TableFault>
         ensures { IsInsertedAs self.old self.new descriptor result }
     {
@@ -278,5 +329,17 @@ impl Table {
         let key = self.len() as u32;
         self.push(descriptor)?;
         Ok(key)
+    }
+
+    /// Puts a descriptor at the end without looking up its parent and its id, as [`Table::insert`]
+    /// does: the caller knows them. At a fault the table is as it was.
+    pub fn append(&mut self, descriptor: Descriptor) -> Result<(), AllocError>
+        requires parent { HasParent self.old descriptor.id }
+        requires absent { ¬ HasId self.old descriptor.id }
+        requires room { length self.old < MAX_DESCRIPTORS }
+        ensures ok { OnOk result (self.new ≡ self.old ++ descriptor ∷ []) }
+        ensures err { OnErr result (self.new ≡ self.old) }
+    {
+        self.push(descriptor)
     }
 }

@@ -12,7 +12,7 @@ use std::cmp::Ordering;
 use std::hash::{Hash, Hasher};
 use std::marker::Model;
 
-/// A text, which contracts see as the list of its bytes.
+/// A text in UTF-8. Contracts see it as the list of its bytes.
 #[derive(Debug, Drop)]
 pub struct Text {
     string: String,
@@ -25,7 +25,7 @@ impl Model for Text {
 }
 
 impl Text {
-    /// A copy of a text.
+    /// Copies a text.
     pub fn copy(alloc: Global, text: &str) -> Result<Text, AllocError>
         ensures { IfOk result (λ t. t ≡ text.now) }
     {
@@ -34,7 +34,7 @@ impl Text {
         })
     }
 
-    /// The text of these bytes.
+    /// Makes a text of bytes that are UTF-8.
     pub fn from_utf8(bytes: Vec<u8>) -> Text
         requires { IsUtf8 bytes.items }
         ensures { result ≡ bytes.items }
@@ -45,6 +45,7 @@ impl Text {
         }
     }
 
+    /// The text as a `str`.
     pub fn as_str(&self) -> &str
         ensures { result.now ≡ self.now }
     {
@@ -58,6 +59,7 @@ impl Text {
         self.string.len()
     }
 
+    /// Whether the text has no byte.
     pub fn is_empty(&self) -> bool
         ensures { result ≡ (length self.now == 0) }
     {

@@ -5,7 +5,7 @@ ghost use Rattle.std.specs.Prelude.{◌≡◌, ◌≤◌, ◌<◌, ◌^◌, ◌*
 ghost use Rattle.std.specs.Simd.Lanes.{zip2};
 ghost use Rattle.std.specs.List.{items_where_true};
 ghost use Rattle.tk_lanes.specs.Bits.{shares_bit};
-ghost use Rattle.tk_lanes.specs.Lists.{positions};
+ghost use Rattle.tk_lanes.specs.Lists.{block_of, positions};
 ghost use Rattle.tk_lanes.specs.Flags.{IsNextSet, IsNoneSet};
 
 use crate::mask_words::equal_in_word;
@@ -27,7 +27,8 @@ impl Model for Flags {
 
     ghost view = { λ f. first_bits f.len f.words.items };
 
-    ghost invariant = { λ f. (HoldsFlags (first_bits f.len f.words.items) f.words.items) × (f.len ≤ 2 ^ 32) };
+    ghost invariant = { λ f. (HoldsFlags (first_bits f.len f.words.items) f.words.items)
+        × (f.len ≤ 2 ^ 32) };
 }
 
 impl Flags {
@@ -187,12 +188,14 @@ impl Flags {
         total
     }
 
-    /// How many of the bytes of a column at set flags equal 0, 1, .. 7, in one pass. It takes no memory.
+    /// How many of the bytes of a column at set flags equal 0, 1, .. 7, in one pass.
+    ///
+    /// It takes no memory.
     pub fn tally(&self, column: &[u8]) -> [usize; 8]
         requires { length column.now ≡ length self.now }
         ensures value { (k : ℕ) → k < 8
-            → slice_index result k ≡ count_by (λ x.
-            x == k) (items_where_true self.now column.now) }
+            → slice_index result k
+            ≡ count_by (λ x. x == k) (items_where_true self.now column.now) }
         ensures bound { (k : ℕ) → k < 8 → slice_index result k ≤ 2 ^ 32 }
     {
         let mut counts = [0; 8];
@@ -209,8 +212,8 @@ impl Flags {
     fn count_in_block(&self, column: &[u8], block: usize, value: u8) -> usize
         requires size { length column.now ≡ length self.now }
         requires within { 64 * block < length self.now }
-        ensures value { result ≡ count_by (λ x.
-            x == value) (items_where_true (take 64 (drop (64 * block) self.now)) (take 64 (drop (64 * block) column.now))) }
+        ensures value { result ≡ count_by (λ x. x == value)
+            (items_where_true (block_of block self.now) (block_of block column.now)) }
         ensures bound { result ≤ 64 }
     {
         let start = 64 * block;

@@ -182,6 +182,27 @@ module _ (k m : ℕ) (levels : m ≡ suc k) (old pushed : List NumberedNode) (s 
       ap (λ n. descriptors s.above (grown n s)) levels ∙ ap₂ (λ i n. descriptor_in i n ++ descriptors_below i (forest_of (map (grown k) (below s)))) (sym here) (sym is) ∙ ap (λ l. descriptor_in id node ++ l) both in
       second ∙ ap (λ l. l ++ q) (first_part ∙ ap (λ l. l ++ p) push1) ∙ append_assoc (ds ++ descriptor_in id node) p q ∙ append_assoc ds (descriptor_in id node) (p ++ q) ∙ ap (λ l. ds ++ l) (sym whole)
 
+-- A node with nothing below it was checked and pushed.
+pub leaf_read : (k m : ℕ) → m ≡ suc k → (old pushed : List NumberedNode) (s : NodeInput) (node : Node)
+    → below s ≡ [] → node ≡ node_of s → pushed ≡ old ++ record { node = node; number = 0; span = 1 } ∷ []
+    → first (checks (contents old) s) ≡ None
+    → (verdict (contents old) (node_inputs m s) ≡ None) × (pushed ≡ old ++ flat (grown m s))
+unfolding joined
+leaf_read k m levels old pushed s node none is push fine = (
+  dynamic_verdict k m levels old pushed s node [] [] none is push fine pushed refl (sym (append-nil pushed)) None refl,
+  push ∙ sym (grown_here k m levels old pushed s node [] [] none is push fine),
+)
+
+-- so were its descriptors
+pub leaf_described : (k m : ℕ) → m ≡ suc k → (old pushed : List NumberedNode) (s : NodeInput) (node : Node)
+    → below s ≡ [] → node ≡ node_of s → pushed ≡ old ++ record { node = node; number = 0; span = 1 } ∷ []
+    → first (checks (contents old) s) ≡ None
+    → (id : List Pair) (ds added : List Descriptor) → id ≡ id_of s → added ≡ ds ++ descriptor_in id node
+    → added ≡ ds ++ descriptors s.above (grown m s)
+leaf_described k m levels old pushed s node none is push fine id ds added here added_is =
+    described_here k m levels old pushed s node [] [] none is push fine id ds added added added here added_is
+    (sym (append-nil added)) (sym (append-nil added))
+
 -- the element at the seam is what is there
 at_seam : (old rest : List NumberedNode) (p x : NumberedNode) → x ≡ get_or (old ++ p ∷ rest) (length old) x → x ≡ p
 at_seam [] rest p x e = e

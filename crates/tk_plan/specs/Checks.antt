@@ -87,6 +87,10 @@ member_wrong r at (Some d) = r.check at d
 abbrev pub row : List ℕ → Data → Row → Option (List ℕ)
 row at d r = member_wrong r (member_at at r.name) (get r.name d)
 
+-- the first of these members that is wrong, in the order of the rows
+abbrev pub members_wrong : List Row → Check
+members_wrong rows at d = first (map (row at d) rows)
+
 -- the first member, in the order of their names, that has no meaning
 abbrev pub unknown_in : List (List ℕ) → List ℕ → Members → Option (List ℕ)
 unknown_in names at no_members = None

@@ -15,6 +15,7 @@ pub mod NodeInputs
 pub mod PlanOf
 pub mod Refusals
 pub mod Gives
+pub mod ReadNodes
 pub mod Answers
 pub mod Pointers
 pub mod Endings
@@ -24,3 +25,4 @@ pub mod Seen
 pub mod Progress
 pub mod Tables
 pub mod PlanLaws
+pub mod FaultTexts

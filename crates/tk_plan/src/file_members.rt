@@ -1,7 +1,7 @@
 //! Readers of files.
-ghost use Rattle.std.specs.Prelude.{◌≡◌, Some, map};
+ghost use Rattle.std.specs.Prelude.{◌≡◌, Some};
 ghost use Rattle.serde_json.specs.View.{view};
-ghost use Rattle.tk_plan.specs.Checks.{array_of, first, item_at, row};
+ghost use Rattle.tk_plan.specs.Checks.{array_of, item_at, members_wrong};
 ghost use Rattle.tk_plan.specs.Rows.{files_rows, nonempty_text};
 ghost use Rattle.tk_plan.specs.Pointers.{pointer};
 ghost use Rattle.tk_plan.specs.Answers.{Reads};
@@ -44,14 +44,14 @@ fn files(alloc: Global, at: &str, value: &Value) -> Result<Files, PlanFault>
     Ok(Files::new(paths))
 }
 
-/// The files, which a node has only in a plan of version 2.
+/// Reads the member `files`, which a node may have only in a plan of version 2.
 pub(crate) fn files_member(
     alloc: Global,
     at: JsonPath<'_>,
     object: &Value,
     takes_files: bool,
 ) -> Result<Files, PlanFault>
-    ensures { Reads (first (map (row (pointer at.entry) (view object.now)) (files_rows takes_files)))
+    ensures { Reads (members_wrong (files_rows takes_files) (pointer at.entry) (view object.now))
         (AreFiles takes_files (view object.now)) result }
 {
     if !takes_files {

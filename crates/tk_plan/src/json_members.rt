@@ -18,7 +18,7 @@ use serde_json::Value;
 use std::alloc::Global;
 use tk_ids::{DType, Text};
 
-/// A text that has to be there.
+/// Reads a member that has to be there and to be a text.
 pub(crate) fn text_member(
     alloc: Global,
     at: JsonPath<'_>,
@@ -35,7 +35,7 @@ pub(crate) fn text_member(
     }
 }
 
-/// A text that may be missing.
+/// Reads a member that may be missing, and else is a text.
 pub(crate) fn optional_member(
     alloc: Global,
     at: JsonPath<'_>,
@@ -55,6 +55,7 @@ pub(crate) fn optional_member(
     }
 }
 
+/// Reads the member `type`.
 pub(crate) fn dtype_member(
     alloc: Global,
     at: JsonPath<'_>,
@@ -71,7 +72,7 @@ pub(crate) fn dtype_member(
     }
 }
 
-/// Whether the mode is `concurrent`.
+/// Reads the member `mode`: whether it is `concurrent`.
 pub(crate) fn mode_member(
     alloc: Global,
     at: JsonPath<'_>,
@@ -90,6 +91,7 @@ pub(crate) fn mode_member(
     }
 }
 
+/// Reads the member `isolated`, which is false where it is missing.
 pub(crate) fn isolated_member(
     alloc: Global,
     at: JsonPath<'_>,
@@ -107,7 +109,7 @@ pub(crate) fn isolated_member(
     }
 }
 
-/// A text that is an item of the array there.
+/// Reads the item of this index of the array at `at`, which has to be a text.
 fn item_text<'v>(
     alloc: Global,
     at: JsonPath<'_>,
@@ -123,13 +125,14 @@ fn item_text<'v>(
     }
 }
 
-/// An array of two texts.
+/// Reads an array of two texts.
 pub(crate) fn two_texts<'v>(
     alloc: Global,
     at: JsonPath<'_>,
     value: &'v Value,
 ) -> Result<TwoTexts<'v>, PlanFault>
-    ensures { Reads (pair_of is_text (pointer at.entry) (view value.now)) (IsPairOf (Some (view value.now))) result }
+    ensures { Reads (pair_of is_text (pointer at.entry) (view value.now))
+        (IsPairOf (Some (view value.now))) result }
 {
     let Some(items) = value.as_array() else {
         return Err(field(whole_path(alloc, at)?));
@@ -142,7 +145,7 @@ pub(crate) fn two_texts<'v>(
     Ok(TwoTexts { first, second })
 }
 
-/// The two texts, where it is an array of two.
+/// The two texts of an array, or `None` where the value is anything else.
 fn pair_in<'v>(value: &'v Value) -> Option<TwoTexts<'v>>
     ensures pair { IfSome result (IsPairOf (Some (view value.now))) }
     ensures fine { IfSome result (λ _. (at : List ℕ) → pair_of is_text at (view value.now) ≡ None) }
@@ -156,7 +159,7 @@ fn pair_in<'v>(value: &'v Value) -> Option<TwoTexts<'v>>
     }
 }
 
-/// Its place is written out only where it is wrong.
+/// Reads the member `segment`. The place of its value is written out only where it is wrong.
 pub(crate) fn segment_member<'v>(
     alloc: Global,
     at: JsonPath<'_>,
@@ -177,7 +180,7 @@ pub(crate) fn segment_member<'v>(
     }
 }
 
-/// The items of a member that may be missing.
+/// Reads a member that may be missing, and else is an array: its items.
 pub(crate) fn array_member<'v>(
     alloc: Global,
     at: JsonPath<'_>,
@@ -197,6 +200,7 @@ pub(crate) fn array_member<'v>(
     }
 }
 
+/// Whether `name` is one of `names`.
 fn is_among(names: &[&str], name: &str) -> bool
     ensures { result ≡ list_any (λ n. bytes_eq n name.now) (map (λ n. n.now) names.now) }
 {
@@ -208,7 +212,7 @@ fn is_among(names: &[&str], name: &str) -> bool
     false
 }
 
-/// Refuses what is no object, and an object with other members.
+/// Refuses a value that is no object, and an object with a member that is not one of `names`.
 pub(crate) fn known_members(
     alloc: Global,
     at: JsonPath<'_>,

@@ -1,12 +1,13 @@
 //! Places in a JSON value.
 
-/// The place of a value: that of an array's item, or of an item's item, is written out only where it is wanted.
+/// The place of a value. The place of an array's item, or of an item's item, is written out only
+/// where it is wanted.
 #[derive(Clone, Copy, Drop)]
 pub(crate) enum JsonPath<'a> {
-    /// This JSON Pointer.
+    /// The value at this JSON Pointer.
     Whole(&'a str),
-    /// An item of the array at this JSON Pointer.
+    /// The item of this index of the array at the JSON Pointer.
     Item(&'a str, usize),
-    /// An item of that item.
+    /// The item of the second index of the array that is that item.
     Inner(&'a str, usize, usize),
 }

@@ -26,8 +26,11 @@ use std::alloc::Global;
 use tk_cutting::{Lock, MAX_KEYS, Node};
 use tk_ids::{IdFault, MAX_DESCRIPTORS, Segment, TableFault, UniqueId};
 
+/// Reads the members of a node by its kind.
 fn fields_of<'v>(alloc: Global, node_input: NodeInput<'_, 'v>) -> Result<Fields<'v>, PlanFault>
-    ensures { Reads (node_check (seen [] node_input.entry)) (HasFields node_input.entry.is_static node_input.entry.takes_files (view node_input.entry.value.now)) result }
+    ensures { Reads (node_check (seen [] node_input.entry))
+        (HasFields node_input.entry.is_static node_input.entry.takes_files
+        (view node_input.entry.value.now)) result }
 {
     if node_input.is_static {
         static_fields(
@@ -46,6 +49,7 @@ fn fields_of<'v>(alloc: Global, node_input: NodeInput<'_, 'v>) -> Result<Fields<
     }
 }
 
+/// The fault of a plan in which an id is refused for this fault.
 fn refused(fault: IdFault) -> PlanFault
     ensures { result ≡ as_plan_fault fault }
 {
@@ -58,6 +62,7 @@ fn refused(fault: IdFault) -> PlanFault
     }
 }
 
+/// The id of a child of the node with the id `above`, or of the root.
 fn id_below(alloc: Global, above: Option<&UniqueId>, segment: &Segment) -> Result<UniqueId, IdFault>
     ensures { IsMadeOf (above_of above.entry ++ segment.now ∷ []) result }
 {
@@ -69,7 +74,8 @@ fn id_below(alloc: Global, above: Option<&UniqueId>, segment: &Segment) -> Resul
 
 /// The segment of these texts, and the id that ends in it.
 fn named(alloc: Global, above: Option<&UniqueId>, texts: TwoTexts<'_>) -> Result<Named, PlanFault>
-    ensures { Meets (option_map PlanFault.Id (id_fault (above_of above.entry) (json_segment_text texts.entry)))
+    ensures { Meets (option_map PlanFault.Id
+        (id_fault (above_of above.entry) (json_segment_text texts.entry)))
         (IsNamed (above_of above.entry) (json_segment_text texts.entry)) result }
 {
     let segment = match Segment::new(alloc, texts.first, texts.second) {
@@ -82,10 +88,11 @@ fn named(alloc: Global, above: Option<&UniqueId>, texts: TwoTexts<'_>) -> Result
     }
 }
 
-/// Whether there are as many nodes of the kind as there may be.
+/// Whether `MAX_DESCRIPTORS` nodes of the kind were read.
 fn is_full(reader: &Reader, is_static: bool) -> bool
     requires { IsNoted reader.now }
-    ensures { result ≡ nat_le MAX_DESCRIPTORS (count_by (is_kind is_static) (contents reader.now.nodes.items)) }
+    ensures { result
+        ≡ nat_le MAX_DESCRIPTORS (count_by (is_kind is_static) (contents reader.now.nodes.items)) }
 {
     let count = if is_static {
         reader.descriptors.len()
@@ -128,7 +135,8 @@ fn into_checked<'v>(is_static: bool, named: Named, fields: Fields<'v>) -> Checke
     }
 }
 
-/// Notes a node's segment among its siblings' and its lock keys among the plan's, where there is room for them.
+/// Notes a node's segment among its siblings' and its lock keys among the plan's, where there is
+/// room for them.
 fn note_node<'v>(
     alloc: Global,
     reader: &mut Reader,
@@ -139,8 +147,11 @@ fn note_node<'v>(
 ) -> Result<(), PlanFault>
     requires { IsNoted reader.old }
     ensures { let keys = note_locks reader.old.keys.keys locks.now in
-        Meets (first (room_checks (contents reader.old.nodes.items) siblings.old is_static (json_segment_text segment.entry) keys))
-        (λ _. IsEntered reader.old reader.new siblings.old siblings.new is_static (json_segment_text segment.entry) keys) result }
+        let pair = json_segment_text segment.entry in
+        Meets (first
+        (room_checks (contents reader.old.nodes.items) siblings.old is_static pair keys))
+        (λ _. IsEntered reader.old reader.new siblings.old siblings.new is_static pair keys)
+        result }
 {
     if !siblings.insert(segment)? {
         return Err(PlanFault::Table(TableFault::Twice));
@@ -155,7 +166,7 @@ fn note_node<'v>(
     Ok(())
 }
 
-/// Checks one node, given those before it, and notes its segment and its lock keys.
+/// Checks one node, given the nodes before it, and notes its segment and its lock keys.
 pub(crate) fn check_node<'v>(
     alloc: Global,
     reader: &mut Reader,
@@ -163,8 +174,9 @@ pub(crate) fn check_node<'v>(
     node_input: NodeInput<'_, 'v>,
 ) -> Result<Checked<'v>, PlanFault>
     requires { IsNoted reader.old }
-    ensures { Meets (first (checks (contents reader.old.nodes.items) (seen siblings.old node_input.entry)))
-        (IsChecked reader.old reader.new (seen siblings.old node_input.entry) siblings.new) result }
+    ensures { let s = seen siblings.old node_input.entry in
+        Meets (first (checks (contents reader.old.nodes.items) s))
+        (IsChecked reader.old reader.new s siblings.new) result }
 {
     if node_input.level > MAX_LEVELS {
         return Err(PlanFault::Deep);

@@ -1,7 +1,7 @@
 //! The members of a node.
 ghost use Rattle.std.specs.Prelude.{◌≡◌, true, false, map};
 ghost use Rattle.serde_json.specs.View.{view};
-ghost use Rattle.tk_plan.specs.Checks.{row, first, unknown};
+ghost use Rattle.tk_plan.specs.Checks.{members_wrong, unknown};
 ghost use Rattle.tk_plan.specs.Rows.{static_rows, dynamic_rows, static_node, dynamic_node};
 ghost use Rattle.tk_plan.specs.Pointers.{pointer};
 ghost use Rattle.tk_plan.specs.Answers.{Reads};
@@ -63,7 +63,8 @@ fn heading_members<'v>(
     at: JsonPath<'_>,
     object: &'v Value,
 ) -> Result<Heading<'v>, PlanFault>
-    ensures { Reads (first (map (row (pointer at.entry) (view object.now)) heading_rows)) (IsHeading (view object.now)) result }
+    ensures { Reads (members_wrong heading_rows (pointer at.entry) (view object.now))
+        (IsHeading (view object.now)) result }
 {
     let dtype = dtype_member(alloc, at, object)?;
     let segment = segment_member(alloc, at, object)?;
@@ -81,7 +82,8 @@ fn concurrency_members(
     at: JsonPath<'_>,
     object: &Value,
 ) -> Result<Concurrency, PlanFault>
-    ensures { Reads (first (map (row (pointer at.entry) (view object.now)) concurrency_rows)) (IsConcurrency true (view object.now)) result }
+    ensures { Reads (members_wrong concurrency_rows (pointer at.entry) (view object.now))
+        (IsConcurrency true (view object.now)) result }
 {
     let is_concurrent = mode_member(alloc, at, object)?;
     let is_isolated = isolated_member(alloc, at, object)?;
@@ -100,7 +102,7 @@ fn content_members(
     object: &Value,
     takes_files: bool,
 ) -> Result<Content, PlanFault>
-    ensures { Reads (first (map (row (pointer at.entry) (view object.now)) (content_rows takes_files)))
+    ensures { Reads (members_wrong (content_rows takes_files) (pointer at.entry) (view object.now))
         (IsContent takes_files (view object.now)) result }
 {
     let skip = optional_member(alloc, at, object, "skip")?;
@@ -115,14 +117,15 @@ fn content_members(
     })
 }
 
-/// Refuses what is no object, and an object with a member that a static node doesn't have.
+/// Refuses a value that is no object, and an object with a member that a static node doesn't have.
 fn known_in_static(
     alloc: Global,
     at: JsonPath<'_>,
     value: &Value,
     takes_files: bool,
 ) -> Result<(), PlanFault>
-    ensures { Reads (unknown (map (λ r. r.name) (static_rows takes_files)) (pointer at.entry) (view value.now))
+    ensures { Reads
+        (unknown (map (λ r. r.name) (static_rows takes_files)) (pointer at.entry) (view value.now))
         (λ _. Unit {0}) result }
 {
     if takes_files {
@@ -140,14 +143,15 @@ fn known_in_static(
     }
 }
 
-/// Refuses what is no object, and an object with a member that a dynamic node doesn't have.
+/// Refuses a value that is no object, and an object with a member that no dynamic node has.
 fn known_in_dynamic(
     alloc: Global,
     at: JsonPath<'_>,
     value: &Value,
     takes_files: bool,
 ) -> Result<(), PlanFault>
-    ensures { Reads (unknown (map (λ r. r.name) (dynamic_rows takes_files)) (pointer at.entry) (view value.now))
+    ensures { Reads
+        (unknown (map (λ r. r.name) (dynamic_rows takes_files)) (pointer at.entry) (view value.now))
         (λ _. Unit {0}) result }
 {
     if takes_files {
@@ -163,6 +167,7 @@ fn known_in_dynamic(
     }
 }
 
+/// Reads the members of a static node.
 pub(crate) fn static_fields<'v>(
     alloc: Global,
     at: JsonPath<'_>,
@@ -187,6 +192,7 @@ pub(crate) fn static_fields<'v>(
     })
 }
 
+/// Reads the members of a dynamic node, which has no `mode`, `isolated`, `locks` and `children`.
 pub(crate) fn dynamic_fields<'v>(
     alloc: Global,
     at: JsonPath<'_>,

@@ -23,7 +23,7 @@ use std::alloc::{AllocError, Global};
 use tk_cutting::{Node, NumberedNode};
 use tk_ids::{Descriptor, UniqueId};
 
-/// Puts the descriptor of a node at the end, where the node is static, and else counts the node.
+/// Puts the descriptor of a static node at the end, or counts a dynamic node.
 fn add_descriptor(reader: &mut Reader, node: &Node, id: UniqueId) -> Result<(), AllocError>
     requires { reader.old.dynamics ≤ 65536 }
     ensures { OnOk result (IsDescribed reader.old reader.new node.now id) }
@@ -59,7 +59,8 @@ fn add_checked(
     checked: Checked<'_>,
 ) -> Result<UniqueId, AllocError>
     requires { reader.old.dynamics ≤ 65536 }
-    ensures added { OnOk result (IsAdded reader.old reader.new checked.entry.node checked.entry.id) }
+    ensures added { OnOk result
+        (IsAdded reader.old reader.new checked.entry.node checked.entry.id) }
     ensures id { IfOk result (λ id. id ≡ checked.entry.id) }
 {
     let id = checked.id.try_clone(alloc)?;
@@ -78,16 +79,23 @@ fn read_node<'v>(
     requires noted { IsNoted reader.old }
     requires level { node_input.level ≤ 61 }
     ensures { let s = seen siblings.old node_input.entry in
-        let t = grown (61 - node_input.entry.level) s in
-        Meets (verdict (contents reader.old.nodes.items) (node_inputs (61 - node_input.entry.level) s))
-        (λ _. Adds reader.old reader.new (flat t) (descriptors s.above t) × (siblings.new ≡ siblings.old ++ segment_of s ∷ [])) result }
+        let k = 61 - node_input.entry.level in
+        Meets (verdict (contents reader.old.nodes.items) (node_inputs k s))
+        (λ _. Adds reader.old reader.new (flat (grown k s)) (descriptors s.above (grown k s))
+        × (siblings.new ≡ siblings.old ++ segment_of s ∷ [])) result }
 {
     let at = reader.nodes.len();
     let checked = check_node(alloc, reader, siblings, node_input)?;
+    // Most nodes are leaves, and only nodes below one need its id once more.
+    if checked.is_leaf() {
+        add_node(reader, checked.node, checked.id)?;
+        return Ok(());
+    }
     let children = checked.children;
     let dynamic = checked.dynamic;
     let id = add_checked(alloc, reader, checked)?;
-    let mut below = Siblings::new(alloc);
+    let count = children.len().saturating_add(dynamic.len());
+    let mut below = Siblings::with_capacity(alloc, count)?;
     read_all(
         alloc, reader, &mut below, node_input, "children", true, &id, children,
     )?;
@@ -99,7 +107,7 @@ fn read_node<'v>(
     Ok(())
 }
 
-/// Reads the nodes in a member of a node, whose id is given.
+/// Reads the nodes in the member `name` of `parent`, whose id is `id`.
 #[cycle(reading)]
 fn read_all<'v>(
     alloc: Global,
@@ -114,10 +122,14 @@ fn read_all<'v>(
     requires noted { IsNoted reader.old }
     requires level { parent.level ≤ 60 }
     requires plain { flat_map escape name.now ≡ name.now }
-    ensures { let ss = node_inputs_in (member_at (pointer parent.entry.path) name.now) (parent.entry.level + 1) id.now is_static parent.entry.takes_files 0 siblings.old (map view values.now) in
-        let ts = map (grown (60 - parent.entry.level)) ss in
-        Meets (verdict (contents reader.old.nodes.items) (flat_map (node_inputs (60 - parent.entry.level)) ss))
-        (λ _. Adds reader.old reader.new (flat_map flat ts) (flat_map (descriptors id.now) ts) × (siblings.new ≡ siblings.old ++ map segment_in (map view values.now))) result }
+    ensures { let ss = node_inputs_in (member_at (pointer parent.entry.path) name.now)
+        (parent.entry.level + 1) id.now is_static parent.entry.takes_files 0 siblings.old
+        (map view values.now) in
+        let k = 60 - parent.entry.level in
+        let ts = map (grown k) ss in
+        Meets (verdict (contents reader.old.nodes.items) (flat_map (node_inputs k) ss))
+        (λ _. Adds reader.old reader.new (flat_map flat ts) (flat_map (descriptors id.now) ts)
+        × (siblings.new ≡ siblings.old ++ map segment_in (map view values.now))) result }
 {
     if values.is_empty() {
         return Ok(());
@@ -147,7 +159,7 @@ pub(crate) fn read_nodes(
         Meets (verdict [] (node_inputs 60 s)) (HasRead s) result }
 {
     let mut reader = Reader::new(alloc);
-    let mut siblings = Siblings::new(alloc);
+    let mut siblings = Siblings::with_capacity(alloc, 1)?;
     let node_input = NodeInput {
         path: JsonPath::Whole("/root"),
         level: 1,

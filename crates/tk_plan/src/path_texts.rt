@@ -41,7 +41,8 @@ pub(crate) fn item_path(alloc: Global, at: JsonPath<'_>, index: usize) -> Result
 
 /// Adds a letter of a member's name, escaped.
 fn push_escaped(path: &mut String, letter: char) -> Result<(), AllocError>
-    ensures { OnOk result (string_bytes path.new ≡ string_bytes path.old ++ flat_map escape (encode_utf8 letter)) }
+    ensures { OnOk result (string_bytes path.new
+        ≡ string_bytes path.old ++ flat_map escape (encode_utf8 letter)) }
 {
     match letter {
         '~' => path.push_str("~0"),

@@ -1,5 +1,5 @@
 //! What is kept as a plan is read.
-ghost use Rattle.std.specs.Prelude.{◌≡◌, []};
+ghost use Rattle.std.specs.Prelude.{◌≡◌, ◌==◌, ◌&&◌, [], length};
 
 use indexmap::IndexSet;
 use serde_json::Value;
@@ -50,4 +50,13 @@ pub(crate) struct Checked<'v> {
     pub id: UniqueId,
     pub children: &'v [Value],
     pub dynamic: &'v [Value],
+}
+
+impl<'v> Checked<'v> {
+    /// Whether no node stands below it.
+    pub fn is_leaf(&self) -> bool
+        ensures { result ≡ (length self.now.children.now == 0 && length self.now.dynamic.now == 0) }
+    {
+        self.children.is_empty() && self.dynamic.is_empty()
+    }
 }

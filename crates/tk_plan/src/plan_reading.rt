@@ -7,10 +7,10 @@ ghost use Rattle.tk_plan.specs.Checks.{row, must};
 ghost use Rattle.tk_plan.specs.PlanOf.{PlanOf, one_or_two, is_two, takes_files_in, anything, top};
 ghost use Rattle.tk_plan.specs.Gives.{plan_in, Answered};
 ghost use Rattle.tk_plan.specs.Progress.{IsNoted};
+ghost use Rattle.tk_plan.specs.ReadNodes.{IsReadFrom};
 ghost use Rattle.tk_plan.specs.Tables.{Follow};
 ghost use Rattle.tk_cutting.specs.Numbers.{numbered};
 ghost use Rattle.tk_cutting.specs.Planned.{IsPlanned};
-ghost use Rattle.tk_ids.specs.Table.{HasId, HasParent};
 ghost use Rattle.std.specs.Arc.{arc_value};
 ghost use Rattle.tk_ids.specs.declared.tables.TheConstants.{MAX_DESCRIPTORS};
 
@@ -25,9 +25,9 @@ use serde_json::Value;
 use std::alloc::{AllocError, Global};
 use std::sync::Arc;
 use tk_cutting::{Plan, count_events};
-use tk_ids::{Descriptor, Table, TableFault};
+use tk_ids::{Descriptor, Table};
 
-/// Whether nodes may have files: the version is 2, and not 1.
+/// Reads the member `version`, which is 1 or 2: whether it is 2, so that nodes may have files.
 fn version_member(alloc: Global, object: &Value) -> Result<bool, PlanFault>
     ensures { Reads (row [] (view object.now) (must (codes "version") one_or_two))
         (λ b. b ≡ is_two (get (codes "version") (view object.now))) result }
@@ -39,6 +39,7 @@ fn version_member(alloc: Global, object: &Value) -> Result<bool, PlanFault>
     }
 }
 
+/// Reads the member `root`.
 fn root_member<'v>(alloc: Global, object: &'v Value) -> Result<&'v Value, PlanFault>
     ensures { Reads (row [] (view object.now) (must (codes "root") anything))
         (λ v. get (codes "root") (view object.now) ≡ Some (view v.now)) result }
@@ -49,10 +50,11 @@ fn root_member<'v>(alloc: Global, object: &'v Value) -> Result<&'v Value, PlanFa
     }
 }
 
-/// Whether nodes may have files, and the root.
+/// Reads the members of the whole value: whether nodes may have files, and the root.
 fn top_members<'v>(alloc: Global, value: &'v Value) -> Result<(bool, &'v Value), PlanFault>
     ensures { Reads (top [] (view value.now))
-        (λ t. (t.0 ≡ takes_files_in (view value.now)) × (get (codes "root") (view value.now) ≡ Some (view t.1.now))) result }
+        (λ t. (t.0 ≡ takes_files_in (view value.now))
+        × (get (codes "root") (view value.now) ≡ Some (view t.1.now))) result }
 {
     known_members(alloc, JsonPath::Whole(""), value, &["version", "root"])?;
     let takes_files = version_member(alloc, value)?;
@@ -60,41 +62,20 @@ fn top_members<'v>(alloc: Global, value: &'v Value) -> Result<(bool, &'v Value),
     Ok((takes_files, root))
 }
 
-/// Puts a descriptor into the table.
-fn insert_descriptor(
-    alloc: Global,
-    table: &mut Table,
-    descriptor: Descriptor,
-) -> Result<(), AllocError>
-    requires parent { HasParent table.old descriptor.id }
-    requires new { ¬ HasId table.old descriptor.id }
-    requires room { length table.old < MAX_DESCRIPTORS }
-    ensures { OnOk result (table.new ≡ table.old ++ descriptor ∷ []) }
-{
-    match table.insert(alloc, descriptor) {
-        Ok(_) => Ok(()),
-        Err(TableFault::Memory) => Err(AllocError),
-        Err(TableFault::NoParent) => unreachable!(),
-        Err(TableFault::Twice) => unreachable!(),
-        Err(TableFault::Full) => unreachable!(),
-        Err(TableFault::Id(_)) => unreachable!(),
-    }
-}
-
-/// The table of these descriptors.
+/// Makes the table of descriptors that were read.
 fn table_of(alloc: Global, descriptors: Vec<Descriptor>) -> Result<Arc<Table>, AllocError>
     requires follow { Follow [] descriptors.items }
     requires few { length descriptors.items ≤ MAX_DESCRIPTORS }
     ensures { IfOk result (λ table. arc_value table ≡ descriptors.items) }
 {
-    let mut table = Table::new(alloc);
+    let mut table = Table::with_capacity(alloc, descriptors.len())?;
     for descriptor in descriptors {
-        insert_descriptor(alloc, &mut table, descriptor)?;
+        table.append(descriptor)?;
     }
     Ok(Arc::new(alloc, table)?)
 }
 
-/// The plan of the nodes that were read.
+/// Makes the plan of the nodes that were read.
 fn plan_from(alloc: Global, reader: Reader) -> Result<Plan, AllocError>
     requires follow { Follow [] reader.descriptors.items }
     requires noted { IsNoted reader }
@@ -113,23 +94,25 @@ fn plan_from(alloc: Global, reader: Reader) -> Result<Plan, AllocError>
     Plan::new(alloc, nodes, table, keys.as_slice())
 }
 
-fn plan_of(alloc: Global, value: &Value) -> Result<Plan, PlanFault>
-    ensures { Answered (PlanOf (view value.now)) result }
+/// Reads the nodes of the plan that a value stands for.
+fn nodes_of(alloc: Global, value: &Value) -> Result<Reader, PlanFault>
+    ensures { IsReadFrom (PlanOf (view value.now)) result }
 {
     let (takes_files, root) = top_members(alloc, value)?;
     let reader = read_nodes(alloc, takes_files, root)?;
     match count_events(reader.nodes.as_slice()) {
         None => Err(PlanFault::TooManyEvents),
-        Some(_) => Ok(plan_from(alloc, reader)?),
+        Some(_) => Ok(reader),
     }
 }
 
-/// Reads a plan.
-pub fn read_plan(alloc: Global, bytes: &[u8]) -> Result<Plan, PlanFault>
-    ensures { Answered (plan_in bytes.now) result }
+/// Reads the nodes of a plan from its text. The text's JSON value ends here, so that what follows
+/// gets its memory.
+fn read_text(alloc: Global, bytes: &[u8]) -> Result<Reader, PlanFault>
+    ensures { IsReadFrom (plan_in bytes.now) result }
 {
     match Value::from_slice(alloc, bytes) {
-        Ok(value) => plan_of(alloc, &value),
+        Ok(value) => nodes_of(alloc, &value),
         Err(error) => {
             if error.is_memory() {
                 return Err(PlanFault::Memory);
@@ -137,4 +120,16 @@ pub fn read_plan(alloc: Global, bytes: &[u8]) -> Result<Plan, PlanFault>
             Err(PlanFault::Json)
         }
     }
+}
+
+/// Reads a plan from its JSON text, of version 1 or 2.
+///
+/// # Errors
+/// `Json` where `bytes` are no JSON. Else the first fault of the value's own members, then of its
+/// nodes in preorder, then `TooManyEvents`. Want of memory is `Memory` at any of them.
+pub fn read_plan(alloc: Global, bytes: &[u8]) -> Result<Plan, PlanFault>
+    ensures { Answered (plan_in bytes.now) result }
+{
+    let reader = read_text(alloc, bytes)?;
+    Ok(plan_from(alloc, reader)?)
 }

@@ -35,7 +35,8 @@ fn status_member(alloc: Global, at: JsonPath<'_>, object: &Value) -> Result<Stat
 }
 
 fn ending(alloc: Global, at: JsonPath<'_>, value: &Value) -> Result<Ending, PlanFault>
-    ensures { Reads (is_result (pointer at.entry) (view value.now)) (IsEnding (Some (view value.now))) result }
+    ensures { Reads (is_result (pointer at.entry) (view value.now))
+        (IsEnding (Some (view value.now))) result }
 {
     known_members(alloc, at, value, &["status", "message"])?;
     let status = status_member(alloc, at, value)?;
@@ -71,7 +72,7 @@ fn pairs_of(alloc: Global, map: BTreeMap<Text, Text>) -> Result<Pairs, AllocErro
     ensures pairs { IfOk result (λ pairs. pairs ≡ map.entries) }
     ensures increasing { OnOk result (is_strictly_increasing map.entries ≡ true) }
 {
-    let mut pairs = Vec::new(alloc);
+    let mut pairs = Vec::with_capacity(alloc, map.len())?;
     for pair in map {
         pairs.push(pair)?;
     }
@@ -79,7 +80,8 @@ fn pairs_of(alloc: Global, map: BTreeMap<Text, Text>) -> Result<Pairs, AllocErro
 }
 
 fn entry(alloc: Global, array: &str, index: usize, value: &Value) -> Result<Report, PlanFault>
-    ensures { Reads (is_entry (item_at array.now index) (view value.now)) (IsReport (view value.now)) result }
+    ensures { Reads (is_entry (item_at array.now index) (view value.now))
+        (IsReport (view value.now)) result }
 {
     let Some(items) = value.as_array() else {
         return Err(field(item_path(alloc, JsonPath::Whole(array), index)?));
@@ -97,12 +99,13 @@ fn entry(alloc: Global, array: &str, index: usize, value: &Value) -> Result<Repo
 }
 
 fn entries(alloc: Global, at: &str, value: &Value) -> Result<Reports, PlanFault>
-    ensures { Reads (array_of is_entry at.now (view value.now)) (AreReports (listed (Some (view value.now)))) result }
+    ensures { Reads (array_of is_entry at.now (view value.now))
+        (AreReports (listed (Some (view value.now)))) result }
 {
     let Some(items) = value.as_array() else {
         return Err(field(String::from_str(alloc, at)?));
     };
-    let mut entries = Vec::new(alloc);
+    let mut entries = Vec::with_capacity(alloc, items.len())?;
     let mut repeats = false;
     for (index, item) in items.iter().enumerate() {
         let report = entry(alloc, at, index, item)?;

@@ -26,20 +26,22 @@ impl<'v> Model for Siblings<'v> {
 }
 
 impl<'v> Siblings<'v> {
-    pub fn new(alloc: Global) -> Siblings<'v>
-        ensures { result ≡ [] }
+    /// No segments, with room for as many as `capacity`.
+    pub fn with_capacity(alloc: Global, capacity: usize) -> Result<Siblings<'v>, AllocError>
+        ensures { IfOk result (λ siblings. siblings ≡ []) }
     {
-        Siblings {
-            keys: IndexSet::new(alloc),
-        }
+        Ok(Siblings {
+            keys: IndexSet::with_capacity(alloc, capacity)?,
+        })
     }
 
-    /// Puts a segment at the end, where it isn't there; whether it was put.
+    /// Puts a segment at the end unless it is there; answers whether it was put.
     pub fn insert(&mut self, segment: TwoTexts<'v>) -> Result<bool, AllocError>
         ensures answer { IfOk result (λ is_new.
             is_new ≡ not (list_any (same_segment (json_segment_text segment.entry)) self.old)) }
         ensures segments { IfOk result (λ is_new.
-            self.new ≡ (if is_new then self.old ++ json_segment_text segment.entry ∷ [] else self.old)) }
+            self.new ≡ (if is_new then self.old ++ json_segment_text segment.entry ∷ []
+            else self.old)) }
     {
         Ok(self.keys.insert((segment.first, segment.second))?)
     }

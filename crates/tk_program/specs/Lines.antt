@@ -1,8 +1,6 @@
 -- The lines of the faults.
-use Rattle.std.specs.Prelude.{ℕ, List, ◌∷◌, ◌++◌, [], codes, ◌==◌, if◌then◌else◌, encode_utf8}
+use Rattle.std.specs.Prelude.{ℕ, List, ◌∷◌, ◌++◌, [], codes}
 use Rattle.std.specs.Fmt.{decimal}
-use Rattle.std.specs.List.{flat_map}
-use Rattle.std.specs.Str.{chars}
 use Rattle.tk_columns.specs.declared.records.AppendFault.{AppendFault}
 use Rattle.tk_columns.specs.declared.records.AppendFault.TheVariants as appends
 use Rattle.tk_conditions.specs.declared.faults.CondFault.{CondFault}
@@ -15,8 +13,7 @@ use Rattle.tk_replay.specs.declared.replays.ReplayFault.{ReplayFault}
 use Rattle.tk_replay.specs.declared.replays.ReplayFault.TheVariants as replays
 use Rattle.tk_streams.specs.declared.transfers.LoadFault.{LoadFault}
 use Rattle.tk_streams.specs.declared.transfers.LoadFault.TheVariants as loads
-use Rattle.tk_plan.specs.declared.faults.PlanFault.{PlanFault}
-use Rattle.tk_plan.specs.declared.faults.PlanFault.TheVariants as plans
+use Rattle.tk_plan.specs.FaultTexts.{plan_fault_text}
 use Rattle.tk_engine.specs.declared.runs.RunFault.{RunFault}
 use Rattle.tk_engine.specs.declared.runs.RunFault.TheVariants as runs
 use Rattle.tk_report.specs.declared.faults.ReportFault.{ReportFault}
@@ -67,25 +64,6 @@ load_text loads.TooLarge = codes "input too large"
 load_text loads.Device = codes "device failed"
 load_text loads.Memory = codes "out of memory"
 
--- a character of a text field: a backslash is written `\\`, a bar `\p`, a line feed `\n`
-abbrev pub field_character : ℕ → List ℕ
-field_character c = if c == 92 then codes "\\\\" else (if c == 124 then codes "\\p" else (if c == 10 then codes "\\n" else encode_utf8 c))
-
--- a text as a field
-abbrev pub field_text : List ℕ → List ℕ
-field_text text = flat_map field_character (chars text)
-
-abbrev pub plan_text : PlanFault → List ℕ
-plan_text plans.Json = codes "plan is not JSON"
-plan_text (plans.Field path) = codes "plan member " ++ field_text path ++ codes " is bad"
-plan_text (plans.Id fault) = codes "plan id is bad"
-plan_text (plans.Table fault) = codes "plan table is refused"
-plan_text plans.TooManyResources = codes "too many resources"
-plan_text plans.EntryKeyTwice = codes "entry key twice"
-plan_text plans.TooManyEvents = codes "too many events"
-plan_text plans.Deep = codes "plan too deep"
-plan_text plans.Memory = codes "out of memory"
-
 abbrev pub run_text : RunFault → List ℕ
 run_text runs.Workers = codes "workers must be 1 to 15"
 run_text runs.Capacity = codes "places must be 1 to 1024"
@@ -94,7 +72,7 @@ run_text runs.Memory = codes "out of memory"
 run_text runs.Threads = codes "no thread"
 
 abbrev pub report_text : ReportFault → List ℕ
-report_text (reports.Plan fault) = plan_text fault
+report_text (reports.Plan fault) = plan_fault_text fault
 report_text (reports.Run fault) = run_text fault
 report_text reports.Device = codes "device failed"
 report_text reports.Memory = codes "out of memory"

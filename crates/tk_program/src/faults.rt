@@ -41,7 +41,8 @@ impl From<CommandLineFault> for Fault {
 }
 
 impl Fault {
-    /// The exit status: 2 for bad words or bad input, 3 for a device, memory, a thread or a unit that failed.
+    /// The exit status: 2 for bad words or bad input, 3 where a device, memory, a thread or a unit
+    /// failed.
     pub fn status(&self) -> u8
         ensures { result ≡ status_of self.now }
     {

@@ -24,7 +24,8 @@ fn run_plan<R: Threads + Wait + Sync, S: Source, T: Target>(
     ensures reported { OnOk result (IfSome (S.remaining source.old) (λ input.
         IsPlanReported workers input (T.contents target.old) (T.contents target.new))) }
     ensures unread { IfErr result (λ fault. IsOfWords fault → source.new ≡ source.old) }
-    ensures refused { IfErr result (IsRefused (jobs.Run workers) (S.remaining source.old) (T.contents target.old) (T.contents target.new)) }
+    ensures refused { IfErr result (IsRefused (jobs.Run workers) (S.remaining source.old)
+        (T.contents target.old) (T.contents target.new)) }
     ensures device { IfErr result (IsBroken (S.broken source.new) (T.broken target.new)) }
 {
     let bytes = match load(alloc, source, MAX_TEXT) {
@@ -37,12 +38,14 @@ fn run_plan<R: Threads + Wait + Sync, S: Source, T: Target>(
     }
 }
 
-/// Does a job: answers a question, replays a script of the queue, or runs a plan by its number of
-/// workers and reports the run. False where a match says no or an expectation fails.
+/// Does a job: answers a question, replays a script of the queue, or runs a plan with the job's
+/// number of workers and reports the run.
+///
+/// The answer is `false` where a match says no or an expectation fails, and else `true`.
 ///
 /// # Errors
-/// A fault of the job's own kind. A device is named only where the source or the target is broken, and words
-/// are refused before the source is read.
+/// A fault of the job's own kind. A fault of a device means that the source or the target is
+/// broken. Words are refused before the source is read.
 pub fn do_job<R: Threads + Wait + Sync, S: Source, T: Target>(
     rt: &R,
     alloc: Global,
@@ -53,7 +56,8 @@ pub fn do_job<R: Threads + Wait + Sync, S: Source, T: Target>(
     ensures done { IfOk result (λ is_yes. IfSome (S.remaining source.old) (λ input.
         IsDone job.entry input is_yes (T.contents target.old) (T.contents target.new))) }
     ensures unread { IfErr result (λ fault. IsOfWords fault → source.new ≡ source.old) }
-    ensures refused { IfErr result (IsRefused job.entry (S.remaining source.old) (T.contents target.old) (T.contents target.new)) }
+    ensures refused { IfErr result (IsRefused job.entry (S.remaining source.old)
+        (T.contents target.old) (T.contents target.new)) }
     ensures device { IfErr result (IsBroken (S.broken source.new) (T.broken target.new)) }
 {
     match job {
@@ -72,10 +76,11 @@ pub fn do_job<R: Threads + Wait + Sync, S: Source, T: Target>(
     }
 }
 
-/// Does the job that a command line asks for, its first word the program's name.
+/// Does the job that a command line asks for; its first word is the program's name.
 ///
 /// # Errors
-/// A fault of the command line, which is judged before the source is read, or of the job.
+/// A fault of the command line, which is judged before the source is read, or a fault of
+/// [`do_job`].
 pub fn perform<R: Threads + Wait + Sync, S: Source, T: Target>(
     rt: &R,
     alloc: Global,
@@ -83,9 +88,11 @@ pub fn perform<R: Threads + Wait + Sync, S: Source, T: Target>(
     source: &mut S,
     target: &mut T,
 ) -> Result<bool, Fault>
-    ensures done { IfOk result (IsPerformed (map string_bytes words.now) (S.remaining source.old) (T.contents target.old) (T.contents target.new)) }
+    ensures done { IfOk result (IsPerformed (map string_bytes words.now)
+        (S.remaining source.old) (T.contents target.old) (T.contents target.new)) }
     ensures unread { IfErr result (λ fault. IsOfWords fault → source.new ≡ source.old) }
-    ensures refused { IfErr result (IsNotPerformed (map string_bytes words.now) (S.remaining source.old) (T.contents target.old) (T.contents target.new)) }
+    ensures refused { IfErr result (IsNotPerformed (map string_bytes words.now)
+        (S.remaining source.old) (T.contents target.old) (T.contents target.new)) }
     ensures device { IfErr result (IsBroken (S.broken source.new) (T.broken target.new)) }
 {
     let job = job_of(alloc, words)?;

@@ -149,7 +149,7 @@ filter_same f g [] same = refl
 filter_same f g (x ∷ xs) same =
     ap (λ b. cond b (x ∷ filter f xs) (filter f xs)) (same 0 x refl) ∙ ap (λ l. cond (g x) (x ∷ l) l) (filter_same f g xs (λ k y e. same (suc k) y e))
 
-map_get : (p : Entry → Bool) (es : List Entry) (i : ℕ) (e : Entry) → slice_get es i ≡ Some e → get_or (map p es) i false ≡ p e
+pub map_get : (p : Entry → Bool) (es : List Entry) (i : ℕ) (e : Entry) → slice_get es i ≡ Some e → get_or (map p es) i false ≡ p e
 map_get p [] i e h = absurd (none-some e h)
 map_get p (x ∷ es) zero e h = ap p (same_Some x e h)
 map_get p (x ∷ es) (suc i) e h = map_get p es i e h

@@ -10,6 +10,7 @@ use Rattle.tk_events.specs.declared.events.Entry.{Entry}
 use Rattle.tk_columns.specs.Recorded.{Recorded}
 use Rattle.tk_conditions.specs.declared.conditions.Condition.{Condition}
 use Rattle.tk_query.specs.Holds.{holds}
+use Rattle.tk_query.specs.Keys.{TellsAt}
 use Rattle.tk_query.proofs.AskedLemmas.{map_same}
 
 replicated : (b : Bool) (es : List Entry) → replicate (length es) b ≡ map (λ _. b) es
@@ -19,7 +20,7 @@ replicated b (e ∷ es) = ap (λ l. b ∷ l) (replicated b es)
 pub mask_first : (b : Bool) (n : ℕ) (es : List Entry) (flags : List Bool) → flags ≡ replicate n b → n ≡ length es → flags ≡ map (λ _. b) es
 mask_first b n es flags e long = e ∙ ap (λ k. replicate k b) long ∙ replicated b es
 
-and_true : (a : Bool) → a ≡ (a && true)
+pub and_true : (a : Bool) → a ≡ (a && true)
 and_true true = refl
 and_true false = refl
 
@@ -72,10 +73,10 @@ there (e ∷ es) (suc i) lt = let r = there es i (omega arith) in (r.0, r.1, ap 
 abbrev pub byte : Bool → ℕ
 byte b = if b then 1 else 0
 
-pub column_more : (r : Recorded) (c : Condition) (i : ℕ) (b : Bool) (old new : List ℕ) → i < length r.entries → old ≡ map (λ e. byte (holds r c e)) (take i r.entries) → MatchOption (slice_get r.entries i) (b ≡ false) (λ e. b ≡ holds r c e) → new ≡ old ++ byte b ∷ [] → new ≡ map (λ e. byte (holds r c e)) (take (i + 1) r.entries)
+pub column_more : (r : Recorded) (c : Condition) (i : ℕ) (b : Bool) (old new : List ℕ) → i < length r.entries → old ≡ map (λ e. byte (holds r c e)) (take i r.entries) → TellsAt r c i b → new ≡ old ++ byte b ∷ [] → new ≡ map (λ e. byte (holds r c e)) (take (i + 1) r.entries)
 column_more r c i b old new lt e h f =
     let x = there r.entries i lt in
-    let is : b ≡ holds r c x.0 = subst (λ o. MatchOption o (b ≡ false) (λ y. b ≡ holds r c y)) x.1 h in
+    let is : b ≡ holds r c x.0 = h.tells x.0 x.1 in
     let next : suc i ≡ i + 1 = omega arith in
     f ∙ ap (λ l. l ++ byte b ∷ []) e ∙ ap (λ z. map (λ y. byte (holds r c y)) (take i r.entries) ++ byte z ∷ []) is
     ∙ sym (map-append (λ y. byte (holds r c y)) (take i r.entries) (x.0 ∷ [])) ∙ ap (map (λ y. byte (holds r c y))) (sym x.2 ∙ ap (λ n. take n r.entries) next)

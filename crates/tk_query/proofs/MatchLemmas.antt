@@ -1,18 +1,20 @@
 -- Matching event by event.
-use Rattle.std.proofs.Common.{◌≡◌, ℕ, zero, suc, ◌+◌, ◌<◌, ◌≤◌, Bool, true, false, List, [], ◌∷◌, length, get_or, map, Option, Some, None, MatchOption, refl, sym, ap, ◌∙◌, subst, arith, ⊎_elim}
+use Rattle.std.proofs.Common.{◌≡◌, ℕ, zero, suc, ◌+◌, ◌<◌, ◌≤◌, Bool, true, false, ◌&&◌, List, [], ◌∷◌, length, get_or, map, Option, Some, None, MatchOption, refl, sym, ap, ◌∙◌, subst, arith, ⊎_elim}
 use Rattle.std.specs.List.{slice_get}
 use Rattle.std.specs.Option.{is_some}
-use Rattle.std.proofs.lemmas.Bool.{cases_lt}
+use Rattle.std.specs.Simd.Lanes.{zip2}
+use Rattle.std.proofs.lemmas.Bool.{cases_lt, and_parts, true≢false}
 use Rattle.std.proofs.lemmas.Option.{same_Some, none-some}
 use Rattle.tk_events.specs.declared.events.Entry.{Entry}
 use Rattle.tk_columns.specs.Recorded.{Recorded}
 use Rattle.tk_columns.specs.Selections.{PositionedEntry, Selected, positions_of, events_of}
 use Rattle.tk_conditions.specs.declared.conditions.Condition.{Condition}
 use Rattle.tk_query.specs.Holds.{holds}
-use Rattle.tk_query.specs.Asked.{fits}
-use Rattle.tk_query.specs.InOrder.{IsNextFit, HasNoFit}
-use Rattle.tk_query.specs.Matches.{HoldsAt, IsFirstUnlike, HoldsSomewhere}
-use Rattle.tk_query.proofs.AskedLemmas.{AreFlags, kept_at}
+use Rattle.tk_lanes.specs.Flags.{IsNextSet, IsNoneSet}
+use Rattle.tk_query.specs.Asked.{fits, HoldsOfSome}
+use Rattle.tk_query.specs.Matches.{HoldsAt, IsFirstUnlike, IsFirstNowhere, HoldsSomewhere}
+use Rattle.tk_query.proofs.AskedLemmas.{AreFlags, fits_clear, fits_set, kept_at, map_get}
+use Rattle.tk_query.proofs.MaskLemmas.{and_true}
 
 pub get_some : {A : Type 0} (xs : List A) (k : ℕ) (d : A) → k < length xs → slice_get xs k ≡ Some (get_or xs k d)
 get_some [] k d lt = absurd (omega arith)
@@ -68,11 +70,55 @@ module _ (asked : Selected) (flags : List Bool) (are : AreFlags asked flags) (r 
   pub exact_no : b ≡ false → IsFirstUnlike asked.recorded cs (events_of asked) k
   exact_no e = record { condition = c; event = tested_here.event; condition_is = condition_here; event_is = tested_here.event_is; fails = sym tested_here.tests ∙ e; before = below }
 
-some_fit : (asked : Selected) (c : Condition) (o : Option ℕ) → MatchOption o (HasNoFit (fits asked) c 0) (λ p. IsNextFit (fits asked) c 0 p) → is_some o ≡ true → (p : ℕ) × (fits asked c p ≡ true)
-some_fit asked c None h e = cc
-some_fit asked c (Some p) h e = (p, h.fit)
-
-pub loose_more : (asked : Selected) (cs : List Condition) (k : ℕ) (c : Condition) (o : Option ℕ) → ((j : ℕ) → j < k → HoldsSomewhere asked cs j) → k < length cs → c ≡ get_or cs k c → MatchOption o (HasNoFit (fits asked) c 0) (λ p. IsNextFit (fits asked) c 0 p) → is_some o ≡ true → (j : ℕ) → j < k + 1 → HoldsSomewhere asked cs j
-loose_more asked cs k c o below within is h e =
-    let fit = some_fit asked c o h e in
+pub loose_more : (asked : Selected) (cs : List Condition) (k : ℕ) (c : Condition) (b : Bool) → ((j : ℕ) → j < k → HoldsSomewhere asked cs j) → k < length cs → c ≡ get_or cs k c → HoldsOfSome asked c b → b ≡ true → (j : ℕ) → j < k + 1 → HoldsSomewhere asked cs j
+loose_more asked cs k c b below within is h e =
+    let fit = subst (HoldsOfSome asked c) e h in
     below_more (HoldsSomewhere asked cs) k below (c, fit.0, get_some cs k c within ∙ ap (λ x. Some x) (sym is), fit.1)
+
+pub loose_no : (asked : Selected) (cs : List Condition) (k : ℕ) (c : Condition) (b : Bool) → ((j : ℕ) → j < k → HoldsSomewhere asked cs j) → k < length cs → c ≡ get_or cs k c → HoldsOfSome asked c b → b ≡ false → IsFirstNowhere asked cs k
+loose_no asked cs k c b below within is h e = record {
+  condition = c;
+  condition_is = get_some cs k c within ∙ ap (λ x. Some x) (sym is);
+  nowhere = subst (HoldsOfSome asked c) e h;
+  before = below;
+}
+
+and_false : (a : Bool) → false ≡ (a && false)
+and_false true = refl
+and_false false = refl
+
+zip_get : (xs ys : List Bool) (k : ℕ) → get_or (zip2 ◌&&◌ xs ys) k false ≡ (get_or xs k false && get_or ys k false)
+zip_get [] ys k = refl
+zip_get (x ∷ xs) [] k = and_false (get_or (x ∷ xs) k false)
+zip_get (x ∷ xs) (y ∷ ys) zero = refl
+zip_get (x ∷ xs) (y ∷ ys) (suc k) = zip_get xs ys k
+
+mask_set : (p : Entry → Bool) (es : List Entry) (k : ℕ) → get_or (map p es) k false ≡ true → (e : Entry) × (slice_get es k ≡ Some e) × (p e ≡ true)
+mask_set p [] k set = absurd (true≢false (sym set))
+mask_set p (e ∷ es) zero set = (e, refl, set)
+mask_set p (e ∷ es) (suc k) set = mask_set p es k set
+
+-- the mask of the condition, and of it those of the events asked
+module _ (asked : Selected) (flags : List Bool) (are : AreFlags asked flags) (r : Recorded) (same : r ≡ asked.recorded) (c : Condition) (mask both : List Bool)
+    (mask_is : mask ≡ map (holds r c) r.entries) (both_is : both ≡ zip2 ◌&&◌ mask flags) where
+  both_at : (k : ℕ) → get_or both k false ≡ (get_or (map (holds r c) r.entries) k false && get_or flags k false)
+  both_at k = ap (λ l. get_or l k false) both_is ∙ zip_get mask flags k ∙ ap (λ l. get_or l k false && get_or flags k false) mask_is
+
+  set_fits : (k : ℕ) → get_or both k false ≡ true → fits asked c k ≡ true
+  set_fits k set =
+      let parts = and_parts (get_or (map (holds r c) r.entries) k false) (get_or flags k false) (sym (both_at k) ∙ set) in
+      let x = mask_set (holds r c) r.entries k parts.0 in
+      fits_set asked flags are r same c k true parts.1 (subst (λ o. MatchOption o (true ≡ false) (λ e. true ≡ holds r c e)) (sym x.1) (sym x.2))
+
+  clear_there : (k : ℕ) → get_or both k false ≡ false → get_or flags k false ≡ true → (o : Option Entry) → slice_get r.entries k ≡ o → MatchOption o (false ≡ false) (λ e. false ≡ holds r c e)
+  clear_there k clear set None stands = refl
+  clear_there k clear set (Some e) stands =
+      sym clear ∙ both_at k ∙ ap (λ b. b && get_or flags k false) (map_get (holds r c) r.entries k e stands) ∙ ap (λ b. holds r c e && b) set ∙ sym (and_true (holds r c e))
+
+  clear_fits : (k : ℕ) (b : Bool) → get_or flags k false ≡ b → get_or both k false ≡ false → fits asked c k ≡ false
+  clear_fits k true set clear = fits_set asked flags are r same c k false set (clear_there k clear set (slice_get r.entries k) refl)
+  clear_fits k false off clear = fits_clear asked flags are c k off
+
+  pub mask_tells : (o : Option ℕ) (b : Bool) → MatchOption o (IsNoneSet 0 both) (IsNextSet 0 both) → b ≡ is_some o → HoldsOfSome asked c b
+  mask_tells None b none is = subst (HoldsOfSome asked c) (sym is) (λ k. clear_fits k (get_or flags k false) refl (none.none k (omega arith)))
+  mask_tells (Some at) b next is = subst (HoldsOfSome asked c) (sym is) (at, set_fits at next.set)

@@ -1,5 +1,5 @@
 -- The events that are asked, at their positions in the record.
-use Rattle.std.specs.Prelude.{ℕ, Bool, false, ◌==◌, if◌then◌else◌, List, [], ◌∷◌, Option, Some, None}
+use Rattle.std.specs.Prelude.{◌≡◌, ℕ, Bool, true, false, ◌==◌, if◌then◌else◌, List, [], ◌∷◌, Option, Some, None}
 use Rattle.tk_events.specs.declared.events.Entry.{Entry}
 use Rattle.tk_columns.specs.declared.records.EntryView.{EntryView}
 use Rattle.tk_columns.specs.Selections.{PositionedEntry, Selected}
@@ -19,6 +19,11 @@ is_there p (Some e) = p e
 -- one of the events asked stands at this position of the record, and the condition holds of it
 abbrev pub fits : Selected → Condition → ℕ → Bool
 fits asked c position = is_there (holds asked.recorded c) (event_at asked.kept position)
+
+-- whether the condition holds of one of the events asked
+abbrev pub HoldsOfSome : Selected → Condition → Bool → Type 0
+HoldsOfSome asked c true = (position : ℕ) × (fits asked c position ≡ true)
+HoldsOfSome asked c false = (position : ℕ) → fits asked c position ≡ false
 
 -- the entry that a view shows
 abbrev pub entry_of : EntryView → Entry

@@ -2,6 +2,7 @@ pub use Rattle.tk_conditions.specs.Answer
 pub use Rattle.tk_conditions.specs.Cond
 pub use Rattle.tk_conditions.specs.CondOf
 pub mod Holds
+pub mod Keys
 pub mod Asked
 pub mod InOrder
 pub mod Matches

@@ -3,6 +3,7 @@
 /// Whether the conditions are those of the events, one for each, in their order.
 #[derive(Clone, Copy, Debug, PartialEq, Eq)]
 pub enum Exact {
+    /// There is one condition for each event, and each holds of its event.
     Yes,
     /// There are more conditions than events, or fewer.
     WrongCount,
@@ -13,12 +14,13 @@ pub enum Exact {
 /// Whether each condition holds of some event.
 #[derive(Clone, Copy, Debug, PartialEq, Eq)]
 pub enum Loose {
+    /// Each condition holds of some event.
     Yes,
     /// The number of the first condition that holds of no event.
     No(usize),
 }
 
-/// Whether conditions hold in turn, and where.
+/// Whether conditions hold in turn, each at a later event than the one before it, and where.
 #[derive(Debug, Drop)]
 pub enum InOrder {
     /// The least increasing positions in the record.

@@ -1,23 +1,30 @@
 //! Executions, and how they ended.
-ghost use Rattle.std.specs.Prelude.{◌≡◌, length, filter, slice_get, IfOk};
+ghost use Rattle.std.specs.Prelude.{◌≡◌, ◌==◌, length, filter, slice_get, IfOk};
+ghost use Rattle.std.specs.Slice.Iter.{iter_rest};
 ghost use Rattle.tk_query.specs.declared.execution_lists.Ending.TheVariants.{Skipped, Aborted, Successful, Failed};
 ghost use Rattle.tk_query.specs.Executions.{has_ending, has_started};
 
 use std::alloc::{AllocError, Global};
 use std::marker::Model;
+use std::slice;
 
 /// How an execution ended.
 #[derive(Clone, Copy, Debug, PartialEq, Eq)]
 pub enum Ending {
+    /// It was skipped, and never started.
     Skipped,
+    /// It finished as aborted.
     Aborted,
+    /// It finished successfully.
     Successful,
+    /// It finished as failed.
     Failed,
 }
 
 /// A start and a finish of one key that belong together, or a skip.
 #[derive(Clone, Copy, Debug, PartialEq, Eq)]
 pub struct Execution {
+    /// The key of the descriptor that was executed or skipped.
     pub key: u32,
     /// The position of the start in the record, or of the skip.
     pub first: usize,
@@ -27,6 +34,7 @@ pub struct Execution {
     pub start: u64,
     /// The stamp at the last position.
     pub stop: u64,
+    /// How it ended.
     pub ending: Ending,
 }
 
@@ -60,11 +68,25 @@ impl Executions {
         Executions { items }
     }
 
-    /// How many there are.
+    /// How many executions there are.
     pub fn len(&self) -> usize
         ensures { result ≡ length self.now }
     {
         self.items.len()
+    }
+
+    /// Whether there is no execution.
+    pub fn is_empty(&self) -> bool
+        ensures { result ≡ (length self.now == 0) }
+    {
+        self.items.is_empty()
+    }
+
+    /// Goes over the executions in the order of their ends.
+    pub fn iter(&self) -> slice::Iter<'_, Execution>
+        ensures { iter_rest result ≡ self.now }
+    {
+        self.items.iter()
     }
 
     /// The execution of this number, counted from 0.
@@ -87,14 +109,14 @@ impl Executions {
         Ok(Executions { items })
     }
 
-    /// Those of a skip.
+    /// Keeps the executions of a skip.
     pub fn skipped(&self, alloc: Global) -> Result<Executions, AllocError>
         ensures { IfOk result (λ kept. kept ≡ filter (has_ending Skipped) self.now) }
     {
         self.ended(alloc, Ending::Skipped)
     }
 
-    /// Those that started: all but those of a skip.
+    /// Keeps the executions that started: all but those of a skip.
     pub fn started(&self, alloc: Global) -> Result<Executions, AllocError>
         ensures { IfOk result (λ kept. kept ≡ filter has_started self.now) }
     {
@@ -107,25 +129,28 @@ impl Executions {
         Ok(Executions { items })
     }
 
-    /// Those that finished: all but those of a skip.
+    /// Keeps the executions that finished: all but those of a skip.
     pub fn finished(&self, alloc: Global) -> Result<Executions, AllocError>
         ensures { IfOk result (λ kept. kept ≡ filter has_started self.now) }
     {
         self.started(alloc)
     }
 
+    /// Keeps the executions that finished as aborted.
     pub fn aborted(&self, alloc: Global) -> Result<Executions, AllocError>
         ensures { IfOk result (λ kept. kept ≡ filter (has_ending Aborted) self.now) }
     {
         self.ended(alloc, Ending::Aborted)
     }
 
+    /// Keeps the executions that finished successfully.
     pub fn succeeded(&self, alloc: Global) -> Result<Executions, AllocError>
         ensures { IfOk result (λ kept. kept ≡ filter (has_ending Successful) self.now) }
     {
         self.ended(alloc, Ending::Successful)
     }
 
+    /// Keeps the executions that finished as failed.
     pub fn failed(&self, alloc: Global) -> Result<Executions, AllocError>
         ensures { IfOk result (λ kept. kept ≡ filter (has_ending Failed) self.now) }
     {

@@ -82,14 +82,14 @@ fn is_named(recording: &Record, event: &EntryView, name: &Text) -> bool
 fn is_of_kind(event: &EntryView, kind: Kind) -> bool
     ensures { result ≡ of_kind kind (entry_of event.now) }
 {
-    event.kind.code() == kind.code()
+    event.kind == kind
 }
 
 fn finished_so(event: &EntryView, status: Status) -> bool
     ensures { result ≡ of_status status (entry_of event.now) }
 {
     match (event.kind, event.payload) {
-        (Kind::Finished, Payload::Outcome(given, _)) => given.code() == status.code(),
+        (Kind::Finished, Payload::Outcome(given, _)) => *given == status,
         _ => false,
     }
 }
@@ -122,7 +122,8 @@ fn has_message(payload: &Payload, text: &Text) -> bool
 }
 
 fn finished_with(event: &EntryView, status: Status, text: &Text) -> bool
-    ensures { result ≡ (of_status status (entry_of event.now) && has_message text.now event.now.payload.now) }
+    ensures { result ≡ (of_status status (entry_of event.now)
+        && has_message text.now event.now.payload.now) }
 {
     finished_so(event, status) && has_message(event.payload, text)
 }

@@ -8,6 +8,7 @@ mod holding;
 pub mod laws;
 mod masks;
 mod matching;
+mod open_starts;
 mod pairing;
 
 pub use answers::{Exact, InOrder, Loose};

@@ -1,11 +1,13 @@
 //! Matching events with conditions.
-ghost use Rattle.std.specs.Prelude.{◌<◌, ◌^◌, IfOk, IfSome, MatchOption};
-ghost use Rattle.tk_query.specs.Asked.{fits};
+ghost use Rattle.std.specs.Prelude.{◌<◌, ◌^◌, IfOk, OnOk, IfSome, MatchOption};
+ghost use Rattle.tk_query.specs.Asked.{fits, HoldsOfSome};
 ghost use Rattle.tk_query.specs.InOrder.{IsNextFit, HasNoFit};
+ghost use Rattle.tk_query.specs.Keys.{AreKeys};
 ghost use Rattle.tk_query.specs.Matches.{IsExact, IsLoose, IsInOrder};
 
 use crate::answers::{Exact, InOrder, Loose};
 use crate::holding::holds_at;
+use crate::masks::{keys_of, mask};
 use std::alloc::{AllocError, Global};
 use tk_columns::Events;
 use tk_conditions::Condition;
@@ -26,7 +28,7 @@ fn next_fit(events: &Events, condition: &Condition, from: usize) -> Option<usize
     None
 }
 
-/// Whether the conditions are those of the events, one for each, in their order.
+/// Whether there is one condition for each event, and each holds of its event.
 pub fn match_exactly(
     alloc: Global,
     events: &Events,
@@ -48,19 +50,85 @@ pub fn match_exactly(
     Ok(Exact::Yes)
 }
 
-/// Whether each condition holds of some event. An event may serve several conditions.
-pub fn match_loosely(events: &Events, conditions: &[Condition]) -> Result<Loose, AllocError>
+/// How many events are asked one by one before a mask of the whole record is made: a condition that
+/// holds early is found sooner so.
+const TRIED_FIRST: usize = 1_000;
+
+/// Whether the condition holds of some event, where the first events tell.
+fn try_first(events: &Events, condition: &Condition) -> Option<bool>
+    ensures { IfSome result (HoldsOfSome events.now condition.now) }
+{
+    let mut low = 0;
+    for _ in 0..TRIED_FIRST {
+        let Some(position) = events.flags().first_from(low) else {
+            return Some(false);
+        };
+        if holds_at(events.recorded(), condition, position) {
+            return Some(true);
+        }
+        low = position + 1;
+    }
+    None
+}
+
+/// Whether the condition holds of some event, by its mask.
+fn try_mask(
+    alloc: Global,
+    events: &Events,
+    keys: &[u32],
+    condition: &Condition,
+) -> Result<bool, AllocError>
+    requires { AreKeys events.now.recorded keys.now }
+    ensures { IfOk result (HoldsOfSome events.now condition.now) }
+{
+    let recording = events.recorded();
+    prove!(events.flags().len() == recording.len());
+    let mut flags = mask(alloc, recording, keys, condition)?;
+    flags.and(events.flags());
+    Ok(flags.first_from(0).is_some())
+}
+
+/// Whether the condition holds of some event. `keys` has no key until the first mask is made, and
+/// then the keys of the entries.
+fn holds_of_some(
+    alloc: Global,
+    events: &Events,
+    keys: &mut Vec<u32>,
+    condition: &Condition,
+) -> Result<bool, AllocError>
+    requires { AreKeys events.now.recorded keys.old.items }
+    ensures answer { IfOk result (HoldsOfSome events.now condition.now) }
+    ensures keys { OnOk result (AreKeys events.now.recorded keys.new.items) }
+{
+    if let Some(answer) = try_first(events, condition) {
+        return Ok(answer);
+    }
+    if keys.is_empty() {
+        *keys = keys_of(alloc, events.recorded())?;
+    }
+    try_mask(alloc, events, keys, condition)
+}
+
+/// Whether each condition holds of some event. One event may serve several conditions.
+pub fn match_loosely(
+    alloc: Global,
+    events: &Events,
+    conditions: &[Condition],
+) -> Result<Loose, AllocError>
     ensures { IfOk result (λ answer. IsLoose events.now conditions.now answer) }
 {
+    let mut keys = Vec::new(alloc);
     for (k, condition) in conditions.iter().enumerate() {
-        if next_fit(events, condition, 0).is_none() {
+        if !holds_of_some(alloc, events, &mut keys, condition)? {
             return Ok(Loose::No(k));
         }
     }
     Ok(Loose::Yes)
 }
 
-/// Whether the conditions hold in turn at increasing positions of the record.
+/// Whether the conditions hold in turn, each at a later event than the one before it.
+///
+/// JUnit: `assertEventsMatchLooselyInOrder`.
 pub fn match_in_order(
     alloc: Global,
     events: &Events,

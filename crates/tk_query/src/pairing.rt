@@ -1,18 +1,17 @@
 //! Starts and finishes that belong together.
-ghost use Rattle.std.specs.Prelude.{◌≡◌, ℕ, ◌==◌, if◌then◌else◌, nat_eq, None, IfOk, OnOk, slice_get};
+ghost use Rattle.std.specs.Prelude.{◌≡◌, ℕ, ◌==◌, if◌then◌else◌, IfOk, OnOk, slice_get};
 ghost use Rattle.std.specs.Option.{option_and_then};
-ghost use Rattle.std.specs.HashMap.{get};
 ghost use Rattle.tk_query.specs.ExecutionSteps.{step_at, step_of};
 ghost use Rattle.tk_query.specs.Executions.{AreExecutions};
-ghost use Rattle.tk_query.specs.Pairing.{ended_by, opened_by};
+ghost use Rattle.tk_query.specs.Pairing.{ended_by, open_of, opened_by};
 
 use crate::execution_lists::{Ending, Execution, Executions};
 use crate::execution_steps::{ExecutionStep, Transition, step_of};
+use crate::open_starts::OpenStarts;
 use std::alloc::{AllocError, Global};
-use std::collections::HashMap;
 use tk_columns::{Events, Record};
 
-/// The execution that an act ends, where `started` is the open start of its key.
+/// The execution that a step ends, where `started` is the open start of its key.
 fn ended_by(
     step: ExecutionStep,
     position: usize,
@@ -35,22 +34,29 @@ fn ended_by(
     })
 }
 
-/// Takes an act at a position, and gives the execution that it ends. `starts` has the open starts.
+/// The start that a step leaves open, with its position and its stamp.
+fn opened_by(step: ExecutionStep, position: usize) -> Option<(usize, u64)>
+    ensures { result ≡ opened_by step position }
+{
+    match step.transition {
+        Transition::Starts => Some((position, step.stamp)),
+        _ => None,
+    }
+}
+
+/// Takes a step at a position, and gives the execution that it ends. `starts` has the open starts.
 fn take_step(
-    starts: &mut HashMap<u32, (usize, u64)>,
+    alloc: Global,
+    starts: &mut OpenStarts,
     step: ExecutionStep,
     position: usize,
 ) -> Result<Option<Execution>, AllocError>
     ensures ended { IfOk result (λ execution.
-        execution ≡ ended_by step position (get nat_eq starts.old step.key)) }
-    ensures starts { OnOk result ((q : ℕ) → get nat_eq starts.new q
-        ≡ (if step.key == q then opened_by step position else get nat_eq starts.old q)) }
+        execution ≡ ended_by step position (open_of starts.old step.key)) }
+    ensures starts { OnOk result ((q : ℕ) → open_of starts.new q
+        ≡ (if step.key == q then opened_by step position else open_of starts.old q)) }
 {
-    let started = if matches!(step.transition, Transition::Starts) {
-        starts.insert(step.key, (position, step.stamp))?
-    } else {
-        starts.remove(&step.key)
-    };
+    let started = starts.replace(alloc, step.key, opened_by(step, position))?;
     Ok(ended_by(step, position, started))
 }
 
@@ -68,7 +74,7 @@ fn step_at(recording: &Record, position: usize) -> Option<ExecutionStep>
 pub fn executions(alloc: Global, events: &Events) -> Result<Executions, AllocError>
     ensures { IfOk result (λ list. AreExecutions (step_at events.now) list) }
 {
-    let mut starts = HashMap::new(alloc);
+    let mut starts = OpenStarts::new(alloc);
     let mut items = Vec::new(alloc);
     let mut next = 0;
     'events: while let Some(position) = events.flags().first_from(next) {
@@ -76,7 +82,7 @@ pub fn executions(alloc: Global, events: &Events) -> Result<Executions, AllocErr
         let Some(step) = step_at(events.recorded(), position) else {
             continue;
         };
-        match take_step(&mut starts, step, position)? {
+        match take_step(alloc, &mut starts, step, position)? {
             Some(execution) => items.push(execution)?,
             None => {}
         }

@@ -38,7 +38,8 @@ use Rattle.tk_queue.specs.Session.{sender, receiver}
 abbrev pub capacity_of : TableId → ℕ
 capacity_of session = session.slots
 
--- the session, its table of static descriptors, the worker, and the events that it emitted there, in order
+-- the session, its table of static descriptors, the worker, and the events that it emitted there,
+-- in order
 pub record SenderView : Type 0 where
   pub session : TableId
   pub table : List Descriptor
@@ -46,7 +47,8 @@ pub record SenderView : Type 0 where
   pub sent : List Event
 
 abbrev pub sends : SenderView → Event → SenderView
-sends s e = record { session = s.session; table = s.table; worker = s.worker; sent = s.sent ++ e ∷ [] }
+sends s e =
+    record { session = s.session; table = s.table; worker = s.worker; sent = s.sent ++ e ∷ [] }
 
 -- the record of what the sender alone emitted
 abbrev pub own : SenderView → Recorded
@@ -70,38 +72,54 @@ HasRoom s = (length s.sent < most_events) × (registrations s.sent < MAX_DESCRIP
 
 -- the descriptor below a parent
 abbrev pub child : Descriptor → Pair → List ℕ → DType → Descriptor
-child above segment name dtype = record { id = above.id ++ segment ∷ []; name = name; dtype = dtype }
+child above segment name dtype =
+    record { id = above.id ++ segment ∷ []; name = name; dtype = dtype }
 
 -- the sender's next registration
 abbrev pub registration : SenderView → ℕ → Descriptor → Event
-registration s stamp d = record { kind = Dynamic; key = registered_key s.worker (registrations s.sent); stamp = stamp; payload = Described d }
+registration s stamp d = record {
+  kind = Dynamic;
+  key = registered_key s.worker (registrations s.sent);
+  stamp = stamp;
+  payload = Described d;
+}
 
 -- no descriptor has the key, static or registered by the sender
 abbrev pub IsNew : SenderView → ℕ → Type 0
 IsNew s key = desc (own s) key ≡ None
 
 -- What registering a descriptor answers, and the sender after it. Want of memory may come at any.
-abbrev pub IsRegisteredAs : SenderView → SenderView → ℕ → Pair → List ℕ → DType → ℕ → Result ℕ RegisterFault → Type 0
+abbrev pub IsRegisteredAs :
+    SenderView → SenderView → ℕ → Pair → List ℕ → DType → ℕ → Result ℕ RegisterFault → Type 0
 IsRegisteredAs old new parent segment name dtype stamp (Ok key) =
-    (above : Descriptor) × (desc (own old) parent ≡ Some above) × HasRoom old × FitsLimits (above.id ++ segment ∷ [])
-    × (key ≡ registered_key old.worker (registrations old.sent)) × (new ≡ sends old (registration old stamp (child above segment name dtype)))
+    (above : Descriptor) × (desc (own old) parent ≡ Some above) × HasRoom old
+    × FitsLimits (above.id ++ segment ∷ [])
+    × (key ≡ registered_key old.worker (registrations old.sent))
+    × (new ≡ sends old (registration old stamp (child above segment name dtype)))
     × IsNew old key
-IsRegisteredAs old new parent segment name dtype stamp (Err unregistered.UnknownNode) = (desc (own old) parent ≡ None) × (new ≡ old)
-IsRegisteredAs old new parent segment name dtype stamp (Err unregistered.Limit) = (is_some (desc (own old) parent) ≡ true) × ¬ HasRoom old × (new ≡ old)
+IsRegisteredAs old new parent segment name dtype stamp (Err unregistered.UnknownNode) =
+    (desc (own old) parent ≡ None) × (new ≡ old)
+IsRegisteredAs old new parent segment name dtype stamp (Err unregistered.Limit) =
+    (is_some (desc (own old) parent) ≡ true) × ¬ HasRoom old × (new ≡ old)
 IsRegisteredAs old new parent segment name dtype stamp (Err (unregistered.Id id_faults.TooLong)) =
-    (above : Descriptor) × (desc (own old) parent ≡ Some above) × HasRoom old × ¬ FitsLimits (above.id ++ segment ∷ []) × (new ≡ old)
+    (above : Descriptor) × (desc (own old) parent ≡ Some above) × HasRoom old
+    × ¬ FitsLimits (above.id ++ segment ∷ []) × (new ≡ old)
 IsRegisteredAs old new parent segment name dtype stamp (Err (unregistered.Id _)) = ⊥
 IsRegisteredAs old new parent segment name dtype stamp (Err unregistered.Memory) = new ≡ old
 
 -- what making that descriptor answers, with its id once more
-abbrev pub IsChildMade : SenderView → ℕ → Pair → List ℕ → DType → Result (List Pair × Descriptor) RegisterFault → Type 0
+abbrev pub IsChildMade :
+    SenderView → ℕ → Pair → List ℕ → DType → Result (List Pair × Descriptor) RegisterFault → Type 0
 IsChildMade s parent segment name dtype (Ok made) =
-    (above : Descriptor) × (desc (own s) parent ≡ Some above) × HasRoom s × FitsLimits (above.id ++ segment ∷ [])
+    (above : Descriptor) × (desc (own s) parent ≡ Some above) × HasRoom s
+    × FitsLimits (above.id ++ segment ∷ [])
     × (made.0 ≡ above.id ++ segment ∷ []) × (made.1 ≡ child above segment name dtype)
 IsChildMade s parent segment name dtype (Err unregistered.UnknownNode) = desc (own s) parent ≡ None
-IsChildMade s parent segment name dtype (Err unregistered.Limit) = (is_some (desc (own s) parent) ≡ true) × ¬ HasRoom s
+IsChildMade s parent segment name dtype (Err unregistered.Limit) =
+    (is_some (desc (own s) parent) ≡ true) × ¬ HasRoom s
 IsChildMade s parent segment name dtype (Err (unregistered.Id id_faults.TooLong)) =
-    (above : Descriptor) × (desc (own s) parent ≡ Some above) × HasRoom s × ¬ FitsLimits (above.id ++ segment ∷ [])
+    (above : Descriptor) × (desc (own s) parent ≡ Some above) × HasRoom s
+    × ¬ FitsLimits (above.id ++ segment ∷ [])
 IsChildMade s parent segment name dtype (Err (unregistered.Id _)) = ⊥
 IsChildMade s parent segment name dtype (Err unregistered.Memory) = Unit {0}
 
@@ -111,13 +129,19 @@ sent_of v = []
 
 -- the id that a worker registered under the key, of those that it registered, in order
 abbrev pub id_registered : ℕ → List (List Pair) → ℕ → Option (List Pair)
-id_registered worker ids key = if nat_lt key (registered_key worker 0) then None else slice_get ids (key - registered_key worker 0)
+id_registered worker ids key =
+    if nat_lt key (registered_key worker 0) then None
+    else slice_get ids (key - registered_key worker 0)
 
 -- the fields of a sender stand for what its pass knows
-pub record IsSender (v : PassView) (table : List Descriptor) (worker : ℕ) (ids : List (List Pair)) (emitted : ℕ) : Type 0 where
+pub record IsSender (v : PassView) (table : List Descriptor) (worker : ℕ) (ids : List (List Pair))
+    (emitted : ℕ) : Type 0 where
   pub is : v ≡ sender (length table) worker (sent_of v) false
   pub counted : emitted ≡ length (sent_of v)
-  pub leads : (key : ℕ) → option_map (λ (d : Descriptor). d.id) (desc_in (entries_by worker (sent_of v)) key) ≡ id_registered worker ids key
+  pub leads :
+      (key : ℕ) →
+      option_map (λ (d : Descriptor). d.id) (desc_in (entries_by worker (sent_of v)) key)
+      ≡ id_registered worker ids key
   pub number : length ids ≡ registrations (sent_of v)
   pub few_ids : length ids ≤ MAX_DESCRIPTORS
   pub may : Emission (length table) worker (sent_of v)
@@ -130,7 +154,8 @@ pub record IsEnded (v : PassView) (table : List Descriptor) (worker emitted : �
   pub counted : emitted ≡ length (sent_of v)
   pub few : worker ≤ most_workers
 
--- the session, its table of static descriptors, the number of its workers, and the items that were taken, in order
+-- the session, its table of static descriptors, the number of its workers, and the items that were
+-- taken, in order
 pub record ReceiverView : Type 0 where
   pub session : TableId
   pub table : List Descriptor
@@ -138,17 +163,22 @@ pub record ReceiverView : Type 0 where
   pub taken : List Item
 
 abbrev pub takes : ReceiverView → Item → ReceiverView
-takes r x = record { session = r.session; table = r.table; workers = r.workers; taken = r.taken ++ x ∷ [] }
+takes r x =
+    record { session = r.session; table = r.table; workers = r.workers; taken = r.taken ++ x ∷ [] }
 
 abbrev pub fresh_receiver : TableId → List Descriptor → ℕ → ReceiverView
-fresh_receiver session table n = record { session = session; table = table; workers = n; taken = [] }
+fresh_receiver session table n =
+    record { session = session; table = table; workers = n; taken = [] }
 
 -- the senders of the workers 1 to n, who have emitted nothing
 abbrev pub fresh_senders : TableId → List Descriptor → ℕ → List SenderView
 fresh_senders session table zero = []
-fresh_senders session table (suc n) = fresh_senders session table n ++ record { session = session; table = table; worker = suc n; sent = [] } ∷ []
+fresh_senders session table (suc n) =
+    fresh_senders session table n
+    ++ record { session = session; table = table; worker = suc n; sent = [] } ∷ []
 
--- the entry may stand after those that were taken: it is lawful, its key is known after them, and its worker has room
+-- the entry may stand after those that were taken: it is lawful, its key is known after them, and
+-- its worker has room
 pub record MayFollow (table : List Descriptor) (taken : List Entry) (e : Entry) : Type 0 where
   pub lawful : is_lawful e.event.kind e.event.payload ≡ true
   pub known : is_known (record { table = table; entries = taken }) e ≡ true
@@ -178,7 +208,8 @@ abbrev pub is_marked : ℕ → List Item → Bool
 is_marked w items = list_any (is_mark_of w) items
 
 -- the fields of a receiver stand for what its pass knows
-pub record IsReceiver (v : PassView) (table : List Descriptor) (workers : ℕ) (marked : List Bool) : Type 0 where
+pub record IsReceiver (v : PassView) (table : List Descriptor) (workers : ℕ) (marked : List Bool)
+    : Type 0 where
   pub is : v ≡ receiver (length table) workers (taken_of v) []
   pub recordable : IsRecordable workers (entries (taken_of v))
   pub long : length marked ≡ worker_slots
@@ -207,8 +238,12 @@ pub record IsComplete (r : ReceiverView) (tokens : List SenderView) : Type 0 whe
 -- the first reason that stands, at the least worker
 abbrev pub IsFault : CloseReason → ReceiverView → List SenderView → Type 0
 IsFault (Missing w) r tokens = Least r.workers (λ v. tokens_of v tokens ≡ 0) w
-IsFault (Twice w) r tokens = ((v : ℕ) → IsWorkerOf r.workers v → 0 < tokens_of v tokens) × Least r.workers (λ v. 1 < tokens_of v tokens) w
-IsFault (NotDrained w) r tokens = ((v : ℕ) → IsWorkerOf r.workers v → tokens_of v tokens ≡ 1) × Least r.workers (λ v. is_marked v r.taken ≡ false) w
+IsFault (Twice w) r tokens =
+    ((v : ℕ) → IsWorkerOf r.workers v → 0 < tokens_of v tokens)
+    × Least r.workers (λ v. 1 < tokens_of v tokens) w
+IsFault (NotDrained w) r tokens =
+    ((v : ℕ) → IsWorkerOf r.workers v → tokens_of v tokens ≡ 1)
+    × Least r.workers (λ v. is_marked v r.taken ≡ false) w
 
 -- what the pass of a token knows
 abbrev pub token_of : SenderView → SenderPass

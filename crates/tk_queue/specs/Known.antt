@@ -29,7 +29,9 @@ is_plain e = is_lawful e.kind e.payload && not (is_dynamic e)
 
 -- whether the entry has a known key after these entries, where n descriptors are static
 abbrev pub is_known_after : ℕ → List Entry → Entry → Bool
-is_known_after n es e = if of_kind Dynamic e then is_next (record { table = []; entries = es }) e else (nat_lt e.event.key n || is_some (desc_in es e.event.key))
+is_known_after n es e =
+    if of_kind Dynamic e then is_next (record { table = []; entries = es }) e
+    else (nat_lt e.event.key n || is_some (desc_in es e.event.key))
 
 -- worker w may emit e after the events of before, where n descriptors are static
 pub record MayEmit (n w : ℕ) (before : List Event) (e : Event) : Type 0 where
@@ -38,5 +40,7 @@ pub record MayEmit (n w : ℕ) (before : List Event) (e : Event) : Type 0 where
 
 -- each event might be emitted after those before it, and they are no more than the limit
 pub record Emission (n w : ℕ) (es : List Event) : Type 0 where
-  pub each : (before : List Event) (e : Event) (after : List Event) → es ≡ before ++ e ∷ after → MayEmit n w before e
+  pub each :
+      (before : List Event) (e : Event) (after : List Event) → es ≡ before ++ e ∷ after
+      → MayEmit n w before e
   pub few : length es ≤ most_events

@@ -10,3 +10,4 @@ pub mod Session
 pub mod Ends
 pub mod Steps
 pub mod Recording
+pub mod FaultTexts

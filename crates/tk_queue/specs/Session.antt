@@ -17,10 +17,15 @@ use Rattle.tk_queue.specs.declared.session_rules.PassView.TheVariants.{Sender, R
 abbrev pub Stands : Core → SenderPass → Type 0
 Stands c s = (c.ended s.worker ≡ true) × (s.sent ≡ c.sent s.worker)
 
--- Each worker has one pass, its seat, and one pass is the reader's. Both know the number of static descriptors
+-- Each worker has one pass, its seat, and one pass is the reader's. Both know the number of static
+-- descriptors
 abbrev pub Fits : ℕ → ℕ → ℕ → (ℕ → ℕ) → Core → ℕ → PassView → Type 0
-Fits known workers reader pass_of c pass (Sender s) = (pass ≡ pass_of s.worker) × IsWorkerOf workers s.worker × (s.sent ≡ c.sent s.worker) × (s.ended ≡ c.ended s.worker) × (s.known ≡ known)
-Fits known workers reader pass_of c pass (Receiver r) = (pass ≡ reader) × (r.workers ≡ workers) × (r.taken ≡ c.taken) × All (Stands c) r.tokens × (r.known ≡ known)
+Fits known workers reader pass_of c pass (Sender s) =
+    (pass ≡ pass_of s.worker) × IsWorkerOf workers s.worker × (s.sent ≡ c.sent s.worker)
+    × (s.ended ≡ c.ended s.worker) × (s.known ≡ known)
+Fits known workers reader pass_of c pass (Receiver r) =
+    (pass ≡ reader) × (r.workers ≡ workers) × (r.taken ≡ c.taken) × All (Stands c) r.tokens
+    × (r.known ≡ known)
 Fits known workers reader pass_of c pass Spent = Unit {0}
 
 pub record Session (items : List Item) (views : List PassView) : Type 0 where
@@ -32,13 +37,17 @@ pub record Session (items : List Item) (views : List PassView) : Type 0 where
   pub waits : core.waiting ≡ items
   pub lawful : IsCore workers core
   pub emitted : (w : ℕ) → Emission known w (core.sent w)
-  pub fits : (pass : ℕ) (v : PassView) → get_elem? views pass ≡ some v → Fits known workers reader pass_of core pass v
+  pub fits :
+      (pass : ℕ) (v : PassView) → get_elem? views pass ≡ some v
+      → Fits known workers reader pass_of core pass v
 
 abbrev pub receiver : ℕ → ℕ → List Item → List SenderPass → PassView
-receiver known workers taken tokens = Receiver (record { known = known; workers = workers; taken = taken; tokens = tokens })
+receiver known workers taken tokens =
+    Receiver (record { known = known; workers = workers; taken = taken; tokens = tokens })
 
 abbrev pub sender : ℕ → ℕ → List Event → Bool → PassView
-sender known w sent ended = Sender (record { known = known; worker = w; sent = sent; ended = ended })
+sender known w sent ended =
+    Sender (record { known = known; worker = w; sent = sent; ended = ended })
 
 abbrev pub new_receiver : PassView
 new_receiver = receiver 0 0 [] []
@@ -55,7 +64,9 @@ popped v x = v
 
 -- the event of an entry may be emitted after those of its worker that were taken before
 abbrev pub Follows : ℕ → List Item → Item → Type 0
-Follows n taken (Emitted e) = MayEmit n e.worker (of_worker e.worker (entries taken)) e.event × (length (of_worker e.worker (entries taken)) < most_events)
+Follows n taken (Emitted e) =
+    MayEmit n e.worker (of_worker e.worker (entries taken)) e.event
+    × (length (of_worker e.worker (entries taken)) < most_events)
 Follows n taken (End w) = Unit {0}
 
 abbrev pub MayTake : PassView → Item → Type 0
@@ -84,12 +95,15 @@ with_token v w = v
 
 -- what the receiver knows: it has the session's state but for what waits, and each token stands
 abbrev pub Concludes : PassView → List Item → Type 0
-Concludes (Receiver r) items = (c : Core) × IsCore r.workers c × (c.waiting ≡ items) × (c.taken ≡ r.taken) × All (Stands c) r.tokens
+Concludes (Receiver r) items =
+    (c : Core) × IsCore r.workers c × (c.waiting ≡ items) × (c.taken ≡ r.taken)
+    × All (Stands c) r.tokens
 Concludes v items = Unit {0}
 
 -- a sender may push an entry that may follow what it sent, and its mark
 abbrev pub IsNext : SenderPass → Item → Type 0
-IsNext s (Emitted e) = (e.worker ≡ s.worker) × MayEmit s.known s.worker s.sent e.event × (length s.sent < most_events)
+IsNext s (Emitted e) =
+    (e.worker ≡ s.worker) × MayEmit s.known s.worker s.sent e.event × (length s.sent < most_events)
 IsNext s (End w) = w ≡ s.worker
 
 abbrev pub MayPush : PassView → Item → Type 0

@@ -1,4 +1,5 @@
--- Each step of a session's queue is the core's step, or none. What a step tells of the views is a parameter of these laws: `laws.rt` gives them what the queue's rule has.
+-- Each step of a session's queue is the core's step, or none. What a step tells of the views is a
+-- parameter of these laws: `laws.rt` gives them what the queue's rule has.
 use Rattle.std.specs.Prelude.{◌≡◌, ◌↔◌, ℕ, false, List, [], ◌∷◌, ◌++◌, slice_set}
 use mathlib.Core.Option.{some}
 use lib.ListN.{get_elem?}
@@ -13,7 +14,9 @@ IsStateOf c items views = (s : Session items views) × (s.core ≡ c)
 
 -- between any two steps the rule holds exactly where the queue shows a state of the core
 abbrev pub HoldsStates : (List Item → List PassView → Type 0) → Type 0
-HoldsStates holds = (items : List Item) (views : List PassView) → holds items views ↔ ((c : Core) × IsStateOf c items views)
+HoldsStates holds =
+    (items : List Item) (views : List PassView)
+    → holds items views ↔ ((c : Core) × IsStateOf c items views)
 
 -- nothing was sent, no worker has ended, and nothing waits or was taken
 abbrev pub fresh_core : Core
@@ -29,35 +32,52 @@ IsOnly tells w = tells w × ((u : PassView) → tells u → u ≡ w)
 
 -- a sender's push of an entry is the core's emission, and that of its mark is the core's end
 abbrev pub PushIsStep : (PassView → Item → PassView → Type 0) → Type 0
-PushIsStep tells = (c : Core) (items : List Item) (views : List PassView) (pass : ℕ) (v : PassView) (x : Item) → IsStateOf c items views → get_elem? views pass ≡ some v → MayPush v x
-    → (w : PassView) × IsOnly (tells v x) w × IsStateOf (push x c) (items ++ x ∷ []) (slice_set views pass w)
+PushIsStep tells =
+    (c : Core) (items : List Item) (views : List PassView) (pass : ℕ) (v : PassView) (x : Item)
+    → IsStateOf c items views → get_elem? views pass ≡ some v → MayPush v x
+    → (w : PassView) × IsOnly (tells v x) w
+    × IsStateOf (push x c) (items ++ x ∷ []) (slice_set views pass w)
 
 -- a push that finds no room changes no view, and is no step
 abbrev pub FullIsNone : Type 0
-FullIsNone = (c : Core) (items : List Item) (views : List PassView) (pass : ℕ) (v : PassView) → IsStateOf c items views → get_elem? views pass ≡ some v
+FullIsNone =
+    (c : Core) (items : List Item) (views : List PassView) (pass : ℕ) (v : PassView)
+    → IsStateOf c items views → get_elem? views pass ≡ some v
     → IsStateOf c items (slice_set views pass v)
 
 -- the receiver's pop is the core's taking
 abbrev pub TakeIsStep : (PassView → Item → PassView → Type 0) → Type 0
-TakeIsStep tells = (c : Core) (x : Item) (items : List Item) (views : List PassView) (pass : ℕ) (v : PassView) → IsStateOf c (x ∷ items) views → get_elem? views pass ≡ some v → IsReader v
-    → (w : PassView) × IsOnly (tells v x) w × IsStateOf (take_first x items c) items (slice_set views pass w)
+TakeIsStep tells =
+    (c : Core) (x : Item) (items : List Item) (views : List PassView) (pass : ℕ) (v : PassView)
+    → IsStateOf c (x ∷ items) views → get_elem? views pass ≡ some v → IsReader v
+    → (w : PassView) × IsOnly (tells v x) w
+    × IsStateOf (take_first x items c) items (slice_set views pass w)
 
 -- a pop that finds nothing changes no view, and is no step
 abbrev pub EmptyIsNone : Type 0
-EmptyIsNone = (c : Core) (views : List PassView) (pass : ℕ) (v : PassView) → IsStateOf c [] views → get_elem? views pass ≡ some v → IsStateOf c [] (slice_set views pass v)
+EmptyIsNone =
+    (c : Core) (views : List PassView) (pass : ℕ) (v : PassView) → IsStateOf c [] views
+    → get_elem? views pass ≡ some v → IsStateOf c [] (slice_set views pass v)
 
 -- a new sender is no step
 abbrev pub SplitIsNone : (PassView → PassView) → (PassView → PassView) → Type 0
-SplitIsNone left right = (c : Core) (items : List Item) (views : List PassView) (pass : ℕ) (v : PassView) → IsStateOf c items views → get_elem? views pass ≡ some v → IsReader v
+SplitIsNone left right =
+    (c : Core) (items : List Item) (views : List PassView) (pass : ℕ) (v : PassView)
+    → IsStateOf c items views → get_elem? views pass ≡ some v → IsReader v
     → IsStateOf c items (slice_set views pass (left v) ++ right v ∷ [])
 
 -- telling the number of static descriptors, before there is a sender, is no step
 abbrev pub BitIsNone : (PassView → PassView) → (PassView → PassView) → Type 0
-BitIsNone left right = (c : Core) (items : List Item) (views : List PassView) (pass : ℕ) (v : PassView) → IsStateOf c items views → get_elem? views pass ≡ some v → IsFirst v
+BitIsNone left right =
+    (c : Core) (items : List Item) (views : List PassView) (pass : ℕ) (v : PassView)
+    → IsStateOf c items views → get_elem? views pass ≡ some v → IsFirst v
     → IsStateOf c items (slice_set views pass (left v) ++ right v ∷ [])
 
 -- taking in the token of a sender that has ended is no step
 abbrev pub JoinIsNone : (PassView → PassView → PassView) → PassView → Type 0
-JoinIsNone both spent = (c : Core) (items : List Item) (views : List PassView) (pass : ℕ) (v : PassView) (other : ℕ) (w : PassView) → IsStateOf c items views → get_elem? views pass ≡ some v → ¬ (other ≡ pass)
+JoinIsNone both spent =
+    (c : Core) (items : List Item) (views : List PassView) (pass : ℕ) (v : PassView)
+    (other : ℕ) (w : PassView)
+    → IsStateOf c items views → get_elem? views pass ≡ some v → ¬ (other ≡ pass)
     → get_elem? (slice_set views pass (both v w)) other ≡ some w → MayTakeIn v w
     → IsStateOf c items (slice_set (slice_set views pass (both v w)) other spent)

@@ -1,4 +1,4 @@
-//! What `close` looks for before it takes the tokens in.
+//! What `Receiver::close` looks for before it takes the tokens in.
 ghost use Rattle.std.specs.Prelude.{◌≡◌, ◌+◌, ◌<◌, ◌≤◌, length, false, List, Bool, ℕ, slice_index_or, slice_index, MatchOption};
 ghost use Rattle.tk_columns.specs.Mixing.{IsWorkerOf};
 ghost use Rattle.tk_queue.specs.Ends.{tokens_of, lists, Least};
@@ -17,7 +17,7 @@ fn count(ended: &[Ended], worker: u8) -> usize
         .count()
 }
 
-/// How many events the worker's token says that it emitted, 0 without a token.
+/// How many events the worker's token says that it emitted, or 0 where it has no token.
 fn emitted_by(ended: &[Ended], worker: u8) -> u64
     ensures { result ≡ length (lists ended.now worker) }
 {
@@ -29,6 +29,7 @@ fn emitted_by(ended: &[Ended], worker: u8) -> u64
     0
 }
 
+/// How many events each worker emitted, by its number; 0 at the numbers that are no worker's.
 pub fn counts(ended: &[Ended], workers: u8) -> [u64; WORKER_SLOTS]
     requires { workers ≤ MAX_WORKERS }
     ensures each { (w : ℕ) → IsWorkerOf workers w
@@ -44,8 +45,9 @@ pub fn counts(ended: &[Ended], workers: u8) -> [u64; WORKER_SLOTS]
 
 /// The first worker without a token.
 pub fn missing(ended: &[Ended], workers: u8) -> Option<u8>
-    ensures { MatchOption result ((w : ℕ) → IsWorkerOf workers w → ¬ (tokens_of w ended.now ≡ 0)) (Least workers (λ w.
-        tokens_of w ended.now ≡ 0)) }
+    ensures { MatchOption result
+        ((w : ℕ) → IsWorkerOf workers w → ¬ (tokens_of w ended.now ≡ 0))
+        (Least workers (λ w. tokens_of w ended.now ≡ 0)) }
 {
     for before in 0..workers {
         if count(ended, before + 1) == 0 {
@@ -57,8 +59,9 @@ pub fn missing(ended: &[Ended], workers: u8) -> Option<u8>
 
 /// The first worker with more than one token.
 pub fn twice(ended: &[Ended], workers: u8) -> Option<u8>
-    ensures { MatchOption result ((w : ℕ) → IsWorkerOf workers w → ¬ (1 < tokens_of w ended.now)) (Least workers (λ w.
-        1 < tokens_of w ended.now)) }
+    ensures { MatchOption result
+        ((w : ℕ) → IsWorkerOf workers w → ¬ (1 < tokens_of w ended.now))
+        (Least workers (λ w. 1 < tokens_of w ended.now)) }
 {
     for before in 0..workers {
         if count(ended, before + 1) > 1 {
@@ -71,8 +74,9 @@ pub fn twice(ended: &[Ended], workers: u8) -> Option<u8>
 /// The first worker whose mark was not taken.
 pub fn not_drained(marked: &[bool; WORKER_SLOTS], workers: u8) -> Option<u8>
     requires { workers ≤ MAX_WORKERS }
-    ensures { MatchOption result ((w : ℕ) → IsWorkerOf workers w → ¬ (slice_index_or marked.now w false ≡ false)) (Least workers (λ w.
-        slice_index_or marked.now w false ≡ false)) }
+    ensures { MatchOption result
+        ((w : ℕ) → IsWorkerOf workers w → ¬ (slice_index_or marked.now w false ≡ false))
+        (Least workers (λ w. slice_index_or marked.now w false ≡ false)) }
 {
     for before in 0..workers {
         if !marked[before as usize + 1] {

@@ -8,7 +8,7 @@ use crossbeam_utils::Backoff;
 use std::sync::Wait;
 use tk_replay::Item;
 
-/// The item comes back only where the queue was full at one moment of the call.
+/// Pushes the item. It comes back only where the queue was full at one moment of the call.
 pub fn try_push<R: Wait>(
     rt: &R,
     queue: &EventQueue,
@@ -18,14 +18,14 @@ pub fn try_push<R: Wait>(
     requires queue { IsPassOf queue.now pass.old }
     requires may { MayPush (view pass.old) item }
     ensures queue { IsSamePass pass.old pass.new }
-    ensures pushed { MatchResult result (λ _.
-        view pass.new ≡ pushed (view pass.old) item) (λ back. (back ≡ item)
-        × (view pass.new ≡ view pass.old)) }
+    ensures pushed { MatchResult result
+        (λ _. view pass.new ≡ pushed (view pass.old) item)
+        (λ back. (back ≡ item) × (view pass.new ≡ view pass.old)) }
 {
     queue.push_as::<SenderPush, R>(rt, pass, item)
 }
 
-/// Tries until there is room.
+/// Pushes the item, waiting until the queue has room. It yields the processor between tries.
 pub fn push<R: Wait>(rt: &R, queue: &EventQueue, pass: &mut QueuePass, item: Item)
     requires queue { IsPassOf queue.now pass.old }
     requires may { MayPush (view pass.old) item }

@@ -18,8 +18,8 @@ use tk_events::MAX_WORKERS;
 use tk_ids::Table;
 use tk_replay::Item;
 
-/// Takes the items of a session. Contracts see the session, its table, its number of workers and the
-/// list of what was taken.
+/// Takes the items of a session. Contracts see the session, its table, its number of workers and
+/// the list of what was taken.
 #[derive(Drop)]
 pub struct Receiver {
     queue: Arc<EventQueue, Global>,
@@ -38,13 +38,19 @@ impl Model for Receiver {
 
     ghost Value = { ReceiverView };
 
-    ghost view = { λ r. record { session = r.pass.table_id; table = arc_value r.table; workers = r.workers; taken = taken_of (seen r.pass) } };
+    ghost view = { λ r. record {
+      session = r.pass.table_id;
+      table = arc_value r.table;
+      workers = r.workers;
+      taken = taken_of (seen r.pass);
+    } };
 
-    ghost invariant = { λ r. IsPassOf (arc_value r.queue) r.pass × IsReceiver (seen r.pass) (arc_value r.table) r.workers r.marked };
+    ghost invariant = { λ r. IsPassOf (arc_value r.queue) r.pass
+        × IsReceiver (seen r.pass) (arc_value r.table) r.workers r.marked };
 }
 
-/// How many events each worker of a closed session emitted. Contracts see the list of these numbers,
-/// by the workers' numbers.
+/// How many events each worker of a closed session emitted. Contracts see the list of these
+/// numbers, by the workers' numbers.
 #[derive(Drop)]
 pub struct Closed {
     emitted: [u64; WORKER_SLOTS],
@@ -68,20 +74,23 @@ pub enum CloseReason {
     Missing(u8),
     /// The worker has more than one token.
     Twice(u8),
-    /// The worker's mark was not taken.
+    /// The worker's end mark was not taken.
     NotDrained(u8),
 }
 
-/// All that `close` was given comes back.
+/// What [`Receiver::close`] answers where it closed nothing: the reason, and all that it was given.
 #[derive(Drop)]
 pub struct CloseFault {
+    /// Why the session was not closed.
     pub why: CloseReason,
+    /// The receiver, unchanged.
     pub receiver: Receiver,
+    /// The tokens, unchanged.
     pub ended: Vec<Ended>,
 }
 
 impl Closed {
-    /// How many events the worker emitted, 0 for a number that is no worker's.
+    /// How many events the worker emitted, or 0 for a number that is no worker's.
     pub fn emitted(&self, worker: u8) -> u64
         ensures { result ≡ slice_index self.now worker }
     {
@@ -116,7 +125,8 @@ impl Receiver {
         }
     }
 
-    /// The first item that waits. None only where the queue was empty at one moment of the call.
+    /// Takes the first item that waits, or returns `None` where the queue was empty at one moment
+    /// of the call.
     pub fn take<R: Wait>(&mut self, rt: &R) -> Option<Item>
         ensures some { IfSome result (λ item. self.new ≡ takes self.old item) }
         ensures worker { IfSome result (λ item. IsWorkerOf self.old.workers (worker_of item)) }
@@ -134,6 +144,7 @@ impl Receiver {
         }
     }
 
+    /// The first reason not to close the session with these tokens.
     fn reason(&self, ended: &[Ended]) -> Option<CloseReason>
         ensures ok { IfNone result (IsComplete self.now ended.now) }
         ensures fault { IfSome result (λ why. IsFault why self.now ended.now) }
@@ -148,6 +159,7 @@ impl Receiver {
         Some(CloseReason::NotDrained(worker))
     }
 
+    /// Takes the tokens in, and with them what the queue's rule knows of the whole session.
     fn join(self, ended: Vec<Ended>) -> Closed
         requires session { All (λ token. token.session ≡ self.session) ended.items }
         requires complete { IsComplete self ended.items }
@@ -171,9 +183,14 @@ impl Receiver {
         Closed { emitted }
     }
 
-    /// Ends the session, where each worker's token is there once and each mark was taken: then what
-    /// was taken is what the workers emitted. Else all comes back, with the first reason that stands,
-    /// in the order of `CloseReason`, of the least worker.
+    /// Closes the session, where each worker's token is there once and each end mark was taken.
+    ///
+    /// What was taken is then what the workers emitted, each worker's events in its own order.
+    /// `ended` must be tokens of this session.
+    ///
+    /// # Errors
+    /// The first reason in the order of `CloseReason`, of the least worker, with the receiver and
+    /// the tokens.
     pub fn close(self, ended: Vec<Ended>) -> Result<Closed, CloseFault>
         requires { All (λ token. token.session ≡ self.session) ended.items }
         ensures complete { OnOk result (IsComplete self ended.items) }

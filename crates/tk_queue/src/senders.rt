@@ -5,11 +5,14 @@ ghost use Rattle.std.specs.Option.{option_copied};
 ghost use Rattle.tk_columns.specs.Entries.{desc};
 ghost use Rattle.tk_queue.specs.Known.{is_plain, registrations};
 ghost use Rattle.tk_events.specs.Registration.{registered_key};
+ghost use Rattle.tk_queue.specs.FaultTexts.{register_fault_text, send_fault_text};
 ghost use Rattle.tk_queue.specs.Ends.{own, knows, sends, refusal_of, HasRoom, IsNew, IsChildMade, IsRegisteredAs};
 
 use crate::pushes::{push, try_push};
 use crate::session_rules::{EventQueue, QueuePass};
 use std::alloc::{AllocError, AllocFailed, Global};
+use std::error::Error;
+use std::fmt;
 use std::marker::Model;
 use std::sync::{Arc, Wait};
 use tk_events::{Entry, Event, Kind, MAX_WORKERS, Payload, registered_key};
@@ -17,31 +20,61 @@ use tk_ids::{DType, Descriptor, IdFault, MAX_DESCRIPTORS, Segment, Table, Text, 
 use tk_limits::MAX_EVENTS;
 use tk_replay::Item;
 
-/// Why an event was not sent. It comes back.
+/// Why an event was not sent. Each variant has the event.
 #[derive(Debug, Drop)]
 pub enum SendFault {
-    /// Its key is neither a static descriptor's nor one that this sender registered.
+    /// The event's key is neither a static descriptor's nor one that this sender registered.
     UnknownNode(Event),
-    /// It isn't lawful, or it is a registration.
+    /// The event isn't lawful, or it is a registration.
     Unlawful(Event),
     /// The sender has emitted `MAX_EVENTS` events.
     Limit(Event),
-    /// The queue held as many items as it may.
+    /// The queue held as many items as it may. Only `try_send` answers this.
     Full(Event),
 }
+
+impl fmt::Display for SendFault {
+    ghost output = { λ fault. Some (send_fault_text fault) };
+
+    fn fmt<W: fmt::Write>(&self, f: &mut fmt::Formatter<W>) -> fmt::Result {
+        match self {
+            SendFault::UnknownNode(_) => f.write_str("event has an unknown key"),
+            SendFault::Unlawful(_) => f.write_str("event is unlawful"),
+            SendFault::Limit(_) => f.write_str("event is one too many"),
+            SendFault::Full(_) => f.write_str("queue is full"),
+        }
+    }
+}
+
+impl Error for SendFault {}
 
 /// Why a descriptor was not registered.
 #[derive(Clone, Copy, Debug, PartialEq, Eq)]
 pub enum RegisterFault {
-    /// The parent is neither static nor registered by this sender.
+    /// The parent's key is neither a static descriptor's nor one that this sender registered.
     UnknownNode,
     /// The sender has emitted `MAX_EVENTS` events, or registered `MAX_DESCRIPTORS` descriptors.
     Limit,
-    /// There is no such id.
+    /// The parent's id can't have this segment appended.
     Id(IdFault),
-    /// Memory was refused.
+    /// A request for memory was refused.
     Memory,
 }
+
+impl fmt::Display for RegisterFault {
+    ghost output = { λ fault. Some (register_fault_text fault) };
+
+    fn fmt<W: fmt::Write>(&self, f: &mut fmt::Formatter<W>) -> fmt::Result {
+        match self {
+            RegisterFault::UnknownNode => f.write_str("parent has an unknown key"),
+            RegisterFault::Limit => f.write_str("registration is one too many"),
+            RegisterFault::Id(fault) => write!(f, "{fault}"),
+            RegisterFault::Memory => f.write_str("out of memory"),
+        }
+    }
+}
+
+impl Error for RegisterFault {}
 
 impl<T: Drop> From<AllocFailed<T>> for RegisterFault {
     ghost use Rattle.tk_queue.specs.declared.senders.RegisterFault.TheVariants.{Memory};
@@ -63,8 +96,9 @@ impl From<AllocError> for RegisterFault {
     }
 }
 
-/// Emits one worker's events. Contracts see the session, the table, the worker and the list of what
-/// it emitted.
+/// Emits the events of one worker of a session.
+///
+/// Contracts see the session, its table, the worker and the list of what it emitted.
 #[derive(Drop)]
 pub struct Sender {
     alloc: Global,
@@ -85,12 +119,20 @@ impl Model for Sender {
 
     ghost Value = { SenderView };
 
-    ghost view = { λ s. record { session = s.pass.table_id; table = arc_value s.table; worker = s.worker; sent = sent_of (seen s.pass) } };
+    ghost view = { λ s. record {
+      session = s.pass.table_id;
+      table = arc_value s.table;
+      worker = s.worker;
+      sent = sent_of (seen s.pass);
+    } };
 
-    ghost invariant = { λ s. IsPassOf (arc_value s.queue) s.pass × IsSender (seen s.pass) (arc_value s.table) s.worker s.registered.items s.emitted };
+    ghost invariant = { λ s. IsPassOf (arc_value s.queue) s.pass
+        × IsSender (seen s.pass) (arc_value s.table) s.worker s.registered.items s.emitted };
 }
 
-/// The token of a sender that has ended. Contracts see what they saw of the sender.
+/// The token of a sender that has ended, for [`Receiver::close`](crate::Receiver::close).
+///
+/// Contracts see of it what they saw of the sender.
 #[derive(Drop)]
 pub struct Ended {
     pass: QueuePass,
@@ -107,9 +149,15 @@ impl Model for Ended {
 
     ghost Value = { SenderView };
 
-    ghost view = { λ t. record { session = t.pass.table_id; table = arc_value t.table; worker = t.worker; sent = sent_of (seen t.pass) } };
+    ghost view = { λ t. record {
+      session = t.pass.table_id;
+      table = arc_value t.table;
+      worker = t.worker;
+      sent = sent_of (seen t.pass);
+    } };
 
-    ghost invariant = { λ t. (t.pass.me.1 ≡ []) × IsEnded (seen t.pass) (arc_value t.table) t.worker t.emitted };
+    ghost invariant = { λ t. (t.pass.me.1 ≡ [])
+        × IsEnded (seen t.pass) (arc_value t.table) t.worker t.emitted };
 }
 
 impl Sender {
@@ -148,7 +196,7 @@ impl Sender {
         self.worker
     }
 
-    /// How many events it emitted.
+    /// How many events the sender has emitted, registrations among them.
     pub fn emitted(&self) -> u64
         ensures { result ≡ length self.now.sent }
     {
@@ -169,14 +217,14 @@ impl Sender {
         self.registered.get((key - first) as usize)
     }
 
-    // Whether it is the key of a descriptor that is static or was registered by this sender.
+    // Whether a static descriptor has this key, or one that this sender registered.
     fn knows(&self, key: u32) -> bool
         ensures { result ≡ knows self.now key }
     {
         self.node(key).is_some()
     }
 
-    // The event, where it may be sent now.
+    // Gives the event back where the sender may emit it now.
     fn admitted(&self, event: Event) -> Result<Event, SendFault>
         ensures ok { IfOk result (λ same. (same ≡ event) × (refusal_of self.now event ≡ None)) }
         ensures refused { IfErr result (λ fault. refusal_of self.now event ≡ Some fault) }
@@ -193,7 +241,10 @@ impl Sender {
         Ok(event)
     }
 
-    /// Emits the event if there is room in the queue.
+    /// Emits an event, where the queue has room for it.
+    ///
+    /// # Errors
+    /// `UnknownNode`, `Unlawful`, `Limit` or `Full`, each with the event. Nothing was then emitted.
     pub fn try_send<R: Wait>(&mut self, rt: &R, event: Event) -> Result<(), SendFault>
         ensures sent { OnOk result ((refusal_of self.old event ≡ None)
             × (self.new ≡ sends self.old event)) }
@@ -216,7 +267,10 @@ impl Sender {
         }
     }
 
-    /// Emits the event, and waits until there is room in the queue.
+    /// Emits an event, waiting until the queue has room for it.
+    ///
+    /// # Errors
+    /// `UnknownNode`, `Unlawful` or `Limit`, each with the event. Nothing was then emitted.
     pub fn send<R: Wait>(&mut self, rt: &R, event: Event) -> Result<(), SendFault>
         ensures sent { OnOk result ((refusal_of self.old event ≡ None)
             × (self.new ≡ sends self.old event)) }
@@ -233,7 +287,7 @@ impl Sender {
         Ok(())
     }
 
-    // The descriptor below a parent, and its id once more, where one more may be registered.
+    // A descriptor below the parent, and its id once more, where the sender may register one more.
     fn child(
         &self,
         parent: u32,
@@ -270,8 +324,14 @@ impl Sender {
         registered_key(self.worker, self.registered.len() as u32)
     }
 
-    /// Registers a descriptor below its parent: emits its registration with that stamp, and answers
-    /// its key.
+    /// Registers a dynamic descriptor below the parent with this key, and returns its key.
+    ///
+    /// The descriptor's id is the parent's with `segment` appended. Its registration, an event of
+    /// the kind `Dynamic`, is emitted with this stamp; it waits until the queue has room. JUnit:
+    /// `dynamicTestRegistered`.
+    ///
+    /// # Errors
+    /// `UnknownNode`, `Limit`, `Id` or `Memory`. Nothing was then emitted.
     pub fn register<R: Wait>(
         &mut self,
         rt: &R,
@@ -301,7 +361,8 @@ impl Sender {
         Ok(key)
     }
 
-    /// Pushes the mark, after which this worker emits nothing.
+    /// Ends the sender: pushes its end mark, waiting until the queue has room, and returns its
+    /// token.
     pub fn end<R: Wait>(self, rt: &R) -> Ended
         ensures { result ≡ self }
     {
@@ -324,7 +385,7 @@ impl Sender {
     }
 }
 
-// Whether it is lawful and no registration.
+// Whether the event is lawful and no registration.
 fn is_plain(event: &Event) -> bool
     ensures { result ≡ is_plain event.now }
 {

@@ -1,4 +1,5 @@
-//! The queue of a session, its rule, and what each step shows. Most types here are for the proofs alone.
+//! The queue of a session, its rule, and what each step shows. Most types here are for the proofs
+//! alone.
 use crossbeam_queue::protocol::{Join, Lesson, Outcome, Protocol, Split};
 use crossbeam_queue::{Pass, RuledArrayQueue};
 use std::collections::LinkedList;

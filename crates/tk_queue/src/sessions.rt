@@ -1,15 +1,18 @@
 //! How a session is opened.
-ghost use Rattle.std.specs.Prelude.{◌≡◌, ◌↔◌, ◌<◌, ◌≤◌, ◌⊎◌, [], length, IfOk, Err};
+ghost use Rattle.std.specs.Prelude.{◌≡◌, ◌↔◌, ◌<◌, ◌≤◌, ◌⊎◌, [], length, IfOk, Err, Some};
 ghost use Rattle.std.specs.Arc.{arc_value};
 ghost use Rattle.crossbeam_queue.specs.Passes.{view, IsPassOf};
 ghost use Rattle.tk_queue.specs.Session.{receiver};
 ghost use Rattle.tk_queue.specs.Ends.{capacity_of, fresh_receiver, fresh_senders};
+ghost use Rattle.tk_queue.specs.FaultTexts.{open_fault_text};
 
 use crate::limits::MAX_CAPACITY;
 use crate::receivers::Receiver;
 use crate::senders::Sender;
 use crate::session_rules::{EventQueue, QueuePass, SplitSender, WithOneBit, WithZeroBit};
 use std::alloc::{AllocError, Global};
+use std::error::Error;
+use std::fmt;
 use std::sync::Arc;
 use tk_events::MAX_WORKERS;
 use tk_ids::Table;
@@ -21,9 +24,23 @@ pub enum OpenFault {
     Workers,
     /// The capacity isn't 1 to `MAX_CAPACITY`.
     Capacity,
-    /// Memory was refused.
+    /// A request for memory was refused.
     Memory,
 }
+
+impl fmt::Display for OpenFault {
+    ghost output = { λ fault. Some (open_fault_text fault) };
+
+    fn fmt<W: fmt::Write>(&self, f: &mut fmt::Formatter<W>) -> fmt::Result {
+        match self {
+            OpenFault::Workers => f.write_str("workers must be 1 to 15"),
+            OpenFault::Capacity => f.write_str("places must be 1 to 1024"),
+            OpenFault::Memory => f.write_str("out of memory"),
+        }
+    }
+}
+
+impl Error for OpenFault {}
 
 // Sets the number of static descriptors in the queue's rule, its highest bit first.
 fn set_static_count(shared_queue: &EventQueue, pass: &mut QueuePass, known: u32)
@@ -43,6 +60,7 @@ fn set_static_count(shared_queue: &EventQueue, pass: &mut QueuePass, known: u32)
     }
 }
 
+// Opens a session whose numbers are within their limits.
 fn make(
     alloc: Global,
     table: Arc<Table>,
@@ -51,7 +69,8 @@ fn make(
 ) -> Result<(Vec<Sender>, Receiver), AllocError>
     requires workers { workers ≤ MAX_WORKERS }
     requires capacity { 0 < capacity }
-    ensures ends { IfOk result (λ made. (made.1 ≡ fresh_receiver made.1.session (arc_value table) workers)
+    ensures ends { IfOk result (λ made.
+        (made.1 ≡ fresh_receiver made.1.session (arc_value table) workers)
         × (made.0.items ≡ fresh_senders made.1.session (arc_value table) workers)) }
     ensures places { IfOk result (λ made. capacity_of made.1.session ≡ capacity) }
 {
@@ -71,8 +90,13 @@ fn make(
     ))
 }
 
-/// Opens a session of the workers 1 to `workers`, each of which has emitted nothing, over a table of
-/// static descriptors. Sender i is worker i + 1, and the queue holds at most `capacity` items.
+/// Opens a session of the workers 1 to `workers` over a table of static descriptors.
+///
+/// `senders[i]` is worker i + 1's. The queue between the senders and the receiver holds at most
+/// `capacity` items.
+///
+/// # Errors
+/// `Workers` or `Capacity` where a number isn't within its limits, or `Memory`.
 pub fn open(
     alloc: Global,
     table: Arc<Table>,

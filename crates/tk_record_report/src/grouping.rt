@@ -21,9 +21,11 @@ fn add_line(
     id: &Text,
     tail: &Text,
 ) -> Result<(), AllocError>
-    ensures keys { OnOk result (keys_of kept.new.entries ≡ insert_key (slice_cmp nat_cmp) (keys_of kept.old.entries) id.now) }
+    ensures keys { OnOk result (keys_of kept.new.entries
+        ≡ insert_key (slice_cmp nat_cmp) (keys_of kept.old.entries) id.now) }
     ensures lines { OnOk result ((x : List ℕ) → lines_at kept.new.entries x
-        ≡ cond (bytes_eq id.now x) (lines_at kept.old.entries x ++ tail_line tail.now) (lines_at kept.old.entries x)) }
+        ≡ cond (bytes_eq id.now x) (lines_at kept.old.entries x ++ tail_line tail.now)
+        (lines_at kept.old.entries x)) }
     ensures ordered { OnOk result (IsOrdered (slice_cmp nat_cmp) kept.new) }
 {
     match kept.get_mut(id) {

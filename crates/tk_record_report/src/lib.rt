@@ -1,4 +1,5 @@
-//! The report of a record: its statistics, and the events of each id, whoever emitted them and when.
+//! The report of a record: its statistics, and the events of each id, whoever emitted them and
+//! whenever.
 #![tactic(auto)]
 
 mod grouping;

@@ -9,6 +9,7 @@ use Rattle.tk_ids.specs.declared.tables.Descriptor.{Descriptor}
 use Rattle.tk_events.specs.declared.events.Event.{Event}
 use Rattle.tk_events.specs.declared.events.Entry.{Entry}
 use Rattle.tk_columns.specs.Mixing.{IsWorkerOf, of_worker}
+use Rattle.tk_columns.specs.Recorded.{Recorded}
 use Rattle.tk_record.specs.Spelling.{joined, entry_line, HasEntryLine}
 use Rattle.tk_record.specs.declared.versions.Version.{Version}
 use Rattle.tk_record.specs.Versions.{HasLineIn}
@@ -27,7 +28,7 @@ use Rattle.tk_replay.specs.declared.replays.ReplayFault.TheVariants as faults
 use Rattle.tk_replay.specs.Limits.{most_workers}
 use Rattle.tk_replay.specs.Script.{IsCount, workers_line, workers_of, AreTurns, turns_line, turns_of}
 use Rattle.tk_replay.specs.Replay.{IsReplayed, plays, start}
-use Rattle.tk_replay.specs.ReplayText.{Scenario, header, AreOwn, scripts_by, NoCount, IsTextOf, IsPlayed, nodes_fault}
+use Rattle.tk_replay.specs.ReplayText.{Scenario, header, AreOwn, scripts_by, NoCount, IsTextOf, IsPlayed, IsPlayedAs, nodes_fault}
 use Rattle.tk_replay.specs.Prefixes.{LacksEntryStart, IsEntriesPrefix, IsCountFault, IsListFault, IsFaultAfter, NoTurns, IsFollowed, IsEndFault}
 use Rattle.tk_replay.proofs.ScriptForms.{workers_line_form, turns_line_form, workers_no_feed, turns_no_feed}
 
@@ -224,20 +225,32 @@ scripts_here f scripts entries others n same is = is ∙ ap (λ (es : List Entry
 pub replay_here : (t u : List Descriptor) (s r : List (List Event)) (x y : List Turn) (a : Result Replayed ReplayFault) → t ≡ u → s ≡ r → x ≡ y → IsReplayed t s x a → IsReplayed u r y a
 replay_here t u s r x y a p q e is = subst (λ (z : List Descriptor × List (List Event) × List Turn). IsReplayed z.0 z.1 z.2 a) (λ i. (p i, q i, e i)) is
 
-pub replay_fault : (input : List ℕ) (p : Scenario) (fault : ReplayFault) → IsTextOf input p → IsReplayed p.table (scripts_by p.entries p.workers) p.turns (Err fault) → IsPlayed input (Err fault)
-replay_fault input p (faults.AfterEnd i) is r = (p, is, r)
-replay_fault input p (faults.Append i x) is r = (p, is, r)
-replay_fault input p faults.Memory is r = tt
-replay_fault input p faults.NoHeader is r = absurd r
-replay_fault input p (faults.BadLine k) is r = absurd r
-replay_fault input p faults.TooLarge is r = absurd r
-replay_fault input p faults.Device is r = absurd r
+pub replay_fault : (table : List Descriptor) (n : ℕ) (entries : List Entry) (turns : List Turn) (fault : ReplayFault) → IsReplayed table (scripts_by entries n) turns (Err fault) → IsPlayedAs table n entries turns (Err fault)
+replay_fault table n entries turns (faults.AfterEnd i) r = r
+replay_fault table n entries turns (faults.Append i x) r = r
+replay_fault table n entries turns faults.Memory r = tt
+replay_fault table n entries turns faults.NoHeader r = absurd r
+replay_fault table n entries turns (faults.BadLine k) r = absurd r
+replay_fault table n entries turns faults.TooLarge r = absurd r
+replay_fault table n entries turns faults.Device r = absurd r
 
-pub replay_done : (input : List ℕ) (p : Scenario) (done : Replayed) → IsTextOf input p → IsReplayed p.table (scripts_by p.entries p.workers) p.turns (Ok done) → IsPlayed input (Ok done.taken)
-replay_done input p done is r = (
-  p,
+pub replay_done : (table : List Descriptor) (n : ℕ) (entries : List Entry) (turns : List Turn) (done : Replayed) → IsReplayed table (scripts_by entries n) turns (Ok done) → IsPlayedAs table n entries turns (Ok done.taken)
+replay_done table n entries turns done r = (
   r.0,
-  is,
-  ap (λ n. plays (scripts_by p.entries p.workers) p.turns (start p.table n)) (sym (scripts_long p.entries p.workers)) ∙ r.1,
+  ap (λ k. plays (scripts_by entries n) turns (start table k)) (sym (scripts_long entries n)) ∙ r.1,
   r.2.taken,
 )
+
+played : (input : List ℕ) (p : Scenario) (r : Result Recorded ReplayFault) → IsTextOf input p → IsPlayedAs p.table p.workers p.entries p.turns r → IsPlayed input r
+played input p (Ok r) is h = (p, h.0, is, h.1, h.2)
+played input p (Err (faults.AfterEnd i)) is h = (p, is, h)
+played input p (Err (faults.Append i x)) is h = (p, is, h)
+played input p (Err faults.Memory) is h = tt
+played input p (Err faults.NoHeader) is h = absurd h
+played input p (Err (faults.BadLine k)) is h = absurd h
+played input p (Err faults.TooLarge) is h = absurd h
+played input p (Err faults.Device) is h = absurd h
+
+pub text_played : (input : List ℕ) (p : Scenario) (entries : List Entry) (turns : List Turn) (r : Result Recorded ReplayFault) → IsTextOf input p → entries ≡ p.entries → turns ≡ p.turns → IsPlayedAs p.table p.workers entries turns r → IsPlayed input r
+text_played input p entries turns r is e t h =
+    played input p r is (subst (λ (z : List Entry × List Turn). IsPlayedAs p.table p.workers z.0 z.1 r) (λ i. (e i, t i)) h)

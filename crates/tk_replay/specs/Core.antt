@@ -1,4 +1,5 @@
--- The core of a session, as a machine: what each worker sent, whether it ended, what waits and what was taken.
+-- The core of a session, as a machine: what each worker sent, whether it ended, what waits and what
+-- was taken.
 use Rattle.std.specs.Prelude.{◌≡◌, ℕ, ◌==◌, Bool, true, false, if◌then◌else◌, List, [], ◌∷◌, ◌++◌, map, filter}
 use Rattle.tk_events.specs.declared.events.Event.{Event}
 use Rattle.tk_events.specs.declared.events.Entry.{Entry}
@@ -28,7 +29,8 @@ pub record Core : Type 0 where
   pub taken : List Item
   pub waiting : List Item
 
--- what was taken of each worker, and then what waits of it, is what it sent, and no item is of another worker
+-- what was taken of each worker, and then what waits of it, is what it sent, and no item is of
+-- another worker
 pub record IsCore (workers : ℕ) (c : Core) : Type 0 where
   pub kept : (w : ℕ) → items_of w (c.taken ++ c.waiting) ≡ script w (c.sent w) (c.ended w)
   pub others : (w : ℕ) → ¬ IsWorkerOf workers w → (c.sent w ≡ []) × (c.ended w ≡ false)
@@ -39,11 +41,21 @@ put f w x v = if v == w then x else f v
 
 -- worker w, which has not ended, emits e
 abbrev pub emit : ℕ → Event → Core → Core
-emit w e c = record { sent = put c.sent w (c.sent w ++ e ∷ []); ended = c.ended; taken = c.taken; waiting = c.waiting ++ entry w e ∷ [] }
+emit w e c = record {
+  sent = put c.sent w (c.sent w ++ e ∷ []);
+  ended = c.ended;
+  taken = c.taken;
+  waiting = c.waiting ++ entry w e ∷ [];
+}
 
 -- worker w, which has not ended, ends
 abbrev pub finish : ℕ → Core → Core
-finish w c = record { sent = c.sent; ended = put c.ended w true; taken = c.taken; waiting = c.waiting ++ End w ∷ [] }
+finish w c = record {
+  sent = c.sent;
+  ended = put c.ended w true;
+  taken = c.taken;
+  waiting = c.waiting ++ End w ∷ [];
+}
 
 -- the step that puts this item at the back
 abbrev pub push : Item → Core → Core
@@ -52,7 +64,8 @@ push (End w) c = finish w c
 
 -- the first waiting item, x, is taken, and xs are the others
 abbrev pub take_first : Item → List Item → Core → Core
-take_first x xs c = record { sent = c.sent; ended = c.ended; taken = c.taken ++ x ∷ []; waiting = xs }
+take_first x xs c =
+    record { sent = c.sent; ended = c.ended; taken = c.taken ++ x ∷ []; waiting = xs }
 
 -- the entries among the items, in order
 abbrev pub entries : List Item → List Entry

@@ -14,21 +14,28 @@ use Rattle.tk_replay.specs.CoreState.{has_ended}
 use Rattle.tk_replay.specs.Core.{Core, IsCore, entries}
 use Rattle.tk_replay.specs.Replay.{Moment, IsTurn, script_of, count_of, plays, start}
 
--- the moment is the core's state in which each worker sent as much of its script as is counted, and all of it where it ended
+-- the moment is the core's state in which each worker sent as much of its script as is counted, and
+-- all of it where it ended
 pub record IsMomentOf (scripts : List (List Event)) (m : Moment) (c : Core) : Type 0 where
   pub lawful : IsCore (length scripts) c
   pub waits : c.waiting ≡ m.core.waiting
   pub taken : entries c.taken ≡ m.taken.entries
-  pub sent : (w : ℕ) → IsWorkerOf (length scripts) w → c.sent w ≡ take (count_of m w) (script_of scripts w)
+  pub sent :
+      (w : ℕ) → IsWorkerOf (length scripts) w → c.sent w ≡ take (count_of m w) (script_of scripts w)
   pub ended : (w : ℕ) → IsWorkerOf (length scripts) w → c.ended w ≡ has_ended m.core w
-  pub whole : (w : ℕ) → IsWorkerOf (length scripts) w → c.ended w ≡ true → c.sent w ≡ script_of scripts w
+  pub whole :
+      (w : ℕ) → IsWorkerOf (length scripts) w → c.ended w ≡ true → c.sent w ≡ script_of scripts w
   pub counts : length m.emitted ≡ length scripts
   pub marks : length m.core.ended ≡ worker_slots
 
--- so each worker's items, taken and waiting, are the events that it emitted so far, then its mark if it ended
+-- so each worker's items, taken and waiting, are the events that it emitted so far, then its mark
+-- if it ended
 abbrev pub ReplaysCore : Type 0
-ReplaysCore = (table : List Descriptor) (scripts : List (List Event)) (turns : List Turn) (m : Moment) → length scripts ≤ most_workers → AllByRecursion (IsTurn (length scripts)) turns
-    → plays scripts turns (start table (length scripts)) ≡ Some m → (c : Core) × IsMomentOf scripts m c
+ReplaysCore =
+    (table : List Descriptor) (scripts : List (List Event)) (turns : List Turn) (m : Moment)
+    → length scripts ≤ most_workers → AllByRecursion (IsTurn (length scripts)) turns
+    → plays scripts turns (start table (length scripts)) ≡ Some m
+    → (c : Core) × IsMomentOf scripts m c
 
 -- an answer that tells of the input alone, and not of memory
 abbrev pub IsSettled : Result Recorded ReplayFault → Type 0
@@ -37,4 +44,6 @@ IsSettled _ = Unit {0}
 
 -- no input has two answers
 abbrev pub AnswerIsUnique : Type 0
-AnswerIsUnique = (input : List ℕ) (a b : Result Recorded ReplayFault) → IsSettled a → IsSettled b → IsPlayed input a → IsPlayed input b → a ≡ b
+AnswerIsUnique =
+    (input : List ℕ) (a b : Result Recorded ReplayFault) → IsSettled a → IsSettled b
+    → IsPlayed input a → IsPlayed input b → a ≡ b

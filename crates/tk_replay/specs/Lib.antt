@@ -6,3 +6,4 @@ pub mod Script
 pub mod ReplayText
 pub mod Prefixes
 pub mod Laws
+pub mod FaultTexts

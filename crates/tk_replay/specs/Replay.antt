@@ -38,24 +38,32 @@ count_of m w = get_or m.emitted (w - 1) 0
 
 -- the worker's next event was emitted, or its mark
 abbrev pub next : ℕ → Moment → Option Event → Moment
-next w m (Some e) = record { core = emits w e m.core; emitted = slice_set m.emitted (w - 1) (count_of m w + 1); taken = m.taken }
+next w m (Some e) = record {
+  core = emits w e m.core;
+  emitted = slice_set m.emitted (w - 1) (count_of m w + 1);
+  taken = m.taken;
+}
 next w m None = record { core = ends w m.core; emitted = m.emitted; taken = m.taken }
 
 abbrev pub waits : CoreState → List Item → CoreState
 waits c xs = record { workers = c.workers; ended = c.ended; waiting = xs }
 
 abbrev pub append_to : Moment → List Item → Entry → Option AppendFault → Result Moment Stop
-append_to m xs e None = Ok (record { core = waits m.core xs; emitted = m.emitted; taken = with_entry m.taken e })
+append_to m xs e None =
+    Ok (record { core = waits m.core xs; emitted = m.emitted; taken = with_entry m.taken e })
 append_to m xs e (Some fault) = Err (Refuses fault)
 
 -- the first of the waiting items is taken; a mark isn't recorded
 abbrev pub take_item : Moment → List Item → Result Moment Stop
 take_item m [] = Ok m
 take_item m (Emitted e ∷ xs) = append_to m xs e (fault_of m.taken e)
-take_item m (End w ∷ xs) = Ok (record { core = waits m.core xs; emitted = m.emitted; taken = m.taken })
+take_item m (End w ∷ xs) =
+    Ok (record { core = waits m.core xs; emitted = m.emitted; taken = m.taken })
 
 abbrev pub turn_step : List (List Event) → Moment → Turn → Result Moment Stop
-turn_step scripts m (Worker w) = if has_ended m.core w then Err Faulty else Ok (next w m (slice_get (script_of scripts w) (count_of m w)))
+turn_step scripts m (Worker w) =
+    if has_ended m.core w then Err Faulty
+    else Ok (next w m (slice_get (script_of scripts w) (count_of m w)))
 turn_step scripts m Take = take_item m m.core.waiting
 
 abbrev pub after : {A : Type 0} → Result A Stop → (A → Option A) → Option A
@@ -73,10 +81,12 @@ zeros (suc n) = zeros n ++ 0 ∷ []
 
 -- before the first turn of a replay with n workers
 abbrev pub start : List Descriptor → ℕ → Moment
-start table n = record { core = fresh n; emitted = zeros n; taken = record { table = table; entries = [] } }
+start table n =
+    record { core = fresh n; emitted = zeros n; taken = record { table = table; entries = [] } }
 
 -- the turns go on to turn i, which stops
-pub record StopsAt (table : List Descriptor) (scripts : List (List Event)) (turns : List Turn) (i : ℕ) (why : Stop) : Type 0 where
+pub record StopsAt (table : List Descriptor) (scripts : List (List Event)) (turns : List Turn)
+    (i : ℕ) (why : Stop) : Type 0 where
   pub moment : Moment
   pub turn : Turn
   pub before : plays scripts (take i turns) (start table (length scripts)) ≡ Some moment
@@ -90,10 +100,13 @@ pub record Shows (r : Replayed) (m : Moment) : Type 0 where
   pub emitted : r.emitted.items ≡ m.emitted
 
 -- what a replay answers; want of memory may come at any
-abbrev pub IsReplayed : List Descriptor → List (List Event) → List Turn → Result Replayed ReplayFault → Type 0
-IsReplayed table scripts turns (Ok r) = (m : Moment) × (plays scripts turns (start table (length scripts)) ≡ Some m) × Shows r m
+abbrev pub IsReplayed :
+    List Descriptor → List (List Event) → List Turn → Result Replayed ReplayFault → Type 0
+IsReplayed table scripts turns (Ok r) =
+    (m : Moment) × (plays scripts turns (start table (length scripts)) ≡ Some m) × Shows r m
 IsReplayed table scripts turns (Err (faults.AfterEnd i)) = StopsAt table scripts turns i Faulty
-IsReplayed table scripts turns (Err (faults.Append i fault)) = StopsAt table scripts turns i (Refuses fault)
+IsReplayed table scripts turns (Err (faults.Append i fault)) =
+    StopsAt table scripts turns i (Refuses fault)
 IsReplayed table scripts turns (Err faults.Memory) = Unit {0}
 IsReplayed table scripts turns (Err _) = ⊥
 

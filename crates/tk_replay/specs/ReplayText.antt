@@ -37,9 +37,15 @@ pub record Scenario : Type 0 where
 unfoldable pub header : Version → List ℕ
 header version = header_of (codes "testkit-replay|") version
 
--- the header, the number of workers, the static descriptors, the entries, and the turns, each line with its line feed
+-- the header, the number of workers, the static descriptors, the entries, and the turns, each line
+-- with its line feed
 abbrev pub replay_text : Scenario → List ℕ
-replay_text p = header p.version ++ (with_line_feed (workers_line p.workers) ++ (nodes_text p.table ++ (entries_text p.entries ++ with_line_feed (turns_line p.turns))))
+replay_text p =
+    header p.version
+    ++ (with_line_feed (workers_line p.workers)
+    ++ (nodes_text p.table
+    ++ (entries_text p.entries
+    ++ with_line_feed (turns_line p.turns))))
 
 -- each entry has a line in the version, and is of one of the workers 1 to n
 abbrev pub AreOwn : Version → ℕ → List Entry → Type 0
@@ -63,12 +69,20 @@ abbrev pub NoCount : List ℕ → Type 0
 NoCount rest = (n : ℕ) (more : List ℕ) → IsCount n → rest ≢ with_line_feed (workers_line n) ++ more
 
 -- no line that may follow these descriptors and entries stands at the start
-pub record NoLineOf (version : Version) (n : ℕ) (table : List Descriptor) (entries : List Entry) (rest : List ℕ) : Type 0 where
-  pub node : (d : Descriptor) (more : List ℕ) → entries ≡ [] → IsDescriptor d → TakesNext table d → rest ≢ with_line_feed (node_line d) ++ more
-  pub entry : (e : Entry) (more : List ℕ) → HasLineIn version e → IsWorkerOf n e.worker → rest ≢ with_line_feed (entry_line e) ++ more
-  pub turns : (turns : List Turn) (more : List ℕ) → AreTurns n turns → rest ≢ with_line_feed (turns_line turns) ++ more
+pub record NoLineOf (version : Version) (n : ℕ) (table : List Descriptor) (entries : List Entry)
+    (rest : List ℕ) : Type 0 where
+  pub node :
+      (d : Descriptor) (more : List ℕ) → entries ≡ [] → IsDescriptor d → TakesNext table d
+      → rest ≢ with_line_feed (node_line d) ++ more
+  pub entry :
+      (e : Entry) (more : List ℕ) → HasLineIn version e → IsWorkerOf n e.worker
+      → rest ≢ with_line_feed (entry_line e) ++ more
+  pub turns :
+      (turns : List Turn) (more : List ℕ) → AreTurns n turns
+      → rest ≢ with_line_feed (turns_line turns) ++ more
 
--- after the number of workers, line k is none that may follow the descriptors and entries before it, or is missing
+-- after the number of workers, line k is none that may follow the descriptors and entries before
+-- it, or is missing
 pub record IsBadLine (version : Version) (n : ℕ) (input : List ℕ) (k : ℕ) : Type 0 where
   pub table : List Descriptor
   pub entries : List Entry
@@ -85,7 +99,9 @@ pub record IsLineAfter (version : Version) (n : ℕ) (input : List ℕ) (k : ℕ
   pub entries : List Entry
   pub turns : List Turn
   pub rest : List ℕ
-  pub prefix : input ≡ nodes_text table ++ (entries_text entries ++ (with_line_feed (turns_line turns) ++ rest))
+  pub prefix :
+      input ≡ nodes_text table
+      ++ (entries_text entries ++ (with_line_feed (turns_line turns) ++ rest))
   pub nodes : AreNodes [] table
   pub own : AreOwn version n entries
   pub are : AreTurns n turns
@@ -96,21 +112,47 @@ pub record IsLineAfter (version : Version) (n : ℕ) (input : List ℕ) (k : ℕ
 abbrev pub IsBadAfter : Version → ℕ → List ℕ → ℕ → Type 0
 IsBadAfter version n input k = IsBadLine version n input k ⊎ IsLineAfter version n input k
 
--- the first line after the header that may not stand there is line k: the one of the number of workers, or a later one
+-- the first line after the header that may not stand there is line k: the one of the number of
+-- workers, or a later one
 abbrev pub IsBad : Version → List ℕ → ℕ → Type 0
-IsBad version input k = ((k ≡ 2) × NoCount input) ⊎ ((n : ℕ) × (rest : List ℕ) × IsCount n × (input ≡ with_line_feed (workers_line n) ++ rest) × IsBadAfter version n rest k)
+IsBad version input k =
+    ((k ≡ 2) × NoCount input)
+    ⊎ ((n : ℕ) × (rest : List ℕ) × IsCount n
+    × (input ≡ with_line_feed (workers_line n) ++ rest) × IsBadAfter version n rest k)
 
 -- the input is the text of this replay
 abbrev pub IsTextOf : List ℕ → Scenario → Type 0
 IsTextOf input p = HasReplayText p × (input ≡ replay_text p)
 
--- what playing an input within the limit answers, with the record of what is taken; want of memory may come at any
+-- what replaying these turns over these entries answers; want of memory may come at any
+abbrev pub IsPlayedAs :
+    List Descriptor → ℕ → List Entry → List Turn → Result Recorded ReplayFault → Type 0
+IsPlayedAs table n entries turns (Ok r) =
+    (m : Moment) × (plays (scripts_by entries n) turns (start table n) ≡ Some m) × (r ≡ m.taken)
+IsPlayedAs table n entries turns (Err (faults.AfterEnd i)) =
+    StopsAt table (scripts_by entries n) turns i Faulty
+IsPlayedAs table n entries turns (Err (faults.Append i fault)) =
+    StopsAt table (scripts_by entries n) turns i (Refuses fault)
+IsPlayedAs table n entries turns (Err faults.Memory) = Unit {0}
+IsPlayedAs table n entries turns (Err _) = ⊥
+
+-- what playing an input within the limit answers, with the record of what is taken; want of memory
+-- may come at any
 abbrev pub IsPlayed : List ℕ → Result Recorded ReplayFault → Type 0
-IsPlayed input (Ok r) = (p : Scenario) × (m : Moment) × IsTextOf input p × (plays (scripts_by p.entries p.workers) p.turns (start p.table p.workers) ≡ Some m) × (r ≡ m.taken)
-IsPlayed input (Err faults.NoHeader) = (version : Version) (rest : List ℕ) → input ≢ header version ++ rest
-IsPlayed input (Err (faults.BadLine k)) = (version : Version) × (rest : List ℕ) × (input ≡ header version ++ rest) × IsBad version rest k
-IsPlayed input (Err (faults.AfterEnd i)) = (p : Scenario) × IsTextOf input p × StopsAt p.table (scripts_by p.entries p.workers) p.turns i Faulty
-IsPlayed input (Err (faults.Append i fault)) = (p : Scenario) × IsTextOf input p × StopsAt p.table (scripts_by p.entries p.workers) p.turns i (Refuses fault)
+IsPlayed input (Ok r) =
+    (p : Scenario) × (m : Moment) × IsTextOf input p
+    × (plays (scripts_by p.entries p.workers) p.turns (start p.table p.workers) ≡ Some m)
+    × (r ≡ m.taken)
+IsPlayed input (Err faults.NoHeader) =
+    (version : Version) (rest : List ℕ) → input ≢ header version ++ rest
+IsPlayed input (Err (faults.BadLine k)) =
+    (version : Version) × (rest : List ℕ) × (input ≡ header version ++ rest) × IsBad version rest k
+IsPlayed input (Err (faults.AfterEnd i)) =
+    (p : Scenario) × IsTextOf input p
+    × StopsAt p.table (scripts_by p.entries p.workers) p.turns i Faulty
+IsPlayed input (Err (faults.Append i fault)) =
+    (p : Scenario) × IsTextOf input p
+    × StopsAt p.table (scripts_by p.entries p.workers) p.turns i (Refuses fault)
 IsPlayed input (Err faults.TooLarge) = ⊥
 IsPlayed input (Err faults.Device) = ⊥
 IsPlayed input (Err faults.Memory) = Unit {0}
@@ -138,7 +180,9 @@ Plays input = (length input ≤ MAX_TEXT) × ((r : Recorded) × IsPlayed input (
 
 -- a prefix of the record of what is taken was written
 abbrev pub IsPartlyWritten : List ℕ → Option (List ℕ) → Option (List ℕ) → Type 0
-IsPartlyWritten input old new = (length input ≤ MAX_TEXT) × ((r : Recorded) × IsPlayed input (Ok r) × AppendsPrefix old new (text r))
+IsPartlyWritten input old new =
+    (length input ≤ MAX_TEXT)
+    × ((r : Recorded) × IsPlayed input (Ok r) × AppendsPrefix old new (text r))
 
 -- faults of loading, of single steps and of writing, as faults of replays
 abbrev pub load_fault : LoadFault → ReplayFault

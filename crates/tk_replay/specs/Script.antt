@@ -46,11 +46,13 @@ abbrev pub worker_of : ℕ → List ℕ → Option ℕ
 worker_of n field = number_of (2 ^ 8) field >>= within n
 
 unfoldable pub workers_of : List (List ℕ) → Option ℕ
-workers_of (letter ∷ count ∷ []) = if bytes_eq letter (codes "W") then worker_of most_workers count else None
+workers_of (letter ∷ count ∷ []) =
+    if bytes_eq letter (codes "W") then worker_of most_workers count else None
 workers_of _ = None
 
 abbrev pub turn_of : ℕ → List ℕ → Option Turn
-turn_of n field = if bytes_eq field (codes "t") then Some Take else (worker_of n field >>= λ w. Some (Worker w))
+turn_of n field =
+    if bytes_eq field (codes "t") then Some Take else (worker_of n field >>= λ w. Some (Worker w))
 
 abbrev pub turns_from : ℕ → List (List ℕ) → Option (List Turn)
 turns_from n [] = Some []

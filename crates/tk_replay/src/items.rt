@@ -1,12 +1,12 @@
 //! What passes through a queue.
 use tk_events::Entry;
 
-/// An entry of a worker, or its end mark.
+/// What a worker puts into a queue: an entry, or its end mark.
 #[derive(Drop)]
 pub enum Item {
     /// An event, with the worker that emitted it.
     Entry(Entry),
-    /// The worker of this number emits no more.
+    /// The end mark of the worker of this number, which emits nothing after it.
     End(u8),
 }
 

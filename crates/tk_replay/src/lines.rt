@@ -1,4 +1,4 @@
-//! The lines of a replay text that a record text has not, without their line feeds.
+//! The lines of a replay text that no record text has, without their line feeds.
 ghost use Rattle.std.specs.Prelude.{◌≡◌, ◌∷◌, IfOk, MatchOption, None, Some};
 ghost use Rattle.tk_record.specs.Reading.{in_line};
 ghost use Rattle.tk_replay.specs.Script.{worker_of, workers_of, turn_of, turns_from, turns_of};
@@ -8,7 +8,7 @@ use std::alloc::{AllocError, Global};
 use tk_events::MAX_WORKERS;
 use tk_record::{Fields, read_u8};
 
-/// The number of a worker, 1 to `workers`.
+/// Reads the number of a worker, 1 to `workers`.
 fn read_worker(field: &[u8], workers: u8) -> Option<u8>
     ensures { result ≡ worker_of workers field.now }
 {
@@ -20,7 +20,7 @@ fn read_worker(field: &[u8], workers: u8) -> Option<u8>
     }
 }
 
-/// The number of workers that the line tells.
+/// Reads the line of the number of workers.
 #[tactic(auto, unfolding(crate::specs::Script::workers_of))]
 pub(crate) fn read_workers(line: &[u8]) -> Option<u8>
     ensures { result ≡ in_line workers_of line.now }
@@ -41,6 +41,7 @@ pub(crate) fn read_workers(line: &[u8]) -> Option<u8>
     }
 }
 
+/// Reads a turn of a session of `workers` workers.
 fn read_turn(field: &[u8], workers: u8) -> Option<Turn>
     ensures { result ≡ turn_of workers field.now }
 {
@@ -53,14 +54,15 @@ fn read_turn(field: &[u8], workers: u8) -> Option<Turn>
     }
 }
 
+/// Reads the turns of these fields, one a field.
 fn read_steps(
     alloc: Global,
     fields: Fields<'_>,
     workers: u8,
 ) -> Result<Option<Vec<Turn>>, AllocError>
     ensures { IfOk result (λ turns.
-        MatchOption turns (turns_from workers fields.entry ≡ None) (λ found.
-        turns_from workers fields.entry ≡ Some found.items)) }
+        MatchOption turns (turns_from workers fields.entry ≡ None)
+        (λ found. turns_from workers fields.entry ≡ Some found.items)) }
 {
     let mut turns = Vec::new(alloc);
     let mut rest = fields;
@@ -74,7 +76,7 @@ fn read_steps(
     Ok(Some(turns))
 }
 
-/// The turns that a line lists, of a session of `workers` workers.
+/// Reads the line of the turns, of a session of `workers` workers.
 #[tactic(auto, unfolding(crate::specs::Script::turns_of))]
 pub(crate) fn read_turns(
     alloc: Global,
@@ -82,8 +84,8 @@ pub(crate) fn read_turns(
     workers: u8,
 ) -> Result<Option<Vec<Turn>>, AllocError>
     ensures { IfOk result (λ turns.
-        MatchOption turns (in_line (turns_of workers) line.now ≡ None) (λ found.
-        in_line (turns_of workers) line.now ≡ Some found.items)) }
+        MatchOption turns (in_line (turns_of workers) line.now ≡ None)
+        (λ found. in_line (turns_of workers) line.now ≡ Some found.items)) }
 {
     let Some((letter, fields)) = Fields::of(line).split() else {
         return Ok(None);

@@ -1,15 +1,18 @@
 //! Replays of scripts by turns.
-ghost use Rattle.std.specs.Prelude.{◌≡◌, ◌<◌, ◌≤◌, ◌-◌, ◌⊎◌, ℕ, List, [], map, All, true, false, Ok, Err, IfOk, OnOk, OnErr, IfErr, slice_get, length};
+ghost use Rattle.std.specs.Prelude.{◌≡◌, ◌<◌, ◌≤◌, ◌-◌, ◌⊎◌, ℕ, List, [], map, All, true, false, Ok, Err, IfOk, OnOk, OnErr, IfErr, slice_get, length, Some};
 ghost use Rattle.std.specs.Arc.{arc_value};
 ghost use Rattle.tk_columns.specs.Entries.{with_entry};
 ghost use Rattle.tk_columns.specs.Mixing.{IsWorkerOf};
 ghost use Rattle.tk_replay.specs.CoreState.{has_ended, fresh};
 ghost use Rattle.tk_replay.specs.Replay.{IsReplayed, IsTurn, next, count_of, take_item, turn_step, refusal, IsStop, Suits, Refuses, IsMemory, start, zeros};
+ghost use Rattle.tk_replay.specs.FaultTexts.{refusal_text, replay_fault_text};
 ghost use Rattle.tk_replay.specs.declared.replays.ReplayFault.TheVariants.{Memory};
 
 use crate::cores::{Core, CoreFault};
 use crate::items::{Item, Turn};
 use std::alloc::{AllocError, AllocFailed, Global};
+use std::error::Error;
+use std::fmt;
 use std::marker::Model;
 use std::sync::Arc;
 use tk_columns::{AppendFault, Record};
@@ -23,19 +26,52 @@ use tk_streams::LoadFault;
 pub enum ReplayFault {
     /// The text doesn't begin with the header line of a version.
     NoHeader,
-    /// A line has no form that may stand there.
+    /// The line of this number, counted from 1, is none that may stand there.
     BadLine(usize),
-    /// The turn is of a worker that has ended.
+    /// The turn of this number, counted from 0, is of a worker that has ended.
     AfterEnd(usize),
-    /// The record refuses the entry that the turn takes.
+    /// The record refuses the entry that the turn of this number, counted from 0, takes.
     Append(usize, AppendFault),
-    /// There are more than 16 MiB.
+    /// The text has more than 16 MiB.
     TooLarge,
     /// The source or the target is broken.
     Device,
-    /// A growth was refused.
+    /// A request for memory was refused.
     Memory,
 }
+
+/// What the record says of an entry that it refuses.
+fn refusal_words(fault: &AppendFault) -> &'static str
+    ensures { result.now ≡ refusal_text fault.now }
+{
+    match fault {
+        AppendFault::UnknownKey(_) => "has an unknown key",
+        AppendFault::Unlawful(_) => "is unlawful",
+        AppendFault::Full(_) => "is one too many",
+        AppendFault::Memory(_) => "finds no memory",
+    }
+}
+
+impl fmt::Display for ReplayFault {
+    ghost output = { λ fault. Some (replay_fault_text fault) };
+
+    fn fmt<W: fmt::Write>(&self, f: &mut fmt::Formatter<W>) -> fmt::Result {
+        match self {
+            ReplayFault::NoHeader => f.write_str("no header"),
+            ReplayFault::BadLine(line) => write!(f, "line {line} is bad"),
+            ReplayFault::AfterEnd(step) => write!(f, "step {step} comes after the end mark"),
+            ReplayFault::Append(step, fault) => {
+                let refusal = refusal_words(fault);
+                write!(f, "step {step} {refusal}")
+            }
+            ReplayFault::TooLarge => f.write_str("input too large"),
+            ReplayFault::Device => f.write_str("device failed"),
+            ReplayFault::Memory => f.write_str("out of memory"),
+        }
+    }
+}
+
+impl Error for ReplayFault {}
 
 impl From<AllocError> for ReplayFault {
     ghost from_gives = { λ _ e. e ≡ Memory };
@@ -93,16 +129,18 @@ impl From<WriteFault> for ReplayFault {
     }
 }
 
-/// What a replay comes to.
+/// What a replay ends with.
 #[derive(Drop)]
 pub struct Replayed {
+    /// The record of the entries that were taken.
     pub taken: Record,
+    /// The items that still wait, in their order.
     pub waiting: Vec<Item>,
-    /// How many events each worker emitted, from worker 1 on.
+    /// How many events each worker emitted, beginning with worker 1.
     pub emitted: Vec<usize>,
 }
 
-/// A replay on its way.
+/// A replay after some of its turns.
 #[derive(Drop)]
 struct Playing {
     core: Core,
@@ -118,6 +156,7 @@ impl Model for Playing {
     ghost view = { λ p. record { core = p.core; emitted = p.emitted.items; taken = p.taken } };
 }
 
+/// A copy of the event of this number, where the script has it.
 fn copy_event(alloc: Global, script: &[Event], count: usize) -> Result<Option<Event>, AllocError>
     ensures { IfOk result (λ event. event ≡ slice_get script.now count) }
 {
@@ -128,11 +167,13 @@ fn copy_event(alloc: Global, script: &[Event], count: usize) -> Result<Option<Ev
 }
 
 impl Playing {
-    /// The worker's turn.
+    /// Does a turn of the worker: its next event, or its end mark after the last.
     fn work(&mut self, alloc: Global, script: &[Event], worker: u8) -> Result<(), CoreFault>
         requires worker { IsWorkerOf self.old.core.workers worker }
         requires counted { worker ≤ length self.old.emitted }
-        ensures ok { OnOk result ((has_ended self.old.core worker ≡ false) × (self.new ≡ next worker self.old (slice_get script.now (count_of self.old worker)))) }
+        ensures ok { OnOk result ((has_ended self.old.core worker ≡ false)
+            × (self.new
+            ≡ next worker self.old (slice_get script.now (count_of self.old worker)))) }
         ensures err { IfErr result (λ fault.
             ((fault ≡ CoreFault.AfterEnd) × (has_ended self.old.core worker ≡ true))
             ⊎ (fault ≡ CoreFault.Memory)) }
@@ -154,7 +195,7 @@ impl Playing {
         }
     }
 
-    /// The turn of taking.
+    /// Does the turn that takes an item, and records its entry.
     fn take(&mut self) -> Result<(), AppendFault>
         ensures ok { OnOk result (take_item self.old self.old.core.waiting ≡ Ok self.new) }
         ensures err { IfErr result (λ fault.
@@ -167,7 +208,7 @@ impl Playing {
         }
     }
 
-    /// A turn, which is the one of that number.
+    /// Does the turn of this number.
     fn turn(
         &mut self,
         alloc: Global,
@@ -177,7 +218,8 @@ impl Playing {
     ) -> Result<(), ReplayFault>
         requires turn { IsTurn (length scripts.now) turn }
         requires suits { Suits self.old (map (λ s. s.items) scripts.now) }
-        ensures ok { OnOk result (turn_step (map (λ s. s.items) scripts.now) self.old turn ≡ Ok self.new) }
+        ensures ok { OnOk result
+            (turn_step (map (λ s. s.items) scripts.now) self.old turn ≡ Ok self.new) }
         ensures suits { OnOk result (Suits self.new (map (λ s. s.items) scripts.now)) }
         ensures err { IfErr result (λ fault.
             IsStop number (turn_step (map (λ s. s.items) scripts.now) self.old turn) fault) }
@@ -200,6 +242,7 @@ impl Playing {
     }
 }
 
+/// Why the turn of this number stops, where the record refuses its entry.
 fn refused(number: usize, fault: AppendFault) -> ReplayFault
     ensures { result ≡ refusal number fault }
 {
@@ -209,6 +252,7 @@ fn refused(number: usize, fault: AppendFault) -> ReplayFault
     }
 }
 
+/// As many zeros as there are workers.
 fn zeros(alloc: Global, workers: u8) -> Result<Vec<usize>, AllocError>
     ensures { IfOk result (λ v. v.items ≡ zeros workers) }
 {
@@ -219,7 +263,13 @@ fn zeros(alloc: Global, workers: u8) -> Result<Vec<usize>, AllocError>
     Ok(counts)
 }
 
-/// Plays the turns. Script i is that of worker i + 1.
+/// Replays the turns over a core and a record of `table`. `scripts[i]` are the events of worker i +
+/// 1.
+///
+/// There must be 1 to `MAX_WORKERS` scripts, and each turn of a worker must be of one of them.
+///
+/// # Errors
+/// `AfterEnd(n)` or `Append(n, fault)` of the first turn that stops, or `Memory`.
 pub fn replay(
     alloc: Global,
     table: Arc<Table>,

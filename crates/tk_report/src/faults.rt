@@ -2,19 +2,25 @@
 ghost use Rattle.std.specs.Prelude.{◌≡◌};
 ghost use Rattle.tk_report.specs.Faults.{fault_of_plan, fault_of_run};
 
+use thiserror::Error;
 use tk_engine::RunFault;
 use tk_plan::PlanFault;
 
 /// Why a report was not written. At `Device` a prefix of it was, at the others nothing.
-#[derive(Debug, Drop)]
+#[derive(Debug, Drop, Error)]
 pub enum ReportFault {
-    /// The bytes are no plan. Never `Plan(Memory)`: that is `Memory`.
+    /// The bytes are no plan. The fault is never `PlanFault::Memory`, which is `Memory` here.
+    #[error("{0}")]
     Plan(PlanFault),
-    /// There is no recording of the plan's run. Never `Run(Memory)`: that is `Memory`.
+    /// The plan was not run to its end. The fault is never `RunFault::Memory`, which is `Memory`
+    /// here.
+    #[error("plan was not run")]
     Run(RunFault),
     /// The target broke.
+    #[error("device failed")]
     Device,
-    /// Memory was refused.
+    /// A request for memory was refused.
+    #[error("out of memory")]
     Memory,
 }
 

@@ -16,14 +16,15 @@ use tk_record_report::write_report_of;
 use tk_run_laws::laws::report_is_unique;
 use tk_scripted::Scripted;
 
-/// How many places the queue of a plan's run has.
-pub const CAPACITY: usize = 64;
+/// How many places the queue of a run has where the caller gives no number, as in [`plan_report`].
+pub const DEFAULT_CAPACITY: usize = 64;
 
-/// Writes the report of a run into `target`: the nine statistics, then each id that has an event, in the order of the ids'
-/// texts, with the tails of its events in the record's order.
+/// Writes the report of a run into `target`: the nine statistics, then each id that has an event,
+/// in the order of the ids' texts, with the tails of its events in the record's order.
 ///
 /// # Errors
-/// `Device` where the target broke, after a prefix of the report; `Memory`, before anything is written.
+/// `Device` where the target broke, after a prefix of the report; `Memory`, before anything is
+/// written.
 pub fn write_report<T: Target>(
     alloc: Global,
     results: &Results,
@@ -40,14 +41,15 @@ pub fn write_report<T: Target>(
     }
 }
 
-/// Reads a plan, runs it by 1 to `MAX_WORKERS` workers, each in a thread of its own, and writes the report of the run into
-/// `target`.
+/// Reads a plan, runs it by 1 to `MAX_WORKERS` workers, each in a thread of its own, and writes the
+/// report of the run into `target`.
 ///
-/// `bytes` are a plan's JSON text, of version 1 or 2. What is written is the plan's report, however many workers there are.
+/// `bytes` are a plan's JSON text, of version 1 or 2. What is written is the plan's report, however
+/// many workers there are.
 ///
 /// # Errors
-/// `Plan`, `Run` or `Device`. Want of memory is `Memory`, also in reading the plan and in running it; a unit
-/// that finds no memory is `Run(Engine(unit, fault))`.
+/// `Plan`, `Run` or `Device`. Want of memory is `Memory`, also in reading the plan and in running
+/// it; a unit that finds no memory is `Run(Engine(unit, fault))`.
 pub fn plan_report<R: Threads + Wait + Sync, T: Target>(
     rt: &R,
     alloc: Global,
@@ -61,7 +63,7 @@ pub fn plan_report<R: Threads + Wait + Sync, T: Target>(
 {
     let plan = read_plan(alloc, bytes)?;
     let engine = Scripted::new(plan);
-    let results = execute(rt, alloc, &engine, workers, CAPACITY)?;
+    let results = execute(rt, alloc, &engine, workers, DEFAULT_CAPACITY)?;
     report_is_unique();
     let _table = engine.plan().table();
     write_report(alloc, &results, target)

@@ -31,7 +31,7 @@ impl Keys {
         Ok(())
     }
 
-    /// The key of a node that is one of the static ones, whose numbers are their keys, or was noted.
+    /// The key of a node that is static, so that its number is its key, or whose key was noted.
     pub fn of(&self, statics: usize, node: u32) -> u32
         requires { (node < statics) ⊎ IsSome (kept self.now node) }
         ensures { key_found statics (kept self.now) node ≡ Some result }

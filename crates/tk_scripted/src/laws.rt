@@ -7,8 +7,9 @@ ghost use Rattle.tk_run_laws.specs.Scripts.{IsRunOf};
 use crate::scripted::Scripted;
 use tk_engine::Results;
 
-/// What a listener may rely on holds of a record that is a run of the engine, as each is that `execute` answers for it: by the
-/// descriptors' ids, and by their keys.
+/// What a listener may rely on holds of each record that is a run of the engine: by the
+/// descriptors' ids, and by their keys. Each record that `execute` answers for the engine is such a
+/// run.
 pub fn listener(engine: &Scripted, results: &Results)
     requires { (workers : ℕ)
         × IsRunOf engine.now.nodes engine.now.table workers results.now.recorded }

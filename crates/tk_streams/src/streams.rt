@@ -1,11 +1,24 @@
 //! Where bytes come from and go to.
-ghost use Rattle.std.specs.Prelude.{◌≡◌, ℕ, List, Bool, true, Option, is_err, IsErr, OnErr};
+ghost use Rattle.std.specs.Prelude.{◌≡◌, ℕ, List, Bool, true, Option, Some, codes, is_err, IsErr, OnErr};
 ghost use Rattle.std.specs.Io.KnownBytes.{Keeps};
 ghost use Rattle.tk_streams.specs.Stream.{ReadTakes, WriteAdds};
 
-/// A device failed. It stays so.
+use std::error::Error;
+use std::fmt;
+
+/// A device failed. Each later call on it fails too.
 #[derive(Clone, Copy, Debug, PartialEq, Eq)]
 pub struct Broken;
+
+impl fmt::Display for Broken {
+    ghost output = { λ _. Some (codes "device failed") };
+
+    fn fmt<W: fmt::Write>(&self, f: &mut fmt::Formatter<W>) -> fmt::Result {
+        f.write_str("device failed")
+    }
+}
+
+impl Error for Broken {}
 
 /// Where bytes come from.
 pub trait Source {
@@ -36,8 +49,8 @@ pub trait Target {
     /// Whether a call has answered `Broken`.
     ghost broken: { Self → Bool };
 
-    /// Writes the prefix of the bytes, and answers how many it wrote: at least one, unless there are
-    /// none.
+    /// Writes a prefix of the bytes, and answers how many it wrote: at least one of a slice that is
+    /// not empty.
     fn write_some(&mut self, bytes: &[u8]) -> Result<usize, Broken>
         ensures bytes { WriteAdds (contents self.old) (contents self.new) result bytes.now }
         ensures broken { broken self.new ≡ is_err result }

@@ -2,21 +2,38 @@
 ghost use Rattle.std.specs.Prelude.{◌≡◌, ◌<◌, ◌≤◌, ◌+◌, ◌++◌, ℕ, List, [], length, take, true, false, Option, Some, None, IfSome, IfOk, OnOk, OnErr, IsErrOf, IsErr, ◌^◌};
 ghost use Rattle.std.specs.Io.KnownBytes.{Consumes, Appends, IsAtEnd};
 ghost use Rattle.tk_streams.specs.Stream.{ConsumesUpTo, IsLoaded, AppendsPrefix};
+ghost use Rattle.tk_streams.specs.FaultTexts.{load_fault_text};
 ghost use Rattle.tk_streams.specs.declared.transfers.LoadFault.TheVariants.{Memory};
 
 use crate::streams::{Broken, Source, Target};
 use std::alloc::{AllocError, Global};
+use std::error::Error;
+use std::fmt;
 
-/// Why a source was not read to its end.
+/// Why `load` did not read a source to its end.
 #[derive(Clone, Copy, Debug, PartialEq, Eq)]
 pub enum LoadFault {
-    /// There are more bytes than the limit.
+    /// The source has more bytes than the limit.
     TooLarge,
     /// The source is broken.
     Device,
-    /// A growth was refused.
+    /// An allocation failed.
     Memory,
 }
+
+impl fmt::Display for LoadFault {
+    ghost output = { λ fault. Some (load_fault_text fault) };
+
+    fn fmt<W: fmt::Write>(&self, f: &mut fmt::Formatter<W>) -> fmt::Result {
+        match self {
+            LoadFault::TooLarge => f.write_str("input too large"),
+            LoadFault::Device => f.write_str("device failed"),
+            LoadFault::Memory => f.write_str("out of memory"),
+        }
+    }
+}
+
+impl Error for LoadFault {}
 
 impl From<AllocError> for LoadFault {
     ghost from_gives = { λ _ e. e ≡ Memory };
@@ -29,9 +46,10 @@ impl From<AllocError> for LoadFault {
 /// How many bytes are asked for at a time.
 const CHUNK: usize = 65_536;
 
-/// All bytes to the end of the source, where there are no more of them than the limit. It stops
-/// reading once there are more: after the read that went past the limit, which took at most 65,536
-/// bytes, the source is not read again.
+/// Reads a source to its end, where it has at most `limit` bytes.
+///
+/// After the read that goes past the limit, which takes at most 65,536 bytes, the source is not
+/// read again.
 pub fn load<S: Source>(alloc: Global, source: &mut S, limit: usize) -> Result<Vec<u8>, LoadFault>
     ensures ok { IfOk result (λ bytes.
         IsLoaded (S.remaining source.old) (S.remaining source.new) bytes.items) }
@@ -65,7 +83,10 @@ pub fn load<S: Source>(alloc: Global, source: &mut S, limit: usize) -> Result<Ve
     }
 }
 
-/// Writes all of the bytes. At `Broken` a prefix of them was written.
+/// Writes all of the bytes.
+///
+/// # Errors
+/// `Broken` where the target is broken; a prefix of the bytes was written.
 pub fn write_all<T: Target>(target: &mut T, bytes: &[u8]) -> Result<(), Broken>
     ensures ok { OnOk result (Appends (T.contents target.old) (T.contents target.new) bytes.now) }
     ensures err { OnErr result

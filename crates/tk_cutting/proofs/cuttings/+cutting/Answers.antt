@@ -38,4 +38,4 @@ pub cut_tree-returns-clause-adds : goal.cut_tree-returns-clause-adds
 cut_tree-returns-clause-adds t c = λ all rest e.
     let on = sym c.is_on_spine.ensures ∙ c.if-not-is_on_spine.false in
     spine_adds c.args.keys.now _ _ _ _ c.args.is_root c.args.numbered_node.now (forest c.args.below.now) c.args.position c.args.below.now all rest on
-    (c.in_ok-begin.ensures.adds all (c.args.below.now ++ rest) c.args.keys.now e) c.in_ok-cut_all.ensures.adds (c.in_ok-end.ensures.adds all (c.args.below.now ++ rest) c.args.keys.now e) e
+    (c.in_ok-begin.ensures.adds c.args.keys.now all (c.args.below.now ++ rest) e) c.in_ok-cut_all.ensures.adds (c.in_ok-end.ensures.adds c.args.keys.now all (c.args.below.now ++ rest) e) e

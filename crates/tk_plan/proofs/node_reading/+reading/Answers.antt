@@ -16,7 +16,7 @@ use Rattle.tk_plan.specs.NodeInputs.{node_inputs, node_inputs_in, segment_in, se
 use Rattle.tk_plan.specs.Seen.{seen}
 use Rattle.tk_plan.proofs.CheckSteps.{faults_also, noted_added, noted_same}
 use Rattle.tk_plan.proofs.Items.{values_next}
-use Rattle.tk_plan.proofs.Going.{Goes, met_next, met_end, goes_next, goes_fault, goes_end, goes_nowhere, node_input_next, check_fault, parts_of, static_fault, dynamic_verdict, placed_at, grown_here, described_here, span_written, no_values}
+use Rattle.tk_plan.proofs.Going.{Goes, met_next, met_end, goes_next, goes_fault, goes_end, goes_nowhere, node_input_next, check_fault, parts_of, static_fault, dynamic_verdict, placed_at, grown_here, described_here, leaf_read, leaf_described, span_written, no_values}
 use Rattle.tk_plan.proofs.node_reading.+reading.Goals as goal
 
 pub read_all-returns-in_err-read_node : goal.read_all-returns-in_err-read_node
@@ -87,8 +87,8 @@ read_node-returns-in_err-read_all t c =
     let ds = map view c.in_ok-checked.checked.dynamic.now in
     let id = c.in_ok-id.id in
     let same : id ≡ c.in_ok-checked.checked.id = c.in_ok-id.ensures.id in
-    let e1 = c.new-below.result in
-    let parts = parts_of s cs ds id e1 (e1 ++ map segment_in cs) k.children k.dynamic (same ∙ k.id) c.new-below.ensures refl in
+    let e1 = c.in_ok-below.below in
+    let parts = parts_of s cs ds id e1 (e1 ++ map segment_in cs) k.children k.dynamic (same ∙ k.id) c.in_ok-below.ensures refl in
     let push : c.add_checked.new.reader.nodes.items ≡ c.args.reader.now.nodes.items ++ record { node = c.in_ok-checked.checked.node; number = 0; span = 1 } ∷ [] =
     a.nodes ∙ ap (λ l. l ++ record { node = c.in_ok-checked.checked.node; number = 0; span = 1 } ∷ []) k.nodes in
     rw (p.1, p.2) (faults_also _ _ _
@@ -105,9 +105,9 @@ read_node-returns-in_err-read_all-2 t c =
     let ds = map view c.in_ok-checked.checked.dynamic.now in
     let id = c.in_ok-id.id in
     let same : id ≡ c.in_ok-checked.checked.id = c.in_ok-id.ensures.id in
-    let e1 = c.new-below.result in
+    let e1 = c.in_ok-below.below in
     let one = c.in_ok-read_all.ensures in
-    let parts = parts_of s cs ds id e1 c.read_all.new.siblings k.children k.dynamic (same ∙ k.id) c.new-below.ensures one.1.1 in
+    let parts = parts_of s cs ds id e1 c.read_all.new.siblings k.children k.dynamic (same ∙ k.id) c.in_ok-below.ensures one.1.1 in
     let push : c.add_checked.new.reader.nodes.items ≡ c.args.reader.now.nodes.items ++ record { node = c.in_ok-checked.checked.node; number = 0; span = 1 } ∷ [] =
     a.nodes ∙ ap (λ l. l ++ record { node = c.in_ok-checked.checked.node; number = 0; span = 1 } ∷ []) k.nodes in
     rw (p.1, p.2) (faults_also _ _ _
@@ -125,10 +125,10 @@ read_node-returns t c =
     let id = c.in_ok-id.id in
     let same : id ≡ c.in_ok-checked.checked.id = c.in_ok-id.ensures.id in
     let node = c.in_ok-checked.checked.node in
-    let e1 = c.new-below.result in
+    let e1 = c.in_ok-below.below in
     let one = c.in_ok-read_all.ensures in
     let two = c.in_ok-read_all-2.ensures in
-    let parts = parts_of s cs ds id e1 c.read_all.new.siblings k.children k.dynamic (same ∙ k.id) c.new-below.ensures one.1.1 in
+    let parts = parts_of s cs ds id e1 c.read_all.new.siblings k.children k.dynamic (same ∙ k.id) c.in_ok-below.ensures one.1.1 in
     let push : c.add_checked.new.reader.nodes.items ≡ c.args.reader.now.nodes.items ++ record { node = node; number = 0; span = 1 } ∷ [] =
     a.nodes ∙ ap (λ l. l ++ record { node = node; number = 0; span = 1 } ∷ []) k.nodes in
     let l : ℕ = 60 - c.args.node_input.level in
@@ -162,3 +162,34 @@ read_all-returns-then-is_empty t c =
     let noted : IsNoted c.args.reader.now = search rules in
     let nowhere = goes_nowhere (60 - c.args.parent.level) c.args.id.now c.args.reader.now (member_at (pointer c.args.parent.path) c.args.name.now) (c.args.parent.level + 1) c.args.is_static c.args.parent.takes_files c.args.siblings.now _ (ap (map view) none) noted in
     (nowhere.0, (nowhere.1, sym (ap (λ l. c.args.siblings.now ++ map segment_in (map view l)) none ∙ append-nil c.args.siblings.now)))
+
+pub read_node-returns-then-is_leaf : goal.read_node-returns-then-is_leaf
+read_node-returns-then-is_leaf t c =
+    let k = c.in_ok-checked.ensures.1 in
+    let a = c.in_ok-add_node.ensures in
+    let s : spec.NodeInput = seen c.args.siblings.now c.args.node_input in
+    let checked = c.in_ok-checked.checked in
+    let no_children : checked.children.now ≡ [] = no_values _ (grind (arith, nat_tests)) in
+    let no_dynamic : checked.dynamic.now ≡ [] = no_values _ (grind (arith, nat_tests)) in
+    let none = parts_of s [] [] checked.id [] [] (sym (ap (map view) no_children) ∙ k.children) (sym (ap (map view) no_dynamic) ∙ k.dynamic) k.id refl refl in
+    let old : List NumberedNode = c.args.reader.now.nodes.items in
+    let pushed : List NumberedNode = c.add_node.new.reader.nodes.items in
+    let push : pushed ≡ old ++ record { node = checked.node; number = 0; span = 1 } ∷ [] =
+    a.nodes ∙ ap (λ l. l ++ record { node = checked.node; number = 0; span = 1 } ∷ []) k.nodes in
+    let l : ℕ = 60 - c.args.node_input.level in
+    let m : ℕ = 61 - c.args.node_input.level in
+    let up : m ≡ suc l = omega arith in
+    let noted : IsNoted c.args.reader.now = search rules in
+    let read = leaf_read l m up old pushed s checked.node none k.node push c.in_ok-checked.ensures.0 in (
+      read.0,
+      (
+        record {
+          nodes = read.1;
+          descriptors = leaf_described l m up old pushed s checked.node none k.node push c.in_ok-checked.ensures.0
+              checked.id c.args.reader.now.descriptors.items c.add_node.new.reader.descriptors.items k.id
+              (a.descriptors ∙ ap (λ y. y ++ descriptor_in checked.id checked.node) k.descriptors);
+          noted = noted_added _ _ _ s _ _ noted k a;
+        },
+        k.siblings,
+      ),
+    )

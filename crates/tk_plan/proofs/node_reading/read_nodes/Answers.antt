@@ -31,18 +31,18 @@ none_noted r nodes descriptors dynamics keys =
 
 pub returns-in_err-read_node : goal.returns-in_err-read_node
 returns-in_err-read_node c =
-    let p = err_from_is_err_and c.from_residual.result c.from_residual.ensures.1 in
+    let p = err_from_is_err_and c.from_residual-in_err-read_node.result c.from_residual-in_err-read_node.ensures.1 in
     let r = view c.args.root.now in
-    let s : spec.NodeInput = record { path = codes "/root"; level = 1; is_static = true; takes_files = c.args.takes_files; above = []; earlier = c.new-siblings.result; value = r } in
-    let is : s ≡ root_at c.args.takes_files r = λ j. record { path = codes "/root"; level = 1; is_static = true; takes_files = c.args.takes_files; above = []; earlier = c.new-siblings.ensures j; value = r } in
+    let s : spec.NodeInput = record { path = codes "/root"; level = 1; is_static = true; takes_files = c.args.takes_files; above = []; earlier = c.in_ok-siblings.siblings; value = r } in
+    let is : s ≡ root_at c.args.takes_files r = λ j. record { path = codes "/root"; level = 1; is_static = true; takes_files = c.args.takes_files; above = []; earlier = c.in_ok-siblings.ensures j; value = r } in
     let here = ap₂ (λ l x. verdict (contents l) (node_inputs 60 x)) c.new-reader.ensures.nodes is in
     rw (p.1, p.2) (faults_also _ _ _ (λ f w. sym here ∙ w) c.in_err-read_node.ensures)
 
 pub returns : goal.returns
 returns c =
     let r = view c.args.root.now in
-    let s : spec.NodeInput = record { path = codes "/root"; level = 1; is_static = true; takes_files = c.args.takes_files; above = []; earlier = c.new-siblings.result; value = r } in
-    let is : s ≡ root_at c.args.takes_files r = λ j. record { path = codes "/root"; level = 1; is_static = true; takes_files = c.args.takes_files; above = []; earlier = c.new-siblings.ensures j; value = r } in
+    let s : spec.NodeInput = record { path = codes "/root"; level = 1; is_static = true; takes_files = c.args.takes_files; above = []; earlier = c.in_ok-siblings.siblings; value = r } in
+    let is : s ≡ root_at c.args.takes_files r = λ j. record { path = codes "/root"; level = 1; is_static = true; takes_files = c.args.takes_files; above = []; earlier = c.in_ok-siblings.ensures j; value = r } in
     let new = c.new-reader.ensures in
     let done = c.in_ok-read_node.ensures in
     let here = ap₂ (λ l x. verdict (contents l) (node_inputs 60 x)) new.nodes is in (

@@ -1,16 +1,19 @@
-use Rattle.std.proofs.Common.{sym, subst, arith}
-use Rattle.serde_json.specs.Errors.{IsMemory}
-use Rattle.serde_json.specs.View.{view}
-use Rattle.tk_plan.specs.Gives.{Answered}
-use Rattle.tk_plan.proofs.Values.{value_here, no_value}
+use Rattle.std.proofs.Common.{◌∙◌}
+use Rattle.std.proofs.lemmas.Result.{err_from_is_err_and}
+use Rattle.tk_cutting.specs.Numbers.{numbered}
 use Rattle.tk_plan.proofs.plan_reading.read_plan.Goals as goal
 
-pub returns-in-Ok : goal.returns-in-Ok
-returns-in-Ok c =
-    let v = c.in-Ok.ensures.ok in
-    subst (λ r. Answered r c.plan_of.result) (sym (value_here c.args.bytes.now (view c.in-Ok.value) v.0 v.1)) c.plan_of.ensures
+pub returns-in_err-reader : goal.returns-in_err-reader
+returns-in_err-reader c =
+    let p = err_from_is_err_and c.from_residual.result c.from_residual.ensures.1 in
+    rw (p.1, p.2) c.in_err-reader.ensures
 
-pub returns-else-is_memory : goal.returns-else-is_memory
-returns-else-is_memory c =
-    let no : ¬ IsMemory c.in-Err.error = grind arith in
-    no_value c.args.bytes.now (c.in-Err.ensures.err no)
+pub plan_from-requires : goal.plan_from-requires
+plan_from-requires c =
+    let r = c.in_ok-reader.ensures.2 in
+    record { follow = r.follow; noted = r.noted; planned = r.planned }
+
+pub returns : goal.returns
+returns c =
+    let read = c.in_ok-reader.ensures in
+    (read.0, read.1, c.in_ok-plan_from.ensures ∙ (λ j. record { nodes = numbered (read.2.nodes j); table = read.2.descriptors j }))

@@ -4,7 +4,7 @@ use Rattle.tk_plan.proofs.Pairing.{report_start, report_next}
 use Rattle.tk_plan.proofs.result_members.entries.Goals as goal
 
 pub loop-index-init : goal.loop-index-init
-loop-index-init c = report_start _ _ _ _ _ c.in-Some.ensures c.deref-item-items.ensures.value c.new-entries.ensures.items
+loop-index-init c = report_start _ _ _ _ _ c.in-Some.ensures c.deref-item-items.ensures.value c.in_ok-entries.ensures.items
 
 pub loop-index-preserved : goal.loop-index-preserved
 loop-index-preserved c =

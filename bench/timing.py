@@ -1,0 +1,79 @@
+"""Runs commands in turn on an input, and gives the medians of the time that they took and the most memory."""
+import os
+import statistics
+import time
+from dataclasses import dataclass
+from typing import List, Sequence
+
+ROUNDS = 5
+"""How often each command is run, in turn with the others, so that all meet the same load."""
+
+
+@dataclass(frozen=True)
+class Run:
+    """One run of a command: its seconds, its memory in MiB, and its status.
+
+    The system counts the memory of the process that starts a command too, so small numbers are this program's own.
+    """
+
+    processor: float
+    clock: float
+    memory: float
+    status: int
+
+
+@dataclass(frozen=True)
+class Taken:
+    """What a command took: the medians of the seconds, the most memory in MiB, its status, and the file with what it wrote."""
+
+    processor: float
+    clock: float
+    memory: float
+    status: int
+    output: str
+
+    def text(self) -> str:
+        """What the command wrote."""
+        with open(self.output, encoding="utf-8") as file:
+            return file.read()
+
+
+def run_once(command: Sequence[str], input_path: str, output_path: str) -> Run:
+    """Runs a command from one file to another."""
+    files = [
+        (os.POSIX_SPAWN_OPEN, 0, input_path, os.O_RDONLY, 0),
+        (os.POSIX_SPAWN_OPEN, 1, output_path, os.O_WRONLY | os.O_CREAT | os.O_TRUNC, 0o600),
+    ]
+    begun = time.monotonic()
+    child = os.posix_spawnp(command[0], command, os.environ, file_actions=files)
+    _, status, usage = os.wait4(child, 0)
+    clock = time.monotonic() - begun
+    return Run(usage.ru_utime + usage.ru_stime, clock, usage.ru_maxrss / 1024, os.waitstatus_to_exitcode(status))
+
+
+def take(commands: Sequence[Sequence[str]], input_path: str, folder: str, rounds: int = ROUNDS) -> List[Taken]:
+    """What each of these commands takes on an input. What they write last is left in files of the folder."""
+    runs: List[List[Run]] = [[] for _ in commands]
+    outputs = [os.path.join(folder, f"output{number}") for number in range(len(commands))]
+    for _ in range(rounds):
+        for command, output, done in zip(commands, outputs, runs):
+            done.append(run_once(command, input_path, output))
+    return [summed(done, output) for done, output in zip(runs, outputs)]
+
+
+def summed(runs: Sequence[Run], output: str) -> Taken:
+    """The medians of some runs."""
+    statuses = {run.status for run in runs}
+    assert len(statuses) == 1, f"runs of one command end with different statuses: {statuses}"
+    return Taken(
+        statistics.median(run.processor for run in runs),
+        statistics.median(run.clock for run in runs),
+        max(run.memory for run in runs),
+        runs[0].status,
+        output,
+    )
+
+
+def load() -> str:
+    """How busy the machine is."""
+    return f"load {os.getloadavg()[0]:.1f} on {os.cpu_count()} processors"

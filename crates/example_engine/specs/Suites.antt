@@ -1,0 +1,12 @@
+-- What a clause sees of an engine of cases.
+use Rattle.std.specs.Prelude.{ℕ, List}
+use Rattle.engine_testkit.specs.Descriptor.{Descriptor}
+use Rattle.engine_testkit.specs.Wants.{Wants}
+use Rattle.example_engine.specs.declared.cases.CaseTable.{CaseTable}
+
+-- the value of the function at each argument, the tables of cases, what each unit needs, and the static descriptors
+pub record Suite : Type 0 where
+  pub value : ℕ → ℕ
+  pub tables : List CaseTable
+  pub need : Wants
+  pub descriptors : List Descriptor

@@ -1,0 +1,5 @@
+use Rattle.tk_engine.specs.Grown.{Grew}
+use Rattle.test_runs.proofs.engines.play.Given as goal
+
+abbrev pub invariant-loop-step : goal.invariant-loop-step
+invariant-loop-step g l = Grew (g.S.Sink.meaning l.initial.sink) (g.S.Sink.meaning l.sink)

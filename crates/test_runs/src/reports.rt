@@ -1,0 +1,73 @@
+//! What a run of the demo plan records, and where its report breaks.
+use std::alloc::{AllocError, Global};
+use std::sync::Wait;
+use std::thread::Threads;
+use test_support::{OneByteTarget, demo_plan, demo_report};
+use tk_plan::read_plan;
+use tk_report::{
+    DEFAULT_CAPACITY, ReportFault, Results, Scripted, execute, plan_report, write_report,
+};
+
+// What three workers record of the demo plan.
+fn ran<R: Threads + Wait + Sync>(rt: &R, alloc: Global) -> Option<Results> {
+    match read_plan(alloc, demo_plan()) {
+        Ok(plan) => execute(rt, alloc, &Scripted::new(plan), 3, DEFAULT_CAPACITY).ok(),
+        Err(_) => None,
+    }
+}
+
+// How many events the workers emitted, without those before and after the units.
+fn emitted(results: &Results) -> u64 {
+    let mut all = 0u64;
+    for worker in 1..=15u8 {
+        all = all.saturating_add(results.closed().emitted(worker));
+    }
+    all
+}
+
+// How many events there are, of all descriptors, of tests and of containers.
+fn counts(alloc: Global, results: &Results) -> Result<(usize, usize, usize), AllocError> {
+    let all = results.all_events(alloc)?.count();
+    let tests = results.test_events(alloc)?.count();
+    Ok((all, tests, results.container_events(alloc)?.count()))
+}
+
+// Whether the device broke, and `breaks_at` bytes of the demo plan's report went out before.
+fn is_cut(answer: &Result<(), ReportFault>, target: &OneByteTarget, breaks_at: usize) -> bool {
+    let taken = target.taken();
+    let is_prefix = taken.len() == breaks_at && demo_report().starts_with(taken);
+    matches!(answer, Err(ReportFault::Device)) && is_prefix
+}
+
+fn writing_breaks(alloc: Global, results: &Results, breaks_at: usize) -> bool {
+    let mut target = OneByteTarget::new(alloc, breaks_at);
+    let answer = write_report(alloc, results, &mut target);
+    is_cut(&answer, &target, breaks_at)
+}
+
+fn reporting_breaks<R: Threads + Wait + Sync>(rt: &R, alloc: Global, breaks_at: usize) -> bool {
+    let mut target = OneByteTarget::new(alloc, breaks_at);
+    let answer = plan_report(rt, alloc, demo_plan(), 4, &mut target);
+    is_cut(&answer, &target, breaks_at)
+}
+
+#[test]
+fn a_run_and_its_report(rt: HostRuntime) {
+    match ran(&rt, rt.alloc()) {
+        Some(results) => {
+            assert!(rt; results.recorded().len() == 16);
+            assert!(rt; emitted(&results) == 14);
+            assert!(rt; matches!(counts(rt.alloc(), &results), Ok((16, 7, 9))));
+            for call in 0..demo_report().len() {
+                assert!(rt; writing_breaks(rt.alloc(), &results, call), "{call}");
+            }
+            assert!(rt; !writing_breaks(rt.alloc(), &results, demo_report().len()));
+        }
+        None => assert!(rt; false, "no run"),
+    }
+}
+
+#[test]
+fn a_report_to_a_device_that_breaks(rt: HostRuntime) {
+    assert!(rt; reporting_breaks(&rt, rt.alloc(), 90));
+}

@@ -1,5 +1,0 @@
-use Rattle.tk_engine.specs.Grown.{Grew}
-use Rattle.test_threads.proofs.engines.play.Given as goal
-
-abbrev pub invariant-loop-step : goal.invariant-loop-step
-invariant-loop-step g l = Grew (g.S.Sink.meaning l.initial.sink) (g.S.Sink.meaning l.sink)

@@ -1,5 +1,0 @@
-use Rattle.std.proofs.Common.{◌≡◌}
-use Rattle.test_threads.proofs.senders.send_all.Given as goal
-
-abbrev pub invariant-loop-stamp : goal.invariant-loop-stamp
-invariant-loop-stamp g l = l.sender.session ≡ l.initial.sender.session

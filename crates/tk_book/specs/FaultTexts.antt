@@ -1,0 +1,8 @@
+-- The texts of the faults.
+use Rattle.std.specs.Prelude.{ℕ, List, codes}
+use Rattle.tk_book.specs.declared.books.BookFault.{BookFault}
+use Rattle.tk_book.specs.declared.books.BookFault.TheVariants.{Seats, Memory}
+
+abbrev pub book_fault_text : BookFault → List ℕ
+book_fault_text Seats = codes "seats must be 1 to 15"
+book_fault_text Memory = codes "out of memory"

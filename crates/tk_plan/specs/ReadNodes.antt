@@ -1,0 +1,23 @@
+-- The nodes of a plan, before its table and its cutting are made.
+use Rattle.std.specs.Prelude.{◌≡◌, [], Result, Ok, Err}
+use Rattle.tk_cutting.specs.Ids.{descriptors}
+use Rattle.tk_cutting.specs.Planned.{IsPlanned}
+use Rattle.tk_cutting.specs.Trees.{Tree, flat}
+use Rattle.tk_plan.specs.Progress.{IsNoted}
+use Rattle.tk_plan.specs.Refusals.{IsFault}
+use Rattle.tk_plan.specs.Tables.{Follow}
+use Rattle.tk_plan.specs.declared.faults.PlanFault.{PlanFault}
+use Rattle.tk_plan.specs.declared.plan_readers.Reader.{Reader}
+
+-- the reader has the nodes of the tree and the descriptors of the static ones, and they are a plan
+pub record HasTree (t : Tree) (r : Reader) : Type 0 where
+  pub nodes : r.nodes.items ≡ flat t
+  pub descriptors : r.descriptors.items ≡ descriptors [] t
+  pub noted : IsNoted r
+  pub follow : Follow [] r.descriptors.items
+  pub planned : IsPlanned r.nodes.items r.descriptors.items
+
+-- the nodes of the plan were read, or the answer is the fault, unless memory ran out
+abbrev pub IsReadFrom : Result Tree PlanFault → Result Reader PlanFault → Type 0
+IsReadFrom plan (Ok r) = (t : Tree) × (plan ≡ Ok t) × HasTree t r
+IsReadFrom plan (Err e) = IsFault (λ f. plan ≡ Err f) e
