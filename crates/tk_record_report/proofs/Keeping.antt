@@ -1,5 +1,5 @@
 -- The lines that are kept for each id, while labels are added at the end.
-use Rattle.std.proofs.Common.{◌≡◌, ◌≤◌, ℕ, suc, ◌+◌, Bool, true, false, cond, List, [], ◌∷◌, ◌++◌, map, take, length, Option, Some, None, bytes_eq, refl, sym, ap, ap₂, subst, ◌∙◌, append-nil, nat_cmp, Result, Ok, Err, slice_get}
+use Rattle.std.proofs.Common.{◌≡◌, ◌≤◌, ◌<◌, ℕ, zero, suc, arith, ◌+◌, Bool, true, false, cond, List, [], ◌∷◌, ◌++◌, map, take, length, Option, Some, None, bytes_eq, refl, sym, ap, ap₂, subst, ◌∙◌, append-nil, nat_cmp, Result, Ok, Err, slice_get}
 use Rattle.std.specs.Prelude.{OnOk}
 use Rattle.std.specs.List.{flat_map}
 use Rattle.std.specs.List.Sorted.{IsStrictlySortedBy}
@@ -33,6 +33,11 @@ use Rattle.tk_record.proofs.WritingLemmas.{taken_more}
 use Rattle.tk_record_report.specs.Labels.{Label, events, id_in, label, labels, name}
 use Rattle.tk_record_report.specs.Reports.{id_texts, label_line, written_so}
 use Rattle.tk_record_report.specs.Kept.{lines_at, lines_of, tail_line}
+
+pub entry_at : (es : List Entry) (i : ℕ) → i < length es → (e : Entry) × (slice_get es i ≡ Some e)
+entry_at [] i lt = absurd (omega arith)
+entry_at (e ∷ es) zero lt = (e, refl)
+entry_at (e ∷ es) (suc i) lt = entry_at es i (omega arith)
 
 abbrev order : List ℕ → List ℕ → Ordering
 order = slice_cmp nat_cmp

@@ -2,9 +2,8 @@ use Rattle.std.proofs.Common.{◌≤◌, ◌<◌, length, Option, arith, ap, sub
 use Rattle.std.specs.Prelude.{IfSome}
 use Rattle.tk_events.specs.declared.events.Entry.{Entry}
 use Rattle.tk_columns.specs.Record.{IsViewOf}
-use Rattle.tk_record.proofs.WritingLemmas.{entry_at}
 use Rattle.tk_record_report.specs.Kept.{lines_of}
-use Rattle.tk_record_report.proofs.Keeping.{keeps_all, keeps_entry, labels_all, labels_to}
+use Rattle.tk_record_report.proofs.Keeping.{entry_at, keeps_all, keeps_entry, labels_all, labels_to}
 use Rattle.tk_record_report.proofs.grouping.lines_of.Goals as goal
 
 pub loop-position-preserved : goal.loop-position-preserved
