@@ -4,9 +4,9 @@ use Rattle.engine_testkit.specs.Descriptor.{Descriptor}
 use Rattle.engine_testkit.specs.Wants.{Wants}
 use Rattle.example_engine.specs.declared.cases.CaseTable.{CaseTable}
 
--- the value of the function at each argument, the tables of cases, what each unit needs, and the static descriptors
-pub record Suite : Type 0 where
-  pub value : ℕ → ℕ
+-- the function, its tables of cases, what each unit needs, and the static descriptors
+pub record Suite (F : Type 0) : Type 0 where
+  pub function : F
   pub tables : List CaseTable
   pub need : Wants
   pub descriptors : List Descriptor

@@ -22,14 +22,19 @@ pub struct CaseEngine<'a, F> {
     descriptors: Arc<Table>,
 }
 
-impl<'a, F: Function> Model for CaseEngine<'a, F> {
+impl<'a, F> Model for CaseEngine<'a, F> {
     ghost use Rattle.std.specs.Prelude.{◌≡◌, ◌+◌, ◌<◌, length};
     ghost use Rattle.std.specs.Arc.{arc_value};
     ghost use Rattle.example_engine.specs.Suites.{Suite};
 
-    ghost Value = { Suite };
+    ghost Value = { Suite F };
 
-    ghost view = { λ e. record { value = F.value e.function.now; tables = e.tables.now; need = e.lock; descriptors = arc_value e.descriptors } };
+    ghost view = { λ e. record {
+      function = e.function.now;
+      tables = e.tables.now;
+      need = e.lock;
+      descriptors = arc_value e.descriptors;
+    } };
 
     ghost invariant = { λ e. (length (arc_value e.descriptors) ≡ length e.tables.now + 1)
         × (length e.tables.now < 65536) };
@@ -77,7 +82,7 @@ impl<'a, F: Function + Sync> CaseEngine<'a, F> {
         tables: &'a [CaseTable<'a>],
         lock: Need,
     ) -> Result<CaseEngine<'a, F>, TableFault>
-        ensures function { IfOk result (λ engine. engine.value ≡ F.value function.now) }
+        ensures function { IfOk result (λ engine. engine.function ≡ function.now) }
         ensures tables { IfOk result (λ engine. engine.tables ≡ tables.now) }
         ensures need { IfOk result (λ engine. engine.need ≡ lock) }
     {
@@ -120,7 +125,7 @@ impl<F: Function + Sync> Engine for CaseEngine<'_, F> {
     ghost need = { λ e u. e.need };
 
     ghost may = { λ e u w k l. IfSome (slice_get e.tables u)
-        (λ t. All (IsSound e.value t.cases.now) l) };
+        (λ t. All (IsSound (F.value e.function) t.cases.now) l) };
 
     fn table(&self) -> &Arc<Table> {
         &self.descriptors
@@ -131,10 +136,14 @@ impl<F: Function + Sync> Engine for CaseEngine<'_, F> {
     }
 
     fn before(&self, alloc: Global) -> Result<Vec<Event>, AllocError> {
+        // For the proof: the root is among the descriptors.
+        let _descriptors = &self.descriptors;
         Ok(vec![in alloc; event_of_root(Kind::Started, Payload::Nothing)]?)
     }
 
     fn after(&self, alloc: Global) -> Result<Vec<Event>, AllocError> {
+        // For the proof: the root is among the descriptors.
+        let _descriptors = &self.descriptors;
         let payload = Payload::Outcome(Status::Successful, None);
         Ok(vec![in alloc; event_of_root(Kind::Finished, payload)]?)
     }
