@@ -18,18 +18,17 @@ fn show_word_faults(alloc: Global) -> bool {
         && is_shown_as(
             alloc,
             &AskFault::Condition(3, CondFault::Deep),
-            "bad condition 3",
+            "condition 3 is too deep",
         )
 }
 
 // Whether the other faults have their texts.
 fn show_other_faults(alloc: Global) -> bool {
-    is_shown_as(alloc, &AskFault::Read(ReadFault::NoHeader), "bad input")
+    is_shown_as(alloc, &AskFault::Read(ReadFault::NoHeader), "no header")
         && is_shown_as(alloc, &AskFault::Device, "device failed")
         && is_shown_as(alloc, &AskFault::Memory, "out of memory")
 }
 
-/// The faults of the program have lines of their own, which the cases show.
 #[test]
 fn ask_faults(rt: HostRuntime) {
     assert!(rt; show_word_faults(rt.alloc()));

@@ -17,10 +17,10 @@ pub enum AskFault {
     #[error("bad word {0}")]
     Word(usize),
     /// The word of this number is no condition.
-    #[error("bad condition {0}")]
+    #[error("condition {0} is {1}")]
     Condition(usize, CondFault),
     /// The input is no record text, or the source broke.
-    #[error("bad input")]
+    #[error("{0}")]
     Read(ReadFault),
     /// The target broke.
     #[error("device failed")]

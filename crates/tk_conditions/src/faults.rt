@@ -1,6 +1,6 @@
 //! Why a text is no condition.
 ghost use Rattle.std.specs.Prelude.{Some};
-ghost use Rattle.tk_conditions.specs.FaultTexts.{fault_text};
+ghost use Rattle.tk_conditions.specs.FaultTexts.{condition_fault_text};
 
 use std::alloc::AllocError;
 use std::error::Error;
@@ -32,7 +32,7 @@ impl From<AllocError> for CondFault {
 }
 
 impl fmt::Display for CondFault {
-    ghost output = { λ fault. Some (fault_text fault) };
+    ghost output = { λ fault. Some (condition_fault_text fault) };
 
     fn fmt<W: fmt::Write>(&self, f: &mut fmt::Formatter<W>) -> fmt::Result {
         match self {

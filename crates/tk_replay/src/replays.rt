@@ -5,7 +5,7 @@ ghost use Rattle.tk_columns.specs.Entries.{with_entry};
 ghost use Rattle.tk_columns.specs.Mixing.{IsWorkerOf};
 ghost use Rattle.tk_replay.specs.CoreState.{has_ended, fresh};
 ghost use Rattle.tk_replay.specs.Replay.{IsReplayed, IsTurn, next, count_of, take_item, turn_step, refusal, IsStop, Suits, Refuses, IsMemory, start, zeros};
-ghost use Rattle.tk_replay.specs.FaultTexts.{refusal_text, replay_fault_text};
+ghost use Rattle.tk_replay.specs.FaultTexts.{replay_fault_text};
 ghost use Rattle.tk_replay.specs.declared.replays.ReplayFault.TheVariants.{Memory};
 
 use crate::cores::{Core, CoreFault};
@@ -40,18 +40,6 @@ pub enum ReplayFault {
     Memory,
 }
 
-/// What the record says of an entry that it refuses.
-fn refusal_words(fault: &AppendFault) -> &'static str
-    ensures { result.now ≡ refusal_text fault.now }
-{
-    match fault {
-        AppendFault::UnknownKey(_) => "has an unknown key",
-        AppendFault::Unlawful(_) => "is unlawful",
-        AppendFault::Full(_) => "is one too many",
-        AppendFault::Memory(_) => "finds no memory",
-    }
-}
-
 impl fmt::Display for ReplayFault {
     ghost output = { λ fault. Some (replay_fault_text fault) };
 
@@ -60,10 +48,7 @@ impl fmt::Display for ReplayFault {
             ReplayFault::NoHeader => f.write_str("no header"),
             ReplayFault::BadLine(line) => write!(f, "line {line} is bad"),
             ReplayFault::AfterEnd(step) => write!(f, "step {step} comes after the end mark"),
-            ReplayFault::Append(step, fault) => {
-                let refusal = refusal_words(fault);
-                write!(f, "step {step} {refusal}")
-            }
+            ReplayFault::Append(step, fault) => write!(f, "step {step} {fault}"),
             ReplayFault::TooLarge => f.write_str("input too large"),
             ReplayFault::Device => f.write_str("device failed"),
             ReplayFault::Memory => f.write_str("out of memory"),

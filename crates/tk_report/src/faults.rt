@@ -14,7 +14,7 @@ pub enum ReportFault {
     Plan(PlanFault),
     /// The plan was not run to its end. The fault is never `RunFault::Memory`, which is `Memory`
     /// here.
-    #[error("plan was not run")]
+    #[error("{0}")]
     Run(RunFault),
     /// The target broke.
     #[error("device failed")]
