@@ -129,7 +129,7 @@ class ThreadCount:
         return self.case.name
 
     def run(self, program: str) -> Optional[str]:
-        """What differs, or None where the case passes and has so many threads."""
+        """What differs, or None where the case passes and a run is seen with `threads` threads."""
         watcher = Watcher()
         for _ in range(MOST_RUNS):
             fault = self.case.run(program, watcher)
@@ -259,7 +259,7 @@ class Streams:
 
 
 def command_of(case: Case, program: str) -> List[bytes]:
-    """The command line, behind a shell that closes streams and limits memory where that is asked."""
+    """The command line, started by a shell that closes streams and limits memory where that is asked."""
     command = [program.encode()] + list(case.words)
     closed = b""
     if case.standard_input == Input.CLOSED:
@@ -277,7 +277,7 @@ def made(data: Bytes) -> bytes:
 
 
 def difference(got: bytes, wanted: bytes) -> str:
-    """Both, or where they are long what stands where they part."""
+    """Both, or where they are long the bytes around the first that differs."""
     if len(got) + len(wanted) <= 2_000:
         return f"{got!r}, wanted {wanted!r}"
     at = len(os.path.commonprefix([got, wanted]))

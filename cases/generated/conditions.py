@@ -48,7 +48,7 @@ ATOMS = [
 
 
 def condition(numbers: Numbers, brackets: int) -> Condition:
-    """A condition of at most so many brackets within one another."""
+    """A condition of at most `brackets` brackets within one another."""
     shape = numbers.below(8)
     if brackets == 0 or shape == 0:
         return numbers.one_of(ATOMS)

@@ -25,7 +25,7 @@ class Numbers:
         return items[self.below(len(items))]
 
     def some_of(self, items: Sequence[Item], most: int) -> List[Item]:
-        """Up to so many of the items, in any order, also one twice."""
+        """Up to `most` of the items, in any order, also one twice."""
         return [self.one_of(items) for _ in range(self.below(most + 1))]
 
 
@@ -36,7 +36,7 @@ def modelled(name: str, words: Sequence[Word], data: bytes) -> Case:
 
 
 def each_is_met(name: str, met: Sequence[str], wanted: Sequence[str], least: int) -> Check:
-    """Each of the wanted answers is met at least so often, so that a generator doesn't become idle."""
+    """Each of the `wanted` answers is met at least `least` times: a generator that no longer makes one fails."""
     counts = Counter(met)
     rare = [answer for answer in wanted if counts[answer] < least]
     return Check(f"{name}/each answer is met {least} times", rare, [])

@@ -47,7 +47,7 @@ def result(numbers: Numbers) -> Value:
 
 
 def node(numbers: Numbers, segment: list, levels: int, is_static: bool) -> Value:
-    """A node with at most so many levels of nodes, its own among them."""
+    """A node with at most `levels` levels of nodes, its own among them."""
     made: Value = {"type": numbers.one_of(["container", "container", "test", "both"]), "segment": segment}
     made["name"] = numbers.one_of(TEXTS)
     if is_static and numbers.below(4) > 0:

@@ -39,14 +39,14 @@ TAILS = [
     "file|out/log.txt",
     "file|a(b),%",
 ]
-"""What stands behind the stamp of an event that isn't a registration."""
+"""What stands after the stamp of an event that isn't a registration."""
 
 PARENTS = ["[engine:e]", "[engine:e]/[class:A]/[t:m]", "[suite:s]/[engine:x]"]
 NAMES = ["one", "more", ""]
 
 
 def entry_lines(numbers: Numbers, events: int, nodes: int) -> list:
-    """The lines of so many events of the first so many nodes; about one in ten is a registration."""
+    """The lines of `events` events of the first `nodes` nodes; about one in ten is a registration."""
     keys = list(range(nodes))
     registered = [0] * (form.MAX_WORKERS + 1)
     lines = []
@@ -66,7 +66,7 @@ def entry_lines(numbers: Numbers, events: int, nodes: int) -> list:
 
 
 def record_text(numbers: Numbers, events: int, nodes: int = len(NODES)) -> bytes:
-    """The text of a record of so many events."""
+    """The text of a record of `events` events."""
     lines = NODES + entry_lines(numbers, events, nodes)
     return (HEADER + "".join(line + "\n" for line in lines)).encode()
 

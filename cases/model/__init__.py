@@ -1,7 +1,7 @@
 """A plain model of the program, written from docs/FORMATS.md and docs/SPECIFICATION.md alone.
 
 It has no more than definitions: lists, recursion and searches through all possibilities. It is slow on
-purpose, and knows nothing of how the program goes about its work.
+purpose, and knows nothing of how the program works.
 
 - `texts`: numbers, text fields and unique ids.
 - `records`: descriptors, events, records, and reading and writing their texts.

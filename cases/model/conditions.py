@@ -1,6 +1,6 @@
 """Conditions: reading them, with their faults, and of which events they hold.
 
-A condition is a tuple: its word, and behind it its text, its pairs or its members.
+A condition is a tuple: its word, and after it its text, its pairs or its members.
 """
 
 from typing import List, Optional, Tuple
@@ -80,7 +80,7 @@ class Reader:
         return self.data.startswith(word.encode(), self.at)
 
     def take_one_of(self, words) -> str:
-        """Takes the longest of the words that comes next, or raises `BadAtom` behind the longest beginning of one."""
+        """Takes the longest of the words that comes next, or raises `BadAtom` after the longest beginning of one."""
         seen = [word for word in words if self.sees(word)]
         if seen:
             word = max(seen, key=len)
@@ -139,7 +139,7 @@ class Reader:
         return text.decode()
 
     def pairs(self) -> Pairs:
-        """Takes the pairs of `entry(`, and the bracket behind them."""
+        """Takes the pairs of `entry(`, and the bracket after them."""
         pairs = []
         if self.sees(")"):
             self.at += 1

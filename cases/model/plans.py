@@ -227,7 +227,7 @@ class PlanReader:
         return node
 
     def check_rules(self, node: Node, above: Id, is_static: bool, siblings: Set[Segment]) -> None:
-        """The rules behind those of a node's members, in their order."""
+        """The rules that come after those of a node's members, in their order."""
         for pairs in node.entries:
             keys = [key for key, _ in pairs]
             if len(set(keys)) < len(keys):

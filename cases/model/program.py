@@ -20,7 +20,7 @@ class Outcome:
 
 
 def outcome(words: List[bytes], data: bytes) -> Outcome:
-    """The outcome of the words behind the program's name."""
+    """The outcome of the words after the program's name."""
     try:
         texts = [word.decode() for word in words]
         output, is_yes = perform(texts, data)

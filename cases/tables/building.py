@@ -40,7 +40,7 @@ def no(name: str, words: Union[str, Sequence[Word]], data: Text, output: Text) -
 
 
 def fault(name: str, words: Union[str, Sequence[Word]], data: Text, line: str, status: int = 2) -> Case:
-    """The program refuses its words or its input with this line behind its name, and writes nothing else."""
+    """The program refuses its words or its input with this line after its name, and writes nothing else."""
     return Case(name, as_words(words), as_bytes(data), error=f"testkit: {line}\n".encode(), status=status)
 
 
@@ -51,10 +51,10 @@ def stats(**numbers: int) -> str:
 
 
 def record(*lines: str) -> str:
-    """A record text of these lines behind the header."""
+    """A record text of these lines after the header."""
     return HEADER + "".join(line + "\n" for line in lines)
 
 
 def replay(*lines: str) -> str:
-    """A replay text of these lines behind the header."""
+    """A replay text of these lines after the header."""
     return REPLAY_HEADER + "".join(line + "\n" for line in lines)

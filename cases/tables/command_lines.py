@@ -74,7 +74,7 @@ WORKER_FORMS = [
     ]
 ] + [
     fault("workers/none", "run --workers", ONE_TEST_PLAN, BAD),
-    fault("workers/none behind =", "run --workers=", ONE_TEST_PLAN, BAD),
+    fault("workers/none after =", "run --workers=", ONE_TEST_PLAN, BAD),
     fault("workers/twice", "run --workers 1 --workers 1", ONE_TEST_PLAN, BAD),
     fault("workers/twice with =", "run --workers=1 --workers=2", ONE_TEST_PLAN, BAD),
     fault("workers/=01", "run --workers=01", ONE_TEST_PLAN, BAD),
@@ -114,8 +114,8 @@ QUESTIONS = [
     fault("question/help", "ask help", EMPTY, UNKNOWN),
     fault("question/ask", "ask ask stats", EMPTY, UNKNOWN),
     fault("question/a mode", "ask exactly", EMPTY, UNKNOWN),
-    fault("question/words behind an unknown one", "ask how stats x", EMPTY, UNKNOWN),
-    fault("question/no header behind it", "ask how", "", UNKNOWN),
+    fault("question/words after an unknown one", "ask how stats x", EMPTY, UNKNOWN),
+    fault("question/no header after it", "ask how", "", UNKNOWN),
 ]
 
 STATS_WORDS = [

@@ -178,7 +178,7 @@ LITTLE_MEMORY = [
 
 
 def many_units() -> bytes:
-    """A plan of 10,000 units, so many that all workers have started before the first one is done."""
+    """A plan of 10,000 units: enough for all workers to have started before the first one is done."""
     tests = [f'{{"type":"test","segment":["t","{unit}"],"name":"n","mode":"concurrent"}}' for unit in range(10_000)]
     root = '{"type":"both","segment":["engine","e"],"name":"e","children":[' + ",".join(tests) + "]}"
     return f'{{"version":1,"root":{root}}}'.encode()

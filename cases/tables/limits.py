@@ -12,13 +12,13 @@ TOO_LARGE = "input too large"
 
 
 def record_of_size(size: int) -> bytes:
-    """A record of so many bytes: a million starts, and a skip with a long reason."""
+    """A record of `size` bytes: a million starts, and a skip with a long reason."""
     text = HEADER + NODE + START * 1_000_000 + "E|1|0|0|skip|"
     return (text + "x" * (size - len(text) - 1) + "\n").encode()
 
 
 def name_of_size(header: str, rest: str, size: int) -> str:
-    """An N line whose name fills a text up to so many bytes."""
+    """An N line whose name fills the text of `header`, this line and `rest` up to `size` bytes."""
     node = "N|T|[engine:e]|"
     return node + "x" * (size - len(header) - len(rest) - len(node) - 1) + "\n"
 
@@ -29,7 +29,7 @@ def replay_of_size(size: int) -> bytes:
 
 
 def record_of_replay(size: int) -> bytes:
-    """What the replay of so many bytes prints."""
+    """What the replay of `size` bytes prints."""
     return (HEADER + name_of_size(REPLAY_HEADER + "W|1\n", "S\n", size)).encode()
 
 
@@ -65,7 +65,7 @@ SIZES = [
 ]
 
 ROUNDS = 50_000
-"""The record of 300,000 events has so many rounds of six events."""
+"""How many rounds of six events the record of 300,000 events has."""
 
 
 def many_events() -> bytes:
@@ -198,12 +198,12 @@ HUNDRED_EVENTS = [
 
 
 def roots(count: int) -> bytes:
-    """A record of so many static descriptors."""
+    """A record of `count` static descriptors."""
     return (HEADER + "".join(f"N|C|[r:{number}]|n\n" for number in range(count))).encode()
 
 
 def registrations(count: int) -> bytes:
-    """A record in which worker 1 registers so many descriptors."""
+    """A record in which worker 1 registers `count` descriptors."""
     lines = [f"E|1|{65_536 + number}|0|dynamic|T|[d:{number}]|n\n" for number in range(count)]
     return (HEADER + "".join(lines)).encode()
 
@@ -348,7 +348,7 @@ def plan(members: str) -> bytes:
 
 
 def nodes(member: str, count: int, mode: str = "", below: str = "") -> str:
-    """A member with so many tests."""
+    """A member with `count` tests."""
     tests = [node("test", member, str(number), mode + below) for number in range(count)]
     return f',"{member}":[' + ",".join(tests) + "]"
 
@@ -357,7 +357,7 @@ CONCURRENT = ',"mode":"concurrent"'
 
 
 def sorted_lines(tag: str, count: int, tails: str) -> str:
-    """The lines of so many nodes below the root, each with these tails, in the order of their ids."""
+    """The lines of `count` nodes below the root, each with these tails, in the order of their ids."""
     ids = sorted(f"[engine:e]/[{tag}:{number}]" for number in range(count))
     return "".join(id_text + "\n" + tails.replace("ID", id_text) for id_text in ids)
 

@@ -1,4 +1,4 @@
-"""Plans that are refused: the JSON, each member of a node, and the rules behind them."""
+"""Plans that are refused: the JSON, each member of a node, and the rules after them."""
 
 import form
 from tables.building import answer, fault, stats
@@ -11,7 +11,7 @@ ONE_START = stats(started=1, finished=1, succeeded=1) + "[engine:e]\n  start\n  
 
 
 def rooted(members: str) -> str:
-    """A plan of a root with these members behind its type, segment and name."""
+    """A plan of a root with these members after its type, segment and name."""
     return '{"version":1,"root":{' + NODE + members.replace("CHILD", CHILD) + "}}"
 
 
@@ -42,11 +42,11 @@ JSON = [
         ("opening brace", "{"),
         ("a word", "plan"),
         ("two values", "{}{}"),
-        ("text behind", ONE_TEST_PLAN + "x"),
+        ("text after the plan", ONE_TEST_PLAN + "x"),
         ("a second plan", ONE_TEST_PLAN + ONE_TEST_PLAN),
-        ("closing brace behind", ONE_TEST_PLAN + "}"),
+        ("closing brace after the plan", ONE_TEST_PLAN + "}"),
         ("cut", ONE_TEST_PLAN[:-1]),
-        ("comma behind the last member", ONE_TEST_PLAN[:-1] + ",}"),
+        ("comma after the last member", ONE_TEST_PLAN[:-1] + ",}"),
         ("single quotes", ONE_TEST_PLAN.replace('"', "'")),
         ("comment", "// plan\n" + ONE_TEST_PLAN),
         ("byte order mark", "\ufeff" + ONE_TEST_PLAN),
@@ -75,7 +75,7 @@ JSON = [
         DEMO_PLAN.encode().replace(b'"off"', b'"\xed\xa0\x80"'),
         "plan is not JSON",
     ),
-    refused("not JSON, nul behind", ONE_TEST_PLAN + "\0", "plan is not JSON"),
+    refused("not JSON, nul after the plan", ONE_TEST_PLAN + "\0", "plan is not JSON"),
 ]
 
 TOP = [
@@ -402,7 +402,7 @@ RESOURCES = [
 
 
 def chain(levels: int, innermost: str = "") -> str:
-    """A chain of so many levels, with these members at the innermost node."""
+    """A chain of `levels` levels, with these members at the innermost node."""
     node = '{"type":"both","segment":["s","x"],"name":"n"'
     return plan_of((node + ',"children":[') * (levels - 1) + node + innermost + "}" + "]}" * (levels - 1))
 
@@ -441,7 +441,7 @@ LEVELS = [
 
 
 def long_id(piece: str, count: int, members: str = "") -> str:
-    """A plan whose root's id is `[s:]` with so many times the piece before its last bracket."""
+    """A plan whose root's id is `[s:]` with `piece` written `count` times before its last bracket."""
     return plan_of('{"type":"both","segment":["s","' + piece * count + '"],"name":"n"' + members + "}")
 
 

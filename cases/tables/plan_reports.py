@@ -431,7 +431,7 @@ FILES = [
         "  finish|ok",
     ),
     *reports(
-        "files behind the entries",
+        "files after the entries",
         plan('{"type":"test","segment":["engine","e"],"name":"e","files":["a|b"],"entries":[[]]}', 2),
         stats(started=1, finished=1, succeeded=1, reporting=1, files=1),
         "[engine:e]",

@@ -172,7 +172,7 @@ MATCHES = [
         TWO_TESTS,
         "yes 0 2 4\n",
     ),
-    no("match/in-order, nothing starts behind the end", "ask match in-order succeeded started", TWO_TESTS, "no 1\n"),
+    no("match/in-order, nothing starts after the end", "ask match in-order succeeded started", TWO_TESTS, "no 1\n"),
     no("match/in-order, the first fails", "ask match in-order aborted started", TWO_TESTS, "no 0\n"),
     answer("match/in-order, the first of several", "ask match in-order all() all()", TWO_TESTS, "yes 0 1\n"),
     answer(

@@ -52,7 +52,7 @@ HEADERS = [
 ] + [
     fault("header/no text", STATS, b"\xff\xfe\n", "no header"),
     fault("header/twice", STATS, HEADER + HEADER, "line 2 is bad"),
-    fault("header/empty line behind", STATS, HEADER + "\n", "line 2 is bad"),
+    fault("header/empty line after it", STATS, HEADER + "\n", "line 2 is bad"),
 ]
 
 NODE_LINES = [
@@ -107,7 +107,7 @@ TABLES = [
     fault("table/child before its parent", STATS, record("N|T|[engine:e]/[t:1]|one", NODE), "line 2 is bad"),
     fault("table/grandparent alone", STATS, record(NODE, "N|T|[engine:e]/[c:1]/[t:1]|one"), "line 3 is bad"),
     fault("table/parent with another value", STATS, record(NODE, "N|T|[engine:f]/[t:1]|one"), "line 3 is bad"),
-    fault("table/node behind an entry", STATS, record(NODE, "E|1|0|0|start", "N|T|[engine:f]|f"), "line 4 is bad"),
+    fault("table/node after an entry", STATS, record(NODE, "E|1|0|0|start", "N|T|[engine:f]|f"), "line 4 is bad"),
     answer("table/several roots", STATS, record(NODE, "N|T|[engine:f]|f", "N|T|[suite:e]|e"), stats()),
     answer(
         "table/a child of a test",
@@ -294,7 +294,7 @@ REGISTRATIONS = [
         "line 3 has an unknown key",
     ),
     fault(
-        "registrations/keys that don't increase behind one",
+        "registrations/keys that don't increase after one",
         STATS,
         record(
             "N|C|[engine:e]|e",

@@ -71,4 +71,4 @@ DEMO_NODES = """[engine:demo]
   start
   finish|ok
 """
-"""The report of the demo plan behind its statistics."""
+"""The report of the demo plan after its statistics."""

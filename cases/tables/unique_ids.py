@@ -68,7 +68,7 @@ FORMS = [
     bad("backslash in place of a slash", "[engine:e]\\\\[t:1]"),
     bad("escape of a slash between segments", "[engine:e]%2F[t:1]"),
     bad("empty second segment", "[engine:e]/[:]"),
-    bad("text behind", "[engine:e] "),
+    bad("text after", "[engine:e] "),
     bad("text before", " [engine:e]"),
 ]
 

@@ -47,10 +47,10 @@ public class InOrder {
         show(both, "each once", "yes", started(), finishedSuccessfully(), finishedWithFailure());
         show(both, "three starts of two tests", "no", started(), started(), started());
         show(both, "one success twice", "no", finishedSuccessfully(), finishedSuccessfully());
-        show(both, "a start behind the success", "yes", finishedSuccessfully(), started());
-        show(both, "a start behind that of one", "yes", event(test("one"), started()), started());
+        show(both, "a start after the success", "yes", finishedSuccessfully(), started());
+        show(both, "a start after that of one", "yes", event(test("one"), started()), started());
         show(both, "start, success, start, failure", "yes", started(), finishedSuccessfully(), started(), finishedWithFailure());
-        show(both, "a success behind the failure", "no", finishedWithFailure(), finishedSuccessfully());
+        show(both, "a success after the failure", "no", finishedWithFailure(), finishedSuccessfully());
         Events one = run("one");
         System.out.println("events: " + one.count());
         show(one, "one start twice", "no", started(), started());
