@@ -1,18 +1,18 @@
 -- Answers by keys, and open starts by keys.
-use Rattle.std.proofs.Common.{◌≡◌, ◌≢◌, ℕ, zero, suc, ◌+◌, ◌*◌, ◌<◌, Bool, true, false, List, [], ◌∷◌, ◌++◌, length, get_or, set, map, Option, Some, None, MatchOption, Result, Ok, Err, OnOk, refl, sym, ap, ◌∙◌, subst, arith, eqb, eqb-true, eq-eqb}
+use Rattle.std.proofs.Common.{◌≡◌, ◌≢◌, ℕ, zero, suc, ◌<◌, Bool, true, false, List, [], ◌∷◌, ◌++◌, length, get_or, set, map, Option, Some, None, MatchOption, Result, Ok, Err, OnOk, refl, sym, ap, ◌∙◌, subst, arith, eqb, eqb-true, eq-eqb}
 use Rattle.std.specs.Prelude.{◌/◌, ◌%◌, ◌==◌, if◌then◌else◌}
 use Rattle.std.specs.List.{slice_get}
 use Rattle.std.proofs.lemmas.Bool.{ne_eqb, true≢false}
 use Rattle.std.proofs.lemmas.List.{get_or-set_other}
 use Rattle.std.proofs.lemmas.Grind.{get_or-set_at}
-use Rattle.std.proofs.lemmas.Option.{same_Some, none-some}
+use Rattle.std.proofs.lemmas.Option.{same_Some}
 use Rattle.tk_events.specs.declared.events.Entry.{Entry}
 use Rattle.tk_columns.specs.Recorded.{Recorded}
 use Rattle.tk_columns.specs.Selections.{passes}
 use Rattle.tk_columns.specs.declared.selections.Rule.{Rule}
 use Rattle.tk_conditions.specs.declared.conditions.Condition.{Condition}
 use Rattle.tk_query.specs.Holds.{holds}
-use Rattle.tk_query.specs.Keys.{AreAnswers, AreCandidates, AreKeys, HoldsWithin, IsKeyAt, IsOfKey, TellsAt}
+use Rattle.tk_query.specs.Keys.{AreAnswers, AreCandidates, HoldsWithin, IsKeyAt, IsOfKey, TellsAt}
 use Rattle.tk_query.proofs.AskedLemmas.{map_get}
 use Rattle.tk_query.specs.Pairing.{open_of}
 
