@@ -56,7 +56,7 @@ pub fn match_exactly(
 /// holds early is found sooner so.
 const TRIED_FIRST: usize = 1_000;
 
-/// Whether the condition holds of some event, where the first events tell.
+/// Whether the condition holds of some event, where the first events show it.
 fn try_first(events: &Events, condition: &Condition) -> Option<bool>
     ensures { IfSome result (HoldsOfSome events.now condition.now) }
 {
