@@ -22,26 +22,26 @@ fn some_byte(numbers: &mut Numbers, sample: Sample) -> u8 {
     if sample.is_ascii { byte & 127 } else { byte }
 }
 
-/// The front of a sample, which may be empty, and up to 40 bytes.
+/// A prefix of a sample, which may be empty, and up to 40 bytes.
 pub fn random_bytes(
     alloc: Global,
     numbers: &mut Numbers,
     sample: Sample,
 ) -> Result<Vec<u8>, AllocError> {
     let is_empty = numbers.below(2) == 0;
-    let front = if is_empty {
+    let prefix = if is_empty {
         0
     } else {
         numbers.below(sample.text.len())
     };
-    let mut bytes = Vec::from_slice(alloc, sample.text.get(..front).unwrap_or(&[]))?;
+    let mut bytes = Vec::from_slice(alloc, sample.text.get(..prefix).unwrap_or(&[]))?;
     for _ in 0..numbers.below(41) {
         bytes.push(some_byte(numbers, sample))?;
     }
     Ok(bytes)
 }
 
-// The position behind the first separator from a position on, or else the end.
+// The position after the first separator from a position on, or else the end.
 fn part_end(text: &[u8], separator: u8, from: usize) -> usize {
     for (position, byte) in text.iter().enumerate() {
         if position >= from && *byte == separator {
@@ -56,7 +56,7 @@ fn part(text: &[u8], from: usize, to: usize) -> &[u8] {
     text.get(from..to).unwrap_or(&[])
 }
 
-// The text with a part moved behind others, doubled, or dropped.
+// The text with a part moved after others, doubled, or dropped.
 fn with_part_edited(
     alloc: Global,
     numbers: &mut Numbers,

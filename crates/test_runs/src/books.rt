@@ -25,7 +25,7 @@ fn is_whole(counter: &AtomicU64) -> bool {
     seen % 2 == 0 && counter.load(Ordering::SeqCst) == seen
 }
 
-// Writes in each fourth round and reads in the others, and tells in how many rounds it saw a counter that was torn.
+// Writes in each fourth round and reads in the others, and returns in how many rounds it saw a counter that was torn.
 fn work<R: Wait>(rt: &R, book: &Book, counter: &AtomicU64, mut seat: BookSeat) -> u32
     requires of_this { seat.book ≡ book.now }
     requires empty { seat.holds ≡ None }

@@ -1,5 +1,5 @@
 //! Runs: threads that share a lock book, senders on threads of their own, engines run by workers, and
-//! plans as the library tells them, what their runs record, and where their reports break.
+//! plans as the library reads them, what their runs record, and where their reports break.
 #![tactic(auto)]
 
 #[cfg(test)]

@@ -197,7 +197,7 @@ SameReading (Ok p) (Ok q) = AreSame p q
 SameReading (Err f) (Err g) = f ≡ g
 SameReading _ _ = ⊥
 
--- it tells of the words alone
+-- it depends on the words alone
 abbrev pub IsOfWords : Result Question AskFault → Type 0
 IsOfWords (Err faults.Memory) = ⊥
 IsOfWords _ = Unit {0}

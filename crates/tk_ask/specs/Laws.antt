@@ -15,7 +15,7 @@ abbrev pub IsOutcome : List (List ℕ) → List ℕ → Outcome → Type 0
 IsOutcome words input (Answered is_yes output) = IsAnswered words input is_yes output
 IsOutcome words input (Refused fault) = IsRefusal words (Some input) fault
 
--- it tells of the words and the input alone, and not of memory or of a device
+-- it depends on the words and the input alone, and not on memory or a device
 abbrev pub IsSettled : Outcome → Type 0
 IsSettled (Refused faults.Memory) = ⊥
 IsSettled (Refused faults.Device) = ⊥

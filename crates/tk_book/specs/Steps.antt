@@ -1,5 +1,5 @@
 -- What the steps of a book do to what its seats hold. `holds` is the rule of the book's word, and
--- `tells` is what a step tells of the word and of its seat.
+-- `outcome` relates a step to what the word and the seat are before and after it.
 use Rattle.std.specs.Prelude.{◌≡◌, ◌≢◌, ℕ, ◌<◌, ◌≤◌, List, [], ◌∷◌, None, Some, length, sum_by, take, slice_set}
 use mathlib.Core.Option.{none, some}
 use lib.ListN.{get_elem?}
@@ -25,43 +25,43 @@ IsSumOfHoldings holds = (seats : ℕ) (s : State Wants SeatNote) → holds seats
 abbrev pub ExchangeIsGrant :
     (ℕ → State Wants SeatNote → Type 0) →
     (Step Wants → Me Wants SeatNote → ℕ → Me Wants SeatNote → Type 0) → Type 0
-ExchangeIsGrant holds tells =
+ExchangeIsGrant holds outcome =
     (seats slots id old new : ℕ) (n : Wants) (me : Me Wants SeatNote)
     (s : State Wants SeatNote) (w : SeatNote) (a : Act Wants)
     → holds seats s → get_elem? s.views id ≡ some me.0 → me.0.held ≡ None ∷ [] → s.words ≡ old ∷ []
     → holds seats (stepped s 0 new id me.1 w a)
-    → tells (step slots 0 old new (some n)) me old (w, carried_after me.1 a)
+    → outcome (step slots 0 old new (some n)) me old (w, carried_after me.1 a)
     → Grants (holdings s.views) (holding_index s.views id) n (holdings (slice_set s.views id w))
 
 -- an exchange that finds another word changes nothing of what the seats hold
 abbrev pub FailureIsNone :
     (ℕ → State Wants SeatNote → Type 0) →
     (Step Wants → Me Wants SeatNote → ℕ → Me Wants SeatNote → Type 0) → Type 0
-FailureIsNone holds tells =
+FailureIsNone holds outcome =
     (seats slots id old new x : ℕ) (n : Wants) (me : Me Wants SeatNote)
     (s : State Wants SeatNote) (w : SeatNote) (a : Act Wants)
     → holds seats s → get_elem? s.views id ≡ some me.0 → s.words ≡ x ∷ [] → x ≢ old
-    → tells (step slots 0 old new (some n)) me x (w, carried_after me.1 a)
+    → outcome (step slots 0 old new (some n)) me x (w, carried_after me.1 a)
     → holdings (slice_set s.views id w) ≡ holdings s.views
 
 -- a load changes nothing of what the seats hold
 abbrev pub LoadIsNone :
     (ℕ → State Wants SeatNote → Type 0) →
     (Step Wants → Me Wants SeatNote → ℕ → Me Wants SeatNote → Type 0) → Type 0
-LoadIsNone holds tells =
+LoadIsNone holds outcome =
     (seats slots id x : ℕ) (me : Me Wants SeatNote) (s : State Wants SeatNote)
     (w : SeatNote) (a : Act Wants)
     → holds seats s → get_elem? s.views id ≡ some me.0 → s.words ≡ x ∷ []
-    → tells (step slots 0 0 0 none) me x (w, carried_after me.1 a)
+    → outcome (step slots 0 0 0 none) me x (w, carried_after me.1 a)
     → holdings (slice_set s.views id w) ≡ holdings s.views
 
 -- a subtraction is a release of what the seat holds
 abbrev pub SubtractionIsRelease :
     (ℕ → State Wants SeatNote → Type 0) →
     (Step Wants → Me Wants SeatNote → ℕ → Me Wants SeatNote → Type 0) → Type 0
-SubtractionIsRelease holds tells =
+SubtractionIsRelease holds outcome =
     (seats slots id k x : ℕ) (n : Wants) (me : Me Wants SeatNote)
     (s : State Wants SeatNote) (w : SeatNote) (a : Act Wants)
     → holds seats s → get_elem? s.views id ≡ some me.0 → me.0.held ≡ Some n ∷ [] → s.words ≡ x ∷ []
-    → tells (step slots 0 k 0 none) me x (w, carried_after me.1 a)
+    → outcome (step slots 0 k 0 none) me x (w, carried_after me.1 a)
     → Releases (holdings s.views) (holding_index s.views id) n (holdings (slice_set s.views id w))

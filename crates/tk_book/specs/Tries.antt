@@ -1,4 +1,4 @@
--- What a try to take a need tells of the words that the seat read.
+-- What a try to take a need says of the words that the seat read.
 use Rattle.std.specs.Prelude.{◌≡◌, ◌≢◌, ℕ, List, [], ◌∷◌, ◌++◌}
 use Rattle.tk_lanes.specs.Lanes.{Admits}
 use Rattle.tk_book.specs.declared.books.Busy.{Busy}

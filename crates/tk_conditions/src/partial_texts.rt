@@ -60,7 +60,7 @@ impl PartialText {
         matches!(self.escape, Escape::Outside) && byte == stop
     }
 
-    /// Takes one more byte, and tells whether it may stand there.
+    /// Takes one more byte, and answers whether it may stand there.
     pub(crate) fn feed(&mut self, byte: u8) -> Result<bool, AllocError>
         ensures { IfOk result
             (λ accepted. text_step self.old byte ≡ (if accepted then Some self.new else None)) }

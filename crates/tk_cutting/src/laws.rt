@@ -14,7 +14,7 @@ pub fn keeps_stamps()
     ensures { KeepsStamps }
 {}
 
-/// What a node of the spine tells before its children and after them are its steps.
+/// What a node of the spine emits before its children and after them are its steps.
 pub fn spine_events_are_steps()
     ensures { SpineEventsAreSteps }
 {}

@@ -155,7 +155,7 @@ module _ (may : ℕ → ℕ → ℕ → List Event → Type 0) (units workers : 
   pub of_claim : (session : TableId) → AllDone may units session claim os → All (λ s. s.claim ≡ claim) ss
   of_claim session done = all_from (λ s. s.claim ≡ claim) ss (λ i s e. let h = seat_at os ts ss whole i s e in ap (λ (x : Claimant). x.claim) (h.3) ∙ (done i (h.0) (h.1)).claim_is)
 
-  -- what the workers of a team share
+  -- what the workers of a run share
   pub shared : (r : ReceiverView) (drew : ℕ) → 0 < workers → r.workers ≡ workers → CanClose r ts → Mix r.workers (entries r.taken) (lists ts) → AllDone may units r.session claim os
       → Claims (map (λ (s : Claimant). s.numbers) ss) drew → ((i : ℕ) (s : Claimant) → slice_get ss i ≡ Some s → s.spent ≡ true → drew ≡ units)
       → IsShared may units workers (entries r.taken)
@@ -185,7 +185,7 @@ module _ (may : ℕ → ℕ → ℕ → List Event → Type 0) (units workers : 
       first_of [] some = absurd (omega arith)
       first_of (x ∷ xs) some = (x, refl)
 
--- the numbers of a closed session, as `close` tells them
+-- the numbers of a closed session, as `close` gives them
 pub tallied : (n : ℕ) (closed : List ℕ) (es : List Entry) (ls : ℕ → List Event) → Mix n es ls → ((w : ℕ) → IsWorkerOf n w → slice_index closed w ≡ length (ls w))
     → ((w : ℕ) → ¬ IsWorkerOf n w → slice_index closed w ≡ 0) → IsTallied n closed es
 tallied n closed es ls mix each others = record {

@@ -1,4 +1,4 @@
--- The last of a crew, and the rest.
+-- The last of the workers, and the others.
 use Rattle.std.proofs.Common.{◌≡◌, ℕ, zero, suc, ◌+◌, List, [], ◌∷◌, ◌++◌, length, refl, ap, sym, ◌∙◌, arith, length-append}
 use Rattle.std.specs.Prelude.{vec_len}
 use Rattle.atomic_table.specs.Seated.{TableId}
@@ -53,7 +53,7 @@ module _ (session : TableId) (claim : ClaimName) (book : BookName) (table : List
         holds = ap (λ (x : Holder). x.holds) b;
       }
 
--- the crew has one fewer
+-- there is one worker fewer
 pub one_fewer : (all rest : UnstartedWorkers) (h : WorkerHandles) → IsLastWorker all rest h → vec_len all.senders ≡ vec_len rest.senders + 1
 one_fewer all rest h cut = let long = ap (λ l. length l) cut.sender in omega (arith, all.senders.ok.0, rest.senders.ok.0, long, length-append rest.senders.items (h.sender ∷ []))
 

@@ -22,7 +22,7 @@ pub record IsReady (claim : ClaimName) (book : BookName) (table : List Descripto
   pub book_is : h.book_seat.book ≡ book
   pub holds : h.book_seat.holds ≡ None
 
--- A unit is the last that worker w drew, and the worker was not told that there are no more. The
+-- A unit is the last that worker w drew, and the worker has not found that there are no more. The
 -- units before it emitted a prefix of what the worker emitted.
 pub record IsStopped (may : ℕ → ℕ → ℕ → List Event → Type 0) (w : ℕ) (seat : Claimant)
     (sent : List Event) (unit : ℕ) : Type 0 where

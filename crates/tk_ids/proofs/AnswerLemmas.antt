@@ -7,7 +7,7 @@ use Rattle.tk_ids.specs.declared.ids.IdFault.{IdFault}
 use Rattle.tk_ids.specs.declared.ids.IdFault.TheVariants.{Empty, BadSegment, BadEscape, TooLong, Memory}
 use Rattle.tk_ids.specs.Prefix.{IsLongestPrefix}
 use Rattle.tk_ids.specs.IdText.{Pair, IsId, IsIdText, IsEngine, id_text, FitsLimits, EndsInEscape}
-use Rattle.tk_ids.specs.Reading.{State, Behind, step}
+use Rattle.tk_ids.specs.Reading.{State, Closed, step}
 use Rattle.tk_ids.specs.Answer.{IsBadAt, IsReadAs, IsFaultAfter}
 use Rattle.tk_ids.proofs.ReadingLemmas.{HasRead, stuck_longest, stuck_refutes, end_is, text_is_unique}
 
@@ -15,7 +15,7 @@ pub bad_where_stuck : (text : List ℕ) (n : ℕ) (s : State) → HasRead text n
 bad_where_stuck text n s h lt stuck =
     record { some = omega arith; no_id = stuck_refutes text n s h lt stuck; prefix = stuck_longest text n s h (λ _. stuck) }
 
-pub bad_at_end : (text : List ℕ) (n : ℕ) (s : State) → HasRead text n s → 0 < length text → length text ≤ n → ((done : List Pair) → s ≡ Behind done → ⊥) → IsBadAt text (length text)
+pub bad_at_end : (text : List ℕ) (n : ℕ) (s : State) → HasRead text n s → 0 < length text → length text ≤ n → ((done : List Pair) → s ≡ Closed done → ⊥) → IsBadAt text (length text)
 bad_at_end text n s h some le open_at =
     let within : n ≤ length text = h.within in
     let all : n ≡ length text = omega arith in

@@ -140,7 +140,7 @@ pub(crate) enum SegmentPosition {
     /// In its value. The tag is read.
     Value(Text),
     /// After its `]`.
-    Behind,
+    Closed,
 }
 
 /// An id, as far as its text is read: its whole segments, and the tag or value at hand.
@@ -161,7 +161,7 @@ impl Model for Reader {
 }
 
 impl Reader {
-    ghost use Rattle.tk_ids.specs.Reading.{step, Before, Behind};
+    ghost use Rattle.tk_ids.specs.Reading.{step, Before, Closed};
     ghost use Rattle.tk_ids.specs.Reader.{ContinuesAsText, IsSound};
     ghost use Rattle.tk_ids.specs.IdText.{Pair};
 
@@ -201,7 +201,7 @@ impl Reader {
                     return self.partial.feed(byte);
                 }
                 let value = self.partial.take(alloc)?;
-                match std::mem::replace(&mut self.position, SegmentPosition::Behind) {
+                match std::mem::replace(&mut self.position, SegmentPosition::Closed) {
                     SegmentPosition::Value(tag) => {
                         let segment = Segment::from_parts(alloc, tag, value)?;
                         self.segments.push(segment)?;
@@ -209,7 +209,7 @@ impl Reader {
                     _ => unreachable!(),
                 }
             }
-            SegmentPosition::Behind => {
+            SegmentPosition::Closed => {
                 if byte != b'/' {
                     return Ok(false);
                 }
@@ -221,11 +221,11 @@ impl Reader {
 
     /// The segments, where the text ends after one.
     pub(crate) fn finish(self) -> Option<Vec<Segment>>
-        ensures { MatchOption result ((done : List Pair) → self ≢ Behind done)
-            (λ segments. self ≡ Behind segments.items) }
+        ensures { MatchOption result ((done : List Pair) → self ≢ Closed done)
+            (λ segments. self ≡ Closed segments.items) }
     {
         match self.position {
-            SegmentPosition::Behind => Some(self.segments),
+            SegmentPosition::Closed => Some(self.segments),
             _ => None,
         }
     }

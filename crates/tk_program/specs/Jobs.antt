@@ -73,7 +73,7 @@ IsRefused (jobs.Run workers) input old new (faults.Load fault) = new ≡ old
 IsRefused (jobs.Run workers) input old new (faults.Report fault) = IsReportFault workers input old new fault
 IsRefused job input old new _ = ⊥
 
--- Only a broken device is told as one: a question tells of the source in what it reads and of the target in what it writes, a
+-- Only a broken device is given as one: a question says so of the source in what it reads and of the target in what it writes, a
 -- replay of either, and a run of the source before and of the target after its plan.
 abbrev pub IsBroken : Bool → Bool → Fault → Type 0
 IsBroken source target (faults.Ask (asks.Read reads.Device)) = source ≡ true

@@ -54,6 +54,14 @@ entry_clear (f ∷ flags) [] i clear = refl
 entry_clear (f ∷ flags) (e ∷ es) zero clear = ap (λ b. if b then Some e else None) clear
 entry_clear (f ∷ flags) (e ∷ es) (suc i) clear = entry_clear flags es i clear
 
+-- what a test of an entry says, where that is one of the events asked
+pub fits_there : (asked : Selected) (r : Recorded) → r ≡ asked.recorded → (c : Condition) (i : ℕ) (b : Bool) → event_at asked.kept i ≡ slice_get asked.recorded.entries i → MatchOption (slice_get r.entries i) (b ≡ false) (λ e. b ≡ holds r c e) → fits asked c i ≡ b
+fits_there asked r same c i b stands given =
+    let h = subst (λ (s : Recorded). MatchOption (slice_get s.entries i) (b ≡ false) (λ e. b ≡ holds s c e)) same given in
+    ap (is_there (holds asked.recorded c)) stands
+    ∙ elim (slice_get asked.recorded.entries i) as (λ o. MatchOption o (b ≡ false) (λ e. b ≡ holds asked.recorded c e) → is_there (holds asked.recorded c) o ≡ b)
+    [ None ↦ λ g. sym g | Some e ↦ λ g. sym g ] h
+
 -- the flags say which the events are
 pub record AreFlags (asked : Selected) (flags : List Bool) : Type 0 where
   pub kept : asked.kept ≡ items_where_true flags (positioned asked.recorded.entries)
@@ -62,7 +70,7 @@ module _ (asked : Selected) (flags : List Bool) (are : AreFlags asked flags) whe
   asked_is : (i : ℕ) → event_at asked.kept i ≡ entry_in flags asked.recorded.entries i
   asked_is i = ap (λ kept. event_at kept i) are.kept ∙ event_positioned flags asked.recorded.entries 0 i i (sym (zero-add i))
 
-  asked_set : (i : ℕ) → get_or flags i false ≡ true → event_at asked.kept i ≡ slice_get asked.recorded.entries i
+  pub asked_set : (i : ℕ) → get_or flags i false ≡ true → event_at asked.kept i ≡ slice_get asked.recorded.entries i
   asked_set i set = asked_is i ∙ entry_set flags asked.recorded.entries i set
 
   asked_clear : (i : ℕ) → get_or flags i false ≡ false → event_at asked.kept i ≡ None
@@ -70,11 +78,7 @@ module _ (asked : Selected) (flags : List Bool) (are : AreFlags asked flags) whe
 
   -- what a test of the entry at a set flag says
   pub fits_set : (r : Recorded) → r ≡ asked.recorded → (c : Condition) (i : ℕ) (b : Bool) → get_or flags i false ≡ true → MatchOption (slice_get r.entries i) (b ≡ false) (λ e. b ≡ holds r c e) → fits asked c i ≡ b
-  fits_set r same c i b set given =
-      let h = subst (λ (s : Recorded). MatchOption (slice_get s.entries i) (b ≡ false) (λ e. b ≡ holds s c e)) same given in
-      ap (is_there (holds asked.recorded c)) (asked_set i set)
-      ∙ elim (slice_get asked.recorded.entries i) as (λ o. MatchOption o (b ≡ false) (λ e. b ≡ holds asked.recorded c e) → is_there (holds asked.recorded c) o ≡ b)
-      [ None ↦ λ g. sym g | Some e ↦ λ g. sym g ] h
+  fits_set r same c i b set given = fits_there asked r same c i b (asked_set i set) given
 
   pub fits_clear : (c : Condition) (i : ℕ) → get_or flags i false ≡ false → fits asked c i ≡ false
   fits_clear c i clear = ap (is_there (holds asked.recorded c)) (asked_clear i clear)
@@ -93,11 +97,15 @@ pub record HasNone (asked : Selected) (c : Condition) (from next : ℕ) : Type 0
 pub none_first : (asked : Selected) (c : Condition) (from : ℕ) → HasNone asked c from from
 none_first asked c from = record { low = omega arith; none = λ q le lt. absurd (omega arith) }
 
-module _ (asked : Selected) (flags : List Bool) (are : AreFlags asked flags) (c : Condition) (from next at : ℕ) (has : HasNone asked c from next) where
+-- the condition holds of no event asked where no flag is set
+abbrev pub FitsOnlySet : Selected → Condition → List Bool → Type 0
+FitsOnlySet asked c flags = (i : ℕ) → get_or flags i false ≡ false → fits asked c i ≡ false
+
+module _ (asked : Selected) (c : Condition) (flags : List Bool) (only : FitsOnlySet asked c flags) (from next at : ℕ) (has : HasNone asked c from next) where
   before_at : IsNextSet next flags at → (q : ℕ) → from ≤ q → q < at → fits asked c q ≡ false
   before_at set q le lt = ⊎_elim {C = fits asked c q ≡ false}
       (λ (below : q < next). has.none q le below)
-      (λ (above : next ≤ q). fits_clear asked flags are c q (set.least q above lt))
+      (λ (above : next ≤ q). only q (set.least q above lt))
       (cases_lt q next)
 
   pub none_more : IsNextSet next flags at → fits asked c at ≡ false → HasNone asked c from (at + 1)
@@ -118,10 +126,10 @@ module _ (asked : Selected) (flags : List Bool) (are : AreFlags asked flags) (c 
       let low = has.low in
       record { from_on = omega arith; fit = here; first = before_at set }
 
-pub none_left : (asked : Selected) (flags : List Bool) (are : AreFlags asked flags) (c : Condition) (from next : ℕ) → HasNone asked c from next → IsNoneSet next flags → HasNoFit (fits asked) c from
-none_left asked flags are c from next has clear q le = ⊎_elim {C = fits asked c q ≡ false}
+pub none_left : (asked : Selected) (c : Condition) (flags : List Bool) → FitsOnlySet asked c flags → (from next : ℕ) → HasNone asked c from next → IsNoneSet next flags → HasNoFit (fits asked) c from
+none_left asked c flags only from next has clear q le = ⊎_elim {C = fits asked c q ≡ false}
     (λ (below : q < next). has.none q le below)
-    (λ (above : next ≤ q). fits_clear asked flags are c q (clear.none q above))
+    (λ (above : next ≤ q). only q (clear.none q above))
     (cases_lt q next)
 
 -- the k-th event stands at its position in the record

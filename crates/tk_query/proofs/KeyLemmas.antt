@@ -1,18 +1,18 @@
 -- Answers by keys, and open starts by keys.
-use Rattle.std.proofs.Common.{◌≡◌, ◌≢◌, ℕ, zero, suc, ◌+◌, ◌*◌, ◌<◌, Bool, true, false, List, [], ◌∷◌, ◌++◌, length, get_or, set, map, Option, Some, None, MatchOption, Result, Ok, Err, OnOk, refl, sym, ap, ◌∙◌, subst, arith, eqb, eqb-true, eq-eqb}
+use Rattle.std.proofs.Common.{◌≡◌, ◌≢◌, ℕ, zero, suc, ◌<◌, Bool, true, false, List, [], ◌∷◌, ◌++◌, length, get_or, set, map, Option, Some, None, MatchOption, Result, Ok, Err, OnOk, refl, sym, ap, ◌∙◌, subst, arith, eqb, eqb-true, eq-eqb}
 use Rattle.std.specs.Prelude.{◌/◌, ◌%◌, ◌==◌, if◌then◌else◌}
 use Rattle.std.specs.List.{slice_get}
 use Rattle.std.proofs.lemmas.Bool.{ne_eqb, true≢false}
 use Rattle.std.proofs.lemmas.List.{get_or-set_other}
 use Rattle.std.proofs.lemmas.Grind.{get_or-set_at}
-use Rattle.std.proofs.lemmas.Option.{same_Some, none-some}
+use Rattle.std.proofs.lemmas.Option.{same_Some}
 use Rattle.tk_events.specs.declared.events.Entry.{Entry}
 use Rattle.tk_columns.specs.Recorded.{Recorded}
 use Rattle.tk_columns.specs.Selections.{passes}
 use Rattle.tk_columns.specs.declared.selections.Rule.{Rule}
 use Rattle.tk_conditions.specs.declared.conditions.Condition.{Condition}
 use Rattle.tk_query.specs.Holds.{holds}
-use Rattle.tk_query.specs.Keys.{AreAnswers, AreCandidates, AreKeys, HoldsWithin, IsKeyAt, IsOfKey, TellsAt}
+use Rattle.tk_query.specs.Keys.{AreAnswers, AreCandidates, HoldsWithin, IsKeyAt, IsOfKey, AnswersAt}
 use Rattle.tk_query.proofs.AskedLemmas.{map_get}
 use Rattle.tk_query.specs.Pairing.{open_of}
 
@@ -38,12 +38,12 @@ answers_more r c answers new are is = record {
 -- the answer of a key is stored
 pub answers_put : (r : Recorded) (c : Condition) (answers new : List (Option Bool)) (key position : ℕ) (b : Bool) → AreAnswers r c answers → IsOfKey r c → IsKeyAt r position key
     → MatchOption (slice_get r.entries position) (b ≡ false) (λ e. b ≡ holds r c e) → key < length answers → new ≡ set answers key (Some b) → AreAnswers r c new
-answers_put r c answers new key position b are of_key at told within is = record {
+answers_put r c answers new key position b are of_key at answered within is = record {
   answers_are = λ e y given. by_key e y given (eqb key e.event.key) refl;
 }
   where
     here : b ≡ holds r c at.entry
-    here = subst (λ o. MatchOption o (b ≡ false) (λ e. b ≡ holds r c e)) at.stands told
+    here = subst (λ o. MatchOption o (b ≡ false) (λ e. b ≡ holds r c e)) at.stands answered
 
     read : (e : Entry) → get_or new e.event.key None ≡ (if key == e.event.key then Some b else get_or answers e.event.key None)
     read e = ap (λ l. get_or l e.event.key None) is ∙ get_or_put answers key e.event.key (Some b) None within
@@ -54,18 +54,18 @@ answers_put r c answers new key position b are of_key at told within is = record
         sym (same_Some b y found) ∙ here ∙ of_key.same at.entry e (sym at.key_is ∙ eqb-true key e.event.key is_same)
     by_key e y given false other = are.answers_are e y (sym (read e ∙ ap (λ t. if t then Some b else get_or answers e.event.key None) other) ∙ given)
 
-pub told_before : (r : Recorded) (c : Condition) (answers : List (Option Bool)) (key position : ℕ) (b : Bool) → AreAnswers r c answers → IsKeyAt r position key → get_or answers key None ≡ Some b → TellsAt r c position b
+pub told_before : (r : Recorded) (c : Condition) (answers : List (Option Bool)) (key position : ℕ) (b : Bool) → AreAnswers r c answers → IsKeyAt r position key → get_or answers key None ≡ Some b → AnswersAt r c position b
 told_before r c answers key position b are at given = record {
-  tells = λ e stands.
+  answers_at = λ e stands.
       let same : key ≡ e.event.key = at.key_is ∙ ap (λ (x : Entry). x.event.key) (same_Some at.entry e (sym at.stands ∙ stands)) in
       are.answers_are e b (ap (λ k. get_or answers k None) (sym same) ∙ given);
 }
 
-pub told_now : (r : Recorded) (c : Condition) (position : ℕ) (b : Bool) → MatchOption (slice_get r.entries position) (b ≡ false) (λ e. b ≡ holds r c e) → TellsAt r c position b
-told_now r c position b told = record { tells = λ e stands. subst (λ o. MatchOption o (b ≡ false) (λ x. b ≡ holds r c x)) stands told }
+pub answered_now : (r : Recorded) (c : Condition) (position : ℕ) (b : Bool) → MatchOption (slice_get r.entries position) (b ≡ false) (λ e. b ≡ holds r c e) → AnswersAt r c position b
+answered_now r c position b answered = record { answers_at = λ e stands. subst (λ o. MatchOption o (b ≡ false) (λ x. b ≡ holds r c x)) stands answered }
 
-pub candidate_told : (r : Recorded) (c : Condition) (flags : List Bool) (position : ℕ) (b : Bool) → AreCandidates r c flags → get_or flags position false ≡ false → b ≡ false → TellsAt r c position b
-candidate_told r c flags position b are clear is = record { tells = λ e stands. is ∙ sym (are.others position e stands clear) }
+pub candidate_answered : (r : Recorded) (c : Condition) (flags : List Bool) (position : ℕ) (b : Bool) → AreCandidates r c flags → get_or flags position false ≡ false → b ≡ false → AnswersAt r c position b
+candidate_answered r c flags position b are clear is = record { answers_at = λ e stands. is ∙ sym (are.others position e stands clear) }
 
 pub candidates_are : (rule : Rule) (r : Recorded) (c : Condition) (flags : List Bool) → HoldsWithin rule r c → flags ≡ map (passes rule r) r.entries → AreCandidates r c flags
 candidates_are rule r c flags h is = record {

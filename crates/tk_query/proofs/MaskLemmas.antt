@@ -1,5 +1,5 @@
 -- The masks of conditions.
-use Rattle.std.proofs.Common.{◌≡◌, ℕ, zero, suc, Some, MatchOption, ◌+◌, ◌<◌, ◌≤◌, Bool, true, false, ◌&&◌, ◌||◌, List, [], ◌∷◌, ◌++◌, length, take, get_or, map, replicate, Result, Ok, Err, IfOk, refl, sym, ap, ◌∙◌, subst, arith}
+use Rattle.std.proofs.Common.{◌≡◌, ℕ, zero, suc, Some, ◌+◌, ◌<◌, ◌≤◌, Bool, true, false, ◌&&◌, ◌||◌, List, [], ◌∷◌, ◌++◌, length, take, get_or, map, replicate, Result, Ok, Err, IfOk, refl, sym, ap, ◌∙◌, arith}
 use Rattle.std.specs.Prelude.{if◌then◌else◌, ◌==◌}
 use Rattle.std.specs.List.{list_all, list_any, slice_get}
 use Rattle.std.specs.Simd.Lanes.{zip2}
@@ -10,7 +10,7 @@ use Rattle.tk_events.specs.declared.events.Entry.{Entry}
 use Rattle.tk_columns.specs.Recorded.{Recorded}
 use Rattle.tk_conditions.specs.declared.conditions.Condition.{Condition}
 use Rattle.tk_query.specs.Holds.{holds}
-use Rattle.tk_query.specs.Keys.{TellsAt}
+use Rattle.tk_query.specs.Keys.{AnswersAt}
 use Rattle.tk_query.proofs.AskedLemmas.{map_same}
 
 replicated : (b : Bool) (es : List Entry) → replicate (length es) b ≡ map (λ _. b) es
@@ -73,10 +73,10 @@ there (e ∷ es) (suc i) lt = let r = there es i (omega arith) in (r.0, r.1, ap 
 abbrev pub byte : Bool → ℕ
 byte b = if b then 1 else 0
 
-pub column_more : (r : Recorded) (c : Condition) (i : ℕ) (b : Bool) (old new : List ℕ) → i < length r.entries → old ≡ map (λ e. byte (holds r c e)) (take i r.entries) → TellsAt r c i b → new ≡ old ++ byte b ∷ [] → new ≡ map (λ e. byte (holds r c e)) (take (i + 1) r.entries)
+pub column_more : (r : Recorded) (c : Condition) (i : ℕ) (b : Bool) (old new : List ℕ) → i < length r.entries → old ≡ map (λ e. byte (holds r c e)) (take i r.entries) → AnswersAt r c i b → new ≡ old ++ byte b ∷ [] → new ≡ map (λ e. byte (holds r c e)) (take (i + 1) r.entries)
 column_more r c i b old new lt e h f =
     let x = there r.entries i lt in
-    let is : b ≡ holds r c x.0 = h.tells x.0 x.1 in
+    let is : b ≡ holds r c x.0 = h.answers_at x.0 x.1 in
     let next : suc i ≡ i + 1 = omega arith in
     f ∙ ap (λ l. l ++ byte b ∷ []) e ∙ ap (λ z. map (λ y. byte (holds r c y)) (take i r.entries) ++ byte z ∷ []) is
     ∙ sym (map-append (λ y. byte (holds r c y)) (take i r.entries) (x.0 ∷ [])) ∙ ap (map (λ y. byte (holds r c y))) (sym x.2 ∙ ap (λ n. take n r.entries) next)

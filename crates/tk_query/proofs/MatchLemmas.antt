@@ -7,13 +7,15 @@ use Rattle.std.proofs.lemmas.Bool.{cases_lt, and_parts, true≢false}
 use Rattle.std.proofs.lemmas.Option.{same_Some, none-some}
 use Rattle.tk_events.specs.declared.events.Entry.{Entry}
 use Rattle.tk_columns.specs.Recorded.{Recorded}
-use Rattle.tk_columns.specs.Selections.{PositionedEntry, Selected, positions_of, events_of}
+use Rattle.tk_columns.specs.Selections.{PositionedEntry, Selected, passes, positions_of, events_of}
 use Rattle.tk_conditions.specs.declared.conditions.Condition.{Condition}
 use Rattle.tk_query.specs.Holds.{holds}
 use Rattle.tk_lanes.specs.Flags.{IsNextSet, IsNoneSet}
-use Rattle.tk_query.specs.Asked.{fits, HoldsOfSome}
+use Rattle.tk_query.specs.Asked.{fits, AreLeft, HoldsOfSome}
+use Rattle.tk_query.specs.Keys.{HoldsWithin}
+use Rattle.tk_columns.specs.declared.selections.Rule.{Rule}
 use Rattle.tk_query.specs.Matches.{HoldsAt, IsFirstUnlike, IsFirstNowhere, HoldsSomewhere}
-use Rattle.tk_query.proofs.AskedLemmas.{AreFlags, fits_clear, fits_set, kept_at, map_get}
+use Rattle.tk_query.proofs.AskedLemmas.{AreFlags, asked_set, fits_clear, fits_set, kept_at, map_get}
 use Rattle.tk_query.proofs.MaskLemmas.{and_true}
 
 pub get_some : {A : Type 0} (xs : List A) (k : ℕ) (d : A) → k < length xs → slice_get xs k ≡ Some (get_or xs k d)
@@ -122,3 +124,26 @@ module _ (asked : Selected) (flags : List Bool) (are : AreFlags asked flags) (r 
   pub mask_tells : (o : Option ℕ) (b : Bool) → MatchOption o (IsNoneSet 0 both) (IsNextSet 0 both) → b ≡ is_some o → HoldsOfSome asked c b
   mask_tells None b none is = subst (HoldsOfSome asked c) (sym is) (λ k. clear_fits k (get_or flags k false) refl (none.none k (omega arith)))
   mask_tells (Some at) b next is = subst (HoldsOfSome asked c) (sym is) (at, set_fits at next.set)
+
+-- the candidates that pass a rule, and of them those of the events asked
+module _ (asked : Selected) (flags : List Bool) (are : AreFlags asked flags) (r : Recorded) (same : r ≡ asked.recorded) (c : Condition) (rule : Rule) (within : HoldsWithin rule r c) (candidates both : List Bool)
+    (candidates_are : candidates ≡ map (passes rule r) r.entries) (both_is : both ≡ zip2 ◌&&◌ candidates flags) where
+  left_at : (k : ℕ) → get_or both k false ≡ (get_or (map (passes rule r) r.entries) k false && get_or flags k false)
+  left_at k = ap (λ l. get_or l k false) both_is ∙ zip_get candidates flags k ∙ ap (λ l. get_or l k false && get_or flags k false) candidates_are
+
+  outside : (k : ℕ) → get_or both k false ≡ false → get_or flags k false ≡ true → (o : Option Entry) → slice_get r.entries k ≡ o → MatchOption o (false ≡ false) (λ e. false ≡ holds r c e)
+  outside k clear set None stands = refl
+  outside k clear set (Some e) stands =
+      let fails : passes rule r e ≡ false =
+      and_true (passes rule r e) ∙ ap (λ b. passes rule r e && b) (sym set) ∙ ap (λ b. b && get_or flags k false) (sym (map_get (passes rule r) r.entries k e stands)) ∙ sym (left_at k) ∙ clear in
+      sym (within.within e fails)
+
+  others_fail : (k : ℕ) (b : Bool) → get_or flags k false ≡ b → get_or both k false ≡ false → fits asked c k ≡ false
+  others_fail k true set clear = fits_set asked flags are r same c k false set (outside k clear set (slice_get r.entries k) refl)
+  others_fail k false off clear = fits_clear asked flags are c k off
+
+  pub are_left : AreLeft asked c both
+  are_left = record {
+    there = λ k set. asked_set asked flags are k (and_parts (get_or (map (passes rule r) r.entries) k false) (get_or flags k false) (sym (left_at k) ∙ set)).1;
+    others = λ k clear. others_fail k (get_or flags k false) refl clear;
+  }

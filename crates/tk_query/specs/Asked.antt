@@ -1,5 +1,5 @@
 -- The events that are asked, at their positions in the record.
-use Rattle.std.specs.Prelude.{◌≡◌, ℕ, Bool, true, false, ◌==◌, if◌then◌else◌, List, [], ◌∷◌, Option, Some, None}
+use Rattle.std.specs.Prelude.{◌≡◌, ℕ, Bool, true, false, ◌==◌, if◌then◌else◌, List, [], ◌∷◌, get_or, Option, Some, None, slice_get}
 use Rattle.tk_events.specs.declared.events.Entry.{Entry}
 use Rattle.tk_columns.specs.declared.records.EntryView.{EntryView}
 use Rattle.tk_columns.specs.Selections.{PositionedEntry, Selected}
@@ -24,6 +24,11 @@ fits asked c position = is_there (holds asked.recorded c) (event_at asked.kept p
 abbrev pub HoldsOfSome : Selected → Condition → Bool → Type 0
 HoldsOfSome asked c true = (position : ℕ) × (fits asked c position ≡ true)
 HoldsOfSome asked c false = (position : ℕ) → fits asked c position ≡ false
+
+-- an event asked stands where a flag is set, and where none is set the condition holds of no event asked
+pub record AreLeft (asked : Selected) (c : Condition) (flags : List Bool) : Type 0 where
+  pub there : (position : ℕ) → get_or flags position false ≡ true → event_at asked.kept position ≡ slice_get asked.recorded.entries position
+  pub others : (position : ℕ) → get_or flags position false ≡ false → fits asked c position ≡ false
 
 -- the entry that a view shows
 abbrev pub entry_of : EntryView → Entry

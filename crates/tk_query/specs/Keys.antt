@@ -1,5 +1,6 @@
--- What the keys of a record's entries, and rules, tell of a condition.
+-- What the keys of a record's entries, and rules, say of a condition.
 use Rattle.std.specs.Prelude.{◌≡◌, ℕ, Bool, false, List, get_or, Option, Some, None, slice_get}
+use Rattle.std.specs.List.{list_all}
 use Rattle.tk_events.specs.declared.events.Entry.{Entry}
 use Rattle.tk_columns.specs.Recorded.{Recorded}
 use Rattle.tk_columns.specs.Selections.{passes}
@@ -22,8 +23,8 @@ pub record AreKeys (r : Recorded) (keys : List ℕ) : Type 0 where
   pub keys_are : (position key : ℕ) → slice_get keys position ≡ Some key → IsKeyAt r position key
 
 -- whether the condition holds of the entry at that position, if there is one
-pub record TellsAt (r : Recorded) (c : Condition) (position : ℕ) (b : Bool) : Type 0 where
-  pub tells : (e : Entry) → slice_get r.entries position ≡ Some e → b ≡ holds r c e
+pub record AnswersAt (r : Recorded) (c : Condition) (position : ℕ) (b : Bool) : Type 0 where
+  pub answers_at : (e : Entry) → slice_get r.entries position ≡ Some e → b ≡ holds r c e
 
 -- for some keys, whether the condition holds of the entries of the key
 pub record AreAnswers (r : Recorded) (c : Condition) (answers : List (Option Bool)) : Type 0 where
@@ -32,6 +33,10 @@ pub record AreAnswers (r : Recorded) (c : Condition) (answers : List (Option Boo
 -- the condition holds only of entries that pass the rule
 pub record HoldsWithin (rule : Rule) (r : Recorded) (c : Condition) : Type 0 where
   pub within : (e : Entry) → passes rule r e ≡ false → holds r c e ≡ false
+
+-- all of the conditions hold only of entries that pass the rule
+pub record AllHoldWithin (rule : Rule) (r : Recorded) (cs : List Condition) : Type 0 where
+  pub all_within : (e : Entry) → passes rule r e ≡ false → list_all (λ c. holds r c e) cs ≡ false
 
 -- the condition holds only of entries at whose positions the flag is set
 pub record AreCandidates (r : Recorded) (c : Condition) (flags : List Bool) : Type 0 where

@@ -10,6 +10,7 @@ mod masks;
 mod matching;
 mod open_starts;
 mod pairing;
+mod rules;
 
 pub use answers::{Exact, InOrder, Loose};
 pub use execution_lists::{Ending, Execution, Executions};

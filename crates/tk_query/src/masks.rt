@@ -3,7 +3,7 @@ ghost use Rattle.std.specs.Prelude.{◌≡◌, None, if◌then◌else◌, map, g
 ghost use Rattle.std.specs.List.{list_all, list_any};
 ghost use Rattle.tk_columns.specs.Selections.{filtered_by};
 ghost use Rattle.tk_query.specs.Holds.{holds};
-ghost use Rattle.tk_query.specs.Keys.{AreAnswers, AreCandidates, AreKeys, HoldsWithin, IsKeyAt, IsOfKey, TellsAt};
+ghost use Rattle.tk_query.specs.Keys.{AreAnswers, AreCandidates, AreKeys, HoldsWithin, IsKeyAt, IsOfKey, AnswersAt};
 
 use crate::holding::holds_at;
 use std::alloc::{AllocError, Global};
@@ -67,7 +67,7 @@ fn answer_by_key(
     requires of_key { IsOfKey recording.now condition.now }
     requires keys { AreKeys recording.now keys.now }
     requires before { AreAnswers recording.now condition.now answers.old.items }
-    ensures answer { IfOk result (TellsAt recording.now condition.now position) }
+    ensures answer { IfOk result (AnswersAt recording.now condition.now position) }
     ensures answers { OnOk result (AreAnswers recording.now condition.now answers.new.items) }
 {
     let Some(key) = key_at(recording, keys, position) else {
@@ -114,7 +114,7 @@ fn answer_among(
     position: usize,
 ) -> bool
     requires { AreCandidates recording.now condition.now candidates.now }
-    ensures { TellsAt recording.now condition.now position result }
+    ensures { AnswersAt recording.now condition.now position result }
 {
     candidates.is_set(position) && holds_at(recording, condition, position)
 }

@@ -1,6 +1,6 @@
 //! Matching events with conditions.
 ghost use Rattle.std.specs.Prelude.{◌<◌, ◌^◌, IfOk, OnOk, IfSome, MatchOption};
-ghost use Rattle.tk_query.specs.Asked.{fits, HoldsOfSome};
+ghost use Rattle.tk_query.specs.Asked.{AreLeft, fits, HoldsOfSome};
 ghost use Rattle.tk_query.specs.InOrder.{IsNextFit, HasNoFit};
 ghost use Rattle.tk_query.specs.Keys.{AreKeys};
 ghost use Rattle.tk_query.specs.Matches.{IsExact, IsLoose, IsInOrder};
@@ -8,9 +8,11 @@ ghost use Rattle.tk_query.specs.Matches.{IsExact, IsLoose, IsInOrder};
 use crate::answers::{Exact, InOrder, Loose};
 use crate::holding::holds_at;
 use crate::masks::{keys_of, mask};
+use crate::rules::rule_of;
 use std::alloc::{AllocError, Global};
 use tk_columns::Events;
 use tk_conditions::Condition;
+use tk_lanes::Flags;
 
 /// The first position not below `from` of one of the events of which the condition holds.
 fn next_fit(events: &Events, condition: &Condition, from: usize) -> Option<usize>
@@ -54,7 +56,7 @@ pub fn match_exactly(
 /// holds early is found sooner so.
 const TRIED_FIRST: usize = 1_000;
 
-/// Whether the condition holds of some event, where the first events tell.
+/// Whether the condition holds of some event, where the first events show it.
 fn try_first(events: &Events, condition: &Condition) -> Option<bool>
     ensures { IfSome result (HoldsOfSome events.now condition.now) }
 {
@@ -69,6 +71,45 @@ fn try_first(events: &Events, condition: &Condition) -> Option<bool>
         low = position + 1;
     }
     None
+}
+
+/// How many candidates are asked one by one.
+const MAX_CANDIDATES: usize = 10_000;
+
+/// Whether the condition holds of some event, where it holds only of candidates.
+fn holds_among(events: &Events, candidates: &Flags, condition: &Condition) -> bool
+    requires { AreLeft events.now condition.now candidates.now }
+    ensures { HoldsOfSome events.now condition.now result }
+{
+    let mut low = 0;
+    'candidates: while let Some(position) = candidates.first_from(low) {
+        if holds_at(events.recorded(), condition, position) {
+            return true;
+        }
+        low = position + 1;
+    }
+    false
+}
+
+/// Whether the condition holds of some event, where it implies a rule that few events pass.
+fn try_rule(
+    alloc: Global,
+    events: &Events,
+    condition: &Condition,
+) -> Result<Option<bool>, AllocError>
+    ensures { IfOk result (λ found. IfSome found (HoldsOfSome events.now condition.now)) }
+{
+    let Some(rule) = rule_of(condition) else {
+        return Ok(None);
+    };
+    let recording = events.recorded();
+    prove!(events.flags().len() == recording.len());
+    let mut candidates = recording.flags(alloc, rule)?;
+    candidates.and(events.flags());
+    if MAX_CANDIDATES < candidates.count() {
+        return Ok(None);
+    }
+    Ok(Some(holds_among(events, &candidates, condition)))
 }
 
 /// Whether the condition holds of some event, by its mask.
@@ -101,6 +142,9 @@ fn holds_of_some(
     ensures keys { OnOk result (AreKeys events.now.recorded keys.new.items) }
 {
     if let Some(answer) = try_first(events, condition) {
+        return Ok(answer);
+    }
+    if let Some(answer) = try_rule(alloc, events, condition)? {
         return Ok(answer);
     }
     if keys.is_empty() {

@@ -37,7 +37,7 @@ one_token n tokens there once w is = only (tokens_of w tokens) (there w is) (onc
   only : (k : ℕ) → ¬ (k ≡ 0) → ¬ (1 < k) → k ≡ 1
   only k some few = omega arith
 
--- the row of marks tells which marks were taken
+-- the row of marks says which marks were taken
 pub marks_missing : (n : ℕ) (marked : List Bool) (taken : List Item) → n ≤ most_workers → ((w : ℕ) → w < worker_slots → slice_index_or marked w false ≡ is_marked w taken) → (w : ℕ)
     → Least n (λ v. slice_index_or marked v false ≡ false) w → Least n (λ v. is_marked v taken ≡ false) w
 marks_missing n marked taken few marks w least = record {

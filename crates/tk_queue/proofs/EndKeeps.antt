@@ -271,7 +271,7 @@ pub may_push_registration : (v : PassView) (table : List Descriptor) (worker emi
 may_push_registration v table worker emitted key stamp ids d h is room few =
     may_push v table worker emitted ids (record { kind = Dynamic; key = key; stamp = stamp; payload = Described d }) h (registration_may v table worker emitted key stamp ids d h is few) room
 
--- what `child` tells of the sender's fields
+-- what `child` says of the sender's fields
 pub made_may : (t : TableId) (v : PassView) (table : List Descriptor) (worker emitted : ℕ) (ids : List (List Pair)) (s : SenderView) (parent : ℕ) (segment : Pair) (name : List ℕ) (dtype : DType) (made : List Pair × Descriptor)
     → IsSender v table worker ids emitted → record { session = t; table = table; worker = worker; sent = sent_of v } ≡ s → IsChildMade s parent segment name dtype (Ok made)
     → (emitted < most_events) × (length ids < MAX_DESCRIPTORS) × (made.0 ≡ made.1.id)

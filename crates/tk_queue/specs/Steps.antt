@@ -1,4 +1,4 @@
--- Each step of a session's queue is the core's step, or none. What a step tells of the views is a
+-- Each step of a session's queue is the core's step, or none. What a step says of the views is a
 -- parameter of these laws: `laws.rt` gives them what the queue's rule has.
 use Rattle.std.specs.Prelude.{◌≡◌, ◌↔◌, ℕ, false, List, [], ◌∷◌, ◌++◌, slice_set}
 use mathlib.Core.Option.{some}
@@ -28,14 +28,14 @@ BeginsFresh first = IsStateOf fresh_core [] (first ∷ [])
 
 -- w is the view after a step, and no other view is
 abbrev pub IsOnly : (PassView → Type 0) → PassView → Type 0
-IsOnly tells w = tells w × ((u : PassView) → tells u → u ≡ w)
+IsOnly outcome w = outcome w × ((u : PassView) → outcome u → u ≡ w)
 
 -- a sender's push of an entry is the core's emission, and that of its mark is the core's end
 abbrev pub PushIsStep : (PassView → Item → PassView → Type 0) → Type 0
-PushIsStep tells =
+PushIsStep outcome =
     (c : Core) (items : List Item) (views : List PassView) (pass : ℕ) (v : PassView) (x : Item)
     → IsStateOf c items views → get_elem? views pass ≡ some v → MayPush v x
-    → (w : PassView) × IsOnly (tells v x) w
+    → (w : PassView) × IsOnly (outcome v x) w
     × IsStateOf (push x c) (items ++ x ∷ []) (slice_set views pass w)
 
 -- a push that finds no room changes no view, and is no step
@@ -47,10 +47,10 @@ FullIsNone =
 
 -- the receiver's pop is the core's taking
 abbrev pub TakeIsStep : (PassView → Item → PassView → Type 0) → Type 0
-TakeIsStep tells =
+TakeIsStep outcome =
     (c : Core) (x : Item) (items : List Item) (views : List PassView) (pass : ℕ) (v : PassView)
     → IsStateOf c (x ∷ items) views → get_elem? views pass ≡ some v → IsReader v
-    → (w : PassView) × IsOnly (tells v x) w
+    → (w : PassView) × IsOnly (outcome v x) w
     × IsStateOf (take_first x items c) items (slice_set views pass w)
 
 -- a pop that finds nothing changes no view, and is no step

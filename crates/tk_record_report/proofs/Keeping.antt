@@ -1,68 +1,63 @@
--- The lines that are kept for each id, while labels are added at the end.
-use Rattle.std.proofs.Common.{◌≡◌, ◌≤◌, ◌<◌, ℕ, zero, suc, arith, ◌+◌, Bool, true, false, cond, List, [], ◌∷◌, ◌++◌, map, take, length, Option, Some, None, bytes_eq, refl, sym, ap, ap₂, subst, ◌∙◌, append-nil, nat_cmp, Result, Ok, Err, slice_get}
-use Rattle.std.specs.Prelude.{OnOk}
-use Rattle.std.specs.List.{flat_map}
+-- The lines that are kept for each id, while events are added.
+use Rattle.std.proofs.Common.{◌≡◌, ◌≤◌, ◌<◌, ℕ, zero, suc, arith, Bool, true, false, cond, List, [], ◌∷◌, ◌++◌, map, length, set, get_or, Option, Some, None, bytes_eq, refl, sym, ap, ap₂, subst, ◌∙◌, append-nil, append_assoc, nat_cmp, Result, Ok, Err, slice_get, eq-eqb, length-append, length-set, get_or-set_same, inl, inr, Vec, Global}
+use Rattle.std.specs.Prelude.{OnOk, All, is_some, ◌==◌, if◌then◌else◌, ◌⊎◌}
+use Rattle.std.specs.List.{flat_map, fold}
 use Rattle.std.specs.List.Sorted.{IsStrictlySortedBy}
 use Rattle.std.specs.Option.{unwrap_or}
-use Rattle.std.specs.Ordering.{is_eq, match_ordering}
+use Rattle.std.specs.Ordering.{is_eq, match_ordering, MatchOrdering}
 use Rattle.std.specs.declared.cmp.Ordering.{Ordering}
 use Rattle.std.specs.declared.cmp.Ordering.TheVariants.{Less, Equal, Greater}
 use Rattle.std.specs.Cmp.Lexicographic.{slice_cmp, nat_list_cmp_total, texts_ties, bytes_decides}
 use Rattle.std.specs.Map.{lookup, keys_of}
 use Rattle.std.specs.BTreeMap.{BTreeMap, insert_entry, is_at}
 use Rattle.std.specs.BTreeSet.{insert_key}
-use Rattle.std.proofs.lemmas.List.Elements.{filter-append}
-use Rattle.std.proofs.lemmas.List.{map-append, take_all}
-use Rattle.std.proofs.lemmas.List.Concat.{flat_map-append}
-use Rattle.std.proofs.lemmas.List.Sums.{fold-append}
-use Rattle.std.proofs.lemmas.Option.{none-some}
+use Rattle.std.proofs.lemmas.Bool.{true≢false}
+use Rattle.std.proofs.lemmas.Option.{none-some, same_Some}
 use Rattle.std.proofs.lemmas.Map.{lookup-none}
 use Rattle.std.proofs.lemmas.Map.Entries.{none_below_head, btree_map_get_place}
 use Rattle.std.proofs.lemmas.Map.Keys.{sorted_tail}
+use Rattle.std.proofs.lemmas.Cmp.{ranked}
+use Rattle.std.proofs.lemmas.List.Elements.{All-nil, All-cons, All-head, All-rest}
+use Rattle.std.proofs.lemmas.List.{get_or-set_other}
 use Rattle.tk_ids.specs.IdText.{id_text}
-use Rattle.tk_ids.specs.declared.tables.Descriptor.{Descriptor}
-use Rattle.tk_events.specs.declared.kinds.Kind.{Kind}
-use Rattle.tk_events.specs.declared.payloads.Payload.{Payload}
 use Rattle.tk_events.specs.declared.events.Entry.{Entry}
 use Rattle.tk_columns.specs.declared.records.EntryView.{EntryView}
 use Rattle.tk_columns.specs.Recorded.{Recorded}
 use Rattle.tk_columns.specs.Entries.{desc}
-use Rattle.tk_columns.specs.Record.{IsViewOf}
+use Rattle.tk_columns.specs.Record.{entry_of_view}
 use Rattle.tk_record.specs.Spelling.{joined, tail}
-use Rattle.tk_record.proofs.WritingLemmas.{taken_more}
-use Rattle.tk_record_report.specs.Labels.{Label, events, id_in, label, labels, name}
+use Rattle.tk_record_report.specs.declared.grouping.LinesById.{LinesById}
+use Rattle.tk_record_report.specs.Labels.{Label, events, label, labels, name}
 use Rattle.tk_record_report.specs.Reports.{id_texts, label_line, written_so}
-use Rattle.tk_record_report.specs.Kept.{lines_at, lines_of, tail_line}
-
-pub entry_at : (es : List Entry) (i : ℕ) → i < length es → (e : Entry) × (slice_get es i ≡ Some e)
-entry_at [] i lt = absurd (omega arith)
-entry_at (e ∷ es) zero lt = (e, refl)
-entry_at (e ∷ es) (suc i) lt = entry_at es i (omega arith)
+use Rattle.tk_record_report.specs.Kept.{entries_of, index_in, lines_at, lines_in, lines_of, tail_line, text_of, IsGrouped, IndexesId, IndexesKey, AddsEvent}
 
 abbrev order : List ℕ → List ℕ → Ordering
 order = slice_cmp nat_cmp
 
-abbrev pub Kept : Type 0
-Kept = BTreeMap (List ℕ) (List ℕ)
-
 abbrev pub Entries : Type 0
 Entries = List (List ℕ × List ℕ)
 
-put_by : (o : Ordering) (k v : List ℕ) (e : List ℕ × List ℕ) (es more : Entries) (ks : List (List ℕ)) → keys_of more ≡ ks
+pub on_ok : {T E A B : Type 0} (r : Result T E) → (A → B) → OnOk r A → OnOk r B
+on_ok (Ok x) f a = f a
+on_ok (Err e) f a = tt
+
+-- ---- keys in order
+
+put_by : {X : Type 0} (o : Ordering) (k : List ℕ) (v : X) (e : List ℕ × X) (es more : List (List ℕ × X)) (ks : List (List ℕ)) → keys_of more ≡ ks
     → keys_of (match_ordering o ((k, v) ∷ e ∷ es) ((e.0, v) ∷ es) (e ∷ more)) ≡ match_ordering o (k ∷ e.0 ∷ keys_of es) (e.0 ∷ keys_of es) (e.0 ∷ ks)
 put_by Less k v e es more ks h = refl
 put_by Equal k v e es more ks h = refl
 put_by Greater k v e es more ks h = ap (λ (l : List (List ℕ)). e.0 ∷ l) h
 
 -- the keys after an entry was put
-pub keys_put : (es : Entries) (k v : List ℕ) → keys_of (insert_entry order es k v) ≡ insert_key order (keys_of es) k
+keys_put : {X : Type 0} (es : List (List ℕ × X)) (k : List ℕ) (v : X) → keys_of (insert_entry order es k v) ≡ insert_key order (keys_of es) k
 keys_put [] k v = refl
 keys_put (e ∷ es) k v = put_by (order k e.0) k v e es (insert_entry order es k v) _ (keys_put es k v)
 
 -- a key that is there is put nowhere
-pub key_known : (es : Entries) (k : List ℕ) (v : List ℕ) → IsStrictlySortedBy order (keys_of es) → lookup (is_at (order k)) es ≡ Some v → insert_key order (keys_of es) k ≡ keys_of es
+key_known : {X : Type 0} (es : List (List ℕ × X)) (k : List ℕ) (v : X) → IsStrictlySortedBy order (keys_of es) → lookup (is_at (order k)) es ≡ Some v → insert_key order (keys_of es) k ≡ keys_of es
 key_known [] k v sorted there = absurd (none-some v there)
-key_known (e ∷ es) k v sorted there = by (order k e.0) refl there (λ h. key_known es k v (sorted_tail order e.0 (keys_of es) sorted) h)
+key_known {X} (e ∷ es) k v sorted there = by (order k e.0) refl there (λ h. key_known es k v (sorted_tail order e.0 (keys_of es) sorted) h)
   where
     by : (o : Ordering) → order k e.0 ≡ o → cond (is_eq o) (Some e.1) (lookup (is_at (order k)) es) ≡ Some v → (lookup (is_at (order k)) es ≡ Some v → insert_key order (keys_of es) k ≡ keys_of es)
         → match_ordering o (k ∷ e.0 ∷ keys_of es) (e.0 ∷ keys_of es) (e.0 ∷ insert_key order (keys_of es) k) ≡ e.0 ∷ keys_of es
@@ -70,105 +65,277 @@ key_known (e ∷ es) k v sorted there = by (order k e.0) refl there (λ h. key_k
     by Equal c h rest = refl
     by Greater c h rest = ap (λ (l : List (List ℕ)). e.0 ∷ l) (rest h)
 
-added_by : (k x w t : List ℕ) (b : Bool) (old : Entries) → bytes_eq k x ≡ b → w ≡ lines_at old k ++ t
-    → unwrap_or (cond b (Some w) (lookup (is_at (order x)) old)) [] ≡ cond b (lines_at old x ++ t) (lines_at old x)
-added_by k x w t true old e is = is ∙ ap (λ (y : List ℕ). lines_at old y ++ t) ((bytes_decides k x).0 e)
-added_by k x w t false old e is = refl
+same_text : (x y : List ℕ) → is_at (order x) y ≡ true → x ≡ y
+same_text x y at = (bytes_decides x y).0 (texts_ties x y ∙ at)
 
--- the lines after those of one key grew
-pub lines_added : (old new : Entries) (k w t : List ℕ) → ((x : List ℕ) → lookup (is_at (order x)) new ≡ cond (is_at (order k) x) (Some w) (lookup (is_at (order x)) old))
-    → w ≡ lines_at old k ++ t → (x : List ℕ) → lines_at new x ≡ cond (bytes_eq k x) (lines_at old x ++ t) (lines_at old x)
-lines_added old new k w t found is x =
-    ap (λ (o : Option (List ℕ)). unwrap_or o []) (found x ∙ ap (λ (b : Bool). cond b (Some w) (lookup (is_at (order x)) old)) (sym (texts_ties k x)))
-    ∙ added_by k x w t (bytes_eq k x) old refl is
+is_itself : (x : List ℕ) → is_at (order x) x ≡ true
+is_itself x = sym (texts_ties x x) ∙ (bytes_decides x x).1 refl
 
--- a new id got its first line
-pub first_keys : (old at new : Kept) (k id v : List ℕ) → at ≡ old → k ≡ id → new.entries ≡ insert_entry order at.entries k v → keys_of new.entries ≡ insert_key order (keys_of old.entries) id
-first_keys old at new k id v same is put = ap keys_of put ∙ keys_put at.entries k v ∙ ap₂ (λ (m : Kept) (x : List ℕ). insert_key order (keys_of m.entries) x) same is
+-- ---- an index for an id
 
-pub first_lines : (old at new : Kept) (k id none w t : List ℕ) → at ≡ old → k ≡ id → None ≡ lookup (is_at (order id)) old.entries → none ≡ [] → w ≡ none ++ t
-    → ((x : List ℕ) → lookup (is_at (order x)) new.entries ≡ cond (is_at (order k) x) (Some w) (lookup (is_at (order x)) at.entries))
-    → (x : List ℕ) → lines_at new.entries x ≡ cond (bytes_eq id x) (lines_at old.entries x ++ t) (lines_at old.entries x)
-first_lines old at new k id none w t same is missed empty w_is found =
-    lines_added old.entries new.entries id w t
-    (λ x. found x ∙ ap₂ (λ (m : Kept) (y : List ℕ). cond (is_at (order y) x) (Some w) (lookup (is_at (order x)) m.entries)) same is)
-    (w_is ∙ ap (λ (l : List ℕ). l ++ t) empty ∙ ap (λ (o : Option (List ℕ)). unwrap_or o [] ++ t) missed)
+-- the filler at the end changes no element
+get_or_more : {X : Type 0} (xs : List X) (d : X) (k : ℕ) → get_or (xs ++ d ∷ []) k d ≡ get_or xs k d
+get_or_more [] d zero = refl
+get_or_more [] d (suc k) = refl
+get_or_more (x ∷ xs) d zero = refl
+get_or_more (x ∷ xs) d (suc k) = get_or_more xs d k
 
--- the lines of an id that has some got one more
-pub next_lines : (old new : Kept) (id before w t : List ℕ) → Some before ≡ lookup (is_at (order id)) old.entries → w ≡ before ++ t
-    → ((x : List ℕ) → lookup (is_at (order x)) new.entries ≡ cond (is_at (order id) x) (Some w) (lookup (is_at (order x)) old.entries))
-    → (x : List ℕ) → lines_at new.entries x ≡ cond (bytes_eq id x) (lines_at old.entries x ++ t) (lines_at old.entries x)
-next_lines old new id before w t there w_is found =
-    lines_added old.entries new.entries id w t found (w_is ∙ ap (λ (o : Option (List ℕ)). unwrap_or o [] ++ t) there)
+past_end : {X : Type 0} (xs : List X) (d : X) → get_or xs (length xs) d ≡ d
+past_end [] d = refl
+past_end (x ∷ xs) d = past_end xs d
 
-pub on_ok : {T E A B : Type 0} (r : Result T E) → (A → B) → OnOk r A → OnOk r B
-on_ok (Ok x) f a = f a
-on_ok (Err e) f a = tt
+more_same : (xs : List (List ℕ)) (b : Bool) (k : ℕ) → get_or (if b then xs ++ [] ∷ [] else xs) k [] ≡ get_or xs k []
+more_same xs true k = get_or_more xs [] k
+more_same xs false k = refl
 
--- for each id among the labels its lines are kept, and nothing else
-pub record Keeps (kept : Kept) (ls : List Label) : Type 0 where
-  pub keys : keys_of kept.entries ≡ id_texts ls
-  pub lines : (x : List ℕ) → lines_at kept.entries x ≡ flat_map label_line (written_so x ls)
-  pub ordered : IsStrictlySortedBy order (keys_of kept.entries)
+more_longer : (xs : List (List ℕ)) (b : Bool) → length xs ≤ length (if b then xs ++ [] ∷ [] else xs)
+more_longer xs true = omega (arith, length-append xs ([] ∷ []))
+more_longer xs false = omega arith
 
-one_more : (b : Bool) (before : List ℕ) (l : Label) → before ++ flat_map label_line (cond b (l ∷ []) []) ≡ cond b (before ++ label_line l) before
-one_more true before l = ap (λ (t : List ℕ). before ++ t) (append-nil (label_line l))
-one_more false before l = append-nil before
+module _ (old new : LinesById) (id : List ℕ) (i : ℕ) (h : IndexesId old new id i) where
+  -- the id had the index, or gets the next one
+  abbrev HadOrGets : Type 0
+  HadOrGets = (index_in old id ≡ Some i) ⊎ ((index_in old id ≡ None) × (i ≡ length old.lines.items))
 
--- the lines of an id, with a label more
-lines_more : (ls : List Label) (l : Label) (x : List ℕ) → flat_map label_line (written_so x (ls ++ l ∷ []))
-    ≡ cond (bytes_eq (id_text l.id) x) (flat_map label_line (written_so x ls) ++ label_line l) (flat_map label_line (written_so x ls))
-lines_more ls l x =
-    ap (flat_map label_line) (filter-append (λ (y : Label). bytes_eq (id_text y.id) x) ls (l ∷ []))
-    ∙ flat_map-append label_line (written_so x ls) (written_so x (l ∷ []))
-    ∙ one_more (bytes_eq (id_text l.id) x) (flat_map label_line (written_so x ls)) l
+  had_or_gets : HadOrGets
+  had_or_gets = by (index_in old id) refl
+    where
+      by : (o : Option ℕ) → index_in old id ≡ o → HadOrGets
+      by None e = inr (e, h.index ∙ ap (λ o. unwrap_or o (length old.lines.items)) e)
+      by (Some k) e = inl (e ∙ ap Some (sym (h.index ∙ ap (λ o. unwrap_or o (length old.lines.items)) e)))
 
-pub keeps_next : (old new : Kept) (ls : List Label) (l : Label) → Keeps old ls
-    → keys_of new.entries ≡ insert_key order (keys_of old.entries) (id_text l.id)
-    → ((x : List ℕ) → lines_at new.entries x ≡ cond (bytes_eq (id_text l.id) x) (lines_at old.entries x ++ label_line l) (lines_at old.entries x))
-    → IsStrictlySortedBy order (keys_of new.entries) → Keeps new (ls ++ l ∷ [])
-keeps_next old new ls l g put added sorted = record {
-  keys = put ∙ ap (λ (ks : List (List ℕ)). insert_key order ks (id_text l.id)) g.keys ∙ sym (fold-append (λ (texts : List (List ℕ)) (y : Label). insert_key order texts (id_text y.id)) [] ls (l ∷ []));
-  lines = λ x. added x ∙ ap (λ (t : List ℕ). cond (bytes_eq (id_text l.id) x) (t ++ label_line l) t) (g.lines x) ∙ sym (lines_more ls l x);
-  ordered = sorted;
+  index_at : (x : List ℕ) (b : Bool) → is_at (order id) x ≡ b → index_in new x ≡ cond b (Some i) (index_in old x)
+  index_at x b e = h.found x ∙ ap (λ t. cond t (Some i) (index_in old x)) e
+
+  -- the id itself has the index
+  index_here : index_in new id ≡ Some i
+  index_here = index_at id true (is_itself id)
+
+  -- an id that had an index keeps it
+  index_stays : (x : List ℕ) (j : ℕ) → index_in old x ≡ Some j → index_in new x ≡ Some j
+  index_stays x j at = by (is_at (order id) x) refl
+    where
+      by : (b : Bool) → is_at (order id) x ≡ b → index_in new x ≡ Some j
+      by true e = index_at x true e ∙ ap Some (h.index ∙ ap (λ o. unwrap_or o (length old.lines.items)) (ap (index_in old) (same_text id x e) ∙ at))
+      by false e = index_at x false e ∙ at
+
+  -- no id got a line
+  lines_stay : (x : List ℕ) → lines_in new x ≡ lines_in old x
+  lines_stay x = at_same (index_in new x) ∙ by (is_at (order id) x) refl had_or_gets
+    where
+      at_same : (o : Option ℕ) → lines_at new.lines.items o ≡ lines_at old.lines.items o
+      at_same None = refl
+      at_same (Some k) = ap (λ (ls : List (List ℕ)). get_or ls k []) h.lines ∙ more_same old.lines.items (i == length old.lines.items) k
+
+      by : (b : Bool) → is_at (order id) x ≡ b → HadOrGets → lines_at old.lines.items (index_in new x) ≡ lines_in old x
+      by true e (inl had) = ap (lines_at old.lines.items) (index_at x true e ∙ sym had ∙ ap (index_in old) (same_text id x e))
+      by true e (inr gets) =
+          ap (lines_at old.lines.items) (index_at x true e) ∙ ap (λ k. get_or old.lines.items k []) gets.1 ∙ past_end old.lines.items []
+          ∙ ap (lines_at old.lines.items) (sym gets.0 ∙ ap (index_in old) (same_text id x e))
+      by false e is = ap (lines_at old.lines.items) (index_at x false e)
+
+  module _ (r : Recorded) (g : IsGrouped r old) where
+    longer : length old.lines.items ≤ length new.lines.items
+    longer = subst (λ (ls : List (List ℕ)). length old.lines.items ≤ length ls) (sym h.lines) (more_longer old.lines.items (i == length old.lines.items))
+
+    index_below : HadOrGets → i < length new.lines.items
+    index_below (inl had) = omega (arith, g.below id i had, longer)
+    index_below (inr gets) =
+        let is : new.lines.items ≡ old.lines.items ++ [] ∷ [] = h.lines ∙ ap (λ (b : Bool). if b then old.lines.items ++ [] ∷ [] else old.lines.items) (eq-eqb i (length old.lines.items) gets.1) in
+        omega (arith, gets.1, ap length is, length-append old.lines.items ([] ∷ []))
+
+    -- an id that had the index is the id
+    is_the_id : (y : List ℕ) → index_in old y ≡ Some i → id ≡ y
+    is_the_id y at = by had_or_gets
+      where
+        by : HadOrGets → id ≡ y
+        by (inl had) = g.apart id y i had at
+        by (inr gets) = absurd (omega (arith, gets.1, g.below y i at))
+
+    below_next : (x : List ℕ) (j : ℕ) → index_in new x ≡ Some j → j < length new.lines.items
+    below_next x j at = by (is_at (order id) x) refl
+      where
+        by : (b : Bool) → is_at (order id) x ≡ b → j < length new.lines.items
+        by true e = subst (λ k. k < length new.lines.items) (same_Some i j (sym (index_at x true e) ∙ at)) (index_below had_or_gets)
+        by false e = omega (arith, g.below x j (sym (index_at x false e) ∙ at), longer)
+
+    apart_next : (x y : List ℕ) (j : ℕ) → index_in new x ≡ Some j → index_in new y ≡ Some j → x ≡ y
+    apart_next x y j at_x at_y = by (is_at (order id) x) (is_at (order id) y) refl refl
+      where
+        the_id : (x y : List ℕ) → is_at (order id) x ≡ true → is_at (order id) y ≡ false → index_in new x ≡ Some j → index_in new y ≡ Some j → x ≡ y
+        the_id x y e f at_x at_y = sym (same_text id x e) ∙ is_the_id y (sym (index_at y false f) ∙ at_y ∙ sym at_x ∙ index_at x true e)
+
+        by : (a b : Bool) → is_at (order id) x ≡ a → is_at (order id) y ≡ b → x ≡ y
+        by true true e f = sym (same_text id x e) ∙ same_text id y f
+        by true false e f = the_id x y e f at_x at_y
+        by false true e f = sym (the_id y x f e at_y at_x)
+        by false false e f = g.apart x y j (sym (index_at x false e) ∙ at_x) (sym (index_at y false f) ∙ at_y)
+
+-- ---- an index for a key
+
+same_key : (x y : ℕ) → is_at (nat_cmp x) y ≡ true → x ≡ y
+same_key x y at = by (nat_cmp x y) (ranked x y (nat_cmp x y) refl) at
+  where
+    by : (o : Ordering) → MatchOrdering o (x < y) (x ≡ y) (y < x) → is_eq o ≡ true → x ≡ y
+    by Less h at = absurd (true≢false (sym at))
+    by Equal h at = h
+    by Greater h at = absurd (true≢false (sym at))
+
+-- a key that has an event has its index already
+pub key_there : (r : Recorded) (kept : LinesById) (key i : ℕ) → IsGrouped r kept → lookup (is_at (nat_cmp key)) kept.keys.entries ≡ Some i → IndexesKey r kept kept key i
+key_there r kept key i g at = record {
+  grouped = g;
+  ids = sym (key_known kept.ids.entries (text_of r key) i g.ordered (g.keys key i at));
+  index = g.keys key i at;
+  lines = λ x. refl;
 }
 
--- the labels of the first entries
-abbrev pub labels_to : Recorded → ℕ → List Label
-labels_to r n = map (label (name r)) (events (take n r.entries))
+-- another key got the index of its id
+pub key_added : (r : Recorded) (old new : LinesById) (keys : BTreeMap ℕ ℕ) (key i : ℕ) (id : List ℕ) → IsGrouped r old → IndexesId old new id i → id ≡ text_of r key
+    → ((q : ℕ) → lookup (is_at (nat_cmp q)) keys.entries ≡ cond (is_at (nat_cmp key) q) (Some i) (lookup (is_at (nat_cmp q)) new.keys.entries))
+    → IndexesKey r old (record { lines = new.lines; ids = new.ids; keys = keys }) key i
+key_added r old new keys key i id g h is found = record {
+  grouped = record {
+    below = below_next old new id i h r g;
+    apart = apart_next old new id i h r g;
+    keys = λ q j at. by q j at (is_at (nat_cmp key) q) refl;
+    ordered = h.ordered;
+  };
+  ids = ap keys_of h.ids ∙ keys_put old.ids.entries id i ∙ ap (insert_key order (keys_of old.ids.entries)) is;
+  index = here;
+  lines = lines_stay old new id i h;
+}
+  where
+    here : index_in new (text_of r key) ≡ Some i
+    here = ap (index_in new) (sym is) ∙ index_here old new id i h
 
-labels_more : (r : Recorded) (i : ℕ) (e : Entry) → slice_get r.entries i ≡ Some e → labels_to r (i + 1) ≡ labels_to r i ++ label (name r) e.event ∷ []
-labels_more r i e at =
-    ap (λ (es : List Entry). map (label (name r)) (events es)) (taken_more r.entries i e at)
-    ∙ ap (map (label (name r))) (map-append (λ (y : Entry). y.event) (take i r.entries) (e ∷ []))
-    ∙ map-append (label (name r)) (events (take i r.entries)) (e.event ∷ [])
+    by : (q j : ℕ) → lookup (is_at (nat_cmp q)) keys.entries ≡ Some j → (b : Bool) → is_at (nat_cmp key) q ≡ b → index_in new (text_of r q) ≡ Some j
+    by q j at true e =
+        let given : Some i ≡ Some j = sym (found q ∙ ap (λ (t : Bool). cond t (Some i) (lookup (is_at (nat_cmp q)) new.keys.entries)) e) ∙ at in
+        ap (λ k. index_in new (text_of r k)) (sym (same_key key q e)) ∙ here ∙ given
+    by q j at false e =
+        let given : lookup (is_at (nat_cmp q)) new.keys.entries ≡ Some j = sym (found q ∙ ap (λ (t : Bool). cond t (Some i) (lookup (is_at (nat_cmp q)) new.keys.entries)) e) ∙ at in
+        index_stays old new id i h (text_of r q) j (g.keys q j (ap (λ (es : List (ℕ × ℕ)). lookup (is_at (nat_cmp q)) es) (sym h.keys) ∙ given))
 
--- an entry's line was added to those of its id
-pub keeps_entry : (old new : Kept) (r : Recorded) (i : ℕ) (e : Entry) (v : EntryView) (d : Descriptor) (id t : List ℕ)
-    → slice_get r.entries i ≡ Some e → IsViewOf v e → Some d ≡ desc r v.key → id ≡ id_text d.id → t ≡ joined (tail v.kind v.payload.now)
-    → Keeps old (labels_to r i) → keys_of new.entries ≡ insert_key order (keys_of old.entries) id
-    → ((x : List ℕ) → lines_at new.entries x ≡ cond (bytes_eq id x) (lines_at old.entries x ++ tail_line t) (lines_at old.entries x))
-    → IsStrictlySortedBy order (keys_of new.entries) → Keeps new (labels_to r (i + 1))
-keeps_entry old new r i e v d id t at shown described id_is t_is g put added sorted =
-    let l : Label = label (name r) e.event in
-    let named : id ≡ id_text l.id = id_is ∙ ap (λ (o : Option Descriptor). id_text (id_in o)) (described ∙ ap (desc r) shown.key) in
-    let stated : tail_line t ≡ label_line l = ap tail_line (t_is ∙ ap₂ (λ (k : Kind) (p : Payload). joined (tail k p)) shown.kind shown.payload) in
-    subst (Keeps new) (sym (labels_more r i e at))
-    (keeps_next old new (labels_to r i) l g (put ∙ ap (insert_key order (keys_of old.entries)) named)
-    (λ x. added x ∙ ap₂ (λ (y z : List ℕ). cond (bytes_eq y x) (lines_at old.entries x ++ z) (lines_at old.entries x)) named stated) sorted)
+-- ---- a line for an event
 
--- entries whose values a function gives
-own_values : (es : Entries) (f : List ℕ → List ℕ) → ((i : ℕ) (k v : List ℕ) → slice_get es i ≡ Some (k, v) → v ≡ f k) → es ≡ map (λ x. (x, f x)) (keys_of es)
-own_values [] f h = refl
-own_values (e ∷ es) f h = ap₂ (λ (v : List ℕ) (l : Entries). (e.0, v) ∷ l) (h 0 e.0 e.1 refl) (own_values es f (λ i k v at. h (suc i) k v at))
+-- the line of an event was added to those at the index of its key
+pub line_added : (r : Recorded) (old new : LinesById) (lines : Vec (List ℕ) Global) (v : EntryView) (i : ℕ) (t w : List ℕ) → IndexesKey r old new v.key i → t ≡ joined (tail v.kind v.payload.now)
+    → w ≡ get_or new.lines.items i [] ++ tail_line t → lines.items ≡ set new.lines.items i w → AddsEvent r old (record { lines = lines; ids = new.ids; keys = new.keys }) v
+line_added r old new lines v i t w h t_is w_is put = record {
+  grouped = record {
+    below = λ x j at. subst (λ n. j < n) (sym (ap length put ∙ length-set new.lines.items i w)) (h.grouped.below x j at);
+    apart = h.grouped.apart;
+    keys = h.grouped.keys;
+    ordered = h.grouped.ordered;
+  };
+  ids = h.ids;
+  lines = λ x. by x (bytes_eq (text_of r v.key) x) refl;
+}
+  where
+    line : List ℕ
+    line = tail_line (joined (tail v.kind v.payload.now))
+
+    others : (x : List ℕ) → bytes_eq (text_of r v.key) x ≡ false → (o : Option ℕ) → index_in new x ≡ o → lines_at lines.items o ≡ lines_at new.lines.items o
+    others x e None at = refl
+    others x e (Some j) at =
+        ap (λ (ls : List (List ℕ)). get_or ls j []) put
+        ∙ get_or-set_other new.lines.items i j w []
+        (λ same. true≢false (sym ((bytes_decides (text_of r v.key) x).1 (h.grouped.apart (text_of r v.key) x j (h.index ∙ ap Some (sym same)) at)) ∙ e))
+
+    by : (x : List ℕ) (b : Bool) → bytes_eq (text_of r v.key) x ≡ b → lines_at lines.items (index_in new x) ≡ cond b (lines_in old x ++ line) (lines_in old x)
+    by x true e =
+        let at : index_in new x ≡ Some i = ap (index_in new) (sym ((bytes_decides (text_of r v.key) x).0 e)) ∙ h.index in
+        ap (lines_at lines.items) at ∙ ap (λ (ls : List (List ℕ)). get_or ls i []) put ∙ get_or-set_same new.lines.items i w [] (h.grouped.below x i at) ∙ w_is
+        ∙ ap₂ (λ (a b : List ℕ). a ++ tail_line b) (sym (ap (lines_at new.lines.items) at) ∙ h.lines x) t_is
+    by x false e = others x e (index_in new x) refl ∙ h.lines x
+
+-- ---- event after event
+
+abbrev labels_of : Recorded → List Entry → List Label
+labels_of r es = map (label (name r)) (events es)
+
+abbrev put_id : List (List ℕ) → Label → List (List ℕ)
+put_id texts l = insert_key order texts (id_text l.id)
+
+-- what is kept, with the entries to come, gives what the record says
+pub record Gathers (r : Recorded) (kept : LinesById) (left : List Entry) : Type 0 where
+  pub grouped : IsGrouped r kept
+  pub known : All (λ e. is_some (desc r e.event.key) ≡ true) left
+  pub ids : fold put_id (keys_of kept.ids.entries) (labels_of r left) ≡ id_texts (labels r)
+  pub lines : (x : List ℕ) → lines_in kept x ++ flat_map label_line (written_so x (labels_of r left)) ≡ flat_map label_line (written_so x (labels r))
+
+-- nothing is kept before the first entry
+sorted_none : IsStrictlySortedBy order []
+unfolding IsStrictlySortedBy
+sorted_none = tt
+
+pub gathers_none : (r : Recorded) (kept : LinesById) (left : List Entry) → kept.ids.entries ≡ [] → kept.keys.entries ≡ [] → left ≡ r.entries
+    → All (λ e. is_some (desc r e.event.key) ≡ true) r.entries → Gathers r kept left
+gathers_none r kept left ids keys whole known = record {
+  grouped = record {
+    below = λ x j at. absurd (none-some j (sym (none x) ∙ at));
+    apart = λ x y j at _. absurd (none-some j (sym (none x) ∙ at));
+    keys = λ q j at. absurd (none-some j (sym (ap (lookup (is_at (nat_cmp q))) keys) ∙ at));
+    ordered = subst (λ (es : List (List ℕ × ℕ)). IsStrictlySortedBy order (keys_of es)) (sym ids) sorted_none;
+  };
+  known = subst (All (λ (e : Entry). is_some (desc r e.event.key) ≡ true)) (sym whole) known;
+  ids = ap₂ (λ (ks : List (List ℕ)) (es : List Entry). fold put_id ks (labels_of r es)) (ap keys_of ids) whole;
+  lines = λ x. ap₂ (λ o (es : List Entry). lines_at kept.lines.items o ++ flat_map label_line (written_so x (labels_of r es))) (none x) whole;
+}
+  where
+    none : (x : List ℕ) → index_in kept x ≡ None
+    none x = ap (lookup (is_at (order x))) ids
+
+-- the first entry to come was added
+pub gathers_next : (r : Recorded) (old new : LinesById) (left rest : List Entry) (v : EntryView) → Gathers r old left → left ≡ entry_of_view v ∷ rest → AddsEvent r old new v → Gathers r new rest
+gathers_next r old new left rest v g first h = record {
+  grouped = h.grouped;
+  known = All-rest (λ (e : Entry). is_some (desc r e.event.key) ≡ true) (entry_of_view v) rest left first g.known;
+  ids = ap (λ (ks : List (List ℕ)). fold put_id ks (labels_of r rest)) h.ids ∙ ap (λ (es : List Entry). fold put_id (keys_of old.ids.entries) (labels_of r es)) (sym first) ∙ g.ids;
+  lines = λ x. ap (λ (t : List ℕ). t ++ flat_map label_line (written_so x (labels_of r rest))) (h.lines x) ∙ by x (bytes_eq (text_of r v.key) x) refl
+      ∙ ap (λ (es : List Entry). lines_in old x ++ flat_map label_line (written_so x (labels_of r es))) (sym first) ∙ g.lines x;
+}
+  where
+    l : Label
+    l = label (name r) (entry_of_view v).event
+
+    by : (x : List ℕ) (b : Bool) → bytes_eq (text_of r v.key) x ≡ b → cond b (lines_in old x ++ label_line l) (lines_in old x) ++ flat_map label_line (written_so x (labels_of r rest))
+        ≡ lines_in old x ++ flat_map label_line (cond b (l ∷ written_so x (labels_of r rest)) (written_so x (labels_of r rest)))
+    by x true e = append_assoc (lines_in old x) (label_line l) (flat_map label_line (written_so x (labels_of r rest)))
+    by x false e = refl
+
+-- the key of the first entry to come has a descriptor
+pub next_known : (r : Recorded) (kept : LinesById) (left rest : List Entry) (v : EntryView) → Gathers r kept left → left ≡ entry_of_view v ∷ rest → is_some (desc r v.key) ≡ true
+next_known r kept left rest v g first =
+    All-head (λ (e : Entry). is_some (desc r e.event.key) ≡ true) (entry_of_view v) rest (subst (All (λ (e : Entry). is_some (desc r e.event.key) ≡ true)) first g.known)
+
+-- ---- the whole
+
+-- entries whose lines a function gives
+own_values : (es : List (List ℕ × ℕ)) (f : List ℕ → List ℕ) (at : ℕ → List ℕ) → ((j : ℕ) (x : List ℕ) (i : ℕ) → slice_get es j ≡ Some (x, i) → at i ≡ f x)
+    → map {B = List ℕ × List ℕ} (λ e. (e.0, at e.1)) es ≡ map {B = List ℕ × List ℕ} (λ x. (x, f x)) (keys_of es)
+own_values [] f at h = refl
+own_values (e ∷ es) f at h = ap₂ (λ (v : List ℕ) (l : Entries). (e.0, v) ∷ l) (h 0 e.0 e.1 refl) (own_values es f at (λ j x i is. h (suc j) x i is))
+
+index_of_entry : (r : Recorded) (kept : LinesById) → IsGrouped r kept → (j : ℕ) (x : List ℕ) (i : ℕ) → slice_get kept.ids.entries j ≡ Some (x, i) → index_in kept x ≡ Some i
+index_of_entry r kept g j x i at = btree_map_get_place nat_list_cmp_total kept.ids j x i g.ordered at
 
 -- all that is kept
-pub keeps_all : (kept : Kept) (ls : List Label) → Keeps kept ls → kept.entries ≡ lines_of ls
-keeps_all kept ls g =
-    own_values kept.entries (λ x. flat_map label_line (written_so x ls))
-    (λ i k v at. sym (ap (λ (o : Option (List ℕ)). unwrap_or o []) (btree_map_get_place nat_list_cmp_total kept i k v g.ordered at)) ∙ g.lines k)
-    ∙ ap (map (λ x. (x, flat_map label_line (written_so x ls)))) g.keys
+pub gathers_all : (r : Recorded) (kept : LinesById) (left : List Entry) → Gathers r kept left → left ≡ [] → entries_of kept ≡ lines_of (labels r)
+gathers_all r kept left g done =
+    own_values kept.ids.entries said (λ i. get_or kept.lines.items i [])
+    (λ j x i at. sym (ap (lines_at kept.lines.items) (index_of_entry r kept g.grouped j x i at)) ∙ sym (append-nil (lines_in kept x))
+    ∙ ap (λ (es : List Entry). lines_in kept x ++ flat_map label_line (written_so x (labels_of r es))) (sym done) ∙ g.lines x)
+    ∙ ap (map {B = List ℕ × List ℕ} (λ x. (x, said x))) (ap (λ (es : List Entry). fold put_id (keys_of kept.ids.entries) (labels_of r es)) (sym done) ∙ g.ids)
+  where
+    said : List ℕ → List ℕ
+    said x = flat_map label_line (written_so x (labels r))
 
--- all entries were gone through
-pub labels_all : (r : Recorded) (n : ℕ) → length r.entries ≤ n → labels_to r n ≡ labels r
-labels_all r n le = ap (λ (es : List Entry). map (label (name r)) (events es)) (take_all n r.entries le)
+all_from_places : {X : Type 0} (P : X → Type 0) (es : List X) → ((j : ℕ) (e : X) → slice_get es j ≡ Some e → P e) → All P es
+all_from_places P [] h = All-nil P
+all_from_places P (e ∷ es) h = All-cons P e es (h 0 e refl) (all_from_places P es (λ j x at. h (suc j) x at))
+
+-- each index is one of the lines
+pub within : (r : Recorded) (kept : LinesById) (left : List Entry) → Gathers r kept left → All (λ e. e.1 < length kept.lines.items) kept.ids.entries
+within r kept left g = all_from_places (λ e. e.1 < length kept.lines.items) kept.ids.entries (λ j e at. g.grouped.below e.0 e.1 (index_of_entry r kept g.grouped j e.0 e.1 at))

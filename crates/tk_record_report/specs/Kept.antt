@@ -1,22 +1,24 @@
 -- What is kept for each id while a record is read.
-use Rattle.std.specs.Prelude.{ℕ, List, [], ◌∷◌, ◌++◌, map}
+use Rattle.std.specs.Prelude.{◌≡◌, ◌<◌, ℕ, ◌==◌, if◌then◌else◌, cond, List, [], ◌∷◌, ◌++◌, length, map, get_or, Option, Some, None, bytes_eq}
 use Rattle.std.specs.List.{flat_map}
 use Rattle.std.specs.Option.{unwrap_or}
 use Rattle.std.specs.Ordering.{nat_cmp}
 use Rattle.std.specs.Cmp.Lexicographic.{slice_cmp}
-use Rattle.std.specs.Map.{lookup}
-use Rattle.std.specs.BTreeMap.{is_at}
+use Rattle.std.specs.Map.{keys_of, lookup}
+use Rattle.std.specs.BTreeMap.{insert_entry, is_at, IsOrdered}
+use Rattle.std.specs.BTreeSet.{insert_key}
+use Rattle.tk_ids.specs.IdText.{id_text}
+use Rattle.tk_columns.specs.Recorded.{Recorded}
+use Rattle.tk_columns.specs.declared.records.EntryView.{EntryView}
 use Rattle.tk_record.specs.Field.{field_text}
-use Rattle.tk_record_report.specs.Labels.{Label}
+use Rattle.tk_record.specs.Spelling.{joined, tail}
+use Rattle.tk_record_report.specs.declared.grouping.LinesById.{LinesById}
+use Rattle.tk_record_report.specs.Labels.{Label, name}
 use Rattle.tk_record_report.specs.Reports.{id_texts, label_line, written_so}
 
 -- two blanks, a tail and a line feed
 abbrev pub tail_line : List ℕ → List ℕ
 tail_line t = 32 ∷ 32 ∷ t ++ 10 ∷ []
-
--- the lines that are kept under an id's text; none where there are none
-abbrev pub lines_at : List (List ℕ × List ℕ) → List ℕ → List ℕ
-lines_at kept x = unwrap_or (lookup (is_at (slice_cmp nat_cmp x)) kept) []
 
 -- each id that has an event, by its text, with its lines
 abbrev pub lines_of : List Label → List (List ℕ × List ℕ)
@@ -25,3 +27,58 @@ lines_of ls = map (λ x. (x, flat_map label_line (written_so x ls))) (id_texts l
 -- an id and its lines, as the report has them
 abbrev pub kept_text : List ℕ × List ℕ → List ℕ
 kept_text entry = field_text entry.0 ++ 10 ∷ entry.1
+
+-- each id, by its text, with the lines at its index
+abbrev pub with_lines : List (List ℕ) → List (List ℕ × ℕ) → List (List ℕ × List ℕ)
+with_lines lines ids = map (λ e. (e.0, get_or lines e.1 [])) ids
+
+-- each id that is kept, with its lines
+abbrev pub entries_of : LinesById → List (List ℕ × List ℕ)
+entries_of kept = with_lines kept.lines.items kept.ids.entries
+
+-- the index of an id's lines
+abbrev pub index_in : LinesById → List ℕ → Option ℕ
+index_in kept x = lookup (is_at (slice_cmp nat_cmp x)) kept.ids.entries
+
+-- the lines at an index; none without one
+abbrev pub lines_at : List (List ℕ) → Option ℕ → List ℕ
+lines_at lines None = []
+lines_at lines (Some i) = get_or lines i []
+
+-- the lines of an id; none where it has no index
+abbrev pub lines_in : LinesById → List ℕ → List ℕ
+lines_in kept x = lines_at kept.lines.items (index_in kept x)
+
+-- the text of the id of a key
+abbrev pub text_of : Recorded → ℕ → List ℕ
+text_of r key = id_text (name r key)
+
+-- each id has its own index, and each key that of its id
+pub record IsGrouped (r : Recorded) (kept : LinesById) : Type 0 where
+  pub below : (x : List ℕ) (i : ℕ) → index_in kept x ≡ Some i → i < length kept.lines.items
+  pub apart : (x y : List ℕ) (i : ℕ) → index_in kept x ≡ Some i → index_in kept y ≡ Some i → x ≡ y
+  pub keys : (key i : ℕ) → lookup (is_at (nat_cmp key)) kept.keys.entries ≡ Some i → index_in kept (text_of r key) ≡ Some i
+  pub ordered : IsOrdered (slice_cmp nat_cmp) kept.ids
+
+-- the id has the index: an older id the one that it had, a new id the next one, with no line
+pub record IndexesId (old new : LinesById) (id : List ℕ) (i : ℕ) : Type 0 where
+  pub index : i ≡ unwrap_or (index_in old id) (length old.lines.items)
+  pub ids : new.ids.entries ≡ insert_entry (slice_cmp nat_cmp) old.ids.entries id i
+  pub found : (x : List ℕ) → index_in new x ≡ cond (is_at (slice_cmp nat_cmp id) x) (Some i) (index_in old x)
+  pub ordered : IsOrdered (slice_cmp nat_cmp) new.ids
+  pub lines : new.lines.items ≡ (if i == length old.lines.items then old.lines.items ++ [] ∷ [] else old.lines.items)
+  pub keys : new.keys.entries ≡ old.keys.entries
+
+-- the id of the key has the index, and no id got a line
+pub record IndexesKey (r : Recorded) (old new : LinesById) (key i : ℕ) : Type 0 where
+  pub grouped : IsGrouped r new
+  pub ids : keys_of new.ids.entries ≡ insert_key (slice_cmp nat_cmp) (keys_of old.ids.entries) (text_of r key)
+  pub index : index_in new (text_of r key) ≡ Some i
+  pub lines : (x : List ℕ) → lines_in new x ≡ lines_in old x
+
+-- the id of the event got its line
+pub record AddsEvent (r : Recorded) (old new : LinesById) (v : EntryView) : Type 0 where
+  pub grouped : IsGrouped r new
+  pub ids : keys_of new.ids.entries ≡ insert_key (slice_cmp nat_cmp) (keys_of old.ids.entries) (text_of r v.key)
+  pub lines : (x : List ℕ) → lines_in new x
+      ≡ cond (bytes_eq (text_of r v.key) x) (lines_in old x ++ tail_line (joined (tail v.kind v.payload.now))) (lines_in old x)

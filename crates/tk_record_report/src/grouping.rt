@@ -1,63 +1,99 @@
 //! The events of a record, gathered by the texts of their ids.
-ghost use Rattle.std.specs.Prelude.{◌≡◌, ◌++◌, ℕ, List, cond, bytes_eq, IfOk, OnOk};
-ghost use Rattle.std.specs.Ordering.{nat_cmp};
-ghost use Rattle.std.specs.Cmp.Lexicographic.{slice_cmp};
-ghost use Rattle.std.specs.Map.{keys_of};
-ghost use Rattle.std.specs.BTreeMap.{IsOrdered};
-ghost use Rattle.std.specs.BTreeSet.{insert_key};
+ghost use Rattle.std.specs.Prelude.{◌≡◌, ◌<◌, [], true, is_some, length, All, IfOk, OnOk};
+ghost use Rattle.tk_columns.specs.Entries.{desc};
 ghost use Rattle.tk_record_report.specs.Labels.{labels};
-ghost use Rattle.tk_record_report.specs.Kept.{tail_line, lines_at, lines_of};
+ghost use Rattle.tk_record_report.specs.Kept.{entries_of, lines_of, IsGrouped, IndexesId, IndexesKey, AddsEvent};
 
 use crate::lines::Lines;
 use std::alloc::{AllocError, Global};
 use std::collections::BTreeMap;
 use tk_ids::Text;
-use tk_record::{Record, write_tail};
+use tk_record::{EntryView, Record, write_tail};
 
-/// Adds an event's line to those of its id.
-fn add_line(
-    alloc: Global,
-    kept: &mut BTreeMap<Text, Lines>,
-    id: &Text,
-    tail: &Text,
-) -> Result<(), AllocError>
-    ensures keys { OnOk result (keys_of kept.new.entries
-        ≡ insert_key (slice_cmp nat_cmp) (keys_of kept.old.entries) id.now) }
-    ensures lines { OnOk result ((x : List ℕ) → lines_at kept.new.entries x
-        ≡ cond (bytes_eq id.now x) (lines_at kept.old.entries x ++ tail_line tail.now)
-        (lines_at kept.old.entries x)) }
-    ensures ordered { OnOk result (IsOrdered (slice_cmp nat_cmp) kept.new) }
-{
-    match kept.get_mut(id) {
-        Some(lines) => lines.add(tail),
-        None => {
-            let mut lines = Lines::new(alloc);
-            lines.add(tail)?;
-            kept.insert(id.try_clone()?, lines)?;
-            Ok(())
+/// The lines of each id that has an event. Keys whose ids have one text share their lines.
+#[derive(Drop)]
+pub(crate) struct LinesById {
+    pub(crate) lines: Vec<Lines>,
+    /// The index of an id's lines, by the text of the id.
+    pub(crate) ids: BTreeMap<Text, usize>,
+    /// The same index by key, so that a text is looked up once for each key that has an event.
+    keys: BTreeMap<u32, usize>,
+}
+
+impl LinesById {
+    /// No id.
+    fn new(alloc: Global) -> LinesById
+        ensures ids { result.ids.entries ≡ [] }
+        ensures keys { result.keys.entries ≡ [] }
+    {
+        LinesById {
+            lines: Vec::new(alloc),
+            ids: BTreeMap::new(alloc),
+            keys: BTreeMap::new(alloc),
         }
+    }
+
+    /// Finds the index of an id's lines. A new id gets one, at which there is no line yet.
+    fn index_of_id(&mut self, alloc: Global, id: &Text) -> Result<usize, AllocError>
+        ensures { IfOk result (IndexesId self.old self.new id.now) }
+    {
+        let next = self.lines.len();
+        let index = *self.ids.entry(id.try_clone()?)?.or_insert(next);
+        if index == next {
+            self.lines.push(Lines::new(alloc))?;
+        }
+        Ok(index)
+    }
+
+    /// Finds the index of the lines of a key's id.
+    fn index_of_key(
+        &mut self,
+        alloc: Global,
+        recording: &Record,
+        key: u32,
+    ) -> Result<usize, AllocError>
+        requires grouped { IsGrouped recording.now self.old }
+        requires known { is_some (desc recording.now key) ≡ true }
+        ensures { IfOk result (IndexesKey recording.now self.old self.new key) }
+    {
+        if let Some(index) = self.keys.get(&key) {
+            return Ok(*index);
+        }
+        let Some(descriptor) = recording.describe(key) else {
+            unreachable!()
+        };
+        let index = self.index_of_id(alloc, descriptor.id.as_text())?;
+        self.keys.insert(key, index)?;
+        Ok(index)
+    }
+
+    /// Adds the line of an event to those of its id.
+    fn add(
+        &mut self,
+        alloc: Global,
+        recording: &Record,
+        view: &EntryView<'_>,
+    ) -> Result<(), AllocError>
+        requires grouped { IsGrouped recording.now self.old }
+        requires known { is_some (desc recording.now view.now.key) ≡ true }
+        ensures { OnOk result (AddsEvent recording.now self.old self.new view.now) }
+    {
+        let index = self.index_of_key(alloc, recording, view.key)?;
+        let tail = write_tail(alloc, view)?;
+        self.lines[index].add(&tail)
     }
 }
 
 /// The lines of each id that has an event.
-pub(crate) fn lines_of(
-    alloc: Global,
-    recording: &Record,
-) -> Result<BTreeMap<Text, Lines>, AllocError>
-    ensures { IfOk result (λ kept. kept.entries ≡ lines_of (labels recording.now)) }
+pub(crate) fn lines_of(alloc: Global, recording: &Record) -> Result<LinesById, AllocError>
+    ensures lines { IfOk result (λ kept. entries_of kept ≡ lines_of (labels recording.now)) }
+    ensures bounds { IfOk result (λ kept.
+        All (λ e. e.1 < length kept.lines.items) kept.ids.entries) }
 {
     recording.is_record();
-    let count = recording.len();
-    let mut kept = BTreeMap::new(alloc);
-    for position in 0..count {
-        let Some(view) = recording.entry(position) else {
-            unreachable!()
-        };
-        let Some(descriptor) = recording.describe(view.key) else {
-            unreachable!()
-        };
-        let tail = write_tail(alloc, &view)?;
-        add_line(alloc, &mut kept, descriptor.id.as_text(), &tail)?;
+    let mut kept = LinesById::new(alloc);
+    'entries: for view in recording.iter() {
+        kept.add(alloc, recording, &view)?;
     }
     Ok(kept)
 }

@@ -1,5 +1,5 @@
 //! The lines that a report has below an id.
-ghost use Rattle.std.specs.Prelude.{◌≡◌, ◌++◌, ℕ, List, [], OnOk, string_bytes};
+ghost use Rattle.std.specs.Prelude.{◌≡◌, ◌++◌, [], OnOk};
 ghost use Rattle.tk_record_report.specs.Kept.{tail_line};
 
 use std::alloc::{AllocError, Global};
@@ -13,6 +13,8 @@ pub(crate) struct Lines {
 }
 
 impl Model for Lines {
+    ghost use Rattle.std.specs.Prelude.{ℕ, List, string_bytes};
+
     ghost Value = { List ℕ };
 
     ghost view = { λ l. string_bytes l.text };
@@ -32,8 +34,9 @@ impl Lines {
     pub(crate) fn add(&mut self, tail: &Text) -> Result<(), AllocError>
         ensures { OnOk result (self.new ≡ self.old ++ tail_line tail.now) }
     {
-        let tail = tail.as_str();
-        write!(self.text, "  {tail}\n")
+        self.text.push_str("  ")?;
+        self.text.push_str(tail.as_str())?;
+        self.text.push_str("\n")
     }
 
     pub(crate) fn as_str(&self) -> &str

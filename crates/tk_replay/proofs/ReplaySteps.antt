@@ -105,11 +105,11 @@ entries-snoc (Emitted e ∷ xs) x = ap (λ l. e ∷ l) (entries-snoc xs x)
 entries-snoc (End w ∷ xs) x = entries-snoc xs x
 
 -- the moment after the first waiting item was taken
-abbrev Behind : List (List Event) → Moment → Type 0
-Behind scripts m = (c : Core) × IsMomentOf scripts m c
+abbrev HasMoment : List (List Event) → Moment → Type 0
+HasMoment scripts m = (c : Core) × IsMomentOf scripts m c
 
 taken_step : (scripts : List (List Event)) (m : Moment) (c : Core) (x : Item) (xs : List Item) (r : Recorded) → IsMomentOf scripts m c → m.core.waiting ≡ x ∷ xs → entries (c.taken ++ x ∷ []) ≡ r.entries
-    → Behind scripts (record { core = record { workers = m.core.workers; ended = m.core.ended; waiting = xs }; emitted = m.emitted; taken = r })
+    → HasMoment scripts (record { core = record { workers = m.core.workers; ended = m.core.ended; waiting = xs }; emitted = m.emitted; taken = r })
 taken_step scripts m c x xs r is first more = (
   take_first x xs c,
   record {
@@ -124,16 +124,16 @@ taken_step scripts m c x xs r is first more = (
   },
 )
 
-appended_step : (scripts : List (List Event)) (m n : Moment) (c : Core) (e : Entry) (xs : List Item) (o : Option AppendFault) → IsMomentOf scripts m c → m.core.waiting ≡ Emitted e ∷ xs → append_to m xs e o ≡ Ok n → Behind scripts n
-appended_step scripts m n c e xs None is first h = subst (Behind scripts) (same_Ok _ n h) (taken_step scripts m c (Emitted e) xs _ is first (entries-snoc c.taken (Emitted e) ∙ ap (λ l. l ++ e ∷ []) is.taken))
+appended_step : (scripts : List (List Event)) (m n : Moment) (c : Core) (e : Entry) (xs : List Item) (o : Option AppendFault) → IsMomentOf scripts m c → m.core.waiting ≡ Emitted e ∷ xs → append_to m xs e o ≡ Ok n → HasMoment scripts n
+appended_step scripts m n c e xs None is first h = subst (HasMoment scripts) (same_Ok _ n h) (taken_step scripts m c (Emitted e) xs _ is first (entries-snoc c.taken (Emitted e) ∙ ap (λ l. l ++ e ∷ []) is.taken))
 appended_step scripts m n c e xs (Some f) is first h = absurd cc
 
-take_step : (scripts : List (List Event)) (m n : Moment) (c : Core) (xs : List Item) → IsMomentOf scripts m c → m.core.waiting ≡ xs → take_item m xs ≡ Ok n → Behind scripts n
-take_step scripts m n c [] is first h = subst (Behind scripts) (same_Ok m n h) (c, is)
-take_step scripts m n c (End w ∷ xs) is first h = subst (Behind scripts) (same_Ok _ n h) (taken_step scripts m c (End w) xs m.taken is first (entries-snoc c.taken (End w) ∙ append-nil (entries c.taken) ∙ is.taken))
+take_step : (scripts : List (List Event)) (m n : Moment) (c : Core) (xs : List Item) → IsMomentOf scripts m c → m.core.waiting ≡ xs → take_item m xs ≡ Ok n → HasMoment scripts n
+take_step scripts m n c [] is first h = subst (HasMoment scripts) (same_Ok m n h) (c, is)
+take_step scripts m n c (End w ∷ xs) is first h = subst (HasMoment scripts) (same_Ok _ n h) (taken_step scripts m c (End w) xs m.taken is first (entries-snoc c.taken (End w) ∙ append-nil (entries c.taken) ∙ is.taken))
 take_step scripts m n c (Emitted e ∷ xs) is first h = appended_step scripts m n c e xs (fault_of m.taken e) is first h
 
-next_step : (scripts : List (List Event)) (m : Moment) (c : Core) (w : ℕ) (o : Option Event) → length scripts ≤ most_workers → IsMomentOf scripts m c → IsWorkerOf (length scripts) w → has_ended m.core w ≡ false → slice_get (script_of scripts w) (count_of m w) ≡ o → Behind scripts (next w m o)
+next_step : (scripts : List (List Event)) (m : Moment) (c : Core) (w : ℕ) (o : Option Event) → length scripts ≤ most_workers → IsMomentOf scripts m c → IsWorkerOf (length scripts) w → has_ended m.core w ≡ false → slice_get (script_of scripts w) (count_of m w) ≡ o → HasMoment scripts (next w m o)
 next_step scripts m c w (Some e) few is at open' some = (emit w e c, emitted_step scripts m c w e is at open' some)
 next_step scripts m c w None few is at open' none = (finish w c, ended_step scripts m c w few is at open' none)
 
@@ -141,16 +141,16 @@ worked : (b : Bool) (m n : Moment) → cond b (Err Faulty) (Ok m) ≡ Ok n → (
 worked true m n e = absurd cc
 worked false m n e = (refl, same_Ok m n e)
 
-one_step : (scripts : List (List Event)) (m n : Moment) (c : Core) (t : Turn) → length scripts ≤ most_workers → IsTurn (length scripts) t → IsMomentOf scripts m c → turn_step scripts m t ≡ Ok n → Behind scripts n
+one_step : (scripts : List (List Event)) (m n : Moment) (c : Core) (t : Turn) → length scripts ≤ most_workers → IsTurn (length scripts) t → IsMomentOf scripts m c → turn_step scripts m t ≡ Ok n → HasMoment scripts n
 one_step scripts m n c (Worker w) few at is h =
     let k = worked (has_ended m.core w) (next w m (slice_get (script_of scripts w) (count_of m w))) n h in
-    subst (Behind scripts) k.1 (next_step scripts m c w (slice_get (script_of scripts w) (count_of m w)) few is at k.0 refl)
+    subst (HasMoment scripts) k.1 (next_step scripts m c w (slice_get (script_of scripts w) (count_of m w)) few is at k.0 refl)
 one_step scripts m n c Take few at is h = take_step scripts m n c m.core.waiting is refl h
 
-all_steps : (scripts : List (List Event)) (turns : List Turn) (m n : Moment) (c : Core) → length scripts ≤ most_workers → AllByRecursion (IsTurn (length scripts)) turns → IsMomentOf scripts m c → plays scripts turns m ≡ Some n → Behind scripts n
-all_steps scripts [] m n c few all is e = subst (Behind scripts) (same_Some m n e) (c, is)
+all_steps : (scripts : List (List Event)) (turns : List Turn) (m n : Moment) (c : Core) → length scripts ≤ most_workers → AllByRecursion (IsTurn (length scripts)) turns → IsMomentOf scripts m c → plays scripts turns m ≡ Some n → HasMoment scripts n
+all_steps scripts [] m n c few all is e = subst (HasMoment scripts) (same_Some m n e) (c, is)
 all_steps scripts (t ∷ turns) m n c few all is e =
-    elim (turn_step scripts m t) as (λ r. turn_step scripts m t ≡ r → after r (plays scripts turns) ≡ Some n → Behind scripts n) [
+    elim (turn_step scripts m t) as (λ r. turn_step scripts m t ≡ r → after r (plays scripts turns) ≡ Some n → HasMoment scripts n) [
       | Ok o ↦ λ step h. let b = one_step scripts m o c t few all.0 is step in all_steps scripts turns o n b.0 few all.1 b.1 h
       | Err stop ↦ λ step h. absurd (none-some n h)
     ] refl e

@@ -37,7 +37,7 @@ ReplaysCore =
     → plays scripts turns (start table (length scripts)) ≡ Some m
     → (c : Core) × IsMomentOf scripts m c
 
--- an answer that tells of the input alone, and not of memory
+-- an answer that depends on the input alone, and not on memory
 abbrev pub IsSettled : Result Recorded ReplayFault → Type 0
 IsSettled (Err faults.Memory) = ⊥
 IsSettled _ = Unit {0}

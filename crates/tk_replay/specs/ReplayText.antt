@@ -164,7 +164,7 @@ IsAnswer input (Err faults.TooLarge) = MAX_TEXT < length input
 IsAnswer input (Err faults.Memory) = Unit {0}
 IsAnswer input (Err fault) = (length input ≤ MAX_TEXT) × IsPlayed input (Err fault)
 
--- the fault tells of the input, and not of memory or of a device
+-- the fault is one of the input, and not of memory or of a device
 abbrev pub IsOfInput : ReplayFault → Type 0
 IsOfInput faults.Memory = ⊥
 IsOfInput faults.Device = ⊥

@@ -90,7 +90,7 @@ impl Core {
         Ok(())
     }
 
-    /// Puts an event of the worker behind the items that wait.
+    /// Puts an event of the worker after the items that wait.
     ///
     /// # Errors
     /// The fault, and the event. The core is then unchanged.
@@ -114,7 +114,7 @@ impl Core {
         }
     }
 
-    /// Puts the worker's end mark behind the items that wait, after which it may emit nothing.
+    /// Puts the worker's end mark after the items that wait, after which it may emit nothing.
     ///
     /// # Errors
     /// The fault. The core is then unchanged.

@@ -6,12 +6,12 @@ use Rattle.tk_engine.specs.declared.runs.RunFault.TheVariants as runs
 use Rattle.tk_report.specs.declared.faults.ReportFault.{ReportFault}
 use Rattle.tk_report.specs.declared.faults.ReportFault.TheVariants.{Plan, Run, Memory}
 
--- want of memory is the report's own, and each other fault is handed on
+-- want of memory is the report's own, and each other fault is passed on
 abbrev pub fault_of_plan : PlanFault → ReportFault
 fault_of_plan plans.Memory = Memory
 fault_of_plan fault = Plan fault
 
--- want of memory is the report's own, and each other fault is handed on, with the unit that failed and its cause
+-- want of memory is the report's own, and each other fault is passed on, with the unit that failed and its cause
 abbrev pub fault_of_run : RunFault → ReportFault
 fault_of_run runs.Memory = Memory
 fault_of_run fault = Run fault

@@ -254,7 +254,7 @@ abbrev pub hits : ℕ → ℕ → List ℕ → List ℕ
 hits k b [] = []
 hits k b (x ∷ xs) = if b == k then x ∷ hits k (b + 1) xs else hits k (b + 1) xs
 
--- the id that a registration of that key tells
+-- the id that a registration of that key emits
 abbrev pub id_emitted : Payload → List (List Pair)
 id_emitted (Described d) = d.id ∷ []
 id_emitted Nothing = []
@@ -263,11 +263,11 @@ id_emitted (Outcome s m) = []
 id_emitted (Reported e) = []
 id_emitted (Path p) = []
 
-abbrev pub tells : ℕ → Event → List (List Pair)
-tells k e = if is_dynamic e && (e.key == k) then id_emitted e.payload else []
+abbrev pub registered_under : ℕ → Event → List (List Pair)
+registered_under k e = if is_dynamic e && (e.key == k) then id_emitted e.payload else []
 
 abbrev pub event_of_step : ℕ → List Event → List (List Pair)
-event_of_step k es = flat_map (tells k) es
+event_of_step k es = flat_map (registered_under k) es
 
 abbrev pub first_or_nil : {A : Type 0} → List (List A) → List A
 first_or_nil [] = []

@@ -1,4 +1,4 @@
--- What the registrations of a run tell.
+-- The ids that the registrations of a run emit.
 use Rattle.std.proofs.Common.{◌≡◌, ◌≤◌, ◌<◌, ℕ, zero, suc, ◌+◌, ◌*◌, Bool, true, false, ◌&&◌, List, [], ◌∷◌, ◌++◌, map, length, Some, slice_get, refl, sym, ap, ap₂, ◌∙◌, arith, tests, if◌then◌else◌, ◌==◌, length-append}
 use Rattle.std.proofs.lemmas.List.{map-append}
 use Rattle.std.proofs.lemmas.Grind.{flat_map-append}
@@ -16,7 +16,7 @@ use Rattle.tk_events.specs.declared.kinds.Kind.TheVariants.{Dynamic}
 use Rattle.tk_ids.specs.IdText.{Pair}
 use Rattle.tk_ids.specs.declared.tables.Descriptor.{Descriptor}
 use Rattle.tk_run_laws.proofs.Keyed.{named}
-use Rattle.tk_run_laws.proofs.Model.{Forest, Item, Named, Step, drawn_ids, first_or_nil, hits, id_emitted, ids_emitted, part_steps, plain, registered, tells, event_of_step, emitted_after}
+use Rattle.tk_run_laws.proofs.Model.{Forest, Item, Named, Step, drawn_ids, first_or_nil, hits, id_emitted, ids_emitted, part_steps, plain, registered, registered_under, event_of_step, emitted_after}
 use Rattle.tk_run_record.specs.Run.{Emits}
 use Rattle.tk_queue.specs.Known.{is_dynamic, registrations}
 use Rattle.tk_run_laws.specs.Scripts.{id_at, is_registration, may, played, payload_of_node, step_event}
@@ -45,7 +45,7 @@ hits_at g k b (suc j) (y ∷ ys) x e s = let l : b < k = omega (arith, e) in let
 -- ---- what is played registers its ids in order
 
 pub event_of_step-append : (k : ℕ) (xs ys : List Event) → event_of_step k (xs ++ ys) ≡ event_of_step k xs ++ event_of_step k ys
-event_of_step-append k xs ys = flat_map-append (tells k) xs ys
+event_of_step-append k xs ys = flat_map-append (registered_under k) xs ys
 
 pub dynamic_kind : (a : Act) → (kind_code (kind_of a) == kind_code Dynamic) ≡ is_registration a
 dynamic_kind (Register p) = refl
@@ -63,7 +63,7 @@ emitted_first g k b x l xs e = elim (b == k) as (λ t. (if t then g x ∷ [] els
 
 module _ (all : List NumberedNode) (table : List Descriptor) where
   tells_act : (k base p : ℕ) (known : List ℕ) (n : Item) (a : Act) → slice_get (in_order all) n.number ≡ Some n.node
-      → tells k (step_event all (length table) base known (record { node = n.number; stamp = p; act = a })) ≡ (if is_registration a && (base + length known == k) then id_at all n.number ∷ [] else [])
+      → registered_under k (step_event all (length table) base known (record { node = n.number; stamp = p; act = a })) ≡ (if is_registration a && (base + length known == k) then id_at all n.number ∷ [] else [])
   tells_act k base p known n (Register q) e = ap (λ o. if base + length known == k then id_emitted (payload_of_node o (id_at all n.number) (Register q)) else []) e
   tells_act k base p known n Skip e = refl
   tells_act k base p known n Start e = refl

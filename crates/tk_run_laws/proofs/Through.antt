@@ -25,7 +25,7 @@ use Rattle.tk_run_laws.proofs.Few.{few_drawn}
 use Rattle.tk_run_laws.proofs.Keyed.{get_prefix, labels_played, labels_static, named, named_unit, static_after_below, static_before_below}
 use Rattle.tk_run_laws.proofs.Lists.{IsLone, IsSeat, all_nil, at, copies, copies_by, drawn_is, left_nil, lone, lone_is, one_after, one_before, right_nil, seat}
 use Rattle.tk_run_laws.proofs.Mixed.{events-append, events_by, mix_one, no_events}
-use Rattle.tk_run_laws.proofs.Model.{AllNil, AtMostOne, Each, Forest, IsChain, IsChainBelow, IsStatic, Models, Named, Part, Step, Tree, about, after_below, before_below, drawn_ids, first_or_nil, hits, id_emitted, ids_emitted, is_open, more, no_trees, opening, part_steps, parts, parts_below, plain, plan_labels, registered, script, shown, static_event, static_events, step_label, steps, steps_of, tells, times, times_in, event_of_step, tree, units}
+use Rattle.tk_run_laws.proofs.Model.{AllNil, AtMostOne, Each, Forest, IsChain, IsChainBelow, IsStatic, Models, Named, Part, Step, Tree, about, after_below, before_below, drawn_ids, first_or_nil, hits, id_emitted, ids_emitted, is_open, more, no_trees, opening, part_steps, parts, parts_below, plain, plan_labels, registered, script, shown, static_event, static_events, step_label, steps, steps_of, registered_under, times, times_in, event_of_step, tree, units}
 use Rattle.tk_run_laws.proofs.Naming.{dynamic_kind, hits_above, hits_at, hits_below, registered_played, registrations_is, event_of_step-append, emitted_emitted}
 use Rattle.tk_record_report.specs.Labels.{Label, events, id_in, label, labels, name}
 use Rattle.tk_claim.specs.Claims.{Claims}
@@ -262,7 +262,7 @@ module _ (all : List NumberedNode) (table : List Descriptor) (f : Forest) (worke
       let other = emitted_other i j us x e s in
       let whole : event_of_step key (events r.entries) ≡ event_of_step key (of_worker (i + 1) run.mid)
       = ap (event_of_step key) three ∙ (event_of_step-append key (static_events (before_below 0 f)) _ ∙ (ap₂ (λ a b. a ++ b) (emitted_static all table key (before_below 0 f) (static_before_below all table 0 f plan.keyed))
-      (event_of_step-append key (events run.mid) (static_events (after_below 0 f)) ∙ (ap₂ (λ a b. a ++ b) (mix_one (tells key) (i + 1) run.mid other) (emitted_static all table key (after_below 0 f) (static_after_below all table 0 f plan.keyed)) ∙ append-nil _)))) in
+      (event_of_step-append key (events run.mid) (static_events (after_below 0 f)) ∙ (ap₂ (λ a b. a ++ b) (mix_one (registered_under key) (i + 1) run.mid other) (emitted_static all table key (after_below 0 f) (static_after_below all table 0 f plan.keyed)) ∙ append-nil _)))) in
       let own : event_of_step key (of_worker (i + 1) run.mid) ≡ map (id_at all) (hits key (65536 * (i + 1) + 0) (drawn_ids f us)) = ⊎_elim
       (λ none. let bad : Some us ≡ None = sym e ∙ none.0 in cc)
       (λ did. let same : did.0 ≡ us = some_same (sym did.1 ∙ e) in subst (λ z. event_of_step key (of_worker (i + 1) run.mid) ≡ map (id_at all) (hits key (65536 * (i + 1) + 0) (drawn_ids f z))) same (emitted_by i key did.0 did.2))

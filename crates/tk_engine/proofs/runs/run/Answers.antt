@@ -18,7 +18,7 @@ use Rattle.tk_engine.proofs.Collecting.{fresh_collector, room_left}
 use Rattle.tk_engine.proofs.Tokens.{tallied_whole}
 use Rattle.tk_engine.proofs.runs.run.Goals as goal
 
--- the record of a fresh intake that took some items
+-- the record of a new collector that took some items
 prefix_is : (table : List Descriptor) (before : List Event) (workers capacity : ℕ) (a b : EventCollector) → IsFreshCollector table before workers capacity a → Follows a b → b.is_out_of_memory ≡ false
     → b.recording.entries ≡ entries_by 0 before ++ entries b.receiver.taken
 prefix_is table before workers capacity a b fresh follows room =

@@ -1,5 +1,5 @@
 use Rattle.std.proofs.Common.{rules, ◌<◌, length, refl, sym, ap, ◌∙◌, get_or, set, Some, None}
-use Rattle.tk_query.proofs.KeyLemmas.{answers_more, answers_put, told_before, told_now}
+use Rattle.tk_query.proofs.KeyLemmas.{answers_more, answers_put, told_before, answered_now}
 use Rattle.tk_query.proofs.masks.answer_by_key.Goals as goal
 
 pub returns-in-Some-answer_before-clause-answer : goal.returns-in-Some-answer_before-clause-answer
@@ -12,7 +12,7 @@ pub loop-answers-preserved : goal.loop-answers-preserved
 loop-answers-preserved c = answers_more c.args.recording.now c.args.condition.now c.loop-answers.answers.items c.push.new.self.items c.loop-answers.invariant c.in_ok-push.ensures.items
 
 pub returns-clause-answer : goal.returns-clause-answer
-returns-clause-answer c = told_now c.args.recording.now c.args.condition.now c.args.position c.holds_at-answer.result c.holds_at-answer.ensures
+returns-clause-answer c = answered_now c.args.recording.now c.args.condition.now c.args.position c.holds_at-answer.result c.holds_at-answer.ensures
 
 pub returns-clause-answers : goal.returns-clause-answers
 returns-clause-answers c =

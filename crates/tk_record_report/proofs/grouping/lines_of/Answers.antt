@@ -1,23 +1,20 @@
-use Rattle.std.proofs.Common.{◌≤◌, ◌<◌, length, Option, arith, ap, subst, ◌∙◌}
-use Rattle.std.specs.Prelude.{IfSome}
-use Rattle.tk_events.specs.declared.events.Entry.{Entry}
-use Rattle.tk_columns.specs.Record.{IsViewOf}
-use Rattle.tk_record_report.specs.Kept.{lines_of}
-use Rattle.tk_record_report.proofs.Keeping.{entry_at, keeps_all, keeps_entry, labels_all, labels_to}
+use Rattle.std.proofs.Common.{◌∙◌}
+use Rattle.tk_record_report.proofs.Keeping.{gathers_all, gathers_next, gathers_none, next_known, within}
 use Rattle.tk_record_report.proofs.grouping.lines_of.Goals as goal
 
-pub loop-position-preserved : goal.loop-position-preserved
-loop-position-preserved c =
-    let r = c.args.recording.now in
-    let lt : c.loop-position.position < length r.entries = omega (arith, c.len-count.ensures.value) in
-    let at = entry_at r.entries c.loop-position.position lt in
-    let shown = subst (λ (o : Option Entry). IfSome o (IsViewOf c.in-Some.view)) at.1 c.in-Some.ensures.value in
-    keeps_entry c.loop-position.kept c.add_line.new.kept r c.loop-position.position at.0 c.in-Some.view c.in-Some-describe.descriptor.now c.as_text.result.now c.in_ok-tail.tail
-    at.1 shown c.in-Some-describe.ensures c.as_text.ensures.text c.in_ok-tail.ensures c.loop-position.invariant
-    c.in_ok-add_line.ensures.keys c.in_ok-add_line.ensures.lines c.in_ok-add_line.ensures.ordered
+pub entries-init : goal.entries-init
+entries-init c =
+    gathers_none c.args.recording.now c.new-kept.result c.into_iter-view-iterator.result c.new-kept.ensures.ids c.new-kept.ensures.keys
+    (c.into_iter-view-iterator.ensures.into_iter_gives ∙ c.iter-view-items.ensures) c.is_record.ensures.known
 
-pub returns : goal.returns
-returns c =
-    let r = c.args.recording.now in
-    let le : length r.entries ≤ c.loop-position.position = omega (arith, c.len-count.ensures.value) in
-    keeps_all c.loop-position.kept (labels_to r c.loop-position.position) c.loop-position.invariant ∙ ap lines_of (labels_all r c.loop-position.position le)
+pub add-requires-clause-known : goal.add-requires-clause-known
+add-requires-clause-known c = next_known c.args.recording.now c.entries.kept c.entries.view-iterator c.next.new.self c.in-Some.view c.entries.invariant c.in-Some.ensures.steps
+
+pub entries-preserved : goal.entries-preserved
+entries-preserved c = gathers_next c.args.recording.now c.entries.kept c.add.new.self c.entries.view-iterator c.next.new.self c.in-Some.view c.entries.invariant c.in-Some.ensures.steps c.in_ok-add.ensures
+
+pub returns-clause-lines : goal.returns-clause-lines
+returns-clause-lines c = gathers_all c.args.recording.now c.entries.kept c.entries.view-iterator c.entries.invariant c.in-None.ensures.steps.0
+
+pub returns-clause-bounds : goal.returns-clause-bounds
+returns-clause-bounds c = within c.args.recording.now c.entries.kept c.entries.view-iterator c.entries.invariant

@@ -1,5 +1,5 @@
-use Rattle.tk_record_report.proofs.Keeping.{Keeps, labels_to}
+use Rattle.tk_record_report.proofs.Keeping.{Gathers}
 use Rattle.tk_record_report.proofs.grouping.lines_of.Given as goal
 
-abbrev pub invariant-loop-position : goal.invariant-loop-position
-invariant-loop-position l = Keeps l.kept (labels_to l.recording l.position)
+abbrev pub invariant-entries : goal.invariant-entries
+invariant-entries l = Gathers l.recording l.kept l.view-iterator
