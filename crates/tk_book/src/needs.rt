@@ -67,6 +67,7 @@ impl Need {
         ensures value { result ≡ self.writes }
         ensures disjoint { bit_and self.reads result ≡ 0 }
     {
+        // For the proof: the need's invariant, which speaks of both masks.
         let _reads = self.reads;
         self.writes
     }

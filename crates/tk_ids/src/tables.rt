@@ -276,6 +276,7 @@ impl Table {
     ) -> Result<u32, TableFault>
         ensures { IsAddedAs self.old self.new parent segment.now name.now dtype result }
     {
+        // For the proof: the table's invariant, as it was before the call.
         let _entries = &self.by_text;
         let id = self.child_id(alloc, parent, segment)?;
         if self.find(&id).is_some() {
@@ -316,6 +317,7 @@ impl Table {
     pub fn insert(&mut self, alloc: Global, descriptor: Descriptor) -> Result<u32, TableFault>
         ensures { IsInsertedAs self.old self.new descriptor result }
     {
+        // For the proof: the table's invariant, as it was before the call.
         let _entries = &self.by_text;
         if !self.has_parent(alloc, &descriptor.id)? {
             return Err(TableFault::NoParent);

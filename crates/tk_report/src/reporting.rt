@@ -65,6 +65,7 @@ pub fn plan_report<R: Threads + Wait + Sync, T: Target>(
     let engine = Scripted::new(plan);
     let results = execute(rt, alloc, &engine, workers, DEFAULT_CAPACITY)?;
     report_is_unique();
+    // For the proof: the plan's invariant, which a call on the plan shows.
     let _table = engine.plan().table();
     write_report(alloc, &results, target)
 }

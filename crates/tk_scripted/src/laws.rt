@@ -18,6 +18,7 @@ pub fn listener(engine: &Scripted, results: &Results)
         (events results.now.recorded.entries) }
 {
     let _ = results;
+    // For the proof: the plan's invariant, which a call on the plan shows.
     let _table = engine.plan().table();
     tk_run_laws::laws::listener();
     tk_run_laws::laws::listener_by_key();

@@ -158,6 +158,7 @@ pub(crate) fn play_unit<R: Wait, S: Sink>(
     ensures err { OnErr result (Extends (S.meaning sink.old) (S.meaning sink.new)) }
     ensures cause { IfErr result IsPlayFault }
 {
+    // For the proof: the plan's invariant, which a call on the plan shows.
     let _table = plan.table();
     let steps = plan.script(alloc, unit)?;
     play_each(rt, alloc, plan, steps.as_slice(), sink)
