@@ -85,7 +85,7 @@ loose_no asked cs k c b below within is h e = record {
   before = below;
 }
 
-and_false : (a : Bool) → false ≡ (a && false)
+pub and_false : (a : Bool) → false ≡ (a && false)
 and_false true = refl
 and_false false = refl
 

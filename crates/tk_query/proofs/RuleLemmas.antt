@@ -1,17 +1,14 @@
 -- Rules that conditions imply.
-use Rattle.std.proofs.Common.{◌≡◌, ℕ, zero, suc, ◌<◌, Bool, true, false, ◌&&◌, List, [], ◌∷◌, length, get_or, Option, Some, None, IfSome, refl, ap, ◌∙◌, arith}
+use Rattle.std.proofs.Common.{◌≡◌, ℕ, zero, suc, ◌<◌, Bool, false, ◌&&◌, List, [], ◌∷◌, length, get_or, Option, Some, None, IfSome, sym, ap, ◌∙◌, arith}
 use Rattle.std.specs.List.{list_all}
+use Rattle.tk_query.proofs.MatchLemmas.{and_false}
 
 pub some_map : {A : Type 0} (o : Option A) (P Q : A → Type 0) → ((a : A) → P a → Q a) → IfSome o P → IfSome o Q
 some_map None P Q f h = h
 some_map (Some a) P Q f h = f a h
 
-and_false : (a : Bool) → (a && false) ≡ false
-and_false true = refl
-and_false false = refl
-
 -- one that fails is enough
 pub all_false : {A : Type 0} (p : A → Bool) (xs : List A) (i : ℕ) (d : A) → i < length xs → p (get_or xs i d) ≡ false → list_all p xs ≡ false
 all_false p [] i d lt fails = absurd (omega arith)
 all_false p (x ∷ xs) zero d lt fails = ap (λ b. b && list_all p xs) fails
-all_false p (x ∷ xs) (suc i) d lt fails = ap (λ b. p x && b) (all_false p xs i d (omega arith) fails) ∙ and_false (p x)
+all_false p (x ∷ xs) (suc i) d lt fails = ap (λ b. p x && b) (all_false p xs i d (omega arith) fails) ∙ sym (and_false (p x))
