@@ -90,6 +90,11 @@ read_weight (suc r) zero lt n e = refl
 read_weight zero (suc w) lt n e = absurd (n (omega arith))
 read_weight (suc r) (suc w) lt n e = absurd (n (omega arith))
 
+pub write_weight : (r w : ℕ) → w ≡ 1 → 15 ≡ weight (access_of r w)
+write_weight r zero e = absurd (omega arith)
+write_weight zero (suc w) e = refl
+write_weight (suc r) (suc w) e = refl
+
 pub no_weight : (r w : ℕ) → r < 2 → w < 2 → (w ≡ 1 → ⊥) → (r ≡ 1 → ⊥) → 0 ≡ weight (access_of r w)
 no_weight zero zero l m n k = refl
 no_weight (suc r) zero l m n k = absurd (k (omega arith))

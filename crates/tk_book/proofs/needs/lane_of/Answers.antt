@@ -1,7 +1,10 @@
 use Rattle.std.proofs.Common.{sym, ◌∙◌}
 use Rattle.std.proofs.lemmas.Nat.Bits.{shr_and_one, bit_at-lt}
-use Rattle.tk_book.proofs.Masks.{read_weight, no_weight}
+use Rattle.tk_book.proofs.Masks.{write_weight, read_weight, no_weight}
 use Rattle.tk_book.proofs.needs.lane_of.Goals as goal
+
+pub returns-then-writes-resource-eq1-clause-value : goal.returns-then-writes-resource-eq1-clause-value
+returns-then-writes-resource-eq1-clause-value c = let w = shr_and_one c.args.writes c.args.resource in write_weight _ _ (sym w ∙ c.if-writes-resource-eq1.true)
 
 pub returns-then-reads-resource-eq1-clause-value : goal.returns-then-reads-resource-eq1-clause-value
 returns-then-reads-resource-eq1-clause-value c = let r = shr_and_one c.args.reads c.args.resource in let w = shr_and_one c.args.writes c.args.resource in

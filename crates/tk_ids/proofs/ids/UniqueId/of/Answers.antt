@@ -1,5 +1,13 @@
+use Rattle.std.proofs.Common.{◌≡◌, ◌∷◌, [], ◌++◌, List, ℕ, length, ap, ◌∙◌, arith}
+use Rattle.tk_ids.specs.IdText.{id_text, segment_text}
 use Rattle.tk_ids.proofs.TextLemmas.{utf8_segment_text}
 use Rattle.tk_ids.proofs.ids.UniqueId.of.Goals as goal
 
 pub from_utf8-requires : goal.from_utf8-requires
 from_utf8-requires c = let a = c.in_ok-push_segment.ensures.ok in let b = c.new-bytes.ensures.items in rw (a, b) (utf8_segment_text c.args.segment.now c.push_segment.ensures.segment)
+
+pub returns-then-len-gt-MAX_BYTES : goal.returns-then-len-gt-MAX_BYTES
+returns-then-len-gt-MAX_BYTES c = λ fits.
+    let segment = c.args.segment.now in
+    let bytes : c.push_segment.new.out.items ≡ id_text (segment ∷ []) = c.in_ok-push_segment.ensures.ok ∙ ap (λ (l : List ℕ). l ++ segment_text segment) c.new-bytes.ensures.items in
+    omega (arith, fits.0, ap length bytes)

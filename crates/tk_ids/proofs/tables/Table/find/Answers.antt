@@ -22,3 +22,6 @@ pub returns-clause-different : goal.returns-clause-different
 returns-clause-different c =
     let invariant = c.self.invariant in
     find_different c.self.inside.by_text.entries c.args.self.now invariant.0 c.self.view_is c.get_index_of.ensures.unique
+
+pub returns-clause-none : goal.returns-clause-none
+returns-clause-none c = tt
