@@ -1,3 +1,4 @@
+use Rattle.std.proofs.Common.{Err, ap}
 use Rattle.tk_report.proofs.reporting.write_report.Goals as goal
 
 pub returns-in-Ok-clause-answer : goal.returns-in-Ok-clause-answer
@@ -5,3 +6,6 @@ returns-in-Ok-clause-answer g c = rw (← c.recorded.ensures) c.in-Ok.ensures.ok
 
 pub returns-in-Err-Device-clause-answer : goal.returns-in-Err-Device-clause-answer
 returns-in-Err-Device-clause-answer g c = rw (← c.recorded.ensures) c.in-Err-Device.ensures.err
+
+pub returns-in-Err-Memory-clause-answer : goal.returns-in-Err-Memory-clause-answer
+returns-in-Err-Memory-clause-answer g c = c.in-Err-Memory.ensures.memory (ap (λ f. Err f) c.in-Err-Memory.field-0-is)
