@@ -77,11 +77,18 @@ fn is_of_the_record(fault: &ReadFault) -> bool {
     )
 }
 
-fn of_record(alloc: Global, text: &[u8]) -> Answer {
-    match read_record(alloc, &mut ByteSource::new(text)) {
-        Ok(record) => read_if(is_renewed(alloc, &record, text)),
-        Err(fault) => refused_if(is_of_the_record(&fault)),
+fn record_answer(alloc: Global, read: &Result<Record, ReadFault>, text: &[u8]) -> Answer {
+    match read {
+        Ok(record) => read_if(is_renewed(alloc, record, text)),
+        Err(fault) => refused_if(is_of_the_record(fault)),
     }
+}
+
+fn of_record(alloc: Global, text: &[u8]) -> Answer {
+    let read = read_record(alloc, &mut ByteSource::new(text));
+    let answer = record_answer(alloc, &read, text);
+    drop(read);
+    answer
 }
 
 fn is_of_the_replay(fault: &ReplayFault) -> bool {
@@ -95,16 +102,21 @@ fn is_of_the_replay(fault: &ReplayFault) -> bool {
 }
 
 // What a replay writes is a record text of version 2, and nothing at a fault.
-fn of_replay(alloc: Global, text: &[u8]) -> Answer {
-    let mut target = ByteTarget::new(alloc);
-    let answer = replay_text(alloc, &mut ByteSource::new(text), &mut target);
-    let written = target.bytes();
-    match answer {
+fn replay_answer(alloc: Global, replayed: &Result<(), ReplayFault>, written: &[u8]) -> Answer {
+    match replayed {
         Ok(()) => read_if(
             written.starts_with(b"testkit-record|2\n") && of_record(alloc, written) == Answer::Read,
         ),
-        Err(fault) => refused_if(is_of_the_replay(&fault) && written.is_empty()),
+        Err(fault) => refused_if(is_of_the_replay(fault) && written.is_empty()),
     }
+}
+
+fn of_replay(alloc: Global, text: &[u8]) -> Answer {
+    let mut target = ByteTarget::new(alloc);
+    let replayed = replay_text(alloc, &mut ByteSource::new(text), &mut target);
+    let answer = replay_answer(alloc, &replayed, target.bytes());
+    drop(replayed);
+    answer
 }
 
 // What reading a text as a condition answers, as a text.

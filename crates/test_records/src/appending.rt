@@ -25,5 +25,8 @@ fn answer_of(appended: &Result<(), AppendFault>) -> Answer {
 
 /// Appends an entry.
 pub(crate) fn append(record: &mut Record, entry: Entry) -> Answer {
-    answer_of(&record.append(entry))
+    let appended = record.append(entry);
+    let answer = answer_of(&appended);
+    drop(appended);
+    answer
 }

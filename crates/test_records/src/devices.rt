@@ -6,12 +6,29 @@ use tk_record::{ReadFault, Record, WriteFault, write_record};
 use tk_record_report::write_report_of;
 use tk_streams::{ByteTarget, Target};
 
+// Whether a question is answered so: the device of its record broke.
+fn is_device(answer: &Result<bool, AskFault>) -> bool {
+    matches!(answer, Err(AskFault::Read(ReadFault::Device)))
+}
+
+// Asks a question of a source that breaks at a call, and says whether the answer is that it broke.
+fn asks_in_vain(
+    alloc: Global,
+    words: &[String],
+    breaks_at: usize,
+    target: &mut ByteTarget,
+) -> bool {
+    let mut source = OneByteSource::new(two_tests(), breaks_at);
+    let answer = ask(alloc, words, &mut source, target);
+    let is_device = is_device(&answer);
+    drop(answer);
+    is_device
+}
+
 // Whether asking a question answers that the device broke, with nothing written.
 fn asking_breaks(alloc: Global, words: &[String], breaks_at: usize) -> bool {
-    let mut source = OneByteSource::new(two_tests(), breaks_at);
     let mut target = ByteTarget::new(alloc);
-    let answer = ask(alloc, words, &mut source, &mut target);
-    target.bytes().is_empty() && matches!(answer, Err(AskFault::Read(ReadFault::Device)))
+    asks_in_vain(alloc, words, breaks_at, &mut target) && target.bytes().is_empty()
 }
 
 /// The call after the last byte answers that the end is reached.

@@ -20,11 +20,17 @@ fn is_written(answer: Result<(), WriteFault>, target: &ByteTarget, text: &[u8]) 
     }
 }
 
+fn is_memory(fault: ReadFault) -> bool {
+    let is_memory = matches!(fault, ReadFault::Memory);
+    drop(fault);
+    is_memory
+}
+
 // The record of two tests, or whether memory was refused.
 fn two_tests_record(alloc: Global) -> Result<Record, bool> {
     match read_record(alloc, &mut ByteSource::new(two_tests())) {
         Ok(record) => Ok(record),
-        Err(fault) => Err(matches!(fault, ReadFault::Memory)),
+        Err(fault) => Err(is_memory(fault)),
     }
 }
 
@@ -81,12 +87,17 @@ fn texts(rt: HostRuntime) {
     assert!(rt; hold);
 }
 
+// Whether the only failure among the events is at position 2.
+fn is_failure_selected(alloc: Global, events: &Events) -> Option<bool> {
+    let failures = select(alloc, events, &Condition::Failed(None)).ok()?;
+    let positions = failures.positions(alloc).ok()?;
+    Some(positions.as_slice() == [2].as_slice())
+}
+
 // Whether the failures of tests are selected, at their positions.
 fn are_selected(alloc: Global, record: &Record) -> Option<bool> {
     let tests = Events::all(alloc, record).ok()?.tests(alloc).ok()?;
-    let failures = select(alloc, &tests, &Condition::Failed(None)).ok()?;
-    let positions = failures.positions(alloc).ok()?;
-    Some(positions.as_slice() == [2].as_slice())
+    is_failure_selected(alloc, &tests)
 }
 
 // Whether two conditions match in order.

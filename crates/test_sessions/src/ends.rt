@@ -24,17 +24,25 @@ pub enum TakenItem {
     End(u8),
 }
 
-/// Emits the event if there is room.
-pub fn send<R: Wait>(rt: &R, sender: &mut Sender, event: Event) -> Answer
-    ensures session { sender.new.session ≡ sender.old.session }
-{
-    match sender.try_send(rt, event) {
+// What a sender answered.
+fn answer_of(sent: &Result<(), SendFault>) -> Answer {
+    match sent {
         Ok(()) => Answer::Sent,
         Err(SendFault::Full(event)) => Answer::Full(event.stamp),
         Err(SendFault::Limit(event)) => Answer::Limit(event.stamp),
         Err(SendFault::UnknownNode(event)) => Answer::UnknownNode(event.stamp),
         Err(SendFault::Unlawful(event)) => Answer::Unlawful(event.stamp),
     }
+}
+
+/// Emits the event if there is room.
+pub fn send<R: Wait>(rt: &R, sender: &mut Sender, event: Event) -> Answer
+    ensures session { sender.new.session ≡ sender.old.session }
+{
+    let sent = sender.try_send(rt, event);
+    let answer = answer_of(&sent);
+    drop(sent);
+    answer
 }
 
 /// What an item is.

@@ -2,6 +2,7 @@
 ghost use Rattle.std.specs.Prelude.{◌≡◌};
 
 use crate::ends::{Answer, TakenItem, send, take};
+use std::alloc::Global;
 use std::sync::Wait;
 use std::test::Fail;
 use test_support::{one_node, start};
@@ -25,14 +26,22 @@ fn passes<R: Wait>(rt: &R, sender: &mut Sender, receiver: &mut Receiver, count: 
     true
 }
 
+// Whether as many events go out as may be, and no more.
+fn passes_to_the_limit<R: Wait>(rt: &R, sender: &mut Sender, receiver: &mut Receiver) -> bool
+    ensures sender { sender.new.session ≡ sender.old.session }
+    ensures receiver { receiver.new.session ≡ receiver.old.session }
+{
+    passes(rt, sender, receiver, 1_048_576)
+        && sender.emitted() == 1_048_576
+        && send(rt, sender, start(0, 7)) == Answer::Limit(7)
+}
+
 #[test]
 fn as_many_events_as_may_be(rt: HostRuntime) -> Result<(), Fail> {
     let table = one_node(rt.alloc(), DType::Test).ok_or("no table")?;
     let (mut senders, mut receiver) = open(rt.alloc(), table, 1, 1)?;
     let mut sender = senders.pop().ok_or("no sender")?;
-    assert!(rt; passes(&rt, &mut sender, &mut receiver, 1_048_576));
-    assert_eq!(rt; sender.emitted(), 1_048_576);
-    assert!(rt; send(&rt, &mut sender, start(0, 7)) == Answer::Limit(7));
+    assert!(rt; passes_to_the_limit(&rt, &mut sender, &mut receiver));
     let token = sender.end(&rt);
     assert!(rt; take(&rt, &mut receiver) == TakenItem::End(1));
     let ended = vec![in rt.alloc(); token]?;
@@ -60,18 +69,29 @@ fn register_all<R: Wait>(
     true
 }
 
+// Whether worker 2 registers 65,536 descriptors and no more, and emits an event of the last one.
+fn registers_to_the_limit<R: Wait>(
+    rt: &R,
+    sender: &mut Sender,
+    receiver: &mut Receiver,
+    segment: &Segment,
+) -> bool {
+    register_all(rt, sender, receiver, segment, 131_072, 65_536)
+        && sender.register(rt, 0, segment, "d", DType::Test, 3) == Err(RegisterFault::Limit)
+        && sender.emitted() == 65_536
+        && send(rt, sender, start(196_607, 4)) == Answer::Sent
+        && take(rt, receiver) == TakenItem::Entry(2, Kind::Started, 196_607, 4)
+}
+
+// The same of a session of two senders.
+fn registrations_reach_the_limit<R: Wait>(rt: &R, alloc: Global) -> Option<bool> {
+    let (mut senders, mut receiver) = open(alloc, one_node(alloc, DType::Test)?, 2, 1).ok()?;
+    let mut sender = senders.pop()?;
+    let segment = Segment::new(alloc, "dyn", "1").ok()?;
+    Some(registers_to_the_limit(rt, &mut sender, &mut receiver, &segment))
+}
+
 #[test]
-fn as_many_registrations_as_may_be(rt: HostRuntime) -> Result<(), Fail> {
-    let alloc = rt.alloc();
-    let table = one_node(alloc, DType::Test).ok_or("no table")?;
-    let (mut senders, mut receiver) = open(alloc, table, 2, 1)?;
-    let mut sender = senders.pop().ok_or("no sender")?;
-    let segment = Segment::new(alloc, "dyn", "1")?;
-    assert!(rt; register_all(&rt, &mut sender, &mut receiver, &segment, 131_072, 65_536));
-    let more = sender.register(&rt, 0, &segment, "d", DType::Test, 3);
-    assert_eq!(rt; more, Err(RegisterFault::Limit));
-    assert_eq!(rt; sender.emitted(), 65_536);
-    assert!(rt; send(&rt, &mut sender, start(196_607, 4)) == Answer::Sent);
-    assert!(rt; take(&rt, &mut receiver) == TakenItem::Entry(2, Kind::Started, 196_607, 4));
-    Ok(())
+fn as_many_registrations_as_may_be(rt: HostRuntime) {
+    assert!(rt; registrations_reach_the_limit(&rt, rt.alloc()) == Some(true));
 }

@@ -24,10 +24,7 @@ enum Ending {
 }
 
 // A refused growth of the target breaks it, and what it took is a prefix of the record.
-fn replayed(alloc: Global) -> Ending {
-    let mut source = ByteSource::new(small_replay());
-    let mut target = ByteTarget::new(alloc);
-    let answer = replay_text(alloc, &mut source, &mut target);
+fn ending_of(answer: &Result<(), ReplayFault>, target: &ByteTarget) -> Ending {
     let broken = target.is_broken();
     let is_whole = target.bytes() == small_replay_taken();
     let is_prefix = small_replay_taken().starts_with(target.bytes());
@@ -37,6 +34,15 @@ fn replayed(alloc: Global) -> Ending {
         Err(ReplayFault::Device) if is_prefix && broken => Ending::Refused,
         _ => Ending::Wrong,
     }
+}
+
+fn replayed(alloc: Global) -> Ending {
+    let mut source = ByteSource::new(small_replay());
+    let mut target = ByteTarget::new(alloc);
+    let answer = replay_text(alloc, &mut source, &mut target);
+    let ending = ending_of(&answer, &target);
+    drop(answer);
+    ending
 }
 
 #[test]

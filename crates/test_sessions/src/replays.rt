@@ -139,25 +139,33 @@ fn left_waiting(rt: HostRuntime) {
     assert!(rt; hold);
 }
 
+// Whether the answer is that a device broke.
+fn is_device(answer: &Result<(), ReplayFault>) -> bool {
+    matches!(answer, Err(ReplayFault::Device))
+}
+
 // Whether a replay answers that a device broke.
-fn is_device<S: Source, T: Target>(alloc: Global, source: &mut S, target: &mut T) -> bool {
-    matches!(replay_text(alloc, source, target), Err(ReplayFault::Device))
+fn meets_device<S: Source, T: Target>(alloc: Global, source: &mut S, target: &mut T) -> bool {
+    let answer = replay_text(alloc, source, target);
+    let is_device = is_device(&answer);
+    drop(answer);
+    is_device
 }
 
 // Whether a replay of a source that breaks at a call answers so, and writes nothing.
 fn reading_breaks(alloc: Global, breaks_at: usize) -> bool {
     let mut source = OneByteSource::new(small_replay(), breaks_at);
     let mut target = ByteTarget::new(alloc);
-    is_device(alloc, &mut source, &mut target) && target.bytes().is_empty()
+    meets_device(alloc, &mut source, &mut target) && target.bytes().is_empty()
 }
 
 // Whether a replay to a target that breaks at a call answers so, and `breaks_at` bytes went out before.
 fn writing_breaks(alloc: Global, breaks_at: usize) -> bool {
     let mut source = OneByteSource::new(small_replay(), 1_000);
     let mut target = OneByteTarget::new(alloc, breaks_at);
-    let is_device = is_device(alloc, &mut source, &mut target);
+    let meets_device = meets_device(alloc, &mut source, &mut target);
     let taken = target.taken();
-    is_device && taken.len() == breaks_at && small_replay_taken().starts_with(taken)
+    meets_device && taken.len() == breaks_at && small_replay_taken().starts_with(taken)
 }
 
 #[test]

@@ -147,32 +147,49 @@ fn long_registration<R: Wait>(rt: &R, alloc: Global, sender: &mut Sender) -> Opt
     register(rt, sender, &segment, 0).err()
 }
 
-#[test]
-fn registering(rt: HostRuntime) -> Result<(), Fail> {
-    let alloc = rt.alloc();
-    let table = one_node(alloc, DType::Test).ok_or("no table")?;
-    let (mut senders, mut receiver) = open(alloc, table, 2, 4)?;
-    let mut second = senders.pop().ok_or(NO_SENDER)?;
-    let mut first = senders.pop().ok_or(NO_SENDER)?;
-    let segment = Segment::new(alloc, "dyn", "1")?;
-    assert_eq!(rt; register(&rt, &mut second, &segment, 0), Ok(131_072));
-    assert!(rt; take(&rt, &mut receiver) == TakenItem::Entry(2, Kind::Dynamic, 131_072, 5));
-    assert!(rt; send(&rt, &mut first, start(131_072, 7)) == Answer::UnknownNode(7));
-    assert_eq!(rt;
-        register(&rt, &mut first, &segment, 9),
-        Err(RegisterFault::UnknownNode)
-    );
-    assert_eq!(rt;
-        long_registration(&rt, alloc, &mut first),
-        Some(RegisterFault::Id(IdFault::TooLong))
-    );
-    let message = Some(Text::copy(alloc, "no")?);
+// Whether one sender's descriptor is registered and taken, and the other sender doesn't know it.
+fn is_registered<R: Wait>(
+    rt: &R,
+    segment: &Segment,
+    first: &mut Sender,
+    second: &mut Sender,
+    receiver: &mut Receiver,
+) -> bool {
+    register(rt, second, segment, 0) == Ok(131_072)
+        && take(rt, receiver) == TakenItem::Entry(2, Kind::Dynamic, 131_072, 5)
+        && send(rt, first, start(131_072, 7)) == Answer::UnknownNode(7)
+}
+
+// Whether an unknown parent and an id that is too long are refused.
+fn are_refused<R: Wait>(rt: &R, alloc: Global, segment: &Segment, sender: &mut Sender) -> bool {
+    register(rt, sender, segment, 9) == Err(RegisterFault::UnknownNode)
+        && long_registration(rt, alloc, sender) == Some(RegisterFault::Id(IdFault::TooLong))
+}
+
+// What a sender answers to a success with a message.
+fn success_with_message<R: Wait>(rt: &R, alloc: Global, sender: &mut Sender) -> Option<Answer> {
+    let message = Text::copy(alloc, "no").ok()?;
     let finish = Event {
         kind: Kind::Finished,
         key: 0,
         stamp: 0,
-        payload: Payload::Outcome(Status::Successful, message),
+        payload: Payload::Outcome(Status::Successful, Some(message)),
     };
-    assert!(rt; send(&rt, &mut second, finish) == Answer::Unlawful(0));
-    Ok(())
+    Some(send(rt, sender, finish))
+}
+
+// The same of a session of two senders.
+fn registrations_hold<R: Wait>(rt: &R, alloc: Global) -> Option<bool> {
+    let (mut senders, mut receiver) = open(alloc, one_node(alloc, DType::Test)?, 2, 4).ok()?;
+    let mut second = senders.pop()?;
+    let mut first = senders.pop()?;
+    let segment = Segment::new(alloc, "dyn", "1").ok()?;
+    let hold = is_registered(rt, &segment, &mut first, &mut second, &mut receiver)
+        && are_refused(rt, alloc, &segment, &mut first);
+    Some(hold && success_with_message(rt, alloc, &mut second)? == Answer::Unlawful(0))
+}
+
+#[test]
+fn registering(rt: HostRuntime) {
+    assert!(rt; registrations_hold(&rt, rt.alloc()) == Some(true));
 }

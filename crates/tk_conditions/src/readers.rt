@@ -69,6 +69,7 @@ fn close(alloc: Global, mut stack: Vec<OpenGroup>, condition: Condition, byte: u
         close (groups_of stack.items) (cond_of condition) byte ≡ option_map state_of next) }
 {
     let Some(group) = stack.pop() else {
+        drop(condition);
         return Ok(None);
     };
     match byte {
@@ -77,7 +78,10 @@ fn close(alloc: Global, mut stack: Vec<OpenGroup>, condition: Condition, byte: u
             Some(group) => Ok(Some(within(alloc, stack, group)?)),
             None => Ok(None),
         },
-        _ => Ok(None),
+        _ => {
+            drop(condition);
+            Ok(None)
+        }
     }
 }
 
@@ -321,12 +325,16 @@ impl Reader {
     {
         let Reader { stack, position } = self;
         if !stack.is_empty() {
+            drop(position);
             return None;
         }
         match position {
             Position::Word(word) => bare_named(&word),
             Position::After(condition) => Some(condition),
-            _ => None,
+            other => {
+                drop(other);
+                None
+            }
         }
     }
 }

@@ -23,6 +23,7 @@ pub fn read_condition(alloc: Global, text: &str) -> Result<Condition, CondFault>
             None => return Err(CondFault::BadAtom(at)),
         };
         if reader.depth() > MAX_DEPTH {
+            drop(reader);
             return Err(CondFault::Deep);
         }
     }

@@ -1,5 +1,5 @@
 //! The threads of a run's workers.
-ghost use Rattle.std.specs.Prelude.{◌≡◌, ◌<◌, ◌≤◌, [], ◌∷◌, ◌++◌, vec_len, vec_capacity};
+ghost use Rattle.std.specs.Prelude.{◌≡◌, ◌≤◌, vec_len, vec_capacity};
 ghost use Rattle.tk_engine.specs.WorkerThreads.{CanRunWorkers, WorkersWereRun};
 ghost use Rattle.tk_engine.specs.Workers.{IsReady, IsDone};
 
@@ -35,17 +35,6 @@ pub(crate) struct JoinedWorkers {
     pub outcomes: Vec<Outcome>,
 }
 
-// Adds an outcome, for which there is room.
-fn add(outcomes: &mut Vec<Outcome>, outcome: Outcome)
-    requires { vec_len outcomes.old < vec_capacity outcomes.old }
-    ensures items { outcomes.new.items ≡ outcomes.old.items ++ outcome ∷ [] }
-    ensures capacity { vec_capacity outcomes.old ≤ vec_capacity outcomes.new }
-{
-    let Ok(()) = outcomes.push(outcome) else {
-        unreachable!()
-    };
-}
-
 // Starts a thread for the last worker, does the same with the rest, collects events where none is
 // left, and joins on the way back.
 fn spawn_workers<'s, 'e, R: Threads + Wait + Sync, E: Engine>(
@@ -55,19 +44,20 @@ fn spawn_workers<'s, 'e, R: Threads + Wait + Sync, E: Engine>(
     engine: &'e E,
     claim: &'e Claim,
     book: &'e Book,
-    mut unstarted: UnstartedWorkers,
-    mut joined: JoinedWorkers,
-) -> JoinedWorkers
+    unstarted: &mut UnstartedWorkers,
+    joined: &mut JoinedWorkers,
+)
     requires limit { claim.now.limit ≡ E.units engine.now }
-    requires ready { CanRunWorkers claim.now book.now (E.table engine.now) unstarted joined }
+    requires ready { CanRunWorkers claim.now book.now (E.table engine.now) unstarted.old
+        joined.old }
     ensures run_to_the_end { WorkersWereRun (E.may engine.now) (E.units engine.now) claim.now
-        (vec_len unstarted.senders) joined result }
-    ensures capacity { vec_capacity joined.outcomes ≤ vec_capacity result.outcomes }
-    ensures at_most { vec_len result.outcomes ≤ vec_len unstarted.senders }
+        (vec_len unstarted.old.senders) joined.old joined.new }
+    ensures capacity { vec_capacity joined.old.outcomes ≤ vec_capacity joined.new.outcomes }
+    ensures at_most { vec_len joined.new.outcomes ≤ vec_len unstarted.old.senders }
 {
     let Some(handles) = unstarted.take() else {
         joined.collector.collect_all(rt);
-        return joined;
+        return;
     };
     let worker = handles.sender.worker();
     let promise = WorkerPromise {
@@ -83,17 +73,13 @@ fn spawn_workers<'s, 'e, R: Threads + Wait + Sync, E: Engine>(
     { work(rt, alloc, engine, claim, book, handles) };
     match scope.spawn_with(promise, run) {
         Ok(thread) => {
-            let mut joined = spawn_workers(
-                rt, alloc, scope, engine, claim, book, unstarted, joined,
-            );
-            let outcome = thread.join(rt);
-            add(&mut joined.outcomes, outcome);
-            joined
+            spawn_workers(rt, alloc, scope, engine, claim, book, unstarted, joined);
+            joined.outcomes.push_reserved(thread.join(rt));
         }
         Err(refused) => {
             drop(refused);
             joined.collector.refuse(worker);
-            spawn_workers(rt, alloc, scope, engine, claim, book, unstarted, joined)
+            spawn_workers(rt, alloc, scope, engine, claim, book, unstarted, joined);
         }
     }
 }
@@ -121,6 +107,20 @@ pub(crate) fn run_workers<R: Threads + Wait + Sync, E: Engine>(
                 × CanRunWorkers claim.now book.now (E.table engine.now) unstarted joined }
             ensures { WorkersWereRun (E.may engine.entry.now) (E.units engine.entry.now)
                 claim.entry.now (vec_len unstarted.senders) joined result }
-        { spawn_workers(rt, alloc, scope, engine, claim, book, unstarted, joined) },
+        {
+            let mut unstarted = unstarted;
+            let mut joined = joined;
+            spawn_workers(
+                rt,
+                alloc,
+                scope,
+                engine,
+                claim,
+                book,
+                &mut unstarted,
+                &mut joined,
+            );
+            joined
+        },
     )
 }

@@ -1,5 +1,5 @@
 -- The checks of one node, one after another.
-use Rattle.std.proofs.Common.{◌≡◌, ℕ, ◌+◌, ◌<◌, ◌≤◌, List, [], ◌∷◌, ◌++◌, length, flat_map, Bool, true, false, not, cond, ◌&&◌, nat_le, Option, Some, None, option_map, refl, sym, ap, ap₂, ◌∙◌, subst, arith, append-nil, length-append}
+use Rattle.std.proofs.Common.{◌≡◌, ℕ, ◌+◌, ◌<◌, ◌≤◌, List, [], ◌∷◌, ◌++◌, length, flat_map, Bool, true, false, not, cond, ◌&&◌, nat_le, Option, Some, None, option_map, Result, Ok, Err, refl, sym, ap, ap₂, ◌∙◌, subst, arith, append-nil, length-append}
 use Rattle.std.proofs.lemmas.Bool.{lt-ltb, le-ltb}
 use Rattle.std.proofs.lemmas.Grind.{flat_map-append}
 use Rattle.std.proofs.lemmas.List.{map-append}
@@ -16,7 +16,7 @@ use Rattle.tk_cutting.specs.Keys.{note_key, note_locks, lock_keys}
 use Rattle.tk_cutting.specs.Planned.{is_lawful_node}
 use Rattle.tk_cutting.specs.Trees.{contents}
 use Rattle.tk_plan.specs.Answers.{Refuses}
-use Rattle.tk_plan.specs.Refusals.{Faults}
+use Rattle.tk_plan.specs.Refusals.{Faults, Meets}
 use Rattle.tk_plan.specs.Checks.{first}
 use Rattle.tk_plan.specs.Progress.{IsNoted, IsChecked, IsAdded, room_checks}
 use Rattle.tk_plan.specs.NodeInputs.{NodeInput, segment_of, node_of, repeats_key}
@@ -36,6 +36,11 @@ faults_also v w EntryKeyTwice f r = f EntryKeyTwice r
 faults_also v w TooManyEvents f r = f TooManyEvents r
 faults_also v w Deep f r = f Deep r
 faults_also v w Memory f r = tt
+
+-- an answer by one verdict is one by another
+pub meets_also : {A : Type 0} (v w : Option PlanFault) (P Q : A → Type 0) (r : Result A PlanFault) → w ≡ v → ((x : A) → P x → Q x) → Meets v P r → Meets w Q r
+meets_also v w P Q (Ok x) e f m = (e ∙ m.0, f x m.1)
+meets_also v w P Q (Err fault) e f m = faults_also v w fault (λ g h. e ∙ h) m
 
 pub faults_from_path : (wrong : Option (List ℕ)) (w : Option PlanFault) (e : PlanFault) → ((p : List ℕ) → wrong ≡ Some p → w ≡ Some (Field p)) → Refuses wrong e → Faults w e
 faults_from_path wrong w (Field p) f r = f p r

@@ -43,6 +43,13 @@ wrong_first check at path d (a ∷ []) v e h w = absurd (omega arith)
 wrong_first check at path d (a ∷ b ∷ []) v e h w = pair_of_list check at d (a ∷ b ∷ []) e ∙ rw w refl
 wrong_first check at path d (a ∷ b ∷ x ∷ vs) v e h w = absurd (omega arith)
 
+pub wrong_second : (check : Check) (at path : List ℕ) (d : Data) (vs : List Value) (v w : Value) → Some (items_view vs) ≡ as_array d → length vs ≡ 2
+    → check (item_at at 0) (view (get_or vs 0 v)) ≡ None → check (item_at at 1) (view (get_or vs 1 w)) ≡ Some path → pair_of check at d ≡ Some path
+wrong_second check at path d [] v w e h fine wrong = absurd (omega arith)
+wrong_second check at path d (a ∷ []) v w e h fine wrong = absurd (omega arith)
+wrong_second check at path d (a ∷ b ∷ []) v w e h fine wrong = pair_of_list check at d (a ∷ b ∷ []) e ∙ rw (fine, wrong) refl
+wrong_second check at path d (a ∷ b ∷ x ∷ vs) v w e h fine wrong = absurd (omega arith)
+
 pub array_items : (check : Check) (at : List ℕ) (d : Data) (vs : List Value) → Some (items_view vs) ≡ as_array d → array_of check at d ≡ items_wrong check at 0 (map view vs)
 array_items check at d vs e = ap (array_of check at) (is_array d (items_view vs) e) ∙ ap (items_wrong check at 0) (list_of-items_view vs)
 

@@ -19,13 +19,11 @@ use Rattle.tk_plan.proofs.Items.{listed_items, array_items}
 use Rattle.tk_events.specs.Event.{is_strictly_increasing, is_before}
 use Rattle.tk_plan.specs.Checks.{text, pair_of, array_of, items_wrong, or_else, item_at}
 use Rattle.tk_plan.specs.Rows.{entry}
+use Rattle.tk_plan.specs.Endings.{has_key}
 use Rattle.tk_plan.specs.Contents.{json_pair, json_entry, put_all, repeats, repeats_after}
 
 abbrev pub Texts : Type 0
 Texts = List ℕ × List ℕ
-
-abbrev pub has_key : List ℕ → List Texts → Bool
-has_key k es = is_some (lookup (is_at (slice_cmp nat_cmp k)) es)
 
 same_key : (k x : List ℕ) → is_eq (slice_cmp nat_cmp k x) ≡ bytes_eq k x
 same_key k x = sym (texts_ties k x)

@@ -1,6 +1,10 @@
 -- What readers of a node's result and entries hand on.
-use Rattle.std.specs.Prelude.{◌≡◌, true, List, Option, map}
+use Rattle.std.specs.Prelude.{◌≡◌, Bool, true, ℕ, List, Option, is_some, map}
 use Rattle.std.specs.List.{list_all, list_any}
+use Rattle.std.specs.Ordering.{nat_cmp}
+use Rattle.std.specs.Cmp.Lexicographic.{slice_cmp}
+use Rattle.std.specs.Map.{lookup}
+use Rattle.std.specs.BTreeMap.{is_at}
 use Rattle.serde_json.specs.Data.{Data}
 use Rattle.tk_events.specs.Event.{is_strictly_increasing, is_lawful}
 use Rattle.tk_events.specs.declared.kinds.Kind.TheVariants.{Finished}
@@ -9,6 +13,10 @@ use Rattle.tk_plan.specs.Contents.{status_in, message_in, json_entry, repeats as
 use Rattle.tk_plan.specs.declared.member_values.Ending.{Ending}
 use Rattle.tk_plan.specs.declared.member_values.Report.{Report}
 use Rattle.tk_plan.specs.declared.member_values.Reports.{Reports}
+
+-- one of the pairs has the key
+abbrev pub has_key : List ℕ → List (List ℕ × List ℕ) → Bool
+has_key k es = is_some (lookup (is_at (slice_cmp nat_cmp k)) es)
 
 pub record IsEnding (d : Option Data) (e : Ending) : Type 0 where
   pub status : e.status ≡ status_in d

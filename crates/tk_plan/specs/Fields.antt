@@ -6,7 +6,7 @@ use Rattle.serde_json.specs.Find.{get}
 use Rattle.serde_json.specs.View.{view}
 use Rattle.tk_plan.specs.Checks.{Row}
 use Rattle.tk_plan.specs.Contents.{json_text, json_optional, json_dtype, listed}
-use Rattle.tk_plan.specs.Rows.{dtype_row, segment_row, name_row, mode_row, isolated_row, locks_row, skip_row, result_row, entries_row, files_rows}
+use Rattle.tk_plan.specs.Rows.{dtype_row, segment_row, name_row, mode_row, isolated_row, locks_row, skip_row, result_row, entries_row, files_rows, children_row, dynamic_row}
 use Rattle.tk_events.specs.Event.{is_lawful}
 use Rattle.tk_events.specs.declared.kinds.Kind.TheVariants.{File}
 use Rattle.tk_events.specs.declared.payloads.Payload.TheVariants.{Path}
@@ -29,6 +29,10 @@ concurrency_rows = mode_row ∷ isolated_row ∷ locks_row ∷ []
 
 abbrev pub content_rows : Bool → List Row
 content_rows takes_files = skip_row ∷ result_row ∷ entries_row ∷ files_rows takes_files
+
+-- a dynamic node has no `children`
+abbrev pub below_rows : List Row
+below_rows = children_row ∷ dynamic_row ∷ []
 
 pub record IsHeading (d : Data) (h : Heading) : Type 0 where
   pub dtype : h.dtype ≡ json_dtype (get (codes "type") d)

@@ -19,6 +19,7 @@ use Rattle.tk_plan.specs.declared.faults.PlanFault.{PlanFault}
 use Rattle.tk_plan.specs.declared.faults.PlanFault.TheVariants.{Table, TooManyResources}
 use Rattle.tk_plan.specs.declared.plan_readers.Reader.{Reader}
 use Rattle.tk_plan.specs.declared.plan_readers.Checked.{Checked}
+use Rattle.tk_plan.specs.declared.plan_readers.Named.{Named}
 
 -- what is kept beside the nodes fits them
 pub record IsNoted (r : Reader) : Type 0 where
@@ -47,6 +48,12 @@ pub record IsEntered (old new : Reader) (earlier later : List Pair) (is_static :
   pub few_keys : length noted ≤ 15
   pub room : count_by (is_kind is_static) (contents old.nodes.items) < 65536
   pub siblings : later ≡ earlier ++ segment ∷ []
+
+-- a node's segment and its keys were noted, and this is its segment with its id
+pub record IsAdmitted (old new : Reader) (s : NodeInput) (later : List Pair) (n : Named) : Type 0 where
+  pub segment : n.segment ≡ segment_of s
+  pub id : n.id ≡ id_of s
+  pub entered : IsEntered old new s.earlier later s.is_static (segment_of s) (lock_keys (contents old.nodes.items ++ node_of s ∷ []))
 
 -- a node was checked, and its keys were noted
 pub record IsChecked (old new : Reader) (s : NodeInput) (later : List Pair) (c : Checked) : Type 0 where

@@ -1,5 +1,5 @@
 //! The checks of a node.
-ghost use Rattle.std.specs.Prelude.{◌≡◌, ◌++◌, ◌∷◌, [], option_map, nat_le};
+ghost use Rattle.std.specs.Prelude.{◌≡◌, ◌≤◌, ◌++◌, ◌∷◌, [], None, option_map, nat_le};
 ghost use Rattle.std.specs.List.{count_by};
 ghost use Rattle.serde_json.specs.View.{view};
 ghost use Rattle.tk_ids.specs.Answer.{IsMadeOf};
@@ -11,8 +11,9 @@ ghost use Rattle.tk_plan.specs.Checks.{first};
 ghost use Rattle.tk_plan.specs.Fields.{HasFields, checked_of};
 ghost use Rattle.tk_plan.specs.PlanOf.{id_fault, node_check, is_kind, checks};
 ghost use Rattle.tk_plan.specs.Refusals.{Meets};
+ghost use Rattle.tk_plan.specs.declared.limits.TheConstants.{MAX_LEVELS};
 ghost use Rattle.tk_plan.specs.Seen.{seen, above_of, json_segment_text, as_plan_fault, IsNamed};
-ghost use Rattle.tk_plan.specs.Progress.{IsNoted, IsEntered, IsChecked, room_checks};
+ghost use Rattle.tk_plan.specs.Progress.{IsNoted, IsEntered, IsAdmitted, IsChecked, room_checks};
 
 use crate::faults::PlanFault;
 use crate::limits::MAX_LEVELS;
@@ -166,6 +167,39 @@ fn note_node<'v>(
     Ok(())
 }
 
+/// Checks what a node's members say, given the nodes before it, and notes its segment and its lock
+/// keys. Answers its segment and its id.
+fn check_fields<'v>(
+    alloc: Global,
+    reader: &mut Reader,
+    siblings: &mut Siblings<'v>,
+    node_input: NodeInput<'_, 'v>,
+    fields: &Fields<'v>,
+) -> Result<Named, PlanFault>
+    requires noted { IsNoted reader.old }
+    requires level { node_input.level ≤ MAX_LEVELS }
+    requires members { node_check (seen siblings.old node_input) ≡ None }
+    requires read { HasFields node_input.is_static node_input.takes_files
+        (view node_input.value.now) fields.now }
+    ensures { let s = seen siblings.old node_input.entry in
+        Meets (first (checks (contents reader.old.nodes.items) s))
+        (IsAdmitted reader.old reader.new s siblings.new) result }
+{
+    if fields.content.reports.repeats {
+        return Err(PlanFault::EntryKeyTwice);
+    }
+    let named = named(alloc, node_input.above, fields.heading.segment)?;
+    note_node(
+        alloc,
+        reader,
+        siblings,
+        node_input.is_static,
+        fields.heading.segment,
+        fields.concurrency.locks.as_slice(),
+    )?;
+    Ok(named)
+}
+
 /// Checks one node, given the nodes before it, and notes its segment and its lock keys.
 pub(crate) fn check_node<'v>(
     alloc: Global,
@@ -182,17 +216,6 @@ pub(crate) fn check_node<'v>(
         return Err(PlanFault::Deep);
     }
     let fields = fields_of(alloc, node_input)?;
-    if fields.content.reports.repeats {
-        return Err(PlanFault::EntryKeyTwice);
-    }
-    let named = named(alloc, node_input.above, fields.heading.segment)?;
-    note_node(
-        alloc,
-        reader,
-        siblings,
-        node_input.is_static,
-        fields.heading.segment,
-        fields.concurrency.locks.as_slice(),
-    )?;
+    let named = check_fields(alloc, reader, siblings, node_input, &fields)?;
     Ok(into_checked(node_input.is_static, named, fields))
 }

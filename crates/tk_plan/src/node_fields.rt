@@ -3,9 +3,10 @@ ghost use Rattle.std.specs.Prelude.{◌≡◌, true, false, map};
 ghost use Rattle.serde_json.specs.View.{view};
 ghost use Rattle.tk_plan.specs.Checks.{members_wrong, unknown};
 ghost use Rattle.tk_plan.specs.Rows.{static_rows, dynamic_rows, static_node, dynamic_node};
+ghost use Rattle.tk_plan.specs.NodeInputs.{children_of, dynamic_of};
 ghost use Rattle.tk_plan.specs.Pointers.{pointer};
 ghost use Rattle.tk_plan.specs.Answers.{Reads};
-ghost use Rattle.tk_plan.specs.Fields.{heading_rows, concurrency_rows, content_rows, IsHeading, IsConcurrency, IsContent, HasFields};
+ghost use Rattle.tk_plan.specs.Fields.{heading_rows, concurrency_rows, content_rows, below_rows, IsHeading, IsConcurrency, IsContent, HasFields};
 
 use crate::faults::PlanFault;
 use crate::file_members::files_member;
@@ -167,6 +168,21 @@ fn known_in_dynamic(
     }
 }
 
+/// Reads the members `children` and `dynamic` of a static node: their items.
+fn below_members<'v>(
+    alloc: Global,
+    at: JsonPath<'_>,
+    object: &'v Value,
+) -> Result<(&'v [Value], &'v [Value]), PlanFault>
+    ensures { Reads (members_wrong below_rows (pointer at.entry) (view object.now))
+        (λ t. (map view t.0.now ≡ children_of true (view object.now))
+        × (map view t.1.now ≡ dynamic_of (view object.now))) result }
+{
+    let children = array_member(alloc, at, object, "children")?;
+    let dynamic = array_member(alloc, at, object, "dynamic")?;
+    Ok((children, dynamic))
+}
+
 /// Reads the members of a static node.
 pub(crate) fn static_fields<'v>(
     alloc: Global,
@@ -181,8 +197,7 @@ pub(crate) fn static_fields<'v>(
     let heading = heading_members(alloc, at, value)?;
     let concurrency = concurrency_members(alloc, at, value)?;
     let content = content_members(alloc, at, value, takes_files)?;
-    let children = array_member(alloc, at, value, "children")?;
-    let dynamic = array_member(alloc, at, value, "dynamic")?;
+    let (children, dynamic) = below_members(alloc, at, value)?;
     Ok(Fields {
         heading,
         concurrency,

@@ -63,9 +63,9 @@ fn add_checked(
         (IsAdded reader.old reader.new checked.entry.node checked.entry.id) }
     ensures id { IfOk result (λ id. id ≡ checked.entry.id) }
 {
-    let id = checked.id.try_clone(alloc)?;
+    let copied = checked.id.try_clone(alloc);
     add_node(reader, checked.node, checked.id)?;
-    Ok(id)
+    copied
 }
 
 /// Reads a node and all below it.
@@ -149,16 +149,19 @@ fn read_all<'v>(
     Ok(())
 }
 
-/// Reads the root and all below it.
-pub(crate) fn read_nodes(
+/// Reads the root and all below it, given a reader that has read no node.
+fn read_root(
     alloc: Global,
+    reader: &mut Reader,
     takes_files: bool,
     root: &Value,
-) -> Result<Reader, PlanFault>
+) -> Result<(), PlanFault>
+    requires nodes { reader.old.nodes.items ≡ [] }
+    requires descriptors { reader.old.descriptors.items ≡ [] }
+    requires noted { IsNoted reader.old }
     ensures { let s = root_at takes_files (view root.now) in
-        Meets (verdict [] (node_inputs 60 s)) (HasRead s) result }
+        Meets (verdict [] (node_inputs 60 s)) (λ _. HasRead s reader.new) result }
 {
-    let mut reader = Reader::new(alloc);
     let mut siblings = Siblings::with_capacity(alloc, 1)?;
     let node_input = NodeInput {
         path: JsonPath::Whole("/root"),
@@ -168,6 +171,19 @@ pub(crate) fn read_nodes(
         above: None,
         value: root,
     };
-    read_node(alloc, &mut reader, &mut siblings, node_input)?;
+    read_node(alloc, reader, &mut siblings, node_input)
+}
+
+/// Reads the nodes of a plan: the root and all below it.
+pub(crate) fn read_nodes(
+    alloc: Global,
+    takes_files: bool,
+    root: &Value,
+) -> Result<Reader, PlanFault>
+    ensures { let s = root_at takes_files (view root.now) in
+        Meets (verdict [] (node_inputs 60 s)) (HasRead s) result }
+{
+    let mut reader = Reader::new(alloc);
+    read_root(alloc, &mut reader, takes_files, root)?;
     Ok(reader)
 }

@@ -1,5 +1,8 @@
 //! Readers of a node's result and of its entries.
 ghost use Rattle.std.specs.Prelude.{◌≡◌, IfOk, OnOk, Some, codes, true};
+ghost use Rattle.std.specs.BTreeMap.{insert_entry};
+ghost use Rattle.std.specs.Cmp.Lexicographic.{slice_cmp};
+ghost use Rattle.std.specs.Ordering.{nat_cmp};
 ghost use Rattle.serde_json.specs.Find.{get};
 ghost use Rattle.serde_json.specs.View.{view};
 ghost use Rattle.tk_events.specs.Event.{is_strictly_increasing};
@@ -8,12 +11,12 @@ ghost use Rattle.tk_plan.specs.Rows.{status_row, result_row, entries_row, entry 
 ghost use Rattle.tk_plan.specs.Pointers.{pointer};
 ghost use Rattle.tk_plan.specs.Answers.{Reads};
 ghost use Rattle.tk_plan.specs.Contents.{json_status, listed};
-ghost use Rattle.tk_plan.specs.Endings.{IsEnding, IsReport, AreReports};
+ghost use Rattle.tk_plan.specs.Endings.{has_key, IsEnding, IsReport, AreReports};
 
 use crate::faults::PlanFault;
 use crate::json_members::{known_members, optional_member, two_texts};
 use crate::json_paths::JsonPath;
-use crate::member_values::{Ending, Report, Reports};
+use crate::member_values::{Ending, Report, Reports, TwoTexts};
 use crate::path_texts::{field, item_path, member_path};
 use serde_json::Value;
 use std::alloc::{AllocError, Global};
@@ -79,6 +82,22 @@ fn pairs_of(alloc: Global, map: BTreeMap<Text, Text>) -> Result<Pairs, AllocErro
     Ok(Pairs::of(pairs))
 }
 
+/// Puts a pair into the map, in place of one with its key; answers whether there was one.
+fn insert_pair(
+    alloc: Global,
+    map: &mut BTreeMap<Text, Text>,
+    pair: TwoTexts<'_>,
+) -> Result<bool, AllocError>
+    ensures pair { OnOk result (map.new.entries ≡ insert_entry (slice_cmp nat_cmp)
+        map.old.entries pair.entry.first.now pair.entry.second.now) }
+    ensures repeats { IfOk result (λ repeats.
+        repeats ≡ has_key pair.entry.first.now map.old.entries) }
+{
+    let key = Text::copy(alloc, pair.first)?;
+    let stated = Text::copy(alloc, pair.second)?;
+    Ok(map.insert(key, stated)?.is_some())
+}
+
 fn entry(alloc: Global, array: &str, index: usize, value: &Value) -> Result<Report, PlanFault>
     ensures { Reads (is_entry (item_at array.now index) (view value.now))
         (IsReport (view value.now)) result }
@@ -90,9 +109,7 @@ fn entry(alloc: Global, array: &str, index: usize, value: &Value) -> Result<Repo
     let mut repeats = false;
     for (inner, item) in items.iter().enumerate() {
         let pair = two_texts(alloc, JsonPath::Inner(array, index, inner), item)?;
-        let key = Text::copy(alloc, pair.first)?;
-        let stated = Text::copy(alloc, pair.second)?;
-        repeats = repeats | map.insert(key, stated)?.is_some();
+        repeats = repeats | insert_pair(alloc, &mut map, pair)?;
     }
     let pairs = pairs_of(alloc, map)?;
     Ok(Report { pairs, repeats })

@@ -11,8 +11,8 @@ spawn_with-requires-clause-runs g t c κs within =
     let ready : IsReady c.args.claim.now c.args.book.now (g.E.Engine.table c.args.engine.now) c.in-Some.handles = unstarted_ready _ _ _ _ _ _ _ c.in-Some.ensures.some c.requires.ready.unstarted in
     search rules
 
-pub spawn_workers-joined-requires-clause-ready : goal.spawn_workers-joined-requires-clause-ready
-spawn_workers-joined-requires-clause-ready g t c κs within =
+pub spawn_workers-requires-clause-ready : goal.spawn_workers-requires-clause-ready
+spawn_workers-requires-clause-ready g t c κs within =
     let fewer = one_fewer _ _ _ c.in-Some.ensures.some in
     let room = c.requires.ready.room in record {
       unstarted = unstarted_rest _ _ _ _ _ _ _ c.in-Some.ensures.some c.requires.ready.unstarted;
@@ -21,8 +21,8 @@ spawn_workers-joined-requires-clause-ready g t c κs within =
       room = omega (arith, fewer, room);
     }
 
-pub spawn_workers-requires-clause-ready : goal.spawn_workers-requires-clause-ready
-spawn_workers-requires-clause-ready g t c κs within =
+pub spawn_workers-requires-in-Err-clause-ready : goal.spawn_workers-requires-in-Err-clause-ready
+spawn_workers-requires-in-Err-clause-ready g t c κs within =
     let fewer = one_fewer _ _ _ c.in-Some.ensures.some in
     let room = c.requires.ready.room in record {
       unstarted = rw c.refuse.ensures.follows.session (unstarted_rest _ _ _ _ _ _ _ c.in-Some.ensures.some c.requires.ready.unstarted);
@@ -35,18 +35,18 @@ pub returns-in-Ok-clause-run_to_the_end : goal.returns-in-Ok-clause-run_to_the_e
 returns-in-Ok-clause-run_to_the_end g t c =
     let may = g.E.Engine.may c.args.engine.now in
     let units = g.E.Engine.units c.args.engine.now in
-    let session = c.args.joined.collector.receiver.session in
+    let session = c.args.joined.now.collector.receiver.session in
     let claim = c.args.claim.now in
     let rest = c.take.new.self.senders in
-    let o = c.join-outcome.result in
+    let o = c.join.result in
     let last = unstarted_sender _ _ _ _ _ _ _ c.in-Some.ensures.some c.requires.ready.unstarted in
     let handles = c.in-Some.handles in
     let own : IsDone may units handles.sender.session claim handles.sender.worker o = search rules in
     let index : handles.sender.worker ≡ vec_len rest + 1 = ap (λ (s : SenderView). s.worker) last ∙ ap (λ n. n + 1) (sym (rest.ok.0)) in
     let done : IsDone may units session claim (vec_len rest + 1) o = rw (ap (λ (s : SenderView). s.session) last, index) at own in
-    one_joined may units claim (vec_len rest) (vec_len c.args.unstarted.senders) c.args.joined c.spawn_workers-joined.result _ o (one_fewer _ _ _ c.in-Some.ensures.some) c.spawn_workers-joined.ensures.run_to_the_end refl c.add.ensures.items done
+    one_joined may units claim (vec_len rest) (vec_len c.args.unstarted.now.senders) c.args.joined.now c.spawn_workers.new.joined _ o (one_fewer _ _ _ c.in-Some.ensures.some) c.spawn_workers.ensures.run_to_the_end refl c.push_reserved.ensures.items done
 
 pub returns-in-Err-clause-run_to_the_end : goal.returns-in-Err-clause-run_to_the_end
 returns-in-Err-clause-run_to_the_end g t c =
-    one_refused (g.E.Engine.may c.args.engine.now) (g.E.Engine.units c.args.engine.now) c.args.claim.now (vec_len c.take.new.self.senders) (vec_len c.args.unstarted.senders) c.args.joined _ c.spawn_workers.result
-    (one_fewer _ _ _ c.in-Some.ensures.some) c.refuse.ensures.follows c.refuse.ensures.refused c.spawn_workers.ensures.at_most c.spawn_workers.ensures.run_to_the_end
+    one_refused (g.E.Engine.may c.args.engine.now) (g.E.Engine.units c.args.engine.now) c.args.claim.now (vec_len c.take.new.self.senders) (vec_len c.args.unstarted.now.senders) c.args.joined.now _ c.spawn_workers-in-Err.new.joined
+    (one_fewer _ _ _ c.in-Some.ensures.some) c.refuse.ensures.follows c.refuse.ensures.refused c.spawn_workers-in-Err.ensures.at_most c.spawn_workers-in-Err.ensures.run_to_the_end

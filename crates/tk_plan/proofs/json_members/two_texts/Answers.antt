@@ -1,7 +1,7 @@
 use Rattle.std.proofs.Common.{◌≡◌, get_or, sym, ◌≢◌, length, arith}
 use Rattle.std.proofs.lemmas.Result.{err_from_is_err_and}
 use Rattle.tk_plan.specs.Checks.{text as is_text}
-use Rattle.tk_plan.proofs.Items.{not_a_pair, wrong_first}
+use Rattle.tk_plan.proofs.Items.{not_a_pair, wrong_first, wrong_second}
 use Rattle.tk_plan.proofs.Passing.{refuses_whole}
 use Rattle.tk_plan.proofs.json_members.two_texts.Goals as goal
 
@@ -18,3 +18,12 @@ returns-in_err-first c =
     let two : length c.in-Some.items.now.items ≡ 2 = grind arith in
     let item : get_or c.in-Some.items.now.items 0 c.index.result.now ≡ c.index.result.now = sym c.index.ensures in
     rw (p.1, p.2) (refuses_whole _ _ _ (λ path w. wrong_first is_text _ path _ _ c.index.result.now e two (rw item w)) c.in_err-first.ensures)
+
+pub returns-in_err-second : goal.returns-in_err-second
+returns-in_err-second c =
+    let e = c.in-Some.ensures in
+    let p = err_from_is_err_and c.from_residual-in_err-second.result c.from_residual-in_err-second.ensures.1 in
+    let two : length c.in-Some.items.now.items ≡ 2 = grind arith in
+    let item : get_or c.in-Some.items.now.items 0 c.index.result.now ≡ c.index.result.now = sym c.index.ensures in
+    let next : get_or c.in-Some.items.now.items 1 c.index-2.result.now ≡ c.index-2.result.now = sym c.index-2.ensures in
+    rw (p.1, p.2) (refuses_whole _ _ _ (λ path w. wrong_second is_text _ path _ _ c.index.result.now c.index-2.result.now e two (rw item c.in_ok-first.ensures.0) (rw next w)) c.in_err-second.ensures)

@@ -29,15 +29,10 @@ returns-in_err-content c =
 pub returns-in_err-children : goal.returns-in_err-children
 returns-in_err-children c =
     let p = err_from_is_err_and c.from_residual-in_err-children.result c.from_residual-in_err-children.ensures.1 in
-    rw (p.1, p.2) (refuses_whole _ _ _ (λ path w. static_groups c.args.takes_files (pointer c.args.at) (view c.args.value.now) ∙ passes _ _ _ c.in_ok-known_in_static.ensures.0 (passes _ _ _ c.in_ok-heading.ensures.0 (passes _ _ _ c.in_ok-concurrency.ensures.0 (passes _ _ _ c.in_ok-content.ensures.0 (stops _ _ _ w))))) c.in_err-children.ensures)
-
-pub returns-in_err-dynamic : goal.returns-in_err-dynamic
-returns-in_err-dynamic c =
-    let p = err_from_is_err_and c.from_residual-in_err-dynamic.result c.from_residual-in_err-dynamic.ensures.1 in
-    rw (p.1, p.2) (refuses_whole _ _ _ (λ path w. static_groups c.args.takes_files (pointer c.args.at) (view c.args.value.now) ∙ passes _ _ _ c.in_ok-known_in_static.ensures.0 (passes _ _ _ c.in_ok-heading.ensures.0 (passes _ _ _ c.in_ok-concurrency.ensures.0 (passes _ _ _ c.in_ok-content.ensures.0 (passes _ _ _ c.in_ok-children.ensures.0 (stops _ _ _ w)))))) c.in_err-dynamic.ensures)
+    rw (p.1, p.2) (refuses_whole _ _ _ (λ path w. static_groups c.args.takes_files (pointer c.args.at) (view c.args.value.now) ∙ passes _ _ _ c.in_ok-known_in_static.ensures.0 (passes _ _ _ c.in_ok-heading.ensures.0 (passes _ _ _ c.in_ok-concurrency.ensures.0 (passes _ _ _ c.in_ok-content.ensures.0 w)))) c.in_err-children.ensures)
 
 pub returns : goal.returns
 returns c = (
-  static_groups c.args.takes_files (pointer c.args.at) (view c.args.value.now) ∙ passes _ _ _ c.in_ok-known_in_static.ensures.0 (passes _ _ _ c.in_ok-heading.ensures.0 (passes _ _ _ c.in_ok-concurrency.ensures.0 (passes _ _ _ c.in_ok-content.ensures.0 (passes _ _ _ c.in_ok-children.ensures.0 (passes _ _ _ c.in_ok-dynamic.ensures.0 refl))))),
-  record { heading = c.in_ok-heading.ensures.1; concurrency = c.in_ok-concurrency.ensures.1; content = c.in_ok-content.ensures.1; children = c.in_ok-children.ensures.1; dynamic = c.in_ok-dynamic.ensures.1 },
+  static_groups c.args.takes_files (pointer c.args.at) (view c.args.value.now) ∙ passes _ _ _ c.in_ok-known_in_static.ensures.0 (passes _ _ _ c.in_ok-heading.ensures.0 (passes _ _ _ c.in_ok-concurrency.ensures.0 (passes _ _ _ c.in_ok-content.ensures.0 c.in_ok-children.ensures.0))),
+  record { heading = c.in_ok-heading.ensures.1; concurrency = c.in_ok-concurrency.ensures.1; content = c.in_ok-content.ensures.1; children = c.in_ok-children.ensures.1.0; dynamic = c.in_ok-children.ensures.1.1 },
 )

@@ -1,10 +1,10 @@
-use Rattle.std.proofs.Common.{◌≡◌, ◌||◌, [], drop, map, is_some, sym, ap, ◌∙◌, arith}
+use Rattle.std.proofs.Common.{◌≡◌, ◌||◌, [], drop, map, sym, ap, ◌∙◌, arith}
 use Rattle.std.proofs.lemmas.List.{drop_all}
 use Rattle.std.proofs.lemmas.Result.{err_from_is_err_and}
 use Rattle.serde_json.specs.View.{view}
 use Rattle.tk_events.specs.Event.{is_strictly_increasing}
 use Rattle.tk_plan.proofs.Passing.{refuses_whole}
-use Rattle.tk_plan.proofs.Pairing.{goes_start, goes_next, goes_fault, goes_end, has_key}
+use Rattle.tk_plan.proofs.Pairing.{goes_start, goes_next, goes_fault, goes_end}
 use Rattle.tk_plan.proofs.Items.{values_next}
 use Rattle.tk_plan.proofs.result_members.entry.Goals as goal
 
@@ -15,9 +15,8 @@ pub loop-inner-preserved : goal.loop-inner-preserved
 loop-inner-preserved c =
     let t = c.in_ok-pair.ensures in
     let split = values_next c.deref-item-items.result.now c.loop-inner.inner c.item-item.result c.loop-inner-test.true c.item-item.is in
-    let again : c.loop-inner.repeats || c.is_some.result ≡ c.loop-inner.repeats || has_key c.in_ok-key.key c.loop-inner.map.entries =
-    ap (λ x. c.loop-inner.repeats || x) (c.is_some.ensures ∙ ap is_some c.in_ok-insert.ensures.old) in
-    goes_next _ _ _ _ _ _ c.loop-inner.invariant _ _ c.in_ok-key.key c.in_ok-stated.stated _ _ split t.0 (c.in_ok-key.ensures ∙ t.1.first) (c.in_ok-stated.ensures ∙ t.1.second) c.in_ok-insert.ensures.entries again
+    let put = c.in_ok-repeats.ensures in
+    goes_next _ _ _ _ _ _ c.loop-inner.invariant _ _ c.in_ok-pair.pair.first.now c.in_ok-pair.pair.second.now _ _ split t.0 t.1.first t.1.second put.pair (ap (λ x. c.loop-inner.repeats || x) put.repeats)
 
 pub returns-in_err-pair : goal.returns-in_err-pair
 returns-in_err-pair c =

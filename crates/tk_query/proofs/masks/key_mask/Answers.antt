@@ -1,4 +1,6 @@
-use Rattle.std.proofs.Common.{map, arith, ◌∙◌, ap, ◌++◌, ◌∷◌, []}
+use Rattle.std.proofs.Common.{map, length, length-take, arith, ◌∙◌, ap, ◌++◌, ◌∷◌, []}
+use Rattle.std.proofs.lemmas.List.{length-map}
+use Rattle.std.proofs.lemmas.Result.{err_from_is_err_and}
 use Rattle.std.specs.Prelude.{◌==◌}
 use Rattle.tk_query.specs.Holds.{holds}
 use Rattle.tk_query.proofs.MaskLemmas.{column_more, column_done, if_ok_same}
@@ -17,3 +19,26 @@ returns c =
     if_ok_same c.of_byte.result _ (map (holds r c.args.condition.now) r.entries)
     (ap (map (λ x. x == 1)) c.deref.ensures.value ∙ column_done r c.args.condition.now c.loop-position.position c.loop-position.column.items (omega arith) c.loop-position.invariant.0)
     c.of_byte.ensures
+
+pub returns-in_err-column : goal.returns-in_err-column
+returns-in_err-column c = let p = err_from_is_err_and c.from_residual.result c.from_residual.ensures.1 in rw p.1 tt
+
+pub answer_by_key-requires-clause-of_key : goal.answer_by_key-requires-clause-of_key
+answer_by_key-requires-clause-of_key c = c.requires.of_key
+
+pub answer_by_key-requires-clause-keys : goal.answer_by_key-requires-clause-keys
+answer_by_key-requires-clause-keys c = c.requires.keys
+
+pub answer_by_key-requires-clause-before : goal.answer_by_key-requires-clause-before
+answer_by_key-requires-clause-before c = c.loop-position.invariant.1
+
+pub returns-in_err-answer : goal.returns-in_err-answer
+returns-in_err-answer c = let p = err_from_is_err_and c.from_residual-in_err-answer.result c.from_residual-in_err-answer.ensures.1 in rw p.1 tt
+
+pub returns-in_err-push : goal.returns-in_err-push
+returns-in_err-push c = let p = err_from_is_err_and c.from_residual-in_err-push.result c.from_residual-in_err-push.ensures.1 in rw p.1 tt
+
+pub of_byte-requires : goal.of_byte-requires
+of_byte-requires c =
+    let long = simp (length-map, length-take) at (ap length (c.deref.ensures.value ∙ c.loop-position.invariant.0)) in
+    omega (arith, long, c.len.ensures.bound)
