@@ -6,13 +6,13 @@ use tk_record::{ReadFault, Record, WriteFault, write_record};
 use tk_record_report::write_report_of;
 use tk_streams::{ByteTarget, Target};
 
-// Whether a question is answered so: the device of its record broke.
+// Whether the answer is that the device of the record broke.
 fn is_device(answer: &Result<bool, AskFault>) -> bool {
     matches!(answer, Err(AskFault::Read(ReadFault::Device)))
 }
 
-// Asks a question of a source that breaks at a call, and says whether the answer is that it broke.
-fn asks_in_vain(
+// Whether a question about a source that breaks at a call is answered so.
+fn meets_device(
     alloc: Global,
     words: &[String],
     breaks_at: usize,
@@ -28,7 +28,7 @@ fn asks_in_vain(
 // Whether asking a question answers that the device broke, with nothing written.
 fn asking_breaks(alloc: Global, words: &[String], breaks_at: usize) -> bool {
     let mut target = ByteTarget::new(alloc);
-    asks_in_vain(alloc, words, breaks_at, &mut target) && target.bytes().is_empty()
+    meets_device(alloc, words, breaks_at, &mut target) && target.bytes().is_empty()
 }
 
 /// The call after the last byte answers that the end is reached.

@@ -83,7 +83,7 @@ fn registers_to_the_limit<R: Wait>(
         && take(rt, receiver) == TakenItem::Entry(2, Kind::Started, 196_607, 4)
 }
 
-// The same of a session of two senders.
+// Whether that holds in a session of two senders.
 fn registrations_reach_the_limit<R: Wait>(rt: &R, alloc: Global) -> Option<bool> {
     let (mut senders, mut receiver) = open(alloc, one_node(alloc, DType::Test)?, 2, 1).ok()?;
     let mut sender = senders.pop()?;

@@ -178,7 +178,7 @@ fn success_with_message<R: Wait>(rt: &R, alloc: Global, sender: &mut Sender) -> 
     Some(send(rt, sender, finish))
 }
 
-// The same of a session of two senders.
+// Whether all of that holds in a session of two senders.
 fn registrations_hold<R: Wait>(rt: &R, alloc: Global) -> Option<bool> {
     let (mut senders, mut receiver) = open(alloc, one_node(alloc, DType::Test)?, 2, 4).ok()?;
     let mut second = senders.pop()?;
