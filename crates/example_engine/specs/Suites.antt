@@ -1,5 +1,5 @@
 -- What a clause sees of an engine of cases.
-use Rattle.std.specs.Prelude.{ℕ, List}
+use Rattle.std.specs.Prelude.{List}
 use Rattle.engine_testkit.specs.Descriptor.{Descriptor}
 use Rattle.engine_testkit.specs.Wants.{Wants}
 use Rattle.example_engine.specs.declared.cases.CaseTable.{CaseTable}

@@ -84,15 +84,15 @@ fn register<F: Function, R: Wait, S: Sink>(
     )?)
 }
 
-// Runs a case as a dynamic test: its registration, its start and its finish, each with the case's number as stamp.
-#[tactic(auto, using(engine_testkit::proofs::Growing::grew_refl, engine_testkit::proofs::Growing::grew_trans))]
-fn run_case<F: Function, R: Wait, S: Sink>(
+// Emits the start and the finish of a registered case, each with the case's number as stamp.
+#[tactic(auto, using(engine_testkit::proofs::Growing::grew_trans))]
+fn run_registered<F: Function, R: Wait, S: Sink>(
     rt: &R,
     alloc: Global,
     function: &F,
     cases: &[Case],
     index: usize,
-    container: u32,
+    key: u32,
     sink: &mut S,
 ) -> Result<(), UnitFault>
     requires { index < length cases.now }
@@ -100,7 +100,6 @@ fn run_case<F: Function, R: Wait, S: Sink>(
         (S.meaning sink.old) (S.meaning sink.new) }
 {
     let stamp = index as u64;
-    let key = register(rt, alloc, function, cases, index, container, sink)?;
     let started = Event {
         kind: Kind::Started,
         key,
@@ -116,6 +115,25 @@ fn run_case<F: Function, R: Wait, S: Sink>(
         payload,
     };
     emit(rt, function, cases, finished, sink)
+}
+
+// Runs a case as a dynamic test: its registration, its start and its finish.
+#[tactic(auto, using(engine_testkit::proofs::Growing::grew_trans))]
+fn run_case<F: Function, R: Wait, S: Sink>(
+    rt: &R,
+    alloc: Global,
+    function: &F,
+    cases: &[Case],
+    index: usize,
+    container: u32,
+    sink: &mut S,
+) -> Result<(), UnitFault>
+    requires { index < length cases.now }
+    ensures { GrewBy (IsSound (F.value function.now) cases.now)
+        (S.meaning sink.old) (S.meaning sink.new) }
+{
+    let key = register(rt, alloc, function, cases, index, container, sink)?;
+    run_registered(rt, alloc, function, cases, index, key, sink)
 }
 
 // Emits an event of the container, whose stamp is the number of the cases.
@@ -146,9 +164,28 @@ fn emit_of_table<F: Function, R: Wait, S: Sink>(
     )
 }
 
-// Runs each case, and then publishes an entry and a file.
+// Runs each case.
 #[tactic(auto, using(engine_testkit::proofs::Growing::grew_refl, engine_testkit::proofs::Growing::grew_trans))]
 fn run_cases<F: Function, R: Wait, S: Sink>(
+    rt: &R,
+    alloc: Global,
+    function: &F,
+    cases: &[Case],
+    container: u32,
+    sink: &mut S,
+) -> Result<(), UnitFault>
+    ensures { GrewBy (IsSound (F.value function.now) cases.now)
+        (S.meaning sink.old) (S.meaning sink.new) }
+{
+    for index in 0..cases.len() {
+        run_case(rt, alloc, function, cases, index, container, sink)?;
+    }
+    Ok(())
+}
+
+// Publishes an entry and a file of a table whose cases were run.
+#[tactic(auto, using(engine_testkit::proofs::Growing::grew_refl, engine_testkit::proofs::Growing::grew_trans))]
+fn publish<F: Function, R: Wait, S: Sink>(
     rt: &R,
     alloc: Global,
     function: &F,
@@ -160,18 +197,32 @@ fn run_cases<F: Function, R: Wait, S: Sink>(
         (S.meaning sink.old) (S.meaning sink.new) }
 {
     let cases = table.cases;
-    for index in 0..cases.len() {
-        run_case(rt, alloc, function, cases, index, container, sink)?;
-    }
     let entry = entry_of(alloc, cases)?;
     emit_of_table(rt, function, cases, Kind::Reporting, container, entry, sink)?;
     let path = path_of(alloc, table)?;
     emit_of_table(rt, function, cases, Kind::File, container, path, sink)
 }
 
-/// Runs a table: a skip, or a start, the cases, a report entry, a file and a finish.
-#[tactic(auto, using(engine_testkit::proofs::Growing::grew_refl, engine_testkit::proofs::Growing::grew_trans))]
-pub(crate) fn run_table<F: Function, R: Wait, S: Sink>(
+// Runs the cases of a table that has started, and publishes an entry and a file.
+#[tactic(auto, using(engine_testkit::proofs::Growing::grew_trans))]
+fn run_started<F: Function, R: Wait, S: Sink>(
+    rt: &R,
+    alloc: Global,
+    function: &F,
+    table: CaseTable<'_>,
+    container: u32,
+    sink: &mut S,
+) -> Result<(), UnitFault>
+    ensures { GrewBy (IsSound (F.value function.now) table.entry.cases.now)
+        (S.meaning sink.old) (S.meaning sink.new) }
+{
+    run_cases(rt, alloc, function, table.cases, container, sink)?;
+    publish(rt, alloc, function, table, container, sink)
+}
+
+// Runs a table that isn't disabled: a start, the cases, a report entry, a file and a finish.
+#[tactic(auto, using(engine_testkit::proofs::Growing::grew_trans))]
+fn run_enabled<F: Function, R: Wait, S: Sink>(
     rt: &R,
     alloc: Global,
     function: &F,
@@ -183,20 +234,31 @@ pub(crate) fn run_table<F: Function, R: Wait, S: Sink>(
         (S.meaning sink.old) (S.meaning sink.new) }
 {
     let cases = table.cases;
-    if let Some(reason) = table.disabled {
-        let payload = Payload::Reason(Text::copy(alloc, reason)?);
-        return emit_of_table(rt, function, cases, Kind::Skipped, key, payload, sink);
+    let started = Payload::Nothing;
+    emit_of_table(rt, function, cases, Kind::Started, key, started, sink)?;
+    run_started(rt, alloc, function, table, key, sink)?;
+    let finished = Payload::Outcome(Status::Successful, None);
+    emit_of_table(rt, function, cases, Kind::Finished, key, finished, sink)
+}
+
+/// Runs a table: a skip, or a start, the cases, a report entry, a file and a finish.
+#[tactic(auto, using(engine_testkit::proofs::Growing::grew_refl))]
+pub(crate) fn run_table<F: Function, R: Wait, S: Sink>(
+    rt: &R,
+    alloc: Global,
+    function: &F,
+    table: CaseTable<'_>,
+    key: u32,
+    sink: &mut S,
+) -> Result<(), UnitFault>
+    ensures { GrewBy (IsSound (F.value function.now) table.entry.cases.now)
+        (S.meaning sink.old) (S.meaning sink.new) }
+{
+    match table.disabled {
+        Some(reason) => {
+            let payload = Payload::Reason(Text::copy(alloc, reason)?);
+            emit_of_table(rt, function, table.cases, Kind::Skipped, key, payload, sink)
+        }
+        None => run_enabled(rt, alloc, function, table, key, sink),
     }
-    emit_of_table(
-        rt,
-        function,
-        cases,
-        Kind::Started,
-        key,
-        Payload::Nothing,
-        sink,
-    )?;
-    run_cases(rt, alloc, function, table, key, sink)?;
-    let payload = Payload::Outcome(Status::Successful, None);
-    emit_of_table(rt, function, cases, Kind::Finished, key, payload, sink)
 }

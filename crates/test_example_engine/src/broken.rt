@@ -1,33 +1,62 @@
 //! What the kit says of engines with a defect.
 use engine_testkit::{
-    Condition, Exact, Expected, Mismatch, Selection, execute, executions, match_exactly,
+    Condition, Events, Exact, Expected, Mismatch, Results, Selection, execute, executions,
+    match_exactly,
 };
 use example_engine::{BrokenEngine, Defect};
-use std::alloc::Global;
+use std::alloc::{AllocError, Global};
 use std::sync::Wait;
 use std::thread::Threads;
 
-// What the kit says of an engine whose test is to start and to fail: the first number that is another than expected, the exact
-// match, and how many executions there are.
+// The first number of starts and failures that is another than one.
+fn first_mismatch(alloc: Global, tests: &Events) -> Result<Option<Mismatch>, AllocError> {
+    let mut expected = Expected::none();
+    expected.started = Some(1);
+    expected.failed = Some(1);
+    Ok(tests.check(alloc, &expected)?.get(0).copied())
+}
+
+// The exact match with a start and a failure.
+fn exact_match(alloc: Global, tests: &Events) -> Result<Exact, AllocError> {
+    match_exactly(alloc, tests, &[Condition::Started, Condition::Failed(None)])
+}
+
+// What the kit says of the events of a test that is to start and to fail: the first number that is another than expected, the
+// exact match, and how many executions there are.
+fn verdict_on(
+    alloc: Global,
+    tests: &Events,
+) -> Result<(Option<Mismatch>, Exact, usize), AllocError> {
+    let number = executions(alloc, tests)?.len();
+    Ok((
+        first_mismatch(alloc, tests)?,
+        exact_match(alloc, tests)?,
+        number,
+    ))
+}
+
+// The same of the events of the tests of a run.
+fn verdict_on_run(
+    alloc: Global,
+    results: &Results,
+) -> Result<(Option<Mismatch>, Exact, usize), AllocError> {
+    verdict_on(alloc, &results.test_events(alloc)?)
+}
+
+// What the kit says of a run of an engine with the defect.
 fn verdict<R: Threads + Wait + Sync>(
     rt: &R,
     alloc: Global,
     defect: Defect,
 ) -> Option<(Option<Mismatch>, Exact, usize)> {
-    let results = execute(rt, alloc, &BrokenEngine::new(alloc, defect)?, 1, 1).ok()?;
-    let tests = results.test_events(alloc).ok()?;
-    let mut expected = Expected::none();
-    expected.started = Some(1);
-    expected.failed = Some(1);
-    let mismatches = tests.check(alloc, &expected).ok()?;
-    let exact = match_exactly(
-        alloc,
-        &tests,
-        &[Condition::Started, Condition::Failed(None)],
-    )
-    .ok()?;
-    let number = executions(alloc, &tests).ok()?.len();
-    Some((mismatches.get(0).copied(), exact, number))
+    let engine = BrokenEngine::new(alloc, defect)?;
+    let ran = execute(rt, alloc, &engine, 1, 1);
+    let verdict = match &ran {
+        Ok(results) => verdict_on_run(alloc, results).ok(),
+        Err(_) => None,
+    };
+    drop(ran);
+    verdict
 }
 
 #[test]

@@ -2,9 +2,9 @@
 use crate::numbers::Numbers;
 use crate::samples::{Sample, conditions, edited, ids, plans, random_bytes, records, replays};
 use std::alloc::{AllocError, Global};
-use tk_conditions::read_condition;
+use tk_conditions::{CondFault, Condition, read_condition, write_condition};
 use tk_ids::{IdFault, UniqueId};
-use tk_plan::read_plan;
+use tk_plan::{Plan, PlanFault, read_plan};
 use tk_record::{ReadFault, Record, read_record, write_record};
 use tk_replay::{ReplayFault, replay_text};
 use tk_streams::{ByteSource, ByteTarget};
@@ -119,74 +119,69 @@ fn of_replay(alloc: Global, text: &[u8]) -> Answer {
     answer
 }
 
-// What reading a text as a condition answers, as a text.
-fn condition_in(alloc: Global, text: &str) -> Result<String, AllocError> {
-    let answer = read_condition(alloc, text);
-    Ok(format!(in alloc; "{answer:?}")?)
+fn is_spelled(alloc: Global, condition: &Condition, text: &str) -> bool {
+    match write_condition(alloc, condition) {
+        Ok(written) => written.as_str() == text,
+        Err(_) => false,
+    }
 }
 
-// What reading a text as a plan answers, as a text: of a plan how many events it has.
-fn plan_in(alloc: Global, text: &[u8]) -> Result<String, AllocError> {
-    match read_plan(alloc, text) {
-        Ok(plan) => {
-            let events = plan.total_events();
-            Ok(format!(in alloc; "Ok({events})")?)
+fn condition_answer(alloc: Global, read: &Result<Condition, CondFault>, text: &str) -> Answer {
+    match read {
+        Ok(condition) => read_if(is_spelled(alloc, condition, text)),
+        Err(fault) => refused_if(*fault != CondFault::Memory),
+    }
+}
+
+fn of_condition(alloc: Global, text: &str) -> Answer {
+    let read = read_condition(alloc, text);
+    let answer = condition_answer(alloc, &read, text);
+    drop(read);
+    answer
+}
+
+// What two readings of one plan answer. A plan has an event.
+fn plan_answer(first: &Result<Plan, PlanFault>, second: &Result<Plan, PlanFault>) -> Answer {
+    match (first, second) {
+        (Ok(first), Ok(second)) => {
+            let events = first.total_events();
+            read_if(events > 0 && events == second.total_events())
         }
-        Err(fault) => Ok(format!(in alloc; "Err({fault:?})")?),
+        (Err(PlanFault::Memory), _) => Answer::Wrong,
+        (Err(_), Err(_)) => Answer::Refused,
+        _ => Answer::Wrong,
     }
 }
 
-// The answer of a reader that answered so, and so once more.
-fn of_both(first: &str, second: &str) -> Answer {
-    if first != second || first == "Err(Memory)" {
-        Answer::Wrong
-    } else if first.starts_with("Ok") {
-        Answer::Read
-    } else {
-        Answer::Refused
-    }
-}
-
-fn of_condition(alloc: Global, text: &str) -> Result<Answer, AllocError> {
-    let first = condition_in(alloc, text)?;
-    let second = condition_in(alloc, text)?;
-    Ok(of_both(first.as_str(), second.as_str()))
-}
-
-fn of_plan(alloc: Global, text: &[u8]) -> Result<Answer, AllocError> {
-    let first = plan_in(alloc, text)?;
-    let second = plan_in(alloc, text)?;
-    Ok(of_both(first.as_str(), second.as_str()))
+fn of_plan(alloc: Global, text: &[u8]) -> Answer {
+    let (first, second) = (read_plan(alloc, text), read_plan(alloc, text));
+    let answer = plan_answer(&first, &second);
+    drop(first);
+    drop(second);
+    answer
 }
 
 // What a reader of texts answers; bytes that are no text are refused before.
-fn of_text(alloc: Global, reader: Reader, bytes: &[u8]) -> Result<Answer, AllocError> {
+fn of_text(alloc: Global, reader: Reader, bytes: &[u8]) -> Answer {
     match str::from_utf8(bytes) {
-        Ok(text) if matches!(reader, Reader::Id) => Ok(of_id(alloc, text)),
+        Ok(text) if matches!(reader, Reader::Id) => of_id(alloc, text),
         Ok(text) => of_condition(alloc, text),
-        Err(_) => Ok(Answer::Refused),
+        Err(_) => Answer::Refused,
     }
 }
 
-fn answered(alloc: Global, reader: Reader, bytes: &[u8]) -> Result<Answer, AllocError> {
+fn answered(alloc: Global, reader: Reader, bytes: &[u8]) -> Answer {
     match reader {
         Reader::Id | Reader::Condition => of_text(alloc, reader, bytes),
-        Reader::Record => Ok(of_record(alloc, bytes)),
-        Reader::Replay => Ok(of_replay(alloc, bytes)),
+        Reader::Record => of_record(alloc, bytes),
+        Reader::Replay => of_replay(alloc, bytes),
         Reader::Plan => of_plan(alloc, bytes),
     }
 }
 
-/// What the answers were.
-#[derive(Clone, Copy, Debug, PartialEq, Eq)]
-enum Tally {
-    /// None was wrong. Whether a hundred texts were read, and a hundred refused.
-    Right(bool, bool),
-    Wrong,
-}
-
-// What a reader answers to random texts and to edits of a sample.
-fn tried(alloc: Global, reader: Reader, sample: Sample) -> Result<Tally, AllocError> {
+// Whether none of a reader's answers to random texts and to edits of a sample is wrong, and a hundred
+// texts are read, and a hundred refused.
+fn is_right(alloc: Global, reader: Reader, sample: Sample) -> Result<bool, AllocError> {
     let mut numbers = Numbers::new(2_463_534_242);
     let mut read = 0u32;
     let mut refused = 0u32;
@@ -196,66 +191,45 @@ fn tried(alloc: Global, reader: Reader, sample: Sample) -> Result<Tally, AllocEr
         } else {
             edited(alloc, &mut numbers, sample)?
         };
-        match answered(alloc, reader, text.as_slice())? {
+        match answered(alloc, reader, text.as_slice()) {
             Answer::Read => read = read.saturating_add(1),
             Answer::Refused => refused = refused.saturating_add(1),
-            Answer::Wrong => return Ok(Tally::Wrong),
+            Answer::Wrong => return Ok(false),
         }
     }
-    Ok(Tally::Right(read >= 100, refused >= 100))
+    Ok(read >= 100 && refused >= 100)
+}
+
+fn are_right(alloc: Global, reader: Reader, samples: &[Sample]) -> Result<bool, AllocError> {
+    for sample in samples {
+        if !is_right(alloc, reader, *sample)? {
+            return Ok(false);
+        }
+    }
+    Ok(true)
 }
 
 #[test]
-fn hostile_ids(rt: HostRuntime) -> Result<(), AllocError> {
-    for sample in ids() {
-        assert_eq!(rt;
-            tried(rt.alloc(), Reader::Id, sample)?,
-            Tally::Right(true, true)
-        );
-    }
-    Ok(())
+fn hostile_ids(rt: HostRuntime) {
+    assert!(rt; are_right(rt.alloc(), Reader::Id, &ids()) == Ok(true));
 }
 
 #[test]
-fn hostile_conditions(rt: HostRuntime) -> Result<(), AllocError> {
-    for sample in conditions() {
-        assert_eq!(rt;
-            tried(rt.alloc(), Reader::Condition, sample)?,
-            Tally::Right(true, true)
-        );
-    }
-    Ok(())
+fn hostile_conditions(rt: HostRuntime) {
+    assert!(rt; are_right(rt.alloc(), Reader::Condition, &conditions()) == Ok(true));
 }
 
 #[test]
-fn hostile_records(rt: HostRuntime) -> Result<(), AllocError> {
-    for sample in records() {
-        assert_eq!(rt;
-            tried(rt.alloc(), Reader::Record, sample)?,
-            Tally::Right(true, true)
-        );
-    }
-    Ok(())
+fn hostile_records(rt: HostRuntime) {
+    assert!(rt; are_right(rt.alloc(), Reader::Record, &records()) == Ok(true));
 }
 
 #[test]
-fn hostile_replays(rt: HostRuntime) -> Result<(), AllocError> {
-    for sample in replays() {
-        assert_eq!(rt;
-            tried(rt.alloc(), Reader::Replay, sample)?,
-            Tally::Right(true, true)
-        );
-    }
-    Ok(())
+fn hostile_replays(rt: HostRuntime) {
+    assert!(rt; are_right(rt.alloc(), Reader::Replay, &replays()) == Ok(true));
 }
 
 #[test]
-fn hostile_plans(rt: HostRuntime) -> Result<(), AllocError> {
-    for sample in plans() {
-        assert_eq!(rt;
-            tried(rt.alloc(), Reader::Plan, sample)?,
-            Tally::Right(true, true)
-        );
-    }
-    Ok(())
+fn hostile_plans(rt: HostRuntime) {
+    assert!(rt; are_right(rt.alloc(), Reader::Plan, &plans()) == Ok(true));
 }

@@ -81,17 +81,19 @@ fn of_dynamic_test() -> [(u32, u64, Act); 5] {
 
 #[test]
 fn demo_plan_is_cut(rt: HostRuntime) {
-    match read_plan(rt.alloc(), demo_plan()) {
+    let read = read_plan(rt.alloc(), demo_plan());
+    match &read {
         Ok(plan) => {
             assert!(rt; plan.spine() == &[0][..]);
             assert!(rt; plan.units() == &[1, 3, 5, 6][..]);
             assert!(rt; plan.total_events() == 16);
-            assert!(rt; have_needs(&plan, &[0x1, 0x1, 0x1, 0xF1]));
-            assert!(rt; matches!(has_frame(rt.alloc(), &plan, 15), Ok(true)));
-            assert!(rt; ends_with(rt.alloc(), &plan, &of_dynamic_test()));
+            assert!(rt; have_needs(plan, &[0x1, 0x1, 0x1, 0xF1]));
+            assert!(rt; matches!(has_frame(rt.alloc(), plan, 15), Ok(true)));
+            assert!(rt; ends_with(rt.alloc(), plan, &of_dynamic_test()));
         }
         Err(_) => assert!(rt; false, "no plan"),
     }
+    drop(read);
 }
 
 // Whether a plan is one unit that gives `events` events, with nothing on the spine.
@@ -105,10 +107,12 @@ fn is_one_unit(alloc: Global, plan: &Plan, events: u32) -> bool {
 #[test]
 fn roots_off_the_spine(rt: HostRuntime) {
     for (text, events) in [(same_thread(), 4), (one_test(), 2), (with_files(), 4)] {
-        match read_plan(rt.alloc(), text) {
-            Ok(plan) => assert!(rt; is_one_unit(rt.alloc(), &plan, events), "{events}"),
+        let read = read_plan(rt.alloc(), text);
+        match &read {
+            Ok(plan) => assert!(rt; is_one_unit(rt.alloc(), plan, events), "{events}"),
             Err(_) => assert!(rt; false, "no plan"),
         }
+        drop(read);
     }
 }
 
@@ -124,8 +128,10 @@ fn of_files() -> [(u32, u64, Act); 4] {
 
 #[test]
 fn files_of_a_node(rt: HostRuntime) {
-    match read_plan(rt.alloc(), with_files()) {
-        Ok(plan) => assert!(rt; ends_with(rt.alloc(), &plan, &of_files())),
+    let read = read_plan(rt.alloc(), with_files());
+    match &read {
+        Ok(plan) => assert!(rt; ends_with(rt.alloc(), plan, &of_files())),
         Err(_) => assert!(rt; false, "no plan"),
     }
+    drop(read);
 }

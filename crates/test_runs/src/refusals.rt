@@ -39,7 +39,10 @@ fn of_reading(answer: &Result<Plan, PlanFault>) -> Ending {
 }
 
 fn read(alloc: Global) -> Ending {
-    of_reading(&read_plan(alloc, demo_plan()))
+    let answer = read_plan(alloc, demo_plan());
+    let ending = of_reading(&answer);
+    drop(answer);
+    ending
 }
 
 #[test]
@@ -90,7 +93,9 @@ fn of_reporting(answer: &Result<(), ReportFault>, taken: &[u8], is_broken: bool)
 fn report<R: Threads + Wait + Sync>(rt: &R, alloc: Global) -> Ending {
     let mut target = ByteTarget::new(alloc);
     let answer = plan_report(rt, alloc, demo_plan(), 2, &mut target);
-    of_reporting(&answer, target.bytes(), target.is_broken())
+    let ending = of_reporting(&answer, target.bytes(), target.is_broken());
+    drop(answer);
+    ending
 }
 
 #[test]

@@ -42,29 +42,47 @@ fn is_cut(answer: &Result<(), ReportFault>, target: &OneByteTarget, breaks_at: u
 fn writing_breaks(alloc: Global, results: &Results, breaks_at: usize) -> bool {
     let mut target = OneByteTarget::new(alloc, breaks_at);
     let answer = write_report(alloc, results, &mut target);
-    is_cut(&answer, &target, breaks_at)
+    let breaks = is_cut(&answer, &target, breaks_at);
+    drop(answer);
+    breaks
 }
 
 fn reporting_breaks<R: Threads + Wait + Sync>(rt: &R, alloc: Global, breaks_at: usize) -> bool {
     let mut target = OneByteTarget::new(alloc, breaks_at);
     let answer = plan_report(rt, alloc, demo_plan(), 4, &mut target);
-    is_cut(&answer, &target, breaks_at)
+    let breaks = is_cut(&answer, &target, breaks_at);
+    drop(answer);
+    breaks
+}
+
+// Whether a run of the demo plan recorded all events, each of them once.
+fn is_whole(alloc: Global, results: &Results) -> bool {
+    results.recorded().len() == 16
+        && emitted(results) == 14
+        && matches!(counts(alloc, results), Ok((16, 7, 9)))
+}
+
+// Whether writing the report breaks at each byte, and nowhere else.
+fn writing_breaks_at_each_byte(alloc: Global, results: &Results) -> bool {
+    for call in 0..demo_report().len() {
+        if !writing_breaks(alloc, results, call) {
+            return false;
+        }
+    }
+    !writing_breaks(alloc, results, demo_report().len())
 }
 
 #[test]
 fn a_run_and_its_report(rt: HostRuntime) {
-    match ran(&rt, rt.alloc()) {
+    let ran = ran(&rt, rt.alloc());
+    match &ran {
         Some(results) => {
-            assert!(rt; results.recorded().len() == 16);
-            assert!(rt; emitted(&results) == 14);
-            assert!(rt; matches!(counts(rt.alloc(), &results), Ok((16, 7, 9))));
-            for call in 0..demo_report().len() {
-                assert!(rt; writing_breaks(rt.alloc(), &results, call), "{call}");
-            }
-            assert!(rt; !writing_breaks(rt.alloc(), &results, demo_report().len()));
+            assert!(rt; is_whole(rt.alloc(), results));
+            assert!(rt; writing_breaks_at_each_byte(rt.alloc(), results));
         }
         None => assert!(rt; false, "no run"),
     }
+    drop(ran);
 }
 
 #[test]

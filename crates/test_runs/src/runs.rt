@@ -1,5 +1,5 @@
 //! Engines that are run by one to fifteen workers.
-use crate::engines::{UnitStep, engine};
+use crate::engines::{StepEngine, UnitStep, engine};
 use std::alloc::Global;
 use std::sync::Wait;
 use std::thread::Threads;
@@ -66,6 +66,20 @@ fn outcome_of(ran: &Result<Results, RunFault>) -> Outcome {
     }
 }
 
+// What a run of the engine answered.
+fn run_engine<R: Threads + Wait + Sync>(
+    rt: &R,
+    alloc: Global,
+    engine: &StepEngine<'_>,
+    workers: usize,
+    capacity: usize,
+) -> Outcome {
+    let ran = execute(rt, alloc, engine, workers, capacity);
+    let outcome = outcome_of(&ran);
+    drop(ran);
+    outcome
+}
+
 // A run of units of this need, of which the first does the one list of steps and the others the other one: what it
 // answered, and the sum of the bits of the units that began.
 fn run<R: Threads + Wait + Sync>(
@@ -79,7 +93,7 @@ fn run<R: Threads + Wait + Sync>(
 ) -> (Outcome, u64) {
     match engine(alloc, units, need, steps[0], steps[1]) {
         Some(engine) => {
-            let outcome = outcome_of(&execute(rt, alloc, &engine, workers, capacity));
+            let outcome = run_engine(rt, alloc, &engine, workers, capacity);
             (outcome, engine.begun())
         }
         None => (Outcome::Refused, 0),
@@ -264,7 +278,7 @@ fn run_of_starts<R: Threads + Wait + Sync>(rt: &R, alloc: Global) -> (Outcome, u
     steps[1_001] = UnitStep::End;
     match engine(alloc, 2, read_of_all(), &steps, &steps) {
         Some(engine) => {
-            let outcome = outcome_of(&execute(rt, alloc, &engine, 2, 1));
+            let outcome = run_engine(rt, alloc, &engine, 2, 1);
             (outcome, engine.begun(), engine.ended())
         }
         None => (Outcome::Refused, 0, 0),

@@ -1,9 +1,38 @@
 //! The two ends of a session, by answers that are plain values.
-ghost use Rattle.std.specs.Prelude.{◌≡◌};
+ghost use Rattle.std.specs.Prelude.{◌≡◌, All, IfSome};
 
+use std::alloc::Global;
 use std::sync::Wait;
+use test_support::one_node;
 use tk_events::{Event, Kind};
-use tk_queue::{Item, Receiver, SendFault, Sender};
+use tk_ids::DType;
+use tk_queue::{Ended, Item, Receiver, SendFault, Sender, open};
+
+/// The sender and the receiver of a session of one worker, if it is opened.
+pub fn one_sender(alloc: Global, capacity: usize) -> Option<(Sender, Receiver)>
+    ensures { IfSome result (λ ends. ends.0.session ≡ ends.1.session) }
+{
+    let (mut senders, receiver) = open(alloc, one_node(alloc, DType::Test)?, 1, capacity).ok()?;
+    Some((senders.pop()?, receiver))
+}
+
+/// The senders of the workers 1 and 2, and their receiver, if their session is opened.
+pub fn two_senders(alloc: Global, capacity: usize) -> Option<(Sender, Sender, Receiver)>
+    ensures first { IfSome result (λ ends. ends.0.session ≡ ends.2.session) }
+    ensures second { IfSome result (λ ends. ends.1.session ≡ ends.2.session) }
+{
+    let (mut senders, receiver) = open(alloc, one_node(alloc, DType::Test)?, 2, capacity).ok()?;
+    let second = senders.pop()?;
+    Some((senders.pop()?, second, receiver))
+}
+
+/// How many events worker 1 emitted, if the session is closed.
+pub fn emitted(receiver: Receiver, ended: Vec<Ended>) -> Option<u64>
+    requires { All (λ token. token.session ≡ receiver.session) ended.items }
+{
+    let closed = receiver.close(ended).ok()?;
+    Some(closed.emitted(1))
+}
 
 /// What a sender answers.
 #[derive(Clone, Copy, PartialEq, Eq)]

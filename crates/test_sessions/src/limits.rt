@@ -1,14 +1,13 @@
 //! One sender emits and registers as much as it may.
 ghost use Rattle.std.specs.Prelude.{◌≡◌};
 
-use crate::ends::{Answer, TakenItem, send, take};
+use crate::ends::{Answer, TakenItem, emitted, one_sender, send, take, two_senders};
 use std::alloc::Global;
 use std::sync::Wait;
-use std::test::Fail;
-use test_support::{one_node, start};
+use test_support::start;
 use tk_events::Kind;
 use tk_ids::{DType, Segment};
-use tk_queue::{Receiver, RegisterFault, Sender, open};
+use tk_queue::{Receiver, RegisterFault, Sender};
 
 // Whether `count` starts were sent, and each was taken at once.
 fn passes<R: Wait>(rt: &R, sender: &mut Sender, receiver: &mut Receiver, count: u64) -> bool
@@ -36,18 +35,23 @@ fn passes_to_the_limit<R: Wait>(rt: &R, sender: &mut Sender, receiver: &mut Rece
         && send(rt, sender, start(0, 7)) == Answer::Limit(7)
 }
 
+// How many events a session of one sender closes with, after that.
+fn emitted_to_the_limit<R: Wait>(rt: &R, alloc: Global) -> Option<u64> {
+    let (mut sender, mut receiver) = one_sender(alloc, 1)?;
+    if !passes_to_the_limit(rt, &mut sender, &mut receiver) {
+        return None;
+    }
+    let token = sender.end(rt);
+    if take(rt, &mut receiver) == TakenItem::End(1) {
+        emitted(receiver, vec![in alloc; token].ok()?)
+    } else {
+        None
+    }
+}
+
 #[test]
-fn as_many_events_as_may_be(rt: HostRuntime) -> Result<(), Fail> {
-    let table = one_node(rt.alloc(), DType::Test).ok_or("no table")?;
-    let (mut senders, mut receiver) = open(rt.alloc(), table, 1, 1)?;
-    let mut sender = senders.pop().ok_or("no sender")?;
-    assert!(rt; passes_to_the_limit(&rt, &mut sender, &mut receiver));
-    let token = sender.end(&rt);
-    assert!(rt; take(&rt, &mut receiver) == TakenItem::End(1));
-    let ended = vec![in rt.alloc(); token]?;
-    let closed = receiver.close(ended).ok().ok_or("not closed")?;
-    assert_eq!(rt; closed.emitted(1), 1_048_576);
-    Ok(())
+fn as_many_events_as_may_be(rt: HostRuntime) {
+    assert!(rt; emitted_to_the_limit(&rt, rt.alloc()) == Some(1_048_576));
 }
 
 // The last of `count` keys, which count up from `first`, where each registration was taken at once.
@@ -85,10 +89,9 @@ fn registers_to_the_limit<R: Wait>(
 
 // Whether that holds in a session of two senders.
 fn registrations_reach_the_limit<R: Wait>(rt: &R, alloc: Global) -> Option<bool> {
-    let (mut senders, mut receiver) = open(alloc, one_node(alloc, DType::Test)?, 2, 1).ok()?;
-    let mut sender = senders.pop()?;
     let segment = Segment::new(alloc, "dyn", "1").ok()?;
-    Some(registers_to_the_limit(rt, &mut sender, &mut receiver, &segment))
+    let (_first, mut second, mut receiver) = two_senders(alloc, 1)?;
+    Some(registers_to_the_limit(rt, &mut second, &mut receiver, &segment))
 }
 
 #[test]

@@ -1,6 +1,6 @@
 //! What is answered where memory is refused. A call that answers so is made once more, and then it
 //! has to succeed: each test passes with ample memory, and with any one request for memory refused.
-use crate::ends::{TakenItem, plain, take};
+use crate::ends::{TakenItem, plain, take, two_senders};
 use std::alloc::Global;
 use std::sync::Wait;
 use std::test::*;
@@ -15,7 +15,7 @@ use tk_queue::{
 use tk_streams::{ByteSource, ByteTarget, Target};
 
 /// How a call ended.
-#[derive(Clone, Copy, Debug, PartialEq, Eq)]
+#[derive(Clone, Copy, PartialEq, Eq)]
 enum Ending {
     Done,
     /// For want of memory, and what the call was given is as it was.
@@ -48,9 +48,9 @@ fn replayed(alloc: Global) -> Ending {
 #[test]
 fn a_replay(rt: HostRuntime) {
     let first = replayed(rt.alloc());
-    assert_ne!(rt; first, Ending::Wrong);
+    assert!(rt; first != Ending::Wrong);
     if first == Ending::Refused {
-        assert_eq!(rt; replayed(rt.alloc()), Ending::Done);
+        assert!(rt; replayed(rt.alloc()) == Ending::Done);
     }
 }
 
@@ -66,20 +66,34 @@ fn emitted(core: &mut Core, stamp: u64) -> Ending {
     }
 }
 
+// Whether 20 starts are emitted, each at once or where it is emitted once more.
+fn are_emitted(core: &mut Core) -> bool {
+    for stamp in 0..20 {
+        let first = emitted(core, stamp);
+        let is_done = first == Ending::Done
+            || first == Ending::Refused && emitted(core, stamp) == Ending::Done;
+        if !is_done {
+            return false;
+        }
+    }
+    core.waiting() == 20
+}
+
+// Whether these are taken in their order.
+fn are_taken(core: &mut Core) -> bool {
+    for stamp in 0..20 {
+        if plain(core.take()) != TakenItem::Entry(1, Kind::Started, 0, stamp) {
+            return false;
+        }
+    }
+    true
+}
+
 #[test]
 fn a_core(rt: HostRuntime) {
     let mut core = Core::new(rt.alloc(), 1);
-    for stamp in 0..20 {
-        let first = emitted(&mut core, stamp);
-        assert_ne!(rt; first, Ending::Wrong);
-        if first == Ending::Refused {
-            assert_eq!(rt; emitted(&mut core, stamp), Ending::Done);
-        }
-    }
-    assert_eq!(rt; core.waiting(), 20);
-    for stamp in 0..20 {
-        assert!(rt; plain(core.take()) == TakenItem::Entry(1, Kind::Started, 0, stamp));
-    }
+    assert!(rt; are_emitted(&mut core));
+    assert!(rt; are_taken(&mut core));
 }
 
 // Where memory is refused, nothing was emitted.
@@ -94,33 +108,47 @@ fn registered<R: Wait>(rt: &R, sender: &mut Sender, segment: &Segment) -> Ending
     }
 }
 
-// The sender of worker 2, the receiver and a segment; None for want of memory.
-fn session(alloc: Global) -> Option<(Sender, Receiver, Segment)> {
-    let (mut senders, receiver) = open(alloc, one_node(alloc, DType::Test)?, 2, 4).ok()?;
-    let sender = senders.pop()?;
-    let segment = Segment::new(alloc, "dyn", "1").ok()?;
-    Some((sender, receiver, segment))
+// The two senders of a session and their receiver, also where one request for memory is refused.
+fn opened(alloc: Global) -> Option<(Sender, Sender, Receiver)> {
+    match two_senders(alloc, 4) {
+        Some(session) => Some(session),
+        None => two_senders(alloc, 4),
+    }
 }
 
-// The same, also where one request for memory is refused.
-fn opened(alloc: Global) -> Option<(Sender, Receiver, Segment)> {
-    match session(alloc) {
-        Some(session) => Some(session),
-        None => session(alloc),
+// The segment `[dyn:1]`, also where one request for memory is refused.
+fn made_segment(alloc: Global) -> Option<Segment> {
+    match Segment::new(alloc, "dyn", "1") {
+        Ok(segment) => Some(segment),
+        Err(_) => Segment::new(alloc, "dyn", "1").ok(),
     }
+}
+
+// Whether worker 2 registers the segment, and its registration is taken, and nothing else.
+fn is_registered<R: Wait>(
+    rt: &R,
+    sender: &mut Sender,
+    receiver: &mut Receiver,
+    segment: &Segment,
+) -> bool {
+    let first = registered(rt, sender, segment);
+    let is_done = first == Ending::Done
+        || first == Ending::Refused && registered(rt, sender, segment) == Ending::Done;
+    is_done
+        && take(rt, receiver) == TakenItem::Entry(2, Kind::Dynamic, 131_072, 5)
+        && take(rt, receiver) == TakenItem::Nothing
+}
+
+// The same in a session of two senders.
+fn registers<R: Wait>(rt: &R, alloc: Global) -> Option<bool> {
+    let segment = made_segment(alloc)?;
+    let (_first, mut second, mut receiver) = opened(alloc)?;
+    Some(is_registered(rt, &mut second, &mut receiver, &segment))
 }
 
 #[test]
-fn a_registration(rt: HostRuntime) -> Result<(), Fail> {
-    let (mut sender, mut receiver, segment) = opened(rt.alloc()).ok_or("no session")?;
-    let first = registered(&rt, &mut sender, &segment);
-    assert_ne!(rt; first, Ending::Wrong);
-    if first == Ending::Refused {
-        assert_eq!(rt; registered(&rt, &mut sender, &segment), Ending::Done);
-    }
-    assert!(rt; take(&rt, &mut receiver) == TakenItem::Entry(2, Kind::Dynamic, 131_072, 5));
-    assert!(rt; take(&rt, &mut receiver) == TakenItem::Nothing);
-    Ok(())
+fn a_registration(rt: HostRuntime) {
+    assert!(rt; registers(&rt, rt.alloc()) == Some(true));
 }
 
 fn done_if(is_done: bool) -> Ending {
@@ -170,27 +198,27 @@ fn session_opened(alloc: Global) -> Ending {
 #[test]
 fn a_claim(rt: HostRuntime) {
     let first = claim_opened(rt.alloc());
-    assert_ne!(rt; first, Ending::Wrong);
+    assert!(rt; first != Ending::Wrong);
     assert!(rt; first == Ending::Done || claim_opened(rt.alloc()) == Ending::Done);
 }
 
 #[test]
 fn a_book(rt: HostRuntime) {
     let first = book_opened(rt.alloc());
-    assert_ne!(rt; first, Ending::Wrong);
+    assert!(rt; first != Ending::Wrong);
     assert!(rt; first == Ending::Done || book_opened(rt.alloc()) == Ending::Done);
 }
 
 #[test]
 fn some_holdings(rt: HostRuntime) {
     let first = holdings_made(rt.alloc());
-    assert_ne!(rt; first, Ending::Wrong);
+    assert!(rt; first != Ending::Wrong);
     assert!(rt; first == Ending::Done || holdings_made(rt.alloc()) == Ending::Done);
 }
 
 #[test]
 fn a_session(rt: HostRuntime) {
     let first = session_opened(rt.alloc());
-    assert_ne!(rt; first, Ending::Wrong);
+    assert!(rt; first != Ending::Wrong);
     assert!(rt; first == Ending::Done || session_opened(rt.alloc()) == Ending::Done);
 }

@@ -1,54 +1,61 @@
 //! Sessions of the queue on one thread.
 ghost use Rattle.std.specs.Prelude.{◌≡◌, All, IfSome};
 
-use crate::ends::{Answer, TakenItem, send, take};
+use crate::ends::{Answer, TakenItem, emitted, one_sender, send, take, two_senders};
 use std::alloc::Global;
 use std::sync::Wait;
-use std::test::Fail;
-use test_support::{one_node, start};
+use test_support::start;
 use tk_events::{Event, Kind, Payload, Status};
 use tk_ids::{DType, IdFault, Segment, Text};
-use tk_queue::{CloseFault, CloseReason, Ended, Receiver, RegisterFault, Sender, open};
-
-const NO_SENDER: &str = "no sender";
+use tk_queue::{CloseFault, CloseReason, Ended, Receiver, RegisterFault, Sender};
 
 // Why the session isn't closed yet, with all that comes back.
 fn refusal(receiver: Receiver, ended: Vec<Ended>) -> Option<CloseFault>
     requires { All (λ token. token.session ≡ receiver.session) ended.items }
-    ensures back { IfSome result (λ fault. (fault.receiver ≡ receiver) × (fault.ended.items ≡ ended.items)) }
+    ensures receiver { IfSome result (λ fault. fault.receiver ≡ receiver) }
+    ensures ended { IfSome result (λ fault.
+        All (λ one. one.session ≡ fault.receiver.session) fault.ended.items) }
 {
     receiver.close(ended).err()
 }
 
-// How many events worker 1 emitted, if the session is closed.
-fn emitted(receiver: Receiver, ended: Vec<Ended>) -> Option<u64>
-    requires { All (λ token. token.session ≡ receiver.session) ended.items }
+// Whether a start is sent and taken, and one finds the queue full in between.
+fn is_exchanged<R: Wait>(rt: &R, sender: &mut Sender, receiver: &mut Receiver) -> bool
+    ensures sender { sender.new.session ≡ sender.old.session }
+    ensures receiver { receiver.new.session ≡ receiver.old.session }
 {
-    let closed = receiver.close(ended).ok()?;
-    Some(closed.emitted(1))
+    send(rt, sender, start(0, 1)) == Answer::Sent
+        && send(rt, sender, start(0, 2)) == Answer::Full(2)
+        && take(rt, receiver) == TakenItem::Entry(1, Kind::Started, 0, 1)
+}
+
+// How many events a session of one sender closes with, after that.
+fn emitted_by_one<R: Wait>(rt: &R, alloc: Global) -> Option<u64> {
+    let (mut sender, mut receiver) = one_sender(alloc, 1)?;
+    if !is_exchanged(rt, &mut sender, &mut receiver) {
+        return None;
+    }
+    let token = sender.end(rt);
+    let is_drained = take(rt, &mut receiver) == TakenItem::End(1)
+        && take(rt, &mut receiver) == TakenItem::Nothing;
+    if is_drained {
+        emitted(receiver, vec![in alloc; token].ok()?)
+    } else {
+        None
+    }
 }
 
 #[test]
-fn one_thread_session(rt: HostRuntime) -> Result<(), Fail> {
-    let table = one_node(rt.alloc(), DType::Test).ok_or("no table")?;
-    let (mut senders, mut receiver) = open(rt.alloc(), table, 1, 1)?;
-    let mut sender = senders.pop().ok_or(NO_SENDER)?;
-    assert!(rt; send(&rt, &mut sender, start(0, 1)) == Answer::Sent);
-    assert!(rt; send(&rt, &mut sender, start(0, 2)) == Answer::Full(2));
-    assert!(rt; take(&rt, &mut receiver) == TakenItem::Entry(1, Kind::Started, 0, 1));
-    let token = sender.end(&rt);
-    assert!(rt; take(&rt, &mut receiver) == TakenItem::End(1));
-    assert!(rt; take(&rt, &mut receiver) == TakenItem::Nothing);
-    let ended = vec![in rt.alloc(); token]?;
-    assert_eq!(rt; emitted(receiver, ended), Some(1));
-    Ok(())
+fn one_thread_session(rt: HostRuntime) {
+    assert!(rt; emitted_by_one(&rt, rt.alloc()) == Some(1));
 }
 
 // Closes once more what was refused, with one token more.
 fn refused_again(fault: CloseFault, token: Ended) -> Option<CloseFault>
     requires tokens { All (λ one. one.session ≡ fault.receiver.session) fault.ended.items }
     requires token { token.session ≡ fault.receiver.session }
-    ensures { IfSome result (λ again. All (λ one. one.session ≡ again.receiver.session) again.ended.items) }
+    ensures { IfSome result (λ again.
+        All (λ one. one.session ≡ again.receiver.session) again.ended.items) }
 {
     let mut ended = fault.ended;
     ended.push(token).ok()?;
@@ -69,18 +76,26 @@ fn drained<R: Wait>(rt: &R, fault: CloseFault) -> Option<u64>
     }
 }
 
+// How many events worker 1 emitted in a session that is closed three times: before the token of worker 2
+// is there, before the marks are taken, and after that.
+fn closed_at_last<R: Wait>(rt: &R, alloc: Global) -> Option<u64> {
+    let (first, second, receiver) = two_senders(alloc, 2)?;
+    let second = second.end(rt);
+    let first = first.end(rt);
+    let missing = refusal(receiver, vec![in alloc; first].ok()?)?;
+    if missing.why != CloseReason::Missing(2) {
+        return None;
+    }
+    let undrained = refused_again(missing, second)?;
+    if undrained.why != CloseReason::NotDrained(1) {
+        return None;
+    }
+    drained(rt, undrained)
+}
+
 #[test]
-fn closed_too_early(rt: HostRuntime) -> Result<(), Fail> {
-    let table = one_node(rt.alloc(), DType::Test).ok_or("no table")?;
-    let (mut senders, receiver) = open(rt.alloc(), table, 2, 2)?;
-    let second = senders.pop().ok_or(NO_SENDER)?.end(&rt);
-    let first = senders.pop().ok_or(NO_SENDER)?.end(&rt);
-    let missing = refusal(receiver, vec![in rt.alloc(); first]?).ok_or("closed")?;
-    assert_eq!(rt; missing.why, CloseReason::Missing(2));
-    let undrained = refused_again(missing, second).ok_or("closed")?;
-    assert_eq!(rt; undrained.why, CloseReason::NotDrained(1));
-    assert_eq!(rt; drained(&rt, undrained), Some(0));
-    Ok(())
+fn closed_too_early(rt: HostRuntime) {
+    assert!(rt; closed_at_last(&rt, rt.alloc()) == Some(0));
 }
 
 // Whether the third start finds the queue full, and goes out once one was taken.
@@ -94,9 +109,7 @@ fn fill<R: Wait>(rt: &R, first: &mut Sender, second: &mut Sender, receiver: &mut
 
 // The same of a session of two senders and two places.
 fn two_places_are_filled<R: Wait>(rt: &R, alloc: Global) -> Option<bool> {
-    let (mut senders, mut receiver) = open(alloc, one_node(alloc, DType::Test)?, 2, 2).ok()?;
-    let mut second = senders.pop()?;
-    let mut first = senders.pop()?;
+    let (mut first, mut second, mut receiver) = two_senders(alloc, 2)?;
     Some(fill(rt, &mut first, &mut second, &mut receiver))
 }
 
@@ -119,8 +132,8 @@ fn sent<R: Wait>(rt: &R, sender: &mut Sender) -> Option<u64> {
 
 // The same of a session of one sender and this capacity.
 fn sent_through<R: Wait>(rt: &R, alloc: Global, places: usize) -> Option<u64> {
-    let (mut senders, _receiver) = open(alloc, one_node(alloc, DType::Test)?, 1, places).ok()?;
-    sent(rt, &mut senders.pop()?)
+    let (mut sender, _receiver) = one_sender(alloc, places)?;
+    sent(rt, &mut sender)
 }
 
 #[test]
@@ -180,13 +193,12 @@ fn success_with_message<R: Wait>(rt: &R, alloc: Global, sender: &mut Sender) -> 
 
 // Whether all of that holds in a session of two senders.
 fn registrations_hold<R: Wait>(rt: &R, alloc: Global) -> Option<bool> {
-    let (mut senders, mut receiver) = open(alloc, one_node(alloc, DType::Test)?, 2, 4).ok()?;
-    let mut second = senders.pop()?;
-    let mut first = senders.pop()?;
     let segment = Segment::new(alloc, "dyn", "1").ok()?;
+    let (mut first, mut second, mut receiver) = two_senders(alloc, 4)?;
     let hold = is_registered(rt, &segment, &mut first, &mut second, &mut receiver)
         && are_refused(rt, alloc, &segment, &mut first);
-    Some(hold && success_with_message(rt, alloc, &mut second)? == Answer::Unlawful(0))
+    let message = success_with_message(rt, alloc, &mut second);
+    Some(hold && message == Some(Answer::Unlawful(0)))
 }
 
 #[test]

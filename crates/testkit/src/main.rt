@@ -36,5 +36,7 @@ fn main(rt: HostRuntime) -> ExitCode {
     if let Err(fault) = &outcome {
         let _ = rt.eprint(FaultLine(fault));
     }
-    exit_code(&outcome)
+    let status = exit_code(&outcome);
+    drop(outcome);
+    status
 }

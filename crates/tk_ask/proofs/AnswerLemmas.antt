@@ -1,6 +1,6 @@
 -- All events of a record are its entries.
-use Rattle.std.proofs.Common.{◌≡◌, ℕ, ◌+◌, Bool, true, false, cond, List, [], ◌∷◌, ◌++◌, length, map, count_by, refl, sym, ap, ◌∙◌, arith}
-use Rattle.std.specs.Prelude.{filter}
+use Rattle.std.proofs.Common.{◌≡◌, ℕ, ◌+◌, Bool, true, false, cond, List, [], ◌∷◌, ◌++◌, length, map, count_by, Result, Ok, Err, refl, sym, ap, ◌∙◌, arith}
+use Rattle.std.specs.Prelude.{filter, IfOk}
 use Rattle.std.proofs.lemmas.List.Sums.{sum_by-cons}
 use Rattle.tk_events.specs.declared.events.Entry.{Entry}
 use Rattle.std.specs.Prelude.{◌==◌}
@@ -30,14 +30,17 @@ kept_count p n (e ∷ es) = by (p e) (kept_count p (n + 1) es) ∙ sym (sum_by-c
     by true rest = omega (arith, rest)
     by false rest = omega (arith, rest)
 
+pub if_ok_then : {X E : Type 0} (r : Result X E) (P Q : X → Type 0) → ((x : X) → P x → Q x) → IfOk r P → IfOk r Q
+if_ok_then (Ok x) P Q f h = f x h
+if_ok_then (Err e) P Q f h = tt
+
 -- the answer about statistics, from its parts
-pub stats_are : (e : Expected) (r : Recorded) (events : Selected) (s : Statistics) (ms : List Mismatch) (is_yes : Bool) (first second third : List ℕ) →
+pub stats_are : (e : Expected) (r : Recorded) (events : Selected) (s : Statistics) (ms : List Mismatch) (is_yes : Bool) (text : List ℕ) →
     events ≡ all_of r → s ≡ statistics_of (events_of events) → ms ≡ mismatches e (statistics_of (events_of events)) → is_yes ≡ (length ms == 0) →
-    first ≡ [] → second ≡ first ++ statistics_text s → third ≡ second ++ flat_map mismatch_line ms → IsAnswerTo (Stats e) r is_yes third
-stats_are e r events s ms is_yes first second third all s_is ms_is yes_is first_is second_is third_is =
+    text ≡ statistics_text s ++ flat_map mismatch_line ms → IsAnswerTo (Stats e) r is_yes text
+stats_are e r events s ms is_yes text all s_is ms_is yes_is text_is =
     let es : events_of events ≡ r.entries = ap events_of all ∙ all_events 0 r.entries in
-    let m = ms_is ∙ ap (λ (l : List Entry). mismatches e (statistics_of l)) es in
-    let prefix = second_is ∙ ap (λ (t : List ℕ). t ++ statistics_text s) first_is ∙ ap statistics_text (s_is ∙ ap statistics_of es) in (
+    let m = ms_is ∙ ap (λ (l : List Entry). mismatches e (statistics_of l)) es in (
       yes_is ∙ ap (λ (l : List Mismatch). length l == 0) m,
-      third_is ∙ ap (λ (t : List ℕ). t ++ flat_map mismatch_line ms) prefix ∙ ap (λ (l : List Mismatch). statistics_text (statistics_of r.entries) ++ flat_map mismatch_line l) m,
+      text_is ∙ ap (λ (t : Statistics). statistics_text t ++ flat_map mismatch_line ms) (s_is ∙ ap statistics_of es) ∙ ap (λ (l : List Mismatch). statistics_text (statistics_of r.entries) ++ flat_map mismatch_line l) m,
     )

@@ -11,8 +11,9 @@ use Rattle.tk_conditions.specs.declared.conditions.Condition.{Condition}
 use Rattle.tk_conditions.specs.declared.faults.CondFault.{CondFault}
 use Rattle.tk_conditions.specs.declared.faults.CondFault.TheVariants as condition_faults
 use Rattle.tk_conditions.specs.Answer.{IsReadAs}
+use Rattle.tk_ask.specs.declared.faults.AskFault.{AskFault}
 use Rattle.tk_ask.specs.declared.faults.AskFault.TheVariants as faults
-use Rattle.tk_ask.specs.Questions.{Expecting, IsNextExpected, AreConditions, IsConditionFault, IsBadWord, count, executions}
+use Rattle.tk_ask.specs.Questions.{Expecting, IsNextExpected, AreConditions, IsConditionFault, IsWordFault, IsBadWord, count, executions}
 
 lacks : (name : List ℕ) → list_all (λ b. not (b == 61)) name ≡ true → (i : ℕ) → i < length name → get_or name i 0 ≢ 61
 lacks name all i lt is =
@@ -68,11 +69,22 @@ conditions_more texts i text cs c e before more =
     subst (λ (t : List (List ℕ)). AreConditions t (cs ++ c ∷ [])) (sym e) (conditions_snoc (take i texts) cs text c before more)
 
 -- a text that is no condition
-pub bad_condition : {A : Type 0} (f : A → List ℕ) → (words : List A) (i : ℕ) (word : A) (text : List ℕ) (cs : List Condition) (fault : CondFault) →
-    i < length words → word ≡ get_or words i word → text ≡ f word → AreConditions (take i (map f words)) cs → IsReadAs text (Err fault) → fault ≢ condition_faults.Memory →
-    IsConditionFault (map f words) (faults.Condition (i + 1) fault)
-bad_condition f words i word text cs fault lt e same before bad read =
-    (i, refl, record { conditions = cs; before = before; text = f word; at = text_at f words i word lt e; bad = subst (λ (t : List ℕ). IsReadAs t (Err fault)) same bad; read = read })
+bad_condition : {A : Type 0} (f : A → List ℕ) → (words : List A) (i : ℕ) (word : A) (text : List ℕ) (cs : List Condition) (fault : CondFault) (number : ℕ) →
+    i < length words → word ≡ get_or words i word → text ≡ f word → AreConditions (take i (map f words)) cs → (number ≡ i + 1) × IsReadAs text (Err fault) × (fault ≢ condition_faults.Memory) →
+    IsConditionFault (map f words) (faults.Condition number fault)
+bad_condition f words i word text cs fault number lt e same before bad =
+    (i, bad.0, record { conditions = cs; before = before; text = f word; at = text_at f words i word lt e; bad = subst (λ (t : List ℕ). IsReadAs t (Err fault)) same bad.1; read = bad.2 })
+
+-- where the words before it are conditions, a word's fault is that of all words
+pub bad_word : {A : Type 0} (f : A → List ℕ) → (words : List A) (i : ℕ) (word : A) (text : List ℕ) (cs : List Condition) (fault : AskFault) →
+    i < length words → word ≡ get_or words i word → text ≡ f word → AreConditions (take i (map f words)) cs → IsWordFault (i + 1) text fault →
+    IsConditionFault (map f words) fault
+bad_word f words i word text cs (faults.Condition number fault) lt e same before bad = bad_condition f words i word text cs fault number lt e same before bad
+bad_word f words i word text cs faults.Memory lt e same before bad = tt
+bad_word f words i word text cs faults.Question lt e same before bad = absurd bad
+bad_word f words i word text cs (faults.Word k) lt e same before bad = absurd bad
+bad_word f words i word text cs (faults.Read fault) lt e same before bad = absurd bad
+bad_word f words i word text cs faults.Device lt e same before bad = absurd bad
 
 -- a word after the selection
 pub one_too_many : {A : Type 0} (f : A → List ℕ) → (words : List A) (word : A) (s : Selection) (more : List A) → words ≡ word ∷ more → f word ≡ selection_name s → 0 < length more → IsBadWord (count ∷ map f words) 1

@@ -73,6 +73,12 @@ pub record IsBadCondition (texts : List (List ℕ)) (i : ℕ) (fault : CondFault
   pub bad : IsReadAs text (Err fault)
   pub read : fault ≢ condition_faults.Memory
 
+-- why the word of this number is no condition
+abbrev pub IsWordFault : ℕ → List ℕ → AskFault → Type 0
+IsWordFault number word (faults.Condition i fault) = (i ≡ number) × IsReadAs word (Err fault) × (fault ≢ condition_faults.Memory)
+IsWordFault number word faults.Memory = Unit {0}
+IsWordFault number word _ = ⊥
+
 -- the fault of words after a mode; the mode is word 0
 abbrev pub IsConditionFault : List (List ℕ) → AskFault → Type 0
 IsConditionFault texts (faults.Condition i fault) = (at : ℕ) × (i ≡ at + 1) × IsBadCondition texts at fault

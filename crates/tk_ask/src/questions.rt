@@ -1,6 +1,7 @@
 //! What can be asked of a record, and how words ask it.
-ghost use Rattle.std.specs.Prelude.{◌≡◌, ◌∷◌, map, string_bytes, IfOk, IfErr};
-ghost use Rattle.tk_ask.specs.Questions.{IsAskedAs, IsMode, AreConditions, IsConditionFault, count, match_word};
+ghost use Rattle.std.specs.Prelude.{◌≡◌, ◌∷◌, map, string_bytes, IfOk, IfErr, Ok};
+ghost use Rattle.tk_conditions.specs.Answer.{IsReadAs};
+ghost use Rattle.tk_ask.specs.Questions.{IsAskedAs, IsMode, AreConditions, IsConditionFault, IsWordFault, count, match_word};
 
 use crate::expectations::read_expectations;
 use crate::faults::AskFault;
@@ -46,6 +47,18 @@ impl Mode {
     }
 }
 
+/// The condition that a word spells. The number is the word's, counted from 0 after the question.
+fn read_word(alloc: Global, number: usize, word: &str) -> Result<Condition, AskFault>
+    ensures ok { IfOk result (λ condition. IsReadAs word.now (Ok condition)) }
+    ensures err { IfErr result (IsWordFault number word.now) }
+{
+    match read_condition(alloc, word) {
+        Ok(condition) => Ok(condition),
+        Err(CondFault::Memory) => Err(AskFault::Memory),
+        Err(fault) => Err(AskFault::Condition(number, fault)),
+    }
+}
+
 /// The conditions that the words spell, which follow the mode's name.
 fn read_conditions(alloc: Global, words: &[String]) -> Result<Vec<Condition>, AskFault>
     ensures ok { IfOk result (λ conditions.
@@ -54,14 +67,8 @@ fn read_conditions(alloc: Global, words: &[String]) -> Result<Vec<Condition>, As
 {
     let mut conditions = Vec::new(alloc);
     for (at, word) in words.iter().enumerate() {
-        match read_condition(alloc, word.as_str()) {
-            Ok(condition) => conditions.push(condition).map_err(AllocError::from)?,
-            Err(CondFault::Memory) => return Err(AskFault::Memory),
-            Err(CondFault::Deep) => return Err(AskFault::Condition(at + 1, CondFault::Deep)),
-            Err(CondFault::BadAtom(byte)) => {
-                return Err(AskFault::Condition(at + 1, CondFault::BadAtom(byte)));
-            }
-        }
+        let condition = read_word(alloc, at + 1, word.as_str())?;
+        conditions.push(condition).map_err(AllocError::from)?;
     }
     Ok(conditions)
 }

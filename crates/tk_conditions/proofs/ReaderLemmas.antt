@@ -1,9 +1,9 @@
 -- The reader of the code beside the machine.
-use Rattle.std.proofs.Common.{◌≡◌, ℕ, zero, suc, ◌+◌, ◌<◌, ◌≤◌, ◌⊎◌, Bool, true, false, List, [], ◌∷◌, ◌++◌, length, take, drop, map, get_or, Option, Some, None, Err, Vec, vec_len, Global, option_map, option_and_then, if◌then◌else◌, ◌==◌, ◌||◌, nat_eq, ◌&&◌, zero-add, refl, sym, ap, ◌∙◌, subst, arith, ⊎_elim}
+use Rattle.std.proofs.Common.{◌≡◌, ◌≢◌, ℕ, zero, suc, ◌+◌, ◌<◌, ◌≤◌, ◌⊎◌, Bool, true, false, List, [], ◌∷◌, ◌++◌, length, take, drop, map, get_or, Option, Some, None, Err, Result, IfOk, Vec, vec_len, Global, option_map, option_and_then, if◌then◌else◌, ◌==◌, ◌||◌, nat_eq, ◌&&◌, zero-add, refl, sym, ap, ◌∙◌, subst, arith, ⊎_elim}
 use Rattle.std.specs.Prelude.{codes, bytes_eq, count_by}
 use Rattle.std.specs.List.{starts_with}
 use Rattle.std.proofs.lemmas.Option.{same_Some, none-some}
-use Rattle.std.proofs.lemmas.Bool.{eqb-true, eqb-false}
+use Rattle.std.proofs.lemmas.Bool.{eqb-true, eqb-false, ne_eqb}
 use Rattle.std.proofs.lemmas.List.{append-nil, append_assoc, drop_more, drop_at, take_at, get_or_at, take-append-drop, length-append}
 use Rattle.std.proofs.lemmas.List.Sums.{sum_by-cons}
 use Rattle.tk_events.specs.declared.kinds.Kind.{Kind}
@@ -14,11 +14,13 @@ use Rattle.tk_conditions.specs.declared.open_groups.OpenGroup.TheVariants as gro
 use Rattle.tk_conditions.specs.Brackets.{is_group}
 use Rattle.tk_conditions.specs.Cond.{Cond, Plain, With, OfKind, HasPairs, All, Any, Not, Conds, Nothing, More, Pairs, NoPairs, MorePairs, TextAtom, Id, Name, Skipped, FailedWith, AbortedWith, File, text_atom_text, kind_text}
 use Rattle.tk_conditions.specs.CondOf.{cond_of, conds_from, pairs_from}
-use Rattle.tk_conditions.specs.Reader.{group_of, groups_from, groups_of, depth_of, rest_of, state_at, ContinuesAsText, CanContinue}
+use Rattle.tk_conditions.specs.Reader.{group_of, groups_from, groups_of, depth_of, rest_of, state_at, state_of, ContinuesAsText, CanContinue}
 use Rattle.tk_conditions.specs.Reading.{OpenGroup, OpenNot, OpenAll, OpenAny, State, Word, InText, InKind, InPairs, After, begins_with, look, is_prefix, all_kinds, kinds, close, close_empty, closed, closed_empty, joined, Opener, OfText, OfKinds, OfPairs, OfAll, OfAny, OfNot, opened, after_word, bares, openers, special_of, text_step, ends_at, next_text, last_text, step, start, ended}
 use Rattle.std.specs.Str.{IsUtf8}
 use Rattle.std.proofs.lemmas.Str.{IsUtf8-append, IsUtf8-take, IsUtf8-drop, IsUtf8-from_ascii, IsCharBoundary-before_ascii, IsCharBoundary-after_ascii}
 use Rattle.std.proofs.lemmas.Str.Ascii.{IsAscii-nil, IsAscii-cons}
+use Rattle.std.specs.declared.alloc.AllocError.{AllocError}
+use Rattle.tk_conditions.specs.declared.readers.Reader.{Reader}
 use Rattle.tk_conditions.specs.declared.readers.Position.{Position}
 use Rattle.tk_conditions.specs.declared.readers.Position.TheVariants as positions
 use Rattle.tk_conditions.specs.declared.partial_texts.Escape.{Escape}
@@ -169,6 +171,58 @@ last_none stack [] key (x ∷ text) none some = ap (λ k. last_text stack NoPair
 
 pub not_empty : {A : Type 0} (xs : List A) (b : Bool) → b ≡ (length xs == 0) → b ≡ false → 0 < length xs
 not_empty xs b is e = let ne = eqb-false (length xs) 0 (sym is ∙ e) in omega arith
+
+-- A step of the machine, by what the reader finds.
+
+-- the machine's step is the one that a call makes
+pub step_made : (r : Result (Option Reader) AllocError) (s t : Option State) → s ≡ t → IfOk r (λ next. t ≡ option_map state_of next) → IfOk r (λ next. s ≡ option_map state_of next)
+step_made r s t e h = subst (λ o. IfOk r (λ next. o ≡ option_map state_of next)) (sym e) h
+
+-- a word ends at `)` or `,`
+pub word_ends : (stack : List OpenGroup) (word : List ℕ) (b : ℕ) → (b ≡ 41) ⊎ (b ≡ 44) → step (Word stack word) b ≡ after_word stack word b
+word_ends stack word b is = ⊎_elim (λ e. rw e refl) (λ e. rw e refl) is
+
+-- opens what it names at `(`
+pub word_opens : (stack : List OpenGroup) (word : List ℕ) (b : ℕ) → b ≡ 40 → step (Word stack word) b ≡ option_map (opened stack) (look openers word)
+word_opens stack word b is = rw is refl
+
+-- and goes on at another byte, as far as a word begins so
+pub word_goes : (stack : List OpenGroup) (word longer : List ℕ) (b : ℕ) (begins : Bool) → b ≢ 41 → b ≢ 44 → b ≢ 40 → longer ≡ word ++ b ∷ [] → begins ≡ (is_prefix bares longer || is_prefix openers longer)
+    → step (Word stack word) b ≡ (if begins then Some (Word stack longer) else None)
+word_goes stack word longer b begins not41 not44 not40 e is =
+    let goes : step (Word stack word) b ≡ (if is_prefix bares (word ++ b ∷ []) || is_prefix openers (word ++ b ∷ []) then Some (Word stack (word ++ b ∷ [])) else None) =
+    simp (ne_eqb b 41 not41, ne_eqb b 44 not44, ne_eqb b 40 not40) in
+    goes ∙ ap (λ w. if is_prefix bares w || is_prefix openers w then Some (Word stack w) else None) (sym e) ∙ ap (λ t. if t then Some (Word stack longer) else None) (sym is)
+
+-- nothing stands before the delimiter
+pub after_nothing : (stack : List OpenGroup) (word : List ℕ) (b : ℕ) (empty : Bool) → empty ≡ (length word == 0) → empty ≡ true → after_word stack word b ≡ close_empty stack b
+after_nothing stack word b empty is e = ap (λ w. after_word stack w b) (is_nil word (eqb-true (length word) 0 (sym is ∙ e)))
+
+after_some : (stack : List OpenGroup) (word : List ℕ) (b : ℕ) → 0 < length word → after_word stack word b ≡ option_and_then (λ bare. close stack (Plain bare) b) (look bares word)
+after_some stack [] b lt = absurd (omega arith)
+after_some stack (x ∷ word) b lt = refl
+
+-- an atom of one word does, or something that is none
+pub after_atom : (stack : List OpenGroup) (word : List ℕ) (b : ℕ) (c : Option Cond) → 0 < length word → c ≡ option_map Plain (look bares word) → after_word stack word b ≡ option_and_then (λ d. close stack d b) c
+after_atom stack word b c lt e =
+    after_some stack word b lt
+    ∙ elim (look bares word) as (λ o. option_and_then (λ bare. close stack (Plain bare) b) o ≡ option_and_then (λ d. close stack d b) (option_map Plain o)) [ None ↦ refl | Some bare ↦ refl ]
+    ∙ ap (option_and_then (λ d. close stack d b)) (sym e)
+
+-- a text in pairs ends at a comma
+pub pairs_comma : (stack : List OpenGroup) (pairs : Pairs) (key : Option (List ℕ)) (partial : List ℕ × Escape) (b : ℕ) (text : List ℕ) → ends_at 44 partial b ≡ true → text ≡ partial.0
+    → step (InPairs stack pairs key partial) b ≡ Some (next_text stack pairs key text)
+pairs_comma stack pairs key partial b text comma is = rw comma (ap (λ t. Some (next_text stack pairs key t)) (sym is))
+
+-- or at a bracket
+pub pairs_close : (stack : List OpenGroup) (pairs : Pairs) (key : Option (List ℕ)) (partial : List ℕ × Escape) (b : ℕ) (text : List ℕ) → ends_at 44 partial b ≡ false → ends_at 41 partial b ≡ true → text ≡ partial.0
+    → step (InPairs stack pairs key partial) b ≡ last_text stack pairs key text
+pairs_close stack pairs key partial b text comma bracket is = rw (comma, bracket) (ap (last_text stack pairs key) (sym is))
+
+-- or goes on
+pub pairs_go : (stack : List OpenGroup) (pairs : Pairs) (key : Option (List ℕ)) (partial : List ℕ × Escape) (b : ℕ) (next : Option (List ℕ × Escape)) → ends_at 44 partial b ≡ false → ends_at 41 partial b ≡ false
+    → text_step partial b ≡ next → step (InPairs stack pairs key partial) b ≡ option_map (InPairs stack pairs key) next
+pairs_go stack pairs key partial b next comma bracket is = rw (comma, bracket) (ap (option_map (InPairs stack pairs key)) is)
 
 -- A text is read: it is UTF-8 with what follows it.
 

@@ -4,6 +4,7 @@ pub mod Cond
 pub mod CondOf
 pub mod Reader
 pub mod Reading
+pub mod Writing
 pub mod FaultTexts
 pub mod Laws
 pub use Rattle.tk_ids.specs.Prefix

@@ -49,10 +49,8 @@ pub enum Condition {
 fn with_id(alloc: Global, condition: Condition, text: &str) -> Result<Condition, AllocError>
     ensures { IfOk result (λ c. cond_of c ≡ both (cond_of condition) (With Id text.now)) }
 {
-    let mut members = Vec::with_capacity(alloc, 2)?;
-    members.push(condition)?;
-    members.push(Condition::Id(Text::copy(alloc, text)?))?;
-    Ok(Condition::All(members))
+    let id = Condition::unique_id_substring(alloc, text)?;
+    Ok(Condition::All(vec![in alloc; condition, id]?))
 }
 
 fn message_text(alloc: Global, message: Option<&str>) -> Result<Option<Text>, AllocError>

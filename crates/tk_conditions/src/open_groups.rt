@@ -1,5 +1,5 @@
 //! Open brackets of a condition that is read.
-ghost use Rattle.std.specs.Prelude.{◌≡◌, IfOk, option_map};
+ghost use Rattle.std.specs.Prelude.{◌≡◌, IfOk, option_map, if◌then◌else◌, Some, None};
 ghost use Rattle.tk_conditions.specs.CondOf.{cond_of};
 ghost use Rattle.tk_conditions.specs.Reader.{group_of};
 ghost use Rattle.tk_conditions.specs.Reading.{closed, closed_empty, joined};
@@ -57,21 +57,19 @@ impl OpenGroup {
         }
     }
 
-    /// The bracket with one more member, where it takes several.
-    pub(crate) fn join(self, member: Condition) -> Result<Option<OpenGroup>, AllocError>
-        ensures { IfOk result (λ group.
-            option_map group_of group ≡ joined (group_of self) (cond_of member)) }
+    /// Adds a member, and answers whether another one may follow it.
+    pub(crate) fn join(&mut self, member: Condition) -> Result<bool, AllocError>
+        ensures { IfOk result (λ may_follow. joined (group_of self.old) (cond_of member)
+            ≡ (if may_follow then Some (group_of self.new) else None)) }
     {
         match self {
-            OpenGroup::Not => Ok(None),
-            OpenGroup::All(mut members) => {
-                members.push(member)?;
-                Ok(Some(OpenGroup::All(members)))
+            OpenGroup::Not => {
+                drop(member);
+                return Ok(false);
             }
-            OpenGroup::Any(mut members) => {
-                members.push(member)?;
-                Ok(Some(OpenGroup::Any(members)))
-            }
+            OpenGroup::All(members) => members.push(member)?,
+            OpenGroup::Any(members) => members.push(member)?,
         }
+        Ok(true)
     }
 }

@@ -52,15 +52,15 @@ fn after(stack: Vec<OpenGroup>, condition: Condition) -> Reader
 }
 
 /// Before a condition in one more bracket.
-fn within(alloc: Global, mut stack: Vec<OpenGroup>, group: OpenGroup) -> Result<Reader, AllocError>
+fn within(alloc: Global, mut stack: Vec<OpenGroup>, group: OpenGroup) -> NextReader
     ensures { IfOk result (λ next.
-        state_of next ≡ Word (group_of group ∷ groups_of stack.items) []) }
+        Some (Word (group_of group ∷ groups_of stack.items) []) ≡ option_map state_of next) }
 {
     stack.push(group)?;
-    Ok(Reader {
+    Ok(Some(Reader {
         stack,
         position: Position::Word(Vec::new(alloc)),
-    })
+    }))
 }
 
 /// After `)` or `,` after a condition.
@@ -68,16 +68,19 @@ fn close(alloc: Global, mut stack: Vec<OpenGroup>, condition: Condition, byte: u
     ensures { IfOk result (λ next.
         close (groups_of stack.items) (cond_of condition) byte ≡ option_map state_of next) }
 {
-    let Some(group) = stack.pop() else {
+    let Some(mut group) = stack.pop() else {
         drop(condition);
         return Ok(None);
     };
     match byte {
         b')' => Ok(Some(after(stack, group.close(alloc, condition)?))),
-        b',' => match group.join(condition)? {
-            Some(group) => Ok(Some(within(alloc, stack, group)?)),
-            None => Ok(None),
-        },
+        b',' => {
+            if group.join(condition)? {
+                within(alloc, stack, group)
+            } else {
+                Ok(None)
+            }
+        }
         _ => {
             drop(condition);
             Ok(None)
@@ -116,23 +119,23 @@ fn after_word(alloc: Global, stack: Vec<OpenGroup>, word: &[u8], byte: u8) -> Ne
 }
 
 /// After the bracket of a word.
-fn after_opener(alloc: Global, stack: Vec<OpenGroup>, opener: Opener) -> Result<Reader, AllocError>
+fn after_opener(alloc: Global, stack: Vec<OpenGroup>, opener: Opener) -> NextReader
     ensures { IfOk result (λ next.
-        opened (groups_of stack.items) (opener_of opener) ≡ state_of next) }
+        Some (opened (groups_of stack.items) (opener_of opener)) ≡ option_map state_of next) }
 {
     match opener {
-        Opener::Text(text_atom) => Ok(Reader {
+        Opener::Text(text_atom) => Ok(Some(Reader {
             stack,
             position: Position::Text(text_atom, PartialText::new(alloc)),
-        }),
-        Opener::Kind => Ok(Reader {
+        })),
+        Opener::Kind => Ok(Some(Reader {
             stack,
             position: Position::Kind(Vec::new(alloc)),
-        }),
-        Opener::Entry => Ok(Reader {
+        })),
+        Opener::Entry => Ok(Some(Reader {
             stack,
             position: Position::Pairs(Pairs::new(alloc), None, PartialText::new(alloc)),
-        }),
+        })),
         Opener::All => within(alloc, stack, OpenGroup::All(Vec::new(alloc))),
         Opener::Any => within(alloc, stack, OpenGroup::Any(Vec::new(alloc))),
         Opener::Not => within(alloc, stack, OpenGroup::Not),
@@ -146,7 +149,7 @@ fn feed_word(alloc: Global, stack: Vec<OpenGroup>, mut word: Vec<u8>, byte: u8) 
     match byte {
         b')' | b',' => after_word(alloc, stack, &word, byte),
         b'(' => match opener_named(&word) {
-            Some(opener) => Ok(Some(after_opener(alloc, stack, opener)?)),
+            Some(opener) => after_opener(alloc, stack, opener),
             None => Ok(None),
         },
         _ => {
@@ -214,21 +217,22 @@ fn next_text(
     mut pairs: Pairs,
     key: Option<Text>,
     text: Text,
-) -> Result<Reader, AllocError>
+) -> NextReader
     ensures { IfOk result (λ next.
-        next_text (groups_of stack.items) (pairs_from NoPairs pairs) key text ≡ state_of next) }
+        Some (next_text (groups_of stack.items) (pairs_from NoPairs pairs) key text)
+        ≡ option_map state_of next) }
 {
     match key {
-        None => Ok(Reader {
+        None => Ok(Some(Reader {
             stack,
             position: Position::Pairs(pairs, Some(text), PartialText::new(alloc)),
-        }),
+        })),
         Some(key) => {
             pairs.push(key, text)?;
-            Ok(Reader {
+            Ok(Some(Reader {
                 stack,
                 position: Position::Pairs(pairs, None, PartialText::new(alloc)),
-            })
+            }))
         }
     }
 }
@@ -245,10 +249,7 @@ fn last_text(stack: Vec<OpenGroup>, mut pairs: Pairs, key: Option<Text>, text: T
             Ok(Some(after(stack, Condition::Entry(pairs))))
         }
         None => {
-            if !text.is_empty() {
-                return Ok(None);
-            }
-            if pairs.as_slice().is_empty() {
+            if text.is_empty() && pairs.as_slice().is_empty() {
                 Ok(Some(after(stack, Condition::Entry(pairs))))
             } else {
                 Ok(None)
@@ -271,7 +272,7 @@ fn feed_pairs(
         ≡ option_map state_of next) }
 {
     if partial.ends(b',', byte) {
-        Ok(Some(next_text(alloc, stack, pairs, key, partial.into_text())?))
+        next_text(alloc, stack, pairs, key, partial.into_text())
     } else if partial.ends(b')', byte) {
         last_text(stack, pairs, key, partial.into_text())
     } else if partial.feed(byte)? {

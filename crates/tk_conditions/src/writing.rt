@@ -1,7 +1,8 @@
 //! Writing the text of a condition.
-ghost use Rattle.std.specs.Prelude.{◌≡◌, ◌++◌, ◌∷◌, [], IfOk, OnOk, string_bytes, encode_utf8, codes};
+ghost use Rattle.std.specs.Prelude.{◌≡◌, ◌++◌, ◌∷◌, [], IfOk, OnOk, string_bytes, encode_utf8};
 ghost use Rattle.tk_conditions.specs.Cond.{NoPairs, Nothing, cond_text, escaped, list_text, pairs_text};
 ghost use Rattle.tk_conditions.specs.CondOf.{cond_of, conds_from, pairs_from};
+ghost use Rattle.tk_conditions.specs.Writing.{separator, word_of, operand_text};
 
 use crate::conditions::Condition;
 use std::alloc::{AllocError, Global};
@@ -37,32 +38,83 @@ fn push_escaped(out: &mut String, text: &str) -> Result<(), AllocError>
     Ok(())
 }
 
-/// Writes `word(text)`.
-fn push_atom(out: &mut String, word: &str, text: &Text) -> Result<(), AllocError>
+/// Writes a text in brackets, with its escapes.
+fn push_text(out: &mut String, text: &str) -> Result<(), AllocError>
     ensures { OnOk result (string_bytes out.new
-        ≡ string_bytes out.old ++ (word.now ++ 40 ∷ escaped text.now ++ 41 ∷ [])) }
+        ≡ string_bytes out.old ++ (40 ∷ escaped text.now ++ 41 ∷ [])) }
 {
-    push(out, word)?;
     push(out, "(")?;
-    push_escaped(out, text.as_str())?;
+    push_escaped(out, text)?;
     push(out, ")")
 }
 
-/// Writes `entry(` and pairs and `)`, with a comma between each two texts.
+/// Writes what stands before the item at this place in a list: a comma, except before the first.
+fn push_separator(out: &mut String, at: usize) -> Result<(), AllocError>
+    ensures { OnOk result (string_bytes out.new ≡ string_bytes out.old ++ separator at) }
+{
+    if at == 0 {
+        return Ok(());
+    }
+    push(out, ",")
+}
+
+/// Writes pairs in brackets, with a comma between each two texts.
 fn push_pairs(out: &mut String, pairs: &[(Text, Text)]) -> Result<(), AllocError>
     ensures { OnOk result (string_bytes out.new ≡ string_bytes out.old
-        ++ (codes "entry(" ++ pairs_text (pairs_from NoPairs pairs.now) ++ 41 ∷ [])) }
+        ++ (40 ∷ pairs_text (pairs_from NoPairs pairs.now) ++ 41 ∷ [])) }
 {
-    push(out, "entry(")?;
+    push(out, "(")?;
     for (at, pair) in pairs.iter().enumerate() {
-        if at > 0 {
-            push(out, ",")?;
-        }
+        push_separator(out, at)?;
         push_escaped(out, pair.0.as_str())?;
         push(out, ",")?;
         push_escaped(out, pair.1.as_str())?;
     }
     push(out, ")")
+}
+
+/// The word with which a condition's text begins.
+fn word(condition: &Condition) -> &'static str
+    ensures { result.now ≡ word_of (cond_of condition.now) }
+{
+    match condition {
+        Condition::Test => "test",
+        Condition::Container => "container",
+        Condition::Engine => "engine",
+        Condition::Id(_) => "id",
+        Condition::Name(_) => "name",
+        Condition::Kind(_) => "kind",
+        Condition::Skipped(_) => "skipped",
+        Condition::Started => "started",
+        Condition::Succeeded => "succeeded",
+        Condition::Failed(_) => "failed",
+        Condition::Aborted(_) => "aborted",
+        Condition::File(_) => "file",
+        Condition::Entry(_) => "entry",
+        Condition::All(_) => "all",
+        Condition::Any(_) => "any",
+        Condition::Not(_) => "not",
+    }
+}
+
+/// Writes what stands in brackets after an atom's word, where something does.
+///
+/// It writes nothing of a condition that has members.
+fn push_operand(out: &mut String, atom: &Condition) -> Result<(), AllocError>
+    ensures { OnOk result (string_bytes out.new
+        ≡ string_bytes out.old ++ operand_text (cond_of atom.now)) }
+{
+    match atom {
+        Condition::Id(text) => push_text(out, text.as_str()),
+        Condition::Name(text) => push_text(out, text.as_str()),
+        Condition::Kind(kind) => push_text(out, kind.word()),
+        Condition::Skipped(text) => push_text(out, text.as_str()),
+        Condition::Failed(Some(text)) => push_text(out, text.as_str()),
+        Condition::Aborted(Some(text)) => push_text(out, text.as_str()),
+        Condition::File(text) => push_text(out, text.as_str()),
+        Condition::Entry(pairs) => push_pairs(out, pairs.as_slice()),
+        _ => Ok(()),
+    }
 }
 
 /// Writes a condition.
@@ -71,47 +123,28 @@ fn push_condition(out: &mut String, condition: &Condition) -> Result<(), AllocEr
     ensures { OnOk result (string_bytes out.new
         ≡ string_bytes out.old ++ cond_text (cond_of condition.now)) }
 {
+    push(out, word(condition))?;
     match condition {
-        Condition::Test => push(out, "test"),
-        Condition::Container => push(out, "container"),
-        Condition::Engine => push(out, "engine"),
-        Condition::Id(text) => push_atom(out, "id", text),
-        Condition::Name(text) => push_atom(out, "name", text),
-        Condition::Kind(kind) => {
-            push(out, "kind(")?;
-            push(out, kind.word())?;
-            push(out, ")")
-        }
-        Condition::Skipped(text) => push_atom(out, "skipped", text),
-        Condition::Started => push(out, "started"),
-        Condition::Succeeded => push(out, "succeeded"),
-        Condition::Failed(None) => push(out, "failed"),
-        Condition::Failed(Some(text)) => push_atom(out, "failed", text),
-        Condition::Aborted(None) => push(out, "aborted"),
-        Condition::Aborted(Some(text)) => push_atom(out, "aborted", text),
-        Condition::File(text) => push_atom(out, "file", text),
-        Condition::Entry(pairs) => push_pairs(out, pairs.as_slice()),
-        Condition::All(members) => push_members(out, "all(", members),
-        Condition::Any(members) => push_members(out, "any(", members),
+        Condition::All(members) => push_members(out, members),
+        Condition::Any(members) => push_members(out, members),
         Condition::Not(member) => {
-            push(out, "not(")?;
+            push(out, "(")?;
             push_condition(out, member)?;
             push(out, ")")
         }
+        _ => push_operand(out, condition),
     }
 }
 
-/// Writes a word with its bracket, then conditions and `)`, with a comma between each two.
+/// Writes conditions in brackets, with a comma between each two.
 #[cycle(writing)]
-fn push_members(out: &mut String, opening: &str, members: &[Condition]) -> Result<(), AllocError>
+fn push_members(out: &mut String, members: &[Condition]) -> Result<(), AllocError>
     ensures { OnOk result (string_bytes out.new ≡ string_bytes out.old
-        ++ (opening.now ++ list_text (conds_from Nothing members.now) ++ 41 ∷ [])) }
+        ++ (40 ∷ list_text (conds_from Nothing members.now) ++ 41 ∷ [])) }
 {
-    push(out, opening)?;
+    push(out, "(")?;
     for (at, member) in members.iter().enumerate() {
-        if at > 0 {
-            push(out, ",")?;
-        }
+        push_separator(out, at)?;
         push_condition(out, member)?;
     }
     push(out, ")")

@@ -1,5 +1,5 @@
 -- What the workers of a run have left, worker by worker.
-use Rattle.std.proofs.Common.{◌≡◌, ℕ, ◌+◌, ◌<◌, ◌≤◌, true, false, List, [], ◌∷◌, ◌++◌, length, length-append, Some, slice_get, ap, subst, sym, ◌∙◌, arith}
+use Rattle.std.proofs.Common.{◌≡◌, ℕ, ◌+◌, ◌<◌, ◌≤◌, true, false, List, [], ◌∷◌, ◌++◌, length, length-append, ap, subst, sym, ◌∙◌, arith, rules}
 use Rattle.std.specs.Prelude.{All, IfSome, vec_len}
 use Rattle.std.proofs.lemmas.List.Elements.{All-nil, All-push, All-weaker}
 use Rattle.std.proofs.lemmas.List.Quantifiers.{all_pairs_push}
@@ -12,7 +12,7 @@ use Rattle.tk_engine.specs.declared.workers.Outcome.{Outcome}
 use Rattle.tk_engine.specs.EventCollectors.{Follows, IsCollector, NoneIsAwaited}
 use Rattle.tk_engine.specs.WorkerThreads.{WorkersWereRun}
 use Rattle.tk_engine.specs.Workers.{IsDone, AreDone}
-use Rattle.tk_engine.proofs.Positions.{snoc_all}
+use Rattle.tk_engine.proofs.Positions.{nil_of_length, snoc_all}
 use Rattle.tk_engine.proofs.Collecting.{follows-trans}
 
 module _ (may : ℕ → ℕ → ℕ → List Event → Type 0) (units : ℕ) (session : TableId) (claim : ClaimName) where
@@ -42,6 +42,21 @@ module _ (may : ℕ → ℕ → ℕ → List Event → Type 0) (units : ℕ) (se
   failures_are_units n os done = All-weaker IsOwn (λ o. IfSome o.failure (λ f. f.unit < units)) (λ o own. own.unit) os done.each
 
 module _ (may : ℕ → ℕ → ℕ → List Event → Type 0) (units : ℕ) (claim : ClaimName) where
+  -- no worker is to be joined
+  pub nobody_joined : (n : ℕ) (old : JoinedWorkers) (last : EventCollector) → n ≡ 0 → vec_len old.outcomes ≡ 0 → Follows old.collector last → IsCollector last → NoneIsAwaited last → last.is_refused ≡ old.collector.is_refused
+      → WorkersWereRun may units claim n old (record { collector = last; outcomes = old.outcomes })
+  nobody_joined n old last none empty follows collector none_is_awaited same =
+      let nil : old.outcomes.items ≡ [] = nil_of_length old.outcomes.items (sym (old.outcomes.ok.0) ∙ empty) in
+      record {
+        follows = follows;
+        collector = collector;
+        none_is_awaited = none_is_awaited;
+        each = rw nil (record { each = All-nil _; few = All-nil _; rising = search rules });
+        refused = λ going missing. let e : true ≡ false = sym missing ∙ same ∙ going in cc;
+        count = λ _. empty ∙ sym none;
+        done = λ _. rw nil (λ i o at. cc);
+      }
+
   -- the next worker was joined
   pub one_joined : (m n : ℕ) (old mid new : JoinedWorkers) (o : Outcome) → n ≡ m + 1 → WorkersWereRun may units claim m old mid → new.collector ≡ mid.collector
       → new.outcomes.items ≡ mid.outcomes.items ++ o ∷ [] → IsDone may units old.collector.receiver.session claim (m + 1) o → WorkersWereRun may units claim n old new

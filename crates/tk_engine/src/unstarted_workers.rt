@@ -24,9 +24,9 @@ impl UnstartedWorkers {
         ensures some { IfSome result (λ h. IsLastWorker self.old self.new h) }
         ensures none { IfNone result (vec_len self.old.senders ≡ 0) }
     {
-        let sender = self.senders.pop()?;
-        let claim_seat = self.claim_seats.pop()?;
         let book_seat = self.book_seats.pop()?;
+        let claim_seat = self.claim_seats.pop()?;
+        let sender = self.senders.pop()?;
         Some(WorkerHandles {
             sender,
             claim_seat,

@@ -1,6 +1,6 @@
 -- The table's map, by the texts of ids.
 use Rattle.std.specs.Prelude.{bytes_eq, slice_get, IfSome}
-use Rattle.std.proofs.Common.{◌≡◌, ◌↔◌, IsTrue, is_some, ℕ, zero, suc, ◌+◌, ◌<◌, ◌≤◌, true, false, cond, List, [], ◌∷◌, ◌++◌, length, map, get_or, Option, Some, None, refl, sym, ap, ◌∙◌, subst, arith, ⊎_elim, Err}
+use Rattle.std.proofs.Common.{◌≡◌, ◌↔◌, IsTrue, is_some, ℕ, zero, suc, ◌+◌, ◌<◌, ◌≤◌, true, false, cond, List, [], ◌∷◌, ◌++◌, length, map, get_or, Option, Some, None, refl, sym, ap, ◌∙◌, subst, arith, ⊎_elim, Result, Ok, Err}
 use Rattle.std.specs.List.{AllByRecursion, IsDistinct, position, position_or_len}
 use Rattle.std.proofs.lemmas.Option.{same_Some, none-some, slice_get-get_or, slice_get_within, get_or_from_slice_get}
 use Rattle.std.proofs.lemmas.List.Quantifiers.{position-Some}
@@ -15,7 +15,7 @@ use Rattle.tk_ids.specs.declared.tables.TableFault.{TableFault}
 use Rattle.tk_ids.specs.declared.tables.TableFault.TheVariants.{NoParent, Twice, Full, Id, Memory}
 use Rattle.tk_ids.specs.declared.ids.IdFault.TheVariants as id_faults
 use Rattle.tk_ids.specs.IdText.{Pair, IsId, id_text, FitsLimits}
-use Rattle.tk_ids.specs.Table.{ids_of, HasId, AreDifferent, IsKept, IsChildId, IsAddedAs}
+use Rattle.tk_ids.specs.Table.{ids_of, HasId, AreDifferent, IsKept, child_id, IsChildId, IsAddedAs, HasParent, IsFreeAs, IsInsertableAs, IsInsertedAs}
 use Rattle.tk_ids.proofs.ReadingLemmas.{text_is_unique}
 
 abbrev pub texts : List (List ℕ × Descriptor) → List (List ℕ)
@@ -144,3 +144,28 @@ has_text_exact es table id t all view is ok =
       | None ↦ λ e. (λ yes. absurd (false≢true yes), λ has. absurd (find_none es table id t all view is e has))
       | Some k ↦ λ e. (λ _. (k, find_some es table id t k all view is ok e), λ _. refl)
     ] refl
+
+-- a descriptor whose id is refused isn't added, and the table stays
+pub added_unless_free : (table : List Descriptor) (parent : Option ℕ) (segment : Pair) (name : List ℕ) (dtype : DType) (id : List Pair) (fault : TableFault) → child_id table parent segment ≡ Some id → IsFreeAs table id (Err fault)
+    → IsAddedAs table table parent segment name dtype (Err fault)
+added_unless_free table parent segment name dtype id NoParent is h = absurd h
+added_unless_free table parent segment name dtype id Twice is h = (id, is, h, refl)
+added_unless_free table parent segment name dtype id Full is h = (id, is, h.0, h.1, refl)
+added_unless_free table parent segment name dtype id (Id fault) is h = absurd h
+added_unless_free table parent segment name dtype id Memory is h = absurd h
+
+pub insertable : (table : List Descriptor) (id : List Pair) (answer : Result (Unit {0}) TableFault) → HasParent table id → IsFreeAs table id answer → IsInsertableAs table id answer
+insertable table id (Ok x) parent h = (parent, h)
+insertable table id (Err NoParent) parent h = absurd h
+insertable table id (Err Twice) parent h = (parent, h)
+insertable table id (Err Full) parent h = (parent, h)
+insertable table id (Err (Id fault)) parent h = absurd h
+insertable table id (Err Memory) parent h = absurd h
+
+-- nor is one inserted
+pub inserted_unless_free : (table : List Descriptor) (d : Descriptor) (fault : TableFault) → IsInsertableAs table d.id (Err fault) → IsInsertedAs table table d (Err fault)
+inserted_unless_free table d NoParent h = (h, refl)
+inserted_unless_free table d Twice h = (h.0, h.1, refl)
+inserted_unless_free table d Full h = (h.0, h.1.0, h.1.1, refl)
+inserted_unless_free table d (Id fault) h = absurd h.1
+inserted_unless_free table d Memory h = refl

@@ -82,6 +82,19 @@ IsKept e = (e.0 ≡ id_text e.1.id) × IsId e.1.id × FitsLimits e.1.id
 abbrev pub HasParent : List Descriptor → List Pair → Type 0
 HasParent table id = 1 < length id → HasId table (parent_of id)
 
+-- what looking for room for an id answers
+abbrev pub IsFreeAs : List Descriptor → List Pair → Result (Unit {0}) TableFault → Type 0
+IsFreeAs table id (Ok _) = ¬ (HasId table id) × (length table < MAX_DESCRIPTORS)
+IsFreeAs table id (Err Twice) = HasId table id
+IsFreeAs table id (Err Full) = ¬ (HasId table id) × (length table ≡ MAX_DESCRIPTORS)
+IsFreeAs table id (Err _) = ⊥
+
+-- what looking for the parent of an id, and for room for it, answers; want of memory may come at any
+abbrev pub IsInsertableAs : List Descriptor → List Pair → Result (Unit {0}) TableFault → Type 0
+IsInsertableAs table id (Err NoParent) = ¬ HasParent table id
+IsInsertableAs table id (Err Memory) = Unit {0}
+IsInsertableAs table id answer = HasParent table id × IsFreeAs table id answer
+
 -- the descriptor may stand after these
 pub record TakesNext (table : List Descriptor) (d : Descriptor) : Type 0 where
   pub parent : HasParent table d.id

@@ -7,6 +7,7 @@ use crate::ids::Segment;
 use crate::texts::Text;
 use std::alloc::{AllocError, Global};
 use std::marker::Model;
+use std::mem;
 
 /// What was read of an escape: nothing, its `%`, or its `%` and one digit.
 #[derive(Clone, Copy)]
@@ -132,13 +133,13 @@ impl PartialText {
 }
 
 /// Where a text is in a segment.
-#[derive(Drop)]
+#[derive(Clone, Copy)]
 pub(crate) enum SegmentPosition {
     /// Before its `[`.
     Before,
     Tag,
     /// In its value. The tag is read.
-    Value(Text),
+    Value,
     /// After its `]`.
     Closed,
 }
@@ -148,6 +149,8 @@ pub(crate) enum SegmentPosition {
 pub(crate) struct Reader {
     segments: Vec<Segment>,
     position: SegmentPosition,
+    /// The tag before the value at hand. Outside of a value it means nothing.
+    tag: Text,
     partial: PartialText,
 }
 
@@ -157,7 +160,7 @@ impl Model for Reader {
 
     ghost Value = { State };
 
-    ghost view = { λ r. state_of r.segments.items r.position r.partial };
+    ghost view = { λ r. state_of r.segments.items r.position r.tag r.partial };
 }
 
 impl Reader {
@@ -171,6 +174,7 @@ impl Reader {
         Reader {
             segments: Vec::new(alloc),
             position: SegmentPosition::Before,
+            tag: Text::from(String::new(alloc)),
             partial: PartialText::new(alloc),
         }
     }
@@ -182,7 +186,7 @@ impl Reader {
         ensures { IfOk result
             (λ accepted. step self.old byte ≡ (if accepted then Some self.new else None)) }
     {
-        match &self.position {
+        match self.position {
             SegmentPosition::Before => {
                 if byte != b'[' {
                     return Ok(false);
@@ -194,20 +198,17 @@ impl Reader {
                 if !self.partial.ends(b':', byte) {
                     return self.partial.feed(byte);
                 }
-                self.position = SegmentPosition::Value(self.partial.take(alloc)?);
+                self.tag = self.partial.take(alloc)?;
+                self.position = SegmentPosition::Value;
             }
-            SegmentPosition::Value(_) => {
+            SegmentPosition::Value => {
                 if !self.partial.ends(b']', byte) {
                     return self.partial.feed(byte);
                 }
                 let value = self.partial.take(alloc)?;
-                match std::mem::replace(&mut self.position, SegmentPosition::Closed) {
-                    SegmentPosition::Value(tag) => {
-                        let segment = Segment::from_parts(alloc, tag, value)?;
-                        self.segments.push(segment)?;
-                    }
-                    _ => unreachable!(),
-                }
+                let tag = mem::replace(&mut self.tag, Text::from(String::new(alloc)));
+                self.segments.push(Segment::from_parts(alloc, tag, value)?)?;
+                self.position = SegmentPosition::Closed;
             }
             SegmentPosition::Closed => {
                 if byte != b'/' {

@@ -140,7 +140,7 @@ impl Model for Table {
 }
 
 impl Table {
-    ghost use Rattle.tk_ids.specs.Table.{ids_of, HasId, AreDifferent, child_id, IsChildId, IsAddedAs, HasParent, IsInsertedAs};
+    ghost use Rattle.tk_ids.specs.Table.{ids_of, HasId, AreDifferent, child_id, IsChildId, IsAddedAs, HasParent, IsFreeAs, IsInsertableAs, IsInsertedAs};
     ghost use Rattle.tk_ids.specs.IdText.{Pair, IsId, id_text};
     ghost use Rattle.tk_ids.specs.Answer.{IsMadeOf};
 
@@ -260,6 +260,19 @@ impl Table {
         Ok(())
     }
 
+    /// Refuses an id that some descriptor has, and any id where the table is full.
+    fn check_free(&self, id: &UniqueId) -> Result<(), TableFault>
+        ensures { IsFreeAs self.now id.now result }
+    {
+        if self.find(id).is_some() {
+            return Err(TableFault::Twice);
+        }
+        if self.is_full() {
+            return Err(TableFault::Full);
+        }
+        Ok(())
+    }
+
     /// Adds a descriptor below the parent with this key, or as a root, and returns its key.
     ///
     /// The descriptor's id is the parent's with `segment` appended, or `segment` alone.
@@ -279,12 +292,7 @@ impl Table {
         // For the proof: the table's invariant, as it was before the call.
         let _entries = &self.by_text;
         let id = self.child_id(alloc, parent, segment)?;
-        if self.find(&id).is_some() {
-            return Err(TableFault::Twice);
-        }
-        if self.is_full() {
-            return Err(TableFault::Full);
-        }
+        self.check_free(&id)?;
         let name = Text::copy(alloc, name)?;
         let key = self.len() as u32;
         self.push(Descriptor { id, name, dtype })?;
@@ -309,6 +317,16 @@ impl Table {
         }
     }
 
+    /// Refuses an id under which no descriptor can be inserted.
+    fn check_insertion(&self, alloc: Global, id: &UniqueId) -> Result<(), TableFault>
+        ensures { IsInsertableAs self.now id.now result }
+    {
+        if !self.has_parent(alloc, id)? {
+            return Err(TableFault::NoParent);
+        }
+        self.check_free(id)
+    }
+
     /// Adds a descriptor under its own id, and returns its key.
     ///
     /// # Errors
@@ -319,15 +337,7 @@ impl Table {
     {
         // For the proof: the table's invariant, as it was before the call.
         let _entries = &self.by_text;
-        if !self.has_parent(alloc, &descriptor.id)? {
-            return Err(TableFault::NoParent);
-        }
-        if self.find(&descriptor.id).is_some() {
-            return Err(TableFault::Twice);
-        }
-        if self.is_full() {
-            return Err(TableFault::Full);
-        }
+        self.check_insertion(alloc, &descriptor.id)?;
         let key = self.len() as u32;
         self.push(descriptor)?;
         Ok(key)

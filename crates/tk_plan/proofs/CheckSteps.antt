@@ -18,11 +18,12 @@ use Rattle.tk_cutting.specs.Trees.{contents}
 use Rattle.tk_plan.specs.Answers.{Refuses}
 use Rattle.tk_plan.specs.Refusals.{Faults, Meets}
 use Rattle.tk_plan.specs.Checks.{first}
-use Rattle.tk_plan.specs.Progress.{IsNoted, IsChecked, IsAdded, room_checks}
+use Rattle.tk_plan.specs.Progress.{IsNoted, IsChecked, IsAdded, HasBelow, IsStarted, room_checks}
 use Rattle.tk_plan.specs.NodeInputs.{NodeInput, segment_of, node_of, repeats_key}
 use Rattle.tk_plan.specs.PlanOf.{checks, node_check, id_fault, same_segment, is_kind}
 use Rattle.tk_plan.specs.declared.plan_readers.Reader.{Reader}
 use Rattle.tk_plan.specs.declared.plan_readers.Checked.{Checked}
+use Rattle.tk_plan.specs.declared.plan_readers.Parent.{Parent}
 use Rattle.tk_plan.specs.declared.faults.PlanFault.{PlanFault}
 use Rattle.tk_plan.specs.declared.faults.PlanFault.TheVariants.{Json, Field, Id, Table, TooManyResources, EntryKeyTwice, TooManyEvents, Deep, Memory}
 
@@ -154,6 +155,17 @@ noted_added old mid new s later c noted k a =
       few_dynamics = subst (λ x. x ≤ 65536) (sym dyn) within.1;
       lawful = ap (list_all is_lawful_node) nodes ∙ all-push is_lawful_node ns n noted.lawful k.lawful;
     }
+
+-- a node that was checked and put at the end is started
+pub node_started : (old mid new : Reader) (s : NodeInput) (later : List Pair) (c : Checked) (p : Option Parent) → IsNoted old → IsChecked old mid s later c → IsAdded mid new c.node c.id → HasBelow s p → IsStarted old new s later p
+node_started old mid new s later c p noted k a below = record {
+  nodes = a.nodes ∙ ap₂ (λ l n. l ++ record { node = n; number = 0; span = 1 } ∷ []) k.nodes k.node;
+  descriptors = a.descriptors ∙ ap₂ (λ l d. l ++ d) k.descriptors (ap₂ descriptor_in k.id k.node);
+  noted = noted_added old mid new s later c noted k a;
+  level = k.level;
+  siblings = k.siblings;
+  below = below;
+}
 
 -- the nodes' spans are not noted
 pub noted_same : (old new : Reader) → contents new.nodes.items ≡ contents old.nodes.items → new.keys.keys ≡ old.keys.keys → new.descriptors.items ≡ old.descriptors.items → new.dynamics ≡ old.dynamics

@@ -9,17 +9,18 @@ use Rattle.serde_json.specs.View.{view}
 use Rattle.serde_json.specs.declared.value.Value.{Value}
 use Rattle.std.proofs.lemmas.Grind.{flat_map-append}
 use Rattle.tk_ids.specs.IdText.{Pair}
-use Rattle.tk_ids.specs.declared.tables.Descriptor.{Descriptor}
 use Rattle.tk_cutting.specs.declared.nodes.Node.{Node}
 use Rattle.tk_cutting.specs.declared.nodes.NumberedNode.{NumberedNode}
-use Rattle.tk_cutting.specs.Trees.{flat, flats, contents}
-use Rattle.tk_cutting.specs.Ids.{descriptor_in, descriptors, descriptors_below}
+use Rattle.tk_cutting.specs.Trees.{flat, contents}
+use Rattle.tk_cutting.specs.Ids.{descriptor_in, descriptors}
 use Rattle.tk_plan.specs.Checks.{first, or_else, item_at, member_at}
 use Rattle.tk_plan.specs.declared.faults.PlanFault.{PlanFault}
 use Rattle.tk_plan.specs.declared.plan_readers.Reader.{Reader}
-use Rattle.tk_plan.specs.NodeInputs.{NodeInput, segment_in, id_of, node_of, below, node_inputs, node_inputs_in, children_of, dynamic_of, grown, forest_of}
+use Rattle.tk_plan.specs.NodeInputs.{NodeInput, segment_in, id_of, node_of, below, node_inputs, node_inputs_in, children_of, dynamic_of, grown}
 use Rattle.tk_plan.specs.PlanOf.{checks, verdict, joined}
-use Rattle.tk_plan.specs.Progress.{IsNoted, Adds}
+use Rattle.tk_plan.specs.Progress.{IsNoted, IsStarted, IsSpanned, Adds}
+use Rattle.tk_plan.specs.declared.plan_readers.Parent.{Parent}
+use Rattle.tk_plan.proofs.CheckSteps.{noted_same}
 use Rattle.tk_plan.proofs.Items.{values_next}
 use Rattle.tk_plan.proofs.Verdicts.{verdict-append, verdict-cons, nodes-grown, nodes-all, flats-forest, descriptors-forest}
 
@@ -103,6 +104,27 @@ goes_nowhere k above old array level b fs earlier ds none noted = (
   },
 )
 
+-- the element at the seam is what is there
+at_seam : (old rest : List NumberedNode) (p x : NumberedNode) → x ≡ get_or (old ++ p ∷ rest) (length old) x → x ≡ p
+at_seam [] rest p x e = e
+at_seam (o ∷ old) rest p x e = at_seam old rest p x e
+
+contents_same : (old rest : List NumberedNode) (p q : NumberedNode) → p.node ≡ q.node → contents (old ++ p ∷ rest) ≡ contents (old ++ q ∷ rest)
+contents_same [] rest p q e = ap (λ n. n ∷ contents rest) e
+contents_same (o ∷ old) rest p q e = ap (λ l. o.node ∷ l) (contents_same old rest p q e)
+
+-- the span of a node is written once all below it is there
+pub span_written : (two : List NumberedNode) (x : NumberedNode) (at len : ℕ) (old rest : List NumberedNode) (node : Node) → len ≡ length two → x ≡ get_or two at x
+    → two ≡ old ++ record { node = node; number = 0; span = 1 } ∷ rest → at ≡ length old
+    → set two at (record { node = x.node; number = x.number; span = len - at }) ≡ old ++ record { node = node; number = 0; span = suc (length rest) } ∷ rest
+span_written two x at len old rest node len_is x_is two_is at_is =
+    let p : NumberedNode = record { node = node; number = 0; span = 1 } in
+    let q : NumberedNode = record { node = node; number = 0; span = suc (length rest) } in
+    let there : x ≡ p = at_seam old rest p x (x_is ∙ ap₂ (λ l i. get_or l i x) two_is at_is) in
+    let span : len - at ≡ suc (length rest) = omega (arith, length-append old (p ∷ rest), ap length two_is) in
+    ap₂ (λ l i. set l i (record { node = x.node; number = x.number; span = len - at })) two_is at_is ∙ ap₂ (λ y w. set (old ++ p ∷ rest) (length old) (record { node = y.node; number = y.number; span = w })) there span
+    ∙ set-append_seam old p rest q
+
 -- ---- a node, and what is below it
 
 pub check_fault : (m : ℕ) (before : List Node) (s : NodeInput) (f : PlanFault) → first (checks before s) ≡ Some f → verdict before (node_inputs m s) ≡ Some f
@@ -119,113 +141,86 @@ parts_of s cs ds id e1 e2 children dynamic is none met =
     ∙ ap₂ (λ a b. node_inputs_in (member_at s.path (codes "children")) (s.level + 1) (id_of s) true s.takes_files 0 a cs ++ node_inputs_in (member_at s.path (codes "dynamic")) (s.level + 1) (id_of s) false s.takes_files 0 b ds) (sym none) (sym two)
     ∙ ap (λ a. node_inputs_in (member_at s.path (codes "children")) (s.level + 1) a true s.takes_files 0 e1 cs ++ node_inputs_in (member_at s.path (codes "dynamic")) (s.level + 1) a false s.takes_files 0 e2 ds) (sym is)
 
-pub contents_pushed : (old : List NumberedNode) (p : NumberedNode) (n : Node) → p.node ≡ n → contents (old ++ p ∷ []) ≡ contents old ++ n ∷ []
-contents_pushed old p n e = map-append _ old (p ∷ []) ∙ ap (λ m. contents old ++ m ∷ []) e
-
-pub contents_all : (old : List NumberedNode) (k : ℕ) (xs : List NodeInput) → contents (old ++ flat_map flat (map (grown k) xs)) ≡ contents old ++ map node_of (flat_map (node_inputs k) xs)
+contents_all : (old : List NumberedNode) (k : ℕ) (xs : List NodeInput) → contents (old ++ flat_map flat (map (grown k) xs)) ≡ contents old ++ map node_of (flat_map (node_inputs k) xs)
 contents_all old k xs = map-append _ old (flat_map flat (map (grown k) xs)) ∙ ap (λ l. contents old ++ l) (nodes-all (grown k) (node_inputs k) (nodes-grown k) xs)
 
--- A node was checked and pushed; xs and then ys are below it.
-module _ (k m : ℕ) (levels : m ≡ suc k) (old pushed : List NumberedNode) (s : NodeInput) (node : Node) (xs ys : List NodeInput) (parts : below s ≡ xs ++ ys) (is : node ≡ node_of s)
-    (push : pushed ≡ old ++ record { node = node; number = 0; span = 1 } ∷ []) (fine : first (checks (contents old) s) ≡ None) where
-  pub pushed_contents : contents pushed ≡ contents old ++ node_of s ∷ []
-  pushed_contents = ap contents push ∙ contents_pushed old (record { node = node; number = 0; span = 1 }) (node_of s) is
+-- what is below a node stands in two arrays, whose nodes are read one after the other
+module _ (k : ℕ) (old : Reader) (xs ys all : List NodeInput) (parts : all ≡ xs ++ ys) where
+  both : verdict (contents old.nodes.items) (flat_map (node_inputs k) all) ≡ verdict (contents old.nodes.items) (flat_map (node_inputs k) xs ++ flat_map (node_inputs k) ys)
+  both = ap (verdict (contents old.nodes.items)) (ap (flat_map (node_inputs k)) parts ∙ flat_map-append (node_inputs k) xs ys)
 
-  unfolded : verdict (contents old) (node_inputs m s) ≡ verdict (contents pushed) (flat_map (node_inputs k) xs ++ flat_map (node_inputs k) ys)
-  unfolding node_inputs pushed_contents
-  unfolded =
-      ap (λ n. verdict (contents old) (node_inputs n s)) levels
-      ∙ verdict-cons (contents old) s (flat_map (node_inputs k) (below s))
-      ∙ ap (λ o. or_else o (verdict (contents old ++ node_of s ∷ []) (flat_map (node_inputs k) (below s)))) fine
-      ∙ ap (λ ss. verdict (contents old ++ node_of s ∷ []) (flat_map (node_inputs k) ss)) parts
-      ∙ ap (verdict (contents old ++ node_of s ∷ [])) (flat_map-append (node_inputs k) xs ys)
-      ∙ ap (λ b. verdict b (flat_map (node_inputs k) xs ++ flat_map (node_inputs k) ys)) (sym pushed_contents)
+  pub first_fault : (f : PlanFault) → verdict (contents old.nodes.items) (flat_map (node_inputs k) xs) ≡ Some f → verdict (contents old.nodes.items) (flat_map (node_inputs k) all) ≡ Some f
+  unfolding both
+  first_fault f e = both ∙ after_some _ (flat_map (node_inputs k) xs) _ f e
 
-  pub static_fault : (f : PlanFault) → verdict (contents pushed) (flat_map (node_inputs k) xs) ≡ Some f → verdict (contents old) (node_inputs m s) ≡ Some f
-  unfolding unfolded
-  static_fault f e = unfolded ∙ after_some _ (flat_map (node_inputs k) xs) _ f e
+  module _ (above up : List Pair) (is : up ≡ above) (mid : Reader) (none : verdict (contents old.nodes.items) (flat_map (node_inputs k) xs) ≡ None)
+      (first_part : Adds old mid (flat_map flat (map (grown k) xs)) (flat_map (descriptors up) (map (grown k) xs))) where
+    pub second_verdict : verdict (contents old.nodes.items) (flat_map (node_inputs k) all) ≡ verdict (contents mid.nodes.items) (flat_map (node_inputs k) ys)
+    unfolding both
+    second_verdict =
+        both ∙ after_none _ (flat_map (node_inputs k) xs) _ none
+        ∙ ap (λ b. verdict b (flat_map (node_inputs k) ys)) (sym (ap contents first_part.nodes ∙ contents_all old.nodes.items k xs))
 
-  module _ (one : List NumberedNode) (none : verdict (contents pushed) (flat_map (node_inputs k) xs) ≡ None) (first_part : one ≡ pushed ++ flat_map flat (map (grown k) xs)) where
-    pub dynamic_verdict : (o : Option PlanFault) → verdict (contents one) (flat_map (node_inputs k) ys) ≡ o → verdict (contents old) (node_inputs m s) ≡ o
-    unfolding unfolded
-    dynamic_verdict o e =
-        let before : contents one ≡ contents pushed ++ map node_of (flat_map (node_inputs k) xs) = ap contents first_part ∙ contents_all pushed k xs in
-        unfolded ∙ after_none _ (flat_map (node_inputs k) xs) _ none ∙ ap (λ b. verdict b (flat_map (node_inputs k) ys)) (sym before) ∙ e
+    pub both_added : (new : Reader) → Adds mid new (flat_map flat (map (grown k) ys)) (flat_map (descriptors up) (map (grown k) ys))
+        → Adds old new (flat_map flat (map (grown k) all)) (flat_map (descriptors above) (map (grown k) all))
+    both_added new second =
+        let ts : map (grown k) xs ++ map (grown k) ys ≡ map (grown k) all = sym (ap (map (grown k)) parts ∙ map-append (grown k) xs ys) in
+        record {
+          nodes = second.nodes ∙ ap (λ l. l ++ flat_map flat (map (grown k) ys)) first_part.nodes ∙ append_assoc old.nodes.items _ _
+              ∙ ap (λ l. old.nodes.items ++ l) (sym (flat_map-append flat (map (grown k) xs) (map (grown k) ys)) ∙ ap (flat_map flat) ts);
+          descriptors = second.descriptors ∙ ap (λ l. l ++ flat_map (descriptors up) (map (grown k) ys)) first_part.descriptors ∙ append_assoc old.descriptors.items _ _
+              ∙ ap (λ l. old.descriptors.items ++ l) (sym (flat_map-append (descriptors up) (map (grown k) xs) (map (grown k) ys)) ∙ ap₂ (λ i l. flat_map (descriptors i) l) is ts);
+          noted = second.noted;
+        }
 
-    pub placed_at : (two : List NumberedNode) → two ≡ one ++ flat_map flat (map (grown k) ys)
-        → two ≡ old ++ record { node = node; number = 0; span = 1 } ∷ (flat_map flat (map (grown k) xs) ++ flat_map flat (map (grown k) ys))
-    placed_at two second =
-        let p : List NumberedNode = flat_map flat (map (grown k) xs) in
-        let q : List NumberedNode = flat_map flat (map (grown k) ys) in
-        second ∙ ap (λ l. l ++ q) (first_part ∙ ap (λ l. l ++ p) push) ∙ append_assoc (old ++ record { node = node; number = 0; span = 1 } ∷ []) p q ∙ append_assoc old (record { node = node; number = 0; span = 1 } ∷ []) (p ++ q)
+-- A node was checked and put at the end.
+module _ (k m : ℕ) (levels : m ≡ suc k) (old pushed : Reader) (s : NodeInput) (later : List Pair) (p : Option Parent) (fine : first (checks (contents old.nodes.items) s) ≡ None) (started : IsStarted old pushed s later p) where
+  pub below_verdict : verdict (contents old.nodes.items) (node_inputs m s) ≡ verdict (contents pushed.nodes.items) (flat_map (node_inputs k) (below s))
+  unfolding node_inputs
+  below_verdict =
+      ap (λ n. verdict (contents old.nodes.items) (node_inputs n s)) levels
+      ∙ verdict-cons (contents old.nodes.items) s (flat_map (node_inputs k) (below s))
+      ∙ ap (λ o. or_else o (verdict (contents old.nodes.items ++ node_of s ∷ []) (flat_map (node_inputs k) (below s)))) fine
+      ∙ ap (λ b. verdict b (flat_map (node_inputs k) (below s))) (sym (ap contents started.nodes ∙ map-append _ old.nodes.items (record { node = node_of s; number = 0; span = 1 } ∷ [])))
 
-  pub grown_here : old ++ flat (grown m s)
-      ≡ old ++ record { node = node; number = 0; span = suc (length (flat_map flat (map (grown k) xs) ++ flat_map flat (map (grown k) ys))) } ∷ (flat_map flat (map (grown k) xs) ++ flat_map flat (map (grown k) ys))
+  grown_here : flat (grown m s) ≡ record { node = node_of s; number = 0; span = suc (length (flat_map flat (map (grown k) (below s)))) } ∷ flat_map flat (map (grown k) (below s))
   unfolding grown
-  grown_here =
-      let p : List NumberedNode = flat_map flat (map (grown k) xs) in
-      let q : List NumberedNode = flat_map flat (map (grown k) ys) in
-      let both : flats (forest_of (map (grown k) (below s))) ≡ p ++ q =
-      flats-forest (map (grown k) (below s)) ∙ ap (λ ss. flat_map flat (map (grown k) ss)) parts ∙ ap (flat_map flat) (map-append (grown k) xs ys) ∙ flat_map-append flat (map (grown k) xs) (map (grown k) ys) in
-      ap (λ n. old ++ flat (grown n s)) levels ∙ ap₂ (λ n l. old ++ record { node = n; number = 0; span = suc (length l) } ∷ l) (sym is) both
+  grown_here = ap (λ n. flat (grown n s)) levels ∙ ap (λ l. record { node = node_of s; number = 0; span = suc (length l) } ∷ l) (flats-forest (map (grown k) (below s)))
 
-  pub described_here : (id : List Pair) (ds added one two : List Descriptor) → id ≡ id_of s → added ≡ ds ++ descriptor_in id node
-      → one ≡ added ++ flat_map (descriptors id) (map (grown k) xs) → two ≡ one ++ flat_map (descriptors id) (map (grown k) ys) → two ≡ ds ++ descriptors s.above (grown m s)
+  described_here : descriptors s.above (grown m s) ≡ descriptor_in (id_of s) (node_of s) ++ flat_map (descriptors (id_of s)) (map (grown k) (below s))
   unfolding grown
-  described_here id ds added one two here push1 first_part second =
-      let p : List Descriptor = flat_map (descriptors id) (map (grown k) xs) in
-      let q : List Descriptor = flat_map (descriptors id) (map (grown k) ys) in
-      let both : descriptors_below id (forest_of (map (grown k) (below s))) ≡ p ++ q =
-      descriptors-forest id (map (grown k) (below s)) ∙ ap (λ ss. flat_map (descriptors id) (map (grown k) ss)) parts ∙ ap (flat_map (descriptors id)) (map-append (grown k) xs ys)
-      ∙ flat_map-append (descriptors id) (map (grown k) xs) (map (grown k) ys) in
-      let whole : descriptors s.above (grown m s) ≡ descriptor_in id node ++ (p ++ q) =
-      ap (λ n. descriptors s.above (grown n s)) levels ∙ ap₂ (λ i n. descriptor_in i n ++ descriptors_below i (forest_of (map (grown k) (below s)))) (sym here) (sym is) ∙ ap (λ l. descriptor_in id node ++ l) both in
-      second ∙ ap (λ l. l ++ q) (first_part ∙ ap (λ l. l ++ p) push1) ∙ append_assoc (ds ++ descriptor_in id node) p q ∙ append_assoc ds (descriptor_in id node) (p ++ q) ∙ ap (λ l. ds ++ l) (sym whole)
+  described_here = ap (λ n. descriptors s.above (grown n s)) levels ∙ ap (λ l. descriptor_in (id_of s) (node_of s) ++ l) (descriptors-forest (id_of s) (map (grown k) (below s)))
 
--- A node with nothing below it was checked and pushed.
-pub leaf_read : (k m : ℕ) → m ≡ suc k → (old pushed : List NumberedNode) (s : NodeInput) (node : Node)
-    → below s ≡ [] → node ≡ node_of s → pushed ≡ old ++ record { node = node; number = 0; span = 1 } ∷ []
-    → first (checks (contents old) s) ≡ None
-    → (verdict (contents old) (node_inputs m s) ≡ None) × (pushed ≡ old ++ flat (grown m s))
-unfolding joined
-leaf_read k m levels old pushed s node none is push fine = (
-  dynamic_verdict k m levels old pushed s node [] [] none is push fine pushed refl (sym (append-nil pushed)) None refl,
-  push ∙ sym (grown_here k m levels old pushed s node [] [] none is push fine),
-)
+  pub leaf_verdict : below s ≡ [] → verdict (contents old.nodes.items) (node_inputs m s) ≡ None
+  unfolding joined
+  leaf_verdict none = below_verdict ∙ ap (λ ss. verdict (contents pushed.nodes.items) (flat_map (node_inputs k) ss)) none
 
--- so were its descriptors
-pub leaf_described : (k m : ℕ) → m ≡ suc k → (old pushed : List NumberedNode) (s : NodeInput) (node : Node)
-    → below s ≡ [] → node ≡ node_of s → pushed ≡ old ++ record { node = node; number = 0; span = 1 } ∷ []
-    → first (checks (contents old) s) ≡ None
-    → (id : List Pair) (ds added : List Descriptor) → id ≡ id_of s → added ≡ ds ++ descriptor_in id node
-    → added ≡ ds ++ descriptors s.above (grown m s)
-leaf_described k m levels old pushed s node none is push fine id ds added here added_is =
-    described_here k m levels old pushed s node [] [] none is push fine id ds added added added here added_is
-    (sym (append-nil added)) (sym (append-nil added))
+  pub leaf_added : below s ≡ [] → Adds old pushed (flat (grown m s)) (descriptors s.above (grown m s))
+  leaf_added none = record {
+    nodes = started.nodes ∙ ap (λ l. old.nodes.items ++ l)
+        (ap (λ ss. record { node = node_of s; number = 0; span = suc (length (flat_map flat (map (grown k) ss))) } ∷ flat_map flat (map (grown k) ss)) (sym none) ∙ sym grown_here);
+    descriptors = started.descriptors ∙ ap (λ l. old.descriptors.items ++ l)
+        (sym (append-nil (descriptor_in (id_of s) (node_of s))) ∙ ap (λ ss. descriptor_in (id_of s) (node_of s) ++ flat_map (descriptors (id_of s)) (map (grown k) ss)) (sym none) ∙ sym described_here);
+    noted = started.noted;
+  }
 
--- the element at the seam is what is there
-at_seam : (old rest : List NumberedNode) (p x : NumberedNode) → x ≡ get_or (old ++ p ∷ rest) (length old) x → x ≡ p
-at_seam [] rest p x e = e
-at_seam (o ∷ old) rest p x e = at_seam old rest p x e
-
-contents_same : (old rest : List NumberedNode) (p q : NumberedNode) → p.node ≡ q.node → contents (old ++ p ∷ rest) ≡ contents (old ++ q ∷ rest)
-contents_same [] rest p q e = ap (λ n. n ∷ contents rest) e
-contents_same (o ∷ old) rest p q e = ap (λ l. o.node ∷ l) (contents_same old rest p q e)
-
--- the span of a node is written once all below it is there
-pub span_written : (old rest two : List NumberedNode) (node : Node) (x : NumberedNode) (at len : ℕ) → two ≡ old ++ record { node = node; number = 0; span = 1 } ∷ rest
-    → at ≡ length old → len ≡ length two → x ≡ get_or two at x
-    → (set two at (record { node = x.node; number = x.number; span = len - at }) ≡ old ++ record { node = node; number = 0; span = suc (length rest) } ∷ rest)
-    × (contents (set two at (record { node = x.node; number = x.number; span = len - at })) ≡ contents two)
-span_written old rest two node x at len two_is at_is len_is x_is =
-    let p : NumberedNode = record { node = node; number = 0; span = 1 } in
-    let q : NumberedNode = record { node = node; number = 0; span = suc (length rest) } in
-    let there : x ≡ p = at_seam old rest p x (x_is ∙ ap₂ (λ l i. get_or l i x) two_is at_is) in
-    let span : len - at ≡ suc (length rest) = omega (arith, length-append old (p ∷ rest), ap length two_is) in
-    let written : set two at (record { node = x.node; number = x.number; span = len - at }) ≡ old ++ q ∷ rest =
-    ap₂ (λ l i. set l i (record { node = x.node; number = x.number; span = len - at })) two_is at_is ∙ ap₂ (λ y w. set (old ++ p ∷ rest) (length old) (record { node = y.node; number = y.number; span = w })) there span
-    ∙ set-append_seam old p rest q in
-    (written, ap contents written ∙ contents_same old rest q p refl ∙ sym (ap contents two_is))
+  -- then all below it were read, and its span was written
+  pub node_added : (read new : Reader) (at : ℕ) → at ≡ length old.nodes.items
+      → Adds pushed read (flat_map flat (map (grown k) (below s))) (flat_map (descriptors (id_of s)) (map (grown k) (below s))) → IsSpanned read new at
+      → Adds old new (flat (grown m s)) (descriptors s.above (grown m s))
+  node_added read new at is a spanned =
+      let rest : List NumberedNode = flat_map flat (map (grown k) (below s)) in
+      let before : List NumberedNode = old.nodes.items in
+      let open_node : NumberedNode = record { node = node_of s; number = 0; span = 1 } in
+      let whole_node : NumberedNode = record { node = node_of s; number = 0; span = suc (length rest) } in
+      let whole : read.nodes.items ≡ before ++ open_node ∷ rest = a.nodes ∙ ap (λ l. l ++ rest) started.nodes ∙ append_assoc before (open_node ∷ []) rest in
+      let written : new.nodes.items ≡ before ++ whole_node ∷ rest = spanned.nodes before rest (node_of s) whole is in
+      record {
+        nodes = written ∙ ap (λ l. before ++ l) (sym grown_here);
+        descriptors = spanned.descriptors ∙ a.descriptors ∙ ap (λ l. l ++ flat_map (descriptors (id_of s)) (map (grown k) (below s))) started.descriptors
+            ∙ append_assoc old.descriptors.items _ _ ∙ ap (λ l. old.descriptors.items ++ l) (sym described_here);
+        noted = noted_same read new (ap contents written ∙ contents_same before rest whole_node open_node refl ∙ sym (ap contents whole)) spanned.keys spanned.descriptors spanned.dynamics a.noted;
+      }
 
 pub no_values : (vs : List Value) → length vs ≡ 0 → vs ≡ []
 no_values [] e = refl

@@ -1,5 +1,5 @@
 -- What a step of the reading adds to what was read.
-use Rattle.std.specs.Prelude.{◌≡◌, ◌++◌, ◌+◌, ◌≤◌, ◌<◌, ◌∷◌, [], ℕ, List, Option, Bool, true, false, nat_lt, nat_le, length, map, if◌then◌else◌}
+use Rattle.std.specs.Prelude.{◌≡◌, ◌++◌, ◌+◌, ◌≤◌, ◌<◌, ◌∷◌, [], ℕ, suc, List, Option, Some, None, Bool, true, false, nat_lt, nat_le, length, map, if◌then◌else◌}
 use Rattle.std.specs.List.{list_all, list_any, count_by}
 use Rattle.serde_json.specs.View.{view}
 use Rattle.tk_ids.specs.IdText.{Pair}
@@ -14,11 +14,12 @@ use Rattle.tk_cutting.specs.Keys.{lock_keys}
 use Rattle.tk_cutting.specs.Planned.{is_lawful_node}
 use Rattle.tk_cutting.specs.Trees.{flat, contents}
 use Rattle.tk_plan.specs.PlanOf.{is_kind, same_segment, when}
-use Rattle.tk_plan.specs.NodeInputs.{NodeInput, segment_of, id_of, node_of, children_of, dynamic_of, grown}
+use Rattle.tk_plan.specs.NodeInputs.{NodeInput, segment_of, id_of, node_of, children_of, dynamic_of, below, grown}
 use Rattle.tk_plan.specs.declared.faults.PlanFault.{PlanFault}
 use Rattle.tk_plan.specs.declared.faults.PlanFault.TheVariants.{Table, TooManyResources}
 use Rattle.tk_plan.specs.declared.plan_readers.Reader.{Reader}
 use Rattle.tk_plan.specs.declared.plan_readers.Checked.{Checked}
+use Rattle.tk_plan.specs.declared.plan_readers.Parent.{Parent}
 use Rattle.tk_plan.specs.declared.plan_readers.Named.{Named}
 
 -- what is kept beside the nodes fits them
@@ -83,6 +84,34 @@ pub record IsAdded (old new : Reader) (n : Node) (id : List Pair) : Type 0 where
   pub nodes : new.nodes.items ≡ old.nodes.items ++ record { node = n; number = 0; span = 1 } ∷ []
   pub descriptors : new.descriptors.items ≡ old.descriptors.items ++ descriptor_in id n
   pub dynamics : new.dynamics ≡ old.dynamics + (if n.is_static then 0 else 1)
+  pub keys : new.keys.keys ≡ old.keys.keys
+
+-- this is the node with its arrays
+pub record IsParent (s : NodeInput) (p : Parent) : Type 0 where
+  pub id : p.id ≡ id_of s
+  pub children : map view p.children.now ≡ children_of s.is_static s.value
+  pub dynamic : map view p.dynamic.now ≡ dynamic_of s.value
+
+-- it is a parent where nodes stand below it
+abbrev pub HasBelow : NodeInput → Option Parent → Type 0
+HasBelow s None = below s ≡ []
+HasBelow s (Some p) = IsParent s p
+
+-- a node was checked and put at the end, and what is below it is still to be read
+pub record IsStarted (old new : Reader) (s : NodeInput) (later : List Pair) (p : Option Parent) : Type 0 where
+  pub nodes : new.nodes.items ≡ old.nodes.items ++ record { node = node_of s; number = 0; span = 1 } ∷ []
+  pub descriptors : new.descriptors.items ≡ old.descriptors.items ++ descriptor_in (id_of s) (node_of s)
+  pub noted : IsNoted new
+  pub level : s.level ≤ 60
+  pub siblings : later ≡ s.earlier ++ segment_of s ∷ []
+  pub below : HasBelow s p
+
+-- the node at a place spans all from there to the last
+pub record IsSpanned (old new : Reader) (at : ℕ) : Type 0 where
+  pub nodes : (before after : List NumberedNode) (n : Node) → old.nodes.items ≡ before ++ record { node = n; number = 0; span = 1 } ∷ after → at ≡ length before
+      → new.nodes.items ≡ before ++ record { node = n; number = 0; span = suc (length after) } ∷ after
+  pub descriptors : new.descriptors.items ≡ old.descriptors.items
+  pub dynamics : new.dynamics ≡ old.dynamics
   pub keys : new.keys.keys ≡ old.keys.keys
 
 -- nodes were read, with the descriptors of the static ones

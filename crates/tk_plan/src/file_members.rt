@@ -10,7 +10,7 @@ ghost use Rattle.tk_plan.specs.Fields.{AreFiles};
 
 use crate::faults::PlanFault;
 use crate::json_paths::JsonPath;
-use crate::path_texts::{field, item_path, member_path};
+use crate::path_texts::{member_path, wrong_item, wrong_value};
 use serde_json::Value;
 use std::alloc::Global;
 use tk_cutting::Files;
@@ -22,10 +22,10 @@ fn path(alloc: Global, array: &str, index: usize, item: &Value) -> Result<Text, 
         (λ t. t ≡ json_path (view item.now)) result }
 {
     let Some(text) = item.as_str() else {
-        return Err(field(item_path(alloc, JsonPath::Whole(array), index)?));
+        return Err(wrong_item(alloc, JsonPath::Whole(array), index));
     };
     if text.is_empty() {
-        return Err(field(item_path(alloc, JsonPath::Whole(array), index)?));
+        return Err(wrong_item(alloc, JsonPath::Whole(array), index));
     }
     Ok(Text::copy(alloc, text)?)
 }
@@ -35,7 +35,7 @@ fn files(alloc: Global, at: &str, value: &Value) -> Result<Files, PlanFault>
         (λ f. f ≡ json_files (Some (view value.now))) result }
 {
     let Some(items) = value.as_array() else {
-        return Err(field(String::from_str(alloc, at)?));
+        return Err(wrong_value(alloc, JsonPath::Whole(at)));
     };
     let mut paths = Vec::new(alloc);
     for (index, item) in items.iter().enumerate() {

@@ -13,7 +13,7 @@ ghost use Rattle.tk_plan.specs.Contents.{json_text, json_optional, json_truth, j
 use crate::faults::PlanFault;
 use crate::json_paths::JsonPath;
 use crate::member_values::TwoTexts;
-use crate::path_texts::{escaped_path, field, item_path, member_path, whole_path};
+use crate::path_texts::{escaped_path, field, member_path, wrong_item, wrong_member, wrong_value};
 use serde_json::Value;
 use std::alloc::Global;
 use tk_ids::{DType, Text};
@@ -31,7 +31,7 @@ pub(crate) fn text_member(
 {
     match object.get(name).and_then(Value::as_str) {
         Some(text) => Ok(Text::copy(alloc, text)?),
-        None => Err(field(member_path(alloc, at, name)?)),
+        None => Err(wrong_member(alloc, at, name)),
     }
 }
 
@@ -51,7 +51,7 @@ pub(crate) fn optional_member(
     };
     match value.as_str() {
         Some(text) => Ok(Some(Text::copy(alloc, text)?)),
-        None => Err(field(member_path(alloc, at, name)?)),
+        None => Err(wrong_member(alloc, at, name)),
     }
 }
 
@@ -68,7 +68,7 @@ pub(crate) fn dtype_member(
         Some("container") => Ok(DType::Container),
         Some("test") => Ok(DType::Test),
         Some("both") => Ok(DType::Both),
-        _ => Err(field(member_path(alloc, at, "type")?)),
+        _ => Err(wrong_member(alloc, at, "type")),
     }
 }
 
@@ -87,7 +87,7 @@ pub(crate) fn mode_member(
     match value.as_str() {
         Some("same_thread") => Ok(false),
         Some("concurrent") => Ok(true),
-        _ => Err(field(member_path(alloc, at, "mode")?)),
+        _ => Err(wrong_member(alloc, at, "mode")),
     }
 }
 
@@ -105,7 +105,7 @@ pub(crate) fn isolated_member(
     };
     match value.as_bool() {
         Some(is_isolated) => Ok(is_isolated),
-        None => Err(field(member_path(alloc, at, "isolated")?)),
+        None => Err(wrong_member(alloc, at, "isolated")),
     }
 }
 
@@ -121,7 +121,7 @@ fn item_text<'v>(
 {
     match item.as_str() {
         Some(text) => Ok(text),
-        None => Err(field(item_path(alloc, at, index)?)),
+        None => Err(wrong_item(alloc, at, index)),
     }
 }
 
@@ -135,10 +135,10 @@ pub(crate) fn two_texts<'v>(
         (IsPairOf (Some (view value.now))) result }
 {
     let Some(items) = value.as_array() else {
-        return Err(field(whole_path(alloc, at)?));
+        return Err(wrong_value(alloc, at));
     };
     if items.len() != 2 {
-        return Err(field(whole_path(alloc, at)?));
+        return Err(wrong_value(alloc, at));
     }
     let first = item_text(alloc, at, 0, &items[0])?;
     let second = item_text(alloc, at, 1, &items[1])?;
@@ -169,7 +169,7 @@ pub(crate) fn segment_member<'v>(
         (IsPairOf (get (codes "segment") (view object.now))) result }
 {
     let Some(value) = object.get("segment") else {
-        return Err(field(member_path(alloc, at, "segment")?));
+        return Err(wrong_member(alloc, at, "segment"));
     };
     match pair_in(value) {
         Some(pair) => Ok(pair),
@@ -194,7 +194,7 @@ pub(crate) fn array_member<'v>(
     match object.get(name) {
         Some(value) => match value.as_array() {
             Some(items) => Ok(items.as_slice()),
-            None => Err(field(member_path(alloc, at, name)?)),
+            None => Err(wrong_member(alloc, at, name)),
         },
         None => Ok(&[]),
     }
@@ -223,7 +223,7 @@ pub(crate) fn known_members(
         (λ _. Unit {0}) result }
 {
     let Some(members) = value.as_object() else {
-        return Err(field(whole_path(alloc, at)?));
+        return Err(wrong_value(alloc, at));
     };
     for (name, _) in members.iter() {
         if !is_among(names, name.as_str()) {

@@ -11,7 +11,7 @@ ghost use Rattle.tk_plan.specs.Contents.{json_writes, json_lock, json_locks};
 use crate::faults::PlanFault;
 use crate::json_members::{known_members, text_member};
 use crate::json_paths::JsonPath;
-use crate::path_texts::{field, member_path};
+use crate::path_texts::{member_path, wrong_member, wrong_value};
 use serde_json::Value;
 use std::alloc::Global;
 use tk_cutting::{Lock, Locks};
@@ -27,7 +27,7 @@ fn lock_mode_member(alloc: Global, at: JsonPath<'_>, object: &Value) -> Result<b
     match value.as_str() {
         Some("read") => Ok(false),
         Some("read_write") => Ok(true),
-        _ => Err(field(member_path(alloc, at, "mode")?)),
+        _ => Err(wrong_member(alloc, at, "mode")),
     }
 }
 
@@ -46,7 +46,7 @@ fn locks(alloc: Global, at: &str, value: &Value) -> Result<Locks, PlanFault>
         (λ l. l ≡ json_locks (Some (view value.now))) result }
 {
     let Some(items) = value.as_array() else {
-        return Err(field(String::from_str(alloc, at)?));
+        return Err(wrong_value(alloc, JsonPath::Whole(at)));
     };
     let mut locks = Vec::new(alloc);
     for (index, item) in items.iter().enumerate() {

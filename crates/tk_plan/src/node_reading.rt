@@ -1,22 +1,22 @@
 //! Reading a plan's nodes.
-ghost use Rattle.std.specs.Prelude.{◌≡◌, ◌≤◌, ◌+◌, ◌-◌, ◌++◌, ◌∷◌, [], map, flat_map, IfOk, OnOk};
+ghost use Rattle.std.specs.Prelude.{◌≡◌, ◌≤◌, ◌<◌, ◌+◌, ◌-◌, ◌++◌, ◌∷◌, [], length, map, flat_map, IfOk, OnOk};
 ghost use Rattle.serde_json.specs.View.{view};
 ghost use Rattle.tk_cutting.specs.Trees.{flat, contents};
 ghost use Rattle.tk_cutting.specs.Ids.{descriptors};
-ghost use Rattle.tk_plan.specs.Checks.{escape, member_at};
+ghost use Rattle.tk_plan.specs.Checks.{escape, member_at, first};
 ghost use Rattle.tk_plan.specs.Pointers.{pointer};
-ghost use Rattle.tk_plan.specs.PlanOf.{verdict, root_at};
-ghost use Rattle.tk_plan.specs.Progress.{IsNoted, IsDescribed, IsAdded, Adds, HasRead};
+ghost use Rattle.tk_plan.specs.PlanOf.{checks, verdict, root_at};
+ghost use Rattle.tk_plan.specs.Progress.{IsNoted, IsDescribed, IsAdded, IsParent, IsStarted, IsSpanned, Adds, HasRead};
 ghost use Rattle.tk_plan.specs.Refusals.{Meets};
 ghost use Rattle.tk_plan.specs.Seen.{seen};
-ghost use Rattle.tk_plan.specs.NodeInputs.{node_inputs, node_inputs_in, grown, segment_in, segment_of};
+ghost use Rattle.tk_plan.specs.NodeInputs.{node_inputs, node_inputs_in, below, grown, id_of, segment_in, segment_of};
 
 use crate::faults::PlanFault;
 use crate::json_paths::JsonPath;
 use crate::node_checks::check_node;
 use crate::node_inputs::NodeInput;
 use crate::path_texts::member_path;
-use crate::plan_readers::{Checked, Reader};
+use crate::plan_readers::{Checked, Parent, Reader};
 use crate::siblings::Siblings;
 use serde_json::Value;
 use std::alloc::{AllocError, Global};
@@ -43,29 +43,65 @@ fn add_node(reader: &mut Reader, node: Node, id: UniqueId) -> Result<(), AllocEr
     requires { reader.old.dynamics ≤ 65536 }
     ensures { OnOk result (IsAdded reader.old reader.new node id) }
 {
-    add_descriptor(reader, &node, id)?;
+    let described = add_descriptor(reader, &node, id);
+    // A reader without the descriptor is given up, so the node may follow it in any case.
     reader.nodes.push(NumberedNode {
         node,
         number: 0,
         span: 1,
     })?;
-    Ok(())
+    described
 }
 
-/// Puts a node that was checked at the end, and answers its id for the nodes below it.
-fn add_checked(
+/// Puts a node that other nodes stand below at the end.
+fn add_parent<'v>(
     alloc: Global,
     reader: &mut Reader,
-    checked: Checked<'_>,
-) -> Result<UniqueId, AllocError>
+    checked: Checked<'v>,
+) -> Result<Parent<'v>, AllocError>
     requires { reader.old.dynamics ≤ 65536 }
     ensures added { OnOk result
         (IsAdded reader.old reader.new checked.entry.node checked.entry.id) }
-    ensures id { IfOk result (λ id. id ≡ checked.entry.id) }
+    ensures parent { IfOk result (λ p. (p.id ≡ checked.entry.id)
+        × (p.children ≡ checked.entry.children) × (p.dynamic ≡ checked.entry.dynamic)) }
 {
     let copied = checked.id.try_clone(alloc);
     add_node(reader, checked.node, checked.id)?;
-    copied
+    Ok(Parent {
+        id: copied?,
+        children: checked.children,
+        dynamic: checked.dynamic,
+    })
+}
+
+/// Checks a node and puts it at the end. Answers it as a parent where nodes stand below it.
+fn start_node<'v>(
+    alloc: Global,
+    reader: &mut Reader,
+    siblings: &mut Siblings<'v>,
+    node_input: NodeInput<'_, 'v>,
+) -> Result<Option<Parent<'v>>, PlanFault>
+    requires { IsNoted reader.old }
+    ensures { let s = seen siblings.old node_input.entry in
+        Meets (first (checks (contents reader.old.nodes.items) s))
+        (IsStarted reader.old reader.new s siblings.new) result }
+{
+    let checked = check_node(alloc, reader, siblings, node_input)?;
+    // Most nodes are leaves, and only nodes below one need its id once more.
+    if checked.is_leaf() {
+        add_node(reader, checked.node, checked.id)?;
+        return Ok(None);
+    }
+    Ok(Some(add_parent(alloc, reader, checked)?))
+}
+
+/// Lets the node at `at` span all nodes from there to the last one.
+fn end_node(reader: &mut Reader, at: usize)
+    requires { at < length reader.old.nodes.items }
+    ensures { IsSpanned reader.old reader.new at }
+{
+    let span = reader.nodes.len() - at;
+    reader.nodes[at].span = span;
 }
 
 /// Reads a node and all below it.
@@ -85,26 +121,56 @@ fn read_node<'v>(
         × (siblings.new ≡ siblings.old ++ segment_of s ∷ [])) result }
 {
     let at = reader.nodes.len();
-    let checked = check_node(alloc, reader, siblings, node_input)?;
-    // Most nodes are leaves, and only nodes below one need its id once more.
-    if checked.is_leaf() {
-        add_node(reader, checked.node, checked.id)?;
-        return Ok(());
+    match start_node(alloc, reader, siblings, node_input)? {
+        Some(parent) => {
+            read_below(alloc, reader, node_input, &parent)?;
+            end_node(reader, at);
+            Ok(())
+        }
+        None => Ok(()),
     }
-    let children = checked.children;
-    let dynamic = checked.dynamic;
-    let id = add_checked(alloc, reader, checked)?;
-    let count = children.len().saturating_add(dynamic.len());
-    let mut below = Siblings::with_capacity(alloc, count)?;
+}
+
+/// Reads all nodes below a node.
+#[cycle(reading)]
+fn read_below(
+    alloc: Global,
+    reader: &mut Reader,
+    node_input: NodeInput<'_, '_>,
+    parent: &Parent<'_>,
+) -> Result<(), PlanFault>
+    requires noted { IsNoted reader.old }
+    requires level { node_input.level ≤ 60 }
+    requires parent { IsParent (seen [] node_input) parent.now }
+    ensures { let s = seen [] node_input.entry in
+        let k = 60 - node_input.entry.level in
+        let ts = map (grown k) (below s) in
+        Meets (verdict (contents reader.old.nodes.items) (flat_map (node_inputs k) (below s)))
+        (λ _. Adds reader.old reader.new (flat_map flat ts) (flat_map (descriptors (id_of s)) ts))
+        result }
+{
+    let count = parent.children.len().saturating_add(parent.dynamic.len());
+    let mut siblings = Siblings::with_capacity(alloc, count)?;
     read_all(
-        alloc, reader, &mut below, node_input, "children", true, &id, children,
+        alloc,
+        reader,
+        &mut siblings,
+        node_input,
+        "children",
+        true,
+        &parent.id,
+        parent.children,
     )?;
     read_all(
-        alloc, reader, &mut below, node_input, "dynamic", false, &id, dynamic,
-    )?;
-    let span = reader.nodes.len() - at;
-    reader.nodes[at].span = span;
-    Ok(())
+        alloc,
+        reader,
+        &mut siblings,
+        node_input,
+        "dynamic",
+        false,
+        &parent.id,
+        parent.dynamic,
+    )
 }
 
 /// Reads the nodes in the member `name` of `parent`, whose id is `id`.

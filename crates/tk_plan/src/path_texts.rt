@@ -1,5 +1,6 @@
 //! Places as JSON Pointers.
-ghost use Rattle.std.specs.Prelude.{◌≡◌, ◌++◌, IfOk, OnOk, string_bytes, flat_map, encode_utf8};
+ghost use Rattle.std.specs.Prelude.{◌≡◌, ◌++◌, IfOk, OnOk, Some, string_bytes, flat_map, encode_utf8};
+ghost use Rattle.tk_plan.specs.Answers.{Refuses};
 ghost use Rattle.tk_plan.specs.Checks.{escape, member_at, item_at};
 ghost use Rattle.tk_plan.specs.Pointers.{pointer};
 
@@ -9,7 +10,7 @@ use std::alloc::{AllocError, Global};
 use tk_ids::Text;
 
 /// The place, written out.
-pub(crate) fn whole_path(alloc: Global, at: JsonPath<'_>) -> Result<String, AllocError>
+fn whole_path(alloc: Global, at: JsonPath<'_>) -> Result<String, AllocError>
     ensures { IfOk result (λ p. string_bytes p ≡ pointer at.entry) }
 {
     match at {
@@ -32,7 +33,7 @@ pub(crate) fn member_path(alloc: Global, at: JsonPath<'_>, name: &str) -> Result
 }
 
 /// The place of an item.
-pub(crate) fn item_path(alloc: Global, at: JsonPath<'_>, index: usize) -> Result<String, AllocError>
+fn item_path(alloc: Global, at: JsonPath<'_>, index: usize) -> Result<String, AllocError>
     ensures { IfOk result (λ p. string_bytes p ≡ item_at (pointer at.entry) index) }
 {
     let array = whole_path(alloc, at)?;
@@ -65,6 +66,37 @@ pub(crate) fn escaped_path(
         push_escaped(&mut path, letter)?;
     }
     Ok(path)
+}
+
+/// The fault of a wrong value.
+pub(crate) fn wrong_value(alloc: Global, at: JsonPath<'_>) -> PlanFault
+    ensures { Refuses (Some (pointer at.entry)) result }
+{
+    match whole_path(alloc, at) {
+        Ok(path) => field(path),
+        Err(fault) => PlanFault::from(fault),
+    }
+}
+
+/// The fault of an array whose item of this index is wrong.
+pub(crate) fn wrong_item(alloc: Global, at: JsonPath<'_>, index: usize) -> PlanFault
+    ensures { Refuses (Some (item_at (pointer at.entry) index)) result }
+{
+    match item_path(alloc, at, index) {
+        Ok(path) => field(path),
+        Err(fault) => PlanFault::from(fault),
+    }
+}
+
+/// The fault of an object whose member of this name is wrong. The name needs no escape.
+pub(crate) fn wrong_member(alloc: Global, at: JsonPath<'_>, name: &str) -> PlanFault
+    requires { flat_map escape name.now ≡ name.now }
+    ensures { Refuses (Some (member_at (pointer at.entry) name.now)) result }
+{
+    match member_path(alloc, at, name) {
+        Ok(path) => field(path),
+        Err(fault) => PlanFault::from(fault),
+    }
 }
 
 /// The fault at a place.

@@ -52,6 +52,14 @@ pub(crate) struct Checked<'v> {
     pub dynamic: &'v [Value],
 }
 
+/// A node that other nodes stand below: its id, and what stands in its arrays.
+#[derive(Drop)]
+pub(crate) struct Parent<'v> {
+    pub id: UniqueId,
+    pub children: &'v [Value],
+    pub dynamic: &'v [Value],
+}
+
 impl<'v> Checked<'v> {
     /// Whether no node stands below it.
     pub fn is_leaf(&self) -> bool

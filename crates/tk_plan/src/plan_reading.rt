@@ -19,7 +19,7 @@ use crate::json_members::known_members;
 use crate::json_paths::JsonPath;
 use crate::lock_keys::key_list;
 use crate::node_reading::read_nodes;
-use crate::path_texts::{field, member_path};
+use crate::path_texts::wrong_member;
 use crate::plan_readers::Reader;
 use serde_json::Value;
 use std::alloc::{AllocError, Global};
@@ -35,7 +35,7 @@ fn version_member(alloc: Global, object: &Value) -> Result<bool, PlanFault>
     match object.get("version").and_then(Value::as_u64) {
         Some(1) => Ok(false),
         Some(2) => Ok(true),
-        _ => Err(field(member_path(alloc, JsonPath::Whole(""), "version")?)),
+        _ => Err(wrong_member(alloc, JsonPath::Whole(""), "version")),
     }
 }
 
@@ -46,7 +46,7 @@ fn root_member<'v>(alloc: Global, object: &'v Value) -> Result<&'v Value, PlanFa
 {
     match object.get("root") {
         Some(root) => Ok(root),
-        None => Err(field(member_path(alloc, JsonPath::Whole(""), "root")?)),
+        None => Err(wrong_member(alloc, JsonPath::Whole(""), "root")),
     }
 }
 

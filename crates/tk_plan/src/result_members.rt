@@ -17,7 +17,7 @@ use crate::faults::PlanFault;
 use crate::json_members::{known_members, optional_member, two_texts};
 use crate::json_paths::JsonPath;
 use crate::member_values::{Ending, Report, Reports, TwoTexts};
-use crate::path_texts::{field, item_path, member_path};
+use crate::path_texts::{member_path, wrong_item, wrong_member, wrong_value};
 use serde_json::Value;
 use std::alloc::{AllocError, Global};
 use std::collections::BTreeMap;
@@ -33,7 +33,7 @@ fn status_member(alloc: Global, at: JsonPath<'_>, object: &Value) -> Result<Stat
         Some("successful") => Ok(Status::Successful),
         Some("aborted") => Ok(Status::Aborted),
         Some("failed") => Ok(Status::Failed),
-        _ => Err(field(member_path(alloc, at, "status")?)),
+        _ => Err(wrong_member(alloc, at, "status")),
     }
 }
 
@@ -45,7 +45,7 @@ fn ending(alloc: Global, at: JsonPath<'_>, value: &Value) -> Result<Ending, Plan
     let status = status_member(alloc, at, value)?;
     let message = optional_member(alloc, at, value, "message")?;
     if status == Status::Successful && message.is_some() {
-        return Err(field(member_path(alloc, at, "message")?));
+        return Err(wrong_member(alloc, at, "message"));
     }
     Ok(Ending { status, message })
 }
@@ -103,7 +103,7 @@ fn entry(alloc: Global, array: &str, index: usize, value: &Value) -> Result<Repo
         (IsReport (view value.now)) result }
 {
     let Some(items) = value.as_array() else {
-        return Err(field(item_path(alloc, JsonPath::Whole(array), index)?));
+        return Err(wrong_item(alloc, JsonPath::Whole(array), index));
     };
     let mut map = BTreeMap::new(alloc);
     let mut repeats = false;
@@ -120,7 +120,7 @@ fn entries(alloc: Global, at: &str, value: &Value) -> Result<Reports, PlanFault>
         (AreReports (listed (Some (view value.now)))) result }
 {
     let Some(items) = value.as_array() else {
-        return Err(field(String::from_str(alloc, at)?));
+        return Err(wrong_value(alloc, JsonPath::Whole(at)));
     };
     let mut entries = Vec::with_capacity(alloc, items.len())?;
     let mut repeats = false;

@@ -1,19 +1,22 @@
 -- Answers by keys, and open starts by keys.
-use Rattle.std.proofs.Common.{◌≡◌, ◌≢◌, ℕ, zero, suc, ◌<◌, Bool, true, false, List, [], ◌∷◌, ◌++◌, length, get_or, set, map, Option, Some, None, MatchOption, Result, Ok, Err, OnOk, refl, sym, ap, ◌∙◌, subst, arith, eqb, eqb-true, eq-eqb}
+use Rattle.std.proofs.Common.{◌≡◌, ◌≢◌, ℕ, zero, suc, ◌<◌, Bool, true, false, ◌&&◌, List, [], ◌∷◌, ◌++◌, length, get_or, set, map, Option, Some, None, MatchOption, Result, Ok, Err, OnOk, refl, sym, ap, ◌∙◌, subst, arith, eqb, eqb-true, eq-eqb, IfSome, ◌⊎◌, inl, inr, ⊎_elim}
 use Rattle.std.specs.Prelude.{◌/◌, ◌%◌, ◌==◌, if◌then◌else◌}
 use Rattle.std.specs.List.{slice_get}
 use Rattle.std.proofs.lemmas.Bool.{ne_eqb, true≢false}
 use Rattle.std.proofs.lemmas.List.{get_or-set_other}
 use Rattle.std.proofs.lemmas.Grind.{get_or-set_at}
-use Rattle.std.proofs.lemmas.Option.{same_Some}
+use Rattle.std.proofs.lemmas.Option.{same_Some, none-some}
 use Rattle.tk_events.specs.declared.events.Entry.{Entry}
+use Rattle.tk_columns.specs.declared.records.EntryView.{EntryView}
+use Rattle.tk_columns.specs.Record.{IsViewOf}
 use Rattle.tk_columns.specs.Recorded.{Recorded}
 use Rattle.tk_columns.specs.Selections.{passes}
 use Rattle.tk_columns.specs.declared.selections.Rule.{Rule}
 use Rattle.tk_conditions.specs.declared.conditions.Condition.{Condition}
 use Rattle.tk_query.specs.Holds.{holds}
-use Rattle.tk_query.specs.Keys.{AreAnswers, AreCandidates, HoldsWithin, IsKeyAt, IsOfKey, AnswersAt}
+use Rattle.tk_query.specs.Keys.{AreAnswers, AreCandidates, AreKeys, HoldsWithin, IsKeyAt, IsOfKey, AnswersAt}
 use Rattle.tk_query.proofs.AskedLemmas.{map_get}
+use Rattle.tk_query.proofs.MaskLemmas.{there}
 use Rattle.tk_query.specs.Pairing.{open_of}
 
 -- the filler at the end changes no element
@@ -29,6 +32,33 @@ get_or_put xs i k y d lt = by (eqb i k) refl
     by : (same : Bool) → eqb i k ≡ same → get_or (set xs i y) k d ≡ (if same then y else get_or xs k d)
     by true e = get_or-set_at xs i k y d (sym (eqb-true i k e)) lt
     by false e = get_or-set_other xs i k y d (λ same. true≢false (sym (eq-eqb i k (sym same)) ∙ e))
+
+-- an element of a list with one more at its end
+last_or_before : {A : Type 0} (xs : List A) (x y : A) (k : ℕ) → slice_get (xs ++ x ∷ []) k ≡ Some y → (slice_get xs k ≡ Some y) ⊎ ((k ≡ length xs) × (x ≡ y))
+last_or_before [] x y zero at = inr (refl, same_Some x y at)
+last_or_before [] x y (suc k) at = inl at
+last_or_before (z ∷ xs) x y zero at = inl at
+last_or_before (z ∷ xs) x y (suc k) at = ⊎_elim {C = (slice_get (z ∷ xs) (suc k) ≡ Some y) ⊎ ((suc k ≡ length (z ∷ xs)) × (x ≡ y))}
+    (λ (before : slice_get xs k ≡ Some y). inl before)
+    (λ (last : (k ≡ length xs) × (x ≡ y)). inr (ap suc last.0, last.1))
+    (last_or_before xs x y k at)
+
+pub keys_none : (r : Recorded) (keys : List ℕ) → keys ≡ [] → AreKeys r keys
+keys_none r keys is = record { keys_are = λ position key at. absurd (none-some key (ap (λ l. slice_get l position) (sym is) ∙ at)) }
+
+pub keys_more : (r : Recorded) (keys new : List ℕ) (view : EntryView) → AreKeys r keys → length keys < length r.entries → IfSome (slice_get r.entries (length keys)) (IsViewOf view) → new ≡ keys ++ view.key ∷ [] → AreKeys r new
+keys_more r keys new view are within shown is =
+    let next = there r.entries (length keys) within in
+    let seen = subst (λ o. IfSome o (IsViewOf view)) next.1 shown in record {
+      keys_are = λ position key at. ⊎_elim {C = IsKeyAt r position key}
+          (λ (before : slice_get keys position ≡ Some key). are.keys_are position key before)
+          (λ (last : (position ≡ length keys) × (view.key ≡ key)). record {
+            entry = next.0;
+            stands = ap (slice_get r.entries) last.0 ∙ next.1;
+            key_is = sym last.1 ∙ seen.key;
+          })
+          (last_or_before keys view.key key position (ap (λ l. slice_get l position) (sym is) ∙ at));
+    }
 
 pub answers_more : (r : Recorded) (c : Condition) (answers new : List (Option Bool)) → AreAnswers r c answers → new ≡ answers ++ None ∷ [] → AreAnswers r c new
 answers_more r c answers new are is = record {
@@ -72,6 +102,13 @@ candidates_are rule r c flags h is = record {
   others = λ position e stands clear.
       h.within e (sym (map_get (passes rule r) r.entries position e stands) ∙ ap (λ l. get_or l position false) (sym is) ∙ clear);
 }
+
+-- a condition that asks for the key alone, or for more than the rule
+pub by_key : (r : Recorded) (c d : Condition) (p : ℕ → Bool) → c ≡ d → ((e : Entry) → holds r d e ≡ p e.event.key) → IsOfKey r c
+by_key r c d p is test = subst (IsOfKey r) (sym is) (record { same = λ a b same. test a ∙ ap p same ∙ sym (test b) })
+
+pub within_rule : (rule : Rule) (r : Recorded) (c d : Condition) (p : Entry → Bool) → c ≡ d → ((e : Entry) → holds r d e ≡ (passes rule r e && p e)) → HoldsWithin rule r c
+within_rule rule r c d p is test = subst (HoldsWithin rule r) (sym is) (record { within = λ e fails. test e ∙ ap (λ b. b && p e) fails })
 
 pub on_ok_from : {X E A B : Type 0} (o : Result X E) → (A → B) → OnOk o A → OnOk o B
 on_ok_from (Ok x) f h = f h

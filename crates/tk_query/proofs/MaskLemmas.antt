@@ -4,7 +4,7 @@ use Rattle.std.specs.Prelude.{if◌then◌else◌, ◌==◌}
 use Rattle.std.specs.List.{list_all, list_any, slice_get}
 use Rattle.std.specs.Simd.Lanes.{zip2}
 use Rattle.std.proofs.lemmas.Simd.{zip2-map}
-use Rattle.std.proofs.lemmas.List.{take_more, take_all, map-append}
+use Rattle.std.proofs.lemmas.List.{length-map, take_more, take_all, map-append}
 use Rattle.std.proofs.lemmas.List.Folds.{list_all-append, list_any-append}
 use Rattle.tk_events.specs.declared.events.Entry.{Entry}
 use Rattle.tk_columns.specs.Recorded.{Recorded}
@@ -28,10 +28,10 @@ or_false : (a : Bool) → a ≡ (a || false)
 or_false true = refl
 or_false false = refl
 
-abbrev all_of_first : Recorded → List Condition → ℕ → Entry → Bool
+abbrev pub all_of_first : Recorded → List Condition → ℕ → Entry → Bool
 all_of_first r members i e = list_all (λ m. holds r m e) (take i members)
 
-abbrev any_of_first : Recorded → List Condition → ℕ → Entry → Bool
+abbrev pub any_of_first : Recorded → List Condition → ℕ → Entry → Bool
 any_of_first r members i e = list_any (λ m. holds r m e) (take i members)
 
 pub all_more : (r : Recorded) (members : List Condition) (i : ℕ) (m : Condition) (flags more new : List Bool) → i < length members → m ≡ get_or members i m → flags ≡ map (all_of_first r members i) r.entries → more ≡ map (holds r m) r.entries → new ≡ zip2 ◌&&◌ flags more → new ≡ map (all_of_first r members (i + 1)) r.entries
@@ -60,12 +60,19 @@ pub if_ok_same : {X E : Type 0} (o : Result X E) (a b : X) → a ≡ b → IfOk 
 if_ok_same (Ok x) a b e h = h ∙ e
 if_ok_same (Err x) a b e h = h
 
+-- the mask of a condition is that of each equal one
+pub mask_same : {E : Type 0} (r : Recorded) (c d : Condition) (o : Result (List Bool) E) → c ≡ d → IfOk o (λ flags. flags ≡ map (holds r d) r.entries) → IfOk o (λ flags. flags ≡ map (holds r c) r.entries)
+mask_same r c d o e h = if_ok_same o (map (holds r d) r.entries) (map (holds r c) r.entries) (ap (λ (x : Condition). map (holds r x) r.entries) (sym e)) h
+
+pub same_length : {A : Type 0} (f g : A → Bool) (xs : List A) (a b : List Bool) → a ≡ map f xs → b ≡ map g xs → length a ≡ length b
+same_length f g xs a b e h = ap length e ∙ length-map xs f ∙ sym (ap length h ∙ length-map xs g)
+
 pub map-map : {A B C : Type 0} (g : B → C) (f : A → B) (xs : List A) → map g (map f xs) ≡ map (λ x. g (f x)) xs
 map-map g f [] = refl
 map-map g f (x ∷ xs) = ap (λ l. g (f x) ∷ l) (map-map g f xs)
 
--- the column of answers, one more
-there : (es : List Entry) (i : ℕ) → i < length es → (e : Entry) × (slice_get es i ≡ Some e) × (take (suc i) es ≡ take i es ++ e ∷ [])
+-- the element at a place, and the list up to it
+pub there : (es : List Entry) (i : ℕ) → i < length es → (e : Entry) × (slice_get es i ≡ Some e) × (take (suc i) es ≡ take i es ++ e ∷ [])
 there [] i lt = absurd (omega arith)
 there (e ∷ es) zero lt = (e, refl, refl)
 there (e ∷ es) (suc i) lt = let r = there es i (omega arith) in (r.0, r.1, ap (λ l. e ∷ l) r.2)

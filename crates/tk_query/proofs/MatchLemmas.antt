@@ -1,13 +1,13 @@
 -- Matching event by event.
-use Rattle.std.proofs.Common.{◌≡◌, ℕ, zero, suc, ◌+◌, ◌<◌, ◌≤◌, Bool, true, false, ◌&&◌, List, [], ◌∷◌, length, get_or, map, Option, Some, None, MatchOption, refl, sym, ap, ◌∙◌, subst, arith, ⊎_elim}
-use Rattle.std.specs.List.{slice_get}
+use Rattle.std.proofs.Common.{◌≡◌, ℕ, zero, suc, ◌+◌, ◌<◌, ◌≤◌, Bool, true, false, ◌&&◌, List, [], ◌∷◌, length, get_or, map, drop, length-drop, add-one, Option, Some, None, MatchOption, refl, sym, ap, ◌∙◌, subst, arith, ⊎_elim}
+use Rattle.std.specs.List.{slice_get, items_where_true}
+use Rattle.std.proofs.lemmas.List.{length-map}
 use Rattle.std.specs.Option.{is_some}
 use Rattle.std.specs.Simd.Lanes.{zip2}
 use Rattle.std.proofs.lemmas.Bool.{cases_lt, and_parts, true≢false}
-use Rattle.std.proofs.lemmas.Option.{same_Some, none-some}
 use Rattle.tk_events.specs.declared.events.Entry.{Entry}
 use Rattle.tk_columns.specs.Recorded.{Recorded}
-use Rattle.tk_columns.specs.Selections.{PositionedEntry, Selected, passes, positions_of, events_of}
+use Rattle.tk_columns.specs.Selections.{PositionedEntry, Selected, passes, positioned_from, events_of}
 use Rattle.tk_conditions.specs.declared.conditions.Condition.{Condition}
 use Rattle.tk_query.specs.Holds.{holds}
 use Rattle.tk_lanes.specs.Flags.{IsNextSet, IsNoneSet}
@@ -15,7 +15,7 @@ use Rattle.tk_query.specs.Asked.{fits, AreLeft, HoldsOfSome}
 use Rattle.tk_query.specs.Keys.{HoldsWithin}
 use Rattle.tk_columns.specs.declared.selections.Rule.{Rule}
 use Rattle.tk_query.specs.Matches.{HoldsAt, IsFirstUnlike, IsFirstNowhere, HoldsSomewhere}
-use Rattle.tk_query.proofs.AskedLemmas.{AreFlags, asked_set, fits_clear, fits_set, kept_at, map_get}
+use Rattle.tk_query.proofs.AskedLemmas.{AreFlags, asked_set, fits_clear, fits_set, map_get}
 use Rattle.tk_query.proofs.MaskLemmas.{and_true}
 
 pub get_some : {A : Type 0} (xs : List A) (k : ℕ) (d : A) → k < length xs → slice_get xs k ≡ Some (get_or xs k d)
@@ -23,54 +23,120 @@ get_some [] k d lt = absurd (omega arith)
 get_some (x ∷ xs) zero d lt = refl
 get_some (x ∷ xs) (suc k) d lt = get_some xs k d (omega arith)
 
-get_map : {A B : Type 0} (f : A → B) (xs : List A) (k : ℕ) (y : B) → slice_get (map f xs) k ≡ Some y → (x : A) × (slice_get xs k ≡ Some x) × (f x ≡ y)
-get_map f [] k y e = absurd (none-some y e)
-get_map f (x ∷ xs) zero y e = (x, refl, same_Some (f x) y e)
-get_map f (x ∷ xs) (suc k) y e = get_map f xs k y e
-
-map_some : {A B : Type 0} (f : A → B) (xs : List A) (k : ℕ) (x : A) → slice_get xs k ≡ Some x → slice_get (map f xs) k ≡ Some (f x)
-map_some f [] k x e = absurd (none-some x e)
-map_some f (y ∷ xs) zero x e = ap (λ z. Some (f z)) (same_Some y x e)
-map_some f (y ∷ xs) (suc k) x e = map_some f xs k x e
-
 -- one more than all below
 below_more : (P : ℕ → Type 0) (k : ℕ) → ((j : ℕ) → j < k → P j) → P k → (j : ℕ) → j < k + 1 → P j
 below_more P k below here j lt = ⊎_elim {C = P j} (λ (low : j < k). below j low) (λ (high : k ≤ j). let same : k ≡ j = omega arith in subst P same here) (cases_lt j k)
 
--- what a test of condition k at position k says
-record IsTested (r : Recorded) (l : List Entry) (k : ℕ) (c : Condition) (b : Bool) : Type 0 where
-  event : Entry
-  event_is : slice_get l k ≡ Some event
-  tests : b ≡ holds r c event
+-- the events asked are the entries at the set flags
+entries_kept : (flags : List Bool) (es : List Entry) (n : ℕ) → map (λ (x : PositionedEntry). x.entry) (items_where_true flags (positioned_from n es)) ≡ items_where_true flags es
+unfolding positioned_from
+entries_kept [] es n = refl
+entries_kept (f ∷ flags) [] n = refl
+entries_kept (true ∷ flags) (e ∷ es) n = ap (λ l. e ∷ l) (entries_kept flags es (n + 1))
+entries_kept (false ∷ flags) (e ∷ es) n = entries_kept flags es (n + 1)
 
-tested : (asked : Selected) (flags : List Bool) → AreFlags asked flags → (r : Recorded) → r ≡ asked.recorded → (k position : ℕ) (c : Condition) (b : Bool) → slice_get (positions_of asked) k ≡ Some position
-    → MatchOption (slice_get r.entries position) (b ≡ false) (λ e. b ≡ holds r c e) → IsTested asked.recorded (events_of asked) k c b
-tested asked flags are r same k position c b at given =
-    let h = subst (λ (s : Recorded). MatchOption (slice_get s.entries position) (b ≡ false) (λ e. b ≡ holds s c e)) same given in
-    let x = get_map (λ (x : PositionedEntry). x.position) asked.kept k position at in
-    let stands : slice_get asked.recorded.entries position ≡ Some x.0.entry = ap (slice_get asked.recorded.entries) (sym x.2) ∙ kept_at asked flags are k x.0 x.1 in
-    record {
-      event = x.0.entry;
-      event_is = map_some (λ (x : PositionedEntry). x.entry) asked.kept k x.0 x.1;
-      tests = subst (λ o. MatchOption o (b ≡ false) (λ e. b ≡ holds asked.recorded c e)) stands h;
-    }
+-- the elements at the flags that are set from a place on
+abbrev kept_from : {A : Type 0} → ℕ → List Bool → List A → List A
+kept_from low flags xs = items_where_true (drop low flags) (drop low xs)
 
--- the loop's facts at condition k
-module _ (asked : Selected) (flags : List Bool) (are : AreFlags asked flags) (r : Recorded) (same : r ≡ asked.recorded) (cs : List Condition) (k : ℕ) (c : Condition) (list : List ℕ) (position : ℕ) (b : Bool)
-    (below : (j : ℕ) → j < k → HoldsAt asked.recorded cs (events_of asked) j) (condition_is : c ≡ get_or cs k c) (within : k < length cs)
-    (list_is : list ≡ positions_of asked) (long : k < length list) (position_is : position ≡ get_or list k 0)
-    (test : MatchOption (slice_get r.entries position) (b ≡ false) (λ e. b ≡ holds r c e)) where
-  tested_here : IsTested asked.recorded (events_of asked) k c b
-  tested_here = tested asked flags are r same k position c b (ap (λ l. slice_get l k) (sym list_is) ∙ get_some list k 0 long ∙ ap (λ n. Some n) (sym position_is)) test
+-- the first of them stands at the next set flag
+record IsNextKept {A : Type 0} (low at : ℕ) (flags : List Bool) (xs : List A) : Type 0 where
+  item : A
+  item_is : slice_get xs at ≡ Some item
+  kept : kept_from low flags xs ≡ item ∷ kept_from (suc at) flags xs
 
-  condition_here : slice_get cs k ≡ Some c
-  condition_here = get_some cs k c within ∙ ap (λ x. Some x) (sym condition_is)
+next_kept : {A : Type 0} (flags : List Bool) (xs : List A) (low at : ℕ) → length flags ≡ length xs → IsNextSet low flags at → IsNextKept low at flags xs
+next_kept [] xs low at same next = absurd (true≢false (sym next.set))
+next_kept (f ∷ flags) [] low at same next = absurd (omega arith)
+next_kept (f ∷ flags) (x ∷ xs) zero zero same next = record { item = x; item_is = refl; kept = ap (λ b. items_where_true (b ∷ flags) (x ∷ xs)) next.set }
+next_kept (f ∷ flags) (x ∷ xs) zero (suc at) same next =
+    let later = next_kept flags xs 0 at (omega arith) (record { from = omega arith; set = next.set; least = λ i le lt. next.least (suc i) (omega arith) (omega arith) }) in
+    record { item = later.item; item_is = later.item_is; kept = ap (λ b. items_where_true (b ∷ flags) (x ∷ xs)) (next.least 0 (omega arith) (omega arith)) ∙ later.kept }
+next_kept (f ∷ flags) (x ∷ xs) (suc low) zero same next = let from = next.from in absurd (omega arith)
+next_kept (f ∷ flags) (x ∷ xs) (suc low) (suc at) same next =
+    let from = next.from in
+    let later = next_kept flags xs low at (omega arith) (record { from = omega arith; set = next.set; least = λ i le lt. next.least (suc i) (omega arith) (omega arith) }) in
+    record { item = later.item; item_is = later.item_is; kept = later.kept }
 
-  pub exact_more : b ≡ true → (j : ℕ) → j < k + 1 → HoldsAt asked.recorded cs (events_of asked) j
-  exact_more e = below_more (HoldsAt asked.recorded cs (events_of asked)) k below (c, tested_here.event, condition_here, tested_here.event_is, sym tested_here.tests ∙ e)
+none_kept : {A : Type 0} (flags : List Bool) (xs : List A) (low : ℕ) → length flags ≡ length xs → IsNoneSet low flags → kept_from low flags xs ≡ []
+none_kept [] xs zero same none = refl
+none_kept [] xs (suc low) same none = refl
+none_kept (f ∷ flags) [] low same none = absurd (omega arith)
+none_kept (f ∷ flags) (x ∷ xs) zero same none =
+    ap (λ b. items_where_true (b ∷ flags) (x ∷ xs)) (none.none 0 (omega arith)) ∙ none_kept flags xs 0 (omega arith) (record { none = λ i le. none.none (suc i) (omega arith) })
+none_kept (f ∷ flags) (x ∷ xs) (suc low) same none = none_kept flags xs low (omega arith) (record { none = λ i le. none.none (suc i) (omega arith) })
 
-  pub exact_no : b ≡ false → IsFirstUnlike asked.recorded cs (events_of asked) k
-  exact_no e = record { condition = c; event = tested_here.event; condition_is = condition_here; event_is = tested_here.event_is; fails = sym tested_here.tests ∙ e; before = below }
+-- the element at which a suffix begins, and the suffix after it
+dropped_get : {A : Type 0} (xs : List A) (k : ℕ) (y : A) (ys : List A) → drop k xs ≡ y ∷ ys → slice_get xs k ≡ Some y
+dropped_get [] zero y ys e = ap (λ l. slice_get l 0) e
+dropped_get [] (suc k) y ys e = ap (λ l. slice_get l 0) e
+dropped_get (x ∷ xs) zero y ys e = ap (λ l. slice_get l 0) e
+dropped_get (x ∷ xs) (suc k) y ys e = dropped_get xs k y ys e
+
+dropped_more : {A : Type 0} (xs : List A) (k : ℕ) (y : A) (ys : List A) → drop k xs ≡ y ∷ ys → drop (suc k) xs ≡ ys
+dropped_more [] zero y ys e = ap (drop 1) e
+dropped_more [] (suc k) y ys e = ap (drop 1) e
+dropped_more (x ∷ xs) zero y ys e = ap (drop 1) e
+dropped_more (x ∷ xs) (suc k) y ys e = dropped_more xs k y ys e
+
+-- the first k conditions hold of the first k events, and the further events stand at the flags from a place on
+pub record AreMatched (asked : Selected) (flags : List Bool) (cs : List Condition) (k low : ℕ) : Type 0 where
+  pub before : (j : ℕ) → j < k → HoldsAt asked.recorded cs (events_of asked) j
+  pub further : drop k (events_of asked) ≡ kept_from low flags asked.recorded.entries
+
+pub matched_none : (asked : Selected) (flags : List Bool) (cs : List Condition) → AreFlags asked flags → AreMatched asked flags cs 0 0
+matched_none asked flags cs are = record {
+  before = λ j lt. absurd (omega arith);
+  further = ap (map (λ (x : PositionedEntry). x.entry)) are.kept ∙ entries_kept flags asked.recorded.entries 0;
+}
+
+module _ (asked : Selected) (flags : List Bool) (size : length flags ≡ length asked.recorded.entries) (cs : List Condition) (k low : ℕ) (matched : AreMatched asked flags cs k low) where
+  pub matched_all : length cs ≡ length asked.kept → IsNoneSet low flags → (j : ℕ) → j < length cs → HoldsAt asked.recorded cs (events_of asked) j
+  matched_all same none j lt =
+      let many = length-map asked.kept (λ (x : PositionedEntry). x.entry) in
+      let left = length-drop k (events_of asked) in
+      let empty = ap length (matched.further ∙ none_kept flags asked.recorded.entries low size none) in
+      matched.before j (omega arith)
+
+  -- the next event
+  module _ (position : ℕ) (next : IsNextSet low flags position) where
+    following : IsNextKept low position flags asked.recorded.entries
+    following = next_kept flags asked.recorded.entries low position size next
+
+    further_is : drop k (events_of asked) ≡ following.item ∷ kept_from (suc position) flags asked.recorded.entries
+    further_is = matched.further ∙ following.kept
+
+    pub is_asked : k < length asked.kept
+    is_asked =
+        let many = length-map asked.kept (λ (x : PositionedEntry). x.entry) in
+        let left = length-drop k (events_of asked) in
+        let more = ap length further_is in
+        omega arith
+
+    -- and what the test of condition k says of it
+    module _ (r : Recorded) (same : r ≡ asked.recorded) (c : Condition) (condition_is : c ≡ get_or cs k c) (within : k < length cs) (b : Bool)
+        (test : MatchOption (slice_get r.entries position) (b ≡ false) (λ e. b ≡ holds r c e)) where
+      condition_here : slice_get cs k ≡ Some c
+      condition_here = get_some cs k c within ∙ ap (λ x. Some x) (sym condition_is)
+
+      event_here : slice_get (events_of asked) k ≡ Some following.item
+      event_here = dropped_get (events_of asked) k following.item (kept_from (suc position) flags asked.recorded.entries) further_is
+
+      tested_here : holds asked.recorded c following.item ≡ b
+      tested_here =
+          let here = subst (λ (s : Recorded). MatchOption (slice_get s.entries position) (b ≡ false) (λ e. b ≡ holds s c e)) same test in
+          sym (subst (λ o. MatchOption o (b ≡ false) (λ e. b ≡ holds asked.recorded c e)) following.item_is here)
+
+      pub matched_more : b ≡ true → AreMatched asked flags cs (k + 1) (position + 1)
+      matched_more e = record {
+        before = below_more (HoldsAt asked.recorded cs (events_of asked)) k matched.before (c, following.item, condition_here, event_here, tested_here ∙ e);
+        further =
+            ap (λ n. drop n (events_of asked)) (add-one k) ∙ dropped_more (events_of asked) k following.item (kept_from (suc position) flags asked.recorded.entries) further_is
+            ∙ ap (λ n. kept_from n flags asked.recorded.entries) (sym (add-one position));
+      }
+
+      pub matched_no : b ≡ false → IsFirstUnlike asked.recorded cs (events_of asked) k
+      matched_no e = record { condition = c; event = following.item; condition_is = condition_here; event_is = event_here; fails = tested_here ∙ e; before = matched.before }
 
 pub loose_more : (asked : Selected) (cs : List Condition) (k : ℕ) (c : Condition) (b : Bool) → ((j : ℕ) → j < k → HoldsSomewhere asked cs j) → k < length cs → c ≡ get_or cs k c → HoldsOfSome asked c b → b ≡ true → (j : ℕ) → j < k + 1 → HoldsSomewhere asked cs j
 loose_more asked cs k c b below within is h e =

@@ -30,9 +30,9 @@ fn next_fit(events: &Events, condition: &Condition, from: usize) -> Option<usize
     None
 }
 
-/// Whether there is one condition for each event, and each holds of its event.
+/// Whether there is one condition for each event, and each holds of its event. It takes no memory.
 pub fn match_exactly(
-    alloc: Global,
+    _alloc: Global,
     events: &Events,
     conditions: &[Condition],
 ) -> Result<Exact, AllocError>
@@ -41,13 +41,15 @@ pub fn match_exactly(
     if events.count() != conditions.len() {
         return Ok(Exact::WrongCount);
     }
-    let recording = events.recorded();
-    prove!(events.flags().len() == recording.len());
-    let positions = events.positions(alloc)?;
-    for (k, condition) in conditions.iter().enumerate() {
-        if !holds_at(recording, condition, positions[k]) {
+    let flags = events.flags();
+    let mut low = 0;
+    let mut k = 0;
+    'events: while let Some(position) = flags.first_from(low) {
+        if !holds_at(events.recorded(), &conditions[k], position) {
             return Ok(Exact::No(k));
         }
+        low = position + 1;
+        k += 1;
     }
     Ok(Exact::Yes)
 }

@@ -174,7 +174,10 @@ impl Playing {
                     self.emitted[slot] = count + 1;
                     Ok(())
                 }
-                Err((fault, _)) => Err(fault),
+                Err((fault, event)) => {
+                    drop(event);
+                    Err(fault)
+                }
             },
             None => self.core.end(worker),
         }
@@ -266,9 +269,10 @@ pub fn replay(
     ensures { IsReplayed (arc_value table) (map (λ s. s.items) scripts.now) turns.now result }
 {
     let workers = scripts.len() as u8;
+    let emitted = zeros(alloc, workers)?;
     let mut playing = Playing {
         core: Core::new(alloc, workers),
-        emitted: zeros(alloc, workers)?,
+        emitted,
         taken: Record::new(alloc, table),
     };
     'turns: for (number, turn) in turns.iter().enumerate() {

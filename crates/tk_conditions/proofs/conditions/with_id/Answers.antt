@@ -1,13 +1,10 @@
-use Rattle.std.proofs.Common.{◌++◌, ◌∷◌, [], ap, ◌∙◌}
-use Rattle.tk_conditions.specs.declared.conditions.Condition as real
-use Rattle.tk_conditions.specs.Cond.{With, Id, All, Nothing}
+use Rattle.std.proofs.Common.{ap, ◌∙◌}
+use Rattle.tk_conditions.specs.Cond.{All, Nothing}
 use Rattle.tk_conditions.specs.CondOf.{cond_of, conds_from, both}
 use Rattle.tk_conditions.proofs.Members.{cond_of-All}
 use Rattle.tk_conditions.proofs.conditions.with_id.Goals as goal
 
 pub returns : goal.returns
 returns c =
-    let first = c.in_ok-push.ensures.items ∙ ap (λ members. members ++ c.args.condition ∷ []) c.in_ok-members.ensures.items in
-    let members = c.in_ok-push-2.ensures.items ∙ ap (λ members. members ++ real.Id c.in_ok-copy.field-0 ∷ []) first in
-    cond_of-All c.push-2.new.self ∙ ap (λ members. All (conds_from Nothing members)) members
-    ∙ ap (λ text. both (cond_of c.args.condition) (With Id text)) c.in_ok-copy.ensures
+    cond_of-All c.in_ok-vec.field-0 ∙ ap (λ members. All (conds_from Nothing members)) c.in_ok-vec.ensures.items
+    ∙ ap (λ id. both (cond_of c.args.condition) (cond_of id)) c.in_ok-id.ensures

@@ -1,8 +1,8 @@
-use Rattle.std.proofs.Common.{[], ◌∷◌, Some, option_map, sym, ap, ◌∙◌}
+use Rattle.std.proofs.Common.{[], ◌∷◌, Some, None, if◌then◌else◌, option_map, sym, ap, ◌∙◌}
 use Rattle.tk_conditions.specs.CondOf.{cond_of}
 use Rattle.tk_conditions.specs.Reader.{group_of, groups_of}
 use Rattle.tk_conditions.specs.Reading.{Word, After, close}
-use Rattle.tk_conditions.proofs.ReaderLemmas.{popped, close_group}
+use Rattle.tk_conditions.proofs.ReaderLemmas.{popped, close_group, step_made}
 use Rattle.tk_conditions.proofs.readers.close.Goals as goal
 
 pub returns-in_ok-close-in-41 : goal.returns-in_ok-close-in-41
@@ -14,21 +14,22 @@ returns-in_ok-close-in-41 c =
     ∙ ap (close (f ∷ rest) d) c.in-41.is ∙ close_group f rest d 41
     ∙ ap (λ x. Some (After rest x)) (sym c.in_ok-close-in-41.ensures) ∙ ap (λ s. Some s) (sym c.after.ensures)
 
-pub returns-in_ok-within-in-Some-2 : goal.returns-in_ok-within-in-Some-2
-returns-in_ok-within-in-Some-2 c =
+pub returns-then-branch : goal.returns-then-branch
+returns-then-branch c =
     let rest = groups_of c.pop.new.self.items in
     let f = group_of c.in-Some.group in
     let d = cond_of c.args.condition in
-    ap (λ s. close s d c.args.byte) (popped c.args.stack.items c.pop.new.self.items c.in-Some.group c.in-Some.ensures.items)
+    step_made c.within.result _ _
+    (ap (λ s. close s d c.args.byte) (popped c.args.stack.items c.pop.new.self.items c.in-Some.group c.in-Some.ensures.items)
     ∙ ap (close (f ∷ rest) d) c.in-44.is ∙ close_group f rest d 44
-    ∙ ap (option_map (λ g. Word (g ∷ rest) [])) (sym c.in_ok-group-in-44.ensures ∙ ap (option_map group_of) c.in-Some-2.is)
-    ∙ ap (λ s. Some s) (sym c.in_ok-within-in-Some-2.ensures)
+    ∙ ap (option_map (λ g. Word (g ∷ rest) [])) (c.in_ok-join-in-44.ensures ∙ ap (λ may_follow. if may_follow then Some (group_of c.join.new.self) else None) c.if-branch.true))
+    c.within.ensures
 
-pub returns-in-None : goal.returns-in-None
-returns-in-None c =
+pub returns-else-branch : goal.returns-else-branch
+returns-else-branch c =
     let rest = groups_of c.pop.new.self.items in
     let f = group_of c.in-Some.group in
     let d = cond_of c.args.condition in
     ap (λ s. close s d c.args.byte) (popped c.args.stack.items c.pop.new.self.items c.in-Some.group c.in-Some.ensures.items)
     ∙ ap (close (f ∷ rest) d) c.in-44.is ∙ close_group f rest d 44
-    ∙ ap (option_map (λ g. Word (g ∷ rest) [])) (sym c.in_ok-group-in-44.ensures ∙ ap (option_map group_of) c.in-None.is)
+    ∙ ap (option_map (λ g. Word (g ∷ rest) [])) (c.in_ok-join-in-44.ensures ∙ ap (λ may_follow. if may_follow then Some (group_of c.join.new.self) else None) c.if-branch.false)

@@ -1,9 +1,9 @@
-use Rattle.std.proofs.Common.{◌≡◌, length, Ok, Err, option_map, ap, ◌∙◌, subst, arith}
+use Rattle.std.proofs.Common.{◌≡◌, length, Ok, Err, option_map, sym, ap, ◌∙◌, subst, arith}
 use Rattle.tk_conditions.specs.declared.faults.CondFault.TheVariants.{BadAtom, Deep}
 use Rattle.tk_conditions.specs.Answer.{IsReadAs}
 use Rattle.tk_conditions.specs.Reader.{state_of}
 use Rattle.tk_conditions.proofs.EndLemmas.{HasRead, bad_here, bad_at_end, good_at_end}
-use Rattle.tk_conditions.proofs.ReaderLemmas.{read_more, read_deep}
+use Rattle.tk_conditions.proofs.ReaderLemmas.{IsRead, read_none, read_goes, read_more, read_deep}
 use Rattle.tk_conditions.proofs.reading.read_condition.Goals as goal
 
 pub returns-in-None : goal.returns-in-None
@@ -40,3 +40,11 @@ returns-in-None-end c =
     let end : c.loop-at.at ≡ length bytes = omega arith in
     let whole : HasRead bytes (length bytes) s = subst (λ n. HasRead bytes n s) end c.loop-at.invariant.has in
     subst (λ t. IsReadAs t (Err (BadAtom (length bytes)))) c.as_bytes-bytes.ensures.value (bad_at_end bytes s whole c.in-None-end.ensures)
+
+pub loop-at-init : goal.loop-at-init
+loop-at-init c =
+    let bytes = c.as_bytes-bytes.result.now in
+    subst (IsRead bytes 0) (sym c.new-reader.ensures) (read_none bytes c.as_bytes-bytes.ensures.utf8)
+
+pub feed-requires : goal.feed-requires
+feed-requires c = record { text = read_goes c.as_bytes-bytes.result.now c.loop-at.at (state_of c.loop-at.reader) c.loop-at.invariant c.loop-at-test.true }

@@ -1,4 +1,4 @@
-use Rattle.std.proofs.Common.{◌≡◌, get_or, sym, ◌≢◌, length, arith}
+use Rattle.std.proofs.Common.{◌≡◌, get_or, sym, ◌≢◌, length, ◌∙◌, arith}
 use Rattle.std.proofs.lemmas.Result.{err_from_is_err_and}
 use Rattle.tk_plan.specs.Checks.{text as is_text}
 use Rattle.tk_plan.proofs.Items.{not_a_pair, wrong_first, wrong_second}
@@ -9,12 +9,12 @@ pub returns-then-len-ne2 : goal.returns-then-len-ne2
 returns-then-len-ne2 c =
     let e = c.in-Some.ensures in
     let short : length c.in-Some.items.now.items ≢ 2 = grind arith in
-    rw c.field-then-len-ne2.ensures (rw c.in_ok-whole_path-2.ensures (not_a_pair is_text _ _ _ e short))
+    refuses_whole _ _ c.wrong_value-then-len-ne2.result (λ _ w. not_a_pair is_text _ _ _ e short ∙ w) c.wrong_value-then-len-ne2.ensures
 
 pub returns-in_err-first : goal.returns-in_err-first
 returns-in_err-first c =
     let e = c.in-Some.ensures in
-    let p = err_from_is_err_and c.from_residual-in_err-first.result c.from_residual-in_err-first.ensures.1 in
+    let p = err_from_is_err_and c.from_residual.result c.from_residual.ensures.1 in
     let two : length c.in-Some.items.now.items ≡ 2 = grind arith in
     let item : get_or c.in-Some.items.now.items 0 c.index.result.now ≡ c.index.result.now = sym c.index.ensures in
     rw (p.1, p.2) (refuses_whole _ _ _ (λ path w. wrong_first is_text _ path _ _ c.index.result.now e two (rw item w)) c.in_err-first.ensures)

@@ -7,10 +7,13 @@ use Rattle.tk_plan.proofs.Going.{Goes, Met}
 use Rattle.tk_plan.proofs.node_reading.+reading.Given as goal
 
 abbrev pub decreases-read_all : goal.decreases-read_all
-decreases-read_all l = 2 * (60 - l.parent.level) + 1
+decreases-read_all l = 3 * (60 - l.parent.level) + 1
 
 abbrev pub decreases-read_node : goal.decreases-read_node
-decreases-read_node l = 2 * (61 - l.node_input.level)
+decreases-read_node l = 3 * (61 - l.node_input.level)
+
+abbrev pub decreases-read_below : goal.decreases-read_below
+decreases-read_below l = 3 * (60 - l.node_input.level) + 2
 
 abbrev pub invariant-read_all-loop-index : goal.invariant-read_all-loop-index
 invariant-read_all-loop-index l =

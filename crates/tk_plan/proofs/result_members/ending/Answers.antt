@@ -2,6 +2,7 @@ use Rattle.std.proofs.Common.{◌≡◌, true, is_some, sym, ap, ◌∙◌, arit
 use Rattle.serde_json.specs.View.{view}
 use Rattle.tk_events.specs.declared.kinds.Status.TheVariants.{Successful}
 use Rattle.tk_plan.specs.Pointers.{pointer}
+use Rattle.tk_plan.proofs.Passing.{refuses_whole}
 use Rattle.tk_plan.proofs.Results.{message_stands}
 use Rattle.tk_plan.proofs.result_members.ending.Goals as goal
 
@@ -11,4 +12,5 @@ returns-then-is_some c =
     let m = c.in_ok-message.ensures in
     let is : c.in_ok-status.status ≡ Successful = grind arith in
     let there : is_some c.in_ok-message.message ≡ true = grind arith in
-    rw c.field.ensures (rw c.in_ok-member_path.ensures (message_stands (pointer c.args.at) (view c.args.value.now) c.in_ok-known_members.ensures.0 s.0 m.0 (sym s.1 ∙ is) (ap is_some (sym m.1) ∙ there)))
+    let wrong = message_stands (pointer c.args.at) (view c.args.value.now) c.in_ok-known_members.ensures.0 s.0 m.0 (sym s.1 ∙ is) (ap is_some (sym m.1) ∙ there) in
+    refuses_whole _ _ c.wrong_member.result (λ _ w. wrong ∙ w) c.wrong_member.ensures

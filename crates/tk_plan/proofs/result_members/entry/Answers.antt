@@ -20,7 +20,7 @@ loop-inner-preserved c =
 
 pub returns-in_err-pair : goal.returns-in_err-pair
 returns-in_err-pair c =
-    let p = err_from_is_err_and c.from_residual-in_err-pair.result c.from_residual-in_err-pair.ensures.1 in
+    let p = err_from_is_err_and c.from_residual.result c.from_residual.ensures.1 in
     let split = values_next c.deref-item-items.result.now c.loop-inner.inner c.item-item.result c.loop-inner-test.true c.item-item.is in
     rw (p.1, p.2) (refuses_whole _ _ _ (λ path w. goes_fault _ _ _ _ _ _ c.loop-inner.invariant _ _ path split w) c.in_err-pair.ensures)
 

@@ -1,28 +1,39 @@
-use Rattle.std.proofs.Common.{◌≡◌, length, arith, ap, ◌∙◌}
-use Rattle.std.proofs.lemmas.List.{length-map, get_or_default}
-use Rattle.tk_columns.specs.Selections.{PositionedEntry}
+use Rattle.std.proofs.Common.{arith}
 use Rattle.tk_query.proofs.AskedLemmas.{AreFlags}
-use Rattle.tk_query.proofs.MatchLemmas.{exact_more, exact_no}
+use Rattle.tk_query.proofs.MatchLemmas.{is_asked, matched_none, matched_more, matched_no, matched_all}
 use Rattle.tk_query.proofs.matching.match_exactly.Goals as goal
+
+pub events-init : goal.events-init
+events-init c =
+    let are : AreFlags c.args.events.now c.flags-flags.result.now = record { kept = c.flags-flags.ensures.kept } in
+    matched_none c.args.events.now c.flags-flags.result.now c.args.conditions.now are
+
+pub bounds-conditions-k : goal.bounds-conditions-k
+bounds-conditions-k c =
+    let asked = is_asked c.args.events.now c.flags-flags.result.now c.flags-flags.ensures.size c.args.conditions.now c.events.k c.events.low c.events.invariant c.in-Some.position c.in-Some.ensures.value in
+    omega arith
+
+pub overflow_add-k : goal.overflow_add-k
+overflow_add-k c =
+    let asked = is_asked c.args.events.now c.flags-flags.result.now c.flags-flags.ensures.size c.args.conditions.now c.events.k c.events.low c.events.invariant c.in-Some.position c.in-Some.ensures.value in
+    omega (arith, c.count.type_inv)
 
 pub returns-then-not-holds_at : goal.returns-then-not-holds_at
 returns-then-not-holds_at c =
-    let asked = c.args.events.now in
-    let flags = c.flags.result.now in
-    let are : AreFlags asked flags = record { kept = c.flags.ensures.kept } in
-    let list = c.in_ok-positions.positions.items in
-    let size : length list ≡ length asked.kept = ap length c.in_ok-positions.ensures.value ∙ length-map asked.kept (λ (x : PositionedEntry). x.position) in (
+    let asked = is_asked c.args.events.now c.flags-flags.result.now c.flags-flags.ensures.size c.args.conditions.now c.events.k c.events.low c.events.invariant c.in-Some.position c.in-Some.ensures.value in (
       omega arith,
-      exact_no asked flags are c.recorded-recording.result.now c.recorded-recording.ensures c.args.conditions.now c.loop-k.k c.index-conditions-k.result list c.index.result.now c.holds_at.result
-          c.loop-k.invariant c.index-conditions-k.is (omega arith) c.in_ok-positions.ensures.value (omega arith) (c.index.ensures ∙ get_or_default list c.loop-k.k c.index.result.now 0 (omega arith)) c.holds_at.ensures c.if-not-holds_at.true,
+      matched_no c.args.events.now c.flags-flags.result.now c.flags-flags.ensures.size c.args.conditions.now c.events.k c.events.low c.events.invariant c.in-Some.position c.in-Some.ensures.value
+          c.recorded.result.now c.recorded.ensures c.index-conditions-k.result c.index-conditions-k.is (omega arith) c.holds_at.result c.holds_at.ensures c.if-not-holds_at.true,
     )
 
-pub loop-k-preserved : goal.loop-k-preserved
-loop-k-preserved c =
-    let asked = c.args.events.now in
-    let flags = c.flags.result.now in
-    let are : AreFlags asked flags = record { kept = c.flags.ensures.kept } in
-    let list = c.in_ok-positions.positions.items in
-    let size : length list ≡ length asked.kept = ap length c.in_ok-positions.ensures.value ∙ length-map asked.kept (λ (x : PositionedEntry). x.position) in
-    exact_more asked flags are c.recorded-recording.result.now c.recorded-recording.ensures c.args.conditions.now c.loop-k.k c.index-conditions-k.result list c.index.result.now c.holds_at.result
-    c.loop-k.invariant c.index-conditions-k.is (omega arith) c.in_ok-positions.ensures.value (omega arith) (c.index.ensures ∙ get_or_default list c.loop-k.k c.index.result.now 0 (omega arith)) c.holds_at.ensures c.if-not-holds_at.false
+pub events-preserved : goal.events-preserved
+events-preserved c =
+    let asked = is_asked c.args.events.now c.flags-flags.result.now c.flags-flags.ensures.size c.args.conditions.now c.events.k c.events.low c.events.invariant c.in-Some.position c.in-Some.ensures.value in
+    matched_more c.args.events.now c.flags-flags.result.now c.flags-flags.ensures.size c.args.conditions.now c.events.k c.events.low c.events.invariant c.in-Some.position c.in-Some.ensures.value
+    c.recorded.result.now c.recorded.ensures c.index-conditions-k.result c.index-conditions-k.is (omega arith) c.holds_at.result c.holds_at.ensures c.if-not-holds_at.false
+
+pub returns : goal.returns
+returns c = (
+  omega arith,
+  matched_all c.args.events.now c.flags-flags.result.now c.flags-flags.ensures.size c.args.conditions.now c.events.k c.events.low c.events.invariant (omega arith) c.in_default.ensures.value,
+)

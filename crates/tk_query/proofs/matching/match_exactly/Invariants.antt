@@ -1,7 +1,9 @@
-use Rattle.std.proofs.Common.{ℕ, ◌<◌}
-use Rattle.tk_columns.specs.Selections.{events_of}
-use Rattle.tk_query.specs.Matches.{HoldsAt}
+use Rattle.std.proofs.Common.{◌-◌, length}
+use Rattle.tk_query.proofs.MatchLemmas.{AreMatched}
 use Rattle.tk_query.proofs.matching.match_exactly.Given as goal
 
-abbrev pub invariant-loop-k : goal.invariant-loop-k
-invariant-loop-k l = (j : ℕ) → j < l.k → HoldsAt l.events.recorded l.conditions (events_of l.events) j
+abbrev pub invariant-events : goal.invariant-events
+invariant-events l = AreMatched l.events l.flags l.conditions l.k l.low
+
+abbrev pub decreases-events : goal.decreases-events
+decreases-events l = length l.flags - l.low
