@@ -26,23 +26,15 @@ fn append_event(record: &mut Record, worker: u8, event: Event) -> &'static str {
     word(append(record, Entry { worker, event }))
 }
 
-// What appending a copy of an entry answers.
-fn append_copy(alloc: Global, record: &mut Record, entry: &Entry) -> &'static str {
-    match entry.event.try_clone(alloc) {
-        Ok(event) => append_event(record, entry.worker, event),
-        Err(_) => "no copy",
-    }
-}
-
-// What appending a copy of a line's entry answers.
+// What appending a copy of a line's event answers.
 fn append_line(alloc: Global, record: &mut Record, line: &str) -> &'static str {
-    let read = read_event_line(alloc, line.as_bytes(), Version::Two);
-    let answer = match &read {
-        Ok(entry) => append_copy(alloc, record, entry),
+    match read_event_line(alloc, line.as_bytes(), Version::Two) {
+        Ok(entry) => match entry.event.try_clone(alloc) {
+            Ok(event) => append_event(record, entry.worker, event),
+            Err(_) => "no copy",
+        },
         Err(_) => "no line",
-    };
-    drop(read);
-    answer
+    }
 }
 
 // What is answered to lines that are appended in turn, with an event of each kind.

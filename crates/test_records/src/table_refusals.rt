@@ -4,7 +4,7 @@ use std::alloc::Global;
 use tk_ids::{DType, Segment, Table, TableFault};
 
 /// How a call ended.
-#[derive(Clone, Copy, PartialEq, Eq)]
+#[derive(Clone, Copy, Debug, PartialEq, Eq)]
 enum Ending {
     Done,
     /// For want of memory, and the table is as long as before.
@@ -30,36 +30,24 @@ fn numbered(alloc: Global, number: u32) -> Option<Segment> {
     Segment::new(alloc, "t", value.as_str()).ok()
 }
 
-// The same, also where one request for memory is refused.
-fn made(alloc: Global, number: u32) -> Option<Segment> {
-    match numbered(alloc, number) {
-        Some(segment) => Some(segment),
-        None => numbered(alloc, number),
-    }
-}
-
-// Whether a root with this number is added, at once or where it is added once more.
-fn is_added(alloc: Global, table: &mut Table, number: u32) -> bool {
-    let Some(segment) = made(alloc, number) else {
-        return false;
-    };
-    let first = added(alloc, table, &segment);
-    first == Ending::Done
-        || first == Ending::Refused && added(alloc, table, &segment) == Ending::Done
-}
-
-// Whether 20 roots are added.
-fn are_added(alloc: Global, table: &mut Table) -> bool {
-    for number in 0..20 {
-        if !is_added(alloc, table, number) {
-            return false;
-        }
-    }
-    table.len() == 20
-}
-
 #[test]
 fn a_table(rt: HostRuntime) {
-    let mut table = Table::new(rt.alloc());
-    assert!(rt; are_added(rt.alloc(), &mut table));
+    let alloc = rt.alloc();
+    let mut table = Table::new(alloc);
+    for number in 0..20u32 {
+        let segment = match numbered(alloc, number) {
+            None => numbered(alloc, number),
+            segment => segment,
+        };
+        let Some(segment) = segment else {
+            assert!(rt; false, "no segment");
+            return;
+        };
+        let first = added(alloc, &mut table, &segment);
+        assert_ne!(rt; first, Ending::Wrong);
+        if first == Ending::Refused {
+            assert_eq!(rt; added(alloc, &mut table, &segment), Ending::Done);
+        }
+    }
+    assert_eq!(rt; table.len(), 20);
 }

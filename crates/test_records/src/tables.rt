@@ -15,18 +15,19 @@ fn add(
     }
 }
 
-// Whether an empty table takes a root and a test below it, and no test below none and no root twice.
-fn additions_hold(alloc: Global, table: &mut Table) -> bool {
-    add(alloc, table, Some(3), "a") == Err(TableFault::NoParent)
-        && add(alloc, table, None, "a") == Ok(0)
-        && add(alloc, table, None, "a") == Err(TableFault::Twice)
-        && add(alloc, table, Some(0), "a") == Ok(1)
-}
-
 #[test]
 fn additions(rt: HostRuntime) {
-    let mut table = Table::new(rt.alloc());
-    assert!(rt; additions_hold(rt.alloc(), &mut table));
+    let alloc = rt.alloc();
+    let mut table = Table::new(alloc);
+    assert!(rt;
+        matches!(
+            add(alloc, &mut table, Some(3), "a"),
+            Err(TableFault::NoParent)
+        )
+    );
+    assert!(rt; matches!(add(alloc, &mut table, None, "a"), Ok(0)));
+    assert!(rt; matches!(add(alloc, &mut table, None, "a"), Err(TableFault::Twice)));
+    assert!(rt; matches!(add(alloc, &mut table, Some(0), "a"), Ok(1)));
 }
 
 // A container with this id.
@@ -51,18 +52,19 @@ fn insert(alloc: Global, table: &mut Table, text: &str) -> Result<u32, TableFaul
     }
 }
 
-// Whether an empty table takes an id only after its parent's, and none twice.
-fn insertions_hold(alloc: Global, table: &mut Table) -> bool {
-    insert(alloc, table, "[t:a]/[t:b]") == Err(TableFault::NoParent)
-        && insert(alloc, table, "[t:a]") == Ok(0)
-        && insert(alloc, table, "[t:a]/[t:b]") == Ok(1)
-        && insert(alloc, table, "[t:a]") == Err(TableFault::Twice)
-}
-
 #[test]
 fn insertions(rt: HostRuntime) {
-    let mut table = Table::new(rt.alloc());
-    assert!(rt; insertions_hold(rt.alloc(), &mut table));
+    let alloc = rt.alloc();
+    let mut table = Table::new(alloc);
+    assert!(rt;
+        matches!(
+            insert(alloc, &mut table, "[t:a]/[t:b]"),
+            Err(TableFault::NoParent)
+        )
+    );
+    assert!(rt; matches!(insert(alloc, &mut table, "[t:a]"), Ok(0)));
+    assert!(rt; matches!(insert(alloc, &mut table, "[t:a]/[t:b]"), Ok(1)));
+    assert!(rt; matches!(insert(alloc, &mut table, "[t:a]"), Err(TableFault::Twice)));
 }
 
 // Adds the root whose value is this number.
@@ -90,16 +92,17 @@ fn has_key(alloc: Global, table: &Table, text: &str, key: Option<u32>) -> bool {
     }
 }
 
-// Whether a table of the roots 0 to 65535 finds each of them, and takes no root more.
-fn is_full(alloc: Global, table: &mut Table) -> bool {
-    has_key(alloc, table, "[t:65535]", Some(65535))
-        && has_key(alloc, table, "[t:65536]", None)
-        && add_root(alloc, table, 65536) == Some(TableFault::Full)
-        && add_root(alloc, table, 1) == Some(TableFault::Twice)
-}
-
 #[test]
 fn a_full_table(rt: HostRuntime) {
     let mut table = roots(rt.alloc(), 65536);
-    assert!(rt; is_full(rt.alloc(), &mut table));
+    assert!(rt; has_key(rt.alloc(), &table, "[t:65535]", Some(65535)));
+    assert!(rt; has_key(rt.alloc(), &table, "[t:65536]", None));
+    assert_eq!(rt;
+        add_root(rt.alloc(), &mut table, 65536),
+        Some(TableFault::Full)
+    );
+    assert_eq!(rt;
+        add_root(rt.alloc(), &mut table, 1),
+        Some(TableFault::Twice)
+    );
 }
