@@ -59,6 +59,16 @@ fn verdict<R: Threads + Wait + Sync>(
     verdict
 }
 
+// Whether that is the verdict on the defect.
+fn is_found<R: Threads + Wait + Sync>(
+    rt: &R,
+    alloc: Global,
+    defect: Defect,
+    expected: (Option<Mismatch>, Exact, usize),
+) -> bool {
+    verdict(rt, alloc, defect) == Some(expected)
+}
+
 #[test]
 fn defects_are_found(rt: HostRuntime) {
     let no_failure = Mismatch {
@@ -66,10 +76,10 @@ fn defects_are_found(rt: HostRuntime) {
         expected: 1,
         actual: 0,
     };
-    let forgot = verdict(&rt, rt.alloc(), Defect::ForgetsFinish);
-    assert!(rt; forgot == Some((Some(no_failure), Exact::WrongCount, 0)));
-    let turned = verdict(&rt, rt.alloc(), Defect::FinishesFirst);
-    assert!(rt; turned == Some((None, Exact::No(0), 0)));
-    let hid = verdict(&rt, rt.alloc(), Defect::HidesFailure);
-    assert!(rt; hid == Some((Some(no_failure), Exact::No(1), 1)));
+    let forgot = (Some(no_failure), Exact::WrongCount, 0);
+    assert!(rt; is_found(&rt, rt.alloc(), Defect::ForgetsFinish, forgot));
+    let turned = (None, Exact::No(0), 0);
+    assert!(rt; is_found(&rt, rt.alloc(), Defect::FinishesFirst, turned));
+    let hid = (Some(no_failure), Exact::No(1), 1);
+    assert!(rt; is_found(&rt, rt.alloc(), Defect::HidesFailure, hid));
 }

@@ -2,8 +2,8 @@
 ghost use Rattle.std.specs.Prelude.{◌/◌};
 
 use engine_testkit::{
-    Condition, Ending, Exact, Execution, Expected, InOrder, Kind, Loose, Need, Results, Statistics,
-    Text, execute, executions, match_exactly, match_in_order, match_loosely,
+    Condition, Ending, Events, Exact, Execution, Expected, InOrder, Kind, Loose, Need, Results,
+    Statistics, Text, execute, executions, match_exactly, match_in_order, match_loosely,
 };
 use example_engine::{Case, CaseEngine, CaseTable, Function};
 use std::alloc::Global;
@@ -73,17 +73,19 @@ fn run<R: Threads + Wait + Sync>(rt: &R, alloc: Global, workers: usize) -> Optio
     execute(rt, alloc, &engine, workers, 16).ok()
 }
 
+fn statistics_of(alloc: Global, results: &Results) -> Option<Statistics> {
+    Some(results.all_events(alloc).ok()?.statistics())
+}
+
 fn statistics<R: Threads + Wait + Sync>(
     rt: &R,
     alloc: Global,
     workers: usize,
 ) -> Option<Statistics> {
-    Some(
-        run(rt, alloc, workers)?
-            .all_events(alloc)
-            .ok()?
-            .statistics(),
-    )
+    let results = run(rt, alloc, workers)?;
+    let statistics = statistics_of(alloc, &results);
+    drop(results);
+    statistics
 }
 
 #[test]
@@ -127,53 +129,63 @@ fn has_failed(alloc: Global, results: &Results, message: &str) -> Option<bool> {
     Some(matches!(match_loosely(alloc, &tests, &failed), Ok(Loose::Yes)))
 }
 
-// What the first test's events are matched with, exactly and in order.
-fn matches_of_first(alloc: Global, results: &Results) -> Option<(Exact, bool)> {
-    let events = results
-        .all_events(alloc)
-        .ok()?
-        .by_key(alloc, FIRST_TEST)
-        .ok()?;
+// Whether the conditions hold of the events, one of each, and in order at 2, 3 and 4.
+fn are_matched(alloc: Global, events: &Events, turns: &[Condition]) -> bool {
+    let in_order = match_in_order(alloc, events, turns);
+    match_exactly(alloc, events, turns) == Ok(Exact::Yes)
+        && matches!(&in_order, Ok(InOrder::Yes(at)) if at.as_slice() == [2, 3, 4].as_slice())
+}
+
+fn events_of_first<'r>(alloc: Global, results: &'r Results) -> Option<Events<'r>> {
+    let events = results.all_events(alloc).ok()?;
+    events.by_key(alloc, FIRST_TEST).ok()
+}
+
+// Whether the first test is registered, started and finished as a success, and nothing else.
+fn first_succeeds(alloc: Global, events: &Events) -> bool {
     let turns = [
         Condition::Kind(Kind::Dynamic),
         Condition::Started,
         Condition::Succeeded,
     ];
-    let exact = match_exactly(alloc, &events, &turns).ok()?;
-    let in_order = match_in_order(alloc, &events, &turns).ok()?;
-    let is_in_order = matches!(in_order, InOrder::Yes(at) if at.as_slice() == [2, 3, 4].as_slice());
-    Some((exact, is_in_order))
+    are_matched(alloc, events, &turns)
 }
 
-// The first test's execution.
-fn execution_of_first(alloc: Global, results: &Results) -> Option<Execution> {
-    let events = results
-        .all_events(alloc)
-        .ok()?
-        .by_key(alloc, FIRST_TEST)
-        .ok()?;
-    executions(alloc, &events).ok()?.get(0)
+// Whether that is its execution.
+fn first_is_executed(alloc: Global, events: &Events) -> bool {
+    let execution = Execution {
+        key: FIRST_TEST,
+        first: 3,
+        last: 4,
+        start: 0,
+        stop: 0,
+        ending: Ending::Successful,
+    };
+    match executions(alloc, events) {
+        Ok(list) => list.get(0) == Some(execution),
+        Err(_) => false,
+    }
+}
+
+fn first_is_right(alloc: Global, results: &Results) -> Option<bool> {
+    let events = events_of_first(alloc, results)?;
+    Some(first_succeeds(alloc, &events) && first_is_executed(alloc, &events))
+}
+
+// Whether each answer about the run is right.
+fn answers_hold(alloc: Global, results: &Results) -> bool {
+    mismatches(alloc, results) == Some(0)
+        && has_failed(alloc, results, "expected: <4> but was: <3>") == Some(true)
+        && first_is_right(alloc, results) == Some(true)
 }
 
 #[test]
 fn one_worker_is_asked(rt: HostRuntime) {
-    match run(&rt, rt.alloc(), 1) {
-        Some(results) => {
-            assert!(rt; mismatches(rt.alloc(), &results) == Some(0));
-            assert!(rt;
-                has_failed(rt.alloc(), &results, "expected: <4> but was: <3>") == Some(true)
-            );
-            assert!(rt; matches_of_first(rt.alloc(), &results) == Some((Exact::Yes, true)));
-            let execution = Execution {
-                key: FIRST_TEST,
-                first: 3,
-                last: 4,
-                start: 0,
-                stop: 0,
-                ending: Ending::Successful,
-            };
-            assert!(rt; execution_of_first(rt.alloc(), &results) == Some(execution));
-        }
-        None => assert!(rt; false, "no results"),
-    }
+    let results = run(&rt, rt.alloc(), 1);
+    let hold = match &results {
+        Some(results) => answers_hold(rt.alloc(), results),
+        None => false,
+    };
+    drop(results);
+    assert!(rt; hold);
 }

@@ -1,5 +1,6 @@
 //! Runs: threads that share a lock book, senders on threads of their own, engines run by workers, and
-//! plans as the library reads them, what their runs record, and where their reports break.
+//! plans as the library reads them, what their runs record, and where their reports break. Beside
+//! them, for each reader, texts that nobody wrote on purpose.
 #![tactic(auto)]
 
 #[cfg(test)]
@@ -7,7 +8,13 @@ mod books;
 #[cfg(test)]
 mod engines;
 #[cfg(test)]
+mod hostile_samples;
+#[cfg(test)]
+mod hostile_texts;
+#[cfg(test)]
 mod plans;
+#[cfg(test)]
+mod random_numbers;
 #[cfg(test)]
 mod refusals;
 #[cfg(test)]

@@ -6,8 +6,6 @@ use std::sync::Wait;
 use std::test::Fail;
 use tk_book::{Book, BookFault, BookSeat, Busy, Holdings, Need};
 
-const NO_SEAT: &str = "no seat";
-
 // A seat beside its book.
 #[derive(Drop)]
 struct Seated<'b> {
@@ -78,14 +76,24 @@ fn share<R: Wait>(
     is_shared && is_released && is_written
 }
 
+// The same of four seats of the book.
+fn seats_share<R: Wait>(rt: &R, book: &Book, seats: &mut Vec<BookSeat>) -> Option<bool>
+    requires { All (λ seat. seat.book ≡ book.now) seats.old.items }
+{
+    let mut first = next_seat(book, seats)?;
+    let mut second = next_seat(book, seats)?;
+    let mut third = next_seat(book, seats)?;
+    let mut writer = next_seat(book, seats)?;
+    Some(share(rt, &mut first, &mut second, &mut third, &mut writer))
+}
+
 // The same of a book of four seats.
 fn four_share<R: Wait>(rt: &R, alloc: Global) -> Option<bool> {
     let (book, mut seats) = Book::open(alloc, 4).ok()?;
-    let mut first = next_seat(&book, &mut seats)?;
-    let mut second = next_seat(&book, &mut seats)?;
-    let mut third = next_seat(&book, &mut seats)?;
-    let mut writer = next_seat(&book, &mut seats)?;
-    Some(share(rt, &mut first, &mut second, &mut third, &mut writer))
+    let hold = seats_share(rt, &book, &mut seats);
+    drop(seats);
+    drop(book);
+    hold
 }
 
 #[test]
@@ -93,20 +101,27 @@ fn shared_readers(rt: HostRuntime) {
     assert!(rt; four_share(&rt, rt.alloc()) == Some(true));
 }
 
+// Whether a writer keeps a reader out.
+fn writer_is_found<R: Wait>(rt: &R, book: &Book, seats: &mut Vec<BookSeat>) -> Option<bool>
+    requires { All (λ seat. seat.book ≡ book.now) seats.old.items }
+{
+    let mut writer = next_seat(book, seats)?;
+    let mut reader = next_seat(book, seats)?;
+    Some(writer.acquires(rt, Need::of(0, 1)) && reader.finds(0xF, Need::of(1, 0)))
+}
+
+// The same of a book of two seats.
+fn two_exclude<R: Wait>(rt: &R, alloc: Global) -> Option<bool> {
+    let (book, mut seats) = Book::open(alloc, 2).ok()?;
+    let is_found = writer_is_found(rt, &book, &mut seats);
+    drop(seats);
+    drop(book);
+    is_found
+}
+
 #[test]
-fn writer_excludes(rt: HostRuntime) -> Result<(), Fail> {
-    let (book, mut seats) = Book::open(rt.alloc(), 2)?;
-    let mut writer = Seated {
-        book: &book,
-        seat: seats.pop().ok_or(NO_SEAT)?,
-    };
-    let mut reader = Seated {
-        book: &book,
-        seat: seats.pop().ok_or(NO_SEAT)?,
-    };
-    assert!(rt; writer.acquires(&rt, Need::of(0, 1)));
-    assert!(rt; reader.finds(0xF, Need::of(1, 0)));
-    Ok(())
+fn writer_excludes(rt: HostRuntime) {
+    assert!(rt; two_exclude(&rt, rt.alloc()) == Some(true));
 }
 
 #[test]

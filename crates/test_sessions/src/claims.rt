@@ -2,10 +2,7 @@
 ghost use Rattle.std.specs.Prelude.{◌≡◌};
 
 use std::alloc::Global;
-use std::test::Fail;
 use tk_claim::{Claim, ClaimFault, ClaimSeat};
-
-const NO_SEAT: &str = "no seat";
 
 // Whether the number is drawn next.
 fn draws(claim: &Claim, seat: &mut ClaimSeat, number: u32) -> bool
@@ -27,27 +24,49 @@ fn refuses_seats(alloc: Global, seats: usize) -> bool {
     matches!(Claim::open(alloc, 3, seats), Err(ClaimFault::Seats))
 }
 
-#[test]
-fn claims(rt: HostRuntime) -> Result<(), Fail> {
-    let (claim, mut seats) = Claim::open(rt.alloc(), 3, 2)?;
-    let mut second = seats.pop().ok_or(NO_SEAT)?;
-    let mut first = seats.pop().ok_or(NO_SEAT)?;
-    assert!(rt; draws(&claim, &mut first, 0) && draws(&claim, &mut first, 1));
-    assert!(rt; draws(&claim, &mut second, 2) && draws_none(&claim, &mut second));
-    seats.push(first)?;
-    seats.push(second)?;
-    assert_eq!(rt; claim.close(seats), 3);
-    Ok(())
+// Whether two seats draw 0, 1 and 2, and nothing after that.
+fn are_drawn(claim: &Claim, first: &mut ClaimSeat, second: &mut ClaimSeat) -> bool
+    requires first { first.old.claim ≡ claim.now }
+    requires second { second.old.claim ≡ claim.now }
+    ensures first { first.new.claim ≡ first.old.claim }
+    ensures second { second.new.claim ≡ second.old.claim }
+{
+    draws(claim, first, 0)
+        && draws(claim, first, 1)
+        && draws(claim, second, 2)
+        && draws_none(claim, second)
+}
+
+// How many numbers of three were drawn where two seats drew all of them.
+fn drawn_by_two(alloc: Global) -> Option<u32> {
+    let (claim, mut seats) = Claim::open(alloc, 3, 2).ok()?;
+    let (Some(mut second), Some(mut first)) = (seats.pop(), seats.pop()) else {
+        return None;
+    };
+    if !are_drawn(&claim, &mut first, &mut second) {
+        return None;
+    }
+    Some(claim.close(vec![in alloc; first, second].ok()?))
 }
 
 #[test]
-fn a_claim_on_nothing(rt: HostRuntime) -> Result<(), Fail> {
-    let (claim, mut seats) = Claim::open(rt.alloc(), 0, 1)?;
-    let mut seat = seats.pop().ok_or(NO_SEAT)?;
-    assert!(rt; draws_none(&claim, &mut seat));
-    seats.push(seat)?;
-    assert_eq!(rt; claim.close(seats), 0);
-    Ok(())
+fn claims(rt: HostRuntime) {
+    assert!(rt; drawn_by_two(rt.alloc()) == Some(3));
+}
+
+// How many numbers of none were drawn where a seat drew nothing.
+fn drawn_of_none(alloc: Global) -> Option<u32> {
+    let (claim, mut seats) = Claim::open(alloc, 0, 1).ok()?;
+    let mut seat = seats.pop()?;
+    if !draws_none(&claim, &mut seat) {
+        return None;
+    }
+    Some(claim.close(vec![in alloc; seat].ok()?))
+}
+
+#[test]
+fn a_claim_on_nothing(rt: HostRuntime) {
+    assert!(rt; drawn_of_none(rt.alloc()) == Some(0));
 }
 
 #[test]

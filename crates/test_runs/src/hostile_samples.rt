@@ -1,5 +1,5 @@
 //! Valid texts, and texts that are made of them by chance.
-use crate::numbers::Numbers;
+use crate::random_numbers::Numbers;
 use std::alloc::{AllocError, Global};
 use test_support::demo_plan;
 

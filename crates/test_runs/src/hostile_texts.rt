@@ -1,6 +1,8 @@
 //! Each reader, on texts that are made by chance.
-use crate::numbers::Numbers;
-use crate::samples::{Sample, conditions, edited, ids, plans, random_bytes, records, replays};
+use crate::hostile_samples::{
+    Sample, conditions, edited, ids, plans, random_bytes, records, replays,
+};
+use crate::random_numbers::Numbers;
 use std::alloc::{AllocError, Global};
 use tk_conditions::{CondFault, Condition, read_condition, write_condition};
 use tk_ids::{IdFault, UniqueId};
