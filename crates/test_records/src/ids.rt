@@ -104,8 +104,8 @@ fn is_written(id: &UniqueId, want: &str) -> bool {
 }
 
 // Whether a copy of the id has this text.
-fn is_copied(alloc: Global, id: &UniqueId, want: &str) -> bool {
-    match id.try_clone(alloc) {
+fn is_copied(id: &UniqueId, want: &str) -> bool {
+    match id.try_clone() {
         Ok(copied) => is_written(&copied, want),
         Err(_) => false,
     }
@@ -123,8 +123,7 @@ fn is_below(alloc: Global, id: &UniqueId, want: &str) -> bool {
 fn is_made(alloc: Global) -> bool {
     match escaped(alloc) {
         Ok(id) => {
-            is_copied(alloc, &id, "[engine:e]/[t:a%2Fb%3Ac%25]")
-                && is_below(alloc, &id, "[engine:e]")
+            is_copied(&id, "[engine:e]/[t:a%2Fb%3Ac%25]") && is_below(alloc, &id, "[engine:e]")
         }
         Err(_) => false,
     }

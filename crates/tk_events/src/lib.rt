@@ -2,12 +2,14 @@
 #![tactic(auto)]
 
 mod events;
+mod fields;
 mod kinds;
 pub mod laws;
 mod payloads;
 mod registrations;
 
 pub use events::{Entry, Event};
+pub use fields::fmt_field;
 pub use kinds::{Kind, Status};
 pub use payloads::{Pairs, Payload, try_clone_message};
 pub use registrations::{is_worker, registered_key};

@@ -4,6 +4,7 @@ ghost use Rattle.tk_ids.specs.IdText.{EndsInEscape};
 ghost use Rattle.tk_ids.specs.Answer.{IsFaultAfter};
 ghost use Rattle.tk_ids.specs.FaultTexts.{id_fault_text};
 
+use crate::id_texts::IdText;
 use crate::reading::Reader;
 use crate::texts::Text;
 use crate::writing::push_segment;
@@ -74,14 +75,14 @@ pub const MAX_SEGMENTS: usize = 64;
 const SEGMENT_CAPACITY: usize = 64;
 
 /// What a segment keeps.
-#[derive(Debug, Drop)]
+#[derive(Drop)]
 struct SegmentTexts {
     tag: Text,
     value: Text,
 }
 
 /// One step of an id: a tag and a value, neither of them empty. Clones share both texts.
-#[derive(Debug, Drop)]
+#[derive(Drop)]
 pub struct Segment {
     parts: Arc<SegmentTexts>,
 }
@@ -97,6 +98,12 @@ impl Model for Segment {
 
     ghost invariant = { λ s. IsNonEmptyText (arc_value s.parts).tag
         × IsNonEmptyText (arc_value s.parts).value };
+}
+
+impl fmt::Debug for Segment {
+    fn fmt<W: fmt::Write>(&self, f: &mut fmt::Formatter<W>) -> fmt::Result {
+        write!(f, "Segment({:?}, {:?})", self.tag(), self.value())
+    }
 }
 
 impl Segment {
@@ -154,29 +161,37 @@ impl Segment {
 }
 
 /// What an id keeps: its segments, and its text beside them.
-#[derive(Debug, Drop)]
-struct IdFields {
-    text: Text,
+#[derive(Drop)]
+pub(crate) struct IdFields {
+    pub(crate) text: Text,
     segments: Vec<Segment>,
 }
 
-/// The path of a descriptor from its root: one segment or more.
-#[derive(Debug, Drop)]
+/// The path of a descriptor from its root: one segment or more. Clones share all that it keeps.
+#[derive(Drop)]
 pub struct UniqueId {
-    path: Box<IdFields>,
+    path: Arc<IdFields>,
 }
 
 impl Model for UniqueId {
     ghost use Rattle.std.specs.Prelude.{◌≡◌, List};
+    ghost use Rattle.std.specs.Arc.{arc_value};
     ghost use Rattle.tk_ids.specs.IdText.{Pair, IsId, id_text, FitsLimits};
 
     ghost Value = { List Pair };
 
-    ghost view = { λ u. u.path.value.segments.items };
+    ghost view = { λ u. (arc_value u.path).segments.items };
 
-    ghost invariant = { λ u. IsId u.path.value.segments.items
-        × (u.path.value.text ≡ id_text u.path.value.segments.items)
-        × FitsLimits u.path.value.segments.items };
+    ghost invariant = { λ u. IsId (arc_value u.path).segments.items
+        × ((arc_value u.path).text ≡ id_text (arc_value u.path).segments.items)
+        × FitsLimits (arc_value u.path).segments.items };
+}
+
+/// Shows the id's text, in quotes.
+impl fmt::Debug for UniqueId {
+    fn fmt<W: fmt::Write>(&self, f: &mut fmt::Formatter<W>) -> fmt::Result {
+        fmt::Debug::fmt(&self.path.text, f)
+    }
 }
 
 /// The same segments once more, with room for one after them.
@@ -222,7 +237,7 @@ impl UniqueId {
         ensures { IfOk result (λ id. id ≡ segments.items) }
     {
         Ok(UniqueId {
-            path: Box::new(alloc, IdFields { text, segments })?,
+            path: Arc::new(alloc, IdFields { text, segments })?,
         })
     }
 
@@ -277,6 +292,16 @@ impl UniqueId {
         &self.path.text
     }
 
+    /// The id's text as a key of maps, which shares it.
+    pub fn shared_text(&self) -> Result<IdText, AllocError>
+        ensures text { IfOk result (λ t. t ≡ id_text self.now) }
+        // What every id is.
+        ensures id { IsId self.now }
+        ensures fits { FitsLimits self.now }
+    {
+        Ok(IdText::of(Arc::try_clone(&self.path)?))
+    }
+
     /// The segments, beginning with the root's.
     pub fn segments(&self) -> &[Segment]
         ensures { result.now ≡ self.now }
@@ -294,13 +319,13 @@ impl UniqueId {
         }
     }
 
-    /// Makes another id with the same segments.
-    pub fn try_clone(&self, alloc: Global) -> Result<UniqueId, AllocError>
+    /// Makes another id with the same segments, which shares them.
+    pub fn try_clone(&self) -> Result<UniqueId, AllocError>
         ensures { IfOk result (λ id. id ≡ self.now) }
     {
-        let text = self.as_text().try_clone()?;
-        let segments = clone_segments(alloc, self.segments())?;
-        UniqueId::from_parts(alloc, text, segments)
+        Ok(UniqueId {
+            path: Arc::try_clone(&self.path)?,
+        })
     }
 
     /// The text of the id without its last segment, where it has more than one.

@@ -1,6 +1,7 @@
 //! Unique ids and the table of descriptors.
 #![tactic(auto)]
 
+mod id_texts;
 mod ids;
 pub mod laws;
 mod reading;
@@ -8,6 +9,7 @@ mod tables;
 mod texts;
 mod writing;
 
+pub use id_texts::IdText;
 pub use ids::{IdFault, MAX_BYTES, MAX_SEGMENTS, Segment, UniqueId};
 pub use tables::{DType, Descriptor, MAX_DESCRIPTORS, Table, TableFault};
 pub use texts::Text;

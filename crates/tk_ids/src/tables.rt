@@ -5,6 +5,7 @@ ghost use Rattle.std.specs.Slice.Iter.{iter_rest};
 ghost use Rattle.tk_ids.specs.declared.tables.TheConstants.{MAX_DESCRIPTORS};
 ghost use Rattle.tk_ids.specs.FaultTexts.{table_fault_text};
 
+use crate::id_texts::IdText;
 use crate::ids::{IdFault, Segment, UniqueId};
 use crate::texts::Text;
 use indexmap::IndexMap;
@@ -49,11 +50,11 @@ pub struct Descriptor {
 
 impl Descriptor {
     /// Another descriptor with the same contents.
-    pub fn try_clone(&self, alloc: Global) -> Result<Descriptor, AllocError>
+    pub fn try_clone(&self) -> Result<Descriptor, AllocError>
         ensures { IfOk result (λ d. d ≡ self.now) }
     {
         Ok(Descriptor {
-            id: self.id.try_clone(alloc)?,
+            id: self.id.try_clone()?,
             name: self.name.try_clone()?,
             dtype: self.dtype,
         })
@@ -119,7 +120,7 @@ pub const MAX_DESCRIPTORS: usize = 65536;
 /// A descriptor's key is its position, counted from 0.
 #[derive(Drop)]
 pub struct Table {
-    by_text: IndexMap<Text, Descriptor>,
+    by_text: IndexMap<IdText, Descriptor>,
 }
 
 impl Model for Table {
@@ -255,7 +256,7 @@ impl Table {
         ensures ok { OnOk result (self.new ≡ self.old ++ descriptor ∷ []) }
         ensures err { OnErr result (self.new ≡ self.old) }
     {
-        let text = descriptor.id.write()?;
+        let text = descriptor.id.shared_text()?;
         self.by_text.insert(text, descriptor)?;
         Ok(())
     }

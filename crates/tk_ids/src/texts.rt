@@ -9,11 +9,12 @@ ghost use Rattle.std.proofs.Common.{ap};
 
 use std::alloc::{AllocError, Global};
 use std::cmp::Ordering;
+use std::fmt;
 use std::hash::{Hash, Hasher};
 use std::marker::Model;
 
 /// A text in UTF-8. Contracts see it as the list of its bytes.
-#[derive(Debug, Drop)]
+#[derive(Drop)]
 pub struct Text {
     string: String,
 }
@@ -73,6 +74,13 @@ impl Text {
         Ok(Text {
             string: self.string.clone()?,
         })
+    }
+}
+
+/// Shows the text as a `str` is shown: in quotes, with escapes.
+impl fmt::Debug for Text {
+    fn fmt<W: fmt::Write>(&self, f: &mut fmt::Formatter<W>) -> fmt::Result {
+        fmt::Debug::fmt(self.as_str(), f)
     }
 }
 

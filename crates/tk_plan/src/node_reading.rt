@@ -54,18 +54,14 @@ fn add_node(reader: &mut Reader, node: Node, id: UniqueId) -> Result<(), AllocEr
 }
 
 /// Puts a node that other nodes stand below at the end.
-fn add_parent<'v>(
-    alloc: Global,
-    reader: &mut Reader,
-    checked: Checked<'v>,
-) -> Result<Parent<'v>, AllocError>
+fn add_parent<'v>(reader: &mut Reader, checked: Checked<'v>) -> Result<Parent<'v>, AllocError>
     requires { reader.old.dynamics ≤ 65536 }
     ensures added { OnOk result
         (IsAdded reader.old reader.new checked.entry.node checked.entry.id) }
     ensures parent { IfOk result (λ p. (p.id ≡ checked.entry.id)
         × (p.children ≡ checked.entry.children) × (p.dynamic ≡ checked.entry.dynamic)) }
 {
-    let copied = checked.id.try_clone(alloc);
+    let copied = checked.id.try_clone();
     add_node(reader, checked.node, checked.id)?;
     Ok(Parent {
         id: copied?,
@@ -92,7 +88,7 @@ fn start_node<'v>(
         add_node(reader, checked.node, checked.id)?;
         return Ok(None);
     }
-    Ok(Some(add_parent(alloc, reader, checked)?))
+    Ok(Some(add_parent(reader, checked)?))
 }
 
 /// Lets the node at `at` span all nodes from there to the last one.

@@ -308,7 +308,7 @@ impl Sender {
             Err(IdFault::Memory) => return Err(RegisterFault::Memory),
             Err(fault) => return Err(RegisterFault::Id(fault)),
         };
-        let again = id.try_clone(self.alloc)?;
+        let again = id.try_clone()?;
         let name = Text::copy(self.alloc, name)?;
         Ok((again, Descriptor { id, name, dtype }))
     }

@@ -7,7 +7,7 @@ ghost use Rattle.tk_record_report.specs.Kept.{entries_of, lines_of, IsGrouped, I
 use crate::lines::Lines;
 use std::alloc::{AllocError, Global};
 use std::collections::BTreeMap;
-use tk_ids::Text;
+use tk_ids::IdText;
 use tk_record::{EntryView, Record, write_tail};
 
 /// The lines of each id that has an event. Keys whose ids have one text share their lines.
@@ -15,7 +15,7 @@ use tk_record::{EntryView, Record, write_tail};
 pub(crate) struct LinesById {
     pub(crate) lines: Vec<Lines>,
     /// The index of an id's lines, by the text of the id.
-    pub(crate) ids: BTreeMap<Text, usize>,
+    pub(crate) ids: BTreeMap<IdText, usize>,
     /// The same index by key, so that a text is looked up once for each key that has an event.
     keys: BTreeMap<u32, usize>,
 }
@@ -34,11 +34,11 @@ impl LinesById {
     }
 
     /// Finds the index of an id's lines. A new id gets one, at which there is no line yet.
-    fn index_of_id(&mut self, alloc: Global, id: &Text) -> Result<usize, AllocError>
-        ensures { IfOk result (IndexesId self.old self.new id.now) }
+    fn index_of_id(&mut self, alloc: Global, id: IdText) -> Result<usize, AllocError>
+        ensures { IfOk result (IndexesId self.old self.new id) }
     {
         let next = self.lines.len();
-        let index = *self.ids.entry(id.try_clone()?)?.or_insert(next);
+        let index = *self.ids.entry(id)?.or_insert(next);
         if index == next {
             self.lines.push(Lines::new(alloc))?;
         }
@@ -62,7 +62,8 @@ impl LinesById {
         let Some(descriptor) = recording.describe(key) else {
             unreachable!()
         };
-        let index = self.index_of_id(alloc, descriptor.id.as_text())?;
+        let id = descriptor.id.shared_text()?;
+        let index = self.index_of_id(alloc, id)?;
         self.keys.insert(key, index)?;
         Ok(index)
     }

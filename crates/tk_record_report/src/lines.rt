@@ -34,6 +34,8 @@ impl Lines {
     pub(crate) fn add(&mut self, tail: &Text) -> Result<(), AllocError>
         ensures { OnOk result (self.new ≡ self.old ++ tail_line tail.now) }
     {
+        // One request for memory serves the whole line.
+        self.text.reserve(tail.len().saturating_add(3))?;
         self.text.push_str("  ")?;
         self.text.push_str(tail.as_str())?;
         self.text.push_str("\n")

@@ -1,0 +1,108 @@
+//! Texts of ids, as keys of maps.
+ghost use Rattle.std.specs.Prelude.{◌≡◌, Some, refl, nat_eq};
+ghost use Rattle.std.specs.Arc.{arc_value};
+ghost use Rattle.std.specs.Ordering.{nat_cmp};
+ghost use Rattle.std.specs.Cmp;
+ghost use Rattle.std.specs.Cmp.Lexicographic.{pointwise, slice_cmp, bytes_decides, nat_list_eq_equiv, nat_list_cmp_total, texts_ties, texts_po};
+ghost use Rattle.std.specs.Hash as fed;
+ghost use Rattle.std.proofs.Common.{ap};
+
+use crate::ids::IdFields;
+use crate::texts::Text;
+use indexmap::Equivalent;
+use std::cmp::Ordering;
+use std::hash::{Hash, Hasher};
+use std::marker::Model;
+use std::sync::Arc;
+
+/// The text of an id, which it shares with the id. Contracts see it as the list of its bytes.
+#[derive(Drop)]
+pub struct IdText {
+    path: Arc<IdFields>,
+}
+
+impl Model for IdText {
+    ghost use Rattle.std.specs.Prelude.{ℕ, List};
+    ghost use Rattle.std.specs.Arc.{arc_value};
+
+    ghost Value = { List ℕ };
+
+    ghost view = { λ t. (arc_value t.path).text };
+}
+
+impl IdText {
+    pub(crate) fn of(path: Arc<IdFields>) -> IdText
+        ensures { result ≡ (arc_value path).text }
+    {
+        IdText { path }
+    }
+
+    /// The text.
+    pub fn as_text(&self) -> &Text
+        ensures { result.now ≡ self.now }
+    {
+        &self.path.text
+    }
+}
+
+impl PartialEq for IdText {
+    ghost eq = { pointwise nat_eq };
+
+    ghost laws = { Cmp.partial_equiv_from_equiv nat_list_eq_equiv };
+
+    fn eq(&self, other: &IdText) -> bool {
+        self.as_text() == other.as_text()
+    }
+}
+
+impl Eq for IdText {
+    ghost laws = { nat_list_eq_equiv };
+}
+
+impl PartialOrd for IdText {
+    ghost partial_cmp = { λ x y. Some (slice_cmp nat_cmp x y) };
+
+    ghost laws = { texts_po };
+
+    fn partial_cmp(&self, other: &IdText) -> Option<Ordering> {
+        Some(self.cmp(other))
+    }
+}
+
+/// Texts of ids are in the order of their bytes.
+impl Ord for IdText {
+    ghost cmp = { slice_cmp nat_cmp };
+
+    ghost total = { nat_list_cmp_total };
+
+    ghost matches_partial_cmp = { λ x y. refl };
+
+    ghost matches_eq = { texts_ties };
+
+    fn cmp(&self, other: &IdText) -> Ordering {
+        self.as_text().cmp(other.as_text())
+    }
+}
+
+impl Hash for IdText {
+    ghost hash_input = { fed.str };
+
+    ghost respects_eq = { λ x y same. ap fed.str ((bytes_decides x y).0 same) };
+
+    fn hash<H: Hasher>(&self, state: &mut H) {
+        self.as_text().hash(state);
+    }
+}
+
+/// A text finds the id that has it.
+impl Equivalent<IdText> for &Text {
+    ghost equivalent = { λ q k. pointwise nat_eq q.now k };
+
+    ghost respects_hash = { λ q k same. ap fed.str ((bytes_decides q.now k).0 same) };
+
+    ghost respects_eq = { λ q x y. nat_list_eq_equiv.congr q.now x y };
+
+    fn equivalent(&self, key: &IdText) -> bool {
+        **self == *key.as_text()
+    }
+}
