@@ -121,6 +121,8 @@ pub use tk_record::WriteFault;
 pub use tk_record::cut_at;
 pub use tk_record::cut_header;
 pub use tk_record::next_line;
+pub use tk_record::push_tail;
+pub use tk_record::push_text;
 pub use tk_record::read_event_line;
 pub use tk_record::read_node_line;
 pub use tk_record::read_nodes;

@@ -1,3 +1,4 @@
 pub mod Event
 pub mod Registration
 pub mod Fields
+pub mod Pairs

@@ -1,5 +1,5 @@
 -- What readers of a node's result and entries hand on.
-use Rattle.std.specs.Prelude.{◌≡◌, Bool, true, ℕ, List, Option, is_some, map}
+use Rattle.std.specs.Prelude.{◌≡◌, Bool, true, false, ℕ, List, [], ◌∷◌, Option, Some, is_some, map}
 use Rattle.std.specs.List.{list_all, list_any}
 use Rattle.std.specs.Ordering.{nat_cmp}
 use Rattle.std.specs.Cmp.Lexicographic.{slice_cmp}
@@ -9,7 +9,7 @@ use Rattle.serde_json.specs.Data.{Data}
 use Rattle.tk_events.specs.Event.{is_strictly_increasing, is_lawful}
 use Rattle.tk_events.specs.declared.kinds.Kind.TheVariants.{Finished}
 use Rattle.tk_events.specs.declared.payloads.Payload.TheVariants.{Outcome}
-use Rattle.tk_plan.specs.Contents.{status_in, message_in, json_entry, repeats as repeats_in}
+use Rattle.tk_plan.specs.Contents.{status_in, message_in, json_pair, json_entry, repeats as repeats_in}
 use Rattle.tk_plan.specs.declared.member_values.Ending.{Ending}
 use Rattle.tk_plan.specs.declared.member_values.Report.{Report}
 use Rattle.tk_plan.specs.declared.member_values.Reports.{Reports}
@@ -27,6 +27,11 @@ pub record IsReport (d : Data) (r : Report) : Type 0 where
   pub pairs : r.pairs ≡ json_entry d
   pub increasing : is_strictly_increasing r.pairs ≡ true
   pub repeats : r.repeats ≡ repeats_in d
+
+-- the report of an entry whose one pair is this
+pub record IsOnlyPair (pair : Data) (r : Report) : Type 0 where
+  pub pairs : r.pairs ≡ json_pair (Some pair) ∷ []
+  pub repeats : r.repeats ≡ false
 
 pub record AreReports (ds : List Data) (r : Reports) : Type 0 where
   pub entries : r.entries ≡ map json_entry ds

@@ -6,12 +6,12 @@ ghost use Rattle.std.specs.Ordering.{nat_cmp};
 ghost use Rattle.serde_json.specs.Find.{get};
 ghost use Rattle.serde_json.specs.View.{view};
 ghost use Rattle.tk_events.specs.Event.{is_strictly_increasing};
-ghost use Rattle.tk_plan.specs.Checks.{array_of, item_at, row};
+ghost use Rattle.tk_plan.specs.Checks.{array_of, item_at, pair_of, row, text as is_text};
 ghost use Rattle.tk_plan.specs.Rows.{status_row, result_row, entries_row, entry as is_entry, result as is_result};
 ghost use Rattle.tk_plan.specs.Pointers.{pointer};
 ghost use Rattle.tk_plan.specs.Answers.{Reads};
 ghost use Rattle.tk_plan.specs.Contents.{json_status, listed};
-ghost use Rattle.tk_plan.specs.Endings.{has_key, IsEnding, IsReport, AreReports};
+ghost use Rattle.tk_plan.specs.Endings.{has_key, IsEnding, IsOnlyPair, IsReport, AreReports};
 
 use crate::faults::PlanFault;
 use crate::json_members::{known_members, optional_member, two_texts};
@@ -70,7 +70,7 @@ pub(crate) fn result_member(
     }
 }
 
-/// The pairs in the order of their keys.
+/// The pairs in the order of their keys, kept so that the events of an entry share them.
 fn pairs_of(alloc: Global, map: BTreeMap<Text, Text>) -> Result<Pairs, AllocError>
     ensures pairs { IfOk result (λ pairs. pairs ≡ map.entries) }
     ensures increasing { OnOk result (is_strictly_increasing map.entries ≡ true) }
@@ -79,7 +79,7 @@ fn pairs_of(alloc: Global, map: BTreeMap<Text, Text>) -> Result<Pairs, AllocErro
     for pair in map {
         pairs.push(pair)?;
     }
-    Ok(Pairs::of(pairs))
+    Ok(Pairs::of(pairs).shared(alloc)?)
 }
 
 /// Puts a pair into the map, in place of one with its key; answers whether there was one.
@@ -98,6 +98,23 @@ fn insert_pair(
     Ok(map.insert(key, stated)?.is_some())
 }
 
+/// Reads the pair of an entry that has no other: it needs no map.
+fn only_pair(alloc: Global, array: &str, index: usize, item: &Value) -> Result<Report, PlanFault>
+    ensures { Reads (pair_of is_text (item_at (item_at array.now index) 0) (view item.now))
+        (IsOnlyPair (view item.now)) result }
+{
+    let pair = two_texts(alloc, JsonPath::Inner(array, index, 0), item)?;
+    let mut pairs = Vec::with_capacity(alloc, 1)?;
+    pairs.push((
+        Text::copy(alloc, pair.first)?,
+        Text::copy(alloc, pair.second)?,
+    ))?;
+    Ok(Report {
+        pairs: Pairs::of(pairs).shared(alloc)?,
+        repeats: false,
+    })
+}
+
 fn entry(alloc: Global, array: &str, index: usize, value: &Value) -> Result<Report, PlanFault>
     ensures { Reads (is_entry (item_at array.now index) (view value.now))
         (IsReport (view value.now)) result }
@@ -105,6 +122,9 @@ fn entry(alloc: Global, array: &str, index: usize, value: &Value) -> Result<Repo
     let Some(items) = value.as_array() else {
         return Err(wrong_item(alloc, JsonPath::Whole(array), index));
     };
+    if let [item] = items.as_slice() {
+        return only_pair(alloc, array, index, item);
+    }
     let mut map = BTreeMap::new(alloc);
     let mut repeats = false;
     for (inner, item) in items.iter().enumerate() {

@@ -8,7 +8,7 @@ use crate::lines::Lines;
 use std::alloc::{AllocError, Global};
 use std::collections::BTreeMap;
 use tk_ids::IdText;
-use tk_record::{EntryView, Record, write_tail};
+use tk_record::{EntryView, Record};
 
 /// The lines of each id that has an event. Keys whose ids have one text share their lines.
 #[derive(Drop)]
@@ -40,7 +40,7 @@ impl LinesById {
         let next = self.lines.len();
         let index = *self.ids.entry(id)?.or_insert(next);
         if index == next {
-            self.lines.push(Lines::new(alloc))?;
+            self.lines.push(Lines::new(alloc)?)?;
         }
         Ok(index)
     }
@@ -80,8 +80,7 @@ impl LinesById {
         ensures { OnOk result (AddsEvent recording.now self.old self.new view.now) }
     {
         let index = self.index_of_key(alloc, recording, view.key)?;
-        let tail = write_tail(alloc, view)?;
-        self.lines[index].add(&tail)
+        self.lines[index].add(view)
     }
 }
 

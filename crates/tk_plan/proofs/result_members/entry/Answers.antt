@@ -14,14 +14,14 @@ loop-inner-init c = goes_start _ _ _ _ _ c.in-Some.ensures c.deref-item-items.en
 pub loop-inner-preserved : goal.loop-inner-preserved
 loop-inner-preserved c =
     let t = c.in_ok-pair.ensures in
-    let split = values_next c.deref-item-items.result.now c.loop-inner.inner c.item-item.result c.loop-inner-test.true c.item-item.is in
+    let split = values_next c.deref-item-items.result.now c.loop-inner.inner c.item-item-in-loop-inner.result c.loop-inner-test.true c.item-item-in-loop-inner.is in
     let put = c.in_ok-repeats.ensures in
     goes_next _ _ _ _ _ _ c.loop-inner.invariant _ _ c.in_ok-pair.pair.first.now c.in_ok-pair.pair.second.now _ _ split t.0 t.1.first t.1.second put.pair (ap (λ x. c.loop-inner.repeats || x) put.repeats)
 
 pub returns-in_err-pair : goal.returns-in_err-pair
 returns-in_err-pair c =
     let p = err_from_is_err_and c.from_residual.result c.from_residual.ensures.1 in
-    let split = values_next c.deref-item-items.result.now c.loop-inner.inner c.item-item.result c.loop-inner-test.true c.item-item.is in
+    let split = values_next c.deref-item-items.result.now c.loop-inner.inner c.item-item-in-loop-inner.result c.loop-inner-test.true c.item-item-in-loop-inner.is in
     rw (p.1, p.2) (refuses_whole _ _ _ (λ path w. goes_fault _ _ _ _ _ _ c.loop-inner.invariant _ _ path split w) c.in_err-pair.ensures)
 
 pub returns : goal.returns
