@@ -1,25 +1,15 @@
 -- The lines that are kept for each id, while events are added.
-use Rattle.std.proofs.Common.{◌≡◌, ◌≤◌, ◌<◌, ℕ, zero, suc, arith, Bool, true, false, cond, List, [], ◌∷◌, ◌++◌, map, length, set, get_or, Option, Some, None, bytes_eq, refl, sym, ap, ap₂, subst, ◌∙◌, append-nil, append_assoc, nat_cmp, Result, Ok, Err, slice_get, eq-eqb, length-append, length-set, get_or-set_same, inl, inr, Vec, Global}
-use Rattle.std.specs.Prelude.{OnOk, All, is_some, ◌==◌, if◌then◌else◌, ◌⊎◌}
-use Rattle.std.specs.List.{flat_map, fold}
-use Rattle.std.specs.List.Sorted.{IsStrictlySortedBy}
+use Rattle.std.proofs.Common.{◌≡◌, ◌≤◌, ◌<◌, ℕ, zero, suc, arith, Bool, true, false, cond, ◌||◌, List, [], ◌∷◌, ◌++◌, map, length, set, get_or, Option, Some, None, bytes_eq, nat_eq, refl, sym, ap, ap₂, subst, ◌∙◌, append-nil, append_assoc, Result, Ok, Err, length-append, length-set, get_or-set_same, inl, inr, Vec, Global, BuildHasherDefault, FoldHasher}
+use Rattle.std.specs.Prelude.{OnOk, All, is_some, if◌then◌else◌, ◌⊎◌}
+use Rattle.std.specs.List.{flat_map}
 use Rattle.std.specs.Option.{unwrap_or}
-use Rattle.std.specs.Ordering.{is_eq, match_ordering, MatchOrdering}
-use Rattle.std.specs.declared.cmp.Ordering.{Ordering}
-use Rattle.std.specs.declared.cmp.Ordering.TheVariants.{Less, Equal, Greater}
-use Rattle.std.specs.Cmp.Lexicographic.{slice_cmp, nat_list_cmp_total, texts_ties, bytes_decides}
-use Rattle.std.specs.Map.{lookup, keys_of}
-use Rattle.std.specs.BTreeMap.{BTreeMap, insert_entry, is_at}
-use Rattle.std.specs.BTreeSet.{insert_key}
-use Rattle.std.proofs.lemmas.Bool.{true≢false}
+use Rattle.std.specs.Cmp.Lexicographic.{bytes_decides}
+use Rattle.std.specs.Map.{lookup}
+use Rattle.std.specs.HashMap.{HashMap}
+use Rattle.std.proofs.lemmas.Bool.{true≢false, eqb-true}
 use Rattle.std.proofs.lemmas.Option.{none-some, same_Some}
-use Rattle.std.proofs.lemmas.Map.{lookup-none}
-use Rattle.std.proofs.lemmas.Map.Entries.{none_below_head, btree_map_get_place}
-use Rattle.std.proofs.lemmas.Map.Keys.{sorted_tail}
-use Rattle.std.proofs.lemmas.Cmp.{ranked}
-use Rattle.std.proofs.lemmas.List.Elements.{All-nil, All-cons, All-head, All-rest}
+use Rattle.std.proofs.lemmas.List.Elements.{All-head, All-rest}
 use Rattle.std.proofs.lemmas.List.{get_or-set_other}
-use Rattle.tk_ids.specs.IdText.{id_text}
 use Rattle.tk_events.specs.declared.events.Entry.{Entry}
 use Rattle.tk_columns.specs.declared.records.EntryView.{EntryView}
 use Rattle.tk_columns.specs.Recorded.{Recorded}
@@ -28,11 +18,8 @@ use Rattle.tk_columns.specs.Record.{entry_of_view}
 use Rattle.tk_record.specs.Spelling.{joined, tail}
 use Rattle.tk_record_report.specs.declared.grouping.LinesById.{LinesById}
 use Rattle.tk_record_report.specs.Labels.{Label, events, label, labels, name}
-use Rattle.tk_record_report.specs.Reports.{id_texts, label_line, written_so}
-use Rattle.tk_record_report.specs.Kept.{entries_of, index_in, lines_at, lines_in, lines_of, tail_line, text_of, IsGrouped, IndexesId, IndexesKey, AddsEvent}
-
-abbrev order : List ℕ → List ℕ → Ordering
-order = slice_cmp nat_cmp
+use Rattle.tk_record_report.specs.Reports.{label_line, written_so}
+use Rattle.tk_record_report.specs.Kept.{has_id, index_in, lines_at, lines_in, tail_line, text_of, IsGrouped, IndexesId, IndexesKey, AddsEvent, IsKept}
 
 abbrev pub Entries : Type 0
 Entries = List (List ℕ × List ℕ)
@@ -41,35 +28,11 @@ pub on_ok : {T E A B : Type 0} (r : Result T E) → (A → B) → OnOk r A → O
 on_ok (Ok x) f a = f a
 on_ok (Err e) f a = tt
 
--- ---- keys in order
+same_text : (x y : List ℕ) → bytes_eq x y ≡ true → x ≡ y
+same_text x y at = (bytes_decides x y).0 at
 
-put_by : {X : Type 0} (o : Ordering) (k : List ℕ) (v : X) (e : List ℕ × X) (es more : List (List ℕ × X)) (ks : List (List ℕ)) → keys_of more ≡ ks
-    → keys_of (match_ordering o ((k, v) ∷ e ∷ es) ((e.0, v) ∷ es) (e ∷ more)) ≡ match_ordering o (k ∷ e.0 ∷ keys_of es) (e.0 ∷ keys_of es) (e.0 ∷ ks)
-put_by Less k v e es more ks h = refl
-put_by Equal k v e es more ks h = refl
-put_by Greater k v e es more ks h = ap (λ (l : List (List ℕ)). e.0 ∷ l) h
-
--- the keys after an entry was put
-keys_put : {X : Type 0} (es : List (List ℕ × X)) (k : List ℕ) (v : X) → keys_of (insert_entry order es k v) ≡ insert_key order (keys_of es) k
-keys_put [] k v = refl
-keys_put (e ∷ es) k v = put_by (order k e.0) k v e es (insert_entry order es k v) _ (keys_put es k v)
-
--- a key that is there is put nowhere
-key_known : {X : Type 0} (es : List (List ℕ × X)) (k : List ℕ) (v : X) → IsStrictlySortedBy order (keys_of es) → lookup (is_at (order k)) es ≡ Some v → insert_key order (keys_of es) k ≡ keys_of es
-key_known [] k v sorted there = absurd (none-some v there)
-key_known {X} (e ∷ es) k v sorted there = by (order k e.0) refl there (λ h. key_known es k v (sorted_tail order e.0 (keys_of es) sorted) h)
-  where
-    by : (o : Ordering) → order k e.0 ≡ o → cond (is_eq o) (Some e.1) (lookup (is_at (order k)) es) ≡ Some v → (lookup (is_at (order k)) es ≡ Some v → insert_key order (keys_of es) k ≡ keys_of es)
-        → match_ordering o (k ∷ e.0 ∷ keys_of es) (e.0 ∷ keys_of es) (e.0 ∷ insert_key order (keys_of es) k) ≡ e.0 ∷ keys_of es
-    by Less c h rest = absurd (none-some v (sym (lookup-none (is_at (order k)) (e ∷ es) (none_below_head nat_list_cmp_total k e es sorted c)) ∙ there))
-    by Equal c h rest = refl
-    by Greater c h rest = ap (λ (l : List (List ℕ)). e.0 ∷ l) (rest h)
-
-same_text : (x y : List ℕ) → is_at (order x) y ≡ true → x ≡ y
-same_text x y at = (bytes_decides x y).0 (texts_ties x y ∙ at)
-
-is_itself : (x : List ℕ) → is_at (order x) x ≡ true
-is_itself x = sym (texts_ties x x) ∙ (bytes_decides x x).1 refl
+is_itself : (x : List ℕ) → bytes_eq x x ≡ true
+is_itself x = (bytes_decides x x).1 refl
 
 -- ---- an index for an id
 
@@ -84,13 +47,13 @@ past_end : {X : Type 0} (xs : List X) (d : X) → get_or xs (length xs) d ≡ d
 past_end [] d = refl
 past_end (x ∷ xs) d = past_end xs d
 
-more_same : (xs : List (List ℕ)) (b : Bool) (k : ℕ) → get_or (if b then xs ++ [] ∷ [] else xs) k [] ≡ get_or xs k []
-more_same xs true k = get_or_more xs [] k
-more_same xs false k = refl
+more_same : (xs : List (List ℕ)) (b : Bool) (k : ℕ) → get_or (if b then xs else xs ++ [] ∷ []) k [] ≡ get_or xs k []
+more_same xs true k = refl
+more_same xs false k = get_or_more xs [] k
 
-more_longer : (xs : List (List ℕ)) (b : Bool) → length xs ≤ length (if b then xs ++ [] ∷ [] else xs)
-more_longer xs true = omega (arith, length-append xs ([] ∷ []))
-more_longer xs false = omega arith
+more_longer : (xs : List (List ℕ)) (b : Bool) → length xs ≤ length (if b then xs else xs ++ [] ∷ [])
+more_longer xs true = omega arith
+more_longer xs false = omega (arith, length-append xs ([] ∷ []))
 
 module _ (old new : LinesById) (id : List ℕ) (i : ℕ) (h : IndexesId old new id i) where
   -- the id had the index, or gets the next one
@@ -104,7 +67,7 @@ module _ (old new : LinesById) (id : List ℕ) (i : ℕ) (h : IndexesId old new 
       by None e = inr (e, h.index ∙ ap (λ o. unwrap_or o (length old.lines.items)) e)
       by (Some k) e = inl (e ∙ ap Some (sym (h.index ∙ ap (λ o. unwrap_or o (length old.lines.items)) e)))
 
-  index_at : (x : List ℕ) (b : Bool) → is_at (order id) x ≡ b → index_in new x ≡ cond b (Some i) (index_in old x)
+  index_at : (x : List ℕ) (b : Bool) → bytes_eq id x ≡ b → index_in new x ≡ cond b (Some i) (index_in old x)
   index_at x b e = h.found x ∙ ap (λ t. cond t (Some i) (index_in old x)) e
 
   -- the id itself has the index
@@ -113,21 +76,21 @@ module _ (old new : LinesById) (id : List ℕ) (i : ℕ) (h : IndexesId old new 
 
   -- an id that had an index keeps it
   index_stays : (x : List ℕ) (j : ℕ) → index_in old x ≡ Some j → index_in new x ≡ Some j
-  index_stays x j at = by (is_at (order id) x) refl
+  index_stays x j at = by (bytes_eq id x) refl
     where
-      by : (b : Bool) → is_at (order id) x ≡ b → index_in new x ≡ Some j
+      by : (b : Bool) → bytes_eq id x ≡ b → index_in new x ≡ Some j
       by true e = index_at x true e ∙ ap Some (h.index ∙ ap (λ o. unwrap_or o (length old.lines.items)) (ap (index_in old) (same_text id x e) ∙ at))
       by false e = index_at x false e ∙ at
 
   -- no id got a line
   lines_stay : (x : List ℕ) → lines_in new x ≡ lines_in old x
-  lines_stay x = at_same (index_in new x) ∙ by (is_at (order id) x) refl had_or_gets
+  lines_stay x = at_same (index_in new x) ∙ by (bytes_eq id x) refl had_or_gets
     where
       at_same : (o : Option ℕ) → lines_at new.lines.items o ≡ lines_at old.lines.items o
       at_same None = refl
-      at_same (Some k) = ap (λ (ls : List (List ℕ)). get_or ls k []) h.lines ∙ more_same old.lines.items (i == length old.lines.items) k
+      at_same (Some k) = ap (λ (ls : List (List ℕ)). get_or ls k []) h.lines ∙ more_same old.lines.items (is_some (index_in old id)) k
 
-      by : (b : Bool) → is_at (order id) x ≡ b → HadOrGets → lines_at old.lines.items (index_in new x) ≡ lines_in old x
+      by : (b : Bool) → bytes_eq id x ≡ b → HadOrGets → lines_at old.lines.items (index_in new x) ≡ lines_in old x
       by true e (inl had) = ap (lines_at old.lines.items) (index_at x true e ∙ sym had ∙ ap (index_in old) (same_text id x e))
       by true e (inr gets) =
           ap (lines_at old.lines.items) (index_at x true e) ∙ ap (λ k. get_or old.lines.items k []) gets.1 ∙ past_end old.lines.items []
@@ -136,12 +99,12 @@ module _ (old new : LinesById) (id : List ℕ) (i : ℕ) (h : IndexesId old new 
 
   module _ (r : Recorded) (g : IsGrouped r old) where
     longer : length old.lines.items ≤ length new.lines.items
-    longer = subst (λ (ls : List (List ℕ)). length old.lines.items ≤ length ls) (sym h.lines) (more_longer old.lines.items (i == length old.lines.items))
+    longer = subst (λ (ls : List (List ℕ)). length old.lines.items ≤ length ls) (sym h.lines) (more_longer old.lines.items (is_some (index_in old id)))
 
     index_below : HadOrGets → i < length new.lines.items
     index_below (inl had) = omega (arith, g.below id i had, longer)
     index_below (inr gets) =
-        let is : new.lines.items ≡ old.lines.items ++ [] ∷ [] = h.lines ∙ ap (λ (b : Bool). if b then old.lines.items ++ [] ∷ [] else old.lines.items) (eq-eqb i (length old.lines.items) gets.1) in
+        let is : new.lines.items ≡ old.lines.items ++ [] ∷ [] = h.lines ∙ ap (λ (o : Option ℕ). if is_some o then old.lines.items else old.lines.items ++ [] ∷ []) gets.0 in
         omega (arith, gets.1, ap length is, length-append old.lines.items ([] ∷ []))
 
     -- an id that had the index is the id
@@ -153,19 +116,19 @@ module _ (old new : LinesById) (id : List ℕ) (i : ℕ) (h : IndexesId old new 
         by (inr gets) = absurd (omega (arith, gets.1, g.below y i at))
 
     below_next : (x : List ℕ) (j : ℕ) → index_in new x ≡ Some j → j < length new.lines.items
-    below_next x j at = by (is_at (order id) x) refl
+    below_next x j at = by (bytes_eq id x) refl
       where
-        by : (b : Bool) → is_at (order id) x ≡ b → j < length new.lines.items
+        by : (b : Bool) → bytes_eq id x ≡ b → j < length new.lines.items
         by true e = subst (λ k. k < length new.lines.items) (same_Some i j (sym (index_at x true e) ∙ at)) (index_below had_or_gets)
         by false e = omega (arith, g.below x j (sym (index_at x false e) ∙ at), longer)
 
     apart_next : (x y : List ℕ) (j : ℕ) → index_in new x ≡ Some j → index_in new y ≡ Some j → x ≡ y
-    apart_next x y j at_x at_y = by (is_at (order id) x) (is_at (order id) y) refl refl
+    apart_next x y j at_x at_y = by (bytes_eq id x) (bytes_eq id y) refl refl
       where
-        the_id : (x y : List ℕ) → is_at (order id) x ≡ true → is_at (order id) y ≡ false → index_in new x ≡ Some j → index_in new y ≡ Some j → x ≡ y
+        the_id : (x y : List ℕ) → bytes_eq id x ≡ true → bytes_eq id y ≡ false → index_in new x ≡ Some j → index_in new y ≡ Some j → x ≡ y
         the_id x y e f at_x at_y = sym (same_text id x e) ∙ is_the_id y (sym (index_at y false f) ∙ at_y ∙ sym at_x ∙ index_at x true e)
 
-        by : (a b : Bool) → is_at (order id) x ≡ a → is_at (order id) y ≡ b → x ≡ y
+        by : (a b : Bool) → bytes_eq id x ≡ a → bytes_eq id y ≡ b → x ≡ y
         by true true e f = sym (same_text id x e) ∙ same_text id y f
         by true false e f = the_id x y e f at_x at_y
         by false true e f = sym (the_id y x f e at_y at_x)
@@ -173,35 +136,41 @@ module _ (old new : LinesById) (id : List ℕ) (i : ℕ) (h : IndexesId old new 
 
 -- ---- an index for a key
 
-same_key : (x y : ℕ) → is_at (nat_cmp x) y ≡ true → x ≡ y
-same_key x y at = by (nat_cmp x y) (ranked x y (nat_cmp x y) refl) at
+same_key : (x y : ℕ) → nat_eq x y ≡ true → x ≡ y
+same_key x y at = eqb-true x y at
+
+-- the id of a key with an index is among those that have one
+has_itself : (kept : LinesById) (id x : List ℕ) (i : ℕ) → index_in kept id ≡ Some i → is_some (index_in kept x) ≡ bytes_eq id x || is_some (index_in kept x)
+has_itself kept id x i at = by (bytes_eq id x) refl
   where
-    by : (o : Ordering) → MatchOrdering o (x < y) (x ≡ y) (y < x) → is_eq o ≡ true → x ≡ y
-    by Less h at = absurd (true≢false (sym at))
-    by Equal h at = h
-    by Greater h at = absurd (true≢false (sym at))
+    by : (b : Bool) → bytes_eq id x ≡ b → is_some (index_in kept x) ≡ b || is_some (index_in kept x)
+    by true e = ap is_some (ap (index_in kept) (sym (same_text id x e)) ∙ at)
+    by false e = refl
 
 -- a key that has an event has its index already
-pub key_there : (r : Recorded) (kept : LinesById) (key i : ℕ) → IsGrouped r kept → lookup (is_at (nat_cmp key)) kept.keys.entries ≡ Some i → IndexesKey r kept kept key i
+pub key_there : (r : Recorded) (kept : LinesById) (key i : ℕ) → IsGrouped r kept → lookup (nat_eq key) kept.keys.entries ≡ Some i → IndexesKey r kept kept key i
 key_there r kept key i g at = record {
   grouped = g;
-  ids = sym (key_known kept.ids.entries (text_of r key) i g.ordered (g.keys key i at));
+  ids = λ x. has_itself kept (text_of r key) x i (g.keys key i at);
   index = g.keys key i at;
   lines = λ x. refl;
 }
 
+some_cond : (b : Bool) (i : ℕ) (o : Option ℕ) → is_some (cond b (Some i) o) ≡ b || is_some o
+some_cond true i o = refl
+some_cond false i o = refl
+
 -- another key got the index of its id
-pub key_added : (r : Recorded) (old new : LinesById) (keys : BTreeMap ℕ ℕ) (key i : ℕ) (id : List ℕ) → IsGrouped r old → IndexesId old new id i → id ≡ text_of r key
-    → ((q : ℕ) → lookup (is_at (nat_cmp q)) keys.entries ≡ cond (is_at (nat_cmp key) q) (Some i) (lookup (is_at (nat_cmp q)) new.keys.entries))
+pub key_added : (r : Recorded) (old new : LinesById) (keys : HashMap ℕ ℕ (BuildHasherDefault FoldHasher)) (key i : ℕ) (id : List ℕ) → IsGrouped r old → IndexesId old new id i → id ≡ text_of r key
+    → ((q : ℕ) → lookup (nat_eq q) keys.entries ≡ cond (nat_eq key q) (Some i) (lookup (nat_eq q) new.keys.entries))
     → IndexesKey r old (record { lines = new.lines; ids = new.ids; keys = keys }) key i
 key_added r old new keys key i id g h is found = record {
   grouped = record {
     below = below_next old new id i h r g;
     apart = apart_next old new id i h r g;
-    keys = λ q j at. by q j at (is_at (nat_cmp key) q) refl;
-    ordered = h.ordered;
+    keys = λ q j at. by q j at (nat_eq key q) refl;
   };
-  ids = ap keys_of h.ids ∙ keys_put old.ids.entries id i ∙ ap (insert_key order (keys_of old.ids.entries)) is;
+  ids = λ x. ap is_some (h.found x) ∙ some_cond (bytes_eq id x) i (index_in old x) ∙ ap (λ (t : List ℕ). bytes_eq t x || is_some (index_in old x)) is;
   index = here;
   lines = lines_stay old new id i h;
 }
@@ -209,13 +178,13 @@ key_added r old new keys key i id g h is found = record {
     here : index_in new (text_of r key) ≡ Some i
     here = ap (index_in new) (sym is) ∙ index_here old new id i h
 
-    by : (q j : ℕ) → lookup (is_at (nat_cmp q)) keys.entries ≡ Some j → (b : Bool) → is_at (nat_cmp key) q ≡ b → index_in new (text_of r q) ≡ Some j
+    by : (q j : ℕ) → lookup (nat_eq q) keys.entries ≡ Some j → (b : Bool) → nat_eq key q ≡ b → index_in new (text_of r q) ≡ Some j
     by q j at true e =
-        let given : Some i ≡ Some j = sym (found q ∙ ap (λ (t : Bool). cond t (Some i) (lookup (is_at (nat_cmp q)) new.keys.entries)) e) ∙ at in
+        let given : Some i ≡ Some j = sym (found q ∙ ap (λ (t : Bool). cond t (Some i) (lookup (nat_eq q) new.keys.entries)) e) ∙ at in
         ap (λ k. index_in new (text_of r k)) (sym (same_key key q e)) ∙ here ∙ given
     by q j at false e =
-        let given : lookup (is_at (nat_cmp q)) new.keys.entries ≡ Some j = sym (found q ∙ ap (λ (t : Bool). cond t (Some i) (lookup (is_at (nat_cmp q)) new.keys.entries)) e) ∙ at in
-        index_stays old new id i h (text_of r q) j (g.keys q j (ap (λ (es : List (ℕ × ℕ)). lookup (is_at (nat_cmp q)) es) (sym h.keys) ∙ given))
+        let given : lookup (nat_eq q) new.keys.entries ≡ Some j = sym (found q ∙ ap (λ (t : Bool). cond t (Some i) (lookup (nat_eq q) new.keys.entries)) e) ∙ at in
+        index_stays old new id i h (text_of r q) j (g.keys q j (ap (λ (es : List (ℕ × ℕ)). lookup (nat_eq q) es) (sym h.keys) ∙ given))
 
 -- ---- a line for an event
 
@@ -227,7 +196,6 @@ line_added r old new lines v i t w h t_is w_is put = record {
     below = λ x j at. subst (λ n. j < n) (sym (ap length put ∙ length-set new.lines.items i w)) (h.grouped.below x j at);
     apart = h.grouped.apart;
     keys = h.grouped.keys;
-    ordered = h.grouped.ordered;
   };
   ids = h.ids;
   lines = λ x. by x (bytes_eq (text_of r v.key) x) refl;
@@ -255,44 +223,42 @@ line_added r old new lines v i t w h t_is w_is put = record {
 abbrev labels_of : Recorded → List Entry → List Label
 labels_of r es = map (label (name r)) (events es)
 
-abbrev put_id : List (List ℕ) → Label → List (List ℕ)
-put_id texts l = insert_key order texts (id_text l.id)
-
 -- what is kept, with the entries to come, gives what the record says
 pub record Gathers (r : Recorded) (kept : LinesById) (left : List Entry) : Type 0 where
   pub grouped : IsGrouped r kept
   pub known : All (λ e. is_some (desc r e.event.key) ≡ true) left
-  pub ids : fold put_id (keys_of kept.ids.entries) (labels_of r left) ≡ id_texts (labels r)
+  pub ids : (x : List ℕ) → is_some (index_in kept x) || has_id (labels_of r left) x ≡ has_id (labels r) x
   pub lines : (x : List ℕ) → lines_in kept x ++ flat_map label_line (written_so x (labels_of r left)) ≡ flat_map label_line (written_so x (labels r))
 
 -- nothing is kept before the first entry
-sorted_none : IsStrictlySortedBy order []
-unfolding IsStrictlySortedBy
-sorted_none = tt
-
 pub gathers_none : (r : Recorded) (kept : LinesById) (left : List Entry) → kept.ids.entries ≡ [] → kept.keys.entries ≡ [] → left ≡ r.entries
     → All (λ e. is_some (desc r e.event.key) ≡ true) r.entries → Gathers r kept left
 gathers_none r kept left ids keys whole known = record {
   grouped = record {
     below = λ x j at. absurd (none-some j (sym (none x) ∙ at));
     apart = λ x y j at _. absurd (none-some j (sym (none x) ∙ at));
-    keys = λ q j at. absurd (none-some j (sym (ap (lookup (is_at (nat_cmp q))) keys) ∙ at));
-    ordered = subst (λ (es : List (List ℕ × ℕ)). IsStrictlySortedBy order (keys_of es)) (sym ids) sorted_none;
+    keys = λ q j at. absurd (none-some j (sym (ap (lookup (nat_eq q)) keys) ∙ at));
   };
   known = subst (All (λ (e : Entry). is_some (desc r e.event.key) ≡ true)) (sym whole) known;
-  ids = ap₂ (λ (ks : List (List ℕ)) (es : List Entry). fold put_id ks (labels_of r es)) (ap keys_of ids) whole;
+  ids = λ x. ap₂ (λ o (es : List Entry). is_some o || has_id (labels_of r es) x) (none x) whole;
   lines = λ x. ap₂ (λ o (es : List Entry). lines_at kept.lines.items o ++ flat_map label_line (written_so x (labels_of r es))) (none x) whole;
 }
   where
     none : (x : List ℕ) → index_in kept x ≡ None
-    none x = ap (lookup (is_at (order x))) ids
+    none x = ap (lookup (bytes_eq x)) ids
+
+or_swap : (a b h : Bool) → (a || b) || h ≡ b || (a || h)
+or_swap true true h = refl
+or_swap true false h = refl
+or_swap false b h = refl
 
 -- the first entry to come was added
 pub gathers_next : (r : Recorded) (old new : LinesById) (left rest : List Entry) (v : EntryView) → Gathers r old left → left ≡ entry_of_view v ∷ rest → AddsEvent r old new v → Gathers r new rest
 gathers_next r old new left rest v g first h = record {
   grouped = h.grouped;
   known = All-rest (λ (e : Entry). is_some (desc r e.event.key) ≡ true) (entry_of_view v) rest left first g.known;
-  ids = ap (λ (ks : List (List ℕ)). fold put_id ks (labels_of r rest)) h.ids ∙ ap (λ (es : List Entry). fold put_id (keys_of old.ids.entries) (labels_of r es)) (sym first) ∙ g.ids;
+  ids = λ x. ap (λ b. b || has_id (labels_of r rest) x) (h.ids x) ∙ or_swap (bytes_eq (text_of r v.key) x) (is_some (index_in old x)) (has_id (labels_of r rest) x)
+      ∙ ap (λ (es : List Entry). is_some (index_in old x) || has_id (labels_of r es) x) (sym first) ∙ g.ids x;
   lines = λ x. ap (λ (t : List ℕ). t ++ flat_map label_line (written_so x (labels_of r rest))) (h.lines x) ∙ by x (bytes_eq (text_of r v.key) x) refl
       ∙ ap (λ (es : List Entry). lines_in old x ++ flat_map label_line (written_so x (labels_of r es))) (sym first) ∙ g.lines x;
 }
@@ -310,32 +276,15 @@ pub next_known : (r : Recorded) (kept : LinesById) (left rest : List Entry) (v :
 next_known r kept left rest v g first =
     All-head (λ (e : Entry). is_some (desc r e.event.key) ≡ true) (entry_of_view v) rest (subst (All (λ (e : Entry). is_some (desc r e.event.key) ≡ true)) first g.known)
 
--- ---- the whole
-
--- entries whose lines a function gives
-own_values : (es : List (List ℕ × ℕ)) (f : List ℕ → List ℕ) (at : ℕ → List ℕ) → ((j : ℕ) (x : List ℕ) (i : ℕ) → slice_get es j ≡ Some (x, i) → at i ≡ f x)
-    → map {B = List ℕ × List ℕ} (λ e. (e.0, at e.1)) es ≡ map {B = List ℕ × List ℕ} (λ x. (x, f x)) (keys_of es)
-own_values [] f at h = refl
-own_values (e ∷ es) f at h = ap₂ (λ (v : List ℕ) (l : Entries). (e.0, v) ∷ l) (h 0 e.0 e.1 refl) (own_values es f at (λ j x i is. h (suc j) x i is))
-
-index_of_entry : (r : Recorded) (kept : LinesById) → IsGrouped r kept → (j : ℕ) (x : List ℕ) (i : ℕ) → slice_get kept.ids.entries j ≡ Some (x, i) → index_in kept x ≡ Some i
-index_of_entry r kept g j x i at = btree_map_get_place nat_list_cmp_total kept.ids j x i g.ordered at
+or_false : (b : Bool) → b || false ≡ b
+or_false true = refl
+or_false false = refl
 
 -- all that is kept
-pub gathers_all : (r : Recorded) (kept : LinesById) (left : List Entry) → Gathers r kept left → left ≡ [] → entries_of kept ≡ lines_of (labels r)
-gathers_all r kept left g done =
-    own_values kept.ids.entries said (λ i. get_or kept.lines.items i [])
-    (λ j x i at. sym (ap (lines_at kept.lines.items) (index_of_entry r kept g.grouped j x i at)) ∙ sym (append-nil (lines_in kept x))
-    ∙ ap (λ (es : List Entry). lines_in kept x ++ flat_map label_line (written_so x (labels_of r es))) (sym done) ∙ g.lines x)
-    ∙ ap (map {B = List ℕ × List ℕ} (λ x. (x, said x))) (ap (λ (es : List Entry). fold put_id (keys_of kept.ids.entries) (labels_of r es)) (sym done) ∙ g.ids)
-  where
-    said : List ℕ → List ℕ
-    said x = flat_map label_line (written_so x (labels r))
-
-all_from_places : {X : Type 0} (P : X → Type 0) (es : List X) → ((j : ℕ) (e : X) → slice_get es j ≡ Some e → P e) → All P es
-all_from_places P [] h = All-nil P
-all_from_places P (e ∷ es) h = All-cons P e es (h 0 e refl) (all_from_places P es (λ j x at. h (suc j) x at))
-
--- each index is one of the lines
-pub within : (r : Recorded) (kept : LinesById) (left : List Entry) → Gathers r kept left → All (λ e. e.1 < length kept.lines.items) kept.ids.entries
-within r kept left g = all_from_places (λ e. e.1 < length kept.lines.items) kept.ids.entries (λ j e at. g.grouped.below e.0 e.1 (index_of_entry r kept g.grouped j e.0 e.1 at))
+pub gathers_all : (r : Recorded) (kept : LinesById) (left : List Entry) → Gathers r kept left → left ≡ [] → IsKept (labels r) kept
+gathers_all r kept left g done = record {
+  ids = λ x. sym (or_false (is_some (index_in kept x))) ∙ ap (λ (es : List Entry). is_some (index_in kept x) || has_id (labels_of r es) x) (sym done) ∙ g.ids x;
+  below = g.grouped.below;
+  lines = λ x i at. sym (ap (lines_at kept.lines.items) at) ∙ sym (append-nil (lines_in kept x))
+      ∙ ap (λ (es : List Entry). lines_in kept x ++ flat_map label_line (written_so x (labels_of r es))) (sym done) ∙ g.lines x;
+}

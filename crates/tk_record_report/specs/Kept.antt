@@ -1,12 +1,12 @@
 -- What is kept for each id while a record is read.
-use Rattle.std.specs.Prelude.{◌≡◌, ◌<◌, ℕ, ◌==◌, if◌then◌else◌, cond, List, [], ◌∷◌, ◌++◌, length, map, get_or, Option, Some, None, bytes_eq}
-use Rattle.std.specs.List.{flat_map}
+use Rattle.std.specs.Prelude.{◌≡◌, ◌<◌, ℕ, Bool, ◌||◌, if◌then◌else◌, cond, nat_eq, List, [], ◌∷◌, ◌++◌, length, map, get_or, Option, Some, None, is_some, bytes_eq}
+use Rattle.std.specs.List.{flat_map, list_any}
+use Rattle.std.specs.List.Sorted.{IsPermutation, IsStrictlySortedBy}
 use Rattle.std.specs.Option.{unwrap_or}
 use Rattle.std.specs.Ordering.{nat_cmp}
 use Rattle.std.specs.Cmp.Lexicographic.{slice_cmp}
 use Rattle.std.specs.Map.{keys_of, lookup}
-use Rattle.std.specs.BTreeMap.{insert_entry, is_at, IsOrdered}
-use Rattle.std.specs.BTreeSet.{insert_key}
+use Rattle.std.specs.HashMap.{HashMap, IsUnique}
 use Rattle.tk_ids.specs.IdText.{id_text}
 use Rattle.tk_columns.specs.Recorded.{Recorded}
 use Rattle.tk_columns.specs.declared.records.EntryView.{EntryView}
@@ -32,13 +32,9 @@ kept_text entry = field_text entry.0 ++ 10 ∷ entry.1
 abbrev pub with_lines : List (List ℕ) → List (List ℕ × ℕ) → List (List ℕ × List ℕ)
 with_lines lines ids = map (λ e. (e.0, get_or lines e.1 [])) ids
 
--- each id that is kept, with its lines
-abbrev pub entries_of : LinesById → List (List ℕ × List ℕ)
-entries_of kept = with_lines kept.lines.items kept.ids.entries
-
 -- the index of an id's lines
 abbrev pub index_in : LinesById → List ℕ → Option ℕ
-index_in kept x = lookup (is_at (slice_cmp nat_cmp x)) kept.ids.entries
+index_in kept x = lookup (bytes_eq x) kept.ids.entries
 
 -- the lines at an index; none without one
 abbrev pub lines_at : List (List ℕ) → Option ℕ → List ℕ
@@ -57,28 +53,41 @@ text_of r key = id_text (name r key)
 pub record IsGrouped (r : Recorded) (kept : LinesById) : Type 0 where
   pub below : (x : List ℕ) (i : ℕ) → index_in kept x ≡ Some i → i < length kept.lines.items
   pub apart : (x y : List ℕ) (i : ℕ) → index_in kept x ≡ Some i → index_in kept y ≡ Some i → x ≡ y
-  pub keys : (key i : ℕ) → lookup (is_at (nat_cmp key)) kept.keys.entries ≡ Some i → index_in kept (text_of r key) ≡ Some i
-  pub ordered : IsOrdered (slice_cmp nat_cmp) kept.ids
+  pub keys : (key i : ℕ) → lookup (nat_eq key) kept.keys.entries ≡ Some i → index_in kept (text_of r key) ≡ Some i
 
 -- the id has the index: an older id the one that it had, a new id the next one, with no line
 pub record IndexesId (old new : LinesById) (id : List ℕ) (i : ℕ) : Type 0 where
   pub index : i ≡ unwrap_or (index_in old id) (length old.lines.items)
-  pub ids : new.ids.entries ≡ insert_entry (slice_cmp nat_cmp) old.ids.entries id i
-  pub found : (x : List ℕ) → index_in new x ≡ cond (is_at (slice_cmp nat_cmp id) x) (Some i) (index_in old x)
-  pub ordered : IsOrdered (slice_cmp nat_cmp) new.ids
-  pub lines : new.lines.items ≡ (if i == length old.lines.items then old.lines.items ++ [] ∷ [] else old.lines.items)
+  pub found : (x : List ℕ) → index_in new x ≡ cond (bytes_eq id x) (Some i) (index_in old x)
+  pub lines : new.lines.items ≡ (if is_some (index_in old id) then old.lines.items else old.lines.items ++ [] ∷ [])
   pub keys : new.keys.entries ≡ old.keys.entries
 
 -- the id of the key has the index, and no id got a line
 pub record IndexesKey (r : Recorded) (old new : LinesById) (key i : ℕ) : Type 0 where
   pub grouped : IsGrouped r new
-  pub ids : keys_of new.ids.entries ≡ insert_key (slice_cmp nat_cmp) (keys_of old.ids.entries) (text_of r key)
+  pub ids : (x : List ℕ) → is_some (index_in new x) ≡ bytes_eq (text_of r key) x || is_some (index_in old x)
   pub index : index_in new (text_of r key) ≡ Some i
   pub lines : (x : List ℕ) → lines_in new x ≡ lines_in old x
 
 -- the id of the event got its line
 pub record AddsEvent (r : Recorded) (old new : LinesById) (v : EntryView) : Type 0 where
   pub grouped : IsGrouped r new
-  pub ids : keys_of new.ids.entries ≡ insert_key (slice_cmp nat_cmp) (keys_of old.ids.entries) (text_of r v.key)
+  pub ids : (x : List ℕ) → is_some (index_in new x) ≡ bytes_eq (text_of r v.key) x || is_some (index_in old x)
   pub lines : (x : List ℕ) → lines_in new x
       ≡ cond (bytes_eq (text_of r v.key) x) (lines_in old x ++ tail_line (joined (tail v.kind v.payload.now))) (lines_in old x)
+
+-- the id of one of the labels is written so
+abbrev pub has_id : List Label → List ℕ → Bool
+has_id ls x = list_any (λ l. bytes_eq (id_text l.id) x) ls
+
+-- each id that has an event is kept, with its lines
+pub record IsKept (ls : List Label) (kept : LinesById) : Type 0 where
+  pub ids : (x : List ℕ) → is_some (index_in kept x) ≡ has_id ls x
+  pub below : (x : List ℕ) (i : ℕ) → index_in kept x ≡ Some i → i < length kept.lines.items
+  pub lines : (x : List ℕ) (i : ℕ) → index_in kept x ≡ Some i → get_or kept.lines.items i [] ≡ flat_map label_line (written_so x ls)
+
+-- the entries of a map in the order of its keys
+pub record IsInOrder {S : Type 0} (ids : HashMap (List ℕ) ℕ S) (sorted : List (List ℕ × ℕ)) : Type 0 where
+  pub unique : IsUnique bytes_eq ids
+  pub same : IsPermutation ids.entries sorted
+  pub ordered : IsStrictlySortedBy (slice_cmp nat_cmp) (keys_of sorted)

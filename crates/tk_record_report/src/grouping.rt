@@ -1,12 +1,12 @@
 //! The events of a record, gathered by the texts of their ids.
-ghost use Rattle.std.specs.Prelude.{◌≡◌, ◌<◌, [], true, is_some, length, All, IfOk, OnOk};
+ghost use Rattle.std.specs.Prelude.{◌≡◌, [], true, is_some, IfOk, OnOk};
 ghost use Rattle.tk_columns.specs.Entries.{desc};
 ghost use Rattle.tk_record_report.specs.Labels.{labels};
-ghost use Rattle.tk_record_report.specs.Kept.{entries_of, lines_of, IsGrouped, IndexesId, IndexesKey, AddsEvent};
+ghost use Rattle.tk_record_report.specs.Kept.{IsGrouped, IndexesId, IndexesKey, AddsEvent, IsKept, IsInOrder};
 
 use crate::lines::Lines;
 use std::alloc::{AllocError, Global};
-use std::collections::BTreeMap;
+use std::collections::HashMap;
 use tk_ids::IdText;
 use tk_record::{EntryView, Record};
 
@@ -15,9 +15,9 @@ use tk_record::{EntryView, Record};
 pub(crate) struct LinesById {
     pub(crate) lines: Vec<Lines>,
     /// The index of an id's lines, by the text of the id.
-    pub(crate) ids: BTreeMap<IdText, usize>,
+    pub(crate) ids: HashMap<IdText, usize>,
     /// The same index by key, so that a text is looked up once for each key that has an event.
-    keys: BTreeMap<u32, usize>,
+    keys: HashMap<u32, usize>,
 }
 
 impl LinesById {
@@ -28,8 +28,8 @@ impl LinesById {
     {
         LinesById {
             lines: Vec::new(alloc),
-            ids: BTreeMap::new(alloc),
-            keys: BTreeMap::new(alloc),
+            ids: HashMap::new(alloc),
+            keys: HashMap::new(alloc),
         }
     }
 
@@ -37,11 +37,12 @@ impl LinesById {
     fn index_of_id(&mut self, alloc: Global, id: IdText) -> Result<usize, AllocError>
         ensures { IfOk result (IndexesId self.old self.new id) }
     {
-        let next = self.lines.len();
-        let index = *self.ids.entry(id)?.or_insert(next);
-        if index == next {
-            self.lines.push(Lines::new(alloc)?)?;
+        if let Some(index) = self.ids.get(&id) {
+            return Ok(*index);
         }
+        let index = self.lines.len();
+        self.ids.insert(id, index)?;
+        self.lines.push(Lines::new(alloc)?)?;
         Ok(index)
     }
 
@@ -86,9 +87,7 @@ impl LinesById {
 
 /// The lines of each id that has an event.
 pub(crate) fn lines_of(alloc: Global, recording: &Record) -> Result<LinesById, AllocError>
-    ensures lines { IfOk result (λ kept. entries_of kept ≡ lines_of (labels recording.now)) }
-    ensures bounds { IfOk result (λ kept.
-        All (λ e. e.1 < length kept.lines.items) kept.ids.entries) }
+    ensures { IfOk result (IsKept (labels recording.now)) }
 {
     recording.is_record();
     let mut kept = LinesById::new(alloc);
@@ -96,4 +95,19 @@ pub(crate) fn lines_of(alloc: Global, recording: &Record) -> Result<LinesById, A
         kept.add(alloc, recording, &view)?;
     }
     Ok(kept)
+}
+
+/// The ids in the order of their texts, each with the index of its lines.
+pub(crate) fn in_order(
+    alloc: Global,
+    ids: HashMap<IdText, usize>,
+) -> Result<Vec<(IdText, usize)>, AllocError>
+    ensures { IfOk result (λ sorted. IsInOrder ids sorted.items) }
+{
+    let mut sorted = Vec::with_capacity(alloc, ids.len())?;
+    for entry in ids {
+        sorted.push(entry)?;
+    }
+    sorted.sort_unstable();
+    Ok(sorted)
 }

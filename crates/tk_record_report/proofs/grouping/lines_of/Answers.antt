@@ -1,5 +1,5 @@
 use Rattle.std.proofs.Common.{◌∙◌}
-use Rattle.tk_record_report.proofs.Keeping.{gathers_all, gathers_next, gathers_none, next_known, within}
+use Rattle.tk_record_report.proofs.Keeping.{gathers_all, gathers_next, gathers_none, next_known}
 use Rattle.tk_record_report.proofs.grouping.lines_of.Goals as goal
 
 pub entries-init : goal.entries-init
@@ -13,8 +13,5 @@ add-requires-clause-known c = next_known c.args.recording.now c.entries.kept c.e
 pub entries-preserved : goal.entries-preserved
 entries-preserved c = gathers_next c.args.recording.now c.entries.kept c.add.new.self c.entries.view-iterator c.next.new.self c.in-Some.view c.entries.invariant c.in-Some.ensures.steps c.in_ok-add.ensures
 
-pub returns-clause-lines : goal.returns-clause-lines
-returns-clause-lines c = gathers_all c.args.recording.now c.entries.kept c.entries.view-iterator c.entries.invariant c.in-None.ensures.steps.0
-
-pub returns-clause-bounds : goal.returns-clause-bounds
-returns-clause-bounds c = within c.args.recording.now c.entries.kept c.entries.view-iterator c.entries.invariant
+pub returns : goal.returns
+returns c = gathers_all c.args.recording.now c.entries.kept c.entries.view-iterator c.entries.invariant c.in-None.ensures.steps.0

@@ -1,13 +1,15 @@
-use Rattle.std.proofs.Common.{◌<◌, length}
-use Rattle.std.proofs.lemmas.List.Elements.{All-rest}
+use Rattle.std.proofs.Common.{◌<◌, ◌+◌, ◌∷◌, length, drop, sym, ap, ◌∙◌}
+use Rattle.std.proofs.lemmas.List.{drop_more}
+use Rattle.std.proofs.lemmas.List.Elements.{All-drop}
 use Rattle.tk_record_report.proofs.Reporting.{id_written}
 use Rattle.tk_record_report.proofs.writing.add_ids.Goals as goal
 
-pub loop-id-preserved : goal.loop-id-preserved
-loop-id-preserved c =
-    let lines = c.args.kept.lines.items in
-    record {
-      within = All-rest (λ e. e.1 < length lines) (c.in-Some.id, c.in-Some.index) c.next.new.self c.loop-id.id-iterator c.in-Some.ensures.steps c.loop-id.invariant.within;
-      written = id_written c.loop-id.text.items c.add_id.new.text.items _ lines c.loop-id.id-iterator c.next.new.self c.in-Some.id c.in-Some.index c.index.result.now
-          c.loop-id.invariant.within c.loop-id.invariant.written c.in-Some.ensures.steps c.index.ensures c.in_ok-add_id.ensures;
-    }
+pub ids-preserved : goal.ids-preserved
+ids-preserved c =
+    let lines = c.args.lines.now in
+    let ids = c.args.ids.now in
+    let i = c.ids.id-index in
+    let item = c.ids-item.result in
+    id_written c.ids.text.items c.add_id.new.text.items _ lines (drop i ids) (drop (i + 1) ids) item.0 item.1 c.index-lines-index.result
+    (All-drop (λ e. e.1 < length lines) i ids c.requires) c.ids.invariant
+    (drop_more ids i item c.ids-test.true ∙ ap (λ e. e ∷ drop (i + 1) ids) (sym c.ids-item.is)) c.index-lines-index.is c.in_ok-add_id.ensures
