@@ -108,6 +108,6 @@ pub(crate) fn in_order(
     for entry in ids {
         sorted.push(entry)?;
     }
-    sorted.sort_unstable();
+    sorted.sort()?;
     Ok(sorted)
 }
