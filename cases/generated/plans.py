@@ -48,7 +48,7 @@ def result(numbers: Numbers) -> Value:
 
 def node(numbers: Numbers, segment: list, levels: int, is_static: bool) -> Value:
     """A node with at most `levels` levels of nodes, its own among them."""
-    made: Value = {"type": numbers.one_of(["container", "container", "test", "both"]), "segment": segment}
+    made: Value = {"type": numbers.one_of(["container", "container", "test", "both"]), "segment": list(segment)}
     made["name"] = numbers.one_of(TEXTS)
     if is_static and numbers.below(4) > 0:
         made["mode"] = numbers.one_of(["concurrent", "concurrent", "concurrent", "same_thread"])
