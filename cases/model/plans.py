@@ -1,6 +1,7 @@
 """Plans: reading them with their faults, and the report of a run."""
 
 import json
+import math
 from dataclasses import dataclass, field
 from typing import Dict, Iterator, List, Optional, Set, Tuple
 
@@ -48,13 +49,20 @@ def read_json(data: bytes) -> object:
     """The value of a JSON text, numbers as `Number`s, or `Refused`."""
     try:
         text = data.decode()
-        value = json.loads(text, parse_int=Number, parse_float=Number, parse_constant=refuse_constant)
+        value = json.loads(text, parse_int=number, parse_float=number, parse_constant=refuse_constant)
         json.dumps(value, ensure_ascii=False, default=lambda number: number.text).encode()
     except (ValueError, RecursionError):
         raise Refused("plan is not JSON")
     if nesting(value) > MAX_NESTING:
         raise Refused("plan is not JSON")
     return value
+
+
+def number(text: str) -> Number:
+    """A number; one that is out of the range of a float is no JSON."""
+    if math.isinf(float(text)):
+        raise ValueError(text)
+    return Number(text)
 
 
 def refuse_constant(text: str) -> object:

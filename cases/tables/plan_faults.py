@@ -65,6 +65,11 @@ JSON = [
         ("second half of a surrogate pair", rooted(',"skip":"\\udd80"')),
         ("record", "testkit-record|1\n"),
         ("faults of members don't come first", '{"a":1,"version":[}'),
+        ("number out of range as the version", plan_of("{}", "1e309")),
+        ("number out of range in an unknown member", plan_of('{},"x":-1e309')),
+        ("number out of range without an exponent", plan_of('{},"x":1' + "0" * 309)),
+        ("number out of range among items", rooted(',"entries":[[["k",[{"v":2e999}]]]]')),
+        ("number out of range in a member that is written again", rooted(',"skip":1e309,"skip":"off"')),
         ("nested too deep, with a member that is wrong", '{"a":' + "[" * 200 + "]" * 200 + "}"),
     ]
 ] + [
@@ -284,7 +289,14 @@ TWICE_IN_AN_OBJECT = [
         ONE_START,
     ),
     wrong('{"version":1,"root":{"type":"test","segment":["engine","e"],"name":"e"},"version":3}', "/version"),
+    answer(
+        "plan/member twice, the first a number in range",
+        "run",
+        '{"version":1e308,"root":{"type":1e-999,"type":"test","segment":["engine","e"],"name":"e"},"version":1}',
+        ONE_START,
+    ),
     wrong_root(',"skip":"off","skip":1', "/root/skip"),
+    wrong_root(',"skip":"off","skip":1e308', "/root/skip"),
     wrong_root(',"result":{"status":"failed","message":"m","status":"successful"}', "/root/result/message"),
 ]
 

@@ -5,8 +5,8 @@ use Rattle.std.proofs.Common.{length-append}
 use Rattle.std.proofs.Math.ListN.{set}
 use Rattle.std.proofs.Math.Seq.{set-append_seam}
 use Rattle.serde_json.specs.Data.{Data}
-use Rattle.serde_json.specs.View.{view}
-use Rattle.serde_json.specs.declared.value.Value.{Value}
+use Rattle.tk_plan.specs.JsonValues.{view}
+use Rattle.tk_plan.specs.JsonValues.{JsonValue}
 use Rattle.std.proofs.lemmas.Grind.{flat_map-append}
 use Rattle.tk_ids.specs.IdText.{Pair}
 use Rattle.tk_cutting.specs.declared.nodes.Node.{Node}
@@ -52,7 +52,7 @@ contents_after : (old new : List NumberedNode) (k : ℕ) (x : NodeInput) → new
 contents_after old new k x e = ap contents e ∙ map-append _ old (flat (grown k x)) ∙ ap (λ l. contents old ++ l) (nodes-grown k x)
 
 -- the sites that are left, from the next on
-pub node_input_next : (array : List ℕ) (level : ℕ) (above : List Pair) (b fs : Bool) (i : ℕ) (met new : List Pair) (vs : List Value) (v : Value) → i < length vs → v ≡ get_or vs i v → new ≡ met ++ segment_in (view v) ∷ []
+pub node_input_next : (array : List ℕ) (level : ℕ) (above : List Pair) (b fs : Bool) (i : ℕ) (met new : List Pair) (vs : List JsonValue) (v : JsonValue) → i < length vs → v ≡ get_or vs i v → new ≡ met ++ segment_in (view v) ∷ []
     → node_inputs_in array level above b fs i met (map view (drop i vs))
     ≡ record { path = item_at array i; level = level; is_static = b; takes_files = fs; above = above; earlier = met; value = view v } ∷ node_inputs_in array level above b fs (i + 1) new (map view (drop (i + 1) vs))
 node_input_next array level above b fs i met new vs v h e n =
@@ -222,6 +222,6 @@ module _ (k m : ℕ) (levels : m ≡ suc k) (old pushed : Reader) (s : NodeInput
         noted = noted_same read new (ap contents written ∙ contents_same before rest whole_node open_node refl ∙ sym (ap contents whole)) spanned.keys spanned.descriptors spanned.dynamics a.noted;
       }
 
-pub no_values : (vs : List Value) → length vs ≡ 0 → vs ≡ []
+pub no_values : (vs : List JsonValue) → length vs ≡ 0 → vs ≡ []
 no_values [] e = refl
 no_values (v ∷ vs) e = absurd (omega (arith, e))

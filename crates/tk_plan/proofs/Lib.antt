@@ -1,7 +1,9 @@
 pub mod Escapes
 pub mod Items
+pub mod JsonData
+pub mod JsonNumbers
+pub mod UnknownMembers
 pub mod Locking
-pub mod MemberSteps
 pub mod Passing
 pub mod Groups
 pub mod Pairing

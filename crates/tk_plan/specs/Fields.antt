@@ -3,7 +3,7 @@ use Rattle.std.specs.Prelude.{◌≡◌, ℕ, Bool, true, List, [], ◌∷◌, m
 use Rattle.std.specs.List.{list_all}
 use Rattle.serde_json.specs.Data.{Data}
 use Rattle.serde_json.specs.Find.{get}
-use Rattle.serde_json.specs.View.{view}
+use Rattle.tk_plan.specs.JsonValues.{view}
 use Rattle.tk_plan.specs.Checks.{Row}
 use Rattle.tk_plan.specs.Contents.{json_text, json_optional, json_dtype, listed}
 use Rattle.tk_plan.specs.Rows.{dtype_row, segment_row, name_row, mode_row, isolated_row, locks_row, skip_row, result_row, entries_row, files_rows, children_row, dynamic_row}
@@ -58,8 +58,8 @@ pub record HasFields (is_static takes_files : Bool) (d : Data) (f : Fields) : Ty
   pub heading : IsHeading d f.heading
   pub concurrency : IsConcurrency is_static d f.concurrency
   pub content : IsContent takes_files d f.content
-  pub children : map view f.children.now ≡ children_of is_static d
-  pub dynamic : map view f.dynamic.now ≡ dynamic_of d
+  pub children : map view f.children.values.now ≡ children_of is_static d
+  pub dynamic : map view f.dynamic.values.now ≡ dynamic_of d
 
 -- a node with its id, as its members say
 abbrev pub checked_of : Bool → Named → Fields → Checked
@@ -79,6 +79,6 @@ checked_of is_static n f = record {
     files = f.content.files;
   };
   id = n.id;
-  children = f.children;
-  dynamic = f.dynamic;
+  children = f.children.values;
+  dynamic = f.dynamic.values;
 }

@@ -14,6 +14,7 @@ pub mod Contents
 pub mod NodeInputs
 pub mod PlanOf
 pub mod Refusals
+pub mod JsonValues
 pub mod Gives
 pub mod ReadNodes
 pub mod Answers

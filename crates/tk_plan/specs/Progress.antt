@@ -1,7 +1,7 @@
 -- What a step of the reading adds to what was read.
 use Rattle.std.specs.Prelude.{◌≡◌, ◌++◌, ◌+◌, ◌≤◌, ◌<◌, ◌∷◌, [], ℕ, suc, List, Option, Some, None, Bool, true, false, nat_lt, nat_le, length, map, if◌then◌else◌}
 use Rattle.std.specs.List.{list_all, list_any, count_by}
-use Rattle.serde_json.specs.View.{view}
+use Rattle.tk_plan.specs.JsonValues.{view}
 use Rattle.tk_ids.specs.IdText.{Pair}
 use Rattle.tk_ids.specs.declared.tables.Descriptor.{Descriptor}
 use Rattle.tk_ids.specs.declared.tables.TheConstants.{MAX_DESCRIPTORS}

@@ -1,6 +1,6 @@
 //! Readers of files.
 ghost use Rattle.std.specs.Prelude.{◌≡◌, Some};
-ghost use Rattle.serde_json.specs.View.{view};
+ghost use Rattle.tk_plan.specs.JsonValues.{view};
 ghost use Rattle.tk_plan.specs.Checks.{array_of, item_at, members_wrong};
 ghost use Rattle.tk_plan.specs.Rows.{files_rows, nonempty_text};
 ghost use Rattle.tk_plan.specs.Pointers.{pointer};
@@ -10,18 +10,19 @@ ghost use Rattle.tk_plan.specs.Fields.{AreFiles};
 
 use crate::faults::PlanFault;
 use crate::json_paths::JsonPath;
+use crate::json_values::{items_in, member, text_in};
 use crate::path_texts::{member_path, wrong_item, wrong_value};
-use serde_json::Value;
+use json::Value;
 use std::alloc::Global;
 use tk_cutting::Files;
 use tk_ids::Text;
 
 /// The path of a file, an item of the array there.
-fn path(alloc: Global, array: &str, index: usize, item: &Value) -> Result<Text, PlanFault>
+fn path(alloc: Global, array: &str, index: usize, item: &Value<'_>) -> Result<Text, PlanFault>
     ensures { Reads (nonempty_text (item_at array.now index) (view item.now))
         (λ t. t ≡ json_path (view item.now)) result }
 {
-    let Some(text) = item.as_str() else {
+    let Some(text) = text_in(item) else {
         return Err(wrong_item(alloc, JsonPath::Whole(array), index));
     };
     if text.is_empty() {
@@ -30,11 +31,11 @@ fn path(alloc: Global, array: &str, index: usize, item: &Value) -> Result<Text, 
     Ok(Text::copy(alloc, text)?)
 }
 
-fn files(alloc: Global, at: &str, value: &Value) -> Result<Files, PlanFault>
+fn files(alloc: Global, at: &str, value: &Value<'_>) -> Result<Files, PlanFault>
     ensures { Reads (array_of nonempty_text at.now (view value.now))
         (λ f. f ≡ json_files (Some (view value.now))) result }
 {
-    let Some(items) = value.as_array() else {
+    let Some(items) = items_in(value) else {
         return Err(wrong_value(alloc, JsonPath::Whole(at)));
     };
     let mut paths = Vec::new(alloc);
@@ -48,7 +49,7 @@ fn files(alloc: Global, at: &str, value: &Value) -> Result<Files, PlanFault>
 pub(crate) fn files_member(
     alloc: Global,
     at: JsonPath<'_>,
-    object: &Value,
+    object: &Value<'_>,
     takes_files: bool,
 ) -> Result<Files, PlanFault>
     ensures { Reads (members_wrong (files_rows takes_files) (pointer at.entry) (view object.now))
@@ -57,7 +58,7 @@ pub(crate) fn files_member(
     if !takes_files {
         return Ok(Files::new(Vec::new(alloc)));
     }
-    match object.get("files") {
+    match member(object, "files") {
         Some(value) => {
             let path = member_path(alloc, at, "files")?;
             files(alloc, &path, value)

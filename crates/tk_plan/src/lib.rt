@@ -4,6 +4,8 @@
 //! - One node: its members together in `node_fields`, its checks in `node_checks`.
 //! - Single members: `json_members`, `lock_members`, `file_members`, and `result_members` for the
 //!   result and the entries. What these readers hand on: `member_values`.
+//! - The JSON value of a text: `json_texts`; what a value is: `json_values`, its numbers in
+//!   `json_numbers`.
 //! - Where a value stands: `json_paths`, and `path_texts` to write a place out. A value that stands
 //!   for a node, with its place: `node_inputs`.
 //! - What is kept while reading: `plan_readers`, the segments of one parent's children in
@@ -14,7 +16,10 @@
 mod faults;
 mod file_members;
 mod json_members;
+mod json_numbers;
 mod json_paths;
+mod json_texts;
+mod json_values;
 pub mod laws;
 mod limits;
 mod lock_keys;

@@ -6,9 +6,9 @@ use tk_ids::Text;
 
 /// The texts of an array of two.
 #[derive(Clone, Copy, Drop)]
-pub(crate) struct TwoTexts<'v> {
-    pub first: &'v str,
-    pub second: &'v str,
+pub(crate) struct TwoTexts<'t> {
+    pub first: &'t str,
+    pub second: &'t str,
 }
 
 /// How a node finishes.

@@ -1,7 +1,7 @@
 //! The checks of a node.
 ghost use Rattle.std.specs.Prelude.{◌≡◌, ◌≤◌, ◌++◌, ◌∷◌, [], None, option_map, nat_le};
 ghost use Rattle.std.specs.List.{count_by};
-ghost use Rattle.serde_json.specs.View.{view};
+ghost use Rattle.tk_plan.specs.JsonValues.{view};
 ghost use Rattle.tk_ids.specs.Answer.{IsMadeOf};
 ghost use Rattle.tk_ids.specs.declared.tables.TheConstants.{MAX_DESCRIPTORS};
 ghost use Rattle.tk_cutting.specs.Keys.{note_locks};
@@ -28,7 +28,10 @@ use tk_cutting::{Lock, MAX_KEYS, Node};
 use tk_ids::{IdFault, MAX_DESCRIPTORS, Segment, TableFault, UniqueId};
 
 /// Reads the members of a node by its kind.
-fn fields_of<'v>(alloc: Global, node_input: NodeInput<'_, 'v>) -> Result<Fields<'v>, PlanFault>
+fn fields_of<'v, 't>(
+    alloc: Global,
+    node_input: NodeInput<'_, 'v, 't>,
+) -> Result<Fields<'v, 't>, PlanFault>
     ensures { Reads (node_check (seen [] node_input.entry))
         (HasFields node_input.entry.is_static node_input.entry.takes_files
         (view node_input.entry.value.now)) result }
@@ -104,7 +107,7 @@ fn is_full(reader: &Reader, is_static: bool) -> bool
 }
 
 /// Makes the node that these fields describe, with its id and the values in its arrays.
-fn into_checked<'v>(is_static: bool, named: Named, fields: Fields<'v>) -> Checked<'v>
+fn into_checked<'v, 't>(is_static: bool, named: Named, fields: Fields<'v, 't>) -> Checked<'v, 't>
     ensures { result ≡ checked_of is_static named fields.entry }
 {
     let Fields {
@@ -131,19 +134,19 @@ fn into_checked<'v>(is_static: bool, named: Named, fields: Fields<'v>) -> Checke
     Checked {
         node,
         id: named.id,
-        children,
-        dynamic,
+        children: children.values,
+        dynamic: dynamic.values,
     }
 }
 
 /// Notes a node's segment among its siblings' and its lock keys among the plan's, where there is
 /// room for them.
-fn note_node<'v>(
+fn note_node<'t>(
     alloc: Global,
     reader: &mut Reader,
-    siblings: &mut Siblings<'v>,
+    siblings: &mut Siblings<'t>,
     is_static: bool,
-    segment: TwoTexts<'v>,
+    segment: TwoTexts<'t>,
     locks: &[Lock],
 ) -> Result<(), PlanFault>
     requires { IsNoted reader.old }
@@ -169,12 +172,12 @@ fn note_node<'v>(
 
 /// Checks what a node's members say, given the nodes before it, and notes its segment and its lock
 /// keys. Answers its segment and its id.
-fn check_fields<'v>(
+fn check_fields<'v, 't>(
     alloc: Global,
     reader: &mut Reader,
-    siblings: &mut Siblings<'v>,
-    node_input: NodeInput<'_, 'v>,
-    fields: &Fields<'v>,
+    siblings: &mut Siblings<'t>,
+    node_input: NodeInput<'_, 'v, 't>,
+    fields: &Fields<'v, 't>,
 ) -> Result<Named, PlanFault>
     requires noted { IsNoted reader.old }
     requires level { node_input.level ≤ MAX_LEVELS }
@@ -201,12 +204,12 @@ fn check_fields<'v>(
 }
 
 /// Checks one node, given the nodes before it, and notes its segment and its lock keys.
-pub(crate) fn check_node<'v>(
+pub(crate) fn check_node<'v, 't>(
     alloc: Global,
     reader: &mut Reader,
-    siblings: &mut Siblings<'v>,
-    node_input: NodeInput<'_, 'v>,
-) -> Result<Checked<'v>, PlanFault>
+    siblings: &mut Siblings<'t>,
+    node_input: NodeInput<'_, 'v, 't>,
+) -> Result<Checked<'v, 't>, PlanFault>
     requires { IsNoted reader.old }
     ensures { let s = seen siblings.old node_input.entry in
         Meets (first (checks (contents reader.old.nodes.items) s))

@@ -1,6 +1,6 @@
 //! The members of a node.
 ghost use Rattle.std.specs.Prelude.{◌≡◌, true, false, map};
-ghost use Rattle.serde_json.specs.View.{view};
+ghost use Rattle.tk_plan.specs.JsonValues.{view};
 ghost use Rattle.tk_plan.specs.Checks.{members_wrong, unknown};
 ghost use Rattle.tk_plan.specs.Rows.{static_rows, dynamic_rows, static_node, dynamic_node};
 ghost use Rattle.tk_plan.specs.NodeInputs.{children_of, dynamic_of};
@@ -15,19 +15,20 @@ use crate::json_members::{
     segment_member, text_member,
 };
 use crate::json_paths::JsonPath;
+use crate::json_values::Items;
 use crate::lock_members::locks_member;
 use crate::member_values::{Ending, Reports, TwoTexts};
 use crate::result_members::{entries_member, result_member};
-use serde_json::Value;
+use json::Value;
 use std::alloc::Global;
 use tk_cutting::{Files, Locks};
 use tk_ids::{DType, Text};
 
 /// What the members `type`, `segment` and `name` of a node say.
 #[derive(Drop)]
-pub(crate) struct Heading<'v> {
+pub(crate) struct Heading<'t> {
     pub dtype: DType,
-    pub segment: TwoTexts<'v>,
+    pub segment: TwoTexts<'t>,
     pub name: Text,
 }
 
@@ -50,20 +51,20 @@ pub(crate) struct Content {
 
 /// What the members of a node say.
 #[derive(Drop)]
-pub(crate) struct Fields<'v> {
-    pub heading: Heading<'v>,
+pub(crate) struct Fields<'v, 't> {
+    pub heading: Heading<'t>,
     pub concurrency: Concurrency,
     pub content: Content,
-    pub children: &'v [Value],
-    pub dynamic: &'v [Value],
+    pub children: Items<'v, 't>,
+    pub dynamic: Items<'v, 't>,
 }
 
 /// Reads the members `type`, `segment` and `name`.
-fn heading_members<'v>(
+fn heading_members<'t>(
     alloc: Global,
     at: JsonPath<'_>,
-    object: &'v Value,
-) -> Result<Heading<'v>, PlanFault>
+    object: &Value<'t>,
+) -> Result<Heading<'t>, PlanFault>
     ensures { Reads (members_wrong heading_rows (pointer at.entry) (view object.now))
         (IsHeading (view object.now)) result }
 {
@@ -81,7 +82,7 @@ fn heading_members<'v>(
 fn concurrency_members(
     alloc: Global,
     at: JsonPath<'_>,
-    object: &Value,
+    object: &Value<'_>,
 ) -> Result<Concurrency, PlanFault>
     ensures { Reads (members_wrong concurrency_rows (pointer at.entry) (view object.now))
         (IsConcurrency true (view object.now)) result }
@@ -100,7 +101,7 @@ fn concurrency_members(
 fn content_members(
     alloc: Global,
     at: JsonPath<'_>,
-    object: &Value,
+    object: &Value<'_>,
     takes_files: bool,
 ) -> Result<Content, PlanFault>
     ensures { Reads (members_wrong (content_rows takes_files) (pointer at.entry) (view object.now))
@@ -122,7 +123,7 @@ fn content_members(
 fn known_in_static(
     alloc: Global,
     at: JsonPath<'_>,
-    value: &Value,
+    value: &Value<'_>,
     takes_files: bool,
 ) -> Result<(), PlanFault>
     ensures { Reads
@@ -148,7 +149,7 @@ fn known_in_static(
 fn known_in_dynamic(
     alloc: Global,
     at: JsonPath<'_>,
-    value: &Value,
+    value: &Value<'_>,
     takes_files: bool,
 ) -> Result<(), PlanFault>
     ensures { Reads
@@ -169,14 +170,14 @@ fn known_in_dynamic(
 }
 
 /// Reads the members `children` and `dynamic` of a static node: their items.
-fn below_members<'v>(
+fn below_members<'v, 't>(
     alloc: Global,
     at: JsonPath<'_>,
-    object: &'v Value,
-) -> Result<(&'v [Value], &'v [Value]), PlanFault>
+    object: &'v Value<'t>,
+) -> Result<(Items<'v, 't>, Items<'v, 't>), PlanFault>
     ensures { Reads (members_wrong below_rows (pointer at.entry) (view object.now))
-        (λ t. (map view t.0.now ≡ children_of true (view object.now))
-        × (map view t.1.now ≡ dynamic_of (view object.now))) result }
+        (λ t. (map view t.0.values.now ≡ children_of true (view object.now))
+        × (map view t.1.values.now ≡ dynamic_of (view object.now))) result }
 {
     let children = array_member(alloc, at, object, "children")?;
     let dynamic = array_member(alloc, at, object, "dynamic")?;
@@ -184,12 +185,12 @@ fn below_members<'v>(
 }
 
 /// Reads the members of a static node.
-pub(crate) fn static_fields<'v>(
+pub(crate) fn static_fields<'v, 't>(
     alloc: Global,
     at: JsonPath<'_>,
-    value: &'v Value,
+    value: &'v Value<'t>,
     takes_files: bool,
-) -> Result<Fields<'v>, PlanFault>
+) -> Result<Fields<'v, 't>, PlanFault>
     ensures { Reads (static_node takes_files (pointer at.entry) (view value.now))
         (HasFields true takes_files (view value.now)) result }
 {
@@ -208,12 +209,12 @@ pub(crate) fn static_fields<'v>(
 }
 
 /// Reads the members of a dynamic node, which has no `mode`, `isolated`, `locks` and `children`.
-pub(crate) fn dynamic_fields<'v>(
+pub(crate) fn dynamic_fields<'v, 't>(
     alloc: Global,
     at: JsonPath<'_>,
-    value: &'v Value,
+    value: &'v Value<'t>,
     takes_files: bool,
-) -> Result<Fields<'v>, PlanFault>
+) -> Result<Fields<'v, 't>, PlanFault>
     ensures { Reads (dynamic_node takes_files (pointer at.entry) (view value.now))
         (HasFields false takes_files (view value.now)) result }
 {
@@ -229,7 +230,7 @@ pub(crate) fn dynamic_fields<'v>(
             locks: Locks::new(Vec::new(alloc)),
         },
         content,
-        children: &[],
+        children: Items::none(),
         dynamic,
     })
 }

@@ -1,12 +1,12 @@
 //! Values that stand for nodes.
 
 use crate::json_paths::JsonPath;
-use serde_json::Value;
+use json::Value;
 use tk_ids::UniqueId;
 
 /// A value that stands for a node.
 #[derive(Clone, Copy, Drop)]
-pub(crate) struct NodeInput<'a, 'v> {
+pub(crate) struct NodeInput<'a, 'v, 't> {
     pub path: JsonPath<'a>,
     /// The root has level 1.
     pub level: u32,
@@ -15,5 +15,5 @@ pub(crate) struct NodeInput<'a, 'v> {
     pub takes_files: bool,
     /// The parent's id.
     pub above: Option<&'a UniqueId>,
-    pub value: &'v Value,
+    pub value: &'v Value<'t>,
 }

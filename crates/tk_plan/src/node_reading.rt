@@ -1,6 +1,6 @@
 //! Reading a plan's nodes.
 ghost use Rattle.std.specs.Prelude.{◌≡◌, ◌≤◌, ◌<◌, ◌+◌, ◌-◌, ◌++◌, ◌∷◌, [], length, map, flat_map, IfOk, OnOk};
-ghost use Rattle.serde_json.specs.View.{view};
+ghost use Rattle.tk_plan.specs.JsonValues.{view};
 ghost use Rattle.tk_cutting.specs.Trees.{flat, contents};
 ghost use Rattle.tk_cutting.specs.Ids.{descriptors};
 ghost use Rattle.tk_plan.specs.Checks.{escape, member_at, first};
@@ -18,7 +18,7 @@ use crate::node_inputs::NodeInput;
 use crate::path_texts::member_path;
 use crate::plan_readers::{Checked, Parent, Reader};
 use crate::siblings::Siblings;
-use serde_json::Value;
+use json::Value;
 use std::alloc::{AllocError, Global};
 use tk_cutting::{Node, NumberedNode};
 use tk_ids::{Descriptor, UniqueId};
@@ -54,7 +54,10 @@ fn add_node(reader: &mut Reader, node: Node, id: UniqueId) -> Result<(), AllocEr
 }
 
 /// Puts a node that other nodes stand below at the end.
-fn add_parent<'v>(reader: &mut Reader, checked: Checked<'v>) -> Result<Parent<'v>, AllocError>
+fn add_parent<'v, 't>(
+    reader: &mut Reader,
+    checked: Checked<'v, 't>,
+) -> Result<Parent<'v, 't>, AllocError>
     requires { reader.old.dynamics ≤ 65536 }
     ensures added { OnOk result
         (IsAdded reader.old reader.new checked.entry.node checked.entry.id) }
@@ -71,12 +74,12 @@ fn add_parent<'v>(reader: &mut Reader, checked: Checked<'v>) -> Result<Parent<'v
 }
 
 /// Checks a node and puts it at the end. Answers it as a parent where nodes stand below it.
-fn start_node<'v>(
+fn start_node<'v, 't>(
     alloc: Global,
     reader: &mut Reader,
-    siblings: &mut Siblings<'v>,
-    node_input: NodeInput<'_, 'v>,
-) -> Result<Option<Parent<'v>>, PlanFault>
+    siblings: &mut Siblings<'t>,
+    node_input: NodeInput<'_, 'v, 't>,
+) -> Result<Option<Parent<'v, 't>>, PlanFault>
     requires { IsNoted reader.old }
     ensures { let s = seen siblings.old node_input.entry in
         Meets (first (checks (contents reader.old.nodes.items) s))
@@ -102,11 +105,11 @@ fn end_node(reader: &mut Reader, at: usize)
 
 /// Reads a node and all below it.
 #[cycle(reading)]
-fn read_node<'v>(
+fn read_node<'v, 't>(
     alloc: Global,
     reader: &mut Reader,
-    siblings: &mut Siblings<'v>,
-    node_input: NodeInput<'_, 'v>,
+    siblings: &mut Siblings<'t>,
+    node_input: NodeInput<'_, 'v, 't>,
 ) -> Result<(), PlanFault>
     requires noted { IsNoted reader.old }
     requires level { node_input.level ≤ 61 }
@@ -132,8 +135,8 @@ fn read_node<'v>(
 fn read_below(
     alloc: Global,
     reader: &mut Reader,
-    node_input: NodeInput<'_, '_>,
-    parent: &Parent<'_>,
+    node_input: NodeInput<'_, '_, '_>,
+    parent: &Parent<'_, '_>,
 ) -> Result<(), PlanFault>
     requires noted { IsNoted reader.old }
     requires level { node_input.level ≤ 60 }
@@ -171,15 +174,15 @@ fn read_below(
 
 /// Reads the nodes in the member `name` of `parent`, whose id is `id`.
 #[cycle(reading)]
-fn read_all<'v>(
+fn read_all<'v, 't>(
     alloc: Global,
     reader: &mut Reader,
-    siblings: &mut Siblings<'v>,
-    parent: NodeInput<'_, '_>,
+    siblings: &mut Siblings<'t>,
+    parent: NodeInput<'_, '_, '_>,
     name: &str,
     is_static: bool,
     id: &UniqueId,
-    values: &'v [Value],
+    values: &'v [Value<'t>],
 ) -> Result<(), PlanFault>
     requires noted { IsNoted reader.old }
     requires level { parent.level ≤ 60 }
@@ -216,7 +219,7 @@ fn read_root(
     alloc: Global,
     reader: &mut Reader,
     takes_files: bool,
-    root: &Value,
+    root: &Value<'_>,
 ) -> Result<(), PlanFault>
     requires nodes { reader.old.nodes.items ≡ [] }
     requires descriptors { reader.old.descriptors.items ≡ [] }
@@ -240,7 +243,7 @@ fn read_root(
 pub(crate) fn read_nodes(
     alloc: Global,
     takes_files: bool,
-    root: &Value,
+    root: &Value<'_>,
 ) -> Result<Reader, PlanFault>
     ensures { let s = root_at takes_files (view root.now) in
         Meets (verdict [] (node_inputs 60 s)) (HasRead s) result }

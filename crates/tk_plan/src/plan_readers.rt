@@ -2,7 +2,7 @@
 ghost use Rattle.std.specs.Prelude.{◌≡◌, ◌==◌, ◌&&◌, [], length};
 
 use indexmap::IndexSet;
-use serde_json::Value;
+use json::Value;
 use std::alloc::Global;
 use tk_cutting::{Node, NumberedNode};
 use tk_ids::{Descriptor, Segment, Text, UniqueId};
@@ -45,22 +45,22 @@ pub(crate) struct Named {
 
 /// A node that was checked, and what stands in its arrays.
 #[derive(Drop)]
-pub(crate) struct Checked<'v> {
+pub(crate) struct Checked<'v, 't> {
     pub node: Node,
     pub id: UniqueId,
-    pub children: &'v [Value],
-    pub dynamic: &'v [Value],
+    pub children: &'v [Value<'t>],
+    pub dynamic: &'v [Value<'t>],
 }
 
 /// A node that other nodes stand below: its id, and what stands in its arrays.
 #[derive(Drop)]
-pub(crate) struct Parent<'v> {
+pub(crate) struct Parent<'v, 't> {
     pub id: UniqueId,
-    pub children: &'v [Value],
-    pub dynamic: &'v [Value],
+    pub children: &'v [Value<'t>],
+    pub dynamic: &'v [Value<'t>],
 }
 
-impl<'v> Checked<'v> {
+impl<'v, 't> Checked<'v, 't> {
     /// Whether no node stands below it.
     pub fn is_leaf(&self) -> bool
         ensures { result ≡ (length self.now.children.now == 0 && length self.now.dynamic.now == 0) }

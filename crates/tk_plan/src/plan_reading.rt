@@ -1,7 +1,7 @@
 //! Reading a plan.
 ghost use Rattle.std.specs.Prelude.{◌≡◌, ◌≤◌, ◌<◌, ◌++◌, ◌∷◌, [], Some, codes, length, IfOk, OnOk};
 ghost use Rattle.serde_json.specs.Find.{get};
-ghost use Rattle.serde_json.specs.View.{view};
+ghost use Rattle.tk_plan.specs.JsonValues.{view};
 ghost use Rattle.tk_plan.specs.Answers.{Reads};
 ghost use Rattle.tk_plan.specs.Checks.{row, must};
 ghost use Rattle.tk_plan.specs.PlanOf.{PlanOf, one_or_two, is_two, takes_files_in, anything, top};
@@ -16,23 +16,26 @@ ghost use Rattle.tk_ids.specs.declared.tables.TheConstants.{MAX_DESCRIPTORS};
 
 use crate::faults::PlanFault;
 use crate::json_members::known_members;
+use crate::json_numbers::whole_number_in;
 use crate::json_paths::JsonPath;
+use crate::json_texts::read_json;
+use crate::json_values::member;
 use crate::lock_keys::key_list;
 use crate::node_reading::read_nodes;
 use crate::path_texts::wrong_member;
 use crate::plan_readers::Reader;
-use serde_json::Value;
+use json::{Scratch, Value};
 use std::alloc::{AllocError, Global};
 use std::sync::Arc;
 use tk_cutting::{Plan, count_events};
 use tk_ids::{Descriptor, Table};
 
 /// Reads the member `version`, which is 1 or 2: whether it is 2, so that nodes may have files.
-fn version_member(alloc: Global, object: &Value) -> Result<bool, PlanFault>
+fn version_member(alloc: Global, object: &Value<'_>) -> Result<bool, PlanFault>
     ensures { Reads (row [] (view object.now) (must (codes "version") one_or_two))
         (λ b. b ≡ is_two (get (codes "version") (view object.now))) result }
 {
-    match object.get("version").and_then(Value::as_u64) {
+    match member(object, "version").and_then(whole_number_in) {
         Some(1) => Ok(false),
         Some(2) => Ok(true),
         _ => Err(wrong_member(alloc, JsonPath::Whole(""), "version")),
@@ -40,18 +43,21 @@ fn version_member(alloc: Global, object: &Value) -> Result<bool, PlanFault>
 }
 
 /// Reads the member `root`.
-fn root_member<'v>(alloc: Global, object: &'v Value) -> Result<&'v Value, PlanFault>
+fn root_member<'v, 't>(alloc: Global, object: &'v Value<'t>) -> Result<&'v Value<'t>, PlanFault>
     ensures { Reads (row [] (view object.now) (must (codes "root") anything))
         (λ v. get (codes "root") (view object.now) ≡ Some (view v.now)) result }
 {
-    match object.get("root") {
+    match member(object, "root") {
         Some(root) => Ok(root),
         None => Err(wrong_member(alloc, JsonPath::Whole(""), "root")),
     }
 }
 
 /// Reads the members of the whole value: whether nodes may have files, and the root.
-fn top_members<'v>(alloc: Global, value: &'v Value) -> Result<(bool, &'v Value), PlanFault>
+fn top_members<'v, 't>(
+    alloc: Global,
+    value: &'v Value<'t>,
+) -> Result<(bool, &'v Value<'t>), PlanFault>
     ensures { Reads (top [] (view value.now))
         (λ t. (t.0 ≡ takes_files_in (view value.now))
         × (get (codes "root") (view value.now) ≡ Some (view t.1.now))) result }
@@ -95,7 +101,7 @@ fn plan_from(alloc: Global, reader: Reader) -> Result<Plan, AllocError>
 }
 
 /// Reads the nodes of the plan that a value stands for.
-fn nodes_of(alloc: Global, value: &Value) -> Result<Reader, PlanFault>
+fn nodes_of(alloc: Global, value: &Value<'_>) -> Result<Reader, PlanFault>
     ensures { IsReadFrom (PlanOf (view value.now)) result }
 {
     let (takes_files, root) = top_members(alloc, value)?;
@@ -111,15 +117,12 @@ fn nodes_of(alloc: Global, value: &Value) -> Result<Reader, PlanFault>
 fn read_text(alloc: Global, bytes: &[u8]) -> Result<Reader, PlanFault>
     ensures { IsReadFrom (plan_in bytes.now) result }
 {
-    match Value::from_slice(alloc, bytes) {
-        Ok(value) => nodes_of(alloc, &value),
-        Err(error) => {
-            if error.is_memory() {
-                return Err(PlanFault::Memory);
-            }
-            Err(PlanFault::Json)
-        }
-    }
+    let Ok(text) = str::from_utf8(bytes) else {
+        return Err(PlanFault::Json);
+    };
+    let mut scratch = Scratch::new(alloc);
+    let value = read_json(alloc, text, &mut scratch)?;
+    nodes_of(alloc, &value)
 }
 
 /// Reads a plan from its JSON text, of version 1 or 2.

@@ -4,7 +4,7 @@ ghost use Rattle.std.specs.BTreeMap.{insert_entry};
 ghost use Rattle.std.specs.Cmp.Lexicographic.{slice_cmp};
 ghost use Rattle.std.specs.Ordering.{nat_cmp};
 ghost use Rattle.serde_json.specs.Find.{get};
-ghost use Rattle.serde_json.specs.View.{view};
+ghost use Rattle.tk_plan.specs.JsonValues.{view};
 ghost use Rattle.tk_events.specs.Event.{is_strictly_increasing};
 ghost use Rattle.tk_plan.specs.Checks.{array_of, item_at, pair_of, row, text as is_text};
 ghost use Rattle.tk_plan.specs.Rows.{status_row, result_row, entries_row, entry as is_entry, result as is_result};
@@ -16,20 +16,21 @@ ghost use Rattle.tk_plan.specs.Endings.{has_key, IsEnding, IsOnlyPair, IsReport,
 use crate::faults::PlanFault;
 use crate::json_members::{known_members, optional_member, two_texts};
 use crate::json_paths::JsonPath;
+use crate::json_values::{items_in, member, text_in};
 use crate::member_values::{Ending, Report, Reports, TwoTexts};
 use crate::path_texts::{member_path, wrong_item, wrong_member, wrong_value};
-use serde_json::Value;
+use json::Value;
 use std::alloc::{AllocError, Global};
 use std::collections::BTreeMap;
 use tk_cutting::Entries;
 use tk_events::{Pairs, Status};
 use tk_ids::Text;
 
-fn status_member(alloc: Global, at: JsonPath<'_>, object: &Value) -> Result<Status, PlanFault>
+fn status_member(alloc: Global, at: JsonPath<'_>, object: &Value<'_>) -> Result<Status, PlanFault>
     ensures { Reads (row (pointer at.entry) (view object.now) status_row)
         (λ s. s ≡ json_status (get (codes "status") (view object.now))) result }
 {
-    match object.get("status").and_then(Value::as_str) {
+    match member(object, "status").and_then(text_in) {
         Some("successful") => Ok(Status::Successful),
         Some("aborted") => Ok(Status::Aborted),
         Some("failed") => Ok(Status::Failed),
@@ -37,7 +38,7 @@ fn status_member(alloc: Global, at: JsonPath<'_>, object: &Value) -> Result<Stat
     }
 }
 
-fn ending(alloc: Global, at: JsonPath<'_>, value: &Value) -> Result<Ending, PlanFault>
+fn ending(alloc: Global, at: JsonPath<'_>, value: &Value<'_>) -> Result<Ending, PlanFault>
     ensures { Reads (is_result (pointer at.entry) (view value.now))
         (IsEnding (Some (view value.now))) result }
 {
@@ -53,12 +54,12 @@ fn ending(alloc: Global, at: JsonPath<'_>, value: &Value) -> Result<Ending, Plan
 pub(crate) fn result_member(
     alloc: Global,
     at: JsonPath<'_>,
-    object: &Value,
+    object: &Value<'_>,
 ) -> Result<Ending, PlanFault>
     ensures { Reads (row (pointer at.entry) (view object.now) result_row)
         (IsEnding (get (codes "result") (view object.now))) result }
 {
-    match object.get("result") {
+    match member(object, "result") {
         Some(value) => {
             let path = member_path(alloc, at, "result")?;
             ending(alloc, JsonPath::Whole(&path), value)
@@ -99,7 +100,12 @@ fn insert_pair(
 }
 
 /// Reads the pair of an entry that has no other: it needs no map.
-fn only_pair(alloc: Global, array: &str, index: usize, item: &Value) -> Result<Report, PlanFault>
+fn only_pair(
+    alloc: Global,
+    array: &str,
+    index: usize,
+    item: &Value<'_>,
+) -> Result<Report, PlanFault>
     ensures { Reads (pair_of is_text (item_at (item_at array.now index) 0) (view item.now))
         (IsOnlyPair (view item.now)) result }
 {
@@ -115,14 +121,14 @@ fn only_pair(alloc: Global, array: &str, index: usize, item: &Value) -> Result<R
     })
 }
 
-fn entry(alloc: Global, array: &str, index: usize, value: &Value) -> Result<Report, PlanFault>
+fn entry(alloc: Global, array: &str, index: usize, value: &Value<'_>) -> Result<Report, PlanFault>
     ensures { Reads (is_entry (item_at array.now index) (view value.now))
         (IsReport (view value.now)) result }
 {
-    let Some(items) = value.as_array() else {
+    let Some(items) = items_in(value) else {
         return Err(wrong_item(alloc, JsonPath::Whole(array), index));
     };
-    if let [item] = items.as_slice() {
+    if let [item] = items {
         return only_pair(alloc, array, index, item);
     }
     let mut map = BTreeMap::new(alloc);
@@ -135,11 +141,11 @@ fn entry(alloc: Global, array: &str, index: usize, value: &Value) -> Result<Repo
     Ok(Report { pairs, repeats })
 }
 
-fn entries(alloc: Global, at: &str, value: &Value) -> Result<Reports, PlanFault>
+fn entries(alloc: Global, at: &str, value: &Value<'_>) -> Result<Reports, PlanFault>
     ensures { Reads (array_of is_entry at.now (view value.now))
         (AreReports (listed (Some (view value.now)))) result }
 {
-    let Some(items) = value.as_array() else {
+    let Some(items) = items_in(value) else {
         return Err(wrong_value(alloc, JsonPath::Whole(at)));
     };
     let mut entries = Vec::with_capacity(alloc, items.len())?;
@@ -158,12 +164,12 @@ fn entries(alloc: Global, at: &str, value: &Value) -> Result<Reports, PlanFault>
 pub(crate) fn entries_member(
     alloc: Global,
     at: JsonPath<'_>,
-    object: &Value,
+    object: &Value<'_>,
 ) -> Result<Reports, PlanFault>
     ensures { Reads (row (pointer at.entry) (view object.now) entries_row)
         (AreReports (listed (get (codes "entries") (view object.now)))) result }
 {
-    match object.get("entries") {
+    match member(object, "entries") {
         Some(value) => {
             let path = member_path(alloc, at, "entries")?;
             entries(alloc, &path, value)

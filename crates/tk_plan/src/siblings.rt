@@ -11,11 +11,11 @@ use std::marker::Model;
 
 /// The segments of a parent's children, as far as they were read.
 #[derive(Drop)]
-pub(crate) struct Siblings<'v> {
-    keys: IndexSet<(&'v str, &'v str)>,
+pub(crate) struct Siblings<'t> {
+    keys: IndexSet<(&'t str, &'t str)>,
 }
 
-impl<'v> Model for Siblings<'v> {
+impl<'t> Model for Siblings<'t> {
     ghost use Rattle.std.specs.Prelude.{List, map, ℕ};
     ghost use Rattle.tk_ids.specs.IdText.{Pair};
     ghost use Rattle.tk_plan.specs.Met.{segments_of};
@@ -25,9 +25,9 @@ impl<'v> Model for Siblings<'v> {
     ghost view = { λ s. segments_of s.keys.keys };
 }
 
-impl<'v> Siblings<'v> {
+impl<'t> Siblings<'t> {
     /// No segments, with room for as many as `capacity`.
-    pub fn with_capacity(alloc: Global, capacity: usize) -> Result<Siblings<'v>, AllocError>
+    pub fn with_capacity(alloc: Global, capacity: usize) -> Result<Siblings<'t>, AllocError>
         ensures { IfOk result (λ siblings. siblings ≡ []) }
     {
         Ok(Siblings {
@@ -36,7 +36,7 @@ impl<'v> Siblings<'v> {
     }
 
     /// Puts a segment at the end unless it is there; answers whether it was put.
-    pub fn insert(&mut self, segment: TwoTexts<'v>) -> Result<bool, AllocError>
+    pub fn insert(&mut self, segment: TwoTexts<'t>) -> Result<bool, AllocError>
         ensures answer { IfOk result (λ is_new.
             is_new ≡ not (list_any (same_segment (json_segment_text segment.entry)) self.old)) }
         ensures segments { IfOk result (λ is_new.

@@ -1,6 +1,6 @@
 use Rattle.std.proofs.Common.{◌≡◌, Some, codes, arith}
 use Rattle.serde_json.specs.Find.{get}
-use Rattle.serde_json.specs.View.{view}
+use Rattle.tk_plan.specs.JsonValues.{view}
 use Rattle.tk_plan.specs.Checks.{member_at}
 use Rattle.tk_plan.specs.Pointers.{pointer}
 use Rattle.tk_plan.proofs.Filing.{files_read}

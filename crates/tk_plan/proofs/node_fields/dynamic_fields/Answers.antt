@@ -1,6 +1,6 @@
-use Rattle.std.proofs.Common.{◌∙◌, refl, rules}
+use Rattle.std.proofs.Common.{◌∙◌, refl, ap, map, rules}
 use Rattle.std.proofs.lemmas.Result.{err_from_is_err_and}
-use Rattle.serde_json.specs.View.{view}
+use Rattle.tk_plan.specs.JsonValues.{view}
 use Rattle.tk_plan.specs.Pointers.{pointer}
 use Rattle.tk_plan.proofs.Passing.{refuses_whole}
 use Rattle.tk_plan.proofs.Groups.{passes, stops, dynamic_groups}
@@ -29,5 +29,5 @@ returns-in_err-dynamic c =
 pub returns : goal.returns
 returns c = (
   dynamic_groups c.args.takes_files (pointer c.args.at) (view c.args.value.now) ∙ passes _ _ _ c.in_ok-known_in_dynamic.ensures.0 (passes _ _ _ c.in_ok-heading.ensures.0 (passes _ _ _ c.in_ok-content.ensures.0 (passes _ _ _ c.in_ok-dynamic.ensures.0 refl))),
-  record { heading = c.in_ok-heading.ensures.1; concurrency = search rules; content = c.in_ok-content.ensures.1; children = refl; dynamic = c.in_ok-dynamic.ensures.1 },
+  record { heading = c.in_ok-heading.ensures.1; concurrency = search rules; content = c.in_ok-content.ensures.1; children = ap (map view) c.none.ensures; dynamic = c.in_ok-dynamic.ensures.1 },
 )

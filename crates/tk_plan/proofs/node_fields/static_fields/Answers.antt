@@ -1,6 +1,6 @@
 use Rattle.std.proofs.Common.{◌∙◌}
 use Rattle.std.proofs.lemmas.Result.{err_from_is_err_and}
-use Rattle.serde_json.specs.View.{view}
+use Rattle.tk_plan.specs.JsonValues.{view}
 use Rattle.tk_plan.specs.Pointers.{pointer}
 use Rattle.tk_plan.proofs.Passing.{refuses_whole}
 use Rattle.tk_plan.proofs.Groups.{passes, stops, static_groups}

@@ -2,8 +2,8 @@ use Rattle.std.proofs.Common.{◌≡◌, ◌++◌, ◌-◌, ◌+◌, map, ℕ, s
 use Rattle.std.proofs.lemmas.List.{drop_all}
 use Rattle.std.proofs.lemmas.Bool.Decides.{nat_tests}
 use Rattle.std.proofs.lemmas.Result.{err_from_is_err_and}
-use Rattle.serde_json.specs.View.{view}
-use Rattle.serde_json.specs.declared.value.Value.{Value}
+use Rattle.tk_plan.specs.JsonValues.{view}
+use Rattle.tk_plan.specs.JsonValues.{JsonValue}
 use Rattle.tk_cutting.specs.declared.nodes.NumberedNode.{NumberedNode}
 use Rattle.tk_cutting.specs.Trees.{contents}
 use Rattle.tk_plan.specs.Checks.{member_at, item_at, first}
@@ -23,7 +23,7 @@ read_all-returns-in_err-read_node t c =
     let p = err_from_is_err_and c.from_residual-in_err-read_node.result c.from_residual-in_err-read_node.ensures.1 in
     let array = member_at (pointer c.args.parent.path) c.args.name.now in
     let i = c.loop-index.index in
-    let v : Value = c.index-values-index.result in
+    let v : JsonValue = c.index-values-index.result in
     let path : c.deref.result.now ≡ array = grind arith in
     let met = c.loop-index.siblings in
     let split = node_input_next array (c.args.parent.level + 1) c.args.id.now c.args.is_static c.args.parent.takes_files i met (met ++ segment_in (view v) ∷ []) c.args.values.now v c.loop-index-test.true c.index-values-index.is refl in
@@ -36,7 +36,7 @@ pub read_all-loop-index-preserved : goal.read_all-loop-index-preserved
 read_all-loop-index-preserved t c =
     let array = member_at (pointer c.args.parent.path) c.args.name.now in
     let i = c.loop-index.index in
-    let v : Value = c.index-values-index.result in
+    let v : JsonValue = c.index-values-index.result in
     let path : c.deref.result.now ≡ array = grind arith in
     let met = c.loop-index.siblings in
     let done = c.in_ok-read_node.ensures in

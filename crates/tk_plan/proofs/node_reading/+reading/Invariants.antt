@@ -1,5 +1,5 @@
 use Rattle.std.proofs.Common.{◌-◌, ◌+◌, ◌*◌, map, drop}
-use Rattle.serde_json.specs.View.{view}
+use Rattle.tk_plan.specs.JsonValues.{view}
 use Rattle.tk_plan.specs.Checks.{member_at}
 use Rattle.tk_plan.specs.Pointers.{pointer}
 use Rattle.tk_plan.specs.NodeInputs.{node_inputs_in}

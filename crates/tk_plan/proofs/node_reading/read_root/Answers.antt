@@ -1,5 +1,5 @@
 use Rattle.std.proofs.Common.{◌≡◌, ◌++◌, [], codes, true, sym, ap₂, ◌∙◌}
-use Rattle.serde_json.specs.View.{view}
+use Rattle.tk_plan.specs.JsonValues.{view}
 use Rattle.tk_cutting.specs.Ids.{descriptors}
 use Rattle.tk_cutting.specs.Trees.{flat, contents}
 use Rattle.tk_plan.specs.PlanOf.{verdict, root_at}

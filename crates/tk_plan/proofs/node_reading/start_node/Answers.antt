@@ -1,6 +1,6 @@
 use Rattle.std.proofs.Common.{◌≡◌, map, [], None, Some, refl, sym, ap, ◌∙◌, arith}
 use Rattle.std.proofs.lemmas.Bool.Decides.{nat_tests}
-use Rattle.serde_json.specs.View.{view}
+use Rattle.tk_plan.specs.JsonValues.{view}
 use Rattle.tk_plan.specs.NodeInputs as spec
 use Rattle.tk_plan.specs.Seen.{seen}
 use Rattle.tk_plan.proofs.CheckSteps.{node_started}
