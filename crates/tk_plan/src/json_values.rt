@@ -6,7 +6,7 @@ ghost use Rattle.tk_plan.specs.JsonValues.{view, items_view, members_view};
 use json::Value;
 
 /// The items of an array, or none.
-#[derive(Clone, Copy, Drop)]
+#[derive(Drop)]
 pub(crate) struct Items<'v, 't> {
     pub values: &'v [Value<'t>],
 }
