@@ -45,17 +45,26 @@ class Node:
     dynamic: List["Node"] = field(default_factory=list)
 
 
+class Members(list):
+    """The members of an object, pairs of a name and a value, also those that are written again."""
+
+
 def read_json(data: bytes) -> object:
-    """The value of a JSON text, numbers as `Number`s, or `Refused`."""
+    """The value of a JSON text, numbers as `Number`s, or `Refused`; of two members of one name the last stays."""
     try:
-        text = data.decode()
-        value = json.loads(text, parse_int=number, parse_float=number, parse_constant=refuse_constant)
+        value = json.loads(
+            data.decode(),
+            object_pairs_hook=Members,
+            parse_int=number,
+            parse_float=number,
+            parse_constant=refuse_constant,
+        )
         json.dumps(value, ensure_ascii=False, default=lambda number: number.text).encode()
     except (ValueError, RecursionError):
         raise Refused("plan is not JSON")
     if nesting(value) > MAX_NESTING:
         raise Refused("plan is not JSON")
-    return value
+    return with_last(value)
 
 
 def number(text: str) -> Number:
@@ -72,8 +81,17 @@ def refuse_constant(text: str) -> object:
 
 def nesting(value: object) -> int:
     """How many arrays and objects stand within one another."""
-    members = value.values() if isinstance(value, dict) else value if isinstance(value, list) else None
-    return 0 if members is None else 1 + max((nesting(member) for member in members), default=0)
+    if not isinstance(value, list):
+        return 0
+    below = [member for name, member in value] if isinstance(value, Members) else value
+    return 1 + max((nesting(it) for it in below), default=0)
+
+
+def with_last(value: object) -> object:
+    """The value with each object as a dictionary."""
+    if isinstance(value, Members):
+        return {name: with_last(member) for name, member in value}
+    return [with_last(item) for item in value] if isinstance(value, list) else value
 
 
 def pointer(path: str, step: object) -> str:

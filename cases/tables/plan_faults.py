@@ -70,6 +70,8 @@ JSON = [
         ("number out of range without an exponent", plan_of('{},"x":1' + "0" * 309)),
         ("number out of range among items", rooted(',"entries":[[["k",[{"v":2e999}]]]]')),
         ("number out of range in a member that is written again", rooted(',"skip":1e309,"skip":"off"')),
+        ("half a surrogate pair in a member that is written again", rooted(',"skip":"\\udd80","skip":"off"')),
+        ("nested too deep in a member that is written again", rooted(',"x":' + "[" * 126 + "]" * 126 + ',"x":1')),
         ("nested too deep, with a member that is wrong", '{"a":' + "[" * 200 + "]" * 200 + "}"),
     ]
 ] + [
@@ -297,6 +299,7 @@ TWICE_IN_AN_OBJECT = [
     ),
     wrong_root(',"skip":"off","skip":1', "/root/skip"),
     wrong_root(',"skip":"off","skip":1e308', "/root/skip"),
+    wrong_root(',"x":' + "[" * 125 + "]" * 125 + ',"x":1', "/root/x"),
     wrong_root(',"result":{"status":"failed","message":"m","status":"successful"}', "/root/result/message"),
 ]
 
