@@ -59,7 +59,7 @@ def read_json(data: bytes) -> object:
             parse_float=number,
             parse_constant=refuse_constant,
         )
-        json.dumps(value, ensure_ascii=False, default=lambda number: number.text).encode()
+        json.dumps(value, ensure_ascii=False, default=lambda found: found.text).encode()
     except (ValueError, RecursionError):
         raise Refused("plan is not JSON")
     if nesting(value) > MAX_NESTING:
@@ -83,7 +83,7 @@ def nesting(value: object) -> int:
     """How many arrays and objects stand within one another."""
     if not isinstance(value, list):
         return 0
-    below = [member for name, member in value] if isinstance(value, Members) else value
+    below = [member for _, member in value] if isinstance(value, Members) else value
     return 1 + max((nesting(it) for it in below), default=0)
 
 

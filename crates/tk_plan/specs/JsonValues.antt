@@ -37,9 +37,11 @@ abbrev mutual
   members_data json.no_members found = found
   members_data (json.member k j ms) found = members_data ms (put k (data_of j) found)
 
+-- a value of the library `json`
 abbrev pub JsonValue : Type 0
 JsonValue = Value Global
 
+-- what it says, in the words of `serde_json`
 abbrev pub view : JsonValue → Data
 view v = data_of (borrowed.value_view v)
 
@@ -59,19 +61,21 @@ AreItemsInRange js = of_items js ≡ Some (items_data js)
 abbrev pub AreMembersInRange : json.Members → Type 0
 AreMembersInRange ms = (found : Members) → of_members ms found ≡ Some (members_data ms found)
 
--- the value of a text, its numbers aside
+-- the value that a text is, where a number may be out of range
 abbrev pub json_in : List ℕ → Option json.Json
 json_in text = option_and_then (λ p. json.if_last p.0 p.1) (json.value max_depth (tokens text))
 
--- the value was read where the text is one, unless memory ran out
+-- such a value was read, or the text is none, unless memory ran out
 abbrev pub IsJsonOf : List ℕ → Result JsonValue PlanFault → Type 0
 IsJsonOf text (Ok v) = json_in text ≡ Some (borrowed.value_view v)
 IsJsonOf text (Err e) = IsFault (λ f. (f ≡ Json) × (json_in text ≡ None)) e
 
+-- the value that the text is for `serde_json` was read, or it is none, unless memory ran out
 abbrev pub IsValueOf : List ℕ → Result JsonValue PlanFault → Type 0
 IsValueOf text (Ok v) = read text ≡ Some (view v)
 IsValueOf text (Err e) = IsFault (λ f. (f ≡ Json) × (read text ≡ None)) e
 
+-- the text is a value for `serde_json`, or it is none, unless memory ran out
 abbrev pub IsAccepted : List ℕ → Result (Unit {0}) PlanFault → Type 0
 IsAccepted text (Ok u) = IsSome (read text)
 IsAccepted text (Err e) = IsFault (λ f. (f ≡ Json) × (read text ≡ None)) e

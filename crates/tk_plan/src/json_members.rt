@@ -154,8 +154,8 @@ fn pair_in<'t>(value: &Value<'t>) -> Option<TwoTexts<'t>>
 {
     match items_in(value)? {
         [first, second] => Some(TwoTexts {
-            first: first.as_str()?,
-            second: second.as_str()?,
+            first: text_in(first)?,
+            second: text_in(second)?,
         }),
         _ => None,
     }

@@ -6,7 +6,7 @@ use crate::json_numbers::has_whole_numbers;
 use json::{Error, Reader, Scratch, Value};
 use std::alloc::Global;
 
-/// How deep arrays and objects may nest.
+/// How deep arrays and objects may nest, as `serde_json` has it.
 const MAX_NESTING: usize = 127;
 
 /// Reads the value of a text, whose numbers may be out of range.
@@ -25,7 +25,7 @@ fn parse<'t>(alloc: Global, text: &'t str, scratch: &'t mut Scratch) -> Result<V
     }
 }
 
-/// Refuses a text that `serde_json` refuses.
+/// Refuses a text that `serde_json` refuses, as it does where a number is out of range.
 fn check_numbers(alloc: Global, text: &str) -> Result<(), PlanFault>
     ensures { IsAccepted text.now result }
 {
@@ -40,8 +40,8 @@ fn check_numbers(alloc: Global, text: &str) -> Result<(), PlanFault>
     }
 }
 
-/// Reads the value of a text, as `serde_json` sees it: a text with a number that is out of the
-/// range of `f64` is none. Only texts with other than whole numbers have to be read twice.
+/// Reads the value that a text is for `serde_json`, which refuses a number out of the range of
+/// `f64`. So a text is read by it too, unless all its numbers are digits alone.
 pub(crate) fn read_json<'t>(
     alloc: Global,
     text: &'t str,

@@ -1,11 +1,14 @@
 //! JSON values, which borrow their texts from the plan's text.
+//!
+//! Here and in what reads them `'v` is how long a value is lent, and `'t` how long its texts are.
 ghost use Rattle.std.specs.Prelude.{◌≡◌, [], option_map};
 ghost use Rattle.serde_json.specs.Find.{get, as_str, as_bool, as_array, as_object};
 ghost use Rattle.tk_plan.specs.JsonValues.{view, items_view, members_view};
 
 use json::Value;
 
-/// The items of an array, or none.
+/// The items of an array, or none. A slice of values can't stand in a `Result` by itself: the
+/// borrow checker has no rule for it yet.
 #[derive(Drop)]
 pub(crate) struct Items<'v, 't> {
     pub values: &'v [Value<'t>],
@@ -20,7 +23,7 @@ impl<'v, 't> Items<'v, 't> {
     }
 }
 
-/// The value of the last member of this name, where there is one.
+/// The value of the last member of this name, where `object` is an object with one.
 pub(crate) fn member<'v, 't>(object: &'v Value<'t>, name: &str) -> Option<&'v Value<'t>>
     ensures { option_map (λ v. view v.now) result ≡ get name.now (view object.now) }
 {
