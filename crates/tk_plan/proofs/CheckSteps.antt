@@ -23,7 +23,6 @@ use Rattle.tk_plan.specs.NodeInputs.{NodeInput, segment_of, node_of, repeats_key
 use Rattle.tk_plan.specs.PlanOf.{checks, node_check, id_fault, same_segment, is_kind}
 use Rattle.tk_plan.specs.declared.plan_readers.Reader.{Reader}
 use Rattle.tk_plan.specs.declared.plan_readers.Checked.{Checked}
-use Rattle.tk_plan.specs.declared.plan_readers.Parent.{Parent}
 use Rattle.tk_plan.specs.declared.faults.PlanFault.{PlanFault}
 use Rattle.tk_plan.specs.declared.faults.PlanFault.TheVariants.{Json, Field, Id, Table, TooManyResources, EntryKeyTwice, TooManyEvents, Deep, Memory}
 
@@ -157,8 +156,8 @@ noted_added old mid new s later c noted k a =
     }
 
 -- a node that was checked and put at the end is started
-pub node_started : (old mid new : Reader) (s : NodeInput) (later : List Pair) (c : Checked) (p : Option Parent) → IsNoted old → IsChecked old mid s later c → IsAdded mid new c.node c.id → HasBelow s p → IsStarted old new s later p
-node_started old mid new s later c p noted k a below = record {
+pub node_started : (old mid new : Reader) (s : NodeInput) (later : List Pair) (c : Checked) (id : Option (List Pair)) → IsNoted old → IsChecked old mid s later c → IsAdded mid new c.node c.id → HasBelow s id → IsStarted old new s later id
+node_started old mid new s later c id noted k a below = record {
   nodes = a.nodes ∙ ap₂ (λ l n. l ++ record { node = n; number = 0; span = 1 } ∷ []) k.nodes k.node;
   descriptors = a.descriptors ∙ ap₂ (λ l d. l ++ d) k.descriptors (ap₂ descriptor_in k.id k.node);
   noted = noted_added old mid new s later c noted k a;

@@ -1,5 +1,6 @@
 -- Reading one node after another.
-use Rattle.std.proofs.Common.{◌≡◌, ℕ, zero, suc, ◌+◌, ◌-◌, ◌<◌, get_or, drop, length, Bool, true, false, List, [], ◌∷◌, ◌++◌, map, flat_map, codes, Option, Some, None, refl, sym, ap, ap₂, ◌∙◌, arith, append_assoc, append-nil}
+use Rattle.std.proofs.Common.{◌≡◌, ℕ, zero, suc, ◌+◌, ◌-◌, get_or, length, Bool, true, false, ◌==◌, ◌&&◌, List, [], ◌∷◌, ◌++◌, map, flat_map, codes, Option, Some, None, refl, sym, ap, ap₂, ◌∙◌, arith, append_assoc, append-nil}
+use Rattle.std.proofs.lemmas.Bool.Decides.{nat_tests}
 use Rattle.std.proofs.lemmas.List.{map-append}
 use Rattle.std.proofs.Common.{length-append}
 use Rattle.std.proofs.Math.ListN.{set}
@@ -16,12 +17,10 @@ use Rattle.tk_cutting.specs.Ids.{descriptor_in, descriptors}
 use Rattle.tk_plan.specs.Checks.{first, or_else, item_at, member_at}
 use Rattle.tk_plan.specs.declared.faults.PlanFault.{PlanFault}
 use Rattle.tk_plan.specs.declared.plan_readers.Reader.{Reader}
-use Rattle.tk_plan.specs.NodeInputs.{NodeInput, segment_in, id_of, node_of, below, node_inputs, node_inputs_in, children_of, dynamic_of, grown}
+use Rattle.tk_plan.specs.NodeInputs.{NodeInput, segment_in, id_of, node_of, below, node_inputs, node_inputs_in, children_of, dynamic_of, children_in, dynamic_in, grown}
 use Rattle.tk_plan.specs.PlanOf.{checks, verdict, joined}
 use Rattle.tk_plan.specs.Progress.{IsNoted, IsStarted, IsSpanned, Adds}
-use Rattle.tk_plan.specs.declared.plan_readers.Parent.{Parent}
 use Rattle.tk_plan.proofs.CheckSteps.{noted_same}
-use Rattle.tk_plan.proofs.Items.{values_next}
 use Rattle.tk_plan.proofs.Verdicts.{verdict-append, verdict-cons, nodes-grown, nodes-all, flats-forest, descriptors-forest}
 
 -- of all the sites of k levels more, those that are left are still to be read
@@ -52,12 +51,12 @@ contents_after : (old new : List NumberedNode) (k : ℕ) (x : NodeInput) → new
 contents_after old new k x e = ap contents e ∙ map-append _ old (flat (grown k x)) ∙ ap (λ l. contents old ++ l) (nodes-grown k x)
 
 -- the sites that are left, from the next on
-pub node_input_next : (array : List ℕ) (level : ℕ) (above : List Pair) (b fs : Bool) (i : ℕ) (met new : List Pair) (vs : List JsonValue) (v : JsonValue) → i < length vs → v ≡ get_or vs i v → new ≡ met ++ segment_in (view v) ∷ []
-    → node_inputs_in array level above b fs i met (map view (drop i vs))
-    ≡ record { path = item_at array i; level = level; is_static = b; takes_files = fs; above = above; earlier = met; value = view v } ∷ node_inputs_in array level above b fs (i + 1) new (map view (drop (i + 1) vs))
-node_input_next array level above b fs i met new vs v h e n =
-    ap (node_inputs_in array level above b fs i met) (values_next vs i v h e)
-    ∙ ap (λ m. record { path = item_at array i; level = level; is_static = b; takes_files = fs; above = above; earlier = met; value = view v } ∷ node_inputs_in array level above b fs (i + 1) m (map view (drop (i + 1) vs))) (sym n)
+pub node_input_next : (array : List ℕ) (level : ℕ) (above : List Pair) (b fs : Bool) (i j : ℕ) (met new : List Pair) (left rest : List JsonValue) (v : JsonValue) → left ≡ v ∷ rest → j ≡ i + 1 → new ≡ met ++ segment_in (view v) ∷ []
+    → node_inputs_in array level above b fs i met (map view left)
+    ≡ record { path = item_at array i; level = level; is_static = b; takes_files = fs; above = above; earlier = met; value = view v } ∷ node_inputs_in array level above b fs j new (map view rest)
+node_input_next array level above b fs i j met new left rest v split up n =
+    ap (λ vs. node_inputs_in array level above b fs i met (map view vs)) split
+    ∙ ap₂ (λ k m. record { path = item_at array i; level = level; is_static = b; takes_files = fs; above = above; earlier = met; value = view v } ∷ node_inputs_in array level above b fs k m (map view rest)) (sym up) (sym n)
 
 module _ (k m : ℕ) (above up : List Pair) (old now : Reader) (all rest left : List NodeInput) (x y : NodeInput) (levels : m ≡ k) (same : y ≡ x) (split : rest ≡ x ∷ left) (g : Goes k above old now all rest) where
   here : verdict (contents now.nodes.items) (node_inputs m y) ≡ verdict (contents now.nodes.items) (node_inputs k x)
@@ -174,7 +173,7 @@ module _ (k : ℕ) (old : Reader) (xs ys all : List NodeInput) (parts : all ≡ 
         }
 
 -- A node was checked and put at the end.
-module _ (k m : ℕ) (levels : m ≡ suc k) (old pushed : Reader) (s : NodeInput) (later : List Pair) (p : Option Parent) (fine : first (checks (contents old.nodes.items) s) ≡ None) (started : IsStarted old pushed s later p) where
+module _ (k m : ℕ) (levels : m ≡ suc k) (old pushed : Reader) (s : NodeInput) (later : List Pair) (id : Option (List Pair)) (fine : first (checks (contents old.nodes.items) s) ≡ None) (started : IsStarted old pushed s later id) where
   pub below_verdict : verdict (contents old.nodes.items) (node_inputs m s) ≡ verdict (contents pushed.nodes.items) (flat_map (node_inputs k) (below s))
   unfolding node_inputs
   below_verdict =
@@ -222,6 +221,15 @@ module _ (k m : ℕ) (levels : m ≡ suc k) (old pushed : Reader) (s : NodeInput
         noted = noted_same read new (ap contents written ∙ contents_same before rest whole_node open_node refl ∙ sym (ap contents whole)) spanned.keys spanned.descriptors spanned.dynamics a.noted;
       }
 
-pub no_values : (vs : List JsonValue) → length vs ≡ 0 → vs ≡ []
+pub no_values : {A : Type 0} (vs : List A) → length vs ≡ 0 → vs ≡ []
 no_values [] e = refl
 no_values (v ∷ vs) e = absurd (omega (arith, e))
+
+-- nothing stands below a node whose arrays are empty
+pub leaf_below : (s : NodeInput) → (length (children_of s.is_static s.value) == 0 && length (dynamic_of s.value) == 0) ≡ true → below s ≡ []
+leaf_below s leaf =
+    let cs = children_of s.is_static s.value in
+    let ds = dynamic_of s.value in
+    let no_children : length cs ≡ 0 = grind (arith, nat_tests) in
+    let no_dynamic : length ds ≡ 0 = grind (arith, nat_tests) in
+    ap₂ (λ a b. children_in s a ++ dynamic_in s a b) (no_values cs no_children) (no_values ds no_dynamic)

@@ -1,5 +1,5 @@
 -- The data that a JSON value says that borrows its texts.
-use Rattle.std.proofs.Common.{◌≡◌, ℕ, List, [], ◌∷◌, Bool, true, false, true≢false, cond, Option, Some, None, option_map, Bor, refl, sym, ap, ◌∙◌}
+use Rattle.std.proofs.Common.{◌≡◌, ◌≢◌, ℕ, List, [], ◌∷◌, length, Bool, true, false, true≢false, cond, Option, Some, None, option_map, Bor, refl, sym, ap, ◌∙◌, arith}
 use Rattle.std.specs.Str.{bytes_eq}
 use Rattle.std.proofs.lemmas.Slice.Eq.{bytes_eq-Decides}
 use Rattle.json.specs.Json as json
@@ -62,3 +62,38 @@ seen_as_data (Some v) = refl
 pub items_data-items_view : (vs : List JsonValue) → items_data (borrowed.items_view vs) ≡ items_view vs
 items_data-items_view [] = refl
 items_data-items_view (v ∷ vs) = ap (item (view v)) (items_data-items_view vs)
+
+-- These members of an object are left to look at, and of those before them this is the last value of that name.
+pub record Finds (name : List ℕ) (thing : Data) (left : List (Bor (List ℕ) × JsonValue)) (found : Option JsonValue) : Type 0 where
+  pub last : found_or (json_find.get_member name (borrowed.members_view left)) (option_map view found) ≡ get name thing
+
+pub finds_first : (name : List ℕ) (v : JsonValue) (ms left : List (Bor (List ℕ) × JsonValue)) → borrowed.value_view v ≡ json.object (borrowed.members_view ms) → left ≡ ms → Finds name (view v) left None
+finds_first name v ms left is all = record {
+  last = found_alone _ ∙ ap (λ l. option_map data_of (json_find.get_member name (borrowed.members_view l))) all ∙ ap (λ j. option_map data_of (json_find.get name j)) (sym is) ∙ sym (get-data_of name (borrowed.value_view v));
+}
+
+-- the next member has that name, or another
+pub finds_here : (name : List ℕ) (thing : Data) (rest left : List (Bor (List ℕ) × JsonValue)) (m : Bor (List ℕ) × JsonValue) (found : Option JsonValue) → rest ≡ m ∷ left → bytes_eq m.0.now name ≡ true → Finds name thing rest found → Finds name thing left (Some m.1)
+finds_here name thing rest left m found split same f =
+    let later : Option json.Json = json_find.get_member name (borrowed.members_view left) in record {
+      last = last_wins later (borrowed.value_view m.1) (option_map view found)
+          ∙ ap (λ b. found_or (json_find.later_or later (cond b (Some (borrowed.value_view m.1)) None)) (option_map view found)) (sym same)
+          ∙ ap (λ l. found_or (json_find.get_member name (borrowed.members_view l)) (option_map view found)) (sym split) ∙ f.last;
+    }
+
+pub finds_other : (name : List ℕ) (thing : Data) (rest left : List (Bor (List ℕ) × JsonValue)) (m : Bor (List ℕ) × JsonValue) (found : Option JsonValue) → rest ≡ m ∷ left → bytes_eq m.0.now name ≡ false → Finds name thing rest found → Finds name thing left found
+finds_other name thing rest left m found split other f =
+    let later : Option json.Json = json_find.get_member name (borrowed.members_view left) in record {
+      last = others_stay later (option_map view found)
+          ∙ ap (λ b. found_or (json_find.later_or later (cond b (Some (borrowed.value_view m.1)) None)) (option_map view found)) (sym other)
+          ∙ ap (λ l. found_or (json_find.get_member name (borrowed.members_view l)) (option_map view found)) (sym split) ∙ f.last;
+    }
+
+-- a member of one name has no other
+pub not_another : (k name other : List ℕ) (b : Bool) → bytes_eq k other ≡ b → bytes_eq k name ≡ true → name ≢ other → b ≡ false
+not_another k name other true e same differs = absurd (differs (sym ((bytes_eq-Decides k name).0 same) ∙ (bytes_eq-Decides k other).0 e))
+not_another k name other false e same differs = refl
+
+pub finds_all : (name : List ℕ) (thing : Data) (left : List (Bor (List ℕ) × JsonValue)) (found : Option JsonValue) → length left ≡ 0 → Finds name thing left found → option_map view found ≡ get name thing
+finds_all name thing [] found none f = f.last
+finds_all name thing (m ∷ left) found none f = absurd (omega arith)

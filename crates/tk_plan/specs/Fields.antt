@@ -1,5 +1,5 @@
 -- What readers of a node's members hand on.
-use Rattle.std.specs.Prelude.{◌≡◌, ℕ, Bool, true, List, [], ◌∷◌, map, codes}
+use Rattle.std.specs.Prelude.{◌≡◌, ◌==◌, ◌&&◌, ℕ, Bool, true, List, [], ◌∷◌, length, map, codes}
 use Rattle.std.specs.List.{list_all}
 use Rattle.serde_json.specs.Data.{Data}
 use Rattle.serde_json.specs.Find.{get}
@@ -79,6 +79,5 @@ checked_of is_static n f = record {
     files = f.content.files;
   };
   id = n.id;
-  children = f.children.values;
-  dynamic = f.dynamic.values;
+  is_leaf = length f.children.values.now == 0 && length f.dynamic.values.now == 0;
 }

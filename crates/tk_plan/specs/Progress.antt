@@ -1,7 +1,6 @@
 -- What a step of the reading adds to what was read.
-use Rattle.std.specs.Prelude.{◌≡◌, ◌++◌, ◌+◌, ◌≤◌, ◌<◌, ◌∷◌, [], ℕ, suc, List, Option, Some, None, Bool, true, false, nat_lt, nat_le, length, map, if◌then◌else◌}
+use Rattle.std.specs.Prelude.{◌≡◌, ◌++◌, ◌+◌, ◌≤◌, ◌<◌, ◌∷◌, [], ℕ, suc, List, Option, Some, None, Bool, true, false, ◌==◌, ◌&&◌, nat_lt, nat_le, length, if◌then◌else◌}
 use Rattle.std.specs.List.{list_all, list_any, count_by}
-use Rattle.tk_plan.specs.JsonValues.{view}
 use Rattle.tk_ids.specs.IdText.{Pair}
 use Rattle.tk_ids.specs.declared.tables.Descriptor.{Descriptor}
 use Rattle.tk_ids.specs.declared.tables.TheConstants.{MAX_DESCRIPTORS}
@@ -19,7 +18,6 @@ use Rattle.tk_plan.specs.declared.faults.PlanFault.{PlanFault}
 use Rattle.tk_plan.specs.declared.faults.PlanFault.TheVariants.{Table, TooManyResources}
 use Rattle.tk_plan.specs.declared.plan_readers.Reader.{Reader}
 use Rattle.tk_plan.specs.declared.plan_readers.Checked.{Checked}
-use Rattle.tk_plan.specs.declared.plan_readers.Parent.{Parent}
 use Rattle.tk_plan.specs.declared.plan_readers.Named.{Named}
 
 -- what is kept beside the nodes fits them
@@ -60,8 +58,7 @@ pub record IsAdmitted (old new : Reader) (s : NodeInput) (later : List Pair) (n 
 pub record IsChecked (old new : Reader) (s : NodeInput) (later : List Pair) (c : Checked) : Type 0 where
   pub node : c.node ≡ node_of s
   pub id : c.id ≡ id_of s
-  pub children : map view c.children.now ≡ children_of s.is_static s.value
-  pub dynamic : map view c.dynamic.now ≡ dynamic_of s.value
+  pub leaf : c.is_leaf ≡ (length (children_of s.is_static s.value) == 0 && length (dynamic_of s.value) == 0)
   pub lawful : is_lawful_node c.node ≡ true
   pub level : s.level ≤ 60
   pub nodes : new.nodes.items ≡ old.nodes.items
@@ -86,25 +83,19 @@ pub record IsAdded (old new : Reader) (n : Node) (id : List Pair) : Type 0 where
   pub dynamics : new.dynamics ≡ old.dynamics + (if n.is_static then 0 else 1)
   pub keys : new.keys.keys ≡ old.keys.keys
 
--- this is the node with its arrays
-pub record IsParent (s : NodeInput) (p : Parent) : Type 0 where
-  pub id : p.id ≡ id_of s
-  pub children : map view p.children.now ≡ children_of s.is_static s.value
-  pub dynamic : map view p.dynamic.now ≡ dynamic_of s.value
-
--- it is a parent where nodes stand below it
-abbrev pub HasBelow : NodeInput → Option Parent → Type 0
+-- nodes stand below it, and this is its id, or none do
+abbrev pub HasBelow : NodeInput → Option (List Pair) → Type 0
 HasBelow s None = below s ≡ []
-HasBelow s (Some p) = IsParent s p
+HasBelow s (Some id) = id ≡ id_of s
 
 -- a node was checked and put at the end, and what is below it is still to be read
-pub record IsStarted (old new : Reader) (s : NodeInput) (later : List Pair) (p : Option Parent) : Type 0 where
+pub record IsStarted (old new : Reader) (s : NodeInput) (later : List Pair) (id : Option (List Pair)) : Type 0 where
   pub nodes : new.nodes.items ≡ old.nodes.items ++ record { node = node_of s; number = 0; span = 1 } ∷ []
   pub descriptors : new.descriptors.items ≡ old.descriptors.items ++ descriptor_in (id_of s) (node_of s)
   pub noted : IsNoted new
   pub level : s.level ≤ 60
   pub siblings : later ≡ s.earlier ++ segment_of s ∷ []
-  pub below : HasBelow s p
+  pub below : HasBelow s id
 
 -- the node at a place spans all from there to the last
 pub record IsSpanned (old new : Reader) (at : ℕ) : Type 0 where

@@ -1,6 +1,7 @@
 -- What the code's values stand for.
 use Rattle.std.specs.Prelude.{◌≡◌, ◌++◌, ◌∷◌, [], List, Option, None, Some}
 use denote.Ref.{Bor}
+use Rattle.serde_json.specs.Data.{Data}
 use Rattle.tk_plan.specs.JsonValues.{view}
 use Rattle.tk_ids.specs.IdText.{Pair}
 use Rattle.tk_ids.specs.declared.ids.IdFault.{IdFault}
@@ -11,6 +12,7 @@ use Rattle.tk_plan.specs.declared.faults.PlanFault.{PlanFault}
 use Rattle.tk_plan.specs.declared.faults.PlanFault.TheVariants.{Id, Memory}
 use Rattle.tk_plan.specs.declared.member_values.TwoTexts.{TwoTexts}
 use Rattle.tk_plan.specs.declared.plan_readers.Named.{Named}
+use Rattle.tk_plan.specs.declared.node_inputs.NodePlace.{NodePlace}
 use Rattle.tk_plan.specs.declared.node_inputs.NodeInput.{NodeInput}
 
 -- the root has no id above it
@@ -18,9 +20,13 @@ abbrev pub above_of : Option (Bor (List Pair)) → List Pair
 above_of None = []
 above_of (Some id) = id.now
 
--- a site, after siblings with the earlier segments
+-- data at a place, after siblings with the earlier segments
+abbrev pub node_at : List Pair → NodePlace → Data → spec.NodeInput
+node_at earlier p d = record { path = pointer p.path; level = p.level; is_static = p.is_static; takes_files = p.takes_files; above = above_of p.above; earlier = earlier; value = d }
+
+-- a value that stands for a node, after such siblings
 abbrev pub seen : List Pair → NodeInput → spec.NodeInput
-seen earlier s = record { path = pointer s.path; level = s.level; is_static = s.is_static; takes_files = s.takes_files; above = above_of s.above; earlier = earlier; value = view s.value.now }
+seen earlier s = node_at earlier s.place (view s.value.now)
 
 abbrev pub json_segment_text : TwoTexts → Pair
 json_segment_text p = record { tag = p.first.now; value = p.second.now }

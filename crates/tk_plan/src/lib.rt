@@ -1,13 +1,14 @@
 //! Plans, read from JSON.
 //!
-//! - The whole plan, from its bytes: `plan_reading`. All nodes in preorder: `node_reading`.
+//! - The whole plan, from its bytes: `plan_reading`. All nodes in preorder: `node_reading`, which
+//!   drops the value of each as soon as it was read.
 //! - One node: its members together in `node_fields`, its checks in `node_checks`.
 //! - Single members: `json_members`, `lock_members`, `file_members`, and `result_members` for the
 //!   result and the entries. What these readers hand on: `member_values`.
-//! - The JSON value of a text: `json_texts`; what a value is: `json_values`, its numbers in
-//!   `json_numbers`.
-//! - Where a value stands: `json_paths`, and `path_texts` to write a place out. A value that stands
-//!   for a node, with its place: `node_inputs`.
+//! - The JSON value of a text: `json_texts`; what a value is, and its parts, lent or taken out of
+//!   it: `json_values`, its numbers in `json_numbers`.
+//! - Where a value stands: `json_paths`, and `path_texts` to write a place out. Where a node stands,
+//!   and the value that stands for it: `node_inputs`.
 //! - What is kept while reading: `plan_readers`, the segments of one parent's children in
 //!   `siblings`, lock keys in `lock_keys`.
 //! - Limits, laws and faults: `limits`, `laws`, `faults`.

@@ -33,23 +33,14 @@ fn fields_of<'v, 't>(
     node_input: NodeInput<'_, 'v, 't>,
 ) -> Result<Fields<'v, 't>, PlanFault>
     ensures { Reads (node_check (seen [] node_input.entry))
-        (HasFields node_input.entry.is_static node_input.entry.takes_files
+        (HasFields node_input.entry.place.is_static node_input.entry.place.takes_files
         (view node_input.entry.value.now)) result }
 {
-    if node_input.is_static {
-        static_fields(
-            alloc,
-            node_input.path,
-            node_input.value,
-            node_input.takes_files,
-        )
+    let NodeInput { place, value } = node_input;
+    if place.is_static {
+        static_fields(alloc, place.path, value, place.takes_files)
     } else {
-        dynamic_fields(
-            alloc,
-            node_input.path,
-            node_input.value,
-            node_input.takes_files,
-        )
+        dynamic_fields(alloc, place.path, value, place.takes_files)
     }
 }
 
@@ -106,8 +97,8 @@ fn is_full(reader: &Reader, is_static: bool) -> bool
     count >= MAX_DESCRIPTORS
 }
 
-/// Makes the node that these fields describe, with its id and the values in its arrays.
-fn into_checked<'v, 't>(is_static: bool, named: Named, fields: Fields<'v, 't>) -> Checked<'v, 't>
+/// Makes the node that these fields describe, with its id.
+fn into_checked(is_static: bool, named: Named, fields: Fields<'_, '_>) -> Checked
     ensures { result ≡ checked_of is_static named fields.entry }
 {
     let Fields {
@@ -134,8 +125,7 @@ fn into_checked<'v, 't>(is_static: bool, named: Named, fields: Fields<'v, 't>) -
     Checked {
         node,
         id: named.id,
-        children: children.values,
-        dynamic: dynamic.values,
+        is_leaf: children.values.is_empty() && dynamic.values.is_empty(),
     }
 }
 
@@ -180,9 +170,9 @@ fn check_fields<'v, 't>(
     fields: &Fields<'v, 't>,
 ) -> Result<Named, PlanFault>
     requires noted { IsNoted reader.old }
-    requires level { node_input.level ≤ MAX_LEVELS }
+    requires level { node_input.place.level ≤ MAX_LEVELS }
     requires members { node_check (seen siblings.old node_input) ≡ None }
-    requires read { HasFields node_input.is_static node_input.takes_files
+    requires read { HasFields node_input.place.is_static node_input.place.takes_files
         (view node_input.value.now) fields.now }
     ensures { let s = seen siblings.old node_input.entry in
         Meets (first (checks (contents reader.old.nodes.items) s))
@@ -191,12 +181,12 @@ fn check_fields<'v, 't>(
     if fields.content.reports.repeats {
         return Err(PlanFault::EntryKeyTwice);
     }
-    let named = named(alloc, node_input.above, fields.heading.segment)?;
+    let named = named(alloc, node_input.place.above, fields.heading.segment)?;
     note_node(
         alloc,
         reader,
         siblings,
-        node_input.is_static,
+        node_input.place.is_static,
         fields.heading.segment,
         fields.concurrency.locks.as_slice(),
     )?;
@@ -204,21 +194,21 @@ fn check_fields<'v, 't>(
 }
 
 /// Checks one node, given the nodes before it, and notes its segment and its lock keys.
-pub(crate) fn check_node<'v, 't>(
+pub(crate) fn check_node<'t>(
     alloc: Global,
     reader: &mut Reader,
     siblings: &mut Siblings<'t>,
-    node_input: NodeInput<'_, 'v, 't>,
-) -> Result<Checked<'v, 't>, PlanFault>
+    node_input: NodeInput<'_, '_, 't>,
+) -> Result<Checked, PlanFault>
     requires { IsNoted reader.old }
     ensures { let s = seen siblings.old node_input.entry in
         Meets (first (checks (contents reader.old.nodes.items) s))
         (IsChecked reader.old reader.new s siblings.new) result }
 {
-    if node_input.level > MAX_LEVELS {
+    if node_input.place.level > MAX_LEVELS {
         return Err(PlanFault::Deep);
     }
     let fields = fields_of(alloc, node_input)?;
     let named = check_fields(alloc, reader, siblings, node_input, &fields)?;
-    Ok(into_checked(node_input.is_static, named, fields))
+    Ok(into_checked(node_input.place.is_static, named, fields))
 }

@@ -15,7 +15,7 @@ use crate::json_members::{
     segment_member, text_member,
 };
 use crate::json_paths::JsonPath;
-use crate::json_values::Items;
+use crate::json_values::{Items, into_items, into_members};
 use crate::lock_members::locks_member;
 use crate::member_values::{Ending, Reports, TwoTexts};
 use crate::result_members::{entries_member, result_member};
@@ -233,4 +233,19 @@ pub(crate) fn dynamic_fields<'v, 't>(
         children: Items::none(),
         dynamic,
     })
+}
+
+/// Takes the values of the nodes below a node out of its value, and drops all else of it: those in
+/// its `children`, which only a static node has, and those in its `dynamic`.
+pub(crate) fn into_below<'t>(
+    alloc: Global,
+    is_static: bool,
+    value: Value<'t>,
+) -> (Vec<Value<'t>>, Vec<Value<'t>>)
+    ensures children { map view result.0.items ≡ children_of is_static (view value.entry) }
+    ensures dynamic { map view result.1.items ≡ dynamic_of (view value.entry) }
+{
+    let (children, dynamic) = into_members(value, "children", "dynamic");
+    let children = if is_static { children } else { None };
+    (into_items(alloc, children), into_items(alloc, dynamic))
 }

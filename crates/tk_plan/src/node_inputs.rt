@@ -1,12 +1,12 @@
-//! Values that stand for nodes.
+//! Values that stand for nodes, and where they stand.
 
 use crate::json_paths::JsonPath;
 use json::Value;
 use tk_ids::UniqueId;
 
-/// A value that stands for a node.
+/// Where a node stands.
 #[derive(Clone, Copy, Drop)]
-pub(crate) struct NodeInput<'a, 'v, 't> {
+pub(crate) struct NodePlace<'a> {
     pub path: JsonPath<'a>,
     /// The root has level 1.
     pub level: u32,
@@ -15,5 +15,11 @@ pub(crate) struct NodeInput<'a, 'v, 't> {
     pub takes_files: bool,
     /// The parent's id.
     pub above: Option<&'a UniqueId>,
+}
+
+/// A value that stands for a node.
+#[derive(Clone, Copy, Drop)]
+pub(crate) struct NodeInput<'a, 'v, 't> {
+    pub place: NodePlace<'a>,
     pub value: &'v Value<'t>,
 }

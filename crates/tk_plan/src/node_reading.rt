@@ -6,17 +6,18 @@ ghost use Rattle.tk_cutting.specs.Ids.{descriptors};
 ghost use Rattle.tk_plan.specs.Checks.{escape, member_at, first};
 ghost use Rattle.tk_plan.specs.Pointers.{pointer};
 ghost use Rattle.tk_plan.specs.PlanOf.{checks, verdict, root_at};
-ghost use Rattle.tk_plan.specs.Progress.{IsNoted, IsDescribed, IsAdded, IsParent, IsStarted, IsSpanned, Adds, HasRead};
+ghost use Rattle.tk_plan.specs.Progress.{IsNoted, IsDescribed, IsAdded, IsStarted, IsSpanned, Adds, HasRead};
 ghost use Rattle.tk_plan.specs.Refusals.{Meets};
-ghost use Rattle.tk_plan.specs.Seen.{seen};
+ghost use Rattle.tk_plan.specs.Seen.{seen, node_at};
 ghost use Rattle.tk_plan.specs.NodeInputs.{node_inputs, node_inputs_in, below, grown, id_of, segment_in, segment_of};
 
 use crate::faults::PlanFault;
 use crate::json_paths::JsonPath;
 use crate::node_checks::check_node;
-use crate::node_inputs::NodeInput;
+use crate::node_fields::into_below;
+use crate::node_inputs::{NodeInput, NodePlace};
 use crate::path_texts::member_path;
-use crate::plan_readers::{Checked, Parent, Reader};
+use crate::plan_readers::Reader;
 use crate::siblings::Siblings;
 use json::Value;
 use std::alloc::{AllocError, Global};
@@ -53,33 +54,24 @@ fn add_node(reader: &mut Reader, node: Node, id: UniqueId) -> Result<(), AllocEr
     described
 }
 
-/// Puts a node that other nodes stand below at the end.
-fn add_parent<'v, 't>(
-    reader: &mut Reader,
-    checked: Checked<'v, 't>,
-) -> Result<Parent<'v, 't>, AllocError>
+/// Puts a node that other nodes stand below at the end. Answers its id.
+fn add_parent(reader: &mut Reader, node: Node, id: UniqueId) -> Result<UniqueId, AllocError>
     requires { reader.old.dynamics ≤ 65536 }
-    ensures added { OnOk result
-        (IsAdded reader.old reader.new checked.entry.node checked.entry.id) }
-    ensures parent { IfOk result (λ p. (p.id ≡ checked.entry.id)
-        × (p.children ≡ checked.entry.children) × (p.dynamic ≡ checked.entry.dynamic)) }
+    ensures added { OnOk result (IsAdded reader.old reader.new node id) }
+    ensures id { IfOk result (λ i. i ≡ id) }
 {
-    let copied = checked.id.try_clone();
-    add_node(reader, checked.node, checked.id)?;
-    Ok(Parent {
-        id: copied?,
-        children: checked.children,
-        dynamic: checked.dynamic,
-    })
+    let copied = id.try_clone();
+    add_node(reader, node, id)?;
+    copied
 }
 
-/// Checks a node and puts it at the end. Answers it as a parent where nodes stand below it.
-fn start_node<'v, 't>(
+/// Checks a node and puts it at the end. Answers its id where nodes stand below it.
+fn start_node<'t>(
     alloc: Global,
     reader: &mut Reader,
     siblings: &mut Siblings<'t>,
-    node_input: NodeInput<'_, 'v, 't>,
-) -> Result<Option<Parent<'v, 't>>, PlanFault>
+    node_input: NodeInput<'_, '_, 't>,
+) -> Result<Option<UniqueId>, PlanFault>
     requires { IsNoted reader.old }
     ensures { let s = seen siblings.old node_input.entry in
         Meets (first (checks (contents reader.old.nodes.items) s))
@@ -87,11 +79,11 @@ fn start_node<'v, 't>(
 {
     let checked = check_node(alloc, reader, siblings, node_input)?;
     // Most nodes are leaves, and only nodes below one need its id once more.
-    if checked.is_leaf() {
+    if checked.is_leaf {
         add_node(reader, checked.node, checked.id)?;
         return Ok(None);
     }
-    Ok(Some(add_parent(reader, checked)?))
+    Ok(Some(add_parent(reader, checked.node, checked.id)?))
 }
 
 /// Lets the node at `at` span all nodes from there to the last one.
@@ -103,26 +95,32 @@ fn end_node(reader: &mut Reader, at: usize)
     reader.nodes[at].span = span;
 }
 
-/// Reads a node and all below it.
+/// Reads a node and all below it. As soon as the node itself was read its value is dropped, save
+/// the values of the nodes below it, which are read next.
 #[cycle(reading)]
-fn read_node<'v, 't>(
+fn read_node<'t>(
     alloc: Global,
     reader: &mut Reader,
     siblings: &mut Siblings<'t>,
-    node_input: NodeInput<'_, 'v, 't>,
+    place: NodePlace<'_>,
+    value: Value<'t>,
 ) -> Result<(), PlanFault>
     requires noted { IsNoted reader.old }
-    requires level { node_input.level ≤ 61 }
-    ensures { let s = seen siblings.old node_input.entry in
-        let k = 61 - node_input.entry.level in
+    requires level { place.level ≤ 61 }
+    ensures { let s = node_at siblings.old place.entry (view value.entry) in
+        let k = 61 - place.entry.level in
         Meets (verdict (contents reader.old.nodes.items) (node_inputs k s))
         (λ _. Adds reader.old reader.new (flat (grown k s)) (descriptors s.above (grown k s))
         × (siblings.new ≡ siblings.old ++ segment_of s ∷ [])) result }
 {
     let at = reader.nodes.len();
+    let node_input = NodeInput {
+        place,
+        value: &value,
+    };
     match start_node(alloc, reader, siblings, node_input)? {
-        Some(parent) => {
-            read_below(alloc, reader, node_input, &parent)?;
+        Some(id) => {
+            read_below(alloc, reader, place, &id, value)?;
             end_node(reader, at);
             Ok(())
         }
@@ -130,86 +128,87 @@ fn read_node<'v, 't>(
     }
 }
 
-/// Reads all nodes below a node.
+/// Reads all nodes below the node at `place`, whose id is `id`.
 #[cycle(reading)]
 fn read_below(
     alloc: Global,
     reader: &mut Reader,
-    node_input: NodeInput<'_, '_, '_>,
-    parent: &Parent<'_, '_>,
+    place: NodePlace<'_>,
+    id: &UniqueId,
+    value: Value<'_>,
 ) -> Result<(), PlanFault>
     requires noted { IsNoted reader.old }
-    requires level { node_input.level ≤ 60 }
-    requires parent { IsParent (seen [] node_input) parent.now }
-    ensures { let s = seen [] node_input.entry in
-        let k = 60 - node_input.entry.level in
+    requires level { place.level ≤ 60 }
+    requires id { id.now ≡ id_of (node_at [] place (view value)) }
+    ensures { let s = node_at [] place.entry (view value.entry) in
+        let k = 60 - place.entry.level in
         let ts = map (grown k) (below s) in
         Meets (verdict (contents reader.old.nodes.items) (flat_map (node_inputs k) (below s)))
         (λ _. Adds reader.old reader.new (flat_map flat ts) (flat_map (descriptors (id_of s)) ts))
         result }
 {
-    let count = parent.children.len().saturating_add(parent.dynamic.len());
+    let (children, dynamic) = into_below(alloc, place.is_static, value);
+    let count = children.len().saturating_add(dynamic.len());
     let mut siblings = Siblings::with_capacity(alloc, count)?;
     read_all(
         alloc,
         reader,
         &mut siblings,
-        node_input,
+        place,
         "children",
         true,
-        &parent.id,
-        parent.children,
+        id,
+        children,
     )?;
     read_all(
         alloc,
         reader,
         &mut siblings,
-        node_input,
+        place,
         "dynamic",
         false,
-        &parent.id,
-        parent.dynamic,
+        id,
+        dynamic,
     )
 }
 
-/// Reads the nodes in the member `name` of `parent`, whose id is `id`.
+/// Reads the nodes in the member `name` of the node at `parent`, whose id is `id`.
 #[cycle(reading)]
-fn read_all<'v, 't>(
+fn read_all<'t>(
     alloc: Global,
     reader: &mut Reader,
     siblings: &mut Siblings<'t>,
-    parent: NodeInput<'_, '_, '_>,
+    parent: NodePlace<'_>,
     name: &str,
     is_static: bool,
     id: &UniqueId,
-    values: &'v [Value<'t>],
+    values: Vec<Value<'t>>,
 ) -> Result<(), PlanFault>
     requires noted { IsNoted reader.old }
     requires level { parent.level ≤ 60 }
     requires plain { flat_map escape name.now ≡ name.now }
     ensures { let ss = node_inputs_in (member_at (pointer parent.entry.path) name.now)
         (parent.entry.level + 1) id.now is_static parent.entry.takes_files 0 siblings.old
-        (map view values.now) in
+        (map view values.entry.items) in
         let k = 60 - parent.entry.level in
         let ts = map (grown k) ss in
         Meets (verdict (contents reader.old.nodes.items) (flat_map (node_inputs k) ss))
         (λ _. Adds reader.old reader.new (flat_map flat ts) (flat_map (descriptors id.now) ts)
-        × (siblings.new ≡ siblings.old ++ map segment_in (map view values.now))) result }
+        × (siblings.new ≡ siblings.old ++ map segment_in (map view values.entry.items))) result }
 {
     if values.is_empty() {
         return Ok(());
     }
     let array = member_path(alloc, parent.path, name)?;
-    for (index, value) in values.iter().enumerate() {
-        let node_input = NodeInput {
+    for (index, value) in values.into_iter().enumerate() {
+        let place = NodePlace {
             path: JsonPath::Item(&array, index),
             level: parent.level + 1,
             is_static,
             takes_files: parent.takes_files,
             above: Some(id),
-            value,
         };
-        read_node(alloc, reader, siblings, node_input)?;
+        read_node(alloc, reader, siblings, place, value)?;
     }
     Ok(())
 }
@@ -219,33 +218,32 @@ fn read_root(
     alloc: Global,
     reader: &mut Reader,
     takes_files: bool,
-    root: &Value<'_>,
+    root: Value<'_>,
 ) -> Result<(), PlanFault>
     requires nodes { reader.old.nodes.items ≡ [] }
     requires descriptors { reader.old.descriptors.items ≡ [] }
     requires noted { IsNoted reader.old }
-    ensures { let s = root_at takes_files (view root.now) in
+    ensures { let s = root_at takes_files (view root.entry) in
         Meets (verdict [] (node_inputs 60 s)) (λ _. HasRead s reader.new) result }
 {
     let mut siblings = Siblings::with_capacity(alloc, 1)?;
-    let node_input = NodeInput {
+    let place = NodePlace {
         path: JsonPath::Whole("/root"),
         level: 1,
         is_static: true,
         takes_files,
         above: None,
-        value: root,
     };
-    read_node(alloc, reader, &mut siblings, node_input)
+    read_node(alloc, reader, &mut siblings, place, root)
 }
 
 /// Reads the nodes of a plan: the root and all below it.
 pub(crate) fn read_nodes(
     alloc: Global,
     takes_files: bool,
-    root: &Value<'_>,
+    root: Value<'_>,
 ) -> Result<Reader, PlanFault>
-    ensures { let s = root_at takes_files (view root.now) in
+    ensures { let s = root_at takes_files (view root.entry) in
         Meets (verdict [] (node_inputs 60 s)) (HasRead s) result }
 {
     let mut reader = Reader::new(alloc);

@@ -1,8 +1,7 @@
 //! What is kept as a plan is read.
-ghost use Rattle.std.specs.Prelude.{◌≡◌, ◌==◌, ◌&&◌, [], length};
+ghost use Rattle.std.specs.Prelude.{◌≡◌, []};
 
 use indexmap::IndexSet;
-use json::Value;
 use std::alloc::Global;
 use tk_cutting::{Node, NumberedNode};
 use tk_ids::{Descriptor, Segment, Text, UniqueId};
@@ -43,28 +42,11 @@ pub(crate) struct Named {
     pub id: UniqueId,
 }
 
-/// A node that was checked, and what stands in its arrays.
+/// A node that was checked.
 #[derive(Drop)]
-pub(crate) struct Checked<'v, 't> {
+pub(crate) struct Checked {
     pub node: Node,
     pub id: UniqueId,
-    pub children: &'v [Value<'t>],
-    pub dynamic: &'v [Value<'t>],
-}
-
-/// A node that other nodes stand below: its id, and what stands in its arrays.
-#[derive(Drop)]
-pub(crate) struct Parent<'v, 't> {
-    pub id: UniqueId,
-    pub children: &'v [Value<'t>],
-    pub dynamic: &'v [Value<'t>],
-}
-
-impl<'v, 't> Checked<'v, 't> {
     /// Whether no node stands below it.
-    pub fn is_leaf(&self) -> bool
-        ensures { result ≡ (length self.now.children.now == 0 && length self.now.dynamic.now == 0) }
-    {
-        self.children.is_empty() && self.dynamic.is_empty()
-    }
+    pub is_leaf: bool,
 }

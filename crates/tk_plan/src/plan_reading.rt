@@ -1,9 +1,9 @@
 //! Reading a plan.
-ghost use Rattle.std.specs.Prelude.{◌≡◌, ◌≤◌, ◌<◌, ◌++◌, ◌∷◌, [], Some, codes, length, IfOk, OnOk};
+ghost use Rattle.std.specs.Prelude.{◌≡◌, ◌≤◌, ◌<◌, ◌++◌, ◌∷◌, [], Some, codes, length, IfOk, OnOk, option_map};
 ghost use Rattle.serde_json.specs.Find.{get};
 ghost use Rattle.tk_plan.specs.JsonValues.{view};
 ghost use Rattle.tk_plan.specs.Answers.{Reads};
-ghost use Rattle.tk_plan.specs.Checks.{row, must};
+ghost use Rattle.tk_plan.specs.Checks.{member_at, member_wrong, must};
 ghost use Rattle.tk_plan.specs.PlanOf.{PlanOf, one_or_two, is_two, takes_files_in, anything, top};
 ghost use Rattle.tk_plan.specs.Gives.{plan_in, Answered};
 ghost use Rattle.tk_plan.specs.Progress.{IsNoted};
@@ -19,7 +19,7 @@ use crate::json_members::known_members;
 use crate::json_numbers::whole_number_in;
 use crate::json_paths::JsonPath;
 use crate::json_texts::read_json;
-use crate::json_values::member;
+use crate::json_values::into_members;
 use crate::lock_keys::key_list;
 use crate::node_reading::read_nodes;
 use crate::path_texts::wrong_member;
@@ -31,11 +31,12 @@ use tk_cutting::{Plan, count_events};
 use tk_ids::{Descriptor, Table};
 
 /// Reads the member `version`, which is 1 or 2: whether it is 2, so that nodes may have files.
-fn version_member(alloc: Global, object: &Value<'_>) -> Result<bool, PlanFault>
-    ensures { Reads (row [] (view object.now) (must (codes "version") one_or_two))
-        (λ b. b ≡ is_two (get (codes "version") (view object.now))) result }
+fn version_member(alloc: Global, version: Option<Value<'_>>) -> Result<bool, PlanFault>
+    ensures { Reads (member_wrong (must (codes "version") one_or_two)
+        (member_at [] (codes "version")) (option_map view version.entry))
+        (λ b. b ≡ is_two (option_map view version.entry)) result }
 {
-    match member(object, "version").and_then(whole_number_in) {
+    match version.as_ref().and_then(whole_number_in) {
         Some(1) => Ok(false),
         Some(2) => Ok(true),
         _ => Err(wrong_member(alloc, JsonPath::Whole(""), "version")),
@@ -43,28 +44,27 @@ fn version_member(alloc: Global, object: &Value<'_>) -> Result<bool, PlanFault>
 }
 
 /// Reads the member `root`.
-fn root_member<'v, 't>(alloc: Global, object: &'v Value<'t>) -> Result<&'v Value<'t>, PlanFault>
-    ensures { Reads (row [] (view object.now) (must (codes "root") anything))
-        (λ v. get (codes "root") (view object.now) ≡ Some (view v.now)) result }
+fn root_member<'t>(alloc: Global, root: Option<Value<'t>>) -> Result<Value<'t>, PlanFault>
+    ensures { Reads (member_wrong (must (codes "root") anything)
+        (member_at [] (codes "root")) (option_map view root.entry))
+        (λ v. option_map view root.entry ≡ Some (view v)) result }
 {
-    match member(object, "root") {
+    match root {
         Some(root) => Ok(root),
         None => Err(wrong_member(alloc, JsonPath::Whole(""), "root")),
     }
 }
 
 /// Reads the members of the whole value: whether nodes may have files, and the root.
-fn top_members<'v, 't>(
-    alloc: Global,
-    value: &'v Value<'t>,
-) -> Result<(bool, &'v Value<'t>), PlanFault>
-    ensures { Reads (top [] (view value.now))
-        (λ t. (t.0 ≡ takes_files_in (view value.now))
-        × (get (codes "root") (view value.now) ≡ Some (view t.1.now))) result }
+fn top_members<'t>(alloc: Global, value: Value<'t>) -> Result<(bool, Value<'t>), PlanFault>
+    ensures { Reads (top [] (view value.entry))
+        (λ t. (t.0 ≡ takes_files_in (view value.entry))
+        × (get (codes "root") (view value.entry) ≡ Some (view t.1))) result }
 {
-    known_members(alloc, JsonPath::Whole(""), value, &["version", "root"])?;
-    let takes_files = version_member(alloc, value)?;
-    let root = root_member(alloc, value)?;
+    known_members(alloc, JsonPath::Whole(""), &value, &["version", "root"])?;
+    let (version, root) = into_members(value, "version", "root");
+    let takes_files = version_member(alloc, version)?;
+    let root = root_member(alloc, root)?;
     Ok((takes_files, root))
 }
 
@@ -101,8 +101,8 @@ fn plan_from(alloc: Global, reader: Reader) -> Result<Plan, AllocError>
 }
 
 /// Reads the nodes of the plan that a value stands for.
-fn nodes_of(alloc: Global, value: &Value<'_>) -> Result<Reader, PlanFault>
-    ensures { IsReadFrom (PlanOf (view value.now)) result }
+fn nodes_of(alloc: Global, value: Value<'_>) -> Result<Reader, PlanFault>
+    ensures { IsReadFrom (PlanOf (view value.entry)) result }
 {
     let (takes_files, root) = top_members(alloc, value)?;
     let reader = read_nodes(alloc, takes_files, root)?;
@@ -112,8 +112,7 @@ fn nodes_of(alloc: Global, value: &Value<'_>) -> Result<Reader, PlanFault>
     }
 }
 
-/// Reads the nodes of a plan from its text. The text's JSON value ends here, so that what follows
-/// gets its memory.
+/// Reads the nodes of a plan from its text.
 fn read_text(alloc: Global, bytes: &[u8]) -> Result<Reader, PlanFault>
     ensures { IsReadFrom (plan_in bytes.now) result }
 {
@@ -122,7 +121,7 @@ fn read_text(alloc: Global, bytes: &[u8]) -> Result<Reader, PlanFault>
     };
     let mut scratch = Scratch::new(alloc);
     let value = read_json(alloc, text, &mut scratch)?;
-    nodes_of(alloc, &value)
+    nodes_of(alloc, value)
 }
 
 /// Reads a plan from its JSON text, of version 1 or 2.

@@ -1,5 +1,7 @@
-use Rattle.std.proofs.Common.{◌≤◌, length, sym, subst}
+use Rattle.std.proofs.Common.{◌≤◌, ◌==◌, ◌&&◌, length, sym, ap, ap₂, ◌∙◌, subst}
 use Rattle.std.proofs.lemmas.Result.{err_from_is_err_and}
+use Rattle.std.proofs.lemmas.List.{length-map}
+use Rattle.tk_plan.specs.JsonValues.{view}
 use Rattle.tk_plan.specs.Seen.{seen}
 use Rattle.tk_plan.specs.NodeInputs as spec
 use Rattle.tk_plan.proofs.CheckSteps.{faults_also, faults_from_path, deep_fault, field_fault, both}
@@ -28,7 +30,7 @@ returns c =
       n.0,
       record {
         node = λ i. record {
-          is_static = c.args.node_input.is_static;
+          is_static = c.args.node_input.place.is_static;
           dtype = f.1.heading.dtype i;
           segment = n.1.segment i;
           name = f.1.heading.name i;
@@ -42,8 +44,7 @@ returns c =
           files = f.1.content.files.paths i;
         };
         id = n.1.id;
-        children = f.1.children;
-        dynamic = f.1.dynamic;
+        leaf = ap₂ (λ m n. m == 0 && n == 0) (sym (length-map _ view) ∙ ap length f.1.children) (sym (length-map _ view) ∙ ap length f.1.dynamic);
         lawful = both _ _ f.1.content.ending.lawful (both _ _ f.1.content.reports.increasing f.1.content.files.lawful);
         level = c.if-node_input-gt-MAX_LEVELS.false;
         nodes = e.nodes;

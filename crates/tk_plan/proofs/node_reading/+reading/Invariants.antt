@@ -1,4 +1,4 @@
-use Rattle.std.proofs.Common.{◌-◌, ◌+◌, ◌*◌, map, drop}
+use Rattle.std.proofs.Common.{◌-◌, ◌+◌, ◌*◌, map}
 use Rattle.tk_plan.specs.JsonValues.{view}
 use Rattle.tk_plan.specs.Checks.{member_at}
 use Rattle.tk_plan.specs.Pointers.{pointer}
@@ -10,14 +10,14 @@ abbrev pub decreases-read_all : goal.decreases-read_all
 decreases-read_all l = 3 * (60 - l.parent.level) + 1
 
 abbrev pub decreases-read_node : goal.decreases-read_node
-decreases-read_node l = 3 * (61 - l.node_input.level)
+decreases-read_node l = 3 * (61 - l.place.level)
 
 abbrev pub decreases-read_below : goal.decreases-read_below
-decreases-read_below l = 3 * (60 - l.node_input.level) + 2
+decreases-read_below l = 3 * (60 - l.place.level) + 2
 
 abbrev pub invariant-read_all-loop-index : goal.invariant-read_all-loop-index
 invariant-read_all-loop-index l =
     Goes (60 - l.parent.level) l.id l.initial.reader l.reader
-    (node_inputs_in (member_at (pointer l.parent.path) l.name) (l.parent.level + 1) l.id l.is_static l.parent.takes_files 0 l.initial.siblings (map view l.values))
-    (node_inputs_in (member_at (pointer l.parent.path) l.name) (l.parent.level + 1) l.id l.is_static l.parent.takes_files l.index l.siblings (map view (drop l.index l.values)))
-    × Met l.initial.siblings l.siblings (map view l.values) (map view (drop l.index l.values))
+    (node_inputs_in (member_at (pointer l.parent.path) l.name) (l.parent.level + 1) l.id l.is_static l.parent.takes_files 0 l.initial.siblings (map view l.fn.values.items))
+    (node_inputs_in (member_at (pointer l.parent.path) l.name) (l.parent.level + 1) l.id l.is_static l.parent.takes_files l.index-iterator.count l.siblings (map view l.index-iterator.iter.rest.items))
+    × Met l.initial.siblings l.siblings (map view l.fn.values.items) (map view l.index-iterator.iter.rest.items)

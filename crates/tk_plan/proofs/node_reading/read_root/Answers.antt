@@ -10,7 +10,7 @@ use Rattle.tk_plan.proofs.node_reading.read_root.Goals as goal
 
 pub returns : goal.returns
 returns c =
-    let r = view c.args.root.now in
+    let r = view c.args.root in
     let s : spec.NodeInput = record { path = codes "/root"; level = 1; is_static = true; takes_files = c.args.takes_files; above = []; earlier = c.in_ok-siblings.siblings; value = r } in
     let is : s ≡ root_at c.args.takes_files r = λ j. record { path = codes "/root"; level = 1; is_static = true; takes_files = c.args.takes_files; above = []; earlier = c.in_ok-siblings.ensures j; value = r } in
     let q = c.requires in
