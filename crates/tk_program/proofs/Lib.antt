@@ -1,2 +1,3 @@
 mod Loads
 mod Replays
+mod Runs

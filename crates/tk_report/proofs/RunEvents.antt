@@ -17,9 +17,10 @@ use Rattle.tk_engine.specs.declared.runs.RunFault.{RunFault}
 use Rattle.tk_engine.specs.declared.runs.RunFault.TheVariants as runs
 use Rattle.tk_record_report.specs.Reports.{report_of_record}
 use Rattle.tk_run_laws.specs.Reports.{report_of_plan}
+use Rattle.tk_report.specs.declared.plan_runs.PlanRun.{PlanRun}
 use Rattle.tk_report.specs.declared.faults.ReportFault.{ReportFault}
 use Rattle.tk_report.specs.declared.faults.ReportFault.TheVariants.{Plan, Run, Device, Memory}
-use Rattle.tk_report.specs.Answers.{IsNotRun, IsRunFault, IsRunReport, IsReported, MayWork, plan_text}
+use Rattle.tk_report.specs.Answers.{IsNotRun, IsPlanRun, IsRunFault, IsRunOfPlan, IsRunReport, IsReported, MayWork, OfPlan, plan_text}
 use Rattle.tk_report.specs.Faults.{fault_of_plan, fault_of_run}
 
 -- what is not out of the limits is within them
@@ -34,63 +35,62 @@ refused : (workers : ℕ) → (workers ≡ 0) ⊎ (MAX_WORKERS < workers) → ¬
 refused workers (inl none) may = let some = may.0 in omega (arith, none, some)
 refused workers (inr many) may = let few = may.1 in omega (arith, many, few)
 
-pub stated : (bytes : List ℕ) (workers : ℕ) (old new : Option (List ℕ)) (result : Result (Unit {0}) ReportFault) (plan : Outline) (r : Recorded) → Answered (plan_in bytes) (Ok plan)
-    → report_of_record r ≡ report_of_plan plan.nodes plan.table → MayWork workers → IsRunReport r old new result → IsReported bytes workers old new result
-stated bytes workers old new result plan r (t, is, p) same may h =
+-- the report of a plan's run was written, or a prefix of it, or nothing
+pub reported : (bytes : List ℕ) (workers : ℕ) (old new : Option (List ℕ)) (run : PlanRun) (result : Result (Unit {0}) ReportFault) → IsRunOfPlan bytes workers run
+    → IsRunReport run.results.recorded old new result → IsReported bytes workers old new result
+reported bytes workers old new run result of h =
     by_result result h where
-      text : report_of_record r ≡ plan_text t
-      text = same ∙ ap (λ (o : Outline). report_of_plan o.nodes o.table) p
+      text : report_of_record run.results.recorded ≡ plan_text of.report.0
+      text = of.report.2
 
-      by_result : (result : Result (Unit {0}) ReportFault) → IsRunReport r old new result → IsReported bytes workers old new result
-      by_result (Ok u) h = ((t, is, subst (Appends old new) text h), may)
+      by_result : (result : Result (Unit {0}) ReportFault) → IsRunReport run.results.recorded old new result → IsReported bytes workers old new result
+      by_result (Ok u) h = ((of.report.0, of.report.1, subst (Appends old new) text h), of.may_work)
       by_result (Err (Plan f)) h = absurd h
       by_result (Err (Run f)) h = absurd h
-      by_result (Err Device) h = ((t, is, subst (AppendsPrefix old new) text h), may)
+      by_result (Err Device) h = ((of.report.0, of.report.1, subst (AppendsPrefix old new) text h), of.may_work)
       by_result (Err Memory) h = h
 
+-- a plan that is not run is not reported
+pub not_reported : (bytes : List ℕ) (workers : ℕ) (old new : Option (List ℕ)) (fault : ReportFault) → IsPlanRun bytes workers (Err fault) → new ≡ old → IsReported bytes workers old new (Err fault)
+not_reported bytes workers old new (Plan f) why kept = (why, kept)
+not_reported bytes workers old new (Run f) why kept = (why, kept)
+not_reported bytes workers old new Device why kept = absurd why
+not_reported bytes workers old new Memory why kept = kept
+
+pub no_device : (bytes : List ℕ) (workers : ℕ) (fault : ReportFault) → IsPlanRun bytes workers (Err fault) → ¬ (IsErrOf {T = Unit {0}} (Err fault) Device)
+no_device bytes workers (Plan f) why e = cc
+no_device bytes workers (Run f) why e = cc
+no_device bytes workers Device why e = absurd why
+no_device bytes workers Memory why e = cc
+
+-- the record of a run of the plan has the plan's report
+pub has_report : (bytes : List ℕ) (plan : Outline) (r : Recorded) → Answered (plan_in bytes) (Ok plan) → report_of_record r ≡ report_of_plan plan.nodes plan.table → OfPlan bytes (λ text. report_of_record r ≡ text)
+has_report bytes plan r (t, is, p) same = (t, is, same ∙ ap (λ (o : Outline). report_of_plan o.nodes o.table) p)
+
 -- bytes that are no plan
-pub no_plan : (bytes : List ℕ) (workers : ℕ) (old new : Option (List ℕ)) (fault : PlanFault) → Answered (plan_in bytes) (Err fault) → new ≡ old → IsReported bytes workers old new (Err (fault_of_plan fault))
-no_plan bytes workers old new plans.Json is kept = ((is, λ e. absurd cc), kept)
-no_plan bytes workers old new (plans.Field path) is kept = ((is, λ e. absurd cc), kept)
-no_plan bytes workers old new (plans.Id why) is kept = ((is, λ e. absurd cc), kept)
-no_plan bytes workers old new (plans.Table why) is kept = ((is, λ e. absurd cc), kept)
-no_plan bytes workers old new plans.TooManyResources is kept = ((is, λ e. absurd cc), kept)
-no_plan bytes workers old new plans.EntryKeyTwice is kept = ((is, λ e. absurd cc), kept)
-no_plan bytes workers old new plans.TooManyEvents is kept = ((is, λ e. absurd cc), kept)
-no_plan bytes workers old new plans.Deep is kept = ((is, λ e. absurd cc), kept)
-no_plan bytes workers old new plans.Memory is kept = kept
+pub no_plan : (bytes : List ℕ) (workers : ℕ) (fault : PlanFault) → Answered (plan_in bytes) (Err fault) → IsPlanRun bytes workers (Err (fault_of_plan fault))
+no_plan bytes workers plans.Json is = (is, λ e. absurd cc)
+no_plan bytes workers (plans.Field path) is = (is, λ e. absurd cc)
+no_plan bytes workers (plans.Id why) is = (is, λ e. absurd cc)
+no_plan bytes workers (plans.Table why) is = (is, λ e. absurd cc)
+no_plan bytes workers plans.TooManyResources is = (is, λ e. absurd cc)
+no_plan bytes workers plans.EntryKeyTwice is = (is, λ e. absurd cc)
+no_plan bytes workers plans.TooManyEvents is = (is, λ e. absurd cc)
+no_plan bytes workers plans.Deep is = (is, λ e. absurd cc)
+no_plan bytes workers plans.Memory is = tt
 
 -- a plan that is not run
-module _ (bytes : List ℕ) (workers : ℕ) (old new : Option (List ℕ)) (plan : Outline) (is : Answered (plan_in bytes) (Ok plan)) (kept : new ≡ old) where
+module _ (bytes : List ℕ) (workers : ℕ) (plan : Outline) (is : Answered (plan_in bytes) (Ok plan)) where
   run : (fault : RunFault) → IsRunFault workers (length (units_of (forest plan.nodes))) fault → IsNotRun bytes workers fault
   run fault why = (is.0, is.1, subst (λ (o : Outline). IsRunFault workers (length (units_of (forest o.nodes))) fault) is.2 why)
 
   pub not_run : (fault : RunFault) → (fault ≡ runs.Workers → (workers ≡ 0) ⊎ (MAX_WORKERS < workers)) → (fault ≢ runs.Workers → MayWork workers) → fault ≢ runs.Capacity
-      → ((unit : ℕ) (why : UnitFault) → fault ≡ runs.Engine unit why → unit < length (units_of (forest plan.nodes))) → IsReported bytes workers old new (Err (fault_of_run fault))
-  not_run runs.Workers out may places failed = (run runs.Workers (refused workers (out refl)), kept)
+      → ((unit : ℕ) (why : UnitFault) → fault ≡ runs.Engine unit why → unit < length (units_of (forest plan.nodes))) → IsPlanRun bytes workers (Err (fault_of_run fault))
+  not_run runs.Workers out may places failed = run runs.Workers (refused workers (out refl))
   not_run runs.Capacity out may places failed = absurd (places refl)
-  not_run (runs.Engine unit why) out may places failed = (run (runs.Engine unit why) (may (λ e. absurd cc), failed unit why refl), kept)
-  not_run runs.Memory out may places failed = kept
-  not_run runs.Threads out may places failed = (run runs.Threads (may (λ e. absurd cc)), kept)
-
--- neither is said as a broken target
-pub plan_no_device : (fault : PlanFault) → ¬ (IsErrOf {T = Unit {0}} (Err (fault_of_plan fault)) Device)
-plan_no_device plans.Json e = cc
-plan_no_device (plans.Field path) e = cc
-plan_no_device (plans.Id why) e = cc
-plan_no_device (plans.Table why) e = cc
-plan_no_device plans.TooManyResources e = cc
-plan_no_device plans.EntryKeyTwice e = cc
-plan_no_device plans.TooManyEvents e = cc
-plan_no_device plans.Deep e = cc
-plan_no_device plans.Memory e = cc
-
-pub run_no_device : (fault : RunFault) → ¬ (IsErrOf {T = Unit {0}} (Err (fault_of_run fault)) Device)
-run_no_device runs.Workers e = cc
-run_no_device runs.Capacity e = cc
-run_no_device (runs.Engine unit why) e = cc
-run_no_device runs.Memory e = cc
-run_no_device runs.Threads e = cc
+  not_run (runs.Engine unit why) out may places failed = run (runs.Engine unit why) (may (λ e. absurd cc), failed unit why refl)
+  not_run runs.Memory out may places failed = tt
+  not_run runs.Threads out may places failed = run runs.Threads (may (λ e. absurd cc))
 
 -- a queue of 64 places is opened
 pub has_places : (◌≡◌ {A = ℕ} 64 0) ⊎ (1024 < 64) → ⊥

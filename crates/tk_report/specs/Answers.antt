@@ -11,8 +11,11 @@ use Rattle.tk_plan.specs.declared.faults.PlanFault.TheVariants as plans
 use Rattle.tk_plan.specs.Gives.{plan_in, outline, Answered}
 use Rattle.tk_engine.specs.declared.runs.RunFault.{RunFault}
 use Rattle.tk_engine.specs.declared.runs.RunFault.TheVariants as runs
+use Rattle.tk_engine.specs.Results.{IsTallied}
 use Rattle.tk_record_report.specs.Reports.{report_of_record}
 use Rattle.tk_run_laws.specs.Reports.{report_of_plan}
+use Rattle.tk_run_laws.specs.Scripts.{IsRunOf}
+use Rattle.tk_report.specs.declared.plan_runs.PlanRun.{PlanRun}
 use Rattle.tk_report.specs.declared.faults.ReportFault.{ReportFault}
 use Rattle.tk_report.specs.declared.faults.ReportFault.TheVariants.{Plan, Run, Device, Memory}
 
@@ -54,6 +57,22 @@ IsNotRun bytes workers fault = (t : Tree) × (plan_in bytes ≡ Ok t) × IsRunFa
 -- the bytes are no plan for this fault; want of memory is the report's own
 abbrev pub IsNoPlan : List ℕ → PlanFault → Type 0
 IsNoPlan bytes fault = Answered (plan_in bytes) (Err fault) × (fault ≢ plans.Memory)
+
+-- The bytes are a plan that was run by `workers` workers. The report of the run is the plan's.
+pub record IsRunOfPlan (bytes : List ℕ) (workers : ℕ) (run : PlanRun) : Type 0 where
+  pub plan : Answered (plan_in bytes) (Ok run.engine)
+  pub may_work : MayWork workers
+  pub is_run : IsRunOf run.engine.nodes run.engine.table workers run.results.recorded
+  pub tally : IsTallied workers run.results.closed run.results.recorded.entries
+  pub report : OfPlan bytes (λ text. report_of_record run.results.recorded ≡ text)
+
+-- What running a plan by `workers` workers answers. Nothing is written, so no target breaks.
+abbrev pub IsPlanRun : List ℕ → ℕ → Result PlanRun ReportFault → Type 0
+IsPlanRun bytes workers (Ok run) = IsRunOfPlan bytes workers run
+IsPlanRun bytes workers (Err (Plan f)) = IsNoPlan bytes f
+IsPlanRun bytes workers (Err (Run f)) = IsNotRun bytes workers f
+IsPlanRun bytes workers (Err Device) = ⊥
+IsPlanRun bytes workers (Err Memory) = Unit {0}
 
 -- What reporting a plan that is run by `workers` workers answers.
 abbrev pub IsReported : List ℕ → ℕ → Option (List ℕ) → Option (List ℕ) → Result (Unit {0}) ReportFault → Type 0

@@ -2,9 +2,11 @@
 #![tactic(auto)]
 
 mod faults;
+mod plan_runs;
 mod reporting;
 
 pub use faults::ReportFault;
-pub use reporting::{DEFAULT_CAPACITY, plan_report, write_report};
+pub use plan_runs::{DEFAULT_CAPACITY, PlanRun, run_plan};
+pub use reporting::{plan_report, write_report};
 pub use tk_record_report::write_report_of;
 pub use tk_scripted::{Results, RunFault, Scripted, execute};

@@ -6,18 +6,13 @@ ghost use Rattle.tk_record_report.specs.Reports.{report_of_record};
 ghost use Rattle.tk_report.specs.Answers.{IsReported, IsRunReport};
 
 use crate::faults::ReportFault;
+use crate::plan_runs::run_plan;
 use std::alloc::Global;
 use std::sync::Wait;
 use std::thread::Threads;
-use tk_engine::{Results, execute};
-use tk_plan::read_plan;
+use tk_engine::Results;
 use tk_record::{Target, WriteFault};
 use tk_record_report::write_report_of;
-use tk_run_laws::laws::report_is_unique;
-use tk_scripted::Scripted;
-
-/// How many places the queue of a run has where the caller gives no number, as in [`plan_report`].
-pub const DEFAULT_CAPACITY: usize = 64;
 
 /// Writes the report of a run into `target`: the nine statistics, then each id that has an event,
 /// in the order of the ids' texts, with the tails of its events in the record's order.
@@ -61,11 +56,6 @@ pub fn plan_report<R: Threads + Wait + Sync, T: Target>(
         result }
     ensures device { IsErrOf result ReportFault.Device → T.broken target.new ≡ true }
 {
-    let plan = read_plan(alloc, bytes)?;
-    let engine = Scripted::new(plan);
-    let results = execute(rt, alloc, &engine, workers, DEFAULT_CAPACITY)?;
-    report_is_unique();
-    // For the proof: the plan's invariant, which a call on the plan shows.
-    let _table = engine.plan().table();
-    write_report(alloc, &results, target)
+    let run = run_plan(rt, alloc, bytes, workers)?;
+    write_report(alloc, &run.results, target)
 }
