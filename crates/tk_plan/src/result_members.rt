@@ -110,13 +110,10 @@ fn only_pair(
         (IsOnlyPair (view item.now)) result }
 {
     let pair = two_texts(alloc, JsonPath::Inner(array, index, 0), item)?;
-    let mut pairs = Vec::with_capacity(alloc, 1)?;
-    pairs.push((
-        Text::copy(alloc, pair.first)?,
-        Text::copy(alloc, pair.second)?,
-    ))?;
+    let key = Text::copy(alloc, pair.first)?;
+    let stated = Text::copy(alloc, pair.second)?;
     Ok(Report {
-        pairs: Pairs::of(pairs).shared(alloc)?,
+        pairs: Pairs::shared_pair(alloc, key, stated)?,
         repeats: false,
     })
 }
