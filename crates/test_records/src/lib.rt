@@ -29,6 +29,8 @@ mod reports;
 #[cfg(test)]
 mod selections;
 #[cfg(test)]
+mod shared_pairs;
+#[cfg(test)]
 mod std_devices;
 #[cfg(test)]
 mod table_refusals;

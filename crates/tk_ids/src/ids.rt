@@ -71,9 +71,6 @@ pub const MAX_BYTES: usize = 4096;
 /// The most segments that an id may have.
 pub const MAX_SEGMENTS: usize = 64;
 
-/// How many bytes are reserved for a segment's text before it is written; a longer one grows.
-const SEGMENT_CAPACITY: usize = 64;
-
 /// What a segment keeps.
 #[derive(Drop)]
 struct SegmentTexts {
@@ -383,7 +380,11 @@ impl UniqueId {
         ensures id { OnOk result (IsId (self.now ++ segment.now ∷ [])) }
     {
         let text = self.as_text().as_str().as_bytes();
-        let mut bytes = Vec::with_capacity(alloc, text.len() + SEGMENT_CAPACITY)?;
+        // Room for all of it where nothing in the segment is escaped; a longer text grows.
+        let names = segment.tag().len().saturating_add(segment.value().len());
+        let signs = b"/[:]".len();
+        let capacity = text.len().saturating_add(names).saturating_add(signs);
+        let mut bytes = Vec::with_capacity(alloc, capacity)?;
         bytes.extend_from_slice(text)?;
         bytes.push(b'/')?;
         push_segment(&mut bytes, segment)?;
