@@ -53,8 +53,8 @@ fn report_plan<R: Threads + Wait + Sync, S: Source, T: Target>(
 /// Does a job: answers a question, replays a script of the queue, or runs a plan with the job's
 /// number of workers and reports the run.
 ///
-/// The answer is `false` where a match says no or an expectation fails, and else `true`. A run that
-/// was reported isn't freed, since a program ends after its job.
+/// The answer is `false` where a match says no or an expectation fails, and else `true`. The run of
+/// a plan isn't freed, since a program ends after its job.
 ///
 /// # Errors
 /// A fault of the job's own kind. A fault of a device means that the source or the target is
