@@ -19,7 +19,7 @@ use Rattle.tk_record.specs.Spelling.{joined, tail}
 use Rattle.tk_record_report.specs.declared.grouping.LinesById.{LinesById}
 use Rattle.tk_record_report.specs.Labels.{Label, events, label, labels, name}
 use Rattle.tk_record_report.specs.Reports.{label_line, written_so}
-use Rattle.tk_record_report.specs.Kept.{has_id, index_in, lines_at, lines_in, tail_line, text_of, IsGrouped, IndexesId, IndexesKey, AddsEvent, IsKept}
+use Rattle.tk_record_report.specs.Kept.{Lent, has_id, index_in, lines_at, lines_in, tail_line, text_of, IsGrouped, IndexesId, IndexesKey, AddsEvent, IsKept}
 
 abbrev pub Entries : Type 0
 Entries = List (List ℕ × List ℕ)
@@ -54,6 +54,22 @@ more_same xs false k = get_or_more xs [] k
 more_longer : (xs : List (List ℕ)) (b : Bool) → length xs ≤ length (if b then xs else xs ++ [] ∷ [])
 more_longer xs true = omega arith
 more_longer xs false = omega (arith, length-append xs ([] ∷ []))
+
+-- a text, lent as another one is
+lent_as : Lent → List ℕ → Lent
+lent_as k x = record { ref_ptr = k.ref_ptr; now = x }
+
+-- a new id got the next index, at which there is no line yet
+pub id_added : (old : LinesById) (ids : HashMap Lent ℕ (BuildHasherDefault FoldHasher)) (lines : Vec (List ℕ) Global) (id : Lent) (i : ℕ) → index_in old id.now ≡ None → i ≡ length old.lines.items
+    → ((q : Lent) → lookup (λ k. bytes_eq q.now k.now) ids.entries ≡ cond (bytes_eq id.now q.now) (Some i) (index_in old q.now))
+    → lines.items ≡ old.lines.items ++ [] ∷ [] → IndexesId old (record { lines = lines; ids = ids; keys = old.keys }) id.now i
+unfolding lent_as
+id_added old ids lines id i none next found more = record {
+  index = next ∙ sym (ap (λ o. unwrap_or o (length old.lines.items)) none);
+  found = λ x. found (lent_as id x);
+  lines = more ∙ sym (ap (λ (o : Option ℕ). if is_some o then old.lines.items else old.lines.items ++ [] ∷ []) none);
+  keys = refl;
+}
 
 module _ (old new : LinesById) (id : List ℕ) (i : ℕ) (h : IndexesId old new id i) where
   -- the id had the index, or gets the next one
@@ -245,7 +261,7 @@ gathers_none r kept left ids keys whole known = record {
 }
   where
     none : (x : List ℕ) → index_in kept x ≡ None
-    none x = ap (lookup (bytes_eq x)) ids
+    none x = ap (λ (es : List (Lent × ℕ)). lookup (λ k. bytes_eq x k.now) es) ids
 
 or_swap : (a b h : Bool) → (a || b) || h ≡ b || (a || h)
 or_swap true true h = refl

@@ -13,21 +13,21 @@ use Rattle.tk_ask.specs.Answers.{statistics_text}
 use Rattle.tk_ask.proofs.AnswerLemmas.{all_events}
 use Rattle.tk_record_report.specs.Labels.{Label, labels}
 use Rattle.tk_record_report.specs.Reports.{id_lines, id_texts, label_line, report_of_record, written_so}
-use Rattle.tk_record_report.specs.Kept.{kept_text, lines_of, with_lines}
+use Rattle.tk_record_report.specs.Kept.{Lent, kept_text, lines_of, with_lines}
 use Rattle.tk_record_report.proofs.Keeping.{Entries}
 
 ids_are : (ls : List Label) → flat_map kept_text (lines_of ls) ≡ flat_map (id_lines ls) (id_texts ls)
 ids_are ls = flat_map-map kept_text (λ x. (x, flat_map label_line (written_so x ls))) (id_texts ls)
 
 -- the first id that was left was written, with its lines
-pub id_written : (text more whole : List ℕ) (lines : List (List ℕ)) (left rest : List (List ℕ × ℕ)) (x : List ℕ) (i : ℕ) (read : List ℕ) →
+pub id_written : (text more whole : List ℕ) (lines : List (List ℕ)) (left rest : List (Lent × ℕ)) (x : Lent) (i : ℕ) (read : List ℕ) →
     All (λ e. e.1 < length lines) left → text ++ flat_map kept_text (with_lines lines left) ≡ whole → left ≡ (x, i) ∷ rest → read ≡ get_or lines i read →
-    more ≡ text ++ kept_text (x, read) → more ++ flat_map kept_text (with_lines lines rest) ≡ whole
+    more ≡ text ++ kept_text (x.now, read) → more ++ flat_map kept_text (with_lines lines rest) ≡ whole
 id_written text more whole lines left rest x i read within is first read_is written =
-    let below : i < length lines = All-head (λ (e : List ℕ × ℕ). e.1 < length lines) (x, i) rest (subst (All (λ (e : List ℕ × ℕ). e.1 < length lines)) first within) in
-    let here : more ≡ text ++ kept_text (x, get_or lines i []) = written ∙ ap (λ (l : List ℕ). text ++ kept_text (x, l)) (read_is ∙ get_or_default lines i read [] below) in
-    ap (λ (t : List ℕ). t ++ flat_map kept_text (with_lines lines rest)) here ∙ append_assoc text (kept_text (x, get_or lines i [])) (flat_map kept_text (with_lines lines rest))
-    ∙ ap (λ (es : List (List ℕ × ℕ)). text ++ flat_map kept_text (with_lines lines es)) (sym first) ∙ is
+    let below : i < length lines = All-head (λ (e : Lent × ℕ). e.1 < length lines) (x, i) rest (subst (All (λ (e : Lent × ℕ). e.1 < length lines)) first within) in
+    let here : more ≡ text ++ kept_text (x.now, get_or lines i []) = written ∙ ap (λ (l : List ℕ). text ++ kept_text (x.now, l)) (read_is ∙ get_or_default lines i read [] below) in
+    ap (λ (t : List ℕ). t ++ flat_map kept_text (with_lines lines rest)) here ∙ append_assoc text (kept_text (x.now, get_or lines i [])) (flat_map kept_text (with_lines lines rest))
+    ∙ ap (λ (es : List (Lent × ℕ)). text ++ flat_map kept_text (with_lines lines es)) (sym first) ∙ is
 
 pub report_is : (r : Recorded) (selected : Selected) (s : Statistics) (kept : Entries) (first second third : List ℕ) →
     selected ≡ all_of r → s ≡ statistics_of (events_of selected) → kept ≡ lines_of (labels r) →

@@ -1,11 +1,12 @@
 -- The ids that are kept, sorted by their texts.
-use Rattle.std.proofs.Common.{◌≡◌, ◌<◌, ◌+◌, ℕ, arith, suc, Bool, true, false, ◌||◌, List, [], ◌∷◌, map, length, get_or, Some, bytes_eq, cond, refl, sym, ap, ap₂, ◌∙◌, nat_cmp}
+use Rattle.std.proofs.Common.{◌≡◌, ◌<◌, ◌+◌, ℕ, arith, suc, Bool, true, false, ◌||◌, List, [], ◌∷◌, map, length, get_or, Some, Option, bytes_eq, cond, refl, sym, ap, ap₂, ◌∙◌, nat_cmp}
 use Rattle.std.specs.Prelude.{All, is_some}
 use Rattle.std.specs.List.{flat_map, fold, list_any, AllByRecursion, IsDistinct}
 use Rattle.std.specs.List.Sorted.{IsPermutation, IsSorted, IsStrictlySortedBy}
 use Rattle.std.specs.Ordering.{is_lt, match_ordering, ordering_reverse, ordering_then}
 use Rattle.std.specs.declared.cmp.Ordering.{Ordering}
 use Rattle.std.specs.declared.cmp.Ordering.TheVariants.{Less, Equal, Greater}
+use Rattle.std.specs.Cmp.{IsEquivalence, on_equiv}
 use Rattle.std.specs.Cmp.Lexicographic.{slice_cmp, nat_list_cmp_total, nat_list_eq_equiv, texts_ties, bytes_decides}
 use Rattle.std.specs.Map.{lookup, keys_of}
 use Rattle.std.specs.BTreeMap.{is_at}
@@ -15,41 +16,61 @@ use Rattle.std.proofs.lemmas.Option.{slice_get-get_or}
 use Rattle.std.proofs.lemmas.Map.Entries.{lookup_from_place, length-keys_of}
 use Rattle.std.proofs.lemmas.Map.Keys.{IsDistinct-IsPermutation, apart_from_distinct, sorted_from_all_adjacent}
 use Rattle.std.proofs.lemmas.Map.Lookups.{exact_bytes, btree_set_from_contains}
-use Rattle.std.proofs.lemmas.List.{get_or-map}
+use Rattle.std.proofs.lemmas.List.{get_or-map, length-map}
 use Rattle.std.proofs.lemmas.List.Sorted.{IsPermutation-map, All-permutation, list_any-IsPermutation}
 use Rattle.tk_ids.specs.IdText.{id_text}
 use Rattle.tk_record_report.specs.declared.grouping.LinesById.{LinesById}
 use Rattle.tk_record_report.specs.Labels.{Label}
 use Rattle.tk_record_report.specs.Reports.{id_texts, label_line, written_so}
-use Rattle.tk_record_report.specs.Kept.{has_id, lines_of, with_lines, IsInOrder, IsKept}
+use Rattle.tk_record_report.specs.Kept.{Lent, has_id, lines_of, with_lines, IsInOrder, IsKept}
 
 abbrev order : List ℕ → List ℕ → Ordering
 order = slice_cmp nat_cmp
 
 abbrev pub Indexed : Type 0
-Indexed = List ℕ × ℕ
+Indexed = Lent × ℕ
 
 abbrev by_id : Indexed → Indexed → Ordering
-by_id x y = ordering_then (order x.0 y.0) (nat_cmp x.1 y.1)
+by_id x y = ordering_then (order x.0.now y.0.now) (nat_cmp x.1 y.1)
+
+abbrev is_same : Lent → Lent → Bool
+is_same x y = bytes_eq x.now y.now
+
+is_same_equiv : IsEquivalence is_same
+is_same_equiv = on_equiv (λ x. x.now) nat_list_eq_equiv
+
+abbrev texts : List Indexed → List (List ℕ)
+texts es = map (λ (e : Indexed). e.0.now) es
 
 -- ---- different keys that are sorted rise
 
-rises : (x y : Indexed) → is_lt (by_id y x) ≡ false → bytes_eq x.0 y.0 ≡ false → order x.0 y.0 ≡ Less
-rises x y down apart = by (order y.0 x.0) refl down
+rises : (x y : Indexed) → is_lt (by_id y x) ≡ false → bytes_eq x.0.now y.0.now ≡ false → order x.0.now y.0.now ≡ Less
+rises x y down apart = by (order y.0.now x.0.now) refl down
   where
-    by : (o : Ordering) → order y.0 x.0 ≡ o → is_lt (ordering_then o (nat_cmp y.1 x.1)) ≡ false → order x.0 y.0 ≡ Less
+    by : (o : Ordering) → order y.0.now x.0.now ≡ o → is_lt (ordering_then o (nat_cmp y.1 x.1)) ≡ false → order x.0.now y.0.now ≡ Less
     by Less e h = absurd (true≢false h)
-    by Equal e h = absurd (true≢false (sym ((bytes_decides x.0 y.0).1 (sym (exact_bytes y.0 x.0 e))) ∙ apart))
-    by Greater e h = nat_list_cmp_total.antisymm x.0 y.0 ∙ ap ordering_reverse e
+    by Equal e h = absurd (true≢false (sym ((bytes_decides x.0.now y.0.now).1 (sym (exact_bytes y.0.now x.0.now e))) ∙ apart))
+    by Greater e h = nat_list_cmp_total.antisymm x.0.now y.0.now ∙ ap ordering_reverse e
 
-pub sorted_rises : (es sorted : List Indexed) → IsDistinct bytes_eq (keys_of es) → IsPermutation es sorted → IsSorted by_id sorted → IsStrictlySortedBy order (keys_of sorted)
+module _ (sorted : List Indexed) (distinct : IsDistinct is_same (keys_of sorted)) (up : IsSorted by_id sorted) where
+  next_rises : (d : Indexed) (k : ℕ) → k + 1 < length sorted → order (get_or (texts sorted) k []) (get_or (texts sorted) (k + 1) []) ≡ Less
+  next_rises d k lt =
+      let n = length-keys_of sorted in
+      let apart = apart_from_distinct is_same (keys_of sorted) k (k + 1) d.0 distinct (omega arith) (omega (arith, lt, n)) in
+      let key = get_or-map (λ (e : Indexed). e.0) sorted k d d.0 (omega (arith, lt)) in
+      let next_key = get_or-map (λ (e : Indexed). e.0) sorted (k + 1) d d.0 lt in
+      let first = get_or-map (λ (e : Indexed). e.0.now) sorted k d [] (omega (arith, lt)) in
+      let second = get_or-map (λ (e : Indexed). e.0.now) sorted (k + 1) d [] lt in
+      ap₂ order first second ∙ rises (get_or sorted k d) (get_or sorted (k + 1) d) (up k d (omega arith) lt) (sym (ap₂ is_same key next_key) ∙ apart)
+
+each_rises : (sorted : List Indexed) → IsDistinct is_same (keys_of sorted) → IsSorted by_id sorted → (k : ℕ) → k + 1 < length (texts sorted) → order (get_or (texts sorted) k []) (get_or (texts sorted) (k + 1) []) ≡ Less
+each_rises [] distinct up k lt = absurd (omega (arith, lt))
+each_rises (e ∷ es) distinct up k lt = next_rises (e ∷ es) distinct up e k (omega (arith, lt, length-map (e ∷ es) (λ (x : Indexed). x.0.now)))
+
+pub sorted_rises : (es sorted : List Indexed) → IsDistinct is_same (keys_of es) → IsPermutation es sorted → IsSorted by_id sorted → IsStrictlySortedBy order (texts sorted)
 sorted_rises es sorted distinct same up =
-    sorted_from_all_adjacent nat_list_cmp_total (keys_of sorted) [] (λ k lt.
-    let apart = apart_from_distinct bytes_eq (keys_of sorted) k (k + 1) [] (IsDistinct-IsPermutation bytes_eq nat_list_eq_equiv.symm (keys_of es) (keys_of sorted) (IsPermutation-map (λ (e : Indexed). e.0) es sorted same) distinct) (omega arith) lt in
-    let n = length-keys_of sorted in
-    let first = get_or-map (λ (e : Indexed). e.0) sorted k ([], 0) [] (omega (arith, lt, n)) in
-    let second = get_or-map (λ (e : Indexed). e.0) sorted (k + 1) ([], 0) [] (omega (arith, lt, n)) in
-    ap₂ order first second ∙ rises (get_or sorted k ([], 0)) (get_or sorted (k + 1) ([], 0)) (up k ([], 0) (omega arith) (omega (arith, lt, n))) (sym (ap₂ bytes_eq first second) ∙ apart))
+    sorted_from_all_adjacent nat_list_cmp_total (texts sorted) []
+    (each_rises sorted (IsDistinct-IsPermutation is_same is_same_equiv.symm (keys_of es) (keys_of sorted) (IsPermutation-map (λ (e : Indexed). e.0) es sorted same) distinct) up)
 
 -- ---- the ids of a list of labels, in order
 
@@ -120,26 +141,32 @@ any_puts q (l ∷ ls) ks = any_puts q ls (put_id ks l) ∙ ap (λ b. b || has_id
 
 -- ---- the ids that are kept are those
 
-any_entry : (q : List ℕ) (es : List Indexed) → list_any (λ (e : Indexed). bytes_eq e.0 q) es ≡ is_some (lookup (bytes_eq q) es)
+abbrev has_text : List ℕ → Indexed → Bool
+has_text q e = bytes_eq e.0.now q
+
+abbrev index_at : List ℕ → List Indexed → Option ℕ
+index_at q es = lookup (λ k. bytes_eq q k.now) es
+
+any_entry : (q : List ℕ) (es : List Indexed) → list_any (has_text q) es ≡ is_some (index_at q es)
 any_entry q [] = refl
-any_entry q (e ∷ es) = ap (λ b. b || list_any (λ (e : Indexed). bytes_eq e.0 q) es) (nat_list_eq_equiv.symm e.0 q) ∙ by (bytes_eq q e.0) (any_entry q es)
+any_entry q (e ∷ es) = ap (λ b. b || list_any (has_text q) es) (nat_list_eq_equiv.symm e.0.now q) ∙ by (bytes_eq q e.0.now) (any_entry q es)
   where
-    by : (b : Bool) → list_any (λ (e : Indexed). bytes_eq e.0 q) es ≡ is_some (lookup (bytes_eq q) es) → b || list_any (λ (e : Indexed). bytes_eq e.0 q) es ≡ is_some (cond b (Some e.1) (lookup (bytes_eq q) es))
+    by : (b : Bool) → list_any (has_text q) es ≡ is_some (index_at q es) → b || list_any (has_text q) es ≡ is_some (cond b (Some e.1) (index_at q es))
     by true rest = refl
     by false rest = rest
 
-any_key : (q : List ℕ) (es : List Indexed) → list_any (λ k. bytes_eq k q) (keys_of es) ≡ list_any (λ (e : Indexed). bytes_eq e.0 q) es
-any_key q [] = refl
-any_key q (e ∷ es) = ap (λ b. bytes_eq e.0 q || b) (any_key q es)
+any_text : (q : List ℕ) (es : List Indexed) → list_any (λ k. bytes_eq k q) (texts es) ≡ list_any (has_text q) es
+any_text q [] = refl
+any_text q (e ∷ es) = ap (λ b. bytes_eq e.0.now q || b) (any_text q es)
 
 any_tied : (q : List ℕ) (ks : List (List ℕ)) → list_any (is_at (order q)) ks ≡ list_any (λ k. bytes_eq k q) ks
 any_tied q [] = refl
 any_tied q (k ∷ ks) = ap₂ (λ a b. a || b) (sym (texts_ties q k) ∙ nat_list_eq_equiv.symm q k) (any_tied q ks)
 
 module _ (ls : List Label) (kept : LinesById) (sorted : List Indexed) (h : IsKept ls kept) (s : IsInOrder kept.ids sorted) where
-  keys_are : keys_of sorted ≡ id_texts ls
-  keys_are = btree_set_from_contains nat_list_cmp_total (record { keys = keys_of sorted }) (record { keys = id_texts ls }) s.ordered (ids_rise ls)
-      (λ q. any_tied q (keys_of sorted) ∙ any_key q sorted ∙ sym (list_any-IsPermutation (λ (e : Indexed). bytes_eq e.0 q) kept.ids.entries sorted s.same) ∙ any_entry q kept.ids.entries
+  texts_are : texts sorted ≡ id_texts ls
+  texts_are = btree_set_from_contains nat_list_cmp_total (record { keys = texts sorted }) (record { keys = id_texts ls }) s.ordered (ids_rise ls)
+      (λ q. any_tied q (texts sorted) ∙ any_text q sorted ∙ sym (list_any-IsPermutation (has_text q) kept.ids.entries sorted s.same) ∙ any_entry q kept.ids.entries
       ∙ h.ids q ∙ sym (any_puts q ls []) ∙ sym (any_tied q (id_texts ls)))
       (λ x y e. exact_bytes x y e)
 
@@ -147,13 +174,13 @@ module _ (ls : List Label) (kept : LinesById) (sorted : List Indexed) (h : IsKep
   said x = flat_map label_line (written_so x ls)
 
   abbrev HasLines : Indexed → Type 0
-  HasLines e = (e.1 < length kept.lines.items) × (get_or kept.lines.items e.1 [] ≡ said e.0)
+  HasLines e = (e.1 < length kept.lines.items) × (get_or kept.lines.items e.1 [] ≡ said e.0.now)
 
   entries_have : All HasLines kept.ids.entries
   entries_have k d lt =
       let e = get_or kept.ids.entries k d in
-      let at = lookup_from_place nat_list_eq_equiv kept.ids.entries k e.0 e.1 s.unique (slice_get-get_or kept.ids.entries k d lt) in
-      (h.below e.0 e.1 at, h.lines e.0 e.1 at)
+      let at = lookup_from_place is_same_equiv kept.ids.entries k e.0 e.1 s.unique (slice_get-get_or kept.ids.entries k d lt) in
+      (h.below e.0.now e.1 at, h.lines e.0.now e.1 at)
 
   sorted_have : All HasLines sorted
   sorted_have = All-permutation HasLines kept.ids.entries sorted s.same entries_have
@@ -161,10 +188,10 @@ module _ (ls : List Label) (kept : LinesById) (sorted : List Indexed) (h : IsKep
   pub within : All (λ e. e.1 < length kept.lines.items) sorted
   within k d lt = (sorted_have k d lt).0
 
-  own_values : (es : List Indexed) → ((k : ℕ) (d : Indexed) → k < length es → get_or kept.lines.items (get_or es k d).1 [] ≡ said (get_or es k d).0)
-      → with_lines kept.lines.items es ≡ map {B = List ℕ × List ℕ} (λ x. (x, said x)) (keys_of es)
+  own_values : (es : List Indexed) → ((k : ℕ) (d : Indexed) → k < length es → get_or kept.lines.items (get_or es k d).1 [] ≡ said (get_or es k d).0.now)
+      → with_lines kept.lines.items es ≡ map {B = List ℕ × List ℕ} (λ x. (x, said x)) (texts es)
   own_values [] f = refl
-  own_values (e ∷ es) f = ap₂ (λ (v : List ℕ) (l : List (List ℕ × List ℕ)). (e.0, v) ∷ l) (f 0 e (omega arith)) (own_values es (λ k d lt. f (suc k) d (omega arith)))
+  own_values (e ∷ es) f = ap₂ (λ (v : List ℕ) (l : List (List ℕ × List ℕ)). (e.0.now, v) ∷ l) (f 0 e (omega arith)) (own_values es (λ k d lt. f (suc k) d (omega arith)))
 
   pub sorted_is : with_lines kept.lines.items sorted ≡ lines_of ls
-  sorted_is = own_values sorted (λ k d lt. (sorted_have k d lt).1) ∙ ap (map {B = List ℕ × List ℕ} (λ x. (x, said x))) keys_are
+  sorted_is = own_values sorted (λ k d lt. (sorted_have k d lt).1) ∙ ap (map {B = List ℕ × List ℕ} (λ x. (x, said x))) texts_are

@@ -1,11 +1,12 @@
 -- What is kept for each id while a record is read.
 use Rattle.std.specs.Prelude.{◌≡◌, ◌<◌, ℕ, Bool, ◌||◌, if◌then◌else◌, cond, nat_eq, List, [], ◌∷◌, ◌++◌, length, map, get_or, Option, Some, None, is_some, bytes_eq}
+use Rattle.std.specs.Borrow.{Bor}
 use Rattle.std.specs.List.{flat_map, list_any}
 use Rattle.std.specs.List.Sorted.{IsPermutation, IsStrictlySortedBy}
 use Rattle.std.specs.Option.{unwrap_or}
 use Rattle.std.specs.Ordering.{nat_cmp}
 use Rattle.std.specs.Cmp.Lexicographic.{slice_cmp}
-use Rattle.std.specs.Map.{keys_of, lookup}
+use Rattle.std.specs.Map.{lookup}
 use Rattle.std.specs.HashMap.{HashMap, IsUnique}
 use Rattle.tk_ids.specs.IdText.{id_text}
 use Rattle.tk_columns.specs.Recorded.{Recorded}
@@ -28,13 +29,17 @@ lines_of ls = map (λ x. (x, flat_map label_line (written_so x ls))) (id_texts l
 abbrev pub kept_text : List ℕ × List ℕ → List ℕ
 kept_text entry = field_text entry.0 ++ 10 ∷ entry.1
 
+-- the text of an id that a record lends
+abbrev pub Lent : Type 0
+Lent = Bor (List ℕ)
+
 -- each id, by its text, with the lines at its index
-abbrev pub with_lines : List (List ℕ) → List (List ℕ × ℕ) → List (List ℕ × List ℕ)
-with_lines lines ids = map (λ e. (e.0, get_or lines e.1 [])) ids
+abbrev pub with_lines : List (List ℕ) → List (Lent × ℕ) → List (List ℕ × List ℕ)
+with_lines lines ids = map (λ e. (e.0.now, get_or lines e.1 [])) ids
 
 -- the index of an id's lines
 abbrev pub index_in : LinesById → List ℕ → Option ℕ
-index_in kept x = lookup (bytes_eq x) kept.ids.entries
+index_in kept x = lookup (λ k. bytes_eq x k.now) kept.ids.entries
 
 -- the lines at an index; none without one
 abbrev pub lines_at : List (List ℕ) → Option ℕ → List ℕ
@@ -87,7 +92,7 @@ pub record IsKept (ls : List Label) (kept : LinesById) : Type 0 where
   pub lines : (x : List ℕ) (i : ℕ) → index_in kept x ≡ Some i → get_or kept.lines.items i [] ≡ flat_map label_line (written_so x ls)
 
 -- the entries of a map in the order of its keys
-pub record IsInOrder {S : Type 0} (ids : HashMap (List ℕ) ℕ S) (sorted : List (List ℕ × ℕ)) : Type 0 where
-  pub unique : IsUnique bytes_eq ids
+pub record IsInOrder {S : Type 0} (ids : HashMap Lent ℕ S) (sorted : List (Lent × ℕ)) : Type 0 where
+  pub unique : IsUnique (λ x y. bytes_eq x.now y.now) ids
   pub same : IsPermutation ids.entries sorted
-  pub ordered : IsStrictlySortedBy (slice_cmp nat_cmp) (keys_of sorted)
+  pub ordered : IsStrictlySortedBy (slice_cmp nat_cmp) (map (λ e. e.0.now) sorted)

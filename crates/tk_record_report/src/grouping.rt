@@ -7,22 +7,21 @@ ghost use Rattle.tk_record_report.specs.Kept.{IsGrouped, IndexesId, IndexesKey, 
 use crate::lines::Lines;
 use std::alloc::{AllocError, Global};
 use std::collections::HashMap;
-use tk_ids::IdText;
 use tk_record::{EntryView, Record};
 
 /// The lines of each id that has an event. Keys whose ids have one text share their lines.
 #[derive(Drop)]
-pub(crate) struct LinesById {
+pub(crate) struct LinesById<'r> {
     pub(crate) lines: Vec<Lines>,
-    /// The index of an id's lines, by the text of the id.
-    pub(crate) ids: HashMap<IdText, usize>,
+    /// The index of an id's lines, by the text of the id, which the record lends.
+    pub(crate) ids: HashMap<&'r str, usize>,
     /// The same index by key, so that a text is looked up once for each key that has an event.
     keys: HashMap<u32, usize>,
 }
 
-impl LinesById {
+impl<'r> LinesById<'r> {
     /// No id.
-    fn new(alloc: Global) -> LinesById
+    fn new(alloc: Global) -> LinesById<'r>
         ensures ids { result.ids.entries ≡ [] }
         ensures keys { result.keys.entries ≡ [] }
     {
@@ -34,8 +33,8 @@ impl LinesById {
     }
 
     /// Finds the index of an id's lines. A new id gets one, at which there is no line yet.
-    fn index_of_id(&mut self, alloc: Global, id: IdText) -> Result<usize, AllocError>
-        ensures { IfOk result (IndexesId self.old self.new id) }
+    fn index_of_id(&mut self, alloc: Global, id: &'r str) -> Result<usize, AllocError>
+        ensures { IfOk result (IndexesId self.old self.new id.now) }
     {
         if let Some(index) = self.ids.get(&id) {
             return Ok(*index);
@@ -50,7 +49,7 @@ impl LinesById {
     fn index_of_key(
         &mut self,
         alloc: Global,
-        recording: &Record,
+        recording: &'r Record,
         key: u32,
     ) -> Result<usize, AllocError>
         requires grouped { IsGrouped recording.now self.old }
@@ -63,7 +62,7 @@ impl LinesById {
         let Some(descriptor) = recording.describe(key) else {
             unreachable!()
         };
-        let id = descriptor.id.shared_text()?;
+        let id = descriptor.id.as_text().as_str();
         let index = self.index_of_id(alloc, id)?;
         self.keys.insert(key, index)?;
         Ok(index)
@@ -73,7 +72,7 @@ impl LinesById {
     fn add(
         &mut self,
         alloc: Global,
-        recording: &Record,
+        recording: &'r Record,
         view: &EntryView<'_>,
     ) -> Result<(), AllocError>
         requires grouped { IsGrouped recording.now self.old }
@@ -86,7 +85,10 @@ impl LinesById {
 }
 
 /// The lines of each id that has an event.
-pub(crate) fn lines_of(alloc: Global, recording: &Record) -> Result<LinesById, AllocError>
+pub(crate) fn lines_of<'r>(
+    alloc: Global,
+    recording: &'r Record,
+) -> Result<LinesById<'r>, AllocError>
     ensures { IfOk result (IsKept (labels recording.now)) }
 {
     recording.is_record();
@@ -98,11 +100,11 @@ pub(crate) fn lines_of(alloc: Global, recording: &Record) -> Result<LinesById, A
 }
 
 /// The ids in the order of their texts, each with the index of its lines.
-pub(crate) fn in_order(
+pub(crate) fn in_order<'r>(
     alloc: Global,
-    ids: HashMap<IdText, usize>,
-) -> Result<Vec<(IdText, usize)>, AllocError>
-    ensures { IfOk result (λ sorted. IsInOrder ids sorted.items) }
+    ids: HashMap<&'r str, usize>,
+) -> Result<Vec<(&'r str, usize)>, AllocError>
+    ensures { IfOk result (λ sorted. IsInOrder ids.entry sorted.items) }
 {
     let mut sorted = Vec::with_capacity(alloc, ids.len())?;
     for entry in ids {

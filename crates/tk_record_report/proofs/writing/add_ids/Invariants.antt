@@ -4,4 +4,4 @@ use Rattle.tk_record_report.specs.Kept.{kept_text, with_lines}
 use Rattle.tk_record_report.proofs.writing.add_ids.Given as goal
 
 abbrev pub invariant-ids : goal.invariant-ids
-invariant-ids l = l.text.items ++ flat_map kept_text (with_lines l.lines (drop l.id-index l.ids)) ≡ l.initial.text.items ++ flat_map kept_text (with_lines l.lines l.ids)
+invariant-ids l = l.text.items ++ flat_map kept_text (with_lines l.lines (drop l.entry-index l.ids)) ≡ l.initial.text.items ++ flat_map kept_text (with_lines l.lines l.ids)

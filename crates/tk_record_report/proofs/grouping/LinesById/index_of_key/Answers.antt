@@ -9,7 +9,7 @@ returns-in-Some c = key_there c.args.recording.now c.args.self.now c.args.key c.
 
 pub returns : goal.returns
 returns c =
-    key_added c.args.recording.now c.args.self.now c.index_of_id.new.self c.insert.new.self c.args.key c.in_ok-index.index c.in_ok-id.id
+    key_added c.args.recording.now c.args.self.now c.index_of_id.new.self c.insert.new.self c.args.key c.in_ok-index.index c.as_str-id.result.now
     c.requires.grouped c.in_ok-index.ensures
-    (c.in_ok-id.ensures.text ∙ ap (λ o. id_text (id_in o)) c.in-Some-describe.ensures)
+    (c.as_str-id.ensures ∙ c.as_text.ensures.text ∙ ap (λ o. id_text (id_in o)) c.in-Some-describe.ensures)
     c.in_ok-insert.ensures.updates.0
