@@ -8,6 +8,6 @@ pub use Rattle.tk_events.specs.declared.payloads.Payload
 pub use Rattle.tk_book.specs.Wants
 pub use Rattle.tk_queue.specs.Ends
 pub use Rattle.tk_queue.specs.Known
-pub use Rattle.tk_engine.specs.Run
-pub use Rattle.tk_engine.specs.Engines
-pub use Rattle.tk_engine.specs.Grown
+pub use Rattle.tk_engine_execute.specs.Run
+pub use Rattle.tk_engine_execute.specs.Engines
+pub use Rattle.tk_engine_execute.specs.Grown

@@ -1,5 +1,5 @@
 //! What appending answers, without the entry that may come back.
-use tk_columns::{AppendFault, Record};
+use tk_record_columns::{AppendFault, Record};
 use tk_events::Entry;
 
 /// What appending an entry answered.

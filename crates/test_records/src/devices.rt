@@ -1,9 +1,9 @@
 //! Devices that pass one byte a call and break at some call, at each call in turn.
 use std::alloc::{AllocError, Global};
 use test_support::{OneByteSource, OneByteTarget, record_of, two_tests, two_tests_report};
-use tk_ask::{AskFault, ask};
+use testkit_questions::{AskFault, ask};
 use tk_record::{ReadFault, Record, WriteFault, write_record};
-use tk_record_report::write_report_of;
+use tk_report_text::write_report_of;
 use tk_streams::{ByteTarget, Target};
 
 // Whether the answer is that the device of the record broke.

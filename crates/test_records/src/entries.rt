@@ -2,7 +2,7 @@
 use crate::appending::{Answer, append};
 use std::alloc::Global;
 use test_support::record_of;
-use tk_columns::Record;
+use tk_record_columns::Record;
 use tk_events::{Entry, Event};
 use tk_record::{Version, read_event_line};
 

@@ -1,6 +1,6 @@
 //! Faults as texts.
 use std::alloc::Global;
-use tk_ask::AskFault;
+use testkit_questions::AskFault;
 use tk_query::CondFault;
 use tk_record::ReadFault;
 

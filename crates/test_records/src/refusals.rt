@@ -3,11 +3,11 @@
 use crate::appending::{Answer, append};
 use std::alloc::Global;
 use test_support::{start, two_tests, two_tests_report};
-use tk_columns::{Events, Record};
+use tk_record_columns::{Events, Record};
 use tk_events::Entry;
 use tk_query::{Condition, InOrder, executions, match_in_order, read_condition, select};
 use tk_record::{ReadFault, WriteFault, read_record, write_record, write_tail};
-use tk_record_report::write_report_of;
+use tk_report_text::write_report_of;
 use tk_streams::{ByteSource, ByteTarget, Target};
 
 // Whether a writer wrote this text; none where memory was refused to it, or to the target, which breaks then.

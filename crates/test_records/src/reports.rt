@@ -2,7 +2,7 @@
 use std::alloc::Global;
 use test_support::{record_of, two_tests, two_tests_report};
 use tk_record::Record;
-use tk_record_report::write_report_of;
+use tk_report_text::write_report_of;
 use tk_streams::ByteTarget;
 
 // Ids whose fields are in another order than their texts, one without an event, and one of two

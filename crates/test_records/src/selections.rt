@@ -1,7 +1,7 @@
 //! Selections of events.
 use std::alloc::{AllocError, Global};
 use test_support::{record_of, two_tests};
-use tk_columns::{Events, Record, Selection};
+use tk_record_columns::{Events, Record, Selection};
 
 // The text of a record with events of each kind and each status.
 fn each_kind() -> &'static [u8] {

@@ -1,7 +1,7 @@
 //! Engines of two lists of steps, one for unit 0 and one for each other unit.
 ghost use Rattle.std.specs.Prelude.{◌≡◌, ◌<◌, []};
 ghost use Rattle.std.specs.Arc.{arc_value};
-ghost use Rattle.tk_engine.specs.Grown.{Grew};
+ghost use Rattle.tk_engine_execute.specs.Grown.{Grew};
 
 use std::alloc::{AllocError, Global};
 use std::sync::atomic::{AtomicU64, Ordering};
@@ -9,7 +9,7 @@ use std::sync::{Arc, Wait};
 use std::thread;
 use test_support::{one_node, start};
 use tk_book::{BookSeat, Need};
-use tk_engine::{Engine, Sink, UnitFault};
+use tk_engine_execute::{Engine, Sink, UnitFault};
 use tk_events::Event;
 use tk_ids::{DType, Segment, Table};
 
@@ -126,7 +126,7 @@ impl StepEngine<'_> {
     }
 }
 
-#[tactic(auto, using(tk_engine::proofs::Growing::grew_same, tk_engine::proofs::Growing::grew_one))]
+#[tactic(auto, using(tk_engine_execute::proofs::Growing::grew_same, tk_engine_execute::proofs::Growing::grew_one))]
 fn emit<R: Wait, S: Sink>(rt: &R, sink: &mut S, stamp: u64) -> Result<(), UnitFault>
     ensures { Grew (S.meaning sink.old) (S.meaning sink.new) }
 {
@@ -137,7 +137,7 @@ fn emit<R: Wait, S: Sink>(rt: &R, sink: &mut S, stamp: u64) -> Result<(), UnitFa
 }
 
 // Fails with the number of the sink's worker, as the key of what it registers says, and with the unit's.
-#[tactic(auto, using(tk_engine::proofs::Growing::grew_same, tk_engine::proofs::Growing::grew_registered))]
+#[tactic(auto, using(tk_engine_execute::proofs::Growing::grew_same, tk_engine_execute::proofs::Growing::grew_registered))]
 fn fail_as_worker<R: Wait, S: Sink>(
     rt: &R,
     segment: &Segment,
@@ -155,7 +155,7 @@ fn fail_as_worker<R: Wait, S: Sink>(
     }
 }
 
-#[tactic(auto, using(tk_engine::proofs::Growing::grew_refl))]
+#[tactic(auto, using(tk_engine_execute::proofs::Growing::grew_refl))]
 fn play_one<R: Wait, S: Sink>(
     rt: &R,
     engine: &StepEngine,
@@ -175,7 +175,7 @@ fn play_one<R: Wait, S: Sink>(
     }
 }
 
-#[tactic(auto, using(tk_engine::proofs::Growing::grew_refl, tk_engine::proofs::Growing::grew_trans))]
+#[tactic(auto, using(tk_engine_execute::proofs::Growing::grew_refl, tk_engine_execute::proofs::Growing::grew_trans))]
 fn play<R: Wait, S: Sink>(
     rt: &R,
     engine: &StepEngine,

@@ -4,7 +4,7 @@ use std::alloc::Global;
 use std::sync::Wait;
 use std::thread::Threads;
 use test_support::{demo_plan, demo_report};
-use tk_engine::{RunFault, SinkFault, UnitFault};
+use tk_engine_execute::{RunFault, SinkFault, UnitFault};
 use tk_plan::{Plan, PlanFault, read_plan};
 use tk_queue::RegisterFault;
 use tk_report::{ReportFault, plan_report};

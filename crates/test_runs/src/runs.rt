@@ -4,7 +4,7 @@ use std::alloc::Global;
 use std::sync::Wait;
 use std::thread::Threads;
 use tk_book::Need;
-use tk_engine::{Results, RunFault, UnitFault, execute};
+use tk_engine_execute::{Results, RunFault, UnitFault, execute};
 
 // What a run answered, as a plain value.
 #[derive(Clone, Copy)]

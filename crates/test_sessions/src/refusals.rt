@@ -6,7 +6,7 @@ use std::sync::Wait;
 use std::test::*;
 use test_support::{one_node, small_replay, small_replay_taken, start};
 use tk_book::{Book, BookFault, Holdings, Need};
-use tk_claim::{Claim, ClaimFault};
+use tk_engine_claim::{Claim, ClaimFault};
 use tk_events::Kind;
 use tk_ids::{DType, Segment};
 use tk_queue::{

@@ -6,8 +6,8 @@ use std::process::ExitCode;
 use std::sync::Wait;
 use std::thread::Threads;
 use std::{env, io};
-use tk_command_line::{CommandLineFault, arguments_fault};
-use tk_program::{Fault, FaultLine, exit_code, perform};
+use testkit_command_line::{CommandLineFault, arguments_fault};
+use testkit_program::{Fault, FaultLine, exit_code, perform};
 use tk_record::{StdSource, StdTarget};
 
 /// The program's name and the words after it.

@@ -1,8 +1,3 @@
-pub mod UnstartedWorkers
-pub mod Emitted
-pub mod BeforeAndAfter
-pub mod Outcomes
-pub mod Positions
-pub mod Collecting
-pub mod Tokens
-pub mod Growing
+pub mod Numbers
+pub mod Noting
+pub mod Stepping

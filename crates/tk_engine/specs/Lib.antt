@@ -1,12 +1,4 @@
-pub use Rattle.tk_claim.specs.Claims
-pub use Rattle.tk_run_record.specs.Run
-pub mod Engines
-pub mod Grown
-pub mod EventCollectors
-pub mod Results
-pub mod Sinks
-pub mod Outcomes
-pub mod PreparedRuns
-pub mod WorkerThreads
-pub mod Workers
-pub mod FaultTexts
+pub use Rattle.tk_engine_laws.specs.Scripts
+pub mod Masks
+pub mod Keys
+pub mod Plays

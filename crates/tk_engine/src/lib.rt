@@ -1,18 +1,10 @@
-//! Engines, the sinks into which their units emit, and the run of an engine by one worker or by
-//! several.
+//! The engine of a plan: it emits the scripts of the plan's units.
 #![tactic(auto)]
 
-mod engines;
-mod event_collectors;
-mod results;
-mod runs;
-mod sinks;
-mod unstarted_workers;
-mod worker_threads;
-mod workers;
+mod keys;
+pub mod laws;
+mod playing;
+mod scripted;
 
-pub use engines::{Engine, MAX_UNITS, UnitFault};
-pub use results::Results;
-pub use runs::{RunFault, execute};
-pub use sinks::{Sink, SinkFault};
-pub use tk_claim::{Claim, ClaimFault, ClaimSeat};
+pub use scripted::Scripted;
+pub use tk_engine_execute::{Engine, MAX_UNITS, Results, RunFault, Sink, SinkFault, UnitFault, execute};

@@ -9,12 +9,12 @@ use Rattle.std.specs.List.{list_any, list_all, count_by}
 use Rattle.tk_ids.specs.IdText.{Pair}
 use Rattle.tk_ids.specs.declared.tables.Descriptor.{Descriptor}
 use Rattle.tk_ids.specs.declared.tables.TableFault.TheVariants.{Twice, Full}
-use Rattle.tk_cutting.specs.declared.nodes.Lock.{Lock}
-use Rattle.tk_cutting.specs.declared.nodes.Node.{Node}
-use Rattle.tk_cutting.specs.Ids.{descriptor, descriptor_in}
-use Rattle.tk_cutting.specs.Keys.{note_key, note_locks, lock_keys}
-use Rattle.tk_cutting.specs.Planned.{is_lawful_node}
-use Rattle.tk_cutting.specs.Trees.{contents}
+use Rattle.tk_plan_units.specs.declared.nodes.Lock.{Lock}
+use Rattle.tk_plan_units.specs.declared.nodes.Node.{Node}
+use Rattle.tk_plan_units.specs.Ids.{descriptor, descriptor_in}
+use Rattle.tk_plan_units.specs.Keys.{note_key, note_locks, lock_keys}
+use Rattle.tk_plan_units.specs.Planned.{is_lawful_node}
+use Rattle.tk_plan_units.specs.Trees.{contents}
 use Rattle.tk_plan.specs.Answers.{Refuses}
 use Rattle.tk_plan.specs.Refusals.{Faults, Meets}
 use Rattle.tk_plan.specs.Checks.{first}

@@ -6,16 +6,16 @@ use Rattle.std.specs.Cmp.Lexicographic.{bytes_decides}
 use Rattle.serde_json.specs.Data.{Data}
 use Rattle.tk_ids.specs.IdText.{Pair}
 use Rattle.tk_ids.specs.declared.tables.TableFault.TheVariants.{Twice, Full}
-use Rattle.tk_cutting.specs.declared.nodes.Node.{Node}
-use Rattle.tk_cutting.specs.Trees.{Tree, tree, Forest, no_trees, more}
-use Rattle.tk_cutting.specs.Ids.{ids, ids_below, AreDistinct}
+use Rattle.tk_plan_units.specs.declared.nodes.Node.{Node}
+use Rattle.tk_plan_units.specs.Trees.{Tree, tree, Forest, no_trees, more}
+use Rattle.tk_plan_units.specs.Ids.{ids, ids_below, AreDistinct}
 use Rattle.tk_plan.specs.Checks.{first, or_else}
 use Rattle.tk_plan.specs.NodeInputs.{NodeInput, repeats_key, segment_in, segment_of, node_of, below, node_inputs, node_inputs_in, children_in, dynamic_in, children_of, dynamic_of, grown, forest_of}
 use Rattle.tk_plan.specs.PlanOf.{checks, verdict, same_segment, node_check, id_fault, is_kind, when}
 use Rattle.tk_ids.specs.declared.tables.TheConstants.{MAX_DESCRIPTORS}
-use Rattle.tk_cutting.specs.declared.needs.TheConstants.{MAX_KEYS}
+use Rattle.tk_plan_units.specs.declared.needs.TheConstants.{MAX_KEYS}
 use Rattle.tk_plan.specs.declared.limits.TheConstants.{MAX_LEVELS}
-use Rattle.tk_cutting.specs.Keys.{lock_keys}
+use Rattle.tk_plan_units.specs.Keys.{lock_keys}
 use Rattle.tk_plan.specs.declared.faults.PlanFault.{PlanFault}
 use Rattle.tk_plan.specs.declared.faults.PlanFault.TheVariants.{Field, Id, Table, TooManyResources, EntryKeyTwice, Deep}
 use Rattle.tk_plan.proofs.Verdicts.{verdict-append, verdict-cons}

@@ -10,10 +10,10 @@ use Rattle.tk_plan.specs.JsonValues.{view}
 use Rattle.tk_plan.specs.JsonValues.{JsonValue}
 use Rattle.std.proofs.lemmas.Grind.{flat_map-append}
 use Rattle.tk_ids.specs.IdText.{Pair}
-use Rattle.tk_cutting.specs.declared.nodes.Node.{Node}
-use Rattle.tk_cutting.specs.declared.nodes.NumberedNode.{NumberedNode}
-use Rattle.tk_cutting.specs.Trees.{flat, contents}
-use Rattle.tk_cutting.specs.Ids.{descriptor_in, descriptors}
+use Rattle.tk_plan_units.specs.declared.nodes.Node.{Node}
+use Rattle.tk_plan_units.specs.declared.nodes.NumberedNode.{NumberedNode}
+use Rattle.tk_plan_units.specs.Trees.{flat, contents}
+use Rattle.tk_plan_units.specs.Ids.{descriptor_in, descriptors}
 use Rattle.tk_plan.specs.Checks.{first, or_else, item_at, member_at}
 use Rattle.tk_plan.specs.declared.faults.PlanFault.{PlanFault}
 use Rattle.tk_plan.specs.declared.plan_readers.Reader.{Reader}

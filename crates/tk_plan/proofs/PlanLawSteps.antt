@@ -1,9 +1,9 @@
 -- The laws of plans.
 use Rattle.std.proofs.Common.{◌≡◌, ◌≢◌, [], Option, Some, None, option_map, Result, Ok, Err, refl, sym, ap, ◌∙◌, subst}
 use Rattle.serde_json.specs.Data.{Data}
-use Rattle.tk_cutting.specs.Trees.{Tree}
-use Rattle.tk_cutting.specs.Ids.{ids, AreDistinct}
-use Rattle.tk_cutting.specs.Planned.{Outline}
+use Rattle.tk_plan_units.specs.Trees.{Tree}
+use Rattle.tk_plan_units.specs.Ids.{ids, AreDistinct}
+use Rattle.tk_plan_units.specs.Planned.{Outline}
 use Rattle.tk_plan.specs.Gives.{Answered, outline}
 use Rattle.tk_plan.specs.PlanOf.{PlanOf, top, root_of, first_fault, ok_unless, verdict}
 use Rattle.tk_plan.specs.Refusals.{IsFault}

@@ -6,15 +6,15 @@ use Rattle.std.proofs.lemmas.List.Sums.{sum_by-append}
 use Rattle.serde_json.specs.Data.{Data, null}
 use Rattle.serde_json.specs.Find.{get}
 use Rattle.tk_ids.specs.declared.tables.Descriptor.{Descriptor}
-use Rattle.tk_cutting.specs.declared.nodes.Node.{Node}
-use Rattle.tk_cutting.specs.declared.nodes.NumberedNode.{NumberedNode}
-use Rattle.tk_cutting.specs.Trees.{Tree, Forest, no_trees, more, flat, flats, forest, IsForest, contents}
-use Rattle.tk_cutting.specs.Ids.{ids, ids_below, descriptors, descriptors_below, AreDistinct}
-use Rattle.tk_cutting.specs.Keys.{lock_keys}
-use Rattle.tk_cutting.specs.Numbers.{of_kind}
-use Rattle.tk_cutting.specs.Planned.{IsPlanned, is_rooted, is_lawful_node}
-use Rattle.tk_cutting.specs.Script.{moves, moves_below}
-use Rattle.tk_cutting.proofs.Grows.{is_forest, forest-flats}
+use Rattle.tk_plan_units.specs.declared.nodes.Node.{Node}
+use Rattle.tk_plan_units.specs.declared.nodes.NumberedNode.{NumberedNode}
+use Rattle.tk_plan_units.specs.Trees.{Tree, Forest, no_trees, more, flat, flats, forest, IsForest, contents}
+use Rattle.tk_plan_units.specs.Ids.{ids, ids_below, descriptors, descriptors_below, AreDistinct}
+use Rattle.tk_plan_units.specs.Keys.{lock_keys}
+use Rattle.tk_plan_units.specs.Numbers.{of_kind}
+use Rattle.tk_plan_units.specs.Planned.{IsPlanned, is_rooted, is_lawful_node}
+use Rattle.tk_plan_units.specs.Script.{moves, moves_below}
+use Rattle.tk_plan_units.proofs.Grows.{is_forest, forest-flats}
 use Rattle.tk_plan.specs.Answers.{Refuses}
 use Rattle.tk_plan.specs.Checks.{first}
 use Rattle.tk_plan.specs.PlanOf.{PlanOf, top, takes_files_in, root_at, root_of, first_fault, events_fault, ok_unless, verdict, is_kind, when}

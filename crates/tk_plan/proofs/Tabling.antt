@@ -7,8 +7,8 @@ use Rattle.serde_json.specs.Data.{Data}
 use Rattle.tk_ids.specs.IdText.{Pair, parent_of}
 use Rattle.tk_ids.specs.Table.{ids_of, HasId, HasParent}
 use Rattle.tk_ids.specs.declared.tables.Descriptor.{Descriptor}
-use Rattle.tk_cutting.specs.Trees.{Tree, tree, Forest, no_trees, more}
-use Rattle.tk_cutting.specs.Ids.{ids, ids_below, descriptor, descriptors, descriptors_below}
+use Rattle.tk_plan_units.specs.Trees.{Tree, tree, Forest, no_trees, more}
+use Rattle.tk_plan_units.specs.Ids.{ids, ids_below, descriptor, descriptors, descriptors_below}
 use Rattle.tk_plan.specs.PlanOf.{same_segment, verdict}
 use Rattle.tk_plan.specs.NodeInputs.{NodeInput, segment_in, below, node_inputs, node_inputs_in, children_of, children_in, dynamic_of, dynamic_in, grown, forest_of}
 use Rattle.tk_plan.specs.Tables.{Follow}

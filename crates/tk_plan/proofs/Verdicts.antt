@@ -2,9 +2,9 @@
 use Rattle.std.proofs.Common.{◌≡◌, ℕ, zero, suc, List, [], ◌∷◌, ◌++◌, map, flat_map, Option, Some, None, refl, sym, ap, ap₂, ◌∙◌, append_assoc, append-nil}
 use Rattle.std.proofs.lemmas.List.{map-append}
 use Rattle.tk_ids.specs.IdText.{Pair}
-use Rattle.tk_cutting.specs.declared.nodes.Node.{Node}
-use Rattle.tk_cutting.specs.Trees.{Tree, flat, flats, contents}
-use Rattle.tk_cutting.specs.Ids.{descriptors, descriptors_below}
+use Rattle.tk_plan_units.specs.declared.nodes.Node.{Node}
+use Rattle.tk_plan_units.specs.Trees.{Tree, flat, flats, contents}
+use Rattle.tk_plan_units.specs.Ids.{descriptors, descriptors_below}
 use Rattle.tk_plan.specs.Checks.{first, or_else}
 use Rattle.tk_plan.specs.NodeInputs.{NodeInput, node_of, below, node_inputs, forest_of, grown}
 use Rattle.tk_plan.specs.PlanOf.{checks, joined, verdict}

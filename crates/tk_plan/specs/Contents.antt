@@ -12,7 +12,7 @@ use Rattle.tk_ids.specs.declared.tables.DType.{DType}
 use Rattle.tk_ids.specs.declared.tables.DType.TheVariants.{Container, Test, Both}
 use Rattle.tk_events.specs.declared.kinds.Status.{Status}
 use Rattle.tk_events.specs.declared.kinds.Status.TheVariants.{Successful, Aborted, Failed}
-use Rattle.tk_cutting.specs.declared.nodes.Lock.{Lock}
+use Rattle.tk_plan_units.specs.declared.nodes.Lock.{Lock}
 use Rattle.tk_plan.specs.Checks.{list_of}
 
 abbrev pub json_text : Option Data → List ℕ

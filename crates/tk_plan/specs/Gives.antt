@@ -3,10 +3,10 @@ use Rattle.std.specs.Prelude.{◌≡◌, ℕ, List, [], None, Some, Option, Resu
 use Rattle.std.specs.Str.{is_utf8}
 use Rattle.serde_json.specs.Data.{Data}
 use Rattle.serde_json.specs.Read.{read}
-use Rattle.tk_cutting.specs.Trees.{Tree, flat}
-use Rattle.tk_cutting.specs.Numbers.{numbered}
-use Rattle.tk_cutting.specs.Ids.{descriptors}
-use Rattle.tk_cutting.specs.Planned.{Outline}
+use Rattle.tk_plan_units.specs.Trees.{Tree, flat}
+use Rattle.tk_plan_units.specs.Numbers.{numbered}
+use Rattle.tk_plan_units.specs.Ids.{descriptors}
+use Rattle.tk_plan_units.specs.Planned.{Outline}
 use Rattle.tk_plan.specs.PlanOf.{PlanOf}
 use Rattle.tk_plan.specs.Refusals.{IsFault}
 use Rattle.tk_plan.specs.declared.faults.PlanFault.{PlanFault}

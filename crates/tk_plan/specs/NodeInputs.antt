@@ -4,9 +4,9 @@ use Rattle.std.specs.List.{list_any}
 use Rattle.serde_json.specs.Data.{Data}
 use Rattle.serde_json.specs.Find.{get}
 use Rattle.tk_ids.specs.IdText.{Pair}
-use Rattle.tk_cutting.specs.declared.nodes.Node.{Node}
-use Rattle.tk_cutting.specs.declared.nodes.Lock.{Lock}
-use Rattle.tk_cutting.specs.Trees.{Tree, tree, Forest, no_trees, more}
+use Rattle.tk_plan_units.specs.declared.nodes.Node.{Node}
+use Rattle.tk_plan_units.specs.declared.nodes.Lock.{Lock}
+use Rattle.tk_plan_units.specs.Trees.{Tree, tree, Forest, no_trees, more}
 use Rattle.tk_plan.specs.Checks.{member_at, item_at}
 use Rattle.tk_plan.specs.Contents.{json_text, json_optional, json_truth, json_dtype, json_segment, json_concurrent, json_locks, status_in, message_in, json_entries, json_files, repeats, listed}
 

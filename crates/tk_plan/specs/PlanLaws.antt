@@ -1,9 +1,9 @@
 -- What holds of plans alone.
 use Rattle.std.specs.Prelude.{◌≡◌, ◌≢◌, ℕ, List, [], Result, Ok, Err}
 use Rattle.serde_json.specs.Data.{Data}
-use Rattle.tk_cutting.specs.Trees.{Tree}
-use Rattle.tk_cutting.specs.Ids.{ids, AreDistinct}
-use Rattle.tk_cutting.specs.Planned.{Outline}
+use Rattle.tk_plan_units.specs.Trees.{Tree}
+use Rattle.tk_plan_units.specs.Ids.{ids, AreDistinct}
+use Rattle.tk_plan_units.specs.Planned.{Outline}
 use Rattle.tk_plan.specs.Gives.{plan_in, Answered}
 use Rattle.tk_plan.specs.PlanOf.{PlanOf}
 use Rattle.tk_plan.specs.declared.faults.PlanFault.{PlanFault}

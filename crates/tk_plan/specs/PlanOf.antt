@@ -11,16 +11,16 @@ use Rattle.tk_ids.specs.declared.ids.IdFault.TheVariants.{Empty, TooLong}
 use Rattle.tk_ids.specs.declared.tables.TheConstants.{MAX_DESCRIPTORS}
 use Rattle.tk_ids.specs.declared.tables.TableFault.TheVariants.{Twice, Full}
 use Rattle.tk_limits.specs.declared.limits.TheConstants.{MAX_EVENTS}
-use Rattle.tk_cutting.specs.declared.nodes.Node.{Node}
-use Rattle.tk_cutting.specs.Keys.{lock_keys}
-use Rattle.tk_cutting.specs.Trees.{Tree}
-use Rattle.tk_cutting.specs.Script.{moves}
+use Rattle.tk_plan_units.specs.declared.nodes.Node.{Node}
+use Rattle.tk_plan_units.specs.Keys.{lock_keys}
+use Rattle.tk_plan_units.specs.Trees.{Tree}
+use Rattle.tk_plan_units.specs.Script.{moves}
 use Rattle.tk_plan.specs.Checks.{Check, first, object_of, must}
 use Rattle.tk_plan.specs.Rows.{static_node, dynamic_node}
 use Rattle.tk_plan.specs.NodeInputs.{NodeInput, segment_of, node_of, repeats_key, node_inputs, grown}
 use Rattle.tk_plan.specs.declared.faults.PlanFault.{PlanFault}
 use Rattle.tk_plan.specs.declared.faults.PlanFault.TheVariants.{Field, Id, Table, TooManyResources, EntryKeyTwice, TooManyEvents, Deep}
-use Rattle.tk_cutting.specs.declared.needs.TheConstants.{MAX_KEYS}
+use Rattle.tk_plan_units.specs.declared.needs.TheConstants.{MAX_KEYS}
 use Rattle.tk_plan.specs.declared.limits.TheConstants.{MAX_LEVELS}
 
 abbrev pub when : {A : Type 0} → Bool → A → Option A

@@ -5,13 +5,13 @@ use Rattle.tk_ids.specs.IdText.{Pair}
 use Rattle.tk_ids.specs.declared.tables.Descriptor.{Descriptor}
 use Rattle.tk_ids.specs.declared.tables.TheConstants.{MAX_DESCRIPTORS}
 use Rattle.tk_ids.specs.declared.tables.TableFault.TheVariants.{Twice, Full}
-use Rattle.tk_cutting.specs.declared.needs.TheConstants.{MAX_KEYS}
-use Rattle.tk_cutting.specs.declared.nodes.Node.{Node}
-use Rattle.tk_cutting.specs.declared.nodes.NumberedNode.{NumberedNode}
-use Rattle.tk_cutting.specs.Ids.{descriptor_in, descriptors}
-use Rattle.tk_cutting.specs.Keys.{lock_keys}
-use Rattle.tk_cutting.specs.Planned.{is_lawful_node}
-use Rattle.tk_cutting.specs.Trees.{flat, contents}
+use Rattle.tk_plan_units.specs.declared.needs.TheConstants.{MAX_KEYS}
+use Rattle.tk_plan_units.specs.declared.nodes.Node.{Node}
+use Rattle.tk_plan_units.specs.declared.nodes.NumberedNode.{NumberedNode}
+use Rattle.tk_plan_units.specs.Ids.{descriptor_in, descriptors}
+use Rattle.tk_plan_units.specs.Keys.{lock_keys}
+use Rattle.tk_plan_units.specs.Planned.{is_lawful_node}
+use Rattle.tk_plan_units.specs.Trees.{flat, contents}
 use Rattle.tk_plan.specs.PlanOf.{is_kind, same_segment, when}
 use Rattle.tk_plan.specs.NodeInputs.{NodeInput, segment_of, id_of, node_of, children_of, dynamic_of, below, grown}
 use Rattle.tk_plan.specs.declared.faults.PlanFault.{PlanFault}

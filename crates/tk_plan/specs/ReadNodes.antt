@@ -1,8 +1,8 @@
 -- The nodes of a plan, before its table and its cutting are made.
 use Rattle.std.specs.Prelude.{◌≡◌, [], Result, Ok, Err}
-use Rattle.tk_cutting.specs.Ids.{descriptors}
-use Rattle.tk_cutting.specs.Planned.{IsPlanned}
-use Rattle.tk_cutting.specs.Trees.{Tree, flat}
+use Rattle.tk_plan_units.specs.Ids.{descriptors}
+use Rattle.tk_plan_units.specs.Planned.{IsPlanned}
+use Rattle.tk_plan_units.specs.Trees.{Tree, flat}
 use Rattle.tk_plan.specs.Progress.{IsNoted}
 use Rattle.tk_plan.specs.Refusals.{IsFault}
 use Rattle.tk_plan.specs.Tables.{Follow}

@@ -14,7 +14,7 @@ use crate::json_values::{items_in, member, text_in};
 use crate::path_texts::{member_path, wrong_item, wrong_value};
 use json::Value;
 use std::alloc::Global;
-use tk_cutting::Files;
+use tk_plan_units::Files;
 use tk_ids::Text;
 
 /// The path of a file, an item of the array there.

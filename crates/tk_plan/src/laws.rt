@@ -3,7 +3,7 @@ ghost use Rattle.std.specs.Prelude.{◌≡◌};
 ghost use Rattle.tk_plan.specs.declared.limits.TheConstants.{MAX_LEVELS};
 ghost use Rattle.tk_plan.specs.PlanLaws.{IdsDiffer, AnswerIsUnique};
 
-pub use tk_cutting::laws::{
+pub use tk_plan_units::laws::{
     finds_nodes, has_keys, keeps_stamps, loses_nothing, spine_events_are_steps,
 };
 

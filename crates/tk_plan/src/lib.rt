@@ -39,7 +39,7 @@ mod siblings;
 pub use faults::PlanFault;
 pub use limits::MAX_LEVELS;
 pub use plan_reading::read_plan;
-pub use tk_cutting::{
+pub use tk_plan_units::{
     Act, Entries, Files, Lock, Locks, MAX_EVENTS, MAX_KEYS, Node, NumberedNode, Plan, Step,
     count_events,
 };

@@ -1,10 +1,10 @@
 //! The different lock keys.
 ghost use Rattle.std.specs.Prelude.{◌≡◌, IfOk, OnOk};
-ghost use Rattle.tk_cutting.specs.Keys.{note_key, note_locks};
+ghost use Rattle.tk_plan_units.specs.Keys.{note_key, note_locks};
 
 use indexmap::IndexSet;
 use std::alloc::{AllocError, Global};
-use tk_cutting::Lock;
+use tk_plan_units::Lock;
 use tk_ids::Text;
 
 fn note(alloc: Global, keys: &mut IndexSet<Text>, key: &str) -> Result<(), AllocError>

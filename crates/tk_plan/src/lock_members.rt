@@ -15,7 +15,7 @@ use crate::json_values::{items_in, member, text_in};
 use crate::path_texts::{member_path, wrong_member, wrong_value};
 use json::Value;
 use std::alloc::Global;
-use tk_cutting::{Lock, Locks};
+use tk_plan_units::{Lock, Locks};
 
 /// Whether the lock writes.
 fn lock_mode_member(alloc: Global, at: JsonPath<'_>, object: &Value<'_>) -> Result<bool, PlanFault>

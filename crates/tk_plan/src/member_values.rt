@@ -1,6 +1,6 @@
 //! What readers of members hand on.
 
-use tk_cutting::Entries;
+use tk_plan_units::Entries;
 use tk_events::{Pairs, Status};
 use tk_ids::Text;
 

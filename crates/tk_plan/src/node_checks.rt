@@ -4,8 +4,8 @@ ghost use Rattle.std.specs.List.{count_by};
 ghost use Rattle.tk_plan.specs.JsonValues.{view};
 ghost use Rattle.tk_ids.specs.Answer.{IsMadeOf};
 ghost use Rattle.tk_ids.specs.declared.tables.TheConstants.{MAX_DESCRIPTORS};
-ghost use Rattle.tk_cutting.specs.Keys.{note_locks};
-ghost use Rattle.tk_cutting.specs.Trees.{contents};
+ghost use Rattle.tk_plan_units.specs.Keys.{note_locks};
+ghost use Rattle.tk_plan_units.specs.Trees.{contents};
 ghost use Rattle.tk_plan.specs.Answers.{Reads};
 ghost use Rattle.tk_plan.specs.Checks.{first};
 ghost use Rattle.tk_plan.specs.Fields.{HasFields, checked_of};
@@ -24,7 +24,7 @@ use crate::node_inputs::NodeInput;
 use crate::plan_readers::{Checked, Named, Reader};
 use crate::siblings::Siblings;
 use std::alloc::Global;
-use tk_cutting::{Lock, MAX_KEYS, Node};
+use tk_plan_units::{Lock, MAX_KEYS, Node};
 use tk_ids::{IdFault, MAX_DESCRIPTORS, Segment, TableFault, UniqueId};
 
 /// Reads the members of a node by its kind.

@@ -1,8 +1,8 @@
 //! Reading a plan's nodes.
 ghost use Rattle.std.specs.Prelude.{◌≡◌, ◌≤◌, ◌<◌, ◌+◌, ◌-◌, ◌++◌, ◌∷◌, [], length, map, flat_map, IfOk, OnOk};
 ghost use Rattle.tk_plan.specs.JsonValues.{view};
-ghost use Rattle.tk_cutting.specs.Trees.{flat, contents};
-ghost use Rattle.tk_cutting.specs.Ids.{descriptors};
+ghost use Rattle.tk_plan_units.specs.Trees.{flat, contents};
+ghost use Rattle.tk_plan_units.specs.Ids.{descriptors};
 ghost use Rattle.tk_plan.specs.Checks.{escape, member_at, first};
 ghost use Rattle.tk_plan.specs.Pointers.{pointer};
 ghost use Rattle.tk_plan.specs.PlanOf.{checks, verdict, root_at};
@@ -21,7 +21,7 @@ use crate::plan_readers::Reader;
 use crate::siblings::Siblings;
 use json::Value;
 use std::alloc::{AllocError, Global};
-use tk_cutting::{Node, NumberedNode};
+use tk_plan_units::{Node, NumberedNode};
 use tk_ids::{Descriptor, UniqueId};
 
 /// Puts the descriptor of a static node at the end, or counts a dynamic node.

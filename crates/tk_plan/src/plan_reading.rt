@@ -9,8 +9,8 @@ ghost use Rattle.tk_plan.specs.Gives.{plan_in, Answered};
 ghost use Rattle.tk_plan.specs.Progress.{IsNoted};
 ghost use Rattle.tk_plan.specs.ReadNodes.{IsReadFrom};
 ghost use Rattle.tk_plan.specs.Tables.{Follow};
-ghost use Rattle.tk_cutting.specs.Numbers.{numbered};
-ghost use Rattle.tk_cutting.specs.Planned.{IsPlanned};
+ghost use Rattle.tk_plan_units.specs.Numbers.{numbered};
+ghost use Rattle.tk_plan_units.specs.Planned.{IsPlanned};
 ghost use Rattle.std.specs.Arc.{arc_value};
 ghost use Rattle.tk_ids.specs.declared.tables.TheConstants.{MAX_DESCRIPTORS};
 
@@ -27,7 +27,7 @@ use crate::plan_readers::Reader;
 use json::{Scratch, Value};
 use std::alloc::{AllocError, Global};
 use std::sync::Arc;
-use tk_cutting::{Plan, count_events};
+use tk_plan_units::{Plan, count_events};
 use tk_ids::{Descriptor, Table};
 
 /// Reads the member `version`, which is 1 or 2: whether it is 2, so that nodes may have files.

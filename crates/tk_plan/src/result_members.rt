@@ -22,7 +22,7 @@ use crate::path_texts::{member_path, wrong_item, wrong_member, wrong_value};
 use json::Value;
 use std::alloc::{AllocError, Global};
 use std::collections::BTreeMap;
-use tk_cutting::Entries;
+use tk_plan_units::Entries;
 use tk_events::{Pairs, Status};
 use tk_ids::Text;
 

@@ -8,12 +8,12 @@ use Rattle.std.proofs.lemmas.Bool.{and_parts, or_cases}
 use Rattle.std.proofs.lemmas.Slice.Eq.{bytes_eq-Decides}
 use Rattle.tk_ids.specs.IdText.{Pair, IsEngine}
 use Rattle.tk_events.specs.declared.events.Entry.{Entry}
-use Rattle.tk_columns.specs.Recorded.{Recorded}
-use Rattle.tk_conditions.specs.declared.conditions.Condition as real
-use Rattle.tk_conditions.specs.declared.conditions.Condition.{Condition}
-use Rattle.tk_conditions.specs.Cond.{Conds, Nothing, More, Pairs, NoPairs, MorePairs}
-use Rattle.tk_conditions.specs.CondOf.{cond_of, conds_from, pairs_from}
-use Rattle.tk_conditions.proofs.Members.{cond_of-All, cond_of-Any}
+use Rattle.tk_record_columns.specs.Recorded.{Recorded}
+use Rattle.tk_query_conditions.specs.declared.conditions.Condition as real
+use Rattle.tk_query_conditions.specs.declared.conditions.Condition.{Condition}
+use Rattle.tk_query_conditions.specs.Cond.{Conds, Nothing, More, Pairs, NoPairs, MorePairs}
+use Rattle.tk_query_conditions.specs.CondOf.{cond_of, conds_from, pairs_from}
+use Rattle.tk_query_conditions.proofs.Members.{cond_of-All, cond_of-Any}
 use Rattle.tk_query.specs.Holds.{begins, has_within, is_engine, pairs_list, cond_holds, all_hold, any_holds, holds}
 
 -- two tests that are true where the other is

@@ -7,12 +7,12 @@ use Rattle.std.proofs.lemmas.List.{get_or-set_other}
 use Rattle.std.proofs.lemmas.Grind.{get_or-set_at}
 use Rattle.std.proofs.lemmas.Option.{same_Some, none-some}
 use Rattle.tk_events.specs.declared.events.Entry.{Entry}
-use Rattle.tk_columns.specs.declared.records.EntryView.{EntryView}
-use Rattle.tk_columns.specs.Record.{IsViewOf}
-use Rattle.tk_columns.specs.Recorded.{Recorded}
-use Rattle.tk_columns.specs.Selections.{passes}
-use Rattle.tk_columns.specs.declared.selections.Rule.{Rule}
-use Rattle.tk_conditions.specs.declared.conditions.Condition.{Condition}
+use Rattle.tk_record_columns.specs.declared.records.EntryView.{EntryView}
+use Rattle.tk_record_columns.specs.Record.{IsViewOf}
+use Rattle.tk_record_columns.specs.Recorded.{Recorded}
+use Rattle.tk_record_columns.specs.Selections.{passes}
+use Rattle.tk_record_columns.specs.declared.selections.Rule.{Rule}
+use Rattle.tk_query_conditions.specs.declared.conditions.Condition.{Condition}
 use Rattle.tk_query.specs.Holds.{holds}
 use Rattle.tk_query.specs.Keys.{AreAnswers, AreCandidates, AreKeys, HoldsWithin, IsKeyAt, IsOfKey, AnswersAt}
 use Rattle.tk_query.proofs.AskedLemmas.{map_get}

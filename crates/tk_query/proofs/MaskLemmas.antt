@@ -7,8 +7,8 @@ use Rattle.std.proofs.lemmas.Simd.{zip2-map}
 use Rattle.std.proofs.lemmas.List.{length-map, take_more, take_all, map-append}
 use Rattle.std.proofs.lemmas.List.Folds.{list_all-append, list_any-append}
 use Rattle.tk_events.specs.declared.events.Entry.{Entry}
-use Rattle.tk_columns.specs.Recorded.{Recorded}
-use Rattle.tk_conditions.specs.declared.conditions.Condition.{Condition}
+use Rattle.tk_record_columns.specs.Recorded.{Recorded}
+use Rattle.tk_query_conditions.specs.declared.conditions.Condition.{Condition}
 use Rattle.tk_query.specs.Holds.{holds}
 use Rattle.tk_query.specs.Keys.{AnswersAt}
 use Rattle.tk_query.proofs.AskedLemmas.{map_same}

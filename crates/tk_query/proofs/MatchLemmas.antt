@@ -6,14 +6,14 @@ use Rattle.std.specs.Option.{is_some}
 use Rattle.std.specs.Simd.Lanes.{zip2}
 use Rattle.std.proofs.lemmas.Bool.{cases_lt, and_parts, true≢false}
 use Rattle.tk_events.specs.declared.events.Entry.{Entry}
-use Rattle.tk_columns.specs.Recorded.{Recorded}
-use Rattle.tk_columns.specs.Selections.{PositionedEntry, Selected, passes, positioned_from, events_of}
-use Rattle.tk_conditions.specs.declared.conditions.Condition.{Condition}
+use Rattle.tk_record_columns.specs.Recorded.{Recorded}
+use Rattle.tk_record_columns.specs.Selections.{PositionedEntry, Selected, passes, positioned_from, events_of}
+use Rattle.tk_query_conditions.specs.declared.conditions.Condition.{Condition}
 use Rattle.tk_query.specs.Holds.{holds}
 use Rattle.tk_lanes.specs.Flags.{IsNextSet, IsNoneSet}
 use Rattle.tk_query.specs.Asked.{fits, AreLeft, HoldsOfSome}
 use Rattle.tk_query.specs.Keys.{HoldsWithin}
-use Rattle.tk_columns.specs.declared.selections.Rule.{Rule}
+use Rattle.tk_record_columns.specs.declared.selections.Rule.{Rule}
 use Rattle.tk_query.specs.Matches.{HoldsAt, IsFirstUnlike, IsFirstNowhere, HoldsSomewhere}
 use Rattle.tk_query.proofs.AskedLemmas.{AreFlags, asked_set, fits_clear, fits_set, map_get}
 use Rattle.tk_query.proofs.MaskLemmas.{and_true}

@@ -8,13 +8,13 @@ use Rattle.tk_events.specs.declared.kinds.Status.TheVariants as status
 use Rattle.tk_events.specs.declared.payloads.Payload.{Payload}
 use Rattle.tk_events.specs.declared.payloads.Payload.TheVariants.{Reason, Outcome, Report, Path}
 use Rattle.tk_events.specs.declared.events.Entry.{Entry}
-use Rattle.tk_columns.specs.DTypes.{is_test, is_container}
-use Rattle.tk_columns.specs.Entries.{of_kind, of_status, desc}
-use Rattle.tk_columns.specs.Recorded.{Recorded}
-use Rattle.tk_columns.specs.Selections.{has_type}
-use Rattle.tk_conditions.specs.Cond.{Bare, Test, Container, Engine, Started, Succeeded, Failed, Aborted, TextAtom, Id, Name, Skipped, FailedWith, AbortedWith, File, Pairs, NoPairs, MorePairs, Cond, Plain, With, OfKind, HasPairs, All, Any, Not, Conds, Nothing, More}
-use Rattle.tk_conditions.specs.CondOf.{cond_of}
-use Rattle.tk_conditions.specs.declared.conditions.Condition.{Condition}
+use Rattle.tk_record_columns.specs.DTypes.{is_test, is_container}
+use Rattle.tk_record_columns.specs.Entries.{of_kind, of_status, desc}
+use Rattle.tk_record_columns.specs.Recorded.{Recorded}
+use Rattle.tk_record_columns.specs.Selections.{has_type}
+use Rattle.tk_query_conditions.specs.Cond.{Bare, Test, Container, Engine, Started, Succeeded, Failed, Aborted, TextAtom, Id, Name, Skipped, FailedWith, AbortedWith, File, Pairs, NoPairs, MorePairs, Cond, Plain, With, OfKind, HasPairs, All, Any, Not, Conds, Nothing, More}
+use Rattle.tk_query_conditions.specs.CondOf.{cond_of}
+use Rattle.tk_query_conditions.specs.declared.conditions.Condition.{Condition}
 
 -- the text begins with this one
 abbrev pub begins : List ℕ → List ℕ → Bool

@@ -1,7 +1,7 @@
 -- What follows from the definitions of the matchers' answers and of executions.
 use Rattle.std.specs.Prelude.{◌≡◌, List}
-use Rattle.tk_columns.specs.Selections.{Selected}
-use Rattle.tk_conditions.specs.declared.conditions.Condition.{Condition}
+use Rattle.tk_record_columns.specs.Selections.{Selected}
+use Rattle.tk_query_conditions.specs.declared.conditions.Condition.{Condition}
 use Rattle.tk_query.specs.declared.answers.Exact.{Exact}
 use Rattle.tk_query.specs.declared.answers.Loose.{Loose}
 use Rattle.tk_query.specs.declared.answers.InOrder.{InOrder}

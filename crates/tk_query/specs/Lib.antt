@@ -1,6 +1,6 @@
-pub use Rattle.tk_conditions.specs.Answer
-pub use Rattle.tk_conditions.specs.Cond
-pub use Rattle.tk_conditions.specs.CondOf
+pub use Rattle.tk_query_conditions.specs.Answer
+pub use Rattle.tk_query_conditions.specs.Cond
+pub use Rattle.tk_query_conditions.specs.CondOf
 pub mod Holds
 pub mod Keys
 pub mod Asked

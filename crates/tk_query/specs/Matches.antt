@@ -1,9 +1,9 @@
 -- What the matchers answer.
 use Rattle.std.specs.Prelude.{◌≡◌, ◌≢◌, ℕ, ◌<◌, true, false, List, length, Some, slice_get}
 use Rattle.tk_events.specs.declared.events.Entry.{Entry}
-use Rattle.tk_columns.specs.Recorded.{Recorded}
-use Rattle.tk_columns.specs.Selections.{Selected, events_of}
-use Rattle.tk_conditions.specs.declared.conditions.Condition.{Condition}
+use Rattle.tk_record_columns.specs.Recorded.{Recorded}
+use Rattle.tk_record_columns.specs.Selections.{Selected, events_of}
+use Rattle.tk_query_conditions.specs.declared.conditions.Condition.{Condition}
 use Rattle.tk_query.specs.declared.answers.Exact.{Exact}
 use Rattle.tk_query.specs.declared.answers.Exact.TheVariants as exact
 use Rattle.tk_query.specs.declared.answers.Loose.{Loose}

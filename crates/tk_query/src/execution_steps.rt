@@ -4,7 +4,7 @@ ghost use Rattle.tk_query.specs.ExecutionSteps.{ending_of, transition_of, step_o
 ghost use Rattle.tk_query.specs.Asked.{entry_of};
 
 use crate::execution_lists::Ending;
-use tk_columns::EntryView;
+use tk_record_columns::EntryView;
 use tk_events::{Kind, Payload, Status};
 
 /// What an event does to the execution of its key.

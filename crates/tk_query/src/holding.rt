@@ -3,14 +3,14 @@ ghost use Rattle.std.specs.Prelude.{◌≡◌, ◌==◌, ◌&&◌, false, MatchO
 ghost use Rattle.std.specs.List.{list_all, list_any};
 ghost use Rattle.tk_events.specs.Event.{status_code};
 ghost use Rattle.tk_ids.specs.IdText.{id_text};
-ghost use Rattle.tk_columns.specs.DTypes.{is_test, is_container};
-ghost use Rattle.tk_columns.specs.Entries.{of_kind, of_status, desc};
-ghost use Rattle.tk_columns.specs.Selections.{has_type};
+ghost use Rattle.tk_record_columns.specs.DTypes.{is_test, is_container};
+ghost use Rattle.tk_record_columns.specs.Entries.{of_kind, of_status, desc};
+ghost use Rattle.tk_record_columns.specs.Selections.{has_type};
 ghost use Rattle.tk_query.specs.Holds.{holds, has_descriptor, has_within, has_reason, has_path, has_message, is_engine, same_pair, all_within, reports};
 ghost use Rattle.tk_query.specs.Asked.{entry_of};
 
-use tk_columns::{EntryView, Record};
-use tk_conditions::Condition;
+use tk_record_columns::{EntryView, Record};
+use tk_query_conditions::Condition;
 use tk_events::{Kind, Pairs, Payload, Status};
 use tk_ids::{Descriptor, Text};
 

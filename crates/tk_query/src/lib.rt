@@ -17,4 +17,4 @@ pub use execution_lists::{Ending, Execution, Executions};
 pub use masks::select;
 pub use matching::{match_exactly, match_in_order, match_loosely};
 pub use pairing::executions;
-pub use tk_conditions::{CondFault, Condition, MAX_DEPTH, read_condition, write_condition};
+pub use tk_query_conditions::{CondFault, Condition, MAX_DEPTH, read_condition, write_condition};

@@ -1,14 +1,14 @@
 //! Selecting events by a condition.
 ghost use Rattle.std.specs.Prelude.{◌≡◌, None, if◌then◌else◌, map, get_or, slice_get, IfOk, OnOk, MatchOption};
 ghost use Rattle.std.specs.List.{list_all, list_any};
-ghost use Rattle.tk_columns.specs.Selections.{filtered_by};
+ghost use Rattle.tk_record_columns.specs.Selections.{filtered_by};
 ghost use Rattle.tk_query.specs.Holds.{holds};
 ghost use Rattle.tk_query.specs.Keys.{AreAnswers, AreCandidates, AreKeys, HoldsWithin, IsKeyAt, IsOfKey, AnswersAt};
 
 use crate::holding::holds_at;
 use std::alloc::{AllocError, Global};
-use tk_columns::{Events, Record, Rule};
-use tk_conditions::Condition;
+use tk_record_columns::{Events, Record, Rule};
+use tk_query_conditions::Condition;
 use tk_events::{Kind, Status};
 use tk_lanes::Flags;
 

@@ -1,10 +1,10 @@
 //! Rules that a condition implies.
 ghost use Rattle.std.specs.Prelude.{IfSome};
-ghost use Rattle.tk_columns.specs.Recorded.{Recorded};
+ghost use Rattle.tk_record_columns.specs.Recorded.{Recorded};
 ghost use Rattle.tk_query.specs.Keys.{AllHoldWithin, HoldsWithin};
 
-use tk_columns::Rule;
-use tk_conditions::Condition;
+use tk_record_columns::Rule;
+use tk_query_conditions::Condition;
 use tk_events::{Kind, Status};
 
 /// A rule on kinds or statuses that each event passes of which the condition holds, where the

@@ -4,15 +4,15 @@ use Rattle.std.specs.Prelude.{All, slice_index, slice_index_or, IfNone, Option, 
 use Rattle.std.proofs.lemmas.Bool.{cases_eq, true_from_ne_false}
 use Rattle.std.proofs.lemmas.List.Elements.{All-nil, All-cons, All-head, All-tail}
 use Rattle.std.proofs.lemmas.List.Sums.{sum_by-cons}
-use Rattle.tk_columns.specs.Mixing.{IsWorkerOf, Mix}
-use Rattle.tk_replay.specs.Limits.{most_workers, worker_slots}
-use Rattle.tk_replay.specs.Core.{Core, IsCore, worker_of, items_of, entry, entries, script}
+use Rattle.tk_record_columns.specs.Mixing.{IsWorkerOf, Mix}
+use Rattle.tk_queue_core.specs.Limits.{most_workers, worker_slots}
+use Rattle.tk_queue_core.specs.Core.{Core, IsCore, worker_of, items_of, entry, entries, script}
 use Rattle.tk_queue.specs.Session.{Stands, Concludes, receiver}
 use Rattle.tk_queue.specs.Ends.{Least, SenderView, lists, tokens_of, token_of, is_marked, is_mark_of}
 use Rattle.tk_events.specs.declared.events.Event.{Event}
-use Rattle.tk_replay.specs.declared.items.Item.{Item}
-use Rattle.tk_replay.specs.declared.items.Item.TheVariants.{Entry as Emitted, End}
-use Rattle.tk_replay.proofs.CoreSteps.{filter-append}
+use Rattle.tk_queue_core.specs.declared.items.Item.{Item}
+use Rattle.tk_queue_core.specs.declared.items.Item.TheVariants.{Entry as Emitted, End}
+use Rattle.tk_queue_core.proofs.CoreSteps.{filter-append}
 use Rattle.tk_queue.proofs.SharedSteps.{holder_worker, events_in, events_among, events_scripted}
 
 pub worker_cases : (n w : ℕ) → IsWorkerOf (n + 1) w → IsWorkerOf n w ⊎ (w ≡ n + 1)

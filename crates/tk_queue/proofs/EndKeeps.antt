@@ -17,14 +17,14 @@ use Rattle.tk_events.specs.declared.events.Event.{Event}
 use Rattle.tk_events.specs.declared.events.Entry.{Entry}
 use Rattle.tk_events.specs.Event.{is_lawful}
 use Rattle.tk_events.specs.Registration.{registered_key}
-use Rattle.tk_columns.specs.Entries.{described, of_kind, registers, registered, desc, desc_in}
-use Rattle.tk_columns.specs.Record.{is_next}
-use Rattle.tk_columns.specs.Mixing.{IsWorkerOf, of_worker}
-use Rattle.tk_replay.specs.Limits.{most_workers, worker_slots}
-use Rattle.tk_replay.specs.declared.items.Item.{Item}
-use Rattle.tk_replay.specs.declared.items.Item.TheVariants.{Entry as Emitted, End}
-use Rattle.tk_replay.specs.Core.{worker_of, entry, entries}
-use Rattle.tk_replay.proofs.CoreSteps.{filter-append}
+use Rattle.tk_record_columns.specs.Entries.{described, of_kind, registers, registered, desc, desc_in}
+use Rattle.tk_record_columns.specs.Record.{is_next}
+use Rattle.tk_record_columns.specs.Mixing.{IsWorkerOf, of_worker}
+use Rattle.tk_queue_core.specs.Limits.{most_workers, worker_slots}
+use Rattle.tk_queue_core.specs.declared.items.Item.{Item}
+use Rattle.tk_queue_core.specs.declared.items.Item.TheVariants.{Entry as Emitted, End}
+use Rattle.tk_queue_core.specs.Core.{worker_of, entry, entries}
+use Rattle.tk_queue_core.proofs.CoreSteps.{filter-append}
 use Rattle.tk_queue.specs.declared.senders.SendFault.TheVariants as unsent
 use Rattle.tk_queue.specs.declared.session_rules.PassView.{PassView}
 use Rattle.tk_queue.specs.Limits.{most_events}

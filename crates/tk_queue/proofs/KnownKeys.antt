@@ -9,9 +9,9 @@ use Rattle.tk_ids.specs.declared.tables.Descriptor.{Descriptor}
 use Rattle.tk_events.specs.declared.kinds.Kind.TheVariants.{Dynamic}
 use Rattle.tk_events.specs.declared.events.Event.{Event}
 use Rattle.tk_events.specs.declared.events.Entry.{Entry}
-use Rattle.tk_columns.specs.Entries.{of_kind, registers, registered, desc, desc_in}
-use Rattle.tk_columns.specs.Record.{is_next, is_known}
-use Rattle.tk_columns.specs.Mixing.{of_worker}
+use Rattle.tk_record_columns.specs.Entries.{of_kind, registers, registered, desc, desc_in}
+use Rattle.tk_record_columns.specs.Record.{is_next, is_known}
+use Rattle.tk_record_columns.specs.Mixing.{of_worker}
 use Rattle.tk_queue.specs.Limits.{most_events}
 use Rattle.tk_queue.specs.Known.{entry_by, entries_by, is_known_after, MayEmit, Emission}
 

@@ -11,12 +11,12 @@ use Rattle.tk_events.specs.declared.kinds.Kind.TheVariants.{Dynamic}
 use Rattle.tk_events.specs.declared.events.Entry.{Entry}
 use Rattle.tk_events.specs.Event.{is_lawful}
 use Rattle.tk_events.specs.Registration.{registered_key}
-use Rattle.tk_columns.specs.declared.records.TheConstants.{MAX_ENTRIES}
-use Rattle.tk_columns.specs.declared.records.AppendFault.TheVariants as appends
-use Rattle.tk_columns.specs.Entries.{of_kind, registers, registered, desc_in}
-use Rattle.tk_columns.specs.Record.{is_next, is_known}
-use Rattle.tk_columns.specs.Mixing.{IsWorkerOf, of_worker}
-use Rattle.tk_replay.specs.Limits.{most_workers}
+use Rattle.tk_record_columns.specs.declared.records.TheConstants.{MAX_ENTRIES}
+use Rattle.tk_record_columns.specs.declared.records.AppendFault.TheVariants as appends
+use Rattle.tk_record_columns.specs.Entries.{of_kind, registers, registered, desc_in}
+use Rattle.tk_record_columns.specs.Record.{is_next, is_known}
+use Rattle.tk_record_columns.specs.Mixing.{IsWorkerOf, of_worker}
+use Rattle.tk_queue_core.specs.Limits.{most_workers}
 use Rattle.tk_queue.specs.Limits.{most_events}
 use Rattle.tk_queue.specs.Recording.{IsNeverRefused, IsShort}
 use Rattle.tk_queue.proofs.KnownKeys.{known_after}

@@ -9,20 +9,20 @@ use Rattle.crossbeam_queue.specs.Fifo.{Pushes, Forks, Merges, Learns}
 use Rattle.crossbeam_queue.specs.Fifo.{Pops as PopsUnder}
 use Rattle.crossbeam_queue.proofs.Lists.{at_set}
 use Rattle.tk_events.specs.declared.events.Event.{Event}
-use Rattle.tk_replay.specs.declared.items.Item.{Item}
-use Rattle.tk_replay.specs.declared.items.Item.TheVariants.{Entry as Emitted, End}
+use Rattle.tk_queue_core.specs.declared.items.Item.{Item}
+use Rattle.tk_queue_core.specs.declared.items.Item.TheVariants.{Entry as Emitted, End}
 use Rattle.tk_queue.specs.declared.session_rules.SenderPass.{SenderPass}
 use Rattle.tk_queue.specs.declared.session_rules.ReceiverPass.{ReceiverPass}
 use Rattle.tk_queue.specs.declared.session_rules.PassView.{PassView}
 use Rattle.tk_queue.specs.declared.session_rules.PassView.TheVariants.{Sender, Receiver, Spent}
-use Rattle.tk_columns.specs.Mixing.{IsWorkerOf, of_worker}
-use Rattle.tk_replay.specs.Core.{Core, IsCore, worker_of, push, put, take_first, items_of, entries}
+use Rattle.tk_record_columns.specs.Mixing.{IsWorkerOf, of_worker}
+use Rattle.tk_queue_core.specs.Core.{Core, IsCore, worker_of, push, put, take_first, items_of, entries}
 use Rattle.tk_queue.specs.Limits.{most_events}
 use Rattle.tk_queue.specs.Session.{Session, Fits, Stands, receiver, sender, new_receiver, pushed, popped, Pops, one_more, next_sender, with_token, Concludes, MayPush, MayTake, IsNext, IsReader, IsFirst, MayTakeIn, Follows, with_bit}
 use Rattle.tk_queue.specs.Steps.{IsStateOf, HoldsStates, fresh_core, BeginsFresh, PushIsStep, FullIsNone, TakeIsStep, EmptyIsNone, SplitIsNone, BitIsNone, JoinIsNone}
 use Rattle.tk_queue.specs.Known.{MayEmit, Emission}
 use Rattle.tk_queue.proofs.KnownKeys.{emission_none, emission_more}
-use Rattle.tk_replay.proofs.CoreSteps.{filter-append, takes, put-same, put-other}
+use Rattle.tk_queue_core.proofs.CoreSteps.{filter-append, takes, put-same, put-other}
 use Rattle.tk_queue.proofs.SharedSteps.{events_in, events_in-append, events_among, events_scripted, pushes_core, widens, waiting_worker}
 
 -- F of each pass

@@ -4,11 +4,11 @@ use Rattle.std.proofs.lemmas.Bool.{cases_lt}
 use Rattle.std.specs.Prelude.{filter}
 use Rattle.tk_events.specs.declared.events.Event.{Event}
 use Rattle.tk_events.specs.declared.events.Entry.{Entry}
-use Rattle.tk_columns.specs.Mixing.{IsWorkerOf, of_worker}
-use Rattle.tk_replay.specs.declared.items.Item.{Item}
-use Rattle.tk_replay.specs.declared.items.Item.TheVariants.{Entry as Emitted, End}
-use Rattle.tk_replay.specs.Core.{Core, IsCore, worker_of, items_of, script, push, entries}
-use Rattle.tk_replay.proofs.CoreSteps.{filter-append, emits, finishes}
+use Rattle.tk_record_columns.specs.Mixing.{IsWorkerOf, of_worker}
+use Rattle.tk_queue_core.specs.declared.items.Item.{Item}
+use Rattle.tk_queue_core.specs.declared.items.Item.TheVariants.{Entry as Emitted, End}
+use Rattle.tk_queue_core.specs.Core.{Core, IsCore, worker_of, items_of, script, push, entries}
+use Rattle.tk_queue_core.proofs.CoreSteps.{filter-append, emits, finishes}
 
 -- a push by a worker that has not ended
 pub pushes_core : (n : ℕ) (x : Item) (c : Core) → IsWorkerOf n (worker_of x) → c.ended (worker_of x) ≡ false → IsCore n c → IsCore n (push x c)

@@ -13,14 +13,14 @@ use Rattle.tk_events.specs.declared.events.Event.{Event}
 use Rattle.tk_events.specs.declared.events.Entry.{Entry}
 use Rattle.tk_events.specs.Event.{is_lawful}
 use Rattle.tk_events.specs.Registration.{registered_key}
-use Rattle.tk_columns.specs.Recorded.{Recorded}
-use Rattle.tk_columns.specs.Entries.{desc, desc_in}
-use Rattle.tk_columns.specs.Record.{is_known}
-use Rattle.tk_columns.specs.Mixing.{IsWorkerOf, of_worker}
-use Rattle.tk_replay.specs.Limits.{most_workers, worker_slots}
-use Rattle.tk_replay.specs.declared.items.Item.{Item}
-use Rattle.tk_replay.specs.declared.items.Item.TheVariants.{Entry as Emitted, End}
-use Rattle.tk_replay.specs.Core.{entries}
+use Rattle.tk_record_columns.specs.Recorded.{Recorded}
+use Rattle.tk_record_columns.specs.Entries.{desc, desc_in}
+use Rattle.tk_record_columns.specs.Record.{is_known}
+use Rattle.tk_record_columns.specs.Mixing.{IsWorkerOf, of_worker}
+use Rattle.tk_queue_core.specs.Limits.{most_workers, worker_slots}
+use Rattle.tk_queue_core.specs.declared.items.Item.{Item}
+use Rattle.tk_queue_core.specs.declared.items.Item.TheVariants.{Entry as Emitted, End}
+use Rattle.tk_queue_core.specs.Core.{entries}
 use Rattle.tk_queue.specs.declared.senders.SendFault.{SendFault}
 use Rattle.tk_queue.specs.declared.senders.SendFault.TheVariants.{UnknownNode, Unlawful, Limit}
 use Rattle.tk_queue.specs.declared.senders.RegisterFault.{RegisterFault}

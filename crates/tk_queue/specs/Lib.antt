@@ -1,9 +1,9 @@
-pub use Rattle.tk_replay.specs.Core
-pub use Rattle.tk_replay.specs.CoreState
-pub use Rattle.tk_replay.specs.Replay
-pub use Rattle.tk_replay.specs.Laws
-pub use Rattle.tk_replay.specs.Script
-pub use Rattle.tk_replay.specs.ReplayText
+pub use Rattle.tk_queue_core.specs.Core
+pub use Rattle.tk_queue_core.specs.CoreState
+pub use Rattle.tk_queue_core.specs.Replay
+pub use Rattle.tk_queue_core.specs.Laws
+pub use Rattle.tk_queue_core.specs.Script
+pub use Rattle.tk_queue_core.specs.ReplayText
 pub mod Limits
 pub mod Known
 pub mod Session

@@ -2,13 +2,13 @@
 use Rattle.std.specs.Prelude.{◌≡◌, ℕ, ◌+◌, ◌*◌, ◌<◌, length, Bool, true, false, List, [], ◌∷◌, ◌++◌, All}
 use mathlib.Core.Option.{some}
 use lib.ListN.{get_elem?}
-use Rattle.tk_columns.specs.Mixing.{IsWorkerOf, of_worker}
-use Rattle.tk_replay.specs.Core.{Core, IsCore, worker_of, entries}
+use Rattle.tk_record_columns.specs.Mixing.{IsWorkerOf, of_worker}
+use Rattle.tk_queue_core.specs.Core.{Core, IsCore, worker_of, entries}
 use Rattle.tk_queue.specs.Limits.{most_events}
 use Rattle.tk_queue.specs.Known.{MayEmit, Emission}
 use Rattle.tk_events.specs.declared.events.Event.{Event}
-use Rattle.tk_replay.specs.declared.items.Item.{Item}
-use Rattle.tk_replay.specs.declared.items.Item.TheVariants.{Entry as Emitted, End}
+use Rattle.tk_queue_core.specs.declared.items.Item.{Item}
+use Rattle.tk_queue_core.specs.declared.items.Item.TheVariants.{Entry as Emitted, End}
 use Rattle.tk_queue.specs.declared.session_rules.SenderPass.{SenderPass}
 use Rattle.tk_queue.specs.declared.session_rules.PassView.{PassView}
 use Rattle.tk_queue.specs.declared.session_rules.PassView.TheVariants.{Sender, Receiver, Spent}

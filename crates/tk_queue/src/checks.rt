@@ -1,6 +1,6 @@
 //! What `Receiver::close` looks for before it takes the tokens in.
 ghost use Rattle.std.specs.Prelude.{◌≡◌, ◌+◌, ◌<◌, ◌≤◌, length, false, List, Bool, ℕ, slice_index_or, slice_index, MatchOption};
-ghost use Rattle.tk_columns.specs.Mixing.{IsWorkerOf};
+ghost use Rattle.tk_record_columns.specs.Mixing.{IsWorkerOf};
 ghost use Rattle.tk_queue.specs.Ends.{tokens_of, lists, Least};
 
 use crate::limits::WORKER_SLOTS;

@@ -9,7 +9,7 @@ use crate::session_rules::{
     WithZeroBit,
 };
 use crossbeam_queue::protocol::{Join, Outcome, Protocol, Split};
-use tk_replay::Item;
+use tk_queue_core::Item;
 
 /// What a session's queue holds and what its passes know is a state of the core between any two
 /// steps, and each step is the core's or none.

@@ -15,4 +15,4 @@ pub use receivers::{CloseFault, CloseReason, Closed, Receiver};
 pub use senders::{Ended, RegisterFault, SendFault, Sender};
 pub use sessions::{OpenFault, open};
 pub use tk_limits::MAX_EVENTS;
-pub use tk_replay::{Core, CoreFault, Item, ReplayFault, Replayed, Turn, replay, replay_text};
+pub use tk_queue_core::{Core, CoreFault, Item, ReplayFault, Replayed, Turn, replay, replay_text};

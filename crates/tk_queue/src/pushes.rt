@@ -6,7 +6,7 @@ ghost use Rattle.tk_queue.specs.Session.{MayPush, pushed};
 use crate::session_rules::{EventQueue, QueuePass, SenderPush};
 use crossbeam_utils::Backoff;
 use std::sync::Wait;
-use tk_replay::Item;
+use tk_queue_core::Item;
 
 /// Pushes the item. It comes back only where the queue was full at one moment of the call.
 pub fn try_push<R: Wait>(

@@ -2,8 +2,8 @@
 ghost use Rattle.std.specs.Prelude.{◌≡◌, ℕ, ◌≤◌, [], All, length, slice_index, IfSome, IfNone, IfOk, OnOk, IfErr};
 ghost use Rattle.std.specs.Arc.{arc_value};
 ghost use Rattle.crossbeam_queue.specs.Passes.{view, IsPassOf};
-ghost use Rattle.tk_columns.specs.Mixing.{IsWorkerOf, Mix};
-ghost use Rattle.tk_replay.specs.Core.{worker_of, entries};
+ghost use Rattle.tk_record_columns.specs.Mixing.{IsWorkerOf, Mix};
+ghost use Rattle.tk_queue_core.specs.Core.{worker_of, entries};
 ghost use Rattle.tk_queue.specs.Session.{receiver};
 ghost use Rattle.tk_queue.specs.Ends.{fresh_receiver, takes, Follows, IsRecordable, lists, IsComplete};
 
@@ -16,7 +16,7 @@ use std::marker::Model;
 use std::sync::{Arc, Wait};
 use tk_events::MAX_WORKERS;
 use tk_ids::Table;
-use tk_replay::Item;
+use tk_queue_core::Item;
 
 /// Takes the items of a session. Contracts see the session, its table, its number of workers and
 /// the list of what was taken.
@@ -58,7 +58,7 @@ pub struct Closed {
 
 impl Model for Closed {
     ghost use Rattle.std.specs.Prelude.{◌≡◌, List, ℕ, length};
-    ghost use Rattle.tk_replay.specs.Limits.{worker_slots};
+    ghost use Rattle.tk_queue_core.specs.Limits.{worker_slots};
 
     ghost Value = { List ℕ };
 

@@ -2,7 +2,7 @@
 ghost use Rattle.std.specs.Prelude.{◌≡◌, ◌⊎◌, ◌<◌, ◌≤◌, [], length, None, Some, option_map, IfOk, OnOk, IfErr, OnErr};
 ghost use Rattle.std.specs.Arc.{arc_value};
 ghost use Rattle.std.specs.Option.{option_copied};
-ghost use Rattle.tk_columns.specs.Entries.{desc};
+ghost use Rattle.tk_record_columns.specs.Entries.{desc};
 ghost use Rattle.tk_queue.specs.Known.{is_plain, registrations};
 ghost use Rattle.tk_events.specs.Registration.{registered_key};
 ghost use Rattle.tk_queue.specs.FaultTexts.{register_fault_text, send_fault_text};
@@ -18,7 +18,7 @@ use std::sync::{Arc, Wait};
 use tk_events::{Entry, Event, Kind, MAX_WORKERS, Payload, registered_key};
 use tk_ids::{DType, Descriptor, IdFault, MAX_DESCRIPTORS, Segment, Table, Text, UniqueId};
 use tk_limits::MAX_EVENTS;
-use tk_replay::Item;
+use tk_queue_core::Item;
 
 /// Why an event was not sent. Each variant has the event.
 #[derive(Debug, Drop)]

@@ -4,7 +4,7 @@ use crossbeam_queue::protocol::{Join, Lesson, Outcome, Protocol, Split};
 use crossbeam_queue::{Pass, RuledArrayQueue};
 use std::collections::LinkedList;
 use tk_events::Event;
-use tk_replay::Item;
+use tk_queue_core::Item;
 
 /// What a sender's pass knows: the number of static descriptors, and its worker, what it sent and
 /// whether it ended. No value of it is made.

@@ -4,19 +4,19 @@ use Rattle.std.proofs.lemmas.Bool.{cases_lt}
 use Rattle.std.specs.Io.KnownBytes.{Appends}
 use Rattle.tk_limits.specs.declared.limits.TheConstants.{MAX_WORKERS}
 use Rattle.std.specs.Prelude.{IsErrOf}
-use Rattle.tk_columns.specs.Recorded.{Recorded}
+use Rattle.tk_record_columns.specs.Recorded.{Recorded}
 use Rattle.tk_streams.specs.Stream.{AppendsPrefix}
-use Rattle.tk_cutting.specs.Cutting.{units_of}
-use Rattle.tk_cutting.specs.Trees.{forest}
-use Rattle.tk_cutting.specs.Planned.{Outline}
+use Rattle.tk_plan_units.specs.Cutting.{units_of}
+use Rattle.tk_plan_units.specs.Trees.{forest}
+use Rattle.tk_plan_units.specs.Planned.{Outline}
 use Rattle.tk_plan.specs.Gives.{plan_in, Answered}
 use Rattle.tk_plan.specs.declared.faults.PlanFault.{PlanFault}
 use Rattle.tk_plan.specs.declared.faults.PlanFault.TheVariants as plans
-use Rattle.tk_engine.specs.declared.engines.UnitFault.{UnitFault}
-use Rattle.tk_engine.specs.declared.runs.RunFault.{RunFault}
-use Rattle.tk_engine.specs.declared.runs.RunFault.TheVariants as runs
-use Rattle.tk_record_report.specs.Reports.{report_of_record}
-use Rattle.tk_run_laws.specs.Reports.{report_of_plan}
+use Rattle.tk_engine_execute.specs.declared.engines.UnitFault.{UnitFault}
+use Rattle.tk_engine_execute.specs.declared.runs.RunFault.{RunFault}
+use Rattle.tk_engine_execute.specs.declared.runs.RunFault.TheVariants as runs
+use Rattle.tk_report_text.specs.Reports.{report_of_record}
+use Rattle.tk_engine_laws.specs.Reports.{report_of_plan}
 use Rattle.tk_report.specs.declared.plan_runs.PlanRun.{PlanRun}
 use Rattle.tk_report.specs.declared.faults.ReportFault.{ReportFault}
 use Rattle.tk_report.specs.declared.faults.ReportFault.TheVariants.{Plan, Run, Device, Memory}

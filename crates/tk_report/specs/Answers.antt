@@ -2,19 +2,19 @@
 use Rattle.std.specs.Prelude.{◌≡◌, ◌≢◌, ℕ, ◌<◌, ◌≤◌, List, Option, Result, Ok, Err, length}
 use Rattle.std.specs.Io.KnownBytes.{Appends}
 use Rattle.tk_limits.specs.declared.limits.TheConstants.{MAX_WORKERS}
-use Rattle.tk_columns.specs.Recorded.{Recorded}
+use Rattle.tk_record_columns.specs.Recorded.{Recorded}
 use Rattle.tk_streams.specs.Stream.{AppendsPrefix}
-use Rattle.tk_cutting.specs.Cutting.{units_of}
-use Rattle.tk_cutting.specs.Trees.{Tree, forest}
+use Rattle.tk_plan_units.specs.Cutting.{units_of}
+use Rattle.tk_plan_units.specs.Trees.{Tree, forest}
 use Rattle.tk_plan.specs.declared.faults.PlanFault.{PlanFault}
 use Rattle.tk_plan.specs.declared.faults.PlanFault.TheVariants as plans
 use Rattle.tk_plan.specs.Gives.{plan_in, outline, Answered}
-use Rattle.tk_engine.specs.declared.runs.RunFault.{RunFault}
-use Rattle.tk_engine.specs.declared.runs.RunFault.TheVariants as runs
-use Rattle.tk_engine.specs.Results.{IsTallied}
-use Rattle.tk_record_report.specs.Reports.{report_of_record}
-use Rattle.tk_run_laws.specs.Reports.{report_of_plan}
-use Rattle.tk_run_laws.specs.Scripts.{IsRunOf}
+use Rattle.tk_engine_execute.specs.declared.runs.RunFault.{RunFault}
+use Rattle.tk_engine_execute.specs.declared.runs.RunFault.TheVariants as runs
+use Rattle.tk_engine_execute.specs.Results.{IsTallied}
+use Rattle.tk_report_text.specs.Reports.{report_of_record}
+use Rattle.tk_engine_laws.specs.Reports.{report_of_plan}
+use Rattle.tk_engine_laws.specs.Scripts.{IsRunOf}
 use Rattle.tk_report.specs.declared.plan_runs.PlanRun.{PlanRun}
 use Rattle.tk_report.specs.declared.faults.ReportFault.{ReportFault}
 use Rattle.tk_report.specs.declared.faults.ReportFault.TheVariants.{Plan, Run, Device, Memory}

@@ -1,3 +1,3 @@
-pub use Rattle.tk_record_report.specs.Reports
+pub use Rattle.tk_report_text.specs.Reports
 pub mod Faults
 pub mod Answers

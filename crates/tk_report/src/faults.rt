@@ -3,7 +3,7 @@ ghost use Rattle.std.specs.Prelude.{◌≡◌};
 ghost use Rattle.tk_report.specs.Faults.{fault_of_plan, fault_of_run};
 
 use thiserror::Error;
-use tk_engine::RunFault;
+use tk_engine_execute::RunFault;
 use tk_plan::PlanFault;
 
 /// Why a report was not written. At `Device` a prefix of it was, at the others nothing.

@@ -2,7 +2,7 @@
 ghost use Rattle.std.specs.Prelude.{◌≡◌, true, OnOk, OnErr, IsErrOf};
 ghost use Rattle.std.specs.Io.KnownBytes.{Appends};
 ghost use Rattle.tk_streams.specs.Stream.{AppendsPrefix};
-ghost use Rattle.tk_record_report.specs.Reports.{report_of_record};
+ghost use Rattle.tk_report_text.specs.Reports.{report_of_record};
 ghost use Rattle.tk_report.specs.Answers.{IsReported, IsRunReport};
 
 use crate::faults::ReportFault;
@@ -10,9 +10,9 @@ use crate::plan_runs::run_plan;
 use std::alloc::Global;
 use std::sync::Wait;
 use std::thread::Threads;
-use tk_engine::Results;
+use tk_engine_execute::Results;
 use tk_record::{Target, WriteFault};
-use tk_record_report::write_report_of;
+use tk_report_text::write_report_of;
 
 /// Writes the report of a run into `target`: the nine statistics, then each id that has an event,
 /// in the order of the ids' texts, with the tails of its events in the record's order.

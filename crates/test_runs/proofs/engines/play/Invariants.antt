@@ -1,4 +1,4 @@
-use Rattle.tk_engine.specs.Grown.{Grew}
+use Rattle.tk_engine_execute.specs.Grown.{Grew}
 use Rattle.test_runs.proofs.engines.play.Given as goal
 
 abbrev pub invariant-loop-step : goal.invariant-loop-step

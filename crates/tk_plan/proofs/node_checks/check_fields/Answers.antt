@@ -1,7 +1,7 @@
 use Rattle.std.proofs.Common.{◌≡◌, ◌++◌, ◌∷◌, [], ◌≤◌, length, option_map, None, Some, sym, refl, ap, ap₂, ◌∙◌, subst}
 use Rattle.std.proofs.lemmas.Result.{err_from_is_err_and}
-use Rattle.tk_cutting.specs.Keys.{note_locks}
-use Rattle.tk_cutting.specs.Trees.{contents}
+use Rattle.tk_plan_units.specs.Keys.{note_locks}
+use Rattle.tk_plan_units.specs.Trees.{contents}
 use Rattle.tk_plan.specs.Checks.{first}
 use Rattle.tk_plan.specs.PlanOf.{id_fault}
 use Rattle.tk_plan.specs.Progress.{room_checks}

@@ -3,8 +3,8 @@ use Rattle.std.proofs.lemmas.Bool.Decides.{nat_tests}
 use Rattle.std.proofs.lemmas.Result.{err_from_is_err_and}
 use Rattle.tk_plan.specs.JsonValues.{view}
 use Rattle.tk_plan.specs.JsonValues.{JsonValue}
-use Rattle.tk_cutting.specs.declared.nodes.NumberedNode.{NumberedNode}
-use Rattle.tk_cutting.specs.Trees.{contents}
+use Rattle.tk_plan_units.specs.declared.nodes.NumberedNode.{NumberedNode}
+use Rattle.tk_plan_units.specs.Trees.{contents}
 use Rattle.tk_plan.specs.Checks.{member_at, item_at, first}
 use Rattle.tk_plan.specs.Pointers.{pointer}
 use Rattle.tk_plan.specs.PlanOf.{checks}

@@ -1,9 +1,9 @@
 use Rattle.std.proofs.Common.{◌≡◌, [], length, true, false, sym, ap, ◌∙◌, arith}
 use Rattle.std.specs.List.{count_by, list_all}
 use Rattle.std.proofs.lemmas.Result.{err_from_is_err_and}
-use Rattle.tk_cutting.specs.Keys.{lock_keys}
-use Rattle.tk_cutting.specs.Planned.{is_lawful_node}
-use Rattle.tk_cutting.specs.Trees.{contents}
+use Rattle.tk_plan_units.specs.Keys.{lock_keys}
+use Rattle.tk_plan_units.specs.Planned.{is_lawful_node}
+use Rattle.tk_plan_units.specs.Trees.{contents}
 use Rattle.tk_plan.specs.PlanOf.{is_kind}
 use Rattle.tk_plan.specs.Progress.{IsNoted}
 use Rattle.tk_plan.specs.declared.plan_readers.Reader.{Reader}

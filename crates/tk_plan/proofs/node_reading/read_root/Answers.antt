@@ -1,7 +1,7 @@
 use Rattle.std.proofs.Common.{◌≡◌, ◌++◌, [], codes, true, sym, ap₂, ◌∙◌}
 use Rattle.tk_plan.specs.JsonValues.{view}
-use Rattle.tk_cutting.specs.Ids.{descriptors}
-use Rattle.tk_cutting.specs.Trees.{flat, contents}
+use Rattle.tk_plan_units.specs.Ids.{descriptors}
+use Rattle.tk_plan_units.specs.Trees.{flat, contents}
 use Rattle.tk_plan.specs.PlanOf.{verdict, root_at}
 use Rattle.tk_plan.specs.NodeInputs as spec
 use Rattle.tk_plan.specs.NodeInputs.{node_inputs, grown}

@@ -1,8 +1,8 @@
 use Rattle.std.proofs.Common.{◌≡◌, ◌≤◌, ◌^◌, [], length, Some, Err, refl, sym, ap, ◌∙◌, subst}
 use Rattle.std.proofs.lemmas.Result.{err_from_is_err_and}
 use Rattle.tk_plan.specs.JsonValues.{view}
-use Rattle.tk_cutting.specs.Trees.{forest}
-use Rattle.tk_cutting.specs.Script.{moves_below}
+use Rattle.tk_plan_units.specs.Trees.{forest}
+use Rattle.tk_plan_units.specs.Script.{moves_below}
 use Rattle.tk_plan.specs.PlanOf.{PlanOf, root_at, ok_unless, verdict}
 use Rattle.tk_plan.specs.NodeInputs.{node_inputs, grown}
 use Rattle.tk_plan.specs.Tables.{Follow}

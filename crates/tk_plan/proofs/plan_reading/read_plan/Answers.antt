@@ -1,6 +1,6 @@
 use Rattle.std.proofs.Common.{◌∙◌}
 use Rattle.std.proofs.lemmas.Result.{err_from_is_err_and}
-use Rattle.tk_cutting.specs.Numbers.{numbered}
+use Rattle.tk_plan_units.specs.Numbers.{numbered}
 use Rattle.tk_plan.proofs.plan_reading.read_plan.Goals as goal
 
 pub returns-in_err-reader : goal.returns-in_err-reader

@@ -1,7 +1,7 @@
 use Rattle.std.proofs.Common.{◌&&◌, sym, ap, ◌∙◌}
 use Rattle.tk_query.specs.Asked.{entry_of}
-use Rattle.tk_conditions.specs.Cond.{NoPairs}
-use Rattle.tk_conditions.specs.CondOf.{pairs_from}
+use Rattle.tk_query_conditions.specs.Cond.{NoPairs}
+use Rattle.tk_query_conditions.specs.CondOf.{pairs_from}
 use Rattle.tk_query.specs.Holds.{holds, reports, pairs_list}
 use Rattle.tk_query.proofs.HoldsLemmas.{holds-All, holds-Any, pairs_are}
 use Rattle.tk_query.proofs.holding.+holds.Goals as goal

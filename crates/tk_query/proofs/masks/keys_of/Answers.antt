@@ -1,7 +1,7 @@
 use Rattle.std.proofs.Common.{◌+◌, length, IfSome, arith, sym, ap, subst, ◌∙◌}
 use Rattle.std.specs.List.{slice_get}
 use Rattle.std.proofs.lemmas.List.{length_push}
-use Rattle.tk_columns.specs.Record.{IsViewOf}
+use Rattle.tk_record_columns.specs.Record.{IsViewOf}
 use Rattle.std.proofs.lemmas.Result.{err_from_is_err_and}
 use Rattle.tk_query.proofs.KeyLemmas.{keys_none, keys_more}
 use Rattle.tk_query.proofs.masks.keys_of.Goals as goal

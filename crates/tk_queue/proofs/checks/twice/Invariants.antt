@@ -1,5 +1,5 @@
 use Rattle.std.proofs.Common.{◌<◌, ℕ}
-use Rattle.tk_columns.specs.Mixing.{IsWorkerOf}
+use Rattle.tk_record_columns.specs.Mixing.{IsWorkerOf}
 use Rattle.tk_queue.specs.Ends.{tokens_of}
 use Rattle.tk_queue.proofs.checks.twice.Given as goal
 

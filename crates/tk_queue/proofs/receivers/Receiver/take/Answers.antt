@@ -1,5 +1,5 @@
 use Rattle.std.proofs.Common.{sym, subst, ◌∙◌}
-use Rattle.tk_replay.specs.declared.items.Item.TheVariants.{Entry as Emitted}
+use Rattle.tk_queue_core.specs.declared.items.Item.TheVariants.{Entry as Emitted}
 use Rattle.crossbeam_queue.specs.Passes.{view}
 use Rattle.tk_queue.specs.Session.{IsReader}
 use Rattle.tk_queue.specs.Ends.{ReceiverView, Follows, taken_of}

@@ -1,0 +1,77 @@
+//! How the words of a command line are read.
+ghost use Rattle.std.specs.Prelude.{◌≡◌, codes, map, string_bytes, IfErr, IfOk};
+ghost use Rattle.clap.specs.Words.{first_value, found_of};
+ghost use Rattle.testkit_command_line.specs.CommandLines.{IsJobOf, IsNoAskLine, IsOther, run_by};
+
+use crate::faults::{CommandLineFault, parse_fault};
+use crate::jobs::Job;
+use clap::{Arg, ArgAction, ArgMatches, Command, Error};
+use std::alloc::Global;
+use tk_record::read_u8;
+
+fn run_command<'w>(alloc: Global) -> Result<Command<'w>, Error> {
+    let workers = Arg::new(alloc, "workers")
+        .long("workers")
+        .action(ArgAction::Set);
+    Ok(Command::new(alloc, "run").arg(workers)?)
+}
+
+/// The commands that the command-line crate reads: all but `ask`.
+fn command<'w>(alloc: Global) -> Result<Command<'w>, Error> {
+    let run = run_command(alloc)?;
+    let command = Command::new(alloc, "testkit")
+        .subcommand_required(true)
+        .subcommand(run)?;
+    Ok(command.subcommand(Command::new(alloc, "replay"))?)
+}
+
+/// The run of a plan by as many workers as the option says, or by one.
+fn run_of<'w>(matches: &ArgMatches<'w>) -> Result<Job<'w>, CommandLineFault>
+    ensures run { result ≡ run_by (first_value (found_of matches.now) (codes "workers")) }
+    ensures job { IfOk result IsOther }
+{
+    let Some(text) = matches.get_str("workers") else {
+        return Ok(Job::Run(1));
+    };
+    match read_u8(text.as_bytes()) {
+        Some(workers) => Ok(Job::Run(workers)),
+        None => Err(CommandLineFault::BadWords),
+    }
+}
+
+/// The job of a command line that is not a question.
+fn other_job<'w>(alloc: Global, words: &'w [String]) -> Result<Job<'w>, CommandLineFault>
+    ensures job { IfOk result IsOther }
+{
+    let command = match command(alloc) {
+        Ok(command) => command,
+        Err(error) => return Err(parse_fault(&error)),
+    };
+    match command.try_get_matches_from(words) {
+        Ok(matches) => match matches.subcommand() {
+            Some(("replay", _)) => Ok(Job::Replay),
+            Some(("run", matches)) => run_of(matches),
+            _ => Err(CommandLineFault::BadWords),
+        },
+        Err(error) => Err(parse_fault(&error)),
+    }
+}
+
+/// Reads the job that a command line asks for; its first word is the program's name.
+///
+/// The words after `ask` are the question's own, and are not looked at. Of all other words tests
+/// show what the command-line crate makes of them; no clause says it.
+///
+/// # Errors
+/// `BadWords`, or `Memory` where memory was refused.
+pub fn job_of<'w>(alloc: Global, words: &'w [String]) -> Result<Job<'w>, CommandLineFault>
+    ensures job { IfOk result (IsJobOf (map string_bytes words.now)) }
+    ensures refused { IfErr result (λ fault. IsNoAskLine (map string_bytes words.now)) }
+{
+    if let [_, command, question @ ..] = words {
+        if command.as_str() == "ask" {
+            return Ok(Job::Ask(question));
+        }
+    }
+    other_job(alloc, words)
+}

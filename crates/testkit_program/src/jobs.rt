@@ -1,0 +1,113 @@
+//! The jobs of the program.
+ghost use Rattle.std.specs.Prelude.{◌≡◌, map, string_bytes, IfErr, IfOk, IfSome, OnOk};
+ghost use Rattle.testkit_program.specs.Jobs.{IsBroken, IsDone, IsNotPerformed, IsOfWords, IsPerformed, IsPlanReported, IsRefused};
+ghost use Rattle.testkit_command_line.specs.declared.jobs.Job.TheVariants as jobs;
+
+use crate::faults::Fault;
+use std::alloc::Global;
+use std::mem;
+use std::sync::Wait;
+use std::thread::Threads;
+use testkit_questions::ask;
+use testkit_command_line::{Job, job_of};
+use tk_record::{MAX_TEXT, Source, Target, load};
+use tk_queue_core::replay_text;
+use tk_report::{run_plan, write_report};
+
+/// Runs the plan of the source's bytes and writes its report.
+///
+/// The run isn't freed: the program ends after its job, and the system then takes all memory at
+/// once. Freeing what a run keeps block by block takes up to a fifth of the program's time.
+fn report_plan<R: Threads + Wait + Sync, S: Source, T: Target>(
+    rt: &R,
+    alloc: Global,
+    workers: u8,
+    source: &mut S,
+    target: &mut T,
+) -> Result<(), Fault>
+    ensures reported { OnOk result (IfSome (S.remaining source.old) (λ input.
+        IsPlanReported workers input (T.contents target.old) (T.contents target.new))) }
+    ensures unread { IfErr result (λ fault. IsOfWords fault → source.new ≡ source.old) }
+    ensures refused { IfErr result (IsRefused (jobs.Run workers) (S.remaining source.old)
+        (T.contents target.old) (T.contents target.new)) }
+    ensures device { IfErr result (IsBroken (S.broken source.new) (T.broken target.new)) }
+{
+    let bytes = match load(alloc, source, MAX_TEXT) {
+        Ok(bytes) => bytes,
+        Err(fault) => return Err(Fault::Load(fault)),
+    };
+    let run = match run_plan(rt, alloc, bytes.as_slice(), workers as usize) {
+        Ok(run) => run,
+        Err(fault) => return Err(Fault::Report(fault)),
+    };
+    // The report gets the memory of the plan's text.
+    drop(bytes);
+    let written = write_report(alloc, &run.results, target);
+    mem::forget(run);
+    match written {
+        Ok(()) => Ok(()),
+        Err(fault) => Err(Fault::Report(fault)),
+    }
+}
+
+/// Does a job: answers a question, replays a script of the queue, or runs a plan with the job's
+/// number of workers and reports the run.
+///
+/// The answer is `false` where a match says no or an expectation fails, and else `true`. The run of
+/// a plan isn't freed, since a program ends after its job.
+///
+/// # Errors
+/// A fault of the job's own kind. A fault of a device means that the source or the target is
+/// broken. Words are refused before the source is read.
+pub fn do_job<R: Threads + Wait + Sync, S: Source, T: Target>(
+    rt: &R,
+    alloc: Global,
+    job: Job<'_>,
+    source: &mut S,
+    target: &mut T,
+) -> Result<bool, Fault>
+    ensures done { IfOk result (λ is_yes. IfSome (S.remaining source.old) (λ input.
+        IsDone job.entry input is_yes (T.contents target.old) (T.contents target.new))) }
+    ensures unread { IfErr result (λ fault. IsOfWords fault → source.new ≡ source.old) }
+    ensures refused { IfErr result (IsRefused job.entry (S.remaining source.old)
+        (T.contents target.old) (T.contents target.new)) }
+    ensures device { IfErr result (IsBroken (S.broken source.new) (T.broken target.new)) }
+{
+    match job {
+        Job::Ask(question) => match ask(alloc, question, source, target) {
+            Ok(is_yes) => Ok(is_yes),
+            Err(fault) => Err(Fault::Ask(fault)),
+        },
+        Job::Replay => match replay_text(alloc, source, target) {
+            Ok(()) => Ok(true),
+            Err(fault) => Err(Fault::Replay(fault)),
+        },
+        Job::Run(workers) => match report_plan(rt, alloc, workers, source, target) {
+            Ok(()) => Ok(true),
+            Err(fault) => Err(fault),
+        },
+    }
+}
+
+/// Does the job that a command line asks for; its first word is the program's name.
+///
+/// # Errors
+/// A fault of the command line, which is judged before the source is read, or a fault of
+/// [`do_job`].
+pub fn perform<R: Threads + Wait + Sync, S: Source, T: Target>(
+    rt: &R,
+    alloc: Global,
+    words: &[String],
+    source: &mut S,
+    target: &mut T,
+) -> Result<bool, Fault>
+    ensures done { IfOk result (IsPerformed (map string_bytes words.now)
+        (S.remaining source.old) (T.contents target.old) (T.contents target.new)) }
+    ensures unread { IfErr result (λ fault. IsOfWords fault → source.new ≡ source.old) }
+    ensures refused { IfErr result (IsNotPerformed (map string_bytes words.now)
+        (S.remaining source.old) (T.contents target.old) (T.contents target.new)) }
+    ensures device { IfErr result (IsBroken (S.broken source.new) (T.broken target.new)) }
+{
+    let job = job_of(alloc, words)?;
+    do_job(rt, alloc, job, source, target)
+}

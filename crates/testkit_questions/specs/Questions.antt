@@ -1,0 +1,139 @@
+-- Which words ask which question, and which words are bad.
+use Rattle.std.specs.Prelude.{◌≡◌, ◌≢◌, ℕ, ◌+◌, ◌<◌, ◌^◌, ◌⊎◌, List, [], ◌∷◌, ◌++◌, take, codes, Option, Some, None, Result, Ok, Err, is_none, ◌&&◌, if◌then◌else◌}
+use Rattle.std.specs.List.{slice_get}
+use Rattle.std.specs.Fmt.{decimal}
+use Rattle.tk_query_conditions.specs.declared.faults.CondFault.{CondFault}
+use Rattle.tk_query_conditions.specs.declared.faults.CondFault.TheVariants as condition_faults
+use Rattle.tk_query_conditions.specs.declared.conditions.Condition.{Condition}
+use Rattle.tk_query_conditions.specs.Answer.{IsReadAs}
+use Rattle.tk_record_columns.specs.declared.selections.Selection.{Selection}
+use Rattle.tk_record_columns.specs.declared.tallies.Expected.{Expected}
+use Rattle.tk_record_columns.specs.Selections.{selection_name}
+use Rattle.tk_record_columns.specs.Statistics.{nothing_expected, expected_of, with_expected, is_counted}
+use Rattle.testkit_questions.specs.declared.faults.AskFault.{AskFault}
+use Rattle.testkit_questions.specs.declared.faults.AskFault.TheVariants as faults
+use Rattle.testkit_questions.specs.declared.questions.Mode.{Mode}
+use Rattle.testkit_questions.specs.declared.questions.Mode.TheVariants.{Exactly, Loosely, InOrder}
+use Rattle.testkit_questions.specs.declared.questions.Question.{Question}
+use Rattle.testkit_questions.specs.declared.questions.Question.TheVariants as questions
+
+-- the word NAME=N
+abbrev pub expectation_word : Selection → ℕ → List ℕ
+expectation_word selection n = selection_name selection ++ 61 ∷ decimal n
+
+-- the number is expected too: of a statistic, and of each only once
+abbrev pub expecting : Expected → Selection → ℕ → Option Expected
+expecting e selection n = if is_none (expected_of e selection) && is_counted selection then Some (with_expected selection n e) else None
+
+pub record IsExpectation (word : List ℕ) (selection : Selection) (n : ℕ) : Type 0 where
+  pub number : n < 2 ^ 64
+  pub word_is : word ≡ expectation_word selection n
+
+-- what one word more makes of the expectations: None where it is no expectation, or one of a statistic that has one
+abbrev pub IsNextExpected : Expected → List ℕ → Option Expected → Type 0
+IsNextExpected expected word (Some next) = (selection : Selection) × (n : ℕ) × IsExpectation word selection n × (expecting expected selection n ≡ Some next)
+IsNextExpected expected word None = (selection : Selection) (n : ℕ) → IsExpectation word selection n → expecting expected selection n ≡ None
+
+-- the words add these expectations to the first ones
+abbrev pub Expecting : Expected → List (List ℕ) → Expected → Type 0
+Expecting first [] last = last ≡ first
+Expecting first (word ∷ words) last =
+    (next : Expected) × IsNextExpected first word (Some next) × Expecting next words last
+
+-- the words before it are good, and word i is no expectation, or one of a statistic that an earlier word names
+pub record IsBadExpectation (words : List (List ℕ)) (i : ℕ) : Type 0 where
+  pub expected : Expected
+  pub before : Expecting nothing_expected (take i words) expected
+  pub word : List ℕ
+  pub at : slice_get words i ≡ Some word
+  pub bad : IsNextExpected expected word None
+
+abbrev pub mode_name : Mode → List ℕ
+mode_name Exactly = codes "exactly"
+mode_name Loosely = codes "loosely"
+mode_name InOrder = codes "in-order"
+
+-- what a mode's name is read as
+abbrev pub IsMode : List ℕ → Option Mode → Type 0
+IsMode name (Some mode) = name ≡ mode_name mode
+IsMode name None = (mode : Mode) → name ≢ mode_name mode
+
+-- each text is that of its condition
+abbrev pub AreConditions : List (List ℕ) → List Condition → Type 0
+AreConditions [] [] = Unit {0}
+AreConditions (text ∷ texts) (c ∷ cs) = IsReadAs text (Ok c) × AreConditions texts cs
+AreConditions _ _ = ⊥
+
+-- the texts before it are conditions, and text i is none
+pub record IsBadCondition (texts : List (List ℕ)) (i : ℕ) (fault : CondFault) : Type 0 where
+  pub conditions : List Condition
+  pub before : AreConditions (take i texts) conditions
+  pub text : List ℕ
+  pub at : slice_get texts i ≡ Some text
+  pub bad : IsReadAs text (Err fault)
+  pub read : fault ≢ condition_faults.Memory
+
+-- why the word of this number is no condition
+abbrev pub IsWordFault : ℕ → List ℕ → AskFault → Type 0
+IsWordFault number word (faults.Condition i fault) = (i ≡ number) × IsReadAs word (Err fault) × (fault ≢ condition_faults.Memory)
+IsWordFault number word faults.Memory = Unit {0}
+IsWordFault number word _ = ⊥
+
+-- the fault of words after a mode; the mode is word 0
+abbrev pub IsConditionFault : List (List ℕ) → AskFault → Type 0
+IsConditionFault texts (faults.Condition i fault) = (at : ℕ) × (i ≡ at + 1) × IsBadCondition texts at fault
+IsConditionFault texts faults.Memory = Unit {0}
+IsConditionFault texts _ = ⊥
+
+-- the first of the words is no selection
+abbrev pub IsNoSelection : List (List ℕ) → Type 0
+IsNoSelection [] = Unit {0}
+IsNoSelection (word ∷ _) = (selection : Selection) → word ≢ selection_name selection
+
+-- the first of the words is no mode
+abbrev pub IsNoMode : List (List ℕ) → Type 0
+IsNoMode [] = Unit {0}
+IsNoMode (word ∷ _) = (mode : Mode) → word ≢ mode_name mode
+
+abbrev pub stats : List ℕ
+stats = codes "stats"
+
+abbrev pub count : List ℕ
+count = codes "count"
+
+abbrev pub match_word : List ℕ
+match_word = codes "match"
+
+abbrev pub executions : List ℕ
+executions = codes "executions"
+
+-- the words that ask a question
+abbrev pub Asks : List (List ℕ) → Question → Type 0
+Asks words (questions.Stats expected) = (rest : List (List ℕ)) × (words ≡ stats ∷ rest) × Expecting nothing_expected rest expected
+Asks words (questions.Count selection) = words ≡ count ∷ selection_name selection ∷ []
+Asks words (questions.Match mode conditions) = (texts : List (List ℕ)) × (words ≡ match_word ∷ mode_name mode ∷ texts) × AreConditions texts conditions.items
+Asks words questions.Executions = words ≡ executions ∷ []
+
+-- there is no first word, or it is none of the four questions
+abbrev pub IsNoQuestion : List (List ℕ) → Type 0
+IsNoQuestion [] = Unit {0}
+IsNoQuestion (word ∷ _) = (word ≢ stats) × (word ≢ count) × (word ≢ match_word) × (word ≢ executions)
+
+-- word i after the question is the first bad one, conditions aside
+abbrev pub IsBadWord : List (List ℕ) → ℕ → Type 0
+IsBadWord words i =
+    ((rest : List (List ℕ)) × (words ≡ stats ∷ rest) × IsBadExpectation rest i)
+    ⊎ ((rest : List (List ℕ)) × (words ≡ count ∷ rest) × (i ≡ 0) × IsNoSelection rest)
+    ⊎ ((selection : Selection) × (extra : List ℕ) × (more : List (List ℕ)) × (words ≡ count ∷ selection_name selection ∷ extra ∷ more) × (i ≡ 1))
+    ⊎ ((rest : List (List ℕ)) × (words ≡ match_word ∷ rest) × (i ≡ 0) × IsNoMode rest)
+    ⊎ ((extra : List ℕ) × (more : List (List ℕ)) × (words ≡ executions ∷ extra ∷ more) × (i ≡ 0))
+
+-- what the words are read as: the question, or the first fault
+abbrev pub IsAskedAs : List (List ℕ) → Result Question AskFault → Type 0
+IsAskedAs words (Ok question) = Asks words question
+IsAskedAs words (Err faults.Question) = IsNoQuestion words
+IsAskedAs words (Err (faults.Word i)) = IsBadWord words i
+IsAskedAs words (Err (faults.Condition i fault)) =
+    (mode : Mode) × (texts : List (List ℕ)) × (words ≡ match_word ∷ mode_name mode ∷ texts) × IsConditionFault texts (faults.Condition i fault)
+IsAskedAs words (Err faults.Memory) = Unit {0}
+IsAskedAs words (Err _) = ⊥

@@ -1,0 +1,67 @@
+//! Expectations of statistics, as words NAME=N.
+ghost use Rattle.std.specs.Prelude.{◌≡◌, ℕ, map, string_bytes, IfOk, IfErr, IfSome, IfNone};
+ghost use Rattle.tk_record_columns.specs.Statistics.{nothing_expected};
+ghost use Rattle.testkit_questions.specs.Questions.{expecting, Expecting, IsBadExpectation, IsExpectation, IsNextExpected};
+ghost use Rattle.tk_record_columns.specs.declared.selections.Selection.{Selection};
+
+use tk_record::{Expected, Selection, read_number};
+
+/// The statistic and the number of a word NAME=N.
+fn read_expectation(word: &str) -> Option<(Selection, u64)>
+    ensures some { IfSome result (λ named. IsExpectation word.now named.0 named.1) }
+    ensures none { IfNone result ((selection : Selection) (n : ℕ)
+        → ¬ IsExpectation word.now selection n) }
+{
+    let Some((name, number)) = word.split_once('=') else {
+        return None;
+    };
+    let Some(selection) = Selection::read(name) else {
+        return None;
+    };
+    let Some(number) = read_number(number, u64::MAX) else {
+        return None;
+    };
+    Some((selection, number))
+}
+
+/// Expects a number of a selection too. None where that is no statistic, or a number is expected of
+/// it already.
+fn expect_too(expected: Expected, selection: Selection, number: u64) -> Option<Expected>
+    ensures { result ≡ expecting expected selection number }
+{
+    if expected.get(selection).is_some() {
+        return None;
+    }
+    let mut next = expected;
+    if next.set(selection, number) {
+        Some(next)
+    } else {
+        None
+    }
+}
+
+/// Adds the expectation of a word.
+fn expect_word(expected: Expected, word: &str) -> Option<Expected>
+    ensures { IsNextExpected expected word.now result }
+{
+    let Some((selection, number)) = read_expectation(word) else {
+        return None;
+    };
+    expect_too(expected, selection, number)
+}
+
+/// The expectations that the words say, or the number of the first word that says none.
+pub(crate) fn read_expectations(words: &[String]) -> Result<Expected, usize>
+    ensures ok { IfOk result (λ expected.
+        Expecting nothing_expected (map string_bytes words.now) expected) }
+    ensures err { IfErr result (λ at. IsBadExpectation (map string_bytes words.now) at) }
+{
+    let mut expected = Expected::none();
+    for (at, word) in words.iter().enumerate() {
+        match expect_word(expected, word.as_str()) {
+            Some(next) => expected = next,
+            None => return Err(at),
+        }
+    }
+    Ok(expected)
+}

@@ -1,0 +1,128 @@
+//! What can be asked of a record, and how words ask it.
+ghost use Rattle.std.specs.Prelude.{◌≡◌, ◌∷◌, map, string_bytes, IfOk, IfErr, Ok};
+ghost use Rattle.tk_query_conditions.specs.Answer.{IsReadAs};
+ghost use Rattle.testkit_questions.specs.Questions.{IsAskedAs, IsMode, AreConditions, IsConditionFault, IsWordFault, count, match_word};
+
+use crate::expectations::read_expectations;
+use crate::faults::AskFault;
+use std::alloc::{AllocError, Global};
+use tk_query::{CondFault, Condition, read_condition};
+use tk_record::{Expected, Selection};
+
+/// How conditions are matched with events.
+#[derive(Clone, Copy, Debug, PartialEq, Eq)]
+pub enum Mode {
+    /// As many conditions as events, each condition holding of its event.
+    Exactly,
+    /// Each condition holds of some event.
+    Loosely,
+    /// The conditions hold at increasing positions.
+    InOrder,
+}
+
+/// What is asked of a record.
+#[derive(Drop)]
+pub enum Question {
+    /// The nine statistics, and which of them differ from what is expected.
+    Stats(Expected),
+    /// How many events a selection keeps.
+    Count(Selection),
+    /// Whether the events match conditions.
+    Match(Mode, Vec<Condition>),
+    /// The executions.
+    Executions,
+}
+
+impl Mode {
+    /// The mode of a name: `exactly`, `loosely` or `in-order`.
+    pub fn read(name: &str) -> Option<Mode>
+        ensures { IsMode name.now result }
+    {
+        match name {
+            "exactly" => Some(Mode::Exactly),
+            "loosely" => Some(Mode::Loosely),
+            "in-order" => Some(Mode::InOrder),
+            _ => None,
+        }
+    }
+}
+
+/// The condition that a word spells. The number is the word's, counted from 0 after the question.
+fn read_word(alloc: Global, number: usize, word: &str) -> Result<Condition, AskFault>
+    ensures ok { IfOk result (λ condition. IsReadAs word.now (Ok condition)) }
+    ensures err { IfErr result (IsWordFault number word.now) }
+{
+    match read_condition(alloc, word) {
+        Ok(condition) => Ok(condition),
+        Err(CondFault::Memory) => Err(AskFault::Memory),
+        Err(fault) => Err(AskFault::Condition(number, fault)),
+    }
+}
+
+/// The conditions that the words spell, which follow the mode's name.
+fn read_conditions(alloc: Global, words: &[String]) -> Result<Vec<Condition>, AskFault>
+    ensures ok { IfOk result (λ conditions.
+        AreConditions (map string_bytes words.now) conditions.items) }
+    ensures err { IfErr result (λ fault. IsConditionFault (map string_bytes words.now) fault) }
+{
+    let mut conditions = Vec::new(alloc);
+    for (at, word) in words.iter().enumerate() {
+        let condition = read_word(alloc, at + 1, word.as_str())?;
+        conditions.push(condition).map_err(AllocError::from)?;
+    }
+    Ok(conditions)
+}
+
+fn read_match(alloc: Global, words: &[String]) -> Result<Question, AskFault>
+    ensures { IsAskedAs (match_word ∷ map string_bytes words.now) result }
+{
+    let Some((mode, texts)) = words.split_first() else {
+        return Err(AskFault::Word(0));
+    };
+    let Some(mode) = Mode::read(mode.as_str()) else {
+        return Err(AskFault::Word(0));
+    };
+    let conditions = read_conditions(alloc, texts)?;
+    Ok(Question::Match(mode, conditions))
+}
+
+fn read_count(words: &[String]) -> Result<Question, AskFault>
+    ensures { IsAskedAs (count ∷ map string_bytes words.now) result }
+{
+    let Some((name, more)) = words.split_first() else {
+        return Err(AskFault::Word(0));
+    };
+    let Some(selection) = Selection::read(name.as_str()) else {
+        return Err(AskFault::Word(0));
+    };
+    if more.is_empty() {
+        Ok(Question::Count(selection))
+    } else {
+        Err(AskFault::Word(1))
+    }
+}
+
+/// The question that the words ask, the first of which names it.
+pub fn read_question(alloc: Global, words: &[String]) -> Result<Question, AskFault>
+    ensures { IsAskedAs (map string_bytes words.now) result }
+{
+    let Some((question, words)) = words.split_first() else {
+        return Err(AskFault::Question);
+    };
+    match question.as_str() {
+        "stats" => match read_expectations(words) {
+            Ok(expected) => Ok(Question::Stats(expected)),
+            Err(at) => Err(AskFault::Word(at)),
+        },
+        "count" => read_count(words),
+        "match" => read_match(alloc, words),
+        "executions" => {
+            if words.is_empty() {
+                Ok(Question::Executions)
+            } else {
+                Err(AskFault::Word(0))
+            }
+        }
+        _ => Err(AskFault::Question),
+    }
+}

@@ -1,7 +1,0 @@
-use Rattle.std.proofs.Common.{◌≡◌, ◌++◌, take, string_bytes}
-use Rattle.std.specs.List.{flat_map}
-use Rattle.tk_ask.specs.Answers.{mismatch_line}
-use Rattle.tk_ask.proofs.answers.add_mismatches.Given as goal
-
-abbrev pub invariant-loop-mismatch : goal.invariant-loop-mismatch
-invariant-loop-mismatch l = string_bytes l.text ≡ string_bytes l.fn.text ++ flat_map mismatch_line (take l.mismatch-index l.mismatches)

@@ -1,7 +1,0 @@
-//! What the definitions of questions and of their answers imply.
-ghost use Rattle.tk_ask.specs.Laws.{AnswerIsUnique};
-
-/// The same words about the same input have one outcome.
-pub fn answer_is_unique()
-    ensures { AnswerIsUnique }
-{}

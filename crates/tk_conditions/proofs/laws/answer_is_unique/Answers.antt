@@ -1,5 +1,0 @@
-use Rattle.tk_conditions.proofs.AnswerIsUnique.{answer_is_unique}
-use Rattle.tk_conditions.proofs.laws.answer_is_unique.Goals as goal
-
-pub returns : goal.returns
-returns c = answer_is_unique

@@ -1,5 +1,0 @@
-use Rattle.tk_cutting.proofs.StepEvents.{spine_events_are_steps}
-use Rattle.tk_cutting.proofs.laws.spine_events_are_steps.Goals as goal
-
-pub returns : goal.returns
-returns c = spine_events_are_steps

@@ -1,7 +1,0 @@
-use Rattle.std.proofs.Common.{◌≡◌, ◌<◌, ℕ, drop}
-use Rattle.tk_cutting.specs.LockNeeds.{over, lock_asks}
-use Rattle.tk_cutting.specs.Marked.{marked}
-use Rattle.tk_cutting.proofs.needs.NeedMasks.mark_locks.Given as goal
-
-abbrev pub invariant-loop-lock : goal.invariant-loop-lock
-invariant-loop-lock l = (r : ℕ) → r < 16 → over (marked l.self r) (lock_asks l.keys (drop l.lock-index l.locks) r) ≡ over (marked l.initial.self r) (lock_asks l.keys l.locks r)

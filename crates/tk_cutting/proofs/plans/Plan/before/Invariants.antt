@@ -1,6 +1,0 @@
-use Rattle.std.proofs.Common.{◌≡◌, ◌++◌, drop}
-use Rattle.tk_cutting.specs.Adds.{heads}
-use Rattle.tk_cutting.proofs.plans.Plan.before.Given as goal
-
-abbrev pub invariant-loop-spine : goal.invariant-loop-spine
-invariant-loop-spine l = heads l.self-inside.nodes.items l.spine-items ≡ l.events.items ++ heads l.self-inside.nodes.items (drop l.spine-index l.spine-items)

@@ -1,7 +1,0 @@
-use Rattle.std.proofs.Common.{sym, subst, ◌∙◌}
-use Rattle.tk_cutting.specs.Known.{Does}
-use Rattle.tk_cutting.proofs.Keying.{some_is}
-use Rattle.tk_cutting.proofs.plans.Plan.payload.Goals as goal
-
-pub payload-requires : goal.payload-requires
-payload-requires c = (c.args.self.now.nodes, subst (λ n. Does c.args.self.now.nodes n c.args.step.act) (some_is _ _ (sym c.requires.is ∙ c.node.ensures)) c.requires.does)

@@ -1,0 +1,14 @@
+use Rattle.std.proofs.Common.{take}
+use Rattle.tk_engine_execute.specs.Engines.{IsSame}
+use Rattle.tk_engine.specs.Keys.{kept}
+use Rattle.tk_engine.specs.Plays.{IsPlayed}
+use Rattle.tk_engine.proofs.playing.play_each.Given as goal
+
+abbrev pub ghost-play : goal.ghost-play
+ghost-play g a = g.sent
+
+-- the steps before the next one were played
+abbrev pub invariant-loop-at : goal.invariant-loop-at
+invariant-loop-at g l =
+    IsSame (g.S.Sink.meaning l.fn.sink) (g.S.Sink.meaning l.sink)
+    × IsPlayed l.plan.nodes l.plan.table (g.S.Sink.meaning l.fn.sink).worker g.sent (take l.at l.steps) (g.S.Sink.meaning l.sink).sent (kept l.keys)

@@ -1,0 +1,25 @@
+//! What holds of each run of a plan's engine.
+ghost use Rattle.std.specs.Prelude.{ℕ, length};
+ghost use Rattle.tk_report_text.specs.Labels.{events, labels, name};
+ghost use Rattle.tk_engine_laws.specs.Listening.{Listens, ListensByKey};
+ghost use Rattle.tk_engine_laws.specs.Scripts.{IsRunOf};
+
+use crate::scripted::Scripted;
+use tk_engine_execute::Results;
+
+/// What a listener may rely on holds of each record that is a run of the engine: by the
+/// descriptors' ids, and by their keys. Each record that `execute` answers for the engine is such a
+/// run.
+pub fn listener(engine: &Scripted, results: &Results)
+    requires { (workers : ℕ)
+        × IsRunOf engine.now.nodes engine.now.table workers results.now.recorded }
+    ensures by_id { Listens (labels results.now.recorded) }
+    ensures by_key { ListensByKey (length engine.now.table) (name results.now.recorded)
+        (events results.now.recorded.entries) }
+{
+    let _ = results;
+    // For the proof: the plan's invariant, which a call on the plan shows.
+    let _table = engine.plan().table();
+    tk_engine_laws::laws::listener();
+    tk_engine_laws::laws::listener_by_key();
+}

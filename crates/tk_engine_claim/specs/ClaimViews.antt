@@ -1,0 +1,35 @@
+-- What a clause sees of a claim and of its seats.
+use Rattle.std.specs.Prelude.{◌≡◌, ◌^◌, ◌<◌, ◌≤◌, [], cond}
+use Rattle.tk_limits.specs.declared.limits.TheConstants.{MAX_WORKERS}
+use Rattle.atomic_table.specs.Seated.{TableId}
+use Rattle.tk_engine_claim.specs.declared.rules.ClaimLimits.{ClaimLimits}
+use Rattle.tk_engine_claim.specs.declared.claims.Claim.TheInside as claim
+use Rattle.tk_engine_claim.specs.declared.claims.ClaimSeat.TheInside as seat
+use Rattle.tk_engine_claim.specs.Claims.{ClaimName, Claimant, IsStrictlyIncreasing}
+
+abbrev pub claim_name : TableId → ClaimLimits → ClaimName
+claim_name table limits = record { table = table; limit = limits.limit; seats = limits.seats }
+
+abbrev pub name_of : claim.Inside → ClaimName
+name_of c = claim_name c.table.shared.table_id c.table.shared.key
+
+pub record IsClaim (c : claim.Inside) : Type 0 where
+  pub limit_same : c.limit ≡ c.table.shared.key.limit
+  pub one_word : c.table.shared.table_id.words ≡ 1
+  pub no_slot : c.table.shared.table_id.slots ≡ 0
+  pub small : c.table.shared.key.limit < 2 ^ 32
+  pub some_seat : 0 < c.table.shared.key.seats
+  pub few_seats : c.table.shared.key.seats ≤ MAX_WORKERS
+
+abbrev pub claimant_of : seat.Inside → Claimant
+claimant_of s = record {
+  claim = claim_name s.seat.table_id s.seat.me.0.claim_limits;
+  numbers = s.seat.me.0.numbers;
+  spent = s.spent;
+}
+
+pub record IsClaimant (s : seat.Inside) : Type 0 where
+  pub one_part : s.seat.me.0.parts ≡ 1
+  pub no_slot : s.seat.me.1 ≡ []
+  pub increasing : IsStrictlyIncreasing s.seat.me.0.numbers
+  pub spent_same : s.seat.me.0.spent ≡ cond s.spent 1 0

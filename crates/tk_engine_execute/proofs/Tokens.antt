@@ -1,0 +1,214 @@
+-- From what each worker left to what a run is.
+use Rattle.std.proofs.Common.{◌≡◌, ◌≢◌, ◌==◌, ℕ, zero, suc, ◌+◌, ◌-◌, ◌<◌, ◌≤◌, Bool, true, false, if◌then◌else◌, cond, List, [], ◌∷◌, ◌++◌, map, length, None, Some, slice_get, get_or, ap, sym, subst, ◌∙◌, refl, arith, inl, inr, ⊎_elim, eq-eqb, ne_eqb}
+use Rattle.std.specs.Prelude.{All, Option, IfSome, slice_index}
+use Rattle.std.proofs.lemmas.Option.{slice_get-get_or}
+use Rattle.std.proofs.lemmas.Bool.{cases_eq}
+use Rattle.std.proofs.lemmas.List.Elements.{All-head, All-tail}
+use Rattle.std.proofs.lemmas.List.{length-map}
+use Rattle.std.proofs.lemmas.List.Sums.{sum_by-cons}
+use Rattle.atomic_table.specs.Seated.{TableId}
+use Rattle.tk_events.specs.declared.events.Event.{Event}
+use Rattle.tk_events.specs.declared.events.Entry.{Entry}
+use Rattle.tk_record_columns.specs.Mixing.{IsWorkerOf, of_worker, Mix}
+use Rattle.tk_queue_core.specs.Core.{entries}
+use Rattle.tk_engine_claim.specs.Claims.{ClaimName, Claimant, Claims}
+use Rattle.tk_queue.specs.declared.receivers.CloseReason.{CloseReason}
+use Rattle.tk_queue.specs.declared.receivers.CloseReason.TheVariants.{Missing, Twice, NotDrained}
+use Rattle.tk_queue.specs.Ends.{SenderView as Sent, ReceiverView, tokens_of, lists, is_marked, IsFault}
+use Rattle.tk_engine_runs.specs.Run.{IsShared}
+use Rattle.tk_engine_execute.specs.declared.engines.UnitFault.{UnitFault}
+use Rattle.tk_engine_execute.specs.declared.workers.Outcome.{Outcome}
+use Rattle.tk_engine_execute.specs.declared.workers.Failure.{Failure}
+use Rattle.tk_engine_execute.specs.declared.event_collectors.EventCollector.{EventCollector}
+use Rattle.tk_engine_execute.specs.EventCollectors.{IsCollector, NoneIsAwaited}
+use Rattle.tk_engine_execute.specs.Results.{IsTallied}
+use Rattle.tk_queue.specs.Known.{entries_by}
+use Rattle.tk_engine_runs.proofs.Workers.{in_the_middle}
+use Rattle.tk_engine_execute.specs.declared.runs.RunFault.{RunFault}
+use Rattle.tk_engine_execute.specs.declared.runs.RunFault.TheVariants as fault
+use Rattle.tk_engine_execute.specs.Outcomes.{AllCompleted, CanClose, IsFirstFailure, IsFaultOfWorkers, IsFaultOfUnits}
+use Rattle.tk_engine_execute.specs.Workers.{AllDone}
+use Rattle.tk_engine_execute.proofs.Positions.{map_at, all_from}
+use Rattle.tk_engine_execute.proofs.Emitted.{emits_along}
+
+-- ---- tokens that are numbered from k + 1 on
+
+abbrev Numbered : ℕ → List Sent → Type 0
+Numbered k ts = (i : ℕ) (t : Sent) → slice_get ts i ≡ Some t → t.worker ≡ k + i + 1
+
+tail : (k : ℕ) (t : Sent) (ts : List Sent) → Numbered k (t ∷ ts) → Numbered (suc k) ts
+tail k t ts h = λ i u e. let n : u.worker ≡ k + suc i + 1 = h (suc i) u e in omega arith
+
+-- none is of a worker up to k
+below : (k w : ℕ) (ts : List Sent) → Numbered k ts → w ≤ k → tokens_of w ts ≡ 0
+below k w [] h le = refl
+below k w (t ∷ ts) h le =
+    let own : t.worker ≡ k + 0 + 1 = h 0 t refl in
+    let other : (t.worker == w) ≡ false = ne_eqb t.worker w (λ same. absurd (omega arith)) in
+    let none : cond {A = ℕ} (t.worker == w) 1 0 ≡ 0 = ap (λ b. cond {A = ℕ} b 1 0) other in
+    let rest = below (suc k) w ts (tail k t ts h) (omega arith) in
+    omega (arith, none, rest, sum_by-cons (λ (u : Sent). cond {A = ℕ} (u.worker == w) 1 0) t ts)
+
+-- each of the others has one
+once : (k w : ℕ) (ts : List Sent) → Numbered k ts → k < w → w ≤ k + length ts → tokens_of w ts ≡ 1
+once k w [] h low high = absurd (omega arith)
+once k w (t ∷ ts) h low high =
+    let own : t.worker ≡ k + 0 + 1 = h 0 t refl in
+    let sum = sum_by-cons (λ (u : Sent). cond {A = ℕ} (u.worker == w) 1 0) t ts in
+    ⊎_elim
+    (λ (same : t.worker ≡ w).
+    let one : cond {A = ℕ} (t.worker == w) 1 0 ≡ 1 = ap (λ b. cond {A = ℕ} b 1 0) (eq-eqb t.worker w same) in
+    let rest = below (suc k) w ts (tail k t ts h) (omega arith) in
+    omega (arith, one, rest, sum))
+    (λ (other : t.worker ≢ w).
+    let none : cond {A = ℕ} (t.worker == w) 1 0 ≡ 0 = ap (λ b. cond {A = ℕ} b 1 0) (ne_eqb t.worker w other) in
+    let apart : k + 0 + 1 ≢ w = λ e. other (own ∙ e) in
+    let more : suc k < w = omega arith in
+    let rest = once (suc k) w ts (tail k t ts h) more (omega arith) in
+    omega (arith, none, rest, sum))
+    (cases_eq t.worker w)
+
+-- the list of a token's worker is the token's
+list_at : (k i : ℕ) (ts : List Sent) (t : Sent) → Numbered k ts → slice_get ts i ≡ Some t → lists ts (k + i + 1) ≡ t.sent
+list_at k i [] t h e = cc
+list_at k zero (u ∷ ts) t h e =
+    let own : u.worker ≡ k + 0 + 1 = h 0 u refl in
+    let same : u ≡ t = cc in
+    ap (λ (b : Bool). if b then u.sent else lists ts (k + 0 + 1)) (eq-eqb u.worker (k + 0 + 1) own) ∙ ap (λ (x : Sent). x.sent) same
+list_at k (suc i) (u ∷ ts) t h e =
+    let own : u.worker ≡ k + 0 + 1 = h 0 u refl in
+    let other : u.worker ≢ k + suc i + 1 = λ same. absurd (omega arith) in
+    let n : k + suc i + 1 ≡ suc k + i + 1 = omega arith in
+    ap (λ (b : Bool). if b then u.sent else lists ts (k + suc i + 1)) (ne_eqb u.worker (k + suc i + 1) other) ∙ ap (lists ts) n ∙ list_at (suc k) i ts t (tail k u ts h) e
+
+-- ---- a session that can be closed
+
+numbered : (r : ReceiverView) (ts : List Sent) → CanClose r ts → Numbered 0 ts
+numbered r ts can = λ i t e. let n = can.workers i t e in omega arith
+
+has_one : (r : ReceiverView) (ts : List Sent) → CanClose r ts → (w : ℕ) → IsWorkerOf r.workers w → tokens_of w ts ≡ 1
+has_one r ts can w own = let n = can.count in once 0 w ts (numbered r ts can) own.0 (let high : w ≤ r.workers = own.1 in omega arith)
+
+pub no_fault : (r : ReceiverView) (ts : List Sent) (why : CloseReason) → CanClose r ts → IsFault why r ts → ⊥
+no_fault r ts (Missing w) can h = let one = has_one r ts can w h.worker in let none : tokens_of w ts ≡ 0 = h.holds in absurd (omega arith)
+no_fault r ts (Twice w) can h = let one = has_one r ts can w h.1.worker in let two : 1 < tokens_of w ts = h.1.holds in absurd (omega arith)
+no_fault r ts (NotDrained w) can h =
+    let own = h.1.worker in
+    let low : 0 < w = own.0 in
+    let high : w ≤ r.workers = own.1 in
+    let same : (w - 1) + 1 ≡ w = omega arith in
+    let taken : is_marked w r.taken ≡ true = rw same at (can.marks (w - 1) (omega arith)) in
+    let left : is_marked w r.taken ≡ false = h.1.holds in cc
+
+pub sessions : (r : ReceiverView) (ts : List Sent) → CanClose r ts → All (λ t. t.session ≡ r.session) ts
+sessions r ts can = all_from (λ t. t.session ≡ r.session) ts can.session
+
+-- ---- outcomes
+
+-- the outcome of a token, and its seat
+token_at : (os : List Outcome) (ts : List Sent) (ss : List Claimant) → AllCompleted os ts ss → (i : ℕ) (t : Sent) → slice_get ts i ≡ Some t
+    → (o : Outcome) × (slice_get os i ≡ Some o) × (o.failure ≡ None) × (t ≡ o.ended) × (slice_get ss i ≡ Some o.claim_seat)
+token_at [] ts ss (a, b) i t e = let none : slice_get [] i ≡ Some t = rw a at e in cc
+token_at (o ∷ os) ts ss (none, us, rs, a, b, rest) zero t e =
+    let first : slice_get (o.ended ∷ us) 0 ≡ Some t = rw a at e in (o, refl, none, cc, rw b refl)
+token_at (o ∷ os) ts ss (none, us, rs, a, b, rest) (suc i) t e =
+    let later : slice_get (o.ended ∷ us) (suc i) ≡ Some t = rw a at e in
+    let h = token_at os us rs rest i t later in (h.0, h.1, h.2, h.3, rw b (h.4))
+
+-- the outcome of a seat, and its token
+pub seat_at : (os : List Outcome) (ts : List Sent) (ss : List Claimant) → AllCompleted os ts ss → (i : ℕ) (s : Claimant) → slice_get ss i ≡ Some s
+    → (o : Outcome) × (slice_get os i ≡ Some o) × (o.failure ≡ None) × (s ≡ o.claim_seat) × (slice_get ts i ≡ Some o.ended)
+seat_at [] ts ss (a, b) i s e = let none : slice_get [] i ≡ Some s = rw b at e in cc
+seat_at (o ∷ os) ts ss (none, us, rs, a, b, rest) zero s e =
+    let first : slice_get (o.claim_seat ∷ rs) 0 ≡ Some s = rw b at e in (o, refl, none, cc, rw a refl)
+seat_at (o ∷ os) ts ss (none, us, rs, a, b, rest) (suc i) s e =
+    let later : slice_get (o.claim_seat ∷ rs) (suc i) ≡ Some s = rw b at e in
+    let h = seat_at os us rs rest i s later in (h.0, h.1, h.2, h.3, rw a (h.4))
+
+length-tokens : (os : List Outcome) (ts : List Sent) (ss : List Claimant) → AllCompleted os ts ss → length ts ≡ length os
+length-tokens [] ts ss (a, b) = ap (λ l. length l) a
+length-tokens (o ∷ os) ts ss (none, us, rs, a, b, rest) = ap (λ l. length l) a ∙ ap suc (length-tokens os us rs rest)
+
+pub length-seats : (os : List Outcome) (ts : List Sent) (ss : List Claimant) → AllCompleted os ts ss → length ss ≡ length os
+length-seats [] ts ss (a, b) = ap (λ l. length l) b
+length-seats (o ∷ os) ts ss (none, us, rs, a, b, rest) = ap (λ l. length l) b ∙ ap suc (length-seats os us rs rest)
+
+-- ---- the end of a run
+
+-- each mark was taken
+all_marked : (a : EventCollector) → IsCollector a → NoneIsAwaited a → a.is_refused ≡ false → (i : ℕ) → i < length a.awaited.items → is_marked (i + 1) a.receiver.taken ≡ true
+all_marked a collector none_is_awaited going i within =
+    let here = slice_get-get_or a.awaited.items i true within in
+    let gone : get_or a.awaited.items i true ≡ false = none_is_awaited i (get_or a.awaited.items i true) here in
+    collector.marked going i (here ∙ ap Some gone)
+
+module _ (may : ℕ → ℕ → ℕ → List Event → Type 0) (units workers : ℕ) (claim : ClaimName) (os : List Outcome) (ts : List Sent) (ss : List Claimant) (whole : AllCompleted os ts ss) (count : length os ≡ workers) where
+  pub can_close : (a : EventCollector) → IsCollector a → NoneIsAwaited a → a.is_refused ≡ false → length a.awaited.items ≡ workers → a.receiver.workers ≡ workers
+      → AllDone may units a.receiver.session claim os → CanClose a.receiver ts
+  can_close a collector none_is_awaited going width is_workers done = record {
+    session = λ i t e. let h = token_at os ts ss whole i t e in ap (λ (x : Sent). x.session) (h.3) ∙ (done i (h.0) (h.1)).session_is;
+    count = length-tokens os ts ss whole ∙ count ∙ sym is_workers;
+    workers = λ i t e. let h = token_at os ts ss whole i t e in ap (λ (x : Sent). x.worker) (h.3) ∙ (done i (h.0) (h.1)).worker;
+    marks = λ i within. all_marked a collector none_is_awaited going i (omega arith);
+  }
+
+  pub of_claim : (session : TableId) → AllDone may units session claim os → All (λ s. s.claim ≡ claim) ss
+  of_claim session done = all_from (λ s. s.claim ≡ claim) ss (λ i s e. let h = seat_at os ts ss whole i s e in ap (λ (x : Claimant). x.claim) (h.3) ∙ (done i (h.0) (h.1)).claim_is)
+
+  -- what the workers of a run share
+  pub shared : (r : ReceiverView) (drew : ℕ) → 0 < workers → r.workers ≡ workers → CanClose r ts → Mix r.workers (entries r.taken) (lists ts) → AllDone may units r.session claim os
+      → Claims (map (λ (s : Claimant). s.numbers) ss) drew → ((i : ℕ) (s : Claimant) → slice_get ss i ≡ Some s → s.spent ≡ true → drew ≡ units)
+      → IsShared may units workers (entries r.taken)
+  shared r drew some is_workers can mix done claims spent =
+      let seats : length ss ≡ workers = length-seats os ts ss whole ∙ count in
+      let first : (s : Claimant) × (slice_get ss 0 ≡ Some s) = first_of ss (omega arith) in
+      let h = seat_at os ts ss whole 0 (first.0) (first.1) in
+      let stated : first.0.spent ≡ true = ap (λ (x : Claimant). x.spent) (h.3) ∙ (done 0 (h.0) (h.1)).all (h.2) in
+      let all : drew ≡ units = spent 0 (first.0) (first.1) stated in
+      record {
+        drawn = map (λ (s : Claimant). s.numbers) ss;
+        lists = lists ts;
+        seats = length-map ss (λ (s : Claimant). s.numbers) ∙ seats;
+        claims = rw all at claims;
+        mix = rw is_workers at mix;
+        emits = λ i us e.
+            let s = map_at (λ (s : Claimant). s.numbers) ss i us e in
+            let o = seat_at os ts ss whole i (s.0) (s.1) in
+            let one = done i (o.0) (o.1) in
+            let us_is : us ≡ o.0.claim_seat.numbers = s.2 ∙ ap (λ (x : Claimant). x.numbers) (o.3) in
+            let l_is : lists ts (0 + i + 1) ≡ o.0.ended.sent = list_at 0 i ts o.0.ended (numbered r ts can) (o.4) in
+            let n : 0 + i + 1 ≡ i + 1 = omega arith in
+            emits_along may (i + 1) (i + 1) us o.0.claim_seat.numbers (lists ts (i + 1)) o.0.ended.sent refl us_is (rw n at l_is) (one.emits (o.2));
+      }
+    where
+      first_of : (xs : List Claimant) → 0 < length xs → (s : Claimant) × (slice_get xs 0 ≡ Some s)
+      first_of [] some = absurd (omega arith)
+      first_of (x ∷ xs) some = (x, refl)
+
+-- the numbers of a closed session, as `close` gives them
+pub tallied : (n : ℕ) (closed : List ℕ) (es : List Entry) (ls : ℕ → List Event) → Mix n es ls → ((w : ℕ) → IsWorkerOf n w → slice_index closed w ≡ length (ls w))
+    → ((w : ℕ) → ¬ IsWorkerOf n w → slice_index closed w ≡ 0) → IsTallied n closed es
+tallied n closed es ls mix each others = record {
+  each = λ w own. each w own ∙ ap (λ l. length l) (sym (mix.each w own));
+  others = others;
+}
+
+-- the first failure is of one of the engine's units
+pub failure_is_unit : (units : ℕ) (os : List Outcome) (u : ℕ) (why : UnitFault) → All (λ o. IfSome o.failure (λ f. f.unit < units)) os → IsFirstFailure os u why → u < units
+failure_is_unit units [] u why all h = absurd h
+failure_is_unit units (o ∷ os) u why all (inl is) = let one = All-head (λ (x : Outcome). IfSome x.failure (λ f. f.unit < units)) o os all in subst (λ (f : Option Failure). IfSome f (λ g. g.unit < units)) is one
+failure_is_unit units (o ∷ os) u why all (inr h) = failure_is_unit units os u why (All-tail (λ (x : Outcome). IfSome x.failure (λ f. f.unit < units)) o os all) h.1
+
+pub late : (units : ℕ) (a : EventCollector) (os : List Outcome) (f : RunFault) → All (λ o. IfSome o.failure (λ f. f.unit < units)) os → IsFaultOfWorkers a os f → IsFaultOfUnits units f
+late units a os fault.Workers all h = absurd h
+late units a os fault.Capacity all h = absurd h
+late units a os (fault.Engine unit why) all h = failure_is_unit units os unit why all h
+late units a os fault.Memory all h = tt
+late units a os fault.Threads all h = tt
+
+-- what a worker has in a run, it has in the middle
+pub tallied_whole : (n : ℕ) (numbers : List ℕ) (before after : List Event) (mid whole : List Entry) → whole ≡ entries_by 0 before ++ mid ++ entries_by 0 after → IsTallied n numbers mid → IsTallied n numbers whole
+tallied_whole n numbers before after mid whole is tally = record {
+  each = λ w own. tally.each w own ∙ ap (λ l. length l) (sym (ap (of_worker w) is ∙ in_the_middle w before after mid own.0));
+  others = tally.others;
+}

@@ -1,0 +1,4 @@
+use Rattle.tk_engine_execute.proofs.sinks.SenderSink.register.Goals as goal
+
+pub returns-in-Ok-clause-ok : goal.returns-in-Ok-clause-ok
+returns-in-Ok-clause-ok g c = c.in-Ok.ensures

@@ -1,0 +1,91 @@
+use Rattle.std.proofs.Common.{rules, arith, ◌≡◌, ◌+◌, refl, ap, sym, ◌∙◌}
+use Rattle.std.specs.Prelude.{vec_len}
+use Rattle.tk_queue.specs.Ends.{SenderView}
+use Rattle.tk_engine_execute.specs.Workers.{IsReady, IsDone}
+use Rattle.tk_engine_execute.proofs.UnstartedWorkers.{unstarted_ready, unstarted_sender, unstarted_rest, one_fewer}
+use Rattle.tk_engine_execute.proofs.Outcomes.{nobody_joined, one_joined, one_refused}
+use Rattle.tk_engine_execute.proofs.worker_threads.+spawn_workers.Goals as goal
+
+pub spawn_with-requires-clause-runs : goal.spawn_with-requires-clause-runs
+spawn_with-requires-clause-runs g t c κs within =
+    let ready : IsReady c.args.claim.now c.args.book.now (g.E.Engine.table c.args.engine.now) c.in-Some.handles = unstarted_ready _ _ _ _ _ _ _ c.in-Some.ensures.some c.requires.ready.unstarted in
+    search rules
+
+pub spawn_workers-requires-clause-ready : goal.spawn_workers-requires-clause-ready
+spawn_workers-requires-clause-ready g t c κs within =
+    let fewer = one_fewer _ _ _ c.in-Some.ensures.some in
+    let room = c.requires.ready.room in record {
+      unstarted = unstarted_rest _ _ _ _ _ _ _ c.in-Some.ensures.some c.requires.ready.unstarted;
+      collector = c.requires.ready.collector;
+      empty = c.requires.ready.empty;
+      room = omega (arith, fewer, room);
+    }
+
+pub spawn_workers-requires-in-Err-clause-ready : goal.spawn_workers-requires-in-Err-clause-ready
+spawn_workers-requires-in-Err-clause-ready g t c κs within =
+    let fewer = one_fewer _ _ _ c.in-Some.ensures.some in
+    let room = c.requires.ready.room in record {
+      unstarted = rw c.refuse.ensures.follows.session (unstarted_rest _ _ _ _ _ _ _ c.in-Some.ensures.some c.requires.ready.unstarted);
+      collector = c.refuse.ensures.collector;
+      empty = c.requires.ready.empty;
+      room = omega (arith, fewer, room);
+    }
+
+pub returns-in-Ok-clause-run_to_the_end : goal.returns-in-Ok-clause-run_to_the_end
+returns-in-Ok-clause-run_to_the_end g t c =
+    let may = g.E.Engine.may c.args.engine.now in
+    let units = g.E.Engine.units c.args.engine.now in
+    let session = c.args.joined.now.collector.receiver.session in
+    let claim = c.args.claim.now in
+    let rest = c.take.new.self.senders in
+    let o = c.join.result in
+    let last = unstarted_sender _ _ _ _ _ _ _ c.in-Some.ensures.some c.requires.ready.unstarted in
+    let handles = c.in-Some.handles in
+    let own : IsDone may units handles.sender.session claim handles.sender.worker o = search rules in
+    let index : handles.sender.worker ≡ vec_len rest + 1 = ap (λ (s : SenderView). s.worker) last ∙ ap (λ n. n + 1) (sym (rest.ok.0)) in
+    let done : IsDone may units session claim (vec_len rest + 1) o = rw (ap (λ (s : SenderView). s.session) last, index) at own in
+    one_joined may units claim (vec_len rest) (vec_len c.args.unstarted.now.senders) c.args.joined.now c.spawn_workers.new.joined (record { collector = c.spawn_workers.new.joined.collector; outcomes = c.push_reserved.new.self }) o (one_fewer _ _ _ c.in-Some.ensures.some) c.spawn_workers.ensures.run_to_the_end refl c.push_reserved.ensures.items done
+
+pub returns-in-Err-clause-run_to_the_end : goal.returns-in-Err-clause-run_to_the_end
+returns-in-Err-clause-run_to_the_end g t c =
+    one_refused (g.E.Engine.may c.args.engine.now) (g.E.Engine.units c.args.engine.now) c.args.claim.now (vec_len c.take.new.self.senders) (vec_len c.args.unstarted.now.senders) c.args.joined.now _ c.spawn_workers-in-Err.new.joined
+    (one_fewer _ _ _ c.in-Some.ensures.some) c.refuse.ensures.follows c.refuse.ensures.refused c.spawn_workers-in-Err.ensures.at_most c.spawn_workers-in-Err.ensures.run_to_the_end
+
+pub returns-in_default : goal.returns-in_default
+returns-in_default g t c =
+    let last = c.collect_all.ensures in record {
+      run_to_the_end = nobody_joined (g.E.Engine.may c.args.engine.now) (g.E.Engine.units c.args.engine.now) c.args.claim.now (vec_len c.args.unstarted.now.senders) c.args.joined.now c.collect_all.new.self c.in_default.ensures.none c.requires.ready.empty
+          last.follows last.collector last.none_is_awaited last.refused;
+      capacity = omega arith;
+      at_most = let empty = c.requires.ready.empty in omega (arith, empty);
+    }
+
+pub push_reserved-requires : goal.push_reserved-requires
+push_reserved-requires g t c =
+    let fewer = one_fewer _ _ _ c.in-Some.ensures.some in
+    let room = c.requires.ready.room in
+    let kept = c.spawn_workers.ensures.capacity in
+    let few = c.spawn_workers.ensures.at_most in
+    omega (arith, fewer, room, kept, few)
+
+pub returns-in-Ok-clause-capacity : goal.returns-in-Ok-clause-capacity
+returns-in-Ok-clause-capacity g t c =
+    let kept = c.spawn_workers.ensures.capacity in
+    let same = c.push_reserved.ensures.capacity in
+    omega (arith, kept, same)
+
+pub returns-in-Ok-clause-at_most : goal.returns-in-Ok-clause-at_most
+returns-in-Ok-clause-at_most g t c =
+    let fewer = one_fewer _ _ _ c.in-Some.ensures.some in
+    let few = c.spawn_workers.ensures.at_most in
+    let one = c.push_reserved.ensures.len in
+    omega (arith, fewer, few, one)
+
+pub returns-in-Err-clause-capacity : goal.returns-in-Err-clause-capacity
+returns-in-Err-clause-capacity g t c = c.spawn_workers-in-Err.ensures.capacity
+
+pub returns-in-Err-clause-at_most : goal.returns-in-Err-clause-at_most
+returns-in-Err-clause-at_most g t c =
+    let fewer = one_fewer _ _ _ c.in-Some.ensures.some in
+    let few = c.spawn_workers-in-Err.ensures.at_most in
+    omega (arith, fewer, few)

@@ -1,0 +1,26 @@
+-- The texts of the faults.
+use Rattle.std.specs.Prelude.{ℕ, List, ◌++◌, codes}
+use Rattle.std.specs.Fmt.{decimal}
+use Rattle.tk_queue.specs.FaultTexts.{register_fault_text, send_fault_text}
+use Rattle.tk_engine_execute.specs.declared.sinks.SinkFault.{SinkFault}
+use Rattle.tk_engine_execute.specs.declared.sinks.SinkFault.TheVariants as sinks
+use Rattle.tk_engine_execute.specs.declared.engines.UnitFault.{UnitFault}
+use Rattle.tk_engine_execute.specs.declared.engines.UnitFault.TheVariants as units
+use Rattle.tk_engine_execute.specs.declared.runs.RunFault.{RunFault}
+use Rattle.tk_engine_execute.specs.declared.runs.RunFault.TheVariants as runs
+
+abbrev pub sink_fault_text : SinkFault → List ℕ
+sink_fault_text (sinks.Send fault) = send_fault_text fault
+sink_fault_text (sinks.Register fault) = register_fault_text fault
+
+abbrev pub unit_fault_text : UnitFault → List ℕ
+unit_fault_text (units.Sink fault) = sink_fault_text fault
+unit_fault_text units.Memory = codes "out of memory"
+unit_fault_text (units.Own number) = codes "engine fault " ++ decimal number
+
+abbrev pub run_fault_text : RunFault → List ℕ
+run_fault_text runs.Workers = codes "workers must be 1 to 15"
+run_fault_text runs.Capacity = codes "places must be 1 to 1024"
+run_fault_text (runs.Engine unit fault) = codes "unit " ++ decimal unit ++ codes " failed"
+run_fault_text runs.Memory = codes "out of memory"
+run_fault_text runs.Threads = codes "no thread"

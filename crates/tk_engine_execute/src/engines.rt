@@ -1,0 +1,155 @@
+//! What an engine is: a table, events before and after, and units with their needs.
+ghost use Rattle.std.specs.Prelude.{◌≡◌, ℕ, ◌<◌, ◌≤◌, List, length, Some, IfOk, OnOk, OnErr};
+ghost use Rattle.std.specs.Arc.{arc_value};
+ghost use Rattle.tk_ids.specs.declared.tables.Descriptor.{Descriptor};
+ghost use Rattle.tk_events.specs.declared.events.Event.{Event};
+ghost use Rattle.tk_book.specs.Wants.{Wants};
+ghost use Rattle.tk_engine_execute.specs.Engines.{IsSame, Extends, ExtendsAs, AreBeforeOrAfter};
+ghost use Rattle.tk_engine_execute.specs.FaultTexts.{unit_fault_text};
+
+use crate::sinks::{Sink, SinkFault};
+use std::alloc::{AllocError, Global};
+use std::error::Error;
+use std::fmt;
+use std::sync::{Arc, Wait};
+use tk_book::{BookSeat, Need};
+use tk_events::Event;
+use tk_ids::Table;
+
+/// The most units that an engine may have.
+pub const MAX_UNITS: u32 = 65_536;
+
+/// Why a unit stopped.
+#[derive(Debug, Drop)]
+pub enum UnitFault {
+    /// The sink refused an event or a registration.
+    Sink(SinkFault),
+    /// A request for memory was refused.
+    Memory,
+    /// A fault of the engine's own, such as a fixture that it can't set up.
+    ///
+    /// The engine chooses the number, for instance one for each cause. The caller of `execute`
+    /// finds it in `RunFault::Engine`.
+    Own(u32),
+}
+
+impl fmt::Display for UnitFault {
+    ghost output = { λ fault. Some (unit_fault_text fault) };
+
+    fn fmt<W: fmt::Write>(&self, f: &mut fmt::Formatter<W>) -> fmt::Result {
+        match self {
+            UnitFault::Sink(fault) => write!(f, "{fault}"),
+            UnitFault::Memory => f.write_str("out of memory"),
+            UnitFault::Own(number) => write!(f, "engine fault {number}"),
+        }
+    }
+}
+
+impl Error for UnitFault {}
+
+impl From<SinkFault> for UnitFault {
+    ghost use Rattle.tk_engine_execute.specs.declared.engines.UnitFault.TheVariants.{Sink as Sunk};
+
+    ghost from_gives = { λ fault e. e ≡ Sunk fault };
+
+    fn from(fault: SinkFault) -> UnitFault {
+        UnitFault::Sink(fault)
+    }
+}
+
+impl From<AllocError> for UnitFault {
+    ghost use Rattle.tk_engine_execute.specs.declared.engines.UnitFault.TheVariants.{Memory};
+
+    ghost from_gives = { λ _ e. e ≡ Memory };
+
+    fn from(_: AllocError) -> UnitFault {
+        UnitFault::Memory
+    }
+}
+
+/// A test engine, whose units of work [`execute`](crate::execute) runs in parallel.
+///
+/// JUnit: a `HierarchicalTestEngine`; a unit is a subtree of nodes that one thread runs.
+///
+/// The meaning of an engine is its table, the events before and after the units, the number of the
+/// units, each unit's need, and which lists of events each unit may emit (`may`). The narrower
+/// `may` is, the more is proved of a run of the engine.
+pub trait Engine: Sync {
+    ghost table: { Self → List Descriptor };
+
+    ghost units: { Self → ℕ };
+
+    ghost before: { Self → List Event };
+
+    ghost after: { Self → List Event };
+
+    ghost need: { Self → ℕ → Wants };
+
+    // may e u w k l: unit u may emit l for worker w, which had registered k descriptors before
+    ghost may: { Self → ℕ → ℕ → ℕ → List Event → Type 0 };
+
+    /// The table of the static descriptors. A descriptor's key is its number in it.
+    fn table(&self) -> &Arc<Table>
+        ensures { arc_value result.now ≡ table self.now };
+
+    /// How many units there are, at most `MAX_UNITS`. They are numbered from 0.
+    fn units(&self) -> u32
+        ensures is { result ≡ units self.now }
+        ensures limit { result ≤ MAX_UNITS };
+
+    /// The events before all units, which worker 0 emits.
+    ///
+    /// There are at most `MAX_EVENTS`. Each is lawful, of a static descriptor and no registration.
+    ///
+    /// # Errors
+    /// A request for memory was refused.
+    fn before(&self, alloc: Global) -> Result<Vec<Event>, AllocError>
+        ensures is { IfOk result (λ v. v.items ≡ before self.now) }
+        ensures static_events { OnOk result
+            (AreBeforeOrAfter (length (table self.now)) (before self.now)) };
+
+    /// The events after all units, which worker 0 emits, with the limits of those before.
+    ///
+    /// # Errors
+    /// A request for memory was refused.
+    fn after(&self, alloc: Global) -> Result<Vec<Event>, AllocError>
+        ensures is { IfOk result (λ v. v.items ≡ after self.now) }
+        ensures static_events { OnOk result
+            (AreBeforeOrAfter (length (table self.now)) (after self.now)) };
+
+    /// The resources that a unit reads and writes while it runs.
+    ///
+    /// JUnit: the `@ResourceLock`s of its nodes, and `@Isolated`.
+    fn need(&self, unit: u32) -> Need
+        requires { unit < units self.now }
+        ensures { result ≡ need self.now unit };
+
+    /// Runs one unit, and emits its events into `sink` in the order in which they happen.
+    ///
+    /// [`execute`](crate::execute) calls this from the thread of the worker that drew `unit`. All
+    /// workers, up to `MAX_WORKERS` threads, may call it at once, each with another unit. `seat`
+    /// holds the locks that `need` asked for, from before the call until after it.
+    ///
+    /// A static descriptor's key is its number in the table; the key of a dynamic one is what
+    /// `sink.register` returned. JUnit: the body of a `HierarchicalTestEngine`'s node.
+    ///
+    /// # Errors
+    /// `Sink` where the sink refused an event, `Memory`, or `Own(n)` where the engine itself can't
+    /// go on, with a number of its choice. The worker then stops, and `execute` answers
+    /// `RunFault::Engine(unit, fault)` of the lowest worker that had a fault.
+    fn run<R: Wait, S: Sink>(
+        &self,
+        rt: &R,
+        alloc: Global,
+        unit: u32,
+        seat: &BookSeat,
+        sink: &mut S,
+    ) -> Result<(), UnitFault>
+        requires unit { unit < units self.now }
+        requires holds { seat.now.holds ≡ Some (need self.now unit) }
+        requires table { (S.meaning sink.old).table ≡ table self.now }
+        ensures same { IsSame (S.meaning sink.old) (S.meaning sink.new) }
+        ensures ok { OnOk result
+            (ExtendsAs (may self.now unit) (S.meaning sink.old) (S.meaning sink.new)) }
+        ensures err { OnErr result (Extends (S.meaning sink.old) (S.meaning sink.new)) };
+}

@@ -1,0 +1,18 @@
+//! Engines, the sinks into which their units emit, and the run of an engine by one worker or by
+//! several.
+#![tactic(auto)]
+
+mod engines;
+mod event_collectors;
+mod results;
+mod runs;
+mod sinks;
+mod unstarted_workers;
+mod worker_threads;
+mod workers;
+
+pub use engines::{Engine, MAX_UNITS, UnitFault};
+pub use results::Results;
+pub use runs::{RunFault, execute};
+pub use sinks::{Sink, SinkFault};
+pub use tk_engine_claim::{Claim, ClaimFault, ClaimSeat};

@@ -1,0 +1,74 @@
+//! The results of a run.
+ghost use Rattle.std.specs.Prelude.{◌≡◌, IfOk};
+ghost use Rattle.tk_record_columns.specs.declared.selections.Selection.TheVariants.{Tests, Containers};
+ghost use Rattle.tk_record_columns.specs.Selections.{all_of, filtered_by, selects};
+ghost use Rattle.tk_engine_execute.specs.Results.{Ran};
+
+use std::alloc::{AllocError, Global};
+use std::marker::Model;
+use tk_record_columns::{Events, Record, Selection};
+use tk_queue::Closed;
+
+/// The results of a run: its record, and how many events each worker emitted.
+///
+/// JUnit: `EngineExecutionResults`.
+#[derive(Drop)]
+pub struct Results {
+    recording: Record,
+    closed: Closed,
+}
+
+impl Model for Results {
+    ghost use Rattle.tk_engine_execute.specs.Results.{Ran};
+
+    ghost Value = { Ran };
+
+    ghost view = { λ r. record { recorded = r.recording; closed = r.closed } };
+}
+
+impl Results {
+    pub(crate) fn of(recording: Record, closed: Closed) -> Results
+        ensures { result ≡ record { recorded = recording; closed = closed } }
+    {
+        Results { recording, closed }
+    }
+
+    /// The record of the run.
+    pub fn recorded(&self) -> &Record
+        ensures { result.now ≡ self.now.recorded }
+    {
+        &self.recording
+    }
+
+    /// How many events each worker emitted, as `Receiver::close` returned it.
+    pub fn closed(&self) -> &Closed
+        ensures { result.now ≡ self.now.closed }
+    {
+        &self.closed
+    }
+
+    /// All events of the run.
+    pub fn all_events(&self, alloc: Global) -> Result<Events<'_>, AllocError>
+        ensures { IfOk result (λ events. events ≡ all_of self.now.recorded) }
+    {
+        Events::all(alloc, &self.recording)
+    }
+
+    /// The events of tests.
+    pub fn test_events(&self, alloc: Global) -> Result<Events<'_>, AllocError>
+        ensures { IfOk result (λ events.
+            events
+            ≡ filtered_by (selects Tests self.now.recorded) (all_of self.now.recorded)) }
+    {
+        self.all_events(alloc)?.pick(alloc, Selection::Tests)
+    }
+
+    /// The events of containers.
+    pub fn container_events(&self, alloc: Global) -> Result<Events<'_>, AllocError>
+        ensures { IfOk result (λ events.
+            events
+            ≡ filtered_by (selects Containers self.now.recorded) (all_of self.now.recorded)) }
+    {
+        self.all_events(alloc)?.pick(alloc, Selection::Containers)
+    }
+}

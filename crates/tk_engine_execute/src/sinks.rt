@@ -1,0 +1,112 @@
+//! Where a unit's events go.
+ghost use Rattle.std.specs.Prelude.{◌≡◌, None, Some, Ok, IfOk, IfErr, OnOk, OnErr};
+ghost use Rattle.tk_engine_execute.specs.FaultTexts.{sink_fault_text};
+ghost use Rattle.tk_engine_execute.specs.Sinks.{IsSendCause, IsRegisterCause};
+ghost use Rattle.tk_queue.specs.Ends.{SenderView, sends, refusal_of, IsRegisteredAs};
+
+use std::error::Error;
+use std::fmt;
+use std::sync::Wait;
+use tk_events::Event;
+use tk_ids::{DType, Segment};
+use tk_queue::{RegisterFault, SendFault, Sender};
+
+/// Why a sink took no event.
+#[derive(Debug, Drop)]
+pub enum SinkFault {
+    /// The sink refused an event, which is in the fault.
+    Send(SendFault),
+    /// The sink refused a registration.
+    Register(RegisterFault),
+}
+
+impl fmt::Display for SinkFault {
+    ghost output = { λ fault. Some (sink_fault_text fault) };
+
+    fn fmt<W: fmt::Write>(&self, f: &mut fmt::Formatter<W>) -> fmt::Result {
+        match self {
+            SinkFault::Send(fault) => write!(f, "{fault}"),
+            SinkFault::Register(fault) => write!(f, "{fault}"),
+        }
+    }
+}
+
+impl Error for SinkFault {}
+
+/// Takes the events of a unit, for one worker of a session. JUnit: an `EngineExecutionListener`.
+///
+/// Its meaning is what contracts see of a sender: the session, the table, the worker, and the list
+/// that it emitted. What a sink takes is added as a sender adds it; a refusal changes nothing.
+pub trait Sink {
+    ghost meaning: { Self → SenderView };
+
+    /// Emits an event of a static descriptor, or of one that this sink registered.
+    ///
+    /// # Errors
+    /// `Send` where the event is unlawful or a registration, where its descriptor is unknown, or
+    /// where the sink has emitted `MAX_EVENTS` events.
+    fn emit<R: Wait>(&mut self, rt: &R, event: Event) -> Result<(), SinkFault>
+        ensures ok { OnOk result ((refusal_of (meaning self.old) event ≡ None)
+            × (meaning self.new ≡ sends (meaning self.old) event)) }
+        ensures err { OnErr result (meaning self.new ≡ meaning self.old) };
+
+    /// Registers a dynamic descriptor below its parent, emits its registration with this stamp, and
+    /// returns its key.
+    ///
+    /// `parent` is the key of a static descriptor or of one that this sink registered; the new
+    /// descriptor's id is the parent's with `segment` appended. JUnit: `dynamicTestRegistered`.
+    ///
+    /// # Errors
+    /// `Register` where the parent is unknown, where the id would be too long, where a limit is
+    /// reached, or where a request for memory was refused.
+    fn register<R: Wait>(
+        &mut self,
+        rt: &R,
+        parent: u32,
+        segment: &Segment,
+        name: &str,
+        dtype: DType,
+        stamp: u64,
+    ) -> Result<u32, SinkFault>
+        ensures ok { IfOk result (λ key.
+            IsRegisteredAs (meaning self.old) (meaning self.new)
+            parent segment.now name.now dtype stamp (Ok key)) }
+        ensures err { OnErr result (meaning self.new ≡ meaning self.old) };
+}
+
+impl Sink for Sender {
+    ghost meaning = { λ s. s };
+
+    fn emit<R: Wait>(&mut self, rt: &R, event: Event) -> Result<(), SinkFault>
+        ensures ok { OnOk result ((refusal_of self.old event ≡ None)
+            × (self.new ≡ sends self.old event)) }
+        ensures err { OnErr result (self.new ≡ self.old) }
+        ensures cause { IfErr result (IsSendCause self.old event) }
+    {
+        match self.send(rt, event) {
+            Ok(()) => Ok(()),
+            Err(fault) => Err(SinkFault::Send(fault)),
+        }
+    }
+
+    fn register<R: Wait>(
+        &mut self,
+        rt: &R,
+        parent: u32,
+        segment: &Segment,
+        name: &str,
+        dtype: DType,
+        stamp: u64,
+    ) -> Result<u32, SinkFault>
+        ensures ok { IfOk result (λ key.
+            IsRegisteredAs self.old self.new parent segment.now name.now dtype stamp (Ok key)) }
+        ensures err { OnErr result (self.new ≡ self.old) }
+        ensures cause { IfErr result
+            (IsRegisterCause self.old self.new parent segment.now name.now dtype stamp) }
+    {
+        match Sender::register(self, rt, parent, segment, name, dtype, stamp) {
+            Ok(key) => Ok(key),
+            Err(fault) => Err(SinkFault::Register(fault)),
+        }
+    }
+}

@@ -1,0 +1,126 @@
+//! The threads of a run's workers.
+ghost use Rattle.std.specs.Prelude.{◌≡◌, ◌≤◌, vec_len, vec_capacity};
+ghost use Rattle.tk_engine_execute.specs.WorkerThreads.{CanRunWorkers, WorkersWereRun};
+ghost use Rattle.tk_engine_execute.specs.Workers.{IsReady, IsDone};
+
+use crate::engines::Engine;
+use crate::event_collectors::EventCollector;
+use crate::unstarted_workers::UnstartedWorkers;
+use crate::workers::{Outcome, WorkerHandles, work};
+use std::alloc::Global;
+use std::snapshot::Snapshot;
+use std::sync::Wait;
+use std::thread;
+use std::thread::{Promise, Scope, Threads};
+use tk_book::Book;
+use tk_engine_claim::Claim;
+
+/// What a worker's thread promises of the outcome that it returns.
+#[derive(Drop)]
+pub(crate) struct WorkerPromise<'e, E> {
+    engine: &'e E,
+    claim: &'e Claim,
+    handles: Snapshot<WorkerHandles>,
+}
+
+impl<'e, E: Engine> Promise<Outcome> for WorkerPromise<'e, E> {
+    ghost kept_by = { λ p r. IsDone (E.may p.engine.now) (E.units p.engine.now)
+        p.handles.value.sender.session p.claim.now p.handles.value.sender.worker r };
+}
+
+/// The receiver's side of a run, and the outcome of each worker that was joined.
+#[derive(Drop)]
+pub(crate) struct JoinedWorkers {
+    pub collector: EventCollector,
+    pub outcomes: Vec<Outcome>,
+}
+
+// Starts a thread for the last worker, does the same with the rest, collects events where none is
+// left, and joins on the way back.
+fn spawn_workers<'s, 'e, R: Threads + Wait + Sync, E: Engine>(
+    rt: &'e R,
+    alloc: Global,
+    scope: &Scope<'s, &'e ()>,
+    engine: &'e E,
+    claim: &'e Claim,
+    book: &'e Book,
+    unstarted: &mut UnstartedWorkers,
+    joined: &mut JoinedWorkers,
+)
+    requires limit { claim.now.limit ≡ E.units engine.now }
+    requires ready { CanRunWorkers claim.now book.now (E.table engine.now) unstarted.old
+        joined.old }
+    ensures run_to_the_end { WorkersWereRun (E.may engine.now) (E.units engine.now) claim.now
+        (vec_len unstarted.old.senders) joined.old joined.new }
+    ensures capacity { vec_capacity joined.old.outcomes ≤ vec_capacity joined.new.outcomes }
+    ensures at_most { vec_len joined.new.outcomes ≤ vec_len unstarted.old.senders }
+{
+    let Some(handles) = unstarted.take() else {
+        joined.collector.collect_all(rt);
+        return;
+    };
+    let worker = handles.sender.worker();
+    let promise = WorkerPromise {
+        engine,
+        claim,
+        handles: Snapshot::of(&handles),
+    };
+    let run = move || -> Outcome
+        requires { (claim.now.limit ≡ E.units engine.now)
+            × IsReady claim.now book.now (E.table engine.now) handles }
+        ensures { IsDone (E.may engine.entry.now) (E.units engine.entry.now) handles.sender.session
+            claim.entry.now handles.sender.worker result }
+    { work(rt, alloc, engine, claim, book, handles) };
+    match scope.spawn_with(promise, run) {
+        Ok(thread) => {
+            spawn_workers(rt, alloc, scope, engine, claim, book, unstarted, joined);
+            joined.outcomes.push_reserved(thread.join(rt));
+        }
+        Err(refused) => {
+            drop(refused);
+            joined.collector.refuse(worker);
+            spawn_workers(rt, alloc, scope, engine, claim, book, unstarted, joined);
+        }
+    }
+}
+
+/// Runs each worker in a thread of its own, while this thread collects what they send.
+pub(crate) fn run_workers<R: Threads + Wait + Sync, E: Engine>(
+    rt: &R,
+    alloc: Global,
+    engine: &E,
+    claim: &Claim,
+    book: &Book,
+    unstarted: UnstartedWorkers,
+    joined: JoinedWorkers,
+) -> JoinedWorkers
+    requires limit { claim.now.limit ≡ E.units engine.now }
+    requires ready { CanRunWorkers claim.now book.now (E.table engine.now) unstarted joined }
+    ensures { WorkersWereRun (E.may engine.now) (E.units engine.now) claim.now
+        (vec_len unstarted.senders) joined result }
+{
+    thread::scope(
+        thread::scope_env(),
+        rt,
+        move |scope| -> JoinedWorkers
+            requires { (claim.now.limit ≡ E.units engine.now)
+                × CanRunWorkers claim.now book.now (E.table engine.now) unstarted joined }
+            ensures { WorkersWereRun (E.may engine.entry.now) (E.units engine.entry.now)
+                claim.entry.now (vec_len unstarted.senders) joined result }
+        {
+            let mut unstarted = unstarted;
+            let mut joined = joined;
+            spawn_workers(
+                rt,
+                alloc,
+                scope,
+                engine,
+                claim,
+                book,
+                &mut unstarted,
+                &mut joined,
+            );
+            joined
+        },
+    )
+}

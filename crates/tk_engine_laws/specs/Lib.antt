@@ -1,0 +1,9 @@
+pub use Rattle.tk_ids.specs.IdText
+pub use Rattle.tk_events.specs.Event
+pub use Rattle.tk_record_columns.specs.Recorded
+pub use Rattle.tk_plan_units.specs.Planned
+pub use Rattle.tk_engine_runs.specs.Run
+pub mod Scripts
+pub mod Reports
+pub mod Listening
+pub mod Laws

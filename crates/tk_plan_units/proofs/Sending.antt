@@ -1,0 +1,206 @@
+-- What the spine's events are.
+use Rattle.std.proofs.Common.{◌≡◌, ◌≢◌, ℕ, zero, suc, ◌+◌, ◌≤◌, ◌<◌, List, [], ◌∷◌, ◌++◌, Bool, cond, true, false, All, length, flat_map, get_or, slice_index_or, refl, ap, ◌∙◌, subst, arith, length-append}
+use Rattle.std.specs.List.{list_all}
+use Rattle.std.proofs.lemmas.Option.{slice_get-get_or}
+use Rattle.std.proofs.lemmas.List.Elements.{All-nil, All-cons, All-head, All-tail, All-append}
+use Rattle.tk_limits.specs.declared.limits.TheConstants.{MAX_EVENTS}
+use Rattle.tk_ids.specs.declared.tables.TheConstants.{MAX_DESCRIPTORS}
+use Rattle.tk_ids.specs.declared.tables.Descriptor.{Descriptor}
+use Rattle.tk_events.specs.declared.kinds.Kind.{Kind}
+use Rattle.tk_events.specs.declared.kinds.Kind.TheVariants.{Dynamic, Finished, Reporting, File}
+use Rattle.tk_events.specs.declared.payloads.Payload.{Payload}
+use Rattle.tk_events.specs.declared.payloads.Payload.TheVariants.{Outcome, Report, Path}
+use Rattle.tk_events.specs.Event.{is_lawful}
+use Rattle.tk_plan_units.specs.declared.nodes.Node.{Node}
+use Rattle.tk_plan_units.specs.declared.nodes.NumberedNode.{NumberedNode}
+use Rattle.tk_plan_units.specs.Trees.{Tree, tree, Forest, no_trees, more, flat, flats, forest, IsForest, contents}
+use Rattle.tk_plan_units.specs.Script.{moves, opening}
+use Rattle.tk_plan_units.specs.Events.{published, begun, ended, IsStatic, AreStatic}
+use Rattle.tk_plan_units.specs.Cutting.{Part, opens, runs, closes, parts, parts_below, from_each, head, tail, piece, moves_of, on_spine, all_static, before_of, after_of, units_of, pieces_of}
+use Rattle.tk_plan_units.specs.Numbers.{IsNumbered, of_kind}
+use Rattle.tk_plan_units.specs.Ids.{ids_below}
+use Rattle.tk_plan_units.specs.Planned.{IsPlanned, is_lawful_node}
+use Rattle.tk_plan_units.proofs.Moving.{length-opening}
+use Rattle.tk_plan_units.proofs.Cuts.{if_both, spine_facts, parts_below-moves, from_each-append}
+use Rattle.tk_plan_units.proofs.Keying.{key_within, ids_below-length}
+use Rattle.tk_plan_units.proofs.Founding.{rooted_static}
+use Rattle.tk_plan_units.proofs.Describing.{statics-append, statics_length}
+use Rattle.tk_plan_units.proofs.Planning.{counted}
+use Rattle.tk_plan_units.proofs.Parting.{all_prefix, all_back, all_single}
+
+abbrev top_static : Tree → Bool
+top_static (tree n k f) = n.is_static
+
+static_both : (t : Tree) (f : Forest) → all_static (more t f) ≡ true → (top_static t ≡ true) × (all_static f ≡ true)
+static_both (tree n k g) f e = if_both n.is_static (all_static f) e
+
+module _ (table : List Descriptor) where
+  -- a node that may stand on the spine under that number
+  abbrev Fit : Node → ℕ → Type 0
+  Fit n k = (is_lawful_node n ≡ true) × (k < length table)
+
+  abbrev FitPlaced : NumberedNode → Type 0
+  FitPlaced p = (is_lawful_node p.node ≡ true) × (p.node.is_static ≡ true → p.number < length table)
+
+  abbrev FitPart : Part → Type 0
+  FitPart (opens n k) = Fit n k
+  FitPart (runs t) = Unit {0}
+  FitPart (closes n k) = Fit n k
+
+  -- ---- the parts
+
+  part_by : (b : Bool) (n : Node) (k : ℕ) (f : Forest) → Fit n k → (b ≡ true → All FitPart (parts_below false f))
+      → All FitPart (cond b (opens n k ∷ (parts_below false f ++ closes n k ∷ [])) (runs (tree n k f) ∷ []))
+  part_by true n k f fit below = All-cons FitPart (opens n k) _ fit (All-append FitPart (parts_below false f) (closes n k ∷ []) (below refl) (all_single FitPart (closes n k) fit))
+  part_by false n k f fit below = all_single FitPart (runs (tree n k f)) tt
+
+  mutual
+    parts_fit : (b : Bool) (t : Tree) → top_static t ≡ true → All FitPlaced (flat t) → All FitPart (parts b t)
+    parts_fit b (tree n k f) e h =
+        let top = All-head FitPlaced _ (flats f) h in
+        part_by (on_spine b n f) n k f (top.0, top.1 e) (λ on. below_fit false f (spine_facts b n f on).1 (All-tail FitPlaced _ (flats f) h))
+
+    below_fit : (b : Bool) (f : Forest) → all_static f ≡ true → All FitPlaced (flats f) → All FitPart (parts_below b f)
+    below_fit b no_trees e h = All-nil FitPart
+    below_fit b (more t f) e h =
+        let both = static_both t f e in
+        All-append FitPart (parts b t) (parts_below b f)
+        (parts_fit b t both.0 (all_prefix FitPlaced (flat t) (flats f) h)) (below_fit b f both.1 (all_back FitPlaced (flat t) (flats f) h))
+
+  -- ---- their events
+
+  published_static : {A : Type 0} (kind : Kind) (payload : A → Payload) → kind ≢ Dynamic → (k i : ℕ) (xs : List A) → k < length table → list_all (λ x. is_lawful kind (payload x)) xs ≡ true
+      → All (IsStatic table) (published kind payload k i xs)
+  published_static kind payload other k i [] l h = All-nil (IsStatic table)
+  published_static kind payload other k i (x ∷ xs) l h =
+      let both = if_both (is_lawful kind (payload x)) _ h in
+      All-cons (IsStatic table) _ (published kind payload k (i + 1) xs) (record { known = l; lawful = both.0; registers_none = other }) (published_static kind payload other k (i + 1) xs l both.1)
+
+  begun_static : (k i : ℕ) (n : Node) → Fit n k → All (IsStatic table) (begun k i n)
+  begun_static k i n fit =
+      let own = if_both (is_lawful Finished (Outcome n.status n.message)) _ fit.0 in
+      let both = if_both (list_all (λ e. is_lawful Reporting (Report e)) n.entries) _ own.1 in
+      All-cons (IsStatic table) _ _ (record { known = fit.1; lawful = refl; registers_none = λ same. cc })
+      (All-append (IsStatic table) (published Reporting Report k (i + 1) n.entries) (published File Path k (i + 1 + length n.entries) n.files)
+      (published_static Reporting Report (λ same. cc) k (i + 1) n.entries fit.1 both.0)
+      (published_static File Path (λ same. cc) k (i + 1 + length n.entries) n.files fit.1 both.1))
+
+  ended_static : (k i : ℕ) (n : Node) → Fit n k → All (IsStatic table) (ended k i n ∷ [])
+  ended_static k i n fit =
+      all_single (IsStatic table) _ (record { known = fit.1; lawful = (if_both (is_lawful Finished (Outcome n.status n.message)) _ fit.0).0; registers_none = λ same. cc })
+
+  heads_static : (i : ℕ) (ps : List Part) → All FitPart ps → All (IsStatic table) (from_each head i ps)
+  heads_static i [] h = All-nil (IsStatic table)
+  heads_static i (opens n k ∷ ps) h = All-append (IsStatic table) (begun k i n) _ (begun_static k i n (All-head FitPart (opens n k) ps h)) (heads_static (i + length (moves_of (opens n k))) ps (All-tail FitPart (opens n k) ps h))
+  heads_static i (runs t ∷ ps) h = heads_static (i + length (moves t)) ps (All-tail FitPart (runs t) ps h)
+  heads_static i (closes n k ∷ ps) h = heads_static (i + 1) ps (All-tail FitPart (closes n k) ps h)
+
+  tails_static : (i : ℕ) (ps : List Part) → All FitPart ps → All (IsStatic table) (from_each tail i ps)
+  tails_static i [] h = All-nil (IsStatic table)
+  tails_static i (opens n k ∷ ps) h = tails_static (i + length (moves_of (opens n k))) ps (All-tail FitPart (opens n k) ps h)
+  tails_static i (runs t ∷ ps) h = tails_static (i + length (moves t)) ps (All-tail FitPart (runs t) ps h)
+  tails_static i (closes n k ∷ ps) h = All-append (IsStatic table) (ended k i n ∷ []) _ (ended_static k i n (All-head FitPart (closes n k) ps h)) (tails_static (i + 1) ps (All-tail FitPart (closes n k) ps h))
+
+-- ---- how many there are
+
+length-published : {A : Type 0} (kind : Kind) (payload : A → Payload) (k i : ℕ) (xs : List A) → length (published kind payload k i xs) ≡ length xs
+length-published kind payload k i [] = refl
+length-published kind payload k i (x ∷ xs) = ap suc (length-published kind payload k (i + 1) xs)
+
+length-begun : (k i : ℕ) (n : Node) → length (begun k i n) ≡ length (opening n k)
+length-begun k i n =
+    omega (arith, length-append (published Reporting Report k (i + 1) n.entries) (published File Path k (i + 1 + length n.entries) n.files), length-published Reporting Report k (i + 1) n.entries, length-published File Path k (i + 1 + length n.entries) n.files, length-opening n k)
+
+heads_few : (i : ℕ) (ps : List Part) → length (from_each head i ps) ≤ length (flat_map moves_of ps)
+heads_few i [] = omega arith
+heads_few i (opens n k ∷ ps) =
+    omega (arith, heads_few (i + length (moves_of (opens n k))) ps, length-begun k i n, length-append (begun k i n) (from_each head (i + length (moves_of (opens n k))) ps), length-append (opening n k) (flat_map moves_of ps))
+heads_few i (runs t ∷ ps) = omega (arith, heads_few (i + length (moves t)) ps, length-append (moves t) (flat_map moves_of ps))
+heads_few i (closes n k ∷ ps) = omega (arith, heads_few (i + 1) ps)
+
+tails_few : (i : ℕ) (ps : List Part) → length (from_each tail i ps) ≤ length (flat_map moves_of ps)
+tails_few i [] = omega arith
+tails_few i (opens n k ∷ ps) = omega (arith, tails_few (i + length (moves_of (opens n k))) ps, length-append (opening n k) (flat_map moves_of ps))
+tails_few i (runs t ∷ ps) = omega (arith, tails_few (i + length (moves t)) ps, length-append (moves t) (flat_map moves_of ps))
+tails_few i (closes n k ∷ ps) = omega (arith, tails_few (i + 1) ps)
+
+-- ---- of a plan
+
+lawful_at : (ps : List NumberedNode) (k : ℕ) (d : NumberedNode) → list_all is_lawful_node (contents ps) ≡ true → k < length ps → is_lawful_node (slice_index_or ps k d).node ≡ true
+lawful_at [] k d h l = absurd (omega arith)
+lawful_at (p ∷ ps) zero d h l = (if_both (is_lawful_node p.node) _ h).0
+lawful_at (p ∷ ps) (suc k) d h l = lawful_at ps k d (if_both (is_lawful_node p.node) _ h).1 (omega (arith, l))
+
+nodes_fit : (nodes : List NumberedNode) (table : List Descriptor) → IsPlanned nodes table → IsNumbered nodes → All (FitPlaced table) nodes
+unfolding IsForest
+nodes_fit nodes table plan numbers k d l =
+    let ids = ids_below [] (forest nodes) in
+    let long : length nodes ≡ length ids = ap length plan.trees ∙ ids_below-length [] (forest nodes) in (
+      lawful_at nodes k d plan.lawful l,
+      λ e. key_within nodes table plan numbers k (slice_index_or nodes k d) (get_or ids k []) (slice_get-get_or nodes k d l) (slice_get-get_or ids k [] (omega (arith, l, long))) e,
+    )
+
+spine_fits : (nodes : List NumberedNode) (table : List Descriptor) → IsPlanned nodes table → IsNumbered nodes → All (FitPart table) (parts_below true (forest nodes))
+unfolding IsForest
+spine_fits nodes table plan numbers =
+    below_fit table true (forest nodes) (rooted_static (forest nodes) plan.root) (subst (All (FitPlaced table)) plan.trees (nodes_fit nodes table plan numbers))
+
+all_few : (nodes : List NumberedNode) (table : List Descriptor) → IsPlanned nodes table → length (flat_map moves_of (parts_below true (forest nodes))) ≤ MAX_EVENTS
+all_few nodes table plan = omega (arith, plan.few_events, ap length (parts_below-moves true 0 (forest nodes) (rooted_static (forest nodes) plan.root)))
+
+pub before_static : (nodes : List NumberedNode) (table : List Descriptor) → IsPlanned nodes table → IsNumbered nodes → AreStatic table (before_of (forest nodes))
+before_static nodes table plan numbers = record {
+  each = heads_static table 0 (parts_below true (forest nodes)) (spine_fits nodes table plan numbers);
+  few = omega (arith, heads_few 0 (parts_below true (forest nodes)), all_few nodes table plan);
+}
+
+pub after_static : (nodes : List NumberedNode) (table : List Descriptor) → IsPlanned nodes table → IsNumbered nodes → AreStatic table (after_of (forest nodes))
+after_static nodes table plan numbers = record {
+  each = tails_static table 0 (parts_below true (forest nodes)) (spine_fits nodes table plan numbers);
+  few = omega (arith, tails_few 0 (parts_below true (forest nodes)), all_few nodes table plan);
+}
+
+-- ---- how many units there are
+
+static_top : (b : Bool) (n : Node) (ns : List Node) → b ≡ true → length (cond b (n ∷ ns) ns) ≡ suc (length ns)
+static_top true n ns e = refl
+static_top false n ns e = absurd (grind arith)
+
+unit_by : (b : Bool) (n : Node) (k i : ℕ) (f : Forest) (m : ℕ) → ((i : ℕ) → b ≡ true → length (from_each piece i (parts_below false f)) ≤ m)
+    → length (from_each piece i (cond b (opens n k ∷ (parts_below false f ++ closes n k ∷ [])) (runs (tree n k f) ∷ []))) ≤ suc m
+unit_by true n k i f m h =
+    let at : ℕ = i + length (moves_of (opens n k)) in
+    omega (arith, h at refl, ap length (from_each-append piece at (parts_below false f) (closes n k ∷ [])), length-append (from_each piece at (parts_below false f)) [])
+unit_by false n k i f m h = omega arith
+
+mutual
+  parts_few : (b : Bool) (i : ℕ) (t : Tree) → top_static t ≡ true → length (from_each piece i (parts b t)) ≤ length (of_kind true (flat t))
+  parts_few b i (tree n k f) e =
+      omega (arith, unit_by (on_spine b n f) n k i f (length (of_kind true (flats f))) (λ i on. below_few false i f (spine_facts b n f on).1), static_top n.is_static n (of_kind true (flats f)) e)
+
+  below_few : (b : Bool) (i : ℕ) (f : Forest) → all_static f ≡ true → length (from_each piece i (parts_below b f)) ≤ length (of_kind true (flats f))
+  below_few b i no_trees e = omega arith
+  below_few b i (more t f) e =
+      let both = static_both t f e in
+      let at : ℕ = i + length (flat_map moves_of (parts b t)) in
+      omega (
+        arith,
+        parts_few b i t both.0,
+        below_few b at f both.1,
+        ap length (from_each-append piece i (parts b t) (parts_below b f)),
+        length-append (from_each piece i (parts b t)) (from_each piece at (parts_below b f)),
+        ap length (statics-append (flat t) (flats f)),
+        length-append (of_kind true (flat t)) (of_kind true (flats f)),
+      )
+
+pub few_units : (nodes : List NumberedNode) (table : List Descriptor) → IsPlanned nodes table → length (units_of (forest nodes)) ≤ MAX_DESCRIPTORS
+unfolding IsForest
+few_units nodes table plan =
+    omega (
+      arith,
+      counted (pieces_of (forest nodes)),
+      below_few true 0 (forest nodes) (rooted_static (forest nodes) plan.root),
+      ap (λ ps. length (of_kind true ps)) plan.trees,
+      statics_length nodes table plan,
+      plan.few_static,
+    )

@@ -1,0 +1,24 @@
+-- How many moves a tree makes.
+use Rattle.std.specs.Prelude.{ℕ, ◌+◌, length, is_some, if◌then◌else◌}
+use Rattle.tk_plan_units.specs.declared.nodes.Node.{Node}
+use Rattle.tk_plan_units.specs.Trees.{Tree, tree, Forest, no_trees, more}
+
+-- a registration for a dynamic child
+abbrev pub registered : Tree → ℕ
+registered (tree n k f) = if n.is_static then 0 else 1
+
+-- how many entries and files a node publishes
+abbrev pub publications : Node → ℕ
+publications n = length n.entries + length n.files
+
+-- those of a node by itself, with its registration
+abbrev pub own : Node → ℕ
+own n = (if n.is_static then 0 else 1) + (if is_some n.skip then 1 else 2 + publications n)
+
+abbrev mutual
+  pub weight : Tree → ℕ
+  weight (tree n k f) = if is_some n.skip then 1 else 2 + publications n + weights f
+
+  pub weights : Forest → ℕ
+  weights no_trees = 0
+  weights (more t f) = registered t + weight t + weights f

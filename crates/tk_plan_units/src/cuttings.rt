@@ -1,0 +1,213 @@
+//! Cutting a plan.
+ghost use Rattle.std.specs.Prelude.{◌≡◌, ◌≤◌, ◌+◌, ◌*◌, ◌^◌, ℕ, List, suc, true, ◌∷◌, [], IfOk, OnOk, length};
+ghost use Rattle.tk_plan_units.specs.Trees.{IsForest, forest, tree_of, contents};
+ghost use Rattle.tk_plan_units.specs.Weights.{publications, weight, weights};
+ghost use Rattle.tk_plan_units.specs.Cutting.{opens, runs, closes, parts, parts_below, all_static};
+ghost use Rattle.tk_plan_units.specs.Adds.{AddsAt};
+ghost use Rattle.tk_plan_units.specs.Kept.{IsCut};
+ghost use Rattle.tk_plan_units.specs.Keys.{lock_keys};
+ghost use Rattle.tk_ids.specs.declared.tables.TheConstants.{MAX_DESCRIPTORS};
+ghost use Rattle.tk_limits.specs.declared.limits.TheConstants.{MAX_EVENTS};
+ghost use Rattle.tk_plan_units.specs.declared.needs.TheConstants.{MAX_KEYS};
+
+use crate::counts::{count_publications, count_tree};
+use crate::needs::need_of;
+use crate::nodes::NumberedNode;
+use crate::spines::is_on_spine;
+use crate::splits::split;
+use std::alloc::{AllocError, Global};
+use tk_book::Need;
+use tk_ids::Text;
+
+/// A unit: the position of its first node, how many events come before it, and its need.
+#[derive(Clone, Copy)]
+pub(crate) struct PlanUnit {
+    pub position: usize,
+    pub first: u64,
+    pub need: Need,
+}
+
+/// The position of a node of the spine, and the stamp of its first event there.
+#[derive(Clone, Copy)]
+pub(crate) struct SpineStamp {
+    pub position: usize,
+    pub stamp: u64,
+}
+
+/// The spine and the units of the nodes that were cut so far.
+#[derive(Drop)]
+pub(crate) struct Cutting {
+    /// The numbers of the spine's nodes.
+    pub spine: Vec<u32>,
+    /// The numbers of the units' top nodes.
+    pub units: Vec<u32>,
+    pub pieces: Vec<PlanUnit>,
+    /// The spine's nodes with the stamps of their starts, in preorder.
+    pub opened: Vec<SpineStamp>,
+    /// The spine's nodes with the stamps of their finishes, in postorder.
+    pub closed: Vec<SpineStamp>,
+    /// How many events there are so far.
+    pub first: u64,
+}
+
+impl Cutting {
+    pub(crate) fn new(alloc: Global) -> Cutting
+        ensures spine { result.spine.items ≡ [] }
+        ensures units { result.units.items ≡ [] }
+        ensures pieces { result.pieces.items ≡ [] }
+        ensures opened { result.opened.items ≡ [] }
+        ensures closed { result.closed.items ≡ [] }
+        ensures first { result.first ≡ 0 }
+    {
+        Cutting {
+            spine: Vec::new(alloc),
+            units: Vec::new(alloc),
+            pieces: Vec::new(alloc),
+            opened: Vec::new(alloc),
+            closed: Vec::new(alloc),
+            first: 0,
+        }
+    }
+
+    /// Adds a start on the spine with its entries and its files.
+    fn begin(&mut self, numbered_node: &NumberedNode, position: usize) -> Result<(), AllocError>
+        requires { self.old.first + (1 + publications numbered_node.now.node) ≤ MAX_EVENTS }
+        ensures first { OnOk result
+            (self.new.first ≡ self.old.first + (1 + publications numbered_node.now.node)) }
+        ensures adds { OnOk result ((keys : List (List ℕ))
+            → AddsAt position (numbered_node.now ∷ []) keys self.old self.new
+            (opens numbered_node.now.node numbered_node.now.number ∷ [])) }
+    {
+        self.spine.push(numbered_node.number)?;
+        self.opened.push(SpineStamp {
+            position,
+            stamp: self.first,
+        })?;
+        self.first += 1 + count_publications(&numbered_node.node);
+        Ok(())
+    }
+
+    /// Adds a finish on the spine.
+    fn end(&mut self, numbered_node: &NumberedNode, position: usize) -> Result<(), AllocError>
+        requires { self.old.first ≤ MAX_EVENTS }
+        ensures first { OnOk result (self.new.first ≡ self.old.first + 1) }
+        ensures adds { OnOk result ((keys : List (List ℕ))
+            → AddsAt position (numbered_node.now ∷ []) keys self.old self.new
+            (closes numbered_node.now.node numbered_node.now.number ∷ [])) }
+    {
+        self.closed.push(SpineStamp {
+            position,
+            stamp: self.first,
+        })?;
+        self.first += 1;
+        Ok(())
+    }
+
+    /// Adds a unit.
+    fn add(
+        &mut self,
+        keys: &[Text],
+        numbered_node: &NumberedNode,
+        below: &[NumberedNode],
+        position: usize,
+    ) -> Result<(), AllocError>
+        requires keys { length keys.now ≤ MAX_KEYS }
+        requires below { IsForest below.now }
+        requires span { numbered_node.now.span ≡ suc (length below.now) }
+        requires limit { self.old.first + weight (tree_of numbered_node.now below.now)
+            ≤ MAX_EVENTS }
+        ensures first { OnOk result
+            (self.new.first ≡ self.old.first + weight (tree_of numbered_node.now below.now)) }
+        ensures adds { OnOk result
+            (AddsAt position (numbered_node.now ∷ below.now) keys.now self.old self.new
+            (runs (tree_of numbered_node.now below.now) ∷ [])) }
+    {
+        self.units.push(numbered_node.number)?;
+        self.pieces.push(PlanUnit {
+            position,
+            first: self.first,
+            need: need_of(keys, numbered_node, below),
+        })?;
+        self.first += count_tree(numbered_node, below);
+        Ok(())
+    }
+}
+
+#[cycle(cutting)]
+fn cut_tree(
+    keys: &[Text],
+    numbered_node: &NumberedNode,
+    below: &[NumberedNode],
+    position: usize,
+    is_root: bool,
+    cutting: &mut Cutting,
+) -> Result<(), AllocError>
+    requires keys { length keys.now ≤ MAX_KEYS }
+    requires below { IsForest below.now }
+    requires span { numbered_node.now.span ≡ suc (length below.now) }
+    requires position { position + 1 + length below.now ≤ 2 ^ 32 }
+    requires limit { cutting.old.first + weight (tree_of numbered_node.now below.now) ≤ MAX_EVENTS }
+    ensures first { OnOk result
+        (cutting.new.first ≡ cutting.old.first + weight (tree_of numbered_node.now below.now)) }
+    ensures adds { OnOk result
+        (AddsAt position (numbered_node.now ∷ below.now) keys.now cutting.old cutting.new
+        (parts is_root (tree_of numbered_node.now below.now))) }
+{
+    if !is_on_spine(is_root, &numbered_node.node, below) {
+        cutting.add(keys, numbered_node, below, position)?;
+        return Ok(());
+    }
+    cutting.begin(numbered_node, position)?;
+    cut_all(keys, below, position + 1, false, cutting)?;
+    cutting.end(numbered_node, position)?;
+    Ok(())
+}
+
+/// Cuts trees that stand side by side; the first begins at `position`.
+#[cycle(cutting)]
+fn cut_all(
+    keys: &[Text],
+    nodes: &[NumberedNode],
+    position: usize,
+    is_root: bool,
+    cutting: &mut Cutting,
+) -> Result<(), AllocError>
+    requires keys { length keys.now ≤ MAX_KEYS }
+    requires nodes { IsForest nodes.now }
+    requires statics { all_static (forest nodes.now) ≡ true }
+    requires position { position + length nodes.now ≤ 2 ^ 32 }
+    requires limit { cutting.old.first + weights (forest nodes.now) ≤ MAX_EVENTS }
+    ensures first { OnOk result
+        (cutting.new.first ≡ cutting.old.first + weights (forest nodes.now)) }
+    ensures adds { OnOk result (AddsAt position nodes.now keys.now cutting.old cutting.new
+        (parts_below is_root (forest nodes.now))) }
+{
+    let mut rest = nodes;
+    let mut at = position;
+    while let [numbered_node, after @ ..] = rest {
+        let (below, others) = split(numbered_node, after);
+        cut_tree(keys, numbered_node, below, at, is_root, cutting)?;
+        at += numbered_node.span;
+        rest = others;
+    }
+    Ok(())
+}
+
+/// Cuts a plan's nodes.
+pub(crate) fn cut(
+    alloc: Global,
+    keys: &[Text],
+    nodes: &[NumberedNode],
+) -> Result<Cutting, AllocError>
+    requires keys { keys.now ≡ lock_keys (contents nodes.now) }
+    requires few_keys { length keys.now ≤ MAX_KEYS }
+    requires trees { IsForest nodes.now }
+    requires statics { all_static (forest nodes.now) ≡ true }
+    requires few { length nodes.now ≤ 2 * MAX_DESCRIPTORS }
+    requires limit { weights (forest nodes.now) ≤ MAX_EVENTS }
+    ensures { IfOk result (λ cutting. IsCut nodes.now cutting) }
+{
+    let mut cutting = Cutting::new(alloc);
+    cut_all(keys, nodes, 0, true, &mut cutting)?;
+    Ok(cutting)
+}

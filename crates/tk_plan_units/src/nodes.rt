@@ -1,0 +1,138 @@
+//! What a plan says of its nodes.
+ghost use Rattle.std.specs.Prelude.{◌≡◌};
+
+use std::marker::Model;
+use tk_events::{Pairs, Status};
+use tk_ids::{DType, Segment, Text};
+
+/// A lock that a node asks for.
+#[derive(Debug, Drop)]
+pub struct Lock {
+    pub key: Text,
+    /// Whether the lock is for reading and writing, and not for reading alone.
+    pub writes: bool,
+}
+
+/// The locks of a node.
+#[derive(Debug, Drop)]
+pub struct Locks {
+    items: Vec<Lock>,
+}
+
+impl Model for Locks {
+    ghost use Rattle.std.specs.Prelude.{List};
+    ghost use Rattle.tk_plan_units.specs.declared.nodes.Lock.{Lock};
+
+    ghost Value = { List Lock };
+
+    ghost view = { λ l. l.items.items };
+}
+
+impl Locks {
+    /// These locks, in their order.
+    pub fn new(items: Vec<Lock>) -> Locks
+        ensures { result ≡ items.items }
+    {
+        Locks { items }
+    }
+
+    /// The locks, in their order.
+    pub fn as_slice(&self) -> &[Lock]
+        ensures { result.now ≡ self.now }
+    {
+        self.items.as_slice()
+    }
+}
+
+/// The entries that a node publishes.
+#[derive(Debug, Drop)]
+pub struct Entries {
+    items: Vec<Pairs>,
+}
+
+impl Model for Entries {
+    ghost use Rattle.std.specs.Prelude.{List, ℕ};
+
+    ghost Value = { List (List (List ℕ × List ℕ)) };
+
+    ghost view = { λ e. e.items.items };
+}
+
+impl Entries {
+    /// These entries, in their order.
+    pub fn new(items: Vec<Pairs>) -> Entries
+        ensures { result ≡ items.items }
+    {
+        Entries { items }
+    }
+
+    /// The entries, in their order.
+    pub fn as_slice(&self) -> &[Pairs]
+        ensures { result.now ≡ self.now }
+    {
+        self.items.as_slice()
+    }
+}
+
+/// The paths of the files that a node publishes.
+#[derive(Debug, Drop)]
+pub struct Files {
+    paths: Vec<Text>,
+}
+
+impl Model for Files {
+    ghost use Rattle.std.specs.Prelude.{List, ℕ};
+
+    ghost Value = { List (List ℕ) };
+
+    ghost view = { λ f. f.paths.items };
+}
+
+impl Files {
+    /// The files of these paths, in their order.
+    pub fn new(paths: Vec<Text>) -> Files
+        ensures { result ≡ paths.items }
+    {
+        Files { paths }
+    }
+
+    /// The paths, in their order.
+    pub fn as_slice(&self) -> &[Text]
+        ensures { result.now ≡ self.now }
+    {
+        self.paths.as_slice()
+    }
+}
+
+/// What a plan says of one node.
+#[derive(Debug, Drop)]
+pub struct Node {
+    /// Whether the node stands in the table. Any other is registered as it runs.
+    pub is_static: bool,
+    pub dtype: DType,
+    /// The last segment of the node's id.
+    pub segment: Segment,
+    pub name: Text,
+    /// Whether the node may run beside its siblings.
+    pub is_concurrent: bool,
+    /// Whether nothing else may run beside the node.
+    pub is_isolated: bool,
+    pub locks: Locks,
+    /// Why the node is skipped, if it is.
+    pub skip: Option<Text>,
+    /// How the node finishes, if it isn't skipped, and the message with it.
+    pub status: Status,
+    pub message: Option<Text>,
+    pub entries: Entries,
+    pub files: Files,
+}
+
+/// A node in preorder.
+#[derive(Debug, Drop)]
+pub struct NumberedNode {
+    pub node: Node,
+    /// A static node's number is its key in the table. The dynamic nodes' numbers follow.
+    pub number: u32,
+    /// How many nodes there are from this one down.
+    pub span: usize,
+}

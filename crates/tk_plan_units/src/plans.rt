@@ -1,0 +1,257 @@
+//! Plans.
+ghost use Rattle.std.specs.Prelude.{◌≡◌, ◌≤◌, ◌<◌, ◌^◌, length, true, IfOk, Some, IsSome, All, slice_get, option_map};
+ghost use Rattle.std.specs.Arc.{arc_value};
+ghost use Rattle.tk_ids.specs.declared.tables.TheConstants.{MAX_DESCRIPTORS};
+
+use crate::cuttings::{Cutting, cut};
+use crate::events::{payload, push_begun, push_ended};
+use crate::nodes::{Node, NumberedNode};
+use crate::numbering::set_numbers;
+use crate::orders::positions_of;
+use crate::scripts::{push_tree, stamp_all};
+use crate::splits::tree_at;
+use crate::steps::Step;
+use std::alloc::{AllocError, Global};
+use std::marker::Model;
+use std::sync::Arc;
+use tk_book::Need;
+use tk_events::{Event, Payload, Status};
+use tk_ids::{DType, Segment, Table, Text};
+
+/// A plan: a tree of nodes, of which the static ones stand in a table, and how it is cut.
+#[derive(Drop)]
+pub struct Plan {
+    nodes: Vec<NumberedNode>,
+    table: Arc<Table>,
+    cutting: Cutting,
+    /// The nodes' positions, in the order of their numbers.
+    positions: Vec<usize>,
+}
+
+impl Model for Plan {
+    ghost use Rattle.std.specs.Arc.{arc_value};
+    ghost use Rattle.tk_plan_units.specs.Planned.{Outline};
+    ghost use Rattle.tk_plan_units.specs.Kept.{IsPlan};
+
+    ghost Value = { Outline };
+
+    ghost view = { λ p. record { nodes = p.nodes.items; table = arc_value p.table } };
+
+    ghost invariant = { λ p. IsPlan p.nodes.items (arc_value p.table) p.cutting p.positions.items };
+}
+
+impl Plan {
+    ghost use Rattle.tk_plan_units.specs.Trees.{forest, contents};
+    ghost use Rattle.tk_plan_units.specs.Script.{moves_below};
+    ghost use Rattle.tk_plan_units.specs.Cutting.{spine_of, units_of, script_of, root_script, before_of, after_of};
+    ghost use Rattle.tk_plan_units.specs.Keys.{lock_keys};
+    ghost use Rattle.tk_book.specs.Needs.{word_of};
+    ghost use Rattle.tk_plan_units.specs.Events.{AreStatic};
+    ghost use Rattle.tk_plan_units.specs.Known.{IsKnown};
+    ghost use Rattle.tk_plan_units.specs.StepEvents.{payload_of};
+    ghost use Rattle.tk_plan_units.specs.Planned.{IsPlanned, IsNeedOf, need_word, IsWithin};
+    ghost use Rattle.tk_plan_units.specs.Numbers.{in_order, entry_of, path_of, numbered, IsNumbered};
+
+    /// Makes the plan of nodes in preorder, and sets their numbers.
+    ///
+    /// `table` has the descriptors of the static nodes, and `keys` are the lock keys without
+    /// `global`, in the order of their first appearance.
+    pub fn new(
+        alloc: Global,
+        mut nodes: Vec<NumberedNode>,
+        table: Arc<Table>,
+        keys: &[Text],
+    ) -> Result<Plan, AllocError>
+        requires planned { IsPlanned nodes.items (arc_value table) }
+        requires keys { keys.now ≡ lock_keys (contents nodes.items) }
+        ensures { IfOk result (λ plan.
+            plan ≡ record { nodes = numbered nodes.items; table = arc_value table }) }
+    {
+        let statics = table.len() as u32;
+        set_numbers(statics, nodes.as_mut_slice());
+        let cutting = cut(alloc, keys, nodes.as_slice())?;
+        let positions = positions_of(alloc, nodes.as_slice())?;
+        Ok(Plan {
+            nodes,
+            table,
+            cutting,
+            positions,
+        })
+    }
+
+    /// The table of the static nodes.
+    pub fn table(&self) -> &Arc<Table>
+        ensures table { arc_value result.now ≡ self.now.table }
+        // What every plan is.
+        ensures planned { IsPlanned self.now.nodes self.now.table }
+        ensures numbered { IsNumbered self.now.nodes }
+    {
+        &self.table
+    }
+
+    /// The keys of the spine's nodes, in preorder.
+    pub fn spine(&self) -> &[u32]
+        ensures { result.now ≡ spine_of (forest self.now.nodes) }
+    {
+        self.cutting.spine.as_slice()
+    }
+
+    /// The keys of the units, in preorder.
+    pub fn units(&self) -> &[u32]
+        ensures units { result.now ≡ units_of (forest self.now.nodes) }
+        ensures few { length result.now ≤ MAX_DESCRIPTORS }
+    {
+        self.cutting.units.as_slice()
+    }
+
+    /// The resources that a unit reads and writes. Units count from 0.
+    pub fn need(&self, unit: u32) -> Need
+        requires { unit < length (units_of (forest self.now.nodes)) }
+        ensures need { IsNeedOf self.now.nodes unit result }
+        ensures word { word_of result ≡ need_word self.now.nodes unit }
+    {
+        self.cutting.pieces[unit as usize].need
+    }
+
+    /// The steps of a unit, in their order.
+    pub fn script(&self, alloc: Global, unit: u32) -> Result<Vec<Step>, AllocError>
+        requires { unit < length (units_of (forest self.now.nodes)) }
+        ensures steps { IfOk result (λ steps.
+            steps.items ≡ script_of (forest self.now.nodes) unit) }
+        // With its stamps it stands in the root's script.
+        ensures within { IfOk result (λ steps.
+            IsWithin steps.items (root_script (forest self.now.nodes))) }
+        ensures known { IfOk result (λ steps.
+            All (λ s. IsKnown self.now.nodes s.node s.act) steps.items) }
+    {
+        let piece = self.cutting.pieces[unit as usize];
+        let (numbered_node, below) = tree_at(self.nodes.as_slice(), piece.position);
+        let mut moves = Vec::new(alloc);
+        push_tree(numbered_node, below, &mut moves)?;
+        stamp_all(alloc, piece.first, moves.as_slice())
+    }
+
+    /// The starts of the spine's nodes with their entries and their files, in preorder.
+    pub fn before(&self, alloc: Global) -> Result<Vec<Event>, AllocError>
+        ensures events { IfOk result (λ events. events.items ≡ before_of (forest self.now.nodes)) }
+        ensures lawful { IfOk result (λ events. AreStatic self.now.table events.items) }
+    {
+        let mut events = Vec::new(alloc);
+        for spine in self.cutting.opened.as_slice() {
+            push_begun(alloc, &self.nodes[spine.position], spine.stamp, &mut events)?;
+        }
+        Ok(events)
+    }
+
+    /// The finishes of the spine's nodes, in postorder.
+    pub fn after(&self, alloc: Global) -> Result<Vec<Event>, AllocError>
+        ensures events { IfOk result (λ events. events.items ≡ after_of (forest self.now.nodes)) }
+        ensures lawful { IfOk result (λ events. AreStatic self.now.table events.items) }
+    {
+        let mut events = Vec::new(alloc);
+        for spine in self.cutting.closed.as_slice() {
+            push_ended(&self.nodes[spine.position], spine.stamp, &mut events)?;
+        }
+        Ok(events)
+    }
+
+    /// How many events the root's script has.
+    pub fn total_events(&self) -> u32
+        ensures { result ≡ length (moves_below 0 (forest self.now.nodes)) }
+    {
+        self.cutting.first as u32
+    }
+
+    /// What the plan says of the node with this number.
+    fn node(&self, number: u32) -> &Node
+        requires { number < length self.now.nodes }
+        ensures { slice_get (in_order self.now.nodes) number ≡ Some result.now }
+    {
+        let position = self.positions[number as usize];
+        &self.nodes[position].node
+    }
+
+    /// Makes the payload of a step's event.
+    ///
+    /// A registration has none: the sink makes its descriptor.
+    pub fn payload(&self, alloc: Global, step: Step) -> Result<Payload, AllocError>
+        requires { IsKnown self.now.nodes step.node step.act }
+        ensures { IfOk result (λ p.
+            option_map (λ n. payload_of n step.act) (slice_get (in_order self.now.nodes) step.node)
+            ≡ Some p) }
+    {
+        payload(alloc, self.node(step.node), step.act)
+    }
+
+    /// The name of the node with this number.
+    pub fn name(&self, node: u32) -> &str
+        requires { node < length self.now.nodes }
+        ensures { option_map (λ n. n.name) (slice_get (in_order self.now.nodes) node)
+            ≡ Some result.now }
+    {
+        self.node(node).name.as_str()
+    }
+
+    /// The last segment of the id of the node with this number.
+    pub fn segment(&self, node: u32) -> &Segment
+        requires { node < length self.now.nodes }
+        ensures { option_map (λ n. n.segment) (slice_get (in_order self.now.nodes) node)
+            ≡ Some result.now }
+    {
+        &self.node(node).segment
+    }
+
+    /// Whether the node with this number is a container, a test, or both.
+    pub fn dtype(&self, node: u32) -> DType
+        requires { node < length self.now.nodes }
+        ensures { option_map (λ n. n.dtype) (slice_get (in_order self.now.nodes) node)
+            ≡ Some result }
+    {
+        self.node(node).dtype
+    }
+
+    /// Why the node with this number is skipped, or `None` where it is not.
+    pub fn reason(&self, node: u32) -> Option<&str>
+        requires { node < length self.now.nodes }
+        ensures { option_map (λ n. n.skip) (slice_get (in_order self.now.nodes) node)
+            ≡ Some (option_map (λ r. r.now) result) }
+    {
+        match &self.node(node).skip {
+            Some(reason) => Some(reason.as_str()),
+            None => None,
+        }
+    }
+
+    /// The pairs of one of the node's entries, which count from 0.
+    pub fn pairs(&self, node: u32, entry: u32) -> &[(Text, Text)]
+        requires node { node < length self.now.nodes }
+        requires entry { IsSome (entry_of (slice_get (in_order self.now.nodes) node) entry) }
+        ensures { entry_of (slice_get (in_order self.now.nodes) node) entry ≡ Some result.now }
+    {
+        self.node(node).entries.as_slice()[entry as usize].as_slice()
+    }
+
+    /// The path of one of the node's files, which count from 0.
+    pub fn path(&self, node: u32, file: u32) -> &str
+        requires node { node < length self.now.nodes }
+        requires file { IsSome (path_of (slice_get (in_order self.now.nodes) node) file) }
+        ensures { path_of (slice_get (in_order self.now.nodes) node) file ≡ Some result.now }
+    {
+        self.node(node).files.as_slice()[file as usize].as_str()
+    }
+
+    /// The status and the message with which the node with this number finishes.
+    pub fn outcome(&self, node: u32) -> (Status, Option<&str>)
+        requires { node < length self.now.nodes }
+        ensures status { option_map (λ n. n.status) (slice_get (in_order self.now.nodes) node)
+            ≡ Some result.0 }
+        ensures message { option_map (λ n. n.message) (slice_get (in_order self.now.nodes) node)
+            ≡ Some (option_map (λ m. m.now) result.1) }
+    {
+        let node = self.node(node);
+        match &node.message {
+            Some(message) => (node.status, Some(message.as_str())),
+            None => (node.status, None),
+        }
+    }
+}

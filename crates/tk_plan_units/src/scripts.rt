@@ -1,0 +1,102 @@
+//! What a tree of nodes does.
+ghost use Rattle.std.specs.Prelude.{◌≡◌, ◌++◌, ◌+◌, ◌≤◌, ◌<◌, ◌^◌, OnOk, IfOk, length};
+ghost use Rattle.tk_plan_units.specs.Trees.{IsForest, forest, tree_of};
+ghost use Rattle.tk_plan_units.specs.Script as Script;
+ghost use Rattle.tk_plan_units.specs.Script.{moves_below, stamped};
+ghost use Rattle.tk_plan_units.specs.Weights.{publications, weight, weights};
+ghost use Rattle.tk_limits.specs.declared.limits.TheConstants.{MAX_EVENTS};
+
+use crate::nodes::{Node, NumberedNode};
+use crate::splits::split;
+use crate::steps::{Act, Move, Step};
+use std::alloc::{AllocError, Global};
+
+fn push_opening(node: &Node, number: u32, moves: &mut Vec<Move>) -> Result<(), AllocError>
+    requires { publications node.now ≤ MAX_EVENTS }
+    ensures { OnOk result (moves.new.items ≡ moves.old.items ++ Script.opening node.now number) }
+{
+    moves.push(Move {
+        node: number,
+        act: Act::Start,
+    })?;
+    'entries: for index in 0..node.entries.as_slice().len() as u32 {
+        moves.push(Move {
+            node: number,
+            act: Act::Report(index),
+        })?;
+    }
+    'files: for index in 0..node.files.as_slice().len() as u32 {
+        moves.push(Move {
+            node: number,
+            act: Act::File(index),
+        })?;
+    }
+    Ok(())
+}
+
+#[cycle(moving)]
+pub(crate) fn push_tree(
+    numbered_node: &NumberedNode,
+    below: &[NumberedNode],
+    moves: &mut Vec<Move>,
+) -> Result<(), AllocError>
+    requires below { IsForest below.now }
+    requires limit { weight (tree_of numbered_node.now below.now) ≤ MAX_EVENTS }
+    ensures { OnOk result (moves.new.items ≡ moves.old.items
+        ++ Script.moves (tree_of numbered_node.now below.now)) }
+{
+    let node = numbered_node.number;
+    if numbered_node.node.skip.is_some() {
+        moves.push(Move {
+            node,
+            act: Act::Skip,
+        })?;
+        return Ok(());
+    }
+    push_opening(&numbered_node.node, node, moves)?;
+    push_all(node, below, moves)?;
+    moves.push(Move {
+        node,
+        act: Act::Finish,
+    })?;
+    Ok(())
+}
+
+/// Adds what some trees do below a parent.
+#[cycle(moving)]
+fn push_all(parent: u32, nodes: &[NumberedNode], moves: &mut Vec<Move>) -> Result<(), AllocError>
+    requires nodes { IsForest nodes.now }
+    requires limit { weights (forest nodes.now) ≤ MAX_EVENTS }
+    ensures { OnOk result (moves.new.items ≡ moves.old.items
+        ++ moves_below parent (forest nodes.now)) }
+{
+    let mut rest = nodes;
+    while let [numbered_node, after @ ..] = rest {
+        let (below, others) = split(numbered_node, after);
+        if !numbered_node.node.is_static {
+            moves.push(Move {
+                node: numbered_node.number,
+                act: Act::Register { parent },
+            })?;
+        }
+        push_tree(numbered_node, below, moves)?;
+        rest = others;
+    }
+    Ok(())
+}
+
+/// Gives moves their stamps.
+pub(crate) fn stamp_all(alloc: Global, first: u64, moves: &[Move]) -> Result<Vec<Step>, AllocError>
+    requires { first + length moves.now ≤ 2 ^ 63 }
+    ensures { IfOk result (λ steps. steps.items ≡ stamped first moves.now) }
+{
+    let mut steps = Vec::new(alloc);
+    for (index, moved) in moves.iter().enumerate() {
+        steps.push(Step {
+            node: moved.node,
+            stamp: first + index as u64,
+            act: moved.act,
+        })?;
+    }
+    Ok(steps)
+}

@@ -1,0 +1,78 @@
+-- What the reader of the code has read, as a state of the machine.
+use Rattle.std.specs.Prelude.{ℕ, List, [], ◌∷◌, ◌++◌, length, IsUtf8}
+use Rattle.tk_query_conditions.specs.declared.partial_texts.Escape.{Escape}
+use Rattle.tk_query_conditions.specs.declared.partial_texts.Escape.TheVariants.{Outside, Percent, Digit}
+use Rattle.tk_query_conditions.specs.declared.words.TextAtom as text_atom
+use Rattle.tk_query_conditions.specs.declared.words.TextAtom.TheVariants as text_atoms
+use Rattle.tk_query_conditions.specs.declared.words.Opener as opener
+use Rattle.tk_query_conditions.specs.declared.words.Opener.TheVariants as openers
+use Rattle.tk_query_conditions.specs.declared.open_groups.OpenGroup as group
+use Rattle.tk_query_conditions.specs.declared.open_groups.OpenGroup.TheVariants as groups
+use Rattle.tk_query_conditions.specs.declared.readers.Position.{Position}
+use Rattle.tk_query_conditions.specs.declared.readers.Position.TheVariants as positions
+use Rattle.tk_query_conditions.specs.declared.readers.Reader.{Reader}
+use Rattle.tk_query_conditions.specs.Cond.{TextAtom, Id, Name, Skipped, FailedWith, AbortedWith, File, NoPairs, Nothing}
+use Rattle.tk_query_conditions.specs.CondOf.{cond_of, conds_from, pairs_from}
+use Rattle.tk_query_conditions.specs.Reading.{OpenGroup, OpenNot, OpenAll, OpenAny, Opener, OfText, OfKinds, OfPairs, OfAll, OfAny, OfNot, State, Word, InText, InKind, InPairs, After}
+
+abbrev pub text_atom_of : text_atom.TextAtom → TextAtom
+text_atom_of text_atoms.Id = Id
+text_atom_of text_atoms.Name = Name
+text_atom_of text_atoms.Skipped = Skipped
+text_atom_of text_atoms.Failed = FailedWith
+text_atom_of text_atoms.Aborted = AbortedWith
+text_atom_of text_atoms.File = File
+
+abbrev pub opener_of : opener.Opener → Opener
+opener_of (openers.Text t) = OfText (text_atom_of t)
+opener_of openers.Kind = OfKinds
+opener_of openers.Entry = OfPairs
+opener_of openers.All = OfAll
+opener_of openers.Any = OfAny
+opener_of openers.Not = OfNot
+
+abbrev pub group_of : group.OpenGroup → OpenGroup
+group_of groups.Not = OpenNot
+group_of (groups.All members) = OpenAll (conds_from Nothing members.items)
+group_of (groups.Any members) = OpenAny (conds_from Nothing members.items)
+
+-- the last bracket comes first, and before the others
+abbrev pub groups_from : List OpenGroup → List group.OpenGroup → List OpenGroup
+groups_from below [] = below
+groups_from below (f ∷ stack) = groups_from (group_of f ∷ below) stack
+
+abbrev pub groups_of : List group.OpenGroup → List OpenGroup
+groups_of stack = groups_from [] stack
+
+abbrev pub state_at : List OpenGroup → Position → State
+state_at stack (positions.Word word) = Word stack word.items
+state_at stack (positions.Text t partial) = InText stack (text_atom_of t) partial
+state_at stack (positions.Kind word) = InKind stack word.items
+state_at stack (positions.Pairs pairs key partial) = InPairs stack (pairs_from NoPairs pairs) key partial
+state_at stack (positions.After c) = After stack (cond_of c)
+
+abbrev pub state_of : Reader → State
+state_of r = state_at (groups_of r.stack.items) r.position
+
+abbrev pub depth_of : State → ℕ
+depth_of (Word stack word) = length stack
+depth_of (InText stack t partial) = length stack
+depth_of (InKind stack word) = length stack
+depth_of (InPairs stack pairs key partial) = length stack
+depth_of (After stack c) = length stack
+
+-- what was read of an escape
+abbrev pub rest_of : Escape → List ℕ
+rest_of Outside = []
+rest_of Percent = 37 ∷ []
+rest_of Digit = 37 ∷ 50 ∷ []
+
+-- together with what was read of a text, this byte and some others are text
+abbrev pub ContinuesAsText : List ℕ × Escape → ℕ → Type 0
+ContinuesAsText partial b = (rest : List ℕ) × IsUtf8 ((partial.0 ++ rest_of partial.1) ++ b ∷ rest)
+
+-- the same of the text that a state is in
+abbrev pub CanContinue : State → ℕ → Type 0
+CanContinue (InText stack t partial) b = ContinuesAsText partial b
+CanContinue (InPairs stack pairs key partial) b = ContinuesAsText partial b
+CanContinue _ b = Unit {0}

@@ -1,0 +1,185 @@
+//! The words of conditions.
+ghost use Rattle.std.specs.Prelude.{◌≡◌, ◌||◌, option_map, bytes_eq};
+ghost use Rattle.tk_query_conditions.specs.Cond.{Plain, With};
+ghost use Rattle.tk_query_conditions.specs.CondOf.{cond_of};
+ghost use Rattle.tk_query_conditions.specs.Reader.{opener_of, text_atom_of};
+ghost use Rattle.tk_query_conditions.specs.Reading.{bares, openers, kinds, look, begins_with, is_prefix};
+
+use crate::conditions::Condition;
+use tk_events::Kind;
+use tk_ids::Text;
+
+/// An atom with a text.
+#[derive(Clone, Copy)]
+pub(crate) enum TextAtom {
+    Id,
+    Name,
+    Skipped,
+    Failed,
+    Aborted,
+    File,
+}
+
+impl TextAtom {
+    /// The atom with this text.
+    pub(crate) fn condition(self, text: Text) -> Condition
+        ensures { cond_of result ≡ With (text_atom_of self) text }
+    {
+        match self {
+            TextAtom::Id => Condition::Id(text),
+            TextAtom::Name => Condition::Name(text),
+            TextAtom::Skipped => Condition::Skipped(text),
+            TextAtom::Failed => Condition::Failed(Some(text)),
+            TextAtom::Aborted => Condition::Aborted(Some(text)),
+            TextAtom::File => Condition::File(text),
+        }
+    }
+}
+
+/// What a word with a bracket opens.
+#[derive(Clone, Copy)]
+pub(crate) enum Opener {
+    Text(TextAtom),
+    Kind,
+    Entry,
+    All,
+    Any,
+    Not,
+}
+
+/// Every kind, in the order of the kinds' codes.
+const KINDS: [Kind; 6] = [
+    Kind::Dynamic,
+    Kind::Skipped,
+    Kind::Started,
+    Kind::Finished,
+    Kind::Reporting,
+    Kind::File,
+];
+
+/// The kind of this name.
+pub(crate) fn kind_named(word: &[u8]) -> Option<Kind>
+    ensures { result ≡ look kinds word.now }
+{
+    for kind in &KINDS {
+        if is(word, kind.word()) {
+            return Some(*kind);
+        }
+    }
+    None
+}
+
+/// Whether a word is this name.
+fn is(word: &[u8], name: &str) -> bool
+    ensures { result ≡ bytes_eq word.now name.now }
+{
+    word == name.as_bytes()
+}
+
+/// The atom of one word.
+pub(crate) fn bare_named(word: &[u8]) -> Option<Condition>
+    ensures { option_map cond_of result ≡ option_map Plain (look bares word.now) }
+{
+    if is(word, "test") {
+        Some(Condition::Test)
+    } else if is(word, "container") {
+        Some(Condition::Container)
+    } else if is(word, "engine") {
+        Some(Condition::Engine)
+    } else if is(word, "started") {
+        Some(Condition::Started)
+    } else if is(word, "succeeded") {
+        Some(Condition::Succeeded)
+    } else if is(word, "failed") {
+        Some(Condition::Failed(None))
+    } else if is(word, "aborted") {
+        Some(Condition::Aborted(None))
+    } else {
+        None
+    }
+}
+
+/// What this word opens.
+pub(crate) fn opener_named(word: &[u8]) -> Option<Opener>
+    ensures { option_map opener_of result ≡ look openers word.now }
+{
+    if is(word, "id") {
+        Some(Opener::Text(TextAtom::Id))
+    } else if is(word, "name") {
+        Some(Opener::Text(TextAtom::Name))
+    } else if is(word, "skipped") {
+        Some(Opener::Text(TextAtom::Skipped))
+    } else if is(word, "failed") {
+        Some(Opener::Text(TextAtom::Failed))
+    } else if is(word, "aborted") {
+        Some(Opener::Text(TextAtom::Aborted))
+    } else if is(word, "file") {
+        Some(Opener::Text(TextAtom::File))
+    } else if is(word, "kind") {
+        Some(Opener::Kind)
+    } else if is(word, "entry") {
+        Some(Opener::Entry)
+    } else if is(word, "all") {
+        Some(Opener::All)
+    } else if is(word, "any") {
+        Some(Opener::Any)
+    } else if is(word, "not") {
+        Some(Opener::Not)
+    } else {
+        None
+    }
+}
+
+/// Whether a name begins with this word.
+fn begins(word: &[u8], name: &str) -> bool
+    ensures { result ≡ begins_with word.now name.now }
+{
+    name.as_bytes().starts_with(word)
+}
+
+/// Whether the name of a kind begins so.
+pub(crate) fn begins_kind(word: &[u8]) -> bool
+    ensures { result ≡ is_prefix kinds word.now }
+{
+    for kind in &KINDS {
+        if begins(word, kind.word()) {
+            return true;
+        }
+    }
+    false
+}
+
+fn begins_bare(word: &[u8]) -> bool
+    ensures { result ≡ is_prefix bares word.now }
+{
+    begins(word, "test")
+        || begins(word, "container")
+        || begins(word, "engine")
+        || begins(word, "started")
+        || begins(word, "succeeded")
+        || begins(word, "failed")
+        || begins(word, "aborted")
+}
+
+fn begins_opener(word: &[u8]) -> bool
+    ensures { result ≡ is_prefix openers word.now }
+{
+    begins(word, "id")
+        || begins(word, "name")
+        || begins(word, "skipped")
+        || begins(word, "failed")
+        || begins(word, "aborted")
+        || begins(word, "file")
+        || begins(word, "kind")
+        || begins(word, "entry")
+        || begins(word, "all")
+        || begins(word, "any")
+        || begins(word, "not")
+}
+
+/// Whether a word of conditions begins so.
+pub(crate) fn begins_word(word: &[u8]) -> bool
+    ensures { result ≡ (is_prefix bares word.now || is_prefix openers word.now) }
+{
+    begins_bare(word) || begins_opener(word)
+}

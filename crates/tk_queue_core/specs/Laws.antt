@@ -1,0 +1,49 @@
+-- A replay goes through states of the core.
+use Rattle.std.specs.Prelude.{◌≡◌, ℕ, ◌≤◌, List, length, take, Some, true, Result, Err}
+use Rattle.std.specs.List.{AllByRecursion}
+use Rattle.tk_ids.specs.declared.tables.Descriptor.{Descriptor}
+use Rattle.tk_events.specs.declared.events.Event.{Event}
+use Rattle.tk_record_columns.specs.Mixing.{IsWorkerOf}
+use Rattle.tk_queue_core.specs.Limits.{most_workers, worker_slots}
+use Rattle.tk_queue_core.specs.declared.items.Turn.{Turn}
+use Rattle.tk_record_columns.specs.Recorded.{Recorded}
+use Rattle.tk_queue_core.specs.declared.replays.ReplayFault.{ReplayFault}
+use Rattle.tk_queue_core.specs.declared.replays.ReplayFault.TheVariants as faults
+use Rattle.tk_queue_core.specs.ReplayText.{IsPlayed}
+use Rattle.tk_queue_core.specs.CoreState.{has_ended}
+use Rattle.tk_queue_core.specs.Core.{Core, IsCore, entries}
+use Rattle.tk_queue_core.specs.Replay.{Moment, IsTurn, script_of, count_of, plays, start}
+
+-- the moment is the core's state in which each worker sent as much of its script as is counted, and
+-- all of it where it ended
+pub record IsMomentOf (scripts : List (List Event)) (m : Moment) (c : Core) : Type 0 where
+  pub lawful : IsCore (length scripts) c
+  pub waits : c.waiting ≡ m.core.waiting
+  pub taken : entries c.taken ≡ m.taken.entries
+  pub sent :
+      (w : ℕ) → IsWorkerOf (length scripts) w → c.sent w ≡ take (count_of m w) (script_of scripts w)
+  pub ended : (w : ℕ) → IsWorkerOf (length scripts) w → c.ended w ≡ has_ended m.core w
+  pub whole :
+      (w : ℕ) → IsWorkerOf (length scripts) w → c.ended w ≡ true → c.sent w ≡ script_of scripts w
+  pub counts : length m.emitted ≡ length scripts
+  pub marks : length m.core.ended ≡ worker_slots
+
+-- so each worker's items, taken and waiting, are the events that it emitted so far, then its mark
+-- if it ended
+abbrev pub ReplaysCore : Type 0
+ReplaysCore =
+    (table : List Descriptor) (scripts : List (List Event)) (turns : List Turn) (m : Moment)
+    → length scripts ≤ most_workers → AllByRecursion (IsTurn (length scripts)) turns
+    → plays scripts turns (start table (length scripts)) ≡ Some m
+    → (c : Core) × IsMomentOf scripts m c
+
+-- an answer that depends on the input alone, and not on memory
+abbrev pub IsSettled : Result Recorded ReplayFault → Type 0
+IsSettled (Err faults.Memory) = ⊥
+IsSettled _ = Unit {0}
+
+-- no input has two answers
+abbrev pub AnswerIsUnique : Type 0
+AnswerIsUnique =
+    (input : List ℕ) (a b : Result Recorded ReplayFault) → IsSettled a → IsSettled b
+    → IsPlayed input a → IsPlayed input b → a ≡ b

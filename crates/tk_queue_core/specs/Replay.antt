@@ -1,0 +1,138 @@
+-- Replays: each worker goes through its script, by the order of the turns.
+use Rattle.std.specs.Prelude.{◌≡◌, ℕ, zero, suc, ◌+◌, ◌-◌, if◌then◌else◌, List, [], ◌∷◌, ◌++◌, length, take, get_or, slice_set, slice_get, Option, Some, None, Result, Ok, Err}
+use Rattle.tk_ids.specs.declared.tables.Descriptor.{Descriptor}
+use Rattle.tk_events.specs.declared.events.Event.{Event}
+use Rattle.tk_events.specs.declared.events.Entry.{Entry}
+use Rattle.tk_record_columns.specs.declared.records.AppendFault.{AppendFault}
+use Rattle.tk_record_columns.specs.declared.records.AppendFault.TheVariants as appends
+use Rattle.tk_record_columns.specs.Recorded.{Recorded}
+use Rattle.tk_record_columns.specs.Record.{fault_of}
+use Rattle.tk_record_columns.specs.Entries.{with_entry}
+use Rattle.tk_record_columns.specs.Mixing.{IsWorkerOf}
+use Rattle.tk_queue_core.specs.declared.items.Item.{Item}
+use Rattle.tk_queue_core.specs.declared.items.Item.TheVariants.{Entry as Emitted, End}
+use Rattle.tk_queue_core.specs.declared.items.Turn.{Turn}
+use Rattle.tk_queue_core.specs.declared.items.Turn.TheVariants.{Worker, Take}
+use Rattle.tk_queue_core.specs.declared.replays.ReplayFault.{ReplayFault}
+use Rattle.tk_queue_core.specs.declared.replays.ReplayFault.TheVariants as faults
+use Rattle.tk_queue_core.specs.declared.replays.Replayed.{Replayed}
+use Rattle.tk_queue_core.specs.CoreState.{CoreState, has_ended, fresh, emits, ends}
+
+-- a moment of a replay; `emitted` counts each worker's events, from worker 1 on
+pub record Moment : Type 0 where
+  pub core : CoreState
+  pub emitted : List ℕ
+  pub taken : Recorded
+
+-- why there is no next moment: the worker has ended, or the record refuses the entry that is taken
+pub data Stop : Type 0 where
+  Faulty : Stop
+  Refuses : AppendFault → Stop
+
+-- the events of worker w
+abbrev pub script_of : List (List Event) → ℕ → List Event
+script_of scripts w = get_or scripts (w - 1) []
+
+abbrev pub count_of : Moment → ℕ → ℕ
+count_of m w = get_or m.emitted (w - 1) 0
+
+-- the worker's next event was emitted, or its mark
+abbrev pub next : ℕ → Moment → Option Event → Moment
+next w m (Some e) = record {
+  core = emits w e m.core;
+  emitted = slice_set m.emitted (w - 1) (count_of m w + 1);
+  taken = m.taken;
+}
+next w m None = record { core = ends w m.core; emitted = m.emitted; taken = m.taken }
+
+abbrev pub waits : CoreState → List Item → CoreState
+waits c xs = record { workers = c.workers; ended = c.ended; waiting = xs }
+
+abbrev pub append_to : Moment → List Item → Entry → Option AppendFault → Result Moment Stop
+append_to m xs e None =
+    Ok (record { core = waits m.core xs; emitted = m.emitted; taken = with_entry m.taken e })
+append_to m xs e (Some fault) = Err (Refuses fault)
+
+-- the first of the waiting items is taken; a mark isn't recorded
+abbrev pub take_item : Moment → List Item → Result Moment Stop
+take_item m [] = Ok m
+take_item m (Emitted e ∷ xs) = append_to m xs e (fault_of m.taken e)
+take_item m (End w ∷ xs) =
+    Ok (record { core = waits m.core xs; emitted = m.emitted; taken = m.taken })
+
+abbrev pub turn_step : List (List Event) → Moment → Turn → Result Moment Stop
+turn_step scripts m (Worker w) =
+    if has_ended m.core w then Err Faulty
+    else Ok (next w m (slice_get (script_of scripts w) (count_of m w)))
+turn_step scripts m Take = take_item m m.core.waiting
+
+abbrev pub after : {A : Type 0} → Result A Stop → (A → Option A) → Option A
+after (Ok a) f = f a
+after (Err stop) f = None
+
+-- the moment after all of the turns, where none stops
+abbrev pub plays : List (List Event) → List Turn → Moment → Option Moment
+plays scripts [] m = Some m
+plays scripts (t ∷ turns) m = after (turn_step scripts m t) (plays scripts turns)
+
+abbrev pub zeros : ℕ → List ℕ
+zeros zero = []
+zeros (suc n) = zeros n ++ 0 ∷ []
+
+-- before the first turn of a replay with n workers
+abbrev pub start : List Descriptor → ℕ → Moment
+start table n =
+    record { core = fresh n; emitted = zeros n; taken = record { table = table; entries = [] } }
+
+-- the turns go on to turn i, which stops
+pub record StopsAt (table : List Descriptor) (scripts : List (List Event)) (turns : List Turn)
+    (i : ℕ) (why : Stop) : Type 0 where
+  pub moment : Moment
+  pub turn : Turn
+  pub before : plays scripts (take i turns) (start table (length scripts)) ≡ Some moment
+  pub at : slice_get turns i ≡ Some turn
+  pub stops : turn_step scripts moment turn ≡ Err why
+
+-- what the replay shows of its last moment
+pub record Shows (r : Replayed) (m : Moment) : Type 0 where
+  pub taken : r.taken ≡ m.taken
+  pub waiting : r.waiting.items ≡ m.core.waiting
+  pub emitted : r.emitted.items ≡ m.emitted
+
+-- what a replay answers; want of memory may come at any
+abbrev pub IsReplayed :
+    List Descriptor → List (List Event) → List Turn → Result Replayed ReplayFault → Type 0
+IsReplayed table scripts turns (Ok r) =
+    (m : Moment) × (plays scripts turns (start table (length scripts)) ≡ Some m) × Shows r m
+IsReplayed table scripts turns (Err (faults.AfterEnd i)) = StopsAt table scripts turns i Faulty
+IsReplayed table scripts turns (Err (faults.Append i fault)) =
+    StopsAt table scripts turns i (Refuses fault)
+IsReplayed table scripts turns (Err faults.Memory) = Unit {0}
+IsReplayed table scripts turns (Err _) = ⊥
+
+-- a turn of a session of n workers
+abbrev pub IsTurn : ℕ → Turn → Type 0
+IsTurn n (Worker w) = IsWorkerOf n w
+IsTurn n Take = Unit {0}
+
+abbrev pub IsMemory : AppendFault → Type 0
+IsMemory (appends.Memory e) = Unit {0}
+IsMemory _ = ⊥
+
+-- a refusal of the record's, at that turn
+abbrev pub refusal : ℕ → AppendFault → ReplayFault
+refusal n (appends.Memory _) = faults.Memory
+refusal n (appends.UnknownKey e) = faults.Append n (appends.UnknownKey e)
+refusal n (appends.Unlawful e) = faults.Append n (appends.Unlawful e)
+refusal n (appends.Full e) = faults.Append n (appends.Full e)
+
+-- why the step at turn n was not made
+abbrev pub IsStop : ℕ → Result Moment Stop → ReplayFault → Type 0
+IsStop n step (faults.AfterEnd i) = (i ≡ n) × (step ≡ Err Faulty)
+IsStop n step (faults.Append i fault) = (i ≡ n) × (step ≡ Err (Refuses fault))
+IsStop n step faults.Memory = Unit {0}
+IsStop n step _ = ⊥
+
+-- as many workers and counts as there are scripts
+abbrev pub Suits : Moment → List (List Event) → Type 0
+Suits m scripts = (m.core.workers ≡ length scripts) × (length m.emitted ≡ length scripts)

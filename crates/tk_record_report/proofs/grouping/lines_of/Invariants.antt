@@ -1,5 +1,0 @@
-use Rattle.tk_record_report.proofs.Keeping.{Gathers}
-use Rattle.tk_record_report.proofs.grouping.lines_of.Given as goal
-
-abbrev pub invariant-entries : goal.invariant-entries
-invariant-entries l = Gathers l.recording l.kept l.view-iterator

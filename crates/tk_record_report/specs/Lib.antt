@@ -1,5 +1,0 @@
-pub use Rattle.tk_streams.specs.Stream
-pub use Rattle.tk_columns.specs.Recorded
-pub mod Labels
-pub mod Reports
-pub mod Kept

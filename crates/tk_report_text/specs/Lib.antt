@@ -1,0 +1,5 @@
+pub use Rattle.tk_streams.specs.Stream
+pub use Rattle.tk_record_columns.specs.Recorded
+pub mod Labels
+pub mod Reports
+pub mod Kept

@@ -1,9 +1,0 @@
-pub use Rattle.tk_ids.specs.IdText
-pub use Rattle.tk_events.specs.Event
-pub use Rattle.tk_columns.specs.Recorded
-pub use Rattle.tk_cutting.specs.Planned
-pub use Rattle.tk_run_record.specs.Run
-pub mod Scripts
-pub mod Reports
-pub mod Listening
-pub mod Laws
