@@ -3,13 +3,13 @@ ghost use Rattle.std.specs.Prelude.{◌≡◌};
 ghost use Rattle.testkit_program.specs.Statuses.{fault_of_line, status_of};
 ghost use Rattle.testkit_program.specs.declared.faults.Fault.TheVariants.{Ask, Replay, Load, Report};
 
-use testkit_questions::AskFault;
 use testkit_command_line::CommandLineFault;
-use tk_query_conditions::CondFault;
+use testkit_questions::AskFault;
 use tk_engine_execute::RunFault;
 use tk_plan::PlanFault;
-use tk_record::{LoadFault, ReadFault};
+use tk_query_conditions::CondFault;
 use tk_queue_core::ReplayFault;
+use tk_record::{LoadFault, ReadFault};
 use tk_report::ReportFault;
 
 /// Why the program did not do its job.

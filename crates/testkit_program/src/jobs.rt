@@ -8,10 +8,10 @@ use std::alloc::Global;
 use std::mem;
 use std::sync::Wait;
 use std::thread::Threads;
-use testkit_questions::ask;
 use testkit_command_line::{Job, job_of};
-use tk_record::{MAX_TEXT, Source, Target, load};
+use testkit_questions::ask;
 use tk_queue_core::replay_text;
+use tk_record::{MAX_TEXT, Source, Target, load};
 use tk_report::{run_plan, write_report};
 
 /// Runs the plan of the source's bytes and writes its report.

@@ -5,9 +5,9 @@ use Rattle.std.proofs.lemmas.List.Sums.{sum_by-cons}
 use Rattle.tk_events.specs.declared.events.Entry.{Entry}
 use Rattle.std.specs.Prelude.{◌==◌}
 use Rattle.std.specs.List.{flat_map}
-use Rattle.tk_record_columns.specs.declared.tallies.Statistics.{Statistics}
-use Rattle.tk_record_columns.specs.declared.tallies.Expected.{Expected}
-use Rattle.tk_record_columns.specs.declared.tallies.Mismatch.{Mismatch}
+use Rattle.tk_record_columns.specs.declared.statistics.Statistics.{Statistics}
+use Rattle.tk_record_columns.specs.declared.statistics.Expected.{Expected}
+use Rattle.tk_record_columns.specs.declared.statistics.Mismatch.{Mismatch}
 use Rattle.tk_record_columns.specs.Recorded.{Recorded}
 use Rattle.tk_record_columns.specs.Selections.{PositionedEntry, positioned_from, Selected, all_of, events_of}
 use Rattle.tk_record_columns.specs.Statistics.{statistics_of, mismatches}

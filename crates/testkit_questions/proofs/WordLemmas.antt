@@ -3,7 +3,7 @@ use Rattle.std.proofs.Common.{◌≡◌, ◌≢◌, ◌+◌, ◌<◌, ◌++◌, 
 use Rattle.std.specs.Prelude.{not, ◌==◌}
 use Rattle.std.specs.List.{list_all, slice_get}
 use Rattle.std.proofs.lemmas.List.Folds.{list_all_at}
-use Rattle.tk_record_columns.specs.declared.tallies.Expected.{Expected}
+use Rattle.tk_record_columns.specs.declared.statistics.Expected.{Expected}
 use Rattle.tk_record_columns.specs.declared.selections.Selection.{Selection}
 use Rattle.tk_record_columns.specs.declared.selections.Selection.TheVariants.{All, Tests, Containers, Skipped, Started, Finished, Aborted, Succeeded, Failed, Reporting, Dynamic, Files}
 use Rattle.tk_record_columns.specs.Selections.{selection_name}

@@ -3,8 +3,8 @@ use Rattle.std.specs.Prelude.{◌≡◌, ℕ, Bool, true, false, List, [], ◌�
 use Rattle.std.specs.List.{flat_map}
 use Rattle.std.specs.Fmt.{decimal}
 use Rattle.tk_record_columns.specs.declared.selections.Selection.{Selection}
-use Rattle.tk_record_columns.specs.declared.tallies.Mismatch.{Mismatch}
-use Rattle.tk_record_columns.specs.declared.tallies.Statistics.{Statistics}
+use Rattle.tk_record_columns.specs.declared.statistics.Mismatch.{Mismatch}
+use Rattle.tk_record_columns.specs.declared.statistics.Statistics.{Statistics}
 use Rattle.tk_record_columns.specs.Recorded.{Recorded}
 use Rattle.tk_record_columns.specs.Selections.{selection_name, all_of, selects}
 use Rattle.tk_record_columns.specs.Statistics.{statistic_rows, statistics_of, mismatches}
@@ -15,9 +15,9 @@ use Rattle.tk_query.specs.declared.answers.Loose.{Loose}
 use Rattle.tk_query.specs.declared.answers.Loose.TheVariants as loose
 use Rattle.tk_query.specs.declared.answers.InOrder.{InOrder}
 use Rattle.tk_query.specs.declared.answers.InOrder.TheVariants as in_order
-use Rattle.tk_query.specs.declared.execution_lists.Ending.{Ending}
-use Rattle.tk_query.specs.declared.execution_lists.Ending.TheVariants.{Skipped, Aborted, Successful, Failed}
-use Rattle.tk_query.specs.declared.execution_lists.Execution.{Execution}
+use Rattle.tk_query.specs.declared.execution.Ending.{Ending}
+use Rattle.tk_query.specs.declared.execution.Ending.TheVariants.{Skipped, Aborted, Successful, Failed}
+use Rattle.tk_query.specs.declared.execution.Execution.{Execution}
 use Rattle.tk_query.specs.ExecutionSteps.{step_at}
 use Rattle.tk_query.specs.Executions.{AreExecutions}
 use Rattle.tk_query.specs.Matches.{IsExact, IsLoose, IsInOrder}

@@ -7,7 +7,7 @@ use Rattle.tk_query_conditions.specs.declared.faults.CondFault.TheVariants as co
 use Rattle.tk_query_conditions.specs.declared.conditions.Condition.{Condition}
 use Rattle.tk_query_conditions.specs.Answer.{IsReadAs}
 use Rattle.tk_record_columns.specs.declared.selections.Selection.{Selection}
-use Rattle.tk_record_columns.specs.declared.tallies.Expected.{Expected}
+use Rattle.tk_record_columns.specs.declared.statistics.Expected.{Expected}
 use Rattle.tk_record_columns.specs.Selections.{selection_name}
 use Rattle.tk_record_columns.specs.Statistics.{nothing_expected, expected_of, with_expected, is_counted}
 use Rattle.testkit_questions.specs.declared.faults.AskFault.{AskFault}

@@ -3,11 +3,11 @@
 #![tactic(auto)]
 
 mod books;
-mod grants;
+mod holdings;
 pub mod laws;
 mod needs;
 mod rules;
 
 pub use books::{Book, BookFault, BookSeat, Busy};
-pub use grants::Holdings;
+pub use holdings::Holdings;
 pub use needs::Need;

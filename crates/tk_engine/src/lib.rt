@@ -7,4 +7,6 @@ mod playing;
 mod scripted;
 
 pub use scripted::Scripted;
-pub use tk_engine_execute::{Engine, MAX_UNITS, Results, RunFault, Sink, SinkFault, UnitFault, execute};
+pub use tk_engine_execute::{
+    Engine, MAX_UNITS, Results, RunFault, Sink, SinkFault, UnitFault, execute,
+};

@@ -14,10 +14,10 @@ ghost use Rattle.tk_engine.specs.Plays.{IsPlayFault, IsPlayed, IsRegistered, IsE
 use crate::keys::Keys;
 use std::alloc::Global;
 use std::sync::Wait;
-use tk_plan_units::{Act, Plan, Step};
 use tk_engine_execute::{Sink, UnitFault};
-use tk_events::Event;
 use tk_engine_laws::laws::{nodes_are_found, scripts_are_playable};
+use tk_events::Event;
+use tk_plan_units::{Act, Plan, Step};
 
 /// Emits the event of a step that is no registration.
 fn emit_step<R: Wait, S: Sink>(

@@ -9,10 +9,10 @@ use std::alloc::{AllocError, Global};
 use std::marker::Model;
 use std::sync::{Arc, Wait};
 use tk_book::{BookSeat, Need};
-use tk_plan_units::Plan;
 use tk_engine_execute::{Engine, Sink, UnitFault};
 use tk_events::Event;
 use tk_ids::Table;
+use tk_plan_units::Plan;
 
 /// The engine that emits the scripts of a plan's units. Contracts see the plan.
 #[derive(Drop)]

@@ -12,7 +12,7 @@ use Rattle.std.specs.BTreeSet.{insert_key}
 use Rattle.tk_engine_laws.proofs.Ordered.{same_texts}
 use Rattle.tk_events.specs.declared.kinds.Kind.TheVariants as kind
 use Rattle.tk_events.specs.declared.kinds.Status.TheVariants as status
-use Rattle.tk_record_columns.specs.declared.tallies.Statistics.{Statistics}
+use Rattle.tk_record_columns.specs.declared.statistics.Statistics.{Statistics}
 use Rattle.tk_record_columns.specs.Statistics.{statistics_of}
 use Rattle.tk_events.specs.declared.kinds.Status.{Status}
 use Rattle.tk_events.specs.Event.{status_code}

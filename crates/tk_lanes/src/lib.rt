@@ -4,13 +4,13 @@
 
 mod admission;
 mod columns;
-mod flag_lists;
+mod flags;
 mod gathering;
 mod mask_words;
 mod masks;
 
 pub use admission::admits;
 pub use columns::{count_byte, mask_byte, mask_flag, mask_u32};
-pub use flag_lists::Flags;
+pub use flags::Flags;
 pub use gathering::gather;
 pub use masks::{and_into, first_from, not_into, ones, or_into};

@@ -10,7 +10,7 @@ use Rattle.tk_query_conditions.specs.declared.conditions.Condition.{Condition}
 use Rattle.tk_query.specs.declared.answers.Exact.TheVariants as exact
 use Rattle.tk_query.specs.declared.answers.Loose.TheVariants as loose
 use Rattle.tk_query.specs.declared.answers.InOrder.TheVariants as in_order
-use Rattle.tk_query.specs.declared.execution_lists.Execution.{Execution}
+use Rattle.tk_query.specs.declared.execution.Execution.{Execution}
 use Rattle.tk_query.specs.Asked.{fits}
 use Rattle.tk_query.specs.Holds.{holds}
 use Rattle.tk_query.specs.InOrder.{HoldInTurn, IsNotAfter, IsFirstStuck}

@@ -7,12 +7,12 @@ use Rattle.std.proofs.lemmas.List.Elements.{Contains-append_left, Contains-appen
 use Rattle.std.proofs.lemmas.Bool.{cases_lt, eqb-false, ne_eqb}
 use Rattle.tk_query.specs.Pairing.{opened, opened_by, ended, ended_by}
 use Rattle.tk_query.specs.Executions.{IsSpan, IsSkip, IsExecution, AreExecutions}
-use Rattle.tk_query.specs.declared.execution_lists.Ending.{Ending}
-use Rattle.tk_query.specs.declared.execution_lists.Ending.TheVariants.{Skipped}
+use Rattle.tk_query.specs.declared.execution.Ending.{Ending}
+use Rattle.tk_query.specs.declared.execution.Ending.TheVariants.{Skipped}
 use Rattle.tk_query.specs.declared.execution_steps.Transition.{Transition}
 use Rattle.tk_query.specs.declared.execution_steps.Transition.TheVariants.{Starts, Skips, Ends}
 use Rattle.tk_query.specs.declared.execution_steps.ExecutionStep.{ExecutionStep}
-use Rattle.tk_query.specs.declared.execution_lists.Execution.{Execution}
+use Rattle.tk_query.specs.declared.execution.Execution.{Execution}
 
 abbrev pub open_step : Option ExecutionStep → ℕ → ℕ → Option (ℕ × ℕ) → Option (ℕ × ℕ)
 open_step None n key started = started

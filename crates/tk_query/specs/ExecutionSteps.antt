@@ -10,8 +10,8 @@ use Rattle.tk_events.specs.declared.payloads.Payload.TheVariants.{Outcome}
 use Rattle.tk_events.specs.declared.events.Entry.{Entry}
 use Rattle.tk_record_columns.specs.Selections.{Selected}
 use Rattle.tk_query.specs.Asked.{event_at}
-use Rattle.tk_query.specs.declared.execution_lists.Ending.{Ending}
-use Rattle.tk_query.specs.declared.execution_lists.Ending.TheVariants.{Aborted, Successful, Failed}
+use Rattle.tk_query.specs.declared.execution.Ending.{Ending}
+use Rattle.tk_query.specs.declared.execution.Ending.TheVariants.{Aborted, Successful, Failed}
 use Rattle.tk_query.specs.declared.execution_steps.Transition.{Transition}
 use Rattle.tk_query.specs.declared.execution_steps.Transition.TheVariants.{Starts, Skips, Ends}
 use Rattle.tk_query.specs.declared.execution_steps.ExecutionStep.{ExecutionStep}

@@ -1,9 +1,9 @@
 -- Executions: a start and a finish of one key with nothing of that key between, or a skip.
 use Rattle.std.specs.Prelude.{◌≡◌, ◌≢◌, ℕ, Bool, not, ◌==◌, ◌<◌, ◌↔◌, ◌⊎◌, List, Option, Some}
 use Rattle.std.specs.List.{Contains, AllPairs}
-use Rattle.tk_query.specs.declared.execution_lists.Ending.{Ending}
-use Rattle.tk_query.specs.declared.execution_lists.Ending.TheVariants.{Skipped, Aborted, Successful, Failed}
-use Rattle.tk_query.specs.declared.execution_lists.Execution.{Execution}
+use Rattle.tk_query.specs.declared.execution.Ending.{Ending}
+use Rattle.tk_query.specs.declared.execution.Ending.TheVariants.{Skipped, Aborted, Successful, Failed}
+use Rattle.tk_query.specs.declared.execution.Execution.{Execution}
 use Rattle.tk_query.specs.declared.execution_steps.Transition.TheVariants.{Starts, Skips, Ends}
 use Rattle.tk_query.specs.declared.execution_steps.ExecutionStep.{ExecutionStep}
 

@@ -1,7 +1,7 @@
 -- One step more: what it leaves open, and what it ends.
 use Rattle.std.specs.Prelude.{ℕ, ◌/◌, ◌%◌, List, [], get_or, Option, Some, None}
-use Rattle.tk_query.specs.declared.execution_lists.Ending.TheVariants.{Skipped}
-use Rattle.tk_query.specs.declared.execution_lists.Execution.{Execution}
+use Rattle.tk_query.specs.declared.execution.Ending.TheVariants.{Skipped}
+use Rattle.tk_query.specs.declared.execution.Execution.{Execution}
 use Rattle.tk_query.specs.declared.execution_steps.Transition.{Transition}
 use Rattle.tk_query.specs.declared.execution_steps.Transition.TheVariants.{Starts, Skips, Ends}
 use Rattle.tk_query.specs.declared.execution_steps.ExecutionStep.{ExecutionStep}

@@ -3,9 +3,9 @@ ghost use Rattle.std.specs.Prelude.{◌≡◌};
 ghost use Rattle.tk_query.specs.ExecutionSteps.{ending_of, transition_of, step_of};
 ghost use Rattle.tk_query.specs.Asked.{entry_of};
 
-use crate::execution_lists::Ending;
-use tk_record_columns::EntryView;
+use crate::execution::Ending;
 use tk_events::{Kind, Payload, Status};
+use tk_record_columns::EntryView;
 
 /// What an event does to the execution of its key.
 #[derive(Clone, Copy)]

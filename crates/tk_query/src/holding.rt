@@ -9,10 +9,10 @@ ghost use Rattle.tk_record_columns.specs.Selections.{has_type};
 ghost use Rattle.tk_query.specs.Holds.{holds, has_descriptor, has_within, has_reason, has_path, has_message, is_engine, same_pair, all_within, reports};
 ghost use Rattle.tk_query.specs.Asked.{entry_of};
 
-use tk_record_columns::{EntryView, Record};
-use tk_query_conditions::Condition;
 use tk_events::{Kind, Pairs, Payload, Status};
 use tk_ids::{Descriptor, Text};
+use tk_query_conditions::Condition;
+use tk_record_columns::{EntryView, Record};
 
 fn is_test(recording: &Record, event: &EntryView) -> bool
     ensures { result ≡ has_type is_test (desc recording.now event.now.key) }

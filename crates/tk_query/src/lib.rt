@@ -2,7 +2,7 @@
 #![tactic(auto)]
 
 mod answers;
-mod execution_lists;
+mod execution;
 mod execution_steps;
 mod holding;
 pub mod laws;
@@ -13,7 +13,7 @@ mod pairing;
 mod rules;
 
 pub use answers::{Exact, InOrder, Loose};
-pub use execution_lists::{Ending, Execution, Executions};
+pub use execution::{Ending, Execution, Executions};
 pub use masks::select;
 pub use matching::{match_exactly, match_in_order, match_loosely};
 pub use pairing::executions;

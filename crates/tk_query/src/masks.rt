@@ -7,10 +7,10 @@ ghost use Rattle.tk_query.specs.Keys.{AreAnswers, AreCandidates, AreKeys, HoldsW
 
 use crate::holding::holds_at;
 use std::alloc::{AllocError, Global};
-use tk_record_columns::{Events, Record, Rule};
-use tk_query_conditions::Condition;
 use tk_events::{Kind, Status};
 use tk_lanes::Flags;
+use tk_query_conditions::Condition;
+use tk_record_columns::{Events, Record, Rule};
 
 fn byte_of(flag: bool) -> u8
     ensures { result ≡ (if flag then 1 else 0) }

@@ -10,9 +10,9 @@ use crate::holding::holds_at;
 use crate::masks::{keys_of, mask};
 use crate::rules::rule_of;
 use std::alloc::{AllocError, Global};
-use tk_record_columns::Events;
-use tk_query_conditions::Condition;
 use tk_lanes::Flags;
+use tk_query_conditions::Condition;
+use tk_record_columns::Events;
 
 /// The first position not below `from` of one of the events of which the condition holds.
 fn next_fit(events: &Events, condition: &Condition, from: usize) -> Option<usize>

@@ -5,7 +5,7 @@ ghost use Rattle.tk_query.specs.ExecutionSteps.{step_at, step_of};
 ghost use Rattle.tk_query.specs.Executions.{AreExecutions};
 ghost use Rattle.tk_query.specs.Pairing.{ended_by, open_of, opened_by};
 
-use crate::execution_lists::{Ending, Execution, Executions};
+use crate::execution::{Ending, Execution, Executions};
 use crate::execution_steps::{ExecutionStep, Transition, step_of};
 use crate::open_starts::OpenStarts;
 use std::alloc::{AllocError, Global};

@@ -3,9 +3,9 @@ ghost use Rattle.std.specs.Prelude.{IfSome};
 ghost use Rattle.tk_record_columns.specs.Recorded.{Recorded};
 ghost use Rattle.tk_query.specs.Keys.{AllHoldWithin, HoldsWithin};
 
-use tk_record_columns::Rule;
-use tk_query_conditions::Condition;
 use tk_events::{Kind, Status};
+use tk_query_conditions::Condition;
+use tk_record_columns::Rule;
 
 /// A rule on kinds or statuses that each event passes of which the condition holds, where the
 /// condition or a member of its `all` names one.

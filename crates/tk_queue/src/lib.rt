@@ -1,7 +1,6 @@
 //! A session in which several workers send events to one receiver, through a queue under a rule.
 #![tactic(auto)]
 
-mod checks;
 pub mod laws;
 mod limits;
 mod pushes;
@@ -9,6 +8,7 @@ mod receivers;
 mod senders;
 mod session_rules;
 mod sessions;
+mod tokens;
 
 pub use limits::MAX_CAPACITY;
 pub use receivers::{CloseFault, CloseReason, Closed, Receiver};

@@ -7,10 +7,10 @@ ghost use Rattle.tk_queue_core.specs.Core.{worker_of, entries};
 ghost use Rattle.tk_queue.specs.Session.{receiver};
 ghost use Rattle.tk_queue.specs.Ends.{fresh_receiver, takes, Follows, IsRecordable, lists, IsComplete};
 
-use crate::checks::{counts, missing, not_drained, twice};
 use crate::limits::WORKER_SLOTS;
 use crate::senders::Ended;
 use crate::session_rules::{AllSent, EventQueue, JoinSender, QueuePass, ReceiverPop};
+use crate::tokens::{counts, missing, not_drained, twice};
 use std::alloc::Global;
 use std::marker::Model;
 use std::sync::{Arc, Wait};

@@ -15,10 +15,10 @@ use std::error::Error;
 use std::fmt;
 use std::marker::Model;
 use std::sync::Arc;
-use tk_record_columns::{AppendFault, Record};
 use tk_events::{Event, MAX_WORKERS};
 use tk_ids::Table;
 use tk_record::{NodesFault, WriteFault};
+use tk_record_columns::{AppendFault, Record};
 use tk_streams::LoadFault;
 
 /// Why a replay has no result.

@@ -5,7 +5,7 @@ use Rattle.std.specs.List.{flat_map}
 use Rattle.std.proofs.lemmas.List.{get_or_default}
 use Rattle.std.proofs.lemmas.List.Elements.{All-head}
 use Rattle.std.proofs.lemmas.List.Folds.{flat_map-map}
-use Rattle.tk_record_columns.specs.declared.tallies.Statistics.{Statistics}
+use Rattle.tk_record_columns.specs.declared.statistics.Statistics.{Statistics}
 use Rattle.tk_record_columns.specs.Recorded.{Recorded}
 use Rattle.tk_record_columns.specs.Selections.{Selected, all_of, events_of}
 use Rattle.tk_record_columns.specs.Statistics.{statistics_of}

@@ -5,7 +5,7 @@ use Rattle.std.specs.Ordering.{nat_cmp}
 use Rattle.std.specs.Cmp.Lexicographic.{slice_cmp}
 use Rattle.std.specs.BTreeSet.{insert_key}
 use Rattle.tk_ids.specs.IdText.{id_text}
-use Rattle.tk_record_columns.specs.declared.tallies.Statistics.{Statistics}
+use Rattle.tk_record_columns.specs.declared.statistics.Statistics.{Statistics}
 use Rattle.tk_record_columns.specs.Recorded.{Recorded}
 use Rattle.tk_record_columns.specs.Statistics.{statistics_of}
 use Rattle.tk_record.specs.Field.{field_text}

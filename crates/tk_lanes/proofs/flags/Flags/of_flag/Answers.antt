@@ -1,0 +1,19 @@
+use Rattle.std.proofs.Common.{map, List, ℕ, length, sym, ap, ◌∙◌, subst}
+use Rattle.std.proofs.lemmas.List.{with_items_is, length-map}
+use Rattle.tk_lanes.specs.Bits.{first_bits, HoldsFlags, shares_bit}
+use Rattle.tk_lanes.proofs.Views.{first_bits_held, held_again}
+use Rattle.tk_lanes.proofs.flags.Flags.of_flag.Goals as goal
+
+pub invariant_of-result : goal.invariant_of-result
+invariant_of-result c =
+    let p = λ (x : ℕ). shares_bit x c.args.value in
+    let n = length c.args.column.now in
+    let is = with_items_is c.in_ok-words.words c.mask_flag.new.out (c.mask_flag.auto.out ∙ c.deref_mut.ensures.len) in
+    (subst (λ (ws : List ℕ). HoldsFlags (first_bits n ws) ws) (sym is) (held_again (map p c.args.column.now) c.mask_flag.new.out n c.mask_flag.ensures (length-map c.args.column.now p)), c.requires)
+
+pub returns : goal.returns
+returns c =
+    let p = λ (x : ℕ). shares_bit x c.args.value in
+    let n = length c.args.column.now in
+    let is = with_items_is c.in_ok-words.words c.mask_flag.new.out (c.mask_flag.auto.out ∙ c.deref_mut.ensures.len) in
+    ap (first_bits n) is ∙ first_bits_held (map p c.args.column.now) c.mask_flag.new.out n c.mask_flag.ensures (length-map c.args.column.now p)

@@ -1,4 +1,0 @@
-use Rattle.tk_query.proofs.execution_lists.Executions.succeeded.Goals as goal
-
-pub returns : goal.returns
-returns c = c.ended.ensures
