@@ -1,8 +1,8 @@
 //! Executions of a descriptor's events, and those that ended in one way.
 use std::alloc::{AllocError, Global};
 use test_support::{record_of, two_tests};
-use tk_record_columns::{Events, Record};
 use tk_query::{Executions, executions};
+use tk_record_columns::{Events, Record};
 
 fn is_written_as(alloc: Global, list: &Executions, want: &str) -> bool {
     match format!(in alloc; "{list:?}") {

@@ -3,10 +3,10 @@
 use crate::appending::{Answer, append};
 use std::alloc::Global;
 use test_support::{start, two_tests, two_tests_report};
-use tk_record_columns::{Events, Record};
 use tk_events::Entry;
 use tk_query::{Condition, InOrder, executions, match_in_order, read_condition, select};
 use tk_record::{ReadFault, WriteFault, read_record, write_record, write_tail};
+use tk_record_columns::{Events, Record};
 use tk_report_text::write_report_of;
 use tk_streams::{ByteSource, ByteTarget, Target};
 

@@ -6,8 +6,8 @@ ghost use Rattle.tk_engine_execute.specs.Results.{Ran};
 
 use std::alloc::{AllocError, Global};
 use std::marker::Model;
-use tk_record_columns::{Events, Record, Selection};
 use tk_queue::Closed;
+use tk_record_columns::{Events, Record, Selection};
 
 /// The results of a run: its record, and how many events each worker emitted.
 ///

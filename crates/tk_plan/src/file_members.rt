@@ -14,8 +14,8 @@ use crate::json_values::{items_in, member, text_in};
 use crate::path_texts::{member_path, wrong_item, wrong_value};
 use json::Value;
 use std::alloc::Global;
-use tk_plan_units::Files;
 use tk_ids::Text;
+use tk_plan_units::Files;
 
 /// The path of a file, an item of the array there.
 fn path(alloc: Global, array: &str, index: usize, item: &Value<'_>) -> Result<Text, PlanFault>

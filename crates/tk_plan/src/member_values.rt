@@ -1,8 +1,8 @@
 //! What readers of members hand on.
 
-use tk_plan_units::Entries;
 use tk_events::{Pairs, Status};
 use tk_ids::Text;
+use tk_plan_units::Entries;
 
 /// The texts of an array of two.
 #[derive(Clone, Copy, Drop)]

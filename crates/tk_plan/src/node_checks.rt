@@ -24,8 +24,8 @@ use crate::node_inputs::NodeInput;
 use crate::plan_readers::{Checked, Named, Reader};
 use crate::siblings::Siblings;
 use std::alloc::Global;
-use tk_plan_units::{Lock, MAX_KEYS, Node};
 use tk_ids::{IdFault, MAX_DESCRIPTORS, Segment, TableFault, UniqueId};
+use tk_plan_units::{Lock, MAX_KEYS, Node};
 
 /// Reads the members of a node by its kind.
 fn fields_of<'v, 't>(

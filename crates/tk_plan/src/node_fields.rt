@@ -21,8 +21,8 @@ use crate::member_values::{Ending, Reports, TwoTexts};
 use crate::result_members::{entries_member, result_member};
 use json::Value;
 use std::alloc::Global;
-use tk_plan_units::{Files, Locks};
 use tk_ids::{DType, Text};
+use tk_plan_units::{Files, Locks};
 
 /// What the members `type`, `segment` and `name` of a node say.
 #[derive(Drop)]

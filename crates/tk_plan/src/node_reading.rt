@@ -21,8 +21,8 @@ use crate::plan_readers::Reader;
 use crate::siblings::Siblings;
 use json::Value;
 use std::alloc::{AllocError, Global};
-use tk_plan_units::{Node, NumberedNode};
 use tk_ids::{Descriptor, UniqueId};
+use tk_plan_units::{Node, NumberedNode};
 
 /// Puts the descriptor of a static node at the end, or counts a dynamic node.
 fn add_descriptor(reader: &mut Reader, node: &Node, id: UniqueId) -> Result<(), AllocError>

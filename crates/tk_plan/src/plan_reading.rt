@@ -27,8 +27,8 @@ use crate::plan_readers::Reader;
 use json::{Scratch, Value};
 use std::alloc::{AllocError, Global};
 use std::sync::Arc;
-use tk_plan_units::{Plan, count_events};
 use tk_ids::{Descriptor, Table};
+use tk_plan_units::{Plan, count_events};
 
 /// Reads the member `version`, which is 1 or 2: whether it is 2, so that nodes may have files.
 fn version_member(alloc: Global, version: Option<Value<'_>>) -> Result<bool, PlanFault>

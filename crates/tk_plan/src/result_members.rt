@@ -22,9 +22,9 @@ use crate::path_texts::{member_path, wrong_item, wrong_member, wrong_value};
 use json::Value;
 use std::alloc::{AllocError, Global};
 use std::collections::BTreeMap;
-use tk_plan_units::Entries;
 use tk_events::{Pairs, Status};
 use tk_ids::Text;
+use tk_plan_units::Entries;
 
 fn status_member(alloc: Global, at: JsonPath<'_>, object: &Value<'_>) -> Result<Status, PlanFault>
     ensures { Reads (row (pointer at.entry) (view object.now) status_row)

@@ -5,10 +5,10 @@ use crate::faults::ReportFault;
 use std::alloc::Global;
 use std::sync::Wait;
 use std::thread::Threads;
-use tk_engine_execute::{Results, execute};
-use tk_plan::read_plan;
-use tk_engine_laws::laws::report_is_unique;
 use tk_engine::Scripted;
+use tk_engine_execute::{Results, execute};
+use tk_engine_laws::laws::report_is_unique;
+use tk_plan::read_plan;
 
 /// How many places the queue of a run has where the caller gives no number, as in [`run_plan`].
 pub const DEFAULT_CAPACITY: usize = 64;
