@@ -1,5 +1,5 @@
 #!/usr/bin/env python3
-"""Writes the records that bench/match/run asks, in a folder: records.py FOLDER"""
+"""Writes the records that bench/match/measure_matches asks, in a folder: records.py FOLDER"""
 import sys
 
 EVENTS = 640_000

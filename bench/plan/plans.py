@@ -1,5 +1,5 @@
 #!/usr/bin/env python3
-"""Writes the plans of which bench/plan/run measures the reading, each as NAME.json in a folder, with the number of their
+"""Writes the plans of which bench/plan/measure_plan measures the reading, each as NAME.json in a folder, with the number of their
 nodes in NAME.nodes: plans.py FOLDER"""
 import json
 import sys

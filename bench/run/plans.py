@@ -1,5 +1,5 @@
 #!/usr/bin/env python3
-"""Writes the plans of which bench/run/run measures the runs, each as NAME.json in a folder: plans.py FOLDER"""
+"""Writes the plans of which bench/run/measure_run measures the runs, each as NAME.json in a folder: plans.py FOLDER"""
 import json
 import sys
 

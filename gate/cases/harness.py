@@ -305,5 +305,5 @@ def refuse_equal_names(cases: Sequence[Union[Case, ThreadCount, Check]]) -> None
     names = set()
     for case in cases:
         if case.name in names:
-            sys.exit(f"cases/run: two cases have the name {case.name}")
+            sys.exit(f"gate/cases/run_cases: two cases have the name {case.name}")
         names.add(case.name)

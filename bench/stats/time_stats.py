@@ -1,5 +1,5 @@
 #!/usr/bin/env python3
-"""Measures `ask stats` beside the plain reader on one record: measure.py PROGRAM PLAIN RECORD TITLE FOLDER"""
+"""Measures `ask stats` beside the plain reader on one record: time_stats.py PROGRAM PLAIN RECORD TITLE FOLDER"""
 import os
 import sys
 

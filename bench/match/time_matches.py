@@ -1,5 +1,5 @@
 #!/usr/bin/env python3
-"""Measures matches and executions of the records in a folder: measure.py PROGRAM FOLDER"""
+"""Measures matches and executions of the records in a folder: time_matches.py PROGRAM FOLDER"""
 import os
 import sys
 

@@ -1,5 +1,5 @@
 #!/usr/bin/env python3
-"""Measures the runs of the plans in a folder: measure.py PROGRAM PLAIN FOLDER"""
+"""Measures the runs of the plans in a folder: time_run.py PROGRAM PLAIN FOLDER"""
 import filecmp
 import os
 import sys
