@@ -6,8 +6,12 @@ pub use Rattle.tk_events.specs.declared.kinds.Kind
 pub use Rattle.tk_events.specs.declared.kinds.Status
 pub use Rattle.tk_events.specs.declared.payloads.Payload
 pub use Rattle.tk_book.specs.Wants
-pub use Rattle.tk_queue.specs.Ends
-pub use Rattle.tk_queue.specs.Known
+pub use Rattle.tk_queue.specs.Senders
+pub use Rattle.tk_queue.specs.Registering
+pub use Rattle.tk_queue.specs.Tokens
+pub use Rattle.tk_queue.specs.Receivers
+pub use Rattle.tk_queue.specs.Closing
+pub use Rattle.tk_queue.specs.Emission
 pub use Rattle.tk_engine_execute.specs.Run
 pub use Rattle.tk_engine_execute.specs.Engines
 pub use Rattle.tk_engine_execute.specs.Grown

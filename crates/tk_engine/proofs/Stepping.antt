@@ -14,8 +14,9 @@ use Rattle.tk_events.specs.declared.events.Event.{Event}
 use Rattle.tk_events.specs.declared.events.Entry.{Entry}
 use Rattle.tk_events.specs.Registration.{registered_key}
 use Rattle.tk_record_columns.specs.Entries.{desc, desc_in}
-use Rattle.tk_queue.specs.Known.{registrations, is_dynamic, entries_by, entry_by}
-use Rattle.tk_queue.specs.Ends.{SenderView, own, registration, child}
+use Rattle.tk_queue.specs.Emission.{registrations, is_dynamic, entries_by, entry_by}
+use Rattle.tk_queue.specs.Senders.{SenderView, record_of_sender}
+use Rattle.tk_queue.specs.Registering.{registration, child}
 use Rattle.tk_plan_units.specs.declared.nodes.Node.{Node}
 use Rattle.tk_plan_units.specs.declared.nodes.NumberedNode.{NumberedNode}
 use Rattle.tk_plan_units.specs.declared.steps.Act.{Act}
@@ -170,7 +171,7 @@ module _ (nodes : List NumberedNode) (table : List Descriptor) (planned : IsPlan
         let can = here step whole in
         let above_is : above ≡ key_of (length table) base known parent = some_same (sym found ∙ has_its_key nodes table base known keys was.keys_are parent can.0) in
         let l = played nodes (length table) base [] prefix in
-        let same_record : own old ≡ record { table = table; entries = entries_by old.worker (sent ++ l) } = ap₂ (λ t es. record { table = t; entries = entries_by old.worker es }) over was.emitted in
+        let same_record : record_of_sender old ≡ record { table = table; entries = entries_by old.worker (sent ++ l) } = ap₂ (λ t es. record { table = t; entries = entries_by old.worker es }) over was.emitted in
         let upper = r.registered.0 in
         let upper_id : upper.id ≡ id_at nodes parent = some_same (
         ap (option_map (λ d. d.id)) (sym r.registered.1) ∙ ap₂ (λ y k. option_map (λ d. d.id) (desc y k)) same_record above_is

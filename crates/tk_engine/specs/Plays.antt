@@ -3,13 +3,14 @@ use Rattle.std.specs.Prelude.{◌≡◌, ℕ, ◌+◌, ◌<◌, List, [], ◌++�
 use Rattle.tk_ids.specs.declared.tables.Descriptor.{Descriptor}
 use Rattle.tk_events.specs.declared.events.Event.{Event}
 use Rattle.tk_events.specs.Registration.{registered_key}
-use Rattle.tk_queue.specs.Ends.{SenderView, sends, IsRegisteredAs}
+use Rattle.tk_queue.specs.Senders.{SenderView, sends}
+use Rattle.tk_queue.specs.Registering.{IsRegisteredAs}
 use Rattle.tk_plan_units.specs.declared.nodes.Node.{Node}
 use Rattle.tk_plan_units.specs.Numbers.{in_order}
 use Rattle.tk_plan_units.specs.Events.{event}
 use Rattle.tk_plan_units.specs.StepEvents.{kind_of, payload_of}
 use Rattle.tk_record_columns.specs.Entries.{desc}
-use Rattle.tk_queue.specs.Known.{entries_by, registrations}
+use Rattle.tk_queue.specs.Emission.{entries_by, registrations}
 use Rattle.tk_plan_units.specs.declared.nodes.NumberedNode.{NumberedNode}
 use Rattle.tk_plan_units.specs.declared.steps.Step.{Step}
 use Rattle.tk_engine_execute.specs.declared.engines.UnitFault.{UnitFault}
@@ -38,7 +39,10 @@ pub record IsEmitted (nodes : List NumberedNode) (old new : SenderView) (s : Ste
 pub record IsRegistered (nodes : List NumberedNode) (old new : SenderView) (s : Step) (above key : ℕ) : Type 0 where
   pub node : Node
   pub is : slice_get (in_order nodes) s.node ≡ Some node
-  pub registered : IsRegisteredAs old new above node.segment node.name node.dtype s.stamp (Ok key)
+  pub registered :
+      IsRegisteredAs old new
+      (record { parent = above; segment = node.segment; name = node.name; dtype = node.dtype; stamp = s.stamp })
+      (Ok key)
 
 -- a unit's fault that is the sink's, or want of memory, and none of the engine's own
 abbrev pub IsPlayFault : UnitFault → Type 0

@@ -5,7 +5,8 @@ use Rattle.tk_ids.specs.IdText.{Pair}
 use Rattle.tk_ids.specs.declared.tables.DType.{DType}
 use Rattle.tk_ids.specs.declared.tables.Descriptor.{Descriptor}
 use Rattle.tk_events.specs.declared.events.Event.{Event}
-use Rattle.tk_queue.specs.Ends.{SenderView, IsRegisteredAs, child, registration, sends}
+use Rattle.tk_queue.specs.Senders.{SenderView, sends}
+use Rattle.tk_queue.specs.Registering.{IsRegisteredAs, child, registration}
 use Rattle.tk_engine_execute.specs.Grown.{GrewBy}
 
 -- the preorder, for any P
@@ -33,7 +34,7 @@ module _ (P : Event → Type 0) where
   }
 
   -- where P holds of every registration
-  pub grew_registered : (a b : SenderView) (parent : ℕ) (segment : Pair) (name : List ℕ) (dtype : DType) (stamp key : ℕ) → IsRegisteredAs a b parent segment name dtype stamp (Ok key)
+  pub grew_registered : (a b : SenderView) (parent : ℕ) (segment : Pair) (name : List ℕ) (dtype : DType) (stamp key : ℕ) → IsRegisteredAs a b (record { parent = parent; segment = segment; name = name; dtype = dtype; stamp = stamp }) (Ok key)
       → ((d : Descriptor) → P (registration a stamp d)) → GrewBy P a b
   grew_registered a b parent segment name dtype stamp key (above, _, _, _, _, is, _) holds =
       grew_one a b (registration a stamp (child above segment name dtype)) is (holds (child above segment name dtype))

@@ -14,7 +14,10 @@ use Rattle.tk_queue_core.specs.Core.{entries}
 use Rattle.tk_engine_claim.specs.Claims.{ClaimName, Claimant, Claims}
 use Rattle.tk_queue.specs.declared.receivers.CloseReason.{CloseReason}
 use Rattle.tk_queue.specs.declared.receivers.CloseReason.TheVariants.{Missing, Twice, NotDrained}
-use Rattle.tk_queue.specs.Ends.{SenderView as Sent, ReceiverView, tokens_of, lists, is_marked, IsFault}
+use Rattle.tk_queue.specs.Senders.{SenderView as Sent}
+use Rattle.tk_queue.specs.Receivers.{ReceiverView, is_marked}
+use Rattle.tk_queue.specs.Tokens.{tokens_of, sent_by}
+use Rattle.tk_queue.specs.Closing.{IsCloseFault}
 use Rattle.tk_engine_runs.specs.Run.{IsShared}
 use Rattle.tk_engine_execute.specs.declared.engines.UnitFault.{UnitFault}
 use Rattle.tk_engine_execute.specs.declared.workers.Outcome.{Outcome}
@@ -22,7 +25,7 @@ use Rattle.tk_engine_execute.specs.declared.workers.Failure.{Failure}
 use Rattle.tk_engine_execute.specs.declared.event_collectors.EventCollector.{EventCollector}
 use Rattle.tk_engine_execute.specs.EventCollectors.{IsCollector, NoneIsAwaited}
 use Rattle.tk_engine_execute.specs.Results.{IsTallied}
-use Rattle.tk_queue.specs.Known.{entries_by}
+use Rattle.tk_queue.specs.Emission.{entries_by}
 use Rattle.tk_engine_runs.proofs.Workers.{in_the_middle}
 use Rattle.tk_engine_execute.specs.declared.runs.RunFault.{RunFault}
 use Rattle.tk_engine_execute.specs.declared.runs.RunFault.TheVariants as fault
@@ -69,17 +72,17 @@ once k w (t ∷ ts) h low high =
     (cases_eq t.worker w)
 
 -- the list of a token's worker is the token's
-list_at : (k i : ℕ) (ts : List Sent) (t : Sent) → Numbered k ts → slice_get ts i ≡ Some t → lists ts (k + i + 1) ≡ t.sent
+list_at : (k i : ℕ) (ts : List Sent) (t : Sent) → Numbered k ts → slice_get ts i ≡ Some t → sent_by ts (k + i + 1) ≡ t.sent
 list_at k i [] t h e = cc
 list_at k zero (u ∷ ts) t h e =
     let own : u.worker ≡ k + 0 + 1 = h 0 u refl in
     let same : u ≡ t = cc in
-    ap (λ (b : Bool). if b then u.sent else lists ts (k + 0 + 1)) (eq-eqb u.worker (k + 0 + 1) own) ∙ ap (λ (x : Sent). x.sent) same
+    ap (λ (b : Bool). if b then u.sent else sent_by ts (k + 0 + 1)) (eq-eqb u.worker (k + 0 + 1) own) ∙ ap (λ (x : Sent). x.sent) same
 list_at k (suc i) (u ∷ ts) t h e =
     let own : u.worker ≡ k + 0 + 1 = h 0 u refl in
     let other : u.worker ≢ k + suc i + 1 = λ same. absurd (omega arith) in
     let n : k + suc i + 1 ≡ suc k + i + 1 = omega arith in
-    ap (λ (b : Bool). if b then u.sent else lists ts (k + suc i + 1)) (ne_eqb u.worker (k + suc i + 1) other) ∙ ap (lists ts) n ∙ list_at (suc k) i ts t (tail k u ts h) e
+    ap (λ (b : Bool). if b then u.sent else sent_by ts (k + suc i + 1)) (ne_eqb u.worker (k + suc i + 1) other) ∙ ap (sent_by ts) n ∙ list_at (suc k) i ts t (tail k u ts h) e
 
 -- ---- a session that can be closed
 
@@ -89,7 +92,7 @@ numbered r ts can = λ i t e. let n = can.workers i t e in omega arith
 has_one : (r : ReceiverView) (ts : List Sent) → CanClose r ts → (w : ℕ) → IsWorkerOf r.workers w → tokens_of w ts ≡ 1
 has_one r ts can w own = let n = can.count in once 0 w ts (numbered r ts can) own.0 (let high : w ≤ r.workers = own.1 in omega arith)
 
-pub no_fault : (r : ReceiverView) (ts : List Sent) (why : CloseReason) → CanClose r ts → IsFault why r ts → ⊥
+pub no_fault : (r : ReceiverView) (ts : List Sent) (why : CloseReason) → CanClose r ts → IsCloseFault why r ts → ⊥
 no_fault r ts (Missing w) can h = let one = has_one r ts can w h.worker in let none : tokens_of w ts ≡ 0 = h.holds in absurd (omega arith)
 no_fault r ts (Twice w) can h = let one = has_one r ts can w h.1.worker in let two : 1 < tokens_of w ts = h.1.holds in absurd (omega arith)
 no_fault r ts (NotDrained w) can h =
@@ -156,7 +159,7 @@ module _ (may : ℕ → ℕ → ℕ → List Event → Type 0) (units workers : 
   of_claim session done = all_from (λ s. s.claim ≡ claim) ss (λ i s e. let h = seat_at os ts ss whole i s e in ap (λ (x : Claimant). x.claim) (h.3) ∙ (done i (h.0) (h.1)).claim_is)
 
   -- what the workers of a run share
-  pub shared : (r : ReceiverView) (drew : ℕ) → 0 < workers → r.workers ≡ workers → CanClose r ts → Mix r.workers (entries r.taken) (lists ts) → AllDone may units r.session claim os
+  pub shared : (r : ReceiverView) (drew : ℕ) → 0 < workers → r.workers ≡ workers → CanClose r ts → Mix r.workers (entries r.taken) (sent_by ts) → AllDone may units r.session claim os
       → Claims (map (λ (s : Claimant). s.numbers) ss) drew → ((i : ℕ) (s : Claimant) → slice_get ss i ≡ Some s → s.spent ≡ true → drew ≡ units)
       → IsShared may units workers (entries r.taken)
   shared r drew some is_workers can mix done claims spent =
@@ -167,7 +170,7 @@ module _ (may : ℕ → ℕ → ℕ → List Event → Type 0) (units workers : 
       let all : drew ≡ units = spent 0 (first.0) (first.1) stated in
       record {
         drawn = map (λ (s : Claimant). s.numbers) ss;
-        lists = lists ts;
+        lists = sent_by ts;
         seats = length-map ss (λ (s : Claimant). s.numbers) ∙ seats;
         claims = rw all at claims;
         mix = rw is_workers at mix;
@@ -176,9 +179,9 @@ module _ (may : ℕ → ℕ → ℕ → List Event → Type 0) (units workers : 
             let o = seat_at os ts ss whole i (s.0) (s.1) in
             let one = done i (o.0) (o.1) in
             let us_is : us ≡ o.0.claim_seat.numbers = s.2 ∙ ap (λ (x : Claimant). x.numbers) (o.3) in
-            let l_is : lists ts (0 + i + 1) ≡ o.0.ended.sent = list_at 0 i ts o.0.ended (numbered r ts can) (o.4) in
+            let l_is : sent_by ts (0 + i + 1) ≡ o.0.ended.sent = list_at 0 i ts o.0.ended (numbered r ts can) (o.4) in
             let n : 0 + i + 1 ≡ i + 1 = omega arith in
-            emits_along may (i + 1) (i + 1) us o.0.claim_seat.numbers (lists ts (i + 1)) o.0.ended.sent refl us_is (rw n at l_is) (one.emits (o.2));
+            emits_along may (i + 1) (i + 1) us o.0.claim_seat.numbers (sent_by ts (i + 1)) o.0.ended.sent refl us_is (rw n at l_is) (one.emits (o.2));
       }
     where
       first_of : (xs : List Claimant) → 0 < length xs → (s : Claimant) × (slice_get xs 0 ≡ Some s)

@@ -5,7 +5,7 @@ use Rattle.atomic_table.specs.Seated.{TableId}
 use Rattle.tk_ids.specs.declared.tables.Descriptor.{Descriptor}
 use Rattle.tk_book.specs.Books.{BookName, Holder, empty}
 use Rattle.tk_engine_claim.specs.Claims.{ClaimName, Claimant, fresh}
-use Rattle.tk_queue.specs.Ends.{SenderView, fresh_senders}
+use Rattle.tk_queue.specs.Senders.{SenderView, fresh_senders}
 use Rattle.tk_engine_execute.specs.declared.unstarted_workers.UnstartedWorkers.{UnstartedWorkers}
 use Rattle.tk_engine_execute.specs.declared.workers.WorkerHandles.{WorkerHandles}
 use Rattle.tk_engine_execute.specs.Workers.{IsReady, AreUnstarted, IsLastWorker}

@@ -1,9 +1,9 @@
 -- What an engine emits into a sink, and its events before and after the units.
 use Rattle.std.specs.Prelude.{◌≡◌, ℕ, ◌<◌, ◌≤◌, ◌++◌, true, List, length, All}
 use Rattle.tk_events.specs.declared.events.Event.{Event}
-use Rattle.tk_queue.specs.Known.{is_plain, registrations}
+use Rattle.tk_queue.specs.Emission.{is_plain, registrations}
 use Rattle.tk_queue.specs.Limits.{most_events}
-use Rattle.tk_queue.specs.Ends.{SenderView}
+use Rattle.tk_queue.specs.Senders.{SenderView}
 
 -- b is of the same session, table and worker as a
 pub record IsSame (a b : SenderView) : Type 0 where

@@ -3,8 +3,9 @@ use Rattle.std.specs.Prelude.{◌≡◌, ℕ, ◌<◌, ◌≤◌, Bool, true, fa
 use Rattle.tk_ids.specs.declared.tables.Descriptor.{Descriptor}
 use Rattle.tk_limits.specs.declared.limits.TheConstants.{MAX_WORKERS}
 use Rattle.tk_events.specs.declared.events.Event.{Event}
-use Rattle.tk_queue.specs.Known.{entries_by}
-use Rattle.tk_queue.specs.Ends.{fresh_receiver, capacity_of}
+use Rattle.tk_queue.specs.Emission.{entries_by}
+use Rattle.tk_queue.specs.Receivers.{fresh_receiver}
+use Rattle.tk_queue.specs.Limits.{capacity_of}
 use Rattle.tk_engine_execute.specs.declared.event_collectors.EventCollector.{EventCollector}
 use Rattle.tk_engine_execute.specs.declared.runs.PreparedRun.{PreparedRun}
 use Rattle.tk_engine_execute.specs.Engines.{AreBeforeOrAfter}

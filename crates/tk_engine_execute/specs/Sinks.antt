@@ -1,9 +1,8 @@
 -- Why a sender, as a sink, took no event.
-use Rattle.std.specs.Prelude.{◌≡◌, ℕ, List, Some, Err}
-use Rattle.tk_ids.specs.declared.tables.DType.{DType}
-use Rattle.tk_ids.specs.IdText.{Pair}
+use Rattle.std.specs.Prelude.{◌≡◌, Some, Err}
 use Rattle.tk_events.specs.declared.events.Event.{Event}
-use Rattle.tk_queue.specs.Ends.{SenderView, refusal_of, IsRegisteredAs}
+use Rattle.tk_queue.specs.Senders.{SenderView, refusal_of}
+use Rattle.tk_queue.specs.Registering.{RegisterRequest, IsRegisteredAs}
 use Rattle.tk_engine_execute.specs.declared.sinks.SinkFault.{SinkFault}
 use Rattle.tk_engine_execute.specs.declared.sinks.SinkFault.TheVariants.{Send, Register}
 
@@ -14,7 +13,6 @@ IsSendCause s e (Register fault) = ⊥
 
 -- the sender's own refusal of the registration
 abbrev pub IsRegisterCause :
-    SenderView → SenderView → ℕ → Pair → List ℕ → DType → ℕ → SinkFault → Type 0
-IsRegisterCause old new parent segment name dtype stamp (Send fault) = ⊥
-IsRegisterCause old new parent segment name dtype stamp (Register fault) =
-    IsRegisteredAs old new parent segment name dtype stamp (Err fault)
+    SenderView → SenderView → RegisterRequest → SinkFault → Type 0
+IsRegisterCause old new ask (Send fault) = ⊥
+IsRegisterCause old new ask (Register fault) = IsRegisteredAs old new ask (Err fault)

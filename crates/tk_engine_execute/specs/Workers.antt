@@ -6,7 +6,7 @@ use Rattle.tk_ids.specs.declared.tables.Descriptor.{Descriptor}
 use Rattle.tk_events.specs.declared.events.Event.{Event}
 use Rattle.tk_book.specs.Books.{BookName, empty}
 use Rattle.tk_engine_claim.specs.Claims.{ClaimName, Claimant, fresh}
-use Rattle.tk_queue.specs.Ends.{fresh_senders}
+use Rattle.tk_queue.specs.Senders.{fresh_senders}
 use Rattle.tk_engine_runs.specs.Run.{Emits}
 use Rattle.tk_engine_execute.specs.declared.workers.WorkerHandles.{WorkerHandles}
 use Rattle.tk_engine_execute.specs.declared.workers.Outcome.{Outcome}

@@ -2,7 +2,8 @@
 ghost use Rattle.std.specs.Prelude.{◌≡◌, None, Some, Ok, IfOk, IfErr, OnOk, OnErr};
 ghost use Rattle.tk_engine_execute.specs.FaultTexts.{sink_fault_text};
 ghost use Rattle.tk_engine_execute.specs.Sinks.{IsSendCause, IsRegisterCause};
-ghost use Rattle.tk_queue.specs.Ends.{SenderView, sends, refusal_of, IsRegisteredAs};
+ghost use Rattle.tk_queue.specs.Senders.{SenderView, sends, refusal_of};
+ghost use Rattle.tk_queue.specs.Registering.{IsRegisteredAs};
 
 use std::error::Error;
 use std::fmt;
@@ -70,7 +71,8 @@ pub trait Sink {
     ) -> Result<u32, SinkFault>
         ensures ok { IfOk result (λ key.
             IsRegisteredAs (meaning self.old) (meaning self.new)
-            parent segment.now name.now dtype stamp (Ok key)) }
+            (record { parent = parent; segment = segment.now; name = name.now; dtype = dtype;
+            stamp = stamp }) (Ok key)) }
         ensures err { OnErr result (meaning self.new ≡ meaning self.old) };
 }
 
@@ -99,10 +101,14 @@ impl Sink for Sender {
         stamp: u64,
     ) -> Result<u32, SinkFault>
         ensures ok { IfOk result (λ key.
-            IsRegisteredAs self.old self.new parent segment.now name.now dtype stamp (Ok key)) }
+            IsRegisteredAs self.old self.new
+            (record { parent = parent; segment = segment.now; name = name.now; dtype = dtype;
+            stamp = stamp }) (Ok key)) }
         ensures err { OnErr result (self.new ≡ self.old) }
         ensures cause { IfErr result
-            (IsRegisterCause self.old self.new parent segment.now name.now dtype stamp) }
+            (IsRegisterCause self.old self.new
+            (record { parent = parent; segment = segment.now; name = name.now; dtype = dtype;
+            stamp = stamp })) }
     {
         match Sender::register(self, rt, parent, segment, name, dtype, stamp) {
             Ok(key) => Ok(key),

@@ -1,7 +1,7 @@
 //! A worker: it draws units and runs them until none is left, or one fails.
 ghost use Rattle.std.specs.Prelude.{◌≡◌, ◌<◌, List, [], ◌++◌, None, Some, true, IfNone, IfSome, IfOk, IfErr, OnOk, OnErr};
 ghost use Rattle.tk_events.specs.declared.events.Event.{Event};
-ghost use Rattle.tk_queue.specs.Known.{registrations};
+ghost use Rattle.tk_queue.specs.Emission.{registrations};
 ghost use Rattle.tk_engine_runs.specs.Run.{Emits};
 ghost use Rattle.tk_engine_execute.specs.Engines.{IsSame};
 ghost use Rattle.tk_engine_execute.specs.Workers.{IsReady, IsDone, IsStopped};

@@ -5,7 +5,7 @@ use Rattle.tk_events.specs.declared.events.Event.{Event}
 use Rattle.tk_events.specs.Registration.{registered_key}
 use Rattle.tk_record_columns.specs.Recorded.{Recorded}
 use Rattle.tk_record_columns.specs.Entries.{desc}
-use Rattle.tk_queue.specs.Known.{registrations, entries_by}
+use Rattle.tk_queue.specs.Emission.{registrations, entries_by}
 use Rattle.tk_plan_units.specs.declared.nodes.NumberedNode.{NumberedNode}
 use Rattle.tk_plan_units.specs.declared.steps.Step.{Step}
 use Rattle.tk_plan_units.specs.Trees.{Forest, forest}

@@ -7,8 +7,12 @@ use Rattle.std.proofs.lemmas.List.Sums.{sum_by-cons}
 use Rattle.tk_record_columns.specs.Mixing.{IsWorkerOf, Mix}
 use Rattle.tk_queue_core.specs.Limits.{most_workers, worker_slots}
 use Rattle.tk_queue_core.specs.Core.{Core, IsCore, worker_of, items_of, entry, entries, script}
-use Rattle.tk_queue.specs.Session.{Stands, Concludes, receiver}
-use Rattle.tk_queue.specs.Ends.{Least, SenderView, lists, tokens_of, token_of, is_marked, is_mark_of}
+use Rattle.tk_queue.specs.SessionRule.{Stands, Concludes}
+use Rattle.tk_queue.specs.PassViews.{pass_of_receiver}
+use Rattle.tk_queue.specs.Closing.{Least}
+use Rattle.tk_queue.specs.Senders.{SenderView}
+use Rattle.tk_queue.specs.Tokens.{sent_by, tokens_of, pass_of_token}
+use Rattle.tk_queue.specs.Receivers.{is_marked, is_mark_of}
 use Rattle.tk_events.specs.declared.events.Event.{Event}
 use Rattle.tk_queue_core.specs.declared.items.Item.{Item}
 use Rattle.tk_queue_core.specs.declared.items.Item.TheVariants.{Entry as Emitted, End}
@@ -52,11 +56,11 @@ marks_whole n marked taken few marks none w is = let at_most : w ≤ n = is.1 in
 
 -- ---- what the receiver knows once it took in all tokens
 
-same_if : (w : ℕ) (t : SenderView) (ts : List SenderView) → t.worker ≡ w → lists (t ∷ ts) w ≡ t.sent
-same_if w t ts e = ap (λ (b : Bool). if b then t.sent else lists ts w) (eq-eqb t.worker w e)
+same_if : (w : ℕ) (t : SenderView) (ts : List SenderView) → t.worker ≡ w → sent_by (t ∷ ts) w ≡ t.sent
+same_if w t ts e = ap (λ (b : Bool). if b then t.sent else sent_by ts w) (eq-eqb t.worker w e)
 
-other_if : (w : ℕ) (t : SenderView) (ts : List SenderView) → t.worker ≢ w → lists (t ∷ ts) w ≡ lists ts w
-other_if w t ts n = ap (λ (b : Bool). if b then t.sent else lists ts w) (ne_eqb t.worker w n)
+other_if : (w : ℕ) (t : SenderView) (ts : List SenderView) → t.worker ≢ w → sent_by (t ∷ ts) w ≡ sent_by ts w
+other_if w t ts n = ap (λ (b : Bool). if b then t.sent else sent_by ts w) (ne_eqb t.worker w n)
 
 other_count : (w : ℕ) (t : SenderView) (ts : List SenderView) → t.worker ≢ w → tokens_of w (t ∷ ts) ≡ tokens_of w ts
 other_count w t ts n = sum_by-cons (λ (u : SenderView). if u.worker == w then 1 else 0) t ts ∙ ap (λ (b : Bool). (if b then 1 else 0) + tokens_of w ts) (ne_eqb t.worker w n) ∙ zero_plus (tokens_of w ts) where
@@ -64,14 +68,14 @@ other_count w t ts n = sum_by-cons (λ (u : SenderView). if u.worker == w then 1
   zero_plus k = omega arith
 
 -- a token of w has what w sent, and w has ended
-found : (c : Core) (w : ℕ) (tokens : List SenderView) → All (Stands c) (map token_of tokens) → 0 < tokens_of w tokens → (c.ended w ≡ true) × (lists tokens w ≡ c.sent w)
+found : (c : Core) (w : ℕ) (tokens : List SenderView) → All (Stands c) (map pass_of_token tokens) → 0 < tokens_of w tokens → (c.ended w ≡ true) × (sent_by tokens w ≡ c.sent w)
 found c w [] all some = absurd (omega arith)
 found c w (t ∷ ts) all some = ⊎_elim
     (λ (e : t.worker ≡ w).
-    let head = All-head (Stands c) (token_of t) (map token_of ts) all in
+    let head = All-head (Stands c) (pass_of_token t) (map pass_of_token ts) all in
     (ap c.ended (sym e) ∙ head.0, same_if w t ts e ∙ head.1 ∙ ap c.sent e))
     (λ (n : t.worker ≢ w).
-    let rest = found c w ts (All-tail (Stands c) (token_of t) (map token_of ts) all) (subst (λ k. 0 < k) (other_count w t ts n) some) in
+    let rest = found c w ts (All-tail (Stands c) (pass_of_token t) (map pass_of_token ts) all) (subst (λ k. 0 < k) (other_count w t ts n) some) in
     (rest.0, other_if w t ts n ∙ rest.1))
     (cases_eq t.worker w)
 
@@ -113,11 +117,11 @@ all_workers n c k before (Emitted e ∷ xs) whole =
     (all_workers n c k (before ++ Emitted e ∷ []) xs (whole ∙ sym (append_assoc before (Emitted e ∷ []) xs)))
 all_workers n c k before (End w ∷ xs) whole = all_workers n c k (before ++ End w ∷ []) xs (whole ∙ sym (append_assoc before (End w ∷ []) xs))
 
--- where each worker has a token and its mark was taken, what was taken mixes the tokens' lists
-pub mixes : (known n : ℕ) (taken : List Item) (tokens : List SenderView) (items : List Item)
+-- where each worker has a token and its mark was taken, what was taken mixes the tokens' sent_by
+pub mixes : (statics n : ℕ) (taken : List Item) (tokens : List SenderView) (items : List Item)
     → ((w : ℕ) → IsWorkerOf n w → tokens_of w tokens ≡ 1) → ((w : ℕ) → IsWorkerOf n w → is_marked w taken ≡ true)
-    → Concludes (receiver known n taken (map token_of tokens)) items → Mix n (entries taken) (lists tokens)
-mixes known n taken tokens items once drained concludes =
+    → Concludes (pass_of_receiver statics n taken (map pass_of_token tokens)) items → Mix n (entries taken) (sent_by tokens)
+mixes statics n taken tokens items once drained concludes =
     let c = concludes.0 in
     let k = concludes.1 in
     let same : c.taken ≡ taken = concludes.3 in record {

@@ -25,13 +25,15 @@ use Rattle.tk_queue_core.specs.declared.items.Item.{Item}
 use Rattle.tk_queue_core.specs.declared.items.Item.TheVariants.{Entry as Emitted, End}
 use Rattle.tk_queue_core.specs.Core.{worker_of, entry, entries}
 use Rattle.tk_queue_core.proofs.CoreSteps.{filter-append}
-use Rattle.tk_queue.specs.declared.senders.SendFault.TheVariants as unsent
+use Rattle.tk_queue.specs.declared.sender_faults.SendFault.TheVariants as unsent
 use Rattle.tk_queue.specs.declared.session_rules.PassView.{PassView}
 use Rattle.tk_queue.specs.Limits.{most_events}
-use Rattle.tk_queue.specs.Known.{MayEmit, is_dynamic, is_plain, registrations, entry_by, entries_by, is_known_after}
-use Rattle.tk_queue.specs.Session.{sender, receiver, pushed, popped, Pops, MayTake, MayPush}
-use Rattle.tk_queue.specs.Session.{Follows as FollowsAmong}
-use Rattle.tk_queue.specs.Ends.{SenderView, fresh_senders, knows, refusal_of, HasRoom, IsNew, IsChildMade, id_registered, IsSender, IsReceiver, IsRecordable, MayFollow, sent_of, taken_of, is_marked, is_mark_of}
+use Rattle.tk_queue.specs.Emission.{MayEmit, is_dynamic, is_plain, registrations, entry_by, entries_by, is_known_after}
+use Rattle.tk_queue.specs.PassViews.{pass_of_sender, pass_of_receiver, pushed, popped, Pops, MayTake, MayPush}
+use Rattle.tk_queue.specs.PassViews.{MayBeEmittedNext}
+use Rattle.tk_queue.specs.Senders.{SenderView, fresh_senders, knows, refusal_of, id_registered, IsSender, sent_of}
+use Rattle.tk_queue.specs.Registering.{HasRoom, IsNew, IsChildMade}
+use Rattle.tk_queue.specs.Receivers.{IsReceiver, IsRecordable, MayFollow, taken_of, is_marked, is_mark_of}
 use Rattle.tk_queue.proofs.KnownKeys.{emission_none, emission_more, some_desc, known_after, own_entries, some_among, registers_among}
 
 -- ---- a sender
@@ -40,7 +42,7 @@ none_either : (b : Bool) → cond {A = Option (List Pair)} b None None ≡ None
 none_either true = refl
 none_either false = refl
 
-pub sender_fresh : (v : PassView) (table : List Descriptor) (worker : ℕ) → v ≡ sender (length table) worker [] false → 0 < worker → worker ≤ most_workers → IsSender v table worker [] 0
+pub sender_fresh : (v : PassView) (table : List Descriptor) (worker : ℕ) → v ≡ pass_of_sender (length table) worker [] false → 0 < worker → worker ≤ most_workers → IsSender v table worker [] 0
 sender_fresh v table worker e low high =
     subst (λ u. IsSender u table worker [] 0) (sym e) (record {
       is = refl;
@@ -88,7 +90,7 @@ keeps : (v w : PassView) (table : List Descriptor) (worker emitted : ℕ) (ids l
     → length later ≡ length ids + weight e → length later ≤ MAX_DESCRIPTORS → IsSender w table worker later (emitted + 1)
 keeps v w table worker emitted ids later e h moved may room leads longer fits =
     let es = sent_of v in
-    let now : w ≡ sender (length table) worker (es ++ e ∷ []) false = moved ∙ ap (λ u. pushed u (entry worker e)) h.is in
+    let now : w ≡ pass_of_sender (length table) worker (es ++ e ∷ []) false = moved ∙ ap (λ u. pushed u (entry worker e)) h.is in
     let counted : emitted + 1 ≡ length (es ++ e ∷ []) = let n = h.counted in omega (arith, length-append es (e ∷ [])) in
     let number : length later ≡ registrations (es ++ e ∷ []) = let n = h.number in let k = registrations-more es e in omega arith in
     let short : length es < most_events = subst (λ k. k < most_events) h.counted room in
@@ -272,10 +274,10 @@ may_push_registration v table worker emitted key stamp ids d h is room few =
     may_push v table worker emitted ids (record { kind = Dynamic; key = key; stamp = stamp; payload = Described d }) h (registration_may v table worker emitted key stamp ids d h is few) room
 
 -- what `child` says of the sender's fields
-pub made_may : (t : TableId) (v : PassView) (table : List Descriptor) (worker emitted : ℕ) (ids : List (List Pair)) (s : SenderView) (parent : ℕ) (segment : Pair) (name : List ℕ) (dtype : DType) (made : List Pair × Descriptor)
-    → IsSender v table worker ids emitted → record { session = t; table = table; worker = worker; sent = sent_of v } ≡ s → IsChildMade s parent segment name dtype (Ok made)
+pub made_may : (t : TableId) (v : PassView) (table : List Descriptor) (worker emitted : ℕ) (ids : List (List Pair)) (s : SenderView) (parent : ℕ) (below : Descriptor → Descriptor) (made : List Pair × Descriptor)
+    → IsSender v table worker ids emitted → record { session = t; table = table; worker = worker; sent = sent_of v } ≡ s → IsChildMade s parent below (Ok made)
     → (emitted < most_events) × (length ids < MAX_DESCRIPTORS) × (made.0 ≡ made.1.id)
-made_may t v table worker emitted ids s parent segment name dtype made h is ok =
+made_may t v table worker emitted ids s parent below made h is ok =
     let room : HasRoom (record { session = t; table = table; worker = worker; sent = sent_of v }) = subst HasRoom (sym is) ok.2 in
     let few = room.0 in let own_few = room.1 in let n = h.counted in let k = h.number in
     (omega arith, omega arith, ok.4 ∙ sym (ap (λ (d : Descriptor). d.id) ok.5))
@@ -316,7 +318,7 @@ or_true : (b : Bool) → (b || true) ≡ true
 or_true true = refl
 or_true false = refl
 
-pub receiver_fresh : (v : PassView) (table : List Descriptor) (workers : ℕ) (marked : List Bool) → v ≡ receiver (length table) workers [] [] → workers ≤ most_workers → length marked ≡ worker_slots
+pub receiver_fresh : (v : PassView) (table : List Descriptor) (workers : ℕ) (marked : List Bool) → v ≡ pass_of_receiver (length table) workers [] [] → workers ≤ most_workers → length marked ≡ worker_slots
     → ((w : ℕ) → w < worker_slots → slice_index_or marked w false ≡ false) → IsReceiver v table workers marked
 receiver_fresh v table workers marked e few long none = subst (λ u. IsReceiver u table workers marked) (sym e) (record {
   is = refl;
@@ -325,10 +327,10 @@ receiver_fresh v table workers marked e few long none = subst (λ u. IsReceiver 
   marks = none;
 })
 
-taken_now : (v w : PassView) (table : List Descriptor) (workers : ℕ) (marked : List Bool) (x : Item) → IsReceiver v table workers marked → Pops v x w → w ≡ receiver (length table) workers (taken_of v ++ x ∷ []) []
+taken_now : (v w : PassView) (table : List Descriptor) (workers : ℕ) (marked : List Bool) (x : Item) → IsReceiver v table workers marked → Pops v x w → w ≡ pass_of_receiver (length table) workers (taken_of v ++ x ∷ []) []
 taken_now v w table workers marked x h p = p.0 ∙ ap (λ u. popped u x) h.is
 
-pub follows_now : (v w : PassView) (table : List Descriptor) (workers : ℕ) (marked : List Bool) (x : Item) → IsReceiver v table workers marked → Pops v x w → IsWorkerOf workers (worker_of x) × FollowsAmong (length table) (taken_of v) x
+pub follows_now : (v w : PassView) (table : List Descriptor) (workers : ℕ) (marked : List Bool) (x : Item) → IsReceiver v table workers marked → Pops v x w → IsWorkerOf workers (worker_of x) × MayBeEmittedNext (length table) (taken_of v) x
 follows_now v w table workers marked x h p = subst (λ u. MayTake u x) h.is p.1
 
 pub takes_entry : (v w : PassView) (table : List Descriptor) (workers : ℕ) (marked : List Bool) (e : Entry) → IsReceiver v table workers marked → Pops v (Emitted e) w → IsReceiver w table workers marked
@@ -391,7 +393,7 @@ known_among n es e h =
     by_kind false h = or_mono (nat_lt e.event.key n) (is_some (desc_in mine e.event.key)) (is_some (desc_in es e.event.key)) (some_among (λ x. x.worker == e.worker) es e.event.key) h
 
 -- what the rule says of an entry that is taken, by the record of those taken before
-pub follows_recorded : (table : List Descriptor) (taken : List Item) (e : Entry) → FollowsAmong (length table) taken (Emitted e) → MayFollow table (entries taken) e
+pub follows_recorded : (table : List Descriptor) (taken : List Item) (e : Entry) → MayBeEmittedNext (length table) taken (Emitted e) → MayFollow table (entries taken) e
 follows_recorded table taken e f = record {
   lawful = f.0.lawful;
   known = known_after table (entries taken) e ∙ known_among (length table) (entries taken) e f.0.known;

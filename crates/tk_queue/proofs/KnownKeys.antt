@@ -13,7 +13,7 @@ use Rattle.tk_record_columns.specs.Entries.{of_kind, registers, registered, desc
 use Rattle.tk_record_columns.specs.Record.{is_next, is_known}
 use Rattle.tk_record_columns.specs.Mixing.{of_worker}
 use Rattle.tk_queue.specs.Limits.{most_events}
-use Rattle.tk_queue.specs.Known.{entry_by, entries_by, is_known_after, MayEmit, Emission}
+use Rattle.tk_queue.specs.Emission.{entry_by, entries_by, is_known_after, MayEmit, Emission}
 
 -- where a list with one more at its end is cut: at the end, or before it
 pub cut_snoc : (xs : List Event) (x : Event) (before : List Event) (e : Event) (after : List Event) → xs ++ x ∷ [] ≡ before ++ e ∷ after

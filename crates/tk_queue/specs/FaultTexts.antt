@@ -1,10 +1,10 @@
 -- The texts of the faults.
 use Rattle.std.specs.Prelude.{ℕ, List, codes}
 use Rattle.tk_ids.specs.FaultTexts.{id_fault_text}
-use Rattle.tk_queue.specs.declared.senders.SendFault.{SendFault}
-use Rattle.tk_queue.specs.declared.senders.SendFault.TheVariants as sends
-use Rattle.tk_queue.specs.declared.senders.RegisterFault.{RegisterFault}
-use Rattle.tk_queue.specs.declared.senders.RegisterFault.TheVariants as registers
+use Rattle.tk_queue.specs.declared.sender_faults.SendFault.{SendFault}
+use Rattle.tk_queue.specs.declared.sender_faults.SendFault.TheVariants as sends
+use Rattle.tk_queue.specs.declared.sender_faults.RegisterFault.{RegisterFault}
+use Rattle.tk_queue.specs.declared.sender_faults.RegisterFault.TheVariants as registers
 use Rattle.tk_queue.specs.declared.sessions.OpenFault.{OpenFault}
 use Rattle.tk_queue.specs.declared.sessions.OpenFault.TheVariants as opens
 
@@ -22,5 +22,5 @@ register_fault_text registers.Memory = codes "out of memory"
 
 abbrev pub open_fault_text : OpenFault → List ℕ
 open_fault_text opens.Workers = codes "workers must be 1 to 15"
-open_fault_text opens.Capacity = codes "places must be 1 to 1024"
+open_fault_text opens.Capacity = codes "capacity must be 1 to 1024"
 open_fault_text opens.Memory = codes "out of memory"

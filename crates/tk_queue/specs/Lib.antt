@@ -5,9 +5,14 @@ pub use Rattle.tk_queue_core.specs.Laws
 pub use Rattle.tk_queue_core.specs.Script
 pub use Rattle.tk_queue_core.specs.ReplayText
 pub mod Limits
-pub mod Known
-pub mod Session
-pub mod Ends
+pub mod Emission
+pub mod PassViews
+pub mod SessionRule
+pub mod Senders
+pub mod Registering
+pub mod Tokens
+pub mod Receivers
+pub mod Closing
 pub mod Steps
 pub mod Recording
 pub mod FaultTexts

@@ -5,7 +5,7 @@ use Rattle.tk_events.specs.declared.events.Entry.{Entry}
 use Rattle.tk_record_columns.specs.Record.{fault_of}
 use Rattle.tk_record_columns.specs.Mixing.{IsWorkerOf}
 use Rattle.tk_queue.specs.Limits.{most_events}
-use Rattle.tk_queue.specs.Ends.{MayFollow, IsRecordable}
+use Rattle.tk_queue.specs.Receivers.{MayFollow, IsRecordable}
 
 -- After the entries that were taken, and at most `most_events` of worker 0 before them, a record
 -- has no fault to find with the entry that is taken next

@@ -6,7 +6,8 @@ use lib.ListN.{get_elem?}
 use Rattle.tk_queue_core.specs.declared.items.Item.{Item}
 use Rattle.tk_queue_core.specs.Core.{Core, push, take_first}
 use Rattle.tk_queue.specs.declared.session_rules.PassView.{PassView}
-use Rattle.tk_queue.specs.Session.{Session, MayPush, MayTakeIn, IsReader, IsFirst}
+use Rattle.tk_queue.specs.SessionRule.{Session}
+use Rattle.tk_queue.specs.PassViews.{MayPush, MayTakeIn, IsReader, IsFirst}
 
 -- the core's state that a queue with these items shows, where its passes know this
 abbrev pub IsStateOf : Core → List Item → List PassView → Type 0

@@ -13,7 +13,7 @@ use tk_queue_core::Item;
 
 /// What a session's queue holds and what its passes know is a state of the core between any two
 /// steps, and each step is the core's or none.
-pub fn each_step_is_of_the_core()
+pub fn each_step_is_a_core_step()
     ensures rule { HoldsStates ⟦<SessionRule as Protocol<Item, PassView>>⟧.holds }
     ensures first { BeginsFresh ⟦<SessionRule as Protocol<Item, PassView>>⟧.first }
     ensures push { PushIsStep ⟦<SenderPush as Outcome<Item, PassView>>⟧.then }

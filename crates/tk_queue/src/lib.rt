@@ -5,6 +5,7 @@ pub mod laws;
 mod limits;
 mod pushes;
 mod receivers;
+mod sender_faults;
 mod senders;
 mod session_rules;
 mod sessions;
@@ -12,7 +13,8 @@ mod tokens;
 
 pub use limits::MAX_CAPACITY;
 pub use receivers::{CloseFault, CloseReason, Closed, Receiver};
-pub use senders::{Ended, RegisterFault, SendFault, Sender};
+pub use sender_faults::{RegisterFault, SendFault};
+pub use senders::{Ended, Sender};
 pub use sessions::{OpenFault, open};
 pub use tk_limits::MAX_EVENTS;
 pub use tk_queue_core::{Core, CoreFault, Item, ReplayFault, Replayed, Turn, replay, replay_text};

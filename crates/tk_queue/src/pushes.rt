@@ -1,7 +1,7 @@
 //! A sender's pushes: one try, and one that waits for room.
 ghost use Rattle.std.specs.Prelude.{◌≡◌, MatchResult};
 ghost use Rattle.crossbeam_queue.specs.Passes.{view, IsPassOf, IsSamePass};
-ghost use Rattle.tk_queue.specs.Session.{MayPush, pushed};
+ghost use Rattle.tk_queue.specs.PassViews.{MayPush, pushed};
 
 use crate::session_rules::{EventQueue, QueuePass, SenderPush};
 use crossbeam_utils::Backoff;

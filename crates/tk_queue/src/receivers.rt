@@ -4,13 +4,17 @@ ghost use Rattle.std.specs.Arc.{arc_value};
 ghost use Rattle.crossbeam_queue.specs.Passes.{view, IsPassOf};
 ghost use Rattle.tk_record_columns.specs.Mixing.{IsWorkerOf, Mix};
 ghost use Rattle.tk_queue_core.specs.Core.{worker_of, entries};
-ghost use Rattle.tk_queue.specs.Session.{receiver};
-ghost use Rattle.tk_queue.specs.Ends.{fresh_receiver, takes, Follows, IsRecordable, lists, IsComplete};
+ghost use Rattle.tk_queue.specs.PassViews.{pass_of_receiver};
+ghost use Rattle.tk_queue.specs.Receivers.{fresh_receiver, takes, MayBeTaken, IsRecordable};
+ghost use Rattle.tk_queue.specs.Tokens.{sent_by};
+ghost use Rattle.tk_queue.specs.Closing.{IsComplete};
 
 use crate::limits::WORKER_SLOTS;
 use crate::senders::Ended;
 use crate::session_rules::{AllSent, EventQueue, JoinSender, QueuePass, ReceiverPop};
-use crate::tokens::{counts, missing, not_drained, twice};
+use crate::tokens::{
+    emitted_by_worker, first_undrained, first_with_two_tokens, first_without_token,
+};
 use std::alloc::Global;
 use std::marker::Model;
 use std::sync::{Arc, Wait};
@@ -34,7 +38,7 @@ impl Model for Receiver {
     ghost use Rattle.std.specs.Prelude.{◌≡◌};
     ghost use Rattle.std.specs.Arc.{arc_value};
     ghost use Rattle.crossbeam_queue.specs.Passes.{view as seen, IsPassOf};
-    ghost use Rattle.tk_queue.specs.Ends.{ReceiverView, IsReceiver, taken_of};
+    ghost use Rattle.tk_queue.specs.Receivers.{ReceiverView, IsReceiver, taken_of};
 
     ghost Value = { ReceiverView };
 
@@ -103,7 +107,7 @@ impl Closed {
 }
 
 impl Receiver {
-    ghost use Rattle.tk_queue.specs.Ends.{IsFault};
+    ghost use Rattle.tk_queue.specs.Closing.{IsCloseFault};
 
     pub(crate) fn with_pass(
         queue: Arc<EventQueue, Global>,
@@ -112,7 +116,7 @@ impl Receiver {
         workers: u8,
     ) -> Receiver
         requires queue { IsPassOf (arc_value queue) pass }
-        requires fresh { view pass ≡ receiver (length (arc_value table)) workers [] [] }
+        requires fresh { view pass ≡ pass_of_receiver (length (arc_value table)) workers [] [] }
         requires few { workers ≤ MAX_WORKERS }
         ensures { result ≡ fresh_receiver pass.table_id (arc_value table) workers }
     {
@@ -130,7 +134,7 @@ impl Receiver {
     pub fn take<R: Wait>(&mut self, rt: &R) -> Option<Item>
         ensures some { IfSome result (λ item. self.new ≡ takes self.old item) }
         ensures worker { IfSome result (λ item. IsWorkerOf self.old.workers (worker_of item)) }
-        ensures follows { IfSome result (λ item. Follows self.old item) }
+        ensures follows { IfSome result (λ item. MayBeTaken self.old item) }
         ensures recordable { IsRecordable self.new.workers (entries self.new.taken) }
         ensures none { IfNone result (self.new ≡ self.old) }
     {
@@ -145,17 +149,17 @@ impl Receiver {
     }
 
     /// The first reason not to close the session with these tokens.
-    fn reason(&self, ended: &[Ended]) -> Option<CloseReason>
+    fn why_not_closed(&self, ended: &[Ended]) -> Option<CloseReason>
         ensures ok { IfNone result (IsComplete self.now ended.now) }
-        ensures fault { IfSome result (λ why. IsFault why self.now ended.now) }
+        ensures fault { IfSome result (λ why. IsCloseFault why self.now ended.now) }
     {
-        if let Some(worker) = missing(ended, self.workers) {
+        if let Some(worker) = first_without_token(ended, self.workers) {
             return Some(CloseReason::Missing(worker));
         }
-        if let Some(worker) = twice(ended, self.workers) {
+        if let Some(worker) = first_with_two_tokens(ended, self.workers) {
             return Some(CloseReason::Twice(worker));
         }
-        let worker = not_drained(&self.marked, self.workers)?;
+        let worker = first_undrained(&self.marked, self.workers)?;
         Some(CloseReason::NotDrained(worker))
     }
 
@@ -163,12 +167,12 @@ impl Receiver {
     fn join(self, ended: Vec<Ended>) -> Closed
         requires session { All (λ token. token.session ≡ self.session) ended.items }
         requires complete { IsComplete self ended.items }
-        ensures mix { Mix self.workers (entries self.taken) (lists ended.items) }
+        ensures mix { Mix self.workers (entries self.taken) (sent_by ended.items) }
         ensures each { (w : ℕ) → IsWorkerOf self.workers w
-            → slice_index result w ≡ length (lists ended.items w) }
+            → slice_index result w ≡ length (sent_by ended.items w) }
         ensures others { (w : ℕ) → ¬ IsWorkerOf self.workers w → slice_index result w ≡ 0 }
     {
-        let emitted = counts(&ended, self.workers);
+        let emitted = emitted_by_worker(&ended, self.workers);
         let Receiver {
             queue,
             mut pass,
@@ -194,16 +198,16 @@ impl Receiver {
     pub fn close(self, ended: Vec<Ended>) -> Result<Closed, CloseFault>
         requires { All (λ token. token.session ≡ self.session) ended.items }
         ensures complete { OnOk result (IsComplete self ended.items) }
-        ensures mix { OnOk result (Mix self.workers (entries self.taken) (lists ended.items)) }
+        ensures mix { OnOk result (Mix self.workers (entries self.taken) (sent_by ended.items)) }
         ensures each { IfOk result (λ closed. (w : ℕ) → IsWorkerOf self.workers w
-            → slice_index closed w ≡ length (lists ended.items w)) }
+            → slice_index closed w ≡ length (sent_by ended.items w)) }
         ensures others { IfOk result (λ closed.
             (w : ℕ) → ¬ IsWorkerOf self.workers w → slice_index closed w ≡ 0) }
-        ensures fault { IfErr result (λ fault. IsFault fault.why self ended.items) }
+        ensures fault { IfErr result (λ fault. IsCloseFault fault.why self ended.items) }
         ensures back { IfErr result (λ fault.
             (fault.receiver ≡ self) × (fault.ended.items ≡ ended.items)) }
     {
-        if let Some(why) = self.reason(&ended) {
+        if let Some(why) = self.why_not_closed(&ended) {
             return Err(CloseFault {
                 why,
                 receiver: self,

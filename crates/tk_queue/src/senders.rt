@@ -3,98 +3,21 @@ ghost use Rattle.std.specs.Prelude.{◌≡◌, ◌⊎◌, ◌<◌, ◌≤◌, []
 ghost use Rattle.std.specs.Arc.{arc_value};
 ghost use Rattle.std.specs.Option.{option_copied};
 ghost use Rattle.tk_record_columns.specs.Entries.{desc};
-ghost use Rattle.tk_queue.specs.Known.{is_plain, registrations};
+ghost use Rattle.tk_queue.specs.Emission.{is_plain, registrations};
 ghost use Rattle.tk_events.specs.Registration.{registered_key};
-ghost use Rattle.tk_queue.specs.FaultTexts.{register_fault_text, send_fault_text};
-ghost use Rattle.tk_queue.specs.Ends.{own, knows, sends, refusal_of, HasRoom, IsNew, IsChildMade, IsRegisteredAs};
+ghost use Rattle.tk_queue.specs.Senders.{record_of_sender, knows, sends, refusal_of};
+ghost use Rattle.tk_queue.specs.Registering.{HasRoom, IsNew, child, IsChildMade, IsRegisteredAs};
 
 use crate::pushes::{push, try_push};
+use crate::sender_faults::{RegisterFault, SendFault};
 use crate::session_rules::{EventQueue, QueuePass};
-use std::alloc::{AllocError, AllocFailed, Global};
-use std::error::Error;
-use std::fmt;
+use std::alloc::Global;
 use std::marker::Model;
 use std::sync::{Arc, Wait};
 use tk_events::{Entry, Event, Kind, MAX_WORKERS, Payload, registered_key};
 use tk_ids::{DType, Descriptor, IdFault, MAX_DESCRIPTORS, Segment, Table, Text, UniqueId};
 use tk_limits::MAX_EVENTS;
 use tk_queue_core::Item;
-
-/// Why an event was not sent. Each variant has the event.
-#[derive(Debug, Drop)]
-pub enum SendFault {
-    /// The event's key is neither a static descriptor's nor one that this sender registered.
-    UnknownNode(Event),
-    /// The event isn't lawful, or it is a registration.
-    Unlawful(Event),
-    /// The sender has emitted `MAX_EVENTS` events.
-    Limit(Event),
-    /// The queue held as many items as it may. Only `try_send` answers this.
-    Full(Event),
-}
-
-impl fmt::Display for SendFault {
-    ghost output = { λ fault. Some (send_fault_text fault) };
-
-    fn fmt<W: fmt::Write>(&self, f: &mut fmt::Formatter<W>) -> fmt::Result {
-        match self {
-            SendFault::UnknownNode(_) => f.write_str("event has an unknown key"),
-            SendFault::Unlawful(_) => f.write_str("event is unlawful"),
-            SendFault::Limit(_) => f.write_str("event is one too many"),
-            SendFault::Full(_) => f.write_str("queue is full"),
-        }
-    }
-}
-
-impl Error for SendFault {}
-
-/// Why a descriptor was not registered.
-#[derive(Clone, Copy, Debug, PartialEq, Eq)]
-pub enum RegisterFault {
-    /// The parent's key is neither a static descriptor's nor one that this sender registered.
-    UnknownNode,
-    /// The sender has emitted `MAX_EVENTS` events, or registered `MAX_DESCRIPTORS` descriptors.
-    Limit,
-    /// The parent's id can't have this segment appended.
-    Id(IdFault),
-    /// A request for memory was refused.
-    Memory,
-}
-
-impl fmt::Display for RegisterFault {
-    ghost output = { λ fault. Some (register_fault_text fault) };
-
-    fn fmt<W: fmt::Write>(&self, f: &mut fmt::Formatter<W>) -> fmt::Result {
-        match self {
-            RegisterFault::UnknownNode => f.write_str("parent has an unknown key"),
-            RegisterFault::Limit => f.write_str("registration is one too many"),
-            RegisterFault::Id(fault) => write!(f, "{fault}"),
-            RegisterFault::Memory => f.write_str("out of memory"),
-        }
-    }
-}
-
-impl Error for RegisterFault {}
-
-impl<T: Drop> From<AllocFailed<T>> for RegisterFault {
-    ghost use Rattle.tk_queue.specs.declared.senders.RegisterFault.TheVariants.{Memory};
-
-    ghost from_gives = { λ _ e. e ≡ Memory };
-
-    fn from(_: AllocFailed<T>) -> RegisterFault {
-        RegisterFault::Memory
-    }
-}
-
-impl From<AllocError> for RegisterFault {
-    ghost use Rattle.tk_queue.specs.declared.senders.RegisterFault.TheVariants.{Memory};
-
-    ghost from_gives = { λ _ e. e ≡ Memory };
-
-    fn from(_: AllocError) -> RegisterFault {
-        RegisterFault::Memory
-    }
-}
 
 /// Emits the events of one worker of a session.
 ///
@@ -115,7 +38,7 @@ impl Model for Sender {
     ghost use Rattle.std.specs.Prelude.{◌≡◌, length};
     ghost use Rattle.std.specs.Arc.{arc_value};
     ghost use Rattle.crossbeam_queue.specs.Passes.{view as seen, IsPassOf};
-    ghost use Rattle.tk_queue.specs.Ends.{SenderView, IsSender, sent_of};
+    ghost use Rattle.tk_queue.specs.Senders.{SenderView, IsSender, sent_of};
 
     ghost Value = { SenderView };
 
@@ -145,7 +68,8 @@ impl Model for Ended {
     ghost use Rattle.std.specs.Prelude.{◌≡◌, [], length};
     ghost use Rattle.std.specs.Arc.{arc_value};
     ghost use Rattle.crossbeam_queue.specs.Passes.{view as seen};
-    ghost use Rattle.tk_queue.specs.Ends.{SenderView, IsEnded, sent_of};
+    ghost use Rattle.tk_queue.specs.Senders.{SenderView, sent_of};
+    ghost use Rattle.tk_queue.specs.Tokens.{IsEnded};
 
     ghost Value = { SenderView };
 
@@ -163,7 +87,7 @@ impl Model for Ended {
 impl Sender {
     ghost use Rattle.std.specs.Prelude.{false};
     ghost use Rattle.crossbeam_queue.specs.Passes.{view, IsPassOf};
-    ghost use Rattle.tk_queue.specs.Session.{sender};
+    ghost use Rattle.tk_queue.specs.PassViews.{pass_of_sender};
 
     pub(crate) fn with_pass(
         alloc: Global,
@@ -173,7 +97,7 @@ impl Sender {
         worker: u8,
     ) -> Sender
         requires queue { IsPassOf (arc_value queue) pass }
-        requires fresh { view pass ≡ sender (length (arc_value table)) worker [] false }
+        requires fresh { view pass ≡ pass_of_sender (length (arc_value table)) worker [] false }
         requires worker { (0 < worker) × (worker ≤ MAX_WORKERS) }
         ensures { result ≡ record
             { session = pass.table_id; table = arc_value table; worker = worker; sent = [] } }
@@ -204,8 +128,8 @@ impl Sender {
     }
 
     // The id of the descriptor with this key, which is static or was registered by this sender.
-    fn node(&self, key: u32) -> Option<&UniqueId>
-        ensures { option_copied result ≡ option_map (λ d. d.id) (desc (own self.now) key) }
+    fn id_of(&self, key: u32) -> Option<&UniqueId>
+        ensures { option_copied result ≡ option_map (λ d. d.id) (desc (record_of_sender self.now) key) }
     {
         if let Some(descriptor) = self.table.get(key) {
             return Some(&descriptor.id);
@@ -221,7 +145,7 @@ impl Sender {
     fn knows(&self, key: u32) -> bool
         ensures { result ≡ knows self.now key }
     {
-        self.node(key).is_some()
+        self.id_of(key).is_some()
     }
 
     // Gives the event back where the sender may emit it now.
@@ -295,9 +219,9 @@ impl Sender {
         name: &str,
         dtype: DType,
     ) -> Result<(UniqueId, Descriptor), RegisterFault>
-        ensures { IsChildMade self.now parent segment.now name.now dtype result }
+        ensures { IsChildMade self.now parent (λ above. child above segment.now name.now dtype) result }
     {
-        let Some(above) = self.node(parent) else {
+        let Some(above) = self.id_of(parent) else {
             return Err(RegisterFault::UnknownNode);
         };
         if self.emitted >= MAX_EVENTS || self.registered.len() >= MAX_DESCRIPTORS {
@@ -341,7 +265,13 @@ impl Sender {
         dtype: DType,
         stamp: u64,
     ) -> Result<u32, RegisterFault>
-        ensures { IsRegisteredAs self.old self.new parent segment.now name.now dtype stamp result }
+        ensures { IsRegisteredAs self.old self.new (record {
+          parent = parent;
+          segment = segment.now;
+          name = name.now;
+          dtype = dtype;
+          stamp = stamp;
+        }) result }
     {
         let (id, descriptor) = self.child(parent, segment, name, dtype)?;
         let key = self.next_key();
@@ -395,7 +325,7 @@ fn is_plain(event: &Event) -> bool
 impl Ended {
     ghost use Rattle.std.specs.Prelude.{[], true};
     ghost use Rattle.crossbeam_queue.specs.Passes.{view};
-    ghost use Rattle.tk_queue.specs.Session.{sender};
+    ghost use Rattle.tk_queue.specs.PassViews.{pass_of_sender};
 
     /// The number of the worker.
     pub fn worker(&self) -> u8
@@ -413,7 +343,7 @@ impl Ended {
     pub(crate) fn into_pass(self) -> QueuePass
         ensures session { result.table_id ≡ self.session }
         ensures back { result.me.1 ≡ [] }
-        ensures known { view result ≡ sender (length self.table) self.worker self.sent true }
+        ensures known { view result ≡ pass_of_sender (length self.table) self.worker self.sent true }
     {
         self.pass
     }

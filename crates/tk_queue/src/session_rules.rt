@@ -9,7 +9,7 @@ use tk_queue_core::Item;
 /// What a sender's pass knows: the number of static descriptors, and its worker, what it sent and
 /// whether it ended. No value of it is made.
 pub struct SenderPass {
-    pub known: u32,
+    pub statics: u32,
     pub worker: u8,
     pub sent: LinkedList<Event>,
     pub ended: bool,
@@ -19,7 +19,7 @@ pub struct SenderPass {
 /// the items that it took, and what the senders whose tokens it took in had sent. No value of it is
 /// made.
 pub struct ReceiverPass {
-    pub known: u32,
+    pub statics: u32,
     pub workers: u8,
     pub taken: LinkedList<Item>,
     pub tokens: LinkedList<SenderPass>,
@@ -27,8 +27,8 @@ pub struct ReceiverPass {
 
 /// What a pass knows. No value of it is made.
 pub enum PassView {
-    Sender(SenderPass),
-    Receiver(ReceiverPass),
+    Sends(SenderPass),
+    Takes(ReceiverPass),
     Spent,
 }
 
@@ -36,7 +36,8 @@ pub enum PassView {
 pub struct SessionRule;
 
 impl Protocol<Item, PassView> for SessionRule {
-    ghost use Rattle.tk_queue.specs.Session.{Session, new_receiver};
+    ghost use Rattle.tk_queue.specs.SessionRule.{Session};
+    ghost use Rattle.tk_queue.specs.PassViews.{new_receiver};
 
     ghost holds = { Session };
 
@@ -48,7 +49,7 @@ pub struct SenderPush;
 
 impl Outcome<Item, PassView> for SenderPush {
     ghost use Rattle.std.specs.Prelude.{◌≡◌};
-    ghost use Rattle.tk_queue.specs.Session.{pushed};
+    ghost use Rattle.tk_queue.specs.PassViews.{pushed};
 
     ghost then = { λ v x w. w ≡ pushed v x };
 }
@@ -63,7 +64,7 @@ impl Lesson<Item, PassView> for SenderPush {
 pub struct ReceiverPop;
 
 impl Outcome<Item, PassView> for ReceiverPop {
-    ghost use Rattle.tk_queue.specs.Session.{Pops};
+    ghost use Rattle.tk_queue.specs.PassViews.{Pops};
 
     ghost then = { Pops };
 }
@@ -79,7 +80,7 @@ impl Lesson<Item, PassView> for ReceiverPop {
 pub struct WithZeroBit;
 
 impl Split<PassView> for WithZeroBit {
-    ghost use Rattle.tk_queue.specs.Session.{with_bit};
+    ghost use Rattle.tk_queue.specs.PassViews.{with_bit};
     ghost use Rattle.tk_queue.specs.declared.session_rules.PassView.TheVariants.{Spent};
 
     ghost left = { λ v. with_bit 0 v };
@@ -91,7 +92,7 @@ impl Split<PassView> for WithZeroBit {
 pub struct WithOneBit;
 
 impl Split<PassView> for WithOneBit {
-    ghost use Rattle.tk_queue.specs.Session.{with_bit};
+    ghost use Rattle.tk_queue.specs.PassViews.{with_bit};
     ghost use Rattle.tk_queue.specs.declared.session_rules.PassView.TheVariants.{Spent};
 
     ghost left = { λ v. with_bit 1 v };
@@ -103,9 +104,9 @@ impl Split<PassView> for WithOneBit {
 pub struct SplitSender;
 
 impl Split<PassView> for SplitSender {
-    ghost use Rattle.tk_queue.specs.Session.{one_more, next_sender};
+    ghost use Rattle.tk_queue.specs.PassViews.{with_worker, next_sender};
 
-    ghost left = { one_more };
+    ghost left = { with_worker };
 
     ghost right = { next_sender };
 }
@@ -114,7 +115,7 @@ impl Split<PassView> for SplitSender {
 pub struct JoinSender;
 
 impl Join<PassView> for JoinSender {
-    ghost use Rattle.tk_queue.specs.Session.{with_token};
+    ghost use Rattle.tk_queue.specs.PassViews.{with_token};
     ghost use Rattle.tk_queue.specs.declared.session_rules.PassView.TheVariants.{Spent};
 
     ghost both = { with_token };
@@ -126,7 +127,7 @@ impl Join<PassView> for JoinSender {
 pub struct AllSent;
 
 impl Lesson<Item, PassView> for AllSent {
-    ghost use Rattle.tk_queue.specs.Session.{Concludes};
+    ghost use Rattle.tk_queue.specs.SessionRule.{Concludes};
 
     ghost fact = { Concludes };
 }

@@ -2,8 +2,10 @@
 ghost use Rattle.std.specs.Prelude.{◌≡◌, ◌↔◌, ◌<◌, ◌≤◌, ◌⊎◌, [], length, IfOk, Err, Some};
 ghost use Rattle.std.specs.Arc.{arc_value};
 ghost use Rattle.crossbeam_queue.specs.Passes.{view, IsPassOf};
-ghost use Rattle.tk_queue.specs.Session.{receiver};
-ghost use Rattle.tk_queue.specs.Ends.{capacity_of, fresh_receiver, fresh_senders};
+ghost use Rattle.tk_queue.specs.PassViews.{pass_of_receiver};
+ghost use Rattle.tk_queue.specs.Limits.{capacity_of};
+ghost use Rattle.tk_queue.specs.Receivers.{fresh_receiver};
+ghost use Rattle.tk_queue.specs.Senders.{fresh_senders};
 ghost use Rattle.tk_queue.specs.FaultTexts.{open_fault_text};
 
 use crate::limits::MAX_CAPACITY;
@@ -34,7 +36,7 @@ impl fmt::Display for OpenFault {
     fn fmt<W: fmt::Write>(&self, f: &mut fmt::Formatter<W>) -> fmt::Result {
         match self {
             OpenFault::Workers => f.write_str("workers must be 1 to 15"),
-            OpenFault::Capacity => f.write_str("places must be 1 to 1024"),
+            OpenFault::Capacity => f.write_str("capacity must be 1 to 1024"),
             OpenFault::Memory => f.write_str("out of memory"),
         }
     }
@@ -43,17 +45,17 @@ impl fmt::Display for OpenFault {
 impl Error for OpenFault {}
 
 // Sets the number of static descriptors in the queue's rule, its highest bit first.
-fn set_static_count(shared_queue: &EventQueue, pass: &mut QueuePass, known: u32)
+fn set_static_count(shared_queue: &EventQueue, pass: &mut QueuePass, statics: u32)
     requires queue { IsPassOf shared_queue.now pass.old }
-    requires fresh { view pass.old ≡ receiver 0 0 [] [] }
+    requires fresh { view pass.old ≡ pass_of_receiver 0 0 [] [] }
     ensures queue { IsPassOf shared_queue.now pass.new }
-    ensures count_is_set { view pass.new ≡ receiver known 0 [] [] }
+    ensures count_is_set { view pass.new ≡ pass_of_receiver statics 0 [] [] }
 {
-    if known == 0 {
+    if statics == 0 {
         return;
     }
-    set_static_count(shared_queue, pass, known / 2);
-    if known % 2 == 0 {
+    set_static_count(shared_queue, pass, statics / 2);
+    if statics % 2 == 0 {
         shared_queue.another::<WithZeroBit>(pass);
     } else {
         shared_queue.another::<WithOneBit>(pass);
@@ -61,7 +63,7 @@ fn set_static_count(shared_queue: &EventQueue, pass: &mut QueuePass, known: u32)
 }
 
 // Opens a session whose numbers are within their limits.
-fn make(
+fn open_within_limits(
     alloc: Global,
     table: Arc<Table>,
     workers: u8,
@@ -119,7 +121,7 @@ pub fn open(
     if capacity == 0 || capacity > MAX_CAPACITY {
         return Err(OpenFault::Capacity);
     }
-    match make(alloc, table, workers as u8, capacity) {
+    match open_within_limits(alloc, table, workers as u8, capacity) {
         Ok(made) => Ok(made),
         Err(_) => Err(OpenFault::Memory),
     }

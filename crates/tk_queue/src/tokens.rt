@@ -1,14 +1,15 @@
 //! What `Receiver::close` looks for before it takes the tokens in.
 ghost use Rattle.std.specs.Prelude.{◌≡◌, ◌+◌, ◌<◌, ◌≤◌, length, false, List, Bool, ℕ, slice_index_or, slice_index, MatchOption};
 ghost use Rattle.tk_record_columns.specs.Mixing.{IsWorkerOf};
-ghost use Rattle.tk_queue.specs.Ends.{tokens_of, lists, Least};
+ghost use Rattle.tk_queue.specs.Tokens.{tokens_of, sent_by};
+ghost use Rattle.tk_queue.specs.Closing.{Least};
 
 use crate::limits::WORKER_SLOTS;
 use crate::senders::Ended;
 use tk_events::MAX_WORKERS;
 
 /// How many tokens the worker has.
-fn count(ended: &[Ended], worker: u8) -> usize
+fn tokens_of(ended: &[Ended], worker: u8) -> usize
     ensures { result ≡ tokens_of worker ended.now }
 {
     ended
@@ -19,7 +20,7 @@ fn count(ended: &[Ended], worker: u8) -> usize
 
 /// How many events the worker's token says that it emitted, or 0 where it has no token.
 fn emitted_by(ended: &[Ended], worker: u8) -> u64
-    ensures { result ≡ length (lists ended.now worker) }
+    ensures { result ≡ length (sent_by ended.now worker) }
 {
     for token in ended {
         if token.worker() == worker {
@@ -30,10 +31,10 @@ fn emitted_by(ended: &[Ended], worker: u8) -> u64
 }
 
 /// How many events each worker emitted, by its number; 0 at the numbers that are no worker's.
-pub fn counts(ended: &[Ended], workers: u8) -> [u64; WORKER_SLOTS]
+pub fn emitted_by_worker(ended: &[Ended], workers: u8) -> [u64; WORKER_SLOTS]
     requires { workers ≤ MAX_WORKERS }
     ensures each { (w : ℕ) → IsWorkerOf workers w
-        → slice_index result w ≡ length (lists ended.now w) }
+        → slice_index result w ≡ length (sent_by ended.now w) }
     ensures others { (w : ℕ) → ¬ IsWorkerOf workers w → slice_index result w ≡ 0 }
 {
     let mut emitted = [0; WORKER_SLOTS];
@@ -44,13 +45,13 @@ pub fn counts(ended: &[Ended], workers: u8) -> [u64; WORKER_SLOTS]
 }
 
 /// The first worker without a token.
-pub fn missing(ended: &[Ended], workers: u8) -> Option<u8>
+pub fn first_without_token(ended: &[Ended], workers: u8) -> Option<u8>
     ensures { MatchOption result
         ((w : ℕ) → IsWorkerOf workers w → ¬ (tokens_of w ended.now ≡ 0))
         (Least workers (λ w. tokens_of w ended.now ≡ 0)) }
 {
     for before in 0..workers {
-        if count(ended, before + 1) == 0 {
+        if tokens_of(ended, before + 1) == 0 {
             return Some(before + 1);
         }
     }
@@ -58,13 +59,13 @@ pub fn missing(ended: &[Ended], workers: u8) -> Option<u8>
 }
 
 /// The first worker with more than one token.
-pub fn twice(ended: &[Ended], workers: u8) -> Option<u8>
+pub fn first_with_two_tokens(ended: &[Ended], workers: u8) -> Option<u8>
     ensures { MatchOption result
         ((w : ℕ) → IsWorkerOf workers w → ¬ (1 < tokens_of w ended.now))
         (Least workers (λ w. 1 < tokens_of w ended.now)) }
 {
     for before in 0..workers {
-        if count(ended, before + 1) > 1 {
+        if tokens_of(ended, before + 1) > 1 {
             return Some(before + 1);
         }
     }
@@ -72,7 +73,7 @@ pub fn twice(ended: &[Ended], workers: u8) -> Option<u8>
 }
 
 /// The first worker whose mark was not taken.
-pub fn not_drained(marked: &[bool; WORKER_SLOTS], workers: u8) -> Option<u8>
+pub fn first_undrained(marked: &[bool; WORKER_SLOTS], workers: u8) -> Option<u8>
     requires { workers ≤ MAX_WORKERS }
     ensures { MatchOption result
         ((w : ℕ) → IsWorkerOf workers w → ¬ (slice_index_or marked.now w false ≡ false))

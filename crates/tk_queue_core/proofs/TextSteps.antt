@@ -29,7 +29,7 @@ use Rattle.tk_queue_core.specs.Limits.{most_workers}
 use Rattle.tk_queue_core.specs.Script.{IsCount, workers_line, workers_of, AreTurns, turns_line, turns_of}
 use Rattle.tk_queue_core.specs.Replay.{IsReplayed, plays, start}
 use Rattle.tk_queue_core.specs.ReplayText.{Scenario, header, AreOwn, scripts_by, NoCount, IsTextOf, IsPlayed, IsPlayedAs, nodes_fault}
-use Rattle.tk_queue_core.specs.Prefixes.{LacksEntryStart, IsEntriesPrefix, IsCountFault, IsListFault, IsFaultAfter, NoTurns, IsFollowed, IsEndFault}
+use Rattle.tk_queue_core.specs.Reading.{LacksEntryStart, IsEntriesPrefix, IsCountFault, IsListFault, IsFaultAfter, NoTurns, IsFollowed, IsEndFault}
 use Rattle.tk_queue_core.proofs.ScriptForms.{workers_line_form, turns_line_form, workers_no_feed, turns_no_feed}
 
 -- ---- single lines

@@ -4,6 +4,6 @@ pub mod CoreState
 pub mod Replay
 pub mod Script
 pub mod ReplayText
-pub mod Prefixes
+pub mod Reading
 pub mod Laws
 pub mod FaultTexts

@@ -1,7 +1,8 @@
 use Rattle.std.proofs.Common.{◌≡◌, ◌∙◌, List, [], ◌∷◌, length, map, refl, sym, ap, subst, append-nil, arith}
 use Rattle.std.specs.Vec.Iter.{into_iter_items}
-use Rattle.tk_queue.specs.Ends.{token_of}
-use Rattle.tk_queue.specs.Session.{IsReader, Concludes, receiver}
+use Rattle.tk_queue.specs.Tokens.{pass_of_token}
+use Rattle.tk_queue.specs.PassViews.{IsReader, pass_of_receiver}
+use Rattle.tk_queue.specs.SessionRule.{Concludes}
 use Rattle.tk_queue.proofs.Closing.{mixes}
 use Rattle.tk_queue.proofs.RuleSteps.{merges_own, learns_own, may_take_in}
 use Rattle.tk_queue.proofs.receivers.Receiver.join.Goals as goal
@@ -23,4 +24,4 @@ returns-clause-mix c =
     let all : at.yielded ≡ c.args.ended.items = sym (append-nil at.yielded) ∙ rw empty at at.invariant.rest ∙ c.into_iter-token-iterator.ensures.into_iter_gives.0 in
     let rule = c.learn_as.ensures.rule in
     mixes (length c.args.self.table) c.args.self.workers c.args.self.taken c.args.ended.items rule.0 c.requires.complete.once c.requires.complete.drained
-    (subst (λ v. Concludes v rule.0) (at.invariant.known ∙ ap (λ l. receiver (length c.args.self.table) c.args.self.workers c.args.self.taken (map token_of l)) all) rule.1)
+    (subst (λ v. Concludes v rule.0) (at.invariant.known ∙ ap (λ l. pass_of_receiver (length c.args.self.table) c.args.self.workers c.args.self.taken (map pass_of_token l)) all) rule.1)

@@ -1,8 +1,8 @@
 use Rattle.std.proofs.Common.{sym, subst, ◌∙◌}
 use Rattle.tk_queue_core.specs.declared.items.Item.TheVariants.{Entry as Emitted}
 use Rattle.crossbeam_queue.specs.Passes.{view}
-use Rattle.tk_queue.specs.Session.{IsReader}
-use Rattle.tk_queue.specs.Ends.{ReceiverView, Follows, taken_of}
+use Rattle.tk_queue.specs.PassViews.{IsReader}
+use Rattle.tk_queue.specs.Receivers.{ReceiverView, MayBeTaken, taken_of}
 use Rattle.tk_queue.proofs.EndKeeps.{takes_entry, takes_mark, follows_now, follows_recorded}
 use Rattle.tk_queue.proofs.RuleSteps.{pops_own, learns_nothing}
 use Rattle.tk_queue.proofs.receivers.Receiver.take.Goals as goal
@@ -28,5 +28,5 @@ returns-in-Some-Entry-clause-recordable g c = (takes_entry _ _ _ _ _ _ c.self.in
 
 pub returns-in-Some-Entry-clause-follows : goal.returns-in-Some-Entry-clause-follows
 returns-in-Some-Entry-clause-follows g c =
-    subst (λ (r : ReceiverView). Follows r (Emitted c.in-Some-Entry.entry)) c.self.view_is
+    subst (λ (r : ReceiverView). MayBeTaken r (Emitted c.in-Some-Entry.entry)) c.self.view_is
     (follows_recorded _ (taken_of (view c.self.inside.pass)) _ (follows_now _ _ _ _ _ _ c.self.invariant.1 (rw c.in-Some-Entry.field-0-is at c.in-Some-Entry.ensures.rule)).1)

@@ -12,4 +12,4 @@ copied_some None = refl
 copied_some (Some x) = refl
 
 pub returns : goal.returns
-returns c = c.is_some.ensures ∙ sym (copied_some c.node.result) ∙ ap is_some c.node.ensures ∙ mapped_some (λ d. d.id) _
+returns c = c.is_some.ensures ∙ sym (copied_some c.id_of.result) ∙ ap is_some c.id_of.ensures ∙ mapped_some (λ d. d.id) _

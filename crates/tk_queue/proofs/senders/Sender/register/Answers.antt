@@ -2,21 +2,22 @@ use Rattle.std.proofs.Common.{◌≡◌, ◌+◌, ◌++◌, ◌∷◌, [], lengt
 use Rattle.std.specs.Arc.{arc_value}
 use Rattle.crossbeam_queue.specs.Passes.{view}
 use Rattle.tk_events.specs.Registration.{registered_key}
-use Rattle.tk_queue.specs.Ends.{IsSender}
+use Rattle.tk_queue.specs.Senders.{IsSender}
+use Rattle.tk_queue.specs.Registering.{child}
 use Rattle.tk_queue.proofs.EndKeeps.{made_may, next_key_is, sender_registers, may_push_registration}
 use Rattle.tk_queue.proofs.senders.Sender.register.Goals as goal
 
 pub push-requires-2-clause-may : goal.push-requires-2-clause-may
 push-requires-2-clause-may g c =
     let h = c.self.invariant.1 in
-    let m = made_may _ _ _ _ _ _ c.args.self.now c.args.parent c.args.segment.now c.args.name.now c.args.dtype (c.in_ok-id.id, c.in_ok-id.descriptor) h c.self.view_is c.in_ok-id.ensures in
+    let m = made_may _ _ _ _ _ _ c.args.self.now c.args.parent (λ above. child above c.args.segment.now c.args.name.now c.args.dtype) (c.in_ok-id.id, c.in_ok-id.descriptor) h c.self.view_is c.in_ok-id.ensures in
     let is : c.next_key-key.result ≡ registered_key c.self.inside.worker (length c.self.inside.registered.items) = next_key_is _ _ _ _ _ _ c.args.self.now h c.self.view_is c.next_key-key.ensures.key in
     may_push_registration _ _ _ _ _ c.args.stamp _ c.in_ok-id.descriptor h is m.0 m.1
 
 pub invariant_of-self-2 : goal.invariant_of-self-2
 invariant_of-self-2 g c =
     let h = c.self.invariant.1 in
-    let m = made_may _ _ _ _ _ _ c.args.self.now c.args.parent c.args.segment.now c.args.name.now c.args.dtype (c.in_ok-id.id, c.in_ok-id.descriptor) h c.self.view_is c.in_ok-id.ensures in
+    let m = made_may _ _ _ _ _ _ c.args.self.now c.args.parent (λ above. child above c.args.segment.now c.args.name.now c.args.dtype) (c.in_ok-id.id, c.in_ok-id.descriptor) h c.self.view_is c.in_ok-id.ensures in
     let is : c.next_key-key.result ≡ registered_key c.self.inside.worker (length c.self.inside.registered.items) = next_key_is _ _ _ _ _ _ c.args.self.now h c.self.view_is c.next_key-key.ensures.key in
     let q = c.push-2.ensures.queue in (
       (q.0 ∙ c.self.invariant.0.0, q.2 ∙ c.self.invariant.0.1),

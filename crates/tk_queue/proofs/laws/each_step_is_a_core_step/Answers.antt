@@ -1,5 +1,5 @@
 use Rattle.tk_queue.proofs.RuleSteps.{holds_states, begins_fresh, push_is_step, full_is_none, take_is_step, empty_is_none, split_is_none, bit_is_none, join_is_none}
-use Rattle.tk_queue.proofs.laws.each_step_is_of_the_core.Goals as goal
+use Rattle.tk_queue.proofs.laws.each_step_is_a_core_step.Goals as goal
 
 pub returns-clause-rule : goal.returns-clause-rule
 returns-clause-rule c = holds_states

@@ -1,11 +1,11 @@
 use Rattle.std.proofs.Common.{◌≡◌, ◌+◌, [], sym, refl, ap, subst, ◌∙◌, rules}
 use Rattle.std.specs.Arc.{arc_value}
 use Rattle.atomic_table.specs.Seated.{TableId}
-use Rattle.tk_queue.specs.Session.{IsReader, one_more}
-use Rattle.tk_queue.specs.Ends.{ReceiverView}
+use Rattle.tk_queue.specs.PassViews.{IsReader, with_worker}
+use Rattle.tk_queue.specs.Receivers.{ReceiverView}
 use Rattle.tk_queue.proofs.EndKeeps.{fresh_more}
 use Rattle.tk_queue.proofs.RuleSteps.{begins, forks_own}
-use Rattle.tk_queue.proofs.sessions.make.Goals as goal
+use Rattle.tk_queue.proofs.sessions.open_within_limits.Goals as goal
 
 pub ruled-requires-clause-rule : goal.ruled-requires-clause-rule
 ruled-requires-clause-rule c = begins
@@ -20,7 +20,7 @@ loop-before-preserved c =
     let same_table : arc_value c.in_ok-own_table.own_table ≡ arc_value c.args.table = search rules in
     record {
       same = search rules;
-      known = c.another-next.ensures.rule.0 ∙ ap one_more c.loop-before.invariant.known;
+      known = c.another-next.ensures.rule.0 ∙ ap with_worker c.loop-before.invariant.known;
       made = fresh_more _ _ _ _ _ _ _ (sym q.0.0) c.loop-before.invariant.made c.in_ok-push.ensures.items (c.with_pass.ensures ∙ (λ i. record { session = sid i; table = same_table i; worker = c.loop-before.before + 1; sent = [] }));
     }
 

@@ -1,0 +1,29 @@
+-- When a session closes, and the first reason why it does not.
+use Rattle.std.specs.Prelude.{◌≡◌, ℕ, ◌<◌, true, false, List}
+use Rattle.tk_record_columns.specs.Mixing.{IsWorkerOf}
+use Rattle.tk_queue.specs.declared.receivers.CloseReason.{CloseReason}
+use Rattle.tk_queue.specs.declared.receivers.CloseReason.TheVariants.{Missing, Twice, NotDrained}
+use Rattle.tk_queue.specs.Senders.{SenderView}
+use Rattle.tk_queue.specs.Receivers.{ReceiverView, is_marked}
+use Rattle.tk_queue.specs.Tokens.{tokens_of}
+
+-- w is the least worker at which P holds
+pub record Least (n : ℕ) (P : ℕ → Type 0) (w : ℕ) : Type 0 where
+  pub worker : IsWorkerOf n w
+  pub holds : P w
+  pub below : (v : ℕ) → IsWorkerOf n v → v < w → ¬ P v
+
+-- each worker has one token, and its mark was taken
+pub record IsComplete (r : ReceiverView) (tokens : List SenderView) : Type 0 where
+  pub once : (w : ℕ) → IsWorkerOf r.workers w → tokens_of w tokens ≡ 1
+  pub drained : (w : ℕ) → IsWorkerOf r.workers w → is_marked w r.taken ≡ true
+
+-- the first reason that stands, at the least worker
+abbrev pub IsCloseFault : CloseReason → ReceiverView → List SenderView → Type 0
+IsCloseFault (Missing w) r tokens = Least r.workers (λ v. tokens_of v tokens ≡ 0) w
+IsCloseFault (Twice w) r tokens =
+    ((v : ℕ) → IsWorkerOf r.workers v → 0 < tokens_of v tokens)
+    × Least r.workers (λ v. 1 < tokens_of v tokens) w
+IsCloseFault (NotDrained w) r tokens =
+    ((v : ℕ) → IsWorkerOf r.workers v → tokens_of v tokens ≡ 1)
+    × Least r.workers (λ v. is_marked v r.taken ≡ false) w

@@ -1,0 +1,79 @@
+-- What contracts see of a sender: the session, its worker, and what it emitted.
+use Rattle.std.specs.Prelude.{◌≡◌, ℕ, zero, suc, ◌<◌, ◌≤◌, ◌-◌, not, nat_lt, Bool, false, if◌then◌else◌, List, [], ◌∷◌, ◌++◌, length, slice_get, Option, Some, None, is_some, option_map, ◌+◌}
+use Rattle.atomic_table.specs.Seated.{TableId}
+use Rattle.tk_ids.specs.declared.tables.Descriptor.{Descriptor}
+use Rattle.tk_ids.specs.declared.tables.TheConstants.{MAX_DESCRIPTORS}
+use Rattle.tk_ids.specs.IdText.{Pair}
+use Rattle.tk_events.specs.declared.events.Event.{Event}
+use Rattle.tk_events.specs.Registration.{registered_key}
+use Rattle.tk_record_columns.specs.Recorded.{Recorded}
+use Rattle.tk_record_columns.specs.Entries.{desc, desc_in}
+use Rattle.tk_queue_core.specs.Limits.{most_workers}
+use Rattle.tk_queue_core.specs.Core.{entries}
+use Rattle.tk_queue.specs.declared.sender_faults.SendFault.{SendFault}
+use Rattle.tk_queue.specs.declared.sender_faults.SendFault.TheVariants.{UnknownNode, Unlawful, Limit}
+use Rattle.tk_queue.specs.declared.session_rules.PassView.{PassView}
+use Rattle.tk_queue.specs.declared.session_rules.PassView.TheVariants.{Sends}
+use Rattle.tk_queue.specs.Limits.{most_events}
+use Rattle.tk_queue.specs.Emission.{Emission, is_plain, registrations, entries_by}
+use Rattle.tk_queue.specs.PassViews.{pass_of_sender}
+
+-- the session, its table of static descriptors, the worker, and the events that it emitted there,
+-- in order
+pub record SenderView : Type 0 where
+  pub session : TableId
+  pub table : List Descriptor
+  pub worker : ℕ
+  pub sent : List Event
+
+abbrev pub sends : SenderView → Event → SenderView
+sends s e =
+    record { session = s.session; table = s.table; worker = s.worker; sent = s.sent ++ e ∷ [] }
+
+-- the senders of the workers 1 to n, who have emitted nothing
+abbrev pub fresh_senders : TableId → List Descriptor → ℕ → List SenderView
+fresh_senders session table zero = []
+fresh_senders session table (suc n) =
+    fresh_senders session table n
+    ++ record { session = session; table = table; worker = suc n; sent = [] } ∷ []
+
+-- the record of what the sender alone emitted
+abbrev pub record_of_sender : SenderView → Recorded
+record_of_sender s = record { table = s.table; entries = entries_by s.worker s.sent }
+
+-- whether the descriptor is static, or the sender registered it
+abbrev pub knows : SenderView → ℕ → Bool
+knows s key = is_some (desc (record_of_sender s) key)
+
+-- the first reason why the event is not sent, if there is one; a full queue is none of the sender's
+abbrev pub refusal_of : SenderView → Event → Option SendFault
+refusal_of s e =
+    if not (knows s e.key) then Some (UnknownNode e)
+    else if not (is_plain e) then Some (Unlawful e)
+    else if not (nat_lt (length s.sent) most_events) then Some (Limit e)
+    else None
+
+abbrev pub sent_of : PassView → List Event
+sent_of (Sends s) = s.sent
+sent_of v = []
+
+-- the id that a worker registered under the key, of those that it registered, in order
+abbrev pub id_registered : ℕ → List (List Pair) → ℕ → Option (List Pair)
+id_registered worker ids key =
+    if nat_lt key (registered_key worker 0) then None
+    else slice_get ids (key - registered_key worker 0)
+
+-- the fields of a sender stand for what its pass knows
+pub record IsSender (v : PassView) (table : List Descriptor) (worker : ℕ) (ids : List (List Pair))
+    (emitted : ℕ) : Type 0 where
+  pub is : v ≡ pass_of_sender (length table) worker (sent_of v) false
+  pub counted : emitted ≡ length (sent_of v)
+  pub leads :
+      (key : ℕ) →
+      option_map (λ (d : Descriptor). d.id) (desc_in (entries_by worker (sent_of v)) key)
+      ≡ id_registered worker ids key
+  pub number : length ids ≡ registrations (sent_of v)
+  pub few_ids : length ids ≤ MAX_DESCRIPTORS
+  pub may : Emission (length table) worker (sent_of v)
+  pub low : 0 < worker
+  pub high : worker ≤ most_workers
