@@ -1,11 +1,11 @@
-pub use Rattle.tk_ids.specs.declared.tables.Descriptor
-pub use Rattle.tk_ids.specs.declared.tables.DType
+pub use Rattle.tk_ids.specs.declared.descriptors.Descriptor
+pub use Rattle.tk_ids.specs.declared.descriptors.DType
 pub use Rattle.tk_events.specs.declared.events.Event
 pub use Rattle.tk_events.specs.declared.events.Entry
 pub use Rattle.tk_events.specs.declared.kinds.Kind
-pub use Rattle.tk_events.specs.declared.kinds.Status
+pub use Rattle.tk_events.specs.declared.statuses.Status
 pub use Rattle.tk_events.specs.declared.payloads.Payload
-pub use Rattle.tk_book.specs.Wants
+pub use Rattle.tk_book.specs.NeedView
 pub use Rattle.tk_queue.specs.Senders
 pub use Rattle.tk_queue.specs.Registering
 pub use Rattle.tk_queue.specs.Tokens

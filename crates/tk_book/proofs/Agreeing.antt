@@ -3,7 +3,7 @@ use Rattle.std.proofs.Common.{◌≡◌, ℕ, zero, suc, ◌+◌, ◌^◌, ◌<�
 use mathlib.Core.Logic.{dite}
 use native.Mathlib.Decide.{ℕ_discrete}
 use Rattle.std.proofs.lemmas.List.Sums.{sum_by-cons}
-use Rattle.tk_book.specs.Wants.{Wants}
+use Rattle.tk_book.specs.NeedView.{NeedView}
 use Rattle.tk_lanes.specs.Lanes.{lane_at, Admits}
 use Rattle.tk_book.specs.Words.{packed}
 use Rattle.tk_book.specs.Needs.{Access, nothing, reads, writes, access, Clash, weight, lane, word_of}
@@ -20,7 +20,7 @@ clash_heavy reads nothing c = absurd c
 clash_heavy reads reads c = absurd c
 clash_heavy writes nothing c = absurd c
 
-pub lane_le : (n : Wants) (i : ℕ) → lane n i ≤ 15
+pub lane_le : (n : NeedView) (i : ℕ) → lane n i ≤ 15
 lane_le n i = weight_le (access n i)
   where
     weight_le : (a : Access) → weight a ≤ 15
@@ -28,13 +28,13 @@ lane_le n i = weight_le (access n i)
     weight_le reads = omega arith
     weight_le writes = omega arith
 
-pub word_lt : (n : Wants) → word_of n < 2 ^ 64
+pub word_lt : (n : NeedView) → word_of n < 2 ^ 64
 word_lt n = packed-lt 16 (lane n) (λ i _. lane_le n i)
 
-pub word_lane : (n : Wants) (i : ℕ) → i < 16 → lane_at (word_of n) i ≡ lane n i
+pub word_lane : (n : NeedView) (i : ℕ) → i < 16 → lane_at (word_of n) i ≡ lane n i
 word_lane n i lt = packed-lane 16 (lane n) (λ j _. lane_le n j) i lt
 
-pub agree : (a b : Option Wants) → ((r : ℕ) → r < 16 → held_lane a r + held_lane b r ≤ 15) → Agree a b
+pub agree : (a b : Option NeedView) → ((r : ℕ) → r < 16 → held_lane a r + held_lane b r ≤ 15) → Agree a b
 agree (Some n) (Some m) h = λ c. let k = clash_heavy (access n c.0) (access m c.0) c.2 in let b = h c.0 c.1 in absurd (omega arith)
 agree None b h = tt
 agree (Some n) None h = tt
@@ -51,7 +51,7 @@ sum_two f (x ∷ xs) zero (suc j) d lt within = omega (arith, sum_by-cons f x xs
 sum_two f (x ∷ xs) (suc i) (suc j) d lt within = omega (arith, sum_by-cons f x xs, sum_two f xs i j d (omega arith) (omega arith))
 
 -- where no lane is above 15, no two seats' needs conflict
-pub lanes_agree : (held : List (Option Wants)) → ((r : ℕ) → r < 16 → sum_by (λ h. held_lane h r) held ≤ 15) → Lawful held
+pub lanes_agree : (held : List (Option NeedView)) → ((r : ℕ) → r < 16 → sum_by (λ h. held_lane h r) held ≤ 15) → Lawful held
 lanes_agree held few i j d lt within = agree (get_or held i d) (get_or held j d) (λ r in16. let t = sum_two (λ h. held_lane h r) held i j d lt within in let b = few r in16 in omega arith)
 
 clash_sym : (a b : Access) → Clash a b → Clash b a
@@ -63,21 +63,21 @@ clash_sym reads nothing c = absurd c
 clash_sym reads reads c = absurd c
 clash_sym writes nothing c = absurd c
 
-pub agree_sym : (a b : Option Wants) → Agree a b → Agree b a
+pub agree_sym : (a b : Option NeedView) → Agree a b → Agree b a
 agree_sym (Some n) (Some m) h = λ c. h (c.0, c.1, clash_sym (access m c.0) (access n c.0) c.2)
 agree_sym (Some n) None h = tt
 agree_sym None (Some m) h = tt
 agree_sym None None h = tt
 
 -- a need that conflicts with none of the others may stand among them
-pub set_lawful : (held : List (Option Wants)) (seat : ℕ) (n : Wants) → Lawful held → All (Agree (Some n)) held → Lawful (set held seat (Some n))
+pub set_lawful : (held : List (Option NeedView)) (seat : ℕ) (n : NeedView) → Lawful held → All (Agree (Some n)) held → Lawful (set held seat (Some n))
 set_lawful held seat n lawful fits i j d lt within = let len = length-set held seat (Some n) in let in_j : j < length held = omega arith in
     dite (ℕ_discrete i seat)
-    (λ e. subst (λ (p : Option Wants × Option Wants). Agree p.0 p.1) (λ k. (sym (ap (λ (x : ℕ). get_or (set held seat (Some n)) x d) e ∙ get_or-set_same held seat (Some n) d (omega arith)) k, sym (get_or-set_other held seat j (Some n) d (λ f. omega arith)) k)) (fits j d in_j))
+    (λ e. subst (λ (p : Option NeedView × Option NeedView). Agree p.0 p.1) (λ k. (sym (ap (λ (x : ℕ). get_or (set held seat (Some n)) x d) e ∙ get_or-set_same held seat (Some n) d (omega arith)) k, sym (get_or-set_other held seat j (Some n) d (λ f. omega arith)) k)) (fits j d in_j))
     (λ ne. dite (ℕ_discrete j seat)
-    (λ e. subst (λ (p : Option Wants × Option Wants). Agree p.0 p.1) (λ k. (sym (get_or-set_other held seat i (Some n) d ne) k, sym (ap (λ (x : ℕ). get_or (set held seat (Some n)) x d) e ∙ get_or-set_same held seat (Some n) d (omega arith)) k))
+    (λ e. subst (λ (p : Option NeedView × Option NeedView). Agree p.0 p.1) (λ k. (sym (get_or-set_other held seat i (Some n) d ne) k, sym (ap (λ (x : ℕ). get_or (set held seat (Some n)) x d) e ∙ get_or-set_same held seat (Some n) d (omega arith)) k))
     (agree_sym (Some n) (get_or held i d) (fits i d (omega arith))))
-    (λ nf. subst (λ (p : Option Wants × Option Wants). Agree p.0 p.1) (λ k. (sym (get_or-set_other held seat i (Some n) d ne) k, sym (get_or-set_other held seat j (Some n) d nf) k)) (lawful i j d lt in_j)))
+    (λ nf. subst (λ (p : Option NeedView × Option NeedView). Agree p.0 p.1) (λ k. (sym (get_or-set_other held seat i (Some n) d ne) k, sym (get_or-set_other held seat j (Some n) d nf) k)) (lawful i j d lt in_j)))
 
 clash_or_light : (a b : Access) → (Clash a b → ⊥) → (a ≡ writes → weight b ≡ 0) × (weight b ≤ 15) × (a ≡ reads → weight b ≤ 1)
 clash_or_light writes nothing n = ((λ _. refl), omega arith, λ e. omega arith)
@@ -91,28 +91,28 @@ clash_or_light nothing reads n = ((λ (e : nothing ≡ writes). cc), omega arith
 clash_or_light nothing writes n = ((λ (e : nothing ≡ writes). cc), omega arith, λ (e : nothing ≡ reads). cc)
 
 -- beside a writer all others weigh nothing, and beside a reader each at most one
-beside_writer : (n : Wants) (r : ℕ) → r < 16 → access n r ≡ writes → (held : List (Option Wants)) → All (Agree (Some n)) held → sum_by (λ h. held_lane h r) held ≡ 0
+beside_writer : (n : NeedView) (r : ℕ) → r < 16 → access n r ≡ writes → (held : List (Option NeedView)) → All (Agree (Some n)) held → sum_by (λ h. held_lane h r) held ≡ 0
 beside_writer n r lt is [] fits = refl
 beside_writer n r lt is (None ∷ hs) fits = omega (arith, sum_by-cons (λ h. held_lane h r) None hs, beside_writer n r lt is hs (All-tail (Agree (Some n)) None hs fits))
 beside_writer n r lt is (Some m ∷ hs) fits = let light = (clash_or_light (access n r) (access m r) (λ c. All-head (Agree (Some n)) (Some m) hs fits (r, lt, c))).0 is in
     omega (arith, sum_by-cons (λ h. held_lane h r) (Some m) hs, beside_writer n r lt is hs (All-tail (Agree (Some n)) (Some m) hs fits))
 
-beside_reader : (n : Wants) (r : ℕ) → r < 16 → access n r ≡ reads → (held : List (Option Wants)) → All (Agree (Some n)) held → sum_by (λ h. held_lane h r) held ≤ count_by is_some held
+beside_reader : (n : NeedView) (r : ℕ) → r < 16 → access n r ≡ reads → (held : List (Option NeedView)) → All (Agree (Some n)) held → sum_by (λ h. held_lane h r) held ≤ count_by is_some held
 beside_reader n r lt is [] fits = omega arith
-beside_reader n r lt is (None ∷ hs) fits = omega (arith, sum_by-cons (λ h. held_lane h r) None hs, sum_by-cons (λ (h : Option Wants). cond (is_some h) 1 0) None hs, beside_reader n r lt is hs (All-tail (Agree (Some n)) None hs fits))
+beside_reader n r lt is (None ∷ hs) fits = omega (arith, sum_by-cons (λ h. held_lane h r) None hs, sum_by-cons (λ (h : Option NeedView). cond (is_some h) 1 0) None hs, beside_reader n r lt is hs (All-tail (Agree (Some n)) None hs fits))
 beside_reader n r lt is (Some m ∷ hs) fits = let light = (clash_or_light (access n r) (access m r) (λ c. All-head (Agree (Some n)) (Some m) hs fits (r, lt, c))).2 is in
     omega (arith, sum_by-cons (λ h. held_lane h r) (Some m) hs, sum_by-cons (λ h. cond (is_some h) 1 0) (Some m) hs, beside_reader n r lt is hs (All-tail (Agree (Some n)) (Some m) hs fits))
 
-Lawful-tail : (h : Option Wants) (hs : List (Option Wants)) → Lawful (h ∷ hs) → Lawful hs
+Lawful-tail : (h : Option NeedView) (hs : List (Option NeedView)) → Lawful (h ∷ hs) → Lawful hs
 Lawful-tail h hs lawful i j d lt within = lawful (suc i) (suc j) d (omega arith) (omega arith)
 
-Lawful-head : (h : Option Wants) (hs : List (Option Wants)) → Lawful (h ∷ hs) → All (Agree h) hs
+Lawful-head : (h : Option NeedView) (hs : List (Option NeedView)) → Lawful (h ∷ hs) → All (Agree h) hs
 Lawful-head h hs lawful j d within = lawful 0 (suc j) d (omega arith) (omega arith)
 
 -- where at most fifteen seats hold needs that do not conflict, each lane has room for all of them
-pub lawful_lanes : (held : List (Option Wants)) → Lawful held → count_by is_some held ≤ 15 → (r : ℕ) → r < 16 → sum_by (λ h. held_lane h r) held ≤ 15
+pub lawful_lanes : (held : List (Option NeedView)) → Lawful held → count_by is_some held ≤ 15 → (r : ℕ) → r < 16 → sum_by (λ h. held_lane h r) held ≤ 15
 lawful_lanes [] lawful few r lt = omega arith
-lawful_lanes (None ∷ hs) lawful few r lt = let f = sum_by-cons (λ (h : Option Wants). cond (is_some h) 1 0) None hs in
+lawful_lanes (None ∷ hs) lawful few r lt = let f = sum_by-cons (λ (h : Option NeedView). cond (is_some h) 1 0) None hs in
     let rest = lawful_lanes hs (Lawful-tail None hs lawful) (omega arith) r lt in omega (arith, sum_by-cons (λ h. held_lane h r) None hs)
 lawful_lanes (Some n ∷ hs) lawful few r lt = let f = sum_by-cons (λ h. cond (is_some h) 1 0) (Some n) hs in let s = sum_by-cons (λ h. held_lane h r) (Some n) hs in
     let rest = lawful_lanes hs (Lawful-tail (Some n) hs lawful) (omega arith) r lt in go (access n r) refl s f rest
@@ -123,27 +123,27 @@ lawful_lanes (Some n ∷ hs) lawful few r lt = let f = sum_by-cons (λ h. cond (
     go reads e s f rest = let w : lane n r ≡ 1 = ap weight e in let b = beside_reader n r lt e hs (Lawful-head (Some n) hs lawful) in omega arith
     go writes e s f rest = let w : lane n r ≡ 15 = ap weight e in let b = beside_writer n r lt e hs (Lawful-head (Some n) hs lawful) in omega arith
 
-held_packed : (h : Option Wants) → held_word h ≡ packed 16 (held_lane h)
+held_packed : (h : Option NeedView) → held_word h ≡ packed 16 (held_lane h)
 held_packed None = sym (packed-none 16)
 held_packed (Some n) = refl
 
-pub sum_packed : (held : List (Option Wants)) → sum_by held_word held ≡ packed 16 (λ r. sum_by (λ h. held_lane h r) held)
+pub sum_packed : (held : List (Option NeedView)) → sum_by held_word held ≡ packed 16 (λ r. sum_by (λ h. held_lane h r) held)
 sum_packed held = same held ∙ packed-sum 16 held_lane held
   where
-    same : (l : List (Option Wants)) → sum_by held_word l ≡ sum_by (λ h. packed 16 (held_lane h)) l
+    same : (l : List (Option NeedView)) → sum_by held_word l ≡ sum_by (λ h. packed 16 (held_lane h)) l
     same [] = refl
     same (h ∷ hs) = let a = held_packed h in omega (arith, sum_by-cons held_word h hs, sum_by-cons (λ z. packed 16 (held_lane z)) h hs, same hs)
 
 -- a lane of the sum of what is held is the sum of the lanes
-pub sum_lane : (held : List (Option Wants)) → ((r : ℕ) → r < 16 → sum_by (λ h. held_lane h r) held ≤ 15) → (r : ℕ) → r < 16 → lane_at (sum_by held_word held) r ≡ sum_by (λ h. held_lane h r) held
+pub sum_lane : (held : List (Option NeedView)) → ((r : ℕ) → r < 16 → sum_by (λ h. held_lane h r) held ≤ 15) → (r : ℕ) → r < 16 → lane_at (sum_by held_word held) r ≡ sum_by (λ h. held_lane h r) held
 sum_lane held few r lt = ap (λ (w : ℕ). lane_at w r) (sum_packed held) ∙ packed-lane 16 (λ r. sum_by (λ h. held_lane h r) held) few r lt
 
-pub sum_fits : (held : List (Option Wants)) → Lawful held → count_by is_some held ≤ 15 → sum_by held_word held < 2 ^ 64
+pub sum_fits : (held : List (Option NeedView)) → Lawful held → count_by is_some held ≤ 15 → sum_by held_word held < 2 ^ 64
 sum_fits held lawful few = let e = sum_packed held in let p : packed 16 (λ r. sum_by (λ h. held_lane h r) held) < 2 ^ 64 = packed-lt 16 (λ r. sum_by (λ h. held_lane h r) held) (lawful_lanes held lawful few) in omega arith
 
 -- Where at most fifteen seats hold something and the one that asks is not among them, a word admits a need exactly
 -- where it conflicts with none that is held.
-pub admits_exactly : (held : List (Option Wants)) (n : Wants) → Lawful held → count_by is_some held ≤ 14 → Admits (sum_by held_word held) (word_of n) ↔ All (Agree (Some n)) held
+pub admits_exactly : (held : List (Option NeedView)) (n : NeedView) → Lawful held → count_by is_some held ≤ 14 → Admits (sum_by held_word held) (word_of n) ↔ All (Agree (Some n)) held
 admits_exactly held n lawful few = (to, from)
   where
     here : (r : ℕ) → r < 16 → lane_at (sum_by held_word held) r ≡ sum_by (λ h. held_lane h r) held

@@ -4,7 +4,7 @@ use Rattle.std.specs.Int.{bit_at}
 use Rattle.std.proofs.lemmas.Nat.{and_le_l}
 use Rattle.std.proofs.lemmas.Nat.Bits.{bit_at_and, bit_at_or, bit_at_not, bit_at-lt, bit_at-zero, same_from_bits_below}
 use Rattle.std.proofs.Math.Pow.{pow_mono}
-use Rattle.tk_book.specs.Wants.{Wants}
+use Rattle.tk_book.specs.NeedView.{NeedView}
 use Rattle.tk_book.specs.Words.{packed}
 use Rattle.tk_book.specs.Needs.{access_of, Clash, Conflict, weight, lane, word_of}
 use Rattle.tk_book.proofs.Packing.{packed-same, packed-lt}
@@ -57,14 +57,14 @@ beside (suc ar) (suc aw) (suc br) zero n = absurd (n tt)
 beside (suc ar) (suc aw) (suc br) (suc bw) n = absurd (n tt)
 
 -- masks with no bit in common say that there is no conflict, and the other way round
-pub no_conflict : (a b : Wants) → bit_and a.writes (bit_or b.reads b.writes) ≡ 0 → bit_and a.reads b.writes ≡ 0 → Conflict a b → ⊥
+pub no_conflict : (a b : NeedView) → bit_and a.writes (bit_or b.reads b.writes) ≡ 0 → bit_and a.reads b.writes ≡ 0 → Conflict a b → ⊥
 no_conflict a b p q c = let r : ℕ = c.0 in
     let h : min (bit_at a.writes r) (max (bit_at b.reads r) (bit_at b.writes r)) ≡ 0 =
     ap (λ (x : ℕ). min (bit_at a.writes r) x) (sym (bit_at_or b.reads b.writes r)) ∙ sym (bit_at_and a.writes (bit_or b.reads b.writes) r) ∙ ap (λ (x : ℕ). bit_at x r) p ∙ bit_at-zero r in
     let k : min (bit_at a.reads r) (bit_at b.writes r) ≡ 0 = sym (bit_at_and a.reads b.writes r) ∙ ap (λ (x : ℕ). bit_at x r) q ∙ bit_at-zero r in
     apart (bit_at a.reads r) (bit_at a.writes r) (bit_at b.reads r) (bit_at b.writes r) h k c.2
 
-pub no_bits : (a b : Wants) → a.reads < 2 ^ 16 → a.writes < 2 ^ 16 → (Conflict a b → ⊥) → (bit_and a.writes (bit_or b.reads b.writes) ≡ 0) × (bit_and a.reads b.writes ≡ 0)
+pub no_bits : (a b : NeedView) → a.reads < 2 ^ 16 → a.writes < 2 ^ 16 → (Conflict a b → ⊥) → (bit_and a.writes (bit_or b.reads b.writes) ≡ 0) × (bit_and a.reads b.writes ≡ 0)
 no_bits a b fr fw n = let at = λ (r : ℕ) (lt : r < 16). beside (bit_at a.reads r) (bit_at a.writes r) (bit_at b.reads r) (bit_at b.writes r) (λ c. n (r, lt, c)) in (
   same_from_bits_below 16 (bit_and a.writes (bit_or b.reads b.writes)) 0 (let le = and_le_l a.writes (bit_or b.reads b.writes) in omega arith) (omega arith)
       (λ r lt. bit_at_and a.writes (bit_or b.reads b.writes) r ∙ ap (λ (x : ℕ). min (bit_at a.writes r) x) (bit_at_or b.reads b.writes r) ∙ (at r lt).0 ∙ sym (bit_at-zero r)),
@@ -72,7 +72,7 @@ no_bits a b fr fw n = let at = λ (r : ℕ) (lt : r < 16). beside (bit_at a.read
 )
 
 -- one more lane below the lanes so far
-pub one_lane : (n : Wants) (done word value : ℕ) → done < 16 → word ≡ packed done (λ i. lane n (16 - done + i)) → value ≡ lane n (15 - done) → word * 16 + value ≡ packed (done + 1) (λ i. lane n (16 - (done + 1) + i))
+pub one_lane : (n : NeedView) (done word value : ℕ) → done < 16 → word ≡ packed done (λ i. lane n (16 - done + i)) → value ≡ lane n (15 - done) → word * 16 + value ≡ packed (done + 1) (λ i. lane n (16 - (done + 1) + i))
 unfolding packed
 one_lane n done word value lt so_far is = go (done + 1) refl
   where
@@ -102,15 +102,15 @@ no_weight zero (suc w) l m n k = absurd (n (omega arith))
 no_weight (suc r) (suc w) l m n k = absurd (n (omega arith))
 
 -- fewer than sixteen lanes leave room for one more
-pub room_for_lane : (n : Wants) (done word : ℕ) → done < 16 → word ≡ packed done (λ i. lane n (16 - done + i)) → word < 2 ^ 60
+pub room_for_lane : (n : NeedView) (done word : ℕ) → done < 16 → word ≡ packed done (λ i. lane n (16 - done + i)) → word < 2 ^ 60
 room_for_lane n done word lt is = let b = packed-lt done (λ i. lane n (16 - done + i)) (λ i _. lane_le n (16 - done + i)) in let e : 4 * done ≤ 60 = omega arith in let p : 2 ^ (4 * done) ≤ 2 ^ 60 = pow_mono e in omega arith
 
-pub all_lanes : (n : Wants) (done word : ℕ) → done ≡ 16 → word ≡ packed done (λ i. lane n (16 - done + i)) → word ≡ word_of n
+pub all_lanes : (n : NeedView) (done word : ℕ) → done ≡ 16 → word ≡ packed done (λ i. lane n (16 - done + i)) → word ≡ word_of n
 all_lanes n done word all is = is ∙ ap (λ (j : ℕ). packed j (λ i. lane n (16 - done + i))) all ∙ packed-same 16 (λ i. lane n (16 - done + i)) (lane n) (λ i lt. ap (lane n) (omega arith))
 
 -- both tests in one
-pub compatible : (a b : Wants) → a.reads < 2 ^ 16 → a.writes < 2 ^ 16 → bit_and a.writes (bit_or b.reads b.writes) ≡ 0 → IsTrue (eqb (bit_and a.reads b.writes) 0) ↔ (Conflict a b → ⊥)
+pub compatible : (a b : NeedView) → a.reads < 2 ^ 16 → a.writes < 2 ^ 16 → bit_and a.writes (bit_or b.reads b.writes) ≡ 0 → IsTrue (eqb (bit_and a.reads b.writes) 0) ↔ (Conflict a b → ⊥)
 compatible a b fr fw p = ((λ t. no_conflict a b p (eqb-true _ _ t)), λ n. eq-eqb _ _ (no_bits a b fr fw n).1)
 
-pub not_compatible : (a b : Wants) → a.reads < 2 ^ 16 → a.writes < 2 ^ 16 → (bit_and a.writes (bit_or b.reads b.writes) ≡ 0 → ⊥) → IsTrue (eqb (bit_and a.writes (bit_or b.reads b.writes)) 0) ↔ (Conflict a b → ⊥)
+pub not_compatible : (a b : NeedView) → a.reads < 2 ^ 16 → a.writes < 2 ^ 16 → (bit_and a.writes (bit_or b.reads b.writes) ≡ 0 → ⊥) → IsTrue (eqb (bit_and a.writes (bit_or b.reads b.writes)) 0) ↔ (Conflict a b → ⊥)
 not_compatible a b fr fw p = ((λ t. absurd (p (eqb-true _ _ t))), λ n. absurd (p (no_bits a b fr fw n).0))

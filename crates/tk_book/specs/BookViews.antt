@@ -2,10 +2,10 @@
 use Rattle.std.specs.Prelude.{◌≡◌, ◌<◌, [], ◌∷◌}
 use Rattle.tk_book.specs.declared.books.Book.TheInside as book
 use Rattle.tk_book.specs.declared.books.BookSeat.TheInside as seat
-use Rattle.tk_book.specs.Books.{BookName, book_name, Holder}
+use Rattle.tk_book.specs.Books.{BookView, book_view, BookSeatView}
 
-abbrev pub name_of : book.Inside → BookName
-name_of b = book_name b.table.shared.table_id b.table.shared.key
+abbrev pub view_of : book.Inside → BookView
+view_of b = book_view b.table.shared.table_id b.table.shared.key
 
 -- a table of one word, with a seat at least
 pub record IsBook (b : book.Inside) : Type 0 where
@@ -13,9 +13,9 @@ pub record IsBook (b : book.Inside) : Type 0 where
   pub no_slot : b.table.shared.table_id.slots ≡ 0
   pub some_seat : 0 < b.table.shared.key
 
-abbrev pub holder_of : seat.Inside → Holder
-holder_of s = record {
-  book = book_name s.seat.table_id s.seat.me.0.seats;
+abbrev pub seat_view_of : seat.Inside → BookSeatView
+seat_view_of s = record {
+  book = book_view s.seat.table_id s.seat.me.0.seats;
   holds = s.held;
   read = s.seat.me.0.seen;
 }

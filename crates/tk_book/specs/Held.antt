@@ -1,53 +1,53 @@
 -- What several seats may hold at once, and the two steps that change it.
 use Rattle.std.specs.Prelude.{◌≡◌, ◌≢◌, ℕ, ◌<◌, List, Option, Some, None, All, slice_get, slice_set}
 use Rattle.std.specs.List.{AllPairs}
-use Rattle.tk_book.specs.Wants.{Wants}
+use Rattle.tk_book.specs.NeedView.{NeedView}
 use Rattle.tk_book.specs.Needs.{Access, nothing, writes, access, Conflict, lane, word_of}
 
 -- what two seats hold doesn't conflict
-abbrev pub Agree : Option Wants → Option Wants → Type 0
+abbrev pub Agree : Option NeedView → Option NeedView → Type 0
 Agree (Some n) (Some m) = Conflict n m → ⊥
 Agree a b = Unit {0}
 
 -- no two seats' needs conflict
-abbrev pub Lawful : List (Option Wants) → Type 0
+abbrev pub Lawful : List (Option NeedView) → Type 0
 Lawful held = AllPairs Agree held
 
 -- what a seat does with resource r
-abbrev pub held_access : Option Wants → ℕ → Access
+abbrev pub held_access : Option NeedView → ℕ → Access
 held_access None r = nothing
 held_access (Some n) r = access n r
 
 -- where one seat writes a resource, no other reads or writes it
-abbrev pub WritersAreAlone : List (Option Wants) → Type 0
+abbrev pub WritersAreAlone : List (Option NeedView) → Type 0
 WritersAreAlone held =
-    (i j r : ℕ) (h k : Option Wants) → i ≢ j → r < 16
+    (i j r : ℕ) (h k : Option NeedView) → i ≢ j → r < 16
     → slice_get held i ≡ Some h → slice_get held j ≡ Some k
     → held_access h r ≡ writes → held_access k r ≡ nothing
 
 -- the seat exists and is empty, and the need conflicts with no other seat's
-abbrev pub MayTake : List (Option Wants) → ℕ → Wants → Type 0
+abbrev pub MayTake : List (Option NeedView) → ℕ → NeedView → Type 0
 MayTake held seat n = (slice_get held seat ≡ Some None) × All (Agree (Some n)) held
 
 -- The step of a grant: the seat may take the need, and holds it afterwards. All others hold what
 -- they held.
-pub record Grants (old : List (Option Wants)) (seat : ℕ) (n : Wants) (new : List (Option Wants))
+pub record Grants (old : List (Option NeedView)) (seat : ℕ) (n : NeedView) (new : List (Option NeedView))
     : Type 0 where
   pub may_take : MayTake old seat n
   pub after : new ≡ slice_set old seat (Some n)
 
 -- The step of a release: the seat held the need, and holds nothing afterwards. All others hold what
 -- they held.
-pub record Releases (old : List (Option Wants)) (seat : ℕ) (n : Wants) (new : List (Option Wants))
+pub record Releases (old : List (Option NeedView)) (seat : ℕ) (n : NeedView) (new : List (Option NeedView))
     : Type 0 where
   pub held : slice_get old seat ≡ Some (Some n)
   pub after : new ≡ slice_set old seat None
 
 -- what a seat adds to lane i, and to the word
-abbrev pub held_lane : Option Wants → ℕ → ℕ
+abbrev pub held_lane : Option NeedView → ℕ → ℕ
 held_lane None i = 0
 held_lane (Some n) i = lane n i
 
-abbrev pub held_word : Option Wants → ℕ
+abbrev pub held_word : Option NeedView → ℕ
 held_word None = 0
 held_word (Some n) = word_of n

@@ -1,5 +1,5 @@
 pub use Rattle.tk_lanes.specs.Lanes
-pub mod Wants
+pub mod NeedView
 pub mod Words
 pub mod Needs
 pub mod Held

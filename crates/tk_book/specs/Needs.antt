@@ -1,7 +1,7 @@
 -- What a need asks of each resource, when two needs conflict, and a need as a word.
 use Rattle.std.specs.Prelude.{ℕ, zero, suc, ◌<◌}
 use Rattle.std.specs.Int.{bit_at}
-use Rattle.tk_book.specs.Wants.{Wants}
+use Rattle.tk_book.specs.NeedView.{NeedView}
 use Rattle.tk_book.specs.Words.{packed}
 
 pub data Access : Type 0 where
@@ -16,7 +16,7 @@ access_of (suc r) zero = reads
 access_of r (suc w) = writes
 
 -- what the need asks of resource i
-abbrev pub access : Wants → ℕ → Access
+abbrev pub access : NeedView → ℕ → Access
 access n i = access_of (bit_at n.reads i) (bit_at n.writes i)
 
 -- one of them writes what the other reads or writes
@@ -26,7 +26,7 @@ Clash writes writes = Unit {0}
 Clash reads writes = Unit {0}
 Clash a b = ⊥
 
-abbrev pub Conflict : Wants → Wants → Type 0
+abbrev pub Conflict : NeedView → NeedView → Type 0
 Conflict n m = (r : ℕ) × (r < 16) × Clash (access n r) (access m r)
 
 abbrev pub weight : Access → ℕ
@@ -35,9 +35,9 @@ weight reads = 1
 weight writes = 15
 
 -- 15 for a write, 1 for a read, else 0
-abbrev pub lane : Wants → ℕ → ℕ
+abbrev pub lane : NeedView → ℕ → ℕ
 lane n i = weight (access n i)
 
 -- the sixteen lanes as one word
-abbrev pub word_of : Wants → ℕ
+abbrev pub word_of : NeedView → ℕ
 word_of n = packed 16 (lane n)

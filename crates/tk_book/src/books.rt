@@ -3,7 +3,7 @@ ghost use Rattle.std.specs.Prelude.{◌≡◌, ℕ, ◌<◌, ◌≤◌, ◌⊎�
 ghost use Rattle.tk_lanes.specs.Lanes.{lane_at};
 ghost use Rattle.tk_book.specs.Needs.{word_of};
 ghost use Rattle.tk_book.specs.Held.{Lawful, held_lane, held_word};
-ghost use Rattle.tk_book.specs.Books.{book_name, empty};
+ghost use Rattle.tk_book.specs.Books.{book_view, empty};
 ghost use Rattle.tk_book.specs.FaultTexts.{book_fault_text};
 ghost use Rattle.tk_book.specs.LockWord.{seat_note};
 ghost use Rattle.tk_book.specs.Tries.{WasFree, WasBusy, WasFreeAtLast};
@@ -31,13 +31,13 @@ pub struct Book {
 }
 
 impl Model for Book {
-    ghost use Rattle.tk_book.specs.Books.{BookName};
+    ghost use Rattle.tk_book.specs.Books.{BookView};
 
-    ghost Value = { BookName };
+    ghost Value = { BookView };
 
-    ghost use Rattle.tk_book.specs.BookViews.{name_of, IsBook};
+    ghost use Rattle.tk_book.specs.BookViews.{view_of, IsBook};
 
-    ghost view = { name_of };
+    ghost view = { view_of };
 
     ghost invariant = { IsBook };
 }
@@ -50,13 +50,13 @@ pub struct BookSeat {
 }
 
 impl Model for BookSeat {
-    ghost use Rattle.tk_book.specs.Books.{Holder};
+    ghost use Rattle.tk_book.specs.Books.{BookSeatView};
 
-    ghost Value = { Holder };
+    ghost Value = { BookSeatView };
 
-    ghost use Rattle.tk_book.specs.BookViews.{holder_of, IsHolder};
+    ghost use Rattle.tk_book.specs.BookViews.{seat_view_of, IsHolder};
 
-    ghost view = { holder_of };
+    ghost view = { seat_view_of };
 
     ghost invariant = { IsHolder };
 }
@@ -104,7 +104,7 @@ fn split_seats(
     requires of_this { first.table_id ≡ table.now.shared.table_id }
     requires whole { first.me ≡ (seat_note table.now.shared.key (replicate count None) [], []) }
     ensures { IfOk result (λ all. (length all.items ≡ count)
-        × All (λ s. s ≡ empty (book_name table.now.shared.table_id table.now.shared.key))
+        × All (λ s. s ≡ empty (book_view table.now.shared.table_id table.now.shared.key))
         all.items) }
 {
     let mut all = Vec::with_capacity(alloc, count)?;

@@ -1,7 +1,7 @@
 //! What each seat holds, with no limit on their number.
 ghost use Rattle.std.specs.Prelude.{◌≡◌, ◌↔◌, IsTrue, IsFalse, IfOk, None, Some, replicate, slice_set};
 ghost use Rattle.std.specs.Prelude.{ℕ, ◌≤◌, All, is_some, count_by, sum_by};
-ghost use Rattle.tk_book.specs.Wants.{Wants};
+ghost use Rattle.tk_book.specs.NeedView.{NeedView};
 ghost use Rattle.tk_lanes.specs.Lanes.{Admits};
 ghost use Rattle.tk_book.specs.Needs.{word_of};
 ghost use Rattle.tk_book.specs.Held.{Agree, Lawful, MayTake, held_word};
@@ -18,9 +18,9 @@ pub struct Holdings {
 
 impl Model for Holdings {
     ghost use Rattle.std.specs.Prelude.{List, Option};
-    ghost use Rattle.tk_book.specs.Wants.{Wants};
+    ghost use Rattle.tk_book.specs.NeedView.{NeedView};
 
-    ghost Value = { List (Option Wants) };
+    ghost Value = { List (Option NeedView) };
 
     ghost use Rattle.tk_book.specs.Held.{Lawful};
 
@@ -79,7 +79,7 @@ impl Holdings {
     pub fn word(&self) -> u64
         requires few { count_by is_some self.now ≤ 14 }
         ensures value { result ≡ sum_by held_word self.now }
-        ensures exactly { (n : Wants) → Admits result (word_of n) ↔ All (Agree (Some n)) self.now }
+        ensures exactly { (n : NeedView) → Admits result (word_of n) ↔ All (Agree (Some n)) self.now }
     {
         let mut word = 0;
         for held in &self.seats {

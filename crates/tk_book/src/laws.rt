@@ -1,6 +1,6 @@
 //! The law of a book's word.
 ghost use Rattle.std.specs.Prelude.{◌≡◌, ◌↔◌, List, Option};
-ghost use Rattle.tk_book.specs.Wants.{Wants};
+ghost use Rattle.tk_book.specs.NeedView.{NeedView};
 ghost use Rattle.tk_book.specs.Held.{Lawful, WritersAreAlone};
 ghost use Rattle.tk_book.specs.Steps.{IsSumOfHoldings, ExchangeIsGrant, FailureIsNone, LoadIsNone, SubtractionIsRelease};
 
@@ -24,5 +24,5 @@ pub fn each_step_is_of_the_holdings()
 
 /// No two seats' needs conflict exactly where each that writes a resource is alone there.
 pub fn writers_are_alone()
-    ensures { (held : List (Option Wants)) → Lawful held ↔ WritersAreAlone held }
+    ensures { (held : List (Option NeedView)) → Lawful held ↔ WritersAreAlone held }
 {}

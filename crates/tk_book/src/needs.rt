@@ -16,9 +16,9 @@ pub struct Need {
 
 impl Model for Need {
     ghost use Rattle.std.specs.Prelude.{◌≡◌, bit_and};
-    ghost use Rattle.tk_book.specs.Wants.{Wants};
+    ghost use Rattle.tk_book.specs.NeedView.{NeedView};
 
-    ghost Value = { Wants };
+    ghost Value = { NeedView };
 
     ghost view = { λ n. record { reads = n.reads; writes = n.writes } };
 

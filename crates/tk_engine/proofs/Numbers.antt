@@ -3,7 +3,7 @@ use Rattle.std.proofs.Common.{◌≡◌, ℕ, zero, suc, ◌+◌, ◌*◌, ◌^�
 use Rattle.std.specs.Prelude.{bit_and, min}
 use Rattle.std.specs.Int.{bit_at}
 use Rattle.std.proofs.lemmas.Nat.Bits.{bit_at-lt, bit_at_and, bit_at-zero, bit_at_lowest, bit_at-suc, same_from_bits_below}
-use Rattle.tk_book.specs.Wants.{Wants}
+use Rattle.tk_book.specs.NeedView.{NeedView}
 use Rattle.tk_book.specs.Needs.{Access, access_of}
 use Rattle.tk_plan_units.specs.declared.nodes.NumberedNode.{NumberedNode}
 use Rattle.tk_plan_units.specs.Planned.{unit_asks, IsNeedOf}
@@ -40,7 +40,7 @@ bits_by (suc (suc r)) w a x y apart e = absurd (omega arith)
 bits_by r (suc (suc w)) a x y apart e = absurd (omega arith)
 
 -- what asks so, with no resource both read and written, is that need
-pub same_need : (nodes : List NumberedNode) (unit : ℕ) (n : Wants) → n.reads < 2 ^ 16 → n.writes < 2 ^ 16 → bit_and n.reads n.writes ≡ 0 → IsNeedOf nodes unit n → n ≡ need_of nodes unit
+pub same_need : (nodes : List NumberedNode) (unit : ℕ) (n : NeedView) → n.reads < 2 ^ 16 → n.writes < 2 ^ 16 → bit_and n.reads n.writes ≡ 0 → IsNeedOf nodes unit n → n ≡ need_of nodes unit
 same_need nodes unit n few_reads few_writes apart asks =
     let each = λ (i : ℕ) (lt : i < 16).
     bits_by (bit_at n.reads i) (bit_at n.writes i) (unit_asks nodes unit i) (bit_at-lt n.reads i) (bit_at-lt n.writes i)

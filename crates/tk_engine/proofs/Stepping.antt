@@ -6,8 +6,8 @@ use Rattle.std.proofs.Common.{⊎_elim}
 use Rattle.std.proofs.lemmas.Bool.{cases_lt}
 use Rattle.std.proofs.lemmas.List.Sums.{sum_by-cons}
 use Rattle.std.proofs.lemmas.List.{map-append}
-use Rattle.tk_ids.specs.IdText.{Pair}
-use Rattle.tk_ids.specs.declared.tables.Descriptor.{Descriptor}
+use Rattle.tk_ids.specs.IdText.{SegmentView}
+use Rattle.tk_ids.specs.declared.descriptors.Descriptor.{Descriptor}
 use Rattle.tk_events.specs.declared.kinds.Kind.TheVariants.{Dynamic}
 use Rattle.tk_events.specs.declared.payloads.Payload.TheVariants.{Described, Nothing}
 use Rattle.tk_events.specs.declared.events.Event.{Event}
@@ -178,7 +178,7 @@ module _ (nodes : List NumberedNode) (table : List Descriptor) (planned : IsPlan
         ∙ finds nodes table unit old.worker parent sent prefix (step ∷ back) planned numbers was.unused whole can.0) in
         let child_is = can.1 in
         let same_node : child_is.0 ≡ r.node = some_same (sym child_is.1 ∙ r.is) in
-        let id_is : upper.id ++ r.node.segment ∷ [] ≡ id_at nodes number = sym (child_is.2 ∙ ap₂ (λ (i : List Pair) (n : Node). i ++ n.segment ∷ []) (sym upper_id) same_node) in
+        let id_is : upper.id ++ r.node.segment ∷ [] ≡ id_at nodes number = sym (child_is.2 ∙ ap₂ (λ (i : List SegmentView) (n : Node). i ++ n.segment ∷ []) (sym upper_id) same_node) in
         let count = counted nodes table base [] prefix in
         let split = registrations-append sent l in
         let next : registered_key old.worker (registrations (sent ++ l)) ≡ base + length known = omega (arith, count, split) in

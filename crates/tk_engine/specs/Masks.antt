@@ -1,6 +1,6 @@
 -- The need of a plan's unit.
 use Rattle.std.specs.Prelude.{ℕ, zero, suc, ◌+◌, ◌*◌, Bool, true, false, List, if◌then◌else◌}
-use Rattle.tk_book.specs.Wants.{Wants}
+use Rattle.tk_book.specs.NeedView.{NeedView}
 use Rattle.tk_book.specs.Needs.{Access, nothing, reads, writes}
 use Rattle.tk_plan_units.specs.declared.nodes.NumberedNode.{NumberedNode}
 use Rattle.tk_plan_units.specs.Planned.{unit_asks}
@@ -21,7 +21,7 @@ is_write reads = false
 is_write writes = true
 
 -- a read of each resource that the unit's nodes read and none writes, and a write of each that one writes
-abbrev pub need_of : List NumberedNode → ℕ → Wants
+abbrev pub need_of : List NumberedNode → ℕ → NeedView
 need_of nodes unit = record {
   reads = mask 16 (λ r. is_read (unit_asks nodes unit r));
   writes = mask 16 (λ r. is_write (unit_asks nodes unit r));

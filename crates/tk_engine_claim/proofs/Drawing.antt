@@ -12,8 +12,8 @@ use Rattle.atomic_table.specs.Table.{State, Me, step, keeps, Allows, Splits, Joi
 use Rattle.atomic_table.proofs.Lists.{at_set, at_snoc}
 use Rattle.tk_engine_claim.specs.declared.rules.ClaimLimits.{ClaimLimits}
 use Rattle.tk_engine_claim.specs.declared.rules.Drawn.{Drawn}
-use Rattle.tk_engine_claim.specs.Claims.{times, once_below, IsStrictlyIncreasing, Claims, ClaimName, Claimant}
-use Rattle.tk_engine_claim.specs.ClaimViews.{IsClaimant, claimant_of}
+use Rattle.tk_engine_claim.specs.Claims.{times, once_below, IsStrictlyIncreasing, Claims, ClaimView, ClaimSeatView}
+use Rattle.tk_engine_claim.specs.ClaimViews.{IsClaimant, seat_view_of}
 use Rattle.tk_limits.specs.declared.limits.TheConstants.{MAX_WORKERS}
 use Rattle.tk_engine_claim.specs.declared.claims.ClaimSeat.TheInside as seat
 use Rattle.atomic_table.specs.declared.shared.Seat.{Seat}
@@ -189,7 +189,7 @@ into_count_steps claim_limits id v words slots n final whole found = let s = fin
     )
 
 -- what one seat knows that took in these seats
-pub record Pooled (name : ClaimName) (all : List Claimant) (me : Me (Unit {0}) Drawn) : Type 0 where
+pub record Pooled (name : ClaimView) (all : List ClaimSeatView) (me : Me (Unit {0}) Drawn) : Type 0 where
   pub no_slot : me.1 ≡ []
   pub limit : me.0.claim_limits.limit ≡ name.limit
   pub parts : me.0.parts ≡ length all
@@ -202,39 +202,39 @@ spent_counts : (s : seat.Inside) → IsClaimant s → s.spent ≡ true → 0 < s
 spent_counts s is h = let e : cond {A = ℕ} s.spent 1 0 ≡ 1 = ap (λ b. cond {A = ℕ} b 1 0) h in let p = is.spent_same in omega arith
 
 -- the first seat that comes back
-pub pools : (name : ClaimName) (s : seat.Inside) → (claimant_of s).claim ≡ name → IsClaimant s → Pooled name (claimant_of s ∷ []) s.seat.me
+pub pools : (name : ClaimView) (s : seat.Inside) → (seat_view_of s).claim ≡ name → IsClaimant s → Pooled name (seat_view_of s ∷ []) s.seat.me
 pools name s of_name is = record {
   no_slot = is.no_slot;
-  limit = ap (λ (z : ClaimName). z.limit) of_name;
+  limit = ap (λ (z : ClaimView). z.limit) of_name;
   parts = is.one_part;
   some_part = (let p = is.one_part in omega arith);
   count = λ x. omega arith;
-  increasing = All-cons (λ (z : Claimant). IsStrictlyIncreasing z.numbers) (claimant_of s) [] is.increasing (All-nil (λ (z : Claimant). IsStrictlyIncreasing z.numbers));
-  spent = All-cons (λ (z : Claimant). z.spent ≡ true → 0 < s.seat.me.0.spent) (claimant_of s) [] (spent_counts s is) (All-nil (λ (z : Claimant). z.spent ≡ true → 0 < s.seat.me.0.spent));
+  increasing = All-cons (λ (z : ClaimSeatView). IsStrictlyIncreasing z.numbers) (seat_view_of s) [] is.increasing (All-nil (λ (z : ClaimSeatView). IsStrictlyIncreasing z.numbers));
+  spent = All-cons (λ (z : ClaimSeatView). z.spent ≡ true → 0 < s.seat.me.0.spent) (seat_view_of s) [] (spent_counts s is) (All-nil (λ (z : ClaimSeatView). z.spent ≡ true → 0 < s.seat.me.0.spent));
 }
 
 -- one more seat
-pub pools_more : (name : ClaimName) (s : seat.Inside) (all : List Claimant) (old new : Me (Unit {0}) Drawn) → IsClaimant s → Pooled name all old
+pub pools_more : (name : ClaimView) (s : seat.Inside) (all : List ClaimSeatView) (old new : Me (Unit {0}) Drawn) → IsClaimant s → Pooled name all old
     → new ≡ (drawn old.0.claim_limits (old.0.parts + s.seat.me.0.parts) (old.0.spent + s.seat.me.0.spent) (old.0.numbers ++ s.seat.me.0.numbers), old.1)
-    → Pooled name (claimant_of s ∷ all) new
-pools_more name s all old new is pooled after = subst (Pooled name (claimant_of s ∷ all)) (sym after) record {
+    → Pooled name (seat_view_of s ∷ all) new
+pools_more name s all old new is pooled after = subst (Pooled name (seat_view_of s ∷ all)) (sym after) record {
   no_slot = pooled.no_slot;
   limit = pooled.limit;
   parts = (let p = is.one_part in let q = pooled.parts in omega arith);
   some_part = (let p = pooled.some_part in omega arith);
-  count = λ x. (let t = times-append x old.0.numbers s.seat.me.0.numbers in let c = pooled.count x in let m = sum_by-cons (times x) s.seat.me.0.numbers (map (λ (z : Claimant). z.numbers) all) in omega arith);
-  increasing = All-cons (λ (z : Claimant). IsStrictlyIncreasing z.numbers) (claimant_of s) all is.increasing pooled.increasing;
-  spent = All-cons (λ (z : Claimant). z.spent ≡ true → 0 < old.0.spent + s.seat.me.0.spent) (claimant_of s) all (λ h. let k = spent_counts s is h in omega arith)
-      (All-weaker (λ (z : Claimant). z.spent ≡ true → 0 < old.0.spent) (λ (z : Claimant). z.spent ≡ true → 0 < old.0.spent + s.seat.me.0.spent) (λ z was h. let k = was h in omega arith) all pooled.spent);
+  count = λ x. (let t = times-append x old.0.numbers s.seat.me.0.numbers in let c = pooled.count x in let m = sum_by-cons (times x) s.seat.me.0.numbers (map (λ (z : ClaimSeatView). z.numbers) all) in omega arith);
+  increasing = All-cons (λ (z : ClaimSeatView). IsStrictlyIncreasing z.numbers) (seat_view_of s) all is.increasing pooled.increasing;
+  spent = All-cons (λ (z : ClaimSeatView). z.spent ≡ true → 0 < old.0.spent + s.seat.me.0.spent) (seat_view_of s) all (λ h. let k = spent_counts s is h in omega arith)
+      (All-weaker (λ (z : ClaimSeatView). z.spent ≡ true → 0 < old.0.spent) (λ (z : ClaimSeatView). z.spent ≡ true → 0 < old.0.spent + s.seat.me.0.spent) (λ z was h. let k = was h in omega arith) all pooled.spent);
 }
 
 -- what `close` answers, where all seats came back
-pub closes : (name : ClaimName) (claim_limits : ClaimLimits) (all : List Claimant) (id : ℕ) (me : Me (Unit {0}) Drawn) (words : List ℕ) (slots : List (Unit {0})) (n : ℕ) → claim_limits.limit ≡ name.limit → claim_limits.seats ≡ length all → Pooled name all me
+pub closes : (name : ClaimView) (claim_limits : ClaimLimits) (all : List ClaimSeatView) (id : ℕ) (me : Me (Unit {0}) Drawn) (words : List ℕ) (slots : List (Unit {0})) (n : ℕ) → claim_limits.limit ≡ name.limit → claim_limits.seats ≡ length all → Pooled name all me
     → Final (Seen (DrawsFitWord claim_limits) id me.0) words slots → get_elem? words 0 ≡ some n → Claims (map (λ s. s.numbers) all) (min n name.limit) × All (λ s. s.spent ≡ true → min n name.limit ≡ name.limit) all
 closes name claim_limits all id me words slots n limit count pooled final found = let last = into_count_steps claim_limits id me.0 words slots n final (pooled.parts ∙ sym count) found in (
   record {
-    increasing = All-map IsStrictlyIncreasing (λ (s : Claimant). s.numbers) all pooled.increasing;
+    increasing = All-map IsStrictlyIncreasing (λ (s : ClaimSeatView). s.numbers) all pooled.increasing;
     once = λ x. sym (pooled.count x) ∙ last.0 x ∙ ap (λ (k : ℕ). once_below x (min n k)) limit;
   },
-  All-weaker (λ (s : Claimant). s.spent ≡ true → 0 < me.0.spent) (λ (s : Claimant). s.spent ≡ true → min n name.limit ≡ name.limit) (λ s was h. let k = was h in let t = last.1 in omega arith) all pooled.spent,
+  All-weaker (λ (s : ClaimSeatView). s.spent ≡ true → 0 < me.0.spent) (λ (s : ClaimSeatView). s.spent ≡ true → min n name.limit ≡ name.limit) (λ s was h. let k = was h in let t = last.1 in omega arith) all pooled.spent,
 )

@@ -5,13 +5,13 @@ use Rattle.atomic_table.specs.Seated.{TableId}
 use Rattle.tk_engine_claim.specs.declared.rules.ClaimLimits.{ClaimLimits}
 use Rattle.tk_engine_claim.specs.declared.claims.Claim.TheInside as claim
 use Rattle.tk_engine_claim.specs.declared.claims.ClaimSeat.TheInside as seat
-use Rattle.tk_engine_claim.specs.Claims.{ClaimName, Claimant, IsStrictlyIncreasing}
+use Rattle.tk_engine_claim.specs.Claims.{ClaimView, ClaimSeatView, IsStrictlyIncreasing}
 
-abbrev pub claim_name : TableId → ClaimLimits → ClaimName
-claim_name table limits = record { table = table; limit = limits.limit; seats = limits.seats }
+abbrev pub claim_view : TableId → ClaimLimits → ClaimView
+claim_view table limits = record { table = table; limit = limits.limit; seats = limits.seats }
 
-abbrev pub name_of : claim.Inside → ClaimName
-name_of c = claim_name c.table.shared.table_id c.table.shared.key
+abbrev pub view_of : claim.Inside → ClaimView
+view_of c = claim_view c.table.shared.table_id c.table.shared.key
 
 pub record IsClaim (c : claim.Inside) : Type 0 where
   pub limit_same : c.limit ≡ c.table.shared.key.limit
@@ -21,9 +21,9 @@ pub record IsClaim (c : claim.Inside) : Type 0 where
   pub some_seat : 0 < c.table.shared.key.seats
   pub few_seats : c.table.shared.key.seats ≤ MAX_WORKERS
 
-abbrev pub claimant_of : seat.Inside → Claimant
-claimant_of s = record {
-  claim = claim_name s.seat.table_id s.seat.me.0.claim_limits;
+abbrev pub seat_view_of : seat.Inside → ClaimSeatView
+seat_view_of s = record {
+  claim = claim_view s.seat.table_id s.seat.me.0.claim_limits;
   numbers = s.seat.me.0.numbers;
   spent = s.spent;
 }

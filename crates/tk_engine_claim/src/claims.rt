@@ -1,7 +1,7 @@
 //! Numbers below a limit, each drawn once by one of the seats.
 ghost use Rattle.std.specs.Prelude.{◌≡◌, ◌<◌, ◌≤◌, ◌⊎◌, ◌↔◌, [], ◌∷◌, ◌++◌, true, false, length, map, All, IfOk, IfErr, IfSome, IfNone, Some};
 ghost use Rattle.tk_engine_claim.specs.Claims.{Claims, fresh};
-ghost use Rattle.tk_engine_claim.specs.ClaimViews.{claim_name};
+ghost use Rattle.tk_engine_claim.specs.ClaimViews.{claim_view};
 ghost use Rattle.tk_engine_claim.specs.Drawing.{drawn};
 ghost use Rattle.tk_engine_claim.specs.FaultTexts.{claim_fault_text};
 ghost use Rattle.tk_engine_claim.specs.declared.claims.ClaimFault.TheVariants.{Seats};
@@ -24,13 +24,13 @@ pub struct Claim {
 }
 
 impl Model for Claim {
-    ghost use Rattle.tk_engine_claim.specs.Claims.{ClaimName};
+    ghost use Rattle.tk_engine_claim.specs.Claims.{ClaimView};
 
-    ghost Value = { ClaimName };
+    ghost Value = { ClaimView };
 
-    ghost use Rattle.tk_engine_claim.specs.ClaimViews.{name_of, IsClaim};
+    ghost use Rattle.tk_engine_claim.specs.ClaimViews.{view_of, IsClaim};
 
-    ghost view = { name_of };
+    ghost view = { view_of };
 
     ghost invariant = { IsClaim };
 }
@@ -43,13 +43,13 @@ pub struct ClaimSeat {
 }
 
 impl Model for ClaimSeat {
-    ghost use Rattle.tk_engine_claim.specs.Claims.{Claimant};
+    ghost use Rattle.tk_engine_claim.specs.Claims.{ClaimSeatView};
 
-    ghost Value = { Claimant };
+    ghost Value = { ClaimSeatView };
 
-    ghost use Rattle.tk_engine_claim.specs.ClaimViews.{claimant_of, IsClaimant};
+    ghost use Rattle.tk_engine_claim.specs.ClaimViews.{seat_view_of, IsClaimant};
 
-    ghost view = { claimant_of };
+    ghost view = { seat_view_of };
 
     ghost invariant = { IsClaimant };
 }
@@ -88,7 +88,7 @@ fn split_seats(
     requires of_this { first.table_id ≡ table.now.shared.table_id }
     requires whole { first.me ≡ (drawn table.now.shared.key count 0 [], []) }
     ensures { IfOk result (λ all. (length all.items ≡ count)
-        × All (λ s. s ≡ fresh (claim_name table.now.shared.table_id table.now.shared.key))
+        × All (λ s. s ≡ fresh (claim_view table.now.shared.table_id table.now.shared.key))
         all.items) }
 {
     let mut all = Vec::with_capacity(alloc, count)?;

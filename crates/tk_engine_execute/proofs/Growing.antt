@@ -1,9 +1,9 @@
 -- Sinks that grow, one time after another: a preorder.
 use Rattle.std.proofs.Common.{◌≡◌, ℕ, List, Ok, [], ◌∷◌, ◌++◌, refl, sym, ap, ◌∙◌, append_assoc, append-nil}
 use Rattle.std.proofs.lemmas.List.Elements.{All-nil, All-cons, All-append}
-use Rattle.tk_ids.specs.IdText.{Pair}
-use Rattle.tk_ids.specs.declared.tables.DType.{DType}
-use Rattle.tk_ids.specs.declared.tables.Descriptor.{Descriptor}
+use Rattle.tk_ids.specs.IdText.{SegmentView}
+use Rattle.tk_ids.specs.declared.descriptors.DType.{DType}
+use Rattle.tk_ids.specs.declared.descriptors.Descriptor.{Descriptor}
 use Rattle.tk_events.specs.declared.events.Event.{Event}
 use Rattle.tk_queue.specs.Senders.{SenderView, sends}
 use Rattle.tk_queue.specs.Registering.{IsRegisteredAs, child, registration}
@@ -34,7 +34,7 @@ module _ (P : Event → Type 0) where
   }
 
   -- where P holds of every registration
-  pub grew_registered : (a b : SenderView) (parent : ℕ) (segment : Pair) (name : List ℕ) (dtype : DType) (stamp key : ℕ) → IsRegisteredAs a b (record { parent = parent; segment = segment; name = name; dtype = dtype; stamp = stamp }) (Ok key)
+  pub grew_registered : (a b : SenderView) (parent : ℕ) (segment : SegmentView) (name : List ℕ) (dtype : DType) (stamp key : ℕ) → IsRegisteredAs a b (record { parent = parent; segment = segment; name = name; dtype = dtype; stamp = stamp }) (Ok key)
       → ((d : Descriptor) → P (registration a stamp d)) → GrewBy P a b
   grew_registered a b parent segment name dtype stamp key (above, _, _, _, _, is, _) holds =
       grew_one a b (registration a stamp (child above segment name dtype)) is (holds (child above segment name dtype))

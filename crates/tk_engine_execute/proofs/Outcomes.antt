@@ -5,7 +5,7 @@ use Rattle.std.proofs.lemmas.List.Elements.{All-nil, All-push, All-weaker}
 use Rattle.std.proofs.lemmas.List.Quantifiers.{all_pairs_push}
 use Rattle.atomic_table.specs.Seated.{TableId}
 use Rattle.tk_events.specs.declared.events.Event.{Event}
-use Rattle.tk_engine_claim.specs.Claims.{ClaimName}
+use Rattle.tk_engine_claim.specs.Claims.{ClaimView}
 use Rattle.tk_engine_execute.specs.declared.event_collectors.EventCollector.{EventCollector}
 use Rattle.tk_engine_execute.specs.declared.worker_threads.JoinedWorkers.{JoinedWorkers}
 use Rattle.tk_engine_execute.specs.declared.workers.Outcome.{Outcome}
@@ -15,7 +15,7 @@ use Rattle.tk_engine_execute.specs.Workers.{IsDone, AreDone}
 use Rattle.tk_engine_execute.proofs.Positions.{nil_of_length, snoc_all}
 use Rattle.tk_engine_execute.proofs.Collecting.{follows-trans}
 
-module _ (may : ℕ → ℕ → ℕ → List Event → Type 0) (units : ℕ) (session : TableId) (claim : ClaimName) where
+module _ (may : ℕ → ℕ → ℕ → List Event → Type 0) (units : ℕ) (session : TableId) (claim : ClaimView) where
   abbrev IsOwn : Outcome → Type 0
   IsOwn o = IsDone may units session claim o.ended.worker o
 
@@ -41,7 +41,7 @@ module _ (may : ℕ → ℕ → ℕ → List Event → Type 0) (units : ℕ) (se
   pub failures_are_units : (n : ℕ) (os : List Outcome) → AreDone may units session claim n os → All (λ o. IfSome o.failure (λ f. f.unit < units)) os
   failures_are_units n os done = All-weaker IsOwn (λ o. IfSome o.failure (λ f. f.unit < units)) (λ o own. own.unit) os done.each
 
-module _ (may : ℕ → ℕ → ℕ → List Event → Type 0) (units : ℕ) (claim : ClaimName) where
+module _ (may : ℕ → ℕ → ℕ → List Event → Type 0) (units : ℕ) (claim : ClaimView) where
   -- no worker is to be joined
   pub nobody_joined : (n : ℕ) (old : JoinedWorkers) (last : EventCollector) → n ≡ 0 → vec_len old.outcomes ≡ 0 → Follows old.collector last → IsCollector last → NoneIsAwaited last → last.is_refused ≡ old.collector.is_refused
       → WorkersWereRun may units claim n old (record { collector = last; outcomes = old.outcomes })

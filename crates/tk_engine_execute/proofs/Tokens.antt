@@ -11,7 +11,7 @@ use Rattle.tk_events.specs.declared.events.Event.{Event}
 use Rattle.tk_events.specs.declared.events.Entry.{Entry}
 use Rattle.tk_record_columns.specs.Mixing.{IsWorkerOf, of_worker, Mix}
 use Rattle.tk_queue_core.specs.Core.{entries}
-use Rattle.tk_engine_claim.specs.Claims.{ClaimName, Claimant, Claims}
+use Rattle.tk_engine_claim.specs.Claims.{ClaimView, ClaimSeatView, Claims}
 use Rattle.tk_queue.specs.declared.receivers.CloseReason.{CloseReason}
 use Rattle.tk_queue.specs.declared.receivers.CloseReason.TheVariants.{Missing, Twice, NotDrained}
 use Rattle.tk_queue.specs.Senders.{SenderView as Sent}
@@ -109,7 +109,7 @@ sessions r ts can = all_from (λ t. t.session ≡ r.session) ts can.session
 -- ---- outcomes
 
 -- the outcome of a token, and its seat
-token_at : (os : List Outcome) (ts : List Sent) (ss : List Claimant) → AllCompleted os ts ss → (i : ℕ) (t : Sent) → slice_get ts i ≡ Some t
+token_at : (os : List Outcome) (ts : List Sent) (ss : List ClaimSeatView) → AllCompleted os ts ss → (i : ℕ) (t : Sent) → slice_get ts i ≡ Some t
     → (o : Outcome) × (slice_get os i ≡ Some o) × (o.failure ≡ None) × (t ≡ o.ended) × (slice_get ss i ≡ Some o.claim_seat)
 token_at [] ts ss (a, b) i t e = let none : slice_get [] i ≡ Some t = rw a at e in cc
 token_at (o ∷ os) ts ss (none, us, rs, a, b, rest) zero t e =
@@ -119,7 +119,7 @@ token_at (o ∷ os) ts ss (none, us, rs, a, b, rest) (suc i) t e =
     let h = token_at os us rs rest i t later in (h.0, h.1, h.2, h.3, rw b (h.4))
 
 -- the outcome of a seat, and its token
-pub seat_at : (os : List Outcome) (ts : List Sent) (ss : List Claimant) → AllCompleted os ts ss → (i : ℕ) (s : Claimant) → slice_get ss i ≡ Some s
+pub seat_at : (os : List Outcome) (ts : List Sent) (ss : List ClaimSeatView) → AllCompleted os ts ss → (i : ℕ) (s : ClaimSeatView) → slice_get ss i ≡ Some s
     → (o : Outcome) × (slice_get os i ≡ Some o) × (o.failure ≡ None) × (s ≡ o.claim_seat) × (slice_get ts i ≡ Some o.ended)
 seat_at [] ts ss (a, b) i s e = let none : slice_get [] i ≡ Some s = rw b at e in cc
 seat_at (o ∷ os) ts ss (none, us, rs, a, b, rest) zero s e =
@@ -128,11 +128,11 @@ seat_at (o ∷ os) ts ss (none, us, rs, a, b, rest) (suc i) s e =
     let later : slice_get (o.claim_seat ∷ rs) (suc i) ≡ Some s = rw b at e in
     let h = seat_at os us rs rest i s later in (h.0, h.1, h.2, h.3, rw a (h.4))
 
-length-tokens : (os : List Outcome) (ts : List Sent) (ss : List Claimant) → AllCompleted os ts ss → length ts ≡ length os
+length-tokens : (os : List Outcome) (ts : List Sent) (ss : List ClaimSeatView) → AllCompleted os ts ss → length ts ≡ length os
 length-tokens [] ts ss (a, b) = ap (λ l. length l) a
 length-tokens (o ∷ os) ts ss (none, us, rs, a, b, rest) = ap (λ l. length l) a ∙ ap suc (length-tokens os us rs rest)
 
-pub length-seats : (os : List Outcome) (ts : List Sent) (ss : List Claimant) → AllCompleted os ts ss → length ss ≡ length os
+pub length-seats : (os : List Outcome) (ts : List Sent) (ss : List ClaimSeatView) → AllCompleted os ts ss → length ss ≡ length os
 length-seats [] ts ss (a, b) = ap (λ l. length l) b
 length-seats (o ∷ os) ts ss (none, us, rs, a, b, rest) = ap (λ l. length l) b ∙ ap suc (length-seats os us rs rest)
 
@@ -145,7 +145,7 @@ all_marked a collector none_is_awaited going i within =
     let gone : get_or a.awaited.items i true ≡ false = none_is_awaited i (get_or a.awaited.items i true) here in
     collector.marked going i (here ∙ ap Some gone)
 
-module _ (may : ℕ → ℕ → ℕ → List Event → Type 0) (units workers : ℕ) (claim : ClaimName) (os : List Outcome) (ts : List Sent) (ss : List Claimant) (whole : AllCompleted os ts ss) (count : length os ≡ workers) where
+module _ (may : ℕ → ℕ → ℕ → List Event → Type 0) (units workers : ℕ) (claim : ClaimView) (os : List Outcome) (ts : List Sent) (ss : List ClaimSeatView) (whole : AllCompleted os ts ss) (count : length os ≡ workers) where
   pub can_close : (a : EventCollector) → IsCollector a → NoneIsAwaited a → a.is_refused ≡ false → length a.awaited.items ≡ workers → a.receiver.workers ≡ workers
       → AllDone may units a.receiver.session claim os → CanClose a.receiver ts
   can_close a collector none_is_awaited going width is_workers done = record {
@@ -156,35 +156,35 @@ module _ (may : ℕ → ℕ → ℕ → List Event → Type 0) (units workers : 
   }
 
   pub of_claim : (session : TableId) → AllDone may units session claim os → All (λ s. s.claim ≡ claim) ss
-  of_claim session done = all_from (λ s. s.claim ≡ claim) ss (λ i s e. let h = seat_at os ts ss whole i s e in ap (λ (x : Claimant). x.claim) (h.3) ∙ (done i (h.0) (h.1)).claim_is)
+  of_claim session done = all_from (λ s. s.claim ≡ claim) ss (λ i s e. let h = seat_at os ts ss whole i s e in ap (λ (x : ClaimSeatView). x.claim) (h.3) ∙ (done i (h.0) (h.1)).claim_is)
 
   -- what the workers of a run share
   pub shared : (r : ReceiverView) (drew : ℕ) → 0 < workers → r.workers ≡ workers → CanClose r ts → Mix r.workers (entries r.taken) (sent_by ts) → AllDone may units r.session claim os
-      → Claims (map (λ (s : Claimant). s.numbers) ss) drew → ((i : ℕ) (s : Claimant) → slice_get ss i ≡ Some s → s.spent ≡ true → drew ≡ units)
+      → Claims (map (λ (s : ClaimSeatView). s.numbers) ss) drew → ((i : ℕ) (s : ClaimSeatView) → slice_get ss i ≡ Some s → s.spent ≡ true → drew ≡ units)
       → IsShared may units workers (entries r.taken)
   shared r drew some is_workers can mix done claims spent =
       let seats : length ss ≡ workers = length-seats os ts ss whole ∙ count in
-      let first : (s : Claimant) × (slice_get ss 0 ≡ Some s) = first_of ss (omega arith) in
+      let first : (s : ClaimSeatView) × (slice_get ss 0 ≡ Some s) = first_of ss (omega arith) in
       let h = seat_at os ts ss whole 0 (first.0) (first.1) in
-      let stated : first.0.spent ≡ true = ap (λ (x : Claimant). x.spent) (h.3) ∙ (done 0 (h.0) (h.1)).all (h.2) in
+      let stated : first.0.spent ≡ true = ap (λ (x : ClaimSeatView). x.spent) (h.3) ∙ (done 0 (h.0) (h.1)).all (h.2) in
       let all : drew ≡ units = spent 0 (first.0) (first.1) stated in
       record {
-        drawn = map (λ (s : Claimant). s.numbers) ss;
+        drawn = map (λ (s : ClaimSeatView). s.numbers) ss;
         lists = sent_by ts;
-        seats = length-map ss (λ (s : Claimant). s.numbers) ∙ seats;
+        seats = length-map ss (λ (s : ClaimSeatView). s.numbers) ∙ seats;
         claims = rw all at claims;
         mix = rw is_workers at mix;
         emits = λ i us e.
-            let s = map_at (λ (s : Claimant). s.numbers) ss i us e in
+            let s = map_at (λ (s : ClaimSeatView). s.numbers) ss i us e in
             let o = seat_at os ts ss whole i (s.0) (s.1) in
             let one = done i (o.0) (o.1) in
-            let us_is : us ≡ o.0.claim_seat.numbers = s.2 ∙ ap (λ (x : Claimant). x.numbers) (o.3) in
+            let us_is : us ≡ o.0.claim_seat.numbers = s.2 ∙ ap (λ (x : ClaimSeatView). x.numbers) (o.3) in
             let l_is : sent_by ts (0 + i + 1) ≡ o.0.ended.sent = list_at 0 i ts o.0.ended (numbered r ts can) (o.4) in
             let n : 0 + i + 1 ≡ i + 1 = omega arith in
             emits_along may (i + 1) (i + 1) us o.0.claim_seat.numbers (sent_by ts (i + 1)) o.0.ended.sent refl us_is (rw n at l_is) (one.emits (o.2));
       }
     where
-      first_of : (xs : List Claimant) → 0 < length xs → (s : Claimant) × (slice_get xs 0 ≡ Some s)
+      first_of : (xs : List ClaimSeatView) → 0 < length xs → (s : ClaimSeatView) × (slice_get xs 0 ≡ Some s)
       first_of [] some = absurd (omega arith)
       first_of (x ∷ xs) some = (x, refl)
 

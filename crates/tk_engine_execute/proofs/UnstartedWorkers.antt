@@ -2,9 +2,9 @@
 use Rattle.std.proofs.Common.{◌≡◌, ℕ, zero, suc, ◌+◌, List, [], ◌∷◌, ◌++◌, length, refl, ap, sym, ◌∙◌, arith, length-append}
 use Rattle.std.specs.Prelude.{vec_len}
 use Rattle.atomic_table.specs.Seated.{TableId}
-use Rattle.tk_ids.specs.declared.tables.Descriptor.{Descriptor}
-use Rattle.tk_book.specs.Books.{BookName, Holder, empty}
-use Rattle.tk_engine_claim.specs.Claims.{ClaimName, Claimant, fresh}
+use Rattle.tk_ids.specs.declared.descriptors.Descriptor.{Descriptor}
+use Rattle.tk_book.specs.Books.{BookView, BookSeatView, empty}
+use Rattle.tk_engine_claim.specs.Claims.{ClaimView, ClaimSeatView, fresh}
 use Rattle.tk_queue.specs.Senders.{SenderView, fresh_senders}
 use Rattle.tk_engine_execute.specs.declared.unstarted_workers.UnstartedWorkers.{UnstartedWorkers}
 use Rattle.tk_engine_execute.specs.declared.workers.WorkerHandles.{WorkerHandles}
@@ -27,7 +27,7 @@ senders_cut session table all rest s cut fresh =
     let one : suc (length rest) ≡ length rest + 1 = omega arith in
     (h.0, h.1 ∙ ap (λ w. record { session = session; table = table; worker = w; sent = [] }) one)
 
-module _ (session : TableId) (claim : ClaimName) (book : BookName) (table : List Descriptor) (all rest : UnstartedWorkers) (h : WorkerHandles) (cut : IsLastWorker all rest h) (c : AreUnstarted session claim book table all) where
+module _ (session : TableId) (claim : ClaimView) (book : BookView) (table : List Descriptor) (all rest : UnstartedWorkers) (h : WorkerHandles) (cut : IsLastWorker all rest h) (c : AreUnstarted session claim book table all) where
   pub unstarted_rest : AreUnstarted session claim book table rest
   unstarted_rest = record {
     senders = (senders_cut session table all.senders.items rest.senders.items h.sender cut.sender c.senders).0;
@@ -47,10 +47,10 @@ module _ (session : TableId) (claim : ClaimName) (book : BookName) (table : List
       record {
         table_is = ap (λ (x : SenderView). x.table) unstarted_sender;
         sent = ap (λ (x : SenderView). x.sent) unstarted_sender;
-        claim_is = ap (λ (x : Claimant). x.claim) k;
-        numbers = ap (λ (x : Claimant). x.numbers) k;
-        book_is = ap (λ (x : Holder). x.book) b;
-        holds = ap (λ (x : Holder). x.holds) b;
+        claim_is = ap (λ (x : ClaimSeatView). x.claim) k;
+        numbers = ap (λ (x : ClaimSeatView). x.numbers) k;
+        book_is = ap (λ (x : BookSeatView). x.book) b;
+        holds = ap (λ (x : BookSeatView). x.holds) b;
       }
 
 -- there is one worker fewer

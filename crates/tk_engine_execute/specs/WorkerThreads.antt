@@ -1,16 +1,16 @@
 -- The workers of a run, before their threads start and after all threads were joined.
 use Rattle.std.specs.Prelude.{◌≡◌, ℕ, ◌<◌, ◌≤◌, true, false, List, vec_len, vec_capacity}
-use Rattle.tk_ids.specs.declared.tables.Descriptor.{Descriptor}
+use Rattle.tk_ids.specs.declared.descriptors.Descriptor.{Descriptor}
 use Rattle.tk_events.specs.declared.events.Event.{Event}
-use Rattle.tk_book.specs.Books.{BookName}
-use Rattle.tk_engine_claim.specs.Claims.{ClaimName}
+use Rattle.tk_book.specs.Books.{BookView}
+use Rattle.tk_engine_claim.specs.Claims.{ClaimView}
 use Rattle.tk_engine_execute.specs.declared.unstarted_workers.UnstartedWorkers.{UnstartedWorkers}
 use Rattle.tk_engine_execute.specs.declared.worker_threads.JoinedWorkers.{JoinedWorkers}
 use Rattle.tk_engine_execute.specs.EventCollectors.{Follows, IsCollector, NoneIsAwaited}
 use Rattle.tk_engine_execute.specs.Workers.{AreUnstarted, AllDone, AreDone}
 
 -- no worker was joined yet, and there is room for the outcome of each
-pub record CanRunWorkers (claim : ClaimName) (book : BookName) (table : List Descriptor)
+pub record CanRunWorkers (claim : ClaimView) (book : BookView) (table : List Descriptor)
     (c : UnstartedWorkers) (t : JoinedWorkers) : Type 0 where
   pub unstarted : AreUnstarted t.collector.receiver.session claim book table c
   pub collector : IsCollector t.collector
@@ -20,7 +20,7 @@ pub record CanRunWorkers (claim : ClaimName) (book : BookName) (table : List Des
 -- After the threads of n workers were joined: no worker is awaited any more, and the outcomes are
 -- what the workers have left. Where a thread was not started, an outcome is missing; else there is
 -- one of each worker.
-pub record WorkersWereRun (may : ℕ → ℕ → ℕ → List Event → Type 0) (units : ℕ) (claim : ClaimName)
+pub record WorkersWereRun (may : ℕ → ℕ → ℕ → List Event → Type 0) (units : ℕ) (claim : ClaimView)
     (n : ℕ) (old new : JoinedWorkers) : Type 0 where
   pub follows : Follows old.collector new.collector
   pub collector : IsCollector new.collector

@@ -2,10 +2,10 @@
 use Rattle.std.specs.Prelude.{◌≡◌, ℕ, ◌+◌, ◌<◌, ◌≤◌, true, false, List, [], ◌∷◌, ◌++◌, length, None, Some, IfSome, All, slice_get}
 use Rattle.std.specs.List.{AllPairs}
 use Rattle.atomic_table.specs.Seated.{TableId}
-use Rattle.tk_ids.specs.declared.tables.Descriptor.{Descriptor}
+use Rattle.tk_ids.specs.declared.descriptors.Descriptor.{Descriptor}
 use Rattle.tk_events.specs.declared.events.Event.{Event}
-use Rattle.tk_book.specs.Books.{BookName, empty}
-use Rattle.tk_engine_claim.specs.Claims.{ClaimName, Claimant, fresh}
+use Rattle.tk_book.specs.Books.{BookView, empty}
+use Rattle.tk_engine_claim.specs.Claims.{ClaimView, ClaimSeatView, fresh}
 use Rattle.tk_queue.specs.Senders.{fresh_senders}
 use Rattle.tk_engine_runs.specs.Run.{Emits}
 use Rattle.tk_engine_execute.specs.declared.workers.WorkerHandles.{WorkerHandles}
@@ -13,7 +13,7 @@ use Rattle.tk_engine_execute.specs.declared.workers.Outcome.{Outcome}
 use Rattle.tk_engine_execute.specs.declared.unstarted_workers.UnstartedWorkers.{UnstartedWorkers}
 
 -- nothing was done with the handles, which are of this claim, book and table
-pub record IsReady (claim : ClaimName) (book : BookName) (table : List Descriptor)
+pub record IsReady (claim : ClaimView) (book : BookView) (table : List Descriptor)
     (h : WorkerHandles) : Type 0 where
   pub table_is : h.sender.table ≡ table
   pub sent : h.sender.sent ≡ []
@@ -24,7 +24,7 @@ pub record IsReady (claim : ClaimName) (book : BookName) (table : List Descripto
 
 -- A unit is the last that worker w drew, and the worker has not found that there are no more. The
 -- units before it emitted a prefix of what the worker emitted.
-pub record IsStopped (may : ℕ → ℕ → ℕ → List Event → Type 0) (w : ℕ) (seat : Claimant)
+pub record IsStopped (may : ℕ → ℕ → ℕ → List Event → Type 0) (w : ℕ) (seat : ClaimSeatView)
     (sent : List Event) (unit : ℕ) : Type 0 where
   pub earlier : List ℕ
   pub prefix : List Event
@@ -37,7 +37,7 @@ pub record IsStopped (may : ℕ → ℕ → ℕ → List Event → Type 0) (w : 
 -- What worker w has left: its token, its seat, and where no unit failed, the list that the units
 -- that it drew may emit. A unit that failed is one of the engine's, and the worker stopped at it.
 pub record IsDone (may : ℕ → ℕ → ℕ → List Event → Type 0) (units : ℕ) (session : TableId)
-    (claim : ClaimName) (w : ℕ) (o : Outcome) : Type 0 where
+    (claim : ClaimView) (w : ℕ) (o : Outcome) : Type 0 where
   pub session_is : o.ended.session ≡ session
   pub worker : o.ended.worker ≡ w
   pub claim_is : o.claim_seat.claim ≡ claim
@@ -47,7 +47,7 @@ pub record IsDone (may : ℕ → ℕ → ℕ → List Event → Type 0) (units :
   pub stopped : IfSome o.failure (λ f. IsStopped may w o.claim_seat o.ended.sent f.unit)
 
 -- the senders and seats of the workers 1, 2, .., who have done nothing
-pub record AreUnstarted (session : TableId) (claim : ClaimName) (book : BookName)
+pub record AreUnstarted (session : TableId) (claim : ClaimView) (book : BookView)
     (table : List Descriptor) (c : UnstartedWorkers) : Type 0 where
   pub senders : c.senders.items ≡ fresh_senders session table (length c.senders.items)
   pub as_many_claim_seats : length c.claim_seats.items ≡ length c.senders.items
@@ -63,14 +63,14 @@ pub record IsLastWorker (all rest : UnstartedWorkers) (h : WorkerHandles) : Type
 
 -- worker i + 1 left outcome i
 abbrev pub AllDone :
-    (ℕ → ℕ → ℕ → List Event → Type 0) → ℕ → TableId → ClaimName → List Outcome → Type 0
+    (ℕ → ℕ → ℕ → List Event → Type 0) → ℕ → TableId → ClaimView → List Outcome → Type 0
 AllDone may units session claim outcomes =
     (i : ℕ) (o : Outcome) → slice_get outcomes i ≡ Some o → IsDone may units session claim (i + 1) o
 
 -- Each outcome is what its worker has left, which is one of the workers 1 to n, and they stand in
 -- the order of the workers. A worker without a thread has none.
 pub record AreDone (may : ℕ → ℕ → ℕ → List Event → Type 0) (units : ℕ) (session : TableId)
-    (claim : ClaimName) (n : ℕ) (outcomes : List Outcome) : Type 0 where
+    (claim : ClaimView) (n : ℕ) (outcomes : List Outcome) : Type 0 where
   pub each : All (λ o. IsDone may units session claim o.ended.worker o) outcomes
   pub few : All (λ o. o.ended.worker ≤ n) outcomes
   pub rising : AllPairs (λ a b. a.ended.worker < b.ended.worker) outcomes

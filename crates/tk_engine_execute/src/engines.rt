@@ -1,9 +1,9 @@
 //! What an engine is: a table, events before and after, and units with their needs.
 ghost use Rattle.std.specs.Prelude.{◌≡◌, ℕ, ◌<◌, ◌≤◌, List, length, Some, IfOk, OnOk, OnErr};
 ghost use Rattle.std.specs.Arc.{arc_value};
-ghost use Rattle.tk_ids.specs.declared.tables.Descriptor.{Descriptor};
+ghost use Rattle.tk_ids.specs.declared.descriptors.Descriptor.{Descriptor};
 ghost use Rattle.tk_events.specs.declared.events.Event.{Event};
-ghost use Rattle.tk_book.specs.Wants.{Wants};
+ghost use Rattle.tk_book.specs.NeedView.{NeedView};
 ghost use Rattle.tk_engine_execute.specs.Engines.{IsSame, Extends, ExtendsAs, AreBeforeOrAfter};
 ghost use Rattle.tk_engine_execute.specs.FaultTexts.{unit_fault_text};
 
@@ -83,7 +83,7 @@ pub trait Engine: Sync {
 
     ghost after: { Self → List Event };
 
-    ghost need: { Self → ℕ → Wants };
+    ghost need: { Self → ℕ → NeedView };
 
     // may e u w k l: unit u may emit l for worker w, which had registered k descriptors before
     ghost may: { Self → ℕ → ℕ → ℕ → List Event → Type 0 };

@@ -11,16 +11,16 @@ use Rattle.tk_plan_units.proofs.Cuts.{from_each-append, spine_facts, parts-moves
 use Rattle.tk_plan_units.proofs.StepEvents.{spine_events_are_steps}
 use Rattle.tk_plan_units.specs.declared.nodes.Node.{Node}
 use Rattle.tk_plan_units.specs.declared.steps.Act.TheVariants.{File, Finish, Register, Report, Skip, Start}
-use Rattle.tk_ids.specs.IdText.{Pair}
+use Rattle.tk_ids.specs.IdText.{SegmentView}
 use Rattle.tk_engine_laws.proofs.Model.{Forest, Item, Part, Publication, Step, Tree, act_of, after, after_below, before, before_below, entries_from, files_from, finish, is_open, more, no_trees, opening, parts, parts_below, performed, plain, publications, published, script, static_event, static_events, step, steps, steps_below, tree}
 
 abbrev mutual
-  pub modelled : Bool → ℕ → List Pair → plan.Tree → Tree
+  pub modelled : Bool → ℕ → List SegmentView → plan.Tree → Tree
   modelled is_root parent above (plan.tree n k f) = tree
       (record { number = k; parent = parent; id = above ++ n.segment ∷ []; is_static = n.is_static; may_open = cut.on_spine is_root n f; skip = n.skip; node = n })
       (modelled_below false k (above ++ n.segment ∷ []) f)
 
-  pub modelled_below : Bool → ℕ → List Pair → plan.Forest → Forest
+  pub modelled_below : Bool → ℕ → List SegmentView → plan.Forest → Forest
   modelled_below is_root parent above plan.no_trees = no_trees
   modelled_below is_root parent above (plan.more t f) = more (modelled is_root parent above t) (modelled_below is_root parent above f)
 
@@ -77,7 +77,7 @@ plain_performed p n None below ms h =
     ∙ sym (stamped-append p (done.opening n.node n.number) (ms ++ done.move n.number Finish ∷ []) ∙ ap (λ l. done.stamped p (done.opening n.node n.number) ++ l) (stamped-append i ms (done.move n.number Finish ∷ []))))
 
 mutual
-  pub plain_steps : (b : Bool) (parent : ℕ) (above : List Pair) (p : ℕ) (t : plan.Tree) → map plain (steps p (modelled b parent above t)) ≡ done.stamped p (done.registration parent t ++ done.moves t)
+  pub plain_steps : (b : Bool) (parent : ℕ) (above : List SegmentView) (p : ℕ) (t : plan.Tree) → map plain (steps p (modelled b parent above t)) ≡ done.stamped p (done.registration parent t ++ done.moves t)
   plain_steps b parent above p (plan.tree n k f) =
       let item : Item = record { number = k; parent = parent; id = above ++ n.segment ∷ []; is_static = n.is_static; may_open = cut.on_spine b n f; skip = n.skip; node = n } in
       let m = modelled_below false k (above ++ n.segment ∷ []) f in
@@ -89,7 +89,7 @@ mutual
         | false ↦ ap (λ l. record { node = k; stamp = p; act = Register parent } ∷ l) (own (p + 1))
       ]
 
-  pub plain_below : (b : Bool) (parent : ℕ) (above : List Pair) (p : ℕ) (f : plan.Forest) → map plain (steps_below p (modelled_below b parent above f)) ≡ done.stamped p (done.moves_below parent f)
+  pub plain_below : (b : Bool) (parent : ℕ) (above : List SegmentView) (p : ℕ) (f : plan.Forest) → map plain (steps_below p (modelled_below b parent above f)) ≡ done.stamped p (done.moves_below parent f)
   plain_below b parent above p plan.no_trees = refl
   plain_below b parent above p (plan.more t f) =
       let m = modelled b parent above t in
@@ -191,7 +191,7 @@ abbrev is_static : plan.Tree → Bool
 is_static (plan.tree n k f) = n.is_static
 
 mutual
-  cuts : (b : Bool) (parent : ℕ) (above : List Pair) (p : ℕ) (t : plan.Tree) → is_static t ≡ true → Cuts p (modelled b parent above t) (cut.parts b t)
+  cuts : (b : Bool) (parent : ℕ) (above : List SegmentView) (p : ℕ) (t : plan.Tree) → is_static t ≡ true → Cuts p (modelled b parent above t) (cut.parts b t)
   cuts b parent above p (plan.tree n k f) e =
       let item : Item = record { number = k; parent = parent; id = above ++ n.segment ∷ []; is_static = n.is_static; may_open = cut.on_spine b n f; skip = n.skip; node = n } in
       let g = modelled_below false k (above ++ n.segment ∷ []) f in
@@ -206,7 +206,7 @@ mutual
       (cuts_whole p item g (plan.tree n k f) (same ∙ y) (plain_steps b parent above p (plan.tree n k f) ∙ ap (done.stamped p) (static_moves parent n k f e))))
       (cases_Bool (cut.on_spine b n f))
 
-  pub cuts_below : (b : Bool) (parent : ℕ) (above : List Pair) (p : ℕ) (f : plan.Forest) → cut.all_static f ≡ true → CutsBelow p (modelled_below b parent above f) (cut.parts_below b f)
+  pub cuts_below : (b : Bool) (parent : ℕ) (above : List SegmentView) (p : ℕ) (f : plan.Forest) → cut.all_static f ≡ true → CutsBelow p (modelled_below b parent above f) (cut.parts_below b f)
   cuts_below b parent above p plan.no_trees e = record { units = refl; before = refl; after = refl }
   cuts_below b parent above p (plan.more (plan.tree n k g) f) e =
       let t = plan.tree n k g in

@@ -11,9 +11,9 @@ use Rattle.tk_events.specs.declared.events.Event.{Event}
 use Rattle.tk_events.specs.declared.events.Entry.{Entry}
 use Rattle.tk_events.specs.declared.kinds.Kind.{Kind}
 use Rattle.tk_events.specs.declared.kinds.Kind.TheVariants.{Dynamic, Finished, Skipped, Started}
-use Rattle.tk_ids.specs.IdText.{Pair}
+use Rattle.tk_ids.specs.IdText.{SegmentView}
 use Rattle.tk_ids.specs.Table.{ids_of}
-use Rattle.tk_ids.specs.declared.tables.Descriptor.{Descriptor}
+use Rattle.tk_ids.specs.declared.descriptors.Descriptor.{Descriptor}
 use Rattle.tk_engine_laws.proofs.ListenerSteps.{listener_law, once, ran_of, registered}
 use Rattle.tk_engine_laws.proofs.Ids.{same_decides}
 use Rattle.tk_engine_laws.proofs.Lists.{each_at}
@@ -49,7 +49,7 @@ each_map : (P Q : Event → Type 0) (es : List Event) → ((e : Event) → P e �
 each_map P Q [] f h = tt
 each_map P Q (e ∷ es) f h = (f e h.0, each_map P Q es f h.1)
 
-module _ (names : ℕ → List Pair) where
+module _ (names : ℕ → List SegmentView) where
   filter_label : (p : Label → Bool) (es : List Event) → map (label names) (filter (λ e. p (label names e)) es) ≡ filter p (map (label names) es)
   filter_label p [] = refl
   filter_label p (e ∷ es) = let h = filter_label p es in
@@ -84,7 +84,7 @@ map_get g [] i x e = cc
 map_get g (y ∷ ys) zero x e = ap (option_map g) e
 map_get g (y ∷ ys) (suc i) x e = map_get g ys i x e
 
-longer : (i : List Pair) (s : Pair) (more : List Pair) → (i ++ s ∷ more) ≢ []
+longer : (i : List SegmentView) (s : SegmentView) (more : List SegmentView) → (i ++ s ∷ more) ≢ []
 longer [] s more e = cc
 longer (x ∷ xs) s more e = cc
 
@@ -110,7 +110,7 @@ none_any : (k : ℕ) (p : Event → Bool) (es : List Event) → Each (λ e. (e.k
 none_any k p [] h = refl
 none_any k p (e ∷ es) h = ap₂ (λ b l. (b && p e) || l) h.0 (none_any k p es h.1)
 
-emitted_here : (d b : Bool) (x l : List (List Pair)) (a : Bool) → (0 < length l → a ≡ true) → 0 < length ((if d && b then x else []) ++ l) → ((b && d) || a) ≡ true
+emitted_here : (d b : Bool) (x l : List (List SegmentView)) (a : Bool) → (0 < length l → a ≡ true) → 0 < length ((if d && b then x else []) ++ l) → ((b && d) || a) ≡ true
 emitted_here true true x l a h p = refl
 emitted_here false true x l a h p = h p
 emitted_here true false x l a h p = h p
@@ -148,7 +148,7 @@ module _ (all : List NumberedNode) (table : List Descriptor) (f : Forest) (worke
   agree_kind : (k : ℕ) (kind : Kind) → Comes all table f workers r plan run k → Each (λ e. (e.key == k && same_kind e.kind kind) ≡ (same_id (name r e.key) (name r k) && same_kind e.kind kind)) (events r.entries)
   agree_kind k kind from = each_map (λ e. (e.key == k) ≡ same_id (name r e.key) (name r k)) _ (events r.entries) (λ e h. ap (λ b. b && same_kind e.kind kind) h) (agree k from)
 
-  child_comes : (p k : ℕ) (s : Pair) (more : List Pair) → name r k ≡ name r p ++ s ∷ more → Comes all table f workers r plan run k
+  child_comes : (p k : ℕ) (s : SegmentView) (more : List SegmentView) → name r k ≡ name r p ++ s ∷ more → Comes all table f workers r plan run k
   child_comes p k s more is = described_comes k (λ none. longer (name r p) s more (sym is ∙ none))
 
   start_first_key : (p k : ℕ) → IsChild (name r) p k → precedes (λ e. e.key == p && same_kind e.kind Started) (λ e. e.key == k) (events r.entries) ≡ true

@@ -13,9 +13,9 @@ use Rattle.tk_events.specs.declared.events.Entry.{Entry}
 use Rattle.tk_events.specs.declared.events.Event.{Event}
 use Rattle.tk_events.specs.declared.payloads.Payload.{Payload}
 use Rattle.tk_events.specs.declared.payloads.Payload.TheVariants.{Described, Nothing, Outcome, Path, Reason, Report as Reported}
-use Rattle.tk_ids.specs.IdText.{Pair}
+use Rattle.tk_ids.specs.IdText.{SegmentView}
 use Rattle.tk_ids.specs.Table.{ids_of}
-use Rattle.tk_ids.specs.declared.tables.Descriptor.{Descriptor}
+use Rattle.tk_ids.specs.declared.descriptors.Descriptor.{Descriptor}
 use Rattle.tk_engine_laws.proofs.Grounds.{models, trees_of}
 use Rattle.tk_engine_laws.proofs.Keyed.{named_unit}
 use Rattle.tk_engine_laws.proofs.Mixed.{events_by}
@@ -31,7 +31,7 @@ first (x ∷ xs) = Some x
 
 -- ---- descriptors
 
-found_by : (b : Bool) (m : Payload) (o : Option Descriptor) (l : List (List Pair)) → option_map (λ d. d.id) o ≡ first l
+found_by : (b : Bool) (m : Payload) (o : Option Descriptor) (l : List (List SegmentView)) → option_map (λ d. d.id) o ≡ first l
     → option_map (λ d. d.id) (option_or (if b then described m else None) o) ≡ first ((if b then id_emitted m else []) ++ l)
 found_by false m o l e = e
 found_by true (Described d) o l e = refl
@@ -53,12 +53,12 @@ desc_in-append : (xs ys : List Entry) (k : ℕ) → desc_in (xs ++ ys) k ≡ opt
 desc_in-append [] ys k = refl
 desc_in-append (x ∷ xs) ys k = ap (option_or _) (desc_in-append xs ys k) ∙ sym (or_assoc _ (desc_in xs k) (desc_in ys k))
 
-in_table : (table : List Descriptor) (k : ℕ) (x : List Pair) (o : Option Descriptor) → slice_get (ids_of table) k ≡ Some x → option_map (λ d. d.id) (option_or (slice_get table k) o) ≡ Some x
+in_table : (table : List Descriptor) (k : ℕ) (x : List SegmentView) (o : Option Descriptor) → slice_get (ids_of table) k ≡ Some x → option_map (λ d. d.id) (option_or (slice_get table k) o) ≡ Some x
 in_table [] k x o e = cc
 in_table (d ∷ ds) zero x o e = e
 in_table (d ∷ ds) (suc k) x o e = in_table ds k x o e
 
-hit_at : (g : ℕ → List Pair) (k b j : ℕ) (xs : List ℕ) (x : ℕ) → k ≡ b + j → slice_get xs j ≡ Some x → first (map g (hits k b xs)) ≡ Some (g x)
+hit_at : (g : ℕ → List SegmentView) (k b j : ℕ) (xs : List ℕ) (x : ℕ) → k ≡ b + j → slice_get xs j ≡ Some x → first (map g (hits k b xs)) ≡ Some (g x)
 hit_at g k b j [] x e s = cc
 hit_at g k b zero (y ∷ ys) x e s = let same : (b == k) ≡ true = grind (arith, tests, e) in rw same (let i : y ≡ x = cc in ap (λ z. Some (g z)) i)
 hit_at g k b (suc j) (y ∷ ys) x e s = let l : b < k = omega (arith, e) in let differ : (b == k) ≡ false = grind (arith, tests, l) in rw differ (hit_at g k (b + 1) j ys x (omega (arith, e)) s)

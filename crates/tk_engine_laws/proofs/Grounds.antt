@@ -17,9 +17,9 @@ use Rattle.tk_plan_units.specs.Planned.{IsPlanned}
 use Rattle.tk_plan_units.specs.Trees.{forest}
 use Rattle.tk_plan_units.specs.declared.nodes.Node.{Node}
 use Rattle.tk_plan_units.specs.declared.nodes.NumberedNode.{NumberedNode}
-use Rattle.tk_ids.specs.IdText.{Pair}
+use Rattle.tk_ids.specs.IdText.{SegmentView}
 use Rattle.tk_ids.specs.Table.{ids_of}
-use Rattle.tk_ids.specs.declared.tables.Descriptor.{Descriptor}
+use Rattle.tk_ids.specs.declared.descriptors.Descriptor.{Descriptor}
 use Rattle.tk_engine_laws.proofs.Bridge.{cuts_below, modelled, modelled_below, plain_below, run_of, run_piece}
 use Rattle.tk_engine_laws.proofs.Ids.{same_decides}
 use Rattle.tk_engine_laws.proofs.Lists.{at, each_from}
@@ -39,7 +39,7 @@ all_at P (y ∷ ys) (suc i) x h e = all_at P ys i x (λ k d l. h (suc k) d (omeg
 
 -- ---- items beside the plan's nodes and ids
 
-abbrev Beside : List Item → List NumberedNode → List (List Pair) → Type 0
+abbrev Beside : List Item → List NumberedNode → List (List SegmentView) → Type 0
 Beside [] [] [] = Unit {0}
 Beside [] [] (i ∷ is) = ⊥
 Beside [] (p ∷ ps) is = ⊥
@@ -47,7 +47,7 @@ Beside (n ∷ ns) [] is = ⊥
 Beside (n ∷ ns) (p ∷ ps) [] = ⊥
 Beside (n ∷ ns) (p ∷ ps) (i ∷ is) = ((n.number ≡ p.number) × (n.node ≡ p.node) × (n.id ≡ i) × (n.is_static ≡ p.node.is_static)) × Beside ns ps is
 
-beside-append : (a x : List Item) (b y : List NumberedNode) (c z : List (List Pair)) → Beside a b c → Beside x y z → Beside (a ++ x) (b ++ y) (c ++ z)
+beside-append : (a x : List Item) (b y : List NumberedNode) (c z : List (List SegmentView)) → Beside a b c → Beside x y z → Beside (a ++ x) (b ++ y) (c ++ z)
 beside-append [] x [] y [] z h g = g
 beside-append [] x [] y (i ∷ is) z h g = absurd h
 beside-append [] x (p ∷ ps) y c z h g = absurd h
@@ -56,16 +56,16 @@ beside-append (n ∷ ns) x (p ∷ ps) y [] z h g = absurd h
 beside-append (n ∷ ns) x (p ∷ ps) y (i ∷ is) z h g = (h.0, beside-append ns x ps y is z h.1 g)
 
 mutual
-  beside : (b : Bool) (parent : ℕ) (above : List Pair) (t : plan.Tree) → Beside (nodes (modelled b parent above t)) (plan.flat t) (ids.ids above t)
+  beside : (b : Bool) (parent : ℕ) (above : List SegmentView) (t : plan.Tree) → Beside (nodes (modelled b parent above t)) (plan.flat t) (ids.ids above t)
   beside b parent above (plan.tree n k f) = ((refl, refl, refl, refl), beside_below false k (above ++ n.segment ∷ []) f)
 
-  beside_below : (b : Bool) (parent : ℕ) (above : List Pair) (f : plan.Forest) → Beside (nodes_below (modelled_below b parent above f)) (plan.flats f) (ids.ids_below above f)
+  beside_below : (b : Bool) (parent : ℕ) (above : List SegmentView) (f : plan.Forest) → Beside (nodes_below (modelled_below b parent above f)) (plan.flats f) (ids.ids_below above f)
   beside_below b parent above plan.no_trees = tt
   beside_below b parent above (plan.more t f) =
       beside-append (nodes (modelled b parent above t)) _ (plan.flat t) (plan.flats f) (ids.ids above t) (ids.ids_below above f)
       (beside b parent above t) (beside_below b parent above f)
 
-record There (ns : List Item) (ps : List NumberedNode) (is : List (List Pair)) (n : Item) (at : ℕ) : Type 0 where
+record There (ns : List Item) (ps : List NumberedNode) (is : List (List SegmentView)) (n : Item) (at : ℕ) : Type 0 where
   numbered_node : NumberedNode
   in_nodes : slice_get ps at ≡ Some numbered_node
   in_ids : slice_get is at ≡ Some n.id
@@ -73,7 +73,7 @@ record There (ns : List Item) (ps : List NumberedNode) (is : List (List Pair)) (
   node : n.node ≡ numbered_node.node
   static : n.is_static ≡ numbered_node.node.is_static
 
-there : (ns : List Item) (ps : List NumberedNode) (is : List (List Pair)) (at : ℕ) (n : Item) → Beside ns ps is → slice_get ns at ≡ Some n → There ns ps is n at
+there : (ns : List Item) (ps : List NumberedNode) (is : List (List SegmentView)) (at : ℕ) (n : Item) → Beside ns ps is → slice_get ns at ≡ Some n → There ns ps is n at
 there [] ps is at n h e = cc
 there (m ∷ ns) [] is at n h e = absurd h
 there (m ∷ ns) (p ∷ ps) [] at n h e = absurd h
@@ -118,7 +118,7 @@ in_range : (ps : List NumberedNode) (s d i : ℕ) (p : NumberedNode) → slice_g
 in_range [] s d i p e = cc
 in_range (q ∷ ps) s d i p e = in_range_by q.node.is_static q ps s d i p refl (λ s d i e. in_range ps s d i p e) e
 
-found_by : (b : Bool) (q : NumberedNode) (ps : List NumberedNode) (j : List Pair) (is : List (List Pair)) (s d i : ℕ) (p : NumberedNode) (id : List Pair)
+found_by : (b : Bool) (q : NumberedNode) (ps : List NumberedNode) (j : List SegmentView) (is : List (List SegmentView)) (s d i : ℕ) (p : NumberedNode) (id : List SegmentView)
     → ((s d i : ℕ) → s + length (of_kind true ps) ≤ d → slice_get (numbered_from s d ps) i ≡ Some p → slice_get is i ≡ Some id → id_of (numbered_from s d ps) is p.number ≡ id)
     → s + length (cond b (q.node ∷ of_kind true ps) (of_kind true ps)) ≤ d
     → slice_get (cond b (with_number s q ∷ numbered_from (s + 1) d ps) (with_number d q ∷ numbered_from s (d + 1) ps)) i ≡ Some p → slice_get (j ∷ is) i ≡ Some id
@@ -138,7 +138,7 @@ found_by false q ps j is s d (suc i) p id next l e g =
     let differ : (d == p.number) ≡ false = ⊎_elim (λ h. grind (arith, tests, h.2, l)) (λ h. grind (arith, tests, h.1)) (in_range ps s (d + 1) i p e) in
     ap (λ b. if b then j else id_of (numbered_from s (d + 1) ps) is p.number) differ ∙ next s (d + 1) i (omega (arith, l)) e g
 
-found : (ps : List NumberedNode) (is : List (List Pair)) (s d i : ℕ) (p : NumberedNode) (id : List Pair) → s + length (of_kind true ps) ≤ d
+found : (ps : List NumberedNode) (is : List (List SegmentView)) (s d i : ℕ) (p : NumberedNode) (id : List SegmentView) → s + length (of_kind true ps) ≤ d
     → slice_get (numbered_from s d ps) i ≡ Some p → slice_get is i ≡ Some id → id_of (numbered_from s d ps) is p.number ≡ id
 found [] is s d i p id l e g = cc
 found (q ∷ ps) [] s d i p id l e g = cc
@@ -146,10 +146,10 @@ found (q ∷ ps) (j ∷ is) s d i p id l e g = found_by q.node.is_static q ps j 
 
 -- ---- counts
 
-distinct_tail : (i : List Pair) (is : List (List Pair)) → AreDistinct (i ∷ is) → AreDistinct is
+distinct_tail : (i : List SegmentView) (is : List (List SegmentView)) → AreDistinct (i ∷ is) → AreDistinct is
 distinct_tail i is h j k id a b = let same : suc j ≡ suc k = h (suc j) (suc k) id a b in omega (arith, same)
 
-none_of : (i : List Pair) (is : List (List Pair)) → ((k : ℕ) → slice_get is k ≡ Some i → ⊥) → count (λ j. same_id j i) is ≡ 0
+none_of : (i : List SegmentView) (is : List (List SegmentView)) → ((k : ℕ) → slice_get is k ≡ Some i → ⊥) → count (λ j. same_id j i) is ≡ 0
 none_of i [] h = refl
 none_of i (j ∷ is) h =
     let more = none_of i is (λ k e. h (suc k) e) in
@@ -165,13 +165,13 @@ one_more false n z h = h
 zero_suc : (k : ℕ) → 0 ≡ suc k → ⊥
 zero_suc k e = omega (arith, e)
 
-at_most_one : (is : List (List Pair)) → AreDistinct is → (i : List Pair) → count (λ j. same_id j i) is ≤ 1
+at_most_one : (is : List (List SegmentView)) → AreDistinct is → (i : List SegmentView) → count (λ j. same_id j i) is ≤ 1
 at_most_one [] h i = omega arith
 at_most_one (j ∷ is) h i = one_more (same_id j i) _
     (λ e. let same = (same_decides j i).0 e in none_of i is (λ k a. zero_suc k (h 0 (suc k) i (ap Some same) a)))
     (at_most_one is (distinct_tail j is h) i)
 
-count_ids : (i : List Pair) (ns : List Item) (ps : List NumberedNode) (is : List (List Pair)) → Beside ns ps is → count (λ n. same_id n.id i) ns ≡ count (λ j. same_id j i) is
+count_ids : (i : List SegmentView) (ns : List Item) (ps : List NumberedNode) (is : List (List SegmentView)) → Beside ns ps is → count (λ n. same_id n.id i) ns ≡ count (λ j. same_id j i) is
 count_ids i [] [] [] h = refl
 count_ids i [] [] (j ∷ is) h = absurd h
 count_ids i [] (p ∷ ps) is h = absurd h
@@ -183,7 +183,7 @@ dynamic_by : (b : Bool) (n : Node) (ns : List Node) (m : ℕ) → m ≡ length n
 dynamic_by true n ns m e = e
 dynamic_by false n ns m e = omega (arith, e)
 
-count_dynamic : (ns : List Item) (ps : List NumberedNode) (is : List (List Pair)) → Beside ns ps is → count (λ n. if n.is_static then false else true) ns ≡ length (of_kind false ps)
+count_dynamic : (ns : List Item) (ps : List NumberedNode) (is : List (List SegmentView)) → Beside ns ps is → count (λ n. if n.is_static then false else true) ns ≡ length (of_kind false ps)
 count_dynamic [] [] [] h = refl
 count_dynamic [] [] (j ∷ is) h = absurd h
 count_dynamic [] (p ∷ ps) is h = absurd h
@@ -196,10 +196,10 @@ count_dynamic (n ∷ ns) (p ∷ ps) (j ∷ is) h =
 -- ---- ids
 
 mutual
-  built : (b : Bool) (parent : ℕ) (above : List Pair) (t : plan.Tree) → IsBuilt above (modelled b parent above t)
+  built : (b : Bool) (parent : ℕ) (above : List SegmentView) (t : plan.Tree) → IsBuilt above (modelled b parent above t)
   built b parent above (plan.tree n k f) = ((n.segment, refl), built_below false k (above ++ n.segment ∷ []) f)
 
-  built_below : (b : Bool) (parent : ℕ) (above : List Pair) (f : plan.Forest) → AreBuilt above (modelled_below b parent above f)
+  built_below : (b : Bool) (parent : ℕ) (above : List SegmentView) (f : plan.Forest) → AreBuilt above (modelled_below b parent above f)
   built_below b parent above plan.no_trees = tt
   built_below b parent above (plan.more t f) = (built b parent above t, built_below b parent above f)
 
@@ -225,16 +225,16 @@ within_next : {A : Type 0} (xs ys : List A) (y : A) → Within xs ys → Within 
 within_next [] ys y h = tt
 within_next (x ∷ xs) ys y h = inr h
 
-within_by : (b : Bool) (d : Descriptor) (ds : List Descriptor) (ys : List (List Pair)) → Within (ids_of ds) ys → Within (ids_of ((if b then d ∷ [] else []) ++ ds)) (d.id ∷ ys)
+within_by : (b : Bool) (d : Descriptor) (ds : List Descriptor) (ys : List (List SegmentView)) → Within (ids_of ds) ys → Within (ids_of ((if b then d ∷ [] else []) ++ ds)) (d.id ∷ ys)
 within_by true d ds ys h = inl (refl, h)
 within_by false d ds ys h = within_next (ids_of ds) ys d.id h
 
 mutual
-  within_tree : (above : List Pair) (t : plan.Tree) → Within (ids_of (ids.descriptors above t)) (ids.ids above t)
+  within_tree : (above : List SegmentView) (t : plan.Tree) → Within (ids_of (ids.descriptors above t)) (ids.ids above t)
   within_tree above (plan.tree n k f) =
       within_by n.is_static (ids.descriptor (above ++ n.segment ∷ []) n) (ids.descriptors_below (above ++ n.segment ∷ []) f) (ids.ids_below (above ++ n.segment ∷ []) f) (within_below (above ++ n.segment ∷ []) f)
 
-  within_below : (above : List Pair) (f : plan.Forest) → Within (ids_of (ids.descriptors_below above f)) (ids.ids_below above f)
+  within_below : (above : List SegmentView) (f : plan.Forest) → Within (ids_of (ids.descriptors_below above f)) (ids.ids_below above f)
   within_below above plan.no_trees = tt
   within_below above (plan.more t f) =
       subst (λ l. Within l (ids.ids above t ++ ids.ids_below above f)) (sym (map-append (λ d. d.id) (ids.descriptors above t) (ids.descriptors_below above f)))
@@ -247,7 +247,7 @@ somewhere (y ∷ xs) (z ∷ ys) zero x (inl h) e = (0, ap Some (sym h.0) ∙ e)
 somewhere (y ∷ xs) (z ∷ ys) (suc k) x (inl h) e = let more = somewhere xs ys k x h.1 e in (suc more.0, more.1)
 somewhere (y ∷ xs) (z ∷ ys) k x (inr h) e = let more = somewhere (y ∷ xs) ys k x h e in (suc more.0, more.1)
 
-once_within : (xs ys : List (List Pair)) → Within xs ys → AreDistinct ys → (j k : ℕ) (x : List Pair) → slice_get xs j ≡ Some x → slice_get xs k ≡ Some x → j ≡ k
+once_within : (xs ys : List (List SegmentView)) → Within xs ys → AreDistinct ys → (j k : ℕ) (x : List SegmentView) → slice_get xs j ≡ Some x → slice_get xs k ≡ Some x → j ≡ k
 once_within [] ys h d j k x a b = cc
 once_within (z ∷ xs) [] h d j k x a b = absurd h
 once_within (z ∷ xs) (y ∷ ys) (inl h) d zero zero x a b = refl
@@ -269,7 +269,7 @@ steps_same (x ∷ xs) (y ∷ ys) e (suc u) = let rest : map run_of xs ≡ map ru
 
 -- ---- what a plan is
 
-id_key : (table : List Descriptor) (k : ℕ) (id : List Pair) (n : Node) → slice_get table k ≡ Some (ids.descriptor id n) → slice_get (ids_of table) k ≡ Some id
+id_key : (table : List Descriptor) (k : ℕ) (id : List SegmentView) (n : Node) → slice_get table k ≡ Some (ids.descriptor id n) → slice_get (ids_of table) k ≡ Some id
 id_key [] k id n e = cc
 id_key (d ∷ ds) zero id n e = ap (λ x. Some x.id) (some_same e)
 id_key (d ∷ ds) (suc k) id n e = id_key ds k id n e
@@ -292,7 +292,7 @@ module _ (all : List NumberedNode) (table : List Descriptor) (p : IsPlanned all 
       let lt : nat_lt q.number (length table) ≡ false = grind (arith, tests, less) in lt ∙ sym h.0)
       (in_range all 0 (length (of_kind true all)) i q (ap (λ ps. slice_get ps i) (sym numbers) ∙ e))
 
-  id_found : (i : ℕ) (q : NumberedNode) (id : List Pair) → slice_get all i ≡ Some q → slice_get (ids.ids_below [] (plan.forest all)) i ≡ Some id → id_at all q.number ≡ id
+  id_found : (i : ℕ) (q : NumberedNode) (id : List SegmentView) → slice_get all i ≡ Some q → slice_get (ids.ids_below [] (plan.forest all)) i ≡ Some id → id_at all q.number ≡ id
   id_found i q id e g =
       ap (λ ps. id_of ps (ids.ids_below [] (plan.forest all)) q.number) numbers
       ∙ found all (ids.ids_below [] (plan.forest all)) 0 (length (of_kind true all)) i q id (omega arith) (ap (λ ps. slice_get ps i) (sym numbers) ∙ e) g

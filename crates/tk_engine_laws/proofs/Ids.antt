@@ -2,7 +2,7 @@
 use Rattle.std.proofs.Common.{◌≡◌, ℕ, Bool, true, false, ◌||◌, ◌==◌, List, [], ◌∷◌, ◌++◌, Option, Some, None, refl, sym, ap, ap₂, ◌∙◌, subst, arith, tests, append_assoc, append-nil, if◌then◌else◌, ⊎_elim}
 use Rattle.std.specs.Cmp.Lexicographic.{bytes_decides}
 use Rattle.std.proofs.lemmas.Bool.{cases_Bool}
-use Rattle.tk_ids.specs.IdText.{Pair, escaped, segment_text, id_text, spelled_by, digits_of}
+use Rattle.tk_ids.specs.IdText.{SegmentView, escaped, segment_text, id_text, spelled_by, digits_of}
 use Rattle.tk_report_text.specs.Labels.{same_id}
 
 -- ---- reading one byte back
@@ -83,7 +83,7 @@ parts_same c stops (a ∷ x) (b ∷ y) r q e =
 
 -- ---- segments and ids
 
-segment_laid : (s : Pair) (r : List ℕ) → segment_text s ++ r ≡ 91 ∷ (escaped s.tag ++ 58 ∷ (escaped s.value ++ 93 ∷ r))
+segment_laid : (s : SegmentView) (r : List ℕ) → segment_text s ++ r ≡ 91 ∷ (escaped s.tag ++ 58 ∷ (escaped s.value ++ 93 ∷ r))
 segment_laid s r =
     append_assoc (91 ∷ escaped s.tag ++ 58 ∷ escaped s.value) (93 ∷ []) r
     ∙ ap (λ l. 91 ∷ l) (append_assoc (escaped s.tag) (58 ∷ escaped s.value) (93 ∷ r))
@@ -91,17 +91,17 @@ segment_laid s r =
 tail_same : (a b : ℕ) (x y : List ℕ) → a ∷ x ≡ b ∷ y → x ≡ y
 tail_same a b x y e = cc
 
-segments_same : (s t : Pair) (r q : List ℕ) → segment_text s ++ r ≡ segment_text t ++ q → (s ≡ t) × (r ≡ q)
+segments_same : (s t : SegmentView) (r q : List ℕ) → segment_text s ++ r ≡ segment_text t ++ q → (s ≡ t) × (r ≡ q)
 segments_same s t r q e =
     let laid = tail_same 91 91 _ _ (sym (segment_laid s r) ∙ (e ∙ segment_laid t q)) in
     let tags = parts_same 58 (λ rest. refl) s.tag t.tag (escaped s.value ++ 93 ∷ r) (escaped t.value ++ 93 ∷ q) laid in
     let values = parts_same 93 (λ rest. refl) s.value t.value r q tags.1 in
     (ap₂ (λ a b. record { tag = a; value = b }) tags.0 values.0, values.1)
 
-no_text : (s : Pair) (r : List ℕ) → [] ≡ segment_text s ++ r → ⊥
+no_text : (s : SegmentView) (r : List ℕ) → [] ≡ segment_text s ++ r → ⊥
 no_text s r e = let bad : [] ≡ 91 ∷ (escaped s.tag ++ 58 ∷ (escaped s.value ++ 93 ∷ r)) = e ∙ segment_laid s r in cc
 
-pub text_is_unique : (a b : List Pair) → id_text a ≡ id_text b → a ≡ b
+pub text_is_unique : (a b : List SegmentView) → id_text a ≡ id_text b → a ≡ b
 text_is_unique [] [] e = refl
 text_is_unique [] (t ∷ []) e = absurd (no_text t [] (e ∙ sym (append-nil (segment_text t))))
 text_is_unique [] (t ∷ (u ∷ b)) e = absurd (no_text t _ e)
@@ -116,7 +116,7 @@ text_is_unique (s ∷ (v ∷ a)) (t ∷ (u ∷ b)) e =
     let same = segments_same s t (47 ∷ id_text (v ∷ a)) (47 ∷ id_text (u ∷ b)) e in
     ap₂ (λ x l. x ∷ l) same.0 (text_is_unique (v ∷ a) (u ∷ b) (tail_same 47 47 _ _ same.1))
 
-pub same_decides : (a b : List Pair) → (same_id a b ≡ true → a ≡ b) × (a ≡ b → same_id a b ≡ true)
+pub same_decides : (a b : List SegmentView) → (same_id a b ≡ true → a ≡ b) × (a ≡ b → same_id a b ≡ true)
 unfolding same_id
 same_decides a b = (
   λ e. text_is_unique a b ((bytes_decides (id_text a) (id_text b)).0 e),

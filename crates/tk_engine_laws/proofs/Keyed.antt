@@ -6,9 +6,9 @@ use Rattle.tk_plan_units.specs.StepEvents.{kind_of, payload_of}
 use Rattle.tk_plan_units.specs.declared.nodes.NumberedNode.{NumberedNode}
 use Rattle.tk_plan_units.specs.declared.steps.Act.{Act}
 use Rattle.tk_plan_units.specs.declared.steps.Act.TheVariants.{File, Finish, Register, Report, Skip, Start}
-use Rattle.tk_ids.specs.IdText.{Pair}
+use Rattle.tk_ids.specs.IdText.{SegmentView}
 use Rattle.tk_ids.specs.Table.{ids_of}
-use Rattle.tk_ids.specs.declared.tables.Descriptor.{Descriptor}
+use Rattle.tk_ids.specs.declared.descriptors.Descriptor.{Descriptor}
 use Rattle.tk_engine_laws.proofs.Cut.{open_is}
 use Rattle.tk_engine_laws.proofs.Lists.{each-append, each_split}
 use Rattle.tk_engine_laws.proofs.Model.{Each, Forest, IsKeyed, IsStatic, Item, Knows, Named, Part, Publication, Step, Tree, a_file, after, after_below, an_entry, before, before_below, ids_emitted, is_open, more, no_trees, nodes, nodes_below, opening, part_steps, parts, parts_below, performed, plain, publications, published, script, static_events, step, step_label, steps, steps_below, steps_of, emitted_after, tree, units}
@@ -161,8 +161,8 @@ module _ (all : List NumberedNode) (table : List Descriptor) where
   key_dynamic base ids n k e = ap (λ b. if b then n.number else base + position n.number ids) (k.within ∙ e)
 
   -- what holds of the table's keys and of the keys that were given out holds of each node's key
-  pub key_known : (P : ℕ → List Pair → Type 0) (base : ℕ) (ids rest : List ℕ) (n : Item) → IsKeyed all table n → Knows ids n
-      → ((k : ℕ) (x : List Pair) → slice_get (ids_of table) k ≡ Some x → P k x)
+  pub key_known : (P : ℕ → List SegmentView → Type 0) (base : ℕ) (ids rest : List ℕ) (n : Item) → IsKeyed all table n → Knows ids n
+      → ((k : ℕ) (x : List SegmentView) → slice_get (ids_of table) k ≡ Some x → P k x)
       → ((j : ℕ) (x : ℕ) → slice_get (ids ++ rest) j ≡ Some x → P (base + j) (id_at all x))
       → P (key_of (length table) base ids n.number) n.id
   key_known P base ids rest n k (inl h) by_table by_run = subst (λ m. P m n.id) (sym (key_static base ids n k h)) (by_table n.number n.id (k.static h))
@@ -171,8 +171,8 @@ module _ (all : List NumberedNode) (table : List Descriptor) where
       (subst (P (base + position n.number ids)) k.id (by_run (position n.number ids) n.number (get_prefix ids rest (position n.number ids) n.number h.1)))
 
   -- for each step: a registration has the next key
-  pub key_for_known : (P : ℕ → List Pair → Type 0) (base : ℕ) (ids : List ℕ) (s : Step) (ss : List Step) → Named all table ids (s ∷ ss)
-      → ((k : ℕ) (x : List Pair) → slice_get (ids_of table) k ≡ Some x → P k x)
+  pub key_for_known : (P : ℕ → List SegmentView → Type 0) (base : ℕ) (ids : List ℕ) (s : Step) (ss : List Step) → Named all table ids (s ∷ ss)
+      → ((k : ℕ) (x : List SegmentView) → slice_get (ids_of table) k ≡ Some x → P k x)
       → ((j : ℕ) (x : ℕ) → slice_get (ids ++ ids_emitted (s ∷ ss)) j ≡ Some x → P (base + j) (id_at all x))
       → P (key_for (length table) base ids (plain s)) s.node.id × ((j : ℕ) (x : ℕ) → slice_get (emitted_after ids s ++ ids_emitted ss) j ≡ Some x → P (base + j) (id_at all x))
   key_for_known P base ids s ss h by_table by_run = ⊎_elim
@@ -192,8 +192,8 @@ module _ (all : List NumberedNode) (table : List Descriptor) where
       (cases_Bool (is_registration s.act))
 
   -- names that are right: of the table's keys, and of the keys from the base on
-  pub labels_played : (names : ℕ → List Pair) (base : ℕ) (ids : List ℕ) (ss : List Step) → Named all table ids ss
-      → ((k : ℕ) (x : List Pair) → slice_get (ids_of table) k ≡ Some x → names k ≡ x)
+  pub labels_played : (names : ℕ → List SegmentView) (base : ℕ) (ids : List ℕ) (ss : List Step) → Named all table ids ss
+      → ((k : ℕ) (x : List SegmentView) → slice_get (ids_of table) k ≡ Some x → names k ≡ x)
       → ((j : ℕ) (x : ℕ) → slice_get (ids ++ ids_emitted ss) j ≡ Some x → names (base + j) ≡ id_at all x)
       → map (label names) (played all (length table) base ids (map plain ss)) ≡ map step_label ss
   labels_played names base ids [] h by_table by_run = refl
@@ -213,7 +213,7 @@ module _ (all : List NumberedNode) (table : List Descriptor) where
   said_static n (File i) e = refl
   said_static n Finish e = refl
 
-  pub labels_static : (names : ℕ → List Pair) (ss : List Step) → Each (IsStatic all table) ss → ((k : ℕ) (x : List Pair) → slice_get (ids_of table) k ≡ Some x → names k ≡ x)
+  pub labels_static : (names : ℕ → List SegmentView) (ss : List Step) → Each (IsStatic all table) ss → ((k : ℕ) (x : List SegmentView) → slice_get (ids_of table) k ≡ Some x → names k ≡ x)
       → map (label names) (static_events ss) ≡ map step_label ss
   labels_static names [] h by_table = refl
   labels_static names (s ∷ ss) h by_table =

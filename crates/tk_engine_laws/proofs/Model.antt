@@ -13,9 +13,9 @@ use Rattle.tk_plan_units.specs.declared.steps.Act.{Act}
 use Rattle.tk_plan_units.specs.declared.steps.Act.TheVariants.{File, Finish, Register, Report, Skip, Start}
 use Rattle.tk_events.specs.declared.events.Event.{Event}
 use Rattle.tk_events.specs.declared.payloads.Payload.{Payload}
-use Rattle.tk_ids.specs.IdText.{Pair}
+use Rattle.tk_ids.specs.IdText.{SegmentView}
 use Rattle.tk_ids.specs.Table.{ids_of}
-use Rattle.tk_ids.specs.declared.tables.Descriptor.{Descriptor}
+use Rattle.tk_ids.specs.declared.descriptors.Descriptor.{Descriptor}
 use Rattle.tk_report_text.specs.Labels.{Label, same_id}
 use Rattle.tk_queue.specs.Emission.{is_dynamic}
 use Rattle.tk_engine_laws.specs.Scripts.{id_at, is_registration, position, payload_for}
@@ -24,7 +24,7 @@ use Rattle.tk_engine_laws.specs.Scripts.{id_at, is_registration, position, paylo
 pub record Item : Type 0 where
   pub number : ℕ
   pub parent : ℕ
-  pub id : List Pair
+  pub id : List SegmentView
   pub is_static : Bool
   pub may_open : Bool
   pub skip : Option (List ℕ)
@@ -183,32 +183,32 @@ abbrev pub plan_labels : Forest → List Label
 plan_labels f = map step_label (steps_below 0 f)
 
 -- the labels of those ids
-abbrev pub about : (List Pair → Bool) → List Label → List Label
+abbrev pub about : (List SegmentView → Bool) → List Label → List Label
 about q ls = filter (λ l. q l.id) ls
 
 -- the labels that steps of those ids give
-abbrev pub shown : (List Pair → Bool) → List Step → List Label
+abbrev pub shown : (List SegmentView → Bool) → List Step → List Label
 shown q ss = about q (map step_label ss)
 
 -- none of the nodes has such an id
-abbrev pub HasNone : (List Pair → Bool) → List Item → Type 0
+abbrev pub HasNone : (List SegmentView → Bool) → List Item → Type 0
 HasNone q ns = count (λ n. q n.id) ns ≡ 0
 
 -- of each node's children at most one has such an id in its tree
 abbrev mutual
-  pub IsChain : (List Pair → Bool) → Tree → Type 0
+  pub IsChain : (List SegmentView → Bool) → Tree → Type 0
   IsChain q (tree n f) = IsChainBelow q f
 
-  pub IsChainBelow : (List Pair → Bool) → Forest → Type 0
+  pub IsChainBelow : (List SegmentView → Bool) → Forest → Type 0
   IsChainBelow q no_trees = Unit {0}
   IsChainBelow q (more t f) = (HasNone q (nodes t) × IsChainBelow q f) ⊎ (IsChain q t × HasNone q (nodes_below f))
 
 -- each node's id is that of the node above it with one segment more
 abbrev mutual
-  pub IsBuilt : List Pair → Tree → Type 0
-  IsBuilt above (tree n f) = ((s : Pair) × (n.id ≡ above ++ s ∷ [])) × AreBuilt n.id f
+  pub IsBuilt : List SegmentView → Tree → Type 0
+  IsBuilt above (tree n f) = ((s : SegmentView) × (n.id ≡ above ++ s ∷ [])) × AreBuilt n.id f
 
-  pub AreBuilt : List Pair → Forest → Type 0
+  pub AreBuilt : List SegmentView → Forest → Type 0
   AreBuilt above no_trees = Unit {0}
   AreBuilt above (more t f) = IsBuilt above t × AreBuilt above f
 
@@ -255,7 +255,7 @@ hits k b [] = []
 hits k b (x ∷ xs) = if b == k then x ∷ hits k (b + 1) xs else hits k (b + 1) xs
 
 -- the id that a registration of that key emits
-abbrev pub id_emitted : Payload → List (List Pair)
+abbrev pub id_emitted : Payload → List (List SegmentView)
 id_emitted (Described d) = d.id ∷ []
 id_emitted Nothing = []
 id_emitted (Reason r) = []
@@ -263,10 +263,10 @@ id_emitted (Outcome s m) = []
 id_emitted (Reported e) = []
 id_emitted (Path p) = []
 
-abbrev pub registered_under : ℕ → Event → List (List Pair)
+abbrev pub registered_under : ℕ → Event → List (List SegmentView)
 registered_under k e = if is_dynamic e && (e.key == k) then id_emitted e.payload else []
 
-abbrev pub event_of_step : ℕ → List Event → List (List Pair)
+abbrev pub event_of_step : ℕ → List Event → List (List SegmentView)
 event_of_step k es = flat_map (registered_under k) es
 
 abbrev pub first_or_nil : {A : Type 0} → List (List A) → List A
@@ -302,11 +302,11 @@ IsStatic all table s = (is_registration s.act ≡ false) × (slice_get (ids_of t
 -- the trees are those of a plan over a table
 pub record Models (all : List NumberedNode) (table : List Descriptor) (f : Forest) : Type 0 where
   pub keyed : Each (IsKeyed all table) (nodes_below f)
-  pub distinct : (id : List Pair) → count (λ n. same_id n.id id) (nodes_below f) ≤ 1
+  pub distinct : (id : List SegmentView) → count (λ n. same_id n.id id) (nodes_below f) ≤ 1
   pub few_static : length table ≤ 65536
   pub few_dynamic : count (λ n. if n.is_static then false else true) (nodes_below f) ≤ 65536
   pub built : AreBuilt [] f
-  pub once : (j k : ℕ) (x : List Pair) → slice_get (ids_of table) j ≡ Some x → slice_get (ids_of table) k ≡ Some x → j ≡ k
+  pub once : (j k : ℕ) (x : List SegmentView) → slice_get (ids_of table) j ≡ Some x → slice_get (ids_of table) k ≡ Some x → j ≡ k
   pub apart : Each (λ n. n.is_static ≡ false → (k : ℕ) → slice_get (ids_of table) k ≡ Some n.id → ⊥) (nodes_below f)
   pub scripts : (u : ℕ) → script_of (forest all) u ≡ map plain (part_steps f u)
   pub number : length (units_of (forest all)) ≡ length (units f)

@@ -13,8 +13,8 @@ use Rattle.tk_plan_units.specs.declared.steps.Act.TheVariants.{File, Finish, Reg
 use Rattle.tk_events.specs.Event.{kind_code}
 use Rattle.tk_events.specs.declared.events.Event.{Event}
 use Rattle.tk_events.specs.declared.kinds.Kind.TheVariants.{Dynamic}
-use Rattle.tk_ids.specs.IdText.{Pair}
-use Rattle.tk_ids.specs.declared.tables.Descriptor.{Descriptor}
+use Rattle.tk_ids.specs.IdText.{SegmentView}
+use Rattle.tk_ids.specs.declared.descriptors.Descriptor.{Descriptor}
 use Rattle.tk_engine_laws.proofs.Keyed.{named}
 use Rattle.tk_engine_laws.proofs.Model.{Forest, Item, Named, Step, drawn_ids, first_or_nil, hits, id_emitted, ids_emitted, part_steps, plain, registered, registered_under, event_of_step, emitted_after}
 use Rattle.tk_engine_runs.specs.Run.{Emits}
@@ -37,7 +37,7 @@ pub hits_above : (k b : ℕ) (xs : List ℕ) → b + length xs ≤ k → hits k 
 hits_above k b [] h = refl
 hits_above k b (x ∷ xs) h = let l : b < k = omega (arith, h) in let differ : (b == k) ≡ false = grind (arith, tests, l) in rw differ (hits_above k (b + 1) xs (omega (arith, h)))
 
-pub hits_at : (g : ℕ → List Pair) (k b j : ℕ) (xs : List ℕ) (x : ℕ) → k ≡ b + j → slice_get xs j ≡ Some x → first_or_nil (map g (hits k b xs)) ≡ g x
+pub hits_at : (g : ℕ → List SegmentView) (k b j : ℕ) (xs : List ℕ) (x : ℕ) → k ≡ b + j → slice_get xs j ≡ Some x → first_or_nil (map g (hits k b xs)) ≡ g x
 hits_at g k b j [] x e s = cc
 hits_at g k b zero (y ∷ ys) x e s = let same : (b == k) ≡ true = grind (arith, tests, e) in rw same (let i : y ≡ x = cc in ap g i)
 hits_at g k b (suc j) (y ∷ ys) x e s = let l : b < k = omega (arith, e) in let differ : (b == k) ≡ false = grind (arith, tests, l) in rw differ (hits_at g k (b + 1) j ys x (omega (arith, e)) s)
@@ -58,7 +58,7 @@ dynamic_kind Finish = refl
 pub registrations_is : (es : List Event) → registered es ≡ registrations es
 registrations_is = is_count_by registered is_dynamic refl (λ e es. refl)
 
-emitted_first : (g : ℕ → List Pair) (k b : ℕ) (x : ℕ) (l : List (List Pair)) (xs : List ℕ) → l ≡ map g (hits k (b + 1) xs) → (if b == k then g x ∷ [] else []) ++ l ≡ map g (hits k b (x ∷ xs))
+emitted_first : (g : ℕ → List SegmentView) (k b : ℕ) (x : ℕ) (l : List (List SegmentView)) (xs : List ℕ) → l ≡ map g (hits k (b + 1) xs) → (if b == k then g x ∷ [] else []) ++ l ≡ map g (hits k b (x ∷ xs))
 emitted_first g k b x l xs e = elim (b == k) as (λ t. (if t then g x ∷ [] else []) ++ l ≡ map g (if t then x ∷ hits k (b + 1) xs else hits k (b + 1) xs)) [ true ↦ ap (λ m. g x ∷ m) e | false ↦ e ]
 
 module _ (all : List NumberedNode) (table : List Descriptor) where

@@ -13,9 +13,9 @@ use Rattle.tk_events.specs.declared.events.Entry.{Entry}
 use Rattle.tk_events.specs.declared.events.Event.{Event}
 use Rattle.tk_events.specs.declared.payloads.Payload.{Payload}
 use Rattle.tk_events.specs.declared.payloads.Payload.TheVariants.{Described, Nothing, Outcome, Path, Reason, Report as Reported}
-use Rattle.tk_ids.specs.IdText.{Pair}
+use Rattle.tk_ids.specs.IdText.{SegmentView}
 use Rattle.tk_ids.specs.Table.{ids_of}
-use Rattle.tk_ids.specs.declared.tables.Descriptor.{Descriptor}
+use Rattle.tk_ids.specs.declared.descriptors.Descriptor.{Descriptor}
 use Rattle.tk_engine_laws.proofs.ListenerSteps.{no_register, same_one}
 use Rattle.tk_engine_laws.proofs.Ids.{same_decides}
 use Rattle.tk_engine_laws.proofs.Keyed.{get_prefix, key_for_known, named, static_after_below, static_before_below}
@@ -35,7 +35,7 @@ use Rattle.tk_engine_laws.specs.Scripts.{IsRunOf, id_at, may, played}
 
 -- ---- what holds of the table's keys and of the keys that were drawn holds of each event's key
 
-module _ (all : List NumberedNode) (table : List Descriptor) (P : ℕ → Type 0) (by_table : (k : ℕ) (x : List Pair) → slice_get (ids_of table) k ≡ Some x → P k) where
+module _ (all : List NumberedNode) (table : List Descriptor) (P : ℕ → Type 0) (by_table : (k : ℕ) (x : List SegmentView) → slice_get (ids_of table) k ≡ Some x → P k) where
   abbrev pub HasKey : Event → Type 0
   HasKey e = P e.key
 
@@ -84,7 +84,7 @@ mix_each Q (x ∷ xs) h = (
 
 -- ---- registrations
 
-emitted_step : (d a b g : Bool) (x l m : List (List Pair)) (n : ℕ) → length x ≤ 1 → (a ≡ true → g ≡ true) → (b ≡ true → g ≡ true) → (a ≡ true → b ≡ true → ⊥) → length l + length m ≤ n
+emitted_step : (d a b g : Bool) (x l m : List (List SegmentView)) (n : ℕ) → length x ≤ 1 → (a ≡ true → g ≡ true) → (b ≡ true → g ≡ true) → (a ≡ true → b ≡ true → ⊥) → length l + length m ≤ n
     → length ((if d && a then x else []) ++ l) + length ((if d && b then x else []) ++ m) ≤ (if g && d then 1 + n else n)
 emitted_step false a b true x l m n few p q not h = h
 emitted_step false a b false x l m n few p q not h = h
@@ -105,7 +105,7 @@ few_emitted (Path p) = omega arith
 few_emitted (Described d) = omega arith
 
 -- the registrations of two keys of one id are registrations of the id
-emitted_two : (names : ℕ → List Pair) (j k : ℕ) (x : List Pair) → names j ≡ x → names k ≡ x → j ≢ k → (es : List Event)
+emitted_two : (names : ℕ → List SegmentView) (j k : ℕ) (x : List SegmentView) → names j ≡ x → names k ≡ x → j ≢ k → (es : List Event)
     → length (event_of_step j es) + length (event_of_step k es) ≤ count (registers x) (map (label names) es)
 emitted_two names j k x nj nk d [] = omega arith
 emitted_two names j k x nj nk d (e ∷ es) =
@@ -138,7 +138,7 @@ one_more : (b : Bool) (n : ℕ) → n ≡ 0 → (if b then 1 + n else n) ≤ 1
 one_more true n e = omega (arith, e)
 one_more false n e = omega (arith, e)
 
-count_own : (i : List Pair) (n : Item) → count (registers i) (own_labels n) ≤ (if n.is_static then 0 else 1)
+count_own : (i : List SegmentView) (n : Item) → count (registers i) (own_labels n) ≤ (if n.is_static then 0 else 1)
 count_own i n =
     let none = count_none (registers i) (ran_labels n n.skip) (no_register i n n.skip) in
     elim n.is_static as (λ b. count (registers i) (if b then ran_labels n n.skip else item_label n (Register n.parent) ∷ ran_labels n n.skip) ≤ (if b then 0 else 1))
@@ -154,10 +154,10 @@ module _ (all : List NumberedNode) (table : List Descriptor) (f : Forest) (worke
   -- where a key comes from
   abbrev pub Comes : ℕ → Type 0
   Comes k =
-      ((x : List Pair) × (slice_get (ids_of table) k ≡ Some x))
+      ((x : List SegmentView) × (slice_get (ids_of table) k ≡ Some x))
       ⊎ ((i : ℕ) × (us : List ℕ) × (j : ℕ) × (x : ℕ) × (slice_get run.shared.drawn i ≡ Some us) × (slice_get (drawn_ids f us) j ≡ Some x) × (k ≡ 65536 * (i + 1) + 0 + j))
 
-  pub from_table : (k : ℕ) (x : List Pair) → slice_get (ids_of table) k ≡ Some x → Comes k
+  pub from_table : (k : ℕ) (x : List SegmentView) → slice_get (ids_of table) k ≡ Some x → Comes k
   from_table k x e = inl (x, e)
 
   worker_keys : (v : ℕ) → Each (HasKey all table Comes from_table) (of_worker v run.mid)
@@ -178,18 +178,18 @@ module _ (all : List NumberedNode) (table : List Descriptor) (f : Forest) (worke
   abbrev IsApart : Item → Type 0
   IsApart n = n.is_static ≡ false → (k : ℕ) → slice_get (ids_of table) k ≡ Some n.id → ⊥
 
-  own : (i : List Pair) → (filter (is_of i) (labels r) ≡ []) ⊎ ((n : Item) × (same_id n.id i ≡ true) × (filter (is_of i) (labels r) ≡ own_labels n) × IsApart n)
+  own : (i : List SegmentView) → (filter (is_of i) (labels r) ≡ []) ⊎ ((n : Item) × (same_id n.id i ≡ true) × (filter (is_of i) (labels r) ≡ own_labels n) × IsApart n)
   own i = ⊎_elim (λ e. inl (same_one all table f workers r plan run i ∙ e)) (λ e. inr (e.0, e.1, same_one all table f workers r plan run i ∙ e.2, e.3))
       (own_law_below IsApart i 0 f plan.apart (plan.distinct i))
 
-  register_only : (i : List Pair) → Only (registers i) (is_of i)
+  register_only : (i : List SegmentView) → Only (registers i) (is_of i)
   register_only i l h = and_left (is_of i l) (same_kind l.kind Dynamic) h
 
   at_most : (b : Bool) (n : ℕ) → n ≤ (if b then 0 else 1) → n ≤ 1
   at_most true n h = omega (arith, h)
   at_most false n h = h
 
-  counted : (i : List Pair) → count (registers i) (labels r) ≤ 1
+  counted : (i : List SegmentView) → count (registers i) (labels r) ≤ 1
   counted i = subst (λ n. n ≤ 1) (sym (count_kept (registers i) (is_of i) (register_only i) (labels r))) (⊎_elim
       (λ e. subst (λ l. count (registers i) l ≤ 1) (sym e) (omega arith))
       (λ e. subst (λ l. count (registers i) l ≤ 1) (sym e.2) (at_most (e.0).is_static _ (count_own i e.0)))
@@ -200,7 +200,7 @@ module _ (all : List NumberedNode) (table : List Descriptor) (f : Forest) (worke
   static_none false n f h = absurd (f refl)
 
   -- an id of the table is never registered
-  not_emitted : (k : ℕ) (i : List Pair) → slice_get (ids_of table) k ≡ Some i → count (registers i) (labels r) ≡ 0
+  not_emitted : (k : ℕ) (i : List SegmentView) → slice_get (ids_of table) k ≡ Some i → count (registers i) (labels r) ≡ 0
   not_emitted k i s = count_kept (registers i) (is_of i) (register_only i) (labels r) ∙ ⊎_elim
       (λ e. ap (count (registers i)) e)
       (λ e. ap (count (registers i)) e.2 ∙ static_none (e.0).is_static _ (λ f. e.3 f k (s ∙ ap Some (sym ((same_decides (e.0).id i).0 e.1)))) (count_own i e.0))
@@ -215,7 +215,7 @@ module _ (all : List NumberedNode) (table : List Descriptor) (f : Forest) (worke
   one : (a b n : ℕ) → 0 < b → a + b ≤ n → n ≡ 0 → ⊥
   one a b n h k l = omega (arith, h, k, l)
 
-  static_drawn : (j k : ℕ) → ((x : List Pair) × (slice_get (ids_of table) j ≡ Some x))
+  static_drawn : (j k : ℕ) → ((x : List SegmentView) × (slice_get (ids_of table) j ≡ Some x))
       → ((i : ℕ) × (us : List ℕ) × (m : ℕ) × (x : ℕ) × (slice_get run.shared.drawn i ≡ Some us) × (slice_get (drawn_ids f us) m ≡ Some x) × (k ≡ 65536 * (i + 1) + 0 + m))
       → name r j ≡ name r k → j ≡ k
   static_drawn j k a b e = ⊎_elim (λ y. grind (arith, tests, y)) (λ n.

@@ -10,8 +10,8 @@ use Rattle.tk_plan_units.specs.Planned.{IsPlanned}
 use Rattle.tk_plan_units.specs.Trees.{forest}
 use Rattle.tk_plan_units.specs.declared.nodes.NumberedNode.{NumberedNode}
 use Rattle.tk_plan_units.specs.declared.steps.Act.TheVariants.{Register}
-use Rattle.tk_ids.specs.IdText.{Pair}
-use Rattle.tk_ids.specs.declared.tables.Descriptor.{Descriptor}
+use Rattle.tk_ids.specs.IdText.{SegmentView}
+use Rattle.tk_ids.specs.declared.descriptors.Descriptor.{Descriptor}
 use Rattle.tk_engine_laws.proofs.Bridge.{modelled, modelled_below}
 use Rattle.tk_engine_laws.proofs.Grounds.{models, trees_of}
 use Rattle.tk_engine_laws.proofs.Keyed.{knows_more, position_last}
@@ -147,7 +147,7 @@ abbrev is_static : plan.Tree → Bool
 is_static (plan.tree n k f) = n.is_static
 
 mutual
-  top : (b : Bool) (parent : ℕ) (above : List Pair) (t : plan.Tree) → is_static t ≡ true → IsTop (modelled b parent above t)
+  top : (b : Bool) (parent : ℕ) (above : List SegmentView) (t : plan.Tree) → is_static t ≡ true → IsTop (modelled b parent above t)
   top b parent above (plan.tree n k f) e =
       let item : Item = record { number = k; parent = parent; id = above ++ n.segment ∷ []; is_static = n.is_static; may_open = cut.on_spine b n f; skip = n.skip; node = n } in (
         e,
@@ -158,7 +158,7 @@ mutual
         ),
       )
 
-  pub top_below : (b : Bool) (parent : ℕ) (above : List Pair) (f : plan.Forest) → cut.all_static f ≡ true → AreTop (modelled_below b parent above f)
+  pub top_below : (b : Bool) (parent : ℕ) (above : List SegmentView) (f : plan.Forest) → cut.all_static f ≡ true → AreTop (modelled_below b parent above f)
   top_below b parent above plan.no_trees e = tt
   top_below b parent above (plan.more (plan.tree n k g) f) e =
       let both = both_true n.is_static (cut.all_static f) e in

@@ -1,12 +1,12 @@
 -- The demo plan is a plan, and a record of it by two workers is a run.
 use Rattle.std.proofs.Common.{◌≡◌, ◌<◌, ℕ, zero, suc, ◌+◌, Bool, true, false, not, ◌&&◌, ◌||◌, codes, ◌*◌, nat_lt, nat_le, ◌==◌, List, [], ◌∷◌, ◌++◌, flat_map, All, Some, None, slice_get, sum_by, refl, sym, ap, ◌∙◌, subst, arith, tests}
 use Rattle.std.specs.List.{list_any, list_all}
-use Rattle.tk_ids.specs.IdText.{Pair}
-use Rattle.tk_ids.specs.declared.tables.DType.TheVariants.{Test}
+use Rattle.tk_ids.specs.IdText.{SegmentView}
+use Rattle.tk_ids.specs.declared.descriptors.DType.TheVariants.{Test}
 use Rattle.tk_events.specs.declared.events.Event.{Event}
 use Rattle.tk_events.specs.declared.events.Entry.{Entry}
 use Rattle.tk_events.specs.declared.kinds.Kind.TheVariants.{Dynamic, Started, Finished}
-use Rattle.tk_events.specs.declared.kinds.Status.TheVariants.{Successful}
+use Rattle.tk_events.specs.declared.statuses.Status.TheVariants.{Successful}
 use Rattle.tk_events.specs.declared.payloads.Payload.TheVariants.{Nothing, Outcome, Described}
 use Rattle.tk_record_columns.specs.Recorded.{Recorded}
 use Rattle.tk_record_columns.specs.Mixing.{IsWorkerOf, of_worker}
@@ -41,7 +41,7 @@ unit_three = refl
 
 -- ---- ids that differ
 
-abbrev differ : List (List Pair) → Bool
+abbrev differ : List (List SegmentView) → Bool
 differ [] = true
 differ (i ∷ is) = not (list_any (same_id i) is) && differ is
 
@@ -57,12 +57,12 @@ or_true : (b : Bool) → (b || true) ≡ true
 or_true true = refl
 or_true false = refl
 
-any_at : (i : List Pair) (is : List (List Pair)) (k : ℕ) → slice_get is k ≡ Some i → list_any (same_id i) is ≡ true
+any_at : (i : List SegmentView) (is : List (List SegmentView)) (k : ℕ) → slice_get is k ≡ Some i → list_any (same_id i) is ≡ true
 any_at i [] k e = cc
 any_at i (j ∷ is) zero e = rw ((same_decides i j).1 (sym (some_same e))) refl
 any_at i (j ∷ is) (suc k) e = let more = any_at i is k e in rw more (or_true (same_id i j))
 
-pub distinct : (is : List (List Pair)) → differ is ≡ true → AreDistinct is
+pub distinct : (is : List (List SegmentView)) → differ is ≡ true → AreDistinct is
 distinct [] h j k id a b = cc
 distinct (i ∷ is) h zero zero id a b = refl
 distinct (i ∷ is) h zero (suc k) id a b =

@@ -11,10 +11,10 @@ use Rattle.std.specs.Cmp.Lexicographic.{slice_cmp, bytes_decides}
 use Rattle.std.specs.BTreeSet.{insert_key}
 use Rattle.tk_engine_laws.proofs.Ordered.{same_texts}
 use Rattle.tk_events.specs.declared.kinds.Kind.TheVariants as kind
-use Rattle.tk_events.specs.declared.kinds.Status.TheVariants as status
+use Rattle.tk_events.specs.declared.statuses.Status.TheVariants as status
 use Rattle.tk_record_columns.specs.declared.statistics.Statistics.{Statistics}
 use Rattle.tk_record_columns.specs.Statistics.{statistics_of}
-use Rattle.tk_events.specs.declared.kinds.Status.{Status}
+use Rattle.tk_events.specs.declared.statuses.Status.{Status}
 use Rattle.tk_events.specs.Event.{status_code}
 use Rattle.tk_record.specs.Field.{field_text}
 use Rattle.testkit_questions.specs.Answers.{statistics_text}
@@ -27,8 +27,8 @@ use Rattle.tk_events.specs.Event.{kind_code}
 use Rattle.tk_events.specs.declared.events.Entry.{Entry}
 use Rattle.tk_events.specs.declared.kinds.Kind.{Kind}
 use Rattle.tk_events.specs.declared.kinds.Kind.TheVariants.{Dynamic, Finished, Reporting, Skipped, Started}
-use Rattle.tk_ids.specs.IdText.{Pair, id_text}
-use Rattle.tk_ids.specs.declared.tables.Descriptor.{Descriptor}
+use Rattle.tk_ids.specs.IdText.{SegmentView, id_text}
+use Rattle.tk_ids.specs.declared.descriptors.Descriptor.{Descriptor}
 use Rattle.tk_engine_laws.proofs.Cut.{count-append}
 use Rattle.tk_engine_laws.proofs.Ids.{text_is_unique, same_decides}
 use Rattle.tk_engine_laws.proofs.Keyed.{labels_played, named_below}
@@ -47,7 +47,7 @@ turned x y = ⊎_elim
     (λ e. ⊎_elim (λ h. (bytes_decides x y).1 (sym ((bytes_decides y x).0 h)) ∙ sym h) (λ h. e ∙ sym h) (cases_Bool (bytes_eq y x)))
     (cases_Bool (bytes_eq x y))
 
-module _ (text : List Pair → List ℕ) where
+module _ (text : List SegmentView → List ℕ) where
   pub so : List ℕ → List Label → List Label
   so = λ x ls. filter (λ l. bytes_eq (text l.id) x) ls
 
@@ -155,11 +155,11 @@ flat_same : {A B : Type 0} (f g : A → List B) → ((x : A) → f x ≡ g x) �
 flat_same f g e [] = refl
 flat_same f g e (x ∷ xs) = ap₂ (λ u v. u ++ v) (e x) (flat_same f g e xs)
 
-count_labels : (names : ℕ → List Pair) (p : Label → Bool) (es : List Entry) → count (λ (e : Entry). p (label names e.event)) es ≡ count p (map (label names) (events es))
+count_labels : (names : ℕ → List SegmentView) (p : Label → Bool) (es : List Entry) → count (λ (e : Entry). p (label names e.event)) es ≡ count p (map (label names) (events es))
 count_labels names p [] = refl
 count_labels names p (e ∷ es) = ap (λ n. if p (label names e.event) then 1 + n else n) (count_labels names p es)
 
-counted_by : (names : ℕ → List Pair) (p : Label → Bool) (es : List Entry) → count_by (λ (e : Entry). p (label names e.event)) es ≡ count p (map (label names) (events es))
+counted_by : (names : ℕ → List SegmentView) (p : Label → Bool) (es : List Entry) → count_by (λ (e : Entry). p (label names e.event)) es ≡ count p (map (label names) (events es))
 counted_by names p es = sym (is_count_by (count (λ (e : Entry). p (label names e.event))) (λ (e : Entry). p (label names e.event)) refl (λ x xs. refl) es) ∙ count_labels names p es
 
 abbrev kind_test : Kind → Label → Bool
@@ -208,10 +208,10 @@ zero_or zero = inl refl
 zero_or (suc n) = inr (omega arith)
 
 mutual
-  pub chain_one : (q : List Pair → Bool) (t : Tree) → count (λ n. q n.id) (nodes t) ≤ 1 → IsChain q t
+  pub chain_one : (q : List SegmentView → Bool) (t : Tree) → count (λ n. q n.id) (nodes t) ≤ 1 → IsChain q t
   chain_one q (tree n f) h = chain_one_below q f (at_most_tail (q n.id) (count (λ m. q m.id) (nodes_below f)) h)
 
-  pub chain_one_below : (q : List Pair → Bool) (f : Forest) → count (λ n. q n.id) (nodes_below f) ≤ 1 → IsChainBelow q f
+  pub chain_one_below : (q : List SegmentView → Bool) (f : Forest) → count (λ n. q n.id) (nodes_below f) ≤ 1 → IsChainBelow q f
   chain_one_below q no_trees h = tt
   chain_one_below q (more t f) h =
       let e = count-append (λ n. q n.id) (nodes t) (nodes_below f) in
@@ -237,7 +237,7 @@ none_tail false n h = h
 one_plus : (n : ℕ) → n ≡ 0 → 1 + n ≤ 1
 one_plus n e = omega (arith, e)
 
-module _ (text : List Pair → List ℕ) (text_is_unique : (i j : List Pair) → text i ≡ text j → i ≡ j) where
+module _ (text : List SegmentView → List ℕ) (text_is_unique : (i j : List SegmentView) → text i ≡ text j → i ≡ j) where
   no_others : (n : Item) (x : List ℕ) (ns : List Item) → bytes_eq (text n.id) x ≡ true → count (λ m. same_id m.id n.id) ns ≡ 0 → count (λ m. bytes_eq (text m.id) x) ns ≡ 0
   no_others n x [] t h = refl
   no_others n x (m ∷ ns) t h = ⊎_elim
@@ -248,7 +248,7 @@ module _ (text : List Pair → List ℕ) (text_is_unique : (i j : List Pair) →
       (cases_Bool (bytes_eq (text m.id) x))
 
   -- at most one node has an id that is written so
-  pub written_once : (ns : List Item) → ((id : List Pair) → count (λ n. same_id n.id id) ns ≤ 1) → (x : List ℕ) → count (λ n. bytes_eq (text n.id) x) ns ≤ 1
+  pub written_once : (ns : List Item) → ((id : List SegmentView) → count (λ n. same_id n.id id) ns ≤ 1) → (x : List ℕ) → count (λ n. bytes_eq (text n.id) x) ns ≤ 1
   written_once [] h x = omega arith
   written_once (n ∷ ns) h x = ⊎_elim
       (λ t.

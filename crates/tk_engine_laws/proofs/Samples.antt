@@ -1,12 +1,12 @@
 -- The definitions on the worked plans.
 use Rattle.std.proofs.Common.{◌≡◌, ℕ, Bool, true, false, List, [], ◌∷◌, ◌++◌, flat_map, codes, Option, Some, None, refl, ap, ap₂, ◌∙◌}
 use Rattle.std.specs.Fmt.{digits}
-use Rattle.tk_ids.specs.IdText.{Pair}
-use Rattle.tk_ids.specs.declared.tables.DType.{DType}
-use Rattle.tk_ids.specs.declared.tables.DType.TheVariants.{Container, Test}
-use Rattle.tk_ids.specs.declared.tables.Descriptor.{Descriptor}
-use Rattle.tk_events.specs.declared.kinds.Status.{Status}
-use Rattle.tk_events.specs.declared.kinds.Status.TheVariants.{Successful, Failed}
+use Rattle.tk_ids.specs.IdText.{SegmentView}
+use Rattle.tk_ids.specs.declared.descriptors.DType.{DType}
+use Rattle.tk_ids.specs.declared.descriptors.DType.TheVariants.{Container, Test}
+use Rattle.tk_ids.specs.declared.descriptors.Descriptor.{Descriptor}
+use Rattle.tk_events.specs.declared.statuses.Status.{Status}
+use Rattle.tk_events.specs.declared.statuses.Status.TheVariants.{Successful, Failed}
 use Rattle.tk_record_columns.specs.Statistics.{statistics_of}
 use Rattle.tk_record.specs.Spelling.{joined}
 use Rattle.testkit_questions.specs.Answers.{statistics_text}
@@ -19,10 +19,10 @@ use Rattle.tk_engine_laws.specs.Scripts.{script_record}
 use Rattle.tk_report_text.specs.Reports.{id_texts, id_lines}
 use Rattle.tk_engine_laws.specs.Reports.{report_of_plan}
 
-abbrev pub pair : List ℕ → List ℕ → Pair
+abbrev pub pair : List ℕ → List ℕ → SegmentView
 pair tag value = record { tag = tag; value = value }
 
-abbrev node : Bool → DType → Pair → List ℕ → Bool → Option (List ℕ) → Status → Option (List ℕ) → Node
+abbrev node : Bool → DType → SegmentView → List ℕ → Bool → Option (List ℕ) → Status → Option (List ℕ) → Node
 node is_static dtype segment name is_concurrent skip status message = record {
   is_static = is_static;
   dtype = dtype;

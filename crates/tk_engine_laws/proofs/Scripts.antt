@@ -4,7 +4,7 @@ use Rattle.std.specs.List.{list_any}
 use Rattle.std.proofs.lemmas.Bool.{cases_Bool}
 use Rattle.std.proofs.lemmas.List.{map-append}
 use Rattle.tk_plan_units.specs.declared.steps.Act.TheVariants.{Finish, Register, Skip, Start}
-use Rattle.tk_ids.specs.IdText.{Pair}
+use Rattle.tk_ids.specs.IdText.{SegmentView}
 use Rattle.tk_engine_laws.proofs.Cut.{count-append, shown-append, shown_none, shown_none_below}
 use Rattle.tk_engine_laws.proofs.Ids.{same_decides}
 use Rattle.tk_engine_laws.proofs.Lists.{each_split}
@@ -16,7 +16,7 @@ use Rattle.tk_engine_laws.specs.Listening.{finishes, is_followed, is_of, precede
 
 -- ---- ids
 
-pub snoc_same : (xs ys : List Pair) (x y : Pair) → xs ++ x ∷ [] ≡ ys ++ y ∷ [] → xs ≡ ys
+pub snoc_same : (xs ys : List SegmentView) (x y : SegmentView) → xs ++ x ∷ [] ≡ ys ++ y ∷ [] → xs ≡ ys
 snoc_same [] [] x y e = refl
 snoc_same [] (b ∷ []) x y e = cc
 snoc_same [] (b ∷ (c ∷ ys)) x y e = cc
@@ -24,19 +24,19 @@ snoc_same (a ∷ []) [] x y e = cc
 snoc_same (a ∷ (b ∷ xs)) [] x y e = cc
 snoc_same (a ∷ xs) (b ∷ ys) x y e = let same : a ≡ b = cc in let rest : xs ++ x ∷ [] ≡ ys ++ y ∷ [] = cc in ap₂ (λ h t. h ∷ t) same (snoc_same xs ys x y rest)
 
-pub not_eq : (x y : List Pair) → x ≢ y → same_id x y ≡ false
+pub not_eq : (x y : List SegmentView) → x ≢ y → same_id x y ≡ false
 not_eq x y n = ⊎_elim (λ t. absurd (n ((same_decides x y).0 t))) (λ f. f) (cases_Bool (same_id x y))
 
-pub eq_not : (x y : List Pair) → same_id x y ≡ false → x ≢ y
+pub eq_not : (x y : List SegmentView) → same_id x y ≡ false → x ≢ y
 eq_not x y f e = let t = (same_decides x y).1 e in let bad : true ≡ false = sym t ∙ f in cc
 
-pub grows : (p : List Pair) (s : Pair) → p ≢ p ++ s ∷ []
+pub grows : (p : List SegmentView) (s : SegmentView) → p ≢ p ++ s ∷ []
 grows [] s e = cc
 grows (x ∷ p) s e = let rest : p ≡ p ++ s ∷ [] = cc in grows p s rest
 
 -- ---- a fact of lists of labels that goes on, that holds where a child has no label, and of what its parent does
 
-module _ (p : List Pair) (s : Pair) (F : List Label → Type 0)
+module _ (p : List SegmentView) (s : SegmentView) (F : List Label → Type 0)
     (joins : (xs ys : List Label) → F xs → F ys → F (xs ++ ys))
     (nothing : (xs : List Label) → list_any (is_of (p ++ s ∷ [])) xs ≡ false → F xs)
     (parent : (n : Item) (k : ℕ) (below : ℕ → List Step) → same_id n.id p ≡ true → same_id n.id (p ++ s ∷ []) ≡ false → F (map step_label (performed k n None below)))
@@ -60,7 +60,7 @@ module _ (p : List Pair) (s : Pair) (F : List Label → Type 0)
         (joins (map step_label (below j)) _ (c j) (one_step last h)))
 
     mutual
-      pub of_tree : (above : List Pair) (k : ℕ) (t : Tree) → IsBuilt above t → above ≢ p → F (map step_label (steps k t))
+      pub of_tree : (above : List SegmentView) (k : ℕ) (t : Tree) → IsBuilt above t → above ≢ p → F (map step_label (steps k t))
       of_tree above k (tree n f) b d =
           let h = not_eq n.id (p ++ s ∷ []) (λ e. d (snoc_same above p b.0.0 s (sym b.0.1 ∙ e))) in
           let which : (same_id n.id p ≡ true) ⊎ ((j : ℕ) → F (map step_label (steps_below j f)))
@@ -70,7 +70,7 @@ module _ (p : List Pair) (s : Pair) (F : List Label → Type 0)
           elim n.is_static as (λ b. F (map step_label (if b then performed k n n.skip (λ j. steps_below j f) else step k n (Register n.parent) ∷ performed (k + 1) n n.skip (λ j. steps_below j f))))
           [ true ↦ now | false ↦ later ]
 
-      pub of_forest : (above : List Pair) (k : ℕ) (f : Forest) → AreBuilt above f → above ≢ p → F (map step_label (steps_below k f))
+      pub of_forest : (above : List SegmentView) (k : ℕ) (f : Forest) → AreBuilt above f → above ≢ p → F (map step_label (steps_below k f))
       of_forest above k no_trees b d = nothing [] refl
       of_forest above k (more t f) b d =
           subst F (sym (map-append step_label (steps k t) (steps_below (k + length (steps k t)) f)))
@@ -78,13 +78,13 @@ module _ (p : List Pair) (s : Pair) (F : List Label → Type 0)
 
 -- ---- a parent's start and finish
 
-pub script_start : (p : List Pair) (s : Pair) (above : List Pair) (k : ℕ) (f : Forest) → AreBuilt above f → above ≢ p → precedes (starts p) (is_of (p ++ s ∷ [])) (map step_label (steps_below k f)) ≡ true
+pub script_start : (p : List SegmentView) (s : SegmentView) (above : List SegmentView) (k : ℕ) (f : Forest) → AreBuilt above f → above ≢ p → precedes (starts p) (is_of (p ++ s ∷ [])) (map step_label (steps_below k f)) ≡ true
 script_start p s = of_forest p s (λ l. precedes (starts p) (is_of (p ++ s ∷ [])) l ≡ true)
     (precedes-append (starts p) (is_of (p ++ s ∷ [])))
     (precedes_none (starts p) (is_of (p ++ s ∷ [])))
     (λ n k below is not. precedes_here (starts p) (is_of (p ++ s ∷ [])) (step_label (step k n Start)) (map step_label (published (k + 1) n (publications n) ++ (below (k + length (opening k n)) ++ finish (k + length (opening k n) + length (below (k + length (opening k n)))) n ∷ []))) not (ap (λ b. b && true) is))
 
-pub script_finish : (p : List Pair) (s : Pair) (above : List Pair) (k : ℕ) (f : Forest) → AreBuilt above f → above ≢ p → is_followed (is_of (p ++ s ∷ [])) (finishes p) (map step_label (steps_below k f)) ≡ true
+pub script_finish : (p : List SegmentView) (s : SegmentView) (above : List SegmentView) (k : ℕ) (f : Forest) → AreBuilt above f → above ≢ p → is_followed (is_of (p ++ s ∷ [])) (finishes p) (map step_label (steps_below k f)) ≡ true
 script_finish p s = of_forest p s (λ l. is_followed (is_of (p ++ s ∷ [])) (finishes p) l ≡ true)
     (followed-append (is_of (p ++ s ∷ [])) (finishes p))
     (followed_none (is_of (p ++ s ∷ [])) (finishes p))
@@ -97,17 +97,17 @@ script_finish p s = of_forest p s (λ l. is_followed (is_of (p ++ s ∷ [])) (fi
 
 -- ---- parent and child are a chain
 
-abbrev pub with_id : List Pair → Item → Bool
+abbrev pub with_id : List SegmentView → Item → Bool
 with_id i n = same_id n.id i
 
-abbrev pub either : List Pair → List Pair → List Pair → Bool
+abbrev pub either : List SegmentView → List SegmentView → List SegmentView → Bool
 either p c i = same_id i p || same_id i c
 
 none_head : (b : Bool) (n : ℕ) → (if b then 1 + n else n) ≡ 0 → b ≡ false
 none_head true n h = let no : ⊥ = omega (arith, h) in absurd no
 none_head false n h = refl
 
-pair_none : (p c : List Pair) (ns : List Item) → count (with_id p) ns ≡ 0 → count (with_id c) ns ≡ 0 → HasNone (either p c) ns
+pair_none : (p c : List SegmentView) (ns : List Item) → count (with_id p) ns ≡ 0 → count (with_id c) ns ≡ 0 → HasNone (either p c) ns
 pair_none p c [] h g = refl
 pair_none p c (n ∷ ns) h g =
     let rest = pair_none p c ns (none_tail (with_id p n) (count (with_id p) ns) h) (none_tail (with_id c n) (count (with_id c) ns) g) in
@@ -119,7 +119,7 @@ few_more true false x y z h = omega (arith, h)
 few_more false true x y z h = omega (arith, h)
 few_more false false x y z h = h
 
-pair_few : (p c : List Pair) (ns : List Item) → count (λ n. either p c n.id) ns ≤ count (with_id p) ns + count (with_id c) ns
+pair_few : (p c : List SegmentView) (ns : List Item) → count (λ n. either p c n.id) ns ≤ count (with_id p) ns + count (with_id c) ns
 pair_few p c [] = omega arith
 pair_few p c (n ∷ ns) = few_more (with_id p n) (with_id c n) _ _ _ (pair_few p c ns)
 
@@ -135,15 +135,15 @@ right_zero a b c e z = omega (arith, e, z)
 both_zero : (a b c : ℕ) → a ≡ b + c → b ≡ 0 → c ≡ 0 → a ≡ 0
 both_zero a b c e x y = omega (arith, e, x, y)
 
-module _ (p : List Pair) (s : Pair) where
+module _ (p : List SegmentView) (s : SegmentView) where
   mutual
-    parent_in : (above : List Pair) (t : Tree) → IsBuilt above t → above ≢ p → count (with_id p) (nodes t) ≡ 0 → count (with_id (p ++ s ∷ [])) (nodes t) ≡ 0
+    parent_in : (above : List SegmentView) (t : Tree) → IsBuilt above t → above ≢ p → count (with_id p) (nodes t) ≡ 0 → count (with_id (p ++ s ∷ [])) (nodes t) ≡ 0
     parent_in above (tree n f) b d z =
         let h = not_eq n.id (p ++ s ∷ []) (λ e. d (snoc_same above p b.0.0 s (sym b.0.1 ∙ e))) in
         let g = none_head (with_id p n) (count (with_id p) (nodes_below f)) z in
         rw h (parent_in_below n.id f b.1 (eq_not n.id p g) (none_tail (with_id p n) (count (with_id p) (nodes_below f)) z))
 
-    parent_in_below : (above : List Pair) (f : Forest) → AreBuilt above f → above ≢ p → count (with_id p) (nodes_below f) ≡ 0 → count (with_id (p ++ s ∷ [])) (nodes_below f) ≡ 0
+    parent_in_below : (above : List SegmentView) (f : Forest) → AreBuilt above f → above ≢ p → count (with_id p) (nodes_below f) ≡ 0 → count (with_id (p ++ s ∷ [])) (nodes_below f) ≡ 0
     parent_in_below above no_trees b d z = refl
     parent_in_below above (more t f) b d z =
         let e = count-append (with_id p) (nodes t) (nodes_below f) in
@@ -151,7 +151,7 @@ module _ (p : List Pair) (s : Pair) where
         both_zero _ _ _ g (parent_in above t b.0 d (left_zero _ _ _ e z)) (parent_in_below above f b.1 d (right_zero _ _ _ e z))
 
   mutual
-    pub chain_pair : (above : List Pair) (t : Tree) → IsBuilt above t → above ≢ p → count (with_id p) (nodes t) ≤ 1 → count (with_id (p ++ s ∷ [])) (nodes t) ≤ 1 → IsChain (either p (p ++ s ∷ [])) t
+    pub chain_pair : (above : List SegmentView) (t : Tree) → IsBuilt above t → above ≢ p → count (with_id p) (nodes t) ≤ 1 → count (with_id (p ++ s ∷ [])) (nodes t) ≤ 1 → IsChain (either p (p ++ s ∷ [])) t
     chain_pair above (tree n f) b d h g =
         let few = pair_few p (p ++ s ∷ []) (nodes_below f) in
         let tail = at_most_tail (with_id (p ++ s ∷ []) n) (count (with_id (p ++ s ∷ [])) (nodes_below f)) g in
@@ -160,7 +160,7 @@ module _ (p : List Pair) (s : Pair) where
         (λ x. chain_pair_below n.id f b.1 (eq_not n.id p x) (at_most_tail (with_id p n) (count (with_id p) (nodes_below f)) h) tail)
         (cases_Bool (same_id n.id p))
 
-    pub chain_pair_below : (above : List Pair) (f : Forest) → AreBuilt above f → above ≢ p → count (with_id p) (nodes_below f) ≤ 1 → count (with_id (p ++ s ∷ [])) (nodes_below f) ≤ 1 → IsChainBelow (either p (p ++ s ∷ [])) f
+    pub chain_pair_below : (above : List SegmentView) (f : Forest) → AreBuilt above f → above ≢ p → count (with_id p) (nodes_below f) ≤ 1 → count (with_id (p ++ s ∷ [])) (nodes_below f) ≤ 1 → IsChainBelow (either p (p ++ s ∷ [])) f
     chain_pair_below above no_trees b d h g = tt
     chain_pair_below above (more t f) b d h g =
         let e = count-append (with_id p) (nodes t) (nodes_below f) in
@@ -184,8 +184,8 @@ ran_labels n None = item_label n Start ∷ (published_labels n (publications n) 
 abbrev pub own_labels : Item → List Label
 own_labels n = if n.is_static then ran_labels n n.skip else item_label n (Register n.parent) ∷ ran_labels n n.skip
 
-module _ (P : Item → Type 0) (i : List Pair) where
-  abbrev one : List Pair → Bool
+module _ (P : Item → Type 0) (i : List SegmentView) where
+  abbrev one : List SegmentView → Bool
   one = λ j. same_id j i
 
   own_published : (k : ℕ) (n : Item) (xs : List Publication) → same_id n.id i ≡ true → shown one (published k n xs) ≡ published_labels n xs

@@ -17,9 +17,9 @@ use Rattle.tk_events.specs.declared.events.Entry.{Entry}
 use Rattle.tk_events.specs.declared.events.Event.{Event}
 use Rattle.tk_events.specs.declared.payloads.Payload.{Payload}
 use Rattle.tk_events.specs.declared.payloads.Payload.TheVariants.{Described, Nothing, Outcome, Path, Reason}
-use Rattle.tk_ids.specs.IdText.{Pair}
+use Rattle.tk_ids.specs.IdText.{SegmentView}
 use Rattle.tk_ids.specs.Table.{ids_of}
-use Rattle.tk_ids.specs.declared.tables.Descriptor.{Descriptor}
+use Rattle.tk_ids.specs.declared.descriptors.Descriptor.{Descriptor}
 use Rattle.tk_engine_laws.proofs.Cut.{chain_none, chain_none_below, cut, cut_below, shown-append, shown_none, shown_none_below}
 use Rattle.tk_engine_laws.proofs.Few.{few_drawn}
 use Rattle.tk_engine_laws.proofs.Keyed.{get_prefix, labels_played, labels_static, named, named_unit, static_after_below, static_before_below}
@@ -35,26 +35,26 @@ use Rattle.tk_engine_laws.specs.Scripts.{IsRunOf, id_at, may, played}
 
 -- ---- at most one unit has nodes of a chain
 
-abbrev shows : (List Pair → Bool) → Part → List Label
+abbrev shows : (List SegmentView → Bool) → Part → List Label
 shows q x = shown q (script x)
 
-pub shown_flat : {A : Type 0} (q : List Pair → Bool) (h : A → List Step) (xs : List A) → shown q (flat_map h xs) ≡ flat_map (λ x. shown q (h x)) xs
+pub shown_flat : {A : Type 0} (q : List SegmentView → Bool) (h : A → List Step) (xs : List A) → shown q (flat_map h xs) ≡ flat_map (λ x. shown q (h x)) xs
 shown_flat q h [] = refl
 shown_flat q h (x ∷ xs) = shown-append q (h x) (flat_map h xs) ∙ ap (λ l. shown q (h x) ++ l) (shown_flat q h xs)
 
-nothing_shown : (q : List Pair → Bool) (s a c : List Step) (b : List Part) → shown q s ≡ shown q a ++ (shown q (flat_map script b) ++ shown q c) → shown q s ≡ [] → AllNil (shows q) b
+nothing_shown : (q : List SegmentView → Bool) (s a c : List Step) (b : List Part) → shown q s ≡ shown q a ++ (shown q (flat_map script b) ++ shown q c) → shown q s ≡ [] → AllNil (shows q) b
 nothing_shown q s a c b e n =
     all_nil (shows q) b (sym (shown_flat q script b) ∙ left_nil (shown q (flat_map script b)) (shown q c) (right_nil (shown q a) _ (sym e ∙ n)))
 
 mutual
-  one_part : (q : List Pair → Bool) (p : ℕ) (t : Tree) → IsChain q t → AtMostOne (shows q) (parts p t)
+  one_part : (q : List SegmentView → Bool) (p : ℕ) (t : Tree) → IsChain q t → AtMostOne (shows q) (parts p t)
   one_part q p (tree n f) c =
       let k = p + length (opening p n) in
       let inner = one_part_below q k f c in
       elim (is_open n) as (λ b. AtMostOne (shows q) (if b then parts_below k f else record { first = p; whole = tree n f } ∷ []))
       [ true ↦ inner | false ↦ inr tt ]
 
-  one_part_below : (q : List Pair → Bool) (p : ℕ) (f : Forest) → IsChainBelow q f → AtMostOne (shows q) (parts_below p f)
+  one_part_below : (q : List SegmentView → Bool) (p : ℕ) (f : Forest) → IsChainBelow q f → AtMostOne (shows q) (parts_below p f)
   one_part_below q p no_trees c = tt
   one_part_below q p (more t f) (inl c) =
       let k = p + length (steps p t) in
@@ -145,12 +145,12 @@ claimed false n e = omega (arith, e)
 
 -- ---- names
 
-pub id_table : (table : List Descriptor) (k : ℕ) (x : List Pair) (o : Option Descriptor) → slice_get (ids_of table) k ≡ Some x → id_in (option_or (slice_get table k) o) ≡ x
+pub id_table : (table : List Descriptor) (k : ℕ) (x : List SegmentView) (o : Option Descriptor) → slice_get (ids_of table) k ≡ Some x → id_in (option_or (slice_get table k) o) ≡ x
 id_table [] k x o e = cc
 id_table (d ∷ ds) zero x o e = let same : d.id ≡ x = cc in same
 id_table (d ∷ ds) (suc k) x o e = id_table ds k x o e
 
-described_by : (b : Bool) (m : Payload) (o : Option Descriptor) (l : List (List Pair)) → id_in o ≡ first_or_nil l
+described_by : (b : Bool) (m : Payload) (o : Option Descriptor) (l : List (List SegmentView)) → id_in o ≡ first_or_nil l
     → id_in (option_or (if b then described m else None) o) ≡ first_or_nil ((if b then id_emitted m else []) ++ l)
 described_by false m o l e = e
 described_by true (Described d) o l e = refl
@@ -164,7 +164,7 @@ pub name_in : (k : ℕ) (es : List Entry) → id_in (desc_in es k) ≡ first_or_
 name_in k [] = refl
 name_in k (e ∷ es) = described_by (is_dynamic e.event && (e.event.key == k)) e.event.payload (desc_in es k) (event_of_step k (events es)) (name_in k es)
 
-emitted_not : (d b : Bool) (m : Payload) (l : List (List Pair)) → d ≡ false → l ≡ [] → (if d && b then id_emitted m else []) ++ l ≡ []
+emitted_not : (d b : Bool) (m : Payload) (l : List (List SegmentView)) → d ≡ false → l ≡ [] → (if d && b then id_emitted m else []) ++ l ≡ []
 emitted_not true b m l e h = cc
 emitted_not false b m l e h = h
 
@@ -173,9 +173,9 @@ emitted_static all table k [] h = refl
 emitted_static all table k (s ∷ ss) h = emitted_not (is_dynamic (static_event s)) (s.node.number == k) (payload_of s.node.node s.act) _ (dynamic_kind s.act ∙ h.0.0) (emitted_static all table k ss h.1)
 
 module _ (all : List NumberedNode) (table : List Descriptor) where
-  pub labels_emitted : (names : ℕ → List Pair) (f : Forest) → ((u : ℕ) → script_of (forest all) u ≡ map plain (part_steps f u)) → ((u : ℕ) → Named all table [] (part_steps f u))
+  pub labels_emitted : (names : ℕ → List SegmentView) (f : Forest) → ((u : ℕ) → script_of (forest all) u ≡ map plain (part_steps f u)) → ((u : ℕ) → Named all table [] (part_steps f u))
       → (w n : ℕ) (us : List ℕ) (l : List Event)
-      → ((k : ℕ) (x : List Pair) → slice_get (ids_of table) k ≡ Some x → names k ≡ x)
+      → ((k : ℕ) (x : List SegmentView) → slice_get (ids_of table) k ≡ Some x → names k ≡ x)
       → ((j : ℕ) (x : ℕ) → slice_get (drawn_ids f us) j ≡ Some x → names (65536 * w + n + j) ≡ id_at all x)
       → Emits (may all table) w n us l → map (label names) l ≡ map step_label (flat_map (part_steps f) us)
   labels_emitted names f scripts named w n [] l by_table by_run e = ap (map (label names)) e
@@ -196,7 +196,7 @@ module _ (all : List NumberedNode) (table : List Descriptor) where
       ∙ sym (map-append step_label (part_steps f u) (flat_map (part_steps f) us))))
 
 module _ (all : List NumberedNode) (table : List Descriptor) (f : Forest) (workers : ℕ) (r : Recorded) (plan : Models all table f) (run : IsRunOf all table workers r) where
-  abbrev pub names : ℕ → List Pair
+  abbrev pub names : ℕ → List SegmentView
   names = name r
 
   -- what worker i + 1 did
@@ -231,7 +231,7 @@ module _ (all : List NumberedNode) (table : List Descriptor) (f : Forest) (worke
       ap events (run.whole ∙ append_assoc (entries_by 0 b) run.mid (entries_by 0 a)) ∙ (events-append (entries_by 0 b) _
       ∙ ap₂ (λ x y. x ++ y) (events_by 0 b ∙ plan.before) (events-append run.mid _ ∙ ap (λ l. events run.mid ++ l) (events_by 0 a ∙ plan.after)))
 
-  pub name_table : (k : ℕ) (x : List Pair) → slice_get (ids_of table) k ≡ Some x → names k ≡ x
+  pub name_table : (k : ℕ) (x : List SegmentView) → slice_get (ids_of table) k ≡ Some x → names k ≡ x
   name_table k x e = ap (λ t. id_in (option_or (slice_get t k) (desc_in r.entries k))) run.over ∙ id_table table k x _ e
 
   pub name_above : (k : ℕ) → length table ≤ k → names k ≡ first_or_nil (event_of_step k (events r.entries))
@@ -278,7 +278,7 @@ module _ (all : List NumberedNode) (table : List Descriptor) (f : Forest) (worke
 
   -- ---- the chain
 
-  module _ (q : List Pair → Bool) (chain : IsChainBelow q f) where
+  module _ (q : List SegmentView → Bool) (chain : IsChainBelow q f) where
     tells_about : Event → List Label
     tells_about = λ e. about q (label names e ∷ [])
 

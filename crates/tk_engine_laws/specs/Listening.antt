@@ -1,7 +1,7 @@
 -- What a listener may rely on.
 use Rattle.std.specs.Prelude.{◌≡◌, ◌≢◌, ◌≤◌, ◌==◌, ℕ, Bool, true, false, not, ◌&&◌, ◌||◌, List, [], ◌∷◌, ◌++◌, map, filter}
 use Rattle.std.specs.List.{list_any}
-use Rattle.tk_ids.specs.IdText.{Pair}
+use Rattle.tk_ids.specs.IdText.{SegmentView}
 use Rattle.tk_events.specs.declared.kinds.Kind.{Kind}
 use Rattle.tk_events.specs.declared.kinds.Kind.TheVariants.{Dynamic, Skipped, Started, Finished}
 use Rattle.tk_events.specs.declared.events.Event.{Event}
@@ -17,19 +17,19 @@ abbrev pub is_followed : {A : Type 0} → (A → Bool) → (A → Bool) → List
 is_followed earlier later [] = true
 is_followed earlier later (x ∷ xs) = (not (earlier x) || list_any later xs) && is_followed earlier later xs
 
-abbrev pub is_of : List Pair → Label → Bool
+abbrev pub is_of : List SegmentView → Label → Bool
 is_of i l = same_id l.id i
 
-abbrev pub starts : List Pair → Label → Bool
+abbrev pub starts : List SegmentView → Label → Bool
 starts i l = is_of i l && same_kind l.kind Started
 
-abbrev pub finishes : List Pair → Label → Bool
+abbrev pub finishes : List SegmentView → Label → Bool
 finishes i l = is_of i l && same_kind l.kind Finished
 
-abbrev pub skips : List Pair → Label → Bool
+abbrev pub skips : List SegmentView → Label → Bool
 skips i l = is_of i l && same_kind l.kind Skipped
 
-abbrev pub registers : List Pair → Label → Bool
+abbrev pub registers : List SegmentView → Label → Bool
 registers i l = is_of i l && same_kind l.kind Dynamic
 
 -- a start, a finish or a skip
@@ -45,25 +45,25 @@ IsOnce (x ∷ (y ∷ (z ∷ zs))) = ⊥
 
 -- For the ids of a record. The id of a child is its parent's with one segment more.
 pub record Listens (ls : List Label) : Type 0 where
-  pub once : (i : List Pair) → IsOnce (filter (λ l. is_of i l && is_ran l.kind) ls)
+  pub once : (i : List SegmentView) → IsOnce (filter (λ l. is_of i l && is_ran l.kind) ls)
   -- a parent starts before each event of a child
-  pub start_first : (p : List Pair) (s : Pair) → p ≢ [] → precedes (starts p) (is_of (p ++ s ∷ [])) ls ≡ true
+  pub start_first : (p : List SegmentView) (s : SegmentView) → p ≢ [] → precedes (starts p) (is_of (p ++ s ∷ [])) ls ≡ true
   -- and finishes after it
-  pub finish_last : (p : List Pair) (s : Pair) → p ≢ [] → is_followed (is_of (p ++ s ∷ [])) (finishes p) ls ≡ true
+  pub finish_last : (p : List SegmentView) (s : SegmentView) → p ≢ [] → is_followed (is_of (p ++ s ∷ [])) (finishes p) ls ≡ true
   -- nothing below a skipped descriptor has an event
-  pub skipped : (i : List Pair) (s : Pair) (more : List Pair) → i ≢ [] → list_any (skips i) ls ≡ true → list_any (is_of (i ++ s ∷ more)) ls ≡ false
-  pub registered_first : (i : List Pair) → list_any (registers i) ls ≡ true → precedes (registers i) (λ l. is_of i l && is_ran l.kind) ls ≡ true
+  pub skipped : (i : List SegmentView) (s : SegmentView) (more : List SegmentView) → i ≢ [] → list_any (skips i) ls ≡ true → list_any (is_of (i ++ s ∷ more)) ls ≡ false
+  pub registered_first : (i : List SegmentView) → list_any (registers i) ls ≡ true → precedes (registers i) (λ l. is_of i l && is_ran l.kind) ls ≡ true
 
 -- the descriptor of key k is a child of that of key p: its id is the parent's with one segment more
-abbrev pub IsChild : (ℕ → List Pair) → ℕ → ℕ → Type 0
-IsChild names p k = (names p ≢ []) × (s : Pair) × (names k ≡ names p ++ s ∷ [])
+abbrev pub IsChild : (ℕ → List SegmentView) → ℕ → ℕ → Type 0
+IsChild names p k = (names p ≢ []) × (s : SegmentView) × (names k ≡ names p ++ s ∷ [])
 
 -- the descriptor of key k stands below that of key p: its id is the other's with more segments
-abbrev pub IsBelow : (ℕ → List Pair) → ℕ → ℕ → Type 0
-IsBelow names p k = (names p ≢ []) × (s : Pair) × (more : List Pair) × (names k ≡ names p ++ s ∷ more)
+abbrev pub IsBelow : (ℕ → List SegmentView) → ℕ → ℕ → Type 0
+IsBelow names p k = (names p ≢ []) × (s : SegmentView) × (more : List SegmentView) × (names k ≡ names p ++ s ∷ more)
 
 -- For the keys of a record over its table. A key without a descriptor has the id [].
-pub record ListensByKey (statics : ℕ) (names : ℕ → List Pair) (es : List Event) : Type 0 where
+pub record ListensByKey (statics : ℕ) (names : ℕ → List SegmentView) (es : List Event) : Type 0 where
   pub once : (k : ℕ) → IsOnce (map (label names) (filter (λ e. e.key == k && is_ran e.kind) es))
   -- a parent starts before each event of a child
   pub start_first : (p k : ℕ) → IsChild names p k → precedes (λ e. e.key == p && same_kind e.kind Started) (λ e. e.key == k) es ≡ true

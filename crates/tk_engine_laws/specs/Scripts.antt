@@ -1,7 +1,7 @@
 -- What a scripted engine emits: the scripts of a plan's units.
 use Rattle.std.specs.Prelude.{◌≡◌, ◌<◌, ◌≤◌, ◌⊎◌, ℕ, suc, ◌+◌, ◌==◌, nat_lt, if◌then◌else◌, Bool, true, false, List, [], ◌∷◌, ◌++◌, length, Option, Some, None, slice_get}
-use Rattle.tk_ids.specs.IdText.{Pair}
-use Rattle.tk_ids.specs.declared.tables.Descriptor.{Descriptor}
+use Rattle.tk_ids.specs.IdText.{SegmentView}
+use Rattle.tk_ids.specs.declared.descriptors.Descriptor.{Descriptor}
 use Rattle.tk_ids.specs.Table.{ids_of}
 use Rattle.tk_events.specs.declared.payloads.Payload.{Payload}
 use Rattle.tk_events.specs.declared.payloads.Payload.TheVariants.{Nothing, Described}
@@ -31,20 +31,20 @@ is_registration (File i) = false
 is_registration Finish = false
 
 -- the id of the node of a number, where the nodes' ids stand in the order of the nodes
-abbrev pub id_of : List NumberedNode → List (List Pair) → ℕ → List Pair
+abbrev pub id_of : List NumberedNode → List (List SegmentView) → ℕ → List SegmentView
 id_of [] ids k = []
 id_of (p ∷ ps) [] k = []
 id_of (p ∷ ps) (id ∷ ids) k = if p.number == k then id else id_of ps ids k
 
 -- the id of the plan's node of a number
-abbrev pub id_at : List NumberedNode → ℕ → List Pair
+abbrev pub id_at : List NumberedNode → ℕ → List SegmentView
 id_at nodes k = id_of nodes (ids_below [] (forest nodes)) k
 
 -- the payload of a step of a node with this id: a registration has its descriptor
-abbrev pub payload_for : Node → List Pair → Act → Payload
+abbrev pub payload_for : Node → List SegmentView → Act → Payload
 payload_for n id a = if is_registration a then Described (descriptor id n) else payload_of n a
 
-abbrev pub payload_of_node : Option Node → List Pair → Act → Payload
+abbrev pub payload_of_node : Option Node → List SegmentView → Act → Payload
 payload_of_node None id a = Nothing
 payload_of_node (Some n) id a = payload_for n id a
 

@@ -5,12 +5,16 @@ mod events;
 mod fields;
 mod kinds;
 pub mod laws;
+mod pairs;
 mod payloads;
 mod registrations;
+mod statuses;
 
 pub use events::{Entry, Event};
 pub use fields::fmt_field;
-pub use kinds::{Kind, Status};
-pub use payloads::{Pairs, Payload, try_clone_message};
+pub use kinds::Kind;
+pub use pairs::Pairs;
+pub use payloads::{Payload, try_clone_message};
 pub use registrations::{is_worker, registered_key};
+pub use statuses::Status;
 pub use tk_limits::MAX_WORKERS;

@@ -1,20 +1,20 @@
 -- Adding and inserting descriptors have one answer.
 use Rattle.std.proofs.Common.{◌≡◌, ◌≢◌, ℕ, ◌<◌, List, [], ◌∷◌, ◌++◌, length, Option, Some, None, refl, sym, ap, ◌∙◌, subst, arith, Result, Ok, Err}
 use Rattle.std.proofs.lemmas.Option.{same_Some, none-some}
-use Rattle.tk_ids.specs.declared.ids.IdFault.TheVariants as id_faults
+use Rattle.tk_ids.specs.declared.id_faults.IdFault.TheVariants as id_faults
 use Rattle.tk_ids.specs.declared.tables.TheConstants.{MAX_DESCRIPTORS}
-use Rattle.tk_ids.specs.declared.tables.DType.{DType}
-use Rattle.tk_ids.specs.declared.tables.Descriptor.{Descriptor}
+use Rattle.tk_ids.specs.declared.descriptors.DType.{DType}
+use Rattle.tk_ids.specs.declared.descriptors.Descriptor.{Descriptor}
 use Rattle.tk_ids.specs.declared.tables.TableFault.{TableFault}
 use Rattle.tk_ids.specs.declared.tables.TableFault.TheVariants.{NoParent, Twice, Full, Id, Memory}
-use Rattle.tk_ids.specs.IdText.{Pair, FitsLimits}
+use Rattle.tk_ids.specs.IdText.{SegmentView, FitsLimits}
 use Rattle.tk_ids.specs.Table.{HasId, child_id, IsAddedAs, IsInsertedAs}
 use Rattle.tk_ids.specs.Laws.{AdditionIsUnique, InsertionIsUnique}
 
 not_full : (old : List Descriptor) → length old < MAX_DESCRIPTORS → length old ≡ MAX_DESCRIPTORS → ⊥
 not_full old lt is = omega (arith, lt, is)
 
-module _ (old new other : List Descriptor) (parent : Option ℕ) (segment : Pair) (name : List ℕ) (dtype : DType) where
+module _ (old new other : List Descriptor) (parent : Option ℕ) (segment : SegmentView) (name : List ℕ) (dtype : DType) where
   abbrev Left : Result ℕ TableFault → Type 0
   Left r = IsAddedAs old new parent segment name dtype r
 
@@ -25,13 +25,13 @@ module _ (old new other : List Descriptor) (parent : Option ℕ) (segment : Pair
   Same a b = (a ≡ b) × (new ≡ other)
 
   -- an id that is made here
-  abbrev Made : List Pair → Type 0
+  abbrev Made : List SegmentView → Type 0
   Made id = child_id old parent segment ≡ Some id
 
-  one_id : (x y : List Pair) → Made x → Made y → x ≡ y
+  one_id : (x y : List SegmentView) → Made x → Made y → x ≡ y
   one_id x y a b = same_Some x y (sym a ∙ b)
 
-  no_id : (x : List Pair) → Made x → child_id old parent segment ≡ None → ⊥
+  no_id : (x : List SegmentView) → Made x → child_id old parent segment ≡ None → ⊥
   no_id x a b = none-some x (sym b ∙ a)
 
   added : (a b : Result ℕ TableFault) → Left a → Right b → a ≢ Err Memory → b ≢ Err Memory → Same a b

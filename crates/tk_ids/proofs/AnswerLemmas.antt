@@ -3,10 +3,10 @@ use Rattle.std.specs.Prelude.{codes, bytes_eq}
 use Rattle.std.proofs.lemmas.Slice.Eq.{bytes_eq-Decides}
 use Rattle.std.proofs.Common.{Bool, true, ◌≡◌, ◌≢◌, ℕ, ◌<◌, ◌≤◌, List, [], ◌∷◌, length, take, get_or, None, refl, sym, ap, ◌∙◌, subst, arith, Result, Ok, Err}
 use Rattle.std.proofs.lemmas.List.{length-take-le, length-append}
-use Rattle.tk_ids.specs.declared.ids.IdFault.{IdFault}
-use Rattle.tk_ids.specs.declared.ids.IdFault.TheVariants.{Empty, BadSegment, BadEscape, TooLong, Memory}
+use Rattle.tk_ids.specs.declared.id_faults.IdFault.{IdFault}
+use Rattle.tk_ids.specs.declared.id_faults.IdFault.TheVariants.{Empty, BadSegment, BadEscape, TooLong, Memory}
 use Rattle.tk_ids.specs.Prefix.{IsLongestPrefix}
-use Rattle.tk_ids.specs.IdText.{Pair, IsId, IsIdText, IsEngine, id_text, FitsLimits, EndsInEscape}
+use Rattle.tk_ids.specs.IdText.{SegmentView, IsId, IsIdText, IsEngine, id_text, FitsLimits, EndsInEscape}
 use Rattle.tk_ids.specs.Reading.{State, Closed, step}
 use Rattle.tk_ids.specs.Answer.{IsBadAt, IsReadAs, IsFaultAfter}
 use Rattle.tk_ids.proofs.ReadingLemmas.{HasRead, stuck_longest, stuck_refutes, end_is, text_is_unique}
@@ -15,7 +15,7 @@ pub bad_where_stuck : (text : List ℕ) (n : ℕ) (s : State) → HasRead text n
 bad_where_stuck text n s h lt stuck =
     record { some = omega arith; no_id = stuck_refutes text n s h lt stuck; prefix = stuck_longest text n s h (λ _. stuck) }
 
-pub bad_at_end : (text : List ℕ) (n : ℕ) (s : State) → HasRead text n s → 0 < length text → length text ≤ n → ((done : List Pair) → s ≡ Closed done → ⊥) → IsBadAt text (length text)
+pub bad_at_end : (text : List ℕ) (n : ℕ) (s : State) → HasRead text n s → 0 < length text → length text ≤ n → ((done : List SegmentView) → s ≡ Closed done → ⊥) → IsBadAt text (length text)
 bad_at_end text n s h some le open_at =
     let within : n ≤ length text = h.within in
     let all : n ≡ length text = omega arith in
@@ -36,7 +36,7 @@ fault_is text prefix n Empty bad is h = absurd h
 fault_is text prefix n TooLong bad is h = absurd h
 fault_is text prefix n Memory bad is h = absurd h
 
-pub id_text_some : (id : List Pair) → IsId id → 0 < length (id_text id)
+pub id_text_some : (id : List SegmentView) → IsId id → 0 < length (id_text id)
 id_text_some [] ok = absurd (omega (arith, ok.0))
 id_text_some (s ∷ []) ok = simp length-append (omega arith)
 id_text_some (s ∷ t ∷ id) ok = simp length-append (omega arith)
@@ -48,7 +48,7 @@ same_at text m n a b =
     omega arith
 
 -- a text has one answer, where memory doesn't run out
-pub answer_is_unique : (text : List ℕ) (a b : Result (List Pair) IdFault) → IsReadAs text a → IsReadAs text b → a ≢ Err Memory → b ≢ Err Memory → a ≡ b
+pub answer_is_unique : (text : List ℕ) (a b : Result (List SegmentView) IdFault) → IsReadAs text a → IsReadAs text b → a ≢ Err Memory → b ≢ Err Memory → a ≡ b
 answer_is_unique text (Err Memory) b h k na nb = absurd (na refl)
 answer_is_unique text a (Err Memory) h k na nb = absurd (nb refl)
 answer_is_unique text (Ok x) (Ok y) h k na nb = ap Ok (text_is_unique x y h.0 k.0 (sym h.1 ∙ k.1))
@@ -78,7 +78,7 @@ answer_is_unique text (Err (BadEscape m)) (Err (BadEscape n)) h k na nb = ap (λ
 answer_is_unique text (Err (BadEscape m)) (Err TooLong) k h na nb = absurd (k.0.no_id (h.0, h.1, h.2))
 
 -- an id of one segment with this tag is an engine's
-pub engine_exact : (id : List Pair) (s : Pair) (tag : List ℕ) (r : Bool) → 1 ≤ length id → length id < 2 → s ≡ get_or id 0 s → tag ≡ s.tag → r ≡ bytes_eq tag (codes "engine") → (r ≡ true → IsEngine id) × (IsEngine id → r ≡ true)
+pub engine_exact : (id : List SegmentView) (s : SegmentView) (tag : List ℕ) (r : Bool) → 1 ≤ length id → length id < 2 → s ≡ get_or id 0 s → tag ≡ s.tag → r ≡ bytes_eq tag (codes "engine") → (r ≡ true → IsEngine id) × (IsEngine id → r ≡ true)
 engine_exact [] s tag r some few is t e = absurd (omega arith)
 engine_exact (x ∷ y ∷ id) s tag r some few is t e = absurd (omega arith)
 engine_exact (x ∷ []) s tag r some few is t e =

@@ -7,14 +7,14 @@ use Rattle.std.proofs.lemmas.List.Quantifiers.{position-Some}
 use Rattle.std.proofs.lemmas.List.Sums.{fails_before_first}
 use Rattle.std.proofs.lemmas.Bool.{false≢true, cases_lt, lt-ltb, cond_both}
 use Rattle.std.proofs.lemmas.Slice.Eq.{bytes_eq-Decides}
-use Rattle.tk_ids.specs.declared.tables.Descriptor.{Descriptor}
+use Rattle.tk_ids.specs.declared.descriptors.Descriptor.{Descriptor}
 use Rattle.std.proofs.lemmas.List.{length-append, length-map, map-append}
 use Rattle.indexmap.specs.IndexMap.{insert_entry}
-use Rattle.tk_ids.specs.declared.tables.DType.{DType}
+use Rattle.tk_ids.specs.declared.descriptors.DType.{DType}
 use Rattle.tk_ids.specs.declared.tables.TableFault.{TableFault}
 use Rattle.tk_ids.specs.declared.tables.TableFault.TheVariants.{NoParent, Twice, Full, Id, Memory}
-use Rattle.tk_ids.specs.declared.ids.IdFault.TheVariants as id_faults
-use Rattle.tk_ids.specs.IdText.{Pair, IsId, id_text, FitsLimits}
+use Rattle.tk_ids.specs.declared.id_faults.IdFault.TheVariants as id_faults
+use Rattle.tk_ids.specs.IdText.{SegmentView, IsId, id_text, FitsLimits}
 use Rattle.tk_ids.specs.Table.{ids_of, HasId, AreDifferent, IsKept, child_id, IsChildId, IsAddedAs, HasParent, IsFreeAs, IsInsertableAs, IsInsertedAs}
 use Rattle.tk_ids.proofs.ReadingLemmas.{text_is_unique}
 
@@ -24,12 +24,12 @@ texts es = map (λ e. e.0) es
 abbrev pub descriptors : List (List ℕ × Descriptor) → List Descriptor
 descriptors es = map (λ e. e.1) es
 
-pub text_at : (es : List (List ℕ × Descriptor)) (k : ℕ) (id : List Pair) → AllByRecursion IsKept es → slice_get (ids_of (descriptors es)) k ≡ Some id → slice_get (texts es) k ≡ Some (id_text id)
+pub text_at : (es : List (List ℕ × Descriptor)) (k : ℕ) (id : List SegmentView) → AllByRecursion IsKept es → slice_get (ids_of (descriptors es)) k ≡ Some id → slice_get (texts es) k ≡ Some (id_text id)
 text_at [] k id all e = absurd (none-some id e)
 text_at (x ∷ es) zero id all e = ap Some (all.0.0 ∙ ap id_text (same_Some x.1.id id e))
 text_at (x ∷ es) (suc k) id all e = text_at es k id all.1 e
 
-pub id_at : (es : List (List ℕ × Descriptor)) (k : ℕ) (id : List Pair) → AllByRecursion IsKept es → IsId id → slice_get (texts es) k ≡ Some (id_text id) → slice_get (ids_of (descriptors es)) k ≡ Some id
+pub id_at : (es : List (List ℕ × Descriptor)) (k : ℕ) (id : List SegmentView) → AllByRecursion IsKept es → IsId id → slice_get (texts es) k ≡ Some (id_text id) → slice_get (ids_of (descriptors es)) k ≡ Some id
 id_at [] k id all ok e = absurd (none-some (id_text id) e)
 id_at (x ∷ es) zero id all ok e = ap Some (text_is_unique x.1.id id all.0.1 ok (sym all.0.0 ∙ same_Some x.0 (id_text id) e))
 id_at (x ∷ es) (suc k) id all ok e = id_at es k id all.1 ok e
@@ -72,12 +72,12 @@ pub AllByRecursion-push-kept : (es : List (List ℕ × Descriptor)) (e : List �
 AllByRecursion-push-kept [] e all ok = (ok, tt)
 AllByRecursion-push-kept (x ∷ es) e all ok = (all.0, AllByRecursion-push-kept es e all.1 ok)
 
-pub find_none : (es : List (List ℕ × Descriptor)) (table : List Descriptor) (id : List Pair) (t : List ℕ) → AllByRecursion IsKept es → descriptors es ≡ table → t ≡ id_text id → position (bytes_eq t) (texts es) ≡ None → HasId table id → ⊥
+pub find_none : (es : List (List ℕ × Descriptor)) (table : List Descriptor) (id : List SegmentView) (t : List ℕ) → AllByRecursion IsKept es → descriptors es ≡ table → t ≡ id_text id → position (bytes_eq t) (texts es) ≡ None → HasId table id → ⊥
 find_none es table id t all view is e has =
     no_position t (texts es) has.0 e
     (text_at es has.0 id all (subst (λ d. slice_get (ids_of d) has.0 ≡ Some id) (sym view) has.1) ∙ ap Some (sym is))
 
-pub find_some : (es : List (List ℕ × Descriptor)) (table : List Descriptor) (id : List Pair) (t : List ℕ) (k : ℕ) → AllByRecursion IsKept es → descriptors es ≡ table → t ≡ id_text id → IsId id → position (bytes_eq t) (texts es) ≡ Some k → slice_get (ids_of table) k ≡ Some id
+pub find_some : (es : List (List ℕ × Descriptor)) (table : List Descriptor) (id : List SegmentView) (t : List ℕ) (k : ℕ) → AllByRecursion IsKept es → descriptors es ≡ table → t ≡ id_text id → IsId id → position (bytes_eq t) (texts es) ≡ Some k → slice_get (ids_of table) k ≡ Some id
 find_some es table id t k all view is ok e =
     subst (λ d. slice_get (ids_of d) k ≡ Some id) view (id_at es k id all ok (at_position t (texts es) k e ∙ ap Some is))
 
@@ -92,23 +92,23 @@ insert_new (x ∷ es) t d absent =
     (λ e. absurd (absent 0 (ap Some (sym ((bytes_eq-Decides t x.0).0 e)))))
     (λ _. ap (λ l. x ∷ l) (insert_new es t d (λ k at. absent (suc k) at)))
 
-pub kept_fits : (es : List (List ℕ × Descriptor)) (k : ℕ) (id : List Pair) → AllByRecursion IsKept es → slice_get (ids_of (descriptors es)) k ≡ Some id → FitsLimits id
+pub kept_fits : (es : List (List ℕ × Descriptor)) (k : ℕ) (id : List SegmentView) → AllByRecursion IsKept es → slice_get (ids_of (descriptors es)) k ≡ Some id → FitsLimits id
 kept_fits [] k id all e = absurd (none-some id e)
 kept_fits (x ∷ es) zero id all e = subst FitsLimits (same_Some x.1.id id e) all.0.2
 kept_fits (x ∷ es) (suc k) id all e = kept_fits es k id all.1 e
 
 -- an id beyond the limits is in no table
-too_long_absent : (es : List (List ℕ × Descriptor)) (table : List Descriptor) (id : List Pair) → AllByRecursion IsKept es → descriptors es ≡ table → ¬ (FitsLimits id) → ¬ (HasId table id)
+too_long_absent : (es : List (List ℕ × Descriptor)) (table : List Descriptor) (id : List SegmentView) → AllByRecursion IsKept es → descriptors es ≡ table → ¬ (FitsLimits id) → ¬ (HasId table id)
 too_long_absent es table id all view long has =
     long (kept_fits es has.0 id all (subst (λ d. slice_get (ids_of d) has.0 ≡ Some id) (sym view) has.1))
 
 -- an id whose key was found is there
-pub is_there : (table : List Descriptor) (id : List Pair) (key : Option ℕ) → IfSome key (λ k. slice_get (ids_of table) k ≡ Some id) → is_some key ≡ true → HasId table id
+pub is_there : (table : List Descriptor) (id : List SegmentView) (key : Option ℕ) → IfSome key (λ k. slice_get (ids_of table) k ≡ Some id) → is_some key ≡ true → HasId table id
 is_there table id (Some k) at found = (k, at)
 is_there table id None at found = absurd cc
 
 -- what making the id refuses, adding refuses
-pub added_refused : (es : List (List ℕ × Descriptor)) (table : List Descriptor) (parent : Option ℕ) (segment : Pair) (name : List ℕ) (dtype : DType) (fault : TableFault) → AllByRecursion IsKept es → descriptors es ≡ table → IsChildId table parent segment (Err fault) → IsAddedAs table table parent segment name dtype (Err fault)
+pub added_refused : (es : List (List ℕ × Descriptor)) (table : List Descriptor) (parent : Option ℕ) (segment : SegmentView) (name : List ℕ) (dtype : DType) (fault : TableFault) → AllByRecursion IsKept es → descriptors es ≡ table → IsChildId table parent segment (Err fault) → IsAddedAs table table parent segment name dtype (Err fault)
 added_refused es table parent segment name dtype NoParent all view h = (h, refl)
 added_refused es table parent segment name dtype Twice all view h = absurd h
 added_refused es table parent segment name dtype Full all view h =
@@ -138,7 +138,7 @@ grown es table d t all view absent ok =
     }
 
 -- the map has a text exactly where some descriptor has the id of that text
-pub has_text_exact : (es : List (List ℕ × Descriptor)) (table : List Descriptor) (id : List Pair) (t : List ℕ) → AllByRecursion IsKept es → descriptors es ≡ table → t ≡ id_text id → IsId id → IsTrue (is_some (position (bytes_eq t) (texts es))) ↔ HasId table id
+pub has_text_exact : (es : List (List ℕ × Descriptor)) (table : List Descriptor) (id : List SegmentView) (t : List ℕ) → AllByRecursion IsKept es → descriptors es ≡ table → t ≡ id_text id → IsId id → IsTrue (is_some (position (bytes_eq t) (texts es))) ↔ HasId table id
 has_text_exact es table id t all view is ok =
     elim (position (bytes_eq t) (texts es)) as (λ o. position (bytes_eq t) (texts es) ≡ o → IsTrue (is_some o) ↔ HasId table id) [
       | None ↦ λ e. (λ yes. absurd (false≢true yes), λ has. absurd (find_none es table id t all view is e has))
@@ -146,7 +146,7 @@ has_text_exact es table id t all view is ok =
     ] refl
 
 -- a descriptor whose id is refused isn't added, and the table stays
-pub added_unless_free : (table : List Descriptor) (parent : Option ℕ) (segment : Pair) (name : List ℕ) (dtype : DType) (id : List Pair) (fault : TableFault) → child_id table parent segment ≡ Some id → IsFreeAs table id (Err fault)
+pub added_unless_free : (table : List Descriptor) (parent : Option ℕ) (segment : SegmentView) (name : List ℕ) (dtype : DType) (id : List SegmentView) (fault : TableFault) → child_id table parent segment ≡ Some id → IsFreeAs table id (Err fault)
     → IsAddedAs table table parent segment name dtype (Err fault)
 added_unless_free table parent segment name dtype id NoParent is h = absurd h
 added_unless_free table parent segment name dtype id Twice is h = (id, is, h, refl)
@@ -154,7 +154,7 @@ added_unless_free table parent segment name dtype id Full is h = (id, is, h.0, h
 added_unless_free table parent segment name dtype id (Id fault) is h = absurd h
 added_unless_free table parent segment name dtype id Memory is h = absurd h
 
-pub insertable : (table : List Descriptor) (id : List Pair) (answer : Result (Unit {0}) TableFault) → HasParent table id → IsFreeAs table id answer → IsInsertableAs table id answer
+pub insertable : (table : List Descriptor) (id : List SegmentView) (answer : Result (Unit {0}) TableFault) → HasParent table id → IsFreeAs table id answer → IsInsertableAs table id answer
 insertable table id (Ok x) parent h = (parent, h)
 insertable table id (Err NoParent) parent h = absurd h
 insertable table id (Err Twice) parent h = (parent, h)

@@ -1,9 +1,9 @@
 -- What reading a text answers.
 use Rattle.std.specs.Prelude.{◌≡◌, ℕ, ◌<◌, List, [], ◌⊎◌, length, take, Result, Ok, Err}
-use Rattle.tk_ids.specs.declared.ids.IdFault.{IdFault}
-use Rattle.tk_ids.specs.declared.ids.IdFault.TheVariants.{Empty, BadSegment, BadEscape, TooLong, Memory}
+use Rattle.tk_ids.specs.declared.id_faults.IdFault.{IdFault}
+use Rattle.tk_ids.specs.declared.id_faults.IdFault.TheVariants.{Empty, BadSegment, BadEscape, TooLong, Memory}
 use Rattle.tk_ids.specs.Prefix.{IsLongestPrefix}
-use Rattle.tk_ids.specs.IdText.{Pair, IsId, IsIdText, id_text, FitsLimits, EndsInEscape}
+use Rattle.tk_ids.specs.IdText.{SegmentView, IsId, IsIdText, id_text, FitsLimits, EndsInEscape}
 
 -- a text that is no id's and isn't empty, and whose longest prefix with which an id's text begins
 -- has `at` bytes
@@ -13,12 +13,12 @@ pub record IsBadAt (text : List ℕ) (at : ℕ) : Type 0 where
   pub prefix : IsLongestPrefix IsIdText text at
 
 -- the answer to a text; want of memory may come at any
-abbrev pub IsReadAs : List ℕ → Result (List Pair) IdFault → Type 0
+abbrev pub IsReadAs : List ℕ → Result (List SegmentView) IdFault → Type 0
 IsReadAs text (Ok id) = IsId id × (text ≡ id_text id) × FitsLimits id
 IsReadAs text (Err Empty) = text ≡ []
 IsReadAs text (Err (BadSegment at)) = IsBadAt text at × ¬ EndsInEscape (take at text)
 IsReadAs text (Err (BadEscape at)) = IsBadAt text at × EndsInEscape (take at text)
-IsReadAs text (Err TooLong) = (id : List Pair) × IsId id × (text ≡ id_text id) × ¬ FitsLimits id
+IsReadAs text (Err TooLong) = (id : List SegmentView) × IsId id × (text ≡ id_text id) × ¬ FitsLimits id
 IsReadAs text (Err Memory) = Unit {0}
 
 -- the fault of a text that goes wrong after this prefix
@@ -28,7 +28,7 @@ IsFaultAfter prefix (BadEscape at) = (at ≡ length prefix) × EndsInEscape pref
 IsFaultAfter prefix _ = ⊥
 
 -- what making a segment of a tag and a value answers; want of memory may come at any
-abbrev pub IsSegmentOf : List ℕ → List ℕ → Result Pair IdFault → Type 0
+abbrev pub IsSegmentOf : List ℕ → List ℕ → Result SegmentView IdFault → Type 0
 IsSegmentOf tag value (Ok s) =
     (s ≡ record { tag = tag; value = value })
     × (0 < length tag) × (0 < length value)
@@ -37,7 +37,7 @@ IsSegmentOf tag value (Err Memory) = Unit {0}
 IsSegmentOf tag value (Err _) = ⊥
 
 -- what making an id of these segments answers; want of memory may come at any
-abbrev pub IsMadeOf : List Pair → Result (List Pair) IdFault → Type 0
+abbrev pub IsMadeOf : List SegmentView → Result (List SegmentView) IdFault → Type 0
 IsMadeOf segments (Ok id) = (id ≡ segments) × FitsLimits segments
 IsMadeOf segments (Err TooLong) = ¬ FitsLimits segments
 IsMadeOf segments (Err Memory) = Unit {0}

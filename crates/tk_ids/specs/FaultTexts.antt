@@ -1,8 +1,8 @@
 -- The texts of the faults.
 use Rattle.std.specs.Prelude.{ℕ, List, ◌++◌, codes}
 use Rattle.std.specs.Fmt.{decimal}
-use Rattle.tk_ids.specs.declared.ids.IdFault.{IdFault}
-use Rattle.tk_ids.specs.declared.ids.IdFault.TheVariants as id_faults
+use Rattle.tk_ids.specs.declared.id_faults.IdFault.{IdFault}
+use Rattle.tk_ids.specs.declared.id_faults.IdFault.TheVariants as id_faults
 use Rattle.tk_ids.specs.declared.tables.TableFault.{TableFault}
 use Rattle.tk_ids.specs.declared.tables.TableFault.TheVariants as table_faults
 

@@ -1,13 +1,13 @@
 -- The table of descriptors, as a list.
 use Rattle.std.specs.Prelude.{◌≡◌, ℕ, ◌<◌, List, [], ◌∷◌, ◌++◌, length, map, Option, Some, None, option_map, slice_get, Result, Ok, Err}
 use Rattle.tk_ids.specs.declared.tables.TheConstants.{MAX_DESCRIPTORS}
-use Rattle.tk_ids.specs.declared.ids.IdFault.TheVariants as id_faults
-use Rattle.tk_ids.specs.declared.tables.DType.{DType}
-use Rattle.tk_ids.specs.declared.tables.DType.TheVariants.{Container, Test, Both}
-use Rattle.tk_ids.specs.declared.tables.Descriptor.{Descriptor}
+use Rattle.tk_ids.specs.declared.id_faults.IdFault.TheVariants as id_faults
+use Rattle.tk_ids.specs.declared.descriptors.DType.{DType}
+use Rattle.tk_ids.specs.declared.descriptors.DType.TheVariants.{Container, Test, Both}
+use Rattle.tk_ids.specs.declared.descriptors.Descriptor.{Descriptor}
 use Rattle.tk_ids.specs.declared.tables.TableFault.{TableFault}
 use Rattle.tk_ids.specs.declared.tables.TableFault.TheVariants.{NoParent, Twice, Full, Id, Memory}
-use Rattle.tk_ids.specs.IdText.{Pair, IsId, id_text, FitsLimits, parent_of}
+use Rattle.tk_ids.specs.IdText.{SegmentView, IsId, id_text, FitsLimits, parent_of}
 
 abbrev pub IsTest : DType → Type 0
 IsTest Container = ⊥
@@ -19,57 +19,57 @@ IsContainer Container = Unit {0}
 IsContainer Test = ⊥
 IsContainer Both = Unit {0}
 
-abbrev pub ids_of : List Descriptor → List (List Pair)
+abbrev pub ids_of : List Descriptor → List (List SegmentView)
 ids_of table = map (λ d. d.id) table
 
 -- some descriptor has the id
-abbrev pub HasId : List Descriptor → List Pair → Type 0
+abbrev pub HasId : List Descriptor → List SegmentView → Type 0
 HasId table id = (key : ℕ) × (slice_get (ids_of table) key ≡ Some id)
 
 -- no two descriptors have one id
 abbrev pub AreDifferent : List Descriptor → Type 0
 AreDifferent table =
-    (j k : ℕ) (id : List Pair) →
+    (j k : ℕ) (id : List SegmentView) →
     slice_get (ids_of table) j ≡ Some id → slice_get (ids_of table) k ≡ Some id → j ≡ k
 
 -- the id of a child of this parent, or of a root; none where there is no such parent
-abbrev pub child_id : List Descriptor → Option ℕ → Pair → Option (List Pair)
+abbrev pub child_id : List Descriptor → Option ℕ → SegmentView → Option (List SegmentView)
 child_id table None segment = Some (segment ∷ [])
 child_id table (Some parent) segment =
     option_map (λ d. d.id ++ segment ∷ []) (slice_get table parent)
 
 -- what making that id answers, at a table that may be full; want of memory may come at any
-abbrev pub IsChildId : List Descriptor → Option ℕ → Pair → Result (List Pair) TableFault → Type 0
+abbrev pub IsChildId : List Descriptor → Option ℕ → SegmentView → Result (List SegmentView) TableFault → Type 0
 IsChildId table parent segment (Ok id) = (child_id table parent segment ≡ Some id) × FitsLimits id
 IsChildId table parent segment (Err NoParent) = child_id table parent segment ≡ None
 IsChildId table parent segment (Err Twice) = ⊥
 IsChildId table parent segment (Err Full) =
-    (id : List Pair) × (child_id table parent segment ≡ Some id)
+    (id : List SegmentView) × (child_id table parent segment ≡ Some id)
     × ¬ (FitsLimits id) × (length table ≡ MAX_DESCRIPTORS)
 IsChildId table parent segment (Err (Id id_faults.TooLong)) =
-    (id : List Pair) × (child_id table parent segment ≡ Some id)
+    (id : List SegmentView) × (child_id table parent segment ≡ Some id)
     × ¬ (FitsLimits id) × (length table < MAX_DESCRIPTORS)
 IsChildId table parent segment (Err (Id _)) = ⊥
 IsChildId table parent segment (Err Memory) = Unit {0}
 
 -- What adding a descriptor answers, and the table after it. Want of memory may come at any.
 abbrev pub IsAddedAs :
-    List Descriptor → List Descriptor → Option ℕ → Pair → List ℕ → DType → Result ℕ TableFault →
+    List Descriptor → List Descriptor → Option ℕ → SegmentView → List ℕ → DType → Result ℕ TableFault →
     Type 0
 IsAddedAs old new parent segment name dtype (Ok key) =
-    (id : List Pair) × (child_id old parent segment ≡ Some id)
+    (id : List SegmentView) × (child_id old parent segment ≡ Some id)
     × FitsLimits id × ¬ (HasId old id) × (length old < MAX_DESCRIPTORS)
     × (key ≡ length old) × (new ≡ old ++ record { id = id; name = name; dtype = dtype } ∷ [])
 IsAddedAs old new parent segment name dtype (Err NoParent) =
     (child_id old parent segment ≡ None) × (new ≡ old)
 IsAddedAs old new parent segment name dtype (Err Twice) =
-    (id : List Pair) × (child_id old parent segment ≡ Some id)
+    (id : List SegmentView) × (child_id old parent segment ≡ Some id)
     × HasId old id × (new ≡ old)
 IsAddedAs old new parent segment name dtype (Err Full) =
-    (id : List Pair) × (child_id old parent segment ≡ Some id)
+    (id : List SegmentView) × (child_id old parent segment ≡ Some id)
     × ¬ (HasId old id) × (length old ≡ MAX_DESCRIPTORS) × (new ≡ old)
 IsAddedAs old new parent segment name dtype (Err (Id id_faults.TooLong)) =
-    (id : List Pair) × (child_id old parent segment ≡ Some id)
+    (id : List SegmentView) × (child_id old parent segment ≡ Some id)
     × ¬ (HasId old id) × ¬ (FitsLimits id) × (length old < MAX_DESCRIPTORS) × (new ≡ old)
 IsAddedAs old new parent segment name dtype (Err (Id _)) = ⊥
 IsAddedAs old new parent segment name dtype (Err Memory) = new ≡ old
@@ -79,18 +79,18 @@ abbrev pub IsKept : List ℕ × Descriptor → Type 0
 IsKept e = (e.0 ≡ id_text e.1.id) × IsId e.1.id × FitsLimits e.1.id
 
 -- the id is a root's, or a descriptor has the id without its last segment
-abbrev pub HasParent : List Descriptor → List Pair → Type 0
+abbrev pub HasParent : List Descriptor → List SegmentView → Type 0
 HasParent table id = 1 < length id → HasId table (parent_of id)
 
 -- what looking for room for an id answers
-abbrev pub IsFreeAs : List Descriptor → List Pair → Result (Unit {0}) TableFault → Type 0
+abbrev pub IsFreeAs : List Descriptor → List SegmentView → Result (Unit {0}) TableFault → Type 0
 IsFreeAs table id (Ok _) = ¬ (HasId table id) × (length table < MAX_DESCRIPTORS)
 IsFreeAs table id (Err Twice) = HasId table id
 IsFreeAs table id (Err Full) = ¬ (HasId table id) × (length table ≡ MAX_DESCRIPTORS)
 IsFreeAs table id (Err _) = ⊥
 
 -- what looking for the parent of an id, and for room for it, answers; want of memory may come at any
-abbrev pub IsInsertableAs : List Descriptor → List Pair → Result (Unit {0}) TableFault → Type 0
+abbrev pub IsInsertableAs : List Descriptor → List SegmentView → Result (Unit {0}) TableFault → Type 0
 IsInsertableAs table id (Err NoParent) = ¬ HasParent table id
 IsInsertableAs table id (Err Memory) = Unit {0}
 IsInsertableAs table id answer = HasParent table id × IsFreeAs table id answer

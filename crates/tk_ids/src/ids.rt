@@ -1,161 +1,24 @@
 //! Unique ids.
-ghost use Rattle.std.specs.Prelude.{◌≡◌, ℕ, List, MatchOption, IfOk, IfErr, IsOk, OnOk, length, [], ◌∷◌, ◌++◌, ◌<◌, ◌≤◌, ◌⊎◌, IsTrue, ◌↔◌, Some};
+ghost use Rattle.std.specs.Prelude.{◌≡◌, ℕ, List, MatchOption, IfOk, IfErr, IsOk, OnOk, length, [], ◌∷◌, ◌++◌, ◌<◌, ◌≤◌, ◌⊎◌, IsTrue, ◌↔◌};
 ghost use Rattle.tk_ids.specs.IdText.{EndsInEscape};
 ghost use Rattle.tk_ids.specs.Answer.{IsFaultAfter};
-ghost use Rattle.tk_ids.specs.FaultTexts.{id_fault_text};
 
+use crate::id_faults::IdFault;
 use crate::id_texts::IdText;
 use crate::reading::Reader;
+use crate::segments::Segment;
 use crate::texts::Text;
 use crate::writing::push_segment;
-use std::alloc::{AllocError, AllocFailed, Global};
-use std::error::Error;
+use std::alloc::{AllocError, Global};
 use std::fmt;
 use std::marker::Model;
 use std::sync::Arc;
-
-/// Why a call gives no segment or no id. Positions count the bytes of the text from 0.
-#[derive(Debug, Clone, Copy, PartialEq, Eq)]
-pub enum IdFault {
-    /// The text of an id, a tag or a value is empty.
-    Empty,
-    /// The byte at this position can't follow those before it in the text of any id.
-    BadSegment(usize),
-    /// The byte at this position can't follow those before it, which end within an escape.
-    BadEscape(usize),
-    /// The id's text is longer than `MAX_BYTES`, or it has more segments than `MAX_SEGMENTS`.
-    TooLong,
-    /// A request for memory was refused.
-    Memory,
-}
-
-impl fmt::Display for IdFault {
-    ghost output = { λ fault. Some (id_fault_text fault) };
-
-    fn fmt<W: fmt::Write>(&self, f: &mut fmt::Formatter<W>) -> fmt::Result {
-        match self {
-            IdFault::Empty => f.write_str("text is empty"),
-            IdFault::BadSegment(at) => write!(f, "bad segment at byte {at}"),
-            IdFault::BadEscape(at) => write!(f, "bad escape at byte {at}"),
-            IdFault::TooLong => f.write_str("id is too long"),
-            IdFault::Memory => f.write_str("out of memory"),
-        }
-    }
-}
-
-impl Error for IdFault {}
-
-impl<T: Drop> From<AllocFailed<T>> for IdFault {
-    ghost use Rattle.tk_ids.specs.declared.ids.IdFault.TheVariants.{Memory};
-
-    ghost from_gives = { λ _ e. e ≡ Memory };
-
-    fn from(_: AllocFailed<T>) -> IdFault {
-        IdFault::Memory
-    }
-}
-
-impl From<AllocError> for IdFault {
-    ghost use Rattle.tk_ids.specs.declared.ids.IdFault.TheVariants.{Memory};
-
-    ghost from_gives = { λ _ e. e ≡ Memory };
-
-    fn from(_: AllocError) -> IdFault {
-        IdFault::Memory
-    }
-}
 
 /// The most bytes that the text of an id may have.
 pub const MAX_BYTES: usize = 4096;
 
 /// The most segments that an id may have.
 pub const MAX_SEGMENTS: usize = 64;
-
-/// What a segment keeps.
-#[derive(Drop)]
-struct SegmentTexts {
-    tag: Text,
-    value: Text,
-}
-
-/// One step of an id: a tag and a value, neither of them empty. Clones share both texts.
-#[derive(Drop)]
-pub struct Segment {
-    parts: Arc<SegmentTexts>,
-}
-
-impl Model for Segment {
-    ghost use Rattle.std.specs.Arc.{arc_value};
-    ghost use Rattle.tk_ids.specs.IdText.{Pair, IsNonEmptyText};
-
-    ghost Value = { Pair };
-
-    ghost view = { λ s. record
-        { tag = (arc_value s.parts).tag; value = (arc_value s.parts).value } };
-
-    ghost invariant = { λ s. IsNonEmptyText (arc_value s.parts).tag
-        × IsNonEmptyText (arc_value s.parts).value };
-}
-
-impl fmt::Debug for Segment {
-    fn fmt<W: fmt::Write>(&self, f: &mut fmt::Formatter<W>) -> fmt::Result {
-        write!(f, "Segment({:?}, {:?})", self.tag(), self.value())
-    }
-}
-
-impl Segment {
-    ghost use Rattle.tk_ids.specs.IdText.{IsNonEmptyText};
-    ghost use Rattle.tk_ids.specs.Answer.{IsSegmentOf};
-
-    pub(crate) fn from_parts(alloc: Global, tag: Text, value: Text) -> Result<Segment, AllocError>
-        requires tag { IsNonEmptyText tag }
-        requires value { IsNonEmptyText value }
-        ensures { IfOk result (λ s. s ≡ record { tag = tag; value = value }) }
-    {
-        Ok(Segment {
-            parts: Arc::new(alloc, SegmentTexts { tag, value })?,
-        })
-    }
-
-    /// Makes a segment of copies of `tag` and `value`, which stand without escapes.
-    ///
-    /// # Errors
-    /// `Empty` where one of them is empty, or `Memory`.
-    pub fn new(alloc: Global, tag: &str, value: &str) -> Result<Segment, IdFault>
-        ensures { IsSegmentOf tag.now value.now result }
-    {
-        if tag.is_empty() || value.is_empty() {
-            return Err(IdFault::Empty);
-        }
-        let (tag, value) = (Text::copy(alloc, tag)?, Text::copy(alloc, value)?);
-        Ok(Segment::from_parts(alloc, tag, value)?)
-    }
-
-    /// Another segment that shares the tag and the value.
-    pub fn try_clone(&self) -> Result<Segment, AllocError>
-        ensures { IfOk result (λ s. s ≡ self.now) }
-    {
-        Ok(Segment {
-            parts: Arc::try_clone(&self.parts)?,
-        })
-    }
-
-    /// The tag, without escapes.
-    pub fn tag(&self) -> &str
-        ensures value { result.now ≡ self.now.tag }
-        ensures partial { IsNonEmptyText result.now }
-    {
-        self.parts.tag.as_str()
-    }
-
-    /// The value, without escapes.
-    pub fn value(&self) -> &str
-        ensures value { result.now ≡ self.now.value }
-        ensures partial { IsNonEmptyText result.now }
-    {
-        self.parts.value.as_str()
-    }
-}
 
 /// What an id keeps: its segments, and its text beside them.
 #[derive(Drop)]
@@ -173,9 +36,9 @@ pub struct UniqueId {
 impl Model for UniqueId {
     ghost use Rattle.std.specs.Prelude.{◌≡◌, List};
     ghost use Rattle.std.specs.Arc.{arc_value};
-    ghost use Rattle.tk_ids.specs.IdText.{Pair, IsId, id_text, FitsLimits};
+    ghost use Rattle.tk_ids.specs.IdText.{SegmentView, IsId, id_text, FitsLimits};
 
-    ghost Value = { List Pair };
+    ghost Value = { List SegmentView };
 
     ghost view = { λ u. (arc_value u.path).segments.items };
 

@@ -1,15 +1,21 @@
 //! Unique ids and the table of descriptors.
 #![tactic(auto)]
 
+mod descriptors;
+mod id_faults;
 mod id_texts;
 mod ids;
 pub mod laws;
 mod reading;
+mod segments;
 mod tables;
 mod texts;
 mod writing;
 
+pub use descriptors::{DType, Descriptor};
+pub use id_faults::IdFault;
 pub use id_texts::IdText;
-pub use ids::{IdFault, MAX_BYTES, MAX_SEGMENTS, Segment, UniqueId};
-pub use tables::{DType, Descriptor, MAX_DESCRIPTORS, Table, TableFault};
+pub use ids::{MAX_BYTES, MAX_SEGMENTS, UniqueId};
+pub use segments::Segment;
+pub use tables::{MAX_DESCRIPTORS, Table, TableFault};
 pub use texts::Text;

@@ -3,7 +3,7 @@ ghost use Rattle.std.specs.Prelude.{◌≡◌, ◌≢◌, ℕ, List, [], IfOk, O
 ghost use Rattle.tk_ids.specs.Reading.{byte_of, is_first_digit, text_step, ends_at};
 ghost use Rattle.tk_ids.specs.IdText.{digits_of};
 
-use crate::ids::Segment;
+use crate::segments::Segment;
 use crate::texts::Text;
 use std::alloc::{AllocError, Global};
 use std::marker::Model;
@@ -166,7 +166,7 @@ impl Model for Reader {
 impl Reader {
     ghost use Rattle.tk_ids.specs.Reading.{step, Before, Closed};
     ghost use Rattle.tk_ids.specs.Reader.{ContinuesAsText, IsSound};
-    ghost use Rattle.tk_ids.specs.IdText.{Pair};
+    ghost use Rattle.tk_ids.specs.IdText.{SegmentView};
 
     pub(crate) fn new(alloc: Global) -> Reader
         ensures { result ≡ Before [] }
@@ -222,7 +222,7 @@ impl Reader {
 
     /// The segments, where the text ends after one.
     pub(crate) fn finish(self) -> Option<Vec<Segment>>
-        ensures { MatchOption result ((done : List Pair) → self ≢ Closed done)
+        ensures { MatchOption result ((done : List SegmentView) → self ≢ Closed done)
             (λ segments. self ≡ Closed segments.items) }
     {
         match self.position {

@@ -5,61 +5,17 @@ ghost use Rattle.std.specs.Slice.Iter.{iter_rest};
 ghost use Rattle.tk_ids.specs.declared.tables.TheConstants.{MAX_DESCRIPTORS};
 ghost use Rattle.tk_ids.specs.FaultTexts.{table_fault_text};
 
+use crate::descriptors::{DType, Descriptor};
+use crate::id_faults::IdFault;
 use crate::id_texts::IdText;
-use crate::ids::{IdFault, Segment, UniqueId};
+use crate::ids::UniqueId;
+use crate::segments::Segment;
 use crate::texts::Text;
 use indexmap::IndexMap;
 use std::alloc::{AllocError, AllocFailed, Global};
 use std::error::Error;
 use std::marker::Model;
 use std::{fmt, slice};
-
-/// Whether a descriptor is a container, a test, or both.
-#[derive(Clone, Copy, PartialEq, Eq, Debug)]
-pub enum DType {
-    Container,
-    Test,
-    Both,
-}
-
-impl DType {
-    ghost use Rattle.tk_ids.specs.Table.{IsTest, IsContainer};
-
-    /// Whether it is a test, as `Test` and `Both` are.
-    pub fn is_test(self) -> bool
-        ensures { IsTrue result ↔ IsTest self }
-    {
-        matches!(self, DType::Test | DType::Both)
-    }
-
-    /// Whether it has children or may have some, as `Container` and `Both` do.
-    pub fn is_container(self) -> bool
-        ensures { IsTrue result ↔ IsContainer self }
-    {
-        matches!(self, DType::Container | DType::Both)
-    }
-}
-
-/// A test or a container.
-#[derive(Debug, Drop)]
-pub struct Descriptor {
-    pub id: UniqueId,
-    pub name: Text,
-    pub dtype: DType,
-}
-
-impl Descriptor {
-    /// Another descriptor with the same contents.
-    pub fn try_clone(&self) -> Result<Descriptor, AllocError>
-        ensures { IfOk result (λ d. d ≡ self.now) }
-    {
-        Ok(Descriptor {
-            id: self.id.try_clone()?,
-            name: self.name.try_clone()?,
-            dtype: self.dtype,
-        })
-    }
-}
 
 /// Why a table refuses a descriptor.
 #[derive(Clone, Copy, Debug, PartialEq, Eq)]
@@ -128,7 +84,7 @@ impl Model for Table {
     ghost use Rattle.std.specs.List.{AllByRecursion};
     ghost use Rattle.indexmap.specs.IndexMap.{values};
     ghost use Rattle.tk_ids.specs.declared.tables.TheConstants.{MAX_DESCRIPTORS};
-    ghost use Rattle.tk_ids.specs.declared.tables.Descriptor.{Descriptor};
+    ghost use Rattle.tk_ids.specs.declared.descriptors.Descriptor.{Descriptor};
 
     ghost Value = { List Descriptor };
 
@@ -142,7 +98,7 @@ impl Model for Table {
 
 impl Table {
     ghost use Rattle.tk_ids.specs.Table.{ids_of, HasId, AreDifferent, child_id, IsChildId, IsAddedAs, HasParent, IsFreeAs, IsInsertableAs, IsInsertedAs};
-    ghost use Rattle.tk_ids.specs.IdText.{Pair, IsId, id_text};
+    ghost use Rattle.tk_ids.specs.IdText.{SegmentView, IsId, id_text};
     ghost use Rattle.tk_ids.specs.Answer.{IsMadeOf};
 
     /// Makes an empty table.
@@ -219,7 +175,7 @@ impl Table {
         segment: &Segment,
     ) -> Option<Result<UniqueId, IdFault>>
         ensures { MatchOption result (child_id self.now parent segment.now ≡ None)
-            (λ made. (id : List Pair) × (child_id self.now parent segment.now ≡ Some id)
+            (λ made. (id : List SegmentView) × (child_id self.now parent segment.now ≡ Some id)
             × IsMadeOf id made) }
     {
         match parent {
@@ -302,7 +258,7 @@ impl Table {
 
     /// Whether some descriptor has the id with this text.
     fn has_text(&self, text: &Text) -> bool
-        ensures { (id : List Pair) → IsId id → text.now ≡ id_text id →
+        ensures { (id : List SegmentView) → IsId id → text.now ≡ id_text id →
             IsTrue result ↔ HasId self.now id }
     {
         self.by_text.get_index_of(text).is_some()

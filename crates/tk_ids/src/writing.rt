@@ -2,8 +2,8 @@
 ghost use Rattle.std.specs.Prelude.{◌≡◌, ◌++◌, OnOk};
 ghost use Rattle.tk_ids.specs.IdText.{escaped, segment_text, IsSegment};
 
-use crate::ids::Segment;
 use crate::reading::digits_of_byte;
+use crate::segments::Segment;
 use std::alloc::AllocError;
 
 /// Writes a tag or a value with its escapes.

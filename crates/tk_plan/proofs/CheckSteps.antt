@@ -6,8 +6,8 @@ use Rattle.std.proofs.lemmas.List.{map-append}
 use Rattle.std.proofs.lemmas.List.Sums.{sum_by-append}
 use Rattle.std.proofs.lemmas.Bool.Decides.{nat_tests}
 use Rattle.std.specs.List.{list_any, list_all, count_by}
-use Rattle.tk_ids.specs.IdText.{Pair}
-use Rattle.tk_ids.specs.declared.tables.Descriptor.{Descriptor}
+use Rattle.tk_ids.specs.IdText.{SegmentView}
+use Rattle.tk_ids.specs.declared.descriptors.Descriptor.{Descriptor}
 use Rattle.tk_ids.specs.declared.tables.TableFault.TheVariants.{Twice, Full}
 use Rattle.tk_plan_units.specs.declared.nodes.Lock.{Lock}
 use Rattle.tk_plan_units.specs.declared.nodes.Node.{Node}
@@ -82,7 +82,7 @@ module _ (before : List Node) (s : NodeInput) where
   unfolding checks
   room_verdict o p e = rw (le-ltb 60 s.level p.level, p.members, p.once, p.id) e
 
-module _ (before : List Node) (earlier : List Pair) (b : Bool) (s : Pair) (keys : List (List ℕ)) where
+module _ (before : List Node) (earlier : List SegmentView) (b : Bool) (s : SegmentView) (keys : List (List ℕ)) where
   pub twice_fault : list_any (same_segment s) earlier ≡ true → first (room_checks before earlier b s keys) ≡ Some (Table Twice)
   twice_fault t = rw t refl
 
@@ -133,7 +133,7 @@ few : (b : Bool) (ns : List Node) (s d : ℕ) → s ≡ count_by (is_kind true) 
 few true ns s d es ed hs hd room = (omega arith, omega arith)
 few false ns s d es ed hs hd room = (omega arith, omega arith)
 
-pub noted_added : (old mid new : Reader) (s : NodeInput) (later : List Pair) (c : Checked) → IsNoted old → IsChecked old mid s later c → IsAdded mid new c.node c.id → IsNoted new
+pub noted_added : (old mid new : Reader) (s : NodeInput) (later : List SegmentView) (c : Checked) → IsNoted old → IsChecked old mid s later c → IsAdded mid new c.node c.id → IsNoted new
 noted_added old mid new s later c noted k a =
     let ns = contents old.nodes.items in
     let n = c.node in
@@ -156,7 +156,7 @@ noted_added old mid new s later c noted k a =
     }
 
 -- a node that was checked and put at the end is started
-pub node_started : (old mid new : Reader) (s : NodeInput) (later : List Pair) (c : Checked) (id : Option (List Pair)) → IsNoted old → IsChecked old mid s later c → IsAdded mid new c.node c.id → HasBelow s id → IsStarted old new s later id
+pub node_started : (old mid new : Reader) (s : NodeInput) (later : List SegmentView) (c : Checked) (id : Option (List SegmentView)) → IsNoted old → IsChecked old mid s later c → IsAdded mid new c.node c.id → HasBelow s id → IsStarted old new s later id
 node_started old mid new s later c id noted k a below = record {
   nodes = a.nodes ∙ ap₂ (λ l n. l ++ record { node = n; number = 0; span = 1 } ∷ []) k.nodes k.node;
   descriptors = a.descriptors ∙ ap₂ (λ l d. l ++ d) k.descriptors (ap₂ descriptor_in k.id k.node);

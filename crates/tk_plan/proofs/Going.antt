@@ -9,7 +9,7 @@ use Rattle.serde_json.specs.Data.{Data}
 use Rattle.tk_plan.specs.JsonValues.{view}
 use Rattle.tk_plan.specs.JsonValues.{JsonValue}
 use Rattle.std.proofs.lemmas.Grind.{flat_map-append}
-use Rattle.tk_ids.specs.IdText.{Pair}
+use Rattle.tk_ids.specs.IdText.{SegmentView}
 use Rattle.tk_plan_units.specs.declared.nodes.Node.{Node}
 use Rattle.tk_plan_units.specs.declared.nodes.NumberedNode.{NumberedNode}
 use Rattle.tk_plan_units.specs.Trees.{flat, contents}
@@ -24,21 +24,21 @@ use Rattle.tk_plan.proofs.CheckSteps.{noted_same}
 use Rattle.tk_plan.proofs.Verdicts.{verdict-append, verdict-cons, nodes-grown, nodes-all, flats-forest, descriptors-forest}
 
 -- of all the sites of k levels more, those that are left are still to be read
-pub record Goes (k : ℕ) (above : List Pair) (old now : Reader) (all left : List NodeInput) : Type 0 where
+pub record Goes (k : ℕ) (above : List SegmentView) (old now : Reader) (all left : List NodeInput) : Type 0 where
   pub verdict : verdict (contents old.nodes.items) (flat_map (node_inputs k) all) ≡ verdict (contents now.nodes.items) (flat_map (node_inputs k) left)
   pub nodes : old.nodes.items ++ flat_map flat (map (grown k) all) ≡ now.nodes.items ++ flat_map flat (map (grown k) left)
   pub described : old.descriptors.items ++ flat_map (descriptors above) (map (grown k) all) ≡ now.descriptors.items ++ flat_map (descriptors above) (map (grown k) left)
   pub noted : IsNoted now
 
 -- so are the segments of the values that are left
-pub record Met (earlier met : List Pair) (all left : List Data) : Type 0 where
+pub record Met (earlier met : List SegmentView) (all left : List Data) : Type 0 where
   pub segments : earlier ++ map segment_in all ≡ met ++ map segment_in left
 
-pub met_next : (earlier met new : List Pair) (all rest left : List Data) (d : Data) → rest ≡ d ∷ left → new ≡ met ++ segment_in d ∷ [] → Met earlier met all rest → Met earlier new all left
+pub met_next : (earlier met new : List SegmentView) (all rest left : List Data) (d : Data) → rest ≡ d ∷ left → new ≡ met ++ segment_in d ∷ [] → Met earlier met all rest → Met earlier new all left
 met_next earlier met new all rest left d split e m =
     record { segments = m.segments ∙ ap (λ l. met ++ map segment_in l) split ∙ sym (append_assoc met (segment_in d ∷ []) (map segment_in left)) ∙ ap (λ l. l ++ map segment_in left) (sym e) }
 
-pub met_end : (earlier met : List Pair) (all left : List Data) → left ≡ [] → Met earlier met all left → met ≡ earlier ++ map segment_in all
+pub met_end : (earlier met : List SegmentView) (all left : List Data) → left ≡ [] → Met earlier met all left → met ≡ earlier ++ map segment_in all
 met_end earlier met all left none m = sym (m.segments ∙ ap (λ l. met ++ map segment_in l) none ∙ append-nil met)
 
 pub after_none : (before : List Node) (xs ys : List NodeInput) → verdict before xs ≡ None → verdict before (xs ++ ys) ≡ verdict (before ++ map node_of xs) ys
@@ -51,14 +51,14 @@ contents_after : (old new : List NumberedNode) (k : ℕ) (x : NodeInput) → new
 contents_after old new k x e = ap contents e ∙ map-append _ old (flat (grown k x)) ∙ ap (λ l. contents old ++ l) (nodes-grown k x)
 
 -- the sites that are left, from the next on
-pub node_input_next : (array : List ℕ) (level : ℕ) (above : List Pair) (b fs : Bool) (i j : ℕ) (met new : List Pair) (left rest : List JsonValue) (v : JsonValue) → left ≡ v ∷ rest → j ≡ i + 1 → new ≡ met ++ segment_in (view v) ∷ []
+pub node_input_next : (array : List ℕ) (level : ℕ) (above : List SegmentView) (b fs : Bool) (i j : ℕ) (met new : List SegmentView) (left rest : List JsonValue) (v : JsonValue) → left ≡ v ∷ rest → j ≡ i + 1 → new ≡ met ++ segment_in (view v) ∷ []
     → node_inputs_in array level above b fs i met (map view left)
     ≡ record { path = item_at array i; level = level; is_static = b; takes_files = fs; above = above; earlier = met; value = view v } ∷ node_inputs_in array level above b fs j new (map view rest)
 node_input_next array level above b fs i j met new left rest v split up n =
     ap (λ vs. node_inputs_in array level above b fs i met (map view vs)) split
     ∙ ap₂ (λ k m. record { path = item_at array i; level = level; is_static = b; takes_files = fs; above = above; earlier = met; value = view v } ∷ node_inputs_in array level above b fs k m (map view rest)) (sym up) (sym n)
 
-module _ (k m : ℕ) (above up : List Pair) (old now : Reader) (all rest left : List NodeInput) (x y : NodeInput) (levels : m ≡ k) (same : y ≡ x) (split : rest ≡ x ∷ left) (g : Goes k above old now all rest) where
+module _ (k m : ℕ) (above up : List SegmentView) (old now : Reader) (all rest left : List NodeInput) (x y : NodeInput) (levels : m ≡ k) (same : y ≡ x) (split : rest ≡ x ∷ left) (g : Goes k above old now all rest) where
   here : verdict (contents now.nodes.items) (node_inputs m y) ≡ verdict (contents now.nodes.items) (node_inputs k x)
   here = ap₂ (λ n s. verdict (contents now.nodes.items) (node_inputs n s)) levels same
 
@@ -84,13 +84,13 @@ module _ (k m : ℕ) (above up : List Pair) (old now : Reader) (all rest left : 
         noted = a.noted;
       }
 
-pub goes_end : (k : ℕ) (above : List Pair) (old now : Reader) (all : List NodeInput) → Goes k above old now all []
+pub goes_end : (k : ℕ) (above : List SegmentView) (old now : Reader) (all : List NodeInput) → Goes k above old now all []
     → (verdict (contents old.nodes.items) (flat_map (node_inputs k) all) ≡ None) × Adds old now (flat_map flat (map (grown k) all)) (flat_map (descriptors above) (map (grown k) all))
 unfolding joined
 goes_end k above old now all g = (g.verdict, record { nodes = sym (g.nodes ∙ append-nil now.nodes.items); descriptors = sym (g.described ∙ append-nil now.descriptors.items); noted = g.noted })
 
 -- where there is nothing to read
-pub goes_nowhere : (k : ℕ) (above : List Pair) (old : Reader) (array : List ℕ) (level : ℕ) (b fs : Bool) (earlier : List Pair) (ds : List Data) → ds ≡ [] → IsNoted old
+pub goes_nowhere : (k : ℕ) (above : List SegmentView) (old : Reader) (array : List ℕ) (level : ℕ) (b fs : Bool) (earlier : List SegmentView) (ds : List Data) → ds ≡ [] → IsNoted old
     → (verdict (contents old.nodes.items) (flat_map (node_inputs k) (node_inputs_in array level above b fs 0 earlier ds)) ≡ None)
     × Adds old old (flat_map flat (map (grown k) (node_inputs_in array level above b fs 0 earlier ds))) (flat_map (descriptors above) (map (grown k) (node_inputs_in array level above b fs 0 earlier ds)))
 unfolding joined
@@ -132,7 +132,7 @@ check_fault zero before s f e = verdict-cons before s [] ∙ ap (λ o. or_else o
 check_fault (suc m) before s f e = verdict-cons before s (flat_map (node_inputs m) (below s)) ∙ ap (λ o. or_else o (verdict (before ++ node_of s ∷ []) (flat_map (node_inputs m) (below s)))) e
 
 -- the two arrays of a node
-pub parts_of : (s : NodeInput) (cs ds : List Data) (id e1 e2 : List Pair) → cs ≡ children_of s.is_static s.value → ds ≡ dynamic_of s.value → id ≡ id_of s → e1 ≡ [] → e2 ≡ e1 ++ map segment_in cs
+pub parts_of : (s : NodeInput) (cs ds : List Data) (id e1 e2 : List SegmentView) → cs ≡ children_of s.is_static s.value → ds ≡ dynamic_of s.value → id ≡ id_of s → e1 ≡ [] → e2 ≡ e1 ++ map segment_in cs
     → below s ≡ node_inputs_in (member_at s.path (codes "children")) (s.level + 1) id true s.takes_files 0 e1 cs ++ node_inputs_in (member_at s.path (codes "dynamic")) (s.level + 1) id false s.takes_files 0 e2 ds
 parts_of s cs ds id e1 e2 children dynamic is none met =
     let two : e2 ≡ map segment_in cs = met ∙ ap (λ e. e ++ map segment_in cs) none in
@@ -152,7 +152,7 @@ module _ (k : ℕ) (old : Reader) (xs ys all : List NodeInput) (parts : all ≡ 
   unfolding both
   first_fault f e = both ∙ after_some _ (flat_map (node_inputs k) xs) _ f e
 
-  module _ (above up : List Pair) (is : up ≡ above) (mid : Reader) (none : verdict (contents old.nodes.items) (flat_map (node_inputs k) xs) ≡ None)
+  module _ (above up : List SegmentView) (is : up ≡ above) (mid : Reader) (none : verdict (contents old.nodes.items) (flat_map (node_inputs k) xs) ≡ None)
       (first_part : Adds old mid (flat_map flat (map (grown k) xs)) (flat_map (descriptors up) (map (grown k) xs))) where
     pub second_verdict : verdict (contents old.nodes.items) (flat_map (node_inputs k) all) ≡ verdict (contents mid.nodes.items) (flat_map (node_inputs k) ys)
     unfolding both
@@ -173,7 +173,7 @@ module _ (k : ℕ) (old : Reader) (xs ys all : List NodeInput) (parts : all ≡ 
         }
 
 -- A node was checked and put at the end.
-module _ (k m : ℕ) (levels : m ≡ suc k) (old pushed : Reader) (s : NodeInput) (later : List Pair) (id : Option (List Pair)) (fine : first (checks (contents old.nodes.items) s) ≡ None) (started : IsStarted old pushed s later id) where
+module _ (k m : ℕ) (levels : m ≡ suc k) (old pushed : Reader) (s : NodeInput) (later : List SegmentView) (id : Option (List SegmentView)) (fine : first (checks (contents old.nodes.items) s) ≡ None) (started : IsStarted old pushed s later id) where
   pub below_verdict : verdict (contents old.nodes.items) (node_inputs m s) ≡ verdict (contents pushed.nodes.items) (flat_map (node_inputs k) (below s))
   unfolding node_inputs
   below_verdict =

@@ -2,10 +2,10 @@
 use Rattle.std.proofs.Common.{◌≡◌, ℕ, ◌<◌, ◌≤◌, nat_eq, nat_le, inl, inr, List, [], ◌∷◌, ◌++◌, length, Bool, true, false, not, cond, ◌||◌, ◌&&◌, Some, None, option_map, Err, refl, ap, ◌∙◌, arith}
 use Rattle.std.proofs.lemmas.Bool.{le-leb}
 use Rattle.std.proofs.lemmas.Bool.Decides.{nat_tests}
-use Rattle.tk_ids.specs.IdText.{Pair, FitsLimits}
+use Rattle.tk_ids.specs.IdText.{SegmentView, FitsLimits}
 use Rattle.tk_ids.specs.Answer.{IsSegmentOf, IsMadeOf}
-use Rattle.tk_ids.specs.declared.ids.IdFault.{IdFault}
-use Rattle.tk_ids.specs.declared.ids.IdFault.TheVariants.{Empty, BadSegment, BadEscape, TooLong, Memory}
+use Rattle.tk_ids.specs.declared.id_faults.IdFault.{IdFault}
+use Rattle.tk_ids.specs.declared.id_faults.IdFault.TheVariants.{Empty, BadSegment, BadEscape, TooLong, Memory}
 use Rattle.tk_plan.specs.PlanOf.{is_empty, fits, id_fault, when}
 use Rattle.tk_plan.specs.Refusals.{Faults}
 use Rattle.tk_plan.specs.Seen.{as_plan_fault}
@@ -15,7 +15,7 @@ or_true : (b : Bool) → b || true ≡ true
 or_true true = refl
 or_true false = refl
 
-pub segment_refused : (above : List Pair) (tag value : List ℕ) (f : IdFault) → IsSegmentOf tag value (Err f)
+pub segment_refused : (above : List SegmentView) (tag value : List ℕ) (f : IdFault) → IsSegmentOf tag value (Err f)
     → Faults (option_map Id (id_fault above (record { tag = tag; value = value }))) (as_plan_fault f)
 segment_refused above tag value Empty (inl e) = ap (λ t. option_map Id (id_fault above (record { tag = t; value = value }))) e
 segment_refused above tag value Empty (inr e) =
@@ -37,7 +37,7 @@ fits_not n k a b h = grind (arith, nat_tests)
 fits_so : (n k a b : ℕ) → n ≤ a → k ≤ b → nat_le n a && nat_le k b ≡ true
 fits_so n k a b h i = rw (le-leb n a h, le-leb k b i) refl
 
-module _ (above : List Pair) (s : Pair) (t : 0 < length s.tag) (v : 0 < length s.value) where
+module _ (above : List SegmentView) (s : SegmentView) (t : 0 < length s.tag) (v : 0 < length s.value) where
   stands : (b : Bool) → fits (above ++ s ∷ []) ≡ b → id_fault above s ≡ when (not b) TooLong
   stands b e = rw (not_empty s.tag t, not_empty s.value v, e) refl
 

@@ -3,7 +3,7 @@ use Rattle.std.proofs.Common.{◌≡◌, ℕ, List, [], ◌∷◌, Bool, true, f
 use Rattle.std.specs.Str.{bytes_eq}
 use Rattle.serde_json.specs.Data.{Data, null, boolean, number, string, array, object}
 use Rattle.serde_json.specs.Find.{get}
-use Rattle.tk_events.specs.declared.kinds.Status.TheVariants.{Successful, Aborted, Failed}
+use Rattle.tk_events.specs.declared.statuses.Status.TheVariants.{Successful, Aborted, Failed}
 use Rattle.tk_plan.specs.Checks.{member_at, member_wrong, row, unknown}
 use Rattle.tk_plan.specs.Rows.{status_row, message_row, succeeds, result}
 use Rattle.tk_plan.specs.Contents.{json_status, json_optional}

@@ -4,9 +4,9 @@ use Rattle.std.proofs.lemmas.List.{map-append}
 use Rattle.std.proofs.Math.Seq.{take-append_seam}
 use Rattle.std.specs.List.{list_any}
 use Rattle.serde_json.specs.Data.{Data}
-use Rattle.tk_ids.specs.IdText.{Pair, parent_of}
+use Rattle.tk_ids.specs.IdText.{SegmentView, parent_of}
 use Rattle.tk_ids.specs.Table.{ids_of, HasId, HasParent}
-use Rattle.tk_ids.specs.declared.tables.Descriptor.{Descriptor}
+use Rattle.tk_ids.specs.declared.descriptors.Descriptor.{Descriptor}
 use Rattle.tk_plan_units.specs.Trees.{Tree, tree, Forest, no_trees, more}
 use Rattle.tk_plan_units.specs.Ids.{ids, ids_below, descriptor, descriptors, descriptors_below}
 use Rattle.tk_plan.specs.PlanOf.{same_segment, verdict}
@@ -28,7 +28,7 @@ abbrev AllUnder : Bool → List NodeInput → Type 0
 AllUnder up [] = Unit {0}
 AllUnder up (x ∷ xs) = (x.is_static ≡ true → up ≡ true) × AllUnder up xs
 
-under_in : (array : List ℕ) (level : ℕ) (above : List Pair) (up b fs : Bool) (i : ℕ) (earlier : List Pair) (ds : List Data) → (b ≡ true → up ≡ true) → AllUnder up (node_inputs_in array level above b fs i earlier ds)
+under_in : (array : List ℕ) (level : ℕ) (above : List SegmentView) (up b fs : Bool) (i : ℕ) (earlier : List SegmentView) (ds : List Data) → (b ≡ true → up ≡ true) → AllUnder up (node_inputs_in array level above b fs i earlier ds)
 under_in array level above up b fs i earlier [] h = tt
 under_in array level above up b fs i earlier (d ∷ ds) h = (h, under_in array level above up b fs (i + 1) (earlier ++ segment_in d ∷ []) ds h)
 
@@ -36,7 +36,7 @@ under_append : (up : Bool) (xs ys : List NodeInput) → AllUnder up xs → AllUn
 under_append up [] ys a b = b
 under_append up (x ∷ xs) ys a b = (a.0, under_append up xs ys a.1 b)
 
-under_children : (array : List ℕ) (level : ℕ) (above earlier : List Pair) (b fs : Bool) (v : Data) → AllUnder b (node_inputs_in array level above true fs 0 earlier (children_of b v))
+under_children : (array : List ℕ) (level : ℕ) (above earlier : List SegmentView) (b fs : Bool) (v : Data) → AllUnder b (node_inputs_in array level above true fs 0 earlier (children_of b v))
 under_children array level above earlier true fs v = under_in array level above true true fs 0 earlier (children_of true v) (λ e. e)
 under_children array level above earlier false fs v = tt
 
@@ -59,45 +59,45 @@ under_grown (suc n) up s h = (h, under_all n (under_grown n) s.is_static (below 
 
 -- ---- ids among those of a table
 
-at_among : (id : List Pair) (xs : List (List Pair)) → Among id xs → (k : ℕ) × (slice_get xs k ≡ Some id)
+at_among : (id : List SegmentView) (xs : List (List SegmentView)) → Among id xs → (k : ℕ) × (slice_get xs k ≡ Some id)
 at_among id [] a = absurd a
 at_among id (x ∷ xs) (inl e) = (0, ap Some (sym e))
 at_among id (x ∷ xs) (inr a) = let there = at_among id xs a in (suc there.0, there.1)
 
-among_left : (id : List Pair) (xs ys : List (List Pair)) → Among id xs → Among id (xs ++ ys)
+among_left : (id : List SegmentView) (xs ys : List (List SegmentView)) → Among id xs → Among id (xs ++ ys)
 among_left id [] ys a = absurd a
 among_left id (x ∷ xs) ys (inl e) = inl e
 among_left id (x ∷ xs) ys (inr a) = inr (among_left id xs ys a)
 
-among_right : (id : List Pair) (xs ys : List (List Pair)) → Among id ys → Among id (xs ++ ys)
+among_right : (id : List SegmentView) (xs ys : List (List SegmentView)) → Among id ys → Among id (xs ++ ys)
 among_right id [] ys a = a
 among_right id (x ∷ xs) ys a = inr (among_right id xs ys a)
 
 -- the id is in the table
-abbrev Held : List Descriptor → List Pair → Type 0
+abbrev Held : List Descriptor → List SegmentView → Type 0
 Held table id = Among id (ids_of table)
 
-held_split : (id : List Pair) (xs ys : List Descriptor) → Held (xs ++ ys) id → Held xs id ⊎ Held ys id
+held_split : (id : List SegmentView) (xs ys : List Descriptor) → Held (xs ++ ys) id → Held xs id ⊎ Held ys id
 held_split id xs ys a = among_split id (ids_of xs) (ids_of ys) (subst (Among id) (map-append _ xs ys) a)
 
-held_left : (id : List Pair) (xs ys : List Descriptor) → Held xs id → Held (xs ++ ys) id
+held_left : (id : List SegmentView) (xs ys : List Descriptor) → Held xs id → Held (xs ++ ys) id
 held_left id xs ys a = subst (Among id) (sym (map-append _ xs ys)) (among_left id (ids_of xs) (ids_of ys) a)
 
-held_right : (id : List Pair) (xs ys : List Descriptor) → Held ys id → Held (xs ++ ys) id
+held_right : (id : List SegmentView) (xs ys : List Descriptor) → Held ys id → Held (xs ++ ys) id
 held_right id xs ys a = subst (Among id) (sym (map-append _ xs ys)) (among_right id (ids_of xs) (ids_of ys) a)
 
-of_kind : (b : Bool) (id i : List Pair) (d : Descriptor) (ds : List Descriptor) (is : List (List Pair)) → d.id ≡ i → (Held ds id → Among id is) → Held (cond b (d ∷ []) [] ++ ds) id → Among id (i ∷ is)
+of_kind : (b : Bool) (id i : List SegmentView) (d : Descriptor) (ds : List Descriptor) (is : List (List SegmentView)) → d.id ≡ i → (Held ds id → Among id is) → Held (cond b (d ∷ []) [] ++ ds) id → Among id (i ∷ is)
 of_kind true id i d ds is e f (inl h) = inl (h ∙ e)
 of_kind true id i d ds is e f (inr a) = inr (f a)
 of_kind false id i d ds is e f a = inr (f a)
 
 mutual
-  described : (above id : List Pair) (t : Tree) → Held (descriptors above t) id → Among id (ids above t)
+  described : (above id : List SegmentView) (t : Tree) → Held (descriptors above t) id → Among id (ids above t)
   described above id (tree n k f) a =
       of_kind n.is_static id (above ++ n.segment ∷ []) (descriptor (above ++ n.segment ∷ []) n) (descriptors_below (above ++ n.segment ∷ []) f) (ids_below (above ++ n.segment ∷ []) f) refl
       (λ b. described_below (above ++ n.segment ∷ []) id f b) a
 
-  described_below : (above id : List Pair) (f : Forest) → Held (descriptors_below above f) id → Among id (ids_below above f)
+  described_below : (above id : List SegmentView) (f : Forest) → Held (descriptors_below above f) id → Among id (ids_below above f)
   described_below above id no_trees a = absurd a
   described_below above id (more t f) a =
       elim (held_split id (descriptors above t) (descriptors_below above f) a) [
@@ -112,23 +112,23 @@ follow_append table [] ys f g = subst (λ t. Follow t ys) (append-nil table) g
 follow_append table (x ∷ xs) ys f g = (f.0, f.1, follow_append (table ++ x ∷ []) xs ys f.2 (subst (λ t. Follow t ys) (sym (append_assoc table (x ∷ []) xs)) g))
 
 -- a child of that parent may stand in the table, if it is static
-abbrev Ready : List Descriptor → List Pair → Bool → Type 0
+abbrev Ready : List Descriptor → List SegmentView → Bool → Type 0
 Ready table above up = up ≡ true → (above ≡ []) ⊎ Held table above
 
 -- what begins with the parent's id and a segment has one of the earlier segments
-abbrev Fresh : List Descriptor → List Pair → List Pair → Type 0
-Fresh table above earlier = (id : List Pair) (s : Pair) → Held table id → Begins above s id → list_any (same_segment s) earlier ≡ true
+abbrev Fresh : List Descriptor → List SegmentView → List SegmentView → Type 0
+Fresh table above earlier = (id : List SegmentView) (s : SegmentView) → Held table id → Begins above s id → list_any (same_segment s) earlier ≡ true
 
-prefix_is : (above : List Pair) (s : Pair) → parent_of (above ++ s ∷ []) ≡ above
+prefix_is : (above : List SegmentView) (s : SegmentView) → parent_of (above ++ s ∷ []) ≡ above
 prefix_is above s =
     let count : length (above ++ s ∷ []) - 1 ≡ length above = omega (arith, length-append above (s ∷ [])) in
     ap (λ n. take n (above ++ s ∷ [])) count ∙ take-append_seam above (s ∷ [])
 
-parent_held : (table : List Descriptor) (above : List Pair) (s : Pair) → (above ≡ []) ⊎ Held table above → HasParent table (above ++ s ∷ [])
+parent_held : (table : List Descriptor) (above : List SegmentView) (s : SegmentView) → (above ≡ []) ⊎ Held table above → HasParent table (above ++ s ∷ [])
 parent_held table above s (inl e) h = absurd (let n = ap length e in omega (arith, h, n, length-append above (s ∷ [])))
 parent_held table above s (inr a) h = subst (HasId table) (sym (prefix_is above s)) (at_among above (ids_of table) a)
 
-ready_later : (table ds : List Descriptor) (above : List Pair) (up : Bool) → Ready table above up → Ready (table ++ ds) above up
+ready_later : (table ds : List Descriptor) (above : List SegmentView) (up : Bool) → Ready table above up → Ready (table ++ ds) above up
 ready_later table ds above up r e = by (r e)
   where
     by : (above ≡ []) ⊎ Held table above → (above ≡ []) ⊎ Held (table ++ ds) above
@@ -136,8 +136,8 @@ ready_later table ds above up r e = by (r e)
     by (inr a) = inr (held_left above table ds a)
 
 -- the node's own descriptor, if it is static, and then those below it
-node_follows : (b up : Bool) (table : List Descriptor) (above : List Pair) (s : Pair) (d : Descriptor) (ds : List Descriptor) → d.id ≡ above ++ s ∷ [] → (b ≡ true → up ≡ true) → Ready table above up
-    → ((id : List Pair) → Held table id → Begins above s id → ⊥)
+node_follows : (b up : Bool) (table : List Descriptor) (above : List SegmentView) (s : SegmentView) (d : Descriptor) (ds : List Descriptor) → d.id ≡ above ++ s ∷ [] → (b ≡ true → up ≡ true) → Ready table above up
+    → ((id : List SegmentView) → Held table id → Begins above s id → ⊥)
     → ((next : List Descriptor) → Ready next (above ++ s ∷ []) b → Fresh next (above ++ s ∷ []) [] → Follow next ds)
     → Follow table (cond b (d ∷ []) [] ++ ds)
 node_follows true up table above s d ds e h r none after = (
@@ -153,13 +153,13 @@ node_follows false up table above s d ds e h r none after =
     after table (λ t. absurd (true_false (sym t))) (λ id t a b. absurd (none id a (begins_below above s t id b)))
 
 mutual
-  follows : (table : List Descriptor) (above : List Pair) (up : Bool) (t : Tree) → IsApart t → IsUnder up t → Ready table above up → ((id : List Pair) → Held table id → Begins above (segment_at t) id → ⊥)
+  follows : (table : List Descriptor) (above : List SegmentView) (up : Bool) (t : Tree) → IsApart t → IsUnder up t → Ready table above up → ((id : List SegmentView) → Held table id → Begins above (segment_at t) id → ⊥)
       → Follow table (descriptors above t)
   follows table above up (tree n k f) apart under r none =
       node_follows n.is_static up table above n.segment (descriptor (above ++ n.segment ∷ []) n) (descriptors_below (above ++ n.segment ∷ []) f) refl under.0 r none
       (λ next ready fresh. follow_below next (above ++ n.segment ∷ []) n.is_static [] f apart under.1 ready fresh)
 
-  follow_below : (table : List Descriptor) (above : List Pair) (up : Bool) (earlier : List Pair) (f : Forest) → AreApart earlier f → AreUnder up f → Ready table above up → Fresh table above earlier
+  follow_below : (table : List Descriptor) (above : List SegmentView) (up : Bool) (earlier : List SegmentView) (f : Forest) → AreApart earlier f → AreUnder up f → Ready table above up → Fresh table above earlier
       → Follow table (descriptors_below above f)
   follow_below table above up earlier no_trees apart under r fresh = tt
   follow_below table above up earlier (more t f) apart under r fresh =
@@ -171,7 +171,7 @@ mutual
         | inr c ↦ any_right s earlier (segment_at t ∷ []) (last above id s (segment_at t) b (begins_in above id t (described above id t c)))
       ]))
     where
-      last : (above id : List Pair) (s t : Pair) → Begins above s id → Begins above t id → list_any (same_segment s) (t ∷ []) ≡ true
+      last : (above id : List SegmentView) (s t : SegmentView) → Begins above s id → Begins above t id → list_any (same_segment s) (t ∷ []) ≡ true
       last above id s t b own = let same = same_next above b.rest own.rest s t (sym b.is ∙ own.is) in subst (λ x. list_any (same_segment s) (x ∷ []) ≡ true) same (ap (λ y. y || false) (same_self s))
 
 pub plan_follows : (n : ℕ) (s : NodeInput) → s.above ≡ [] → verdict [] (node_inputs n s) ≡ None → Follow [] (descriptors s.above (grown n s))

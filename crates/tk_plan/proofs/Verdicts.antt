@@ -1,7 +1,7 @@
 -- Verdicts of some nodes after others.
 use Rattle.std.proofs.Common.{◌≡◌, ℕ, zero, suc, List, [], ◌∷◌, ◌++◌, map, flat_map, Option, Some, None, refl, sym, ap, ap₂, ◌∙◌, append_assoc, append-nil}
 use Rattle.std.proofs.lemmas.List.{map-append}
-use Rattle.tk_ids.specs.IdText.{Pair}
+use Rattle.tk_ids.specs.IdText.{SegmentView}
 use Rattle.tk_plan_units.specs.declared.nodes.Node.{Node}
 use Rattle.tk_plan_units.specs.Trees.{Tree, flat, flats, contents}
 use Rattle.tk_plan_units.specs.Ids.{descriptors, descriptors_below}
@@ -38,7 +38,7 @@ pub flats-forest : (ts : List Tree) → flats (forest_of ts) ≡ flat_map flat t
 flats-forest [] = refl
 flats-forest (t ∷ ts) = ap (λ l. flat t ++ l) (flats-forest ts)
 
-pub descriptors-forest : (above : List Pair) (ts : List Tree) → descriptors_below above (forest_of ts) ≡ flat_map (descriptors above) ts
+pub descriptors-forest : (above : List SegmentView) (ts : List Tree) → descriptors_below above (forest_of ts) ≡ flat_map (descriptors above) ts
 descriptors-forest above [] = refl
 descriptors-forest above (t ∷ ts) = ap (λ l. descriptors above t ++ l) (descriptors-forest above ts)
 

@@ -7,11 +7,11 @@ use Rattle.std.specs.Cmp.Lexicographic.{slice_cmp}
 use Rattle.std.specs.BTreeMap.{insert_entry}
 use Rattle.serde_json.specs.Data.{Data, boolean, string, array}
 use Rattle.serde_json.specs.Find.{get}
-use Rattle.tk_ids.specs.IdText.{Pair}
-use Rattle.tk_ids.specs.declared.tables.DType.{DType}
-use Rattle.tk_ids.specs.declared.tables.DType.TheVariants.{Container, Test, Both}
-use Rattle.tk_events.specs.declared.kinds.Status.{Status}
-use Rattle.tk_events.specs.declared.kinds.Status.TheVariants.{Successful, Aborted, Failed}
+use Rattle.tk_ids.specs.IdText.{SegmentView}
+use Rattle.tk_ids.specs.declared.descriptors.DType.{DType}
+use Rattle.tk_ids.specs.declared.descriptors.DType.TheVariants.{Container, Test, Both}
+use Rattle.tk_events.specs.declared.statuses.Status.{Status}
+use Rattle.tk_events.specs.declared.statuses.Status.TheVariants.{Successful, Aborted, Failed}
 use Rattle.tk_plan_units.specs.declared.nodes.Lock.{Lock}
 use Rattle.tk_plan.specs.Checks.{list_of}
 
@@ -47,7 +47,7 @@ abbrev pub json_pair : Option Data → List ℕ × List ℕ
 json_pair d = two_texts (listed d)
 
 -- a tag and a value
-abbrev pub json_segment : Option Data → Pair
+abbrev pub json_segment : Option Data → SegmentView
 json_segment d = record { tag = (json_pair d).0; value = (json_pair d).1 }
 
 -- a node may run beside its siblings only where its mode is `concurrent`

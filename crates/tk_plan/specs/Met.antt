@@ -1,7 +1,7 @@
 -- The segments that a set of tags and values is.
 use Rattle.std.specs.Prelude.{ℕ, List, map}
 use denote.Ref.{Bor}
-use Rattle.tk_ids.specs.IdText.{Pair}
+use Rattle.tk_ids.specs.IdText.{SegmentView}
 
-abbrev pub segments_of : List (Bor (List ℕ) × Bor (List ℕ)) → List Pair
+abbrev pub segments_of : List (Bor (List ℕ) × Bor (List ℕ)) → List SegmentView
 segments_of keys = map (λ k. record { tag = k.0.now; value = k.1.now }) keys

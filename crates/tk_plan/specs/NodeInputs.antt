@@ -3,7 +3,7 @@ use Rattle.std.specs.Prelude.{ℕ, zero, suc, ◌+◌, List, [], ◌∷◌, ◌+
 use Rattle.std.specs.List.{list_any}
 use Rattle.serde_json.specs.Data.{Data}
 use Rattle.serde_json.specs.Find.{get}
-use Rattle.tk_ids.specs.IdText.{Pair}
+use Rattle.tk_ids.specs.IdText.{SegmentView}
 use Rattle.tk_plan_units.specs.declared.nodes.Node.{Node}
 use Rattle.tk_plan_units.specs.declared.nodes.Lock.{Lock}
 use Rattle.tk_plan_units.specs.Trees.{Tree, tree, Forest, no_trees, more}
@@ -17,18 +17,18 @@ pub record NodeInput : Type 0 where
   pub level : ℕ
   pub is_static : Bool
   pub takes_files : Bool
-  pub above : List Pair
-  pub earlier : List Pair
+  pub above : List SegmentView
+  pub earlier : List SegmentView
   pub value : Data
 
-abbrev pub segment_in : Data → Pair
+abbrev pub segment_in : Data → SegmentView
 segment_in d = json_segment (get (codes "segment") d)
 
-abbrev pub segment_of : NodeInput → Pair
+abbrev pub segment_of : NodeInput → SegmentView
 segment_of s = segment_in s.value
 
 -- the parent's id with the segment at the end
-abbrev pub id_of : NodeInput → List Pair
+abbrev pub id_of : NodeInput → List SegmentView
 id_of s = s.above ++ segment_of s ∷ []
 
 -- a dynamic node has no mode, is not isolated, and has no locks and no static children
@@ -78,7 +78,7 @@ node_of s = record {
 }
 
 -- the items of the array at that place from item i on, below that id, after children with the earlier segments
-abbrev pub node_inputs_in : List ℕ → ℕ → List Pair → Bool → Bool → ℕ → List Pair → List Data → List NodeInput
+abbrev pub node_inputs_in : List ℕ → ℕ → List SegmentView → Bool → Bool → ℕ → List SegmentView → List Data → List NodeInput
 node_inputs_in array level above is_static takes_files i earlier [] = []
 node_inputs_in array level above is_static takes_files i earlier (d ∷ ds) =
     record {

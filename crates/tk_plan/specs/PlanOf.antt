@@ -4,10 +4,10 @@ use Rattle.std.specs.List.{list_any, count_by}
 use Rattle.std.specs.Str.{bytes_eq}
 use Rattle.serde_json.specs.Data.{Data, null, number, unsigned}
 use Rattle.serde_json.specs.Find.{get}
-use Rattle.tk_ids.specs.IdText.{Pair, id_text}
+use Rattle.tk_ids.specs.IdText.{SegmentView, id_text}
 use Rattle.tk_ids.specs.declared.ids.TheConstants.{MAX_BYTES, MAX_SEGMENTS}
-use Rattle.tk_ids.specs.declared.ids.IdFault.{IdFault}
-use Rattle.tk_ids.specs.declared.ids.IdFault.TheVariants.{Empty, TooLong}
+use Rattle.tk_ids.specs.declared.id_faults.IdFault.{IdFault}
+use Rattle.tk_ids.specs.declared.id_faults.IdFault.TheVariants.{Empty, TooLong}
 use Rattle.tk_ids.specs.declared.tables.TheConstants.{MAX_DESCRIPTORS}
 use Rattle.tk_ids.specs.declared.tables.TableFault.TheVariants.{Twice, Full}
 use Rattle.tk_limits.specs.declared.limits.TheConstants.{MAX_EVENTS}
@@ -32,14 +32,14 @@ abbrev pub is_empty : List ℕ → Bool
 is_empty s = length s == 0
 
 -- the id is within the limits
-abbrev pub fits : List Pair → Bool
+abbrev pub fits : List SegmentView → Bool
 fits id = nat_le (length (id_text id)) MAX_BYTES && nat_le (length id) MAX_SEGMENTS
 
 -- why a segment can't stand below an id
-abbrev pub id_fault : List Pair → Pair → Option IdFault
+abbrev pub id_fault : List SegmentView → SegmentView → Option IdFault
 id_fault above s = if is_empty s.tag || is_empty s.value then Some Empty else when (not (fits (above ++ s ∷ []))) TooLong
 
-abbrev pub same_segment : Pair → Pair → Bool
+abbrev pub same_segment : SegmentView → SegmentView → Bool
 same_segment a b = bytes_eq a.tag b.tag && bytes_eq a.value b.value
 
 -- ---- checks

@@ -1,8 +1,8 @@
 -- What a step of the reading adds to what was read.
 use Rattle.std.specs.Prelude.{◌≡◌, ◌++◌, ◌+◌, ◌≤◌, ◌<◌, ◌∷◌, [], ℕ, suc, List, Option, Some, None, Bool, true, false, ◌==◌, ◌&&◌, nat_lt, nat_le, length, if◌then◌else◌}
 use Rattle.std.specs.List.{list_all, list_any, count_by}
-use Rattle.tk_ids.specs.IdText.{Pair}
-use Rattle.tk_ids.specs.declared.tables.Descriptor.{Descriptor}
+use Rattle.tk_ids.specs.IdText.{SegmentView}
+use Rattle.tk_ids.specs.declared.descriptors.Descriptor.{Descriptor}
 use Rattle.tk_ids.specs.declared.tables.TheConstants.{MAX_DESCRIPTORS}
 use Rattle.tk_ids.specs.declared.tables.TableFault.TheVariants.{Twice, Full}
 use Rattle.tk_plan_units.specs.declared.needs.TheConstants.{MAX_KEYS}
@@ -31,7 +31,7 @@ pub record IsNoted (r : Reader) : Type 0 where
   pub lawful : list_all is_lawful_node (contents r.nodes.items) ≡ true
 
 -- the checks of a node of that segment, after those nodes and siblings, where these are the lock keys with its own
-abbrev pub room_checks : List Node → List Pair → Bool → Pair → List (List ℕ) → List (Option PlanFault)
+abbrev pub room_checks : List Node → List SegmentView → Bool → SegmentView → List (List ℕ) → List (Option PlanFault)
 room_checks before earlier is_static segment keys =
     when (list_any (same_segment segment) earlier) (Table Twice)
     ∷ when (nat_le MAX_DESCRIPTORS (count_by (is_kind is_static) before)) (Table Full)
@@ -39,7 +39,7 @@ room_checks before earlier is_static segment keys =
     ∷ []
 
 -- its segment and its keys were noted
-pub record IsEntered (old new : Reader) (earlier later : List Pair) (is_static : Bool) (segment : Pair) (noted : List (List ℕ)) : Type 0 where
+pub record IsEntered (old new : Reader) (earlier later : List SegmentView) (is_static : Bool) (segment : SegmentView) (noted : List (List ℕ)) : Type 0 where
   pub nodes : new.nodes.items ≡ old.nodes.items
   pub descriptors : new.descriptors.items ≡ old.descriptors.items
   pub dynamics : new.dynamics ≡ old.dynamics
@@ -49,13 +49,13 @@ pub record IsEntered (old new : Reader) (earlier later : List Pair) (is_static :
   pub siblings : later ≡ earlier ++ segment ∷ []
 
 -- a node's segment and its keys were noted, and this is its segment with its id
-pub record IsAdmitted (old new : Reader) (s : NodeInput) (later : List Pair) (n : Named) : Type 0 where
+pub record IsAdmitted (old new : Reader) (s : NodeInput) (later : List SegmentView) (n : Named) : Type 0 where
   pub segment : n.segment ≡ segment_of s
   pub id : n.id ≡ id_of s
   pub entered : IsEntered old new s.earlier later s.is_static (segment_of s) (lock_keys (contents old.nodes.items ++ node_of s ∷ []))
 
 -- a node was checked, and its keys were noted
-pub record IsChecked (old new : Reader) (s : NodeInput) (later : List Pair) (c : Checked) : Type 0 where
+pub record IsChecked (old new : Reader) (s : NodeInput) (later : List SegmentView) (c : Checked) : Type 0 where
   pub node : c.node ≡ node_of s
   pub id : c.id ≡ id_of s
   pub leaf : c.is_leaf ≡ (length (children_of s.is_static s.value) == 0 && length (dynamic_of s.value) == 0)
@@ -70,26 +70,26 @@ pub record IsChecked (old new : Reader) (s : NodeInput) (later : List Pair) (c :
   pub siblings : later ≡ s.earlier ++ segment_of s ∷ []
 
 -- a static node's descriptor was put at the end, or another node was counted
-pub record IsDescribed (old new : Reader) (n : Node) (id : List Pair) : Type 0 where
+pub record IsDescribed (old new : Reader) (n : Node) (id : List SegmentView) : Type 0 where
   pub nodes : new.nodes.items ≡ old.nodes.items
   pub descriptors : new.descriptors.items ≡ old.descriptors.items ++ descriptor_in id n
   pub dynamics : new.dynamics ≡ old.dynamics + (if n.is_static then 0 else 1)
   pub keys : new.keys.keys ≡ old.keys.keys
 
 -- a node was put at the end
-pub record IsAdded (old new : Reader) (n : Node) (id : List Pair) : Type 0 where
+pub record IsAdded (old new : Reader) (n : Node) (id : List SegmentView) : Type 0 where
   pub nodes : new.nodes.items ≡ old.nodes.items ++ record { node = n; number = 0; span = 1 } ∷ []
   pub descriptors : new.descriptors.items ≡ old.descriptors.items ++ descriptor_in id n
   pub dynamics : new.dynamics ≡ old.dynamics + (if n.is_static then 0 else 1)
   pub keys : new.keys.keys ≡ old.keys.keys
 
 -- nodes stand below it, and this is its id, or none do
-abbrev pub HasBelow : NodeInput → Option (List Pair) → Type 0
+abbrev pub HasBelow : NodeInput → Option (List SegmentView) → Type 0
 HasBelow s None = below s ≡ []
 HasBelow s (Some id) = id ≡ id_of s
 
 -- a node was checked and put at the end, and what is below it is still to be read
-pub record IsStarted (old new : Reader) (s : NodeInput) (later : List Pair) (id : Option (List Pair)) : Type 0 where
+pub record IsStarted (old new : Reader) (s : NodeInput) (later : List SegmentView) (id : Option (List SegmentView)) : Type 0 where
   pub nodes : new.nodes.items ≡ old.nodes.items ++ record { node = node_of s; number = 0; span = 1 } ∷ []
   pub descriptors : new.descriptors.items ≡ old.descriptors.items ++ descriptor_in (id_of s) (node_of s)
   pub noted : IsNoted new

@@ -3,9 +3,9 @@ use Rattle.std.specs.Prelude.{◌≡◌, ◌++◌, ◌∷◌, [], List, Option, 
 use denote.Ref.{Bor}
 use Rattle.serde_json.specs.Data.{Data}
 use Rattle.tk_plan.specs.JsonValues.{view}
-use Rattle.tk_ids.specs.IdText.{Pair}
-use Rattle.tk_ids.specs.declared.ids.IdFault.{IdFault}
-use Rattle.tk_ids.specs.declared.ids.IdFault.TheVariants as id_faults
+use Rattle.tk_ids.specs.IdText.{SegmentView}
+use Rattle.tk_ids.specs.declared.id_faults.IdFault.{IdFault}
+use Rattle.tk_ids.specs.declared.id_faults.IdFault.TheVariants as id_faults
 use Rattle.tk_plan.specs.NodeInputs as spec
 use Rattle.tk_plan.specs.Pointers.{pointer}
 use Rattle.tk_plan.specs.declared.faults.PlanFault.{PlanFault}
@@ -16,19 +16,19 @@ use Rattle.tk_plan.specs.declared.node_inputs.NodePlace.{NodePlace}
 use Rattle.tk_plan.specs.declared.node_inputs.NodeInput.{NodeInput}
 
 -- the root has no id above it
-abbrev pub above_of : Option (Bor (List Pair)) → List Pair
+abbrev pub above_of : Option (Bor (List SegmentView)) → List SegmentView
 above_of None = []
 above_of (Some id) = id.now
 
 -- data at a place, after siblings with the earlier segments
-abbrev pub node_at : List Pair → NodePlace → Data → spec.NodeInput
+abbrev pub node_at : List SegmentView → NodePlace → Data → spec.NodeInput
 node_at earlier p d = record { path = pointer p.path; level = p.level; is_static = p.is_static; takes_files = p.takes_files; above = above_of p.above; earlier = earlier; value = d }
 
 -- a value that stands for a node, after such siblings
-abbrev pub seen : List Pair → NodeInput → spec.NodeInput
+abbrev pub seen : List SegmentView → NodeInput → spec.NodeInput
 seen earlier s = node_at earlier s.place (view s.value.now)
 
-abbrev pub json_segment_text : TwoTexts → Pair
+abbrev pub json_segment_text : TwoTexts → SegmentView
 json_segment_text p = record { tag = p.first.now; value = p.second.now }
 
 abbrev pub as_plan_fault : IdFault → PlanFault
@@ -38,6 +38,6 @@ as_plan_fault (id_faults.BadEscape at) = Id (id_faults.BadEscape at)
 as_plan_fault id_faults.TooLong = Id id_faults.TooLong
 as_plan_fault id_faults.Memory = Memory
 
-pub record IsNamed (above : List Pair) (s : Pair) (n : Named) : Type 0 where
+pub record IsNamed (above : List SegmentView) (s : SegmentView) (n : Named) : Type 0 where
   pub segment : n.segment ≡ s
   pub id : n.id ≡ above ++ s ∷ []

@@ -1,7 +1,7 @@
 -- Descriptors that a table takes one after another.
 use Rattle.std.specs.Prelude.{List, [], ◌∷◌, ◌++◌}
 use Rattle.tk_ids.specs.Table.{HasId, HasParent}
-use Rattle.tk_ids.specs.declared.tables.Descriptor.{Descriptor}
+use Rattle.tk_ids.specs.declared.descriptors.Descriptor.{Descriptor}
 
 -- The parent of each stands in the table or before it, and its id does not.
 abbrev pub Follow : List Descriptor → List Descriptor → Type 0

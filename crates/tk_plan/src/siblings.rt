@@ -17,10 +17,10 @@ pub(crate) struct Siblings<'t> {
 
 impl<'t> Model for Siblings<'t> {
     ghost use Rattle.std.specs.Prelude.{List, map, ℕ};
-    ghost use Rattle.tk_ids.specs.IdText.{Pair};
+    ghost use Rattle.tk_ids.specs.IdText.{SegmentView};
     ghost use Rattle.tk_plan.specs.Met.{segments_of};
 
-    ghost Value = { List Pair };
+    ghost Value = { List SegmentView };
 
     ghost view = { λ s. segments_of s.keys.keys };
 }

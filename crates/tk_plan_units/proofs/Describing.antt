@@ -1,8 +1,8 @@
 -- The table's descriptors are those of the static nodes.
 use Rattle.std.proofs.Common.{◌≡◌, suc, ◌+◌, ◌*◌, ◌≤◌, List, [], ◌∷◌, ◌++◌, Bool, cond, true, false, length, refl, sym, ap, ap₂, ◌∙◌, arith, length-append}
 use Rattle.tk_ids.specs.declared.tables.TheConstants.{MAX_DESCRIPTORS}
-use Rattle.tk_ids.specs.IdText.{Pair}
-use Rattle.tk_ids.specs.declared.tables.Descriptor.{Descriptor}
+use Rattle.tk_ids.specs.IdText.{SegmentView}
+use Rattle.tk_ids.specs.declared.descriptors.Descriptor.{Descriptor}
 use Rattle.tk_plan_units.specs.declared.nodes.Node.{Node}
 use Rattle.tk_plan_units.specs.declared.nodes.NumberedNode.{NumberedNode}
 use Rattle.tk_plan_units.specs.Trees.{Tree, tree, Forest, no_trees, more, flat, flats, forest, IsForest}
@@ -24,10 +24,10 @@ one_more true d n ds ns e = ap suc e
 one_more false d n ds ns e = e
 
 mutual
-  descriptors-length : (above : List Pair) (t : Tree) → length (descriptors above t) ≡ length (of_kind true (flat t))
+  descriptors-length : (above : List SegmentView) (t : Tree) → length (descriptors above t) ≡ length (of_kind true (flat t))
   descriptors-length above (tree n k f) = one_more n.is_static _ n _ _ (descriptors_below-length (above ++ n.segment ∷ []) f)
 
-  descriptors_below-length : (above : List Pair) (f : Forest) → length (descriptors_below above f) ≡ length (of_kind true (flats f))
+  descriptors_below-length : (above : List SegmentView) (f : Forest) → length (descriptors_below above f) ≡ length (of_kind true (flats f))
   descriptors_below-length above no_trees = refl
   descriptors_below-length above (more t f) =
       length-append (descriptors above t) (descriptors_below above f)

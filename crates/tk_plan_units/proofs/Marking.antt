@@ -6,7 +6,7 @@ use Rattle.std.proofs.Math.Nat.{mod-eq_of_lt}
 use Rattle.std.proofs.Math.Dec.{eqb}
 use Rattle.std.proofs.lemmas.Bool.{eqb-true, eqb-false}
 use Rattle.std.proofs.lemmas.Nat.Bits.{bit_at_or, bit_at-zero, bit_at-pow_same, bit_at-pow_other}
-use Rattle.tk_book.specs.Wants.{Wants}
+use Rattle.tk_book.specs.NeedView.{NeedView}
 use Rattle.tk_book.specs.Needs.{Access, nothing, reads, writes, access_of, access, weight, word_of}
 use Rattle.tk_book.proofs.Packing.{packed-same}
 use Rattle.tk_plan_units.specs.declared.nodes.NumberedNode.{NumberedNode}
@@ -90,5 +90,5 @@ none_marked r a = ap₂ (λ x y. over (access_of x y) a) (bit_at-zero r) (bit_at
 
 -- ---- a need as a word
 
-pub word_needed : (nodes : List NumberedNode) (unit : ℕ) (w : Wants) → IsNeedOf nodes unit w → word_of w ≡ need_word nodes unit
+pub word_needed : (nodes : List NumberedNode) (unit : ℕ) (w : NeedView) → IsNeedOf nodes unit w → word_of w ≡ need_word nodes unit
 word_needed nodes unit w h = packed-same 16 (λ r. weight (access w r)) (λ r. weight (unit_asks nodes unit r)) (λ r l. ap weight (h r l))

@@ -2,8 +2,8 @@
 use Rattle.std.proofs.Common.{◌≡◌, ℕ, zero, suc, ◌+◌, ◌-◌, List, [], ◌∷◌, ◌++◌, Bool, cond, true, false, length, take, drop, map, is_some, refl, sym, ap, ap₂, ◌∙◌, subst, arith}
 use Rattle.std.proofs.lemmas.List.{drop-map, take-map, length-map}
 use Rattle.std.specs.List.{list_all}
-use Rattle.tk_ids.specs.IdText.{Pair}
-use Rattle.tk_ids.specs.declared.tables.Descriptor.{Descriptor}
+use Rattle.tk_ids.specs.IdText.{SegmentView}
+use Rattle.tk_ids.specs.declared.descriptors.Descriptor.{Descriptor}
 use Rattle.tk_plan_units.specs.declared.nodes.NumberedNode.{NumberedNode}
 use Rattle.tk_plan_units.specs.Trees.{Tree, tree, Forest, no_trees, more, grow, forest, contents}
 use Rattle.tk_plan_units.specs.Weights.{publications, weight, weights}
@@ -62,18 +62,18 @@ rooted-bare (more (tree n k g) no_trees) = refl
 rooted-bare (more (tree n k g) (more (tree m j h) f)) = refl
 
 mutual
-  ids-bare : (above : List Pair) (t : Tree) → ids above (bare t) ≡ ids above t
+  ids-bare : (above : List SegmentView) (t : Tree) → ids above (bare t) ≡ ids above t
   ids-bare above (tree n k f) = ap (λ l. (above ++ n.segment ∷ []) ∷ l) (ids_below-bare (above ++ n.segment ∷ []) f)
 
-  ids_below-bare : (above : List Pair) (f : Forest) → ids_below above (bare_all f) ≡ ids_below above f
+  ids_below-bare : (above : List SegmentView) (f : Forest) → ids_below above (bare_all f) ≡ ids_below above f
   ids_below-bare above no_trees = refl
   ids_below-bare above (more t f) = ap₂ (λ a b. a ++ b) (ids-bare above t) (ids_below-bare above f)
 
 mutual
-  descriptors-bare : (above : List Pair) (t : Tree) → descriptors above (bare t) ≡ descriptors above t
+  descriptors-bare : (above : List SegmentView) (t : Tree) → descriptors above (bare t) ≡ descriptors above t
   descriptors-bare above (tree n k f) = ap (λ l. descriptor_in (above ++ n.segment ∷ []) n ++ l) (descriptors_below-bare (above ++ n.segment ∷ []) f)
 
-  descriptors_below-bare : (above : List Pair) (f : Forest) → descriptors_below above (bare_all f) ≡ descriptors_below above f
+  descriptors_below-bare : (above : List SegmentView) (f : Forest) → descriptors_below above (bare_all f) ≡ descriptors_below above f
   descriptors_below-bare above no_trees = refl
   descriptors_below-bare above (more t f) = ap₂ (λ a b. a ++ b) (descriptors-bare above t) (descriptors_below-bare above f)
 

@@ -1,8 +1,8 @@
 -- How a tree is cut.
 use Rattle.std.specs.Prelude.{ℕ, ◌+◌, ◌&&◌, ◌||◌, ◌==◌, List, [], ◌∷◌, ◌++◌, length, slice_get, Option, Some, None, map, flat_map, Bool, true, false, not, is_some, if◌then◌else◌}
 use Rattle.tk_plan_units.specs.declared.nodes.Node.{Node}
-use Rattle.tk_ids.specs.declared.tables.DType.{DType}
-use Rattle.tk_ids.specs.declared.tables.DType.TheVariants.{Container, Test, Both}
+use Rattle.tk_ids.specs.declared.descriptors.DType.{DType}
+use Rattle.tk_ids.specs.declared.descriptors.DType.TheVariants.{Container, Test, Both}
 use Rattle.tk_events.specs.declared.events.Event.{Event}
 use Rattle.tk_plan_units.specs.declared.steps.Act.TheVariants.{Finish}
 use Rattle.tk_plan_units.specs.declared.steps.Move.{Move}

@@ -1,7 +1,7 @@
 -- What a plan keeps of its nodes.
 use Rattle.std.specs.Prelude.{◌≡◌, ◌≤◌, ℕ, List, All, true}
 use Rattle.tk_limits.specs.declared.limits.TheConstants.{MAX_EVENTS}
-use Rattle.tk_ids.specs.declared.tables.Descriptor.{Descriptor}
+use Rattle.tk_ids.specs.declared.descriptors.Descriptor.{Descriptor}
 use Rattle.tk_plan_units.specs.declared.nodes.NumberedNode.{NumberedNode}
 use Rattle.tk_plan_units.specs.declared.cuttings.Cutting.{Cutting}
 use Rattle.tk_plan_units.specs.Trees.{IsForest, forest, contents}

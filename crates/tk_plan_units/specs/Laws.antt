@@ -1,7 +1,7 @@
 -- Laws of plans.
 use Rattle.std.specs.Prelude.{◌≡◌, ℕ, List, [], Bool, true, false, ◌∷◌, flat_map, map, All, Some, slice_get}
-use Rattle.tk_ids.specs.IdText.{Pair}
-use Rattle.tk_ids.specs.declared.tables.Descriptor.{Descriptor}
+use Rattle.tk_ids.specs.IdText.{SegmentView}
+use Rattle.tk_ids.specs.declared.descriptors.Descriptor.{Descriptor}
 use Rattle.tk_ids.specs.Table.{HasId}
 use Rattle.tk_plan_units.specs.declared.nodes.Node.{Node}
 use Rattle.tk_plan_units.specs.declared.nodes.NumberedNode.{NumberedNode}
@@ -24,13 +24,13 @@ abbrev pub FindsNodes : Type 0
 FindsNodes = (nodes : List NumberedNode) → IsNumbered nodes → All (λ p. slice_get (in_order nodes) p.number ≡ Some p.node) nodes
 
 -- what the table says of the node at a place in preorder, whose id stands there too
-pub record IsKeyed (table : List Descriptor) (p : NumberedNode) (id : List Pair) : Type 0 where
+pub record IsKeyed (table : List Descriptor) (p : NumberedNode) (id : List SegmentView) : Type 0 where
   pub static : p.node.is_static ≡ true → slice_get table p.number ≡ Some (descriptor id p.node)
   pub dynamic : p.node.is_static ≡ false → ¬ HasId table id
 
 abbrev pub HasKeys : Type 0
 HasKeys = (nodes : List NumberedNode) (table : List Descriptor) → IsPlanned nodes table → IsNumbered nodes
-    → (i : ℕ) (p : NumberedNode) (id : List Pair) → slice_get nodes i ≡ Some p → slice_get (ids_below [] (forest nodes)) i ≡ Some id → IsKeyed table p id
+    → (i : ℕ) (p : NumberedNode) (id : List SegmentView) → slice_get nodes i ≡ Some p → slice_get (ids_below [] (forest nodes)) i ≡ Some id → IsKeyed table p id
 
 -- and with their stamps they are the root's script
 abbrev pub KeepsStamps : Type 0

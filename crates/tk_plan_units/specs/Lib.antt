@@ -1,6 +1,6 @@
 pub use Rattle.tk_ids.specs.IdText
 pub use Rattle.tk_events.specs.Event
-pub use Rattle.tk_book.specs.Wants
+pub use Rattle.tk_book.specs.NeedView
 pub use Rattle.tk_book.specs.Words
 pub use Rattle.tk_book.specs.Needs
 pub mod Trees

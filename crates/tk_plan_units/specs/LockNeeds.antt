@@ -2,7 +2,7 @@
 use Rattle.std.specs.Prelude.{◌≡◌, ℕ, suc, ◌==◌, ◌<◌, List, [], ◌∷◌, Bool, true, false, Option, Some, None, if◌then◌else◌, codes, option_map}
 use Rattle.std.specs.Str.{bytes_eq}
 use Rattle.tk_book.specs.Needs.{Access, nothing, reads, writes, access}
-use Rattle.tk_book.specs.Wants.{Wants}
+use Rattle.tk_book.specs.NeedView.{NeedView}
 use Rattle.tk_plan_units.specs.declared.nodes.Lock.{Lock}
 use Rattle.tk_plan_units.specs.declared.nodes.Node.{Node}
 
@@ -43,5 +43,5 @@ nodes_ask keys [] r = nothing
 nodes_ask keys (n ∷ ns) r = over (node_asks keys n r) (nodes_ask keys ns r)
 
 -- A need that asks for what the nodes of a unit ask for. Each node reads resource 0, or writes it.
-abbrev pub IsNeed : List (List ℕ) → List Node → Wants → Type 0
+abbrev pub IsNeed : List (List ℕ) → List Node → NeedView → Type 0
 IsNeed keys ns w = (r : ℕ) → r < 16 → access w r ≡ nodes_ask keys ns r

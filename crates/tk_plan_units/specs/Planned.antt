@@ -4,11 +4,11 @@ use Rattle.std.specs.List.{list_all}
 use Rattle.tk_limits.specs.declared.limits.TheConstants.{MAX_EVENTS}
 use Rattle.tk_ids.specs.declared.tables.TheConstants.{MAX_DESCRIPTORS}
 use Rattle.tk_plan_units.specs.declared.needs.TheConstants.{MAX_KEYS}
-use Rattle.tk_ids.specs.declared.tables.Descriptor.{Descriptor}
+use Rattle.tk_ids.specs.declared.descriptors.Descriptor.{Descriptor}
 use Rattle.tk_events.specs.declared.kinds.Kind.TheVariants.{Finished, Reporting, File}
 use Rattle.tk_events.specs.declared.payloads.Payload.TheVariants.{Outcome, Report, Path}
 use Rattle.tk_events.specs.Event.{is_lawful}
-use Rattle.tk_book.specs.Wants.{Wants}
+use Rattle.tk_book.specs.NeedView.{NeedView}
 use Rattle.tk_book.specs.Words.{packed}
 use Rattle.tk_book.specs.Needs.{Access, nothing, access, weight}
 use Rattle.tk_plan_units.specs.declared.nodes.Node.{Node}
@@ -61,7 +61,7 @@ abbrev pub unit_asks : List NumberedNode → ℕ → ℕ → Access
 unit_asks nodes unit r = piece_asks (lock_keys (contents nodes)) (slice_get (pieces_of (forest nodes)) unit) r
 
 -- the need asks what the nodes of the unit ask
-abbrev pub IsNeedOf : List NumberedNode → ℕ → Wants → Type 0
+abbrev pub IsNeedOf : List NumberedNode → ℕ → NeedView → Type 0
 IsNeedOf nodes unit w = (r : ℕ) → r < 16 → access w r ≡ unit_asks nodes unit r
 
 -- that need as a word

@@ -6,7 +6,7 @@ use Rattle.std.specs.Str.Iter.{HasSubslice}
 use Rattle.std.proofs.lemmas.List.{append_assoc, append-nil}
 use Rattle.std.proofs.lemmas.Bool.{and_parts, or_cases}
 use Rattle.std.proofs.lemmas.Slice.Eq.{bytes_eq-Decides}
-use Rattle.tk_ids.specs.IdText.{Pair, IsEngine}
+use Rattle.tk_ids.specs.IdText.{SegmentView, IsEngine}
 use Rattle.tk_events.specs.declared.events.Entry.{Entry}
 use Rattle.tk_record_columns.specs.Recorded.{Recorded}
 use Rattle.tk_query_conditions.specs.declared.conditions.Condition as real
@@ -23,15 +23,15 @@ same_bool false true f g = g refl
 same_bool false false f g = refl
 
 -- the text of an engine
-engine_true : (id : List Pair) → is_engine id ≡ true → IsEngine id
+engine_true : (id : List SegmentView) → is_engine id ≡ true → IsEngine id
 engine_true [] e = cc
-engine_true (s ∷ []) e = let tag = (bytes_eq-Decides s.tag (codes "engine")).0 e in (s.value, ap (λ (t : List ℕ). let p : Pair = record { tag = t; value = s.value } in p ∷ []) tag)
+engine_true (s ∷ []) e = let tag = (bytes_eq-Decides s.tag (codes "engine")).0 e in (s.value, ap (λ (t : List ℕ). let p : SegmentView = record { tag = t; value = s.value } in p ∷ []) tag)
 engine_true (s ∷ t ∷ id) e = cc
 
-true_engine : (id : List Pair) → IsEngine id → is_engine id ≡ true
+true_engine : (id : List SegmentView) → IsEngine id → is_engine id ≡ true
 true_engine id h = ap is_engine h.1
 
-pub engine_is : (id : List Pair) (b : Bool) → (IsTrue b ↔ IsEngine id) → b ≡ is_engine id
+pub engine_is : (id : List SegmentView) (b : Bool) → (IsTrue b ↔ IsEngine id) → b ≡ is_engine id
 engine_is id b h = same_bool b (is_engine id) (λ e. true_engine id (h.0 e)) (λ e. h.1 (engine_true id e))
 
 -- a text within another

@@ -3,8 +3,8 @@ use Rattle.std.specs.Prelude.{ℕ, Option, Some, None}
 use Rattle.std.specs.Option.{option_and_then}
 use Rattle.tk_events.specs.declared.kinds.Kind.{Kind}
 use Rattle.tk_events.specs.declared.kinds.Kind.TheVariants as kind
-use Rattle.tk_events.specs.declared.kinds.Status.{Status}
-use Rattle.tk_events.specs.declared.kinds.Status.TheVariants as status
+use Rattle.tk_events.specs.declared.statuses.Status.{Status}
+use Rattle.tk_events.specs.declared.statuses.Status.TheVariants as status
 use Rattle.tk_events.specs.declared.payloads.Payload.{Payload}
 use Rattle.tk_events.specs.declared.payloads.Payload.TheVariants.{Outcome}
 use Rattle.tk_events.specs.declared.events.Entry.{Entry}

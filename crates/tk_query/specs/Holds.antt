@@ -1,10 +1,10 @@
 -- What a condition says of an event of a record.
 use Rattle.std.specs.Prelude.{ℕ, Bool, true, false, not, ◌&&◌, ◌||◌, ◌==◌, List, [], ◌∷◌, ◌++◌, Option, Some, None, bytes_eq, codes}
 use Rattle.std.specs.List.{list_any, list_all}
-use Rattle.tk_ids.specs.IdText.{Pair, id_text}
-use Rattle.tk_ids.specs.declared.tables.Descriptor.{Descriptor}
+use Rattle.tk_ids.specs.IdText.{SegmentView, id_text}
+use Rattle.tk_ids.specs.declared.descriptors.Descriptor.{Descriptor}
 use Rattle.tk_events.specs.declared.kinds.Kind.TheVariants as kind
-use Rattle.tk_events.specs.declared.kinds.Status.TheVariants as status
+use Rattle.tk_events.specs.declared.statuses.Status.TheVariants as status
 use Rattle.tk_events.specs.declared.payloads.Payload.{Payload}
 use Rattle.tk_events.specs.declared.payloads.Payload.TheVariants.{Reason, Outcome, Report, Path}
 use Rattle.tk_events.specs.declared.events.Entry.{Entry}
@@ -33,7 +33,7 @@ has_descriptor p None = false
 has_descriptor p (Some d) = p d
 
 -- exactly one segment, whose tag is `engine`
-abbrev pub is_engine : List Pair → Bool
+abbrev pub is_engine : List SegmentView → Bool
 is_engine (s ∷ []) = bytes_eq s.tag (codes "engine")
 is_engine _ = false
 

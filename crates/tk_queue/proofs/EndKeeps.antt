@@ -7,10 +7,10 @@ use Rattle.std.proofs.lemmas.List.{map-append, get_or-set_same, get_or-set_other
 use Rattle.std.proofs.lemmas.List.Elements.{All-nil, All-push}
 use Rattle.std.proofs.lemmas.List.Sums.{sum_by-cons, sum_by-append}
 use Rattle.atomic_table.specs.Seated.{TableId}
-use Rattle.tk_ids.specs.declared.tables.DType.{DType}
-use Rattle.tk_ids.specs.declared.tables.Descriptor.{Descriptor}
+use Rattle.tk_ids.specs.declared.descriptors.DType.{DType}
+use Rattle.tk_ids.specs.declared.descriptors.Descriptor.{Descriptor}
 use Rattle.tk_ids.specs.declared.tables.TheConstants.{MAX_DESCRIPTORS}
-use Rattle.tk_ids.specs.IdText.{Pair}
+use Rattle.tk_ids.specs.IdText.{SegmentView}
 use Rattle.tk_events.specs.declared.kinds.Kind.TheVariants.{Dynamic}
 use Rattle.tk_events.specs.declared.payloads.Payload.TheVariants.{Described}
 use Rattle.tk_events.specs.declared.events.Event.{Event}
@@ -38,7 +38,7 @@ use Rattle.tk_queue.proofs.KnownKeys.{emission_none, emission_more, some_desc, k
 
 -- ---- a sender
 
-none_either : (b : Bool) → cond {A = Option (List Pair)} b None None ≡ None
+none_either : (b : Bool) → cond {A = Option (List SegmentView)} b None None ≡ None
 none_either true = refl
 none_either false = refl
 
@@ -84,7 +84,7 @@ registrations-more es e = sum_by-append weight es (e ∷ []) ∙ ap (λ n. regis
   plus_zero k = omega arith
 
 -- after one more event
-keeps : (v w : PassView) (table : List Descriptor) (worker emitted : ℕ) (ids later : List (List Pair)) (e : Event) → IsSender v table worker ids emitted → w ≡ pushed v (entry worker e)
+keeps : (v w : PassView) (table : List Descriptor) (worker emitted : ℕ) (ids later : List (List SegmentView)) (e : Event) → IsSender v table worker ids emitted → w ≡ pushed v (entry worker e)
     → MayEmit (length table) worker (sent_of v) e → emitted < most_events
     → ((key : ℕ) → option_map (λ (d : Descriptor). d.id) (desc_in (entries_by worker (sent_of v ++ e ∷ [])) key) ≡ id_registered worker later key)
     → length later ≡ length ids + weight e → length later ≤ MAX_DESCRIPTORS → IsSender w table worker later (emitted + 1)
@@ -105,7 +105,7 @@ or_none (Some x) = refl
 not_registered : (worker : ℕ) (e : Event) (key : ℕ) → is_dynamic e ≡ false → registered key (entry_by worker e) ≡ None
 not_registered worker e key plain = ap (λ (b : Bool). if b && (e.key == key) then described e.payload else None) plain
 
-pub sender_sends : (v w : PassView) (table : List Descriptor) (worker emitted : ℕ) (ids : List (List Pair)) (e : Event) → IsSender v table worker ids emitted → w ≡ pushed v (entry worker e)
+pub sender_sends : (v w : PassView) (table : List Descriptor) (worker emitted : ℕ) (ids : List (List SegmentView)) (e : Event) → IsSender v table worker ids emitted → w ≡ pushed v (entry worker e)
     → MayEmit (length table) worker (sent_of v) e → emitted < most_events → is_dynamic e ≡ false → IsSender w table worker ids (emitted + 1)
 sender_sends v w table worker emitted ids e h moved may room plain =
     keeps v w table worker emitted ids ids e h moved may room
@@ -134,7 +134,7 @@ no_id None h = refl
 no_id (Some d) h = absurd cc
 
 -- the ids after the first key of a worker
-id_at : (worker : ℕ) (ids : List (List Pair)) (j key : ℕ) → key ≡ registered_key worker j → id_registered worker ids key ≡ slice_get ids j
+id_at : (worker : ℕ) (ids : List (List SegmentView)) (j key : ℕ) → key ≡ registered_key worker j → id_registered worker ids key ≡ slice_get ids j
 id_at worker ids j key is = ⊎_elim
     (λ (lt : key < registered_key worker 0). absurd (omega arith))
     (λ (le : registered_key worker 0 ≤ key). ap (λ (b : Bool). if b then None else slice_get ids (key - registered_key worker 0)) (not_below le) ∙ ap (slice_get ids) (let t : key - registered_key worker 0 ≡ j = omega arith in t))
@@ -142,7 +142,7 @@ id_at worker ids j key is = ⊎_elim
       not_below : registered_key worker 0 ≤ key → nat_lt key (registered_key worker 0) ≡ false
       not_below le = le-ltb key (registered_key worker 0) le
 
-ids_more : (worker : ℕ) (ids : List (List Pair)) (id : List Pair) (key : ℕ) → key ≢ registered_key worker (length ids) → id_registered worker (ids ++ id ∷ []) key ≡ id_registered worker ids key
+ids_more : (worker : ℕ) (ids : List (List SegmentView)) (id : List SegmentView) (key : ℕ) → key ≢ registered_key worker (length ids) → id_registered worker (ids ++ id ∷ []) key ≡ id_registered worker ids key
 ids_more worker ids id key apart =
     ⊎_elim
     (λ (lt : key < registered_key worker 0). ap (λ (b : Bool). if b then None else slice_get (ids ++ id ∷ []) (key - registered_key worker 0)) (below lt) ∙ sym (ap (λ (b : Bool). if b then None else slice_get ids (key - registered_key worker 0)) (below lt)))
@@ -173,7 +173,7 @@ all_true : (a b c d : Bool) → a ≡ true → b ≡ true → c ≡ true → d �
 all_true a b c d p q r t = λ i. ((p i && q i) && r i) && t i
 
 -- the next registration may be emitted
-registration_may : (v : PassView) (table : List Descriptor) (worker emitted key stamp : ℕ) (ids : List (List Pair)) (d : Descriptor) → IsSender v table worker ids emitted → key ≡ registered_key worker (length ids)
+registration_may : (v : PassView) (table : List Descriptor) (worker emitted key stamp : ℕ) (ids : List (List SegmentView)) (d : Descriptor) → IsSender v table worker ids emitted → key ≡ registered_key worker (length ids)
     → length ids < MAX_DESCRIPTORS → MayEmit (length table) worker (sent_of v) (record { kind = Dynamic; key = key; stamp = stamp; payload = Described d })
 registration_may v table worker emitted key stamp ids d h is few =
     let n = count_by (registers worker) (entries_by worker (sent_of v)) in
@@ -186,12 +186,12 @@ registration_may v table worker emitted key stamp ids d h is few =
     }
 
 -- the worker registered nothing yet under its next key
-next_unregistered : (v : PassView) (table : List Descriptor) (worker emitted key : ℕ) (ids : List (List Pair)) → IsSender v table worker ids emitted → key ≡ registered_key worker (length ids) → desc_in (entries_by worker (sent_of v)) key ≡ None
+next_unregistered : (v : PassView) (table : List Descriptor) (worker emitted key : ℕ) (ids : List (List SegmentView)) → IsSender v table worker ids emitted → key ≡ registered_key worker (length ids) → desc_in (entries_by worker (sent_of v)) key ≡ None
 next_unregistered v table worker emitted key ids h is =
     no_id (desc_in (entries_by worker (sent_of v)) key) (h.leads key ∙ id_at worker ids (length ids) key is ∙ slice_get_beyond ids (length ids) (omega arith))
 
 -- nor is that key a static one
-pub next_is_new : (t : TableId) (v : PassView) (table : List Descriptor) (worker emitted key : ℕ) (ids : List (List Pair)) (s : SenderView) → IsSender v table worker ids emitted
+pub next_is_new : (t : TableId) (v : PassView) (table : List Descriptor) (worker emitted key : ℕ) (ids : List (List SegmentView)) (s : SenderView) → IsSender v table worker ids emitted
     → record { session = t; table = table; worker = worker; sent = sent_of v } ≡ s → length table ≤ MAX_DESCRIPTORS → key ≡ registered_key worker (length ids) → IsNew s key
 next_is_new t v table worker emitted key ids s h is few at =
     let low = h.low in
@@ -199,12 +199,12 @@ next_is_new t v table worker emitted key ids s h is few at =
     (ap (λ o. option_or o (desc_in (entries_by worker (sent_of v)) key)) (slice_get_beyond table key (omega arith)) ∙ next_unregistered v table worker emitted key ids h at)
 
 -- the next key by the sender's ids
-pub next_key_is : (t : TableId) (v : PassView) (table : List Descriptor) (worker emitted : ℕ) (ids : List (List Pair)) (s : SenderView) {key : ℕ} → IsSender v table worker ids emitted
+pub next_key_is : (t : TableId) (v : PassView) (table : List Descriptor) (worker emitted : ℕ) (ids : List (List SegmentView)) (s : SenderView) {key : ℕ} → IsSender v table worker ids emitted
     → record { session = t; table = table; worker = worker; sent = sent_of v } ≡ s → key ≡ registered_key s.worker (registrations s.sent) → key ≡ registered_key worker (length ids)
 next_key_is t v table worker emitted ids s h is at =
     at ∙ ap (λ (y : SenderView). registered_key y.worker (registrations y.sent)) (sym is) ∙ ap (registered_key worker) (sym h.number)
 
-pub sender_registers : (v w : PassView) (table : List Descriptor) (worker emitted key stamp : ℕ) (ids : List (List Pair)) (d : Descriptor) → IsSender v table worker ids emitted
+pub sender_registers : (v w : PassView) (table : List Descriptor) (worker emitted key stamp : ℕ) (ids : List (List SegmentView)) (d : Descriptor) → IsSender v table worker ids emitted
     → key ≡ registered_key worker (length ids) → w ≡ pushed v (entry worker (record { kind = Dynamic; key = key; stamp = stamp; payload = Described d }))
     → emitted < most_events → length ids < MAX_DESCRIPTORS → IsSender w table worker (ids ++ d.id ∷ []) (emitted + 1)
 sender_registers v w table worker emitted key stamp ids d h is moved room few =
@@ -255,26 +255,26 @@ plain_may table w es e plain known = record {
       ∙ sym (some_desc table (entries_by w es) e.key) ∙ known;
 }
 
-pub admitted_may : (t : TableId) (v : PassView) (table : List Descriptor) (worker emitted : ℕ) (ids : List (List Pair)) (s : SenderView) (a b : Event) → IsSender v table worker ids emitted
+pub admitted_may : (t : TableId) (v : PassView) (table : List Descriptor) (worker emitted : ℕ) (ids : List (List SegmentView)) (s : SenderView) (a b : Event) → IsSender v table worker ids emitted
     → record { session = t; table = table; worker = worker; sent = sent_of v } ≡ s → (a ≡ b) × (refusal_of s b ≡ None)
     → MayEmit (length table) worker (sent_of v) a × (emitted < most_events) × (is_dynamic a ≡ false)
 admitted_may t v table worker emitted ids s a b h is ok =
     let n = not_refused (record { session = t; table = table; worker = worker; sent = sent_of v }) a (subst (λ (y : SenderView × Event). refusal_of y.0 y.1 ≡ None) (λ i. (sym is i, sym ok.0 i)) ok.1) in
     (plain_may table worker (sent_of v) a n.1 n.0, subst (λ k. k < most_events) (sym h.counted) n.2, not_true (is_dynamic a) (and_right (is_lawful a.kind a.payload) (not (is_dynamic a)) n.1))
 
-pub may_push : (v : PassView) (table : List Descriptor) (worker emitted : ℕ) (ids : List (List Pair)) (e : Event) → IsSender v table worker ids emitted → MayEmit (length table) worker (sent_of v) e → emitted < most_events → MayPush v (entry worker e)
+pub may_push : (v : PassView) (table : List Descriptor) (worker emitted : ℕ) (ids : List (List SegmentView)) (e : Event) → IsSender v table worker ids emitted → MayEmit (length table) worker (sent_of v) e → emitted < most_events → MayPush v (entry worker e)
 may_push v table worker emitted ids e h may room =
     subst (λ u. MayPush u (entry worker e)) (sym h.is) (refl, (refl, may, subst (λ k. k < most_events) h.counted room))
 
 -- a worker's next registration may be pushed
-pub may_push_registration : (v : PassView) (table : List Descriptor) (worker emitted key stamp : ℕ) (ids : List (List Pair)) (d : Descriptor) → IsSender v table worker ids emitted
+pub may_push_registration : (v : PassView) (table : List Descriptor) (worker emitted key stamp : ℕ) (ids : List (List SegmentView)) (d : Descriptor) → IsSender v table worker ids emitted
     → key ≡ registered_key worker (length ids) → emitted < most_events → length ids < MAX_DESCRIPTORS
     → MayPush v (entry worker (record { kind = Dynamic; key = key; stamp = stamp; payload = Described d }))
 may_push_registration v table worker emitted key stamp ids d h is room few =
     may_push v table worker emitted ids (record { kind = Dynamic; key = key; stamp = stamp; payload = Described d }) h (registration_may v table worker emitted key stamp ids d h is few) room
 
 -- what `child` says of the sender's fields
-pub made_may : (t : TableId) (v : PassView) (table : List Descriptor) (worker emitted : ℕ) (ids : List (List Pair)) (s : SenderView) (parent : ℕ) (below : Descriptor → Descriptor) (made : List Pair × Descriptor)
+pub made_may : (t : TableId) (v : PassView) (table : List Descriptor) (worker emitted : ℕ) (ids : List (List SegmentView)) (s : SenderView) (parent : ℕ) (below : Descriptor → Descriptor) (made : List SegmentView × Descriptor)
     → IsSender v table worker ids emitted → record { session = t; table = table; worker = worker; sent = sent_of v } ≡ s → IsChildMade s parent below (Ok made)
     → (emitted < most_events) × (length ids < MAX_DESCRIPTORS) × (made.0 ≡ made.1.id)
 made_may t v table worker emitted ids s parent below made h is ok =

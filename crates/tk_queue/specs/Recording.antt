@@ -1,6 +1,6 @@
 -- What is taken from a session can be recorded.
 use Rattle.std.specs.Prelude.{◌≡◌, ℕ, ◌*◌, ◌≤◌, List, ◌++◌, length, All, None}
-use Rattle.tk_ids.specs.declared.tables.Descriptor.{Descriptor}
+use Rattle.tk_ids.specs.declared.descriptors.Descriptor.{Descriptor}
 use Rattle.tk_events.specs.declared.events.Entry.{Entry}
 use Rattle.tk_record_columns.specs.Record.{fault_of}
 use Rattle.tk_record_columns.specs.Mixing.{IsWorkerOf}

@@ -1,10 +1,10 @@
 -- What registering a dynamic descriptor answers.
 use Rattle.std.specs.Prelude.{◌≡◌, ℕ, ◌<◌, true, List, [], ◌∷◌, ◌++◌, length, Option, Some, None, is_some, Result, Ok, Err, ◌+◌}
-use Rattle.tk_ids.specs.declared.ids.IdFault.TheVariants as id_faults
-use Rattle.tk_ids.specs.declared.tables.DType.{DType}
-use Rattle.tk_ids.specs.declared.tables.Descriptor.{Descriptor}
+use Rattle.tk_ids.specs.declared.id_faults.IdFault.TheVariants as id_faults
+use Rattle.tk_ids.specs.declared.descriptors.DType.{DType}
+use Rattle.tk_ids.specs.declared.descriptors.Descriptor.{Descriptor}
 use Rattle.tk_ids.specs.declared.tables.TheConstants.{MAX_DESCRIPTORS}
-use Rattle.tk_ids.specs.IdText.{Pair, FitsLimits}
+use Rattle.tk_ids.specs.IdText.{SegmentView, FitsLimits}
 use Rattle.tk_events.specs.declared.kinds.Kind.TheVariants.{Dynamic}
 use Rattle.tk_events.specs.declared.payloads.Payload.TheVariants.{Described}
 use Rattle.tk_events.specs.declared.events.Event.{Event}
@@ -21,7 +21,7 @@ abbrev pub HasRoom : SenderView → Type 0
 HasRoom s = (length s.sent < most_events) × (registrations s.sent < MAX_DESCRIPTORS)
 
 -- the descriptor below a parent
-abbrev pub child : Descriptor → Pair → List ℕ → DType → Descriptor
+abbrev pub child : Descriptor → SegmentView → List ℕ → DType → Descriptor
 child above segment name dtype =
     record { id = above.id ++ segment ∷ []; name = name; dtype = dtype }
 
@@ -41,7 +41,7 @@ IsNew s key = desc (record_of_sender s) key ≡ None
 -- what `register` is asked: the parent's key, and what the descriptor below it has
 pub record RegisterRequest : Type 0 where
   pub parent : ℕ
-  pub segment : Pair
+  pub segment : SegmentView
   pub name : List ℕ
   pub dtype : DType
   pub stamp : ℕ
@@ -75,7 +75,7 @@ IsRegisteredAs old new ask (Err unregistered.Memory) = new ≡ old
 -- What making the descriptor below a parent answers, with its id once more. `below` is the
 -- descriptor that is asked for, below each parent.
 abbrev pub IsChildMade :
-    SenderView → ℕ → (Descriptor → Descriptor) → Result (List Pair × Descriptor) RegisterFault
+    SenderView → ℕ → (Descriptor → Descriptor) → Result (List SegmentView × Descriptor) RegisterFault
     → Type 0
 IsChildMade s parent below (Ok made) =
     (above : Descriptor) × (parent_of s parent ≡ Some above) × HasRoom s

@@ -1,9 +1,9 @@
 -- What contracts see of a sender: the session, its worker, and what it emitted.
 use Rattle.std.specs.Prelude.{◌≡◌, ℕ, zero, suc, ◌<◌, ◌≤◌, ◌-◌, not, nat_lt, Bool, false, if◌then◌else◌, List, [], ◌∷◌, ◌++◌, length, slice_get, Option, Some, None, is_some, option_map, ◌+◌}
 use Rattle.atomic_table.specs.Seated.{TableId}
-use Rattle.tk_ids.specs.declared.tables.Descriptor.{Descriptor}
+use Rattle.tk_ids.specs.declared.descriptors.Descriptor.{Descriptor}
 use Rattle.tk_ids.specs.declared.tables.TheConstants.{MAX_DESCRIPTORS}
-use Rattle.tk_ids.specs.IdText.{Pair}
+use Rattle.tk_ids.specs.IdText.{SegmentView}
 use Rattle.tk_events.specs.declared.events.Event.{Event}
 use Rattle.tk_events.specs.Registration.{registered_key}
 use Rattle.tk_record_columns.specs.Recorded.{Recorded}
@@ -58,13 +58,13 @@ sent_of (Sends s) = s.sent
 sent_of v = []
 
 -- the id that a worker registered under the key, of those that it registered, in order
-abbrev pub id_registered : ℕ → List (List Pair) → ℕ → Option (List Pair)
+abbrev pub id_registered : ℕ → List (List SegmentView) → ℕ → Option (List SegmentView)
 id_registered worker ids key =
     if nat_lt key (registered_key worker 0) then None
     else slice_get ids (key - registered_key worker 0)
 
 -- the fields of a sender stand for what its pass knows
-pub record IsSender (v : PassView) (table : List Descriptor) (worker : ℕ) (ids : List (List Pair))
+pub record IsSender (v : PassView) (table : List Descriptor) (worker : ℕ) (ids : List (List SegmentView))
     (emitted : ℕ) : Type 0 where
   pub is : v ≡ pass_of_sender (length table) worker (sent_of v) false
   pub counted : emitted ≡ length (sent_of v)

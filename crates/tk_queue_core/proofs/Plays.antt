@@ -6,7 +6,7 @@ use Rattle.tk_events.specs.declared.events.Event.{Event}
 use Rattle.tk_queue_core.specs.declared.items.Turn.{Turn}
 use Rattle.std.proofs.lemmas.Option.{slice_get-get_or}
 use Rattle.std.proofs.lemmas.List.{length-append}
-use Rattle.tk_ids.specs.declared.tables.Descriptor.{Descriptor}
+use Rattle.tk_ids.specs.declared.descriptors.Descriptor.{Descriptor}
 use Rattle.tk_events.specs.declared.events.Entry.{Entry}
 use Rattle.tk_record_columns.specs.declared.records.AppendFault.{AppendFault}
 use Rattle.tk_record_columns.specs.Record.{fault_of}

@@ -1,7 +1,7 @@
 -- A replay goes through states of the core.
 use Rattle.std.specs.Prelude.{◌≡◌, ℕ, ◌≤◌, List, length, take, Some, true, Result, Err}
 use Rattle.std.specs.List.{AllByRecursion}
-use Rattle.tk_ids.specs.declared.tables.Descriptor.{Descriptor}
+use Rattle.tk_ids.specs.declared.descriptors.Descriptor.{Descriptor}
 use Rattle.tk_events.specs.declared.events.Event.{Event}
 use Rattle.tk_record_columns.specs.Mixing.{IsWorkerOf}
 use Rattle.tk_queue_core.specs.Limits.{most_workers, worker_slots}

@@ -1,6 +1,6 @@
 -- Words for the steps of reading a replay text.
 use Rattle.std.specs.Prelude.{◌≡◌, ◌≢◌, ◌+◌, ◌⊎◌, ℕ, List, [], ◌∷◌, ◌++◌, length}
-use Rattle.tk_ids.specs.declared.tables.Descriptor.{Descriptor}
+use Rattle.tk_ids.specs.declared.descriptors.Descriptor.{Descriptor}
 use Rattle.tk_events.specs.declared.events.Entry.{Entry}
 use Rattle.tk_record.specs.Text.{with_line_feed, nodes_text, entries_text, AreNodes}
 use Rattle.tk_record.specs.Path.{LacksNodeStart}

@@ -1,7 +1,7 @@
 -- What a record says of ids, whoever emitted it, under whatever key and when.
 use Rattle.std.specs.Prelude.{ℕ, Bool, ◌==◌, List, [], map, Option, Some, None, bytes_eq}
-use Rattle.tk_ids.specs.IdText.{Pair, id_text}
-use Rattle.tk_ids.specs.declared.tables.Descriptor.{Descriptor}
+use Rattle.tk_ids.specs.IdText.{SegmentView, id_text}
+use Rattle.tk_ids.specs.declared.descriptors.Descriptor.{Descriptor}
 use Rattle.tk_events.specs.declared.kinds.Kind.{Kind}
 use Rattle.tk_events.specs.declared.payloads.Payload.{Payload}
 use Rattle.tk_events.specs.declared.events.Event.{Event}
@@ -12,19 +12,19 @@ use Rattle.tk_record_columns.specs.Entries.{desc}
 
 -- an event without its worker, its key and its stamp, with the id of its descriptor
 pub record Label : Type 0 where
-  pub id : List Pair
+  pub id : List SegmentView
   pub kind : Kind
   pub payload : Payload
 
-abbrev pub id_in : Option Descriptor → List Pair
+abbrev pub id_in : Option Descriptor → List SegmentView
 id_in None = []
 id_in (Some d) = d.id
 
 -- the id of the descriptor of a key
-abbrev pub name : Recorded → ℕ → List Pair
+abbrev pub name : Recorded → ℕ → List SegmentView
 name r key = id_in (desc r key)
 
-abbrev pub label : (ℕ → List Pair) → Event → Label
+abbrev pub label : (ℕ → List SegmentView) → Event → Label
 label names e = record { id = names e.key; kind = e.kind; payload = e.payload }
 
 abbrev pub events : List Entry → List Event
@@ -34,7 +34,7 @@ abbrev pub labels : Recorded → List Label
 labels r = map (label (name r)) (events r.entries)
 
 -- whether two ids are one, which their texts say
-unfoldable pub same_id : List Pair → List Pair → Bool
+unfoldable pub same_id : List SegmentView → List SegmentView → Bool
 same_id a b = bytes_eq (id_text a) (id_text b)
 
 abbrev pub same_kind : Kind → Kind → Bool

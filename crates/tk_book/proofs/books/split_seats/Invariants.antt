@@ -1,5 +1,5 @@
 use Rattle.std.proofs.Common.{◌≡◌, ◌+◌, ◌-◌, length, replicate, [], None, All}
-use Rattle.tk_book.specs.Books.{book_name, empty}
+use Rattle.tk_book.specs.Books.{book_view, empty}
 use Rattle.tk_book.specs.LockWord.{seat_note}
 use Rattle.tk_book.proofs.books.split_seats.Given as goal
 
@@ -8,5 +8,5 @@ invariant-loop l = record {
   table : l.first.table_id ≡ l.table.shared.table_id;
   me : l.first.me ≡ (seat_note l.table.shared.key (replicate (l.count + 1 - l.counter) None) [], []);
   dealt : length l.all.items + 1 ≡ l.counter;
-  empty_seats : All (λ s. s ≡ empty (book_name l.table.shared.table_id l.table.shared.key)) l.all.items;
+  empty_seats : All (λ s. s ≡ empty (book_view l.table.shared.table_id l.table.shared.key)) l.all.items;
 }

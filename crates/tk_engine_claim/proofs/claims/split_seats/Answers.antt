@@ -5,15 +5,15 @@ use Rattle.atomic_table.specs.Table.{Me}
 use Rattle.atomic_table.specs.declared.shared.Seat.{Seat}
 use Rattle.tk_engine_claim.specs.declared.rules.ClaimLimits.{ClaimLimits}
 use Rattle.tk_engine_claim.specs.declared.rules.Drawn.{Drawn}
-use Rattle.tk_engine_claim.specs.Claims.{Claimant, fresh}
-use Rattle.tk_engine_claim.specs.ClaimViews.{claim_name, claimant_of}
+use Rattle.tk_engine_claim.specs.Claims.{ClaimSeatView, fresh}
+use Rattle.tk_engine_claim.specs.ClaimViews.{claim_view, seat_view_of}
 use Rattle.tk_engine_claim.specs.Drawing.{drawn}
 use Rattle.tk_engine_claim.proofs.Drawing.{splits}
 use Rattle.tk_engine_claim.proofs.claims.split_seats.Goals as goal
 
 -- a seat that drew nothing
 undrawn : (seat : Seat (Unit {0}) Drawn) (table : TableId) (key : ClaimLimits) (parts : ℕ) → seat.table_id ≡ table → seat.me ≡ (drawn key parts 0 [], [])
-    → claimant_of record { seat = seat; spent = false } ≡ fresh (claim_name table key)
+    → seat_view_of record { seat = seat; spent = false } ≡ fresh (claim_view table key)
 undrawn seat table key parts at me = rw (at, me)
 
 pub split_seat-seat-requires : goal.split_seat-seat-requires
@@ -32,7 +32,7 @@ loop-preserved c =
       me = cut.2 ∙ ap (λ (parts : ℕ). (drawn key parts 0 [], [])) fewer;
       dealt = omega (arith, c.in_ok-push.ensures.len);
       fresh_seats = rw c.in_ok-push.ensures.items
-          (All-push (λ (s : Claimant). s ≡ fresh (claim_name table key)) _ _ held.fresh_seats (undrawn c.split_seat-seat.result table key 1 (cut.3 ∙ held.table) cut.4));
+          (All-push (λ (s : ClaimSeatView). s ≡ fresh (claim_view table key)) _ _ held.fresh_seats (undrawn c.split_seat-seat.result table key 1 (cut.3 ∙ held.table) cut.4));
     }
 
 pub returns : goal.returns
@@ -42,5 +42,5 @@ returns c =
     let table = c.args.table.now.shared.table_id in (
       omega (arith, c.in_ok-push-2.ensures.len),
       rw c.in_ok-push-2.ensures.items
-          (All-push (λ (s : Claimant). s ≡ fresh (claim_name table key)) _ _ held.fresh_seats (undrawn c.loop.first table key _ held.table held.me)),
+          (All-push (λ (s : ClaimSeatView). s ≡ fresh (claim_view table key)) _ _ held.fresh_seats (undrawn c.loop.first table key _ held.table held.me)),
     )

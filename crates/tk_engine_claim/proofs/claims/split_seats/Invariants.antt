@@ -1,6 +1,6 @@
 use Rattle.std.proofs.Common.{◌≡◌, ◌+◌, ◌-◌, length, [], All}
 use Rattle.tk_engine_claim.specs.Claims.{fresh}
-use Rattle.tk_engine_claim.specs.ClaimViews.{claim_name}
+use Rattle.tk_engine_claim.specs.ClaimViews.{claim_view}
 use Rattle.tk_engine_claim.specs.Drawing.{drawn}
 use Rattle.tk_engine_claim.proofs.claims.split_seats.Given as goal
 
@@ -9,5 +9,5 @@ invariant-loop l = record {
   table : l.first.table_id ≡ l.table.shared.table_id;
   me : l.first.me ≡ (drawn l.table.shared.key (l.count + 1 - l.counter) 0 [], []);
   dealt : length l.all.items + 1 ≡ l.counter;
-  fresh_seats : All (λ s. s ≡ fresh (claim_name l.table.shared.table_id l.table.shared.key)) l.all.items;
+  fresh_seats : All (λ s. s ≡ fresh (claim_view l.table.shared.table_id l.table.shared.key)) l.all.items;
 }

@@ -1,6 +1,6 @@
 use Rattle.std.proofs.Common.{◌≡◌, true, is_some, sym, ap, ◌∙◌, arith}
 use Rattle.tk_plan.specs.JsonValues.{view}
-use Rattle.tk_events.specs.declared.kinds.Status.TheVariants.{Successful}
+use Rattle.tk_events.specs.declared.statuses.Status.TheVariants.{Successful}
 use Rattle.tk_plan.specs.Pointers.{pointer}
 use Rattle.tk_plan.proofs.Passing.{refuses_whole}
 use Rattle.tk_plan.proofs.Results.{message_stands}

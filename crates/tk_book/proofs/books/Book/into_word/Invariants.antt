@@ -1,5 +1,5 @@
 use Rattle.std.proofs.Common.{◌≡◌, ◌++◌, vec_len, List, All}
-use Rattle.tk_book.specs.Books.{Holder}
+use Rattle.tk_book.specs.Books.{BookSeatView}
 use Rattle.tk_book.proofs.Gathering.{Gathered}
 use Rattle.tk_book.proofs.books.Book.into_word.Given as goal
 
@@ -7,7 +7,7 @@ abbrev pub invariant-loop-next : goal.invariant-loop-next
 invariant-loop-next l = record {
   table : l.seat.table_id ≡ l.table.shared.table_id;
   of_this : All (λ s. s.book ≡ l.fn.self) l.seats.items;
-  pooled : (all : List Holder) × (l.seats.items ++ all ≡ l.fn.seats.items) × Gathered all l.seat.me;
+  pooled : (all : List BookSeatView) × (l.seats.items ++ all ≡ l.fn.seats.items) × Gathered all l.seat.me;
 }
 
 abbrev pub decreases-loop-next : goal.decreases-loop-next

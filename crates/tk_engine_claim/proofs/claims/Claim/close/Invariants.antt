@@ -1,5 +1,5 @@
 use Rattle.std.proofs.Common.{◌≡◌, ◌++◌, vec_len, List, All}
-use Rattle.tk_engine_claim.specs.Claims.{Claimant}
+use Rattle.tk_engine_claim.specs.Claims.{ClaimSeatView}
 use Rattle.tk_engine_claim.proofs.Drawing.{Pooled}
 use Rattle.tk_engine_claim.proofs.claims.Claim.close.Given as goal
 
@@ -7,7 +7,7 @@ abbrev pub invariant-loop-next : goal.invariant-loop-next
 invariant-loop-next l = record {
   table : l.seat.table_id ≡ l.table.shared.table_id;
   of_this : All (λ s. s.claim ≡ l.fn.self) l.seats.items;
-  pooled : (all : List Claimant) × (l.seats.items ++ all ≡ l.fn.seats.items) × Pooled l.fn.self all l.seat.me;
+  pooled : (all : List ClaimSeatView) × (l.seats.items ++ all ≡ l.fn.seats.items) × Pooled l.fn.self all l.seat.me;
 }
 
 abbrev pub decreases-loop-next : goal.decreases-loop-next

@@ -1,6 +1,6 @@
 use Rattle.std.proofs.Common.{◌≡◌, ℕ, ◌-◌, ◌<◌, List, ◌++◌, length, take, get_or, sym, ap, ◌∙◌, subst, arith, rules}
 use Rattle.std.specs.Str.{IsUtf8}
-use Rattle.tk_ids.specs.IdText.{Pair, id_text, segment_text}
+use Rattle.tk_ids.specs.IdText.{SegmentView, id_text, segment_text}
 use Rattle.tk_ids.proofs.ParentLemmas.{IsAbove, above}
 use Rattle.tk_ids.proofs.ids.UniqueId.parent_text.Goals as goal
 use Rattle.tk_ids.proofs.ids.UniqueId.parent_text.Goals.{After-as_bytes-bytes}
@@ -13,7 +13,7 @@ here c =
     let some : 0 < length c.args.self.now = ok.0 in
     let at_len : length c.segments-segments.result.now ≡ length c.args.self.now = ap length all in
     let more : 1 < length c.args.self.now = grind arith in
-    let at : get_or c.args.self.now (length c.args.self.now - 1) x ≡ x = sym (c.index-segments-count.is ∙ ap (λ (l : List Pair). get_or l (length l - 1) x) all) in
+    let at : get_or c.args.self.now (length c.args.self.now - 1) x ≡ x = sym (c.index-segments-count.is ∙ ap (λ (l : List SegmentView). get_or l (length l - 1) x) all) in
     let text : c.as_bytes-bytes.result.now ≡ id_text c.args.self.now = c.as_bytes-bytes.ensures.value ∙ c.as_str.ensures ∙ c.as_text-text.ensures.text in
     let last : c.push_segment.new.out.items ≡ segment_text x = c.in_ok-push_segment.ensures.ok ∙ ap (λ (l : List ℕ). l ++ segment_text x) c.new-last.ensures.items in
     above c.args.self.now x c.as_bytes-bytes.result.now c.push_segment.new.out.items more ok c.as_text-text.ensures.fits text (last ∙ ap segment_text (sym at))

@@ -1,6 +1,6 @@
 use Rattle.std.proofs.Common.{arith}
 use Rattle.std.proofs.lemmas.Bool.Decides.{nat_tests}
-use Rattle.tk_ids.proofs.ids.Segment.new.Goals as goal
+use Rattle.tk_ids.proofs.segments.Segment.new.Goals as goal
 
 pub from_parts-requires-clause-tag : goal.from_parts-requires-clause-tag
 from_parts-requires-clause-tag c = rw c.in_ok-tag.ensures (grind (arith, nat_tests), c.utf8.tag)

@@ -1,0 +1,95 @@
+//! Segments of ids.
+ghost use Rattle.std.specs.Prelude.{◌≡◌, IfOk};
+
+use crate::id_faults::IdFault;
+use crate::texts::Text;
+use std::alloc::{AllocError, Global};
+use std::fmt;
+use std::marker::Model;
+use std::sync::Arc;
+
+/// What a segment keeps.
+#[derive(Drop)]
+struct SegmentTexts {
+    tag: Text,
+    value: Text,
+}
+
+/// One step of an id: a tag and a value, neither of them empty. Clones share both texts.
+#[derive(Drop)]
+pub struct Segment {
+    parts: Arc<SegmentTexts>,
+}
+
+impl Model for Segment {
+    ghost use Rattle.std.specs.Arc.{arc_value};
+    ghost use Rattle.tk_ids.specs.IdText.{SegmentView, IsNonEmptyText};
+
+    ghost Value = { SegmentView };
+
+    ghost view = { λ s. record
+        { tag = (arc_value s.parts).tag; value = (arc_value s.parts).value } };
+
+    ghost invariant = { λ s. IsNonEmptyText (arc_value s.parts).tag
+        × IsNonEmptyText (arc_value s.parts).value };
+}
+
+impl fmt::Debug for Segment {
+    fn fmt<W: fmt::Write>(&self, f: &mut fmt::Formatter<W>) -> fmt::Result {
+        write!(f, "Segment({:?}, {:?})", self.tag(), self.value())
+    }
+}
+
+impl Segment {
+    ghost use Rattle.tk_ids.specs.IdText.{IsNonEmptyText};
+    ghost use Rattle.tk_ids.specs.Answer.{IsSegmentOf};
+
+    pub(crate) fn from_parts(alloc: Global, tag: Text, value: Text) -> Result<Segment, AllocError>
+        requires tag { IsNonEmptyText tag }
+        requires value { IsNonEmptyText value }
+        ensures { IfOk result (λ s. s ≡ record { tag = tag; value = value }) }
+    {
+        Ok(Segment {
+            parts: Arc::new(alloc, SegmentTexts { tag, value })?,
+        })
+    }
+
+    /// Makes a segment of copies of `tag` and `value`, which stand without escapes.
+    ///
+    /// # Errors
+    /// `Empty` where one of them is empty, or `Memory`.
+    pub fn new(alloc: Global, tag: &str, value: &str) -> Result<Segment, IdFault>
+        ensures { IsSegmentOf tag.now value.now result }
+    {
+        if tag.is_empty() || value.is_empty() {
+            return Err(IdFault::Empty);
+        }
+        let (tag, value) = (Text::copy(alloc, tag)?, Text::copy(alloc, value)?);
+        Ok(Segment::from_parts(alloc, tag, value)?)
+    }
+
+    /// Another segment that shares the tag and the value.
+    pub fn try_clone(&self) -> Result<Segment, AllocError>
+        ensures { IfOk result (λ s. s ≡ self.now) }
+    {
+        Ok(Segment {
+            parts: Arc::try_clone(&self.parts)?,
+        })
+    }
+
+    /// The tag, without escapes.
+    pub fn tag(&self) -> &str
+        ensures value { result.now ≡ self.now.tag }
+        ensures partial { IsNonEmptyText result.now }
+    {
+        self.parts.tag.as_str()
+    }
+
+    /// The value, without escapes.
+    pub fn value(&self) -> &str
+        ensures value { result.now ≡ self.now.value }
+        ensures partial { IsNonEmptyText result.now }
+    {
+        self.parts.value.as_str()
+    }
+}
