@@ -13,7 +13,7 @@ use Rattle.tk_query.specs.Holds.{holds}
 use Rattle.tk_lanes.specs.Flags.{IsNextSet, IsNoneSet}
 use Rattle.tk_query.specs.Asked.{fits, AreLeft, HoldsOfSome}
 use Rattle.tk_query.specs.Keys.{HoldsWithin}
-use Rattle.tk_record_columns.specs.declared.selections.Rule.{Rule}
+use Rattle.tk_record_columns.specs.declared.selections.ColumnTest.{ColumnTest}
 use Rattle.tk_query.specs.Matches.{HoldsAt, IsFirstUnlike, IsFirstNowhere, HoldsSomewhere}
 use Rattle.tk_query.proofs.AskedLemmas.{AreFlags, asked_set, fits_clear, fits_set, map_get}
 use Rattle.tk_query.proofs.MaskLemmas.{and_true}
@@ -192,7 +192,7 @@ module _ (asked : Selected) (flags : List Bool) (are : AreFlags asked flags) (r 
   mask_tells (Some at) b next is = subst (HoldsOfSome asked c) (sym is) (at, set_fits at next.set)
 
 -- the candidates that pass a rule, and of them those of the events asked
-module _ (asked : Selected) (flags : List Bool) (are : AreFlags asked flags) (r : Recorded) (same : r ≡ asked.recorded) (c : Condition) (rule : Rule) (within : HoldsWithin rule r c) (candidates both : List Bool)
+module _ (asked : Selected) (flags : List Bool) (are : AreFlags asked flags) (r : Recorded) (same : r ≡ asked.recorded) (c : Condition) (rule : ColumnTest) (within : HoldsWithin rule r c) (candidates both : List Bool)
     (candidates_are : candidates ≡ map (passes rule r) r.entries) (both_is : both ≡ zip2 ◌&&◌ candidates flags) where
   left_at : (k : ℕ) → get_or both k false ≡ (get_or (map (passes rule r) r.entries) k false && get_or flags k false)
   left_at k = ap (λ l. get_or l k false) both_is ∙ zip_get candidates flags k ∙ ap (λ l. get_or l k false && get_or flags k false) candidates_are

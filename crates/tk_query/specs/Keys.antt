@@ -4,7 +4,7 @@ use Rattle.std.specs.List.{list_all}
 use Rattle.tk_events.specs.declared.events.Entry.{Entry}
 use Rattle.tk_record_columns.specs.Recorded.{Recorded}
 use Rattle.tk_record_columns.specs.Selections.{passes}
-use Rattle.tk_record_columns.specs.declared.selections.Rule.{Rule}
+use Rattle.tk_record_columns.specs.declared.selections.ColumnTest.{ColumnTest}
 use Rattle.tk_query_conditions.specs.declared.conditions.Condition.{Condition}
 use Rattle.tk_query.specs.Holds.{holds}
 
@@ -31,11 +31,11 @@ pub record AreAnswers (r : Recorded) (c : Condition) (answers : List (Option Boo
   pub answers_are : (e : Entry) (b : Bool) → get_or answers e.event.key None ≡ Some b → b ≡ holds r c e
 
 -- the condition holds only of entries that pass the rule
-pub record HoldsWithin (rule : Rule) (r : Recorded) (c : Condition) : Type 0 where
+pub record HoldsWithin (rule : ColumnTest) (r : Recorded) (c : Condition) : Type 0 where
   pub within : (e : Entry) → passes rule r e ≡ false → holds r c e ≡ false
 
 -- all of the conditions hold only of entries that pass the rule
-pub record AllHoldWithin (rule : Rule) (r : Recorded) (cs : List Condition) : Type 0 where
+pub record AllHoldWithin (rule : ColumnTest) (r : Recorded) (cs : List Condition) : Type 0 where
   pub all_within : (e : Entry) → passes rule r e ≡ false → list_all (λ c. holds r c e) cs ≡ false
 
 -- the condition holds only of entries at whose positions the flag is set

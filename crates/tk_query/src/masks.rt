@@ -10,7 +10,7 @@ use std::alloc::{AllocError, Global};
 use tk_events::{Kind, Status};
 use tk_lanes::Flags;
 use tk_query_conditions::Condition;
-use tk_record_columns::{Events, Record, Rule};
+use tk_record_columns::{ColumnTest, Events, Record};
 
 fn byte_of(flag: bool) -> u8
     ensures { result ≡ (if flag then 1 else 0) }
@@ -123,7 +123,7 @@ fn answer_among(
 fn rule_mask(
     alloc: Global,
     recording: &Record,
-    rule: Rule,
+    rule: ColumnTest,
     condition: &Condition,
 ) -> Result<Flags, AllocError>
     requires { HoldsWithin rule recording.now condition.now }
@@ -152,28 +152,53 @@ pub(crate) fn mask(
         flags ≡ map (holds recording.now condition.now) recording.now.entries) }
 {
     match condition {
-        Condition::Test => recording.flags(alloc, Rule::Test),
-        Condition::Container => recording.flags(alloc, Rule::Container),
+        Condition::Test => recording.flags(alloc, ColumnTest::Test),
+        Condition::Container => recording.flags(alloc, ColumnTest::Container),
         Condition::Engine | Condition::Id(_) | Condition::Name(_) => {
             key_mask(alloc, recording, keys, condition)
         }
-        Condition::Kind(kind) => recording.flags(alloc, Rule::OfKind(*kind)),
+        Condition::Kind(kind) => recording.flags(alloc, ColumnTest::OfKind(*kind)),
         Condition::Skipped(_) => {
-            rule_mask(alloc, recording, Rule::OfKind(Kind::Skipped), condition)
+            rule_mask(
+                alloc,
+                recording,
+                ColumnTest::OfKind(Kind::Skipped),
+                condition,
+            )
         }
-        Condition::Started => recording.flags(alloc, Rule::OfKind(Kind::Started)),
-        Condition::Succeeded => recording.flags(alloc, Rule::OfStatus(Status::Successful)),
-        Condition::Failed(None) => recording.flags(alloc, Rule::OfStatus(Status::Failed)),
+        Condition::Started => recording.flags(alloc, ColumnTest::OfKind(Kind::Started)),
+        Condition::Succeeded => recording.flags(alloc, ColumnTest::OfStatus(Status::Successful)),
+        Condition::Failed(None) => recording.flags(alloc, ColumnTest::OfStatus(Status::Failed)),
         Condition::Failed(Some(_)) => {
-            rule_mask(alloc, recording, Rule::OfStatus(Status::Failed), condition)
+            rule_mask(
+                alloc,
+                recording,
+                ColumnTest::OfStatus(Status::Failed),
+                condition,
+            )
         }
-        Condition::Aborted(None) => recording.flags(alloc, Rule::OfStatus(Status::Aborted)),
+        Condition::Aborted(None) => recording.flags(alloc, ColumnTest::OfStatus(Status::Aborted)),
         Condition::Aborted(Some(_)) => {
-            rule_mask(alloc, recording, Rule::OfStatus(Status::Aborted), condition)
+            rule_mask(
+                alloc,
+                recording,
+                ColumnTest::OfStatus(Status::Aborted),
+                condition,
+            )
         }
-        Condition::File(_) => rule_mask(alloc, recording, Rule::OfKind(Kind::File), condition),
+        Condition::File(_) => rule_mask(
+            alloc,
+            recording,
+            ColumnTest::OfKind(Kind::File),
+            condition,
+        ),
         Condition::Entry(_) => {
-            rule_mask(alloc, recording, Rule::OfKind(Kind::Reporting), condition)
+            rule_mask(
+                alloc,
+                recording,
+                ColumnTest::OfKind(Kind::Reporting),
+                condition,
+            )
         }
         Condition::All(members) => all_mask(alloc, recording, keys, members),
         Condition::Any(members) => any_mask(alloc, recording, keys, members),
@@ -230,7 +255,7 @@ pub fn select<'r>(
     ensures { IfOk result (λ kept.
         kept ≡ filtered_by (holds events.now.recorded condition.now) events.now) }
 {
-    let recording = events.recorded();
+    let recording = events.record();
     prove!(events.flags().len() == recording.len());
     let flags = mask(alloc, recording, &[], condition)?;
     Ok(events.intersect(flags))

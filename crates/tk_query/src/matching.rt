@@ -22,7 +22,7 @@ fn next_fit(events: &Events, condition: &Condition, from: usize) -> Option<usize
 {
     let mut low = from;
     'events: while let Some(position) = events.flags().first_from(low) {
-        if holds_at(events.recorded(), condition, position) {
+        if holds_at(events.record(), condition, position) {
             return Some(position);
         }
         low = position + 1;
@@ -45,7 +45,7 @@ pub fn match_exactly(
     let mut low = 0;
     let mut k = 0;
     'events: while let Some(position) = flags.first_from(low) {
-        if !holds_at(events.recorded(), &conditions[k], position) {
+        if !holds_at(events.record(), &conditions[k], position) {
             return Ok(Exact::No(k));
         }
         low = position + 1;
@@ -67,7 +67,7 @@ fn try_first(events: &Events, condition: &Condition) -> Option<bool>
         let Some(position) = events.flags().first_from(low) else {
             return Some(false);
         };
-        if holds_at(events.recorded(), condition, position) {
+        if holds_at(events.record(), condition, position) {
             return Some(true);
         }
         low = position + 1;
@@ -85,7 +85,7 @@ fn holds_among(events: &Events, candidates: &Flags, condition: &Condition) -> bo
 {
     let mut low = 0;
     'candidates: while let Some(position) = candidates.first_from(low) {
-        if holds_at(events.recorded(), condition, position) {
+        if holds_at(events.record(), condition, position) {
             return true;
         }
         low = position + 1;
@@ -104,7 +104,7 @@ fn try_rule(
     let Some(rule) = rule_of(condition) else {
         return Ok(None);
     };
-    let recording = events.recorded();
+    let recording = events.record();
     prove!(events.flags().len() == recording.len());
     let mut candidates = recording.flags(alloc, rule)?;
     candidates.and(events.flags());
@@ -124,7 +124,7 @@ fn try_mask(
     requires { AreKeys events.now.recorded keys.now }
     ensures { IfOk result (HoldsOfSome events.now condition.now) }
 {
-    let recording = events.recorded();
+    let recording = events.record();
     prove!(events.flags().len() == recording.len());
     let mut flags = mask(alloc, recording, keys, condition)?;
     flags.and(events.flags());
@@ -150,7 +150,7 @@ fn holds_of_some(
         return Ok(answer);
     }
     if keys.is_empty() {
-        *keys = keys_of(alloc, events.recorded())?;
+        *keys = keys_of(alloc, events.record())?;
     }
     try_mask(alloc, events, keys, condition)
 }

@@ -79,7 +79,7 @@ pub fn executions(alloc: Global, events: &Events) -> Result<Executions, AllocErr
     let mut next = 0;
     'events: while let Some(position) = events.flags().first_from(next) {
         next = position + 1;
-        let Some(step) = step_at(events.recorded(), position) else {
+        let Some(step) = step_at(events.record(), position) else {
             continue;
         };
         match take_step(alloc, &mut starts, step, position)? {

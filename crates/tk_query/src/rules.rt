@@ -5,23 +5,23 @@ ghost use Rattle.tk_query.specs.Keys.{AllHoldWithin, HoldsWithin};
 
 use tk_events::{Kind, Status};
 use tk_query_conditions::Condition;
-use tk_record_columns::Rule;
+use tk_record_columns::ColumnTest;
 
 /// A rule on kinds or statuses that each event passes of which the condition holds, where the
 /// condition or a member of its `all` names one.
 #[cycle(rules)]
-pub(crate) fn rule_of(condition: &Condition) -> Option<Rule>
+pub(crate) fn rule_of(condition: &Condition) -> Option<ColumnTest>
     ensures { IfSome result (λ rule. (r : Recorded) → HoldsWithin rule r condition.now) }
 {
     match condition {
-        Condition::Kind(kind) => Some(Rule::OfKind(*kind)),
-        Condition::Skipped(_) => Some(Rule::OfKind(Kind::Skipped)),
-        Condition::Started => Some(Rule::OfKind(Kind::Started)),
-        Condition::Succeeded => Some(Rule::OfStatus(Status::Successful)),
-        Condition::Failed(_) => Some(Rule::OfStatus(Status::Failed)),
-        Condition::Aborted(_) => Some(Rule::OfStatus(Status::Aborted)),
-        Condition::File(_) => Some(Rule::OfKind(Kind::File)),
-        Condition::Entry(_) => Some(Rule::OfKind(Kind::Reporting)),
+        Condition::Kind(kind) => Some(ColumnTest::OfKind(*kind)),
+        Condition::Skipped(_) => Some(ColumnTest::OfKind(Kind::Skipped)),
+        Condition::Started => Some(ColumnTest::OfKind(Kind::Started)),
+        Condition::Succeeded => Some(ColumnTest::OfStatus(Status::Successful)),
+        Condition::Failed(_) => Some(ColumnTest::OfStatus(Status::Failed)),
+        Condition::Aborted(_) => Some(ColumnTest::OfStatus(Status::Aborted)),
+        Condition::File(_) => Some(ColumnTest::OfKind(Kind::File)),
+        Condition::Entry(_) => Some(ColumnTest::OfKind(Kind::Reporting)),
         Condition::All(members) => rule_of_all(members),
         _ => None,
     }
@@ -29,7 +29,7 @@ pub(crate) fn rule_of(condition: &Condition) -> Option<Rule>
 
 /// The first rule that a member implies.
 #[cycle(rules)]
-fn rule_of_all(members: &[Condition]) -> Option<Rule>
+fn rule_of_all(members: &[Condition]) -> Option<ColumnTest>
     ensures { IfSome result (λ rule. (r : Recorded) → AllHoldWithin rule r members.now) }
 {
     for member in members {

@@ -49,17 +49,17 @@ impl<'r> LinesById<'r> {
     fn index_of_key(
         &mut self,
         alloc: Global,
-        recording: &'r Record,
+        record: &'r Record,
         key: u32,
     ) -> Result<usize, AllocError>
-        requires grouped { IsGrouped recording.now self.old }
-        requires known { is_some (desc recording.now key) ≡ true }
-        ensures { IfOk result (IndexesKey recording.now self.old self.new key) }
+        requires grouped { IsGrouped «record».now self.old }
+        requires known { is_some (desc «record».now key) ≡ true }
+        ensures { IfOk result (IndexesKey «record».now self.old self.new key) }
     {
         if let Some(index) = self.keys.get(&key) {
             return Ok(*index);
         }
-        let Some(descriptor) = recording.describe(key) else {
+        let Some(descriptor) = record.describe(key) else {
             unreachable!()
         };
         let id = descriptor.id.as_text().as_str();
@@ -72,29 +72,26 @@ impl<'r> LinesById<'r> {
     fn add(
         &mut self,
         alloc: Global,
-        recording: &'r Record,
+        record: &'r Record,
         view: &EntryView<'_>,
     ) -> Result<(), AllocError>
-        requires grouped { IsGrouped recording.now self.old }
-        requires known { is_some (desc recording.now view.now.key) ≡ true }
-        ensures { OnOk result (AddsEvent recording.now self.old self.new view.now) }
+        requires grouped { IsGrouped «record».now self.old }
+        requires known { is_some (desc «record».now view.now.key) ≡ true }
+        ensures { OnOk result (AddsEvent «record».now self.old self.new view.now) }
     {
-        let index = self.index_of_key(alloc, recording, view.key)?;
+        let index = self.index_of_key(alloc, record, view.key)?;
         self.lines[index].add(view)
     }
 }
 
 /// The lines of each id that has an event.
-pub(crate) fn lines_of<'r>(
-    alloc: Global,
-    recording: &'r Record,
-) -> Result<LinesById<'r>, AllocError>
-    ensures { IfOk result (IsKept (labels recording.now)) }
+pub(crate) fn lines_of<'r>(alloc: Global, record: &'r Record) -> Result<LinesById<'r>, AllocError>
+    ensures { IfOk result (IsKept (labels «record».now)) }
 {
-    recording.is_record();
+    record.shows_record();
     let mut kept = LinesById::new(alloc);
-    'entries: for view in recording.iter() {
-        kept.add(alloc, recording, &view)?;
+    'entries: for view in record.iter() {
+        kept.add(alloc, record, &view)?;
     }
     Ok(kept)
 }

@@ -4,7 +4,7 @@ use Rattle.std.specs.Prelude.{bytes_eq}
 use Rattle.std.proofs.lemmas.Result.{err_from_is_err_and}
 use Rattle.tk_ids.specs.IdText.{id_text}
 use Rattle.tk_events.specs.declared.kinds.Kind.TheVariants as kind
-use Rattle.tk_record_columns.specs.declared.selections.Rule.TheVariants as rule
+use Rattle.tk_record_columns.specs.declared.selections.ColumnTest.TheVariants as rule
 use Rattle.tk_record_columns.specs.Entries.{desc}
 use Rattle.tk_query_conditions.specs.declared.conditions.Condition as condition
 use Rattle.tk_query.specs.Holds.{holds, has_descriptor, has_within, has_reason, has_path, is_engine, pairs_list, reports}

@@ -7,14 +7,14 @@ returns-then-holds_at c =
     let asked = c.args.events.now in
     let position = c.in-Some.position in
     let stands = c.requires.there position c.in-Some.ensures.value.set in
-    (position, fits_there asked c.recorded.result.now c.recorded.ensures c.args.condition.now position c.holds_at.result stands c.holds_at.ensures ∙ c.if-holds_at.true)
+    (position, fits_there asked c.«record».result.now c.«record».ensures c.args.condition.now position c.holds_at.result stands c.holds_at.ensures ∙ c.if-holds_at.true)
 
 pub candidates-preserved : goal.candidates-preserved
 candidates-preserved c =
     let asked = c.args.events.now in
     let position = c.in-Some.position in
     let set = c.in-Some.ensures.value in
-    let here = fits_there asked c.recorded.result.now c.recorded.ensures c.args.condition.now position c.holds_at.result (c.requires.there position set.set) c.holds_at.ensures in
+    let here = fits_there asked c.«record».result.now c.«record».ensures c.args.condition.now position c.holds_at.result (c.requires.there position set.set) c.holds_at.ensures in
     none_more asked c.args.condition.now c.args.candidates.now c.requires.others 0 c.candidates.low position c.candidates.invariant set (here ∙ c.if-holds_at.false)
 
 pub returns : goal.returns

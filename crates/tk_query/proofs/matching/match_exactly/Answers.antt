@@ -23,14 +23,14 @@ returns-then-not-holds_at c =
     let asked = is_asked c.args.events.now c.flags-flags.result.now c.flags-flags.ensures.size c.args.conditions.now c.events.k c.events.low c.events.invariant c.in-Some.position c.in-Some.ensures.value in (
       omega arith,
       matched_no c.args.events.now c.flags-flags.result.now c.flags-flags.ensures.size c.args.conditions.now c.events.k c.events.low c.events.invariant c.in-Some.position c.in-Some.ensures.value
-          c.recorded.result.now c.recorded.ensures c.index-conditions-k.result c.index-conditions-k.is (omega arith) c.holds_at.result c.holds_at.ensures c.if-not-holds_at.true,
+          c.«record».result.now c.«record».ensures c.index-conditions-k.result c.index-conditions-k.is (omega arith) c.holds_at.result c.holds_at.ensures c.if-not-holds_at.true,
     )
 
 pub events-preserved : goal.events-preserved
 events-preserved c =
     let asked = is_asked c.args.events.now c.flags-flags.result.now c.flags-flags.ensures.size c.args.conditions.now c.events.k c.events.low c.events.invariant c.in-Some.position c.in-Some.ensures.value in
     matched_more c.args.events.now c.flags-flags.result.now c.flags-flags.ensures.size c.args.conditions.now c.events.k c.events.low c.events.invariant c.in-Some.position c.in-Some.ensures.value
-    c.recorded.result.now c.recorded.ensures c.index-conditions-k.result c.index-conditions-k.is (omega arith) c.holds_at.result c.holds_at.ensures c.if-not-holds_at.false
+    c.«record».result.now c.«record».ensures c.index-conditions-k.result c.index-conditions-k.is (omega arith) c.holds_at.result c.holds_at.ensures c.if-not-holds_at.false
 
 pub returns : goal.returns
 returns c = (

@@ -8,7 +8,7 @@ returns-then-holds_at-clause-fit c =
     let flags = c.flags.result.now in
     let are : AreFlags asked flags = record { kept = c.flags.ensures.kept } in
     let set = c.in-Some.ensures.value in
-    let here = fits_set asked flags are c.recorded.result.now c.recorded.ensures c.args.condition.now c.in-Some.position c.holds_at.result set.set c.holds_at.ensures in
+    let here = fits_set asked flags are c.«record».result.now c.«record».ensures c.args.condition.now c.in-Some.position c.holds_at.result set.set c.holds_at.ensures in
     next_is asked c.args.condition.now flags (fits_clear asked flags are c.args.condition.now) c.args.from c.events.low c.in-Some.position c.events.invariant set (here ∙ c.if-holds_at.true)
 
 pub events-preserved : goal.events-preserved
@@ -17,7 +17,7 @@ events-preserved c =
     let flags = c.flags.result.now in
     let are : AreFlags asked flags = record { kept = c.flags.ensures.kept } in
     let set = c.in-Some.ensures.value in
-    let here = fits_set asked flags are c.recorded.result.now c.recorded.ensures c.args.condition.now c.in-Some.position c.holds_at.result set.set c.holds_at.ensures in
+    let here = fits_set asked flags are c.«record».result.now c.«record».ensures c.args.condition.now c.in-Some.position c.holds_at.result set.set c.holds_at.ensures in
     none_more asked c.args.condition.now flags (fits_clear asked flags are c.args.condition.now) c.args.from c.events.low c.in-Some.position c.events.invariant set (here ∙ c.if-holds_at.false)
 
 pub returns-clause-fit : goal.returns-clause-fit

@@ -15,7 +15,7 @@ returns-then-holds_at c =
     let flags = c.flags.result.now in
     let are : AreFlags asked flags = record { kept = c.flags.ensures.kept } in
     let set = c.in-Some.ensures.value in
-    let here = fits_set asked flags are c.recorded.result.now c.recorded.ensures c.args.condition.now c.in-Some.position c.holds_at.result set.set c.holds_at.ensures in
+    let here = fits_set asked flags are c.«record».result.now c.«record».ensures c.args.condition.now c.in-Some.position c.holds_at.result set.set c.holds_at.ensures in
     (c.in-Some.position, here ∙ c.if-holds_at.true)
 
 pub loop-preserved : goal.loop-preserved
@@ -24,5 +24,5 @@ loop-preserved c =
     let flags = c.flags.result.now in
     let are : AreFlags asked flags = record { kept = c.flags.ensures.kept } in
     let set = c.in-Some.ensures.value in
-    let here = fits_set asked flags are c.recorded.result.now c.recorded.ensures c.args.condition.now c.in-Some.position c.holds_at.result set.set c.holds_at.ensures in
+    let here = fits_set asked flags are c.«record».result.now c.«record».ensures c.args.condition.now c.in-Some.position c.holds_at.result set.set c.holds_at.ensures in
     none_more asked c.args.condition.now flags (fits_clear asked flags are c.args.condition.now) 0 c.loop.low c.in-Some.position c.loop.invariant set (here ∙ c.if-holds_at.false)

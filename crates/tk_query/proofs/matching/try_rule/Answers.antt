@@ -7,5 +7,5 @@ holds_among-requires c =
     let asked = c.args.events.now in
     let flags = c.flags-3.result.now in
     let are : AreFlags asked flags = record { kept = c.flags-3.ensures.kept } in
-    let r = c.recorded-recording.result.now in
-    are_left asked flags are r c.recorded-recording.ensures c.args.condition.now c.in-Some.rule (c.in-Some.ensures r) c.in_ok-candidates.candidates c.and.new.self c.in_ok-candidates.ensures c.and.ensures
+    let r = c.record-recording.result.now in
+    are_left asked flags are r c.record-recording.ensures c.args.condition.now c.in-Some.rule (c.in-Some.ensures r) c.in_ok-candidates.candidates c.and.new.self c.in_ok-candidates.ensures c.and.ensures

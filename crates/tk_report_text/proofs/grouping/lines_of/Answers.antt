@@ -4,14 +4,14 @@ use Rattle.tk_report_text.proofs.grouping.lines_of.Goals as goal
 
 pub entries-init : goal.entries-init
 entries-init c =
-    gathers_none c.args.recording.now c.new-kept.result c.into_iter-view-iterator.result c.new-kept.ensures.ids c.new-kept.ensures.keys
-    (c.into_iter-view-iterator.ensures.into_iter_gives ∙ c.iter-view-items.ensures) c.is_record.ensures.known
+    gathers_none c.args.«record».now c.new-kept.result c.into_iter-view-iterator.result c.new-kept.ensures.ids c.new-kept.ensures.keys
+    (c.into_iter-view-iterator.ensures.into_iter_gives ∙ c.iter-view-items.ensures) c.shows_record.ensures.known
 
 pub add-requires-clause-known : goal.add-requires-clause-known
-add-requires-clause-known c = next_known c.args.recording.now c.entries.kept c.entries.view-iterator c.next.new.self c.in-Some.view c.entries.invariant c.in-Some.ensures.steps
+add-requires-clause-known c = next_known c.args.«record».now c.entries.kept c.entries.view-iterator c.next.new.self c.in-Some.view c.entries.invariant c.in-Some.ensures.steps
 
 pub entries-preserved : goal.entries-preserved
-entries-preserved c = gathers_next c.args.recording.now c.entries.kept c.add.new.self c.entries.view-iterator c.next.new.self c.in-Some.view c.entries.invariant c.in-Some.ensures.steps c.in_ok-add.ensures
+entries-preserved c = gathers_next c.args.«record».now c.entries.kept c.add.new.self c.entries.view-iterator c.next.new.self c.in-Some.view c.entries.invariant c.in-Some.ensures.steps c.in_ok-add.ensures
 
 pub returns : goal.returns
-returns c = gathers_all c.args.recording.now c.entries.kept c.entries.view-iterator c.entries.invariant c.in-None.ensures.steps.0
+returns c = gathers_all c.args.«record».now c.entries.kept c.entries.view-iterator c.entries.invariant c.in-None.ensures.steps.0

@@ -2,4 +2,4 @@ use Rattle.tk_report_text.proofs.Keeping.{Gathers}
 use Rattle.tk_report_text.proofs.grouping.lines_of.Given as goal
 
 abbrev pub invariant-entries : goal.invariant-entries
-invariant-entries l = Gathers l.recording l.kept l.view-iterator
+invariant-entries l = Gathers l.«record» l.kept l.view-iterator

@@ -12,7 +12,7 @@ returns c =
     let t = joined (tail c.args.view.now.kind c.args.view.now.payload.now) in
     let within : i < length lines = c.in_ok-index.ensures.grouped.below _ i c.in_ok-index.ensures.index in
     on_ok c.add.result
-    (λ added. line_added c.args.recording.now c.args.self.now c.index_of_key.new.self _ c.args.view.now i t c.add.new.self
+    (λ added. line_added c.args.«record».now c.args.self.now c.index_of_key.new.self _ c.args.view.now i t c.add.new.self
     c.in_ok-index.ensures refl
     (added ∙ ap (λ l. l ++ tail_line t) (c.index_mut.ensures.value ∙ get_or_default lines i c.index_mut.result.now [] within)) refl)
     c.add.ensures
