@@ -4,7 +4,7 @@ use Rattle.std.proofs.lemmas.List.Sums.{sum_by-cons}
 use Rattle.std.proofs.lemmas.List.Elements.{All-head, All-tail}
 use Rattle.atomic_table.specs.Table.{Me}
 use Rattle.tk_book.specs.NeedView.{NeedView}
-use Rattle.tk_book.specs.Held.{held_word}
+use Rattle.tk_book.specs.Holdings.{held_word}
 use Rattle.tk_book.specs.Books.{BookSeatView}
 use Rattle.tk_book.specs.BookViews.{seat_view_of, IsHolder}
 use Rattle.tk_book.specs.LockWord.{seat_note}

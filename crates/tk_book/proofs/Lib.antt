@@ -3,6 +3,7 @@ pub mod Agreeing
 pub mod Masks
 pub mod Turning
 pub mod Locking
+pub mod Trying
 pub mod Gathering
 pub mod Granting
 pub mod Writing

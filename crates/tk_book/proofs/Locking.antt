@@ -13,7 +13,7 @@ use Rattle.atomic_table.proofs.Lists.{exchanged}
 use Rattle.tk_lanes.specs.Lanes.{lane_at, Admits}
 use Rattle.tk_book.specs.NeedView.{NeedView}
 use Rattle.tk_book.specs.Needs.{lane, word_of}
-use Rattle.tk_book.specs.Held.{Lawful, held_lane, held_word}
+use Rattle.tk_book.specs.Holdings.{AreCompatible, held_lane, held_word}
 use Rattle.tk_book.specs.declared.rules.SeatNote.{SeatNote}
 use Rattle.tk_book.specs.LockWord.{seat_note, holdings, HoldingsFitWord, WordWasLoaded, WasExchanged, WasReleased}
 use Rattle.tk_book.proofs.Agreeing.{lanes_agree, sum_lane, word_lt, word_lane}
@@ -34,7 +34,7 @@ turned : (seats id : ℕ) (me : Me NeedView SeatNote) (w : SeatNote) (s : State 
 turned seats id me w s n kept at same_length word lanes = record {
   word = ap (λ (l : List ℕ). set l 0 n) kept.word ∙ ap (λ (k : ℕ). k ∷ []) word;
   lanes = lanes;
-  lawful = lanes_agree (holdings (set s.views id w)) lanes;
+  compatible = lanes_agree (holdings (set s.views id w)) lanes;
   count = (let e = length_turn held_of s.views id me.0 w at in let c = kept.count in omega arith);
 }
 
@@ -101,7 +101,7 @@ opens seats = let all : holdings (seat_note seats (replicate seats None) [] ∷ 
     let lanes : (r : ℕ) → r < 16 → lane_sum (seat_note seats (replicate seats None) [] ∷ []) r ≤ 15 = λ r lt. (let e = ap (sum_by (λ h. held_lane h r)) all in let z = none_sum (λ h. held_lane h r) refl seats in omega arith) in record {
       word = ap (λ (k : ℕ). k ∷ []) (sym (ap (sum_by held_word) all ∙ none_sum held_word refl seats));
       lanes = lanes;
-      lawful = lanes_agree (holdings (seat_note seats (replicate seats None) [] ∷ [])) lanes;
+      compatible = lanes_agree (holdings (seat_note seats (replicate seats None) [] ∷ [])) lanes;
       count = ap (λ (l : List (Option NeedView)). length l) all ∙ length-replicate seats None;
     }
 
@@ -115,7 +115,7 @@ splits seats id v k some_seat empty s kept at = let left = seat_note v.seats (re
     let lanes : (r : ℕ) → r < 16 → lane_sum (views ++ right ∷ []) r ≤ 15 = λ r lt. (let e = same (λ h. held_lane h r) refl in let b = kept.lanes r lt in omega arith) in record {
       word = kept.word ∙ ap (λ (n : ℕ). n ∷ []) (sym (same held_word refl));
       lanes = lanes;
-      lawful = lanes_agree (holdings (views ++ right ∷ [])) lanes;
+      compatible = lanes_agree (holdings (views ++ right ∷ [])) lanes;
       count = (let t = length_turn held_of s.views id v left at in let a = ap (λ (l : List (Option NeedView)). length l) whole in let p = length-append (holdings views) (None ∷ []) in
           let o = length-replicate {A = Option NeedView} (length v.held - 1) None in let m : length v.held ≡ k = ap (λ (l : List (Option NeedView)). length l) empty ∙ length-replicate k None in let c = kept.count in omega arith);
     }
@@ -128,13 +128,13 @@ joins seats id v other w s kept at ne there = let both = seat_note v.seats (w.he
     let lanes : (r : ℕ) → r < 16 → lane_sum (set views other left) r ≤ 15 = λ r lt. (let e = same (λ h. held_lane h r) in let b = kept.lanes r lt in omega arith) in record {
       word = kept.word ∙ ap (λ (n : ℕ). n ∷ []) (sym (same held_word));
       lanes = lanes;
-      lawful = lanes_agree (holdings (set views other left)) lanes;
+      compatible = lanes_agree (holdings (set views other left)) lanes;
       count = (let t = length_turn held_of s.views id v both at in let u = length_turn held_of views other w left there in let p = length-append w.held v.held in let c = kept.count in omega arith);
     }
 
 -- the view of all seats knows in the end what the word is
-pub into_word_steps : (seats id : ℕ) (v : SeatNote) (words : List ℕ) (slots : List NeedView) (n : ℕ) → Final (Seen (HoldingsFitWord seats) id v) words slots → length v.held ≡ seats → get_elem? words 0 ≡ maybe.some n → (n ≡ sum_by held_word v.held) × Lawful v.held
+pub into_word_steps : (seats id : ℕ) (v : SeatNote) (words : List ℕ) (slots : List NeedView) (n : ℕ) → Final (Seen (HoldingsFitWord seats) id v) words slots → length v.held ≡ seats → get_elem? words 0 ≡ maybe.some n → (n ≡ sum_by held_word v.held) × AreCompatible v.held
 into_word_steps seats id v words slots n final whole found = let s = final.0 in let kept = final.1.0 in let at = final.1.1 in
     let all : holdings s.views ≡ v.held = flat_lone held_of s.views id v at (kept.count ∙ sym whole) in
     let is : word_sum s.views ≡ n = some-injective (word_sum s.views) n (ap (λ (l : List ℕ). get_elem? l 0) (sym kept.word ∙ final.2) ∙ found) in
-    (sym is ∙ ap (sum_by held_word) all, subst Lawful all kept.lawful)
+    (sym is ∙ ap (sum_by held_word) all, subst AreCompatible all kept.compatible)

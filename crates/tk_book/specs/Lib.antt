@@ -2,7 +2,7 @@ pub use Rattle.tk_lanes.specs.Lanes
 pub mod NeedView
 pub mod Words
 pub mod Needs
-pub mod Held
+pub mod Holdings
 pub mod Books
 pub mod BookViews
 pub mod LockWord

@@ -4,7 +4,7 @@ use mathlib.Core.Option as maybe
 use Rattle.atomic_table.specs.Table.{State, Me, Step}
 use Rattle.tk_lanes.specs.Lanes.{lane_at}
 use Rattle.tk_book.specs.NeedView.{NeedView}
-use Rattle.tk_book.specs.Held.{Lawful, held_lane, held_word}
+use Rattle.tk_book.specs.Holdings.{AreCompatible, held_lane, held_word}
 use Rattle.tk_book.specs.declared.rules.SeatNote.{SeatNote}
 
 abbrev pub seat_note : ℕ → List (Option NeedView) → List ℕ → SeatNote
@@ -19,7 +19,7 @@ holdings views = flat_map (λ v. v.held) views
 pub record HoldingsFitWord (seats : ℕ) (s : State NeedView SeatNote) : Type 0 where
   pub word : s.words ≡ sum_by held_word (holdings s.views) ∷ []
   pub lanes : (r : ℕ) → r < 16 → sum_by (λ h. held_lane h r) (holdings s.views) ≤ 15
-  pub lawful : Lawful (holdings s.views)
+  pub compatible : AreCompatible (holdings s.views)
   pub count : length (holdings s.views) ≡ seats
 
 -- the seat read one word more, the one that was found, and its lanes are at least the seat's own

@@ -1,17 +1,48 @@
--- What the steps of a book do to what its seats hold. `holds` is the rule of the book's word, and
--- `outcome` relates a step to what the word and the seat are before and after it.
-use Rattle.std.specs.Prelude.{◌≡◌, ◌≢◌, ℕ, ◌<◌, ◌≤◌, List, [], ◌∷◌, None, Some, length, sum_by, take, slice_set}
+-- What the steps of a book do to what its seats hold. In each fact `holds` is the rule of the
+-- book's word, and `outcome` is what a step shows of the word that it finds and of the seat.
+use Rattle.std.specs.Prelude.{◌≡◌, ◌≢◌, ℕ, ◌<◌, ◌≤◌, List, [], ◌∷◌, Option, None, Some, length, sum_by, take, slice_set}
 use mathlib.Core.Option.{none, some}
 use lib.ListN.{get_elem?}
 use Rattle.atomic_table.specs.Table.{State, Me, Step, Act, step, stepped, carried_after}
 use Rattle.tk_book.specs.NeedView.{NeedView}
-use Rattle.tk_book.specs.Held.{Lawful, Grants, Releases, held_lane, held_word}
+use Rattle.tk_book.specs.Holdings.{AreCompatible, Grants, Releases, held_lane, held_word}
 use Rattle.tk_book.specs.LockWord.{holdings}
 use Rattle.tk_book.specs.declared.rules.SeatNote.{SeatNote}
 
--- where the seat stands among all seats
-abbrev pub holding_index : List SeatNote → ℕ → ℕ
-holding_index views id = length (holdings (take id views))
+-- A step of one seat: the book's word and the notes of all its seats before the step, what the seat
+-- knows before it, and the seat's note after it. A book's table has no slots of its own, but the
+-- rule of any table speaks of them: `slots` is their number, `act` what the step does with them.
+pub record SeatStep : Type 0 where
+  pub seats : ℕ
+  pub state : State NeedView SeatNote
+  pub seat : ℕ
+  pub before : Me NeedView SeatNote
+  pub note : SeatNote
+  pub slots : ℕ
+  pub act : Act NeedView
+
+-- what the seat knows after the step
+abbrev pub after : SeatStep → Me NeedView SeatNote
+after t = (t.note, carried_after t.before.1 t.act)
+
+-- what all seats hold before the step
+abbrev pub held_before : SeatStep → List (Option NeedView)
+held_before t = holdings t.state.views
+
+-- what all seats hold after the step
+abbrev pub held_after : SeatStep → List (Option NeedView)
+held_after t = holdings (slice_set t.state.views t.seat t.note)
+
+-- the place of the seat's need in the list of what all seats hold
+abbrev pub holding_index : SeatStep → ℕ
+holding_index t = length (holdings (take t.seat t.state.views))
+
+-- the rule holds before the step, which finds this word, and the seat's note is that of the state
+pub record FindsWord (holds : ℕ → State NeedView SeatNote → Type 0) (t : SeatStep) (found : ℕ)
+    : Type 0 where
+  pub rule : holds t.seats t.state
+  pub note : get_elem? t.state.views t.seat ≡ some t.before.0
+  pub word : t.state.words ≡ found ∷ []
 
 -- Between any two steps the word is the sum of the words of what the seats hold, no lane's sum is
 -- above 15, and no two seats' needs conflict.
@@ -19,49 +50,41 @@ abbrev pub IsSumOfHoldings : (ℕ → State NeedView SeatNote → Type 0) → Ty
 IsSumOfHoldings holds = (seats : ℕ) (s : State NeedView SeatNote) → holds seats s
     → (s.words ≡ sum_by held_word (holdings s.views) ∷ [])
     × ((r : ℕ) → r < 16 → sum_by (λ h. held_lane h r) (holdings s.views) ≤ 15)
-    × Lawful (holdings s.views)
+    × AreCompatible (holdings s.views)
 
 -- an exchange that finds the word that it expects is a grant of the need that it was given
 abbrev pub ExchangeIsGrant :
     (ℕ → State NeedView SeatNote → Type 0) →
     (Step NeedView → Me NeedView SeatNote → ℕ → Me NeedView SeatNote → Type 0) → Type 0
-ExchangeIsGrant holds outcome =
-    (seats slots id old new : ℕ) (n : NeedView) (me : Me NeedView SeatNote)
-    (s : State NeedView SeatNote) (w : SeatNote) (a : Act NeedView)
-    → holds seats s → get_elem? s.views id ≡ some me.0 → me.0.held ≡ None ∷ [] → s.words ≡ old ∷ []
-    → holds seats (stepped s 0 new id me.1 w a)
-    → outcome (step slots 0 old new (some n)) me old (w, carried_after me.1 a)
-    → Grants (holdings s.views) (holding_index s.views id) n (holdings (slice_set s.views id w))
+ExchangeIsGrant holds outcome = (t : SeatStep) (n : NeedView) (expected next : ℕ)
+    → FindsWord holds t expected → t.before.0.held ≡ None ∷ []
+    → holds t.seats (stepped t.state 0 next t.seat t.before.1 t.note t.act)
+    → outcome (step t.slots 0 expected next (some n)) t.before expected (after t)
+    → Grants (held_before t) (holding_index t) n (held_after t)
 
 -- an exchange that finds another word changes nothing of what the seats hold
 abbrev pub FailureIsNone :
     (ℕ → State NeedView SeatNote → Type 0) →
     (Step NeedView → Me NeedView SeatNote → ℕ → Me NeedView SeatNote → Type 0) → Type 0
-FailureIsNone holds outcome =
-    (seats slots id old new x : ℕ) (n : NeedView) (me : Me NeedView SeatNote)
-    (s : State NeedView SeatNote) (w : SeatNote) (a : Act NeedView)
-    → holds seats s → get_elem? s.views id ≡ some me.0 → s.words ≡ x ∷ [] → x ≢ old
-    → outcome (step slots 0 old new (some n)) me x (w, carried_after me.1 a)
-    → holdings (slice_set s.views id w) ≡ holdings s.views
+FailureIsNone holds outcome = (t : SeatStep) (n : NeedView) (expected next found : ℕ)
+    → FindsWord holds t found → found ≢ expected
+    → outcome (step t.slots 0 expected next (some n)) t.before found (after t)
+    → held_after t ≡ held_before t
 
 -- a load changes nothing of what the seats hold
 abbrev pub LoadIsNone :
     (ℕ → State NeedView SeatNote → Type 0) →
     (Step NeedView → Me NeedView SeatNote → ℕ → Me NeedView SeatNote → Type 0) → Type 0
-LoadIsNone holds outcome =
-    (seats slots id x : ℕ) (me : Me NeedView SeatNote) (s : State NeedView SeatNote)
-    (w : SeatNote) (a : Act NeedView)
-    → holds seats s → get_elem? s.views id ≡ some me.0 → s.words ≡ x ∷ []
-    → outcome (step slots 0 0 0 none) me x (w, carried_after me.1 a)
-    → holdings (slice_set s.views id w) ≡ holdings s.views
+LoadIsNone holds outcome = (t : SeatStep) (found : ℕ)
+    → FindsWord holds t found
+    → outcome (step t.slots 0 0 0 none) t.before found (after t)
+    → held_after t ≡ held_before t
 
 -- a subtraction is a release of what the seat holds
 abbrev pub SubtractionIsRelease :
     (ℕ → State NeedView SeatNote → Type 0) →
     (Step NeedView → Me NeedView SeatNote → ℕ → Me NeedView SeatNote → Type 0) → Type 0
-SubtractionIsRelease holds outcome =
-    (seats slots id k x : ℕ) (n : NeedView) (me : Me NeedView SeatNote)
-    (s : State NeedView SeatNote) (w : SeatNote) (a : Act NeedView)
-    → holds seats s → get_elem? s.views id ≡ some me.0 → me.0.held ≡ Some n ∷ [] → s.words ≡ x ∷ []
-    → outcome (step slots 0 k 0 none) me x (w, carried_after me.1 a)
-    → Releases (holdings s.views) (holding_index s.views id) n (holdings (slice_set s.views id w))
+SubtractionIsRelease holds outcome = (t : SeatStep) (n : NeedView) (subtracted found : ℕ)
+    → FindsWord holds t found → t.before.0.held ≡ Some n ∷ []
+    → outcome (step t.slots 0 subtracted 0 none) t.before found (after t)
+    → Releases (held_before t) (holding_index t) n (held_after t)

@@ -2,7 +2,7 @@
 ghost use Rattle.std.specs.Prelude.{◌≡◌, ℕ, ◌<◌, ◌≤◌, ◌⊎◌, ◌↔◌, [], ◌∷◌, ◌++◌, length, map, replicate, sum_by, All, IfOk, IfErr, IsSome, Some};
 ghost use Rattle.tk_lanes.specs.Lanes.{lane_at};
 ghost use Rattle.tk_book.specs.Needs.{word_of};
-ghost use Rattle.tk_book.specs.Held.{Lawful, held_lane, held_word};
+ghost use Rattle.tk_book.specs.Holdings.{AreCompatible, held_lane, held_word};
 ghost use Rattle.tk_book.specs.Books.{book_view, empty};
 ghost use Rattle.tk_book.specs.FaultTexts.{book_fault_text};
 ghost use Rattle.tk_book.specs.LockWord.{seat_note};
@@ -176,7 +176,8 @@ impl Book {
         }
     }
 
-    /// Takes the need, trying again until it does. It yields the processor between tries.
+    /// Takes the need: tries again as long as a try is refused. It yields the processor between
+    /// tries, and reads no word but theirs.
     ///
     /// `seat` must be a seat of this book that holds nothing.
     pub fn acquire<R: Wait>(&self, rt: &R, seat: &mut BookSeat, need: Need)
@@ -188,10 +189,10 @@ impl Book {
     {
         let backoff = Backoff::new();
         for _ in rt.forever() {
-            if self.try_acquire(seat, need).is_ok() {
-                return;
+            match self.try_acquire(seat, need) {
+                Ok(()) => return,
+                Err(_) => backoff.snooze(),
             }
-            backoff.snooze();
         }
         unreachable!()
     }
@@ -244,7 +245,7 @@ impl Book {
         requires all { length seats.items ≡ self.seats }
         requires of_this { All (λ s. s.book ≡ self) seats.items }
         ensures word { result ≡ sum_by held_word (map (λ s. s.holds) seats.items) }
-        ensures lawful { Lawful (map (λ s. s.holds) seats.items) }
+        ensures compatible { AreCompatible (map (λ s. s.holds) seats.items) }
     {
         let Book { table } = self;
         let Some(last) = seats.pop() else {

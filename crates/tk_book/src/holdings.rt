@@ -4,7 +4,7 @@ ghost use Rattle.std.specs.Prelude.{ℕ, ◌≤◌, All, is_some, count_by, sum_
 ghost use Rattle.tk_book.specs.NeedView.{NeedView};
 ghost use Rattle.tk_lanes.specs.Lanes.{Admits};
 ghost use Rattle.tk_book.specs.Needs.{word_of};
-ghost use Rattle.tk_book.specs.Held.{Agree, Lawful, MayTake, held_word};
+ghost use Rattle.tk_book.specs.Holdings.{IsCompatible, AreCompatible, MayTake, held_word};
 
 use crate::needs::Need;
 use std::alloc::{AllocError, Global};
@@ -22,11 +22,11 @@ impl Model for Holdings {
 
     ghost Value = { List (Option NeedView) };
 
-    ghost use Rattle.tk_book.specs.Held.{Lawful};
+    ghost use Rattle.tk_book.specs.Holdings.{AreCompatible};
 
     ghost view = { λ h. h.seats.items };
 
-    ghost invariant = { λ h. Lawful h.seats.items };
+    ghost invariant = { λ h. AreCompatible h.seats.items };
 }
 
 impl Holdings {
@@ -47,7 +47,7 @@ impl Holdings {
         ensures exactly { IsTrue result ↔ MayTake self.old seat need }
         ensures granted { IsTrue result → self.new ≡ slice_set self.old seat (Some need) }
         ensures refused { IsFalse result → self.new ≡ self.old }
-        ensures lawful { Lawful self.new }
+        ensures compatible { AreCompatible self.new }
     {
         if seat >= self.seats.len() || self.seats[seat].is_some() {
             return false;
@@ -66,7 +66,7 @@ impl Holdings {
     /// Takes back what the seat holds. Nothing changes where there is no such seat.
     pub fn release(&mut self, seat: usize)
         ensures empty { self.new ≡ slice_set self.old seat None }
-        ensures lawful { Lawful self.new }
+        ensures compatible { AreCompatible self.new }
     {
         if seat < self.seats.len() {
             self.seats[seat] = None;
@@ -79,7 +79,7 @@ impl Holdings {
     pub fn word(&self) -> u64
         requires few { count_by is_some self.now ≤ 14 }
         ensures value { result ≡ sum_by held_word self.now }
-        ensures exactly { (n : NeedView) → Admits result (word_of n) ↔ All (Agree (Some n)) self.now }
+        ensures exactly { (n : NeedView) → Admits result (word_of n) ↔ All (IsCompatible (Some n)) self.now }
     {
         let mut word = 0;
         for held in &self.seats {

@@ -1,7 +1,7 @@
 //! The law of a book's word.
 ghost use Rattle.std.specs.Prelude.{◌≡◌, ◌↔◌, List, Option};
 ghost use Rattle.tk_book.specs.NeedView.{NeedView};
-ghost use Rattle.tk_book.specs.Held.{Lawful, WritersAreAlone};
+ghost use Rattle.tk_book.specs.Holdings.{AreCompatible, WritersAreAlone};
 ghost use Rattle.tk_book.specs.Steps.{IsSumOfHoldings, ExchangeIsGrant, FailureIsNone, LoadIsNone, SubtractionIsRelease};
 
 use crate::needs::Need;
@@ -10,7 +10,7 @@ use atomic_table::{Play, TableRule};
 
 /// Between any two steps a book's word is the sum of what its seats hold, and each step is a grant,
 /// a release, or nothing.
-pub fn each_step_is_of_the_holdings()
+pub fn each_step_is_a_holdings_step()
     ensures state { IsSumOfHoldings ⟦<LockRule as TableRule<Need, SeatNote, usize>>⟧.holds }
     ensures grant { ExchangeIsGrant ⟦<LockRule as TableRule<Need, SeatNote, usize>>⟧.holds
         ⟦<AcquireStep as Play<Need, SeatNote>>⟧.then }
@@ -24,5 +24,5 @@ pub fn each_step_is_of_the_holdings()
 
 /// No two seats' needs conflict exactly where each that writes a resource is alone there.
 pub fn writers_are_alone()
-    ensures { (held : List (Option NeedView)) → Lawful held ↔ WritersAreAlone held }
+    ensures { (held : List (Option NeedView)) → AreCompatible held ↔ WritersAreAlone held }
 {}

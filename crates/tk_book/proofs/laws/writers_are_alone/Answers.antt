@@ -1,5 +1,5 @@
-use Rattle.tk_book.proofs.Writing.{lawful_alone}
+use Rattle.tk_book.proofs.Writing.{compatible_alone}
 use Rattle.tk_book.proofs.laws.writers_are_alone.Goals as goal
 
 pub returns : goal.returns
-returns c = lawful_alone
+returns c = compatible_alone

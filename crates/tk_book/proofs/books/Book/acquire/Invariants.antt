@@ -1,4 +1,6 @@
-use Rattle.std.proofs.Common.{◌≡◌, ◌++◌, None, List, ℕ}
+use Rattle.std.proofs.Common.{◌≡◌, None}
+use Rattle.tk_book.specs.Needs.{word_of}
+use Rattle.tk_book.specs.Tries.{WereBusy}
 use Rattle.tk_book.proofs.books.Book.acquire.Given as goal
 
 abbrev pub invariant-loop : goal.invariant-loop
@@ -7,5 +9,5 @@ invariant-loop g l = record {
   finite : (goal.iterator-loop g).is_finite l.iterator';
   same : l.seat.book ≡ l.initial.seat.book;
   nothing : l.seat.holds ≡ None;
-  tried : (tried : List ℕ) × (l.seat.read ≡ l.initial.seat.read ++ tried);
+  refused : WereBusy l.initial.seat.read l.seat.read (word_of l.need);
 }

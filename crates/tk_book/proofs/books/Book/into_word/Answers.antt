@@ -3,7 +3,7 @@ use Rattle.std.proofs.lemmas.Grind.{common_steps}
 use Rattle.std.proofs.lemmas.List.Elements.{All-pop}
 use Rattle.std.proofs.lemmas.List.{length-map}
 use Rattle.tk_book.specs.NeedView.{NeedView}
-use Rattle.tk_book.specs.Held.{Lawful, held_word}
+use Rattle.tk_book.specs.Holdings.{AreCompatible, held_word}
 use Rattle.tk_book.specs.Books.{BookView, BookSeatView}
 use Rattle.tk_book.proofs.Locking.{joins, into_word_steps}
 use Rattle.tk_book.proofs.Gathering.{gathers, gathers_more}
@@ -45,4 +45,4 @@ returns c = let held = c.loop-next.invariant in let all = held.pooled.0 in
     let needs : c.loop-next.seat.me.0.held ≡ map (λ (s : BookSeatView). s.holds) c.args.seats.items = held.pooled.2.held ∙ ap (λ (l : List BookSeatView). map (λ (s : BookSeatView). s.holds) l) same in
     let whole : length c.loop-next.seat.me.0.held ≡ c.self.inside.table.shared.key = ap (λ (l : List (Option NeedView)). length l) held.pooled.2.held ∙ length-map all (λ (s : BookSeatView). s.holds) ∙ count in
     let last = into_word_steps _ c.loop-next.seat.id c.loop-next.seat.me.0 _ _ c.word-word.result c.close_with-closed.ensures.values.2 whole c.word-word.ensures in
-    record { word = last.0 ∙ ap (sum_by held_word) needs; lawful = subst Lawful needs last.1 }
+    record { word = last.0 ∙ ap (sum_by held_word) needs; compatible = subst AreCompatible needs last.1 }

@@ -4,7 +4,7 @@ use Rattle.std.proofs.lemmas.Grind.{common_steps}
 use Rattle.tk_book.specs.NeedView.{NeedView}
 use Rattle.tk_lanes.specs.Lanes.{Admits}
 use Rattle.tk_book.specs.Needs.{word_of}
-use Rattle.tk_book.specs.Held.{Agree, Lawful, held_word}
+use Rattle.tk_book.specs.Holdings.{IsCompatible, AreCompatible, held_word}
 use Rattle.tk_book.proofs.Agreeing.{admits_exactly, sum_fits}
 use Rattle.tk_book.proofs.holdings.Holdings.word.Goals as goal
 
@@ -12,7 +12,7 @@ pub overflow_add-word : goal.overflow_add-word
 overflow_add-word c = let xs : List (Option NeedView) = c.deref-held-items.result.now in let i : ℕ = c.loop-held.held-index in
     let few : count_by is_some xs ≤ 14 = subst (λ (l : List (Option NeedView)). count_by is_some l ≤ 14) (sym (c.deref-held-items.ensures.value ∙ c.self.view_is)) c.requires.few in
     let more = sum_by_more_le held_word xs i c.held-item.result c.loop-held-test.true in
-    let fits : sum_by held_word xs < 2 ^ 64 = sum_fits xs (subst Lawful (sym c.deref-held-items.ensures.value) c.self.invariant) (omega arith) in
+    let fits : sum_by held_word xs < 2 ^ 64 = sum_fits xs (subst AreCompatible (sym c.deref-held-items.ensures.value) c.self.invariant) (omega arith) in
     let item : held_word (get_or xs i c.held-item.result) ≡ word_of c.in-Some.need = ap held_word (sym c.held-item.is ∙ c.in-Some.is) in
     let so_far : c.loop-held.word ≡ sum_by held_word (take i xs) = c.loop-held.invariant in let new = c.word-word.ensures in omega arith
 
@@ -20,5 +20,5 @@ pub returns-clause-exactly : goal.returns-clause-exactly
 returns-clause-exactly c = λ n. let xs : List (Option NeedView) = c.deref-held-items.result.now in
     let few : count_by is_some xs ≤ 14 = subst (λ (l : List (Option NeedView)). count_by is_some l ≤ 14) (sym (c.deref-held-items.ensures.value ∙ c.self.view_is)) c.requires.few in
     let total : sum_by held_word xs ≡ c.loop-held.word = grind (arith, common_steps, c.loop-held.invariant) in
-    subst (λ (p : ℕ × List (Option NeedView)). Admits p.0 (word_of n) ↔ All (Agree (Some n)) p.1) (λ k. (total k, (c.deref-held-items.ensures.value ∙ c.self.view_is) k))
-    (admits_exactly xs n (subst Lawful (sym c.deref-held-items.ensures.value) c.self.invariant) few)
+    subst (λ (p : ℕ × List (Option NeedView)). Admits p.0 (word_of n) ↔ All (IsCompatible (Some n)) p.1) (λ k. (total k, (c.deref-held-items.ensures.value ∙ c.self.view_is) k))
+    (admits_exactly xs n (subst AreCompatible (sym c.deref-held-items.ensures.value) c.self.invariant) few)

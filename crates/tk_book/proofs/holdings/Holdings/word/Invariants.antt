@@ -1,5 +1,5 @@
 use Rattle.std.proofs.Common.{◌≡◌, sum_by, take}
-use Rattle.tk_book.specs.Held.{held_word}
+use Rattle.tk_book.specs.Holdings.{held_word}
 use Rattle.tk_book.proofs.holdings.Holdings.word.Given as goal
 
 abbrev pub invariant-loop-held : goal.invariant-loop-held

@@ -5,13 +5,13 @@ use Rattle.tk_book.specs.NeedView.{NeedView}
 use Rattle.tk_book.specs.Needs.{Access, nothing, writes, access, Conflict, lane, word_of}
 
 -- what two seats hold doesn't conflict
-abbrev pub Agree : Option NeedView → Option NeedView → Type 0
-Agree (Some n) (Some m) = Conflict n m → ⊥
-Agree a b = Unit {0}
+abbrev pub IsCompatible : Option NeedView → Option NeedView → Type 0
+IsCompatible (Some n) (Some m) = Conflict n m → ⊥
+IsCompatible a b = Unit {0}
 
 -- no two seats' needs conflict
-abbrev pub Lawful : List (Option NeedView) → Type 0
-Lawful held = AllPairs Agree held
+abbrev pub AreCompatible : List (Option NeedView) → Type 0
+AreCompatible held = AllPairs IsCompatible held
 
 -- what a seat does with resource r
 abbrev pub held_access : Option NeedView → ℕ → Access
@@ -27,7 +27,7 @@ WritersAreAlone held =
 
 -- the seat exists and is empty, and the need conflicts with no other seat's
 abbrev pub MayTake : List (Option NeedView) → ℕ → NeedView → Type 0
-MayTake held seat n = (slice_get held seat ≡ Some None) × All (Agree (Some n)) held
+MayTake held seat n = (slice_get held seat ≡ Some None) × All (IsCompatible (Some n)) held
 
 -- The step of a grant: the seat may take the need, and holds it afterwards. All others hold what
 -- they held.

@@ -1,5 +1,5 @@
 use Rattle.tk_book.proofs.Granting.{state, grant, failure, load, release}
-use Rattle.tk_book.proofs.laws.each_step_is_of_the_holdings.Goals as goal
+use Rattle.tk_book.proofs.laws.each_step_is_a_holdings_step.Goals as goal
 
 pub returns-clause-state : goal.returns-clause-state
 returns-clause-state c = state
