@@ -57,7 +57,7 @@ fn emit<R: Wait, S: Sink>(
     payload: Payload,
     sink: &mut S,
 ) -> Result<(), UnitFault>
-    ensures { Grew (S.meaning sink.old) (S.meaning sink.new) }
+    ensures { Grew (S.view sink.old) (S.view sink.new) }
 {
     sink.emit(
         rt,
@@ -72,13 +72,13 @@ fn emit<R: Wait, S: Sink>(
 }
 
 fn start<R: Wait, S: Sink>(rt: &R, sink: &mut S) -> Result<(), UnitFault>
-    ensures { Grew (S.meaning sink.old) (S.meaning sink.new) }
+    ensures { Grew (S.view sink.old) (S.view sink.new) }
 {
     emit(rt, Kind::Started, Payload::Nothing, sink)
 }
 
 fn finish<R: Wait, S: Sink>(rt: &R, status: Status, sink: &mut S) -> Result<(), UnitFault>
-    ensures { Grew (S.meaning sink.old) (S.meaning sink.new) }
+    ensures { Grew (S.view sink.old) (S.view sink.new) }
 {
     emit(rt, Kind::Finished, Payload::Outcome(status, None), sink)
 }
@@ -86,7 +86,7 @@ fn finish<R: Wait, S: Sink>(rt: &R, status: Status, sink: &mut S) -> Result<(), 
 // Finishes the test, and starts it then.
 #[tactic(auto, using(engine_testkit::proofs::Growing::grew_trans))]
 fn finish_first<R: Wait, S: Sink>(rt: &R, sink: &mut S) -> Result<(), UnitFault>
-    ensures { Grew (S.meaning sink.old) (S.meaning sink.new) }
+    ensures { Grew (S.view sink.old) (S.view sink.new) }
 {
     finish(rt, Status::Failed, sink)?;
     start(rt, sink)
@@ -95,7 +95,7 @@ fn finish_first<R: Wait, S: Sink>(rt: &R, sink: &mut S) -> Result<(), UnitFault>
 // Starts the test, which fails, and finishes it as a success.
 #[tactic(auto, using(engine_testkit::proofs::Growing::grew_trans))]
 fn hide_failure<R: Wait, S: Sink>(rt: &R, sink: &mut S) -> Result<(), UnitFault>
-    ensures { Grew (S.meaning sink.old) (S.meaning sink.new) }
+    ensures { Grew (S.view sink.old) (S.view sink.new) }
 {
     start(rt, sink)?;
     finish(rt, Status::Successful, sink)

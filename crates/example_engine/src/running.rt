@@ -47,7 +47,7 @@ fn emit<F: Function, R: Wait, S: Sink>(
 ) -> Result<(), UnitFault>
     requires { IsSound (F.value function.now) cases.now event }
     ensures { GrewBy (IsSound (F.value function.now) cases.now)
-        (S.meaning sink.old) (S.meaning sink.new) }
+        (S.view sink.old) (S.view sink.new) }
 {
     let (_, _) = (function, cases);
     sink.emit(rt, event)?;
@@ -66,7 +66,7 @@ fn register<F: Function, R: Wait, S: Sink>(
     sink: &mut S,
 ) -> Result<u32, UnitFault>
     ensures { GrewBy (IsSound (F.value function.now) cases.now)
-        (S.meaning sink.old) (S.meaning sink.new) }
+        (S.view sink.old) (S.view sink.new) }
 {
     let (_, _) = (function, cases);
     let name = format!(in alloc; "{index}")?;
@@ -97,7 +97,7 @@ fn run_registered<F: Function, R: Wait, S: Sink>(
 ) -> Result<(), UnitFault>
     requires { index < length cases.now }
     ensures { GrewBy (IsSound (F.value function.now) cases.now)
-        (S.meaning sink.old) (S.meaning sink.new) }
+        (S.view sink.old) (S.view sink.new) }
 {
     let stamp = index as u64;
     let started = Event {
@@ -130,7 +130,7 @@ fn run_case<F: Function, R: Wait, S: Sink>(
 ) -> Result<(), UnitFault>
     requires { index < length cases.now }
     ensures { GrewBy (IsSound (F.value function.now) cases.now)
-        (S.meaning sink.old) (S.meaning sink.new) }
+        (S.view sink.old) (S.view sink.new) }
 {
     let key = register(rt, alloc, function, cases, index, container, sink)?;
     run_registered(rt, alloc, function, cases, index, key, sink)
@@ -147,7 +147,7 @@ fn emit_of_table<F: Function, R: Wait, S: Sink>(
     sink: &mut S,
 ) -> Result<(), UnitFault>
     ensures { GrewBy (IsSound (F.value function.now) cases.now)
-        (S.meaning sink.old) (S.meaning sink.new) }
+        (S.view sink.old) (S.view sink.new) }
 {
     let stamp = cases.len() as u64;
     emit(
@@ -175,7 +175,7 @@ fn run_cases<F: Function, R: Wait, S: Sink>(
     sink: &mut S,
 ) -> Result<(), UnitFault>
     ensures { GrewBy (IsSound (F.value function.now) cases.now)
-        (S.meaning sink.old) (S.meaning sink.new) }
+        (S.view sink.old) (S.view sink.new) }
 {
     for index in 0..cases.len() {
         run_case(rt, alloc, function, cases, index, container, sink)?;
@@ -194,7 +194,7 @@ fn publish<F: Function, R: Wait, S: Sink>(
     sink: &mut S,
 ) -> Result<(), UnitFault>
     ensures { GrewBy (IsSound (F.value function.now) table.entry.cases.now)
-        (S.meaning sink.old) (S.meaning sink.new) }
+        (S.view sink.old) (S.view sink.new) }
 {
     let cases = table.cases;
     let entry = entry_of(alloc, cases)?;
@@ -214,7 +214,7 @@ fn run_started<F: Function, R: Wait, S: Sink>(
     sink: &mut S,
 ) -> Result<(), UnitFault>
     ensures { GrewBy (IsSound (F.value function.now) table.entry.cases.now)
-        (S.meaning sink.old) (S.meaning sink.new) }
+        (S.view sink.old) (S.view sink.new) }
 {
     run_cases(rt, alloc, function, table.cases, container, sink)?;
     publish(rt, alloc, function, table, container, sink)
@@ -231,7 +231,7 @@ fn run_enabled<F: Function, R: Wait, S: Sink>(
     sink: &mut S,
 ) -> Result<(), UnitFault>
     ensures { GrewBy (IsSound (F.value function.now) table.entry.cases.now)
-        (S.meaning sink.old) (S.meaning sink.new) }
+        (S.view sink.old) (S.view sink.new) }
 {
     let cases = table.cases;
     let started = Payload::Nothing;
@@ -252,7 +252,7 @@ pub(crate) fn run_table<F: Function, R: Wait, S: Sink>(
     sink: &mut S,
 ) -> Result<(), UnitFault>
     ensures { GrewBy (IsSound (F.value function.now) table.entry.cases.now)
-        (S.meaning sink.old) (S.meaning sink.new) }
+        (S.view sink.old) (S.view sink.new) }
 {
     match table.disabled {
         Some(reason) => {

@@ -128,7 +128,7 @@ impl StepEngine<'_> {
 
 #[tactic(auto, using(tk_engine_execute::proofs::Growing::grew_same, tk_engine_execute::proofs::Growing::grew_one))]
 fn emit<R: Wait, S: Sink>(rt: &R, sink: &mut S, stamp: u64) -> Result<(), UnitFault>
-    ensures { Grew (S.meaning sink.old) (S.meaning sink.new) }
+    ensures { Grew (S.view sink.old) (S.view sink.new) }
 {
     match sink.emit(rt, start(0, stamp)) {
         Ok(()) => Ok(()),
@@ -144,7 +144,7 @@ fn fail_as_worker<R: Wait, S: Sink>(
     unit: u32,
     sink: &mut S,
 ) -> Result<(), UnitFault>
-    ensures { Grew (S.meaning sink.old) (S.meaning sink.new) }
+    ensures { Grew (S.view sink.old) (S.view sink.new) }
 {
     match sink.register(rt, 0, segment, "d", DType::Test, 0) {
         Ok(key) => {
@@ -163,7 +163,7 @@ fn play_one<R: Wait, S: Sink>(
     unit: u32,
     sink: &mut S,
 ) -> Result<(), UnitFault>
-    ensures { Grew (S.meaning sink.old) (S.meaning sink.new) }
+    ensures { Grew (S.view sink.old) (S.view sink.new) }
 {
     match step {
         UnitStep::Start(stamp) => emit(rt, sink, stamp),
@@ -182,7 +182,7 @@ fn play<R: Wait, S: Sink>(
     unit: u32,
     sink: &mut S,
 ) -> Result<(), UnitFault>
-    ensures { Grew (S.meaning sink.old) (S.meaning sink.new) }
+    ensures { Grew (S.view sink.old) (S.view sink.new) }
 {
     for step in engine.steps(unit) {
         play_one(rt, engine, *step, unit, sink)?;

@@ -31,7 +31,7 @@ use Rattle.tk_plan_units.specs.Ids.{descriptor}
 use Rattle.tk_plan_units.specs.StepEvents.{kind_of, payload_of}
 use Rattle.tk_engine_laws.specs.Scripts.{ArePlayable, IsPlayable, HasKey, id_at, is_registration, key_of, key_for, known_in, known_after, played, payload_of_node, step_event}
 use Rattle.tk_engine_laws.specs.Laws.{ScriptsArePlayable, NodesAreFound}
-use Rattle.tk_engine_execute.specs.Engines.{IsSame}
+use Rattle.tk_engine_execute.specs.Engines.{IsSameSender}
 use Rattle.tk_engine_execute.proofs.Emitted.{registrations-append}
 use Rattle.tk_engine.specs.Keys.{key_in, noted, key_found}
 use Rattle.tk_engine.specs.Plays.{IsPlayed, IsRegistered, IsEmitted, next_key}
@@ -220,7 +220,7 @@ module _ (nodes : List NumberedNode) (table : List Descriptor) (planned : IsPlan
 -- ---- at a step
 
 -- a sink that took an event is otherwise as it was
-pub emitted_same : (nodes : List NumberedNode) (old new : SenderView) (s : Step) (key : ℕ) → IsEmitted nodes old new s key → IsSame old new
+pub emitted_same : (nodes : List NumberedNode) (old new : SenderView) (s : Step) (key : ℕ) → IsEmitted nodes old new s key → IsSameSender old new
 emitted_same nodes old new s key t = record {
   session = ap (λ e. e.session) t.sent;
   table = ap (λ e. e.table) t.sent;

@@ -1,7 +1,7 @@
 //! Playing the script of a unit.
 ghost use Rattle.std.specs.Prelude.{◌≡◌, ◌<◌, ◌+◌, ◌++◌, ℕ, List, [], length, take, All, OnOk, OnErr, IfOk, IfErr};
 ghost use Rattle.tk_events.specs.declared.events.Event.{Event};
-ghost use Rattle.tk_engine_execute.specs.Engines.{IsSame, Extends, ExtendsAs};
+ghost use Rattle.tk_engine_execute.specs.Engines.{IsSameSender, Extends, ExtendsAs};
 ghost use Rattle.tk_plan_units.specs.Known.{IsKnown};
 ghost use Rattle.tk_plan_units.specs.Cutting.{script_of, units_of};
 ghost use Rattle.tk_plan_units.specs.Numbers.{IsNumbered};
@@ -30,8 +30,8 @@ fn emit_step<R: Wait, S: Sink>(
 ) -> Result<(), UnitFault>
     requires known { IsKnown plan.now.nodes step.node step.act }
     ensures ok { OnOk result
-        (IsEmitted plan.now.nodes (S.meaning sink.old) (S.meaning sink.new) step key) }
-    ensures err { OnErr result (S.meaning sink.new ≡ S.meaning sink.old) }
+        (IsEmitted plan.now.nodes (S.view sink.old) (S.view sink.new) step key) }
+    ensures err { OnErr result (S.view sink.new ≡ S.view sink.old) }
     ensures cause { IfErr result IsPlayFault }
 {
     let payload = plan.payload(alloc, step)?;
@@ -57,8 +57,8 @@ fn register<R: Wait, S: Sink>(
 ) -> Result<u32, UnitFault>
     requires known { IsKnown plan.now.nodes step.node step.act }
     ensures ok { IfOk result (λ key.
-        IsRegistered plan.now.nodes (S.meaning sink.old) (S.meaning sink.new) step above key) }
-    ensures err { OnErr result (S.meaning sink.new ≡ S.meaning sink.old) }
+        IsRegistered plan.now.nodes (S.view sink.old) (S.view sink.new) step above key) }
+    ensures err { OnErr result (S.view sink.new ≡ S.view sink.old) }
     ensures cause { IfErr result IsPlayFault }
 {
     let segment = plan.segment(step.node);
@@ -85,14 +85,14 @@ fn play<R: Wait, S: Sink>(
     requires planned { IsPlanned plan.now.nodes plan.now.table × IsNumbered plan.now.nodes }
     requires script { (unit : ℕ) × (steps.now ≡ script_of (forest plan.now.nodes) unit) }
     requires known { All (λ s. IsKnown plan.now.nodes s.node s.act) steps.now }
-    requires table { (S.meaning sink.old).table ≡ plan.now.table }
-    requires played { IsPlayed plan.now.nodes plan.now.table (S.meaning sink.old).worker sent
-        (take at steps.now) (S.meaning sink.old).sent (kept keys.old) }
-    ensures same { IsSame (S.meaning sink.old) (S.meaning sink.new) }
+    requires table { (S.view sink.old).table ≡ plan.now.table }
+    requires played { IsPlayed plan.now.nodes plan.now.table (S.view sink.old).worker sent
+        (take at steps.now) (S.view sink.old).sent (kept keys.old) }
+    ensures same { IsSameSender (S.view sink.old) (S.view sink.new) }
     ensures ok { OnOk result
-        (IsPlayed plan.now.nodes plan.now.table (S.meaning sink.old).worker sent
-        (take (at + 1) steps.now) (S.meaning sink.new).sent (kept keys.new)) }
-    ensures err { OnErr result (Extends (S.meaning sink.old) (S.meaning sink.new)) }
+        (IsPlayed plan.now.nodes plan.now.table (S.view sink.old).worker sent
+        (take (at + 1) steps.now) (S.view sink.new).sent (kept keys.new)) }
+    ensures err { OnErr result (Extends (S.view sink.old) (S.view sink.new)) }
     ensures cause { IfErr result IsPlayFault }
 {
     scripts_are_playable();
@@ -123,16 +123,16 @@ fn play_each<R: Wait, S: Sink>(
     sink: &mut S,
 ) -> Result<(), UnitFault>
     ghost sent: { List Event }
-    requires sent { (S.meaning sink.old).sent ≡ sent }
+    requires sent { (S.view sink.old).sent ≡ sent }
     requires planned { IsPlanned plan.now.nodes plan.now.table × IsNumbered plan.now.nodes }
     requires script { (unit : ℕ) × (steps.now ≡ script_of (forest plan.now.nodes) unit) }
     requires known { All (λ s. IsKnown plan.now.nodes s.node s.act) steps.now }
-    requires table { (S.meaning sink.old).table ≡ plan.now.table }
-    ensures same { IsSame (S.meaning sink.old) (S.meaning sink.new) }
-    ensures ok { OnOk result ((S.meaning sink.new).sent ≡ sent
-        ++ played plan.now.nodes (length plan.now.table) (next_key (S.meaning sink.old).worker sent)
+    requires table { (S.view sink.old).table ≡ plan.now.table }
+    ensures same { IsSameSender (S.view sink.old) (S.view sink.new) }
+    ensures ok { OnOk result ((S.view sink.new).sent ≡ sent
+        ++ played plan.now.nodes (length plan.now.table) (next_key (S.view sink.old).worker sent)
         [] steps.now) }
-    ensures err { OnErr result ((l : List Event) × ((S.meaning sink.new).sent ≡ sent ++ l)) }
+    ensures err { OnErr result ((l : List Event) × ((S.view sink.new).sent ≡ sent ++ l)) }
     ensures cause { IfErr result IsPlayFault }
 {
     let mut keys = Keys::new(alloc);
@@ -151,11 +151,11 @@ pub(crate) fn play_unit<R: Wait, S: Sink>(
     sink: &mut S,
 ) -> Result<(), UnitFault>
     requires unit { unit < length (units_of (forest plan.now.nodes)) }
-    requires table { (S.meaning sink.old).table ≡ plan.now.table }
-    ensures same { IsSame (S.meaning sink.old) (S.meaning sink.new) }
+    requires table { (S.view sink.old).table ≡ plan.now.table }
+    ensures same { IsSameSender (S.view sink.old) (S.view sink.new) }
     ensures ok { OnOk result (ExtendsAs (may plan.now.nodes plan.now.table unit)
-        (S.meaning sink.old) (S.meaning sink.new)) }
-    ensures err { OnErr result (Extends (S.meaning sink.old) (S.meaning sink.new)) }
+        (S.view sink.old) (S.view sink.new)) }
+    ensures err { OnErr result (Extends (S.view sink.old) (S.view sink.new)) }
     ensures cause { IfErr result IsPlayFault }
 {
     // For the proof: the plan's invariant, which a call on the plan shows.

@@ -1,7 +1,7 @@
 //! The engine of a plan.
 ghost use Rattle.std.specs.Prelude.{◌≡◌, ◌<◌, OnOk, OnErr, IfErr};
 ghost use Rattle.tk_plan_units.specs.Planned.{Outline};
-ghost use Rattle.tk_engine_execute.specs.Engines.{IsSame, Extends, ExtendsAs};
+ghost use Rattle.tk_engine_execute.specs.Engines.{IsSameSender, Extends, ExtendsAs};
 ghost use Rattle.tk_engine.specs.Plays.{IsPlayFault};
 
 use crate::playing::play_unit;
@@ -95,11 +95,11 @@ impl Engine for Scripted {
         sink: &mut S,
     ) -> Result<(), UnitFault>
         requires unit { unit < length (units_of (forest self.now.nodes)) }
-        requires table { (S.meaning sink.old).table ≡ self.now.table }
-        ensures same { IsSame (S.meaning sink.old) (S.meaning sink.new) }
+        requires table { (S.view sink.old).table ≡ self.now.table }
+        ensures same { IsSameSender (S.view sink.old) (S.view sink.new) }
         ensures ok { OnOk result (ExtendsAs (plays self.now.nodes self.now.table unit)
-            (S.meaning sink.old) (S.meaning sink.new)) }
-        ensures err { OnErr result (Extends (S.meaning sink.old) (S.meaning sink.new)) }
+            (S.view sink.old) (S.view sink.new)) }
+        ensures err { OnErr result (Extends (S.view sink.old) (S.view sink.new)) }
         ensures cause { IfErr result IsPlayFault }
     {
         play_unit(rt, alloc, &self.plan, unit, sink)

@@ -21,14 +21,14 @@ use Rattle.tk_queue.specs.Closing.{IsCloseFault}
 use Rattle.tk_engine_runs.specs.Run.{IsShared}
 use Rattle.tk_engine_execute.specs.declared.engines.UnitFault.{UnitFault}
 use Rattle.tk_engine_execute.specs.declared.workers.Outcome.{Outcome}
-use Rattle.tk_engine_execute.specs.declared.workers.Failure.{Failure}
+use Rattle.tk_engine_execute.specs.declared.workers.FailedUnit.{FailedUnit}
 use Rattle.tk_engine_execute.specs.declared.event_collectors.EventCollector.{EventCollector}
 use Rattle.tk_engine_execute.specs.EventCollectors.{IsCollector, NoneIsAwaited}
 use Rattle.tk_engine_execute.specs.Results.{IsTallied}
 use Rattle.tk_queue.specs.Emission.{entries_by}
 use Rattle.tk_engine_runs.proofs.Workers.{in_the_middle}
-use Rattle.tk_engine_execute.specs.declared.runs.RunFault.{RunFault}
-use Rattle.tk_engine_execute.specs.declared.runs.RunFault.TheVariants as fault
+use Rattle.tk_engine_execute.specs.declared.run_faults.RunFault.{RunFault}
+use Rattle.tk_engine_execute.specs.declared.run_faults.RunFault.TheVariants as fault
 use Rattle.tk_engine_execute.specs.Outcomes.{AllCompleted, CanClose, IsFirstFailure, IsFaultOfWorkers, IsFaultOfUnits}
 use Rattle.tk_engine_execute.specs.Workers.{AllDone}
 use Rattle.tk_engine_execute.proofs.Positions.{map_at, all_from}
@@ -199,7 +199,7 @@ tallied n closed es ls mix each others = record {
 -- the first failure is of one of the engine's units
 pub failure_is_unit : (units : ℕ) (os : List Outcome) (u : ℕ) (why : UnitFault) → All (λ o. IfSome o.failure (λ f. f.unit < units)) os → IsFirstFailure os u why → u < units
 failure_is_unit units [] u why all h = absurd h
-failure_is_unit units (o ∷ os) u why all (inl is) = let one = All-head (λ (x : Outcome). IfSome x.failure (λ f. f.unit < units)) o os all in subst (λ (f : Option Failure). IfSome f (λ g. g.unit < units)) is one
+failure_is_unit units (o ∷ os) u why all (inl is) = let one = All-head (λ (x : Outcome). IfSome x.failure (λ f. f.unit < units)) o os all in subst (λ (f : Option FailedUnit). IfSome f (λ g. g.unit < units)) is one
 failure_is_unit units (o ∷ os) u why all (inr h) = failure_is_unit units os u why (All-tail (λ (x : Outcome). IfSome x.failure (λ f. f.unit < units)) o os all) h.1
 
 pub late : (units : ℕ) (a : EventCollector) (os : List Outcome) (f : RunFault) → All (λ o. IfSome o.failure (λ f. f.unit < units)) os → IsFaultOfWorkers a os f → IsFaultOfUnits units f

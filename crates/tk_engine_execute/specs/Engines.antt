@@ -6,7 +6,7 @@ use Rattle.tk_queue.specs.Limits.{most_events}
 use Rattle.tk_queue.specs.Senders.{SenderView}
 
 -- b is of the same session, table and worker as a
-pub record IsSame (a b : SenderView) : Type 0 where
+pub record IsSameSender (a b : SenderView) : Type 0 where
   pub session : b.session ≡ a.session
   pub table : b.table ≡ a.table
   pub worker : b.worker ≡ a.worker
@@ -26,6 +26,6 @@ IsStaticEvent n e = (e.key < n) × (is_plain e ≡ true)
 
 -- events that worker 0 may emit: each is lawful, of a static descriptor and no registration, and
 -- there are at most `most_events`
-pub record AreBeforeOrAfter (n : ℕ) (es : List Event) : Type 0 where
+pub record AreOfWorkerZero (n : ℕ) (es : List Event) : Type 0 where
   pub each : All (IsStaticEvent n) es
   pub few : length es ≤ most_events

@@ -6,8 +6,8 @@ use Rattle.tk_engine_execute.specs.declared.sinks.SinkFault.{SinkFault}
 use Rattle.tk_engine_execute.specs.declared.sinks.SinkFault.TheVariants as sinks
 use Rattle.tk_engine_execute.specs.declared.engines.UnitFault.{UnitFault}
 use Rattle.tk_engine_execute.specs.declared.engines.UnitFault.TheVariants as units
-use Rattle.tk_engine_execute.specs.declared.runs.RunFault.{RunFault}
-use Rattle.tk_engine_execute.specs.declared.runs.RunFault.TheVariants as runs
+use Rattle.tk_engine_execute.specs.declared.run_faults.RunFault.{RunFault}
+use Rattle.tk_engine_execute.specs.declared.run_faults.RunFault.TheVariants as runs
 
 abbrev pub sink_fault_text : SinkFault → List ℕ
 sink_fault_text (sinks.Send fault) = send_fault_text fault

@@ -2,11 +2,11 @@
 use Rattle.std.specs.Prelude.{◌≡◌, List, ◌++◌, All}
 use Rattle.tk_events.specs.declared.events.Event.{Event}
 use Rattle.tk_queue.specs.Senders.{SenderView}
-use Rattle.tk_engine_execute.specs.Engines.{IsSame}
+use Rattle.tk_engine_execute.specs.Engines.{IsSameSender}
 
 -- some events were emitted, and P holds of each
 pub record GrewBy (P : Event → Type 0) (a b : SenderView) : Type 0 where
-  pub same : IsSame a b
+  pub same : IsSameSender a b
   pub events : List Event
   pub sent : b.sent ≡ a.sent ++ events
   pub each : All P events

@@ -8,7 +8,7 @@ use Rattle.tk_queue.specs.Receivers.{fresh_receiver}
 use Rattle.tk_queue.specs.Limits.{capacity_of}
 use Rattle.tk_engine_execute.specs.declared.event_collectors.EventCollector.{EventCollector}
 use Rattle.tk_engine_execute.specs.declared.runs.PreparedRun.{PreparedRun}
-use Rattle.tk_engine_execute.specs.Engines.{AreBeforeOrAfter}
+use Rattle.tk_engine_execute.specs.Engines.{AreOfWorkerZero}
 use Rattle.tk_engine_execute.specs.Workers.{AreUnstarted}
 
 -- a number of workers that a run may have
@@ -24,7 +24,7 @@ pub record IsFreshCollector (table : List Descriptor) (before : List Event) (wor
   pub places : capacity_of a.receiver.session ≡ capacity
   pub table_is : a.recording.table ≡ table
   pub entries : a.recording.entries ≡ entries_by 0 before
-  pub static_events : AreBeforeOrAfter (length table) before
+  pub static_events : AreOfWorkerZero (length table) before
   pub width : length a.awaited.items ≡ workers
   pub awaited : (i : ℕ) (b : Bool) → slice_get a.awaited.items i ≡ Some b → b ≡ true
   pub room : a.is_out_of_memory ≡ false

@@ -5,7 +5,7 @@ use Rattle.tk_record_columns.specs.Recorded.{Recorded}
 use Rattle.tk_record_columns.specs.Mixing.{IsWorkerOf, of_worker}
 
 -- a record, and how many events each worker emitted, by the workers' numbers
-pub record Ran : Type 0 where
+pub record RunResults : Type 0 where
   pub recorded : Recorded
   pub closed : List ℕ
 

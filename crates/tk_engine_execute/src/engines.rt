@@ -4,7 +4,7 @@ ghost use Rattle.std.specs.Arc.{arc_value};
 ghost use Rattle.tk_ids.specs.declared.descriptors.Descriptor.{Descriptor};
 ghost use Rattle.tk_events.specs.declared.events.Event.{Event};
 ghost use Rattle.tk_book.specs.NeedView.{NeedView};
-ghost use Rattle.tk_engine_execute.specs.Engines.{IsSame, Extends, ExtendsAs, AreBeforeOrAfter};
+ghost use Rattle.tk_engine_execute.specs.Engines.{IsSameSender, Extends, ExtendsAs, AreOfWorkerZero};
 ghost use Rattle.tk_engine_execute.specs.FaultTexts.{unit_fault_text};
 
 use crate::sinks::{Sink, SinkFault};
@@ -106,7 +106,7 @@ pub trait Engine: Sync {
     fn before(&self, alloc: Global) -> Result<Vec<Event>, AllocError>
         ensures is { IfOk result (λ v. v.items ≡ before self.now) }
         ensures static_events { OnOk result
-            (AreBeforeOrAfter (length (table self.now)) (before self.now)) };
+            (AreOfWorkerZero (length (table self.now)) (before self.now)) };
 
     /// The events after all units, which worker 0 emits, with the limits of those before.
     ///
@@ -115,7 +115,7 @@ pub trait Engine: Sync {
     fn after(&self, alloc: Global) -> Result<Vec<Event>, AllocError>
         ensures is { IfOk result (λ v. v.items ≡ after self.now) }
         ensures static_events { OnOk result
-            (AreBeforeOrAfter (length (table self.now)) (after self.now)) };
+            (AreOfWorkerZero (length (table self.now)) (after self.now)) };
 
     /// The resources that a unit reads and writes while it runs.
     ///
@@ -147,9 +147,9 @@ pub trait Engine: Sync {
     ) -> Result<(), UnitFault>
         requires unit { unit < units self.now }
         requires holds { seat.now.holds ≡ Some (need self.now unit) }
-        requires table { (S.meaning sink.old).table ≡ table self.now }
-        ensures same { IsSame (S.meaning sink.old) (S.meaning sink.new) }
+        requires table { (S.view sink.old).table ≡ table self.now }
+        ensures same { IsSameSender (S.view sink.old) (S.view sink.new) }
         ensures ok { OnOk result
-            (ExtendsAs (may self.now unit) (S.meaning sink.old) (S.meaning sink.new)) }
-        ensures err { OnErr result (Extends (S.meaning sink.old) (S.meaning sink.new)) };
+            (ExtendsAs (may self.now unit) (S.view sink.old) (S.view sink.new)) }
+        ensures err { OnErr result (Extends (S.view sink.old) (S.view sink.new)) };
 }

@@ -5,6 +5,7 @@
 mod engines;
 mod event_collectors;
 mod results;
+mod run_faults;
 mod runs;
 mod sinks;
 mod unstarted_workers;
@@ -13,6 +14,7 @@ mod workers;
 
 pub use engines::{Engine, MAX_UNITS, UnitFault};
 pub use results::Results;
-pub use runs::{RunFault, execute};
+pub use run_faults::RunFault;
+pub use runs::execute;
 pub use sinks::{Sink, SinkFault};
 pub use tk_engine_claim::{Claim, ClaimFault, ClaimSeat};

@@ -2,7 +2,7 @@
 ghost use Rattle.std.specs.Prelude.{◌≡◌, IfOk};
 ghost use Rattle.tk_record_columns.specs.declared.selections.Selection.TheVariants.{Tests, Containers};
 ghost use Rattle.tk_record_columns.specs.Selections.{all_of, filtered_by, selects};
-ghost use Rattle.tk_engine_execute.specs.Results.{Ran};
+ghost use Rattle.tk_engine_execute.specs.Results.{RunResults};
 
 use std::alloc::{AllocError, Global};
 use std::marker::Model;
@@ -19,9 +19,9 @@ pub struct Results {
 }
 
 impl Model for Results {
-    ghost use Rattle.tk_engine_execute.specs.Results.{Ran};
+    ghost use Rattle.tk_engine_execute.specs.Results.{RunResults};
 
-    ghost Value = { Ran };
+    ghost Value = { RunResults };
 
     ghost view = { λ r. record { recorded = r.recording; closed = r.closed } };
 }

@@ -39,7 +39,7 @@ impl Error for SinkFault {}
 /// Its meaning is what contracts see of a sender: the session, the table, the worker, and the list
 /// that it emitted. What a sink takes is added as a sender adds it; a refusal changes nothing.
 pub trait Sink {
-    ghost meaning: { Self → SenderView };
+    ghost view: { Self → SenderView };
 
     /// Emits an event of a static descriptor, or of one that this sink registered.
     ///
@@ -47,9 +47,9 @@ pub trait Sink {
     /// `Send` where the event is unlawful or a registration, where its descriptor is unknown, or
     /// where the sink has emitted `MAX_EVENTS` events.
     fn emit<R: Wait>(&mut self, rt: &R, event: Event) -> Result<(), SinkFault>
-        ensures ok { OnOk result ((refusal_of (meaning self.old) event ≡ None)
-            × (meaning self.new ≡ sends (meaning self.old) event)) }
-        ensures err { OnErr result (meaning self.new ≡ meaning self.old) };
+        ensures ok { OnOk result ((refusal_of (view self.old) event ≡ None)
+            × (view self.new ≡ sends (view self.old) event)) }
+        ensures err { OnErr result (view self.new ≡ view self.old) };
 
     /// Registers a dynamic descriptor below its parent, emits its registration with this stamp, and
     /// returns its key.
@@ -70,14 +70,14 @@ pub trait Sink {
         stamp: u64,
     ) -> Result<u32, SinkFault>
         ensures ok { IfOk result (λ key.
-            IsRegisteredAs (meaning self.old) (meaning self.new)
+            IsRegisteredAs (view self.old) (view self.new)
             (record { parent = parent; segment = segment.now; name = name.now; dtype = dtype;
             stamp = stamp }) (Ok key)) }
-        ensures err { OnErr result (meaning self.new ≡ meaning self.old) };
+        ensures err { OnErr result (view self.new ≡ view self.old) };
 }
 
 impl Sink for Sender {
-    ghost meaning = { λ s. s };
+    ghost view = { λ s. s };
 
     fn emit<R: Wait>(&mut self, rt: &R, event: Event) -> Result<(), SinkFault>
         ensures ok { OnOk result ((refusal_of self.old event ≡ None)

@@ -3,7 +3,7 @@ ghost use Rattle.std.specs.Prelude.{◌≡◌, ◌<◌, List, [], ◌++◌, None
 ghost use Rattle.tk_events.specs.declared.events.Event.{Event};
 ghost use Rattle.tk_queue.specs.Emission.{registrations};
 ghost use Rattle.tk_engine_runs.specs.Run.{Emits};
-ghost use Rattle.tk_engine_execute.specs.Engines.{IsSame};
+ghost use Rattle.tk_engine_execute.specs.Engines.{IsSameSender};
 ghost use Rattle.tk_engine_execute.specs.Workers.{IsReady, IsDone, IsStopped};
 
 use crate::engines::{Engine, UnitFault};
@@ -23,7 +23,7 @@ pub(crate) struct WorkerHandles {
 
 /// The unit that failed, and why.
 #[derive(Drop)]
-pub(crate) struct Failure {
+pub(crate) struct FailedUnit {
     pub unit: u32,
     pub why: UnitFault,
 }
@@ -33,12 +33,12 @@ pub(crate) struct Failure {
 pub(crate) struct Outcome {
     pub ended: Ended,
     pub claim_seat: ClaimSeat,
-    pub failure: Option<Failure>,
+    pub failure: Option<FailedUnit>,
 }
 
 impl Outcome {
     /// The token and the seat of a worker that had no failure, or its failure.
-    pub(crate) fn into_parts(self) -> Result<(Ended, ClaimSeat), Failure>
+    pub(crate) fn into_parts(self) -> Result<(Ended, ClaimSeat), FailedUnit>
         ensures ok { IfOk result (λ r.
             (self.failure ≡ None) × (r.0 ≡ self.ended) × (r.1 ≡ self.claim_seat)) }
         ensures err { IfErr result (λ failed. self.failure ≡ Some failed) }
@@ -71,7 +71,7 @@ fn run_unit<R: Wait, E: Engine>(
     requires table { sender.old.table ≡ E.table engine.now }
     ensures book { seat.new.book ≡ seat.old.book }
     ensures released { seat.new.holds ≡ None }
-    ensures same { IsSame sender.old sender.new }
+    ensures same { IsSameSender sender.old sender.new }
     ensures ok { OnOk result ((l : List Event) × (sender.new.sent ≡ sender.old.sent ++ l)
         × E.may engine.now unit sender.old.worker (registrations sender.old.sent) l) }
     ensures err { OnErr result ((l : List Event) × (sender.new.sent ≡ sender.old.sent ++ l)) }
@@ -92,14 +92,14 @@ fn run_units<R: Wait, E: Engine>(
     sender: &mut Sender,
     claim_seat: &mut ClaimSeat,
     book_seat: &mut BookSeat,
-) -> Option<Failure>
+) -> Option<FailedUnit>
     requires limit { claim.now.limit ≡ E.units engine.now }
     requires claim { claim_seat.old.claim ≡ claim.now }
     requires book { book_seat.old.book ≡ book.now }
     requires empty { book_seat.old.holds ≡ None }
     requires nothing { (claim_seat.old.numbers ≡ []) × (sender.old.sent ≡ []) }
     requires table { sender.old.table ≡ E.table engine.now }
-    ensures same { IsSame sender.old sender.new }
+    ensures same { IsSameSender sender.old sender.new }
     ensures claim { claim_seat.new.claim ≡ claim_seat.old.claim }
     ensures all { IfNone result (claim_seat.new.spent ≡ true) }
     ensures emits { IfNone result
@@ -114,7 +114,7 @@ fn run_units<R: Wait, E: Engine>(
             return None;
         };
         if let Err(why) = run_unit(rt, alloc, engine, book, unit, sender, book_seat) {
-            return Some(Failure { unit, why });
+            return Some(FailedUnit { unit, why });
         }
     }
     unreachable!()

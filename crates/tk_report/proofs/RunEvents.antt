@@ -13,8 +13,8 @@ use Rattle.tk_plan.specs.Gives.{plan_in, Answered}
 use Rattle.tk_plan.specs.declared.faults.PlanFault.{PlanFault}
 use Rattle.tk_plan.specs.declared.faults.PlanFault.TheVariants as plans
 use Rattle.tk_engine_execute.specs.declared.engines.UnitFault.{UnitFault}
-use Rattle.tk_engine_execute.specs.declared.runs.RunFault.{RunFault}
-use Rattle.tk_engine_execute.specs.declared.runs.RunFault.TheVariants as runs
+use Rattle.tk_engine_execute.specs.declared.run_faults.RunFault.{RunFault}
+use Rattle.tk_engine_execute.specs.declared.run_faults.RunFault.TheVariants as runs
 use Rattle.tk_report_text.specs.Reports.{report_of_record}
 use Rattle.tk_engine_laws.specs.Reports.{report_of_plan}
 use Rattle.tk_report.specs.declared.plan_runs.PlanRun.{PlanRun}

@@ -9,8 +9,8 @@ use Rattle.tk_plan_units.specs.Trees.{Tree, forest}
 use Rattle.tk_plan.specs.declared.faults.PlanFault.{PlanFault}
 use Rattle.tk_plan.specs.declared.faults.PlanFault.TheVariants as plans
 use Rattle.tk_plan.specs.Gives.{plan_in, outline, Answered}
-use Rattle.tk_engine_execute.specs.declared.runs.RunFault.{RunFault}
-use Rattle.tk_engine_execute.specs.declared.runs.RunFault.TheVariants as runs
+use Rattle.tk_engine_execute.specs.declared.run_faults.RunFault.{RunFault}
+use Rattle.tk_engine_execute.specs.declared.run_faults.RunFault.TheVariants as runs
 use Rattle.tk_engine_execute.specs.Results.{IsTallied}
 use Rattle.tk_report_text.specs.Reports.{report_of_record}
 use Rattle.tk_engine_laws.specs.Reports.{report_of_plan}

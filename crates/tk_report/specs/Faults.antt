@@ -1,8 +1,8 @@
 -- What the faults of a plan and of its run are said as in a report's.
 use Rattle.tk_plan.specs.declared.faults.PlanFault.{PlanFault}
 use Rattle.tk_plan.specs.declared.faults.PlanFault.TheVariants as plans
-use Rattle.tk_engine_execute.specs.declared.runs.RunFault.{RunFault}
-use Rattle.tk_engine_execute.specs.declared.runs.RunFault.TheVariants as runs
+use Rattle.tk_engine_execute.specs.declared.run_faults.RunFault.{RunFault}
+use Rattle.tk_engine_execute.specs.declared.run_faults.RunFault.TheVariants as runs
 use Rattle.tk_report.specs.declared.faults.ReportFault.{ReportFault}
 use Rattle.tk_report.specs.declared.faults.ReportFault.TheVariants.{Plan, Run, Memory}
 

@@ -1,5 +1,5 @@
 use Rattle.std.proofs.Common.{take}
-use Rattle.tk_engine_execute.specs.Engines.{IsSame}
+use Rattle.tk_engine_execute.specs.Engines.{IsSameSender}
 use Rattle.tk_engine.specs.Keys.{kept}
 use Rattle.tk_engine.specs.Plays.{IsPlayed}
 use Rattle.tk_engine.proofs.playing.play_each.Given as goal
@@ -10,5 +10,5 @@ ghost-play g a = g.sent
 -- the steps before the next one were played
 abbrev pub invariant-loop-at : goal.invariant-loop-at
 invariant-loop-at g l =
-    IsSame (g.S.Sink.meaning l.fn.sink) (g.S.Sink.meaning l.sink)
-    × IsPlayed l.plan.nodes l.plan.table (g.S.Sink.meaning l.fn.sink).worker g.sent (take l.at l.steps) (g.S.Sink.meaning l.sink).sent (kept l.keys)
+    IsSameSender (g.S.Sink.view l.fn.sink) (g.S.Sink.view l.sink)
+    × IsPlayed l.plan.nodes l.plan.table (g.S.Sink.view l.fn.sink).worker g.sent (take l.at l.steps) (g.S.Sink.view l.sink).sent (kept l.keys)

@@ -12,7 +12,7 @@ use Rattle.tk_queue.specs.Emission.{entries_by}
 use Rattle.tk_engine_runs.specs.Run.{IsRun, IsShared}
 use Rattle.tk_engine_execute.specs.declared.event_collectors.EventCollector.{EventCollector}
 use Rattle.tk_engine_execute.specs.EventCollectors.{Follows}
-use Rattle.tk_engine_execute.specs.Results.{Ran, IsTallied}
+use Rattle.tk_engine_execute.specs.Results.{RunResults, IsTallied}
 use Rattle.tk_engine_execute.specs.PreparedRuns.{IsFreshCollector}
 use Rattle.tk_engine_execute.proofs.Collecting.{fresh_collector, room_left}
 use Rattle.tk_engine_execute.proofs.Tokens.{tallied_whole}
@@ -34,12 +34,12 @@ whole_is : (before after : List Event) (mid prefix whole : List Entry) → prefi
 whole_is before after mid prefix whole first is = is ∙ ap (λ l. l ++ entries_by 0 after) first
 
 is_tallied : (n : ℕ) (closed : List ℕ) (before after : List Event) (mid prefix : List Entry) → prefix ≡ entries_by 0 before ++ mid → IsTallied n closed mid
-    → (r : Ran) → (r.recorded.entries ≡ prefix ++ entries_by 0 after) × (r.closed ≡ closed) → IsTallied n r.closed r.recorded.entries
+    → (r : RunResults) → (r.recorded.entries ≡ prefix ++ entries_by 0 after) × (r.closed ≡ closed) → IsTallied n r.closed r.recorded.entries
 is_tallied n closed before after mid prefix first tally r stated = rw (stated.1) (tallied_whole n closed before after mid r.recorded.entries (whole_is before after mid prefix r.recorded.entries first (stated.0)) tally)
 
 is_run : (may : ℕ → ℕ → ℕ → List Event → Type 0) (table : List Descriptor) (before after : List Event) (units workers : ℕ) (mid prefix : List Entry) (over : List Descriptor)
     → over ≡ table → prefix ≡ entries_by 0 before ++ mid → IsShared may units workers mid
-    → (r : Ran) → (r.recorded.table ≡ over) × (r.recorded.entries ≡ prefix ++ entries_by 0 after) → IsRun may table before after units workers r.recorded
+    → (r : RunResults) → (r.recorded.table ≡ over) × (r.recorded.entries ≡ prefix ++ entries_by 0 after) → IsRun may table before after units workers r.recorded
 is_run may table before after units workers mid prefix over same first shared r stated = record {
   over = stated.0 ∙ same;
   mid = mid;
