@@ -1,6 +1,7 @@
 pub use Rattle.tk_queue_core.specs.Core
 pub use Rattle.tk_queue_core.specs.CoreState
 pub use Rattle.tk_queue_core.specs.Replay
+pub use Rattle.tk_queue_core.specs.TurnItems
 pub use Rattle.tk_queue_core.specs.Laws
 pub use Rattle.tk_queue_core.specs.Script
 pub use Rattle.tk_queue_core.specs.ReplayText

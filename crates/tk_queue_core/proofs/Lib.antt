@@ -1,5 +1,6 @@
 pub mod Plays
 pub mod CoreSteps
+pub mod TurnItems
 pub mod ReplaySteps
 pub mod ScriptForms
 pub mod TurnSteps

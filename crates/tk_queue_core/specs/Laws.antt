@@ -1,18 +1,20 @@
 -- A replay goes through states of the core.
-use Rattle.std.specs.Prelude.{◌≡◌, ℕ, ◌≤◌, List, length, take, Some, true, Result, Err}
+use Rattle.std.specs.Prelude.{◌≡◌, ℕ, ◌≤◌, List, ◌++◌, length, take, slice_get, Some, None, true, Result, Err}
 use Rattle.std.specs.List.{AllByRecursion}
 use Rattle.tk_ids.specs.declared.descriptors.Descriptor.{Descriptor}
 use Rattle.tk_events.specs.declared.events.Event.{Event}
 use Rattle.tk_record_columns.specs.Mixing.{IsWorkerOf}
 use Rattle.tk_queue_core.specs.Limits.{most_workers, worker_slots}
 use Rattle.tk_queue_core.specs.declared.items.Turn.{Turn}
+use Rattle.tk_queue_core.specs.declared.items.Turn.TheVariants.{Worker}
 use Rattle.tk_record_columns.specs.Recorded.{Recorded}
 use Rattle.tk_queue_core.specs.declared.replays.ReplayFault.{ReplayFault}
 use Rattle.tk_queue_core.specs.declared.replays.ReplayFault.TheVariants as faults
 use Rattle.tk_queue_core.specs.ReplayText.{IsPlayed}
 use Rattle.tk_queue_core.specs.CoreState.{has_ended}
 use Rattle.tk_queue_core.specs.Core.{Core, IsCore, entries}
-use Rattle.tk_queue_core.specs.Replay.{Moment, IsTurn, script_of, count_of, plays, start}
+use Rattle.tk_queue_core.specs.Replay.{Moment, Faulty, IsTurn, script_of, count_of, plays, start, StopsAt}
+use Rattle.tk_queue_core.specs.TurnItems.{AreItemsOf, item_after}
 
 -- the moment is the core's state in which each worker sent as much of its script as is counted, and
 -- all of it where it ended
@@ -28,14 +30,24 @@ pub record IsMomentOf (scripts : List (List Event)) (m : Moment) (c : Core) : Ty
   pub counts : length m.emitted ≡ length scripts
   pub marks : length m.core.ended ≡ worker_slots
 
--- so each worker's items, taken and waiting, are the events that it emitted so far, then its mark
--- if it ended
+-- Where no turn stops, the last moment is a state of the core: each worker's items, taken and
+-- waiting, are the events that it emitted so far, then its mark if it ended. All items together are
+-- those of the turns, in their order.
 abbrev pub ReplaysCore : Type 0
 ReplaysCore =
     (table : List Descriptor) (scripts : List (List Event)) (turns : List Turn) (m : Moment)
     → length scripts ≤ most_workers → AllByRecursion (IsTurn (length scripts)) turns
     → plays scripts turns (start table (length scripts)) ≡ Some m
-    → (c : Core) × IsMomentOf scripts m c
+    → (c : Core) × IsMomentOf scripts m c × AreItemsOf scripts turns (c.taken ++ c.waiting)
+
+-- a turn is faulty where the script and the mark of its worker have no item for it
+abbrev pub FaultyHasNoItem : Type 0
+FaultyHasNoItem =
+    (table : List Descriptor) (scripts : List (List Event)) (turns : List Turn) (i : ℕ)
+    → length scripts ≤ most_workers → AllByRecursion (IsTurn (length scripts)) turns
+    → StopsAt table scripts turns i Faulty
+    → (w : ℕ) × (slice_get turns i ≡ Some (Worker w))
+    × (item_after scripts (take i turns) w ≡ None)
 
 -- an answer that depends on the input alone, and not on memory
 abbrev pub IsSettled : Result Recorded ReplayFault → Type 0

@@ -3,6 +3,7 @@ pub mod Core
 pub mod CoreState
 pub mod Replay
 pub mod Script
+pub mod TurnItems
 pub mod ReplayText
 pub mod Reading
 pub mod Laws
