@@ -11,6 +11,7 @@ import sys
 import tempfile
 import threading
 import time
+from collections import Counter
 from concurrent.futures import ThreadPoolExecutor
 from dataclasses import dataclass
 from enum import Enum
@@ -21,6 +22,9 @@ Bytes = Union[bytes, Callable[[], bytes]]
 
 TIME_LIMIT = 600
 """How many seconds a run may take: far more than any needs, so that a slow machine fails no case."""
+
+SECONDS_WITH_OPEN_INPUT = 60
+"""How many seconds a run may take whose input stays open: one that waits for its end would never end."""
 
 MOST_AT_ONCE = 4
 """How many runs there may be at once."""
@@ -52,6 +56,7 @@ class Input(Enum):
     BYTES = "a pipe with the bytes of the case"
     FILE = "a file with the bytes of the case"
     PIECES = "a pipe into which the bytes of the case are written one by one"
+    OPEN = "a pipe with the bytes of the case, which stays open until the program has ended"
     CLOSED = "closed"
     FOLDER = "a folder, which can't be read"
 
@@ -196,11 +201,38 @@ def end(case: Case, process: subprocess.Popen) -> Ended:
         first = read_first(process.stdout)
         process.stdout.close()
         process.stdout = None
+    if case.standard_input == Input.OPEN:
+        return end_with_open_input(case, process)
     if case.standard_input == Input.PIECES:
         write_pieces(process.stdin, made(case.input))
     data = made(case.input) if process.stdin and case.standard_input == Input.BYTES else None
     output, error = process.communicate(data)
     return process.returncode, output or first, error or b""
+
+
+def end_with_open_input(case: Case, process: subprocess.Popen) -> Ended:
+    """Writes the input, and waits for the end of the process, which is killed after a while, before the pipe is closed."""
+    pipe, process.stdin = process.stdin, None
+    writing = threading.Thread(target=write_all, args=(pipe, made(case.input)))
+    writing.start()
+    try:
+        output, error = process.communicate(timeout=SECONDS_WITH_OPEN_INPUT)
+    except subprocess.TimeoutExpired:
+        process.kill()
+        output, error = process.communicate()
+    writing.join()
+    pipe.close()
+    return process.returncode, output or b"", error or b""
+
+
+def write_all(pipe, data: bytes) -> None:
+    """Writes bytes as long as they are read."""
+    at = 0
+    try:
+        while at < len(data):
+            at += pipe.write(data[at:])
+    except BrokenPipeError:
+        pass
 
 
 def read_first(pipe) -> bytes:
@@ -288,22 +320,55 @@ def difference(got: bytes, wanted: bytes) -> str:
     )
 
 
-def run_all(program: str, cases: Sequence[Union[Case, ThreadCount, Check]]) -> int:
-    """Runs the cases, prints a line for each that fails and the numbers at last. The status: 0 where none fails."""
-    failed = 0
+AnyCase = Union[Case, ThreadCount, Check]
+
+
+@dataclass(frozen=True)
+class Group:
+    """The cases of a module, and how many there are at least."""
+
+    name: str
+    cases: Sequence[AnyCase]
+    least: int
+
+
+def faults_of(groups: Sequence[Group], least: int) -> List[str]:
+    """What is wrong with the lists of cases: too few in a group or in all, or two of one name."""
+    faults = [
+        f"{group.name} has {len(group.cases)} cases, and at least {group.least} are wanted"
+        for group in groups
+        if len(group.cases) < group.least
+    ]
+    names = [case.name for group in groups for case in group.cases]
+    if len(names) < least:
+        faults.append(f"there are {len(names)} cases, and at least {least} are wanted")
+    return faults + [f"{number} cases have the name {name}" for name, number in Counter(names).items() if number > 1]
+
+
+def outcome_of(case: AnyCase, program: str) -> Optional[str]:
+    """What differs, or the exception that the case raised, or None where it passes."""
+    try:
+        return case.run(program)
+    except Exception as fault:
+        return f"{type(fault).__name__}: {fault}"
+
+
+def run_all(program: str, cases: Sequence[AnyCase], faults: Sequence[str] = ()) -> int:
+    """Runs the cases, prints a line for each fault of their lists and each case that fails, and the numbers at last.
+
+    The status is 0 where some cases ran, each of them did, and nothing failed.
+    """
+    faults, outcomes, failed = list(faults), {}, 0
     with ThreadPoolExecutor(min(MOST_AT_ONCE, os.cpu_count() or 1)) as workers:
-        for case, fault in zip(cases, workers.map(lambda case: case.run(program), cases)):
-            if fault is not None:
+        for case, outcome in zip(cases, workers.map(lambda case: outcome_of(case, program), cases)):
+            outcomes[case.name] = outcome
+            if outcome is not None:
                 failed += 1
-                print(f"{case.name}: {fault}", flush=True)
-    print(f"{len(cases) - failed} passed, {failed} failed")
-    return 0 if failed == 0 else 1
-
-
-def refuse_equal_names(cases: Sequence[Union[Case, ThreadCount, Check]]) -> None:
-    """Stops where two cases have one name."""
-    names = set()
-    for case in cases:
-        if case.name in names:
-            sys.exit(f"gate/cases/run_cases: two cases have the name {case.name}")
-        names.add(case.name)
+                print(f"{case.name}: {outcome}", flush=True)
+    faults += [f"{case.name} did not run" for case in cases if case.name not in outcomes]
+    if not outcomes:
+        faults.append("no case ran")
+    for fault in faults:
+        print(f"gate/cases/run_cases: {fault}")
+    print(f"{len(outcomes) - failed} passed, {failed + len(faults)} failed")
+    return 1 if failed or faults else 0

@@ -7,12 +7,15 @@
 - `changes`: texts of all kinds with a byte changed, dropped or doubled, and texts made of loose parts.
 """
 
-from typing import List, Union
+from typing import List
 
 from generated import changes, plans, questions, replays
-from harness import Case, Check
+from harness import Group
+
+LEAST = {questions: 1_980, replays: 301, plans: 752, changes: 1_850}
+"""The modules with cases, and how many each has at least."""
 
 
-def cases() -> List[Union[Case, Check]]:
+def groups() -> List[Group]:
     """All generated cases, in their order."""
-    return [case for module in (questions, replays, plans, changes) for case in module.cases()]
+    return [Group(module.__name__, module.cases(), least) for module, least in LEAST.items()]

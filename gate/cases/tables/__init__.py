@@ -1,41 +1,78 @@
 """The cases that were written by hand, a module a subject. What has to come was worked out from the documents."""
 
-from typing import List, Union
+import glob
+import os
+from typing import List
 
-from harness import Case, Check
+from harness import Group
 from tables import (
     command_lines,
     condition_answers,
     condition_faults,
     devices,
-    limits,
-    plan_faults,
+    fault_lines,
+    large_outputs,
+    large_plans,
+    long_lines,
+    long_replays,
+    many_descriptors,
+    many_events,
+    open_inputs,
+    plan_json,
+    plan_members,
     plan_reports,
+    plan_rules,
+    plan_units,
     prefixes,
     questions,
     record_lines,
     replays,
     schedules,
+    text_sizes,
+    threads,
     unique_ids,
 )
 
-MODULES = [
-    command_lines,
-    questions,
-    record_lines,
-    unique_ids,
-    condition_answers,
-    condition_faults,
-    replays,
-    plan_faults,
-    plan_reports,
-    prefixes,
-    devices,
-    limits,
-    schedules,
-]
+LEAST = {
+    command_lines: 162,
+    questions: 120,
+    record_lines: 222,
+    unique_ids: 54,
+    condition_answers: 147,
+    condition_faults: 150,
+    replays: 129,
+    plan_json: 41,
+    plan_members: 189,
+    plan_rules: 55,
+    plan_reports: 87,
+    plan_units: 24,
+    prefixes: 858,
+    devices: 104,
+    open_inputs: 41,
+    text_sizes: 14,
+    many_events: 26,
+    many_descriptors: 6,
+    long_lines: 25,
+    long_replays: 3,
+    large_plans: 17,
+    large_outputs: 6,
+    threads: 17,
+    fault_lines: 26,
+    schedules: 1_000,
+}
+"""The modules with cases, and how many each has at least."""
+
+WITHOUT_CASES = ["building", "plan_texts", "texts"]
+"""The modules that the others share."""
 
 
-def cases() -> List[Union[Case, Check]]:
+def groups() -> List[Group]:
     """All cases of the tables, in their order."""
-    return [case for module in MODULES for case in module.CASES]
+    return [Group(module.__name__, module.CASES, least) for module, least in LEAST.items()]
+
+
+def unlisted() -> List[str]:
+    """The files of this folder that nobody lists."""
+    listed = {f"{module.__name__.rpartition('.')[2]}.py" for module in LEAST} | {f"{name}.py" for name in WITHOUT_CASES}
+    found = {os.path.basename(path) for path in glob.glob(f"{os.path.dirname(os.path.abspath(__file__))}/*")}
+    return sorted(found - listed - {"__init__.py", "__pycache__"})

@@ -1,9 +1,9 @@
-"""Standard streams of each kind, those that fail among them, runs with little memory, and threads of runs."""
+"""Standard streams of each kind, those that fail among them, and runs with little memory."""
 
 from typing import Callable
 
 import form
-from harness import Case, Input, Output, ThreadCount
+from harness import Case, Input, Output
 from tables.building import as_bytes, as_words, record, stats
 from tables.texts import DEMO_NODES, DEMO_PLAN, EMPTY, ONE_START, ONE_TEST_PLAN, SMALL_REPLAY, TWO_TESTS
 
@@ -176,20 +176,6 @@ LITTLE_MEMORY = [
 ]
 """16 MiB of text don't fit into 16,000 KiB, and a program without it does."""
 
-
-def many_units() -> bytes:
-    """A plan of 10,000 units: enough for all workers to have started before the first one is done."""
-    tests = [f'{{"type":"test","segment":["t","{unit}"],"name":"n","mode":"concurrent"}}' for unit in range(10_000)]
-    root = '{"type":"both","segment":["engine","e"],"name":"e","children":[' + ",".join(tests) + "]}"
-    return f'{{"version":1,"root":{root}}}'.encode()
-
-
-def many_units_report() -> bytes:
-    ids = ["[engine:e]"] + sorted(f"[engine:e]/[t:{unit}]" for unit in range(10_000))
-    lines = "".join(id_text + "\n  start\n  finish|ok\n" for id_text in ids)
-    return (stats(started=10_001, finished=10_001, succeeded=10_001) + lines).encode()
-
-
 NO_THREAD = [
     Case(
         f"no thread/{words}",
@@ -203,21 +189,5 @@ NO_THREAD = [
 ]
 """A thread's stack of 8,192 KiB doesn't fit into 9,000 KiB beside a program, and a program without threads does."""
 
-THREADS = [
-    ThreadCount(Case(f"threads/{words}", as_words(words), many_units, many_units_report), workers + 1)
-    for words, workers in [("run", 1), ("run --workers=2", 2)]
-    + [(f"run --workers {workers}", workers) for workers in range(1, form.MAX_WORKERS + 1)]
-]
-"""A run has a thread for each worker beside the one that it starts with."""
 
-CASES = (
-    INPUTS
-    + BEFORE_THE_INPUT
-    + OUTPUTS
-    + NOTHING_TO_WRITE
-    + ERRORS
-    + GOOD_INPUTS
-    + LITTLE_MEMORY
-    + NO_THREAD
-    + THREADS
-)
+CASES = INPUTS + BEFORE_THE_INPUT + OUTPUTS + NOTHING_TO_WRITE + ERRORS + GOOD_INPUTS + LITTLE_MEMORY + NO_THREAD

@@ -1,0 +1,42 @@
+"""Long outputs to a full device, and to a pipe that is closed after a few bytes."""
+
+from harness import Case, Output
+from tables.building import as_words
+from tables.large_plans import CONCURRENT, nodes, plan, static_report
+from tables.long_replays import long_replay, long_replay_record
+from tables.many_events import many_events, many_executions
+
+FULL_DEVICE = [
+    Case(
+        f"full device/{name}",
+        as_words(words),
+        data,
+        error=b"testkit: device failed\n",
+        status=3,
+        standard_output=Output.FULL,
+    )
+    for name, words, data in [
+        ("a long list of executions", "ask executions", many_events),
+        ("a long replay", "replay", long_replay),
+        ("a long report", "run --workers 2", lambda: plan(nodes("children", 10_000, CONCURRENT))),
+    ]
+]
+
+CUT_PIPE = [
+    Case(
+        f"pipe that is cut/{name}",
+        as_words(words),
+        data,
+        output,
+        error=b"testkit: device failed\n",
+        status=3,
+        standard_output=Output.CUT_PIPE,
+    )
+    for name, words, data, output in [
+        ("a long list of executions", "ask executions", many_events, many_executions),
+        ("a long replay", "replay", long_replay, long_replay_record),
+        ("a long report", "run --workers 2", lambda: plan(nodes("children", 20_000)), lambda: static_report(20_000)),
+    ]
+]
+
+CASES = FULL_DEVICE + CUT_PIPE
