@@ -1,0 +1,61 @@
+"""Tests and wrong bodies: how many there are, and whether each wrong body can be applied and changes code.
+
+A wrong body that can't be applied counts for nothing in `rt ci`, and fails nothing there.
+"""
+
+import re
+from typing import Dict, List, Tuple
+
+from sources import Source, Tree
+
+
+def tests_of(tree: Tree) -> Dict[str, int]:
+    """How many tests each crate has."""
+    found: Dict[str, int] = {}
+    for source in tree.sources:
+        found[source.crate] = found.get(source.crate, 0) + sum(line.strip() == "#[test]" for line in source.code)
+    return {crate: count for crate, count in found.items() if count}
+
+
+def edits_of(tree: Tree) -> List[str]:
+    """The wrong bodies of the crates."""
+    return [path for path in tree.files if re.fullmatch(r"crates/\w+/must-fail/\w+\.edit", path)]
+
+
+def edit_faults(tree: Tree) -> List[str]:
+    """Wrong bodies that can't be applied, or change no code; and files beside them that are none."""
+    edits = edits_of(tree)
+    others = [path for path in tree.files if "/must-fail/" in path and path not in edits]
+    faults = [f"{path}: {fault}" for path in edits for fault in [edit_fault(tree, path)] if fault]
+    return faults + [f"{path} is no wrong body" for path in others]
+
+
+def edit_fault(tree: Tree, path: str) -> str:
+    """Why a wrong body can't be applied, or changes no code; nothing where it can and does."""
+    crate = path.partition("/must-fail/")[0]
+    texts: Dict[str, Tuple[str, str]] = {}
+    file = old = ""
+    for line in tree.text(path).split("\n"):
+        word, _, rest = line.partition(": ")
+        if word == "file":
+            file = rest.strip()
+            if not re.fullmatch(r"src/\w+\.rt", file):
+                return f"{file} is no source"
+            texts.setdefault(file, (tree.text(f"{crate}/{file}"),) * 2)
+        elif word == "old":
+            old = rest
+        elif word in ("new", "new:") and file and old:
+            before, now = texts[file]
+            if now.count(old) != 1:
+                return f"{old.strip()!r} stands {now.count(old)} times in {file}"
+            texts[file], old = (before, now.replace(old, rest)), ""
+        elif line.strip():
+            return f"{line!r} is no line of a wrong body"
+    changed = [it for it in texts.values() if code_and_texts(it[0]) != code_and_texts(it[1])]
+    return "an 'old:' has no 'new:'" if old else "" if changed else "it changes no code"
+
+
+def code_and_texts(text: str) -> Tuple[Tuple[str, ...], List[str]]:
+    """The code of a text, and the texts in quotes that stand in it, without comments."""
+    source = Source("", "", tuple(text.split("\n")))
+    return source.code, [found for line in source.lines if not line.strip().startswith("//") for found in re.findall(r'"[^"]*"', line)]

@@ -1,0 +1,102 @@
+"""How a tree has to be laid out, as far as nothing else notices: what is left out of a proof, a test or the gate breaks silently."""
+
+import os
+import re
+from typing import List, Set
+
+from sources import Tree
+
+HANDLES = "Handles allowed: Threads, Wait.\n"
+MOST_COLUMNS = 100
+"""How many columns a clause and a line of specs/ may have."""
+
+
+def handle_faults(tree: Tree) -> List[str]:
+    """The file HANDLES differs."""
+    return [] if tree.text("HANDLES") == HANDLES else [f"HANDLES differs from {HANDLES!r}"]
+
+
+def crate_faults(tree: Tree) -> List[str]:
+    """Folders of no crate, crates without a root, and crates that stand before a library that they name."""
+    faults: List[str] = []
+    earlier: Set[str] = set()
+    folders = {path.split(os.sep)[1] for path in tree.files if path.startswith("crates/")}
+    faults += [f"crates/{folder} is no crate of crates.txt" for folder in sorted(folders - set(tree.crates))]
+    for crate, libraries in tree.crates.items():
+        faults += [f"crates.txt: {crate} stands before {it}" for it in libraries if it in tree.crates and it not in earlier]
+        earlier.add(crate)
+        roots = [path for path in (f"crates/{crate}/src/lib.rt", f"crates/{crate}/src/main.rt") if path in tree.files]
+        if len(roots) != 1:
+            faults.append(f"crates/{crate}/src has {len(roots)} roots")
+        faults += [f"{root} has no #![tactic(auto)]" for root in roots if "#![tactic(auto)]" not in tree.text(root)]
+    return faults
+
+
+def place_faults(tree: Tree) -> List[str]:
+    """Sources, definitions and proofs outside their folders, and code in C in a crate."""
+    faults: List[str] = []
+    for path in tree.files:
+        parts = path.split(os.sep)
+        folder = parts[2] if len(parts) > 3 and parts[0] == "crates" and parts[1] in tree.crates else ""
+        if path.endswith(".rt") and folder != "src":
+            faults.append(f"{path} stands outside src/ of a crate")
+        if path.endswith(".antt") and folder not in ("specs", "proofs"):
+            faults.append(f"{path} stands outside specs/ and proofs/ of a crate")
+        if path.startswith("crates/") and path.endswith((".c", ".h", ".s", ".o", ".a")):
+            faults.append(f"{path} is code in C")
+    return faults
+
+
+def module_faults(tree: Tree) -> List[str]:
+    """Files that no root names: nothing reads them."""
+    faults = []
+    for path in tree.files:
+        found = re.fullmatch(r"crates/(\w+)/(src|specs|proofs)/(\w+)\.(rt|antt)", path)
+        if not found or (found[2] == "src") != (found[4] == "rt") or found[3] in ("lib", "main", "Lib"):
+            continue
+        folder = f"crates/{found[1]}/{found[2]}"
+        roots = ("lib.rt", "main.rt") if found[2] == "src" else ("Lib.antt",)
+        root = "\n".join(tree.text(f"{folder}/{it}") for it in roots)
+        if not re.search(rf"^(pub )?mod {found[3]};?\s*$", root, re.MULTILINE):
+            faults.append(f"{path} is named by no root")
+    return faults
+
+
+def code_faults(tree: Tree) -> List[str]:
+    """Code that is unsafe or foreign, and tests that are left out."""
+    faults = []
+    for source in tree.sources:
+        for number, line in enumerate(source.code, 1):
+            found = re.search(r"\bunsafe\b|\bextern\b|#\[ignore", line)
+            if found:
+                faults.append(f"{source.path}:{number}: {found[0]}")
+    return faults
+
+
+def without_clause(tree: Tree) -> List[str]:
+    """The public functions of libraries that have no clause, each with its file."""
+    found = []
+    for source in [it for it in tree.sources if not it.is_test]:
+        for number, line in enumerate(source.code, 1):
+            function = re.match(r"\s*pub (?:const )?fn (\w+)", line)
+            head = re.split(r"^\s*\{$|\{$|;$", "\n".join(source.code[number - 1 :]), maxsplit=1, flags=re.MULTILINE)[0] if function else ""
+            if function and not re.search(r"^\s*ensures\b", head, re.MULTILINE):
+                found.append(f"{source.path} {function[1]}")
+    return found
+
+
+def column_faults(tree: Tree) -> List[str]:
+    """Clauses, and lines of specs/, that are too long to read."""
+    lines = [(f"{it.path}:{at}", line) for it in tree.sources for at, line in enumerate(it.lines, 1) if re.match(r"\s*(requires|ensures)\b", line)]
+    for path in tree.files:
+        if re.fullmatch(r"crates/\w+/specs/.*\.antt", path):
+            lines += [(f"{path}:{at}", line) for at, line in enumerate(tree.text(path).split("\n"), 1)]
+    return [f"{place} has {len(line)} columns" for place, line in lines if len(line) > MOST_COLUMNS]
+
+
+def gate_faults(tree: Tree) -> List[str]:
+    """Scripts of the gate that `check` doesn't call."""
+    check = tree.text("check")
+    scripts = [path for path in tree.files if re.fullmatch(r"gate/\w+/\w+", path) and tree.is_script(path)]
+    faults = [f"check doesn't call {path}" for path in scripts if not re.search(rf"^[^#\n]*{path}(?![\w.])", check, re.MULTILINE)]
+    return faults if scripts else ["there is no script of the gate"]

@@ -1,0 +1,80 @@
+"""The files of a tree, its crates, and the code of their sources without comments."""
+
+import os
+import re
+from dataclasses import dataclass
+from functools import cached_property
+from typing import Dict, List, Tuple
+
+TEST_CRATE = re.compile(r"test_\w+")
+"""Crates of tests, and of what tests share."""
+
+
+@dataclass(frozen=True)
+class Source:
+    """A file of a crate's src: the path below the top of the tree, the crate, and the lines."""
+
+    path: str
+    crate: str
+    lines: Tuple[str, ...]
+
+    @property
+    def is_test(self) -> bool:
+        return TEST_CRATE.fullmatch(self.crate) is not None
+
+    @cached_property
+    def code(self) -> Tuple[str, ...]:
+        """The lines without comments and without what stands in texts."""
+        return tuple(code_of(line) for line in self.lines)
+
+    @cached_property
+    def body(self) -> str:
+        """The code without `use` items."""
+        text = "\n".join(self.code)
+        return re.sub(r"^\s*(pub )?(ghost )?use [^;]*;", lambda found: "\n" * found[0].count("\n"), text, flags=re.MULTILINE)
+
+
+def code_of(line: str) -> str:
+    """A line without its comment and without what stands in texts."""
+    texts_gone = re.sub(r'"(\\.|[^"\\])*"', '""', re.sub(r"'(\\.|[^'\\])'", "' '", line))
+    return texts_gone.partition("//")[0].rstrip()
+
+
+class Tree:
+    """A tree: its files without what is built, its crates, and the files of their src."""
+
+    def __init__(self, top: str):
+        self.top = top
+
+    @cached_property
+    def files(self) -> List[str]:
+        """The paths of all files."""
+        found = []
+        for folder, folders, files in os.walk(self.top):
+            folders[:] = sorted(name for name in folders if name not in (".git", "out", "__pycache__"))
+            found += [os.path.relpath(os.path.join(folder, name), self.top) for name in sorted(files)]
+        return found
+
+    @cached_property
+    def crates(self) -> Dict[str, List[str]]:
+        """The crates of crates.txt, each with the libraries that it names."""
+        lines = [line.partition("#")[0].partition(":") for line in self.text("crates.txt").split("\n")]
+        return {names.split()[0]: rest.split() for names, _, rest in lines if names.strip()}
+
+    @cached_property
+    def sources(self) -> List[Source]:
+        """The files of the crates' src."""
+        paths = [path for path in self.files if re.fullmatch(r"crates/\w+/src/.*\.rt", path)]
+        return [Source(path, path.split("/")[1], tuple(self.text(path).split("\n"))) for path in paths]
+
+    def text(self, path: str) -> str:
+        """The text of a file; nothing where there is none."""
+        try:
+            with open(f"{self.top}/{path}", encoding="utf-8", errors="replace") as file:
+                return file.read()
+        except FileNotFoundError:
+            return ""
+
+    def is_script(self, path: str) -> bool:
+        """Whether a file can be run."""
+        return os.access(f"{self.top}/{path}", os.X_OK)
