@@ -117,22 +117,29 @@ all_workers n c k before (Emitted e ∷ xs) whole =
     (all_workers n c k (before ++ Emitted e ∷ []) xs (whole ∙ sym (append_assoc before (Emitted e ∷ []) xs)))
 all_workers n c k before (End w ∷ xs) whole = all_workers n c k (before ++ End w ∷ []) xs (whole ∙ sym (append_assoc before (End w ∷ []) xs))
 
--- where each worker has a token and its mark was taken, what was taken mixes the tokens' sent_by
+-- where each worker has a token and its mark was taken, what was taken of each is what its token
+-- has, and then its mark
+pub ends_with_marks : (statics n : ℕ) (taken : List Item) (tokens : List SenderView) (items : List Item)
+    → ((w : ℕ) → IsWorkerOf n w → tokens_of w tokens ≡ 1) → ((w : ℕ) → IsWorkerOf n w → is_marked w taken ≡ true)
+    → Concludes (pass_of_receiver statics n taken (map pass_of_token tokens)) items → (w : ℕ) → IsWorkerOf n w → items_of w taken ≡ script w (sent_by tokens w) true
+ends_with_marks statics n taken tokens items once drained concludes w is =
+    let c = concludes.0 in
+    let k = concludes.1 in
+    let same : c.taken ≡ taken = concludes.3 in
+    let t = found c w tokens concludes.4 (let one = once w is in omega arith) in
+    let whole : items_of w taken ++ items_of w c.waiting ≡ map (entry w) (c.sent w) ++ End w ∷ [] =
+    ap (λ l. items_of w l ++ items_of w c.waiting) (sym same) ∙ sym (filter-append (λ x. worker_of x == w) c.taken c.waiting) ∙ k.kept w ∙ ap (script w (c.sent w)) t.0 in
+    let mine : items_of w taken ≡ map (entry w) (c.sent w) ++ End w ∷ [] = upto_mark w (c.sent w) (items_of w taken) (items_of w c.waiting) whole (marked_among w taken ∙ drained w is) in
+    mine ∙ ap (λ l. script w l true) (sym t.1)
+
+-- and what was taken mixes the lists of the tokens
 pub mixes : (statics n : ℕ) (taken : List Item) (tokens : List SenderView) (items : List Item)
     → ((w : ℕ) → IsWorkerOf n w → tokens_of w tokens ≡ 1) → ((w : ℕ) → IsWorkerOf n w → is_marked w taken ≡ true)
     → Concludes (pass_of_receiver statics n taken (map pass_of_token tokens)) items → Mix n (entries taken) (sent_by tokens)
-mixes statics n taken tokens items once drained concludes =
-    let c = concludes.0 in
-    let k = concludes.1 in
-    let same : c.taken ≡ taken = concludes.3 in record {
-      workers = all_workers n c k [] taken same;
-      each = λ w is.
-          let t = found c w tokens concludes.4 (let one = once w is in omega arith) in
-          let whole : items_of w taken ++ items_of w c.waiting ≡ map (entry w) (c.sent w) ++ End w ∷ [] =
-          ap (λ l. items_of w l ++ items_of w c.waiting) (sym same) ∙ sym (filter-append (λ x. worker_of x == w) c.taken c.waiting) ∙ k.kept w ∙ ap (script w (c.sent w)) t.0 in
-          let mine : items_of w taken ≡ map (entry w) (c.sent w) ++ End w ∷ [] = upto_mark w (c.sent w) (items_of w taken) (items_of w c.waiting) whole (marked_among w taken ∙ drained w is) in
-          events_among w taken ∙ ap events_in mine ∙ events_scripted w (c.sent w) true ∙ sym t.1;
-    }
+mixes statics n taken tokens items once drained concludes = record {
+  workers = all_workers n concludes.0 concludes.1 [] taken concludes.3;
+  each = λ w is. events_among w taken ∙ ap events_in (ends_with_marks statics n taken tokens items once drained concludes w is) ∙ events_scripted w (sent_by tokens w) true;
+}
 
 pub if_none_from : {A : Type 0} (o : Option A) (P : Type 0) → P → IfNone o P
 if_none_from None P p = p

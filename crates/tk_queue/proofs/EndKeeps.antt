@@ -28,10 +28,10 @@ use Rattle.tk_queue_core.proofs.CoreSteps.{filter-append}
 use Rattle.tk_queue.specs.declared.sender_faults.SendFault.TheVariants as unsent
 use Rattle.tk_queue.specs.declared.session_rules.PassView.{PassView}
 use Rattle.tk_queue.specs.Limits.{most_events}
-use Rattle.tk_queue.specs.Emission.{MayEmit, is_dynamic, is_plain, registrations, entry_by, entries_by, is_known_after}
+use Rattle.tk_queue.specs.Emission.{MayEmit, Emission, is_dynamic, is_plain, registrations, entry_by, entries_by, is_known_after}
 use Rattle.tk_queue.specs.PassViews.{pass_of_sender, pass_of_receiver, pushed, popped, Pops, MayTake, MayPush}
 use Rattle.tk_queue.specs.PassViews.{MayBeEmittedNext}
-use Rattle.tk_queue.specs.Senders.{SenderView, fresh_senders, knows, refusal_of, id_registered, IsSender, sent_of}
+use Rattle.tk_queue.specs.Senders.{SenderView, EmitsLawfully, fresh_senders, knows, refusal_of, id_registered, IsSender, sent_of}
 use Rattle.tk_queue.specs.Registering.{HasRoom, IsNew, IsChildMade}
 use Rattle.tk_queue.specs.Receivers.{IsReceiver, IsRecordable, MayFollow, taken_of, is_marked, is_mark_of}
 use Rattle.tk_queue.proofs.KnownKeys.{emission_none, emission_more, some_desc, known_after, own_entries, some_among, registers_among}
@@ -281,6 +281,15 @@ made_may t v table worker emitted ids s parent below made h is ok =
     let room : HasRoom (record { session = t; table = table; worker = worker; sent = sent_of v }) = subst HasRoom (sym is) ok.2 in
     let few = room.0 in let own_few = room.1 in let n = h.counted in let k = h.number in
     (omega arith, omega arith, ok.4 ∙ sym (ap (λ (d : Descriptor). d.id) ok.5))
+
+-- what the pass of a sender or of a token knows of its events, as a record reads them
+pub emits_lawfully : (t : TableId) (v : PassView) (table : List Descriptor) (worker : ℕ) → Emission (length table) worker (sent_of v) → EmitsLawfully (record { session = t; table = table; worker = worker; sent = sent_of v })
+emits_lawfully t v table worker m = record {
+  each = λ before e after whole.
+      let one = m.each before e after whole in
+      record { lawful = one.lawful; known = known_after table (entries_by worker before) (entry_by worker e) ∙ one.known };
+  few = m.few;
+}
 
 -- ---- a receiver
 

@@ -5,7 +5,8 @@ use Rattle.tk_queue.specs.declared.receivers.CloseReason.{CloseReason}
 use Rattle.tk_queue.specs.declared.receivers.CloseReason.TheVariants.{Missing, Twice, NotDrained}
 use Rattle.tk_queue.specs.Senders.{SenderView}
 use Rattle.tk_queue.specs.Receivers.{ReceiverView, is_marked}
-use Rattle.tk_queue.specs.Tokens.{tokens_of}
+use Rattle.tk_queue.specs.Tokens.{tokens_of, sent_by}
+use Rattle.tk_queue_core.specs.Core.{items_of, script}
 
 -- w is the least worker at which P holds
 pub record Least (n : ℕ) (P : ℕ → Type 0) (w : ℕ) : Type 0 where
@@ -17,6 +18,11 @@ pub record Least (n : ℕ) (P : ℕ → Type 0) (w : ℕ) : Type 0 where
 pub record IsComplete (r : ReceiverView) (tokens : List SenderView) : Type 0 where
   pub once : (w : ℕ) → IsWorkerOf r.workers w → tokens_of w tokens ≡ 1
   pub drained : (w : ℕ) → IsWorkerOf r.workers w → is_marked w r.taken ≡ true
+
+-- in what was taken, each worker's items are the events that it sent, and after them its mark
+abbrev pub EndWithMarks : ReceiverView → List SenderView → Type 0
+EndWithMarks r tokens =
+    (w : ℕ) → IsWorkerOf r.workers w → items_of w r.taken ≡ script w (sent_by tokens w) true
 
 -- the first reason that stands, at the least worker
 abbrev pub IsCloseFault : CloseReason → ReceiverView → List SenderView → Type 0

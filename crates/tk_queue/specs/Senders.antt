@@ -1,21 +1,22 @@
 -- What contracts see of a sender: the session, its worker, and what it emitted.
-use Rattle.std.specs.Prelude.{◌≡◌, ℕ, zero, suc, ◌<◌, ◌≤◌, ◌-◌, not, nat_lt, Bool, false, if◌then◌else◌, List, [], ◌∷◌, ◌++◌, length, slice_get, Option, Some, None, is_some, option_map, ◌+◌}
+use Rattle.std.specs.Prelude.{◌≡◌, ℕ, zero, suc, ◌<◌, ◌≤◌, ◌-◌, not, nat_lt, Bool, true, false, if◌then◌else◌, List, [], ◌∷◌, ◌++◌, length, slice_get, Option, Some, None, is_some, option_map, ◌+◌}
 use Rattle.atomic_table.specs.Seated.{TableId}
 use Rattle.tk_ids.specs.declared.descriptors.Descriptor.{Descriptor}
 use Rattle.tk_ids.specs.declared.tables.TheConstants.{MAX_DESCRIPTORS}
 use Rattle.tk_ids.specs.IdText.{SegmentView}
 use Rattle.tk_events.specs.declared.events.Event.{Event}
+use Rattle.tk_events.specs.Event.{is_lawful}
 use Rattle.tk_events.specs.Registration.{registered_key}
+use Rattle.tk_record_columns.specs.Record.{is_known}
 use Rattle.tk_record_columns.specs.Recorded.{Recorded}
 use Rattle.tk_record_columns.specs.Entries.{desc, desc_in}
 use Rattle.tk_queue_core.specs.Limits.{most_workers}
-use Rattle.tk_queue_core.specs.Core.{entries}
 use Rattle.tk_queue.specs.declared.sender_faults.SendFault.{SendFault}
 use Rattle.tk_queue.specs.declared.sender_faults.SendFault.TheVariants.{UnknownNode, Unlawful, Limit}
 use Rattle.tk_queue.specs.declared.session_rules.PassView.{PassView}
 use Rattle.tk_queue.specs.declared.session_rules.PassView.TheVariants.{Sends}
 use Rattle.tk_queue.specs.Limits.{most_events}
-use Rattle.tk_queue.specs.Emission.{Emission, is_plain, registrations, entries_by}
+use Rattle.tk_queue.specs.Emission.{Emission, is_plain, registrations, entry_by, entries_by}
 use Rattle.tk_queue.specs.PassViews.{pass_of_sender}
 
 -- the session, its table of static descriptors, the worker, and the events that it emitted there,
@@ -52,6 +53,20 @@ refusal_of s e =
     else if not (is_plain e) then Some (Unlawful e)
     else if not (nat_lt (length s.sent) most_events) then Some (Limit e)
     else None
+
+-- the event may be recorded after these of its worker: it is lawful, and its key is known
+pub record IsLawfulAfter (s : SenderView) (before : List Event) (e : Event) : Type 0 where
+  pub lawful : is_lawful e.kind e.payload ≡ true
+  pub known :
+      is_known (record { table = s.table; entries = entries_by s.worker before })
+      (entry_by s.worker e) ≡ true
+
+-- so may each event that the sender emitted after its earlier ones, and they are not too many
+pub record EmitsLawfully (s : SenderView) : Type 0 where
+  pub each :
+      (before : List Event) (e : Event) (after : List Event) → s.sent ≡ before ++ e ∷ after
+      → IsLawfulAfter s before e
+  pub few : length s.sent ≤ most_events
 
 abbrev pub sent_of : PassView → List Event
 sent_of (Sends s) = s.sent

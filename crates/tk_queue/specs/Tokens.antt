@@ -5,6 +5,7 @@ use Rattle.tk_events.specs.declared.events.Event.{Event}
 use Rattle.tk_queue_core.specs.Limits.{most_workers}
 use Rattle.tk_queue.specs.declared.session_rules.SenderPass.{SenderPass}
 use Rattle.tk_queue.specs.declared.session_rules.PassView.{PassView}
+use Rattle.tk_queue.specs.Emission.{Emission}
 use Rattle.tk_queue.specs.PassViews.{pass_of_sender}
 use Rattle.tk_queue.specs.Senders.{SenderView, sent_of}
 
@@ -12,6 +13,7 @@ use Rattle.tk_queue.specs.Senders.{SenderView, sent_of}
 pub record IsEnded (v : PassView) (table : List Descriptor) (worker emitted : ℕ) : Type 0 where
   pub is : v ≡ pass_of_sender (length table) worker (sent_of v) true
   pub counted : emitted ≡ length (sent_of v)
+  pub may : Emission (length table) worker (sent_of v)
   pub few : worker ≤ most_workers
 
 -- how many tokens worker w has

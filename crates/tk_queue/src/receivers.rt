@@ -7,7 +7,7 @@ ghost use Rattle.tk_queue_core.specs.Core.{worker_of, entries};
 ghost use Rattle.tk_queue.specs.PassViews.{pass_of_receiver};
 ghost use Rattle.tk_queue.specs.Receivers.{fresh_receiver, takes, MayBeTaken, IsRecordable};
 ghost use Rattle.tk_queue.specs.Tokens.{sent_by};
-ghost use Rattle.tk_queue.specs.Closing.{IsComplete};
+ghost use Rattle.tk_queue.specs.Closing.{IsComplete, EndWithMarks};
 
 use crate::limits::WORKER_SLOTS;
 use crate::senders::Ended;
@@ -168,6 +168,7 @@ impl Receiver {
         requires session { All (λ token. token.session ≡ self.session) ended.items }
         requires complete { IsComplete self ended.items }
         ensures mix { Mix self.workers (entries self.taken) (sent_by ended.items) }
+        ensures marks { EndWithMarks self ended.items }
         ensures each { (w : ℕ) → IsWorkerOf self.workers w
             → slice_index result w ≡ length (sent_by ended.items w) }
         ensures others { (w : ℕ) → ¬ IsWorkerOf self.workers w → slice_index result w ≡ 0 }
@@ -189,8 +190,8 @@ impl Receiver {
 
     /// Closes the session, where each worker's token is there once and each end mark was taken.
     ///
-    /// What was taken is then what the workers emitted, each worker's events in its own order.
-    /// `ended` must be tokens of this session.
+    /// What was taken is then what the workers emitted: of each worker its events in its own order,
+    /// then its mark, and nothing after it. `ended` must be tokens of this session.
     ///
     /// # Errors
     /// The first reason in the order of `CloseReason`, of the least worker, with the receiver and
@@ -199,6 +200,7 @@ impl Receiver {
         requires { All (λ token. token.session ≡ self.session) ended.items }
         ensures complete { OnOk result (IsComplete self ended.items) }
         ensures mix { OnOk result (Mix self.workers (entries self.taken) (sent_by ended.items)) }
+        ensures marks { OnOk result (EndWithMarks self ended.items) }
         ensures each { IfOk result (λ closed. (w : ℕ) → IsWorkerOf self.workers w
             → slice_index closed w ≡ length (sent_by ended.items w)) }
         ensures others { IfOk result (λ closed.

@@ -5,7 +5,7 @@ ghost use Rattle.std.specs.Option.{option_copied};
 ghost use Rattle.tk_record_columns.specs.Entries.{desc};
 ghost use Rattle.tk_queue.specs.Emission.{is_plain, registrations};
 ghost use Rattle.tk_events.specs.Registration.{registered_key};
-ghost use Rattle.tk_queue.specs.Senders.{record_of_sender, knows, sends, refusal_of};
+ghost use Rattle.tk_queue.specs.Senders.{record_of_sender, knows, sends, refusal_of, EmitsLawfully};
 ghost use Rattle.tk_queue.specs.Registering.{HasRoom, IsNew, child, IsChildMade, IsRegisteredAs};
 
 use crate::pushes::{push, try_push};
@@ -120,9 +120,11 @@ impl Sender {
         self.worker
     }
 
-    /// How many events the sender has emitted, registrations among them.
+    /// Returns how many events the sender has emitted, registrations among them. Each is lawful, and
+    /// its key is static or one that the sender registered before it.
     pub fn emitted(&self) -> u64
-        ensures { result ≡ length self.now.sent }
+        ensures count { result ≡ length self.now.sent }
+        ensures lawful { EmitsLawfully self.now }
     {
         self.emitted
     }
@@ -327,9 +329,10 @@ impl Ended {
     ghost use Rattle.crossbeam_queue.specs.Passes.{view};
     ghost use Rattle.tk_queue.specs.PassViews.{pass_of_sender};
 
-    /// The number of the worker.
+    /// Returns the number of the worker. What it emitted is as lawful as it was for the sender.
     pub fn worker(&self) -> u8
-        ensures { result ≡ self.now.worker }
+        ensures worker { result ≡ self.now.worker }
+        ensures lawful { EmitsLawfully self.now }
     {
         self.worker
     }
