@@ -1,5 +1,6 @@
 -- The rule of the lock word, and what its steps show.
-use Rattle.std.specs.Prelude.{◌≡◌, ◌≢◌, ℕ, ◌<◌, ◌≤◌, ◌⊎◌, List, [], ◌∷◌, ◌++◌, Option, None, Some, length, flat_map, sum_by}
+use Rattle.std.specs.Prelude.{◌≡◌, ◌≢◌, ℕ, ◌<◌, ◌≤◌, ◌⊎◌, List, [], ◌∷◌, ◌++◌, Option, None, Some}
+use Rattle.std.specs.Prelude.{length, flat_map, sum_by}
 use mathlib.Core.Option as maybe
 use Rattle.atomic_table.specs.Table.{State, Me, Step}
 use Rattle.tk_lanes.specs.Lanes.{lane_at}

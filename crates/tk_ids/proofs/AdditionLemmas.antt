@@ -8,7 +8,7 @@ use Rattle.tk_ids.specs.declared.descriptors.Descriptor.{Descriptor}
 use Rattle.tk_ids.specs.declared.tables.TableFault.{TableFault}
 use Rattle.tk_ids.specs.declared.tables.TableFault.TheVariants.{NoParent, Twice, Full, Id, Memory}
 use Rattle.tk_ids.specs.IdText.{SegmentView, FitsLimits}
-use Rattle.tk_ids.specs.Table.{HasId, child_id, IsAddedAs, IsInsertedAs}
+use Rattle.tk_ids.specs.Table.{HasId, child_id, addition, IsAddedAs, IsInsertedAs}
 use Rattle.tk_ids.specs.Laws.{AdditionIsUnique, InsertionIsUnique}
 
 not_full : (old : List Descriptor) → length old < MAX_DESCRIPTORS → length old ≡ MAX_DESCRIPTORS → ⊥
@@ -16,10 +16,10 @@ not_full old lt is = omega (arith, lt, is)
 
 module _ (old new other : List Descriptor) (parent : Option ℕ) (segment : SegmentView) (name : List ℕ) (dtype : DType) where
   abbrev Left : Result ℕ TableFault → Type 0
-  Left r = IsAddedAs old new parent segment name dtype r
+  Left r = IsAddedAs old new (addition parent segment name dtype) r
 
   abbrev Right : Result ℕ TableFault → Type 0
-  Right r = IsAddedAs old other parent segment name dtype r
+  Right r = IsAddedAs old other (addition parent segment name dtype) r
 
   abbrev Same : Result ℕ TableFault → Result ℕ TableFault → Type 0
   Same a b = (a ≡ b) × (new ≡ other)
@@ -88,7 +88,7 @@ module _ (old new other : List Descriptor) (parent : Option ℕ) (segment : Segm
   added (Err (Id id_faults.Memory)) b h k na nb = absurd h
 
 pub addition_is_unique : AdditionIsUnique
-addition_is_unique = added
+addition_is_unique old new other d = added old new other d.parent d.segment d.name d.dtype
 
 module _ (old new other : List Descriptor) (d : Descriptor) where
   inserted : (a b : Result ℕ TableFault) → IsInsertedAs old new d a → IsInsertedAs old other d b → a ≢ Err Memory → b ≢ Err Memory → (a ≡ b) × (new ≡ other)

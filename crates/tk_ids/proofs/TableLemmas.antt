@@ -15,7 +15,7 @@ use Rattle.tk_ids.specs.declared.tables.TableFault.{TableFault}
 use Rattle.tk_ids.specs.declared.tables.TableFault.TheVariants.{NoParent, Twice, Full, Id, Memory}
 use Rattle.tk_ids.specs.declared.id_faults.IdFault.TheVariants as id_faults
 use Rattle.tk_ids.specs.IdText.{SegmentView, IsId, id_text, FitsLimits}
-use Rattle.tk_ids.specs.Table.{ids_of, HasId, AreDifferent, IsKept, child_id, IsChildId, IsAddedAs, HasParent, IsFreeAs, IsInsertableAs, IsInsertedAs}
+use Rattle.tk_ids.specs.Table.{ids_of, HasId, AreDifferent, IsKept, child_id, IsChildId, addition, IsAddedAs, HasParent, IsFreeAs, IsInsertableAs, IsInsertedAs}
 use Rattle.tk_ids.proofs.ReadingLemmas.{text_is_unique}
 
 abbrev pub texts : List (List ℕ × Descriptor) → List (List ℕ)
@@ -108,7 +108,7 @@ is_there table id (Some k) at found = (k, at)
 is_there table id None at found = absurd cc
 
 -- what making the id refuses, adding refuses
-pub added_refused : (es : List (List ℕ × Descriptor)) (table : List Descriptor) (parent : Option ℕ) (segment : SegmentView) (name : List ℕ) (dtype : DType) (fault : TableFault) → AllByRecursion IsKept es → descriptors es ≡ table → IsChildId table parent segment (Err fault) → IsAddedAs table table parent segment name dtype (Err fault)
+pub added_refused : (es : List (List ℕ × Descriptor)) (table : List Descriptor) (parent : Option ℕ) (segment : SegmentView) (name : List ℕ) (dtype : DType) (fault : TableFault) → AllByRecursion IsKept es → descriptors es ≡ table → IsChildId table parent segment (Err fault) → IsAddedAs table table (addition parent segment name dtype) (Err fault)
 added_refused es table parent segment name dtype NoParent all view h = (h, refl)
 added_refused es table parent segment name dtype Twice all view h = absurd h
 added_refused es table parent segment name dtype Full all view h =
@@ -147,7 +147,7 @@ has_text_exact es table id t all view is ok =
 
 -- a descriptor whose id is refused isn't added, and the table stays
 pub added_unless_free : (table : List Descriptor) (parent : Option ℕ) (segment : SegmentView) (name : List ℕ) (dtype : DType) (id : List SegmentView) (fault : TableFault) → child_id table parent segment ≡ Some id → IsFreeAs table id (Err fault)
-    → IsAddedAs table table parent segment name dtype (Err fault)
+    → IsAddedAs table table (addition parent segment name dtype) (Err fault)
 added_unless_free table parent segment name dtype id NoParent is h = absurd h
 added_unless_free table parent segment name dtype id Twice is h = (id, is, h, refl)
 added_unless_free table parent segment name dtype id Full is h = (id, is, h.0, h.1, refl)

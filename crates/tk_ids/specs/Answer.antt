@@ -1,7 +1,8 @@
 -- What reading a text answers.
 use Rattle.std.specs.Prelude.{◌≡◌, ℕ, ◌<◌, List, [], ◌⊎◌, length, take, Result, Ok, Err}
 use Rattle.tk_ids.specs.declared.id_faults.IdFault.{IdFault}
-use Rattle.tk_ids.specs.declared.id_faults.IdFault.TheVariants.{Empty, BadSegment, BadEscape, TooLong, Memory}
+use Rattle.tk_ids.specs.declared.id_faults.IdFault.TheVariants.{Empty, BadSegment, BadEscape}
+use Rattle.tk_ids.specs.declared.id_faults.IdFault.TheVariants.{TooLong, Memory}
 use Rattle.tk_ids.specs.Prefix.{IsLongestPrefix}
 use Rattle.tk_ids.specs.IdText.{SegmentView, IsId, IsIdText, id_text, FitsLimits, EndsInEscape}
 
@@ -12,13 +13,14 @@ pub record IsBadAt (text : List ℕ) (at : ℕ) : Type 0 where
   pub no_id : ¬ IsIdText text
   pub prefix : IsLongestPrefix IsIdText text at
 
--- the answer to a text; want of memory may come at any
+-- what reading a text answers; at any text the answer may be `Memory`
 abbrev pub IsReadAs : List ℕ → Result (List SegmentView) IdFault → Type 0
 IsReadAs text (Ok id) = IsId id × (text ≡ id_text id) × FitsLimits id
 IsReadAs text (Err Empty) = text ≡ []
 IsReadAs text (Err (BadSegment at)) = IsBadAt text at × ¬ EndsInEscape (take at text)
 IsReadAs text (Err (BadEscape at)) = IsBadAt text at × EndsInEscape (take at text)
-IsReadAs text (Err TooLong) = (id : List SegmentView) × IsId id × (text ≡ id_text id) × ¬ FitsLimits id
+IsReadAs text (Err TooLong) =
+    (id : List SegmentView) × IsId id × (text ≡ id_text id) × ¬ FitsLimits id
 IsReadAs text (Err Memory) = Unit {0}
 
 -- the fault of a text that goes wrong after this prefix
@@ -27,7 +29,7 @@ IsFaultAfter prefix (BadSegment at) = (at ≡ length prefix) × ¬ EndsInEscape 
 IsFaultAfter prefix (BadEscape at) = (at ≡ length prefix) × EndsInEscape prefix
 IsFaultAfter prefix _ = ⊥
 
--- what making a segment of a tag and a value answers; want of memory may come at any
+-- what making a segment of a tag and a value answers; at any of them it may be `Memory`
 abbrev pub IsSegmentOf : List ℕ → List ℕ → Result SegmentView IdFault → Type 0
 IsSegmentOf tag value (Ok s) =
     (s ≡ record { tag = tag; value = value })
@@ -36,7 +38,7 @@ IsSegmentOf tag value (Err Empty) = (tag ≡ []) ⊎ (value ≡ [])
 IsSegmentOf tag value (Err Memory) = Unit {0}
 IsSegmentOf tag value (Err _) = ⊥
 
--- what making an id of these segments answers; want of memory may come at any
+-- what making an id of these segments answers; at any of them it may be `Memory`
 abbrev pub IsMadeOf : List SegmentView → Result (List SegmentView) IdFault → Type 0
 IsMadeOf segments (Ok id) = (id ≡ segments) × FitsLimits segments
 IsMadeOf segments (Err TooLong) = ¬ FitsLimits segments

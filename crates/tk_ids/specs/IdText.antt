@@ -1,7 +1,11 @@
 -- Unique ids and their texts.
-use Rattle.std.specs.Prelude.{◌≡◌, ℕ, ◌-◌, take, ◌<◌, ◌≤◌, List, [], ◌∷◌, ◌++◌, ◌⊎◌, length, map, Option, Some, None, ◌==◌, if◌then◌else◌, IsUtf8, codes}
+use Rattle.std.specs.Prelude.{◌≡◌, ℕ, ◌-◌, take, ◌<◌, ◌≤◌, List, [], ◌∷◌, ◌++◌, ◌⊎◌, length, map}
+use Rattle.std.specs.Prelude.{Option, Some, None, ◌==◌, if◌then◌else◌, IsUtf8, codes}
 use Rattle.tk_ids.specs.declared.ids.TheConstants.{MAX_BYTES, MAX_SEGMENTS}
 use Rattle.std.specs.List.{flat_map, join_with_byte, AllByRecursion}
+use Rattle.tk_ids.specs.Characters.{percent_sign, plus_sign, open_bracket, close_bracket, colon}
+use Rattle.tk_ids.specs.Characters.{slash, digit_two, digit_three, digit_five}
+use Rattle.tk_ids.specs.Characters.{letter_a, letter_b, letter_d, letter_f}
 
 -- a segment: its tag and its value, as bytes
 pub record SegmentView : Type 0 where
@@ -12,17 +16,18 @@ pub record SegmentView : Type 0 where
 -- `%25`, `%2B`, `%5B`, `%5D`, `%3A`, `%2F` for `%`, `+`, `[`, `]`, `:`, `/`
 abbrev pub digits_of : ℕ → Option (ℕ × ℕ)
 digits_of b =
-    if b == 37 then Some (50, 53)
-    else if b == 43 then Some (50, 66)
-    else if b == 91 then Some (53, 66)
-    else if b == 93 then Some (53, 68)
-    else if b == 58 then Some (51, 65)
-    else if b == 47 then Some (50, 70)
+    if b == percent_sign then Some (digit_two, digit_five)
+    else if b == plus_sign then Some (digit_two, letter_b)
+    else if b == open_bracket then Some (digit_five, letter_b)
+    else if b == close_bracket then Some (digit_five, letter_d)
+    else if b == colon then Some (digit_three, letter_a)
+    else if b == slash then Some (digit_two, letter_f)
     else None
 
+-- how a byte is written, with these two digits where it is escaped
 abbrev pub spelled_by : ℕ → Option (ℕ × ℕ) → List ℕ
 spelled_by b None = b ∷ []
-spelled_by b (Some d) = 37 ∷ d.0 ∷ d.1 ∷ []
+spelled_by b (Some d) = percent_sign ∷ d.0 ∷ d.1 ∷ []
 
 -- a tag or a value with its escapes
 abbrev pub escaped : List ℕ → List ℕ
@@ -30,27 +35,30 @@ escaped text = flat_map (λ b. spelled_by b (digits_of b)) text
 
 -- `[tag:value]`
 abbrev pub segment_text : SegmentView → List ℕ
-segment_text s = 91 ∷ escaped s.tag ++ 58 ∷ escaped s.value ++ 93 ∷ []
+segment_text s =
+    open_bracket ∷ escaped s.tag ++ colon ∷ escaped s.value ++ close_bracket ∷ []
 
 -- the segments' texts, joined by `/`
 abbrev pub id_text : List SegmentView → List ℕ
-id_text segments = join_with_byte 47 (map segment_text segments)
+id_text segments = join_with_byte slash (map segment_text segments)
 
 -- a tag or a value: a text that isn't empty
 abbrev pub IsNonEmptyText : List ℕ → Type 0
 IsNonEmptyText text = (0 < length text) × IsUtf8 text
 
+-- a tag and a value, neither of them empty
 abbrev pub IsSegment : SegmentView → Type 0
 IsSegment s = IsNonEmptyText s.tag × IsNonEmptyText s.value
 
+-- one segment or more
 abbrev pub IsId : List SegmentView → Type 0
 IsId segments = (0 < length segments) × AllByRecursion IsSegment segments
 
--- the text of some id
+-- some id has the text
 abbrev pub IsIdText : List ℕ → Type 0
 IsIdText text = (id : List SegmentView) × IsId id × (text ≡ id_text id)
 
--- within the limits
+-- the text and the number of segments are within the limits
 abbrev pub FitsLimits : List SegmentView → Type 0
 FitsLimits id = (length (id_text id) ≤ MAX_BYTES) × (length id ≤ MAX_SEGMENTS)
 
@@ -62,8 +70,9 @@ IsEngine id = (value : List ℕ) × (id ≡ record { tag = codes "engine"; value
 -- nowhere else
 abbrev pub EndsInEscape : List ℕ → Type 0
 EndsInEscape text =
-    ((prefix : List ℕ) × (text ≡ prefix ++ 37 ∷ []))
-    ⊎ ((prefix : List ℕ) × (digit : ℕ) × (text ≡ prefix ++ 37 ∷ digit ∷ []))
+    ((prefix : List ℕ) × (text ≡ prefix ++ percent_sign ∷ []))
+    ⊎ ((prefix : List ℕ) × (digit : ℕ)
+    × (text ≡ prefix ++ percent_sign ∷ digit ∷ []))
 
 -- the id without its last segment
 abbrev pub parent_of : List SegmentView → List SegmentView

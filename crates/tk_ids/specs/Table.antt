@@ -1,24 +1,15 @@
 -- The table of descriptors, as a list.
-use Rattle.std.specs.Prelude.{◌≡◌, ℕ, ◌<◌, List, [], ◌∷◌, ◌++◌, length, map, Option, Some, None, option_map, slice_get, Result, Ok, Err}
+use Rattle.std.specs.Prelude.{◌≡◌, ℕ, ◌<◌, List, [], ◌∷◌, ◌++◌, length, map, Option, Some, None}
+use Rattle.std.specs.Prelude.{option_map, slice_get, Result, Ok, Err}
 use Rattle.tk_ids.specs.declared.tables.TheConstants.{MAX_DESCRIPTORS}
 use Rattle.tk_ids.specs.declared.id_faults.IdFault.TheVariants as id_faults
 use Rattle.tk_ids.specs.declared.descriptors.DType.{DType}
-use Rattle.tk_ids.specs.declared.descriptors.DType.TheVariants.{Container, Test, Both}
 use Rattle.tk_ids.specs.declared.descriptors.Descriptor.{Descriptor}
 use Rattle.tk_ids.specs.declared.tables.TableFault.{TableFault}
 use Rattle.tk_ids.specs.declared.tables.TableFault.TheVariants.{NoParent, Twice, Full, Id, Memory}
 use Rattle.tk_ids.specs.IdText.{SegmentView, IsId, id_text, FitsLimits, parent_of}
 
-abbrev pub IsTest : DType → Type 0
-IsTest Container = ⊥
-IsTest Test = Unit {0}
-IsTest Both = Unit {0}
-
-abbrev pub IsContainer : DType → Type 0
-IsContainer Container = Unit {0}
-IsContainer Test = ⊥
-IsContainer Both = Unit {0}
-
+-- the ids of the descriptors, in the order of their keys
 abbrev pub ids_of : List Descriptor → List (List SegmentView)
 ids_of table = map (λ d. d.id) table
 
@@ -38,8 +29,10 @@ child_id table None segment = Some (segment ∷ [])
 child_id table (Some parent) segment =
     option_map (λ d. d.id ++ segment ∷ []) (slice_get table parent)
 
--- what making that id answers, at a table that may be full; want of memory may come at any
-abbrev pub IsChildId : List Descriptor → Option ℕ → SegmentView → Result (List SegmentView) TableFault → Type 0
+-- what making the id of a child answers, at a table that may be full; the answer may always be
+-- `Memory`
+abbrev pub IsChildId :
+    List Descriptor → Option ℕ → SegmentView → Result (List SegmentView) TableFault → Type 0
 IsChildId table parent segment (Ok id) = (child_id table parent segment ≡ Some id) × FitsLimits id
 IsChildId table parent segment (Err NoParent) = child_id table parent segment ≡ None
 IsChildId table parent segment (Err Twice) = ⊥
@@ -52,27 +45,37 @@ IsChildId table parent segment (Err (Id id_faults.TooLong)) =
 IsChildId table parent segment (Err (Id _)) = ⊥
 IsChildId table parent segment (Err Memory) = Unit {0}
 
--- What adding a descriptor answers, and the table after it. Want of memory may come at any.
-abbrev pub IsAddedAs :
-    List Descriptor → List Descriptor → Option ℕ → SegmentView → List ℕ → DType → Result ℕ TableFault →
-    Type 0
-IsAddedAs old new parent segment name dtype (Ok key) =
-    (id : List SegmentView) × (child_id old parent segment ≡ Some id)
+-- What is added to a table: a descriptor with this name and type, below the parent with this key or
+-- as a root. Its id is the parent's with the segment appended, or the segment alone.
+pub record Addition : Type 0 where
+  pub parent : Option ℕ
+  pub segment : SegmentView
+  pub name : List ℕ
+  pub dtype : DType
+
+abbrev pub addition : Option ℕ → SegmentView → List ℕ → DType → Addition
+addition parent segment name dtype =
+    record { parent = parent; segment = segment; name = name; dtype = dtype }
+
+-- what adding a descriptor answers, and the table after it; the answer may always be `Memory`
+abbrev pub IsAddedAs : List Descriptor → List Descriptor → Addition → Result ℕ TableFault → Type 0
+IsAddedAs old new d (Ok key) =
+    (id : List SegmentView) × (child_id old d.parent d.segment ≡ Some id)
     × FitsLimits id × ¬ (HasId old id) × (length old < MAX_DESCRIPTORS)
-    × (key ≡ length old) × (new ≡ old ++ record { id = id; name = name; dtype = dtype } ∷ [])
-IsAddedAs old new parent segment name dtype (Err NoParent) =
-    (child_id old parent segment ≡ None) × (new ≡ old)
-IsAddedAs old new parent segment name dtype (Err Twice) =
-    (id : List SegmentView) × (child_id old parent segment ≡ Some id)
+    × (key ≡ length old) × (new ≡ old ++ record { id = id; name = d.name; dtype = d.dtype } ∷ [])
+IsAddedAs old new d (Err NoParent) =
+    (child_id old d.parent d.segment ≡ None) × (new ≡ old)
+IsAddedAs old new d (Err Twice) =
+    (id : List SegmentView) × (child_id old d.parent d.segment ≡ Some id)
     × HasId old id × (new ≡ old)
-IsAddedAs old new parent segment name dtype (Err Full) =
-    (id : List SegmentView) × (child_id old parent segment ≡ Some id)
+IsAddedAs old new d (Err Full) =
+    (id : List SegmentView) × (child_id old d.parent d.segment ≡ Some id)
     × ¬ (HasId old id) × (length old ≡ MAX_DESCRIPTORS) × (new ≡ old)
-IsAddedAs old new parent segment name dtype (Err (Id id_faults.TooLong)) =
-    (id : List SegmentView) × (child_id old parent segment ≡ Some id)
+IsAddedAs old new d (Err (Id id_faults.TooLong)) =
+    (id : List SegmentView) × (child_id old d.parent d.segment ≡ Some id)
     × ¬ (HasId old id) × ¬ (FitsLimits id) × (length old < MAX_DESCRIPTORS) × (new ≡ old)
-IsAddedAs old new parent segment name dtype (Err (Id _)) = ⊥
-IsAddedAs old new parent segment name dtype (Err Memory) = new ≡ old
+IsAddedAs old new d (Err (Id _)) = ⊥
+IsAddedAs old new d (Err Memory) = new ≡ old
 
 -- the entries of the table's map: each descriptor by the text of its id
 abbrev pub IsKept : List ℕ × Descriptor → Type 0
@@ -89,20 +92,22 @@ IsFreeAs table id (Err Twice) = HasId table id
 IsFreeAs table id (Err Full) = ¬ (HasId table id) × (length table ≡ MAX_DESCRIPTORS)
 IsFreeAs table id (Err _) = ⊥
 
--- what looking for the parent of an id, and for room for it, answers; want of memory may come at any
-abbrev pub IsInsertableAs : List Descriptor → List SegmentView → Result (Unit {0}) TableFault → Type 0
+-- what looking for the parent of an id, and for room for the id, answers; the answer may always be
+-- `Memory`
+abbrev pub IsInsertableAs :
+    List Descriptor → List SegmentView → Result (Unit {0}) TableFault → Type 0
 IsInsertableAs table id (Err NoParent) = ¬ HasParent table id
 IsInsertableAs table id (Err Memory) = Unit {0}
 IsInsertableAs table id answer = HasParent table id × IsFreeAs table id answer
 
--- the descriptor may stand after these
+-- the descriptor may stand after those of the table
 pub record TakesNext (table : List Descriptor) (d : Descriptor) : Type 0 where
   pub parent : HasParent table d.id
   pub absent : ¬ HasId table d.id
   pub room : length table < MAX_DESCRIPTORS
 
--- What putting a descriptor at the end answers, and the table after it. Want of memory may come at
--- any.
+-- what putting a descriptor at the end answers, and the table after it; the answer may always be
+-- `Memory`
 abbrev pub IsInsertedAs :
     List Descriptor → List Descriptor → Descriptor → Result ℕ TableFault → Type 0
 IsInsertedAs old new d (Ok key) = TakesNext old d × (key ≡ length old) × (new ≡ old ++ d ∷ [])

@@ -1,31 +1,34 @@
 //! Descriptors of tests and containers.
-ghost use Rattle.std.specs.Prelude.{◌≡◌, ◌↔◌, IsTrue, IfOk};
+ghost use Rattle.std.specs.Prelude.{◌≡◌, IfOk};
 
 use crate::ids::UniqueId;
 use crate::texts::Text;
 use std::alloc::AllocError;
 
-/// Whether a descriptor is a container, a test, or both.
+/// Whether a descriptor is a container, a test, or both. JUnit: `TestDescriptor.Type`.
 #[derive(Clone, Copy, PartialEq, Eq, Debug)]
 pub enum DType {
+    /// It has children or may have some.
     Container,
+    /// It is executed, and has no children.
     Test,
+    /// It is executed, and has children or may have some.
     Both,
 }
 
 impl DType {
-    ghost use Rattle.tk_ids.specs.Table.{IsTest, IsContainer};
+    ghost use Rattle.tk_ids.specs.DTypes.{is_test, is_container};
 
     /// Whether it is a test, as `Test` and `Both` are.
     pub fn is_test(self) -> bool
-        ensures { IsTrue result ↔ IsTest self }
+        ensures { result ≡ is_test self }
     {
         matches!(self, DType::Test | DType::Both)
     }
 
     /// Whether it has children or may have some, as `Container` and `Both` do.
     pub fn is_container(self) -> bool
-        ensures { IsTrue result ↔ IsContainer self }
+        ensures { result ≡ is_container self }
     {
         matches!(self, DType::Container | DType::Both)
     }
@@ -34,13 +37,16 @@ impl DType {
 /// A test or a container.
 #[derive(Debug, Drop)]
 pub struct Descriptor {
+    /// Its path from the root.
     pub id: UniqueId,
+    /// The name under which it is shown.
     pub name: Text,
+    /// Whether it is a test, a container, or both.
     pub dtype: DType,
 }
 
 impl Descriptor {
-    /// Another descriptor with the same contents.
+    /// Makes another descriptor with the same contents, which shares the id.
     pub fn try_clone(&self) -> Result<Descriptor, AllocError>
         ensures { IfOk result (λ d. d ≡ self.now) }
     {

@@ -1,16 +1,14 @@
 //! Texts of ids, as keys of maps.
-ghost use Rattle.std.specs.Prelude.{◌≡◌, Some, refl, nat_eq};
+ghost use Rattle.std.specs.Prelude.{◌≡◌, nat_eq};
 ghost use Rattle.std.specs.Arc.{arc_value};
-ghost use Rattle.std.specs.Ordering.{nat_cmp};
 ghost use Rattle.std.specs.Cmp;
-ghost use Rattle.std.specs.Cmp.Lexicographic.{pointwise, slice_cmp, bytes_decides, nat_list_eq_equiv, nat_list_cmp_total, texts_ties, texts_po};
+ghost use Rattle.std.specs.Cmp.Lexicographic.{pointwise, bytes_decides, nat_list_eq_equiv};
 ghost use Rattle.std.specs.Hash as fed;
 ghost use Rattle.std.proofs.Common.{ap};
 
 use crate::ids::IdFields;
 use crate::texts::Text;
 use indexmap::Equivalent;
-use std::cmp::Ordering;
 use std::hash::{Hash, Hasher};
 use std::marker::Model;
 use std::sync::Arc;
@@ -37,7 +35,7 @@ impl IdText {
         IdText { path }
     }
 
-    /// The text.
+    /// Lends the text.
     pub fn as_text(&self) -> &Text
         ensures { result.now ≡ self.now }
     {
@@ -57,31 +55,6 @@ impl PartialEq for IdText {
 
 impl Eq for IdText {
     ghost laws = { nat_list_eq_equiv };
-}
-
-impl PartialOrd for IdText {
-    ghost partial_cmp = { λ x y. Some (slice_cmp nat_cmp x y) };
-
-    ghost laws = { texts_po };
-
-    fn partial_cmp(&self, other: &IdText) -> Option<Ordering> {
-        Some(self.cmp(other))
-    }
-}
-
-/// Texts of ids are in the order of their bytes.
-impl Ord for IdText {
-    ghost cmp = { slice_cmp nat_cmp };
-
-    ghost total = { nat_list_cmp_total };
-
-    ghost matches_partial_cmp = { λ x y. refl };
-
-    ghost matches_eq = { texts_ties };
-
-    fn cmp(&self, other: &IdText) -> Ordering {
-        self.as_text().cmp(other.as_text())
-    }
 }
 
 impl Hash for IdText {

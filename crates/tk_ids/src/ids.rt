@@ -54,7 +54,7 @@ impl fmt::Debug for UniqueId {
     }
 }
 
-/// The same segments once more, with room for one after them.
+// Clones the segments, with room for one after them.
 fn clone_segments(alloc: Global, segments: &[Segment]) -> Result<Vec<Segment>, AllocError>
     requires few { length segments.now ≤ MAX_SEGMENTS }
     ensures { IfOk result (λ v. v.items ≡ segments.now) }
@@ -66,7 +66,7 @@ fn clone_segments(alloc: Global, segments: &[Segment]) -> Result<Vec<Segment>, A
     Ok(copied)
 }
 
-/// Whether a text ends within an escape.
+// Whether a text ends within an escape.
 fn ends_in_escape(prefix: &[u8]) -> bool
     ensures { IsTrue result ↔ EndsInEscape prefix.now }
 {
@@ -74,7 +74,7 @@ fn ends_in_escape(prefix: &[u8]) -> bool
     (n >= 1 && prefix[n - 1] == b'%') || (n >= 2 && prefix[n - 2] == b'%')
 }
 
-/// The fault of a text that goes wrong after this prefix.
+// The fault of a text that goes wrong after this prefix.
 fn fault_after(prefix: &[u8]) -> IdFault
     ensures { IsFaultAfter prefix.now result }
 {
@@ -89,7 +89,7 @@ impl UniqueId {
     ghost use Rattle.tk_ids.specs.IdText.{IsId, id_text, IsEngine, FitsLimits, parent_of};
     ghost use Rattle.tk_ids.specs.Answer.{IsReadAs, IsMadeOf};
 
-    /// The id of these segments, with its text.
+    // Makes the id of these segments, with its text.
     fn from_parts(alloc: Global, text: Text, segments: Vec<Segment>) -> Result<UniqueId, AllocError>
         requires id { IsId segments.items }
         requires text { text ≡ id_text segments.items }
@@ -132,7 +132,7 @@ impl UniqueId {
         Ok(UniqueId::from_parts(alloc, text, segments)?)
     }
 
-    /// The id's text, as a `Text` of its own.
+    /// Copies the id's text.
     pub fn write(&self) -> Result<Text, AllocError>
         ensures text { IfOk result (λ t. t ≡ id_text self.now) }
         // What every id is.
@@ -142,7 +142,7 @@ impl UniqueId {
         self.path.text.try_clone()
     }
 
-    /// The id's text, as it is kept.
+    /// Lends the id's text.
     pub fn as_text(&self) -> &Text
         ensures text { result.now ≡ id_text self.now }
         // What every id is.
@@ -152,7 +152,7 @@ impl UniqueId {
         &self.path.text
     }
 
-    /// The id's text as a key of maps, which shares it.
+    /// Makes a key of maps of the id's text, which it shares.
     pub fn shared_text(&self) -> Result<IdText, AllocError>
         ensures text { IfOk result (λ t. t ≡ id_text self.now) }
         // What every id is.
@@ -162,7 +162,7 @@ impl UniqueId {
         Ok(IdText::of(Arc::try_clone(&self.path)?))
     }
 
-    /// The segments, beginning with the root's.
+    /// Lends the segments, beginning with the root's.
     pub fn segments(&self) -> &[Segment]
         ensures { result.now ≡ self.now }
     {
@@ -188,7 +188,7 @@ impl UniqueId {
         })
     }
 
-    /// The text of the id without its last segment, where it has more than one.
+    /// Makes the text of the id without its last segment, where it has more than one.
     pub(crate) fn parent_text(&self, alloc: Global) -> Result<Option<Text>, AllocError>
         ensures { IfOk result (λ prefix. MatchOption prefix (length self.now ≡ 1)
             (λ text. (1 < length self.now) × IsId (parent_of self.now)
@@ -207,7 +207,7 @@ impl UniqueId {
         Ok(Some(Text::from_utf8(prefix)))
     }
 
-    /// The id without its last segment, or `None` where it has only one.
+    /// Makes the id without its last segment, or `None` where it has only one.
     pub fn parent(&self, alloc: Global) -> Result<Option<UniqueId>, AllocError>
         ensures { IfOk result (λ parent. MatchOption parent (length self.now ≡ 1)
             (λ id. (1 < length self.now) × (id ≡ parent_of self.now))) }
@@ -237,7 +237,7 @@ impl UniqueId {
         Ok(UniqueId::from_parts(alloc, Text::from_utf8(bytes), segments)?)
     }
 
-    /// The text of the id with one segment more.
+    // Makes the text of the id with one segment more.
     fn text_with(&self, alloc: Global, segment: &Segment) -> Result<Text, AllocError>
         ensures text { IfOk result (λ t. t ≡ id_text (self.now ++ segment.now ∷ [])) }
         ensures id { OnOk result (IsId (self.now ++ segment.now ∷ [])) }

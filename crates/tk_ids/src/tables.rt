@@ -28,7 +28,7 @@ pub enum TableFault {
     Full,
     /// The parent's id can't have this segment appended.
     Id(IdFault),
-    /// A request for memory was refused.
+    /// An allocation failed.
     Memory,
 }
 
@@ -97,7 +97,7 @@ impl Model for Table {
 }
 
 impl Table {
-    ghost use Rattle.tk_ids.specs.Table.{ids_of, HasId, AreDifferent, child_id, IsChildId, IsAddedAs, HasParent, IsFreeAs, IsInsertableAs, IsInsertedAs};
+    ghost use Rattle.tk_ids.specs.Table.{ids_of, HasId, AreDifferent, child_id, IsChildId, addition, IsAddedAs, HasParent, IsFreeAs, IsInsertableAs, IsInsertedAs};
     ghost use Rattle.tk_ids.specs.IdText.{SegmentView, IsId, id_text};
     ghost use Rattle.tk_ids.specs.Answer.{IsMadeOf};
 
@@ -119,7 +119,7 @@ impl Table {
         })
     }
 
-    /// How many descriptors there are.
+    /// Counts the descriptors.
     pub fn len(&self) -> usize
         ensures len { result ≡ length self.now }
         ensures limit { result ≤ MAX_DESCRIPTORS }
@@ -134,7 +134,7 @@ impl Table {
         self.by_text.is_empty()
     }
 
-    /// Whether there are `MAX_DESCRIPTORS` descriptors.
+    // Whether there are `MAX_DESCRIPTORS` descriptors.
     fn is_full(&self) -> bool
         ensures full { IsTrue result → length self.now ≡ MAX_DESCRIPTORS }
         ensures room { result ≡ false → length self.now < MAX_DESCRIPTORS }
@@ -142,14 +142,14 @@ impl Table {
         self.len() >= MAX_DESCRIPTORS
     }
 
-    /// The descriptors, in the order of their keys.
+    /// Lends the descriptors, in the order of their keys.
     pub fn iter(&self) -> slice::Iter<'_, Descriptor>
         ensures { iter_rest result ≡ self.now }
     {
         self.by_text.values().as_slice().iter()
     }
 
-    /// The descriptor with this key.
+    /// Returns the descriptor with this key, or `None` where there is no such key.
     pub fn get(&self, key: u32) -> Option<&Descriptor>
         ensures { option_copied result ≡ slice_get self.now key }
     {
@@ -157,7 +157,7 @@ impl Table {
         Some(descriptor)
     }
 
-    /// The key of the descriptor with this id.
+    /// Returns the key of the descriptor with this id, or `None` where no descriptor has it.
     pub fn find(&self, id: &UniqueId) -> Option<u32>
         ensures found { IfSome result (λ key. slice_get (ids_of self.now) key ≡ Some id.now) }
         ensures none { IfNone result (¬ HasId self.now id.now) }
@@ -167,7 +167,7 @@ impl Table {
         Some(index as u32)
     }
 
-    /// The id of a child of this parent, or of a root; nothing where there is no such parent.
+    // Makes the id of a child of this parent, or of a root; nothing where there is no such parent.
     fn child_descriptor(
         &self,
         alloc: Global,
@@ -187,7 +187,7 @@ impl Table {
         }
     }
 
-    /// The same, with the fault of the table.
+    // Makes the id of a child, or of a root. The fault is the table's.
     fn child_id(
         &self,
         alloc: Global,
@@ -205,7 +205,7 @@ impl Table {
         }
     }
 
-    /// Puts a descriptor with a new id at the end.
+    // Puts a descriptor with a new id at the end.
     fn push(&mut self, descriptor: Descriptor) -> Result<(), AllocError>
         requires absent { ¬ HasId self.old descriptor.id }
         requires room { length self.old < MAX_DESCRIPTORS }
@@ -217,7 +217,7 @@ impl Table {
         Ok(())
     }
 
-    /// Refuses an id that some descriptor has, and any id where the table is full.
+    // Refuses an id that some descriptor has, and any id where the table is full.
     fn check_free(&self, id: &UniqueId) -> Result<(), TableFault>
         ensures { IsFreeAs self.now id.now result }
     {
@@ -244,7 +244,7 @@ impl Table {
         name: &str,
         dtype: DType,
     ) -> Result<u32, TableFault>
-        ensures { IsAddedAs self.old self.new parent segment.now name.now dtype result }
+        ensures { IsAddedAs self.old self.new (addition parent segment.now name.now dtype) result }
     {
         // For the proof: the table's invariant, as it was before the call.
         let _entries = &self.by_text;
@@ -256,7 +256,7 @@ impl Table {
         Ok(key)
     }
 
-    /// Whether some descriptor has the id with this text.
+    // Whether some descriptor has the id with this text.
     fn has_text(&self, text: &Text) -> bool
         ensures { (id : List SegmentView) → IsId id → text.now ≡ id_text id →
             IsTrue result ↔ HasId self.now id }
@@ -264,7 +264,7 @@ impl Table {
         self.by_text.get_index_of(text).is_some()
     }
 
-    /// Whether the id is a root's, or the table has the id above it.
+    // Whether the id is a root's, or the table has the id above it.
     fn has_parent(&self, alloc: Global, id: &UniqueId) -> Result<bool, AllocError>
         ensures { IfOk result (λ has. IsTrue has ↔ HasParent self.now id.now) }
     {
@@ -274,7 +274,7 @@ impl Table {
         }
     }
 
-    /// Refuses an id under which no descriptor can be inserted.
+    // Refuses an id under which no descriptor can be inserted.
     fn check_insertion(&self, alloc: Global, id: &UniqueId) -> Result<(), TableFault>
         ensures { IsInsertableAs self.now id.now result }
     {
@@ -301,7 +301,10 @@ impl Table {
     }
 
     /// Puts a descriptor at the end without looking up its parent and its id, as [`Table::insert`]
-    /// does: the caller knows them. At a fault the table is as it was.
+    /// does: the caller knows them.
+    ///
+    /// # Errors
+    /// `AllocError`. The table is then unchanged.
     pub fn append(&mut self, descriptor: Descriptor) -> Result<(), AllocError>
         requires parent { HasParent self.old descriptor.id }
         requires absent { ¬ HasId self.old descriptor.id }

@@ -12,7 +12,7 @@ pub struct StdSource<R> {
 }
 
 impl<R: Read> StdSource<R> {
-    /// A source of what the reader gives.
+    /// Makes a source of what the reader gives.
     pub fn new(reader: R) -> StdSource<R>
         ensures reader { result.reader ≡ reader }
         ensures broken { result.broken ≡ false }
@@ -55,7 +55,7 @@ pub struct StdTarget<W> {
 }
 
 impl<W: Write> StdTarget<W> {
-    /// A target that gives the writer what it takes.
+    /// Makes a target that gives the writer what it takes.
     pub fn new(writer: W) -> StdTarget<W>
         ensures writer { result.writer ≡ writer }
         ensures broken { result.broken ≡ false }

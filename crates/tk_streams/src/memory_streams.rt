@@ -5,7 +5,7 @@ use crate::streams::{Broken, Source, Target};
 use std::alloc::Global;
 use std::marker::Model;
 
-/// Bytes of memory, as a source. A contract sees the bytes that are left.
+/// Bytes of memory, as a source. It never breaks. A contract sees the bytes that are left.
 #[derive(Drop)]
 pub struct ByteSource<'a> {
     rest: &'a [u8],
@@ -20,7 +20,7 @@ impl<'a> Model for ByteSource<'a> {
 }
 
 impl<'a> ByteSource<'a> {
-    /// A source of these bytes.
+    /// Makes a source of these bytes.
     pub fn new(bytes: &'a [u8]) -> ByteSource<'a>
         ensures { result ≡ bytes.now }
     {
@@ -46,7 +46,7 @@ impl<'a> Source for ByteSource<'a> {
     }
 }
 
-/// Memory that takes bytes. A growth that is refused breaks it.
+/// Memory that takes bytes. It breaks where an allocation fails.
 #[derive(Drop)]
 pub struct ByteTarget {
     taken: Vec<u8>,
@@ -54,15 +54,15 @@ pub struct ByteTarget {
 }
 
 impl Model for ByteTarget {
-    ghost use Rattle.tk_streams.specs.Stream.{Taken};
+    ghost use Rattle.tk_streams.specs.Stream.{ByteTargetView};
 
-    ghost Value = { Taken };
+    ghost Value = { ByteTargetView };
 
     ghost view = { λ t. record { bytes = t.taken.items; broken = t.broken } };
 }
 
 impl ByteTarget {
-    /// A target that took nothing yet.
+    /// Makes a target that took nothing yet.
     pub fn new(alloc: Global) -> ByteTarget
         ensures bytes { result.bytes ≡ [] }
         ensures broken { result.broken ≡ false }
@@ -73,7 +73,7 @@ impl ByteTarget {
         }
     }
 
-    /// All that it took.
+    /// Lends all that it took.
     pub fn bytes(&self) -> &[u8]
         ensures { result.now ≡ self.now.bytes }
     {

@@ -21,6 +21,9 @@ impl fmt::Display for Broken {
 impl Error for Broken {}
 
 /// Where bytes come from.
+///
+/// A device whose failing read may take bytes is a source too, with `remaining` none: no clause then
+/// says which bytes it gave.
 pub trait Source {
     /// The bytes that reads will give from here on, where they are known.
     ghost remaining: { Self → Option (List ℕ) };
@@ -42,6 +45,9 @@ pub trait Source {
 }
 
 /// Where bytes go to.
+///
+/// A device whose failing write may take bytes is a target too, with `contents` none: no clause then
+/// says which bytes it took.
 pub trait Target {
     /// The bytes that it took so far, where they are known.
     ghost contents: { Self → Option (List ℕ) };
@@ -50,7 +56,7 @@ pub trait Target {
     ghost broken: { Self → Bool };
 
     /// Writes a prefix of the bytes, and answers how many it wrote: at least one of a slice that is
-    /// not empty.
+    /// not empty. A write that fails takes no byte.
     fn write_some(&mut self, bytes: &[u8]) -> Result<usize, Broken>
         ensures bytes { WriteAdds (contents self.old) (contents self.new) result bytes.now }
         ensures broken { broken self.new ≡ is_err result }

@@ -4,6 +4,7 @@ ghost use Rattle.std.specs.Io.KnownBytes.{Consumes, Appends, IsAtEnd};
 ghost use Rattle.tk_streams.specs.Stream.{ConsumesUpTo, IsLoaded, AppendsPrefix};
 ghost use Rattle.tk_streams.specs.FaultTexts.{load_fault_text};
 ghost use Rattle.tk_streams.specs.declared.transfers.LoadFault.TheVariants.{Memory};
+ghost use Rattle.tk_streams.specs.declared.transfers.TheConstants.{CHUNK};
 
 use crate::streams::{Broken, Source, Target};
 use std::alloc::{AllocError, Global};
@@ -43,13 +44,16 @@ impl From<AllocError> for LoadFault {
     }
 }
 
-/// How many bytes are asked for at a time.
-const CHUNK: usize = 65_536;
+/// How many bytes [`load`] asks for at a time.
+pub const CHUNK: usize = 65_536;
 
 /// Reads a source to its end, where it has at most `limit` bytes.
 ///
-/// After the read that goes past the limit, which takes at most 65,536 bytes, the source is not
+/// After the read that goes past the limit, which takes at most `CHUNK` bytes, the source is not
 /// read again.
+///
+/// # Errors
+/// `TooLarge` where the source has more bytes, `Device` where it broke, or `Memory`.
 pub fn load<S: Source>(alloc: Global, source: &mut S, limit: usize) -> Result<Vec<u8>, LoadFault>
     ensures ok { IfOk result (λ bytes.
         IsLoaded (S.remaining source.old) (S.remaining source.new) bytes.items) }
@@ -59,7 +63,7 @@ pub fn load<S: Source>(alloc: Global, source: &mut S, limit: usize) -> Result<Ve
         → IfSome (S.remaining source.old) (λ bytes. limit < length bytes) }
     ensures device { IsErrOf result LoadFault.Device → S.broken source.new ≡ true }
     ensures stops { OnErr result
-        (ConsumesUpTo (limit + 65536) (S.remaining source.old) (S.remaining source.new)) }
+        (ConsumesUpTo (limit + CHUNK) (S.remaining source.old) (S.remaining source.new)) }
     ensures device_within { IsErrOf result LoadFault.Device →
         ConsumesUpTo limit (S.remaining source.old) (S.remaining source.new) }
     ensures memory_within { IsErrOf result LoadFault.Memory →
@@ -86,7 +90,7 @@ pub fn load<S: Source>(alloc: Global, source: &mut S, limit: usize) -> Result<Ve
 /// Writes all of the bytes.
 ///
 /// # Errors
-/// `Broken` where the target is broken; a prefix of the bytes was written.
+/// `Broken` where the target broke. A prefix of the bytes was then written.
 pub fn write_all<T: Target>(target: &mut T, bytes: &[u8]) -> Result<(), Broken>
     ensures ok { OnOk result (Appends (T.contents target.old) (T.contents target.new) bytes.now) }
     ensures err { OnErr result
