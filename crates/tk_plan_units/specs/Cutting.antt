@@ -1,8 +1,7 @@
 -- How a tree is cut.
 use Rattle.std.specs.Prelude.{ℕ, ◌+◌, ◌&&◌, ◌||◌, ◌==◌, List, [], ◌∷◌, ◌++◌, length, slice_get, Option, Some, None, map, flat_map, Bool, true, false, not, is_some, if◌then◌else◌}
 use Rattle.tk_plan_units.specs.declared.nodes.Node.{Node}
-use Rattle.tk_ids.specs.declared.descriptors.DType.{DType}
-use Rattle.tk_ids.specs.declared.descriptors.DType.TheVariants.{Container, Test, Both}
+use Rattle.tk_ids.specs.DTypes.{is_container}
 use Rattle.tk_events.specs.declared.events.Event.{Event}
 use Rattle.tk_plan_units.specs.declared.steps.Act.TheVariants.{Finish}
 use Rattle.tk_plan_units.specs.declared.steps.Move.{Move}
@@ -10,11 +9,6 @@ use Rattle.tk_plan_units.specs.declared.steps.Step.{Step}
 use Rattle.tk_plan_units.specs.Trees.{Tree, tree, Forest, no_trees, more, number_of}
 use Rattle.tk_plan_units.specs.Script.{move, moves, moves_below, opening, stamped}
 use Rattle.tk_plan_units.specs.Events.{begun, ended}
-
-abbrev pub is_container : DType → Bool
-is_container Container = true
-is_container Test = false
-is_container Both = true
 
 abbrev pub is_leaf : Forest → Bool
 is_leaf no_trees = true

@@ -3,7 +3,7 @@ ghost use Rattle.std.specs.Prelude.{◌≡◌, ◌==◌, ◌&&◌, false, MatchO
 ghost use Rattle.std.specs.List.{list_all, list_any};
 ghost use Rattle.tk_events.specs.Event.{status_code};
 ghost use Rattle.tk_ids.specs.IdText.{id_text};
-ghost use Rattle.tk_record_columns.specs.DTypes.{is_test, is_container};
+ghost use Rattle.tk_ids.specs.DTypes.{is_test, is_container};
 ghost use Rattle.tk_record_columns.specs.Entries.{of_kind, of_status, desc};
 ghost use Rattle.tk_record_columns.specs.Selections.{has_type};
 ghost use Rattle.tk_query.specs.Holds.{holds, has_descriptor, has_within, has_reason, has_path, has_message, is_engine, same_pair, all_within, reports};
