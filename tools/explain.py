@@ -14,6 +14,7 @@ Positions and conditions count from 0. The status is that of `ask match`; it is 
 itself fails.
 """
 
+import contextlib
 import hashlib
 import os
 import re
@@ -247,5 +248,7 @@ if __name__ == "__main__":
         sys.exit(130)
     except Exception as error:
         say(f"tools/explain: {' '.join(str(error).split()) or type(error).__name__}\n")
-        # (what could not be written is not tried again)
+        with contextlib.suppress(OSError, AttributeError):
+            sys.stdout.flush()
+        # (what can't be written is not tried once more at the end of Python)
         os._exit(70)
