@@ -31,23 +31,26 @@ MayTake held seat n = (slice_get held seat ≡ Some None) × All (IsCompatible (
 
 -- The step of a grant: the seat may take the need, and holds it afterwards. All others hold what
 -- they held.
-pub record Grants (old : List (Option NeedView)) (seat : ℕ) (n : NeedView) (new : List (Option NeedView))
+pub record Grants
+    (old : List (Option NeedView)) (seat : ℕ) (n : NeedView) (new : List (Option NeedView))
     : Type 0 where
   pub may_take : MayTake old seat n
   pub after : new ≡ slice_set old seat (Some n)
 
 -- The step of a release: the seat held the need, and holds nothing afterwards. All others hold what
 -- they held.
-pub record Releases (old : List (Option NeedView)) (seat : ℕ) (n : NeedView) (new : List (Option NeedView))
+pub record Releases
+    (old : List (Option NeedView)) (seat : ℕ) (n : NeedView) (new : List (Option NeedView))
     : Type 0 where
   pub held : slice_get old seat ≡ Some (Some n)
   pub after : new ≡ slice_set old seat None
 
--- what a seat adds to lane i, and to the word
+-- what a seat adds to lane i of the word
 abbrev pub held_lane : Option NeedView → ℕ → ℕ
 held_lane None i = 0
 held_lane (Some n) i = lane n i
 
+-- what a seat adds to the word
 abbrev pub held_word : Option NeedView → ℕ
 held_word None = 0
 held_word (Some n) = word_of n

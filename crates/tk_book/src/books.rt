@@ -75,7 +75,7 @@ pub enum Busy {
 pub enum BookFault {
     /// The number of seats isn't 1 to `MAX_WORKERS`.
     Seats,
-    /// A request for memory was refused.
+    /// An allocation failed.
     Memory,
 }
 
@@ -267,7 +267,7 @@ impl Book {
 }
 
 impl BookSeat {
-    /// The need that the seat holds, or `None`.
+    /// Returns the need that the seat holds, or `None`.
     pub fn holds(&self) -> Option<Need>
         ensures { result ≡ self.now.holds }
     {

@@ -30,7 +30,7 @@ impl Model for Holdings {
 }
 
 impl Holdings {
-    /// Makes this many seats, which hold nothing.
+    /// Makes this many seats, none of which holds anything.
     pub fn new(alloc: Global, seats: usize) -> Result<Holdings, AllocError>
         ensures { IfOk result (λ h. h ≡ replicate seats None) }
     {
@@ -73,13 +73,14 @@ impl Holdings {
         }
     }
 
-    /// The sum of the words of what is held, where at most fourteen seats hold something.
+    /// Adds up the words of what is held, where at most fourteen seats hold something.
     ///
     /// It admits a need exactly where no seat's need conflicts with it.
     pub fn word(&self) -> u64
         requires few { count_by is_some self.now ≤ 14 }
         ensures value { result ≡ sum_by held_word self.now }
-        ensures exactly { (n : NeedView) → Admits result (word_of n) ↔ All (IsCompatible (Some n)) self.now }
+        ensures exactly { (n : NeedView) →
+            Admits result (word_of n) ↔ All (IsCompatible (Some n)) self.now }
     {
         let mut word = 0;
         for held in &self.seats {

@@ -54,7 +54,7 @@ impl Need {
         }
     }
 
-    /// The mask of the resources that are read and not written.
+    /// Returns the mask of the resources that are read and not written.
     pub fn reads(self) -> u16
         ensures value { result ≡ self.reads }
         ensures disjoint { bit_and result self.writes ≡ 0 }
@@ -62,7 +62,7 @@ impl Need {
         self.reads
     }
 
-    /// The mask of the resources that are written.
+    /// Returns the mask of the resources that are written.
     pub fn writes(self) -> u16
         ensures value { result ≡ self.writes }
         ensures disjoint { bit_and self.reads result ≡ 0 }
@@ -72,7 +72,7 @@ impl Need {
         self.writes
     }
 
-    /// The need as a word of four bits for each resource: 15 for a write, 1 for a read, else 0.
+    /// Makes a word of four bits for each resource: 15 for a write, 1 for a read, else 0.
     pub fn word(self) -> u64
         ensures { result ≡ word_of self }
     {
@@ -83,7 +83,7 @@ impl Need {
         word
     }
 
-    /// Whether neither need writes what the other reads or writes.
+    /// Tells whether neither need writes what the other reads or writes.
     pub fn is_compatible(self, other: Need) -> bool
         ensures { IsTrue result ↔ (Conflict self other → ⊥) }
     {

@@ -17,7 +17,7 @@ use Rattle.tk_engine_claim.specs.ClaimViews.{IsClaimant, seat_view_of}
 use Rattle.tk_limits.specs.declared.limits.TheConstants.{MAX_WORKERS}
 use Rattle.tk_engine_claim.specs.declared.claims.ClaimSeat.TheInside as seat
 use Rattle.atomic_table.specs.declared.shared.Seat.{Seat}
-use Rattle.tk_engine_claim.specs.Drawing.{drawn, no_limits, Fits, DrawsFitWord, Drew}
+use Rattle.tk_engine_claim.specs.ClaimWord.{drawn, no_limits, Fits, DrawsFitWord, Drew}
 use Rattle.tk_engine_claim.proofs.Turning.{sum_turn, sum_same, sums_le, sum_lone}
 
 abbrev hit : ℕ → ℕ → ℕ

@@ -7,6 +7,7 @@ use Rattle.tk_engine_claim.specs.declared.claims.Claim.TheInside as claim
 use Rattle.tk_engine_claim.specs.declared.claims.ClaimSeat.TheInside as seat
 use Rattle.tk_engine_claim.specs.Claims.{ClaimView, ClaimSeatView, IsStrictlyIncreasing}
 
+-- what a contract sees of a claim with this table and these limits
 abbrev pub claim_view : TableId → ClaimLimits → ClaimView
 claim_view table limits = record { table = table; limit = limits.limit; seats = limits.seats }
 

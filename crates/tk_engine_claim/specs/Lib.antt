@@ -1,4 +1,4 @@
 pub mod Claims
-pub mod Drawing
+pub mod ClaimWord
 pub mod ClaimViews
 pub mod FaultTexts

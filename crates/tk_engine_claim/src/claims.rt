@@ -2,7 +2,7 @@
 ghost use Rattle.std.specs.Prelude.{◌≡◌, ◌<◌, ◌≤◌, ◌⊎◌, ◌↔◌, [], ◌∷◌, ◌++◌, true, false, length, map, All, IfOk, IfErr, IfSome, IfNone, Some};
 ghost use Rattle.tk_engine_claim.specs.Claims.{Claims, fresh};
 ghost use Rattle.tk_engine_claim.specs.ClaimViews.{claim_view};
-ghost use Rattle.tk_engine_claim.specs.Drawing.{drawn};
+ghost use Rattle.tk_engine_claim.specs.ClaimWord.{drawn};
 ghost use Rattle.tk_engine_claim.specs.FaultTexts.{claim_fault_text};
 ghost use Rattle.tk_engine_claim.specs.declared.claims.ClaimFault.TheVariants.{Seats};
 
@@ -59,7 +59,7 @@ impl Model for ClaimSeat {
 pub enum ClaimFault {
     /// The number of seats isn't 1 to `MAX_WORKERS`.
     Seats,
-    /// A request for memory was refused.
+    /// An allocation failed.
     Memory,
 }
 

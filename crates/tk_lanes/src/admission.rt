@@ -4,7 +4,7 @@ ghost use Rattle.tk_lanes.specs.Lanes.{lane_at, Admits};
 
 use std::simd::prelude::*;
 
-/// Whether each of the sixteen lanes has a sum of at most 15.
+/// Tells whether each of the sixteen lanes of the two words has a sum of at most 15.
 pub fn admits(word: u64, need: u64) -> bool
     ensures { IsTrue result ↔ Admits word need }
 {

@@ -32,7 +32,7 @@ impl Model for Flags {
 }
 
 impl Flags {
-    /// Which bytes of a column equal the value.
+    /// Sets the flags of the bytes of a column that equal the value.
     pub fn of_byte(alloc: Global, column: &[u8], value: u8) -> Result<Flags, AllocError>
         requires { length column.now ≤ 2 ^ 32 }
         ensures { IfOk result (λ flags. flags ≡ map (λ x. x == value) column.now) }
@@ -43,7 +43,7 @@ impl Flags {
         Ok(Flags { words, len })
     }
 
-    /// Which bytes of a column have a common one bit with the value.
+    /// Sets the flags of the bytes of a column that have a common one bit with the value.
     pub fn of_flag(alloc: Global, column: &[u8], value: u8) -> Result<Flags, AllocError>
         requires { length column.now ≤ 2 ^ 32 }
         ensures { IfOk result (λ flags. flags ≡ map (λ x. shares_bit x value) column.now) }
@@ -54,7 +54,7 @@ impl Flags {
         Ok(Flags { words, len })
     }
 
-    /// Which numbers of a column equal the value.
+    /// Sets the flags of the numbers of a column that equal the value.
     pub fn of_number(alloc: Global, column: &[u32], value: u32) -> Result<Flags, AllocError>
         requires { length column.now ≤ 2 ^ 32 }
         ensures { IfOk result (λ flags. flags ≡ map (λ x. x == value) column.now) }
@@ -65,7 +65,7 @@ impl Flags {
         Ok(Flags { words, len })
     }
 
-    /// `len` set flags.
+    /// Makes `len` set flags.
     pub fn all(alloc: Global, len: usize) -> Result<Flags, AllocError>
         requires { len ≤ 2 ^ 32 }
         ensures { IfOk result (λ flags. flags ≡ replicate len true) }
@@ -75,7 +75,7 @@ impl Flags {
         Ok(Flags { words, len })
     }
 
-    /// `len` clear flags.
+    /// Makes `len` clear flags.
     pub fn none(alloc: Global, len: usize) -> Result<Flags, AllocError>
         requires { len ≤ 2 ^ 32 }
         ensures { IfOk result (λ flags. flags ≡ replicate len false) }
@@ -84,7 +84,7 @@ impl Flags {
         Ok(Flags { words, len })
     }
 
-    /// The same flags again.
+    /// Copies the flags.
     pub fn try_clone(&self) -> Result<Flags, AllocError>
         ensures { IfOk result (λ flags. flags ≡ self.now) }
     {
@@ -94,7 +94,7 @@ impl Flags {
         })
     }
 
-    /// How many positions there are.
+    /// Counts the positions.
     pub fn len(&self) -> usize
         ensures value { result ≡ length self.now }
         ensures bound { result ≤ 2 ^ 32 }
@@ -102,21 +102,21 @@ impl Flags {
         self.len
     }
 
-    /// Whether the flag of a position is set. Past the last position none is.
+    /// Tells whether the flag of a position is set. Past the last position none is.
     pub fn is_set(&self, at: usize) -> bool
         ensures { result ≡ get_or self.now at false }
     {
         at < self.len && self.words[at / 64] >> (at % 64) & 1 == 1
     }
 
-    /// How many flags are set.
+    /// Counts the set flags.
     pub fn count(&self) -> usize
         ensures { result ≡ count_by (λ flag. flag) self.now }
     {
         crate::ones(&self.words)
     }
 
-    /// Keeps the flags that the other has too.
+    /// Keeps the flags that are set in both.
     pub fn and(&mut self, other: &Flags)
         requires { length self.old ≡ length other.now }
         ensures { self.new ≡ zip2 ◌&&◌ self.old other.now }
@@ -124,7 +124,7 @@ impl Flags {
         crate::and_into(&mut self.words, &other.words);
     }
 
-    /// Sets the flags that the other has too.
+    /// Sets the flags that are set in the other.
     pub fn or(&mut self, other: &Flags)
         requires { length self.old ≡ length other.now }
         ensures { self.new ≡ zip2 ◌||◌ self.old other.now }
@@ -139,7 +139,7 @@ impl Flags {
         crate::not_into(&mut self.words, self.len);
     }
 
-    /// The first position from the given one on whose flag is set.
+    /// Finds the first position from the given one on whose flag is set.
     pub fn first_from(&self, from: usize) -> Option<usize>
         ensures value { MatchOption result (IsNoneSet from self.now) (IsNextSet from self.now) }
         ensures bound { IfSome result (λ at. (at < length self.now) × (at < 2 ^ 32)) }
@@ -147,22 +147,7 @@ impl Flags {
         crate::first_from(&self.words, from)
     }
 
-    /// Writes the bytes of a column at the set flags of one block of 64 to the start of a buffer,
-    /// in order, and says how many. The rest of the buffer stays.
-    pub fn gather(&self, column: &[u8], block: usize, buffer: &mut [u8; 64]) -> usize
-        requires size { length column.now ≡ length self.now }
-        requires within { 64 * block < length self.now }
-        ensures count { result ≤ 64 }
-        ensures rest { drop result buffer.new ≡ drop result buffer.old }
-        ensures picked { take result buffer.new ≡ items_where_true
-            (take 64 (drop (64 * block) self.now)) (take 64 (drop (64 * block) column.now)) }
-    {
-        let start = 64 * block;
-        let end = (start + 64).min(self.len);
-        crate::gather(&column[start..end], &self.words[block..block + 1], buffer)
-    }
-
-    /// The positions whose flags are set, in increasing order.
+    /// Lists the positions whose flags are set, in increasing order.
     pub fn positions(&self, alloc: Global) -> Result<Vec<usize>, AllocError>
         ensures { IfOk result (λ list. list.items ≡ positions (λ flag. flag) self.now) }
     {
@@ -175,20 +160,7 @@ impl Flags {
         Ok(list)
     }
 
-    /// How many of the bytes of a column at set flags equal the value. It takes no memory.
-    pub fn count_byte(&self, column: &[u8], value: u8) -> usize
-        requires { length column.now ≡ length self.now }
-        ensures value { result ≡ count_by (λ x. x == value) (items_where_true self.now column.now) }
-        ensures bound { result ≤ 2 ^ 32 }
-    {
-        let mut total = 0;
-        for block in 0..self.len().div_ceil(64) {
-            total += self.count_in_block(column, block, value);
-        }
-        total
-    }
-
-    /// How many of the bytes of a column at set flags equal 0, 1, .. 7, in one pass.
+    /// Counts the bytes of a column at set flags that equal 0, 1, .. 7, in one pass.
     ///
     /// It takes no memory.
     pub fn tally(&self, column: &[u8]) -> [usize; 8]

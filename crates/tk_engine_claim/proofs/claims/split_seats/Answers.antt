@@ -7,7 +7,7 @@ use Rattle.tk_engine_claim.specs.declared.rules.ClaimLimits.{ClaimLimits}
 use Rattle.tk_engine_claim.specs.declared.rules.Drawn.{Drawn}
 use Rattle.tk_engine_claim.specs.Claims.{ClaimSeatView, fresh}
 use Rattle.tk_engine_claim.specs.ClaimViews.{claim_view, seat_view_of}
-use Rattle.tk_engine_claim.specs.Drawing.{drawn}
+use Rattle.tk_engine_claim.specs.ClaimWord.{drawn}
 use Rattle.tk_engine_claim.proofs.Drawing.{splits}
 use Rattle.tk_engine_claim.proofs.claims.split_seats.Goals as goal
 

@@ -1,7 +1,7 @@
 use Rattle.std.proofs.Common.{◌≡◌, ◌+◌, ◌-◌, length, [], All}
 use Rattle.tk_engine_claim.specs.Claims.{fresh}
 use Rattle.tk_engine_claim.specs.ClaimViews.{claim_view}
-use Rattle.tk_engine_claim.specs.Drawing.{drawn}
+use Rattle.tk_engine_claim.specs.ClaimWord.{drawn}
 use Rattle.tk_engine_claim.proofs.claims.split_seats.Given as goal
 
 abbrev pub invariant-loop : goal.invariant-loop

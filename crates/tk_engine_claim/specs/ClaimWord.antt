@@ -9,6 +9,7 @@ use Rattle.tk_engine_claim.specs.declared.rules.ClaimLimits.{ClaimLimits}
 use Rattle.tk_engine_claim.specs.declared.rules.Drawn.{Drawn}
 use Rattle.tk_engine_claim.specs.Claims.{times, once_below}
 
+-- what a seat knows, of these fields
 abbrev pub drawn : ClaimLimits → ℕ → ℕ → List ℕ → Drawn
 drawn claim_limits parts spent numbers =
     record { claim_limits = claim_limits; parts = parts; spent = spent; numbers = numbers }
@@ -32,20 +33,22 @@ pub record DrawsFitWord (claim_limits : ClaimLimits) (s : State (Unit {0}) Drawn
       sum_by (λ v. times x v.numbers) s.views ≡ once_below x (min next claim_limits.limit)
   pub each : (i : ℕ) (v : Drawn) → get_elem? s.views i ≡ some v → Fits claim_limits next v
 
--- the view of a seat that drew a number more, and of one that found that there are no more
+-- what a seat knows that drew a number more
 abbrev pub with_number : ℕ → Drawn → Drawn
 with_number x v = drawn v.claim_limits v.parts v.spent (v.numbers ++ x ∷ [])
 
+-- what a seat knows that found that no number is left
 abbrev pub with_no_number : Drawn → Drawn
 with_no_number v = drawn v.claim_limits v.parts (v.spent + 1) v.numbers
 
--- a draw found a number below the limit, greater than all that the seat had, or it found that there
--- are no more
+-- a draw found a number below the limit, greater than all that the seat had, or it found that none
+-- is left
 abbrev pub Drew : Step (Unit {0}) → Me (Unit {0}) Drawn → ℕ → Me (Unit {0}) Drawn → Type 0
 Drew st old x new =
     ((x < old.0.claim_limits.limit) × All (λ y. y < x) old.0.numbers
     × (new.0 ≡ with_number x old.0) × (new.1 ≡ old.1))
     ⊎ ((old.0.claim_limits.limit ≤ x) × (new.0 ≡ with_no_number old.0) × (new.1 ≡ old.1))
 
+-- the limits of a seat that stands for no part of a claim
 abbrev pub no_limits : ClaimLimits
 no_limits = record { limit = 0; seats = 0 }
