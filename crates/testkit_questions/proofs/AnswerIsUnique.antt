@@ -36,7 +36,7 @@ cause : (words : List (List ℕ)) (input : List ℕ) (fault : AskFault) → IsSe
 cause words input faults.Question s h = of_words tt h
 cause words input (faults.Word i) s h = of_words tt h
 cause words input (faults.Condition i f) s h = of_words tt h.0
-cause words input (faults.Read f) s h = of_input f h.0.0 refl h.0.1 (settled_read f s) (h.2 (not_device f s))
+cause words input (faults.Read f) s h = of_input f h.0.0 refl h.0.1 (settled_read f s) (h.1.1 (not_device f s))
 cause words input faults.Device s h = absurd s
 cause words input faults.Memory s h = absurd s
 
@@ -48,7 +48,7 @@ same_error f g e = cc
 
 not_refused : (words : List (List ℕ)) (input : List ℕ) (y : Bool) (o : List ℕ) (fault : AskFault) → IsAnswered words input y o → Cause words input fault → ⊥
 not_refused words input y o fault a (of_words s h) = one_reading words (Ok a.0) (Err fault) tt s a.1 h
-not_refused words input y o fault a (of_input f q is asks s h) = ok_err a.2 f (recorded.answer_is_unique input (Ok a.2) (Err f) tt s a.3 h)
+not_refused words input y o fault a (of_input f q is asks s h) = ok_err a.2.0 f (recorded.answer_is_unique input (Ok a.2.0) (Err f) tt s a.2.1 h)
 
 one_refusal : (words : List (List ℕ)) (input : List ℕ) (f g : AskFault) → Cause words input f → Cause words input g → f ≡ g
 one_refusal words input f g (of_words s h) (of_words t k) = one_reading words (Err f) (Err g) s t h k
@@ -62,8 +62,8 @@ answered_same y z o p e f = rw (e, f) refl
 
 pub answer_is_unique : AnswerIsUnique
 answer_is_unique words input (Answered y o) (Answered z u) s t a b =
-    let r = (recorded.text_is_unique a.3.1.0 b.3.1.0 a.2 b.2 a.3.1.1 b.3.1.1 (sym a.3.1.2 ∙ b.3.1.2)).1 in
-    let same = one_reply a.0 b.0 b.2 y z o u (one_reading words (Ok a.0) (Ok b.0) tt tt a.1 b.1) (subst (λ (x : Recorded). IsAnswerTo a.0 x y o) r a.4) b.4 in
+    let r = (recorded.text_is_unique a.2.1.1.0 b.2.1.1.0 a.2.0 b.2.0 a.2.1.1.1 b.2.1.1.1 (sym a.2.1.1.2 ∙ b.2.1.1.2)).1 in
+    let same = one_reply a.0 b.0 b.2.0 y z o u (one_reading words (Ok a.0) (Ok b.0) tt tt a.1 b.1) (subst (λ (x : Recorded). IsAnswerTo a.0 x y o) r a.2.2) b.2.2 in
     answered_same y z o u same.0 same.1
 answer_is_unique words input (Answered y o) (Refused g) s t a b = absurd (not_refused words input y o g a (cause words input g t b))
 answer_is_unique words input (Refused f) (Answered z u) s t a b = absurd (not_refused words input z u f b (cause words input f s a))

@@ -21,12 +21,12 @@ about (Some b) q r is_yes output read answer = (r, read, answer)
 pub answered : (words : List (List ℕ)) (input : Option (List ℕ)) (q : Question) (is_yes : Bool) (output bytes : List ℕ) (old new : Option (List ℕ)) →
     Asks words q → IfSome input (λ b. IsAnswerAbout q b is_yes output) → bytes ≡ output → Appends old new bytes → IfSome input (λ b. AddsAnswer words b is_yes old new)
 answered words None q is_yes output bytes old new asks answer same added = tt
-answered words (Some b) q is_yes output bytes old new asks answer same added = (output, (q, asks, answer.0, answer.1, answer.2), subst (λ (t : List ℕ). Appends old new t) same added)
+answered words (Some b) q is_yes output bytes old new asks answer same added = (output, (q, asks, answer), subst (λ (t : List ℕ). Appends old new t) same added)
 
 pub partly : (words : List (List ℕ)) (input : Option (List ℕ)) (q : Question) (is_yes : Bool) (output bytes : List ℕ) (old new : Option (List ℕ)) →
     Asks words q → IfSome input (λ b. IsAnswerAbout q b is_yes output) → bytes ≡ output → AppendsPrefix old new bytes → IfSome input (λ b. AddsPrefix words b old new)
 partly words None q is_yes output bytes old new asks answer same added = tt
-partly words (Some b) q is_yes output bytes old new asks answer same added = (is_yes, output, (q, asks, answer.0, answer.1, answer.2), subst (λ (t : List ℕ). AppendsPrefix old new t) same added)
+partly words (Some b) q is_yes output bytes old new asks answer same added = (is_yes, output, (q, asks, answer), subst (λ (t : List ℕ). AppendsPrefix old new t) same added)
 
 -- the faults of the words
 pub refused_words : (words : List (List ℕ)) (input : Option (List ℕ)) (fault : AskFault) → IsAskedAs words (Err fault) → IsRefusal words input fault
@@ -42,7 +42,7 @@ pub refused_read : (words : List (List ℕ)) (input : Option (List ℕ)) (q : Qu
 refused_read words input q faults.Question asks h = absurd h
 refused_read words input q (faults.Word i) asks h = absurd h
 refused_read words input q (faults.Condition i fault) asks h = absurd h
-refused_read words input q (faults.Read fault) asks h = ((q, asks), h.0, h.1)
+refused_read words input q (faults.Read fault) asks h = ((q, asks), h)
 refused_read words input q faults.Device asks h = absurd h
 refused_read words input q faults.Memory asks h = tt
 

@@ -21,6 +21,7 @@ use Rattle.tk_query.specs.declared.execution.Execution.{Execution}
 use Rattle.tk_query.specs.ExecutionSteps.{step_at}
 use Rattle.tk_query.specs.Executions.{AreExecutions}
 use Rattle.tk_query.specs.Matches.{IsExact, IsLoose, IsInOrder}
+use Rattle.testkit_questions.specs.Characters.{blank, line_feed}
 use Rattle.testkit_questions.specs.declared.questions.Mode.{Mode}
 use Rattle.testkit_questions.specs.declared.questions.Mode.TheVariants.{Exactly, Loosely, InOrder as InTheirOrder}
 use Rattle.testkit_questions.specs.declared.questions.Question.{Question}
@@ -34,32 +35,37 @@ row_line row = selection_name row.0 ++ 32 ∷ decimal row.1 ++ 10 ∷ []
 abbrev pub statistics_text : Statistics → List ℕ
 statistics_text s = flat_map row_line (statistic_rows s)
 
+-- a statistic that differs from what was expected of it
 abbrev pub mismatch_line : Mismatch → List ℕ
-mismatch_line m = codes "mismatch " ++ selection_name m.selection ++ codes " expected " ++ decimal m.expected ++ codes " actual " ++ decimal m.actual ++ 10 ∷ []
+mismatch_line m =
+    codes "mismatch " ++ selection_name m.selection ++ codes " expected " ++ decimal m.expected
+    ++ codes " actual " ++ decimal m.actual ++ line_feed ∷ []
 
 abbrev pub exact_line : Exact → List ℕ
-exact_line exact.Yes = codes "yes" ++ 10 ∷ []
-exact_line exact.WrongCount = codes "wrong-count" ++ 10 ∷ []
-exact_line (exact.No k) = codes "no " ++ decimal k ++ 10 ∷ []
+exact_line exact.Yes = codes "yes" ++ line_feed ∷ []
+exact_line exact.WrongCount = codes "wrong-count" ++ line_feed ∷ []
+exact_line (exact.No k) = codes "no " ++ decimal k ++ line_feed ∷ []
 
 abbrev pub exact_yes : Exact → Bool
 exact_yes exact.Yes = true
 exact_yes _ = false
 
 abbrev pub loose_line : Loose → List ℕ
-loose_line loose.Yes = codes "yes" ++ 10 ∷ []
-loose_line (loose.No k) = codes "no " ++ decimal k ++ 10 ∷ []
+loose_line loose.Yes = codes "yes" ++ line_feed ∷ []
+loose_line (loose.No k) = codes "no " ++ decimal k ++ line_feed ∷ []
 
 abbrev pub loose_yes : Loose → Bool
 loose_yes loose.Yes = true
 loose_yes (loose.No _) = false
 
+-- a position after a blank
 abbrev pub position_text : ℕ → List ℕ
-position_text position = 32 ∷ decimal position
+position_text position = blank ∷ decimal position
 
 abbrev pub in_order_line : InOrder → List ℕ
-in_order_line (in_order.Yes positions) = codes "yes" ++ flat_map position_text positions.items ++ 10 ∷ []
-in_order_line (in_order.No k) = codes "no " ++ decimal k ++ 10 ∷ []
+in_order_line (in_order.Yes positions) =
+    codes "yes" ++ flat_map position_text positions.items ++ line_feed ∷ []
+in_order_line (in_order.No k) = codes "no " ++ decimal k ++ line_feed ∷ []
 
 abbrev pub in_order_yes : InOrder → Bool
 in_order_yes (in_order.Yes _) = true
@@ -71,21 +77,36 @@ ending_name Aborted = codes "aborted"
 ending_name Successful = codes "succeeded"
 ending_name Failed = codes "failed"
 
+-- the key, the ending and the two stamps
 abbrev pub execution_line : Execution → List ℕ
-execution_line x = decimal x.key ++ 32 ∷ ending_name x.ending ++ 32 ∷ decimal x.start ++ 32 ∷ decimal x.stop ++ 10 ∷ []
+execution_line x =
+    decimal x.key ++ blank ∷ ending_name x.ending ++ blank ∷ decimal x.start
+    ++ blank ∷ decimal x.stop ++ line_feed ∷ []
 
--- whether a mode's matcher says yes to all events of the record, and its line
+-- What a mode's matcher answers of all events of the record: whether it says yes, and its line.
 abbrev pub IsMatchAnswer : Mode → List Condition → Recorded → Bool → List ℕ → Type 0
-IsMatchAnswer Exactly conditions r is_yes output = (answer : Exact) × IsExact (all_of r) conditions answer × (is_yes ≡ exact_yes answer) × (output ≡ exact_line answer)
-IsMatchAnswer Loosely conditions r is_yes output = (answer : Loose) × IsLoose (all_of r) conditions answer × (is_yes ≡ loose_yes answer) × (output ≡ loose_line answer)
-IsMatchAnswer InTheirOrder conditions r is_yes output = (answer : InOrder) × IsInOrder (all_of r) conditions answer × (is_yes ≡ in_order_yes answer) × (output ≡ in_order_line answer)
+IsMatchAnswer Exactly conditions r is_yes output =
+    (answer : Exact) × IsExact (all_of r) conditions answer
+    × (is_yes ≡ exact_yes answer) × (output ≡ exact_line answer)
+IsMatchAnswer Loosely conditions r is_yes output =
+    (answer : Loose) × IsLoose (all_of r) conditions answer
+    × (is_yes ≡ loose_yes answer) × (output ≡ loose_line answer)
+IsMatchAnswer InTheirOrder conditions r is_yes output =
+    (answer : InOrder) × IsInOrder (all_of r) conditions answer
+    × (is_yes ≡ in_order_yes answer) × (output ≡ in_order_line answer)
 
--- the answer to a question about a record: whether it is a yes, and the output
+-- What a question about a record answers: whether it is a yes, and the output.
 abbrev pub IsAnswerTo : Question → Recorded → Bool → List ℕ → Type 0
 IsAnswerTo (Stats expected) r is_yes output =
     let statistics = statistics_of r.entries in
     let differing = mismatches expected statistics in
-    (is_yes ≡ (length differing == 0)) × (output ≡ statistics_text statistics ++ flat_map mismatch_line differing)
-IsAnswerTo (Count selection) r is_yes output = (is_yes ≡ true) × (output ≡ decimal (count_by (selects selection r) r.entries) ++ 10 ∷ [])
-IsAnswerTo (Match mode conditions) r is_yes output = IsMatchAnswer mode conditions.items r is_yes output
-IsAnswerTo Executions r is_yes output = (xs : List Execution) × AreExecutions (step_at (all_of r)) xs × (is_yes ≡ true) × (output ≡ flat_map execution_line xs)
+    (is_yes ≡ (length differing == 0))
+    × (output ≡ statistics_text statistics ++ flat_map mismatch_line differing)
+IsAnswerTo (Count selection) r is_yes output =
+    (is_yes ≡ true)
+    × (output ≡ decimal (count_by (selects selection r) r.entries) ++ line_feed ∷ [])
+IsAnswerTo (Match mode conditions) r is_yes output =
+    IsMatchAnswer mode conditions.items r is_yes output
+IsAnswerTo Executions r is_yes output =
+    (xs : List Execution) × AreExecutions (step_at (all_of r)) xs
+    × (is_yes ≡ true) × (output ≡ flat_map execution_line xs)

@@ -14,20 +14,25 @@ use Rattle.testkit_questions.specs.Answers.{IsAnswerTo}
 
 -- the input is read as a record, and this is the answer to the question about it
 abbrev pub IsAnswerAbout : Question → List ℕ → Bool → List ℕ → Type 0
-IsAnswerAbout question input is_yes output = (r : Recorded) × IsAnswer input (Ok r) × IsAnswerTo question r is_yes output
+IsAnswerAbout question input is_yes output =
+    (r : Recorded) × IsAnswer input (Ok r) × IsAnswerTo question r is_yes output
 
--- the words ask a question, the input is read as a record, and this is the answer to the question about it
+-- the words ask a question, and this is the answer to it about the record that the input is read as
 abbrev pub IsAnswered : List (List ℕ) → List ℕ → Bool → List ℕ → Type 0
 IsAnswered words input is_yes output =
-    (question : Question) × Asks words question × (r : Recorded) × IsAnswer input (Ok r) × IsAnswerTo question r is_yes output
+    (question : Question) × Asks words question × IsAnswerAbout question input is_yes output
 
 -- the answer was added to what was written, and nothing else
-abbrev pub AddsAnswer : List (List ℕ) → List ℕ → Bool → Option (List ℕ) → Option (List ℕ) → Type 0
-AddsAnswer words input is_yes old new = (output : List ℕ) × IsAnswered words input is_yes output × Appends old new output
+abbrev pub AddsAnswer :
+    List (List ℕ) → List ℕ → Bool → Option (List ℕ) → Option (List ℕ) → Type 0
+AddsAnswer words input is_yes old new =
+    (output : List ℕ) × IsAnswered words input is_yes output × Appends old new output
 
--- a prefix of the answer was added
+-- a prefix of the answer was added to what was written, and nothing else
 abbrev pub AddsPrefix : List (List ℕ) → List ℕ → Option (List ℕ) → Option (List ℕ) → Type 0
-AddsPrefix words input old new = (is_yes : Bool) × (output : List ℕ) × IsAnswered words input is_yes output × AppendsPrefix old new output
+AddsPrefix words input old new =
+    (is_yes : Bool) × (output : List ℕ)
+    × IsAnswered words input is_yes output × AppendsPrefix old new output
 
 -- the fault is of the words alone
 abbrev pub IsOfWords : AskFault → Type 0
@@ -36,19 +41,24 @@ IsOfWords (faults.Word i) = Unit {0}
 IsOfWords (faults.Condition i fault) = Unit {0}
 IsOfWords _ = ⊥
 
--- why there is no answer about an input: it is no record text, its device broke, or memory was refused
+-- why there is no answer about an input: it is no record text, its device broke, or an allocation
+-- failed, which is `Memory` and never `Read Memory`
 abbrev pub IsReadRefusal : Option (List ℕ) → AskFault → Type 0
-IsReadRefusal input (faults.Read fault) = (fault ≢ read.Memory) × (fault ≢ read.Device → IfSome input (λ bytes. IsAnswer bytes (Err fault)))
+IsReadRefusal input (faults.Read fault) =
+    (fault ≢ read.Memory)
+    × (fault ≢ read.Device → IfSome input (λ bytes. IsAnswer bytes (Err fault)))
 IsReadRefusal input faults.Memory = Unit {0}
 IsReadRefusal input _ = ⊥
 
--- Where each refusal comes: the words are judged before the input is read. Want of memory in reading a condition or the input is
--- `Memory`, never `Condition i Memory` or `Read Memory`.
+-- Where each refusal comes: the words are judged before the input is read. An allocation that
+-- fails while a condition or the input is read gives `Memory`, never `Condition i Memory` or
+-- `Read Memory`.
 abbrev pub IsRefusal : List (List ℕ) → Option (List ℕ) → AskFault → Type 0
 IsRefusal words input faults.Question = IsAskedAs words (Err faults.Question)
 IsRefusal words input (faults.Word i) = IsAskedAs words (Err (faults.Word i))
-IsRefusal words input (faults.Condition i fault) = IsAskedAs words (Err (faults.Condition i fault)) × (fault ≢ conditions.Memory)
+IsRefusal words input (faults.Condition i fault) =
+    IsAskedAs words (Err (faults.Condition i fault)) × (fault ≢ conditions.Memory)
 IsRefusal words input (faults.Read fault) =
-    ((question : Question) × Asks words question) × (fault ≢ read.Memory) × (fault ≢ read.Device → IfSome input (λ bytes. IsAnswer bytes (Err fault)))
+    ((question : Question) × Asks words question) × IsReadRefusal input (faults.Read fault)
 IsRefusal words input faults.Device = (question : Question) × Asks words question
 IsRefusal words input faults.Memory = Unit {0}

@@ -10,12 +10,12 @@ pub data Outcome : Type 0 where
   Answered : Bool → List ℕ → Outcome
   Refused : AskFault → Outcome
 
--- what is promised of it, where the input is known
+-- the outcome is one that is promised, where the input is known
 abbrev pub IsOutcome : List (List ℕ) → List ℕ → Outcome → Type 0
 IsOutcome words input (Answered is_yes output) = IsAnswered words input is_yes output
 IsOutcome words input (Refused fault) = IsRefusal words (Some input) fault
 
--- it depends on the words and the input alone, and not on memory or a device
+-- the outcome depends on the words and the input alone, and not on memory or a device
 abbrev pub IsSettled : Outcome → Type 0
 IsSettled (Refused faults.Memory) = ⊥
 IsSettled (Refused faults.Device) = ⊥
@@ -25,4 +25,6 @@ IsSettled _ = Unit {0}
 
 -- the same words about the same input never have two outcomes
 abbrev pub AnswerIsUnique : Type 0
-AnswerIsUnique = (words : List (List ℕ)) (input : List ℕ) (a b : Outcome) → IsSettled a → IsSettled b → IsOutcome words input a → IsOutcome words input b → a ≡ b
+AnswerIsUnique =
+    (words : List (List ℕ)) (input : List ℕ) (a b : Outcome) →
+    IsSettled a → IsSettled b → IsOutcome words input a → IsOutcome words input b → a ≡ b

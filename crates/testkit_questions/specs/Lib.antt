@@ -1,3 +1,4 @@
+pub mod Characters
 pub mod Questions
 pub mod Answers
 pub mod Asked

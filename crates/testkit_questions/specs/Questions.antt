@@ -10,6 +10,7 @@ use Rattle.tk_record_columns.specs.declared.selections.Selection.{Selection}
 use Rattle.tk_record_columns.specs.declared.statistics.Expected.{Expected}
 use Rattle.tk_record_columns.specs.Selections.{selection_name}
 use Rattle.tk_record_columns.specs.Statistics.{nothing_expected, expected_of, with_expected, is_counted}
+use Rattle.testkit_questions.specs.Characters.{equals_sign}
 use Rattle.testkit_questions.specs.declared.faults.AskFault.{AskFault}
 use Rattle.testkit_questions.specs.declared.faults.AskFault.TheVariants as faults
 use Rattle.testkit_questions.specs.declared.questions.Mode.{Mode}
@@ -19,20 +20,28 @@ use Rattle.testkit_questions.specs.declared.questions.Question.TheVariants as qu
 
 -- the word NAME=N
 abbrev pub expectation_word : Selection → ℕ → List ℕ
-expectation_word selection n = selection_name selection ++ 61 ∷ decimal n
+expectation_word selection n = selection_name selection ++ equals_sign ∷ decimal n
 
--- the number is expected too: of a statistic, and of each only once
+-- the expectations with one more: of a statistic, and of each only once
 abbrev pub expecting : Expected → Selection → ℕ → Option Expected
-expecting e selection n = if is_none (expected_of e selection) && is_counted selection then Some (with_expected selection n e) else None
+expecting e selection n =
+    if is_none (expected_of e selection) && is_counted selection
+    then Some (with_expected selection n e)
+    else None
 
 pub record IsExpectation (word : List ℕ) (selection : Selection) (n : ℕ) : Type 0 where
   pub number : n < 2 ^ 64
   pub word_is : word ≡ expectation_word selection n
 
--- what one word more makes of the expectations: None where it is no expectation, or one of a statistic that has one
+-- What one word more makes of the expectations: None where it is no expectation, or one of a
+-- statistic that has one.
 abbrev pub IsNextExpected : Expected → List ℕ → Option Expected → Type 0
-IsNextExpected expected word (Some next) = (selection : Selection) × (n : ℕ) × IsExpectation word selection n × (expecting expected selection n ≡ Some next)
-IsNextExpected expected word None = (selection : Selection) (n : ℕ) → IsExpectation word selection n → expecting expected selection n ≡ None
+IsNextExpected expected word (Some next) =
+    (selection : Selection) × (n : ℕ)
+    × IsExpectation word selection n × (expecting expected selection n ≡ Some next)
+IsNextExpected expected word None =
+    (selection : Selection) (n : ℕ) →
+    IsExpectation word selection n → expecting expected selection n ≡ None
 
 -- the words add these expectations to the first ones
 abbrev pub Expecting : Expected → List (List ℕ) → Expected → Type 0
@@ -40,7 +49,8 @@ Expecting first [] last = last ≡ first
 Expecting first (word ∷ words) last =
     (next : Expected) × IsNextExpected first word (Some next) × Expecting next words last
 
--- the words before it are good, and word i is no expectation, or one of a statistic that an earlier word names
+-- the words before word i are expectations, and word i is none, or one of a statistic that an
+-- earlier word names
 pub record IsBadExpectation (words : List (List ℕ)) (i : ℕ) : Type 0 where
   pub expected : Expected
   pub before : Expecting nothing_expected (take i words) expected
@@ -75,13 +85,15 @@ pub record IsBadCondition (texts : List (List ℕ)) (i : ℕ) (fault : CondFault
 
 -- why the word of this number is no condition
 abbrev pub IsWordFault : ℕ → List ℕ → AskFault → Type 0
-IsWordFault number word (faults.Condition i fault) = (i ≡ number) × IsReadAs word (Err fault) × (fault ≢ condition_faults.Memory)
+IsWordFault number word (faults.Condition i fault) =
+    (i ≡ number) × IsReadAs word (Err fault) × (fault ≢ condition_faults.Memory)
 IsWordFault number word faults.Memory = Unit {0}
 IsWordFault number word _ = ⊥
 
 -- the fault of words after a mode; the mode is word 0
 abbrev pub IsConditionFault : List (List ℕ) → AskFault → Type 0
-IsConditionFault texts (faults.Condition i fault) = (at : ℕ) × (i ≡ at + 1) × IsBadCondition texts at fault
+IsConditionFault texts (faults.Condition i fault) =
+    (at : ℕ) × (i ≡ at + 1) × IsBadCondition texts at fault
 IsConditionFault texts faults.Memory = Unit {0}
 IsConditionFault texts _ = ⊥
 
@@ -109,24 +121,31 @@ executions = codes "executions"
 
 -- the words that ask a question
 abbrev pub Asks : List (List ℕ) → Question → Type 0
-Asks words (questions.Stats expected) = (rest : List (List ℕ)) × (words ≡ stats ∷ rest) × Expecting nothing_expected rest expected
+Asks words (questions.Stats expected) =
+    (rest : List (List ℕ)) × (words ≡ stats ∷ rest) × Expecting nothing_expected rest expected
 Asks words (questions.Count selection) = words ≡ count ∷ selection_name selection ∷ []
-Asks words (questions.Match mode conditions) = (texts : List (List ℕ)) × (words ≡ match_word ∷ mode_name mode ∷ texts) × AreConditions texts conditions.items
+Asks words (questions.Match mode conditions) =
+    (texts : List (List ℕ)) × (words ≡ match_word ∷ mode_name mode ∷ texts)
+    × AreConditions texts conditions.items
 Asks words questions.Executions = words ≡ executions ∷ []
 
 -- there is no first word, or it is none of the four questions
 abbrev pub IsNoQuestion : List (List ℕ) → Type 0
 IsNoQuestion [] = Unit {0}
-IsNoQuestion (word ∷ _) = (word ≢ stats) × (word ≢ count) × (word ≢ match_word) × (word ≢ executions)
+IsNoQuestion (word ∷ _) =
+    (word ≢ stats) × (word ≢ count) × (word ≢ match_word) × (word ≢ executions)
 
--- word i after the question is the first bad one, conditions aside
+-- Word i after the question is the first bad one; a word that should be a condition isn't one of
+-- these.
 abbrev pub IsBadWord : List (List ℕ) → ℕ → Type 0
 IsBadWord words i =
     ((rest : List (List ℕ)) × (words ≡ stats ∷ rest) × IsBadExpectation rest i)
     ⊎ ((rest : List (List ℕ)) × (words ≡ count ∷ rest) × (i ≡ 0) × IsNoSelection rest)
-    ⊎ ((selection : Selection) × (extra : List ℕ) × (more : List (List ℕ)) × (words ≡ count ∷ selection_name selection ∷ extra ∷ more) × (i ≡ 1))
+    ⊎ ((selection : Selection) × (extra : List ℕ) × (more : List (List ℕ))
+    × (words ≡ count ∷ selection_name selection ∷ extra ∷ more) × (i ≡ 1))
     ⊎ ((rest : List (List ℕ)) × (words ≡ match_word ∷ rest) × (i ≡ 0) × IsNoMode rest)
-    ⊎ ((extra : List ℕ) × (more : List (List ℕ)) × (words ≡ executions ∷ extra ∷ more) × (i ≡ 0))
+    ⊎ ((extra : List ℕ) × (more : List (List ℕ))
+    × (words ≡ executions ∷ extra ∷ more) × (i ≡ 0))
 
 -- what the words are read as: the question, or the first fault
 abbrev pub IsAskedAs : List (List ℕ) → Result Question AskFault → Type 0
@@ -134,6 +153,7 @@ IsAskedAs words (Ok question) = Asks words question
 IsAskedAs words (Err faults.Question) = IsNoQuestion words
 IsAskedAs words (Err (faults.Word i)) = IsBadWord words i
 IsAskedAs words (Err (faults.Condition i fault)) =
-    (mode : Mode) × (texts : List (List ℕ)) × (words ≡ match_word ∷ mode_name mode ∷ texts) × IsConditionFault texts (faults.Condition i fault)
+    (mode : Mode) × (texts : List (List ℕ)) × (words ≡ match_word ∷ mode_name mode ∷ texts)
+    × IsConditionFault texts (faults.Condition i fault)
 IsAskedAs words (Err faults.Memory) = Unit {0}
 IsAskedAs words (Err _) = ⊥

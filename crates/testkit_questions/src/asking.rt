@@ -10,7 +10,7 @@ use crate::questions::{Question, read_question};
 use std::alloc::Global;
 use tk_record::{ReadFault, Source, Target, read_record, write_all};
 
-/// The answer to the question about the record whose text the source gives.
+// Reads a record from the source, and answers the question about it.
 fn answer_about<S: Source>(
     alloc: Global,
     source: &mut S,
@@ -34,7 +34,13 @@ fn answer_about<S: Source>(
 /// Answers the question that the words ask about the record whose text the source gives, and says
 /// whether the answer is a yes: false where a match says no, or an expectation fails.
 ///
-/// The words are judged before the input is read, and nothing is written before the answer is whole.
+/// The words are judged before the input is read, and nothing is written before the answer is
+/// whole.
+///
+/// # Errors
+/// `Question`, `Word` or `Condition` for bad words, `Read` for an input that is no record text or a
+/// broken source, `Device` where the target broke, or `Memory`. Only at `Device` was something
+/// written: a prefix of the answer.
 pub fn ask<S: Source, T: Target>(
     alloc: Global,
     words: &[String],

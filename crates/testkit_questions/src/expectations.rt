@@ -6,7 +6,7 @@ ghost use Rattle.tk_record_columns.specs.declared.selections.Selection.{Selectio
 
 use tk_record::{Expected, Selection, read_number};
 
-/// The statistic and the number of a word NAME=N.
+// Reads the statistic and the number of a word NAME=N.
 fn read_expectation(word: &str) -> Option<(Selection, u64)>
     ensures some { IfSome result (λ named. IsExpectation word.now named.0 named.1) }
     ensures none { IfNone result ((selection : Selection) (n : ℕ)
@@ -24,9 +24,9 @@ fn read_expectation(word: &str) -> Option<(Selection, u64)>
     Some((selection, number))
 }
 
-/// Expects a number of a selection too. None where that is no statistic, or a number is expected of
-/// it already.
-fn expect_too(expected: Expected, selection: Selection, number: u64) -> Option<Expected>
+// Adds the number that is expected of a selection. None where the selection is no statistic, or
+// where a number is expected of it already.
+fn with_expectation(expected: Expected, selection: Selection, number: u64) -> Option<Expected>
     ensures { result ≡ expecting expected selection number }
 {
     if expected.get(selection).is_some() {
@@ -40,17 +40,17 @@ fn expect_too(expected: Expected, selection: Selection, number: u64) -> Option<E
     }
 }
 
-/// Adds the expectation of a word.
+// Adds the expectation of a word.
 fn expect_word(expected: Expected, word: &str) -> Option<Expected>
     ensures { IsNextExpected expected word.now result }
 {
     let Some((selection, number)) = read_expectation(word) else {
         return None;
     };
-    expect_too(expected, selection, number)
+    with_expectation(expected, selection, number)
 }
 
-/// The expectations that the words say, or the number of the first word that says none.
+/// Reads the expectations of the words, or answers the number of the first word that has none.
 pub(crate) fn read_expectations(words: &[String]) -> Result<Expected, usize>
     ensures ok { IfOk result (λ expected.
         Expecting nothing_expected (map string_bytes words.now) expected) }

@@ -25,7 +25,7 @@ pub enum AskFault {
     /// The target broke.
     #[error("device failed")]
     Device,
-    /// Memory was refused.
+    /// An allocation failed.
     #[error("out of memory")]
     Memory,
 }

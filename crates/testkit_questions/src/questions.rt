@@ -34,7 +34,7 @@ pub enum Question {
 }
 
 impl Mode {
-    /// The mode of a name: `exactly`, `loosely` or `in-order`.
+    /// Reads the name of a mode: `exactly`, `loosely` or `in-order`.
     pub fn read(name: &str) -> Option<Mode>
         ensures { IsMode name.now result }
     {
@@ -47,8 +47,9 @@ impl Mode {
     }
 }
 
-/// The condition that a word spells. The number is the word's, counted from 0 after the question.
-fn read_word(alloc: Global, number: usize, word: &str) -> Result<Condition, AskFault>
+// Reads the condition that a word spells. The number is the word's, counted from 0 after the
+// question.
+fn read_numbered_condition(alloc: Global, number: usize, word: &str) -> Result<Condition, AskFault>
     ensures ok { IfOk result (λ condition. IsReadAs word.now (Ok condition)) }
     ensures err { IfErr result (IsWordFault number word.now) }
 {
@@ -59,7 +60,7 @@ fn read_word(alloc: Global, number: usize, word: &str) -> Result<Condition, AskF
     }
 }
 
-/// The conditions that the words spell, which follow the mode's name.
+// Reads the conditions that the words spell, which follow the mode's name.
 fn read_conditions(alloc: Global, words: &[String]) -> Result<Vec<Condition>, AskFault>
     ensures ok { IfOk result (λ conditions.
         AreConditions (map string_bytes words.now) conditions.items) }
@@ -67,7 +68,7 @@ fn read_conditions(alloc: Global, words: &[String]) -> Result<Vec<Condition>, As
 {
     let mut conditions = Vec::new(alloc);
     for (at, word) in words.iter().enumerate() {
-        let condition = read_word(alloc, at + 1, word.as_str())?;
+        let condition = read_numbered_condition(alloc, at + 1, word.as_str())?;
         conditions.push(condition).map_err(AllocError::from)?;
     }
     Ok(conditions)
@@ -102,7 +103,10 @@ fn read_count(words: &[String]) -> Result<Question, AskFault>
     }
 }
 
-/// The question that the words ask, the first of which names it.
+/// Reads the question that the words ask, the first of which names it.
+///
+/// # Errors
+/// `Question`, `Word`, `Condition` or `Memory`, for the first word that is bad.
 pub fn read_question(alloc: Global, words: &[String]) -> Result<Question, AskFault>
     ensures { IsAskedAs (map string_bytes words.now) result }
 {

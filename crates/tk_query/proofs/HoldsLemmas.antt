@@ -14,7 +14,8 @@ use Rattle.tk_query_conditions.specs.declared.conditions.Condition.{Condition}
 use Rattle.tk_query_conditions.specs.Cond.{Conds, Nothing, More, Pairs, NoPairs, MorePairs}
 use Rattle.tk_query_conditions.specs.CondOf.{cond_of, conds_from, pairs_from}
 use Rattle.tk_query_conditions.proofs.Members.{cond_of-All, cond_of-Any}
-use Rattle.tk_query.specs.Holds.{begins, has_within, is_engine, pairs_list, cond_holds, all_hold, any_holds, holds}
+use Rattle.tk_query_conditions.specs.Reading.{begins_with}
+use Rattle.tk_query.specs.Holds.{has_within, is_engine, pairs_list, cond_holds, all_hold, any_holds, holds}
 
 -- two tests that are true where the other is
 pub same_bool : (a b : Bool) → (a ≡ true → b ≡ true) → (b ≡ true → a ≡ true) → a ≡ b
@@ -35,17 +36,17 @@ pub engine_is : (id : List SegmentView) (b : Bool) → (IsTrue b ↔ IsEngine id
 engine_is id b h = same_bool b (is_engine id) (λ e. true_engine id (h.0 e)) (λ e. h.1 (engine_true id e))
 
 -- a text within another
-begins_rest : (prefix text : List ℕ) → begins prefix text ≡ true → (rest : List ℕ) × (text ≡ prefix ++ rest)
+begins_rest : (prefix text : List ℕ) → begins_with prefix text ≡ true → (rest : List ℕ) × (text ≡ prefix ++ rest)
 begins_rest [] text e = (text, refl)
 begins_rest (b ∷ prefix) [] e = cc
 begins_rest (b ∷ prefix) (c ∷ text) e =
-    let parts = and_parts (eqb b c) (begins prefix text) e in
+    let parts = and_parts (eqb b c) (begins_with prefix text) e in
     let r = begins_rest prefix text parts.1 in
     (r.0, ap (λ n. n ∷ text) (sym (eqb-true b c parts.0)) ∙ ap (λ l. b ∷ l) r.1)
 
-begun : (prefix rest : List ℕ) → begins prefix (prefix ++ rest) ≡ true
+begun : (prefix rest : List ℕ) → begins_with prefix (prefix ++ rest) ≡ true
 begun [] rest = refl
-begun (b ∷ prefix) rest = ap (λ t. t && begins prefix (prefix ++ rest)) (eq-eqb b b refl) ∙ begun prefix rest
+begun (b ∷ prefix) rest = ap (λ t. t && begins_with prefix (prefix ++ rest)) (eq-eqb b b refl) ∙ begun prefix rest
 
 or_left : (a b : Bool) → a ≡ true → (a || b) ≡ true
 or_left true b e = refl
@@ -55,13 +56,13 @@ or_right : (a b : Bool) → b ≡ true → (a || b) ≡ true
 or_right true b e = refl
 or_right false b e = e
 
-within_begun : (part text : List ℕ) → begins part text ≡ true → has_within part text ≡ true
+within_begun : (part text : List ℕ) → begins_with part text ≡ true → has_within part text ≡ true
 within_begun part [] e = e
-within_begun part (b ∷ text) e = or_left (begins part (b ∷ text)) (has_within part text) e
+within_begun part (b ∷ text) e = or_left (begins_with part (b ∷ text)) (has_within part text) e
 
 within_after : (part prefix text : List ℕ) → has_within part text ≡ true → has_within part (prefix ++ text) ≡ true
 within_after part [] text e = e
-within_after part (b ∷ prefix) text e = or_right (begins part (b ∷ (prefix ++ text))) (has_within part (prefix ++ text)) (within_after part prefix text e)
+within_after part (b ∷ prefix) text e = or_right (begins_with part (b ∷ (prefix ++ text))) (has_within part (prefix ++ text)) (within_after part prefix text e)
 
 within_true : (part text : List ℕ) → HasSubslice text part → has_within part text ≡ true
 within_true part text h = ap (has_within part) h.2 ∙ within_after part h.0 (part ++ h.1) (within_begun part (part ++ h.1) (begun part h.1))
@@ -69,9 +70,9 @@ within_true part text h = ap (has_within part) h.2 ∙ within_after part h.0 (pa
 true_within : (part text : List ℕ) → has_within part text ≡ true → HasSubslice text part
 true_within part [] e = let r = begins_rest part [] e in ([], r.0, r.1)
 true_within part (b ∷ text) e = ⊎_elim {C = HasSubslice (b ∷ text) part}
-    (λ (h : begins part (b ∷ text) ≡ true). let r = begins_rest part (b ∷ text) h in ([], r.0, r.1))
+    (λ (h : begins_with part (b ∷ text) ≡ true). let r = begins_rest part (b ∷ text) h in ([], r.0, r.1))
     (λ (h : has_within part text ≡ true). let r = true_within part text h in (b ∷ r.0, r.1, ap (λ l. b ∷ l) r.2))
-    (or_cases (begins part (b ∷ text)) (has_within part text) e)
+    (or_cases (begins_with part (b ∷ text)) (has_within part text) e)
 
 pub within_is : (part text : List ℕ) (b : Bool) → ((b ≡ true) ↔ HasSubslice text part) → b ≡ has_within part text
 within_is part text b h = same_bool b (has_within part text) (λ e. within_true part text (h.0 e)) (λ e. h.1 (true_within part text e))

@@ -9,9 +9,10 @@ use Rattle.tk_query.specs.Holds.{holds}
 -- the event that stands at this position
 abbrev pub event_at : List PositionedEntry → ℕ → Option Entry
 event_at [] position = None
-event_at (x ∷ kept) position = if x.position == position then Some x.entry else event_at kept position
+event_at (x ∷ kept) position =
+    if x.position == position then Some x.entry else event_at kept position
 
--- whether an event is there, and passes
+-- whether there is an event, and it passes the test
 abbrev pub is_there : (Entry → Bool) → Option Entry → Bool
 is_there p None = false
 is_there p (Some e) = p e
@@ -25,11 +26,18 @@ abbrev pub HoldsOfSome : Selected → Condition → Bool → Type 0
 HoldsOfSome asked c true = (position : ℕ) × (fits asked c position ≡ true)
 HoldsOfSome asked c false = (position : ℕ) → fits asked c position ≡ false
 
--- an event asked stands where a flag is set, and where none is set the condition holds of no event asked
+-- where a flag is set stands an event asked, and the condition holds of none where no flag is set
 pub record AreLeft (asked : Selected) (c : Condition) (flags : List Bool) : Type 0 where
-  pub there : (position : ℕ) → get_or flags position false ≡ true → event_at asked.kept position ≡ slice_get asked.recorded.entries position
-  pub others : (position : ℕ) → get_or flags position false ≡ false → fits asked c position ≡ false
+  pub there :
+      (position : ℕ) → get_or flags position false ≡ true →
+      event_at asked.kept position ≡ slice_get asked.recorded.entries position
+  pub others :
+      (position : ℕ) → get_or flags position false ≡ false → fits asked c position ≡ false
 
 -- the entry that a view shows
 abbrev pub entry_of : EntryView → Entry
-entry_of v = record { worker = v.worker; event = record { kind = v.kind; key = v.key; stamp = v.stamp; payload = v.payload.now } }
+entry_of v =
+    record {
+      worker = v.worker;
+      event = record { kind = v.kind; key = v.key; stamp = v.stamp; payload = v.payload.now };
+    }

@@ -16,6 +16,7 @@ use Rattle.tk_query.specs.declared.execution_steps.Transition.{Transition}
 use Rattle.tk_query.specs.declared.execution_steps.Transition.TheVariants.{Starts, Skips, Ends}
 use Rattle.tk_query.specs.declared.execution_steps.ExecutionStep.{ExecutionStep}
 
+-- how an execution ends whose finish has this status
 abbrev pub ending_of : Status → Ending
 ending_of status.Successful = Successful
 ending_of status.Aborted = Aborted
@@ -28,10 +29,13 @@ transition_of kind.Skipped payload = Some Skips
 transition_of kind.Finished (Outcome status message) = Some (Ends (ending_of status))
 transition_of _ _ = None
 
+-- the step of an event with this transition
 abbrev pub with_transition : Entry → Option Transition → Option ExecutionStep
 with_transition e None = None
-with_transition e (Some transition) = Some (record { key = e.event.key; stamp = e.event.stamp; transition = transition })
+with_transition e (Some transition) =
+    Some (record { key = e.event.key; stamp = e.event.stamp; transition = transition })
 
+-- what an event does, if it starts, skips or ends an execution
 abbrev pub step_of : Entry → Option ExecutionStep
 step_of e = with_transition e (transition_of e.event.kind e.event.payload)
 

@@ -11,10 +11,13 @@ use Rattle.tk_query.specs.declared.execution_steps.ExecutionStep.{ExecutionStep}
 pub record IsSpan (steps : ℕ → Option ExecutionStep) (x : Execution) : Type 0 where
   pub before : x.first < x.last
   pub starts : steps x.first ≡ Some (record { key = x.key; stamp = x.start; transition = Starts })
-  pub ends : steps x.last ≡ Some (record { key = x.key; stamp = x.stop; transition = Ends x.ending })
-  pub between : (m : ℕ) (a : ExecutionStep) → x.first < m → m < x.last → steps m ≡ Some a → a.key ≢ x.key
+  pub ends :
+      steps x.last ≡ Some (record { key = x.key; stamp = x.stop; transition = Ends x.ending })
+  pub between :
+      (m : ℕ) (a : ExecutionStep) →
+      x.first < m → m < x.last → steps m ≡ Some a → a.key ≢ x.key
 
--- the key is skipped there
+-- The key is skipped at the one position.
 pub record IsSkip (steps : ℕ → Option ExecutionStep) (x : Execution) : Type 0 where
   pub one : x.first ≡ x.last
   pub stamps : x.start ≡ x.stop
@@ -24,7 +27,7 @@ pub record IsSkip (steps : ℕ → Option ExecutionStep) (x : Execution) : Type 
 abbrev pub IsExecution : (ℕ → Option ExecutionStep) → Execution → Type 0
 IsExecution steps x = IsSkip steps x ⊎ IsSpan steps x
 
--- all of them, in the order of their ends
+-- all executions of the steps, in the order of their ends
 pub record AreExecutions (steps : ℕ → Option ExecutionStep) (xs : List Execution) : Type 0 where
   pub each : (x : Execution) → Contains xs x ↔ IsExecution steps x
   pub order : AllPairs (λ x y. x.last < y.last) xs

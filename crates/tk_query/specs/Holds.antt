@@ -14,18 +14,13 @@ use Rattle.tk_record_columns.specs.Recorded.{Recorded}
 use Rattle.tk_record_columns.specs.Selections.{has_type}
 use Rattle.tk_query_conditions.specs.Cond.{Bare, Test, Container, Engine, Started, Succeeded, Failed, Aborted, TextAtom, Id, Name, Skipped, FailedWith, AbortedWith, File, Pairs, NoPairs, MorePairs, Cond, Plain, With, OfKind, HasPairs, All, Any, Not, Conds, Nothing, More}
 use Rattle.tk_query_conditions.specs.CondOf.{cond_of}
+use Rattle.tk_query_conditions.specs.Reading.{begins_with}
 use Rattle.tk_query_conditions.specs.declared.conditions.Condition.{Condition}
 
--- the text begins with this one
-abbrev pub begins : List ℕ → List ℕ → Bool
-begins [] text = true
-begins (b ∷ prefix) [] = false
-begins (b ∷ prefix) (c ∷ text) = b == c && begins prefix text
-
--- the text contains this one
+-- the text contains the part
 abbrev pub has_within : List ℕ → List ℕ → Bool
-has_within part [] = begins part []
-has_within part (b ∷ text) = begins part (b ∷ text) || has_within part text
+has_within part [] = begins_with part []
+has_within part (b ∷ text) = begins_with part (b ∷ text) || has_within part text
 
 -- whether the descriptor is there, and passes
 abbrev pub has_descriptor : (Descriptor → Bool) → Option Descriptor → Bool
@@ -37,21 +32,22 @@ abbrev pub is_engine : List SegmentView → Bool
 is_engine (s ∷ []) = bytes_eq s.tag (codes "engine")
 is_engine _ = false
 
--- the reason is this one
+-- the payload is this reason
 abbrev pub has_reason : List ℕ → Payload → Bool
 has_reason text (Reason given) = bytes_eq given text
 has_reason text _ = false
 
--- the path is this one
+-- the payload is this path
 abbrev pub has_path : List ℕ → Payload → Bool
 has_path text (Path given) = bytes_eq given text
 has_path text _ = false
 
--- the message is there, and is this one
+-- the payload is an outcome with this message
 abbrev pub has_message : List ℕ → Payload → Bool
 has_message text (Outcome status (Some given)) = bytes_eq given text
 has_message text _ = false
 
+-- the pairs have the same texts
 abbrev pub same_pair : List ℕ × List ℕ → List ℕ × List ℕ → Bool
 same_pair a b = bytes_eq a.0 b.0 && bytes_eq a.1 b.1
 
@@ -64,10 +60,12 @@ abbrev pub reports : List (List ℕ × List ℕ) → Payload → Bool
 reports named (Report given) = all_within named given && all_within given named
 reports named _ = false
 
+-- the pairs in their order
 abbrev pub pairs_list : Pairs → List (List ℕ × List ℕ)
 pairs_list NoPairs = []
 pairs_list (MorePairs pairs key value) = pairs_list pairs ++ (key, value) ∷ []
 
+-- whether an atom of one word holds of an entry of the record
 abbrev pub bare_holds : Recorded → Bare → Entry → Bool
 bare_holds r Test e = has_type is_test (desc r e.event.key)
 bare_holds r Container e = has_type is_container (desc r e.event.key)
@@ -77,12 +75,17 @@ bare_holds r Succeeded e = of_status status.Successful e
 bare_holds r Failed e = of_status status.Failed e
 bare_holds r Aborted e = of_status status.Aborted e
 
+-- whether an atom with a text holds of an entry of the record
 abbrev pub text_atom_holds : Recorded → TextAtom → List ℕ → Entry → Bool
-text_atom_holds r Id text e = has_descriptor (λ d. has_within text (id_text d.id)) (desc r e.event.key)
-text_atom_holds r Name text e = has_descriptor (λ d. bytes_eq d.name text) (desc r e.event.key)
+text_atom_holds r Id text e =
+    has_descriptor (λ d. has_within text (id_text d.id)) (desc r e.event.key)
+text_atom_holds r Name text e =
+    has_descriptor (λ d. bytes_eq d.name text) (desc r e.event.key)
 text_atom_holds r Skipped text e = of_kind kind.Skipped e && has_reason text e.event.payload
-text_atom_holds r FailedWith text e = of_status status.Failed e && has_message text e.event.payload
-text_atom_holds r AbortedWith text e = of_status status.Aborted e && has_message text e.event.payload
+text_atom_holds r FailedWith text e =
+    of_status status.Failed e && has_message text e.event.payload
+text_atom_holds r AbortedWith text e =
+    of_status status.Aborted e && has_message text e.event.payload
 text_atom_holds r File text e = of_kind kind.File e && has_path text e.event.payload
 
 abbrev mutual
@@ -90,7 +93,8 @@ abbrev mutual
   cond_holds r (Plain bare) e = bare_holds r bare e
   cond_holds r (With text_atom text) e = text_atom_holds r text_atom text e
   cond_holds r (OfKind kind) e = of_kind kind e
-  cond_holds r (HasPairs pairs) e = of_kind kind.Reporting e && reports (pairs_list pairs) e.event.payload
+  cond_holds r (HasPairs pairs) e =
+      of_kind kind.Reporting e && reports (pairs_list pairs) e.event.payload
   cond_holds r (All cs) e = all_hold r cs e
   cond_holds r (Any cs) e = any_holds r cs e
   cond_holds r (Not c) e = not (cond_holds r c e)

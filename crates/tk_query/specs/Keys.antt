@@ -1,4 +1,4 @@
--- What the keys of a record's entries, and rules, say of a condition.
+-- What the keys of a record's entries, and tests of its columns, say of a condition.
 use Rattle.std.specs.Prelude.{◌≡◌, ℕ, Bool, false, List, get_or, Option, Some, None, slice_get}
 use Rattle.std.specs.List.{list_all}
 use Rattle.tk_events.specs.declared.events.Entry.{Entry}
@@ -26,9 +26,10 @@ pub record AreKeys (r : Recorded) (keys : List ℕ) : Type 0 where
 pub record AnswersAt (r : Recorded) (c : Condition) (position : ℕ) (b : Bool) : Type 0 where
   pub answers_at : (e : Entry) → slice_get r.entries position ≡ Some e → b ≡ holds r c e
 
--- for some keys, whether the condition holds of the entries of the key
+-- under each key that has an answer stands whether the condition holds of the key's entries
 pub record AreAnswers (r : Recorded) (c : Condition) (answers : List (Option Bool)) : Type 0 where
-  pub answers_are : (e : Entry) (b : Bool) → get_or answers e.event.key None ≡ Some b → b ≡ holds r c e
+  pub answers_are :
+      (e : Entry) (b : Bool) → get_or answers e.event.key None ≡ Some b → b ≡ holds r c e
 
 -- the condition holds only of entries that pass the rule
 pub record HoldsWithin (rule : ColumnTest) (r : Recorded) (c : Condition) : Type 0 where
@@ -36,8 +37,11 @@ pub record HoldsWithin (rule : ColumnTest) (r : Recorded) (c : Condition) : Type
 
 -- all of the conditions hold only of entries that pass the rule
 pub record AllHoldWithin (rule : ColumnTest) (r : Recorded) (cs : List Condition) : Type 0 where
-  pub all_within : (e : Entry) → passes rule r e ≡ false → list_all (λ c. holds r c e) cs ≡ false
+  pub all_within :
+      (e : Entry) → passes rule r e ≡ false → list_all (λ c. holds r c e) cs ≡ false
 
 -- the condition holds only of entries at whose positions the flag is set
 pub record AreCandidates (r : Recorded) (c : Condition) (flags : List Bool) : Type 0 where
-  pub others : (position : ℕ) (e : Entry) → slice_get r.entries position ≡ Some e → get_or flags position false ≡ false → holds r c e ≡ false
+  pub others :
+      (position : ℕ) (e : Entry) → slice_get r.entries position ≡ Some e →
+      get_or flags position false ≡ false → holds r c e ≡ false

@@ -11,11 +11,17 @@ use Rattle.tk_query.specs.ExecutionSteps.{step_at}
 use Rattle.tk_query.specs.Executions.{AreExecutions}
 use Rattle.tk_query.specs.Matches.{IsExact, IsLoose, IsInOrder}
 
+-- the same events and conditions have one answer of the exact matcher
 abbrev pub ExactIsUnique : Type 0
-ExactIsUnique = (asked : Selected) (cs : List Condition) (a b : Exact) → IsExact asked cs a → IsExact asked cs b → a ≡ b
+ExactIsUnique =
+    (asked : Selected) (cs : List Condition) (a b : Exact) →
+    IsExact asked cs a → IsExact asked cs b → a ≡ b
 
+-- the same events and conditions have one answer of the loose matcher
 abbrev pub LooseIsUnique : Type 0
-LooseIsUnique = (asked : Selected) (cs : List Condition) (a b : Loose) → IsLoose asked cs a → IsLoose asked cs b → a ≡ b
+LooseIsUnique =
+    (asked : Selected) (cs : List Condition) (a b : Loose) →
+    IsLoose asked cs a → IsLoose asked cs b → a ≡ b
 
 -- the same answer: the same positions, or the same number
 abbrev pub AreAlike : InOrder → InOrder → Type 0
@@ -23,8 +29,14 @@ AreAlike (Yes p) (Yes q) = p.items ≡ q.items
 AreAlike (No j) (No k) = j ≡ k
 AreAlike _ _ = ⊥
 
+-- the same events and conditions have one answer of the matcher in order
 abbrev pub InOrderIsUnique : Type 0
-InOrderIsUnique = (asked : Selected) (cs : List Condition) (a b : InOrder) → IsInOrder asked cs a → IsInOrder asked cs b → AreAlike a b
+InOrderIsUnique =
+    (asked : Selected) (cs : List Condition) (a b : InOrder) →
+    IsInOrder asked cs a → IsInOrder asked cs b → AreAlike a b
 
+-- the same events have one list of executions
 abbrev pub ListIsUnique : Type 0
-ListIsUnique = (asked : Selected) (xs ys : List Execution) → AreExecutions (step_at asked) xs → AreExecutions (step_at asked) ys → xs ≡ ys
+ListIsUnique =
+    (asked : Selected) (xs ys : List Execution) →
+    AreExecutions (step_at asked) xs → AreExecutions (step_at asked) ys → xs ≡ ys

@@ -16,10 +16,13 @@ use Rattle.tk_query.specs.InOrder.{IsLeastInTurn, IsFirstStuck}
 
 -- condition k holds of event k
 abbrev pub HoldsAt : Recorded → List Condition → List Entry → ℕ → Type 0
-HoldsAt r cs l k = (c : Condition) × (e : Entry) × (slice_get cs k ≡ Some c) × (slice_get l k ≡ Some e) × (holds r c e ≡ true)
+HoldsAt r cs l k =
+    (c : Condition) × (e : Entry)
+    × (slice_get cs k ≡ Some c) × (slice_get l k ≡ Some e) × (holds r c e ≡ true)
 
--- k is the least number whose condition doesn't hold of the event of that number
-pub record IsFirstUnlike (r : Recorded) (cs : List Condition) (l : List Entry) (k : ℕ) : Type 0 where
+-- k is the least number whose condition doesn't hold of the event of this number
+pub record IsFirstUnlike (r : Recorded) (cs : List Condition) (l : List Entry) (k : ℕ) :
+    Type 0 where
   pub condition : Condition
   pub event : Entry
   pub condition_is : slice_get cs k ≡ Some condition
@@ -29,13 +32,18 @@ pub record IsFirstUnlike (r : Recorded) (cs : List Condition) (l : List Entry) (
 
 -- one condition for each event, in their order
 abbrev pub IsExact : Selected → List Condition → Exact → Type 0
-IsExact asked cs exact.Yes = (length cs ≡ length asked.kept) × ((k : ℕ) → k < length cs → HoldsAt asked.recorded cs (events_of asked) k)
+IsExact asked cs exact.Yes =
+    (length cs ≡ length asked.kept)
+    × ((k : ℕ) → k < length cs → HoldsAt asked.recorded cs (events_of asked) k)
 IsExact asked cs exact.WrongCount = length cs ≢ length asked.kept
-IsExact asked cs (exact.No k) = (length cs ≡ length asked.kept) × IsFirstUnlike asked.recorded cs (events_of asked) k
+IsExact asked cs (exact.No k) =
+    (length cs ≡ length asked.kept) × IsFirstUnlike asked.recorded cs (events_of asked) k
 
 -- condition k holds of some event
 abbrev pub HoldsSomewhere : Selected → List Condition → ℕ → Type 0
-HoldsSomewhere asked cs k = (c : Condition) × (position : ℕ) × (slice_get cs k ≡ Some c) × (fits asked c position ≡ true)
+HoldsSomewhere asked cs k =
+    (c : Condition) × (position : ℕ)
+    × (slice_get cs k ≡ Some c) × (fits asked c position ≡ true)
 
 -- k is the least number whose condition holds of no event
 pub record IsFirstNowhere (asked : Selected) (cs : List Condition) (k : ℕ) : Type 0 where
@@ -49,7 +57,8 @@ abbrev pub IsLoose : Selected → List Condition → Loose → Type 0
 IsLoose asked cs loose.Yes = (k : ℕ) → k < length cs → HoldsSomewhere asked cs k
 IsLoose asked cs (loose.No k) = IsFirstNowhere asked cs k
 
--- the least positions in the record at which the conditions hold in turn, or the least number up to which there are none
+-- the least positions in the record at which the conditions hold in turn, or the least number up to
+-- which there are none
 abbrev pub IsInOrder : Selected → List Condition → InOrder → Type 0
 IsInOrder asked cs (in_order.Yes positions) = IsLeastInTurn (fits asked) cs positions.items
 IsInOrder asked cs (in_order.No k) = IsFirstStuck (fits asked) cs k

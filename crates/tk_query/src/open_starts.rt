@@ -7,7 +7,7 @@ use std::marker::Model;
 use std::mem;
 
 /// How many keys share a row: those that one worker may register.
-const KEYS_IN_ROW: usize = 65_536;
+pub(crate) const KEYS_IN_ROW: usize = 65_536;
 
 /// The open starts of the keys of one row, each with its position and its stamp.
 #[derive(Drop)]

@@ -1,5 +1,5 @@
 -- What each state has read, and that some condition's text begins so.
-use Rattle.std.proofs.Common.{◌≡◌, ℕ, ◌⊎◌, Bool, true, false, List, [], ◌∷◌, ◌++◌, Option, Some, None, option_and_then, option_map, map, if◌then◌else◌, ◌==◌, ◌||◌, refl, sym, ap, ◌∙◌, subst, inl, inr, ⊎_elim}
+use Rattle.std.proofs.Common.{◌≡◌, ℕ, ◌⊎◌, Bool, true, false, List, [], ◌∷◌, ◌++◌, Option, Some, None, option_and_then, option_map, map, if◌then◌else◌, ◌==◌, ◌||◌, ◌&&◌, refl, sym, ap, ◌∙◌, subst, inl, inr, ⊎_elim}
 use Rattle.std.specs.Prelude.{codes, bytes_eq}
 use Rattle.std.proofs.lemmas.List.{append_assoc, append-nil}
 use Rattle.std.proofs.lemmas.Slice.Eq.{bytes_eq-Decides}
@@ -74,7 +74,7 @@ begins_rest : (word text : List ℕ) → begins_with word text ≡ true → (res
 begins_rest [] text e = (text, refl)
 begins_rest (b ∷ word) [] e = cc
 begins_rest (b ∷ word) (c ∷ text) e =
-    elim (b == c) as (λ t. b == c ≡ t → (if t then begins_with word text else false) ≡ true → (rest : List ℕ) × (c ∷ text ≡ b ∷ word ++ rest)) [
+    elim (b == c) as (λ t. b == c ≡ t → (t && begins_with word text) ≡ true → (rest : List ℕ) × (c ∷ text ≡ b ∷ word ++ rest)) [
       | true ↦ λ same h. (let r = begins_rest word text h in (r.0, cons_same b c text (word ++ r.0) (eqb-true b c same) r.1))
       | false ↦ λ other h. cc
     ]

@@ -133,7 +133,7 @@ height_is (After stack c) = stack_height stack
 pub begins_is : (word text : List ℕ) → begins_with word text ≡ starts_with nat_eq text word
 begins_is [] text = refl
 begins_is (b ∷ word) [] = refl
-begins_is (b ∷ word) (c ∷ text) = elim (b == c) as (λ t. (if t then begins_with word text else false) ≡ (t && starts_with nat_eq text word)) [ true ↦ begins_is word text | false ↦ refl ]
+begins_is (b ∷ word) (c ∷ text) = elim (b == c) as (λ t. (t && begins_with word text) ≡ (t && starts_with nat_eq text word)) [ true ↦ begins_is word text | false ↦ refl ]
 
 -- how deep the reader is
 pub depth_at : (stack : List OpenGroup) (position : Position) → depth_of (state_at stack position) ≡ length stack

@@ -13,17 +13,19 @@ use Rattle.tk_query_conditions.specs.declared.faults.CondFault.TheVariants.{BadA
 abbrev pub IsShallowTo : List ℕ → ℕ → Type 0
 IsShallowTo text n = (m : ℕ) → m ≤ n → open_brackets (take m text) ≤ MAX_DEPTH
 
--- a condition's text begins with the first n bytes, and more than `MAX_DEPTH` brackets are open after them
+-- a condition's text begins with the first n bytes, which leave more than `MAX_DEPTH` brackets open
 pub record IsDeepAt (text : List ℕ) (n : ℕ) : Type 0 where
   pub within : n ≤ length text
   pub begins : Begins IsCondText (take n text)
   pub deep : MAX_DEPTH < open_brackets (take n text)
 
+-- the text is no condition's, and `at` is the length of its longest prefix with which one begins
 pub record IsBadAt (text : List ℕ) (at : ℕ) : Type 0 where
   pub no_condition : ¬ IsCondText text
   pub prefix : IsLongestPrefix IsCondText text at
   pub shallow : IsShallowTo text at
 
+-- what reading the text answers
 abbrev pub IsReadAs : List ℕ → Result Condition CondFault → Type 0
 IsReadAs text (Ok c) = (text ≡ cond_text (cond_of c)) × IsShallowTo text (length text)
 IsReadAs text (Err (BadAtom at)) = IsBadAt text at

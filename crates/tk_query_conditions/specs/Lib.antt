@@ -1,5 +1,6 @@
 pub mod Answer
 pub mod Brackets
+pub mod Characters
 pub mod Cond
 pub mod CondOf
 pub mod Reader

@@ -11,6 +11,7 @@ use Rattle.tk_query_conditions.specs.declared.open_groups.OpenGroup.TheVariants 
 use Rattle.tk_query_conditions.specs.declared.readers.Position.{Position}
 use Rattle.tk_query_conditions.specs.declared.readers.Position.TheVariants as positions
 use Rattle.tk_query_conditions.specs.declared.readers.Reader.{Reader}
+use Rattle.tk_query_conditions.specs.Characters.{percent, digit_two}
 use Rattle.tk_query_conditions.specs.Cond.{TextAtom, Id, Name, Skipped, FailedWith, AbortedWith, File, NoPairs, Nothing}
 use Rattle.tk_query_conditions.specs.CondOf.{cond_of, conds_from, pairs_from}
 use Rattle.tk_query_conditions.specs.Reading.{OpenGroup, OpenNot, OpenAll, OpenAny, Opener, OfText, OfKinds, OfPairs, OfAll, OfAny, OfNot, State, Word, InText, InKind, InPairs, After}
@@ -36,11 +37,12 @@ group_of groups.Not = OpenNot
 group_of (groups.All members) = OpenAll (conds_from Nothing members.items)
 group_of (groups.Any members) = OpenAny (conds_from Nothing members.items)
 
--- the last bracket comes first, and before the others
+-- the open brackets of the code, whose last one comes first, before those below them
 abbrev pub groups_from : List OpenGroup → List group.OpenGroup → List OpenGroup
 groups_from below [] = below
 groups_from below (f ∷ stack) = groups_from (group_of f ∷ below) stack
 
+-- the open brackets of the code, the last one first
 abbrev pub groups_of : List group.OpenGroup → List OpenGroup
 groups_of stack = groups_from [] stack
 
@@ -48,12 +50,14 @@ abbrev pub state_at : List OpenGroup → Position → State
 state_at stack (positions.Word word) = Word stack word.items
 state_at stack (positions.Text t partial) = InText stack (text_atom_of t) partial
 state_at stack (positions.Kind word) = InKind stack word.items
-state_at stack (positions.Pairs pairs key partial) = InPairs stack (pairs_from NoPairs pairs) key partial
+state_at stack (positions.Pairs pairs key partial) =
+    InPairs stack (pairs_from NoPairs pairs) key partial
 state_at stack (positions.After c) = After stack (cond_of c)
 
 abbrev pub state_of : Reader → State
 state_of r = state_at (groups_of r.stack.items) r.position
 
+-- how many brackets of `all(`, `any(` and `not(` are open
 abbrev pub depth_of : State → ℕ
 depth_of (Word stack word) = length stack
 depth_of (InText stack t partial) = length stack
@@ -61,17 +65,18 @@ depth_of (InKind stack word) = length stack
 depth_of (InPairs stack pairs key partial) = length stack
 depth_of (After stack c) = length stack
 
--- what was read of an escape
+-- the bytes that were read of an escape
 abbrev pub rest_of : Escape → List ℕ
 rest_of Outside = []
-rest_of Percent = 37 ∷ []
-rest_of Digit = 37 ∷ 50 ∷ []
+rest_of Percent = percent ∷ []
+rest_of Digit = percent ∷ digit_two ∷ []
 
--- together with what was read of a text, this byte and some others are text
+-- what was read of a text, this byte and some others after it are UTF-8
 abbrev pub ContinuesAsText : List ℕ × Escape → ℕ → Type 0
-ContinuesAsText partial b = (rest : List ℕ) × IsUtf8 ((partial.0 ++ rest_of partial.1) ++ b ∷ rest)
+ContinuesAsText partial b =
+    (rest : List ℕ) × IsUtf8 ((partial.0 ++ rest_of partial.1) ++ b ∷ rest)
 
--- the same of the text that a state is in
+-- where the state is inside a text: what was read of it, this byte and some others are UTF-8
 abbrev pub CanContinue : State → ℕ → Type 0
 CanContinue (InText stack t partial) b = ContinuesAsText partial b
 CanContinue (InPairs stack pairs key partial) b = ContinuesAsText partial b

@@ -1,36 +1,55 @@
--- The machine that reads a condition: the open brackets, and what is read at their top.
-use Rattle.std.specs.Prelude.{ℕ, Bool, true, false, List, [], ◌∷◌, ◌++◌, Option, Some, None, option_and_then, option_map, ◌==◌, ◌||◌, if◌then◌else◌, bytes_eq, codes, map}
+-- The machine that reads a condition byte by byte. Its state says which brackets of `all(`, `any(`
+-- and `not(` are open, the last one first, and in which part of the grammar the next byte stands.
+use Rattle.std.specs.Prelude.{ℕ, Bool, true, false, List, [], ◌∷◌, ◌++◌, Option, Some, None, option_and_then, option_map, ◌==◌, ◌||◌, if◌then◌else◌, bytes_eq, codes, map, ◌&&◌}
 use Rattle.std.specs.List.{list_any}
+use Rattle.tk_query_conditions.specs.Characters.{percent, opening_bracket, closing_bracket, comma, digit_two, digit_five, digit_eight, digit_nine, digit_c}
 use Rattle.tk_query_conditions.specs.Cond.{Bare, Test, Container, Engine, Started, Succeeded, Failed, Aborted, TextAtom, Id, Name, Skipped, FailedWith, AbortedWith, File, Pairs, NoPairs, MorePairs, Cond, Plain, With, OfKind, HasPairs, All, Any, Not, Conds, Nothing, More, kind_text}
 use Rattle.tk_query_conditions.specs.declared.partial_texts.Escape.{Escape}
 use Rattle.tk_query_conditions.specs.declared.partial_texts.Escape.TheVariants.{Outside, Percent, Digit}
 use Rattle.tk_events.specs.declared.kinds.Kind.{Kind}
 use Rattle.tk_events.specs.declared.kinds.Kind.TheVariants as event
 
--- an open bracket, with the members that are read
+-- an open bracket of `all(`, `any(` or `not(`, with the members that are read
 pub data OpenGroup : Type 0 where
   OpenNot : OpenGroup
   OpenAll : Conds → OpenGroup
   OpenAny : Conds → OpenGroup
 
 pub data State : Type 0 where
+  -- in a word, or where a condition may begin
   Word : List OpenGroup → List ℕ → State
+  -- in the text of an atom
   InText : List OpenGroup → TextAtom → List ℕ × Escape → State
+  -- in the name of a kind
   InKind : List OpenGroup → List ℕ → State
+  -- in the pairs of an entry: the whole pairs, the key of the next one if it is read, and its text
   InPairs : List OpenGroup → Pairs → Option (List ℕ) → List ℕ × Escape → State
+  -- after a whole condition
   After : List OpenGroup → Cond → State
 
--- the entry of a table at a word
+-- what a table has under a word
 abbrev pub look : {A : Type 0} → List (List ℕ × A) → List ℕ → Option A
 look [] word = None
 look (entry ∷ table) word = if bytes_eq word entry.0 then Some entry.1 else look table word
 
+-- the atoms of one word, by their words
 abbrev pub bares : List (List ℕ × Bare)
-bares = (codes "test", Test) ∷ (codes "container", Container) ∷ (codes "engine", Engine) ∷ (codes "started", Started) ∷ (codes "succeeded", Succeeded) ∷ (codes "failed", Failed) ∷ (codes "aborted", Aborted) ∷ []
+bares =
+    (codes "test", Test)
+    ∷ (codes "container", Container)
+    ∷ (codes "engine", Engine)
+    ∷ (codes "started", Started)
+    ∷ (codes "succeeded", Succeeded)
+    ∷ (codes "failed", Failed)
+    ∷ (codes "aborted", Aborted)
+    ∷ []
 
 abbrev pub all_kinds : List Kind
-all_kinds = event.Dynamic ∷ event.Skipped ∷ event.Started ∷ event.Finished ∷ event.Reporting ∷ event.File ∷ []
+all_kinds =
+    event.Dynamic ∷ event.Skipped ∷ event.Started
+    ∷ event.Finished ∷ event.Reporting ∷ event.File ∷ []
 
+-- the kinds of events, by their names
 abbrev pub kinds : List (List ℕ × Kind)
 kinds = map (λ kind. (kind_text kind, kind)) all_kinds
 
@@ -43,28 +62,55 @@ pub data Opener : Type 0 where
   OfAny : Opener
   OfNot : Opener
 
+-- the words that stand before a bracket
 abbrev pub openers : List (List ℕ × Opener)
-openers = (codes "id", OfText Id) ∷ (codes "name", OfText Name) ∷ (codes "skipped", OfText Skipped) ∷ (codes "failed", OfText FailedWith) ∷ (codes "aborted", OfText AbortedWith) ∷ (codes "file", OfText File) ∷ (codes "kind", OfKinds) ∷ (codes "entry", OfPairs) ∷ (codes "all", OfAll) ∷ (codes "any", OfAny) ∷ (codes "not", OfNot) ∷ []
+openers =
+    (codes "id", OfText Id)
+    ∷ (codes "name", OfText Name)
+    ∷ (codes "skipped", OfText Skipped)
+    ∷ (codes "failed", OfText FailedWith)
+    ∷ (codes "aborted", OfText AbortedWith)
+    ∷ (codes "file", OfText File)
+    ∷ (codes "kind", OfKinds)
+    ∷ (codes "entry", OfPairs)
+    ∷ (codes "all", OfAll)
+    ∷ (codes "any", OfAny)
+    ∷ (codes "not", OfNot)
+    ∷ []
 
--- the text begins with prefix
+-- the text begins with the prefix
 abbrev pub begins_with : List ℕ → List ℕ → Bool
 begins_with [] text = true
 begins_with (b ∷ prefix) [] = false
-begins_with (b ∷ prefix) (c ∷ text) = if b == c then begins_with prefix text else false
+begins_with (b ∷ prefix) (c ∷ text) = b == c && begins_with prefix text
 
--- some word of the table begins so
+-- some word of the table begins with this one
 abbrev pub is_prefix : {A : Type 0} → List (List ℕ × A) → List ℕ → Bool
 is_prefix table word = list_any (λ entry. begins_with word entry.0) table
 
+-- the character whose escape has this last digit
 abbrev pub special_of : ℕ → Option ℕ
-special_of b = if b == 53 then Some 37 else (if b == 56 then Some 40 else (if b == 57 then Some 41 else (if b == 67 then Some 44 else None)))
+special_of b =
+    if b == digit_five then Some percent
+    else (if b == digit_eight then Some opening_bracket
+    else (if b == digit_nine then Some closing_bracket
+    else (if b == digit_c then Some comma
+    else None)))
+
+-- a bracket or a comma, which ends a text and stands in it only as an escape
+abbrev pub is_delimiter : ℕ → Bool
+is_delimiter b = b == opening_bracket || (b == closing_bracket || b == comma)
 
 -- one more byte inside a text
 abbrev pub text_step : List ℕ × Escape → ℕ → Option (List ℕ × Escape)
-text_step (bytes, Outside) b = if b == 37 then Some (bytes, Percent) else (if b == 40 || (b == 41 || b == 44) then None else Some (bytes ++ b ∷ [], Outside))
-text_step (bytes, Percent) b = if b == 50 then Some (bytes, Digit) else None
+text_step (bytes, Outside) b =
+    if b == percent then Some (bytes, Percent)
+    else (if is_delimiter b then None
+    else Some (bytes ++ b ∷ [], Outside))
+text_step (bytes, Percent) b = if b == digit_two then Some (bytes, Digit) else None
 text_step (bytes, Digit) b = option_map (λ c. (bytes ++ c ∷ [], Outside)) (special_of b)
 
+-- the text is whole, and this byte ends it
 abbrev pub ends_at : ℕ → List ℕ × Escape → ℕ → Bool
 ends_at stop (bytes, Outside) b = b == stop
 ends_at stop (bytes, Percent) b = false
@@ -73,15 +119,25 @@ ends_at stop (bytes, Digit) b = false
 -- `)` or `,` after a condition
 abbrev pub close : List OpenGroup → Cond → ℕ → Option State
 close [] c b = None
-close (OpenNot ∷ stack) c b = if b == 41 then Some (After stack (Not c)) else None
-close (OpenAll cs ∷ stack) c b = if b == 41 then Some (After stack (All (More cs c))) else (if b == 44 then Some (Word (OpenAll (More cs c) ∷ stack) []) else None)
-close (OpenAny cs ∷ stack) c b = if b == 41 then Some (After stack (Any (More cs c))) else (if b == 44 then Some (Word (OpenAny (More cs c) ∷ stack) []) else None)
+close (OpenNot ∷ stack) c b = if b == closing_bracket then Some (After stack (Not c)) else None
+close (OpenAll cs ∷ stack) c b =
+    if b == closing_bracket then Some (After stack (All (More cs c)))
+    else (if b == comma then Some (Word (OpenAll (More cs c) ∷ stack) [])
+    else None)
+close (OpenAny cs ∷ stack) c b =
+    if b == closing_bracket then Some (After stack (Any (More cs c)))
+    else (if b == comma then Some (Word (OpenAny (More cs c) ∷ stack) [])
+    else None)
 
+-- `)` after a bracket without a member: `all()` and `any()` are conditions
 abbrev pub close_empty : List OpenGroup → ℕ → Option State
-close_empty (OpenAll Nothing ∷ stack) b = if b == 41 then Some (After stack (All Nothing)) else None
-close_empty (OpenAny Nothing ∷ stack) b = if b == 41 then Some (After stack (Any Nothing)) else None
+close_empty (OpenAll Nothing ∷ stack) b =
+    if b == closing_bracket then Some (After stack (All Nothing)) else None
+close_empty (OpenAny Nothing ∷ stack) b =
+    if b == closing_bracket then Some (After stack (Any Nothing)) else None
 close_empty _ b = None
 
+-- `(` after a word that stands before a bracket
 abbrev pub opened : List OpenGroup → Opener → State
 opened stack (OfText text_atom) = InText stack text_atom ([], Outside)
 opened stack OfKinds = InKind stack []
@@ -90,32 +146,55 @@ opened stack OfAll = Word (OpenAll Nothing ∷ stack) []
 opened stack OfAny = Word (OpenAny Nothing ∷ stack) []
 opened stack OfNot = Word (OpenNot ∷ stack) []
 
--- a delimiter after a word
+-- `)` or `,` after a word, or after nothing
 abbrev pub after_word : List OpenGroup → List ℕ → ℕ → Option State
 after_word stack [] b = close_empty stack b
-after_word stack (x ∷ word) b = option_and_then (λ bare. close stack (Plain bare) b) (look bares (x ∷ word))
+after_word stack (x ∷ word) b =
+    option_and_then (λ bare. close stack (Plain bare) b) (look bares (x ∷ word))
 
--- a comma or a bracket after a whole text in a list of pairs
+-- `,` after a whole text in the pairs of an entry
 abbrev pub next_text : List OpenGroup → Pairs → Option (List ℕ) → List ℕ → State
 next_text stack pairs None text = InPairs stack pairs (Some text) ([], Outside)
 next_text stack pairs (Some key) text = InPairs stack (MorePairs pairs key text) None ([], Outside)
 
+-- `)` after a whole text in the pairs of an entry, or in an entry without pairs
 abbrev pub last_text : List OpenGroup → Pairs → Option (List ℕ) → List ℕ → Option State
 last_text stack pairs (Some key) text = Some (After stack (HasPairs (MorePairs pairs key text)))
 last_text stack NoPairs None [] = Some (After stack (HasPairs NoPairs))
 last_text stack _ None _ = None
 
+-- one more letter of a word, where some word goes on so
+abbrev pub longer_word : List OpenGroup → List ℕ → Option State
+longer_word stack word =
+    if is_prefix bares word || is_prefix openers word then Some (Word stack word) else None
+
+-- one more letter of a kind's name, where some name goes on so
+abbrev pub longer_kind : List OpenGroup → List ℕ → Option State
+longer_kind stack word = if is_prefix kinds word then Some (InKind stack word) else None
+
+-- the state after one more byte; none where no condition's text has the byte there
 abbrev pub step : State → ℕ → Option State
 step (After stack c) b = close stack c b
-step (Word stack word) b = if b == 41 || b == 44 then after_word stack word b else (if b == 40 then option_map (opened stack) (look openers word) else (if is_prefix bares (word ++ b ∷ []) || is_prefix openers (word ++ b ∷ []) then Some (Word stack (word ++ b ∷ [])) else None))
-step (InText stack text_atom partial) b = if ends_at 41 partial b then Some (After stack (With text_atom partial.0)) else option_map (InText stack text_atom) (text_step partial b)
-step (InKind stack word) b = if b == 41 then option_map (λ kind. After stack (OfKind kind)) (look kinds word) else (if is_prefix kinds (word ++ b ∷ []) then Some (InKind stack (word ++ b ∷ [])) else None)
-step (InPairs stack pairs key partial) b = if ends_at 44 partial b then Some (next_text stack pairs key partial.0) else (if ends_at 41 partial b then last_text stack pairs key partial.0 else option_map (InPairs stack pairs key) (text_step partial b))
+step (Word stack word) b =
+    if b == closing_bracket || b == comma then after_word stack word b
+    else (if b == opening_bracket then option_map (opened stack) (look openers word)
+    else longer_word stack (word ++ b ∷ []))
+step (InText stack text_atom partial) b =
+    if ends_at closing_bracket partial b then Some (After stack (With text_atom partial.0))
+    else option_map (InText stack text_atom) (text_step partial b)
+step (InKind stack word) b =
+    if b == closing_bracket then option_map (λ kind. After stack (OfKind kind)) (look kinds word)
+    else longer_kind stack (word ++ b ∷ [])
+step (InPairs stack pairs key partial) b =
+    if ends_at comma partial b then Some (next_text stack pairs key partial.0)
+    else (if ends_at closing_bracket partial b then last_text stack pairs key partial.0
+    else option_map (InPairs stack pairs key) (text_step partial b))
 
+-- before the first byte
 abbrev pub start : State
 start = Word [] []
 
--- the condition that has ended where something else comes
+-- the condition that is whole where its text ends, or where `)` or `,` follows
 abbrev pub ended : State → Option (List OpenGroup × Cond)
 ended (Word stack word) = option_map (λ bare. (stack, Plain bare)) (look bares word)
 ended (After stack c) = Some (stack, c)
