@@ -147,6 +147,21 @@ impl Flags {
         crate::first_from(&self.words, from)
     }
 
+    /// Writes the bytes of a column at the set flags of one block of 64 to the start of a buffer,
+    /// in order, and returns how many. The rest of the buffer stays.
+    pub fn gather(&self, column: &[u8], block: usize, buffer: &mut [u8; 64]) -> usize
+        requires size { length column.now ≡ length self.now }
+        requires within { 64 * block < length self.now }
+        ensures count { result ≤ 64 }
+        ensures rest { drop result buffer.new ≡ drop result buffer.old }
+        ensures picked { take result buffer.new ≡ items_where_true
+            (take 64 (drop (64 * block) self.now)) (take 64 (drop (64 * block) column.now)) }
+    {
+        let start = 64 * block;
+        let end = (start + 64).min(self.len);
+        crate::gather(&column[start..end], &self.words[block..block + 1], buffer)
+    }
+
     /// Lists the positions whose flags are set, in increasing order.
     pub fn positions(&self, alloc: Global) -> Result<Vec<usize>, AllocError>
         ensures { IfOk result (λ list. list.items ≡ positions (λ flag. flag) self.now) }
@@ -158,6 +173,19 @@ impl Flags {
             from = position + 1;
         }
         Ok(list)
+    }
+
+    /// Counts the bytes of a column at set flags that equal the value. It takes no memory.
+    pub fn count_byte(&self, column: &[u8], value: u8) -> usize
+        requires { length column.now ≡ length self.now }
+        ensures value { result ≡ count_by (λ x. x == value) (items_where_true self.now column.now) }
+        ensures bound { result ≤ 2 ^ 32 }
+    {
+        let mut total = 0;
+        for block in 0..self.len().div_ceil(64) {
+            total += self.count_in_block(column, block, value);
+        }
+        total
     }
 
     /// Counts the bytes of a column at set flags that equal 0, 1, .. 7, in one pass.
