@@ -31,20 +31,23 @@ use Rattle.tk_queue.specs.Limits.{most_events}
 use Rattle.tk_queue.specs.Emission.{MayEmit, Emission, is_dynamic, is_plain, registrations, entry_by, entries_by, is_known_after}
 use Rattle.tk_queue.specs.PassViews.{pass_of_sender, pass_of_receiver, pushed, popped, Pops, MayTake, MayPush}
 use Rattle.tk_queue.specs.PassViews.{MayBeEmittedNext}
-use Rattle.tk_queue.specs.Senders.{SenderView, EmitsLawfully, fresh_senders, knows, refusal_of, id_registered, IsSender, sent_of}
+use Rattle.tk_queue.specs.Senders.{SenderView, SenderFields, EmitsLawfully, fresh_senders, knows, refusal_of, id_registered, IsSender, sent_of}
 use Rattle.tk_queue.specs.Registering.{HasRoom, IsNew, IsChildMade}
 use Rattle.tk_queue.specs.Receivers.{IsReceiver, IsRecordable, MayFollow, taken_of, is_marked, is_mark_of}
 use Rattle.tk_queue.proofs.KnownKeys.{emission_none, emission_more, some_desc, known_after, own_entries, some_among, registers_among}
 
 -- ---- a sender
 
+abbrev fields : List Descriptor → ℕ → List (List SegmentView) → ℕ → SenderFields
+fields table worker ids emitted = record { table = table; worker = worker; ids = ids; emitted = emitted }
+
 none_either : (b : Bool) → cond {A = Option (List SegmentView)} b None None ≡ None
 none_either true = refl
 none_either false = refl
 
-pub sender_fresh : (v : PassView) (table : List Descriptor) (worker : ℕ) → v ≡ pass_of_sender (length table) worker [] false → 0 < worker → worker ≤ most_workers → IsSender v table worker [] 0
+pub sender_fresh : (v : PassView) (table : List Descriptor) (worker : ℕ) → v ≡ pass_of_sender (length table) worker [] false → 0 < worker → worker ≤ most_workers → IsSender v (fields table worker [] 0)
 sender_fresh v table worker e low high =
-    subst (λ u. IsSender u table worker [] 0) (sym e) (record {
+    subst (λ u. IsSender u (fields table worker [] 0)) (sym e) (record {
       is = refl;
       counted = refl;
       leads = λ key. sym (none_either (nat_lt key (registered_key worker 0)));
@@ -84,17 +87,17 @@ registrations-more es e = sum_by-append weight es (e ∷ []) ∙ ap (λ n. regis
   plus_zero k = omega arith
 
 -- after one more event
-keeps : (v w : PassView) (table : List Descriptor) (worker emitted : ℕ) (ids later : List (List SegmentView)) (e : Event) → IsSender v table worker ids emitted → w ≡ pushed v (entry worker e)
+keeps : (v w : PassView) (table : List Descriptor) (worker emitted : ℕ) (ids later : List (List SegmentView)) (e : Event) → IsSender v (fields table worker ids emitted) → w ≡ pushed v (entry worker e)
     → MayEmit (length table) worker (sent_of v) e → emitted < most_events
     → ((key : ℕ) → option_map (λ (d : Descriptor). d.id) (desc_in (entries_by worker (sent_of v ++ e ∷ [])) key) ≡ id_registered worker later key)
-    → length later ≡ length ids + weight e → length later ≤ MAX_DESCRIPTORS → IsSender w table worker later (emitted + 1)
+    → length later ≡ length ids + weight e → length later ≤ MAX_DESCRIPTORS → IsSender w (fields table worker later (emitted + 1))
 keeps v w table worker emitted ids later e h moved may room leads longer fits =
     let es = sent_of v in
     let now : w ≡ pass_of_sender (length table) worker (es ++ e ∷ []) false = moved ∙ ap (λ u. pushed u (entry worker e)) h.is in
     let counted : emitted + 1 ≡ length (es ++ e ∷ []) = let n = h.counted in omega (arith, length-append es (e ∷ [])) in
     let number : length later ≡ registrations (es ++ e ∷ []) = let n = h.number in let k = registrations-more es e in omega arith in
     let short : length es < most_events = subst (λ k. k < most_events) h.counted room in
-    subst (λ u. IsSender u table worker later (emitted + 1)) (sym now)
+    subst (λ u. IsSender u (fields table worker later (emitted + 1))) (sym now)
     (record { is = refl; counted = counted; leads = leads; number = number; few_ids = fits; may = emission_more (length table) worker es e h.may may short; low = h.low; high = h.high })
 
 or_none : {X : Type 0} (o : Option X) → option_or o None ≡ o
@@ -105,8 +108,8 @@ or_none (Some x) = refl
 not_registered : (worker : ℕ) (e : Event) (key : ℕ) → is_dynamic e ≡ false → registered key (entry_by worker e) ≡ None
 not_registered worker e key plain = ap (λ (b : Bool). if b && (e.key == key) then described e.payload else None) plain
 
-pub sender_sends : (v w : PassView) (table : List Descriptor) (worker emitted : ℕ) (ids : List (List SegmentView)) (e : Event) → IsSender v table worker ids emitted → w ≡ pushed v (entry worker e)
-    → MayEmit (length table) worker (sent_of v) e → emitted < most_events → is_dynamic e ≡ false → IsSender w table worker ids (emitted + 1)
+pub sender_sends : (v w : PassView) (table : List Descriptor) (worker emitted : ℕ) (ids : List (List SegmentView)) (e : Event) → IsSender v (fields table worker ids emitted) → w ≡ pushed v (entry worker e)
+    → MayEmit (length table) worker (sent_of v) e → emitted < most_events → is_dynamic e ≡ false → IsSender w (fields table worker ids (emitted + 1))
 sender_sends v w table worker emitted ids e h moved may room plain =
     keeps v w table worker emitted ids ids e h moved may room
     (λ key. ap (option_map (λ (d : Descriptor). d.id)) (desc_after worker (sent_of v) e key ∙ ap (option_or (desc_in (entries_by worker (sent_of v)) key)) (not_registered worker e key plain) ∙ or_none (desc_in (entries_by worker (sent_of v)) key)) ∙ h.leads key)
@@ -173,7 +176,7 @@ all_true : (a b c d : Bool) → a ≡ true → b ≡ true → c ≡ true → d �
 all_true a b c d p q r t = λ i. ((p i && q i) && r i) && t i
 
 -- the next registration may be emitted
-registration_may : (v : PassView) (table : List Descriptor) (worker emitted key stamp : ℕ) (ids : List (List SegmentView)) (d : Descriptor) → IsSender v table worker ids emitted → key ≡ registered_key worker (length ids)
+registration_may : (v : PassView) (table : List Descriptor) (worker emitted key stamp : ℕ) (ids : List (List SegmentView)) (d : Descriptor) → IsSender v (fields table worker ids emitted) → key ≡ registered_key worker (length ids)
     → length ids < MAX_DESCRIPTORS → MayEmit (length table) worker (sent_of v) (record { kind = Dynamic; key = key; stamp = stamp; payload = Described d })
 registration_may v table worker emitted key stamp ids d h is few =
     let n = count_by (registers worker) (entries_by worker (sent_of v)) in
@@ -186,12 +189,12 @@ registration_may v table worker emitted key stamp ids d h is few =
     }
 
 -- the worker registered nothing yet under its next key
-next_unregistered : (v : PassView) (table : List Descriptor) (worker emitted key : ℕ) (ids : List (List SegmentView)) → IsSender v table worker ids emitted → key ≡ registered_key worker (length ids) → desc_in (entries_by worker (sent_of v)) key ≡ None
+next_unregistered : (v : PassView) (table : List Descriptor) (worker emitted key : ℕ) (ids : List (List SegmentView)) → IsSender v (fields table worker ids emitted) → key ≡ registered_key worker (length ids) → desc_in (entries_by worker (sent_of v)) key ≡ None
 next_unregistered v table worker emitted key ids h is =
     no_id (desc_in (entries_by worker (sent_of v)) key) (h.leads key ∙ id_at worker ids (length ids) key is ∙ slice_get_beyond ids (length ids) (omega arith))
 
 -- nor is that key a static one
-pub next_is_new : (t : TableId) (v : PassView) (table : List Descriptor) (worker emitted key : ℕ) (ids : List (List SegmentView)) (s : SenderView) → IsSender v table worker ids emitted
+pub next_is_new : (t : TableId) (v : PassView) (table : List Descriptor) (worker emitted key : ℕ) (ids : List (List SegmentView)) (s : SenderView) → IsSender v (fields table worker ids emitted)
     → record { session = t; table = table; worker = worker; sent = sent_of v } ≡ s → length table ≤ MAX_DESCRIPTORS → key ≡ registered_key worker (length ids) → IsNew s key
 next_is_new t v table worker emitted key ids s h is few at =
     let low = h.low in
@@ -199,14 +202,14 @@ next_is_new t v table worker emitted key ids s h is few at =
     (ap (λ o. option_or o (desc_in (entries_by worker (sent_of v)) key)) (slice_get_beyond table key (omega arith)) ∙ next_unregistered v table worker emitted key ids h at)
 
 -- the next key by the sender's ids
-pub next_key_is : (t : TableId) (v : PassView) (table : List Descriptor) (worker emitted : ℕ) (ids : List (List SegmentView)) (s : SenderView) {key : ℕ} → IsSender v table worker ids emitted
+pub next_key_is : (t : TableId) (v : PassView) (table : List Descriptor) (worker emitted : ℕ) (ids : List (List SegmentView)) (s : SenderView) {key : ℕ} → IsSender v (fields table worker ids emitted)
     → record { session = t; table = table; worker = worker; sent = sent_of v } ≡ s → key ≡ registered_key s.worker (registrations s.sent) → key ≡ registered_key worker (length ids)
 next_key_is t v table worker emitted ids s h is at =
     at ∙ ap (λ (y : SenderView). registered_key y.worker (registrations y.sent)) (sym is) ∙ ap (registered_key worker) (sym h.number)
 
-pub sender_registers : (v w : PassView) (table : List Descriptor) (worker emitted key stamp : ℕ) (ids : List (List SegmentView)) (d : Descriptor) → IsSender v table worker ids emitted
+pub sender_registers : (v w : PassView) (table : List Descriptor) (worker emitted key stamp : ℕ) (ids : List (List SegmentView)) (d : Descriptor) → IsSender v (fields table worker ids emitted)
     → key ≡ registered_key worker (length ids) → w ≡ pushed v (entry worker (record { kind = Dynamic; key = key; stamp = stamp; payload = Described d }))
-    → emitted < most_events → length ids < MAX_DESCRIPTORS → IsSender w table worker (ids ++ d.id ∷ []) (emitted + 1)
+    → emitted < most_events → length ids < MAX_DESCRIPTORS → IsSender w (fields table worker (ids ++ d.id ∷ []) (emitted + 1))
 sender_registers v w table worker emitted key stamp ids d h is moved room few =
     let e : Event = record { kind = Dynamic; key = key; stamp = stamp; payload = Described d } in
     let es = sent_of v in
@@ -255,19 +258,19 @@ plain_may table w es e plain known = record {
       ∙ sym (some_desc table (entries_by w es) e.key) ∙ known;
 }
 
-pub admitted_may : (t : TableId) (v : PassView) (table : List Descriptor) (worker emitted : ℕ) (ids : List (List SegmentView)) (s : SenderView) (a b : Event) → IsSender v table worker ids emitted
+pub admitted_may : (t : TableId) (v : PassView) (table : List Descriptor) (worker emitted : ℕ) (ids : List (List SegmentView)) (s : SenderView) (a b : Event) → IsSender v (fields table worker ids emitted)
     → record { session = t; table = table; worker = worker; sent = sent_of v } ≡ s → (a ≡ b) × (refusal_of s b ≡ None)
     → MayEmit (length table) worker (sent_of v) a × (emitted < most_events) × (is_dynamic a ≡ false)
 admitted_may t v table worker emitted ids s a b h is ok =
     let n = not_refused (record { session = t; table = table; worker = worker; sent = sent_of v }) a (subst (λ (y : SenderView × Event). refusal_of y.0 y.1 ≡ None) (λ i. (sym is i, sym ok.0 i)) ok.1) in
     (plain_may table worker (sent_of v) a n.1 n.0, subst (λ k. k < most_events) (sym h.counted) n.2, not_true (is_dynamic a) (and_right (is_lawful a.kind a.payload) (not (is_dynamic a)) n.1))
 
-pub may_push : (v : PassView) (table : List Descriptor) (worker emitted : ℕ) (ids : List (List SegmentView)) (e : Event) → IsSender v table worker ids emitted → MayEmit (length table) worker (sent_of v) e → emitted < most_events → MayPush v (entry worker e)
+pub may_push : (v : PassView) (table : List Descriptor) (worker emitted : ℕ) (ids : List (List SegmentView)) (e : Event) → IsSender v (fields table worker ids emitted) → MayEmit (length table) worker (sent_of v) e → emitted < most_events → MayPush v (entry worker e)
 may_push v table worker emitted ids e h may room =
     subst (λ u. MayPush u (entry worker e)) (sym h.is) (refl, (refl, may, subst (λ k. k < most_events) h.counted room))
 
 -- a worker's next registration may be pushed
-pub may_push_registration : (v : PassView) (table : List Descriptor) (worker emitted key stamp : ℕ) (ids : List (List SegmentView)) (d : Descriptor) → IsSender v table worker ids emitted
+pub may_push_registration : (v : PassView) (table : List Descriptor) (worker emitted key stamp : ℕ) (ids : List (List SegmentView)) (d : Descriptor) → IsSender v (fields table worker ids emitted)
     → key ≡ registered_key worker (length ids) → emitted < most_events → length ids < MAX_DESCRIPTORS
     → MayPush v (entry worker (record { kind = Dynamic; key = key; stamp = stamp; payload = Described d }))
 may_push_registration v table worker emitted key stamp ids d h is room few =
@@ -275,7 +278,7 @@ may_push_registration v table worker emitted key stamp ids d h is room few =
 
 -- what `child` says of the sender's fields
 pub made_may : (t : TableId) (v : PassView) (table : List Descriptor) (worker emitted : ℕ) (ids : List (List SegmentView)) (s : SenderView) (parent : ℕ) (below : Descriptor → Descriptor) (made : List SegmentView × Descriptor)
-    → IsSender v table worker ids emitted → record { session = t; table = table; worker = worker; sent = sent_of v } ≡ s → IsChildMade s parent below (Ok made)
+    → IsSender v (fields table worker ids emitted) → record { session = t; table = table; worker = worker; sent = sent_of v } ≡ s → IsChildMade s parent below (Ok made)
     → (emitted < most_events) × (length ids < MAX_DESCRIPTORS) × (made.0 ≡ made.1.id)
 made_may t v table worker emitted ids s parent below made h is ok =
     let room : HasRoom (record { session = t; table = table; worker = worker; sent = sent_of v }) = subst HasRoom (sym is) ok.2 in

@@ -18,7 +18,7 @@ use Rattle.tk_queue.specs.declared.session_rules.PassView.TheVariants.{Sends, Ta
 use Rattle.tk_record_columns.specs.Mixing.{IsWorkerOf, of_worker}
 use Rattle.tk_queue_core.specs.Core.{Core, IsCore, worker_of, push, put, take_first, items_of, entries}
 use Rattle.tk_queue.specs.Limits.{most_events}
-use Rattle.tk_queue.specs.SessionRule.{Session, Fits, Stands, Concludes}
+use Rattle.tk_queue.specs.SessionRule.{SessionLayout, Session, Fits, Stands, Concludes}
 use Rattle.tk_queue.specs.PassViews.{pass_of_receiver, pass_of_sender, new_receiver, pushed, popped, Pops, with_worker, next_sender, with_token, MayPush, MayTake, IsNext, IsReader, IsFirst, MayTakeIn, MayBeEmittedNext, with_bit}
 use Rattle.tk_queue.specs.Steps.{IsStateOf, HoldsStates, fresh_core, BeginsFresh, PushIsStep, FullIsNone, TakeIsStep, EmptyIsNone, SplitIsNone, BitIsNone, JoinIsNone}
 use Rattle.tk_queue.specs.Emission.{MayEmit, Emission}
@@ -55,12 +55,12 @@ token_stays w c d m t st =
     let apart : t.worker ≢ w = λ h. true≢false (sym st.0 ∙ ap c.ended h ∙ m.was) in
     let o = m.others t.worker apart in (o.1 ∙ st.0, st.1 ∙ sym o.0)
 
-fits_stays : (statics workers reader : ℕ) (pass_of : ℕ → ℕ) (w : ℕ) (c d : Core) → Moves w c d → (pass : ℕ) (u : PassView) → pass ≢ pass_of w → Fits statics workers reader pass_of c pass u → Fits statics workers reader pass_of d pass u
-fits_stays statics workers reader pass_of w c d m pass (Sends s) apart f =
-    let other : s.worker ≢ w = λ h. apart (f.0 ∙ ap pass_of h) in
+fits_stays : (layout : SessionLayout) (w : ℕ) (c d : Core) → Moves w c d → (pass : ℕ) (u : PassView) → pass ≢ layout.pass_of w → Fits layout c pass u → Fits layout d pass u
+fits_stays layout w c d m pass (Sends s) apart f =
+    let other : s.worker ≢ w = λ h. apart (f.0 ∙ ap layout.pass_of h) in
     let o = m.others s.worker other in (f.0, f.1, f.2 ∙ sym o.0, f.3 ∙ sym o.1, f.4)
-fits_stays statics workers reader pass_of w c d m pass (Takes r) apart f = (f.0, f.1, f.2 ∙ sym m.taken, All-weaker (Stands c) (Stands d) (token_stays w c d m) r.tokens f.3, f.4)
-fits_stays statics workers reader pass_of w c d m pass Spent apart f = tt
+fits_stays layout w c d m pass (Takes r) apart f = (f.0, f.1, f.2 ∙ sym m.taken, All-weaker (Stands c) (Stands d) (token_stays w c d m) r.tokens f.3, f.4)
+fits_stays layout w c d m pass Spent apart f = tt
 
 push_moves : (x : Item) (c : Core) → c.ended (worker_of x) ≡ false → Moves (worker_of x) c (push x c)
 push_moves (Emitted e) c was = record { taken = refl; was = was; others = λ v n. (put-other c.sent e.worker (c.sent e.worker ++ e.event ∷ []) v n, refl) }
@@ -70,11 +70,11 @@ push_waits : (x : Item) (c : Core) → (push x c).waiting ≡ c.waiting ++ x ∷
 push_waits (Emitted e) c = refl
 push_waits (End w) c = refl
 
-push_fits : (statics workers reader : ℕ) (pass_of : ℕ → ℕ) (c : Core) (pass : ℕ) (s : SenderPass) (x : Item) → worker_of x ≡ s.worker → Fits statics workers reader pass_of c pass (Sends s)
-    → Fits statics workers reader pass_of (push x c) pass (pushed (Sends s) x)
-push_fits statics workers reader pass_of c pass s (Emitted e) own f =
+push_fits : (layout : SessionLayout) (c : Core) (pass : ℕ) (s : SenderPass) (x : Item) → worker_of x ≡ s.worker → Fits layout c pass (Sends s)
+    → Fits layout (push x c) pass (pushed (Sends s) x)
+push_fits layout c pass s (Emitted e) own f =
     (f.0, f.1, ap (λ l. l ++ e.event ∷ []) f.2 ∙ sym (ap (put c.sent e.worker (c.sent e.worker ++ e.event ∷ [])) (sym own) ∙ put-same c.sent e.worker (c.sent e.worker ++ e.event ∷ []) ∙ ap (λ w. c.sent w ++ e.event ∷ []) own), f.3, f.4)
-push_fits statics workers reader pass_of c pass s (End w) own f = (f.0, f.1, f.2, sym (ap (put c.ended w true) (sym own) ∙ put-same c.ended w true), f.4)
+push_fits layout c pass s (End w) own f = (f.0, f.1, f.2, sym (ap (put c.ended w true) (sym own) ∙ put-same c.ended w true), f.4)
 
 own_worker : (s : SenderPass) (x : Item) → IsNext s x → worker_of x ≡ s.worker
 own_worker s (Emitted e) next = next.0
@@ -93,7 +93,7 @@ push_emitted statics c s (Emitted e) next same k m w = ⊎_elim
     (cases_eq w e.worker)
 push_emitted statics c s (End v) next same k m w = m w
 
--- a push is the core's step, and the pass of its pass_of_sender is the only one whose view changes
+-- a push is the core's step, and the pass of its sender is the only one whose view changes
 pub push_step : (pass : ℕ) (s : SenderPass) (x : Item) → s.ended ≡ false → IsNext s x → (items : List Item) (views : List PassView) (h : Session items views) → get_elem? views pass ≡ some (Sends s)
     → (t : Session (items ++ x ∷ []) (set views pass (pushed (Sends s) x))) × (t.core ≡ push x h.core)
 push_step pass s x open' next items views h at =
@@ -104,29 +104,26 @@ push_step pass s x open' next items views h at =
     let m : Moves (worker_of x) h.core d = push_moves x h.core was in (
       record {
         core = d;
-        statics = h.statics;
-        workers = h.workers;
-        reader = h.reader;
-        pass_of = h.pass_of;
+        layout = h.layout;
         waits = push_waits x h.core ∙ ap (λ l. l ++ x ∷ []) h.waits;
-        lawful = pushes_core h.workers x h.core (subst (IsWorkerOf h.workers) (sym own) mine.1) was h.lawful;
-        emitted = push_emitted h.statics h.core s x next mine.2 mine.4 h.emitted;
-        fits = each_set (Fits h.statics h.workers h.reader h.pass_of d) views pass (pushed (Sends s) x) (push_fits h.statics h.workers h.reader h.pass_of h.core pass s x own mine)
-            (λ j u other e. fits_stays h.statics h.workers h.reader h.pass_of (worker_of x) h.core d m j u (λ i. other (i ∙ ap h.pass_of own ∙ sym mine.0)) (h.fits j u e));
+        lawful = pushes_core h.layout.workers x h.core (subst (IsWorkerOf h.layout.workers) (sym own) mine.1) was h.lawful;
+        emitted = push_emitted h.layout.statics h.core s x next mine.2 mine.4 h.emitted;
+        fits = each_set (Fits h.layout d) views pass (pushed (Sends s) x) (push_fits h.layout h.core pass s x own mine)
+            (λ j u other e. fits_stays h.layout (worker_of x) h.core d m j u (λ i. other (i ∙ ap h.layout.pass_of own ∙ sym mine.0)) (h.fits j u e));
       },
       refl,
     )
 
--- a pass_of_sender that has not ended may push an entry of its own, or its mark
+-- a sender that has not ended may push an entry of its own, or its mark
 pub pushes : (n pass : ℕ) (s : SenderPass) (x : Item) → s.ended ≡ false → IsNext s x → Pushes Session n pass (Sends s) x (λ w. w ≡ pushed (Sends s) x)
 pushes n pass s x open' next items views _ h at = (pushed (Sends s) x, (push_step pass s x open' next items views h at).0, refl)
 
 -- no other pass sees what was taken
-take_fits : (statics workers reader : ℕ) (pass_of : ℕ → ℕ) (x : Item) (xs : List Item) (c : Core) (pass : ℕ) (u : PassView) → pass ≢ reader → Fits statics workers reader pass_of c pass u
-    → Fits statics workers reader pass_of (take_first x xs c) pass u
-take_fits statics workers reader pass_of x xs c pass (Sends s) apart f = f
-take_fits statics workers reader pass_of x xs c pass (Takes r) apart f = absurd (apart f.0)
-take_fits statics workers reader pass_of x xs c pass Spent apart f = tt
+take_fits : (layout : SessionLayout) (x : Item) (xs : List Item) (c : Core) (pass : ℕ) (u : PassView) → pass ≢ layout.receiver → Fits layout c pass u
+    → Fits layout (take_first x xs c) pass u
+take_fits layout x xs c pass (Sends s) apart f = f
+take_fits layout x xs c pass (Takes r) apart f = absurd (apart f.0)
+take_fits layout x xs c pass Spent apart f = tt
 
 -- the first waiting item follows what was taken of its worker
 follows : (statics n : ℕ) (x : Item) (xs : List Item) (c : Core) → c.waiting ≡ x ∷ xs → IsCore n c → ((w : ℕ) → Emission statics w (c.sent w)) → MayBeEmittedNext statics c.taken x
@@ -151,28 +148,25 @@ take_step pass r x items views h at =
     let d : Core = take_first x items h.core in (
       record {
         core = d;
-        statics = h.statics;
-        workers = h.workers;
-        reader = h.reader;
-        pass_of = h.pass_of;
+        layout = h.layout;
         waits = refl;
-        lawful = takes h.workers x items h.core h.waits h.lawful;
+        lawful = takes h.layout.workers x items h.core h.waits h.lawful;
         emitted = h.emitted;
-        fits = each_set (Fits h.statics h.workers h.reader h.pass_of d) views pass (popped (Takes r) x) (mine.0, mine.1, ap (λ l. l ++ x ∷ []) mine.2, mine.3, mine.4)
-            (λ j u other e. take_fits h.statics h.workers h.reader h.pass_of x items h.core j u (λ i. other (i ∙ sym mine.0)) (h.fits j u e));
+        fits = each_set (Fits h.layout d) views pass (popped (Takes r) x) (mine.0, mine.1, ap (λ l. l ++ x ∷ []) mine.2, mine.3, mine.4)
+            (λ j u other e. take_fits h.layout x items h.core j u (λ i. other (i ∙ sym mine.0)) (h.fits j u e));
       },
       refl,
     )
 
--- what the pass_of_receiver learns of the first waiting item
+-- what the receiver learns of the first waiting item
 may_take : (pass : ℕ) (r : ReceiverPass) (x : Item) (items : List Item) (views : List PassView) (h : Session (x ∷ items) views) → get_elem? views pass ≡ some (Takes r) → MayTake (Takes r) x
 may_take pass r x items views h at =
     let mine = h.fits pass (Takes r) at in (
-      subst (λ n. IsWorkerOf n (worker_of x)) (sym mine.1) (waiting_worker h.workers x items h.core h.waits h.lawful),
-      subst (λ (y : ℕ × List Item). MayBeEmittedNext y.0 y.1 x) (λ i. (sym mine.4 i, sym mine.2 i)) (follows h.statics h.workers x items h.core h.waits h.lawful h.emitted),
+      subst (λ n. IsWorkerOf n (worker_of x)) (sym mine.1) (waiting_worker h.layout.workers x items h.core h.waits h.lawful),
+      subst (λ (y : ℕ × List Item). MayBeEmittedNext y.0 y.1 x) (λ i. (sym mine.4 i, sym mine.2 i)) (follows h.layout.statics h.layout.workers x items h.core h.waits h.lawful h.emitted),
     )
 
--- the pass_of_receiver may take
+-- the receiver may take
 pub pops : (pass : ℕ) (r : ReceiverPass) → PopsUnder Session pass (Takes r) (Pops (Takes r))
 pops pass r x items views h at = (popped (Takes r) x, (take_step pass r x items views h at).0, (refl, may_take pass r x items views h at))
 
@@ -181,14 +175,11 @@ pub begins_fresh : BeginsFresh new_receiver
 begins_fresh = (
   record {
     core = fresh_core;
-    statics = 0;
-    workers = 0;
-    reader = 0;
-    pass_of = λ w. 0;
+    layout = record { statics = 0; workers = 0; receiver = 0; pass_of = λ w. 0 };
     waits = refl;
     lawful = record { kept = λ w. refl; others = λ w n. (refl, refl) };
     emitted = emission_none 0;
-    fits = each_snoc (Fits 0 0 0 (λ w. 0) fresh_core) [] new_receiver (λ j u e. absurd (some-ne-none u (sym e))) (refl, refl, refl, All-nil _, refl);
+    fits = each_snoc (Fits (record { statics = 0; workers = 0; receiver = 0; pass_of = λ w. 0 }) fresh_core) [] new_receiver (λ j u e. absurd (some-ne-none u (sym e))) (refl, refl, refl, All-nil _, refl);
   },
   refl,
 )
@@ -196,39 +187,45 @@ begins_fresh = (
 pub begins : Session [] (new_receiver ∷ [])
 begins = begins_fresh.0
 
--- a further worker's seat is no other pass
-fork_fits : (statics workers reader : ℕ) (pass_of : ℕ → ℕ) (new : ℕ) (c : Core) (pass : ℕ) (u : PassView) → pass ≢ reader → Fits statics workers reader pass_of c pass u → Fits statics (workers + 1) reader (put pass_of (workers + 1) new) c pass u
-fork_fits statics workers reader pass_of new c pass (Sends s) apart f =
-    let is = f.1 in
-    let other : s.worker ≢ workers + 1 = λ h. absurd (let le : s.worker ≤ workers = is.1 in omega arith) in
-    (f.0 ∙ sym (put-other pass_of (workers + 1) new s.worker other), (is.0, omega arith), f.2, f.3, f.4)
-fork_fits statics workers reader pass_of new c pass (Takes r) apart f = absurd (apart f.0)
-fork_fits statics workers reader pass_of new c pass Spent apart f = tt
+-- one worker more, with this pass
+abbrev widened : SessionLayout → ℕ → SessionLayout
+widened layout new = record {
+  statics = layout.statics;
+  workers = layout.workers + 1;
+  receiver = layout.receiver;
+  pass_of = put layout.pass_of (layout.workers + 1) new;
+}
 
--- the pass_of_receiver may make the next sender
+-- a further worker's seat is no other pass
+fork_fits : (layout : SessionLayout) (new : ℕ) (c : Core) (pass : ℕ) (u : PassView) → pass ≢ layout.receiver → Fits layout c pass u → Fits (widened layout new) c pass u
+fork_fits layout new c pass (Sends s) apart f =
+    let is = f.1 in
+    let other : s.worker ≢ layout.workers + 1 = λ h. absurd (let le : s.worker ≤ layout.workers = is.1 in omega arith) in
+    (f.0 ∙ sym (put-other layout.pass_of (layout.workers + 1) new s.worker other), (is.0, omega arith), f.2, f.3, f.4)
+fork_fits layout new c pass (Takes r) apart f = absurd (apart f.0)
+fork_fits layout new c pass Spent apart f = tt
+
+-- the receiver may make the next sender
 pub fork_step : (pass : ℕ) (r : ReceiverPass) (items : List Item) (views : List PassView) (h : Session items views) → get_elem? views pass ≡ some (Takes r)
     → (t : Session items (set views pass (with_worker (Takes r)) ++ next_sender (Takes r) ∷ [])) × (t.core ≡ h.core)
 fork_step pass r items views h at =
     let mine = h.fits pass (Takes r) at in
     let left : PassView = with_worker (Takes r) in
     let vs : List PassView = set views pass left in
-    let pass_of : ℕ → ℕ = put h.pass_of (h.workers + 1) (length vs) in
-    let F : ℕ → PassView → Type 0 = Fits h.statics (h.workers + 1) h.reader pass_of h.core in
-    let w : r.workers + 1 ≡ h.workers + 1 = ap (λ n. n + 1) mine.1 in
-    let fresh = h.lawful.others (h.workers + 1) (λ is. absurd (let le : h.workers + 1 ≤ h.workers = is.1 in omega arith)) in
+    let pass_of : ℕ → ℕ = put h.layout.pass_of (h.layout.workers + 1) (length vs) in
+    let F : ℕ → PassView → Type 0 = Fits (widened h.layout (length vs)) h.core in
+    let w : r.workers + 1 ≡ h.layout.workers + 1 = ap (λ n. n + 1) mine.1 in
+    let fresh = h.lawful.others (h.layout.workers + 1) (λ is. absurd (let le : h.layout.workers + 1 ≤ h.layout.workers = is.1 in omega arith)) in
     let old : Each F vs = each_set F views pass left (mine.0, w, mine.2, mine.3, mine.4)
-    (λ j u other e. fork_fits h.statics h.workers h.reader h.pass_of (length vs) h.core j u (λ i. other (i ∙ sym mine.0)) (h.fits j u e)) in (
+    (λ j u other e. fork_fits h.layout (length vs) h.core j u (λ i. other (i ∙ sym mine.0)) (h.fits j u e)) in (
       record {
         core = h.core;
-        statics = h.statics;
-        workers = h.workers + 1;
-        reader = h.reader;
-        pass_of = pass_of;
+        layout = widened h.layout (length vs);
         waits = h.waits;
-        lawful = widens h.workers h.core h.lawful;
+        lawful = widens h.layout.workers h.core h.lawful;
         emitted = h.emitted;
         fits = each_snoc F vs (next_sender (Takes r)) old
-            (sym (ap pass_of w ∙ put-same h.pass_of (h.workers + 1) (length vs)), subst (IsWorkerOf (h.workers + 1)) (sym w) (omega arith, omega arith), sym (ap h.core.sent w ∙ fresh.0), sym (ap h.core.ended w ∙ fresh.1), mine.4);
+            (sym (ap pass_of w ∙ put-same h.layout.pass_of (h.layout.workers + 1) (length vs)), subst (IsWorkerOf (h.layout.workers + 1)) (sym w) (omega arith, omega arith), sym (ap h.core.sent w ∙ fresh.0), sym (ap h.core.ended w ∙ fresh.1), mine.4);
       },
       refl,
     )
@@ -236,11 +233,14 @@ fork_step pass r items views h at =
 pub forks : (pass : ℕ) (r : ReceiverPass) → Forks Session pass (Takes r) (with_worker (Takes r)) (next_sender (Takes r))
 forks pass r items views h at = (fork_step pass r items views h at).0
 
--- before there is a pass_of_sender, the number of static descriptors may be any
-bit_fits : (statics new reader : ℕ) (pass_of : ℕ → ℕ) (c : Core) (pass : ℕ) (u : PassView) → pass ≢ reader → Fits statics 0 reader pass_of c pass u → Fits new 0 reader pass_of c pass u
-bit_fits statics new reader pass_of c pass (Sends s) apart f = let is = f.1 in absurd (let low : 0 < s.worker = is.0 in let high : s.worker ≤ 0 = is.1 in omega arith)
-bit_fits statics new reader pass_of c pass (Takes r) apart f = absurd (apart f.0)
-bit_fits statics new reader pass_of c pass Spent apart f = tt
+-- before there is a sender, the number of static descriptors may be any
+abbrev with_statics : SessionLayout → ℕ → SessionLayout
+with_statics layout new = record { statics = new; workers = 0; receiver = layout.receiver; pass_of = layout.pass_of }
+
+bit_fits : (layout : SessionLayout) (new : ℕ) (c : Core) (pass : ℕ) (u : PassView) → layout.workers ≡ 0 → pass ≢ layout.receiver → Fits layout c pass u → Fits (with_statics layout new) c pass u
+bit_fits layout new c pass (Sends s) none apart f = let is = f.1 in absurd (let low : 0 < s.worker = is.0 in let high : s.worker ≤ layout.workers = is.1 in omega (arith, none))
+bit_fits layout new c pass (Takes r) none apart f = absurd (apart f.0)
+bit_fits layout new c pass Spent none apart f = tt
 
 -- the number of static descriptors may be set bit by bit
 pub bit_step : (b pass : ℕ) (r : ReceiverPass) → r.workers ≡ 0 → (items : List Item) (views : List PassView) (h : Session items views) → get_elem? views pass ≡ some (Takes r)
@@ -250,21 +250,18 @@ bit_step b pass r none items views h at =
     let left : PassView = with_bit b (Takes r) in
     let vs : List PassView = set views pass left in
     let new : ℕ = 2 * r.statics + b in
-    let zero' : h.workers ≡ 0 = sym mine.1 ∙ none in
-    let F : ℕ → PassView → Type 0 = Fits new 0 h.reader h.pass_of h.core in
+    let zero' : h.layout.workers ≡ 0 = sym mine.1 ∙ none in
+    let F : ℕ → PassView → Type 0 = Fits (with_statics h.layout new) h.core in
     let k : IsCore 0 h.core = subst (λ n. IsCore n h.core) zero' h.lawful in (
       record {
         core = h.core;
-        statics = new;
-        workers = 0;
-        reader = h.reader;
-        pass_of = h.pass_of;
+        layout = with_statics h.layout new;
         waits = h.waits;
         lawful = k;
         emitted = λ w. subst (Emission new w) (sym (k.others w (λ is. absurd (let low = is.0 in let high = is.1 in omega arith))).0) (emission_none new w);
         fits = each_snoc F vs Spent
             (each_set F views pass left (mine.0, none, mine.2, mine.3, refl)
-            (λ j u other e. bit_fits h.statics new h.reader h.pass_of h.core j u (λ i. other (i ∙ sym mine.0)) (subst (λ n. Fits h.statics n h.reader h.pass_of h.core j u) zero' (h.fits j u e))))
+            (λ j u other e. bit_fits h.layout new h.core j u zero' (λ i. other (i ∙ sym mine.0)) (h.fits j u e)))
             tt;
       },
       refl,
@@ -273,7 +270,7 @@ bit_step b pass r none items views h at =
 pub bits : (b pass : ℕ) (r : ReceiverPass) → r.workers ≡ 0 → Forks Session pass (Takes r) (with_bit b (Takes r)) Spent
 bits b pass r none items views h at = (bit_step b pass r none items views h at).0
 
--- the pass_of_receiver may take in a pass_of_sender that has ended
+-- the receiver may take in a sender that has ended
 pub merge_step : (pass : ℕ) (r : ReceiverPass) (other : ℕ) (s : SenderPass) → s.ended ≡ true → (items : List Item) (views : List PassView) (h : Session items views) → get_elem? views pass ≡ some (Takes r) → ¬ (other ≡ pass)
     → get_elem? (set views pass (with_token (Takes r) (Sends s))) other ≡ some (Sends s)
     → (t : Session items (set (set views pass (with_token (Takes r) (Sends s))) other Spent)) × (t.core ≡ h.core)
@@ -283,14 +280,11 @@ merge_step pass r other s done items views h at two at' =
     let mine = h.fits pass (Takes r) at in
     let was : get_elem? views other ≡ some (Sends s) = ⊎_elim (λ (x : (other ≡ pass) × (both ≡ Sends s)). absurd (two x.0)) (λ (x : (other ≢ pass) × (get_elem? views other ≡ some (Sends s))). x.1) (at_set views pass other both (Sends s) at') in
     let theirs = h.fits other (Sends s) was in
-    let F : ℕ → PassView → Type 0 = Fits h.statics h.workers h.reader h.pass_of h.core in
+    let F : ℕ → PassView → Type 0 = Fits h.layout h.core in
     let token : Stands h.core s = (sym theirs.3 ∙ done, theirs.2) in (
       record {
         core = h.core;
-        statics = h.statics;
-        workers = h.workers;
-        reader = h.reader;
-        pass_of = h.pass_of;
+        layout = h.layout;
         waits = h.waits;
         lawful = h.lawful;
         emitted = h.emitted;
@@ -302,7 +296,7 @@ merge_step pass r other s done items views h at two at' =
 pub merges : (pass : ℕ) (r : ReceiverPass) (other : ℕ) (s : SenderPass) → s.ended ≡ true → Merges Session pass (Takes r) other (Sends s) (with_token (Takes r) (Sends s)) Spent
 merges pass r other s done items views h at two at' = (merge_step pass r other s done items views h at two at').0
 
--- what the pass_of_receiver learns of the whole
+-- what the receiver learns of the whole
 pub learns : (pass : ℕ) (r : ReceiverPass) → Learns Session pass (Takes r) (Concludes (Takes r))
 learns pass r items views h at =
     let mine = h.fits pass (Takes r) at in

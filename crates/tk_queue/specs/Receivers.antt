@@ -24,10 +24,12 @@ pub record ReceiverView : Type 0 where
   pub workers : ℕ
   pub taken : List Item
 
+-- the receiver after it took one item more
 abbrev pub takes : ReceiverView → Item → ReceiverView
 takes r x =
     record { session = r.session; table = r.table; workers = r.workers; taken = r.taken ++ x ∷ [] }
 
+-- a receiver of the workers 1 to n that has taken nothing
 abbrev pub fresh_receiver : TableId → List Descriptor → ℕ → ReceiverView
 fresh_receiver session table n =
     record { session = session; table = table; workers = n; taken = [] }
@@ -39,7 +41,7 @@ pub record MayFollow (table : List Descriptor) (taken : List Entry) (e : Entry) 
   pub known : is_known (record { table = table; entries = taken }) e ≡ true
   pub room : length (of_worker e.worker taken) < most_events
 
--- what an item that is taken next may be
+-- the item may be taken next: an entry that may follow those taken before, or any mark
 abbrev pub MayBeTaken : ReceiverView → Item → Type 0
 MayBeTaken r (Emitted e) = MayFollow r.table (entries r.taken) e
 MayBeTaken r (End w) = Unit {0}
@@ -50,10 +52,12 @@ pub record IsRecordable (n : ℕ) (taken : List Entry) : Type 0 where
   pub workers : All (λ e. IsWorkerOf n e.worker) taken
   pub few : (w : ℕ) → length (of_worker w taken) ≤ most_events
 
+-- what the receiver's pass knows of the items that were taken
 abbrev pub taken_of : PassView → List Item
 taken_of (Takes r) = r.taken
 taken_of v = []
 
+-- whether the item is the mark of w
 abbrev pub is_mark_of : ℕ → Item → Bool
 is_mark_of w (Emitted e) = false
 is_mark_of w (End v) = v == w

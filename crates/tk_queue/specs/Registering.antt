@@ -58,7 +58,8 @@ child_of ask above = child above ask.segment ask.name ask.dtype
 abbrev pub IsRegisteredAs :
     SenderView → SenderView → RegisterRequest → Result ℕ RegisterFault → Type 0
 IsRegisteredAs old new ask (Ok key) =
-    (above : Descriptor) × (parent_of old ask.parent ≡ Some above) × HasRoom old × FitsLimits (child_of ask above).id
+    (above : Descriptor) × (parent_of old ask.parent ≡ Some above)
+    × HasRoom old × FitsLimits (child_of ask above).id
     × (key ≡ registered_key old.worker (registrations old.sent))
     × (new ≡ sends old (registration old ask.stamp (child_of ask above)))
     × IsNew old key
@@ -75,8 +76,8 @@ IsRegisteredAs old new ask (Err unregistered.Memory) = new ≡ old
 -- What making the descriptor below a parent answers, with its id once more. `below` is the
 -- descriptor that is asked for, below each parent.
 abbrev pub IsChildMade :
-    SenderView → ℕ → (Descriptor → Descriptor) → Result (List SegmentView × Descriptor) RegisterFault
-    → Type 0
+    SenderView → ℕ → (Descriptor → Descriptor)
+    → Result (List SegmentView × Descriptor) RegisterFault → Type 0
 IsChildMade s parent below (Ok made) =
     (above : Descriptor) × (parent_of s parent ≡ Some above) × HasRoom s
     × FitsLimits (below above).id × (made.0 ≡ (below above).id) × (made.1 ≡ below above)

@@ -27,6 +27,7 @@ pub record SenderView : Type 0 where
   pub worker : ℕ
   pub sent : List Event
 
+-- the sender after it emitted one event more
 abbrev pub sends : SenderView → Event → SenderView
 sends s e =
     record { session = s.session; table = s.table; worker = s.worker; sent = s.sent ++ e ∷ [] }
@@ -46,7 +47,7 @@ record_of_sender s = record { table = s.table; entries = entries_by s.worker s.s
 abbrev pub knows : SenderView → ℕ → Bool
 knows s key = is_some (desc (record_of_sender s) key)
 
--- the first reason why the event is not sent, if there is one; a full queue is none of the sender's
+-- The sender's first reason not to send the event, if it has one. That the queue is full is none.
 abbrev pub refusal_of : SenderView → Event → Option SendFault
 refusal_of s e =
     if not (knows s e.key) then Some (UnknownNode e)
@@ -61,13 +62,14 @@ pub record IsLawfulAfter (s : SenderView) (before : List Event) (e : Event) : Ty
       is_known (record { table = s.table; entries = entries_by s.worker before })
       (entry_by s.worker e) ≡ true
 
--- so may each event that the sender emitted after its earlier ones, and they are not too many
+-- each event of the sender may be recorded after its earlier ones, and they are within the limit
 pub record EmitsLawfully (s : SenderView) : Type 0 where
   pub each :
       (before : List Event) (e : Event) (after : List Event) → s.sent ≡ before ++ e ∷ after
       → IsLawfulAfter s before e
   pub few : length s.sent ≤ most_events
 
+-- what the pass of a sender knows of the events that it sent
 abbrev pub sent_of : PassView → List Event
 sent_of (Sends s) = s.sent
 sent_of v = []
@@ -78,17 +80,24 @@ id_registered worker ids key =
     if nat_lt key (registered_key worker 0) then None
     else slice_get ids (key - registered_key worker 0)
 
+-- what a sender keeps beside its pass: its table and its worker, the ids of the descriptors that it
+-- registered, in order, and how many events it emitted
+pub record SenderFields : Type 0 where
+  pub table : List Descriptor
+  pub worker : ℕ
+  pub ids : List (List SegmentView)
+  pub emitted : ℕ
+
 -- the fields of a sender stand for what its pass knows
-pub record IsSender (v : PassView) (table : List Descriptor) (worker : ℕ) (ids : List (List SegmentView))
-    (emitted : ℕ) : Type 0 where
-  pub is : v ≡ pass_of_sender (length table) worker (sent_of v) false
-  pub counted : emitted ≡ length (sent_of v)
+pub record IsSender (v : PassView) (f : SenderFields) : Type 0 where
+  pub is : v ≡ pass_of_sender (length f.table) f.worker (sent_of v) false
+  pub counted : f.emitted ≡ length (sent_of v)
   pub leads :
       (key : ℕ) →
-      option_map (λ (d : Descriptor). d.id) (desc_in (entries_by worker (sent_of v)) key)
-      ≡ id_registered worker ids key
-  pub number : length ids ≡ registrations (sent_of v)
-  pub few_ids : length ids ≤ MAX_DESCRIPTORS
-  pub may : Emission (length table) worker (sent_of v)
-  pub low : 0 < worker
-  pub high : worker ≤ most_workers
+      option_map (λ (d : Descriptor). d.id) (desc_in (entries_by f.worker (sent_of v)) key)
+      ≡ id_registered f.worker f.ids key
+  pub number : length f.ids ≡ registrations (sent_of v)
+  pub few_ids : length f.ids ≤ MAX_DESCRIPTORS
+  pub may : Emission (length f.table) f.worker (sent_of v)
+  pub low : 0 < f.worker
+  pub high : f.worker ≤ most_workers

@@ -27,4 +27,5 @@ sent_by (t ∷ ts) w = if t.worker == w then t.sent else sent_by ts w
 
 -- what the pass of a token knows
 abbrev pub pass_of_token : SenderView → SenderPass
-pass_of_token t = record { statics = length t.table; worker = t.worker; sent = t.sent; ended = true }
+pass_of_token t =
+    record { statics = length t.table; worker = t.worker; sent = t.sent; ended = true }

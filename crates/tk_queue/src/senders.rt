@@ -50,7 +50,8 @@ impl Model for Sender {
     } };
 
     ghost invariant = { λ s. IsPassOf (arc_value s.queue) s.pass
-        × IsSender (seen s.pass) (arc_value s.table) s.worker s.registered.items s.emitted };
+        × IsSender (seen s.pass) (record { table = arc_value s.table; worker = s.worker;
+            ids = s.registered.items; emitted = s.emitted }) };
 }
 
 /// The token of a sender that has ended, for [`Receiver::close`](crate::Receiver::close).
@@ -120,8 +121,9 @@ impl Sender {
         self.worker
     }
 
-    /// Returns how many events the sender has emitted, registrations among them. Each is lawful, and
-    /// its key is static or one that the sender registered before it.
+    /// Returns how many events the sender has emitted, registrations among them.
+    ///
+    /// Each of them is lawful, and its key is static or one that the sender registered before it.
     pub fn emitted(&self) -> u64
         ensures count { result ≡ length self.now.sent }
         ensures lawful { EmitsLawfully self.now }
@@ -131,7 +133,8 @@ impl Sender {
 
     // The id of the descriptor with this key, which is static or was registered by this sender.
     fn id_of(&self, key: u32) -> Option<&UniqueId>
-        ensures { option_copied result ≡ option_map (λ d. d.id) (desc (record_of_sender self.now) key) }
+        ensures { option_copied result
+            ≡ option_map (λ d. d.id) (desc (record_of_sender self.now) key) }
     {
         if let Some(descriptor) = self.table.get(key) {
             return Some(&descriptor.id);
@@ -221,7 +224,8 @@ impl Sender {
         name: &str,
         dtype: DType,
     ) -> Result<(UniqueId, Descriptor), RegisterFault>
-        ensures { IsChildMade self.now parent (λ above. child above segment.now name.now dtype) result }
+        ensures { IsChildMade self.now parent
+            (λ above. child above segment.now name.now dtype) result }
     {
         let Some(above) = self.id_of(parent) else {
             return Err(RegisterFault::UnknownNode);
@@ -346,7 +350,8 @@ impl Ended {
     pub(crate) fn into_pass(self) -> QueuePass
         ensures session { result.table_id ≡ self.session }
         ensures back { result.me.1 ≡ [] }
-        ensures known { view result ≡ pass_of_sender (length self.table) self.worker self.sent true }
+        ensures known { view result
+            ≡ pass_of_sender (length self.table) self.worker self.sent true }
     {
         self.pass
     }

@@ -21,7 +21,7 @@ invariant_of-self-2 g c =
     let is : c.next_key-key.result ≡ registered_key c.self.inside.worker (length c.self.inside.registered.items) = next_key_is _ _ _ _ _ _ c.args.self.now h c.self.view_is c.next_key-key.ensures.key in
     let q = c.push-2.ensures.queue in (
       (q.0 ∙ c.self.invariant.0.0, q.2 ∙ c.self.invariant.0.1),
-      subst (λ ids. IsSender (view c.push-2.new.pass) (arc_value c.self.inside.table) c.self.inside.worker ids (c.self.inside.emitted + 1))
+      subst (λ ids. IsSender (view c.push-2.new.pass) (record { table = arc_value c.self.inside.table; worker = c.self.inside.worker; ids = ids; emitted = c.self.inside.emitted + 1 }))
           (ap (λ x. c.self.inside.registered.items ++ x ∷ []) (sym m.2) ∙ sym c.in_ok-push.ensures.items)
           (sender_registers _ _ _ _ _ _ c.args.stamp _ c.in_ok-id.descriptor h is c.push-2.ensures.pushed m.0 m.1),
     )

@@ -8,5 +8,5 @@ use Rattle.tk_queue.proofs.senders.Sender.with_pass.Goals as goal
 pub invariant_of-result : goal.invariant_of-result
 invariant_of-result c = (
   c.requires.queue,
-  subst (λ ids. IsSender (view c.args.pass) (arc_value c.args.table) c.args.worker ids 0) (sym c.new.ensures.items) (sender_fresh _ _ _ c.requires.fresh c.requires.worker.0 c.requires.worker.1),
+  subst (λ ids. IsSender (view c.args.pass) (record { table = arc_value c.args.table; worker = c.args.worker; ids = ids; emitted = 0 })) (sym c.new.ensures.items) (sender_fresh _ _ _ c.requires.fresh c.requires.worker.0 c.requires.worker.1),
 )
