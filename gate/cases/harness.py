@@ -217,11 +217,13 @@ def end_with_open_input(case: Case, process: subprocess.Popen) -> Ended:
     writing.start()
     try:
         output, error = process.communicate(timeout=SECONDS_WITH_OPEN_INPUT)
+        writing.join()
+        pipe.close()
     except subprocess.TimeoutExpired:
         process.kill()
+        writing.join()
+        pipe.close()
         output, error = process.communicate()
-    writing.join()
-    pipe.close()
     return process.returncode, output or b"", error or b""
 
 

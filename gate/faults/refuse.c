@@ -1,6 +1,6 @@
 // Put before the C library by LD_PRELOAD. Refuses one request of the program: that of the kind and the number, counted from 1, that the
 // variable REFUSE has ("memory 3"), as a system does that has no memory, starts no thread, or has a broken device. It then writes one byte
-// to the file descriptor that the variable REFUSED_TO has.
+// to the file descriptor that the variable REFUSED_TO has: 'f' where the program's first thread made the request, else 'w'.
 //
 // It also counts the blocks of memory that the program takes and gives back, and writes "kept 0" and a line feed to that file descriptor
 // when the program ends. What the C library takes for itself, as for its threads, is not counted: that is not the program's to give back.
@@ -56,7 +56,7 @@ __attribute__((constructor)) static void begin(void) {
 // (each request of the kind counts, from whichever thread it comes; before the number is read none does)
 static int is_refused(const char *requested) {
     if (strcmp(kind, requested) != 0 || atomic_fetch_sub(&left, 1) != 1) return 0;
-    return syscall(SYS_write, notice_to, "!", 1) == 1 || (abort(), 1);
+    return syscall(SYS_write, notice_to, syscall(SYS_gettid) == getpid() ? "f" : "w", 1) == 1 || (abort(), 1);
 }
 
 static void *memory_refused(void) {
