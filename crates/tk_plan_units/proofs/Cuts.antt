@@ -10,9 +10,9 @@ use Rattle.tk_plan_units.specs.declared.cuttings.Cutting.{Cutting}
 use Rattle.tk_plan_units.specs.Trees.{Tree, tree, Forest, no_trees, more, forest, IsForest, IsSplit, first_tree, contents}
 use Rattle.tk_plan_units.specs.Script.{move, opening, moves, moves_below}
 use Rattle.tk_plan_units.specs.Weights.{publications, weight, weights}
-use Rattle.tk_plan_units.specs.Cutting.{Part, Piece, opens, runs, closes, parts, parts_below, moves_of, from_each, piece, head, tail, opened, all_static, all_concurrent, on_spine, is_free, is_leaf}
-use Rattle.tk_plan_units.specs.Adds.{Adds, Fits, HasStampAt, HasNode, found, piece_at, heads, tails, begun_at, ended_at}
-use Rattle.tk_plan_units.specs.Events.{begun, ended}
+use Rattle.tk_plan_units.specs.Cutting.{Part, Piece, spine_begins, whole_unit, spine_ends, parts, parts_below, moves_of, from_each, piece, begin_events, end_events, spine_numbers, all_static, all_concurrent, on_spine, is_free, is_leaf}
+use Rattle.tk_plan_units.specs.CuttingSteps.{AddsParts, Fits, HasStampAt, HasNode, pieces_of_units, piece_of_nodes, begin_events_of_spine, end_events_of_spine, begin_events_at, end_events_at}
+use Rattle.tk_plan_units.specs.Events.{opening_events, finish_event}
 use Rattle.tk_plan_units.specs.LockNeeds.{IsNeed}
 use Rattle.tk_plan_units.specs.declared.cuttings.PlanUnit.{PlanUnit}
 use Rattle.tk_plan_units.specs.declared.cuttings.SpineStamp.{SpineStamp}
@@ -39,31 +39,31 @@ each_more : {A : Type 0} (f : ℕ → Part → List A) (old mid : Cutting) (xs y
 each_more f old mid xs ys at = from_each-append f old.first xs ys ∙ ap (λ n. from_each f old.first xs ++ from_each f n ys) (sym at)
 
 pub adds-append : (all : List NumberedNode) (keys : List (List ℕ)) (old mid new : Cutting) (xs ys : List Part)
-    → Adds all keys old mid xs → Adds all keys mid new ys → Adds all keys old new (xs ++ ys)
+    → AddsParts all keys old mid xs → AddsParts all keys mid new ys → AddsParts all keys old new (xs ++ ys)
 adds-append all keys old mid new xs ys a b =
     let at : mid.first ≡ old.first + length (flat_map moves_of xs) = a.first in
     record {
-      spine = joined _ _ _ _ _ _ a.spine b.spine (flat_map-append opened xs ys);
+      spine = joined _ _ _ _ _ _ a.spine b.spine (flat_map-append spine_numbers xs ys);
       units = joined _ _ _ _ _ _ a.units b.units (ap (map _) (each_more piece old mid xs ys a.first) ∙ map-append _ (from_each piece old.first xs) _);
       pieces = joined _ _ _ _ _ _ a.pieces b.pieces (each_more piece old mid xs ys a.first);
       fits = λ h. b.fits (a.fits h);
-      heads = joined _ _ _ _ _ _ a.heads b.heads (each_more head old mid xs ys a.first);
-      opened = λ h. b.opened (a.opened h);
-      tails = joined _ _ _ _ _ _ a.tails b.tails (each_more tail old mid xs ys a.first);
-      closed = λ h. b.closed (a.closed h);
+      begin_events_of_spine = joined _ _ _ _ _ _ a.begin_events_of_spine b.begin_events_of_spine (each_more begin_events old mid xs ys a.first);
+      starts = λ h. b.starts (a.starts h);
+      end_events_of_spine = joined _ _ _ _ _ _ a.end_events_of_spine b.end_events_of_spine (each_more end_events old mid xs ys a.first);
+      finishes = λ h. b.finishes (a.finishes h);
       first = b.first ∙ ap (λ n. n + length (flat_map moves_of ys)) at ∙ omega (arith, ap length (flat_map-append moves_of xs ys), length-append (flat_map moves_of xs) (flat_map moves_of ys));
     }
 
-pub adds-none : (all : List NumberedNode) (keys : List (List ℕ)) (old : Cutting) → Adds all keys old old []
+pub adds-none : (all : List NumberedNode) (keys : List (List ℕ)) (old : Cutting) → AddsParts all keys old old []
 adds-none all keys old = record {
   spine = sym (append-nil _);
   units = sym (append-nil _);
   pieces = sym (append-nil _);
   fits = λ h. h;
-  heads = sym (append-nil _);
-  opened = λ h. h;
-  tails = sym (append-nil _);
-  closed = λ h. h;
+  begin_events_of_spine = sym (append-nil _);
+  starts = λ h. h;
+  end_events_of_spine = sym (append-nil _);
+  finishes = λ h. h;
   first = omega arith;
 }
 
@@ -99,18 +99,18 @@ drop_next : (at : ℕ) (all rest : List NumberedNode) (p : NumberedNode) → dro
 drop_next at all rest p e = sym (drop-drop 1 at all) ∙ ap (drop 1) e
 
 pub unit_adds : (all : List NumberedNode) (keys : List (List ℕ)) (old new : Cutting) (b : Bool) (n : Node) (k : ℕ) (f : Forest)
-    → on_spine b n f ≡ false → Adds all keys old new (runs (tree n k f) ∷ []) → Adds all keys old new (parts b (tree n k f))
-unit_adds all keys old new b n k f e a = subst (Adds all keys old new) (sym (ap (λ s. cond s (opens n k ∷ (parts_below false f ++ closes n k ∷ [])) (runs (tree n k f) ∷ [])) e)) a
+    → on_spine b n f ≡ false → AddsParts all keys old new (whole_unit (tree n k f) ∷ []) → AddsParts all keys old new (parts b (tree n k f))
+unit_adds all keys old new b n k f e a = subst (AddsParts all keys old new) (sym (ap (λ s. cond s (spine_begins n k ∷ (parts_below false f ++ spine_ends n k ∷ [])) (whole_unit (tree n k f) ∷ [])) e)) a
 
 pub spine_adds : (keys : List (List ℕ)) (old one two new : Cutting) (b : Bool) (p : NumberedNode) (f : Forest) (position : ℕ) (below all rest : List NumberedNode)
     → on_spine b p.node f ≡ true
-    → Adds all keys old one (opens p.node p.number ∷ [])
-    → ((every after : List NumberedNode) → drop (position + 1) every ≡ below ++ after → Adds every keys one two (parts_below false f))
-    → Adds all keys two new (closes p.node p.number ∷ [])
-    → drop position all ≡ p ∷ (below ++ rest) → Adds all keys old new (parts b (tree p.node p.number f))
+    → AddsParts all keys old one (spine_begins p.node p.number ∷ [])
+    → ((every after : List NumberedNode) → drop (position + 1) every ≡ below ++ after → AddsParts every keys one two (parts_below false f))
+    → AddsParts all keys two new (spine_ends p.node p.number ∷ [])
+    → drop position all ≡ p ∷ (below ++ rest) → AddsParts all keys old new (parts b (tree p.node p.number f))
 spine_adds keys old one two new b p f position below all rest e x y z at =
     let whole = adds-append all keys old one new _ _ x (adds-append all keys one two new _ _ (y all rest (drop_next position all _ p at)) z) in
-    subst (Adds all keys old new) (sym (ap (λ s. cond s (opens p.node p.number ∷ (parts_below false f ++ closes p.node p.number ∷ [])) (runs (tree p.node p.number f) ∷ [])) e)) whole
+    subst (AddsParts all keys old new) (sym (ap (λ s. cond s (spine_begins p.node p.number ∷ (parts_below false f ++ spine_ends p.node p.number ∷ [])) (whole_unit (tree p.node p.number f) ∷ [])) e)) whole
 
 -- ---- one tree after another
 
@@ -123,14 +123,14 @@ pub record Goes (keys : List (List ℕ)) (is_root : Bool) (position at : ℕ) (n
   pub events : now.first + weights (forest left) ≡ old.first + weights (forest nodes)
   pub stands : (all rest : List NumberedNode) → drop position all ≡ nodes ++ rest → drop at all ≡ left ++ rest
   pub adds : (all rest : List NumberedNode) → drop position all ≡ nodes ++ rest → (new : Cutting)
-      → Adds all keys now new (parts_below is_root (forest left)) → Adds all keys old new (parts_below is_root (forest nodes))
+      → AddsParts all keys now new (parts_below is_root (forest left)) → AddsParts all keys old new (parts_below is_root (forest nodes))
 
 pub goes_end : (keys : List (List ℕ)) (is_root : Bool) (position at : ℕ) (nodes left : List NumberedNode) (old now : Cutting) → Goes keys is_root position at nodes left old now → length left < 1
     → (now.first ≡ old.first + weights (forest nodes))
-    × ((all rest : List NumberedNode) → drop position all ≡ nodes ++ rest → Adds all keys old now (parts_below is_root (forest nodes)))
+    × ((all rest : List NumberedNode) → drop position all ≡ nodes ++ rest → AddsParts all keys old now (parts_below is_root (forest nodes)))
 goes_end keys is_root position at nodes [] old now g h = (
   omega (arith, g.events, ap weights forest_nil),
-  λ all rest e. g.adds all rest e now (subst (λ f. Adds all keys now now (parts_below is_root f)) (sym forest_nil) (adds-none all keys now)),
+  λ all rest e. g.adds all rest e now (subst (λ f. AddsParts all keys now now (parts_below is_root f)) (sym forest_nil) (adds-none all keys now)),
 )
 goes_end keys is_root position at nodes (p ∷ ps) old now g h = absurd (omega arith)
 
@@ -143,7 +143,7 @@ static_tree p after below others s e =
 pub goes_next : (keys : List (List ℕ)) (is_root : Bool) (position at : ℕ) (nodes after below others : List NumberedNode) (p : NumberedNode) (old now new : Cutting)
     → Goes keys is_root position at nodes (p ∷ after) old now → IsSplit p after below others
     → new.first ≡ now.first + weight (tree p.node p.number (forest below))
-    → ((all rest : List NumberedNode) → drop at all ≡ p ∷ (below ++ rest) → Adds all keys now new (parts is_root (tree p.node p.number (forest below))))
+    → ((all rest : List NumberedNode) → drop at all ≡ p ∷ (below ++ rest) → AddsParts all keys now new (parts is_root (tree p.node p.number (forest below))))
     → Goes keys is_root position (at + p.span) nodes others old new
 goes_next keys is_root position at nodes after below others p old now new g s first add =
     let one = static_tree p after below others s g.statics in
@@ -158,15 +158,15 @@ goes_next keys is_root position at nodes after below others p old now new g s fi
       events = omega (arith, g.events, one.0, first);
       stands = λ all rest e. sym (drop-drop p.span at all) ∙ ap (drop p.span) (here all rest e) ∙ drop_at (p ∷ below) (others ++ rest) p.span (sym s.span);
       adds = λ all rest e last. λ a. g.adds all rest e last (
-          subst (λ f. Adds all keys now last (parts_below is_root f)) (sym s.trees)
+          subst (λ f. AddsParts all keys now last (parts_below is_root f)) (sym s.trees)
           (adds-append all keys now new last _ _ (add all (others ++ rest) (here all rest e)) a)
           );
     }
 
 -- ---- one part
 
-opening_events : (n : Node) (k : ℕ) → length (opening n k ++ []) ≡ 1 + publications n
-opening_events n k = ap length (append-nil (opening n k)) ∙ length-opening n k
+opening_moves : (n : Node) (k : ℕ) → length (opening n k ++ []) ≡ 1 + publications n
+opening_moves n k = ap length (append-nil (opening n k)) ∙ length-opening n k
 
 all_one : {A : Type 0} (P : A → Type 0) (x : A) → P x → All P (x ∷ [])
 all_one P x h zero d l = h
@@ -178,43 +178,43 @@ all_pushed P xs ys x e h all = subst (All P) (sym e) (All-append P xs (x ∷ [])
 pub begin_adds : (all rest : List NumberedNode) (keys : List (List ℕ)) (old new : Cutting) (p : NumberedNode) (s : SpineStamp)
     → drop s.position all ≡ p ∷ rest → s.stamp ≡ old.first → old.first + (1 + publications p.node) ≤ MAX_EVENTS
     → new.spine.items ≡ old.spine.items ++ p.number ∷ []
-    → new.opened.items ≡ old.opened.items ++ s ∷ []
-    → new.units.items ≡ old.units.items → new.pieces.items ≡ old.pieces.items → new.closed.items ≡ old.closed.items
+    → new.starts.items ≡ old.starts.items ++ s ∷ []
+    → new.units.items ≡ old.units.items → new.pieces.items ≡ old.pieces.items → new.finishes.items ≡ old.finishes.items
     → new.first ≡ old.first + (1 + publications p.node)
-    → Adds all keys old new (opens p.node p.number ∷ [])
-begin_adds all rest keys old new p s at same limit spine opened units pieces closed first =
-    let there : begun_at (drop s.position all) s.stamp ≡ begun p.number old.first p.node = ap₂ begun_at at same in
+    → AddsParts all keys old new (spine_begins p.node p.number ∷ [])
+begin_adds all rest keys old new p s at same limit spine starts units pieces finishes first =
+    let there : begin_events_at (drop s.position all) s.stamp ≡ opening_events p.number old.first p.node = ap₂ begin_events_at at same in
     let sits : HasStampAt all s = record { top = p; rest = rest; position = at; limit = omega (arith, same, limit) } in
     record {
       spine = spine;
       units = units ∙ sym (append-nil _);
-      pieces = ap (found all) pieces ∙ sym (append-nil _);
+      pieces = ap (pieces_of_units all) pieces ∙ sym (append-nil _);
       fits = λ h. subst (All (Fits all keys)) (sym pieces) h;
-      heads = ap (heads all) opened ∙ flat_map-append _ old.opened.items (s ∷ []) ∙ ap (λ l. heads all old.opened.items ++ (l ++ [])) there;
-      opened = all_pushed (HasStampAt all) old.opened.items new.opened.items s opened sits;
-      tails = ap (tails all) closed ∙ sym (append-nil _);
-      closed = λ h. subst (All (HasNode all)) (sym closed) h;
-      first = first ∙ ap (λ m. old.first + m) (sym (opening_events p.node p.number));
+      begin_events_of_spine = ap (begin_events_of_spine all) starts ∙ flat_map-append _ old.starts.items (s ∷ []) ∙ ap (λ l. begin_events_of_spine all old.starts.items ++ (l ++ [])) there;
+      starts = all_pushed (HasStampAt all) old.starts.items new.starts.items s starts sits;
+      end_events_of_spine = ap (end_events_of_spine all) finishes ∙ sym (append-nil _);
+      finishes = λ h. subst (All (HasNode all)) (sym finishes) h;
+      first = first ∙ ap (λ m. old.first + m) (sym (opening_moves p.node p.number));
     }
 
 pub end_adds : (all rest : List NumberedNode) (keys : List (List ℕ)) (old new : Cutting) (p : NumberedNode) (s : SpineStamp)
     → drop s.position all ≡ p ∷ rest → s.stamp ≡ old.first
-    → new.closed.items ≡ old.closed.items ++ s ∷ []
-    → new.spine.items ≡ old.spine.items → new.units.items ≡ old.units.items → new.pieces.items ≡ old.pieces.items → new.opened.items ≡ old.opened.items
+    → new.finishes.items ≡ old.finishes.items ++ s ∷ []
+    → new.spine.items ≡ old.spine.items → new.units.items ≡ old.units.items → new.pieces.items ≡ old.pieces.items → new.starts.items ≡ old.starts.items
     → new.first ≡ old.first + 1
-    → Adds all keys old new (closes p.node p.number ∷ [])
-end_adds all rest keys old new p s at same closed spine units pieces opened first =
-    let there : ended_at (drop s.position all) s.stamp ≡ ended p.number old.first p.node ∷ [] = ap₂ ended_at at same in
+    → AddsParts all keys old new (spine_ends p.node p.number ∷ [])
+end_adds all rest keys old new p s at same finishes spine units pieces starts first =
+    let there : end_events_at (drop s.position all) s.stamp ≡ finish_event p.number old.first p.node ∷ [] = ap₂ end_events_at at same in
     let sits : HasNode all s = (p, rest, at) in
     record {
       spine = spine ∙ sym (append-nil _);
       units = units ∙ sym (append-nil _);
-      pieces = ap (found all) pieces ∙ sym (append-nil _);
+      pieces = ap (pieces_of_units all) pieces ∙ sym (append-nil _);
       fits = λ h. subst (All (Fits all keys)) (sym pieces) h;
-      heads = ap (heads all) opened ∙ sym (append-nil _);
-      opened = λ h. subst (All (HasStampAt all)) (sym opened) h;
-      tails = ap (tails all) closed ∙ flat_map-append _ old.closed.items (s ∷ []) ∙ ap (λ l. tails all old.closed.items ++ (l ++ [])) there;
-      closed = all_pushed (HasNode all) old.closed.items new.closed.items s closed sits;
+      begin_events_of_spine = ap (begin_events_of_spine all) starts ∙ sym (append-nil _);
+      starts = λ h. subst (All (HasStampAt all)) (sym starts) h;
+      end_events_of_spine = ap (end_events_of_spine all) finishes ∙ flat_map-append _ old.finishes.items (s ∷ []) ∙ ap (λ l. end_events_of_spine all old.finishes.items ++ (l ++ [])) there;
+      finishes = all_pushed (HasNode all) old.finishes.items new.finishes.items s finishes sits;
       first = first;
     }
 
@@ -226,24 +226,24 @@ prefix_of p below rest s =
 pub add_adds : (all : List NumberedNode) (keys : List (List ℕ)) (old new : Cutting) (p : NumberedNode) (below rest : List NumberedNode) (u : PlanUnit)
     → drop u.position all ≡ p ∷ (below ++ rest) → p.span ≡ suc (length below) → IsForest below → IsNeed keys (contents (p ∷ below)) u.need → u.first ≡ old.first
     → old.first + weight (tree p.node p.number (forest below)) ≤ MAX_EVENTS
-    → new.spine.items ≡ old.spine.items → new.opened.items ≡ old.opened.items → new.closed.items ≡ old.closed.items
+    → new.spine.items ≡ old.spine.items → new.starts.items ≡ old.starts.items → new.finishes.items ≡ old.finishes.items
     → new.units.items ≡ old.units.items ++ p.number ∷ [] → new.pieces.items ≡ old.pieces.items ++ u ∷ []
     → new.first ≡ old.first + weight (tree p.node p.number (forest below))
-    → Adds all keys old new (runs (tree p.node p.number (forest below)) ∷ [])
-add_adds all keys old new p below rest u at span trees need same limit spine opened closed units pieces first =
+    → AddsParts all keys old new (whole_unit (tree p.node p.number (forest below)) ∷ [])
+add_adds all keys old new p below rest u at span trees need same limit spine starts finishes units pieces first =
     let t : Tree = tree p.node p.number (forest below) in
     let fit : Fits all keys u = record { top = p; below = below; rest = rest; position = at; span = span; trees = trees; need = need; limit = subst (λ i. i + weight (tree p.node p.number (forest below)) ≤ MAX_EVENTS) (sym same) limit } in
-    let there : piece_at (drop u.position all) u.first ≡ record { tree = t; first = old.first } ∷ []
-    = ap (λ ps. piece_at ps u.first) at ∙ ap₂ (λ a i. record { tree = a; first = i } ∷ []) (prefix_of p below rest span) same in
+    let there : piece_of_nodes (drop u.position all) u.first ≡ record { tree = t; first = old.first } ∷ []
+    = ap (λ ps. piece_of_nodes ps u.first) at ∙ ap₂ (λ a i. record { tree = a; first = i } ∷ []) (prefix_of p below rest span) same in
     record {
       spine = spine ∙ sym (append-nil _);
       units = units;
-      pieces = ap (found all) pieces ∙ flat_map-append _ old.pieces.items (u ∷ []) ∙ ap (λ l. found all old.pieces.items ++ l) (append-nil _ ∙ there);
+      pieces = ap (pieces_of_units all) pieces ∙ flat_map-append _ old.pieces.items (u ∷ []) ∙ ap (λ l. pieces_of_units all old.pieces.items ++ l) (append-nil _ ∙ there);
       fits = λ h. subst (All (Fits all keys)) (sym pieces) (All-append (Fits all keys) old.pieces.items (u ∷ []) h (all_one (Fits all keys) u fit));
-      heads = ap (heads all) opened ∙ sym (append-nil _);
-      opened = λ h. subst (All (HasStampAt all)) (sym opened) h;
-      tails = ap (tails all) closed ∙ sym (append-nil _);
-      closed = λ h. subst (All (HasNode all)) (sym closed) h;
+      begin_events_of_spine = ap (begin_events_of_spine all) starts ∙ sym (append-nil _);
+      starts = λ h. subst (All (HasStampAt all)) (sym starts) h;
+      end_events_of_spine = ap (end_events_of_spine all) finishes ∙ sym (append-nil _);
+      finishes = λ h. subst (All (HasNode all)) (sym finishes) h;
       first = first ∙ ap (λ m. old.first + m) (sym (ap length (append-nil (moves t)) ∙ moves-length t));
     }
 
@@ -252,24 +252,24 @@ add_adds all keys old new p below rest u at span trees need same limit spine ope
 abbrev pub piece_of : {all : List NumberedNode} {keys : List (List ℕ)} {u : PlanUnit} → Fits all keys u → Piece
 piece_of {u = u} f = record { tree = tree f.top.node f.top.number (forest f.below); first = u.first }
 
-fits_piece : (all : List NumberedNode) (keys : List (List ℕ)) (u : PlanUnit) (f : Fits all keys u) → piece_at (drop u.position all) u.first ≡ piece_of f ∷ []
-fits_piece all keys u f = ap (λ ps. piece_at ps u.first) f.position ∙ ap (λ a. record { tree = a; first = u.first } ∷ []) (prefix_of f.top f.below f.rest f.span)
+fits_piece : (all : List NumberedNode) (keys : List (List ℕ)) (u : PlanUnit) (f : Fits all keys u) → piece_of_nodes (drop u.position all) u.first ≡ piece_of f ∷ []
+fits_piece all keys u f = ap (λ ps. piece_of_nodes ps u.first) f.position ∙ ap (λ a. record { tree = a; first = u.first } ∷ []) (prefix_of f.top f.below f.rest f.span)
 
 rest_fits : (all : List NumberedNode) (keys : List (List ℕ)) (u : PlanUnit) (us : List PlanUnit) → All (Fits all keys) (u ∷ us) → All (Fits all keys) us
 rest_fits all keys u us h k d l = h (suc k) d (omega (arith, l))
 
-pub found_length : (all : List NumberedNode) (keys : List (List ℕ)) (us : List PlanUnit) → All (Fits all keys) us → length (found all us) ≡ length us
+pub found_length : (all : List NumberedNode) (keys : List (List ℕ)) (us : List PlanUnit) → All (Fits all keys) us → length (pieces_of_units all us) ≡ length us
 found_length all keys [] h = refl
 found_length all keys (u ∷ us) h =
-    ap (λ l. length (l ++ found all us)) (fits_piece all keys u (h zero u (omega arith))) ∙ ap suc (found_length all keys us (rest_fits all keys u us h))
+    ap (λ l. length (l ++ pieces_of_units all us)) (fits_piece all keys u (h zero u (omega arith))) ∙ ap suc (found_length all keys us (rest_fits all keys u us h))
 
 pub found_get : (all : List NumberedNode) (keys : List (List ℕ)) (us : List PlanUnit) → All (Fits all keys) us → (i : ℕ) (d : PlanUnit) → i < length us
-    → (f : Fits all keys (slice_index_or us i d)) × (slice_get (found all us) i ≡ Some (piece_of f))
+    → (f : Fits all keys (slice_index_or us i d)) × (slice_get (pieces_of_units all us) i ≡ Some (piece_of f))
 found_get all keys [] h i d l = absurd (omega arith)
-found_get all keys (u ∷ us) h zero d l = (h zero d l, ap (λ ps. slice_get (ps ++ found all us) 0) (fits_piece all keys u (h zero d l)))
+found_get all keys (u ∷ us) h zero d l = (h zero d l, ap (λ ps. slice_get (ps ++ pieces_of_units all us) 0) (fits_piece all keys u (h zero d l)))
 found_get all keys (u ∷ us) h (suc i) d l =
     let r = found_get all keys us (rest_fits all keys u us h) i d (omega (arith, l)) in
-    (r.0, ap (λ ps. slice_get (ps ++ found all us) (suc i)) (fits_piece all keys u (h zero u (omega arith))) ∙ r.1)
+    (r.0, ap (λ ps. slice_get (ps ++ pieces_of_units all us) (suc i)) (fits_piece all keys u (h zero u (omega arith))) ∙ r.1)
 
 -- ---- the parts make up the root's script
 
@@ -280,11 +280,11 @@ rest_static : (t : Tree) (f : Forest) → all_static (more t f) ≡ true → all
 rest_static (tree n j g) f e = (if_both n.is_static (all_static f) e).1
 
 moves_by : (b : Bool) (n : Node) (k : ℕ) (f : Forest) (s : Bool) → on_spine b n f ≡ s → (all_static f ≡ true → flat_map moves_of (parts_below false f) ≡ moves_below k f)
-    → flat_map moves_of (cond s (opens n k ∷ (parts_below false f ++ closes n k ∷ [])) (runs (tree n k f) ∷ [])) ≡ moves (tree n k f)
+    → flat_map moves_of (cond s (spine_begins n k ∷ (parts_below false f ++ spine_ends n k ∷ [])) (whole_unit (tree n k f) ∷ [])) ≡ moves (tree n k f)
 moves_by b n k f false e inside = append-nil (moves (tree n k f))
 moves_by b n k f true e inside =
     let facts = spine_facts b n f e in
-    ap (λ l. opening n k ++ l) (flat_map-append moves_of (parts_below false f) (closes n k ∷ []) ∙ ap (λ l. l ++ move k Finish ∷ []) (inside facts.1))
+    ap (λ l. opening n k ++ l) (flat_map-append moves_of (parts_below false f) (spine_ends n k ∷ []) ∙ ap (λ l. l ++ move k Finish ∷ []) (inside facts.1))
     ∙ ap (λ s. cond s (move k Skip ∷ []) (opening n k ++ (moves_below k f ++ move k Finish ∷ []))) (sym facts.0)
 
 mutual

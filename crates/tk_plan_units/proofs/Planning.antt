@@ -9,9 +9,9 @@ use Rattle.tk_plan_units.specs.declared.cuttings.PlanUnit.{PlanUnit}
 use Rattle.tk_plan_units.specs.Trees.{forest, IsForest, contents, number_of, tree, HasTreeAt}
 use Rattle.tk_plan_units.specs.Weights.{weight, weights}
 use Rattle.tk_plan_units.specs.Script.{moves, stamped}
-use Rattle.tk_plan_units.specs.Cutting.{Piece, Part, opens, runs, closes, moves_of, all_static, root_script, parts_below, from_each, piece, head, tail, spine_of, units_of, pieces_of, script_of, steps_of}
-use Rattle.tk_plan_units.specs.Adds.{Adds, Fits, HasStampAt, HasNode, found, heads, tails}
-use Rattle.tk_plan_units.specs.Kept.{IsCut}
+use Rattle.tk_plan_units.specs.Cutting.{Piece, Part, spine_begins, whole_unit, spine_ends, moves_of, all_static, root_script, parts_below, from_each, piece, begin_events, end_events, spine_of, units_of, pieces_of, script_of, steps_of}
+use Rattle.tk_plan_units.specs.CuttingSteps.{AddsParts, Fits, HasStampAt, HasNode, pieces_of_units, begin_events_of_spine, end_events_of_spine}
+use Rattle.tk_plan_units.specs.CutPlans.{IsCut}
 use Rattle.tk_plan_units.specs.Keys.{lock_keys}
 use Rattle.tk_plan_units.specs.Planned.{IsWithin, IsNeedOf, piece_asks}
 use Rattle.tk_book.specs.Needs.{access}
@@ -24,23 +24,23 @@ of_none : {A : Type 0} (P : A → Type 0) (xs : List A) → xs ≡ [] → All P 
 of_none P xs e k d l = absurd (omega (arith, ap length e, l))
 
 pub planned : (nodes passed : List NumberedNode) (keys : List (List ℕ)) (old new : Cutting) → passed ≡ nodes → keys ≡ lock_keys (contents nodes) → IsForest nodes → weights (forest nodes) ≤ MAX_EVENTS → all_static (forest nodes) ≡ true
-    → old.spine.items ≡ [] → old.units.items ≡ [] → old.pieces.items ≡ [] → old.opened.items ≡ [] → old.closed.items ≡ [] → old.first ≡ 0
+    → old.spine.items ≡ [] → old.units.items ≡ [] → old.pieces.items ≡ [] → old.starts.items ≡ [] → old.finishes.items ≡ [] → old.first ≡ 0
     → new.first ≡ old.first + weights (forest passed)
-    → ((all rest : List NumberedNode) → drop 0 all ≡ passed ++ rest → Adds all keys old new (parts_below true (forest passed)))
+    → ((all rest : List NumberedNode) → drop 0 all ≡ passed ++ rest → AddsParts all keys old new (parts_below true (forest passed)))
     → IsCut nodes new
-planned nodes passed keys old new same known trees limit statics spine units pieces opened closed first total adds =
-    let a : Adds nodes keys old new (parts_below true (forest nodes)) = subst (λ ps. Adds nodes keys old new (parts_below true (forest ps))) same (adds nodes [] (sym (append-nil passed ∙ same))) in
+planned nodes passed keys old new same known trees limit statics spine units pieces starts finishes first total adds =
+    let a : AddsParts nodes keys old new (parts_below true (forest nodes)) = subst (λ ps. AddsParts nodes keys old new (parts_below true (forest ps))) same (adds nodes [] (sym (append-nil passed ∙ same))) in
     record {
       trees = trees;
       statics = statics;
       spine = a.spine ∙ ap (λ l. l ++ spine_of (forest nodes)) spine;
       units = a.units ∙ ap₂ (λ l i. l ++ map (λ u. number_of u.tree) (from_each piece i (parts_below true (forest nodes)))) units first;
-      pieces = a.pieces ∙ ap₂ (λ l i. found nodes l ++ from_each piece i (parts_below true (forest nodes))) pieces first;
+      pieces = a.pieces ∙ ap₂ (λ l i. pieces_of_units nodes l ++ from_each piece i (parts_below true (forest nodes))) pieces first;
       fits = subst (λ ks. All (Fits nodes ks) new.pieces.items) known (a.fits (of_none (Fits nodes keys) _ pieces));
-      before = a.heads ∙ ap₂ (λ l i. heads nodes l ++ from_each head i (parts_below true (forest nodes))) opened first;
-      opened = a.opened (of_none (HasStampAt nodes) _ opened);
-      after = a.tails ∙ ap₂ (λ l i. tails nodes l ++ from_each tail i (parts_below true (forest nodes))) closed first;
-      closed = a.closed (of_none (HasNode nodes) _ closed);
+      before = a.begin_events_of_spine ∙ ap₂ (λ l i. begin_events_of_spine nodes l ++ from_each begin_events i (parts_below true (forest nodes))) starts first;
+      starts = a.starts (of_none (HasStampAt nodes) _ starts);
+      after = a.end_events_of_spine ∙ ap₂ (λ l i. end_events_of_spine nodes l ++ from_each end_events i (parts_below true (forest nodes))) finishes first;
+      finishes = a.finishes (of_none (HasNode nodes) _ finishes);
       total = total ∙ ap₂ (λ i ps. i + weights (forest ps)) first same ∙ omega arith;
       limit = limit;
     }
@@ -101,12 +101,12 @@ the_piece (Some p) d = p
 piece_within : (ps : List Part) (i u : ℕ) (p : Piece) → slice_get (from_each piece i ps) u ≡ Some p → IsWithin (stamped p.first (moves p.tree)) (stamped i (flat_map moves_of ps))
 unfolding the_piece
 piece_within [] i u p e = absurd (grind arith)
-piece_within (opens n k ∷ ps) i u p e = further i (moves_of (opens n k)) (flat_map moves_of ps) _ (piece_within ps _ u p e)
-piece_within (closes n k ∷ ps) i u p e = further i (moves_of (closes n k)) (flat_map moves_of ps) _ (piece_within ps _ u p e)
-piece_within (runs t ∷ ps) i zero p e =
+piece_within (spine_begins n k ∷ ps) i u p e = further i (moves_of (spine_begins n k)) (flat_map moves_of ps) _ (piece_within ps _ u p e)
+piece_within (spine_ends n k ∷ ps) i u p e = further i (moves_of (spine_ends n k)) (flat_map moves_of ps) _ (piece_within ps _ u p e)
+piece_within (whole_unit t ∷ ps) i zero p e =
     let here : IsWithin (stamped i (moves t)) (stamped i (moves t ++ flat_map moves_of ps)) = ([], stamped (i + length (moves t)) (flat_map moves_of ps), stamped-append i (moves t) (flat_map moves_of ps)) in
     subst (λ q. IsWithin (stamped q.first (moves q.tree)) (stamped i (moves t ++ flat_map moves_of ps))) (ap (λ o. the_piece o p) e) here
-piece_within (runs t ∷ ps) i (suc u) p e = further i (moves t) (flat_map moves_of ps) _ (piece_within ps _ u p e)
+piece_within (whole_unit t ∷ ps) i (suc u) p e = further i (moves t) (flat_map moves_of ps) _ (piece_within ps _ u p e)
 
 pub script_within : (nodes : List NumberedNode) (unit : ℕ) (p : Piece) → all_static (forest nodes) ≡ true → slice_get (pieces_of (forest nodes)) unit ≡ Some p
     → IsWithin (script_of (forest nodes) unit) (root_script (forest nodes))

@@ -15,8 +15,8 @@ use Rattle.tk_plan_units.specs.declared.nodes.Node.{Node}
 use Rattle.tk_plan_units.specs.declared.nodes.NumberedNode.{NumberedNode}
 use Rattle.tk_plan_units.specs.Trees.{Tree, tree, Forest, no_trees, more, flat, flats, forest, IsForest, contents}
 use Rattle.tk_plan_units.specs.Script.{moves, opening}
-use Rattle.tk_plan_units.specs.Events.{published, begun, ended, IsStatic, AreStatic}
-use Rattle.tk_plan_units.specs.Cutting.{Part, opens, runs, closes, parts, parts_below, from_each, head, tail, piece, moves_of, on_spine, all_static, before_of, after_of, units_of, pieces_of}
+use Rattle.tk_plan_units.specs.Events.{published, opening_events, finish_event, IsStatic, AreStatic}
+use Rattle.tk_plan_units.specs.Cutting.{Part, spine_begins, whole_unit, spine_ends, parts, parts_below, from_each, begin_events, end_events, piece, moves_of, on_spine, all_static, before_of, after_of, units_of, pieces_of}
 use Rattle.tk_plan_units.specs.Numbers.{IsNumbered, of_kind}
 use Rattle.tk_plan_units.specs.Ids.{ids_below}
 use Rattle.tk_plan_units.specs.Planned.{IsPlanned, is_lawful_node}
@@ -43,16 +43,16 @@ module _ (table : List Descriptor) where
   FitPlaced p = (is_lawful_node p.node ≡ true) × (p.node.is_static ≡ true → p.number < length table)
 
   abbrev FitPart : Part → Type 0
-  FitPart (opens n k) = Fit n k
-  FitPart (runs t) = Unit {0}
-  FitPart (closes n k) = Fit n k
+  FitPart (spine_begins n k) = Fit n k
+  FitPart (whole_unit t) = Unit {0}
+  FitPart (spine_ends n k) = Fit n k
 
   -- ---- the parts
 
   part_by : (b : Bool) (n : Node) (k : ℕ) (f : Forest) → Fit n k → (b ≡ true → All FitPart (parts_below false f))
-      → All FitPart (cond b (opens n k ∷ (parts_below false f ++ closes n k ∷ [])) (runs (tree n k f) ∷ []))
-  part_by true n k f fit below = All-cons FitPart (opens n k) _ fit (All-append FitPart (parts_below false f) (closes n k ∷ []) (below refl) (all_single FitPart (closes n k) fit))
-  part_by false n k f fit below = all_single FitPart (runs (tree n k f)) tt
+      → All FitPart (cond b (spine_begins n k ∷ (parts_below false f ++ spine_ends n k ∷ [])) (whole_unit (tree n k f) ∷ []))
+  part_by true n k f fit below = All-cons FitPart (spine_begins n k) _ fit (All-append FitPart (parts_below false f) (spine_ends n k ∷ []) (below refl) (all_single FitPart (spine_ends n k) fit))
+  part_by false n k f fit below = all_single FitPart (whole_unit (tree n k f)) tt
 
   mutual
     parts_fit : (b : Bool) (t : Tree) → top_static t ≡ true → All FitPlaced (flat t) → All FitPart (parts b t)
@@ -76,7 +76,7 @@ module _ (table : List Descriptor) where
       let both = if_both (is_lawful kind (payload x)) _ h in
       All-cons (IsStatic table) _ (published kind payload k (i + 1) xs) (record { known = l; lawful = both.0; registers_none = other }) (published_static kind payload other k (i + 1) xs l both.1)
 
-  begun_static : (k i : ℕ) (n : Node) → Fit n k → All (IsStatic table) (begun k i n)
+  begun_static : (k i : ℕ) (n : Node) → Fit n k → All (IsStatic table) (opening_events k i n)
   begun_static k i n fit =
       let own = if_both (is_lawful Finished (Outcome n.status n.message)) _ fit.0 in
       let both = if_both (list_all (λ e. is_lawful Reporting (Report e)) n.entries) _ own.1 in
@@ -85,21 +85,21 @@ module _ (table : List Descriptor) where
       (published_static Reporting Report (λ same. cc) k (i + 1) n.entries fit.1 both.0)
       (published_static File Path (λ same. cc) k (i + 1 + length n.entries) n.files fit.1 both.1))
 
-  ended_static : (k i : ℕ) (n : Node) → Fit n k → All (IsStatic table) (ended k i n ∷ [])
+  ended_static : (k i : ℕ) (n : Node) → Fit n k → All (IsStatic table) (finish_event k i n ∷ [])
   ended_static k i n fit =
       all_single (IsStatic table) _ (record { known = fit.1; lawful = (if_both (is_lawful Finished (Outcome n.status n.message)) _ fit.0).0; registers_none = λ same. cc })
 
-  heads_static : (i : ℕ) (ps : List Part) → All FitPart ps → All (IsStatic table) (from_each head i ps)
+  heads_static : (i : ℕ) (ps : List Part) → All FitPart ps → All (IsStatic table) (from_each begin_events i ps)
   heads_static i [] h = All-nil (IsStatic table)
-  heads_static i (opens n k ∷ ps) h = All-append (IsStatic table) (begun k i n) _ (begun_static k i n (All-head FitPart (opens n k) ps h)) (heads_static (i + length (moves_of (opens n k))) ps (All-tail FitPart (opens n k) ps h))
-  heads_static i (runs t ∷ ps) h = heads_static (i + length (moves t)) ps (All-tail FitPart (runs t) ps h)
-  heads_static i (closes n k ∷ ps) h = heads_static (i + 1) ps (All-tail FitPart (closes n k) ps h)
+  heads_static i (spine_begins n k ∷ ps) h = All-append (IsStatic table) (opening_events k i n) _ (begun_static k i n (All-head FitPart (spine_begins n k) ps h)) (heads_static (i + length (moves_of (spine_begins n k))) ps (All-tail FitPart (spine_begins n k) ps h))
+  heads_static i (whole_unit t ∷ ps) h = heads_static (i + length (moves t)) ps (All-tail FitPart (whole_unit t) ps h)
+  heads_static i (spine_ends n k ∷ ps) h = heads_static (i + 1) ps (All-tail FitPart (spine_ends n k) ps h)
 
-  tails_static : (i : ℕ) (ps : List Part) → All FitPart ps → All (IsStatic table) (from_each tail i ps)
+  tails_static : (i : ℕ) (ps : List Part) → All FitPart ps → All (IsStatic table) (from_each end_events i ps)
   tails_static i [] h = All-nil (IsStatic table)
-  tails_static i (opens n k ∷ ps) h = tails_static (i + length (moves_of (opens n k))) ps (All-tail FitPart (opens n k) ps h)
-  tails_static i (runs t ∷ ps) h = tails_static (i + length (moves t)) ps (All-tail FitPart (runs t) ps h)
-  tails_static i (closes n k ∷ ps) h = All-append (IsStatic table) (ended k i n ∷ []) _ (ended_static k i n (All-head FitPart (closes n k) ps h)) (tails_static (i + 1) ps (All-tail FitPart (closes n k) ps h))
+  tails_static i (spine_begins n k ∷ ps) h = tails_static (i + length (moves_of (spine_begins n k))) ps (All-tail FitPart (spine_begins n k) ps h)
+  tails_static i (whole_unit t ∷ ps) h = tails_static (i + length (moves t)) ps (All-tail FitPart (whole_unit t) ps h)
+  tails_static i (spine_ends n k ∷ ps) h = All-append (IsStatic table) (finish_event k i n ∷ []) _ (ended_static k i n (All-head FitPart (spine_ends n k) ps h)) (tails_static (i + 1) ps (All-tail FitPart (spine_ends n k) ps h))
 
 -- ---- how many there are
 
@@ -107,22 +107,22 @@ length-published : {A : Type 0} (kind : Kind) (payload : A → Payload) (k i : �
 length-published kind payload k i [] = refl
 length-published kind payload k i (x ∷ xs) = ap suc (length-published kind payload k (i + 1) xs)
 
-length-begun : (k i : ℕ) (n : Node) → length (begun k i n) ≡ length (opening n k)
+length-begun : (k i : ℕ) (n : Node) → length (opening_events k i n) ≡ length (opening n k)
 length-begun k i n =
     omega (arith, length-append (published Reporting Report k (i + 1) n.entries) (published File Path k (i + 1 + length n.entries) n.files), length-published Reporting Report k (i + 1) n.entries, length-published File Path k (i + 1 + length n.entries) n.files, length-opening n k)
 
-heads_few : (i : ℕ) (ps : List Part) → length (from_each head i ps) ≤ length (flat_map moves_of ps)
+heads_few : (i : ℕ) (ps : List Part) → length (from_each begin_events i ps) ≤ length (flat_map moves_of ps)
 heads_few i [] = omega arith
-heads_few i (opens n k ∷ ps) =
-    omega (arith, heads_few (i + length (moves_of (opens n k))) ps, length-begun k i n, length-append (begun k i n) (from_each head (i + length (moves_of (opens n k))) ps), length-append (opening n k) (flat_map moves_of ps))
-heads_few i (runs t ∷ ps) = omega (arith, heads_few (i + length (moves t)) ps, length-append (moves t) (flat_map moves_of ps))
-heads_few i (closes n k ∷ ps) = omega (arith, heads_few (i + 1) ps)
+heads_few i (spine_begins n k ∷ ps) =
+    omega (arith, heads_few (i + length (moves_of (spine_begins n k))) ps, length-begun k i n, length-append (opening_events k i n) (from_each begin_events (i + length (moves_of (spine_begins n k))) ps), length-append (opening n k) (flat_map moves_of ps))
+heads_few i (whole_unit t ∷ ps) = omega (arith, heads_few (i + length (moves t)) ps, length-append (moves t) (flat_map moves_of ps))
+heads_few i (spine_ends n k ∷ ps) = omega (arith, heads_few (i + 1) ps)
 
-tails_few : (i : ℕ) (ps : List Part) → length (from_each tail i ps) ≤ length (flat_map moves_of ps)
+tails_few : (i : ℕ) (ps : List Part) → length (from_each end_events i ps) ≤ length (flat_map moves_of ps)
 tails_few i [] = omega arith
-tails_few i (opens n k ∷ ps) = omega (arith, tails_few (i + length (moves_of (opens n k))) ps, length-append (opening n k) (flat_map moves_of ps))
-tails_few i (runs t ∷ ps) = omega (arith, tails_few (i + length (moves t)) ps, length-append (moves t) (flat_map moves_of ps))
-tails_few i (closes n k ∷ ps) = omega (arith, tails_few (i + 1) ps)
+tails_few i (spine_begins n k ∷ ps) = omega (arith, tails_few (i + length (moves_of (spine_begins n k))) ps, length-append (opening n k) (flat_map moves_of ps))
+tails_few i (whole_unit t ∷ ps) = omega (arith, tails_few (i + length (moves t)) ps, length-append (moves t) (flat_map moves_of ps))
+tails_few i (spine_ends n k ∷ ps) = omega (arith, tails_few (i + 1) ps)
 
 -- ---- of a plan
 
@@ -167,10 +167,10 @@ static_top true n ns e = refl
 static_top false n ns e = absurd (grind arith)
 
 unit_by : (b : Bool) (n : Node) (k i : ℕ) (f : Forest) (m : ℕ) → ((i : ℕ) → b ≡ true → length (from_each piece i (parts_below false f)) ≤ m)
-    → length (from_each piece i (cond b (opens n k ∷ (parts_below false f ++ closes n k ∷ [])) (runs (tree n k f) ∷ []))) ≤ suc m
+    → length (from_each piece i (cond b (spine_begins n k ∷ (parts_below false f ++ spine_ends n k ∷ [])) (whole_unit (tree n k f) ∷ []))) ≤ suc m
 unit_by true n k i f m h =
-    let at : ℕ = i + length (moves_of (opens n k)) in
-    omega (arith, h at refl, ap length (from_each-append piece at (parts_below false f) (closes n k ∷ [])), length-append (from_each piece at (parts_below false f)) [])
+    let at : ℕ = i + length (moves_of (spine_begins n k)) in
+    omega (arith, h at refl, ap length (from_each-append piece at (parts_below false f) (spine_ends n k ∷ [])), length-append (from_each piece at (parts_below false f)) [])
 unit_by false n k i f m h = omega arith
 
 mutual

@@ -10,7 +10,7 @@ use Rattle.tk_plan_units.specs.declared.steps.Act.{Act}
 use Rattle.tk_plan_units.specs.declared.steps.Act.TheVariants.{Report, File, Finish}
 use Rattle.tk_plan_units.specs.Trees.{Forest}
 use Rattle.tk_plan_units.specs.Script.{move, each_act, opening, stamped}
-use Rattle.tk_plan_units.specs.Events.{event, published, begun, ended}
+use Rattle.tk_plan_units.specs.Events.{event, published, opening_events, finish_event}
 use Rattle.tk_plan_units.specs.StepEvents.{kind_of, payload_of, event_of_step}
 use Rattle.tk_plan_units.specs.Cutting.{Part, parts_below, moves_of, from_each, all_static, root_script}
 use Rattle.tk_plan_units.proofs.Knowing.{seam_some}
@@ -37,7 +37,7 @@ files_emitted : (n : Node) (k i : ℕ) → published kinds.File payloads.Path k 
 files_emitted n k i =
     acts_emitted kinds.File payloads.Path File k n (λ j. refl) n.files (λ j x e. ap (λ o. payloads.Path (unwrap_or o [])) e) [] n.files i 0 refl refl
 
-begun_emitted : (n : Node) (k i : ℕ) → begun k i n ≡ map (event_of_step n) (stamped i (opening n k))
+begun_emitted : (n : Node) (k i : ℕ) → opening_events k i n ≡ map (event_of_step n) (stamped i (opening n k))
 begun_emitted n k i =
     let es = each_act Report k 0 n.entries in
     let fs = each_act File k 0 n.files in
@@ -47,7 +47,7 @@ begun_emitted n k i =
     ∙ sym (map-append (event_of_step n) (stamped (i + 1) es) (stamped (i + 1 + length es) fs))
     ∙ ap (map (event_of_step n)) (sym (stamped-append (i + 1) es fs)))
 
-pub spine_events_are_steps : (n : Node) (k i : ℕ) → (begun k i n ≡ map (event_of_step n) (stamped i (opening n k))) × (ended k i n ∷ [] ≡ map (event_of_step n) (stamped i (move k Finish ∷ [])))
+pub spine_events_are_steps : (n : Node) (k i : ℕ) → (opening_events k i n ≡ map (event_of_step n) (stamped i (opening n k))) × (finish_event k i n ∷ [] ≡ map (event_of_step n) (stamped i (move k Finish ∷ [])))
 spine_events_are_steps n k i = (begun_emitted n k i, refl)
 
 each_stamped : (i : ℕ) (ps : List Part) → from_each (λ i p. stamped i (moves_of p)) i ps ≡ stamped i (flat_map moves_of ps)

@@ -1,5 +1,7 @@
--- How a tree is cut.
-use Rattle.std.specs.Prelude.{ℕ, ◌+◌, ◌&&◌, ◌||◌, ◌==◌, List, [], ◌∷◌, ◌++◌, length, slice_get, Option, Some, None, map, flat_map, Bool, true, false, not, is_some, if◌then◌else◌}
+-- How a tree is cut: a spine, and the units off the spine.
+use Rattle.std.specs.Prelude.{ℕ, ◌+◌, ◌&&◌, ◌||◌, ◌==◌, List, [], ◌∷◌, ◌++◌, length, slice_get}
+use Rattle.std.specs.Prelude.{Option, Some, None, map, flat_map, Bool, true, false, not, is_some}
+use Rattle.std.specs.Prelude.{if◌then◌else◌}
 use Rattle.tk_plan_units.specs.declared.nodes.Node.{Node}
 use Rattle.tk_ids.specs.DTypes.{is_container}
 use Rattle.tk_events.specs.declared.events.Event.{Event}
@@ -8,13 +10,13 @@ use Rattle.tk_plan_units.specs.declared.steps.Move.{Move}
 use Rattle.tk_plan_units.specs.declared.steps.Step.{Step}
 use Rattle.tk_plan_units.specs.Trees.{Tree, tree, Forest, no_trees, more, number_of}
 use Rattle.tk_plan_units.specs.Script.{move, moves, moves_below, opening, stamped}
-use Rattle.tk_plan_units.specs.Events.{begun, ended}
+use Rattle.tk_plan_units.specs.Events.{opening_events, finish_event}
 
 abbrev pub is_leaf : Forest → Bool
 is_leaf no_trees = true
 is_leaf (more t f) = false
 
--- no child is dynamic, and each is CONCURRENT
+-- no tree's node is dynamic, and each is concurrent
 abbrev pub all_concurrent : Forest → Bool
 all_concurrent no_trees = true
 all_concurrent (more (tree n k g) f) = (n.is_static && n.is_concurrent) && all_concurrent f
@@ -23,38 +25,44 @@ abbrev pub all_static : Forest → Bool
 all_static no_trees = true
 all_static (more (tree n k g) f) = n.is_static && all_static f
 
--- it has children, isn't skipped, has no lock, isn't isolated, and its children are as above
+-- The node has children, isn't skipped, has no lock and isn't isolated; none of its children is
+-- dynamic, and each is concurrent.
 abbrev pub is_free : Node → Forest → Bool
-is_free n f = not (is_leaf f) && (not (is_some n.skip) && ((length n.locks == 0) && (not n.is_isolated && all_concurrent f)))
+is_free n f =
+    not (is_leaf f) && (not (is_some n.skip)
+    && ((length n.locks == 0) && (not n.is_isolated && all_concurrent f)))
 
--- the root, or a child of a spine node
+-- the node of the root, or of a child of a spine node, stands on the spine
 abbrev pub on_spine : Bool → Node → Forest → Bool
 on_spine is_root n f = (is_root || (n.is_concurrent && is_container n.dtype)) && is_free n f
 
--- what the root's script is made of
+-- The root's script is made of these parts: a spine node begins (with its number), a unit runs as a
+-- whole, a spine node ends.
 pub data Part : Type 0 where
-  opens : Node → ℕ → Part
-  runs : Tree → Part
-  closes : Node → ℕ → Part
+  spine_begins : Node → ℕ → Part
+  whole_unit : Tree → Part
+  spine_ends : Node → ℕ → Part
 
--- A node of the spine opens and closes round its children, any other tree is a unit.
+-- A spine node begins before the parts of its children and ends after them; any other tree is a unit.
 abbrev mutual
   pub parts : Bool → Tree → List Part
-  parts is_root (tree n k f) = if on_spine is_root n f then opens n k ∷ (parts_below false f ++ closes n k ∷ []) else runs (tree n k f) ∷ []
+  parts is_root (tree n k f) =
+      if on_spine is_root n f then spine_begins n k ∷ (parts_below false f ++ spine_ends n k ∷ [])
+      else whole_unit (tree n k f) ∷ []
 
   pub parts_below : Bool → Forest → List Part
   parts_below is_root no_trees = []
   parts_below is_root (more t f) = parts is_root t ++ parts_below is_root f
 
 abbrev pub moves_of : Part → List Move
-moves_of (opens n k) = opening n k
-moves_of (runs t) = moves t
-moves_of (closes n k) = move k Finish ∷ []
+moves_of (spine_begins n k) = opening n k
+moves_of (whole_unit t) = moves t
+moves_of (spine_ends n k) = move k Finish ∷ []
 
-abbrev pub opened : Part → List ℕ
-opened (opens n k) = k ∷ []
-opened (runs t) = []
-opened (closes n k) = []
+abbrev pub spine_numbers : Part → List ℕ
+spine_numbers (spine_begins n k) = k ∷ []
+spine_numbers (whole_unit t) = []
+spine_numbers (spine_ends n k) = []
 
 -- a unit, and how many events of the root's script come before it
 pub record Piece : Type 0 where
@@ -62,31 +70,31 @@ pub record Piece : Type 0 where
   pub first : ℕ
 
 abbrev pub piece : ℕ → Part → List Piece
-piece i (opens n k) = []
-piece i (runs t) = record { tree = t; first = i } ∷ []
-piece i (closes n k) = []
+piece i (spine_begins n k) = []
+piece i (whole_unit t) = record { tree = t; first = i } ∷ []
+piece i (spine_ends n k) = []
 
--- what stands in some parts, of which the first comes after some events
+-- What f gives of each part. Its first argument is the number of events before the part.
 abbrev pub from_each : {A : Type 0} → (ℕ → Part → List A) → ℕ → List Part → List A
 from_each f i [] = []
 from_each f i (p ∷ ps) = f i p ++ from_each f (i + length (moves_of p)) ps
 
--- the events of a spine node before its children
-abbrev pub head : ℕ → Part → List Event
-head i (opens n k) = begun k i n
-head i (runs t) = []
-head i (closes n k) = []
+-- a spine node's start with its entries and files
+abbrev pub begin_events : ℕ → Part → List Event
+begin_events i (spine_begins n k) = opening_events k i n
+begin_events i (whole_unit t) = []
+begin_events i (spine_ends n k) = []
 
--- and after them
-abbrev pub tail : ℕ → Part → List Event
-tail i (opens n k) = []
-tail i (runs t) = []
-tail i (closes n k) = ended k i n ∷ []
+-- a spine node's finish
+abbrev pub end_events : ℕ → Part → List Event
+end_events i (spine_begins n k) = []
+end_events i (whole_unit t) = []
+end_events i (spine_ends n k) = finish_event k i n ∷ []
 
--- ---- the root alone in a forest
+-- What follows takes a forest with the root alone.
 
 abbrev pub spine_of : Forest → List ℕ
-spine_of root = flat_map opened (parts_below true root)
+spine_of root = flat_map spine_numbers (parts_below true root)
 
 abbrev pub pieces_of : Forest → List Piece
 pieces_of root = from_each piece 0 (parts_below true root)
@@ -94,13 +102,13 @@ pieces_of root = from_each piece 0 (parts_below true root)
 abbrev pub units_of : Forest → List ℕ
 units_of root = map (λ u. number_of u.tree) (pieces_of root)
 
--- the spine's starts with their entries and files, in preorder
+-- the starts of the spine with their entries and files, in preorder
 abbrev pub before_of : Forest → List Event
-before_of root = from_each head 0 (parts_below true root)
+before_of root = from_each begin_events 0 (parts_below true root)
 
--- its finishes, in postorder
+-- the finishes of the spine, in postorder
 abbrev pub after_of : Forest → List Event
-after_of root = from_each tail 0 (parts_below true root)
+after_of root = from_each end_events 0 (parts_below true root)
 
 abbrev pub steps_of : Option Piece → List Step
 steps_of None = []

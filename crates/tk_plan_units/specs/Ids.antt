@@ -24,7 +24,8 @@ descriptor_in id n = if n.is_static then descriptor id n ∷ [] else []
 -- the static nodes' descriptors, in preorder
 abbrev mutual
   pub descriptors : List SegmentView → Tree → List Descriptor
-  descriptors above (tree n k f) = descriptor_in (above ++ n.segment ∷ []) n ++ descriptors_below (above ++ n.segment ∷ []) f
+  descriptors above (tree n k f) =
+      descriptor_in (above ++ n.segment ∷ []) n ++ descriptors_below (above ++ n.segment ∷ []) f
 
   pub descriptors_below : List SegmentView → Forest → List Descriptor
   descriptors_below above no_trees = []
@@ -32,4 +33,6 @@ abbrev mutual
 
 -- no id stands at two places
 abbrev pub AreDistinct : List (List SegmentView) → Type 0
-AreDistinct ids = (j k : ℕ) (id : List SegmentView) → slice_get ids j ≡ Some id → slice_get ids k ≡ Some id → j ≡ k
+AreDistinct ids =
+    (j k : ℕ) (id : List SegmentView) → slice_get ids j ≡ Some id → slice_get ids k ≡ Some id
+    → j ≡ k

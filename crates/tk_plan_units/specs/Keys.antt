@@ -7,7 +7,8 @@ use Rattle.tk_plan_units.specs.declared.nodes.Node.{Node}
 
 -- the key `global` has a resource of its own
 abbrev pub note_key : List (List ℕ) → List ℕ → List (List ℕ)
-note_key keys key = if bytes_eq key (codes "global") || list_any (bytes_eq key) keys then keys else keys ++ key ∷ []
+note_key keys key =
+    if bytes_eq key (codes "global") || list_any (bytes_eq key) keys then keys else keys ++ key ∷ []
 
 abbrev pub note_locks : List (List ℕ) → List Lock → List (List ℕ)
 note_locks keys [] = keys

@@ -3,10 +3,12 @@ use Rattle.std.specs.Prelude.{◌≡◌, ℕ, ◌<◌, List, Some, IsSome, false
 use Rattle.tk_plan_units.specs.declared.nodes.Node.{Node}
 use Rattle.tk_plan_units.specs.declared.nodes.NumberedNode.{NumberedNode}
 use Rattle.tk_plan_units.specs.declared.steps.Act.{Act}
-use Rattle.tk_plan_units.specs.declared.steps.Act.TheVariants.{Register, Skip, Start, Report, File, Finish}
+use Rattle.tk_plan_units.specs.declared.steps.Act.TheVariants.{Register, Skip, Start, Report, File}
+use Rattle.tk_plan_units.specs.declared.steps.Act.TheVariants.{Finish}
 use Rattle.tk_plan_units.specs.Numbers.{in_order}
 
--- Only a dynamic node is registered, below a node that there is; what is skipped has a reason; a report is one of the node's entries, a file one of its files.
+-- Only a dynamic node is registered, below a node that there is; what is skipped has a reason; a
+-- report is one of the node's entries, a file one of its files.
 abbrev pub Does : List NumberedNode → Node → Act → Type 0
 Does nodes n (Register parent) = (n.is_static ≡ false) × (parent < length nodes)
 Does nodes n Skip = IsSome n.skip

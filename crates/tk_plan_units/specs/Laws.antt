@@ -1,5 +1,6 @@
 -- Laws of plans.
-use Rattle.std.specs.Prelude.{◌≡◌, ℕ, List, [], Bool, true, false, ◌∷◌, flat_map, map, All, Some, slice_get}
+use Rattle.std.specs.Prelude.{◌≡◌, ℕ, List, [], Bool, true, false, ◌∷◌, flat_map, map, All, Some}
+use Rattle.std.specs.Prelude.{slice_get}
 use Rattle.tk_ids.specs.IdText.{SegmentView}
 use Rattle.tk_ids.specs.declared.descriptors.Descriptor.{Descriptor}
 use Rattle.tk_ids.specs.Table.{HasId}
@@ -8,7 +9,7 @@ use Rattle.tk_plan_units.specs.declared.nodes.NumberedNode.{NumberedNode}
 use Rattle.tk_plan_units.specs.declared.steps.Act.TheVariants.{Finish}
 use Rattle.tk_plan_units.specs.Trees.{Forest, forest}
 use Rattle.tk_plan_units.specs.Script.{moves_below, move, opening, stamped}
-use Rattle.tk_plan_units.specs.Events.{begun, ended}
+use Rattle.tk_plan_units.specs.Events.{opening_events, finish_event}
 use Rattle.tk_plan_units.specs.StepEvents.{event_of_step}
 use Rattle.tk_plan_units.specs.Cutting.{all_static, parts_below, moves_of, from_each, root_script}
 use Rattle.tk_plan_units.specs.Numbers.{IsNumbered, in_order}
@@ -17,25 +18,36 @@ use Rattle.tk_plan_units.specs.Planned.{IsPlanned}
 
 -- the parts of static trees, one after another, are what the trees do
 abbrev pub LosesNothing : Type 0
-LosesNothing = (is_root : Bool) (parent : ℕ) (f : Forest) → all_static f ≡ true → flat_map moves_of (parts_below is_root f) ≡ moves_below parent f
+LosesNothing =
+    (is_root : Bool) (parent : ℕ) (f : Forest) → all_static f ≡ true
+    → flat_map moves_of (parts_below is_root f) ≡ moves_below parent f
 
 -- a node is found by its number
 abbrev pub FindsNodes : Type 0
-FindsNodes = (nodes : List NumberedNode) → IsNumbered nodes → All (λ p. slice_get (in_order nodes) p.number ≡ Some p.node) nodes
+FindsNodes =
+    (nodes : List NumberedNode) → IsNumbered nodes
+    → All (λ p. slice_get (in_order nodes) p.number ≡ Some p.node) nodes
 
 -- what the table says of the node at a place in preorder, whose id stands there too
-pub record IsKeyed (table : List Descriptor) (p : NumberedNode) (id : List SegmentView) : Type 0 where
+pub record IsKeyed (table : List Descriptor) (p : NumberedNode) (id : List SegmentView)
+    : Type 0 where
   pub static : p.node.is_static ≡ true → slice_get table p.number ≡ Some (descriptor id p.node)
   pub dynamic : p.node.is_static ≡ false → ¬ HasId table id
 
 abbrev pub HasKeys : Type 0
-HasKeys = (nodes : List NumberedNode) (table : List Descriptor) → IsPlanned nodes table → IsNumbered nodes
-    → (i : ℕ) (p : NumberedNode) (id : List SegmentView) → slice_get nodes i ≡ Some p → slice_get (ids_below [] (forest nodes)) i ≡ Some id → IsKeyed table p id
+HasKeys =
+    (nodes : List NumberedNode) (table : List Descriptor) → IsPlanned nodes table → IsNumbered nodes
+    → (i : ℕ) (p : NumberedNode) (id : List SegmentView) → slice_get nodes i ≡ Some p
+    → slice_get (ids_below [] (forest nodes)) i ≡ Some id → IsKeyed table p id
 
--- and with their stamps they are the root's script
+-- the parts of a root, each with its stamps, are the root's script
 abbrev pub KeepsStamps : Type 0
-KeepsStamps = (is_root : Bool) (f : Forest) → all_static f ≡ true → from_each (λ i p. stamped i (moves_of p)) 0 (parts_below is_root f) ≡ root_script f
+KeepsStamps =
+    (is_root : Bool) (f : Forest) → all_static f ≡ true
+    → from_each (λ i p. stamped i (moves_of p)) 0 (parts_below is_root f) ≡ root_script f
 
 -- the events of a spine node before its children and after them are the events of its steps
 abbrev pub SpineEventsAreSteps : Type 0
-SpineEventsAreSteps = (n : Node) (k i : ℕ) → (begun k i n ≡ map (event_of_step n) (stamped i (opening n k))) × (ended k i n ∷ [] ≡ map (event_of_step n) (stamped i (move k Finish ∷ [])))
+SpineEventsAreSteps =
+    (n : Node) (k i : ℕ) → (opening_events k i n ≡ map (event_of_step n) (stamped i (opening n k)))
+    × (finish_event k i n ∷ [] ≡ map (event_of_step n) (stamped i (move k Finish ∷ [])))

@@ -10,12 +10,12 @@ pub mod Events
 pub mod StepEvents
 pub mod Cutting
 pub mod LockNeeds
-pub mod Marked
-pub mod Adds
+pub mod MaskAccess
+pub mod CuttingSteps
 pub mod Keys
 pub mod Numbers
 pub mod Known
 pub mod Ids
 pub mod Planned
-pub mod Kept
+pub mod CutPlans
 pub mod Laws

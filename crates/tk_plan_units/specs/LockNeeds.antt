@@ -1,5 +1,6 @@
 -- What the nodes of a unit ask of the resources.
-use Rattle.std.specs.Prelude.{◌≡◌, ℕ, suc, ◌==◌, ◌<◌, List, [], ◌∷◌, Bool, true, false, Option, Some, None, if◌then◌else◌, codes, option_map}
+use Rattle.std.specs.Prelude.{◌≡◌, ℕ, suc, ◌==◌, ◌<◌, List, [], ◌∷◌, Bool, true, false, Option}
+use Rattle.std.specs.Prelude.{Some, None, if◌then◌else◌, codes, option_map}
 use Rattle.std.specs.Str.{bytes_eq}
 use Rattle.tk_book.specs.Needs.{Access, nothing, reads, writes, access}
 use Rattle.tk_book.specs.NeedView.{NeedView}
@@ -12,7 +13,8 @@ key_index [] key = None
 key_index (k ∷ ks) key = if bytes_eq k key then Some 0 else option_map suc (key_index ks key)
 
 abbrev pub resource : List (List ℕ) → List ℕ → Option ℕ
-resource keys key = if bytes_eq key (codes "global") then Some 0 else option_map suc (key_index keys key)
+resource keys key =
+    if bytes_eq key (codes "global") then Some 0 else option_map suc (key_index keys key)
 
 -- write over read
 abbrev pub over : Access → Access → Access
@@ -32,11 +34,13 @@ at_resource (Some k) a r = if k == r then a else nothing
 
 abbrev pub lock_asks : List (List ℕ) → List Lock → ℕ → Access
 lock_asks keys [] r = nothing
-lock_asks keys (l ∷ ls) r = over (at_resource (resource keys l.key) (access_for l.writes) r) (lock_asks keys ls r)
+lock_asks keys (l ∷ ls) r =
+    over (at_resource (resource keys l.key) (access_for l.writes) r) (lock_asks keys ls r)
 
 -- an isolated node writes resource 0
 abbrev pub node_asks : List (List ℕ) → Node → ℕ → Access
-node_asks keys n r = over (at_resource (Some 0) (access_for n.is_isolated) r) (lock_asks keys n.locks r)
+node_asks keys n r =
+    over (at_resource (Some 0) (access_for n.is_isolated) r) (lock_asks keys n.locks r)
 
 abbrev pub nodes_ask : List (List ℕ) → List Node → ℕ → Access
 nodes_ask keys [] r = nothing

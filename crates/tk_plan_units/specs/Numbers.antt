@@ -1,5 +1,6 @@
 -- The numbers of a plan's nodes: the static ones in preorder, then the dynamic ones.
-use Rattle.std.specs.Prelude.{◌≡◌, ℕ, ◌+◌, List, [], ◌∷◌, ◌++◌, Bool, true, false, if◌then◌else◌, flat_map, drop, All, Option, Some, None, slice_get, length, ◌<◌}
+use Rattle.std.specs.Prelude.{◌≡◌, ℕ, ◌+◌, List, [], ◌∷◌, ◌++◌, Bool, true, false, if◌then◌else◌}
+use Rattle.std.specs.Prelude.{flat_map, drop, All, Option, Some, None, slice_get, length, ◌<◌}
 use Rattle.tk_plan_units.specs.declared.nodes.Node.{Node}
 use Rattle.tk_plan_units.specs.declared.nodes.NumberedNode.{NumberedNode}
 
@@ -19,7 +20,9 @@ with_number k p = record { node = p.node; number = k; span = p.span }
 -- static nodes take numbers from s on, the others from d on
 abbrev pub numbered_from : ℕ → ℕ → List NumberedNode → List NumberedNode
 numbered_from s d [] = []
-numbered_from s d (p ∷ ps) = if p.node.is_static then with_number s p ∷ numbered_from (s + 1) d ps else with_number d p ∷ numbered_from s (d + 1) ps
+numbered_from s d (p ∷ ps) =
+    if p.node.is_static then with_number s p ∷ numbered_from (s + 1) d ps
+    else with_number d p ∷ numbered_from s (d + 1) ps
 
 -- the nodes with their numbers: the dynamic ones follow the static ones
 abbrev pub numbered : List NumberedNode → List NumberedNode

@@ -1,5 +1,6 @@
 -- What a plan is.
-use Rattle.std.specs.Prelude.{◌≡◌, ◌≤◌, ◌<◌, ◌&&◌, ℕ, List, [], Option, Some, None, Bool, true, false, slice_get, length, ◌++◌}
+use Rattle.std.specs.Prelude.{◌≡◌, ◌≤◌, ◌<◌, ◌&&◌, ℕ, List, [], Option, Some, None, Bool, true}
+use Rattle.std.specs.Prelude.{false, slice_get, length, ◌++◌}
 use Rattle.std.specs.List.{list_all}
 use Rattle.tk_limits.specs.declared.limits.TheConstants.{MAX_EVENTS}
 use Rattle.tk_ids.specs.declared.tables.TheConstants.{MAX_DESCRIPTORS}
@@ -13,7 +14,8 @@ use Rattle.tk_book.specs.Words.{packed}
 use Rattle.tk_book.specs.Needs.{Access, nothing, access, weight}
 use Rattle.tk_plan_units.specs.declared.nodes.Node.{Node}
 use Rattle.tk_plan_units.specs.declared.nodes.NumberedNode.{NumberedNode}
-use Rattle.tk_plan_units.specs.Trees.{Forest, no_trees, more, tree, IsForest, forest, contents, flat}
+use Rattle.tk_plan_units.specs.Trees.{Forest, no_trees, more, tree, IsForest, forest, contents}
+use Rattle.tk_plan_units.specs.Trees.{flat}
 use Rattle.tk_plan_units.specs.Script.{moves_below}
 use Rattle.tk_plan_units.specs.Cutting.{Piece, pieces_of}
 use Rattle.tk_plan_units.specs.LockNeeds.{nodes_ask}
@@ -36,9 +38,11 @@ is_rooted (more (tree n k g) (more t f)) = false
 abbrev pub is_lawful_node : Node → Bool
 is_lawful_node n =
     is_lawful Finished (Outcome n.status n.message)
-    && (list_all (λ e. is_lawful Reporting (Report e)) n.entries && list_all (λ p. is_lawful File (Path p)) n.files)
+    && (list_all (λ e. is_lawful Reporting (Report e)) n.entries
+    && list_all (λ p. is_lawful File (Path p)) n.files)
 
--- A tree under one static root. No two of its nodes have one id, and its static nodes are those of the table, in preorder.
+-- A tree under one static root. No two of its nodes have one id, and its static nodes are those of
+-- the table, in preorder.
 -- Nothing of it speaks of the nodes' numbers.
 pub record IsPlanned (nodes : List NumberedNode) (table : List Descriptor) : Type 0 where
   pub trees : IsForest nodes
@@ -56,15 +60,16 @@ abbrev pub piece_asks : List (List ℕ) → Option Piece → ℕ → Access
 piece_asks keys None r = nothing
 piece_asks keys (Some u) r = nodes_ask keys (contents (flat u.tree)) r
 
--- the same of the plan's unit of that number
+-- what the nodes of the plan's unit of this number ask of a resource
 abbrev pub unit_asks : List NumberedNode → ℕ → ℕ → Access
-unit_asks nodes unit r = piece_asks (lock_keys (contents nodes)) (slice_get (pieces_of (forest nodes)) unit) r
+unit_asks nodes unit r =
+    piece_asks (lock_keys (contents nodes)) (slice_get (pieces_of (forest nodes)) unit) r
 
 -- the need asks what the nodes of the unit ask
 abbrev pub IsNeedOf : List NumberedNode → ℕ → NeedView → Type 0
 IsNeedOf nodes unit w = (r : ℕ) → r < 16 → access w r ≡ unit_asks nodes unit r
 
--- that need as a word
+-- the need of a unit as a word
 abbrev pub need_word : List NumberedNode → ℕ → ℕ
 need_word nodes unit = packed 16 (λ r. weight (unit_asks nodes unit r))
 

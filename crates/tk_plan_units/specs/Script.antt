@@ -1,8 +1,9 @@
--- What a tree runs.
+-- What a tree does.
 use Rattle.std.specs.Prelude.{ℕ, ◌+◌, List, [], ◌∷◌, ◌++◌, is_some, if◌then◌else◌}
 use Rattle.tk_plan_units.specs.declared.nodes.Node.{Node}
 use Rattle.tk_plan_units.specs.declared.steps.Act.{Act}
-use Rattle.tk_plan_units.specs.declared.steps.Act.TheVariants.{Register, Skip, Start, Report, File, Finish}
+use Rattle.tk_plan_units.specs.declared.steps.Act.TheVariants.{Register, Skip, Start, Report, File}
+use Rattle.tk_plan_units.specs.declared.steps.Act.TheVariants.{Finish}
 use Rattle.tk_plan_units.specs.declared.steps.Move.{Move}
 use Rattle.tk_plan_units.specs.declared.steps.Step.{Step}
 use Rattle.tk_plan_units.specs.Trees.{Tree, tree, Forest, no_trees, more}
@@ -23,10 +24,13 @@ opening n k = move k Start ∷ (each_act Report k 0 n.entries ++ each_act File k
 abbrev pub registration : ℕ → Tree → List Move
 registration parent (tree n k f) = if n.is_static then [] else move k (Register parent) ∷ []
 
--- A skipped node gives one skip; any other its start, its entries, its files, what its children give, and its finish.
+-- A skipped node gives one skip; any other its start, its entries, its files, what its children
+-- give, and its finish.
 abbrev mutual
   pub moves : Tree → List Move
-  moves (tree n k f) = if is_some n.skip then move k Skip ∷ [] else opening n k ++ (moves_below k f ++ move k Finish ∷ [])
+  moves (tree n k f) =
+      if is_some n.skip then move k Skip ∷ []
+      else opening n k ++ (moves_below k f ++ move k Finish ∷ [])
 
   pub moves_below : ℕ → Forest → List Move
   moves_below parent no_trees = []

@@ -7,7 +7,8 @@ use Rattle.tk_events.specs.declared.payloads.Payload.TheVariants as payloads
 use Rattle.tk_events.specs.declared.events.Event.{Event}
 use Rattle.tk_plan_units.specs.declared.nodes.Node.{Node}
 use Rattle.tk_plan_units.specs.declared.steps.Act.{Act}
-use Rattle.tk_plan_units.specs.declared.steps.Act.TheVariants.{Register, Skip, Start, Report, File, Finish}
+use Rattle.tk_plan_units.specs.declared.steps.Act.TheVariants.{Register, Skip, Start, Report, File}
+use Rattle.tk_plan_units.specs.declared.steps.Act.TheVariants.{Finish}
 use Rattle.tk_plan_units.specs.declared.steps.Step.{Step}
 use Rattle.tk_plan_units.specs.Events.{event}
 
@@ -20,7 +21,8 @@ kind_of (Report i) = kinds.Reporting
 kind_of (File i) = kinds.File
 kind_of Finish = kinds.Finished
 
--- The payload of that event. A registration has a descriptor, with an id that the node alone doesn't have.
+-- The payload of that event. A registration has a descriptor, with an id that the node alone
+-- doesn't have.
 abbrev pub payload_of : Node → Act → Payload
 payload_of n (Register parent) = payloads.Nothing
 payload_of n Skip = payloads.Reason (unwrap_or n.skip [])

@@ -11,7 +11,7 @@ mutual
     no_trees : Forest
     more : Tree → Forest → Forest
 
--- in preorder, each with the number of nodes from it down
+-- the nodes of a tree in preorder, each with the number of nodes from it down
 abbrev mutual
   pub flat : Tree → List NumberedNode
   flat (tree n k f) = record { node = n; number = k; span = suc (length (flats f)) } ∷ flats f
@@ -20,20 +20,22 @@ abbrev mutual
   flats no_trees = []
   flats (more t f) = flat t ++ flats f
 
--- the trees that some nodes in preorder are, cut by their spans; the first number is not less than that of the nodes
+-- the trees that some nodes in preorder are, cut by their spans; the first number is not less than
+-- that of the nodes
 unfoldable pub grow : ℕ → List NumberedNode → Forest
 grow zero ps = no_trees
 grow (suc n) [] = no_trees
-grow (suc n) (p ∷ ps) = more (tree p.node p.number (grow n (take (p.span - 1) ps))) (grow n (drop (p.span - 1) ps))
+grow (suc n) (p ∷ ps) =
+    more (tree p.node p.number (grow n (take (p.span - 1) ps))) (grow n (drop (p.span - 1) ps))
 
 unfoldable pub forest : List NumberedNode → Forest
 forest ps = grow (length ps) ps
 
--- nodes in preorder
+-- the nodes are the preorder of some trees
 unfoldable pub IsForest : List NumberedNode → Type 0
 IsForest ps = ps ≡ flats (forest ps)
 
--- the tree whose nodes come first
+-- the first of the trees, given its top node and what comes after it
 abbrev pub first_tree : NumberedNode → List NumberedNode → Tree
 first_tree p ps = tree p.node p.number (forest (take (p.span - 1) ps))
 
@@ -55,7 +57,7 @@ number_of (tree n k f) = k
 abbrev pub contents : List NumberedNode → List Node
 contents = map (λ p. p.node)
 
--- a tree stands at the place
+-- a tree stands at the position
 pub record HasTreeAt (all : List NumberedNode) (at : ℕ) : Type 0 where
   pub top : NumberedNode
   pub below : List NumberedNode

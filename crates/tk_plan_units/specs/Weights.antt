@@ -11,7 +11,7 @@ registered (tree n k f) = if n.is_static then 0 else 1
 abbrev pub publications : Node → ℕ
 publications n = length n.entries + length n.files
 
--- those of a node by itself, with its registration
+-- how many moves a node makes by itself, its registration among them
 abbrev pub own : Node → ℕ
 own n = (if n.is_static then 0 else 1) + (if is_some n.skip then 1 else 2 + publications n)
 

@@ -2,9 +2,9 @@
 ghost use Rattle.std.specs.Prelude.{◌≡◌, ◌≤◌, ◌+◌, ◌*◌, ◌^◌, ℕ, List, suc, true, ◌∷◌, [], IfOk, OnOk, length};
 ghost use Rattle.tk_plan_units.specs.Trees.{IsForest, forest, tree_of, contents};
 ghost use Rattle.tk_plan_units.specs.Weights.{publications, weight, weights};
-ghost use Rattle.tk_plan_units.specs.Cutting.{opens, runs, closes, parts, parts_below, all_static};
-ghost use Rattle.tk_plan_units.specs.Adds.{AddsAt};
-ghost use Rattle.tk_plan_units.specs.Kept.{IsCut};
+ghost use Rattle.tk_plan_units.specs.Cutting.{spine_begins, whole_unit, spine_ends, parts, parts_below, all_static};
+ghost use Rattle.tk_plan_units.specs.CuttingSteps.{AddsPartsAt};
+ghost use Rattle.tk_plan_units.specs.CutPlans.{IsCut};
 ghost use Rattle.tk_plan_units.specs.Keys.{lock_keys};
 ghost use Rattle.tk_ids.specs.declared.tables.TheConstants.{MAX_DESCRIPTORS};
 ghost use Rattle.tk_limits.specs.declared.limits.TheConstants.{MAX_EVENTS};
@@ -43,9 +43,9 @@ pub(crate) struct Cutting {
     pub units: Vec<u32>,
     pub pieces: Vec<PlanUnit>,
     /// The spine's nodes with the stamps of their starts, in preorder.
-    pub opened: Vec<SpineStamp>,
+    pub starts: Vec<SpineStamp>,
     /// The spine's nodes with the stamps of their finishes, in postorder.
-    pub closed: Vec<SpineStamp>,
+    pub finishes: Vec<SpineStamp>,
     /// How many events there are so far.
     pub first: u64,
 }
@@ -55,31 +55,31 @@ impl Cutting {
         ensures spine { result.spine.items ≡ [] }
         ensures units { result.units.items ≡ [] }
         ensures pieces { result.pieces.items ≡ [] }
-        ensures opened { result.opened.items ≡ [] }
-        ensures closed { result.closed.items ≡ [] }
+        ensures starts { result.starts.items ≡ [] }
+        ensures finishes { result.finishes.items ≡ [] }
         ensures first { result.first ≡ 0 }
     {
         Cutting {
             spine: Vec::new(alloc),
             units: Vec::new(alloc),
             pieces: Vec::new(alloc),
-            opened: Vec::new(alloc),
-            closed: Vec::new(alloc),
+            starts: Vec::new(alloc),
+            finishes: Vec::new(alloc),
             first: 0,
         }
     }
 
-    /// Adds a start on the spine with its entries and its files.
+    /// AddsParts a start on the spine with its entries and its files.
     fn begin(&mut self, numbered_node: &NumberedNode, position: usize) -> Result<(), AllocError>
         requires { self.old.first + (1 + publications numbered_node.now.node) ≤ MAX_EVENTS }
         ensures first { OnOk result
             (self.new.first ≡ self.old.first + (1 + publications numbered_node.now.node)) }
         ensures adds { OnOk result ((keys : List (List ℕ))
-            → AddsAt position (numbered_node.now ∷ []) keys self.old self.new
-            (opens numbered_node.now.node numbered_node.now.number ∷ [])) }
+            → AddsPartsAt position (numbered_node.now ∷ []) keys self.old self.new
+            (spine_begins numbered_node.now.node numbered_node.now.number ∷ [])) }
     {
         self.spine.push(numbered_node.number)?;
-        self.opened.push(SpineStamp {
+        self.starts.push(SpineStamp {
             position,
             stamp: self.first,
         })?;
@@ -87,15 +87,15 @@ impl Cutting {
         Ok(())
     }
 
-    /// Adds a finish on the spine.
+    /// AddsParts a finish on the spine.
     fn end(&mut self, numbered_node: &NumberedNode, position: usize) -> Result<(), AllocError>
         requires { self.old.first ≤ MAX_EVENTS }
         ensures first { OnOk result (self.new.first ≡ self.old.first + 1) }
         ensures adds { OnOk result ((keys : List (List ℕ))
-            → AddsAt position (numbered_node.now ∷ []) keys self.old self.new
-            (closes numbered_node.now.node numbered_node.now.number ∷ [])) }
+            → AddsPartsAt position (numbered_node.now ∷ []) keys self.old self.new
+            (spine_ends numbered_node.now.node numbered_node.now.number ∷ [])) }
     {
-        self.closed.push(SpineStamp {
+        self.finishes.push(SpineStamp {
             position,
             stamp: self.first,
         })?;
@@ -103,7 +103,7 @@ impl Cutting {
         Ok(())
     }
 
-    /// Adds a unit.
+    /// AddsParts a unit.
     fn add(
         &mut self,
         keys: &[Text],
@@ -119,8 +119,8 @@ impl Cutting {
         ensures first { OnOk result
             (self.new.first ≡ self.old.first + weight (tree_of numbered_node.now below.now)) }
         ensures adds { OnOk result
-            (AddsAt position (numbered_node.now ∷ below.now) keys.now self.old self.new
-            (runs (tree_of numbered_node.now below.now) ∷ [])) }
+            (AddsPartsAt position (numbered_node.now ∷ below.now) keys.now self.old self.new
+            (whole_unit (tree_of numbered_node.now below.now) ∷ [])) }
     {
         self.units.push(numbered_node.number)?;
         self.pieces.push(PlanUnit {
@@ -150,7 +150,7 @@ fn cut_tree(
     ensures first { OnOk result
         (cutting.new.first ≡ cutting.old.first + weight (tree_of numbered_node.now below.now)) }
     ensures adds { OnOk result
-        (AddsAt position (numbered_node.now ∷ below.now) keys.now cutting.old cutting.new
+        (AddsPartsAt position (numbered_node.now ∷ below.now) keys.now cutting.old cutting.new
         (parts is_root (tree_of numbered_node.now below.now))) }
 {
     if !is_on_spine(is_root, &numbered_node.node, below) {
@@ -179,7 +179,7 @@ fn cut_all(
     requires limit { cutting.old.first + weights (forest nodes.now) ≤ MAX_EVENTS }
     ensures first { OnOk result
         (cutting.new.first ≡ cutting.old.first + weights (forest nodes.now)) }
-    ensures adds { OnOk result (AddsAt position nodes.now keys.now cutting.old cutting.new
+    ensures adds { OnOk result (AddsPartsAt position nodes.now keys.now cutting.old cutting.new
         (parts_below is_root (forest nodes.now))) }
 {
     let mut rest = nodes;

@@ -1,6 +1,6 @@
 //! The events of the spine's nodes.
 ghost use Rattle.std.specs.Prelude.{◌≡◌, ◌++◌, ◌∷◌, [], ◌+◌, ◌≤◌, ◌^◌, List, OnOk, IfOk, IsSome, length};
-ghost use Rattle.tk_plan_units.specs.Events.{begun, ended};
+ghost use Rattle.tk_plan_units.specs.Events.{opening_events, finish_event};
 ghost use Rattle.tk_plan_units.specs.StepEvents.{payload_of};
 ghost use Rattle.tk_plan_units.specs.Known.{Does};
 ghost use Rattle.tk_plan_units.specs.Weights.{publications};
@@ -49,8 +49,8 @@ pub(crate) fn payload(alloc: Global, node: &Node, act: Act) -> Result<Payload, A
     }
 }
 
-/// Adds a node's start, its entries and its files, with their stamps.
-pub(crate) fn push_begun(
+/// AddsParts a node's start, its entries and its files, with their stamps.
+pub(crate) fn push_opening_events(
     alloc: Global,
     numbered_node: &NumberedNode,
     stamp: u64,
@@ -58,7 +58,7 @@ pub(crate) fn push_begun(
 ) -> Result<(), AllocError>
     requires { stamp + publications numbered_node.now.node ≤ MAX_EVENTS }
     ensures { OnOk result (events.new.items ≡ events.old.items
-        ++ begun numbered_node.now.number stamp numbered_node.now.node) }
+        ++ opening_events numbered_node.now.number stamp numbered_node.now.node) }
 {
     events.push(Event {
         kind: Kind::Started,
@@ -87,14 +87,14 @@ pub(crate) fn push_begun(
     Ok(())
 }
 
-/// Adds a node's finish.
-pub(crate) fn push_ended(
+/// AddsParts a node's finish.
+pub(crate) fn push_finish_event(
     numbered_node: &NumberedNode,
     stamp: u64,
     events: &mut Vec<Event>,
 ) -> Result<(), AllocError>
     ensures { OnOk result (events.new.items ≡ events.old.items
-        ++ ended numbered_node.now.number stamp numbered_node.now.node ∷ []) }
+        ++ finish_event numbered_node.now.number stamp numbered_node.now.node ∷ []) }
 {
     events.push(Event {
         kind: Kind::Finished,

@@ -5,7 +5,7 @@ ghost use Rattle.tk_book.specs.Needs.{access_of};
 ghost use Rattle.tk_plan_units.specs.LockNeeds as LockNeeds;
 ghost use Rattle.tk_plan_units.specs.LockNeeds.{over, at_resource, access_for, lock_asks, node_asks, IsNeed};
 ghost use Rattle.tk_plan_units.specs.Trees.{contents};
-ghost use Rattle.tk_plan_units.specs.Marked.{marked};
+ghost use Rattle.tk_plan_units.specs.MaskAccess.{access_of_masks};
 
 use crate::nodes::{Lock, Node, NumberedNode};
 use tk_book::Need;
@@ -56,8 +56,8 @@ fn resource(keys: &[Text], key: &str) -> Option<usize>
 impl NeedMasks {
     fn mark(&mut self, resource: usize, is_write: bool)
         requires { resource < 16 }
-        ensures { (r : ℕ) → r < 16 → marked self.new r
-            ≡ over (marked self.old r) (at_resource (Some resource) (access_for is_write) r) }
+        ensures { (r : ℕ) → r < 16 → access_of_masks self.new r
+            ≡ over (access_of_masks self.old r) (at_resource (Some resource) (access_for is_write) r) }
     {
         let bit = 1u16 << resource;
         if is_write {
@@ -70,7 +70,7 @@ impl NeedMasks {
     fn mark_locks(&mut self, keys: &[Text], locks: &[Lock])
         requires { length keys.now ≤ MAX_KEYS }
         ensures { (r : ℕ) → r < 16
-            → marked self.new r ≡ over (marked self.old r) (lock_asks keys.now locks.now r) }
+            → access_of_masks self.new r ≡ over (access_of_masks self.old r) (lock_asks keys.now locks.now r) }
     {
         for lock in locks {
             if let Some(resource) = resource(keys, lock.key.as_str()) {
@@ -82,7 +82,7 @@ impl NeedMasks {
     fn mark_node(&mut self, keys: &[Text], node: &Node)
         requires { length keys.now ≤ MAX_KEYS }
         ensures { (r : ℕ) → r < 16
-            → marked self.new r ≡ over (marked self.old r) (node_asks keys.now node.now r) }
+            → access_of_masks self.new r ≡ over (access_of_masks self.old r) (node_asks keys.now node.now r) }
     {
         self.mark(0, node.is_isolated);
         self.mark_locks(keys, node.locks.as_slice());

@@ -4,7 +4,7 @@ ghost use Rattle.std.specs.Arc.{arc_value};
 ghost use Rattle.tk_ids.specs.declared.tables.TheConstants.{MAX_DESCRIPTORS};
 
 use crate::cuttings::{Cutting, cut};
-use crate::events::{payload, push_begun, push_ended};
+use crate::events::{payload, push_finish_event, push_opening_events};
 use crate::nodes::{Node, NumberedNode};
 use crate::numbering::set_numbers;
 use crate::orders::positions_of;
@@ -31,7 +31,7 @@ pub struct Plan {
 impl Model for Plan {
     ghost use Rattle.std.specs.Arc.{arc_value};
     ghost use Rattle.tk_plan_units.specs.Planned.{Outline};
-    ghost use Rattle.tk_plan_units.specs.Kept.{IsPlan};
+    ghost use Rattle.tk_plan_units.specs.CutPlans.{IsPlan};
 
     ghost Value = { Outline };
 
@@ -137,8 +137,8 @@ impl Plan {
         ensures lawful { IfOk result (λ events. AreStatic self.now.table events.items) }
     {
         let mut events = Vec::new(alloc);
-        for spine in self.cutting.opened.as_slice() {
-            push_begun(alloc, &self.nodes[spine.position], spine.stamp, &mut events)?;
+        for spine in self.cutting.starts.as_slice() {
+            push_opening_events(alloc, &self.nodes[spine.position], spine.stamp, &mut events)?;
         }
         Ok(events)
     }
@@ -149,8 +149,8 @@ impl Plan {
         ensures lawful { IfOk result (λ events. AreStatic self.now.table events.items) }
     {
         let mut events = Vec::new(alloc);
-        for spine in self.cutting.closed.as_slice() {
-            push_ended(&self.nodes[spine.position], spine.stamp, &mut events)?;
+        for spine in self.cutting.finishes.as_slice() {
+            push_finish_event(&self.nodes[spine.position], spine.stamp, &mut events)?;
         }
         Ok(events)
     }

@@ -9,4 +9,4 @@ pub returns : goal.returns
 returns c =
     let new = c.new-cutting.ensures in
     planned c.args.nodes.now c.args.nodes.now c.args.keys.now _ _ refl c.requires.keys c.requires.trees c.requires.limit c.requires.statics
-    new.spine new.units new.pieces new.opened new.closed new.first c.in_ok-cut_all.ensures.first c.in_ok-cut_all.ensures.adds
+    new.spine new.units new.pieces new.starts new.finishes new.first c.in_ok-cut_all.ensures.first c.in_ok-cut_all.ensures.adds

@@ -2,7 +2,7 @@ use Rattle.std.proofs.Common.{◌≤◌, ap, sym, ◌∙◌, subst, arith, lengt
 use Rattle.std.specs.Arc.{arc_value}
 use Rattle.tk_plan_units.specs.declared.needs.TheConstants.{MAX_KEYS}
 use Rattle.tk_plan_units.specs.Keys.{lock_keys}
-use Rattle.tk_plan_units.specs.Kept.{IsPlan, IsCut}
+use Rattle.tk_plan_units.specs.CutPlans.{IsPlan, IsCut}
 use Rattle.tk_plan_units.specs.Numbers.{ArePositionsByNumber}
 use Rattle.tk_plan_units.specs.Trees.{contents}
 use Rattle.tk_plan_units.proofs.Describing.{few_nodes}

@@ -4,5 +4,5 @@ use Rattle.std.specs.Int.{bit_at}
 use Rattle.tk_book.specs.Needs.{Access, access_of}
 use Rattle.tk_plan_units.specs.declared.needs.NeedMasks.{NeedMasks}
 
-abbrev pub marked : NeedMasks → ℕ → Access
-marked m r = access_of (bit_at m.reads r) (bit_at m.writes r)
+abbrev pub access_of_masks : NeedMasks → ℕ → Access
+access_of_masks m r = access_of (bit_at m.reads r) (bit_at m.writes r)

@@ -1,0 +1,89 @@
+-- What each step of cutting adds to what was cut: parts, seen through the positions that are kept.
+use Rattle.std.specs.Prelude.{◌≡◌, ◌≤◌, ℕ, suc, ◌+◌, List, [], ◌∷◌, ◌++◌, length, drop, map}
+use Rattle.std.specs.Prelude.{flat_map, All}
+use Rattle.tk_limits.specs.declared.limits.TheConstants.{MAX_EVENTS}
+use Rattle.tk_events.specs.declared.events.Event.{Event}
+use Rattle.tk_plan_units.specs.declared.nodes.NumberedNode.{NumberedNode}
+use Rattle.tk_plan_units.specs.declared.cuttings.PlanUnit.{PlanUnit}
+use Rattle.tk_plan_units.specs.declared.cuttings.SpineStamp.{SpineStamp}
+use Rattle.tk_plan_units.specs.declared.cuttings.Cutting.{Cutting}
+use Rattle.tk_plan_units.specs.Trees.{IsForest, forest, tree, first_tree, number_of, contents}
+use Rattle.tk_plan_units.specs.Events.{opening_events, finish_event}
+use Rattle.tk_plan_units.specs.Cutting.{Part, Piece, spine_numbers, piece, from_each, begin_events}
+use Rattle.tk_plan_units.specs.Cutting.{end_events, moves_of}
+use Rattle.tk_plan_units.specs.Weights.{publications, weight}
+use Rattle.tk_plan_units.specs.LockNeeds.{IsNeed}
+
+-- the unit whose nodes these begin with, if there is one, with the number of events before it
+abbrev pub piece_of_nodes : List NumberedNode → ℕ → List Piece
+piece_of_nodes [] i = []
+piece_of_nodes (p ∷ ps) i = record { tree = first_tree p ps; first = i } ∷ []
+
+-- the trees of units, from the positions of their first nodes
+abbrev pub pieces_of_units : List NumberedNode → List PlanUnit → List Piece
+pieces_of_units all = flat_map (λ u. piece_of_nodes (drop u.position all) u.first)
+
+-- the start, the entries and the files of the first of some nodes
+abbrev pub begin_events_at : List NumberedNode → ℕ → List Event
+begin_events_at [] i = []
+begin_events_at (p ∷ ps) i = opening_events p.number i p.node
+
+-- the finish of the first of some nodes
+abbrev pub end_events_at : List NumberedNode → ℕ → List Event
+end_events_at [] i = []
+end_events_at (p ∷ ps) i = finish_event p.number i p.node ∷ []
+
+-- of some nodes of the spine the starts with their entries and files
+abbrev pub begin_events_of_spine : List NumberedNode → List SpineStamp → List Event
+begin_events_of_spine all = flat_map (λ s. begin_events_at (drop s.position all) s.stamp)
+
+-- of some nodes of the spine the finishes
+abbrev pub end_events_of_spine : List NumberedNode → List SpineStamp → List Event
+end_events_of_spine all = flat_map (λ s. end_events_at (drop s.position all) s.stamp)
+
+-- the nodes of a unit stand at its position, its need is theirs, and its events fit the limit
+pub record Fits (all : List NumberedNode) (keys : List (List ℕ)) (u : PlanUnit) : Type 0 where
+  pub top : NumberedNode
+  pub below : List NumberedNode
+  pub rest : List NumberedNode
+  pub position : drop u.position all ≡ top ∷ (below ++ rest)
+  pub span : top.span ≡ suc (length below)
+  pub trees : IsForest below
+  pub need : IsNeed keys (contents (top ∷ below)) u.need
+  pub limit : u.first + weight (tree top.node top.number (forest below)) ≤ MAX_EVENTS
+
+-- the position is that of a node
+abbrev pub HasNode : List NumberedNode → SpineStamp → Type 0
+HasNode all s =
+    (top : NumberedNode) × (rest : List NumberedNode) × (drop s.position all ≡ top ∷ rest)
+
+-- the position is that of a node, whose start, entries and files have stamps within the limit
+pub record HasStampAt (all : List NumberedNode) (s : SpineStamp) : Type 0 where
+  pub top : NumberedNode
+  pub rest : List NumberedNode
+  pub position : drop s.position all ≡ top ∷ rest
+  pub limit : s.stamp + publications top.node ≤ MAX_EVENTS
+
+-- these parts were added: to the spine's numbers, the units, and the stamps of starts and finishes
+pub record AddsParts (all : List NumberedNode) (keys : List (List ℕ)) (old new : Cutting)
+    (ps : List Part) : Type 0 where
+  pub spine : new.spine.items ≡ old.spine.items ++ flat_map spine_numbers ps
+  pub units : new.units.items ≡ old.units.items
+      ++ map (λ u. number_of u.tree) (from_each piece old.first ps)
+  pub pieces : pieces_of_units all new.pieces.items ≡ pieces_of_units all old.pieces.items
+      ++ from_each piece old.first ps
+  pub fits : All (Fits all keys) old.pieces.items → All (Fits all keys) new.pieces.items
+  pub begin_events_of_spine : begin_events_of_spine all new.starts.items
+      ≡ begin_events_of_spine all old.starts.items ++ from_each begin_events old.first ps
+  pub starts : All (HasStampAt all) old.starts.items → All (HasStampAt all) new.starts.items
+  pub end_events_of_spine : end_events_of_spine all new.finishes.items
+      ≡ end_events_of_spine all old.finishes.items ++ from_each end_events old.first ps
+  pub finishes : All (HasNode all) old.finishes.items → All (HasNode all) new.finishes.items
+  pub first : new.first ≡ old.first + length (flat_map moves_of ps)
+
+-- cutting these nodes, which stand at the position, adds these parts
+abbrev pub AddsPartsAt :
+    ℕ → List NumberedNode → List (List ℕ) → Cutting → Cutting → List Part → Type 0
+AddsPartsAt position nodes keys old new ps =
+    (all rest : List NumberedNode) → drop position all ≡ nodes ++ rest
+    → AddsParts all keys old new ps
