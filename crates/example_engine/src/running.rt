@@ -70,8 +70,8 @@ fn register<F: Function, R: Wait, S: Sink>(
 {
     let (_, _) = (function, cases);
     let name = format!(in alloc; "{index}")?;
-    // A short segment is refused for want of memory alone.
     let Ok(segment) = Segment::new(alloc, "case", name.as_str()) else {
+        // No allocation failed here: a short segment is refused only where its allocation failed.
         return Err(UnitFault::Memory);
     };
     Ok(sink.register(

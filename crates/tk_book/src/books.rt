@@ -135,9 +135,11 @@ impl Book {
             return Err(BookFault::Seats);
         }
         let Ok((table, first)) = Table::of_words(alloc, &[0], &seats) else {
+            // No allocation failed here: that of the table did.
             return Err(BookFault::Memory);
         };
         let Ok(all) = split_seats(alloc, &table, first, seats) else {
+            // No allocation failed here: that of the list of seats did.
             return Err(BookFault::Memory);
         };
         Ok((Book { table }, all))

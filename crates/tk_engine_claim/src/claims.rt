@@ -121,9 +121,11 @@ impl Claim {
         }
         let claim_limits = ClaimLimits { limit: n, seats };
         let Ok((table, first)) = Table::of_words(alloc, &[0], &claim_limits) else {
+            // No allocation failed here: that of the table did.
             return Err(ClaimFault::Memory);
         };
         let Ok(all) = split_seats(alloc, &table, first, seats) else {
+            // No allocation failed here: that of the list of seats did.
             return Err(ClaimFault::Memory);
         };
         Ok((Claim { table, limit: n }, all))

@@ -123,6 +123,7 @@ pub fn open(
     }
     match open_within_limits(alloc, table, workers as u8, capacity) {
         Ok(made) => Ok(made),
+        // No allocation failed here: that of the session did.
         Err(_) => Err(OpenFault::Memory),
     }
 }

@@ -108,6 +108,7 @@ impl Core {
         match self.waiting.push_back(Item::Entry(Entry { worker, event })) {
             Ok(()) => Ok(()),
             Err(refused) => match refused.value {
+                // No allocation failed here: that of the waiting items did.
                 Item::Entry(entry) => Err((CoreFault::Memory, entry.event)),
                 Item::End(_) => unreachable!(),
             },
@@ -127,6 +128,7 @@ impl Core {
     {
         self.check(worker)?;
         if self.waiting.push_back(Item::End(worker)).is_err() {
+            // No allocation failed here: that of the waiting items did.
             return Err(CoreFault::Memory);
         }
         self.ended[worker as usize] = true;

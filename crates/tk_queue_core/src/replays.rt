@@ -166,6 +166,7 @@ impl Playing {
         let slot = worker as usize - 1;
         let count = self.emitted[slot];
         let Ok(event) = copy_event(alloc, script, count) else {
+            // No allocation failed here: that of the event's copy did.
             return Err(CoreFault::Memory);
         };
         match event {
