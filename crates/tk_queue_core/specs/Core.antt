@@ -1,5 +1,4 @@
--- The core of a session, as a machine: what each worker sent, whether it ended, what waits and what
--- was taken.
+-- The core of a session, as a machine, and its steps.
 use Rattle.std.specs.Prelude.{◌≡◌, ℕ, ◌==◌, Bool, true, false, if◌then◌else◌, List, [], ◌∷◌, ◌++◌, map, filter}
 use Rattle.tk_events.specs.declared.events.Event.{Event}
 use Rattle.tk_events.specs.declared.events.Entry.{Entry}
@@ -7,6 +6,7 @@ use Rattle.tk_record_columns.specs.Mixing.{IsWorkerOf}
 use Rattle.tk_queue_core.specs.declared.items.Item.{Item}
 use Rattle.tk_queue_core.specs.declared.items.Item.TheVariants.{Entry as Emitted, End}
 
+-- the worker that put the item into the queue
 abbrev pub worker_of : Item → ℕ
 worker_of (Emitted e) = e.worker
 worker_of (End w) = w
@@ -15,6 +15,7 @@ worker_of (End w) = w
 abbrev pub items_of : ℕ → List Item → List Item
 items_of w xs = filter (λ x. worker_of x == w) xs
 
+-- an event of worker w, as an item
 abbrev pub entry : ℕ → Event → Item
 entry w e = Emitted (record { worker = w; event = e })
 
@@ -22,7 +23,7 @@ entry w e = Emitted (record { worker = w; event = e })
 abbrev pub script : ℕ → List Event → Bool → List Item
 script w events ended = map (entry w) events ++ (if ended then End w ∷ [] else [])
 
--- `sent` and `ended` go by the worker
+-- what each worker sent and whether it ended, by its number, what was taken and what waits
 pub record Core : Type 0 where
   pub sent : ℕ → List Event
   pub ended : ℕ → Bool

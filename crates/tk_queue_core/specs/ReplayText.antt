@@ -34,6 +34,7 @@ pub record Scenario : Type 0 where
   pub entries : List Entry
   pub turns : List Turn
 
+-- the header line of a version
 unfoldable pub header : Version → List ℕ
 header version = header_of (codes "testkit-replay|") version
 
@@ -51,6 +52,7 @@ replay_text p =
 abbrev pub AreOwn : Version → ℕ → List Entry → Type 0
 AreOwn version n entries = AllByRecursion (λ e. HasLineIn version e × IsWorkerOf n e.worker) entries
 
+-- the scenario has a text: each part has its lines
 pub record HasReplayText (p : Scenario) : Type 0 where
   pub count : IsCount p.workers
   pub nodes : AreNodes [] p.table
@@ -124,7 +126,7 @@ IsBad version input k =
 abbrev pub IsTextOf : List ℕ → Scenario → Type 0
 IsTextOf input p = HasReplayText p × (input ≡ replay_text p)
 
--- what replaying these turns over these entries answers; want of memory may come at any
+-- what replaying these turns over these entries answers; `Memory` may come at any
 abbrev pub IsPlayedAs :
     List Descriptor → ℕ → List Entry → List Turn → Result Recorded ReplayFault → Type 0
 IsPlayedAs table n entries turns (Ok r) =
@@ -136,7 +138,7 @@ IsPlayedAs table n entries turns (Err (faults.Append i fault)) =
 IsPlayedAs table n entries turns (Err faults.Memory) = Unit {0}
 IsPlayedAs table n entries turns (Err _) = ⊥
 
--- what playing an input within the limit answers, with the record of what is taken; want of memory
+-- what playing an input within the limit answers, with the record of what is taken; `Memory`
 -- may come at any
 abbrev pub IsPlayed : List ℕ → Result Recorded ReplayFault → Type 0
 IsPlayed input (Ok r) =

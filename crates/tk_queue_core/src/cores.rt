@@ -5,7 +5,7 @@ ghost use Rattle.tk_queue_core.specs.CoreState.{has_ended, emits, ends, fresh, w
 ghost use Rattle.tk_queue_core.specs.FaultTexts.{core_fault_text};
 
 use crate::items::Item;
-use std::alloc::{AllocError, Global};
+use std::alloc::{AllocError, AllocFailed, Global};
 use std::collections::VecDeque;
 use std::error::Error;
 use std::fmt;
@@ -36,6 +36,26 @@ impl fmt::Display for CoreFault {
 }
 
 impl Error for CoreFault {}
+
+impl From<AllocError> for CoreFault {
+    ghost use Rattle.tk_queue_core.specs.declared.cores.CoreFault.TheVariants.{Memory};
+
+    ghost from_gives = { λ _ e. e ≡ Memory };
+
+    fn from(_: AllocError) -> CoreFault {
+        CoreFault::Memory
+    }
+}
+
+impl<T: Drop> From<AllocFailed<T>> for CoreFault {
+    ghost use Rattle.tk_queue_core.specs.declared.cores.CoreFault.TheVariants.{Memory};
+
+    ghost from_gives = { λ _ e. e ≡ Memory };
+
+    fn from(_: AllocFailed<T>) -> CoreFault {
+        CoreFault::Memory
+    }
+}
 
 /// A slot for each worker, and one for worker 0.
 const WORKER_SLOTS: usize = MAX_WORKERS as usize + 1;
@@ -75,7 +95,7 @@ impl Core {
         }
     }
 
-    /// Refuses a worker that is none of the session, or that has ended.
+    // Refuses a worker that is none of the session, or that has ended.
     fn check(&self, worker: u8) -> Result<(), CoreFault>
         ensures ok { OnOk result
             (IsWorkerOf self.now.workers worker × (has_ended self.now worker ≡ false)) }
@@ -127,10 +147,7 @@ impl Core {
         ensures kept { OnErr result (self.new ≡ self.old) }
     {
         self.check(worker)?;
-        if self.waiting.push_back(Item::End(worker)).is_err() {
-            // No allocation failed here: that of the waiting items did.
-            return Err(CoreFault::Memory);
-        }
+        self.waiting.push_back(Item::End(worker))?;
         self.ended[worker as usize] = true;
         Ok(())
     }
@@ -143,14 +160,14 @@ impl Core {
         self.waiting.pop_front()
     }
 
-    /// How many items wait.
+    /// Returns how many items wait.
     pub fn waiting(&self) -> usize
         ensures { result ≡ length self.now.waiting }
     {
         self.waiting.len()
     }
 
-    /// The items that wait, in their order.
+    /// Gives the items that wait, in their order.
     pub(crate) fn into_waiting(self, alloc: Global) -> Result<Vec<Item>, AllocError>
         ensures { IfOk result (λ items. items.items ≡ self.waiting) }
     {

@@ -8,7 +8,7 @@ use std::alloc::{AllocError, Global};
 use tk_events::MAX_WORKERS;
 use tk_record::{Fields, read_u8};
 
-/// Reads the number of a worker, 1 to `workers`.
+// Reads the number of a worker, 1 to `workers`.
 fn read_worker(field: &[u8], workers: u8) -> Option<u8>
     ensures { result ≡ worker_of workers field.now }
 {
@@ -41,7 +41,7 @@ pub(crate) fn read_workers(line: &[u8]) -> Option<u8>
     }
 }
 
-/// Reads a turn of a session of `workers` workers.
+// Reads a turn of a session of `workers` workers.
 fn read_turn(field: &[u8], workers: u8) -> Option<Turn>
     ensures { result ≡ turn_of workers field.now }
 {
@@ -54,7 +54,7 @@ fn read_turn(field: &[u8], workers: u8) -> Option<Turn>
     }
 }
 
-/// Reads the turns of these fields, one a field.
+// Reads the turns of these fields, one a field.
 fn read_steps(
     alloc: Global,
     fields: Fields<'_>,

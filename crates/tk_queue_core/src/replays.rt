@@ -125,7 +125,7 @@ pub struct Replayed {
     pub emitted: Vec<usize>,
 }
 
-/// A replay after some of its turns.
+// A replay after some of its turns.
 #[derive(Drop)]
 struct Playing {
     core: Core,
@@ -141,7 +141,7 @@ impl Model for Playing {
     ghost view = { λ p. record { core = p.core; emitted = p.emitted.items; taken = p.taken } };
 }
 
-/// A copy of the event of this number, where the script has it.
+// Copies the event of this number, where the script has it.
 fn copy_event(alloc: Global, script: &[Event], count: usize) -> Result<Option<Event>, AllocError>
     ensures { IfOk result (λ event. event ≡ slice_get script.now count) }
 {
@@ -152,7 +152,7 @@ fn copy_event(alloc: Global, script: &[Event], count: usize) -> Result<Option<Ev
 }
 
 impl Playing {
-    /// Does a turn of the worker: its next event, or its end mark after the last.
+    // Does a turn of the worker: its next event, or its end mark after the last.
     fn work(&mut self, alloc: Global, script: &[Event], worker: u8) -> Result<(), CoreFault>
         requires worker { IsWorkerOf self.old.core.workers worker }
         requires counted { worker ≤ length self.old.emitted }
@@ -165,11 +165,7 @@ impl Playing {
     {
         let slot = worker as usize - 1;
         let count = self.emitted[slot];
-        let Ok(event) = copy_event(alloc, script, count) else {
-            // No allocation failed here: that of the event's copy did.
-            return Err(CoreFault::Memory);
-        };
-        match event {
+        match copy_event(alloc, script, count)? {
             Some(event) => match self.core.emit(worker, event) {
                 Ok(()) => {
                     self.emitted[slot] = count + 1;
@@ -184,7 +180,7 @@ impl Playing {
         }
     }
 
-    /// Does the turn that takes an item, and records its entry.
+    // Does the turn that takes an item, and records its entry.
     fn take(&mut self) -> Result<(), AppendFault>
         ensures ok { OnOk result (take_item self.old self.old.core.waiting ≡ Ok self.new) }
         ensures err { IfErr result (λ fault.
@@ -197,7 +193,7 @@ impl Playing {
         }
     }
 
-    /// Does the turn of this number.
+    // Does the turn of this number.
     fn turn(
         &mut self,
         alloc: Global,
@@ -231,7 +227,7 @@ impl Playing {
     }
 }
 
-/// Why the turn of this number stops, where the record refuses its entry.
+// Tells why the turn of this number stops, where the record refuses its entry.
 fn refused(number: usize, fault: AppendFault) -> ReplayFault
     ensures { result ≡ refusal number fault }
 {
@@ -241,7 +237,7 @@ fn refused(number: usize, fault: AppendFault) -> ReplayFault
     }
 }
 
-/// As many zeros as there are workers.
+// Makes as many zeros as there are workers.
 fn zeros(alloc: Global, workers: u8) -> Result<Vec<usize>, AllocError>
     ensures { IfOk result (λ v. v.items ≡ zeros workers) }
 {
@@ -252,9 +248,9 @@ fn zeros(alloc: Global, workers: u8) -> Result<Vec<usize>, AllocError>
     Ok(counts)
 }
 
-/// Replays the turns over a core and a record of `table`. `scripts[i]` are the events of worker i +
-/// 1.
+/// Replays the turns over a core and a record of `table`.
 ///
+/// `scripts[i]` are the events of worker i + 1: its turns emit them in order, and then its end mark.
 /// There must be 1 to `MAX_WORKERS` scripts, and each turn of a worker must be of one of them.
 ///
 /// # Errors
