@@ -8,7 +8,6 @@
 pub use testkit_questions::AskFault;
 pub use testkit_questions::Mode;
 pub use testkit_questions::Question;
-pub use testkit_questions::add_statistics;
 pub use testkit_questions::ask;
 pub use testkit_questions::read_question;
 pub use tk_book::Book;
@@ -106,6 +105,7 @@ pub use tk_record::NodesFault;
 pub use tk_record::ReadFault;
 pub use tk_record::Version;
 pub use tk_record::WriteFault;
+pub use tk_record::add_statistics;
 pub use tk_record::cut_at;
 pub use tk_record::cut_header;
 pub use tk_record::cut_line;

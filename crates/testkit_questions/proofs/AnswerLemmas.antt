@@ -1,4 +1,4 @@
--- All events of a record are its entries.
+-- The events that a question counts.
 use Rattle.std.proofs.Common.{◌≡◌, ℕ, ◌+◌, Bool, true, false, cond, List, [], ◌∷◌, ◌++◌, length, map, count_by, Result, Ok, Err, refl, sym, ap, ◌∙◌, arith}
 use Rattle.std.specs.Prelude.{filter, IfOk}
 use Rattle.std.proofs.lemmas.List.Sums.{sum_by-cons}
@@ -11,13 +11,10 @@ use Rattle.tk_record_columns.specs.declared.statistics.Mismatch.{Mismatch}
 use Rattle.tk_record_columns.specs.Recorded.{Recorded}
 use Rattle.tk_record_columns.specs.Selections.{PositionedEntry, positioned_from, Selected, all_of, events_of}
 use Rattle.tk_record_columns.specs.Statistics.{statistics_of, mismatches}
-use Rattle.testkit_questions.specs.Answers.{IsAnswerTo, mismatch_line, statistics_text}
+use Rattle.tk_record_columns.proofs.Picking.{all_events}
+use Rattle.tk_record.specs.StatisticsText.{statistics_text}
+use Rattle.testkit_questions.specs.Answers.{IsAnswerTo, mismatch_line}
 use Rattle.testkit_questions.specs.declared.questions.Question.TheVariants.{Stats}
-
-pub all_events : (n : ℕ) (es : List Entry) → map (λ (x : PositionedEntry). x.entry) (positioned_from n es) ≡ es
-unfolding positioned_from
-all_events n [] = refl
-all_events n (e ∷ es) = ap (λ (t : List Entry). e ∷ t) (all_events (n + 1) es)
 
 -- those kept are as many as the entries that pass
 pub kept_count : (p : Entry → Bool) (n : ℕ) (es : List Entry) → length (filter (λ (x : PositionedEntry). p x.entry) (positioned_from n es)) ≡ count_by p es

@@ -4,10 +4,10 @@ use Rattle.std.specs.List.{flat_map}
 use Rattle.std.specs.Fmt.{decimal}
 use Rattle.tk_record_columns.specs.declared.selections.Selection.{Selection}
 use Rattle.tk_record_columns.specs.declared.statistics.Mismatch.{Mismatch}
-use Rattle.tk_record_columns.specs.declared.statistics.Statistics.{Statistics}
 use Rattle.tk_record_columns.specs.Recorded.{Recorded}
 use Rattle.tk_record_columns.specs.Selections.{selection_name, all_of, selects}
-use Rattle.tk_record_columns.specs.Statistics.{statistic_rows, statistics_of, mismatches}
+use Rattle.tk_record_columns.specs.Statistics.{statistics_of, mismatches}
+use Rattle.tk_record.specs.StatisticsText.{statistics_text}
 use Rattle.tk_query_conditions.specs.declared.conditions.Condition.{Condition}
 use Rattle.tk_query.specs.declared.answers.Exact.{Exact}
 use Rattle.tk_query.specs.declared.answers.Exact.TheVariants as exact
@@ -26,14 +26,6 @@ use Rattle.testkit_questions.specs.declared.questions.Mode.{Mode}
 use Rattle.testkit_questions.specs.declared.questions.Mode.TheVariants.{Exactly, Loosely, InOrder as InTheirOrder}
 use Rattle.testkit_questions.specs.declared.questions.Question.{Question}
 use Rattle.testkit_questions.specs.declared.questions.Question.TheVariants.{Stats, Count, Match, Executions}
-
--- a name and a number
-abbrev pub row_line : Selection × ℕ → List ℕ
-row_line row = selection_name row.0 ++ 32 ∷ decimal row.1 ++ 10 ∷ []
-
--- a line for each statistic, in their order
-abbrev pub statistics_text : Statistics → List ℕ
-statistics_text s = flat_map row_line (statistic_rows s)
 
 -- a statistic that differs from what was expected of it
 abbrev pub mismatch_line : Mismatch → List ℕ

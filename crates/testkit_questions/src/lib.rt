@@ -8,7 +8,6 @@ mod faults;
 pub mod laws;
 mod questions;
 
-pub use answers::add_statistics;
 pub use asking::ask;
 pub use faults::AskFault;
 pub use questions::{Mode, Question, read_question};

@@ -16,8 +16,8 @@ use Rattle.tk_record_columns.specs.declared.statistics.Statistics.{Statistics}
 use Rattle.tk_record_columns.specs.Statistics.{statistics_of}
 use Rattle.tk_events.specs.declared.statuses.Status.{Status}
 use Rattle.tk_events.specs.Event.{status_code}
-use Rattle.tk_record.specs.Field.{field_text}
-use Rattle.testkit_questions.specs.Answers.{statistics_text}
+use Rattle.tk_events.specs.Fields.{field_text}
+use Rattle.tk_record.specs.StatisticsText.{statistics_text}
 use Rattle.tk_record_columns.specs.Entries.{desc_in, status_number}
 use Rattle.tk_record_columns.specs.Recorded.{Recorded}
 use Rattle.tk_plan_units.specs.Cutting.{root_script}

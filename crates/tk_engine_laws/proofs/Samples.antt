@@ -9,7 +9,7 @@ use Rattle.tk_events.specs.declared.statuses.Status.{Status}
 use Rattle.tk_events.specs.declared.statuses.Status.TheVariants.{Successful, Failed}
 use Rattle.tk_record_columns.specs.Statistics.{statistics_of}
 use Rattle.tk_record.specs.Spelling.{joined}
-use Rattle.testkit_questions.specs.Answers.{statistics_text}
+use Rattle.tk_record.specs.StatisticsText.{statistics_text}
 use Rattle.tk_plan_units.specs.declared.nodes.Node.{Node}
 use Rattle.tk_plan_units.specs.declared.nodes.NumberedNode.{NumberedNode}
 use Rattle.tk_plan_units.specs.Trees.{forest, grow}

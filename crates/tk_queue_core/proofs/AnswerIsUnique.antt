@@ -12,7 +12,7 @@ use Rattle.tk_record.specs.declared.versions.Version.{Version}
 use Rattle.tk_record.specs.Versions.{HasLineIn}
 use Rattle.tk_record.specs.Reading.{in_line}
 use Rattle.tk_record.specs.Text.{with_line_feed, nodes_text, entries_text, AreNodes}
-use Rattle.tk_record.specs.Path.{LacksNode}
+use Rattle.tk_record.specs.NodeLines.{LacksNode}
 use Rattle.tk_record.proofs.Forms.{one_value}
 use Rattle.tk_record.proofs.AnswerIsUnique.{same_entry, cons_same, one_nodes}
 use Rattle.tk_record.proofs.Headers.{one_header}

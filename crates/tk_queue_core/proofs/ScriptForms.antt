@@ -19,7 +19,7 @@ use Rattle.tk_record.proofs.Choices.{guarded, chosen, both, stepped, same_bytes}
 use Rattle.tk_record.proofs.NumberForms.{number_found, number_again}
 use Rattle.tk_record.proofs.Clean.{is_false, decimal_clean, decimal_utf8}
 use Rattle.tk_record.proofs.TailForms.{IsField, word}
-use Rattle.tk_record.specs.Path.{LacksFeed}
+use Rattle.tk_record.specs.NodeLines.{LacksFeed}
 use Rattle.tk_record.proofs.LineForms.{line_form, line_no_feed}
 use Rattle.tk_queue_core.specs.Script.{workers_fields, IsCount, workers_line, turn_field, turns_fields, AreTurns, turns_line, within, worker_of, workers_of, turn_of, turns_from, turns_of}
 

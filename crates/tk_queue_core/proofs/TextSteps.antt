@@ -15,7 +15,7 @@ use Rattle.tk_record.specs.declared.versions.Version.{Version}
 use Rattle.tk_record.specs.Versions.{HasLineIn}
 use Rattle.tk_record.specs.Reading.{in_line, entry_of}
 use Rattle.tk_record.specs.Text.{with_line_feed, nodes_text, entries_text}
-use Rattle.tk_record.specs.Path.{LacksFeed, LacksNodeStart, IsNodesPrefix, IsNodesFault}
+use Rattle.tk_record.specs.NodeLines.{LacksFeed, LacksNodeStart, IsNodesPrefix, IsNodesFault}
 use Rattle.tk_record.specs.declared.node_lines.NodesFault.{NodesFault}
 use Rattle.tk_record.specs.declared.node_lines.NodesFault.TheVariants as listing
 use Rattle.tk_record.proofs.Forms.{one_value}

@@ -3,7 +3,7 @@ use Rattle.std.specs.Prelude.{◌≡◌, ◌≢◌, ◌+◌, ◌⊎◌, ℕ, Lis
 use Rattle.tk_ids.specs.declared.descriptors.Descriptor.{Descriptor}
 use Rattle.tk_events.specs.declared.events.Entry.{Entry}
 use Rattle.tk_record.specs.Text.{with_line_feed, nodes_text, entries_text, AreNodes}
-use Rattle.tk_record.specs.Path.{LacksNodeStart}
+use Rattle.tk_record.specs.NodeLines.{LacksNodeStart}
 use Rattle.tk_record.specs.declared.versions.Version.{Version}
 use Rattle.tk_queue_core.specs.declared.items.Turn.{Turn}
 use Rattle.tk_queue_core.specs.declared.replays.ReplayFault.{ReplayFault}

@@ -18,8 +18,8 @@ use Rattle.tk_record_columns.specs.Record.{entry_of_view}
 use Rattle.tk_record.specs.Spelling.{joined, tail}
 use Rattle.tk_report_text.specs.declared.grouping.LinesById.{LinesById}
 use Rattle.tk_report_text.specs.Labels.{Label, events, label, labels, name}
-use Rattle.tk_report_text.specs.Reports.{label_line, written_so}
-use Rattle.tk_report_text.specs.Kept.{Lent, has_id, index_in, lines_at, lines_in, tail_line, text_of, IsGrouped, IndexesId, IndexesKey, AddsEvent, IsKept}
+use Rattle.tk_report_text.specs.Reports.{label_line, labels_of_id}
+use Rattle.tk_report_text.specs.GroupedLines.{BorrowedText, has_id, index_in, lines_at, lines_in, tail_line, text_of, IsGrouped, IndexesId, IndexesKey, AddsEvent, IsKept}
 
 abbrev pub Entries : Type 0
 Entries = List (List ℕ × List ℕ)
@@ -56,17 +56,17 @@ more_longer xs true = omega arith
 more_longer xs false = omega (arith, length-append xs ([] ∷ []))
 
 -- a text, lent as another one is
-lent_as : Lent → List ℕ → Lent
-lent_as k x = record { ref_ptr = k.ref_ptr; now = x }
+borrowed_as : BorrowedText → List ℕ → BorrowedText
+borrowed_as k x = record { ref_ptr = k.ref_ptr; now = x }
 
 -- a new id got the next index, at which there is no line yet
-pub id_added : (old : LinesById) (ids : HashMap Lent ℕ (BuildHasherDefault FoldHasher)) (lines : Vec (List ℕ) Global) (id : Lent) (i : ℕ) → index_in old id.now ≡ None → i ≡ length old.lines.items
-    → ((q : Lent) → lookup (λ k. bytes_eq q.now k.now) ids.entries ≡ cond (bytes_eq id.now q.now) (Some i) (index_in old q.now))
+pub id_added : (old : LinesById) (ids : HashMap BorrowedText ℕ (BuildHasherDefault FoldHasher)) (lines : Vec (List ℕ) Global) (id : BorrowedText) (i : ℕ) → index_in old id.now ≡ None → i ≡ length old.lines.items
+    → ((q : BorrowedText) → lookup (λ k. bytes_eq q.now k.now) ids.entries ≡ cond (bytes_eq id.now q.now) (Some i) (index_in old q.now))
     → lines.items ≡ old.lines.items ++ [] ∷ [] → IndexesId old (record { lines = lines; ids = ids; keys = old.keys }) id.now i
-unfolding lent_as
+unfolding borrowed_as
 id_added old ids lines id i none next found more = record {
   index = next ∙ sym (ap (λ o. unwrap_or o (length old.lines.items)) none);
-  found = λ x. found (lent_as id x);
+  found = λ x. found (borrowed_as id x);
   lines = more ∙ sym (ap (λ (o : Option ℕ). if is_some o then old.lines.items else old.lines.items ++ [] ∷ []) none);
   keys = refl;
 }
@@ -244,7 +244,7 @@ pub record Gathers (r : Recorded) (kept : LinesById) (left : List Entry) : Type 
   pub grouped : IsGrouped r kept
   pub known : All (λ e. is_some (desc r e.event.key) ≡ true) left
   pub ids : (x : List ℕ) → is_some (index_in kept x) || has_id (labels_of r left) x ≡ has_id (labels r) x
-  pub lines : (x : List ℕ) → lines_in kept x ++ flat_map label_line (written_so x (labels_of r left)) ≡ flat_map label_line (written_so x (labels r))
+  pub lines : (x : List ℕ) → lines_in kept x ++ flat_map label_line (labels_of_id x (labels_of r left)) ≡ flat_map label_line (labels_of_id x (labels r))
 
 -- nothing is kept before the first entry
 pub gathers_none : (r : Recorded) (kept : LinesById) (left : List Entry) → kept.ids.entries ≡ [] → kept.keys.entries ≡ [] → left ≡ r.entries
@@ -257,11 +257,11 @@ gathers_none r kept left ids keys whole known = record {
   };
   known = subst (All (λ (e : Entry). is_some (desc r e.event.key) ≡ true)) (sym whole) known;
   ids = λ x. ap₂ (λ o (es : List Entry). is_some o || has_id (labels_of r es) x) (none x) whole;
-  lines = λ x. ap₂ (λ o (es : List Entry). lines_at kept.lines.items o ++ flat_map label_line (written_so x (labels_of r es))) (none x) whole;
+  lines = λ x. ap₂ (λ o (es : List Entry). lines_at kept.lines.items o ++ flat_map label_line (labels_of_id x (labels_of r es))) (none x) whole;
 }
   where
     none : (x : List ℕ) → index_in kept x ≡ None
-    none x = ap (λ (es : List (Lent × ℕ)). lookup (λ k. bytes_eq x k.now) es) ids
+    none x = ap (λ (es : List (BorrowedText × ℕ)). lookup (λ k. bytes_eq x k.now) es) ids
 
 or_swap : (a b h : Bool) → (a || b) || h ≡ b || (a || h)
 or_swap true true h = refl
@@ -275,16 +275,16 @@ gathers_next r old new left rest v g first h = record {
   known = All-rest (λ (e : Entry). is_some (desc r e.event.key) ≡ true) (entry_of_view v) rest left first g.known;
   ids = λ x. ap (λ b. b || has_id (labels_of r rest) x) (h.ids x) ∙ or_swap (bytes_eq (text_of r v.key) x) (is_some (index_in old x)) (has_id (labels_of r rest) x)
       ∙ ap (λ (es : List Entry). is_some (index_in old x) || has_id (labels_of r es) x) (sym first) ∙ g.ids x;
-  lines = λ x. ap (λ (t : List ℕ). t ++ flat_map label_line (written_so x (labels_of r rest))) (h.lines x) ∙ by x (bytes_eq (text_of r v.key) x) refl
-      ∙ ap (λ (es : List Entry). lines_in old x ++ flat_map label_line (written_so x (labels_of r es))) (sym first) ∙ g.lines x;
+  lines = λ x. ap (λ (t : List ℕ). t ++ flat_map label_line (labels_of_id x (labels_of r rest))) (h.lines x) ∙ by x (bytes_eq (text_of r v.key) x) refl
+      ∙ ap (λ (es : List Entry). lines_in old x ++ flat_map label_line (labels_of_id x (labels_of r es))) (sym first) ∙ g.lines x;
 }
   where
     l : Label
     l = label (name r) (entry_of_view v).event
 
-    by : (x : List ℕ) (b : Bool) → bytes_eq (text_of r v.key) x ≡ b → cond b (lines_in old x ++ label_line l) (lines_in old x) ++ flat_map label_line (written_so x (labels_of r rest))
-        ≡ lines_in old x ++ flat_map label_line (cond b (l ∷ written_so x (labels_of r rest)) (written_so x (labels_of r rest)))
-    by x true e = append_assoc (lines_in old x) (label_line l) (flat_map label_line (written_so x (labels_of r rest)))
+    by : (x : List ℕ) (b : Bool) → bytes_eq (text_of r v.key) x ≡ b → cond b (lines_in old x ++ label_line l) (lines_in old x) ++ flat_map label_line (labels_of_id x (labels_of r rest))
+        ≡ lines_in old x ++ flat_map label_line (cond b (l ∷ labels_of_id x (labels_of r rest)) (labels_of_id x (labels_of r rest)))
+    by x true e = append_assoc (lines_in old x) (label_line l) (flat_map label_line (labels_of_id x (labels_of r rest)))
     by x false e = refl
 
 -- the key of the first entry to come has a descriptor
@@ -302,5 +302,5 @@ gathers_all r kept left g done = record {
   ids = λ x. sym (or_false (is_some (index_in kept x))) ∙ ap (λ (es : List Entry). is_some (index_in kept x) || has_id (labels_of r es) x) (sym done) ∙ g.ids x;
   below = g.grouped.below;
   lines = λ x i at. sym (ap (lines_at kept.lines.items) at) ∙ sym (append-nil (lines_in kept x))
-      ∙ ap (λ (es : List Entry). lines_in kept x ++ flat_map label_line (written_so x (labels_of r es))) (sym done) ∙ g.lines x;
+      ∙ ap (λ (es : List Entry). lines_in kept x ++ flat_map label_line (labels_of_id x (labels_of r es))) (sym done) ∙ g.lines x;
 }

@@ -21,19 +21,19 @@ use Rattle.std.proofs.lemmas.List.Sorted.{IsPermutation-map, All-permutation, li
 use Rattle.tk_ids.specs.IdText.{id_text}
 use Rattle.tk_report_text.specs.declared.grouping.LinesById.{LinesById}
 use Rattle.tk_report_text.specs.Labels.{Label}
-use Rattle.tk_report_text.specs.Reports.{id_texts, label_line, written_so}
-use Rattle.tk_report_text.specs.Kept.{Lent, has_id, lines_of, with_lines, IsInOrder, IsKept}
+use Rattle.tk_report_text.specs.Reports.{id_texts, label_line, labels_of_id}
+use Rattle.tk_report_text.specs.GroupedLines.{BorrowedText, has_id, lines_of, with_lines, IsInOrder, IsKept}
 
 abbrev order : List ℕ → List ℕ → Ordering
 order = slice_cmp nat_cmp
 
 abbrev pub Indexed : Type 0
-Indexed = Lent × ℕ
+Indexed = BorrowedText × ℕ
 
 abbrev by_id : Indexed → Indexed → Ordering
 by_id x y = ordering_then (order x.0.now y.0.now) (nat_cmp x.1 y.1)
 
-abbrev is_same : Lent → Lent → Bool
+abbrev is_same : BorrowedText → BorrowedText → Bool
 is_same x y = bytes_eq x.now y.now
 
 is_same_equiv : IsEquivalence is_same
@@ -171,7 +171,7 @@ module _ (ls : List Label) (kept : LinesById) (sorted : List Indexed) (h : IsKep
       (λ x y e. exact_bytes x y e)
 
   abbrev said : List ℕ → List ℕ
-  said x = flat_map label_line (written_so x ls)
+  said x = flat_map label_line (labels_of_id x ls)
 
   abbrev HasLines : Indexed → Type 0
   HasLines e = (e.1 < length kept.lines.items) × (get_or kept.lines.items e.1 [] ≡ said e.0.now)

@@ -16,6 +16,7 @@ pub record Label : Type 0 where
   pub kind : Kind
   pub payload : Payload
 
+-- the id of a descriptor, none without one
 abbrev pub id_in : Option Descriptor → List SegmentView
 id_in None = []
 id_in (Some d) = d.id
@@ -24,12 +25,15 @@ id_in (Some d) = d.id
 abbrev pub name : Recorded → ℕ → List SegmentView
 name r key = id_in (desc r key)
 
+-- the label of an event, where `names` has the id of each key
 abbrev pub label : (ℕ → List SegmentView) → Event → Label
 label names e = record { id = names e.key; kind = e.kind; payload = e.payload }
 
+-- the events of entries
 abbrev pub events : List Entry → List Event
 events entries = map (λ (e : Entry). e.event) entries
 
+-- the labels of a record's events, in its order
 abbrev pub labels : Recorded → List Label
 labels r = map (label (name r)) (events r.entries)
 
@@ -37,5 +41,6 @@ labels r = map (label (name r)) (events r.entries)
 unfoldable pub same_id : List SegmentView → List SegmentView → Bool
 same_id a b = bytes_eq (id_text a) (id_text b)
 
+-- whether two kinds are one
 abbrev pub same_kind : Kind → Kind → Bool
 same_kind a b = kind_code a == kind_code b

@@ -2,4 +2,4 @@ pub use Rattle.tk_streams.specs.Stream
 pub use Rattle.tk_record_columns.specs.Recorded
 pub mod Labels
 pub mod Reports
-pub mod Kept
+pub mod GroupedLines

@@ -2,7 +2,7 @@
 ghost use Rattle.std.specs.Prelude.{◌≡◌, [], true, is_some, IfOk, OnOk};
 ghost use Rattle.tk_record_columns.specs.Entries.{desc};
 ghost use Rattle.tk_report_text.specs.Labels.{labels};
-ghost use Rattle.tk_report_text.specs.Kept.{IsGrouped, IndexesId, IndexesKey, AddsEvent, IsKept, IsInOrder};
+ghost use Rattle.tk_report_text.specs.GroupedLines.{IsGrouped, IndexesId, IndexesKey, AddsEvent, IsKept, IsInOrder};
 
 use crate::lines::Lines;
 use std::alloc::{AllocError, Global};
@@ -13,14 +13,14 @@ use tk_record::{EntryView, Record};
 #[derive(Drop)]
 pub(crate) struct LinesById<'r> {
     pub(crate) lines: Vec<Lines>,
-    /// The index of an id's lines, by the text of the id, which the record lends.
+    /// The index of an id's lines, by the text of the id, borrowed from the record.
     pub(crate) ids: HashMap<&'r str, usize>,
     /// The same index by key, so that a text is looked up once for each key that has an event.
     keys: HashMap<u32, usize>,
 }
 
 impl<'r> LinesById<'r> {
-    /// No id.
+    // Makes the lines of no id.
     fn new(alloc: Global) -> LinesById<'r>
         ensures ids { result.ids.entries ≡ [] }
         ensures keys { result.keys.entries ≡ [] }
@@ -32,7 +32,7 @@ impl<'r> LinesById<'r> {
         }
     }
 
-    /// Finds the index of an id's lines. A new id gets one, at which there is no line yet.
+    // Finds the index of an id's lines. A new id gets one, at which there is no line yet.
     fn index_of_id(&mut self, alloc: Global, id: &'r str) -> Result<usize, AllocError>
         ensures { IfOk result (IndexesId self.old self.new id.now) }
     {
@@ -45,7 +45,7 @@ impl<'r> LinesById<'r> {
         Ok(index)
     }
 
-    /// Finds the index of the lines of a key's id.
+    // Finds the index of the lines of a key's id.
     fn index_of_key(
         &mut self,
         alloc: Global,
@@ -68,7 +68,7 @@ impl<'r> LinesById<'r> {
         Ok(index)
     }
 
-    /// Adds the line of an event to those of its id.
+    // Adds the line of an event to those of its id.
     fn add(
         &mut self,
         alloc: Global,
@@ -84,7 +84,7 @@ impl<'r> LinesById<'r> {
     }
 }
 
-/// The lines of each id that has an event.
+/// Gathers the lines of each id that has an event.
 pub(crate) fn lines_of<'r>(alloc: Global, record: &'r Record) -> Result<LinesById<'r>, AllocError>
     ensures { IfOk result (IsKept (labels «record».now)) }
 {
@@ -96,7 +96,7 @@ pub(crate) fn lines_of<'r>(alloc: Global, record: &'r Record) -> Result<LinesByI
     Ok(kept)
 }
 
-/// The ids in the order of their texts, each with the index of its lines.
+/// Sorts the ids by their texts, each with the index of its lines.
 pub(crate) fn in_order<'r>(
     alloc: Global,
     ids: HashMap<&'r str, usize>,

@@ -1,13 +1,13 @@
 //! The lines that a report has below an id.
 ghost use Rattle.std.specs.Prelude.{◌≡◌, ◌++◌, [], IfOk, OnOk};
 ghost use Rattle.tk_record.specs.Spelling.{joined, tail};
-ghost use Rattle.tk_report_text.specs.Kept.{tail_line};
+ghost use Rattle.tk_report_text.specs.GroupedLines.{tail_line};
 
 use std::alloc::{AllocError, Global};
 use std::marker::Model;
 use tk_record::{EntryView, push_tail};
 
-/// How many bytes are reserved for the lines of an id; longer ones grow.
+// How many bytes are reserved for the lines of an id; longer ones grow.
 const LINES_CAPACITY: usize = 48;
 
 /// Lines of one id, which contracts see as their bytes.
@@ -25,7 +25,7 @@ impl Model for Lines {
 }
 
 impl Lines {
-    /// No line.
+    /// Makes an empty list of lines.
     pub(crate) fn new(alloc: Global) -> Result<Lines, AllocError>
         ensures { IfOk result (λ lines. lines ≡ []) }
     {
@@ -45,6 +45,7 @@ impl Lines {
         Ok(())
     }
 
+    /// Gives the bytes of the lines.
     pub(crate) fn as_bytes(&self) -> &[u8]
         ensures { result.now ≡ self.now }
     {

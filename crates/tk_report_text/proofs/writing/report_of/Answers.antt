@@ -1,6 +1,6 @@
 use Rattle.std.proofs.Common.{string_bytes, ap, ap₂, ◌∙◌}
 use Rattle.tk_report_text.specs.Labels.{labels}
-use Rattle.tk_report_text.specs.Kept.{with_lines}
+use Rattle.tk_report_text.specs.GroupedLines.{with_lines}
 use Rattle.tk_report_text.proofs.Reporting.{report_is}
 use Rattle.tk_report_text.proofs.Sorting.{sorted_is, within}
 use Rattle.tk_report_text.proofs.writing.report_of.Goals as goal

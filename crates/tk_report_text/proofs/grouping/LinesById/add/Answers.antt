@@ -1,7 +1,7 @@
 use Rattle.std.proofs.Common.{◌<◌, length, [], ◌++◌, ap, ◌∙◌, refl}
 use Rattle.std.proofs.lemmas.List.{get_or_default}
 use Rattle.tk_record.specs.Spelling.{joined, tail}
-use Rattle.tk_report_text.specs.Kept.{tail_line}
+use Rattle.tk_report_text.specs.GroupedLines.{tail_line}
 use Rattle.tk_report_text.proofs.Keeping.{line_added, on_ok}
 use Rattle.tk_report_text.proofs.grouping.LinesById.add.Goals as goal
 
