@@ -17,7 +17,7 @@ use Rattle.tk_events.specs.declared.events.Event.{Event}
 use Rattle.tk_queue_core.specs.declared.items.Item.{Item}
 use Rattle.tk_queue_core.specs.declared.items.Item.TheVariants.{Entry as Emitted, End}
 use Rattle.tk_queue_core.proofs.CoreSteps.{filter-append}
-use Rattle.tk_queue.proofs.SharedSteps.{holder_worker, events_in, events_among, events_scripted}
+use Rattle.tk_queue.proofs.SharedSteps.{holder_worker, marked_among, events_in, events_among, events_scripted}
 
 pub worker_cases : (n w : ℕ) → IsWorkerOf (n + 1) w → IsWorkerOf n w ⊎ (w ≡ n + 1)
 worker_cases n w is = ⊎_elim (λ (e : w ≡ n + 1). inr e) (λ (apart : w ≢ n + 1). let below : 0 < w = is.0 in let at_most : w ≤ n + 1 = is.1 in inl (omega arith, omega arith)) (cases_eq w (n + 1))
@@ -78,17 +78,6 @@ found c w (t ∷ ts) all some = ⊎_elim
     let rest = found c w ts (All-tail (Stands c) (pass_of_token t) (map pass_of_token ts) all) (subst (λ k. 0 < k) (other_count w t ts n) some) in
     (rest.0, other_if w t ts n ∙ rest.1))
     (cases_eq t.worker w)
-
-marked_among : (w : ℕ) (xs : List Item) → is_marked w (items_of w xs) ≡ is_marked w xs
-marked_among w [] = refl
-marked_among w (Emitted e ∷ xs) =
-    elim (e.worker == w) as (λ b. is_marked w (if b then Emitted e ∷ items_of w xs else items_of w xs) ≡ is_marked w xs) [ true ↦ marked_among w xs | false ↦ marked_among w xs ]
-marked_among w (End v ∷ xs) = ⊎_elim
-    (λ (e : v ≡ w). let yes = eq-eqb v w e in
-    ap (λ (b : Bool). is_marked w (if b then End v ∷ items_of w xs else items_of w xs)) yes ∙ ap (λ (b : Bool). b || is_marked w (items_of w xs)) yes ∙ sym (ap (λ (b : Bool). b || is_marked w xs) yes))
-    (λ (n : v ≢ w). let no = ne_eqb v w n in
-    ap (λ (b : Bool). is_marked w (if b then End v ∷ items_of w xs else items_of w xs)) no ∙ marked_among w xs ∙ sym (ap (λ (b : Bool). b || is_marked w xs) no))
-    (cases_eq v w)
 
 prefix_nil : (xs ys : List Item) → xs ++ ys ≡ [] → xs ≡ []
 prefix_nil [] ys e = refl

@@ -12,37 +12,19 @@ use Rattle.tk_events.specs.declared.events.Entry.{Entry}
 use Rattle.tk_record_columns.specs.Entries.{of_kind, registers, registered, desc, desc_in}
 use Rattle.tk_record_columns.specs.Record.{is_next, is_known}
 use Rattle.tk_record_columns.specs.Mixing.{of_worker}
+use Rattle.tk_queue_core.proofs.TurnItems.{cut_last, never}
 use Rattle.tk_queue.specs.Limits.{most_events}
 use Rattle.tk_queue.specs.Emission.{entry_by, entries_by, is_known_after, MayEmit, Emission}
 
--- where a list with one more at its end is cut: at the end, or before it
-pub cut_snoc : (xs : List Event) (x : Event) (before : List Event) (e : Event) (after : List Event) → xs ++ x ∷ [] ≡ before ++ e ∷ after
-    → ((before ≡ xs) × (e ≡ x)) ⊎ ((rest : List Event) × (xs ≡ before ++ e ∷ rest))
-cut_snoc [] x [] e after h = inl (refl, cc)
-cut_snoc [] x (b ∷ before) e after h = let none : [] ≡ before ++ e ∷ after = cc in absurd (never before none) where
-  never : (before : List Event) → [] ≡ before ++ e ∷ after → ⊥
-  never [] n = cc
-  never (y ∷ ys) n = cc
-cut_snoc (y ∷ xs) x [] e after h = let head : y ≡ e = cc in inr (xs, ap (λ z. z ∷ xs) head)
-cut_snoc (y ∷ xs) x (b ∷ before) e after h =
-    let head : y ≡ b = cc in
-    let tail : xs ++ x ∷ [] ≡ before ++ e ∷ after = cc in
-    ⊎_elim (λ (t : (before ≡ xs) × (e ≡ x)). inl (let p = t.0 in cc, t.1))
-    (λ (t : (rest : List Event) × (xs ≡ before ++ e ∷ rest)). inr (t.0, let p = t.1 in cc))
-    (cut_snoc xs x before e after tail)
-
 pub emission_none : (n w : ℕ) → Emission n w []
-emission_none n w = record { each = λ before e after h. absurd (never before e after h); few = omega arith } where
-  never : (before : List Event) (e : Event) (after : List Event) → [] ≡ before ++ e ∷ after → ⊥
-  never [] e after h = cc
-  never (x ∷ xs) e after h = cc
+emission_none n w = record { each = λ before e after h. absurd (never before e after h); few = omega arith }
 
 pub emission_more : (n w : ℕ) (es : List Event) (x : Event) → Emission n w es → MayEmit n w es x → length es < most_events → Emission n w (es ++ x ∷ [])
 emission_more n w es x m may room = record {
   each = λ before e after h. ⊎_elim
       (λ (t : (before ≡ es) × (e ≡ x)). subst (λ (y : List Event × Event). MayEmit n w y.0 y.1) (λ i. (sym t.0 i, sym t.1 i)) may)
       (λ (t : (rest : List Event) × (es ≡ before ++ e ∷ rest)). m.each before e t.0 t.1)
-      (cut_snoc es x before e after h);
+      (cut_last es x before e after h);
   few = omega (arith, length-append es (x ∷ []));
 }
 

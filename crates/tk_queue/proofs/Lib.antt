@@ -2,5 +2,6 @@ pub mod SharedSteps
 pub mod RuleSteps
 pub mod Closing
 pub mod KnownKeys
-pub mod EndKeeps
+pub mod SenderSteps
+pub mod ReceiverSteps
 pub mod Recordings

@@ -20,7 +20,7 @@ use Rattle.tk_queue_core.specs.Limits.{most_workers}
 use Rattle.tk_queue.specs.Limits.{most_events}
 use Rattle.tk_queue.specs.Recording.{IsNeverRefused, IsShort}
 use Rattle.tk_queue.proofs.KnownKeys.{known_after}
-use Rattle.tk_queue.proofs.EndKeeps.{few_more}
+use Rattle.tk_queue.proofs.ReceiverSteps.{few_more}
 
 -- the entries of workers other than w
 abbrev without : ℕ → List Entry → List Entry

@@ -23,8 +23,9 @@ use Rattle.tk_queue.specs.PassViews.{pass_of_receiver, pass_of_sender, new_recei
 use Rattle.tk_queue.specs.Steps.{IsStateOf, HoldsStates, fresh_core, BeginsFresh, PushIsStep, FullIsNone, TakeIsStep, EmptyIsNone, SplitIsNone, BitIsNone, JoinIsNone}
 use Rattle.tk_queue.specs.Emission.{MayEmit, Emission}
 use Rattle.tk_queue.proofs.KnownKeys.{emission_none, emission_more}
-use Rattle.tk_queue_core.proofs.CoreSteps.{filter-append, takes, put-same, put-other}
-use Rattle.tk_queue.proofs.SharedSteps.{events_in, events_in-append, events_among, events_scripted, pushes_core, widens, waiting_worker}
+use Rattle.tk_queue_core.proofs.CoreSteps.{filter-append, pushes_core, takes, put-same, put-other}
+use Rattle.tk_queue.proofs.SharedSteps.{events_in, events_in-append, events_among, events_scripted, widens, waiting_worker, unmarked}
+use Rattle.tk_queue.specs.Marks.{is_marked}
 
 -- F of each pass
 abbrev Each : (ℕ → PassView → Type 0) → List PassView → Type 0
@@ -164,6 +165,7 @@ may_take pass r x items views h at =
     let mine = h.fits pass (Takes r) at in (
       subst (λ n. IsWorkerOf n (worker_of x)) (sym mine.1) (waiting_worker h.layout.workers x items h.core h.waits h.lawful),
       subst (λ (y : ℕ × List Item). MayBeEmittedNext y.0 y.1 x) (λ i. (sym mine.4 i, sym mine.2 i)) (follows h.layout.statics h.layout.workers x items h.core h.waits h.lawful h.emitted),
+      subst (λ l. is_marked (worker_of x) l ≡ false) (sym mine.2) (unmarked h.layout.workers x items h.core h.waits h.lawful),
     )
 
 -- the receiver may take

@@ -1,19 +1,15 @@
 -- What the core's states say of each worker's items.
-use Rattle.std.proofs.Common.{◌≡◌, ◌≢◌, ◌⊎◌, ◌==◌, ℕ, zero, suc, ◌<◌, ◌≤◌, ◌+◌, Bool, true, false, if◌then◌else◌, List, [], ◌∷◌, ◌++◌, map, sym, refl, ap, ◌∙◌, inl, inr, ⊎_elim, eq-eqb, arith}
-use Rattle.std.proofs.lemmas.Bool.{cases_lt}
+use Rattle.std.proofs.Common.{◌≡◌, ◌≢◌, ◌⊎◌, ◌||◌, ◌==◌, ℕ, zero, suc, ◌<◌, ◌≤◌, ◌+◌, Bool, true, false, if◌then◌else◌, List, [], ◌∷◌, ◌++◌, map, sym, refl, ap, ◌∙◌, inl, inr, ⊎_elim, eq-eqb, ne_eqb, arith}
+use Rattle.std.proofs.lemmas.Bool.{cases_eq, cases_lt}
 use Rattle.std.specs.Prelude.{filter}
 use Rattle.tk_events.specs.declared.events.Event.{Event}
 use Rattle.tk_events.specs.declared.events.Entry.{Entry}
 use Rattle.tk_record_columns.specs.Mixing.{IsWorkerOf, of_worker}
 use Rattle.tk_queue_core.specs.declared.items.Item.{Item}
 use Rattle.tk_queue_core.specs.declared.items.Item.TheVariants.{Entry as Emitted, End}
-use Rattle.tk_queue_core.specs.Core.{Core, IsCore, worker_of, items_of, script, push, entries}
-use Rattle.tk_queue_core.proofs.CoreSteps.{filter-append, emits, finishes}
-
--- a push by a worker that has not ended
-pub pushes_core : (n : ℕ) (x : Item) (c : Core) → IsWorkerOf n (worker_of x) → c.ended (worker_of x) ≡ false → IsCore n c → IsCore n (push x c)
-pushes_core n (Emitted e) c is open' k = emits n e.worker e.event c is open' k
-pushes_core n (End w) c is open' k = finishes n w c is open' k
+use Rattle.tk_queue_core.specs.Core.{Core, IsCore, worker_of, items_of, entry, script, push, entries}
+use Rattle.tk_queue.specs.Marks.{is_mark_of, is_marked}
+use Rattle.tk_queue_core.proofs.CoreSteps.{filter-append}
 
 -- a further worker, which has sent nothing
 pub widens : (n : ℕ) (c : Core) → IsCore n c → IsCore (n + 1) c
@@ -23,10 +19,10 @@ worker_cases : (n w : ℕ) → IsWorkerOf n w ⊎ (¬ IsWorkerOf n w)
 worker_cases n zero = inr (λ is. omega arith)
 worker_cases n (suc w) = ⊎_elim (λ (lt : n < suc w). inr (λ is. absurd (let le = is.1 in omega arith))) (λ (le : suc w ≤ n). inl (omega arith, le)) (cases_lt n (suc w))
 
-cons_ne_nil : (x : Item) (xs : List Item) → x ∷ xs ≢ []
+pub cons_ne_nil : (x : Item) (xs : List Item) → x ∷ xs ≢ []
 cons_ne_nil x xs e = cc
 
-append_cons_ne_nil : (xs : List Item) (x : Item) (ys : List Item) → xs ++ (x ∷ ys) ≢ []
+pub append_cons_ne_nil : (xs : List Item) (x : Item) (ys : List Item) → xs ++ (x ∷ ys) ≢ []
 append_cons_ne_nil [] x ys e = cc
 append_cons_ne_nil (y ∷ xs) x ys e = cc
 
@@ -69,3 +65,36 @@ pub events_scripted : (w : ℕ) (es : List Event) (b : Bool) → events_in (scri
 events_scripted w [] true = refl
 events_scripted w [] false = refl
 events_scripted w (e ∷ es) b = ap (λ l. e ∷ l) (events_scripted w es b)
+
+-- ---- marks
+
+-- the mark of a worker is among its own items exactly where it is among all
+pub marked_among : (w : ℕ) (xs : List Item) → is_marked w (items_of w xs) ≡ is_marked w xs
+marked_among w [] = refl
+marked_among w (Emitted e ∷ xs) =
+    elim (e.worker == w) as (λ b. is_marked w (if b then Emitted e ∷ items_of w xs else items_of w xs) ≡ is_marked w xs) [ true ↦ marked_among w xs | false ↦ marked_among w xs ]
+marked_among w (End v ∷ xs) = ⊎_elim
+    (λ (e : v ≡ w). let yes = eq-eqb v w e in
+    ap (λ (b : Bool). is_marked w (if b then End v ∷ items_of w xs else items_of w xs)) yes ∙ ap (λ (b : Bool). b || is_marked w (items_of w xs)) yes ∙ sym (ap (λ (b : Bool). b || is_marked w xs) yes))
+    (λ (n : v ≢ w). let no = ne_eqb v w n in
+    ap (λ (b : Bool). is_marked w (if b then End v ∷ items_of w xs else items_of w xs)) no ∙ marked_among w xs ∙ sym (ap (λ (b : Bool). b || is_marked w xs) no))
+    (cases_eq v w)
+
+-- before an item of a worker its mark does not stand
+before_last : (w : ℕ) (es : List Event) (b : Bool) (xs : List Item) (x : Item) (ys : List Item) → xs ++ (x ∷ ys) ≡ script w es b → is_marked w xs ≡ false
+before_last w es b [] x ys e = refl
+before_last w [] true (y ∷ xs) x ys e = let tail : xs ++ (x ∷ ys) ≡ [] = cc in absurd (append_cons_ne_nil xs x ys tail)
+before_last w [] false (y ∷ xs) x ys e = absurd (cons_ne_nil y (xs ++ (x ∷ ys)) e)
+before_last w (a ∷ es) b (y ∷ xs) x ys e =
+    let head : y ≡ entry w a = cc in
+    let tail : xs ++ (x ∷ ys) ≡ script w es b = cc in
+    ap (λ z. is_mark_of w z || is_marked w xs) head ∙ before_last w es b xs x ys tail
+
+-- the first waiting item is of a worker whose mark was not taken
+pub unmarked : (n : ℕ) (x : Item) (xs : List Item) (c : Core) → c.waiting ≡ x ∷ xs → IsCore n c → is_marked (worker_of x) c.taken ≡ false
+unmarked n x xs c waits k =
+    let w = worker_of x in
+    let own : items_of w (x ∷ xs) ≡ x ∷ items_of w xs = ap (λ (b : Bool). if b then x ∷ items_of w xs else items_of w xs) (eq-eqb w w refl) in
+    let whole : items_of w c.taken ++ (x ∷ items_of w xs) ≡ script w (c.sent w) (c.ended w) =
+    ap (λ l. items_of w c.taken ++ l) (sym own) ∙ sym (filter-append (λ y. worker_of y == w) c.taken (x ∷ xs)) ∙ ap (λ l. items_of w (c.taken ++ l)) (sym waits) ∙ k.kept w in
+    sym (marked_among w c.taken) ∙ before_last w (c.sent w) (c.ended w) (items_of w c.taken) x (items_of w xs) whole

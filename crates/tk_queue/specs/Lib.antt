@@ -7,6 +7,7 @@ pub use Rattle.tk_queue_core.specs.Script
 pub use Rattle.tk_queue_core.specs.ReplayText
 pub mod Limits
 pub mod Emission
+pub mod Marks
 pub mod PassViews
 pub mod SessionRule
 pub mod Senders

@@ -9,6 +9,7 @@ use Rattle.tk_queue_core.specs.Core.{entries, worker_of}
 use Rattle.tk_queue.specs.declared.session_rules.SenderPass.{SenderPass}
 use Rattle.tk_queue.specs.declared.session_rules.PassView.{PassView}
 use Rattle.tk_queue.specs.Limits.{most_events}
+use Rattle.tk_queue.specs.Marks.{is_marked}
 use Rattle.tk_queue.specs.Emission.{MayEmit}
 use Rattle.tk_queue.specs.declared.session_rules.PassView.TheVariants.{Sends, Takes, Spent}
 
@@ -44,9 +45,12 @@ MayBeEmittedNext n taken (Emitted e) =
     × (length (of_worker e.worker (entries taken)) < most_events)
 MayBeEmittedNext n taken (End w) = Unit {0}
 
--- the receiver learns that the item is of a worker of the session, and may be emitted next
+-- the receiver learns that the item is of a worker of the session whose mark was not taken before,
+-- and that it may be emitted next
 abbrev pub MayTake : PassView → Item → Type 0
-MayTake (Takes r) x = IsWorkerOf r.workers (worker_of x) × MayBeEmittedNext r.statics r.taken x
+MayTake (Takes r) x =
+    IsWorkerOf r.workers (worker_of x) × MayBeEmittedNext r.statics r.taken x
+    × (is_marked (worker_of x) r.taken ≡ false)
 MayTake v x = Unit {0}
 
 -- a pop, and what the receiver learns by it

@@ -1,6 +1,5 @@
 -- What contracts see of the receiver: the session, and what was taken.
 use Rattle.std.specs.Prelude.{◌≡◌, ℕ, ◌<◌, ◌≤◌, ◌==◌, Bool, true, false, List, [], ◌∷◌, ◌++◌, length, slice_index_or, All, ◌+◌}
-use Rattle.std.specs.List.{list_any}
 use Rattle.atomic_table.specs.Seated.{TableId}
 use Rattle.tk_ids.specs.declared.descriptors.Descriptor.{Descriptor}
 use Rattle.tk_events.specs.declared.events.Entry.{Entry}
@@ -15,6 +14,7 @@ use Rattle.tk_queue.specs.declared.session_rules.PassView.{PassView}
 use Rattle.tk_queue.specs.declared.session_rules.PassView.TheVariants.{Takes}
 use Rattle.tk_queue.specs.Limits.{most_events}
 use Rattle.tk_queue.specs.PassViews.{pass_of_receiver}
+pub use Rattle.tk_queue.specs.Marks.{is_mark_of, is_marked}
 
 -- the session, its table of static descriptors, the number of its workers, and the items that were
 -- taken, in order
@@ -56,15 +56,6 @@ pub record IsRecordable (n : ℕ) (taken : List Entry) : Type 0 where
 abbrev pub taken_of : PassView → List Item
 taken_of (Takes r) = r.taken
 taken_of v = []
-
--- whether the item is the mark of w
-abbrev pub is_mark_of : ℕ → Item → Bool
-is_mark_of w (Emitted e) = false
-is_mark_of w (End v) = v == w
-
--- whether the mark of w is among the items
-abbrev pub is_marked : ℕ → List Item → Bool
-is_marked w items = list_any (is_mark_of w) items
 
 -- the fields of a receiver stand for what its pass knows
 pub record IsReceiver (v : PassView) (table : List Descriptor) (workers : ℕ) (marked : List Bool)

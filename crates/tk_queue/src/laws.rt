@@ -11,8 +11,8 @@ use crate::session_rules::{
 use crossbeam_queue::protocol::{Join, Outcome, Protocol, Split};
 use tk_queue_core::Item;
 
-/// What a session's queue holds and what its passes know is a state of the core between any two
-/// steps, and each step is the core's or none.
+/// Shows that what a session's queue holds and what its passes know is a state of the core between
+/// any two steps, and that each step is the core's or none.
 pub fn each_step_is_a_core_step()
     ensures rule { HoldsStates ⟦<SessionRule as Protocol<Item, PassView>>⟧.holds }
     ensures first { BeginsFresh ⟦<SessionRule as Protocol<Item, PassView>>⟧.first }
@@ -30,13 +30,13 @@ pub fn each_step_is_a_core_step()
         ⟦<JoinSender as Join<PassView>>⟧.spent }
 {}
 
-/// The queue holds at most 1,024 items.
+/// Shows that the queue of a session holds at most 1,024 items.
 pub fn limits()
     ensures capacity { MAX_CAPACITY ≡ 1024 }
 {}
 
-/// A record of the entries that were taken so far, after some of worker 0, has no reason to refuse
-/// the entry that is taken next.
+/// Shows that a record of the entries that were taken so far, after some of worker 0, has no reason
+/// to refuse the entry that is taken next.
 pub fn no_entry_is_refused()
     ensures never { IsNeverRefused }
     ensures short { IsShort }

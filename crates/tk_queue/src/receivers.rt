@@ -1,11 +1,11 @@
 //! The receiver's end of a session, and how it is closed.
-ghost use Rattle.std.specs.Prelude.{◌≡◌, ℕ, ◌≤◌, [], All, length, slice_index, IfSome, IfNone, IfOk, OnOk, IfErr};
+ghost use Rattle.std.specs.Prelude.{◌≡◌, ℕ, ◌≤◌, false, [], All, length, slice_index, IfSome, IfNone, IfOk, OnOk, IfErr};
 ghost use Rattle.std.specs.Arc.{arc_value};
 ghost use Rattle.crossbeam_queue.specs.Passes.{view, IsPassOf};
 ghost use Rattle.tk_record_columns.specs.Mixing.{IsWorkerOf, Mix};
 ghost use Rattle.tk_queue_core.specs.Core.{worker_of, entries};
 ghost use Rattle.tk_queue.specs.PassViews.{pass_of_receiver};
-ghost use Rattle.tk_queue.specs.Receivers.{fresh_receiver, takes, MayBeTaken, IsRecordable};
+ghost use Rattle.tk_queue.specs.Receivers.{fresh_receiver, takes, MayBeTaken, IsRecordable, is_marked};
 ghost use Rattle.tk_queue.specs.Tokens.{sent_by};
 ghost use Rattle.tk_queue.specs.Closing.{IsComplete, EndWithMarks};
 
@@ -94,7 +94,7 @@ pub struct CloseFault {
 }
 
 impl Closed {
-    /// How many events the worker emitted, or 0 for a number that is no worker's.
+    /// Returns how many events the worker emitted, or 0 for a number that is no worker's.
     pub fn emitted(&self, worker: u8) -> u64
         ensures { result ≡ slice_index self.now worker }
     {
@@ -109,6 +109,7 @@ impl Closed {
 impl Receiver {
     ghost use Rattle.tk_queue.specs.Closing.{IsCloseFault};
 
+    /// Makes the receiver of a session in which nothing was taken.
     pub(crate) fn with_pass(
         queue: Arc<EventQueue, Global>,
         pass: QueuePass,
@@ -130,11 +131,13 @@ impl Receiver {
     }
 
     /// Takes the first item that waits, or returns `None` where the queue was empty at one moment
-    /// of the call.
+    /// of the call. Nothing of a worker is taken after its mark.
     pub fn take<R: Wait>(&mut self, rt: &R) -> Option<Item>
         ensures some { IfSome result (λ item. self.new ≡ takes self.old item) }
         ensures worker { IfSome result (λ item. IsWorkerOf self.old.workers (worker_of item)) }
         ensures follows { IfSome result (λ item. MayBeTaken self.old item) }
+        ensures unmarked { IfSome result (λ item.
+            is_marked (worker_of item) self.old.taken ≡ false) }
         ensures recordable { IsRecordable self.new.workers (entries self.new.taken) }
         ensures none { IfNone result (self.new ≡ self.old) }
     {
@@ -148,7 +151,7 @@ impl Receiver {
         }
     }
 
-    /// The first reason not to close the session with these tokens.
+    // Finds the first reason not to close the session with these tokens.
     fn why_not_closed(&self, ended: &[Ended]) -> Option<CloseReason>
         ensures ok { IfNone result (IsComplete self.now ended.now) }
         ensures fault { IfSome result (λ why. IsCloseFault why self.now ended.now) }
@@ -163,7 +166,7 @@ impl Receiver {
         Some(CloseReason::NotDrained(worker))
     }
 
-    /// Takes the tokens in, and with them what the queue's rule knows of the whole session.
+    // Takes the tokens in, and with them what the queue's rule knows of the whole session.
     fn join(self, ended: Vec<Ended>) -> Closed
         requires session { All (λ token. token.session ≡ self.session) ended.items }
         requires complete { IsComplete self ended.items }

@@ -50,8 +50,12 @@ impl Model for Sender {
     } };
 
     ghost invariant = { λ s. IsPassOf (arc_value s.queue) s.pass
-        × IsSender (seen s.pass) (record { table = arc_value s.table; worker = s.worker;
-            ids = s.registered.items; emitted = s.emitted }) };
+        × IsSender (seen s.pass) (record {
+          table = arc_value s.table;
+          worker = s.worker;
+          ids = s.registered.items;
+          emitted = s.emitted;
+        }) };
 }
 
 /// The token of a sender that has ended, for [`Receiver::close`](crate::Receiver::close).
@@ -90,6 +94,7 @@ impl Sender {
     ghost use Rattle.crossbeam_queue.specs.Passes.{view, IsPassOf};
     ghost use Rattle.tk_queue.specs.PassViews.{pass_of_sender};
 
+    /// Makes the sender of a worker that has emitted nothing.
     pub(crate) fn with_pass(
         alloc: Global,
         queue: Arc<EventQueue, Global>,
@@ -114,7 +119,7 @@ impl Sender {
         }
     }
 
-    /// The number of the worker.
+    /// Returns the number of the worker.
     pub fn worker(&self) -> u8
         ensures { result ≡ self.now.worker }
     {
@@ -341,12 +346,14 @@ impl Ended {
         self.worker
     }
 
+    /// Returns how many events the worker emitted.
     pub(crate) fn emitted(&self) -> u64
         ensures { result ≡ length self.now.sent }
     {
         self.emitted
     }
 
+    /// Gives the pass, which the receiver takes in.
     pub(crate) fn into_pass(self) -> QueuePass
         ensures session { result.table_id ≡ self.session }
         ensures back { result.me.1 ≡ [] }

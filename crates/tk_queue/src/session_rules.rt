@@ -88,7 +88,8 @@ impl Split<PassView> for WithZeroBit {
     ghost right = { λ v. Spent };
 }
 
-/// The same, and one more.
+/// Before it makes a sender, the receiver doubles the number of static descriptors and adds one. The
+/// other half is no one's.
 pub struct WithOneBit;
 
 impl Split<PassView> for WithOneBit {
@@ -132,6 +133,8 @@ impl Lesson<Item, PassView> for AllSent {
     ghost fact = { Concludes };
 }
 
+/// The queue of a session.
 pub type EventQueue = RuledArrayQueue<Item, PassView, SessionRule>;
 
+/// A pass to the queue of a session: a sender's, the receiver's, or one that is spent.
 pub type QueuePass = Pass<Item, PassView>;

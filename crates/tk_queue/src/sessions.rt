@@ -44,7 +44,9 @@ impl fmt::Display for OpenFault {
 
 impl Error for OpenFault {}
 
-// Sets the number of static descriptors in the queue's rule, its highest bit first.
+// Sets the number of static descriptors in the queue's rule, its highest bit first: what a split of
+// a pass makes of it is fixed by the split's type, which carries no number, so there is one type for
+// each bit.
 fn set_static_count(shared_queue: &EventQueue, pass: &mut QueuePass, statics: u32)
     requires queue { IsPassOf shared_queue.now pass.old }
     requires fresh { view pass.old ≡ pass_of_receiver 0 0 [] [] }
@@ -123,7 +125,6 @@ pub fn open(
     }
     match open_within_limits(alloc, table, workers as u8, capacity) {
         Ok(made) => Ok(made),
-        // No allocation failed here: that of the session did.
-        Err(_) => Err(OpenFault::Memory),
+        Err(AllocError) => Err(OpenFault::Memory),
     }
 }

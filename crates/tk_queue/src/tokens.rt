@@ -8,7 +8,7 @@ use crate::limits::WORKER_SLOTS;
 use crate::senders::Ended;
 use tk_events::MAX_WORKERS;
 
-/// How many tokens the worker has.
+// How many tokens the worker has.
 fn tokens_of(ended: &[Ended], worker: u8) -> usize
     ensures { result ≡ tokens_of worker ended.now }
 {
@@ -18,7 +18,7 @@ fn tokens_of(ended: &[Ended], worker: u8) -> usize
         .count()
 }
 
-/// How many events the worker's token says that it emitted, or 0 where it has no token.
+// How many events the worker's token says that it emitted, or 0 where it has no token.
 fn emitted_by(ended: &[Ended], worker: u8) -> u64
     ensures { result ≡ length (sent_by ended.now worker) }
 {
@@ -30,7 +30,7 @@ fn emitted_by(ended: &[Ended], worker: u8) -> u64
     0
 }
 
-/// How many events each worker emitted, by its number; 0 at the numbers that are no worker's.
+/// Returns how many events each worker emitted, by its number; 0 at the numbers that are no worker's.
 pub fn emitted_by_worker(ended: &[Ended], workers: u8) -> [u64; WORKER_SLOTS]
     requires { workers ≤ MAX_WORKERS }
     ensures each { (w : ℕ) → IsWorkerOf workers w
@@ -44,7 +44,7 @@ pub fn emitted_by_worker(ended: &[Ended], workers: u8) -> [u64; WORKER_SLOTS]
     emitted
 }
 
-/// The first worker without a token.
+/// Finds the first worker without a token.
 pub fn first_without_token(ended: &[Ended], workers: u8) -> Option<u8>
     ensures { MatchOption result
         ((w : ℕ) → IsWorkerOf workers w → ¬ (tokens_of w ended.now ≡ 0))
@@ -58,7 +58,7 @@ pub fn first_without_token(ended: &[Ended], workers: u8) -> Option<u8>
     None
 }
 
-/// The first worker with more than one token.
+/// Finds the first worker with more than one token.
 pub fn first_with_two_tokens(ended: &[Ended], workers: u8) -> Option<u8>
     ensures { MatchOption result
         ((w : ℕ) → IsWorkerOf workers w → ¬ (1 < tokens_of w ended.now))
@@ -72,7 +72,7 @@ pub fn first_with_two_tokens(ended: &[Ended], workers: u8) -> Option<u8>
     None
 }
 
-/// The first worker whose mark was not taken.
+/// Finds the first worker whose mark was not taken.
 pub fn first_undrained(marked: &[bool; WORKER_SLOTS], workers: u8) -> Option<u8>
     requires { workers ≤ MAX_WORKERS }
     ensures { MatchOption result

@@ -3,7 +3,7 @@ use Rattle.std.specs.Arc.{arc_value}
 use Rattle.atomic_table.specs.Seated.{TableId}
 use Rattle.tk_queue.specs.PassViews.{IsReader, with_worker}
 use Rattle.tk_queue.specs.Receivers.{ReceiverView}
-use Rattle.tk_queue.proofs.EndKeeps.{fresh_more}
+use Rattle.tk_queue.proofs.SenderSteps.{fresh_more}
 use Rattle.tk_queue.proofs.RuleSteps.{begins, forks_own}
 use Rattle.tk_queue.proofs.sessions.open_within_limits.Goals as goal
 

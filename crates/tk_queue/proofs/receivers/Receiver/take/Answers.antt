@@ -1,9 +1,9 @@
-use Rattle.std.proofs.Common.{sym, subst, ◌∙◌}
+use Rattle.std.proofs.Common.{◌≡◌, false, sym, subst, ◌∙◌}
 use Rattle.tk_queue_core.specs.declared.items.Item.TheVariants.{Entry as Emitted}
 use Rattle.crossbeam_queue.specs.Passes.{view}
 use Rattle.tk_queue.specs.PassViews.{IsReader}
-use Rattle.tk_queue.specs.Receivers.{ReceiverView, MayBeTaken, taken_of}
-use Rattle.tk_queue.proofs.EndKeeps.{takes_entry, takes_mark, follows_now, follows_recorded}
+use Rattle.tk_queue.specs.Receivers.{ReceiverView, MayBeTaken, taken_of, is_marked}
+use Rattle.tk_queue.proofs.ReceiverSteps.{takes_entry, takes_mark, follows_now, follows_recorded}
 use Rattle.tk_queue.proofs.RuleSteps.{pops_own, learns_nothing}
 use Rattle.tk_queue.proofs.receivers.Receiver.take.Goals as goal
 
@@ -30,3 +30,13 @@ pub returns-in-Some-Entry-clause-follows : goal.returns-in-Some-Entry-clause-fol
 returns-in-Some-Entry-clause-follows g c =
     subst (λ (r : ReceiverView). MayBeTaken r (Emitted c.in-Some-Entry.entry)) c.self.view_is
     (follows_recorded _ (taken_of (view c.self.inside.pass)) _ (follows_now _ _ _ _ _ _ c.self.invariant.1 (rw c.in-Some-Entry.field-0-is at c.in-Some-Entry.ensures.rule)).1)
+
+pub returns-in-Some-End-clause-unmarked : goal.returns-in-Some-End-clause-unmarked
+returns-in-Some-End-clause-unmarked g c =
+    subst (λ (r : ReceiverView). is_marked c.in-Some-End.worker r.taken ≡ false) c.self.view_is
+    (follows_now _ _ _ _ _ _ c.self.invariant.1 (rw c.in-Some-End.field-0-is at c.in-Some-End.ensures.rule)).2
+
+pub returns-in-Some-Entry-clause-unmarked : goal.returns-in-Some-Entry-clause-unmarked
+returns-in-Some-Entry-clause-unmarked g c =
+    subst (λ (r : ReceiverView). is_marked c.in-Some-Entry.entry.worker r.taken ≡ false) c.self.view_is
+    (follows_now _ _ _ _ _ _ c.self.invariant.1 (rw c.in-Some-Entry.field-0-is at c.in-Some-Entry.ensures.rule)).2

@@ -1,7 +1,7 @@
 use Rattle.std.proofs.Common.{subst}
 use Rattle.crossbeam_queue.specs.Passes.{view}
 use Rattle.tk_queue.specs.Senders.{EmitsLawfully}
-use Rattle.tk_queue.proofs.EndKeeps.{emits_lawfully}
+use Rattle.tk_queue.proofs.SenderSteps.{emits_lawfully}
 use Rattle.tk_queue.proofs.senders.Sender.emitted.Goals as goal
 
 pub returns-clause-lawful : goal.returns-clause-lawful

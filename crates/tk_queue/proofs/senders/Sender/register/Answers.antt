@@ -4,7 +4,7 @@ use Rattle.crossbeam_queue.specs.Passes.{view}
 use Rattle.tk_events.specs.Registration.{registered_key}
 use Rattle.tk_queue.specs.Senders.{IsSender}
 use Rattle.tk_queue.specs.Registering.{child}
-use Rattle.tk_queue.proofs.EndKeeps.{made_may, next_key_is, sender_registers, may_push_registration}
+use Rattle.tk_queue.proofs.SenderSteps.{made_may, next_key_is, sender_registers, may_push_registration}
 use Rattle.tk_queue.proofs.senders.Sender.register.Goals as goal
 
 pub push-requires-2-clause-may : goal.push-requires-2-clause-may

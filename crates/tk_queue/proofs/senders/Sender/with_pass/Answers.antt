@@ -2,7 +2,7 @@ use Rattle.std.proofs.Common.{sym, subst}
 use Rattle.std.specs.Arc.{arc_value}
 use Rattle.crossbeam_queue.specs.Passes.{view}
 use Rattle.tk_queue.specs.Senders.{IsSender}
-use Rattle.tk_queue.proofs.EndKeeps.{sender_fresh}
+use Rattle.tk_queue.proofs.SenderSteps.{sender_fresh}
 use Rattle.tk_queue.proofs.senders.Sender.with_pass.Goals as goal
 
 pub invariant_of-result : goal.invariant_of-result

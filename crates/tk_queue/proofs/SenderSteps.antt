@@ -1,13 +1,13 @@
--- A sender's and a receiver's fields stand for their views after each call.
-use Rattle.std.proofs.Common.{◌≡◌, ◌≢◌, ◌==◌, ℕ, zero, suc, ◌<◌, ◌≤◌, ◌+◌, ◌-◌, Bool, true, false, ◌||◌, ◌&&◌, not, cond, ltb, if◌then◌else◌, List, [], ◌∷◌, ◌++◌, length, map, set, sym, refl, ap, ◌∙◌, subst, ⊎_elim, arith, length-append, append-nil, eq-eqb, ne_eqb, add-one}
-use Rattle.std.specs.Prelude.{slice_index_or, slice_get, filter, nat_lt, Option, Some, None, option_map, is_some, count_by, nat_le, Ok}
+-- The fields of a sender stand for what its pass knows after each call.
+use Rattle.std.proofs.Common.{◌≡◌, ◌≢◌, ◌==◌, ℕ, ◌<◌, ◌≤◌, ◌+◌, ◌-◌, Bool, true, false, ◌||◌, ◌&&◌, not, cond, ltb, if◌then◌else◌, List, [], ◌∷◌, ◌++◌, length, sym, refl, ap, ◌∙◌, subst, ⊎_elim, arith, length-append, eq-eqb, ne_eqb, add-one}
+use Rattle.std.specs.Prelude.{slice_get, nat_lt, Option, Some, None, option_map, is_some, count_by, Ok}
 use Rattle.std.specs.Option.{option_or}
 use Rattle.std.proofs.lemmas.Bool.{cases_eq, cases_lt, false≢true, lt-ltb, le-ltb, le-leb, ltb-true}
-use Rattle.std.proofs.lemmas.List.{map-append, get_or-set_same, get_or-set_other}
-use Rattle.std.proofs.lemmas.List.Elements.{All-nil, All-push}
+use Rattle.std.proofs.lemmas.Option.{slice_get_past}
+use Rattle.tk_record_columns.proofs.Registrations.{slice_get_prefix, slice_get_last}
+use Rattle.std.proofs.lemmas.List.{map-append}
 use Rattle.std.proofs.lemmas.List.Sums.{sum_by-cons, sum_by-append}
 use Rattle.atomic_table.specs.Seated.{TableId}
-use Rattle.tk_ids.specs.declared.descriptors.DType.{DType}
 use Rattle.tk_ids.specs.declared.descriptors.Descriptor.{Descriptor}
 use Rattle.tk_ids.specs.declared.tables.TheConstants.{MAX_DESCRIPTORS}
 use Rattle.tk_ids.specs.IdText.{SegmentView}
@@ -17,26 +17,18 @@ use Rattle.tk_events.specs.declared.events.Event.{Event}
 use Rattle.tk_events.specs.declared.events.Entry.{Entry}
 use Rattle.tk_events.specs.Event.{is_lawful}
 use Rattle.tk_events.specs.Registration.{registered_key}
-use Rattle.tk_record_columns.specs.Entries.{described, of_kind, registers, registered, desc, desc_in}
+use Rattle.tk_record_columns.specs.Entries.{described, registers, registered, desc, desc_in}
 use Rattle.tk_record_columns.specs.Record.{is_next}
-use Rattle.tk_record_columns.specs.Mixing.{IsWorkerOf, of_worker}
-use Rattle.tk_queue_core.specs.Limits.{most_workers, worker_slots}
-use Rattle.tk_queue_core.specs.declared.items.Item.{Item}
-use Rattle.tk_queue_core.specs.declared.items.Item.TheVariants.{Entry as Emitted, End}
-use Rattle.tk_queue_core.specs.Core.{worker_of, entry, entries}
-use Rattle.tk_queue_core.proofs.CoreSteps.{filter-append}
+use Rattle.tk_queue_core.specs.Limits.{most_workers}
+use Rattle.tk_queue_core.specs.Core.{entry, entries}
 use Rattle.tk_queue.specs.declared.sender_faults.SendFault.TheVariants as unsent
 use Rattle.tk_queue.specs.declared.session_rules.PassView.{PassView}
 use Rattle.tk_queue.specs.Limits.{most_events}
-use Rattle.tk_queue.specs.Emission.{MayEmit, Emission, is_dynamic, is_plain, registrations, entry_by, entries_by, is_known_after}
-use Rattle.tk_queue.specs.PassViews.{pass_of_sender, pass_of_receiver, pushed, popped, Pops, MayTake, MayPush}
-use Rattle.tk_queue.specs.PassViews.{MayBeEmittedNext}
+use Rattle.tk_queue.specs.Emission.{MayEmit, Emission, is_dynamic, is_plain, registrations, entry_by, entries_by}
+use Rattle.tk_queue.specs.PassViews.{pass_of_sender, pushed, MayPush}
 use Rattle.tk_queue.specs.Senders.{SenderView, SenderFields, EmitsLawfully, fresh_senders, knows, refusal_of, id_registered, IsSender, sent_of}
 use Rattle.tk_queue.specs.Registering.{HasRoom, IsNew, IsChildMade}
-use Rattle.tk_queue.specs.Receivers.{IsReceiver, IsRecordable, MayFollow, taken_of, is_marked, is_mark_of}
-use Rattle.tk_queue.proofs.KnownKeys.{emission_none, emission_more, some_desc, known_after, own_entries, some_among, registers_among}
-
--- ---- a sender
+use Rattle.tk_queue.proofs.KnownKeys.{emission_none, emission_more, some_desc, known_after}
 
 abbrev fields : List Descriptor → ℕ → List (List SegmentView) → ℕ → SenderFields
 fields table worker ids emitted = record { table = table; worker = worker; ids = ids; emitted = emitted }
@@ -116,22 +108,6 @@ sender_sends v w table worker emitted ids e h moved may room plain =
     (let z : weight e ≡ 0 = ap (λ (b : Bool). cond {A = ℕ} b 1 0) plain in omega arith)
     h.few_ids
 
-slice_get_prefix : {X : Type 0} (xs ys : List X) (k : ℕ) → k < length xs → slice_get (xs ++ ys) k ≡ slice_get xs k
-slice_get_prefix [] ys k lt = absurd (omega arith)
-slice_get_prefix (x ∷ xs) ys zero lt = refl
-slice_get_prefix (x ∷ xs) ys (suc k) lt = slice_get_prefix xs ys k (omega arith)
-
-slice_get_last : {X : Type 0} (xs : List X) (x : X) (k : ℕ) → k ≡ length xs → slice_get (xs ++ x ∷ []) k ≡ Some x
-slice_get_last [] x zero is = refl
-slice_get_last [] x (suc k) is = absurd (omega arith)
-slice_get_last (y ∷ xs) x zero is = absurd (omega arith)
-slice_get_last (y ∷ xs) x (suc k) is = slice_get_last xs x k (omega arith)
-
-slice_get_beyond : {X : Type 0} (xs : List X) (k : ℕ) → length xs ≤ k → slice_get xs k ≡ None
-slice_get_beyond [] k le = refl
-slice_get_beyond (x ∷ xs) zero le = absurd (omega arith)
-slice_get_beyond (x ∷ xs) (suc k) le = slice_get_beyond xs k (omega arith)
-
 no_id : (o : Option Descriptor) → option_map (λ (d : Descriptor). d.id) o ≡ None → o ≡ None
 no_id None h = refl
 no_id (Some d) h = absurd cc
@@ -153,7 +129,7 @@ ids_more worker ids id key apart =
     id_at worker (ids ++ id ∷ []) (key - registered_key worker 0) key (omega arith)
     ∙ ⊎_elim (λ (lt : key - registered_key worker 0 < length ids). slice_get_prefix ids (id ∷ []) (key - registered_key worker 0) lt)
     (λ (past : length ids ≤ key - registered_key worker 0).
-    slice_get_beyond (ids ++ id ∷ []) (key - registered_key worker 0) (omega (arith, length-append ids (id ∷ []))) ∙ sym (slice_get_beyond ids (key - registered_key worker 0) past))
+    slice_get_past (ids ++ id ∷ []) (key - registered_key worker 0) (omega (arith, length-append ids (id ∷ []))) ∙ sym (slice_get_past ids (key - registered_key worker 0) past))
     (cases_lt (key - registered_key worker 0) (length ids))
     ∙ sym (id_at worker ids (key - registered_key worker 0) key (omega arith)))
     (cases_lt key (registered_key worker 0)) where
@@ -191,7 +167,7 @@ registration_may v table worker emitted key stamp ids d h is few =
 -- the worker registered nothing yet under its next key
 next_unregistered : (v : PassView) (table : List Descriptor) (worker emitted key : ℕ) (ids : List (List SegmentView)) → IsSender v (fields table worker ids emitted) → key ≡ registered_key worker (length ids) → desc_in (entries_by worker (sent_of v)) key ≡ None
 next_unregistered v table worker emitted key ids h is =
-    no_id (desc_in (entries_by worker (sent_of v)) key) (h.leads key ∙ id_at worker ids (length ids) key is ∙ slice_get_beyond ids (length ids) (omega arith))
+    no_id (desc_in (entries_by worker (sent_of v)) key) (h.leads key ∙ id_at worker ids (length ids) key is ∙ slice_get_past ids (length ids) (omega arith))
 
 -- nor is that key a static one
 pub next_is_new : (t : TableId) (v : PassView) (table : List Descriptor) (worker emitted key : ℕ) (ids : List (List SegmentView)) (s : SenderView) → IsSender v (fields table worker ids emitted)
@@ -199,7 +175,7 @@ pub next_is_new : (t : TableId) (v : PassView) (table : List Descriptor) (worker
 next_is_new t v table worker emitted key ids s h is few at =
     let low = h.low in
     subst (λ (y : SenderView). IsNew y key) is
-    (ap (λ o. option_or o (desc_in (entries_by worker (sent_of v)) key)) (slice_get_beyond table key (omega arith)) ∙ next_unregistered v table worker emitted key ids h at)
+    (ap (λ o. option_or o (desc_in (entries_by worker (sent_of v)) key)) (slice_get_past table key (omega arith)) ∙ next_unregistered v table worker emitted key ids h at)
 
 -- the next key by the sender's ids
 pub next_key_is : (t : TableId) (v : PassView) (table : List Descriptor) (worker emitted : ℕ) (ids : List (List SegmentView)) (s : SenderView) {key : ℕ} → IsSender v (fields table worker ids emitted)
@@ -292,122 +268,4 @@ emits_lawfully t v table worker m = record {
       let one = m.each before e after whole in
       record { lawful = one.lawful; known = known_after table (entries_by worker before) (entry_by worker e) ∙ one.known };
   few = m.few;
-}
-
--- ---- a receiver
-
-pub entries-append : (xs ys : List Item) → entries (xs ++ ys) ≡ entries xs ++ entries ys
-entries-append [] ys = refl
-entries-append (Emitted e ∷ xs) ys = ap (λ l. e ∷ l) (entries-append xs ys)
-entries-append (End w ∷ xs) ys = entries-append xs ys
-
-of_worker-append : (w : ℕ) (xs ys : List Entry) → of_worker w (xs ++ ys) ≡ of_worker w xs ++ of_worker w ys
-of_worker-append w xs ys = ap (map (λ (e : Entry). e.event)) (filter-append (λ e. e.worker == w) xs ys) ∙ map-append (λ (e : Entry). e.event) (filter (λ e. e.worker == w) xs) (filter (λ e. e.worker == w) ys)
-
-pub few_more : (taken : List Entry) (e : Entry) → ((w : ℕ) → length (of_worker w taken) ≤ most_events) → length (of_worker e.worker taken) < most_events → (w : ℕ) → length (of_worker w (taken ++ e ∷ [])) ≤ most_events
-few_more taken e few room w =
-    subst (λ l. length l ≤ most_events) (sym (of_worker-append w taken (e ∷ [])))
-    (⊎_elim
-    (λ (same : e.worker ≡ w).
-    let one : of_worker w (e ∷ []) ≡ e.event ∷ [] = ap (λ (b : Bool). map (λ (a : Entry). a.event) (if b then e ∷ [] else [])) (eq-eqb e.worker w same) in
-    subst (λ l. length (of_worker w taken ++ l) ≤ most_events) (sym one) (longer (of_worker w taken) e.event (subst (λ v. length (of_worker v taken) < most_events) same room)))
-    (λ (apart : e.worker ≢ w).
-    let none : of_worker w (e ∷ []) ≡ [] = ap (λ (b : Bool). map (λ (a : Entry). a.event) (if b then e ∷ [] else [])) (ne_eqb e.worker w apart) in
-    subst (λ l. length (of_worker w taken ++ l) ≤ most_events) (sym none) (subst (λ l. length l ≤ most_events) (sym (append-nil (of_worker w taken))) (few w)))
-    (cases_eq e.worker w)) where
-      longer : (es : List Event) (a : Event) → length es < most_events → length (es ++ a ∷ []) ≤ most_events
-      longer es a lt = omega (arith, length-append es (a ∷ []))
-
-marked-append : (w : ℕ) (xs ys : List Item) → is_marked w (xs ++ ys) ≡ (is_marked w xs || is_marked w ys)
-marked-append w [] ys = refl
-marked-append w (x ∷ xs) ys = elim (is_mark_of w x) as (λ b. (b || is_marked w (xs ++ ys)) ≡ ((b || is_marked w xs) || is_marked w ys)) [ true ↦ refl | false ↦ marked-append w xs ys ]
-
-or_false : (b : Bool) → (b || false) ≡ b
-or_false true = refl
-or_false false = refl
-
-or_true : (b : Bool) → (b || true) ≡ true
-or_true true = refl
-or_true false = refl
-
-pub receiver_fresh : (v : PassView) (table : List Descriptor) (workers : ℕ) (marked : List Bool) → v ≡ pass_of_receiver (length table) workers [] [] → workers ≤ most_workers → length marked ≡ worker_slots
-    → ((w : ℕ) → w < worker_slots → slice_index_or marked w false ≡ false) → IsReceiver v table workers marked
-receiver_fresh v table workers marked e few long none = subst (λ u. IsReceiver u table workers marked) (sym e) (record {
-  is = refl;
-  recordable = record { limit = few; workers = All-nil (λ x. IsWorkerOf workers x.worker); few = λ w. omega arith };
-  long = long;
-  marks = none;
-})
-
-taken_now : (v w : PassView) (table : List Descriptor) (workers : ℕ) (marked : List Bool) (x : Item) → IsReceiver v table workers marked → Pops v x w → w ≡ pass_of_receiver (length table) workers (taken_of v ++ x ∷ []) []
-taken_now v w table workers marked x h p = p.0 ∙ ap (λ u. popped u x) h.is
-
-pub follows_now : (v w : PassView) (table : List Descriptor) (workers : ℕ) (marked : List Bool) (x : Item) → IsReceiver v table workers marked → Pops v x w → IsWorkerOf workers (worker_of x) × MayBeEmittedNext (length table) (taken_of v) x
-follows_now v w table workers marked x h p = subst (λ u. MayTake u x) h.is p.1
-
-pub takes_entry : (v w : PassView) (table : List Descriptor) (workers : ℕ) (marked : List Bool) (e : Entry) → IsReceiver v table workers marked → Pops v (Emitted e) w → IsReceiver w table workers marked
-takes_entry v w table workers marked e h p =
-    let f = follows_now v w table workers marked (Emitted e) h p in
-    let taken = entries (taken_of v) in
-    let more : IsRecordable workers (taken ++ e ∷ []) = record {
-      limit = h.recordable.limit;
-      workers = All-push (λ x. IsWorkerOf workers x.worker) taken e h.recordable.workers f.0;
-      few = few_more taken e h.recordable.few f.1.1;
-    } in
-    subst (λ u. IsReceiver u table workers marked) (sym (taken_now v w table workers marked (Emitted e) h p))
-    (record {
-      is = refl;
-      recordable = subst (IsRecordable workers) (sym (entries-append (taken_of v) (Emitted e ∷ []))) more;
-      long = h.long;
-      marks = λ u lt. h.marks u lt ∙ sym (marked-append u (taken_of v) (Emitted e ∷ []) ∙ or_false (is_marked u (taken_of v)));
-    })
-
-pub takes_mark : (v w : PassView) (table : List Descriptor) (workers : ℕ) (marked : List Bool) (k : ℕ) → IsReceiver v table workers marked → Pops v (End k) w → (k < worker_slots) × IsReceiver w table workers (set marked k true)
-takes_mark v w table workers marked k h p =
-    let f = follows_now v w table workers marked (End k) h p in
-    let within : k < worker_slots = let is = f.0 in let high : k ≤ workers = is.1 in let few = h.recordable.limit in omega arith in (
-      within,
-      subst (λ u. IsReceiver u table workers (set marked k true)) (sym (taken_now v w table workers marked (End k) h p))
-          (record {
-            is = refl;
-            recordable = subst (IsRecordable workers) (sym (entries-append (taken_of v) (End k ∷ []) ∙ append-nil (entries (taken_of v)))) h.recordable;
-            long = ap (λ (n : ℕ). n) (length_set marked k) ∙ h.long;
-            marks = λ u lt. ⊎_elim
-                (λ (same : u ≡ k).
-                ap (λ j. slice_index_or (set marked k true) j false) same ∙ get_or-set_same marked k true false (subst (λ n. k < n) (sym h.long) within)
-                ∙ sym (marked-append u (taken_of v) (End k ∷ []) ∙ ap (λ (b : Bool). is_marked u (taken_of v) || (b || false)) (eq-eqb k u (sym same)) ∙ or_true (is_marked u (taken_of v))))
-                (λ (apart : u ≢ k).
-                get_or-set_other marked k u true false apart ∙ h.marks u lt
-                ∙ sym (marked-append u (taken_of v) (End k ∷ []) ∙ ap (λ (b : Bool). is_marked u (taken_of v) || (b || false)) (ne_eqb k u (λ e. apart (sym e))) ∙ or_false (is_marked u (taken_of v))))
-                (cases_eq u k);
-          }),
-    ) where
-      length_set : (l : List Bool) (i : ℕ) → length (set l i true) ≡ length l
-      length_set [] i = refl
-      length_set (b ∷ l) zero = refl
-      length_set (b ∷ l) (suc i) = ap suc (length_set l i)
-
--- what is known after a worker's own entries is known after all
-pub known_among : (n : ℕ) (es : List Entry) (e : Entry) → is_known_after n (entries_by e.worker (of_worker e.worker es)) e ≡ true → is_known_after n es e ≡ true
-known_among n es e h =
-    by_kind (of_kind Dynamic e) (subst (λ l. is_known_after n l e ≡ true) (own_entries e.worker es) h)
-  where
-    mine : List Entry
-    mine = filter (λ x. x.worker == e.worker) es
-
-    or_mono : (a b c : Bool) → (b ≡ true → c ≡ true) → (a || b) ≡ true → (a || c) ≡ true
-    or_mono true b c f h = refl
-    or_mono false b c f h = f h
-
-    by_kind : (k : Bool) → (if k then is_next (record { table = []; entries = mine }) e else (nat_lt e.event.key n || is_some (desc_in mine e.event.key))) ≡ true
-        → (if k then is_next (record { table = []; entries = es }) e else (nat_lt e.event.key n || is_some (desc_in es e.event.key))) ≡ true
-    by_kind true h = subst (λ c. ((ltb 0 e.worker && nat_le e.worker most_workers && nat_lt c MAX_DESCRIPTORS) && (e.event.key == registered_key e.worker c)) ≡ true) (registers_among e.worker es) h
-    by_kind false h = or_mono (nat_lt e.event.key n) (is_some (desc_in mine e.event.key)) (is_some (desc_in es e.event.key)) (some_among (λ x. x.worker == e.worker) es e.event.key) h
-
--- what the rule says of an entry that is taken, by the record of those taken before
-pub follows_recorded : (table : List Descriptor) (taken : List Item) (e : Entry) → MayBeEmittedNext (length table) taken (Emitted e) → MayFollow table (entries taken) e
-follows_recorded table taken e f = record {
-  lawful = f.0.lawful;
-  known = known_after table (entries taken) e ∙ known_among (length table) (entries taken) e f.0.known;
-  room = f.1;
 }
