@@ -9,4 +9,9 @@ pub mod Matches
 pub mod ExecutionSteps
 pub mod Executions
 pub mod Pairing
+pub mod Lifecycle
+pub mod LifecycleTexts
+pub mod LifecycleLaws
+pub mod KeyStates
+pub mod Progress
 pub mod Laws
