@@ -50,6 +50,7 @@ impl Engine for Scripted {
     ghost use Rattle.tk_plan_units.specs.Cutting.{before_of, after_of, units_of};
     ghost use Rattle.tk_engine_laws.specs.Scripts.{may as plays};
     ghost use Rattle.tk_engine.specs.Masks.{need_of};
+    ghost use Rattle.tk_engine.specs.Plays.{IsPlayFault};
 
     ghost table = { λ s. s.table };
 
@@ -62,6 +63,8 @@ impl Engine for Scripted {
     ghost need = { λ s unit. need_of s.nodes unit };
 
     ghost may = { λ s. plays s.nodes s.table };
+
+    ghost fails = { λ s unit. IsPlayFault };
 
     fn table(&self) -> &Arc<Table> {
         self.plan.table()
@@ -100,7 +103,7 @@ impl Engine for Scripted {
         ensures ok { OnOk result (ExtendsAs (plays self.now.nodes self.now.table unit)
             (S.view sink.old) (S.view sink.new)) }
         ensures err { OnErr result (Extends (S.view sink.old) (S.view sink.new)) }
-        ensures cause { IfErr result IsPlayFault }
+        ensures fails { IfErr result IsPlayFault }
     {
         play_unit(rt, alloc, &self.plan, unit, sink)
     }

@@ -1,9 +1,9 @@
 -- From what each worker left to what a run is.
-use Rattle.std.proofs.Common.{◌≡◌, ◌≢◌, ◌==◌, ℕ, zero, suc, ◌+◌, ◌-◌, ◌<◌, ◌≤◌, Bool, true, false, if◌then◌else◌, cond, List, [], ◌∷◌, ◌++◌, map, length, None, Some, slice_get, get_or, ap, sym, subst, ◌∙◌, refl, arith, inl, inr, ⊎_elim, eq-eqb, ne_eqb}
+use Rattle.std.proofs.Common.{◌≡◌, ◌≢◌, ◌==◌, ℕ, zero, suc, ◌+◌, ◌-◌, ◌<◌, ◌≤◌, Bool, true, false, if◌then◌else◌, cond, List, [], ◌∷◌, ◌++◌, map, length, None, Some, slice_get, get_or, ap, sym, subst, ◌∙◌, refl, arith, inl, inr, ⊎_elim, eq-eqb, ne_eqb, rules}
 use Rattle.std.specs.Prelude.{All, Option, IfSome, slice_index}
 use Rattle.std.proofs.lemmas.Option.{slice_get-get_or}
 use Rattle.std.proofs.lemmas.Bool.{cases_eq}
-use Rattle.std.proofs.lemmas.List.Elements.{All-head, All-tail}
+use Rattle.std.proofs.lemmas.List.Elements.{All-head, All-tail, All-nil, All-weaker}
 use Rattle.std.proofs.lemmas.List.{length-map}
 use Rattle.std.proofs.lemmas.List.Sums.{sum_by-cons}
 use Rattle.atomic_table.specs.Seated.{TableId}
@@ -23,14 +23,14 @@ use Rattle.tk_engine_execute.specs.declared.engines.UnitFault.{UnitFault}
 use Rattle.tk_engine_execute.specs.declared.workers.Outcome.{Outcome}
 use Rattle.tk_engine_execute.specs.declared.workers.FailedUnit.{FailedUnit}
 use Rattle.tk_engine_execute.specs.declared.event_collectors.EventCollector.{EventCollector}
-use Rattle.tk_engine_execute.specs.EventCollectors.{IsCollector, NoneIsAwaited}
+use Rattle.tk_engine_execute.specs.EventCollectors.{CanCollect, NoneIsAwaited}
 use Rattle.tk_engine_execute.specs.Results.{IsTallied}
 use Rattle.tk_queue.specs.Emission.{entries_by}
 use Rattle.tk_engine_runs.proofs.Workers.{in_the_middle}
 use Rattle.tk_engine_execute.specs.declared.run_faults.RunFault.{RunFault}
 use Rattle.tk_engine_execute.specs.declared.run_faults.RunFault.TheVariants as fault
-use Rattle.tk_engine_execute.specs.Outcomes.{AllCompleted, CanClose, IsFirstFailure, IsFaultOfWorkers, IsFaultOfUnits}
-use Rattle.tk_engine_execute.specs.Workers.{AllDone}
+use Rattle.tk_engine_execute.specs.Outcomes.{AllCompleted, CanClose, IsFirstFailure, IsFaultOfWorkers, NoneFailed, HasEnded, WorkersLeft, IsFaultOfRunning, IsFaultOfExecute}
+use Rattle.tk_engine_execute.specs.Workers.{AllDone, AreDone, IsDone}
 use Rattle.tk_engine_execute.proofs.Positions.{map_at, all_from}
 use Rattle.tk_engine_execute.proofs.Emitted.{emits_along}
 
@@ -139,15 +139,15 @@ length-seats (o ∷ os) ts ss (none, us, rs, a, b, rest) = ap (λ l. length l) b
 -- ---- the end of a run
 
 -- each mark was taken
-all_marked : (a : EventCollector) → IsCollector a → NoneIsAwaited a → a.is_refused ≡ false → (i : ℕ) → i < length a.awaited.items → is_marked (i + 1) a.receiver.taken ≡ true
+all_marked : (a : EventCollector) → CanCollect a → NoneIsAwaited a → a.lacks_thread ≡ false → (i : ℕ) → i < length a.awaited.items → is_marked (i + 1) a.receiver.taken ≡ true
 all_marked a collector none_is_awaited going i within =
     let here = slice_get-get_or a.awaited.items i true within in
     let gone : get_or a.awaited.items i true ≡ false = none_is_awaited i (get_or a.awaited.items i true) here in
     collector.marked going i (here ∙ ap Some gone)
 
-module _ (may : ℕ → ℕ → ℕ → List Event → Type 0) (units workers : ℕ) (claim : ClaimView) (os : List Outcome) (ts : List Sent) (ss : List ClaimSeatView) (whole : AllCompleted os ts ss) (count : length os ≡ workers) where
-  pub can_close : (a : EventCollector) → IsCollector a → NoneIsAwaited a → a.is_refused ≡ false → length a.awaited.items ≡ workers → a.receiver.workers ≡ workers
-      → AllDone may units a.receiver.session claim os → CanClose a.receiver ts
+module _ (may : ℕ → ℕ → ℕ → List Event → Type 0) (fails : ℕ → UnitFault → Type 0) (units workers : ℕ) (claim : ClaimView) (os : List Outcome) (ts : List Sent) (ss : List ClaimSeatView) (whole : AllCompleted os ts ss) (count : length os ≡ workers) where
+  pub can_close : (a : EventCollector) → CanCollect a → NoneIsAwaited a → a.lacks_thread ≡ false → length a.awaited.items ≡ workers → a.receiver.workers ≡ workers
+      → AllDone may fails a.receiver.session claim os → CanClose a.receiver ts
   can_close a collector none_is_awaited going width is_workers done = record {
     session = λ i t e. let h = token_at os ts ss whole i t e in ap (λ (x : Sent). x.session) (h.3) ∙ (done i (h.0) (h.1)).session_is;
     count = length-tokens os ts ss whole ∙ count ∙ sym is_workers;
@@ -155,11 +155,11 @@ module _ (may : ℕ → ℕ → ℕ → List Event → Type 0) (units workers : 
     marks = λ i within. all_marked a collector none_is_awaited going i (omega arith);
   }
 
-  pub of_claim : (session : TableId) → AllDone may units session claim os → All (λ s. s.claim ≡ claim) ss
+  pub of_claim : (session : TableId) → AllDone may fails session claim os → All (λ s. s.claim ≡ claim) ss
   of_claim session done = all_from (λ s. s.claim ≡ claim) ss (λ i s e. let h = seat_at os ts ss whole i s e in ap (λ (x : ClaimSeatView). x.claim) (h.3) ∙ (done i (h.0) (h.1)).claim_is)
 
   -- what the workers of a run share
-  pub shared : (r : ReceiverView) (drew : ℕ) → 0 < workers → r.workers ≡ workers → CanClose r ts → Mix r.workers (entries r.taken) (sent_by ts) → AllDone may units r.session claim os
+  pub shared : (r : ReceiverView) (drew : ℕ) → 0 < workers → r.workers ≡ workers → CanClose r ts → Mix r.workers (entries r.taken) (sent_by ts) → AllDone may fails r.session claim os
       → Claims (map (λ (s : ClaimSeatView). s.numbers) ss) drew → ((i : ℕ) (s : ClaimSeatView) → slice_get ss i ≡ Some s → s.spent ≡ true → drew ≡ units)
       → IsShared may units workers (entries r.taken)
   shared r drew some is_workers can mix done claims spent =
@@ -196,18 +196,58 @@ tallied n closed es ls mix each others = record {
   others = others;
 }
 
--- the first failure is of one of the engine's units
-pub failure_is_unit : (units : ℕ) (os : List Outcome) (u : ℕ) (why : UnitFault) → All (λ o. IfSome o.failure (λ f. f.unit < units)) os → IsFirstFailure os u why → u < units
-failure_is_unit units [] u why all h = absurd h
-failure_is_unit units (o ∷ os) u why all (inl is) = let one = All-head (λ (x : Outcome). IfSome x.failure (λ f. f.unit < units)) o os all in subst (λ (f : Option FailedUnit). IfSome f (λ g. g.unit < units)) is one
-failure_is_unit units (o ∷ os) u why all (inr h) = failure_is_unit units os u why (All-tail (λ (x : Outcome). IfSome x.failure (λ f. f.unit < units)) o os all) h.1
+-- ---- why a run has no record
 
-pub late : (units : ℕ) (a : EventCollector) (os : List Outcome) (f : RunFault) → All (λ o. IfSome o.failure (λ f. f.unit < units)) os → IsFaultOfWorkers a os f → IsFaultOfUnits units f
-late units a os fault.Workers all h = absurd h
-late units a os fault.Capacity all h = absurd h
-late units a os (fault.Engine unit why) all h = failure_is_unit units os unit why all h
-late units a os fault.Memory all h = tt
-late units a os fault.Threads all h = tt
+module _ (may : ℕ → ℕ → ℕ → List Event → Type 0) (fails : ℕ → UnitFault → Type 0) where
+  has_ended : (session : TableId) (claim : ClaimView) (o : Outcome) → IsDone may fails session claim o.ended.worker o → HasEnded may fails o
+  has_ended session claim o done = record { emits = done.emits; failed = done.failed; stopped = done.stopped }
+
+  -- what the workers left that had a thread
+  left : (session : TableId) (claim : ClaimView) (workers : ℕ) (os : List Outcome) (P : List Outcome → Type 0) → AreDone may fails session claim workers os → P os → WorkersLeft may fails workers P
+  left session claim workers os P done holds = record {
+    outcomes = os;
+    each = All-weaker (λ o. IsDone may fails session claim o.ended.worker o) (HasEnded may fails) (has_ended session claim) os done.each;
+    few = done.few;
+    rising = done.rising;
+    holds = holds;
+  }
+
+  pub is_running : (session : TableId) (claim : ClaimView) (workers : ℕ) (a : EventCollector) (os : List Outcome) (f : RunFault) → AreDone may fails session claim workers os → (a.lacks_thread ≡ true → length os < workers)
+      → IsFaultOfWorkers a os f → IsFaultOfRunning may fails workers f
+  is_running session claim workers a os fault.Workers done fewer why = why
+  is_running session claim workers a os fault.Capacity done fewer why = why
+  is_running session claim workers a os (fault.Engine unit cause) done fewer why = left session claim workers os (λ os. IsFirstFailure os unit cause) done why
+  is_running session claim workers a os fault.Memory done fewer why = left session claim workers os NoneFailed done why
+  is_running session claim workers a os fault.Threads done fewer why = left session claim workers os (λ os. NoneFailed os × (length os < workers)) done (why.0, fewer (why.2))
+
+  -- memory was refused before a thread was started or after all were joined
+  pub out_of_memory : (workers : ℕ) (f : RunFault) → f ≡ fault.Memory → IsFaultOfRunning may fails workers f
+  out_of_memory workers f is = rw is (record { outcomes = []; each = All-nil _; few = All-nil _; rising = search rules; holds = tt })
+
+  first_may_fail : (os : List Outcome) (u : ℕ) (why : UnitFault) → All (HasEnded may fails) os → IsFirstFailure os u why → fails u why
+  first_may_fail [] u why all h = absurd h
+  first_may_fail (o ∷ os) u why all (inl is) = let one = (All-head (HasEnded may fails) o os all).failed in subst (λ (f : Option FailedUnit). IfSome f (λ g. fails g.unit g.why)) is one
+  first_may_fail (o ∷ os) u why all (inr h) = first_may_fail os u why (All-tail (HasEnded may fails) o os all) h.1
+
+  -- the unit of the answer may fail so
+  pub unit_may_fail : (workers : ℕ) (f : RunFault) → IsFaultOfRunning may fails workers f → (u : ℕ) (why : UnitFault) → f ≡ fault.Engine u why → fails u why
+  unit_may_fail workers fault.Workers h u why is = absurd h
+  unit_may_fail workers fault.Capacity h u why is = absurd h
+  unit_may_fail workers (fault.Engine unit cause) h u why is =
+      let may_fail : fails unit cause = first_may_fail h.outcomes unit cause h.each h.holds in
+      let units : unit ≡ u = cc in
+      let causes : cause ≡ why = cc in
+      rw (sym units, sym causes) may_fail
+  unit_may_fail workers fault.Memory h u why is = cc
+  unit_may_fail workers fault.Threads h u why is = cc
+
+  -- `execute` hands on the fault of a run
+  pub of_execute : (workers : ℕ) (f : RunFault) → IsFaultOfRunning may fails workers f → IsFaultOfExecute may fails workers f
+  of_execute workers fault.Workers h = tt
+  of_execute workers fault.Capacity h = tt
+  of_execute workers (fault.Engine unit cause) h = h
+  of_execute workers fault.Memory h = h
+  of_execute workers fault.Threads h = h
 
 -- what a worker has in a run, it has in the middle
 pub tallied_whole : (n : ℕ) (numbers : List ℕ) (before after : List Event) (mid whole : List Entry) → whole ≡ entries_by 0 before ++ mid ++ entries_by 0 after → IsTallied n numbers mid → IsTallied n numbers whole

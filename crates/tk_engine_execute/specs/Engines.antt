@@ -4,6 +4,7 @@ use Rattle.tk_events.specs.declared.events.Event.{Event}
 use Rattle.tk_queue.specs.Emission.{is_plain, registrations}
 use Rattle.tk_queue.specs.Limits.{most_events}
 use Rattle.tk_queue.specs.Senders.{SenderView}
+use Rattle.tk_engine_execute.specs.declared.engines.UnitFault.{UnitFault}
 
 -- b is of the same session, table and worker as a
 pub record IsSameSender (a b : SenderView) : Type 0 where
@@ -15,7 +16,8 @@ pub record IsSameSender (a b : SenderView) : Type 0 where
 abbrev pub Extends : SenderView → SenderView → Type 0
 Extends a b = (l : List Event) × (b.sent ≡ a.sent ++ l)
 
--- so, where a unit may emit that list for the worker, which had registered what a sent
+-- What b sent is what a sent, and after it a list that a unit may emit for the worker. Which keys
+-- the list's registrations have depends on how many descriptors the worker had registered before.
 abbrev pub ExtendsAs : (ℕ → ℕ → List Event → Type 0) → SenderView → SenderView → Type 0
 ExtendsAs may a b =
     (l : List Event) × (b.sent ≡ a.sent ++ l) × may a.worker (registrations a.sent) l
@@ -29,3 +31,7 @@ IsStaticEvent n e = (e.key < n) × (is_plain e ≡ true)
 pub record AreOfWorkerZero (n : ℕ) (es : List Event) : Type 0 where
   pub each : All (IsStaticEvent n) es
   pub few : length es ≤ most_events
+
+-- a unit of an engine of `units` units that may fail with this fault, as the engine's `fails` says
+abbrev pub MayFail : ℕ → (ℕ → UnitFault → Type 0) → ℕ → UnitFault → Type 0
+MayFail units fails unit why = (unit < units) × fails unit why

@@ -4,31 +4,34 @@ use Rattle.tk_ids.specs.declared.descriptors.Descriptor.{Descriptor}
 use Rattle.tk_events.specs.declared.events.Event.{Event}
 use Rattle.tk_book.specs.Books.{BookView}
 use Rattle.tk_engine_claim.specs.Claims.{ClaimView}
+use Rattle.tk_engine_execute.specs.declared.engines.UnitFault.{UnitFault}
 use Rattle.tk_engine_execute.specs.declared.unstarted_workers.UnstartedWorkers.{UnstartedWorkers}
-use Rattle.tk_engine_execute.specs.declared.worker_threads.JoinedWorkers.{JoinedWorkers}
-use Rattle.tk_engine_execute.specs.EventCollectors.{Follows, IsCollector, NoneIsAwaited}
+use Rattle.tk_engine_execute.specs.declared.worker_threads.Collected.{Collected}
+use Rattle.tk_engine_execute.specs.EventCollectors.{TookMore, CanCollect, NoneIsAwaited}
 use Rattle.tk_engine_execute.specs.Workers.{AreUnstarted, AllDone, AreDone}
 
 -- no worker was joined yet, and there is room for the outcome of each
 pub record CanRunWorkers (claim : ClaimView) (book : BookView) (table : List Descriptor)
-    (c : UnstartedWorkers) (t : JoinedWorkers) : Type 0 where
+    (c : UnstartedWorkers) (t : Collected) : Type 0 where
   pub unstarted : AreUnstarted t.collector.receiver.session claim book table c
-  pub collector : IsCollector t.collector
+  pub collector : CanCollect t.collector
   pub empty : vec_len t.outcomes ≡ 0
   pub room : vec_len c.senders ≤ vec_capacity t.outcomes
 
 -- After the threads of n workers were joined: no worker is awaited any more, and the outcomes are
 -- what the workers have left. Where a thread was not started, an outcome is missing; else there is
 -- one of each worker.
-pub record WorkersWereRun (may : ℕ → ℕ → ℕ → List Event → Type 0) (units : ℕ) (claim : ClaimView)
-    (n : ℕ) (old new : JoinedWorkers) : Type 0 where
-  pub follows : Follows old.collector new.collector
-  pub collector : IsCollector new.collector
+pub record WorkersWereRun (may : ℕ → ℕ → ℕ → List Event → Type 0)
+    (fails : ℕ → UnitFault → Type 0) (claim : ClaimView) (n : ℕ) (old new : Collected) :
+    Type 0 where
+  pub took_more : TookMore old.collector new.collector
+  pub collector : CanCollect new.collector
   pub none_is_awaited : NoneIsAwaited new.collector
-  pub each : AreDone may units old.collector.receiver.session claim n new.outcomes.items
-  pub refused :
-      old.collector.is_refused ≡ false → new.collector.is_refused ≡ true → vec_len new.outcomes < n
-  pub count : new.collector.is_refused ≡ false → vec_len new.outcomes ≡ n
+  pub each : AreDone may fails old.collector.receiver.session claim n new.outcomes.items
+  pub lacks_thread :
+      old.collector.lacks_thread ≡ false → new.collector.lacks_thread ≡ true
+      → vec_len new.outcomes < n
+  pub count : new.collector.lacks_thread ≡ false → vec_len new.outcomes ≡ n
   pub done :
-      new.collector.is_refused ≡ false
-      → AllDone may units old.collector.receiver.session claim new.outcomes.items
+      new.collector.lacks_thread ≡ false
+      → AllDone may fails old.collector.receiver.session claim new.outcomes.items

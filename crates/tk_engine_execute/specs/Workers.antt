@@ -8,6 +8,7 @@ use Rattle.tk_book.specs.Books.{BookView, empty}
 use Rattle.tk_engine_claim.specs.Claims.{ClaimView, ClaimSeatView, fresh}
 use Rattle.tk_queue.specs.Senders.{fresh_senders}
 use Rattle.tk_engine_runs.specs.Run.{Emits}
+use Rattle.tk_engine_execute.specs.declared.engines.UnitFault.{UnitFault}
 use Rattle.tk_engine_execute.specs.declared.workers.WorkerHandles.{WorkerHandles}
 use Rattle.tk_engine_execute.specs.declared.workers.Outcome.{Outcome}
 use Rattle.tk_engine_execute.specs.declared.unstarted_workers.UnstartedWorkers.{UnstartedWorkers}
@@ -35,15 +36,15 @@ pub record IsStopped (may : ℕ → ℕ → ℕ → List Event → Type 0) (w : 
   pub emits : Emits may w 0 earlier prefix
 
 -- What worker w has left: its token, its seat, and where no unit failed, the list that the units
--- that it drew may emit. A unit that failed is one of the engine's, and the worker stopped at it.
-pub record IsDone (may : ℕ → ℕ → ℕ → List Event → Type 0) (units : ℕ) (session : TableId)
-    (claim : ClaimView) (w : ℕ) (o : Outcome) : Type 0 where
+-- that it drew may emit. A unit that failed is one that may fail so, and the worker stopped at it.
+pub record IsDone (may : ℕ → ℕ → ℕ → List Event → Type 0) (fails : ℕ → UnitFault → Type 0)
+    (session : TableId) (claim : ClaimView) (w : ℕ) (o : Outcome) : Type 0 where
   pub session_is : o.ended.session ≡ session
   pub worker : o.ended.worker ≡ w
   pub claim_is : o.claim_seat.claim ≡ claim
   pub all : o.failure ≡ None → o.claim_seat.spent ≡ true
   pub emits : o.failure ≡ None → Emits may w 0 o.claim_seat.numbers o.ended.sent
-  pub unit : IfSome o.failure (λ f. f.unit < units)
+  pub failed : IfSome o.failure (λ f. fails f.unit f.why)
   pub stopped : IfSome o.failure (λ f. IsStopped may w o.claim_seat o.ended.sent f.unit)
 
 -- the senders and seats of the workers 1, 2, .., who have done nothing
@@ -63,14 +64,15 @@ pub record IsLastWorker (all rest : UnstartedWorkers) (h : WorkerHandles) : Type
 
 -- worker i + 1 left outcome i
 abbrev pub AllDone :
-    (ℕ → ℕ → ℕ → List Event → Type 0) → ℕ → TableId → ClaimView → List Outcome → Type 0
-AllDone may units session claim outcomes =
-    (i : ℕ) (o : Outcome) → slice_get outcomes i ≡ Some o → IsDone may units session claim (i + 1) o
+    (ℕ → ℕ → ℕ → List Event → Type 0) → (ℕ → UnitFault → Type 0) → TableId → ClaimView
+    → List Outcome → Type 0
+AllDone may fails session claim outcomes =
+    (i : ℕ) (o : Outcome) → slice_get outcomes i ≡ Some o → IsDone may fails session claim (i + 1) o
 
 -- Each outcome is what its worker has left, which is one of the workers 1 to n, and they stand in
 -- the order of the workers. A worker without a thread has none.
-pub record AreDone (may : ℕ → ℕ → ℕ → List Event → Type 0) (units : ℕ) (session : TableId)
-    (claim : ClaimView) (n : ℕ) (outcomes : List Outcome) : Type 0 where
-  pub each : All (λ o. IsDone may units session claim o.ended.worker o) outcomes
+pub record AreDone (may : ℕ → ℕ → ℕ → List Event → Type 0) (fails : ℕ → UnitFault → Type 0)
+    (session : TableId) (claim : ClaimView) (n : ℕ) (outcomes : List Outcome) : Type 0 where
+  pub each : All (λ o. IsDone may fails session claim o.ended.worker o) outcomes
   pub few : All (λ o. o.ended.worker ≤ n) outcomes
   pub rising : AllPairs (λ a b. a.ended.worker < b.ended.worker) outcomes

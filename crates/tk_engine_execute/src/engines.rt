@@ -1,5 +1,5 @@
 //! What an engine is: a table, events before and after, and units with their needs.
-ghost use Rattle.std.specs.Prelude.{◌≡◌, ℕ, ◌<◌, ◌≤◌, List, length, Some, IfOk, OnOk, OnErr};
+ghost use Rattle.std.specs.Prelude.{◌≡◌, ℕ, ◌<◌, ◌≤◌, List, length, Some, IfOk, IfErr, OnOk, OnErr};
 ghost use Rattle.std.specs.Arc.{arc_value};
 ghost use Rattle.tk_ids.specs.declared.descriptors.Descriptor.{Descriptor};
 ghost use Rattle.tk_events.specs.declared.events.Event.{Event};
@@ -72,9 +72,12 @@ impl From<AllocError> for UnitFault {
 /// JUnit: a `HierarchicalTestEngine`; a unit is a subtree of nodes that one thread runs.
 ///
 /// The meaning of an engine is its table, the events before and after the units, the number of the
-/// units, each unit's need, and which lists of events each unit may emit (`may`). The narrower
-/// `may` is, the more is proved of a run of the engine.
+/// units, each unit's need, which lists of events each unit may emit (`may`), and with which faults
+/// it may fail (`fails`). The narrower `may` and `fails` are, the more is proved of a run of the
+/// engine.
 pub trait Engine: Sync {
+    ghost use Rattle.tk_engine_execute.specs.declared.engines.UnitFault.{UnitFault};
+
     ghost table: { Self → List Descriptor };
 
     ghost units: { Self → ℕ };
@@ -87,6 +90,9 @@ pub trait Engine: Sync {
 
     // may e u w k l: unit u may emit l for worker w, which had registered k descriptors before
     ghost may: { Self → ℕ → ℕ → ℕ → List Event → Type 0 };
+
+    // fails e u why: unit u may fail with why
+    ghost fails: { Self → ℕ → UnitFault → Type 0 } = { λ _ _ _. Unit {0} };
 
     /// The table of the static descriptors. A descriptor's key is its number in it.
     fn table(&self) -> &Arc<Table>
@@ -151,5 +157,6 @@ pub trait Engine: Sync {
         ensures same { IsSameSender (S.view sink.old) (S.view sink.new) }
         ensures ok { OnOk result
             (ExtendsAs (may self.now unit) (S.view sink.old) (S.view sink.new)) }
-        ensures err { OnErr result (Extends (S.view sink.old) (S.view sink.new)) };
+        ensures err { OnErr result (Extends (S.view sink.old) (S.view sink.new)) }
+        ensures fails { IfErr result (fails self.now unit) };
 }

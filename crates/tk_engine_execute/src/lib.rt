@@ -2,8 +2,11 @@
 //! several.
 #![tactic(auto)]
 
+mod closing;
 mod engines;
 mod event_collectors;
+pub mod laws;
+mod prepared_runs;
 mod results;
 mod run_faults;
 mod runs;

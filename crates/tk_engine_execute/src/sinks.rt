@@ -71,8 +71,13 @@ pub trait Sink {
     ) -> Result<u32, SinkFault>
         ensures ok { IfOk result (λ key.
             IsRegisteredAs (view self.old) (view self.new)
-            (record { parent = parent; segment = segment.now; name = name.now; dtype = dtype;
-            stamp = stamp }) (Ok key)) }
+            (record {
+              parent = parent;
+              segment = segment.now;
+              name = name.now;
+              dtype = dtype;
+              stamp = stamp;
+            }) (Ok key)) }
         ensures err { OnErr result (view self.new ≡ view self.old) };
 }
 
@@ -102,13 +107,23 @@ impl Sink for Sender {
     ) -> Result<u32, SinkFault>
         ensures ok { IfOk result (λ key.
             IsRegisteredAs self.old self.new
-            (record { parent = parent; segment = segment.now; name = name.now; dtype = dtype;
-            stamp = stamp }) (Ok key)) }
+            (record {
+              parent = parent;
+              segment = segment.now;
+              name = name.now;
+              dtype = dtype;
+              stamp = stamp;
+            }) (Ok key)) }
         ensures err { OnErr result (self.new ≡ self.old) }
         ensures cause { IfErr result
             (IsRegisterCause self.old self.new
-            (record { parent = parent; segment = segment.now; name = name.now; dtype = dtype;
-            stamp = stamp })) }
+            (record {
+              parent = parent;
+              segment = segment.now;
+              name = name.now;
+              dtype = dtype;
+              stamp = stamp;
+            })) }
     {
         match Sender::register(self, rt, parent, segment, name, dtype, stamp) {
             Ok(key) => Ok(key),

@@ -1,5 +1,6 @@
 //! The threads of a run's workers.
 ghost use Rattle.std.specs.Prelude.{◌≡◌, ◌≤◌, vec_len, vec_capacity};
+ghost use Rattle.tk_engine_execute.specs.Engines.{MayFail};
 ghost use Rattle.tk_engine_execute.specs.WorkerThreads.{CanRunWorkers, WorkersWereRun};
 ghost use Rattle.tk_engine_execute.specs.Workers.{IsReady, IsDone};
 
@@ -24,19 +25,23 @@ pub(crate) struct WorkerPromise<'e, E> {
 }
 
 impl<'e, E: Engine> Promise<Outcome> for WorkerPromise<'e, E> {
-    ghost kept_by = { λ p r. IsDone (E.may p.engine.now) (E.units p.engine.now)
-        p.handles.value.sender.session p.claim.now p.handles.value.sender.worker r };
+    ghost kept_by = { λ p r. IsDone (E.may p.engine.now)
+        (MayFail (E.units p.engine.now) (E.fails p.engine.now)) p.handles.value.sender.session
+        p.claim.now p.handles.value.sender.worker r };
 }
 
 /// The receiver's side of a run, and the outcome of each worker that was joined.
 #[derive(Drop)]
-pub(crate) struct JoinedWorkers {
+pub(crate) struct Collected {
     pub collector: EventCollector,
     pub outcomes: Vec<Outcome>,
 }
 
 // Starts a thread for the last worker, does the same with the rest, collects events where none is
 // left, and joins on the way back.
+//
+// There is no list of handles: each handle stays in its call until it is joined, so that nothing
+// grows while threads run, and one proof serves any number of workers.
 fn spawn_workers<'s, 'e, R: Threads + Wait + Sync, E: Engine>(
     rt: &'e R,
     alloc: Global,
@@ -45,18 +50,19 @@ fn spawn_workers<'s, 'e, R: Threads + Wait + Sync, E: Engine>(
     claim: &'e Claim,
     book: &'e Book,
     unstarted: &mut UnstartedWorkers,
-    joined: &mut JoinedWorkers,
+    collected: &mut Collected,
 )
     requires limit { claim.now.limit ≡ E.units engine.now }
     requires ready { CanRunWorkers claim.now book.now (E.table engine.now) unstarted.old
-        joined.old }
-    ensures run_to_the_end { WorkersWereRun (E.may engine.now) (E.units engine.now) claim.now
-        (vec_len unstarted.old.senders) joined.old joined.new }
-    ensures capacity { vec_capacity joined.old.outcomes ≤ vec_capacity joined.new.outcomes }
-    ensures at_most { vec_len joined.new.outcomes ≤ vec_len unstarted.old.senders }
+        collected.old }
+    ensures run_to_the_end { WorkersWereRun (E.may engine.now)
+        (MayFail (E.units engine.now) (E.fails engine.now)) claim.now
+        (vec_len unstarted.old.senders) collected.old collected.new }
+    ensures capacity { vec_capacity collected.old.outcomes ≤ vec_capacity collected.new.outcomes }
+    ensures at_most { vec_len collected.new.outcomes ≤ vec_len unstarted.old.senders }
 {
     let Some(handles) = unstarted.take() else {
-        joined.collector.collect_all(rt);
+        collected.collector.collect_all(rt);
         return;
     };
     let worker = handles.sender.worker();
@@ -68,18 +74,19 @@ fn spawn_workers<'s, 'e, R: Threads + Wait + Sync, E: Engine>(
     let run = move || -> Outcome
         requires { (claim.now.limit ≡ E.units engine.now)
             × IsReady claim.now book.now (E.table engine.now) handles }
-        ensures { IsDone (E.may engine.entry.now) (E.units engine.entry.now) handles.sender.session
+        ensures { IsDone (E.may engine.entry.now)
+            (MayFail (E.units engine.entry.now) (E.fails engine.entry.now)) handles.sender.session
             claim.entry.now handles.sender.worker result }
     { work(rt, alloc, engine, claim, book, handles) };
     match scope.spawn_with(promise, run) {
         Ok(thread) => {
-            spawn_workers(rt, alloc, scope, engine, claim, book, unstarted, joined);
-            joined.outcomes.push_reserved(thread.join(rt));
+            spawn_workers(rt, alloc, scope, engine, claim, book, unstarted, collected);
+            collected.outcomes.push_reserved(thread.join(rt));
         }
-        Err(refused) => {
-            drop(refused);
-            joined.collector.refuse(worker);
-            spawn_workers(rt, alloc, scope, engine, claim, book, unstarted, joined);
+        Err(not_started) => {
+            drop(not_started);
+            collected.collector.stop_waiting_for(worker);
+            spawn_workers(rt, alloc, scope, engine, claim, book, unstarted, collected);
         }
     }
 }
@@ -92,24 +99,24 @@ pub(crate) fn run_workers<R: Threads + Wait + Sync, E: Engine>(
     claim: &Claim,
     book: &Book,
     unstarted: UnstartedWorkers,
-    joined: JoinedWorkers,
-) -> JoinedWorkers
+    collected: Collected,
+) -> Collected
     requires limit { claim.now.limit ≡ E.units engine.now }
-    requires ready { CanRunWorkers claim.now book.now (E.table engine.now) unstarted joined }
-    ensures { WorkersWereRun (E.may engine.now) (E.units engine.now) claim.now
-        (vec_len unstarted.senders) joined result }
+    requires ready { CanRunWorkers claim.now book.now (E.table engine.now) unstarted collected }
+    ensures { WorkersWereRun (E.may engine.now) (MayFail (E.units engine.now) (E.fails engine.now))
+        claim.now (vec_len unstarted.senders) collected result }
 {
     thread::scope(
         thread::scope_env(),
         rt,
-        move |scope| -> JoinedWorkers
+        move |scope| -> Collected
             requires { (claim.now.limit ≡ E.units engine.now)
-                × CanRunWorkers claim.now book.now (E.table engine.now) unstarted joined }
-            ensures { WorkersWereRun (E.may engine.entry.now) (E.units engine.entry.now)
-                claim.entry.now (vec_len unstarted.senders) joined result }
+                × CanRunWorkers claim.now book.now (E.table engine.now) unstarted collected }
+            ensures { WorkersWereRun (E.may engine.entry.now)
+                (MayFail (E.units engine.entry.now) (E.fails engine.entry.now)) claim.entry.now (vec_len unstarted.senders) collected result }
         {
             let mut unstarted = unstarted;
-            let mut joined = joined;
+            let mut collected = collected;
             spawn_workers(
                 rt,
                 alloc,
@@ -118,9 +125,9 @@ pub(crate) fn run_workers<R: Threads + Wait + Sync, E: Engine>(
                 claim,
                 book,
                 &mut unstarted,
-                &mut joined,
+                &mut collected,
             );
-            joined
+            collected
         },
     )
 }

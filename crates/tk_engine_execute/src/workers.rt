@@ -3,7 +3,7 @@ ghost use Rattle.std.specs.Prelude.{◌≡◌, ◌<◌, List, [], ◌++◌, None
 ghost use Rattle.tk_events.specs.declared.events.Event.{Event};
 ghost use Rattle.tk_queue.specs.Emission.{registrations};
 ghost use Rattle.tk_engine_runs.specs.Run.{Emits};
-ghost use Rattle.tk_engine_execute.specs.Engines.{IsSameSender};
+ghost use Rattle.tk_engine_execute.specs.Engines.{IsSameSender, MayFail};
 ghost use Rattle.tk_engine_execute.specs.Workers.{IsReady, IsDone, IsStopped};
 
 use crate::engines::{Engine, UnitFault};
@@ -75,6 +75,7 @@ fn run_unit<R: Wait, E: Engine>(
     ensures ok { OnOk result ((l : List Event) × (sender.new.sent ≡ sender.old.sent ++ l)
         × E.may engine.now unit sender.old.worker (registrations sender.old.sent) l) }
     ensures err { OnErr result ((l : List Event) × (sender.new.sent ≡ sender.old.sent ++ l)) }
+    ensures fails { IfErr result (E.fails engine.now unit) }
 {
     book.acquire(rt, seat, engine.need(unit));
     let done = engine.run(rt, alloc, unit, seat, sender);
@@ -104,7 +105,8 @@ fn run_units<R: Wait, E: Engine>(
     ensures all { IfNone result (claim_seat.new.spent ≡ true) }
     ensures emits { IfNone result
         (Emits (E.may engine.now) sender.old.worker 0 claim_seat.new.numbers sender.new.sent) }
-    ensures unit { IfSome result (λ failure. failure.unit < E.units engine.now) }
+    ensures failed { IfSome result (λ failure.
+        MayFail (E.units engine.now) (E.fails engine.now) failure.unit failure.why) }
     ensures stopped { IfSome result (λ failure.
         IsStopped (E.may engine.now) sender.old.worker claim_seat.new sender.new.sent
         failure.unit) }
@@ -131,8 +133,8 @@ pub(crate) fn work<R: Wait, E: Engine>(
 ) -> Outcome
     requires limit { claim.now.limit ≡ E.units engine.now }
     requires ready { IsReady claim.now book.now (E.table engine.now) handles }
-    ensures { IsDone (E.may engine.now) (E.units engine.now) handles.sender.session claim.now
-        handles.sender.worker result }
+    ensures { IsDone (E.may engine.now) (MayFail (E.units engine.now) (E.fails engine.now))
+        handles.sender.session claim.now handles.sender.worker result }
 {
     let WorkerHandles {
         mut sender,

@@ -5,56 +5,75 @@ use Rattle.tk_limits.specs.declared.limits.TheConstants.{MAX_WORKERS}
 use Rattle.tk_record_columns.specs.Recorded.{Recorded}
 use Rattle.tk_streams.specs.Stream.{AppendsPrefix}
 use Rattle.tk_plan_units.specs.Cutting.{units_of}
+use Rattle.tk_plan_units.specs.Planned.{Outline}
 use Rattle.tk_plan_units.specs.Trees.{Tree, forest}
 use Rattle.tk_plan.specs.declared.faults.PlanFault.{PlanFault}
 use Rattle.tk_plan.specs.declared.faults.PlanFault.TheVariants as plans
 use Rattle.tk_plan.specs.Gives.{plan_in, outline, Answered}
 use Rattle.tk_engine_execute.specs.declared.run_faults.RunFault.{RunFault}
 use Rattle.tk_engine_execute.specs.declared.run_faults.RunFault.TheVariants as runs
+use Rattle.tk_engine_execute.specs.declared.engines.UnitFault.{UnitFault}
+use Rattle.tk_engine_execute.specs.Engines.{MayFail}
+use Rattle.tk_engine_execute.specs.Outcomes.{IsFaultOfExecute}
 use Rattle.tk_engine_execute.specs.Results.{IsTallied}
 use Rattle.tk_report_text.specs.Reports.{report_of_record}
 use Rattle.tk_engine_laws.specs.Reports.{report_of_plan}
-use Rattle.tk_engine_laws.specs.Scripts.{IsRunOf}
+use Rattle.tk_engine_laws.specs.Scripts.{IsRunOf, may}
+use Rattle.tk_engine.specs.Plays.{IsPlayFault}
 use Rattle.tk_report.specs.declared.plan_runs.PlanRun.{PlanRun}
 use Rattle.tk_report.specs.declared.faults.ReportFault.{ReportFault}
 use Rattle.tk_report.specs.declared.faults.ReportFault.TheVariants.{Plan, Run, Device, Memory}
 
--- the report of a record was written, or a prefix of it to a broken device; nothing for want of memory
-abbrev pub IsRunReport : Recorded → Option (List ℕ) → Option (List ℕ) → Result (Unit {0}) ReportFault → Type 0
+-- What writing the report of a record answers: it was written, or a prefix of it to a broken target,
+-- or nothing where memory was refused.
+abbrev pub IsRunReport :
+    Recorded → Option (List ℕ) → Option (List ℕ) → Result (Unit {0}) ReportFault → Type 0
 IsRunReport r old new (Ok _) = Appends old new (report_of_record r)
 IsRunReport r old new (Err (Plan f)) = ⊥
 IsRunReport r old new (Err (Run f)) = ⊥
 IsRunReport r old new (Err Device) = AppendsPrefix old new (report_of_record r)
 IsRunReport r old new (Err Memory) = new ≡ old
 
+-- the report of a plan that was read
 abbrev pub plan_text : Tree → List ℕ
 plan_text t = report_of_plan (outline t).nodes (outline t).table
 
--- the bytes are a plan, and its report was written so
+-- the bytes are a plan, and W holds of its report
 abbrev pub OfPlan : List ℕ → (List ℕ → Type 0) → Type 0
 OfPlan bytes W = (t : Tree) × (plan_in bytes ≡ Ok t) × W (plan_text t)
 
+-- a number of workers that a run may have
 abbrev pub MayWork : ℕ → Type 0
 MayWork workers = (0 < workers) × (workers ≤ MAX_WORKERS)
 
--- how many units a plan has
-abbrev pub unit_count : Tree → ℕ
-unit_count t = length (units_of (forest (outline t).nodes))
+-- A unit of the plan failed so: it is one of the plan's, and the fault is its sink's, or memory was
+-- refused.
+abbrev pub UnitMayFail : Outline → ℕ → UnitFault → Type 0
+UnitMayFail plan = MayFail (length (units_of (forest plan.nodes))) (λ unit. IsPlayFault)
 
--- The number of workers is refused exactly where it is out of its limits, the places never are, and the unit that failed is one
--- of the plan's. Want of memory is the report's own fault.
-abbrev pub IsRunFault : ℕ → ℕ → RunFault → Type 0
-IsRunFault workers units runs.Workers = ¬ MayWork workers
-IsRunFault workers units runs.Capacity = ⊥
-IsRunFault workers units (runs.Engine unit why) = MayWork workers × (unit < units)
-IsRunFault workers units runs.Memory = ⊥
-IsRunFault workers units runs.Threads = MayWork workers
+-- The fault is what `execute` says of the plan's engine: the first failure of a unit, in the order
+-- of the workers that had a thread; without one, a worker had no thread.
+abbrev pub IsExecuteFault : ℕ → Outline → RunFault → Type 0
+IsExecuteFault workers plan =
+    IsFaultOfExecute (may plan.nodes plan.table) (UnitMayFail plan) workers
 
--- the plan of the bytes is not run by this number of workers for this fault
+-- Why a plan is not run. The number of workers is refused exactly where it is out of its limits, and
+-- the capacity never is. Where memory was refused, that is the report's own fault.
+abbrev pub IsRunFault : ℕ → Outline → RunFault → Type 0
+IsRunFault workers plan runs.Workers = ¬ MayWork workers
+IsRunFault workers plan runs.Capacity = ⊥
+IsRunFault workers plan (runs.Engine unit why) =
+    MayWork workers × UnitMayFail plan unit why × IsExecuteFault workers plan (runs.Engine unit why)
+IsRunFault workers plan runs.Memory = ⊥
+IsRunFault workers plan runs.Threads =
+    MayWork workers × IsExecuteFault workers plan runs.Threads
+
+-- the bytes are a plan that is not run by this number of workers, for this fault
 abbrev pub IsNotRun : List ℕ → ℕ → RunFault → Type 0
-IsNotRun bytes workers fault = (t : Tree) × (plan_in bytes ≡ Ok t) × IsRunFault workers (unit_count t) fault
+IsNotRun bytes workers fault =
+    (t : Tree) × (plan_in bytes ≡ Ok t) × IsRunFault workers (outline t) fault
 
--- the bytes are no plan for this fault; want of memory is the report's own
+-- The bytes are no plan, for this fault. Where memory was refused, that is the report's own fault.
 abbrev pub IsNoPlan : List ℕ → PlanFault → Type 0
 IsNoPlan bytes fault = Answered (plan_in bytes) (Err fault) × (fault ≢ plans.Memory)
 
@@ -74,10 +93,12 @@ IsPlanRun bytes workers (Err (Run f)) = IsNotRun bytes workers f
 IsPlanRun bytes workers (Err Device) = ⊥
 IsPlanRun bytes workers (Err Memory) = Unit {0}
 
--- What reporting a plan that is run by `workers` workers answers.
-abbrev pub IsReported : List ℕ → ℕ → Option (List ℕ) → Option (List ℕ) → Result (Unit {0}) ReportFault → Type 0
+-- What reporting a plan that is run by `workers` workers answers, and what was written then.
+abbrev pub IsReported :
+    List ℕ → ℕ → Option (List ℕ) → Option (List ℕ) → Result (Unit {0}) ReportFault → Type 0
 IsReported bytes workers old new (Ok _) = OfPlan bytes (Appends old new) × MayWork workers
 IsReported bytes workers old new (Err (Plan f)) = IsNoPlan bytes f × (new ≡ old)
 IsReported bytes workers old new (Err (Run f)) = IsNotRun bytes workers f × (new ≡ old)
-IsReported bytes workers old new (Err Device) = OfPlan bytes (AppendsPrefix old new) × MayWork workers
+IsReported bytes workers old new (Err Device) =
+    OfPlan bytes (AppendsPrefix old new) × MayWork workers
 IsReported bytes workers old new (Err Memory) = new ≡ old

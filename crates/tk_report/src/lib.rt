@@ -2,6 +2,7 @@
 #![tactic(auto)]
 
 mod faults;
+pub mod laws;
 mod plan_runs;
 mod reporting;
 

@@ -10,7 +10,7 @@ use tk_engine_execute::{Results, execute};
 use tk_engine_laws::laws::report_is_unique;
 use tk_plan::read_plan;
 
-/// How many places the queue of a run has where the caller gives no number, as in [`run_plan`].
+/// How many items the queue of a run holds where the caller gives no number, as in [`run_plan`].
 pub const DEFAULT_CAPACITY: usize = 64;
 
 /// A plan that was run: the engine that has the plan, and the run's results.
@@ -26,8 +26,8 @@ pub struct PlanRun {
 /// however many workers there are.
 ///
 /// # Errors
-/// `Plan` or `Run`. Want of memory is `Memory`, also in reading the plan and in running it; a unit
-/// that finds no memory is `Run(Engine(unit, fault))`.
+/// `Plan` or `Run`. `Memory` where memory was refused, also in reading the plan and in running it,
+/// but in a unit it is `Run(Engine(unit, fault))`, with the unit that `execute` answered.
 pub fn run_plan<R: Threads + Wait + Sync>(
     rt: &R,
     alloc: Global,

@@ -43,8 +43,9 @@ pub fn write_report<T: Target>(
 /// many workers there are.
 ///
 /// # Errors
-/// `Plan`, `Run` or `Device`. Want of memory is `Memory`, also in reading the plan and in running
-/// it; a unit that finds no memory is `Run(Engine(unit, fault))`.
+/// `Plan`, `Run` or `Device`. `Memory` where memory was refused, also in reading the plan and in
+/// running it, but in a unit it is `Run(Engine(unit, fault))`, with the unit that `execute`
+/// answered.
 pub fn plan_report<R: Threads + Wait + Sync, T: Target>(
     rt: &R,
     alloc: Global,

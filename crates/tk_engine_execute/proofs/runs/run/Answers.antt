@@ -1,6 +1,6 @@
 use Rattle.std.proofs.Common.{arith, sym, ap, ◌∙◌, ◌≡◌, ℕ, false, List, [], ◌++◌}
 use Rattle.std.specs.Prelude.{Result, Ok, Err, IfOk}
-use Rattle.std.proofs.lemmas.Result.{IfOk-weaker}
+use Rattle.std.proofs.lemmas.Result.{IfOk-weaker, IfErr-weaker, err_from_is_err_and}
 use Rattle.tk_ids.specs.declared.descriptors.Descriptor.{Descriptor}
 use Rattle.tk_events.specs.declared.events.Event.{Event}
 use Rattle.tk_events.specs.declared.events.Entry.{Entry}
@@ -11,20 +11,23 @@ use Rattle.tk_queue.specs.Limits.{most_events}
 use Rattle.tk_queue.specs.Emission.{entries_by}
 use Rattle.tk_engine_runs.specs.Run.{IsRun, IsShared}
 use Rattle.tk_engine_execute.specs.declared.event_collectors.EventCollector.{EventCollector}
-use Rattle.tk_engine_execute.specs.EventCollectors.{Follows}
+use Rattle.tk_engine_execute.specs.EventCollectors.{TookMore}
 use Rattle.tk_engine_execute.specs.Results.{RunResults, IsTallied}
 use Rattle.tk_engine_execute.specs.PreparedRuns.{IsFreshCollector}
 use Rattle.tk_engine_execute.proofs.Collecting.{fresh_collector, room_left}
-use Rattle.tk_engine_execute.proofs.Tokens.{tallied_whole}
+use Rattle.tk_engine_execute.specs.Engines.{MayFail}
+use Rattle.tk_engine_execute.specs.Outcomes.{IsFaultOfRunning}
+use Rattle.tk_engine_execute.specs.declared.run_faults.RunFault.TheVariants.{Memory}
+use Rattle.tk_engine_execute.proofs.Tokens.{out_of_memory, tallied_whole}
 use Rattle.tk_engine_execute.proofs.runs.run.Goals as goal
 
 -- the record of a new collector that took some items
-prefix_is : (table : List Descriptor) (before : List Event) (workers capacity : ℕ) (a b : EventCollector) → IsFreshCollector table before workers capacity a → Follows a b → b.is_out_of_memory ≡ false
+prefix_is : (table : List Descriptor) (before : List Event) (workers capacity : ℕ) (a b : EventCollector) → IsFreshCollector table before workers capacity a → TookMore a b → b.is_out_of_memory ≡ false
     → b.recording.entries ≡ entries_by 0 before ++ entries b.receiver.taken
-prefix_is table before workers capacity a b fresh follows room =
+prefix_is table before workers capacity a b fresh took_more room =
     let none : a.receiver.taken ≡ [] = ap (λ (r : ReceiverView). r.taken) fresh.receiver in
-    let taken : entries b.receiver.taken ≡ entries follows.items = ap entries (follows.taken ∙ ap (λ l. l ++ follows.items) none) in
-    (follows.kept room).1 ∙ ap (λ l. l ++ entries follows.items) fresh.entries ∙ ap (λ l. entries_by 0 before ++ l) (sym taken)
+    let taken : entries b.receiver.taken ≡ entries took_more.items = ap entries (took_more.taken ∙ ap (λ l. l ++ took_more.items) none) in
+    (took_more.kept room).1 ∙ ap (λ l. l ++ entries took_more.items) fresh.entries ∙ ap (λ l. entries_by 0 before ++ l) (sym taken)
 
 both : {X Y : Type 0} (r : Result X Y) (P Q : X → Type 0) → IfOk r P → IfOk r Q → IfOk r (λ x. P x × Q x)
 both (Ok x) P Q p q = (p, q)
@@ -47,8 +50,8 @@ is_run may table before after units workers mid prefix over same first shared r 
   shared = shared;
 }
 
-pub run_workers-joined-requires-clause-ready : goal.run_workers-joined-requires-clause-ready
-run_workers-joined-requires-clause-ready g c κs within =
+pub run_workers-collected-requires-clause-ready : goal.run_workers-collected-requires-clause-ready
+run_workers-collected-requires-clause-ready g c κs within =
     let start = c.in_ok-start.ensures.start in
     let many = start.many in
     let room = start.room in record {
@@ -61,15 +64,15 @@ run_workers-joined-requires-clause-ready g c κs within =
 pub close-requires-clause-each : goal.close-requires-clause-each
 close-requires-clause-each g c κs within =
     let many = c.in_ok-start.ensures.start.many in
-    rw (sym many, c.run_workers-joined.ensures.follows.session) c.run_workers-joined.ensures.each
+    rw (sym many, c.run_workers-collected.ensures.took_more.session) c.run_workers-collected.ensures.each
 
 pub close-requires-clause-done : goal.close-requires-clause-done
-close-requires-clause-done g c κs within = λ going. rw c.run_workers-joined.ensures.follows.session (c.run_workers-joined.ensures.done going)
+close-requires-clause-done g c κs within = λ going. rw c.run_workers-collected.ensures.took_more.session (c.run_workers-collected.ensures.done going)
 
 pub finish-requires-clause-room : goal.finish-requires-clause-room
 finish-requires-clause-room g c κs within =
     let stated = c.in_ok-recording.ensures.recorded in
-    rw stated.0 (room_left c.run_workers-joined.result.collector most_events c.run_workers-joined.ensures.collector stated.1 (omega arith))
+    rw stated.0 (room_left c.run_workers-collected.result.collector most_events c.run_workers-collected.ensures.collector stated.1 (omega arith))
 
 pub returns-clause-run : goal.returns-clause-run
 returns-clause-run g c =
@@ -77,11 +80,11 @@ returns-clause-run g c =
     let before = g.E.Engine.before c.args.engine.now in
     let after = g.E.Engine.after c.args.engine.now in
     let start = c.in_ok-start.ensures.start in
-    let follows = c.run_workers-joined.ensures.follows in
+    let took_more = c.run_workers-collected.ensures.took_more in
     let stated = c.in_ok-recording.ensures.recorded in
-    let mid = entries c.run_workers-joined.result.collector.receiver.taken in
-    let prefix : c.in_ok-recording.recording.entries ≡ entries_by 0 before ++ mid = ap (λ (r : Recorded). r.entries) (stated.0) ∙ prefix_is table before c.args.workers c.args.capacity _ c.run_workers-joined.result.collector start.collector follows (stated.1) in
-    let over : c.in_ok-recording.recording.table ≡ table = ap (λ (r : Recorded). r.table) (stated.0) ∙ follows.table ∙ start.collector.table_is in
+    let mid = entries c.run_workers-collected.result.collector.receiver.taken in
+    let prefix : c.in_ok-recording.recording.entries ≡ entries_by 0 before ++ mid = ap (λ (r : Recorded). r.entries) (stated.0) ∙ prefix_is table before c.args.workers c.args.capacity _ c.run_workers-collected.result.collector start.collector took_more (stated.1) in
+    let over : c.in_ok-recording.recording.table ≡ table = ap (λ (r : Recorded). r.table) (stated.0) ∙ took_more.table ∙ start.collector.table_is in
     IfOk-weaker c.finish.result _ _ (is_run (g.E.Engine.may c.args.engine.now) table before after (g.E.Engine.units c.args.engine.now) c.args.workers mid c.in_ok-recording.recording.entries c.in_ok-recording.recording.table over prefix c.in_ok-recording.ensures.shared)
     (both c.finish.result _ _ c.finish.ensures.table c.finish.ensures.entries)
 
@@ -91,7 +94,28 @@ returns-clause-tally g c =
     let after = g.E.Engine.after c.args.engine.now in
     let start = c.in_ok-start.ensures.start in
     let stated = c.in_ok-recording.ensures.recorded in
-    let mid = entries c.run_workers-joined.result.collector.receiver.taken in
-    let prefix : c.in_ok-recording.recording.entries ≡ entries_by 0 before ++ mid = ap (λ (r : Recorded). r.entries) (stated.0) ∙ prefix_is _ before c.args.workers c.args.capacity _ c.run_workers-joined.result.collector start.collector c.run_workers-joined.ensures.follows (stated.1) in
+    let mid = entries c.run_workers-collected.result.collector.receiver.taken in
+    let prefix : c.in_ok-recording.recording.entries ≡ entries_by 0 before ++ mid = ap (λ (r : Recorded). r.entries) (stated.0) ∙ prefix_is _ before c.args.workers c.args.capacity _ c.run_workers-collected.result.collector start.collector c.run_workers-collected.ensures.took_more (stated.1) in
     IfOk-weaker c.finish.result _ _ (is_tallied c.args.workers c.in_ok-recording.closed before after mid c.in_ok-recording.recording.entries prefix c.in_ok-recording.ensures.tally)
     (both c.finish.result _ _ c.finish.ensures.entries c.finish.ensures.closed)
+
+pub close-requires-clause-fewer : goal.close-requires-clause-fewer
+close-requires-clause-fewer g c κs within = λ missing.
+    let start = c.in_ok-start.ensures.start in
+    let many = start.many in
+    let collected = c.run_workers-collected.result in
+    let fewer = c.run_workers-collected.ensures.lacks_thread start.collector.started missing in
+    omega (arith, many, fewer, collected.outcomes.ok.0)
+
+pub returns-in_err-start : goal.returns-in_err-start
+returns-in_err-start g c =
+    let p = err_from_is_err_and c.from_residual.result c.from_residual.ensures.1 in
+    let may = g.E.Engine.may c.args.engine.now in
+    let fails = MayFail (g.E.Engine.units c.args.engine.now) (g.E.Engine.fails c.args.engine.now) in
+    rw (p.1, p.2) (record { run = tt; tally = tt; running = out_of_memory may fails c.args.workers c.in_err-start.field-0.0 c.in_err-start.ensures.memory })
+
+pub returns-clause-running : goal.returns-clause-running
+returns-clause-running g c =
+    let may = g.E.Engine.may c.args.engine.now in
+    let fails = MayFail (g.E.Engine.units c.args.engine.now) (g.E.Engine.fails c.args.engine.now) in
+    IfErr-weaker c.finish.result (λ f. f ≡ Memory) (IsFaultOfRunning may fails c.args.workers) (out_of_memory may fails c.args.workers) c.finish.ensures.memory
