@@ -1,0 +1,58 @@
+#!/usr/bin/env python3
+"""Times `ask stats` beside a plain Rust reader of the same record text: `bench/stats/measure_stats.py PROGRAM [MIB]`.
+
+It wants rustc, and leaves nothing behind. A line for a record whose ids have one segment, and one for a record whose ids have two: whether
+the answers agree; seconds of processor time and by the clock, medians of five runs in turn; the ratios plain / ours (above 1 we are
+faster); the most memory of each over the size of the record.
+"""
+
+import os
+import sys
+from typing import List
+
+HERE = os.path.dirname(os.path.realpath(__file__))
+sys.path.insert(0, os.path.dirname(HERE))
+
+import building
+import timing
+
+USAGE = "bench/stats/measure_stats.py PROGRAM [MIB]"
+MIB = 15.9
+TESTS = 2_000
+WORKERS = 8
+ENDINGS = ["finish|ok", "finish|ok", "finish|fail|expected: <1> but was: <2>", "finish|abort|no host"]
+
+
+def record(mebibytes: float, segments: int) -> str:
+    """A record text of about this size, with ids of one or two segments."""
+    above = 1 if segments == 2 else 0
+    lines = ["testkit-record|2\n"] + ["N|C|[engine:e]|engine\n"] * above
+    lines += [f"N|T|[engine:e]/[method:test{it}()]|test {it}\n" if above else f"N|T|[m:test{it}]|test {it}\n" for it in range(TESTS)]
+    size, number = sum(map(len, lines)), 0
+    while size < mebibytes * 2**20 - 200:
+        key, worker = number % TESTS + above, 1 + number % WORKERS
+        ending = ENDINGS[number % 4] if number % 9 else ENDINGS[0]
+        lines.append(f"E|{worker}|{key}|{10 * number}|start\nE|{worker}|{key}|{10 * number + 7}|{ending}\n")
+        size, number = size + len(lines[-1]), number + 1
+    return "".join(lines)
+
+
+def measure(folder: str, words: List[str]) -> None:
+    program, mebibytes = os.path.realpath(words[0]), float(words[1]) if len(words) == 2 else MIB
+    plain, path = building.compile_plain(f"{HERE}/plain.rs", f"{folder}/plain"), f"{folder}/record"
+    for segments, title in ((1, "ids of one segment"), (2, "ids of two segments")):
+        with open(path, "w", encoding="utf-8") as file:
+            file.write(record(mebibytes, segments))
+        size = os.path.getsize(path) / 2**20
+        ours, theirs = timing.take([[program, "ask", "stats"], [plain]], path, folder)
+        print(
+            f"{title}, {size:.1f} MiB, {timing.load()}: answers {'agree' if ours.text() == theirs.text() else 'DIFFER'};"
+            f" processor {ours.processor:.3f} s, plain {theirs.processor:.3f} s, ratio {theirs.processor / ours.processor:.2f};"
+            f" clock {ours.clock:.3f} s, plain {theirs.clock:.3f} s, ratio {theirs.clock / ours.clock:.2f} (goal: at least 4);"
+            f" memory over input {ours.memory / size:.1f} (goal: at most 2), plain {theirs.memory / size:.1f}",
+            flush=True,
+        )
+
+
+if __name__ == "__main__":
+    building.run_script(measure, USAGE, 1, 2)
