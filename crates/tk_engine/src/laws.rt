@@ -6,6 +6,10 @@ ghost use Rattle.tk_engine_laws.specs.Scripts.{IsRunOf};
 
 use crate::scripted::Scripted;
 use tk_engine_execute::Results;
+pub use tk_engine_execute::laws::{each_worker_has_its_list, limits};
+pub use tk_engine_laws::laws::{
+    listener_by_key, nodes_are_found, report_is_unique, scripts_are_playable, stamps_are_positions,
+};
 
 /// What a listener may rely on holds of each record that is a run of the engine: by the
 /// descriptors' ids, and by their keys. Each record that `execute` answers for the engine is such a

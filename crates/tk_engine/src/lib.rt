@@ -1,4 +1,5 @@
-//! The engine of a plan: it emits the scripts of the plan's units.
+//! Engines and their runs: the engine of a plan, which emits the scripts of the plan's units, and
+//! the public names of the parts below, so that a crate above names this one alone.
 #![tactic(auto)]
 
 mod keys;
@@ -8,5 +9,6 @@ mod scripted;
 
 pub use scripted::Scripted;
 pub use tk_engine_execute::{
-    Engine, MAX_UNITS, Results, RunFault, Sink, SinkFault, UnitFault, execute,
+    Claim, ClaimFault, ClaimSeat, Engine, MAX_UNITS, Results, RunFault, Sink, SinkFault, UnitFault,
+    execute,
 };

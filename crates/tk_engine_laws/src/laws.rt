@@ -23,13 +23,12 @@ pub fn report_is_unique()
     ensures { ReportIsUnique }
 {}
 
-/// Every run of a plan keeps the order that a listener may rely on.
+/// Every run of a plan registers, starts, skips and finishes each id as a listener may rely on.
 pub fn listener()
     ensures { Listener }
 {}
 
-/// In every run of a plan each key is registered, starts, is skipped and finishes as a listener may rely on, and so do those
-/// of its children.
+/// Every run of a plan registers, starts, skips and finishes each key as a listener may rely on.
 pub fn listener_by_key()
     ensures { ListenerByKey }
 {}
