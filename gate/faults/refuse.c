@@ -37,8 +37,9 @@ static int find_code(struct dl_phdr_info *module, size_t size, void *unused) {
     for (int i = 0; i < module->dlpi_phnum; i++) {
         const ElfW(Phdr) *part = &module->dlpi_phdr[i];
         if (part->p_type != PT_LOAD || !(part->p_flags & PF_X)) continue;
-        code_begins = module->dlpi_addr + part->p_vaddr;
-        code_ends = code_begins + part->p_memsz;
+        uintptr_t begins = module->dlpi_addr + part->p_vaddr;
+        if (!code_begins || begins < code_begins) code_begins = begins;
+        if (begins + part->p_memsz > code_ends) code_ends = begins + part->p_memsz;
     }
     return 1;  // the program is the first module
 }
