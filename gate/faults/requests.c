@@ -12,13 +12,13 @@ static const struct iovec part = {bytes, 1};
 static void *nothing(void *with) { return with; }
 
 static int is_served(const char *by) {
-    // (the compiler leaves no call out whose answer stands here)
-    static void *volatile block;
+    // (the compiler leaves no call out whose answer stands in the one, and makes no malloc of a realloc of the other)
+    static void *volatile block, *volatile none;
     void *aligned;
     pthread_t thread;
     if (!strcmp(by, "malloc")) return (block = malloc(100)) != NULL;
     if (!strcmp(by, "calloc")) return (block = calloc(10, 10)) != NULL;
-    if (!strcmp(by, "realloc")) return (block = realloc(NULL, 100)) != NULL;
+    if (!strcmp(by, "realloc")) return (block = realloc(none, 100)) != NULL;
     if (!strcmp(by, "aligned_alloc")) return (block = aligned_alloc(64, 128)) != NULL;
     if (!strcmp(by, "posix_memalign")) return posix_memalign(&aligned, 64, 128) == 0;
     if (!strcmp(by, "pthread_create")) return pthread_create(&thread, NULL, nothing, NULL) == 0 && pthread_join(thread, NULL) == 0;
