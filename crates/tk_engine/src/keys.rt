@@ -12,6 +12,7 @@ pub(crate) struct Keys {
 }
 
 impl Keys {
+    /// Makes keys in which no node has one.
     pub fn new(alloc: Global) -> Keys
         ensures { (node : ℕ) → kept result node ≡ None }
     {
@@ -31,7 +32,8 @@ impl Keys {
         Ok(())
     }
 
-    /// The key of a node that is static, so that its number is its key, or whose key was noted.
+    /// Returns the key of a node that is static, so that its number is its key, or whose key was
+    /// noted.
     pub fn of(&self, statics: usize, node: u32) -> u32
         requires { (node < statics) ⊎ IsSome (kept self.now node) }
         ensures { key_found statics (kept self.now) node ≡ Some result }

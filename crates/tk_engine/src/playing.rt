@@ -19,7 +19,7 @@ use tk_engine_laws::laws::{nodes_are_found, scripts_are_playable};
 use tk_events::Event;
 use tk_plan_units::{Act, Plan, Step};
 
-/// Emits the event of a step that is no registration.
+// Emits the event of a step that is no registration.
 fn emit_step<R: Wait, S: Sink>(
     rt: &R,
     alloc: Global,
@@ -47,7 +47,7 @@ fn emit_step<R: Wait, S: Sink>(
     }
 }
 
-/// Registers the node of a step below the descriptor with that key, and gives its key.
+// Registers the node of a step below the descriptor with that key, and returns its key.
 fn register<R: Wait, S: Sink>(
     rt: &R,
     plan: &Plan,
@@ -70,7 +70,7 @@ fn register<R: Wait, S: Sink>(
     }
 }
 
-/// Plays a step: registers its node, or emits its event.
+// Plays a step: registers its node, or emits its event.
 fn play<R: Wait, S: Sink>(
     rt: &R,
     alloc: Global,
@@ -114,7 +114,7 @@ fn play<R: Wait, S: Sink>(
     }
 }
 
-/// Plays all steps of a unit's script.
+// Plays all steps of a unit's script.
 fn play_each<R: Wait, S: Sink>(
     rt: &R,
     alloc: Global,
@@ -142,7 +142,7 @@ fn play_each<R: Wait, S: Sink>(
     Ok(())
 }
 
-/// Plays a unit's script.
+/// Plays a unit's script: registers and emits into `sink` what its steps say.
 pub(crate) fn play_unit<R: Wait, S: Sink>(
     rt: &R,
     alloc: Global,

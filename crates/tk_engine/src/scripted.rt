@@ -29,14 +29,14 @@ impl Model for Scripted {
 }
 
 impl Scripted {
-    /// The engine of a plan.
+    /// Makes the engine of a plan.
     pub fn new(plan: Plan) -> Scripted
         ensures { result ≡ plan }
     {
         Scripted { plan }
     }
 
-    /// The plan.
+    /// Returns the plan.
     pub fn plan(&self) -> &Plan
         ensures { result.now ≡ self.now }
     {

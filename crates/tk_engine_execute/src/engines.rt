@@ -94,16 +94,16 @@ pub trait Engine: Sync {
     // fails e u why: unit u may fail with why
     ghost fails: { Self → ℕ → UnitFault → Type 0 } = { λ _ _ _. Unit {0} };
 
-    /// The table of the static descriptors. A descriptor's key is its number in it.
+    /// Returns the table of the static descriptors. A descriptor's key is its number in it.
     fn table(&self) -> &Arc<Table>
         ensures { arc_value result.now ≡ table self.now };
 
-    /// How many units there are, at most `MAX_UNITS`. They are numbered from 0.
+    /// Returns how many units there are, at most `MAX_UNITS`. They are numbered from 0.
     fn units(&self) -> u32
         ensures is { result ≡ units self.now }
         ensures limit { result ≤ MAX_UNITS };
 
-    /// The events before all units, which worker 0 emits.
+    /// Makes the events before all units, which worker 0 emits.
     ///
     /// There are at most `MAX_EVENTS`. Each is lawful, of a static descriptor and no registration.
     ///
@@ -114,7 +114,7 @@ pub trait Engine: Sync {
         ensures static_events { OnOk result
             (AreOfWorkerZero (length (table self.now)) (before self.now)) };
 
-    /// The events after all units, which worker 0 emits, with the limits of those before.
+    /// Makes the events after all units, which worker 0 emits, with the limits of those before.
     ///
     /// # Errors
     /// A request for memory was refused.
@@ -123,7 +123,7 @@ pub trait Engine: Sync {
         ensures static_events { OnOk result
             (AreOfWorkerZero (length (table self.now)) (after self.now)) };
 
-    /// The resources that a unit reads and writes while it runs.
+    /// Returns the resources that a unit reads and writes while it runs.
     ///
     /// JUnit: the `@ResourceLock`s of its nodes, and `@Isolated`.
     fn need(&self, unit: u32) -> Need

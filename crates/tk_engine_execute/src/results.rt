@@ -27,34 +27,35 @@ impl Model for Results {
 }
 
 impl Results {
+    /// Puts a record and the numbers of a closed session together.
     pub(crate) fn of(recording: Record, closed: Closed) -> Results
         ensures { result ≡ record { recorded = recording; closed = closed } }
     {
         Results { recording, closed }
     }
 
-    /// The record of the run.
+    /// Returns the record of the run.
     pub fn recorded(&self) -> &Record
         ensures { result.now ≡ self.now.recorded }
     {
         &self.recording
     }
 
-    /// How many events each worker emitted, as `Receiver::close` returned it.
+    /// Returns how many events each worker emitted, as `Receiver::close` returned it.
     pub fn closed(&self) -> &Closed
         ensures { result.now ≡ self.now.closed }
     {
         &self.closed
     }
 
-    /// All events of the run.
+    /// Selects all events of the run.
     pub fn all_events(&self, alloc: Global) -> Result<Events<'_>, AllocError>
         ensures { IfOk result (λ events. events ≡ all_of self.now.recorded) }
     {
         Events::all(alloc, &self.recording)
     }
 
-    /// The events of tests.
+    /// Selects the events of tests.
     pub fn test_events(&self, alloc: Global) -> Result<Events<'_>, AllocError>
         ensures { IfOk result (λ events.
             events
@@ -63,7 +64,7 @@ impl Results {
         self.all_events(alloc)?.pick(alloc, Selection::Tests)
     }
 
-    /// The events of containers.
+    /// Selects the events of containers.
     pub fn container_events(&self, alloc: Global) -> Result<Events<'_>, AllocError>
         ensures { IfOk result (λ events.
             events

@@ -37,7 +37,7 @@ pub(crate) struct Outcome {
 }
 
 impl Outcome {
-    /// The token and the seat of a worker that had no failure, or its failure.
+    /// Returns the token and the seat of a worker that had no failure, or its failure.
     pub(crate) fn into_parts(self) -> Result<(Ended, ClaimSeat), FailedUnit>
         ensures ok { IfOk result (λ r.
             (self.failure ≡ None) × (r.0 ≡ self.ended) × (r.1 ≡ self.claim_seat)) }
