@@ -17,6 +17,7 @@ from typing import Dict, List
 
 HERE = os.path.dirname(os.path.realpath(__file__))
 sys.path.insert(0, os.path.dirname(HERE))
+sys.dont_write_bytecode = True
 
 import building
 import timing

@@ -12,6 +12,7 @@ from typing import List
 
 HERE = os.path.dirname(os.path.realpath(__file__))
 sys.path.insert(0, os.path.dirname(HERE))
+sys.dont_write_bytecode = True
 
 import building
 import timing
