@@ -63,7 +63,7 @@ ids_first ds ids empty different = record {
     id_in key id h = at_id ds key h.descriptor (in_option (slice_get ds key) h.descriptor h.described) ∙ ap (λ i. Some i) h.id_is
 
 -- a descriptor after an event was known before it, or is the one that the event registers
-known_or_new : (past : Recorded) (e : Entry) (key : ℕ) (id : List SegmentView) → HasId (with_entry past e) key id → HasId past key id ⊎ ((of_kind Dynamic e ≡ true) × (e.event.key ≡ key))
+pub known_or_new : (past : Recorded) (e : Entry) (key : ℕ) (id : List SegmentView) → HasId (with_entry past e) key id → HasId past key id ⊎ ((of_kind Dynamic e ≡ true) × (e.event.key ≡ key))
 known_or_new past e key id h = by (desc past key) refl (sym (desc_more past e key) ∙ h.described)
   where
     new : (dynamic same : Bool) → of_kind Dynamic e ≡ dynamic → (e.event.key == key) ≡ same → (if dynamic && same then described e.event.payload else None) ≡ Some h.descriptor → (of_kind Dynamic e ≡ true) × (e.event.key ≡ key)

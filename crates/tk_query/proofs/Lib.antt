@@ -15,4 +15,6 @@ pub mod EventLemmas
 pub mod TakeLemmas
 pub mod LoopLemmas
 pub mod LifecycleIsUnique
+pub mod StepLemmas
+pub mod KeepLemmas
 pub mod AnswerIsUnique

@@ -10,6 +10,7 @@ pub mod ExecutionSteps
 pub mod Executions
 pub mod Pairing
 pub mod Lifecycle
+pub mod KeepsLifecycle
 pub mod LifecycleTexts
 pub mod LifecycleLaws
 pub mod KeyStates

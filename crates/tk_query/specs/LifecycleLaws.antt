@@ -1,6 +1,8 @@
 -- What follows from the definition of a record's lifecycle.
-use Rattle.std.specs.Prelude.{◌≡◌, ℕ, ◌+◌, take}
+use Rattle.std.specs.Prelude.{◌≡◌, ◌↔◌, ℕ, ◌+◌, take}
 use Rattle.tk_record_columns.specs.Recorded.{Recorded}
+use Rattle.tk_ids.specs.Table.{AreDifferent}
+use Rattle.tk_query.specs.KeepsLifecycle.{KeepsLifecycle}
 use Rattle.tk_query.specs.Lifecycle.{IsBrokenAt, IsLifecycle}
 use Rattle.tk_query.specs.declared.lifecycle_rules.Lifecycle.{Lifecycle}
 use Rattle.tk_query.specs.declared.lifecycle_rules.Lifecycle.TheVariants.{Kept}
@@ -17,3 +19,8 @@ BreakIsFinal =
     (r s : Recorded) (p : ℕ) (rule : LifecycleRule) →
     IsBrokenAt r p rule → s.table ≡ r.table →
     take (p + 1) s.entries ≡ take (p + 1) r.entries → ¬ IsLifecycle s Kept
+
+-- `Kept` is the answer exactly where the record keeps the lifecycle. No two descriptors of a table
+-- have one id.
+abbrev pub KeptIsKeeping : Type 0
+KeptIsKeeping = (r : Recorded) → AreDifferent r.table → IsLifecycle r Kept ↔ KeepsLifecycle r

@@ -1,6 +1,6 @@
 //! What the definitions of the answers imply.
 ghost use Rattle.tk_query.specs.Laws.{ExactIsUnique, LooseIsUnique, InOrderIsUnique, ListIsUnique};
-ghost use Rattle.tk_query.specs.LifecycleLaws.{LifecycleIsUnique, BreakIsFinal};
+ghost use Rattle.tk_query.specs.LifecycleLaws.{LifecycleIsUnique, BreakIsFinal, KeptIsKeeping};
 
 /// The same events and the same conditions have one answer.
 pub fn answer_is_unique()
@@ -14,4 +14,9 @@ pub fn answer_is_unique()
 pub fn lifecycle_is_unique()
     ensures one { LifecycleIsUnique }
     ensures broken { BreakIsFinal }
+{}
+
+/// A record's lifecycle is kept exactly where its ids, parents and executions are in order.
+pub fn kept_is_keeping()
+    ensures { KeptIsKeeping }
 {}
