@@ -13,38 +13,55 @@ use Rattle.tk_plan_units.specs.Cutting.{root_script, script_of}
 use Rattle.tk_plan_units.specs.Numbers.{IsNumbered}
 use Rattle.tk_plan_units.specs.Planned.{IsPlanned}
 use Rattle.tk_report_text.specs.Labels.{name, events, labels}
-use Rattle.tk_engine_laws.specs.Scripts.{IsRunOf, ArePlayable, HasKey, id_at, key_of, known_in, record_played}
+use Rattle.tk_engine_laws.specs.Scripts.{IsRunOf, ArePlayable, HasKey, id_at, key_of, known_in, record_played, next_key, NextKeysAreFree}
 use Rattle.tk_report_text.specs.Reports.{report_of_record}
 use Rattle.tk_engine_laws.specs.Reports.{report_of_plan}
 use Rattle.tk_engine_laws.specs.Listening.{Listens, ListensByKey}
 
 -- a step's stamp is its position in the root's script
 abbrev pub StampsArePositions : Type 0
-StampsArePositions = (root : Forest) (i : ℕ) (s : Step) → slice_get (root_script root) i ≡ Some s → s.stamp ≡ i
+StampsArePositions =
+    (root : Forest) (i : ℕ) (s : Step) → slice_get (root_script root) i ≡ Some s → s.stamp ≡ i
 
 -- in a unit's script each step has what it needs to be played
 abbrev pub ScriptsArePlayable : Type 0
-ScriptsArePlayable = (nodes : List NumberedNode) (table : List Descriptor) (unit : ℕ) → IsPlanned nodes table → IsNumbered nodes
+ScriptsArePlayable =
+    (nodes : List NumberedNode) (table : List Descriptor) (unit : ℕ)
+    → IsPlanned nodes table → IsNumbered nodes
     → ArePlayable nodes table [] (script_of (forest nodes) unit)
 
--- A worker that sent some events and then played the prefix of a unit's script, where the keys of the prefix's registrations
--- had no descriptor before, finds the id of each node that has a key there.
+-- A worker that sent some events and then played the first steps of a unit's script, whose
+-- registrations have keys that were free before, finds the id of each node that has a key there.
 abbrev pub NodesAreFound : Type 0
-NodesAreFound = (nodes : List NumberedNode) (table : List Descriptor) (unit worker node : ℕ) (sent : List Event) (prefix back : List Step) → IsPlanned nodes table → IsNumbered nodes
-    → ((j : ℕ) → j < length (known_in [] prefix) → desc (record { table = table; entries = entries_by worker sent }) (registered_key worker (registrations sent) + j) ≡ None)
-    → script_of (forest nodes) unit ≡ prefix ++ back → HasKey nodes table (known_in [] prefix) node
-    → option_map (λ d. d.id) (desc (record_played nodes table worker sent prefix) (key_of (length table) (registered_key worker (registrations sent)) (known_in [] prefix) node))
+NodesAreFound =
+    (nodes : List NumberedNode) (table : List Descriptor) (unit worker node : ℕ)
+    (sent : List Event) (prefix back : List Step)
+    → IsPlanned nodes table → IsNumbered nodes
+    → NextKeysAreFree table worker sent (length (known_in [] prefix))
+    → script_of (forest nodes) unit ≡ prefix ++ back
+    → HasKey nodes table (known_in [] prefix) node
+    → option_map (λ d. d.id)
+    (desc (record_played nodes table worker sent prefix)
+    (key_of (length table) (next_key worker sent) (known_in [] prefix) node))
     ≡ Some (id_at nodes node)
 
 -- the record of a run has the plan's report, for any number of workers
 abbrev pub ReportIsUnique : Type 0
-ReportIsUnique = (nodes : List NumberedNode) (table : List Descriptor) (workers : ℕ) (r : Recorded) → IsPlanned nodes table → IsNumbered nodes
+ReportIsUnique =
+    (nodes : List NumberedNode) (table : List Descriptor) (workers : ℕ) (r : Recorded)
+    → IsPlanned nodes table → IsNumbered nodes
     → IsRunOf nodes table workers r → report_of_record r ≡ report_of_plan nodes table
 
+-- in the record of a run the descriptors' ids keep the order that a listener may rely on
 abbrev pub Listener : Type 0
-Listener = (nodes : List NumberedNode) (table : List Descriptor) (workers : ℕ) (r : Recorded) → IsPlanned nodes table → IsNumbered nodes
+Listener =
+    (nodes : List NumberedNode) (table : List Descriptor) (workers : ℕ) (r : Recorded)
+    → IsPlanned nodes table → IsNumbered nodes
     → IsRunOf nodes table workers r → Listens (labels r)
 
+-- in the record of a run the descriptors' keys keep the order that a listener may rely on
 abbrev pub ListenerByKey : Type 0
-ListenerByKey = (nodes : List NumberedNode) (table : List Descriptor) (workers : ℕ) (r : Recorded) → IsPlanned nodes table → IsNumbered nodes
+ListenerByKey =
+    (nodes : List NumberedNode) (table : List Descriptor) (workers : ℕ) (r : Recorded)
+    → IsPlanned nodes table → IsNumbered nodes
     → IsRunOf nodes table workers r → ListensByKey (length table) (name r) (events r.entries)

@@ -15,7 +15,8 @@ precedes earlier later (x ∷ xs) = not (later x) && (earlier x || precedes earl
 -- each element that passes `earlier` has one after it that passes `later`
 abbrev pub is_followed : {A : Type 0} → (A → Bool) → (A → Bool) → List A → Bool
 is_followed earlier later [] = true
-is_followed earlier later (x ∷ xs) = (not (earlier x) || list_any later xs) && is_followed earlier later xs
+is_followed earlier later (x ∷ xs) =
+    (not (earlier x) || list_any later xs) && is_followed earlier later xs
 
 abbrev pub is_of : List SegmentView → Label → Bool
 is_of i l = same_id l.id i
@@ -43,16 +44,27 @@ IsOnce (x ∷ []) = same_kind x.kind Skipped ≡ true
 IsOnce (x ∷ (y ∷ [])) = (same_kind x.kind Started ≡ true) × (same_kind y.kind Finished ≡ true)
 IsOnce (x ∷ (y ∷ (z ∷ zs))) = ⊥
 
--- For the ids of a record. The id of a child is its parent's with one segment more.
+-- What a listener may rely on of the ids of a record. The id of a child is its parent's with one
+-- segment more.
 pub record Listens (ls : List Label) : Type 0 where
+  -- an id is skipped once, or starts once and then finishes once, or none of these
   pub once : (i : List SegmentView) → IsOnce (filter (λ l. is_of i l && is_ran l.kind) ls)
   -- a parent starts before each event of a child
-  pub start_first : (p : List SegmentView) (s : SegmentView) → p ≢ [] → precedes (starts p) (is_of (p ++ s ∷ [])) ls ≡ true
-  -- and finishes after it
-  pub finish_last : (p : List SegmentView) (s : SegmentView) → p ≢ [] → is_followed (is_of (p ++ s ∷ [])) (finishes p) ls ≡ true
+  pub start_first :
+      (p : List SegmentView) (s : SegmentView) → p ≢ []
+      → precedes (starts p) (is_of (p ++ s ∷ [])) ls ≡ true
+  -- a parent finishes after each event of a child
+  pub finish_last :
+      (p : List SegmentView) (s : SegmentView) → p ≢ []
+      → is_followed (is_of (p ++ s ∷ [])) (finishes p) ls ≡ true
   -- nothing below a skipped descriptor has an event
-  pub skipped : (i : List SegmentView) (s : SegmentView) (more : List SegmentView) → i ≢ [] → list_any (skips i) ls ≡ true → list_any (is_of (i ++ s ∷ more)) ls ≡ false
-  pub registered_first : (i : List SegmentView) → list_any (registers i) ls ≡ true → precedes (registers i) (λ l. is_of i l && is_ran l.kind) ls ≡ true
+  pub skipped :
+      (i : List SegmentView) (s : SegmentView) (more : List SegmentView) → i ≢ []
+      → list_any (skips i) ls ≡ true → list_any (is_of (i ++ s ∷ more)) ls ≡ false
+  -- what is registered is registered before it starts, finishes or is skipped
+  pub registered_first :
+      (i : List SegmentView) → list_any (registers i) ls ≡ true
+      → precedes (registers i) (λ l. is_of i l && is_ran l.kind) ls ≡ true
 
 -- the descriptor of key k is a child of that of key p: its id is the parent's with one segment more
 abbrev pub IsChild : (ℕ → List SegmentView) → ℕ → ℕ → Type 0
@@ -60,16 +72,31 @@ IsChild names p k = (names p ≢ []) × (s : SegmentView) × (names k ≡ names 
 
 -- the descriptor of key k stands below that of key p: its id is the other's with more segments
 abbrev pub IsBelow : (ℕ → List SegmentView) → ℕ → ℕ → Type 0
-IsBelow names p k = (names p ≢ []) × (s : SegmentView) × (more : List SegmentView) × (names k ≡ names p ++ s ∷ more)
+IsBelow names p k =
+    (names p ≢ []) × (s : SegmentView) × (more : List SegmentView)
+    × (names k ≡ names p ++ s ∷ more)
 
--- For the keys of a record over its table. A key without a descriptor has the id [].
-pub record ListensByKey (statics : ℕ) (names : ℕ → List SegmentView) (es : List Event) : Type 0 where
+-- What a listener may rely on of the keys of a record over its table. A key without a descriptor
+-- has the id [].
+pub record ListensByKey (statics : ℕ) (names : ℕ → List SegmentView) (es : List Event) :
+    Type 0 where
+  -- a key is skipped once, or starts once and then finishes once, or none of these
   pub once : (k : ℕ) → IsOnce (map (label names) (filter (λ e. e.key == k && is_ran e.kind) es))
   -- a parent starts before each event of a child
-  pub start_first : (p k : ℕ) → IsChild names p k → precedes (λ e. e.key == p && same_kind e.kind Started) (λ e. e.key == k) es ≡ true
-  -- and finishes after it
-  pub finish_last : (p k : ℕ) → IsChild names p k → is_followed (λ e. e.key == k) (λ e. e.key == p && same_kind e.kind Finished) es ≡ true
+  pub start_first :
+      (p k : ℕ) → IsChild names p k
+      → precedes (λ e. e.key == p && same_kind e.kind Started) (λ e. e.key == k) es ≡ true
+  -- a parent finishes after each event of a child
+  pub finish_last :
+      (p k : ℕ) → IsChild names p k
+      → is_followed (λ e. e.key == k) (λ e. e.key == p && same_kind e.kind Finished) es ≡ true
   -- nothing below a skipped descriptor has an event
-  pub skipped : (p k : ℕ) → IsBelow names p k → list_any (λ e. e.key == p && same_kind e.kind Skipped) es ≡ true → list_any (λ e. e.key == k) es ≡ false
+  pub skipped :
+      (p k : ℕ) → IsBelow names p k
+      → list_any (λ e. e.key == p && same_kind e.kind Skipped) es ≡ true
+      → list_any (λ e. e.key == k) es ≡ false
   -- what has no descriptor in the table is registered first
-  pub registered_first : (k : ℕ) → statics ≤ k → precedes (λ e. e.key == k && same_kind e.kind Dynamic) (λ e. e.key == k && is_ran e.kind) es ≡ true
+  pub registered_first :
+      (k : ℕ) → statics ≤ k
+      → precedes (λ e. e.key == k && same_kind e.kind Dynamic)
+      (λ e. e.key == k && is_ran e.kind) es ≡ true
