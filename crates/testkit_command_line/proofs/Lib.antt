@@ -1,1 +1,2 @@
+mod OwningIterators
 mod Lines

@@ -1,7 +1,5 @@
 -- What the words of a command line ask for.
 use Rattle.std.specs.Prelude.{◌≡◌, ℕ, ◌^◌, List, ◌∷◌, codes, map, string_bytes, Option, Some, None, Result, Ok, Err}
-use Rattle.std.specs.declared.io.ErrorKind.{ErrorKind as IoKind}
-use Rattle.std.specs.declared.io.ErrorKind.TheVariants as io
 use Rattle.clap.specs.declared.error.kind.ErrorKind.{ErrorKind as ParseKind}
 use Rattle.clap.specs.declared.error.kind.ErrorKind.TheVariants as parse
 use Rattle.tk_record.specs.Reading.{number_of}
@@ -38,11 +36,6 @@ run_by_number (Some workers) = Ok (jobs.Run workers)
 abbrev pub run_by : Option (List ℕ) → Result Job CommandLineFault
 run_by None = Ok (jobs.Run 1)
 run_by (Some text) = run_by_number (number_of (2 ^ 8) text)
-
--- why the arguments are not read: memory was refused, or they are no text
-abbrev pub fault_of_arguments : IoKind → CommandLineFault
-fault_of_arguments io.OutOfMemory = faults.Memory
-fault_of_arguments _ = faults.BadWords
 
 -- why the command-line crate refuses words: memory was refused, or the words are bad
 abbrev pub fault_of_parse : ParseKind → CommandLineFault
