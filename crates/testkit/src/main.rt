@@ -3,36 +3,15 @@
 #![tactic(auto)]
 
 use std::process::ExitCode;
-use std::sync::Wait;
-use std::thread::Threads;
 use std::{env, io};
-use testkit_command_line::{CommandLineFault, arguments_fault};
-use testkit_program::{Fault, FaultLine, exit_code, perform};
+use testkit_program::{FaultLine, exit_code, perform};
 use tk_record::{StdSource, StdTarget};
 
-/// The program's name and the words after it.
-fn words(rt: &HostRuntime) -> Result<Vec<String>, CommandLineFault> {
-    let given = match env::args(rt) {
-        Ok(given) => given,
-        Err(error) => return Err(arguments_fault(&error)),
-    };
-    let mut words = Vec::new(rt.alloc());
-    for word in given {
-        words.push(word)?;
-    }
-    Ok(words)
-}
-
-/// Does what the words ask for, from standard input to standard output.
-fn run<R: Threads + Wait + Sync>(host: &HostRuntime, rt: &R) -> Result<bool, Fault> {
-    let words = words(host)?;
-    let mut source = StdSource::new(host.reader());
-    let mut target = StdTarget::new(io::writer(host));
-    perform(rt, host.alloc(), words.as_slice(), &mut source, &mut target)
-}
-
 fn main(rt: HostRuntime) -> ExitCode {
-    let outcome = run(&rt, &rt);
+    let mut source = StdSource::new(rt.reader());
+    let mut target = StdTarget::new(io::writer(&rt));
+    let arguments = env::args(&rt);
+    let outcome = perform(&rt, rt.alloc(), arguments, &mut source, &mut target);
     if let Err(fault) = &outcome {
         let _ = rt.eprint(FaultLine(fault));
     }

@@ -16,13 +16,16 @@ abbrev pub fault_of_arguments : ErrorKind → CommandLineFault
 fault_of_arguments io.OutOfMemory = faults.Memory
 fault_of_arguments _ = faults.BadWords
 
+-- what reading a program's arguments answered
+abbrev pub Arguments : Type 0
+Arguments = Result (IntoIter (String Global) Global) Error
+
 -- the words of all arguments in their order, where the arguments were read
-abbrev pub given_words : Result (IntoIter (String Global) Global) Error → Option (List (List ℕ))
+abbrev pub given_words : Arguments → Option (List (List ℕ))
 given_words (Ok given) = Some (map string_bytes (into_iter_items given))
 given_words (Err error) = None
 
 -- the fault is that of the reading, or memory was refused
-abbrev pub IsArgumentsFault : Result (IntoIter (String Global) Global) Error → CommandLineFault
-    → Type 0
+abbrev pub IsArgumentsFault : Arguments → CommandLineFault → Type 0
 IsArgumentsFault (Ok given) fault = fault ≡ faults.Memory
 IsArgumentsFault (Err error) fault = fault ≡ fault_of_arguments (error_kind error)
