@@ -11,7 +11,7 @@ use Rattle.std.specs.Vec.Iter.{into_iter_items}
 use Rattle.testkit_command_line.specs.declared.faults.CommandLineFault.{CommandLineFault}
 use Rattle.testkit_command_line.specs.declared.faults.CommandLineFault.TheVariants as faults
 
--- why the arguments are not read: memory was refused, or one is no text
+-- why the arguments are not read: an allocation failed, or one is no text
 abbrev pub fault_of_arguments : ErrorKind → CommandLineFault
 fault_of_arguments io.OutOfMemory = faults.Memory
 fault_of_arguments _ = faults.BadWords
@@ -25,7 +25,7 @@ abbrev pub given_words : Arguments → Option (List (List ℕ))
 given_words (Ok given) = Some (map string_bytes (into_iter_items given))
 given_words (Err error) = None
 
--- the fault is that of the reading, or memory was refused
+-- the fault is that of the reading, or an allocation failed
 abbrev pub IsArgumentsFault : Arguments → CommandLineFault → Type 0
 IsArgumentsFault (Ok given) fault = fault ≡ faults.Memory
 IsArgumentsFault (Err error) fault = fault ≡ fault_of_arguments (error_kind error)

@@ -32,12 +32,13 @@ abbrev pub run_by_number : Option ℕ → Result Job CommandLineFault
 run_by_number None = Err faults.BadWords
 run_by_number (Some workers) = Ok (jobs.Run workers)
 
--- a run whose option has this value: by one worker where it was left out, else by as many as the number below 2^8 says
+-- A run whose option has this value: by one worker where it was left out, else by as many as the
+-- number below 2^8 says.
 abbrev pub run_by : Option (List ℕ) → Result Job CommandLineFault
 run_by None = Ok (jobs.Run 1)
 run_by (Some text) = run_by_number (number_of (2 ^ 8) text)
 
--- why the command-line crate refuses words: memory was refused, or the words are bad
+-- why the command-line crate refuses words: an allocation failed, or the words are bad
 abbrev pub fault_of_parse : ParseKind → CommandLineFault
 fault_of_parse parse.OutOfMemory = faults.Memory
 fault_of_parse _ = faults.BadWords

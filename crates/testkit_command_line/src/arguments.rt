@@ -9,7 +9,8 @@ use std::alloc::Global;
 use std::env::Args;
 use std::io;
 
-/// Answers why a program's arguments could not be read: memory was refused, or one is no text.
+/// Answers why a program's arguments could not be read: an allocation failed, or one is no
+/// text.
 pub fn arguments_fault(error: &io::Error) -> CommandLineFault
     ensures { result ≡ fault_of_arguments (error_kind error.now) }
 {

@@ -12,7 +12,7 @@ use std::alloc::AllocError;
 pub enum CommandLineFault {
     /// The words are no command line of the program (docs/FORMATS.md, commands).
     BadWords,
-    /// Memory was refused.
+    /// An allocation failed.
     Memory,
 }
 
@@ -24,7 +24,8 @@ impl From<AllocError> for CommandLineFault {
     }
 }
 
-/// Answers why the command-line crate refused words: memory was refused, or the words are bad.
+/// Answers why the command-line crate refused words: an allocation failed, or the words are
+/// bad.
 pub fn parse_fault(error: &clap::Error) -> CommandLineFault
     ensures { result ≡ fault_of_parse (kind_of error.now) }
 {

@@ -45,7 +45,8 @@ IsPlanReported workers s bytes =
 -- what doing a job writes, and whether its answer is a yes, where the input is known
 abbrev pub IsDone : Job → Streams → Bool → Type 0
 IsDone (jobs.Ask question) s is_yes =
-    IfSome s.input (λ bytes. AddsAnswer (map string_bytes question.now) bytes is_yes s.before s.after)
+    IfSome s.input (λ bytes.
+    AddsAnswer (map string_bytes question.now) bytes is_yes s.before s.after)
 IsDone jobs.Replay s is_yes =
     IfSome s.input (λ bytes. (is_yes ≡ true) × IsWritten bytes s.before s.after)
 IsDone (jobs.Run workers) s is_yes =
@@ -61,7 +62,8 @@ IsAskFault question s fault =
 
 -- nothing was written, or the input plays and a prefix of the record text was written
 abbrev pub IsPartlyReplayed : Streams → Type 0
-IsPartlyReplayed s = IsUnwritten s ⊎ IfSome s.input (λ bytes. IsPartlyWritten bytes s.before s.after)
+IsPartlyReplayed s =
+    IsUnwritten s ⊎ IfSome s.input (λ bytes. IsPartlyWritten bytes s.before s.after)
 
 -- Why a script is not replayed. Where the fault is of the input, nothing was written.
 abbrev pub IsReplayFault : Streams → ReplayFault → Type 0
@@ -82,8 +84,8 @@ IsReportFault workers s reports.Device =
     IfSome s.input (λ bytes. OfPlan bytes (AppendsPrefix s.before s.after)) × MayWork workers
 IsReportFault workers s reports.Memory = IsUnwritten s
 
--- The fault is of the words alone: of the command line, of a question's words, or memory was
--- refused where the words were read.
+-- The fault is of the words alone: of the command line, of a question's words, or an allocation
+-- failed where the words were read.
 abbrev pub IsOfWords : Fault → Type 0
 IsOfWords faults.CommandLine = Unit {0}
 IsOfWords faults.Memory = Unit {0}
@@ -112,7 +114,7 @@ IsBroken source target (faults.Load loads.Device) = source ≡ true
 IsBroken source target (faults.Report reports.Device) = target ≡ true
 IsBroken source target _ = Unit {0}
 
--- the fault is of the command line, or memory was refused
+-- the fault is of the command line, or an allocation failed
 abbrev pub IsOfLine : Fault → Type 0
 IsOfLine faults.CommandLine = Unit {0}
 IsOfLine faults.Memory = Unit {0}

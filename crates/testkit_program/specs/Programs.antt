@@ -11,7 +11,7 @@ abbrev pub HasPerformed : Arguments → Streams → Bool → Type 0
 HasPerformed arguments s is_yes =
     IsSomeAnd (given_words arguments) (λ words. IsPerformed words s is_yes)
 
--- the arguments are no words, or memory was refused where they were read, and nothing was written
+-- the arguments are no words, or an allocation failed where they were read; nothing was written
 abbrev pub AreRefused : Arguments → Streams → Fault → Type 0
 AreRefused arguments s fault =
     IsUnwritten s

@@ -8,10 +8,9 @@ ghost use Rattle.testkit_command_line.specs.declared.jobs.Job.TheVariants as job
 use crate::faults::Fault;
 use std::alloc::Global;
 use std::env::Args;
-use std::io;
-use std::mem;
 use std::sync::Wait;
 use std::thread::Threads;
+use std::{io, mem};
 use testkit_command_line::{Job, collect_words, job_of};
 use testkit_questions::ask;
 use tk_queue_core::replay_text;
@@ -101,11 +100,11 @@ fn perform_words<R: Threads + Wait + Sync, S: Source, T: Target>(
     source: &mut S,
     target: &mut T,
 ) -> Result<bool, Fault>
-    ensures done { IfOk result (IsPerformed (map string_bytes words.now) (streams_of (S.remaining source.old)
-        (T.contents target.old) (T.contents target.new))) }
+    ensures done { IfOk result (IsPerformed (map string_bytes words.now)
+        (streams_of (S.remaining source.old) (T.contents target.old) (T.contents target.new))) }
     ensures unread { IfErr result (λ fault. IsOfWords fault → source.new ≡ source.old) }
-    ensures refused { IfErr result (IsNotPerformed (map string_bytes words.now) (streams_of (S.remaining source.old)
-        (T.contents target.old) (T.contents target.new))) }
+    ensures refused { IfErr result (IsNotPerformed (map string_bytes words.now)
+        (streams_of (S.remaining source.old) (T.contents target.old) (T.contents target.new))) }
     ensures device { IfErr result (IsBroken (S.broken source.new) (T.broken target.new)) }
 {
     let job = job_of(alloc, words)?;

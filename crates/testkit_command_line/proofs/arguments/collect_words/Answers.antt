@@ -10,5 +10,5 @@ returns-in_ok-collect-in-Ok-clause-words c =
     let given = c.in-Ok.given in
     let ran = c.in_ok-collect-in-Ok.ensures.ran in
     let all : c.in_ok-collect-in-Ok.field-0.items ≡ into_iter_items given =
-        ran.2.0 ∙ drained given ran.0 ran.1 in
+    ran.2.0 ∙ drained given ran.0 ran.1 in
     ap given_words c.in-Ok.is ∙ ap (λ items. Some (map string_bytes items)) (sym all)
