@@ -81,8 +81,66 @@ fn name_ends(alloc: Global) -> bool {
     )
 }
 
+// Whether the conditions on skips, files and empty entries have their texts.
+fn name_others(alloc: Global) -> bool {
+    is_made_as(
+        alloc,
+        Condition::skipped_with_reason(alloc, "off"),
+        "skipped(off)",
+    ) && is_made_as(
+        alloc,
+        Condition::file_entry(alloc, "out/log.txt"),
+        "file(out/log.txt)",
+    ) && is_made_as(alloc, Condition::report_entry(alloc, &[]), "entry()")
+        && is_written_as(alloc, &Condition::finished_successfully(), "succeeded")
+}
+
+// The event of a test that finished, as a list of two conditions.
+fn finished_test(alloc: Global) -> Result<Condition, AllocError> {
+    let mut both = Vec::new(alloc);
+    both.push(Condition::Test)?;
+    both.push(Condition::finished_successfully())?;
+    Ok(Condition::event(both))
+}
+
 #[test]
 fn conditions_by_name(rt: HostRuntime) {
     assert!(rt; name_descriptors(rt.alloc()));
     assert!(rt; name_ends(rt.alloc()));
+    assert!(rt; name_others(rt.alloc()));
+    let event = finished_test(rt.alloc());
+    assert!(rt; is_made_as(rt.alloc(), event, "all(test,succeeded)"));
+}
+
+// A text of `count` units between a head and a tail.
+fn repeated(
+    alloc: Global,
+    head: &str,
+    unit: &str,
+    count: usize,
+    tail: &str,
+) -> Result<String, AllocError> {
+    let mut text = String::from_str(alloc, head)?;
+    for _ in 0..count {
+        text.push_str(unit)?;
+    }
+    text.push_str(tail)?;
+    Ok(text)
+}
+
+fn is_long_written_again(alloc: Global, text: Result<String, AllocError>) -> bool {
+    match text {
+        Ok(text) => is_written_again(alloc, text.as_str()),
+        Err(_) => false,
+    }
+}
+
+/// Texts have no limit: an atom of more than 1 MiB, and 65,536 atoms in a list.
+#[test]
+fn long_conditions(rt: HostRuntime) {
+    let alloc = rt.alloc();
+    let name = repeated(alloc, "name(", "abcdefgh", 150_000, ")");
+    assert!(rt; is_long_written_again(alloc, name));
+    let list = repeated(alloc, "any(test", ",started", 65_535, ")");
+    assert!(rt; is_long_written_again(alloc, list));
 }

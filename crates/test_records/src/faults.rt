@@ -1,15 +1,13 @@
 //! Faults as texts.
-use std::alloc::Global;
+use std::alloc::{AllocError, Global};
+use test_support::{are_shown, is_debugged_as, is_shown, is_shown_as, start};
 use testkit_questions::AskFault;
-use tk_query::CondFault;
-use tk_record::ReadFault;
-
-fn is_shown_as(alloc: Global, fault: &AskFault, text: &str) -> bool {
-    match format!(in alloc; "{fault}") {
-        Ok(shown) => shown.as_str() == text,
-        Err(_) => false,
-    }
-}
+use tk_events::{Entry, Kind, Pairs};
+use tk_ids::{IdFault, Segment, TableFault, Text, UniqueId};
+use tk_query::{CondFault, Loose};
+use tk_record::{LineFault, NodesFault, ReadFault, WriteFault};
+use tk_record_columns::AppendFault;
+use tk_streams::{Broken, LoadFault};
 
 // Whether the faults of a question's words have their texts.
 fn show_word_faults(alloc: Global) -> bool {
@@ -22,7 +20,7 @@ fn show_word_faults(alloc: Global) -> bool {
         )
 }
 
-// Whether the other faults have their texts.
+// Whether the other faults of a question have their texts.
 fn show_other_faults(alloc: Global) -> bool {
     is_shown_as(alloc, &AskFault::Read(ReadFault::NoHeader), "no header")
         && is_shown_as(alloc, &AskFault::Device, "device failed")
@@ -33,4 +31,107 @@ fn show_other_faults(alloc: Global) -> bool {
 fn ask_faults(rt: HostRuntime) {
     assert!(rt; show_word_faults(rt.alloc()));
     assert!(rt; show_other_faults(rt.alloc()));
+}
+
+fn show_id_faults(alloc: Global) -> bool {
+    let faults = [
+        IdFault::Empty,
+        IdFault::BadSegment(1),
+        IdFault::BadEscape(2),
+        IdFault::TooLong,
+        IdFault::Memory,
+    ];
+    are_shown(alloc, &faults)
+}
+
+fn show_table_faults(alloc: Global) -> bool {
+    let faults = [
+        TableFault::NoParent,
+        TableFault::Twice,
+        TableFault::Full,
+        TableFault::Id(IdFault::Empty),
+        TableFault::Memory,
+    ];
+    are_shown(alloc, &faults)
+}
+
+// An entry that came back with a fault.
+fn entry() -> Entry {
+    let event = start(0, 0);
+    Entry { worker: 1, event }
+}
+
+fn show_append_faults(alloc: Global) -> bool {
+    is_shown_as(
+        alloc,
+        &AppendFault::UnknownKey(entry()),
+        "has an unknown key",
+    ) && is_shown_as(alloc, &AppendFault::Unlawful(entry()), "is unlawful")
+        && is_shown_as(alloc, &AppendFault::Full(entry()), "is one too many")
+        && is_shown(alloc, &AppendFault::Memory(entry()))
+}
+
+// Whether the faults of a record's text have their texts.
+fn show_read_faults(alloc: Global) -> bool {
+    let unlawful = ReadFault::Append(9, AppendFault::Unlawful(entry()));
+    is_shown_as(alloc, &ReadFault::BadLine(9), "line 9 is bad")
+        && is_shown_as(alloc, &unlawful, "line 9 is unlawful")
+        && is_shown_as(alloc, &ReadFault::TooLarge, "input too large")
+        && is_shown_as(alloc, &ReadFault::Device, "device failed")
+        && is_shown_as(alloc, &ReadFault::Memory, "out of memory")
+}
+
+fn show_line_faults(alloc: Global) -> bool {
+    are_shown(alloc, &[LineFault::Bad, LineFault::Memory])
+        && are_shown(alloc, &[NodesFault::BadLine(2), NodesFault::Memory])
+}
+
+fn show_device_faults(alloc: Global) -> bool {
+    let faults = [LoadFault::TooLarge, LoadFault::Device, LoadFault::Memory];
+    are_shown(alloc, &faults)
+        && are_shown(alloc, &[WriteFault::Device, WriteFault::Memory])
+        && is_shown(alloc, &Broken)
+}
+
+fn show_condition_faults(alloc: Global) -> bool {
+    let faults = [CondFault::BadAtom(3), CondFault::Deep, CondFault::Memory];
+    are_shown(alloc, &faults)
+}
+
+#[test]
+fn each_fault_is_shown(rt: HostRuntime) {
+    assert!(rt; show_id_faults(rt.alloc()));
+    assert!(rt; show_table_faults(rt.alloc()));
+    assert!(rt; show_append_faults(rt.alloc()));
+    assert!(rt; show_read_faults(rt.alloc()));
+    assert!(rt; show_line_faults(rt.alloc()));
+    assert!(rt; show_device_faults(rt.alloc()));
+    assert!(rt; show_condition_faults(rt.alloc()));
+}
+
+// Whether a text, a segment and an id are shown with the characters that they have.
+fn ids_are_debugged(alloc: Global) -> Result<bool, IdFault> {
+    let text = Text::copy(alloc, "a\"b")?;
+    let segment = Segment::new(alloc, "t", "a/b")?;
+    let id = UniqueId::of(alloc, &segment)?;
+    Ok(
+        is_debugged_as(alloc, &text, "\"a\\\"b\"")
+            && is_debugged_as(alloc, &segment, "Segment(\"t\", \"a/b\")")
+            && is_debugged_as(alloc, &id, "\"[t:a%2Fb]\""),
+    )
+}
+
+fn pairs_are_debugged(alloc: Global) -> Result<bool, AllocError> {
+    let pairs = Pairs::shared_pair(alloc, Text::copy(alloc, "k")?, Text::copy(alloc, "v")?)?;
+    Ok(is_debugged_as(alloc, &pairs, "[(\"k\", \"v\")]"))
+}
+
+/// What a failed assertion prints.
+#[test]
+fn values_are_debugged(rt: HostRuntime) {
+    let alloc = rt.alloc();
+    assert!(rt; matches!(ids_are_debugged(alloc), Ok(true)));
+    assert!(rt; matches!(pairs_are_debugged(alloc), Ok(true)));
+    assert!(rt; is_debugged_as(alloc, &Kind::Reporting, "Reporting"));
+    assert!(rt; is_debugged_as(alloc, &Loose::No(3), "No(3)"));
 }

@@ -21,6 +21,8 @@ mod lanes;
 #[cfg(test)]
 mod loading;
 #[cfg(test)]
+mod long_records;
+#[cfg(test)]
 mod matches;
 #[cfg(test)]
 mod refusals;

@@ -1,7 +1,9 @@
 //! Reading sources to their ends, and writing through std.
 use std::alloc::{AllocError, Global};
 use test_support::OneByteSource;
-use tk_streams::{ByteSource, ByteTarget, LoadFault, Source, StdSource, load, write_all};
+use tk_streams::{
+    ByteSource, ByteTarget, LoadFault, Source, StdSource, StdTarget, Target, load, write_all,
+};
 
 // What loading four bytes with a limit answers.
 fn loaded(alloc: Global, limit: usize) -> Result<Vec<u8>, LoadFault> {
@@ -35,7 +37,7 @@ fn breaks_about_the_limit(rt: HostRuntime) {
 // Whether bytes come through a reader of std as they are, and go through a target of memory so.
 fn is_passed(alloc: Global, bytes: &[u8]) -> bool {
     let mut target = ByteTarget::new(alloc);
-    match load(alloc, &mut StdSource::new(bytes), 200_000) {
+    match load(alloc, &mut StdSource::new(bytes), 1_200_000) {
         Ok(loaded) => {
             write_all(&mut target, loaded.as_slice()).is_ok() && target.bytes() == bytes
         }
@@ -46,7 +48,26 @@ fn is_passed(alloc: Global, bytes: &[u8]) -> bool {
 #[test]
 fn many_bytes(rt: HostRuntime) -> Result<(), AllocError> {
     let mut bytes = Vec::new(rt.alloc());
-    bytes.resize(200_000, 7)?;
+    bytes.resize(1_200_000, 7)?;
     assert!(rt; is_passed(rt.alloc(), bytes.as_slice()));
     Ok(())
+}
+
+// Whether a read into nothing takes nothing and breaks nothing, and the next one reads.
+fn reads_nothing_first<S: Source>(source: &mut S) -> bool {
+    source.read_some(&mut []) == Ok(0) && source.read_some(&mut [0; 4]) == Ok(2)
+}
+
+// Whether a write of nothing takes nothing and breaks nothing, and the next one writes.
+fn writes_nothing_first<T: Target>(target: &mut T) -> bool {
+    target.write_some(&[]) == Ok(0) && write_all(target, b"ab").is_ok() && !target.is_broken()
+}
+
+#[test]
+fn empty_reads_and_writes(rt: HostRuntime) {
+    let mut written = Vec::new(rt.alloc());
+    assert!(rt; reads_nothing_first(&mut ByteSource::new(b"ab")));
+    assert!(rt; reads_nothing_first(&mut StdSource::new(b"ab".as_slice())));
+    assert!(rt; writes_nothing_first(&mut ByteTarget::new(rt.alloc())));
+    assert!(rt; writes_nothing_first(&mut StdTarget::new(&mut written)));
 }

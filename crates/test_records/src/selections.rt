@@ -1,6 +1,8 @@
 //! Selections of events.
 use std::alloc::{AllocError, Global};
 use test_support::{record_of, two_tests};
+use tk_query::{read_condition, select};
+use tk_record::{read_u8, read_u32};
 use tk_record_columns::{Events, Record, Selection};
 
 // The text of a record with events of each kind and each status.
@@ -52,15 +54,29 @@ fn is_at(alloc: Global, events: Result<Events<'_>, AllocError>, want: &str) -> b
     }
 }
 
-// The events that are named: of worker 1, of key 0, or of a selection; none for another name.
+// The events of a condition; none where the text is no condition.
+fn selected<'r>(
+    alloc: Global,
+    events: &Events<'r>,
+    text: &str,
+) -> Option<Result<Events<'r>, AllocError>> {
+    match read_condition(alloc, text) {
+        Ok(condition) => Some(select(alloc, events, &condition)),
+        Err(_) => None,
+    }
+}
+
+// The events that are named: of a worker, of a key, of a condition, or of a selection; none for another
+// name.
 fn events_of<'r>(
     alloc: Global,
     events: &Events<'r>,
     name: &str,
 ) -> Option<Result<Events<'r>, AllocError>> {
-    match name {
-        "worker-1" => Some(events.by_worker(alloc, 1)),
-        "key-0" => Some(events.by_key(alloc, 0)),
+    match name.split_once(':') {
+        Some(("worker", number)) => Some(events.by_worker(alloc, read_u8(number.as_bytes())?)),
+        Some(("key", number)) => Some(events.by_key(alloc, read_u32(number.as_bytes())?)),
+        Some(("select", text)) => selected(alloc, events, text),
         _ => Some(named(alloc, events, Selection::read(name)?)),
     }
 }
@@ -113,8 +129,12 @@ failed [2]
 reporting []
 dynamic []
 files []
-worker-1 [1, 2]
-key-0 [0, 4]
+worker:0 [0, 4]
+worker:1 [1, 2]
+worker:15 []
+key:0 [0, 4]
+select:succeeded [4]
+select:all(test,not(started)) [2, 3]
 "
 }
 
@@ -131,6 +151,9 @@ failed [5]
 reporting [6]
 dynamic [0]
 files [7]
+worker:3 [3, 4, 5, 6, 7]
+key:65536 [0, 1]
+key:4294967295 []
 "
 }
 

@@ -1,9 +1,10 @@
 //! Small values that many tests start from.
 use std::alloc::Global;
 use std::sync::Arc;
-use tk_events::{Event, Kind, Payload};
+use tk_events::{Entry, Event, Kind, Payload};
 use tk_ids::{DType, Segment, Table};
 use tk_record::{ByteSource, Record, read_record};
+use tk_record_columns::AppendFault;
 
 /// A start of the descriptor with this key.
 pub fn start(key: u32, stamp: u64) -> Event {
@@ -26,4 +27,23 @@ pub fn one_node(alloc: Global, dtype: DType) -> Option<Arc<Table>> {
 /// The record of a text, where it is one.
 pub fn record_of(alloc: Global, text: &[u8]) -> Option<Record> {
     read_record(alloc, &mut ByteSource::new(text)).ok()
+}
+
+fn append_start(record: &mut Record, worker: u8, stamp: u64) -> bool {
+    let event = start(0, stamp);
+    let appended: Result<(), AppendFault> = record.append(Entry { worker, event });
+    let is_appended = appended.is_ok();
+    drop(appended);
+    is_appended
+}
+
+/// A record of one test and this number of its starts by worker 0, whose stamps count from 0.
+pub fn starts(alloc: Global, count: u64) -> Option<Record> {
+    let mut record = Record::new(alloc, one_node(alloc, DType::Test)?);
+    for stamp in 0..count {
+        if !append_start(&mut record, 0, stamp) {
+            return None;
+        }
+    }
+    Some(record)
 }

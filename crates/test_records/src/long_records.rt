@@ -1,0 +1,138 @@
+//! Records of many entries, fields of a line, and tails.
+use std::alloc::{AllocError, Global};
+use test_support::{record_of, starts};
+use tk_query::{
+    Condition, Exact, InOrder, Loose, match_exactly, match_in_order, match_loosely, select,
+};
+use tk_record::{read_u32, write_field, write_tail};
+use tk_record_columns::{Events, Record};
+
+fn is_of_length(events: &Result<Events<'_>, AllocError>, count: usize) -> bool {
+    matches!(events, Ok(events) if events.count() == count)
+}
+
+// Whether all of a record's events are of worker 0 and key 0, and are starts.
+fn are_starts(alloc: Global, events: &Events<'_>, count: usize) -> bool {
+    is_of_length(&events.by_worker(alloc, 0), count)
+        && is_of_length(&events.by_key(alloc, 0), count)
+        && is_of_length(&select(alloc, events, &Condition::Started), count)
+        && is_of_length(&events.by_worker(alloc, 15), 0)
+}
+
+fn has_starts(alloc: Global, record: &Record, count: usize) -> bool {
+    match Events::all(alloc, record) {
+        Ok(events) => events.count() == count && are_starts(alloc, &events, count),
+        Err(_) => false,
+    }
+}
+
+/// More than 2^21 entries are appended and asked for.
+#[test]
+fn two_million_starts(rt: HostRuntime) {
+    let hold = match starts(rt.alloc(), 2_200_000) {
+        Some(record) => has_starts(rt.alloc(), &record, 2_200_000),
+        None => false,
+    };
+    assert!(rt; hold);
+}
+
+// This number of conditions, each of which holds of a start.
+fn conditions(alloc: Global, count: usize) -> Result<Vec<Condition>, AllocError> {
+    let mut list = Vec::new(alloc);
+    for _ in 0..count {
+        list.push(Condition::Started)?;
+    }
+    Ok(list)
+}
+
+// Whether there are `count` positions, and the last of them is the last of as many.
+fn are_first(positions: &[usize], count: usize) -> bool {
+    positions.len() == count && positions.last().copied() == count.checked_sub(1)
+}
+
+// Whether as many conditions as there are starts hold of them, one of each.
+fn match_each(alloc: Global, events: &Events<'_>, list: &[Condition]) -> bool {
+    let in_order = match_in_order(alloc, events, list);
+    match_exactly(alloc, events, list) == Ok(Exact::Yes)
+        && match_loosely(alloc, events, list) == Ok(Loose::Yes)
+        && matches!(in_order, Ok(InOrder::Yes(at)) if are_first(at.as_slice(), list.len()))
+}
+
+fn each_start_is_matched(alloc: Global, record: &Record, count: usize) -> Result<bool, AllocError> {
+    let list = conditions(alloc, count)?;
+    Ok(match_each(alloc, &Events::all(alloc, record)?, list.as_slice()))
+}
+
+// Whether a record of this number of starts matches as many conditions.
+fn matches_as_many(alloc: Global, count: usize) -> bool {
+    match starts(alloc, count as u64) {
+        Some(record) => each_start_is_matched(alloc, &record, count) == Ok(true),
+        None => false,
+    }
+}
+
+#[test]
+fn many_conditions(rt: HostRuntime) {
+    assert!(rt; matches_as_many(rt.alloc(), 65));
+    assert!(rt; matches_as_many(rt.alloc(), 65_536));
+}
+
+// Whether no event is left where the starts are left out.
+fn no_other_is_selected(alloc: Global, record: &Record) -> Result<bool, AllocError> {
+    let events = Events::all(alloc, record)?;
+    let others = Condition::Not(Box::new(alloc, Condition::Started)?);
+    Ok(select(alloc, &events, &others)?.count() == 0)
+}
+
+#[test]
+fn sixty_five_starts(rt: HostRuntime) {
+    let hold = match starts(rt.alloc(), 65) {
+        Some(record) => no_other_is_selected(rt.alloc(), &record) == Ok(true),
+        None => false,
+    };
+    assert!(rt; hold);
+}
+
+// How many bytes the tail of the one entry of a record's text has.
+fn bytes_of_tail(alloc: Global, text: &[u8]) -> Option<usize> {
+    let record = record_of(alloc, text)?;
+    let tail = write_tail(alloc, &record.entry(0)?).ok()?;
+    Some(tail.len())
+}
+
+// A record's text with a skip whose reason has this number of letters.
+fn skip_of(alloc: Global, letters: usize) -> Result<Vec<u8>, AllocError> {
+    let mut text = Vec::from_slice(alloc, b"testkit-record|2\nN|T|[engine:e]|e\nE|1|0|0|skip|")?;
+    for _ in 0..letters {
+        text.push(b'x')?;
+    }
+    text.push(b'\n')?;
+    Ok(text)
+}
+
+#[test]
+fn a_long_tail(rt: HostRuntime) -> Result<(), AllocError> {
+    let text = skip_of(rt.alloc(), 100_000)?;
+    assert!(rt; bytes_of_tail(rt.alloc(), text.as_slice()) == Some(100_005));
+    Ok(())
+}
+
+fn is_field(alloc: Global, text: &str, field: &str) -> bool {
+    match write_field(alloc, text) {
+        Ok(written) => written.as_str() == field,
+        Err(_) => false,
+    }
+}
+
+#[test]
+fn fields(rt: HostRuntime) {
+    assert!(rt; is_field(rt.alloc(), "", ""));
+    assert!(rt; is_field(rt.alloc(), "a|b\\c\nd\rä", "a\\pb\\\\c\\nd\rä"));
+}
+
+#[test]
+fn numbers(rt: HostRuntime) {
+    assert!(rt; read_u32(b"4294967295") == Some(u32::MAX));
+    assert!(rt; read_u32(b"4294967296").is_none());
+    assert!(rt; read_u32(b"01").is_none());
+}
