@@ -2,8 +2,9 @@
 ghost use Rattle.std.specs.Prelude.{◌/◌};
 
 use engine_testkit::{
-    Condition, Ending, Events, Exact, Execution, Expected, InOrder, Kind, Loose, Need, Results,
-    Statistics, Text, execute, executions, match_exactly, match_in_order, match_loosely,
+    ByteTarget, Condition, Ending, Events, Exact, Execution, Expected, InOrder, Kind, Loose, Need,
+    Results, Text, execute, executions, match_exactly, match_in_order, match_loosely, write_record,
+    write_report,
 };
 use example_engine::{Case, CaseEngine, CaseTable, Function};
 use std::alloc::Global;
@@ -73,40 +74,117 @@ fn run<R: Threads + Wait + Sync>(rt: &R, alloc: Global, workers: usize) -> Optio
     execute(rt, alloc, &engine, workers, 16).ok()
 }
 
-fn statistics_of(alloc: Global, results: &Results) -> Option<Statistics> {
-    Some(results.all_events(alloc).ok()?.statistics())
+// The report of the run, by any number of workers.
+fn report() -> &'static [u8] {
+    b"skipped 1
+started 8
+finished 8
+aborted 0
+succeeded 7
+failed 1
+reporting 2
+dynamic 5
+files 2
+[engine:cases]
+  start
+  finish|ok
+[engine:cases]/[table:later]
+  skip|not yet
+[engine:cases]/[table:right]
+  start
+  report|cases|3
+  file|out/right.txt
+  finish|ok
+[engine:cases]/[table:right]/[case:0]
+  dynamic|T|[engine:cases]/[table:right]/[case:0]|0
+  start
+  finish|ok
+[engine:cases]/[table:right]/[case:1]
+  dynamic|T|[engine:cases]/[table:right]/[case:1]|1
+  start
+  finish|ok
+[engine:cases]/[table:right]/[case:2]
+  dynamic|T|[engine:cases]/[table:right]/[case:2]|2
+  start
+  finish|ok
+[engine:cases]/[table:wrong]
+  start
+  report|cases|2
+  file|out/wrong.txt
+  finish|ok
+[engine:cases]/[table:wrong]/[case:0]
+  dynamic|T|[engine:cases]/[table:wrong]/[case:0]|0
+  start
+  finish|ok
+[engine:cases]/[table:wrong]/[case:1]
+  dynamic|T|[engine:cases]/[table:wrong]/[case:1]|1
+  start
+  finish|fail|expected: <4> but was: <3>
+"
 }
 
-fn statistics<R: Threads + Wait + Sync>(
-    rt: &R,
-    alloc: Global,
-    workers: usize,
-) -> Option<Statistics> {
-    let results = run(rt, alloc, workers)?;
-    let statistics = statistics_of(alloc, &results);
+fn has_report(alloc: Global, results: &Results) -> bool {
+    let mut target = ByteTarget::new(alloc);
+    write_report(alloc, results, &mut target).is_ok() && target.bytes() == report()
+}
+
+// Whether that is the report of a run by this number of workers.
+fn is_reported<R: Threads + Wait + Sync>(rt: &R, alloc: Global, workers: usize) -> bool {
+    let results = run(rt, alloc, workers);
+    let is_reported = match &results {
+        Some(results) => has_report(alloc, results),
+        None => false,
+    };
     drop(results);
-    statistics
+    is_reported
 }
 
 #[test]
-fn one_to_fifteen_workers_count_the_same(rt: HostRuntime) {
-    let all = Statistics {
-        skipped: 1,
-        started: 8,
-        finished: 8,
-        aborted: 0,
-        succeeded: 7,
-        failed: 1,
-        reporting: 2,
-        dynamic: 5,
-        files: 2,
-    };
+fn one_to_fifteen_workers_report_the_same(rt: HostRuntime) {
     for workers in 1..=15usize {
-        assert!(rt;
-            statistics(&rt, rt.alloc(), workers) == Some(all),
-            "{workers}"
-        );
+        assert!(rt; is_reported(&rt, rt.alloc(), workers), "{workers}");
     }
+}
+
+// The record of a run by one worker: the tables one after another, each case before the next one.
+fn record() -> &'static [u8] {
+    b"testkit-record|2
+N|C|[engine:cases]|cases
+N|C|[engine:cases]/[table:right]|right
+N|C|[engine:cases]/[table:wrong]|wrong
+N|C|[engine:cases]/[table:later]|later
+E|0|0|0|start
+E|1|1|3|start
+E|1|65536|0|dynamic|T|[engine:cases]/[table:right]/[case:0]|0
+E|1|65536|0|start
+E|1|65536|0|finish|ok
+E|1|65537|1|dynamic|T|[engine:cases]/[table:right]/[case:1]|1
+E|1|65537|1|start
+E|1|65537|1|finish|ok
+E|1|65538|2|dynamic|T|[engine:cases]/[table:right]/[case:2]|2
+E|1|65538|2|start
+E|1|65538|2|finish|ok
+E|1|1|3|report|cases|3
+E|1|1|3|file|out/right.txt
+E|1|1|3|finish|ok
+E|1|2|2|start
+E|1|65539|0|dynamic|T|[engine:cases]/[table:wrong]/[case:0]|0
+E|1|65539|0|start
+E|1|65539|0|finish|ok
+E|1|65540|1|dynamic|T|[engine:cases]/[table:wrong]/[case:1]|1
+E|1|65540|1|start
+E|1|65540|1|finish|fail|expected: <4> but was: <3>
+E|1|2|2|report|cases|2
+E|1|2|2|file|out/wrong.txt
+E|1|2|2|finish|ok
+E|1|3|3|skip|not yet
+E|0|0|0|finish|ok
+"
+}
+
+fn is_recorded(alloc: Global, results: &Results) -> bool {
+    let mut target = ByteTarget::new(alloc);
+    write_record(alloc, results.recorded(), &mut target).is_ok() && target.bytes() == record()
 }
 
 // How many numbers of the tests' events are other than expected.
@@ -172,9 +250,10 @@ fn first_is_right(alloc: Global, results: &Results) -> Option<bool> {
     Some(first_succeeds(alloc, &events) && first_is_executed(alloc, &events))
 }
 
-// Whether each answer about the run is right.
+// Whether each event and each answer about the run is right.
 fn answers_hold(alloc: Global, results: &Results) -> bool {
-    mismatches(alloc, results) == Some(0)
+    is_recorded(alloc, results)
+        && mismatches(alloc, results) == Some(0)
         && has_failed(alloc, results, "expected: <4> but was: <3>") == Some(true)
         && first_is_right(alloc, results) == Some(true)
 }

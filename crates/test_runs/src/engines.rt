@@ -1,5 +1,5 @@
 //! Engines of two lists of steps, one for unit 0 and one for each other unit.
-ghost use Rattle.std.specs.Prelude.{◌≡◌, ◌<◌, []};
+ghost use Rattle.std.specs.Prelude.{◌≡◌, ◌<◌, ◌≤◌, [], if◌then◌else◌, nat_eq};
 ghost use Rattle.std.specs.Arc.{arc_value};
 ghost use Rattle.tk_engine_execute.specs.Grown.{Grew};
 
@@ -18,6 +18,8 @@ use tk_ids::{DType, Segment, Table};
 pub enum UnitStep {
     /// Emits a start with this stamp.
     Start(u64),
+    /// Emits a start of the descriptor with this key.
+    StartOf(u32),
     /// Counts as a unit that has begun.
     Begin,
     /// Counts as a unit that has come to its end.
@@ -28,38 +30,47 @@ pub enum UnitStep {
     Alone(u32),
     /// Fails with this number.
     Fail(u32),
+    /// Fails as if memory had been refused.
+    FailForMemory,
     /// Fails with a thousand times the number of its worker and the number of the unit.
     FailAsWorker,
 }
 
-/// An engine over a table of one node, whose unit 0 does the one list of steps, and each other unit the other one.
+/// An engine over a table of one node, whose unit 0 does the one list of steps under the one need, and each other unit the
+/// other one under the other need.
 #[derive(Drop)]
 pub struct StepEngine<'a> {
     table: Arc<Table>,
     segment: Segment,
-    units: u16,
+    units: u32,
     need: Need,
+    need_of_others: Need,
     first: &'a [UnitStep],
     others: &'a [UnitStep],
     begun: AtomicU64,
     ended: AtomicU64,
+    ghost few: { units ≤ 65536 },
 }
 
-/// Such an engine; None for want of memory.
+/// Makes an engine of at most 65,536 units; none where there are more, or memory was refused.
 pub fn engine<'a>(
     alloc: Global,
-    units: u16,
-    need: Need,
+    units: u32,
+    needs: [Need; 2],
     first: &'a [UnitStep],
     others: &'a [UnitStep],
 ) -> Option<StepEngine<'a>> {
+    if units > 65_536 {
+        return None;
+    }
     let segment = Segment::new(alloc, "d", "1").ok()?;
     let table = one_node(alloc, DType::Test)?;
     Some(StepEngine {
         table,
         segment,
         units,
-        need,
+        need: needs[0],
+        need_of_others: needs[1],
         first,
         others,
         begun: AtomicU64::new(0),
@@ -127,10 +138,10 @@ impl StepEngine<'_> {
 }
 
 #[tactic(auto, using(tk_engine_execute::proofs::Growing::grew_same, tk_engine_execute::proofs::Growing::grew_one))]
-fn emit<R: Wait, S: Sink>(rt: &R, sink: &mut S, stamp: u64) -> Result<(), UnitFault>
+fn emit<R: Wait, S: Sink>(rt: &R, sink: &mut S, key: u32, stamp: u64) -> Result<(), UnitFault>
     ensures { Grew (S.view sink.old) (S.view sink.new) }
 {
-    match sink.emit(rt, start(0, stamp)) {
+    match sink.emit(rt, start(key, stamp)) {
         Ok(()) => Ok(()),
         Err(fault) => Err(UnitFault::Sink(fault)),
     }
@@ -166,7 +177,9 @@ fn play_one<R: Wait, S: Sink>(
     ensures { Grew (S.view sink.old) (S.view sink.new) }
 {
     match step {
-        UnitStep::Start(stamp) => emit(rt, sink, stamp),
+        UnitStep::Start(stamp) => emit(rt, sink, 0, stamp),
+        UnitStep::StartOf(key) => emit(rt, sink, key, 0),
+        UnitStep::FailForMemory => Err(UnitFault::Memory),
         UnitStep::FailAsWorker => fail_as_worker(rt, &engine.segment, unit, sink),
         _ => match engine.fault_of(step, unit) {
             Some(fault) => Err(UnitFault::Own(fault)),
@@ -199,7 +212,7 @@ impl Engine for StepEngine<'_> {
 
     ghost after = { λ e. [] };
 
-    ghost need = { λ e u. e.need };
+    ghost need = { λ e u. if nat_eq u 0 then e.need else e.need_of_others };
 
     ghost may = { λ e u w k l. Unit {0} };
 
@@ -208,7 +221,7 @@ impl Engine for StepEngine<'_> {
     }
 
     fn units(&self) -> u32 {
-        u32::from(self.units)
+        self.units
     }
 
     fn before(&self, alloc: Global) -> Result<Vec<Event>, AllocError> {
@@ -219,8 +232,12 @@ impl Engine for StepEngine<'_> {
         Ok(Vec::new(alloc))
     }
 
-    fn need(&self, _unit: u32) -> Need {
-        self.need
+    fn need(&self, unit: u32) -> Need {
+        if unit == 0 {
+            self.need
+        } else {
+            self.need_of_others
+        }
     }
 
     fn run<R: Wait, S: Sink>(

@@ -1,7 +1,11 @@
 //! How plans are cut, and what their units do.
+ghost use Rattle.std.specs.Prelude.{All, ◌<◌, length};
+ghost use Rattle.tk_plan_units.specs.Known.{IsKnown};
+
 use std::alloc::{AllocError, Global};
 use test_support::demo_plan;
-use tk_events::Event;
+use tk_events::{Event, Status};
+use tk_ids::Text;
 use tk_plan::{Act, Plan, Step, read_plan};
 
 // A root with one child, which runs in its thread.
@@ -131,6 +135,86 @@ fn files_of_a_node(rt: HostRuntime) {
     let read = read_plan(rt.alloc(), with_files());
     match &read {
         Ok(plan) => assert!(rt; ends_with(rt.alloc(), plan, &of_files())),
+        Err(_) => assert!(rt; false, "no plan"),
+    }
+    drop(read);
+}
+
+// A test with two entries and two files that is aborted, and a test that is skipped.
+fn with_contents() -> &'static [u8] {
+    b"{\"version\":2,\"root\":{\"type\":\"container\",\"segment\":[\"engine\",\"e\"],\"name\":\"e\",\"children\":[
+{\"type\":\"test\",\"segment\":[\"t\",\"1\"],\"name\":\"one\",\"entries\":[[[\"k\",\"v\"]],[]],\"files\":[\"a\",\"b\"],
+ \"result\":{\"status\":\"aborted\",\"message\":\"m\"}},
+{\"type\":\"test\",\"segment\":[\"t\",\"2\"],\"name\":\"two\",\"skip\":\"off\"}],\"result\":{\"status\":\"failed\"}}}"
+}
+
+fn are_pairs(pairs: &[(Text, Text)], entry: u32) -> bool {
+    match pairs {
+        [] => entry == 1,
+        [(key, value)] => entry == 0 && key.as_str() == "k" && value.as_str() == "v",
+        _ => false,
+    }
+}
+
+fn is_path(path: &str, file: u32) -> bool {
+    match file {
+        0 => path == "a",
+        1 => path == "b",
+        _ => false,
+    }
+}
+
+// Whether node 1 is aborted with a message, and node 0 fails without one.
+fn is_outcome(outcome: (Status, Option<&str>), node: u32) -> bool {
+    match node {
+        0 => matches!(outcome, (Status::Failed, None)),
+        1 => matches!(outcome, (Status::Aborted, Some("m"))),
+        _ => false,
+    }
+}
+
+// Whether the plan gives the contents of a step.
+fn has_contents(plan: &Plan, step: Step) -> bool
+    requires { IsKnown plan.now.nodes step.node step.act }
+{
+    match step.act {
+        Act::Skip => step.node == 2 && plan.reason(step.node) == Some("off"),
+        Act::Report(entry) => are_pairs(plan.pairs(step.node, entry), entry),
+        Act::File(file) => is_path(plan.path(step.node, file), file),
+        Act::Finish => is_outcome(plan.outcome(step.node), step.node),
+        Act::Start => plan.reason(step.node).is_none(),
+        Act::Register { .. } => false,
+    }
+}
+
+// Whether the plan gives the contents of each of the steps.
+fn have_contents(plan: &Plan, steps: &[Step]) -> bool
+    requires { All (λ s. IsKnown plan.now.nodes s.node s.act) steps.now }
+{
+    for at in 0..steps.len() {
+        if !has_contents(plan, steps[at]) {
+            return false;
+        }
+    }
+    true
+}
+
+// Whether the one unit has nine steps, and the plan gives their contents.
+fn has_contents_of_unit(alloc: Global, plan: &Plan) -> bool {
+    if plan.units().len() != 1 {
+        return false;
+    }
+    match plan.script(alloc, 0) {
+        Ok(steps) => steps.len() == 9 && have_contents(plan, steps.as_slice()),
+        Err(_) => false,
+    }
+}
+
+#[test]
+fn contents_of_nodes(rt: HostRuntime) {
+    let read = read_plan(rt.alloc(), with_contents());
+    match &read {
+        Ok(plan) => assert!(rt; has_contents_of_unit(rt.alloc(), plan)),
         Err(_) => assert!(rt; false, "no plan"),
     }
     drop(read);

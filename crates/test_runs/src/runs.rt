@@ -25,8 +25,10 @@ enum Outcome {
     Refused,
     /// A thread was refused.
     NoThread,
-    /// A sink refused an event.
-    Other,
+    /// The sink refused an event of this unit.
+    Sink(u32),
+    /// This unit failed for want of memory.
+    NoMemory(u32),
 }
 
 // How many events the closed session says that the workers emitted.
@@ -60,7 +62,8 @@ fn outcome_of(ran: &Result<Results, RunFault>) -> Outcome {
         Err(RunFault::Workers) => Outcome::Workers,
         Err(RunFault::Capacity) => Outcome::Capacity,
         Err(RunFault::Engine(unit, UnitFault::Own(number))) => Outcome::Own(*unit, *number),
-        Err(RunFault::Engine(_, UnitFault::Sink(_))) => Outcome::Other,
+        Err(RunFault::Engine(unit, UnitFault::Sink(_))) => Outcome::Sink(*unit),
+        Err(RunFault::Engine(unit, UnitFault::Memory)) => Outcome::NoMemory(*unit),
         Err(RunFault::Threads) => Outcome::NoThread,
         Err(_) => Outcome::Refused,
     }
@@ -85,13 +88,13 @@ fn run_engine<R: Threads + Wait + Sync>(
 fn run<R: Threads + Wait + Sync>(
     rt: &R,
     alloc: Global,
-    units: u16,
+    units: u32,
     need: Need,
     steps: [&[UnitStep]; 2],
     workers: usize,
     capacity: usize,
 ) -> (Outcome, u64) {
-    match engine(alloc, units, need, steps[0], steps[1]) {
+    match engine(alloc, units, [need; 2], steps[0], steps[1]) {
         Some(engine) => {
             let outcome = run_engine(rt, alloc, &engine, workers, capacity);
             (outcome, engine.begun())
@@ -225,6 +228,82 @@ fn a_failure_names_its_unit(rt: HostRuntime) {
     assert!(rt; matches!(ran, Outcome::Own(1, 3)));
 }
 
+/// The fault of a unit is handed on as it is, with the unit's number.
+#[test]
+fn a_failure_is_handed_on(rt: HostRuntime) {
+    let own = [UnitStep::Fail(u32::MAX)];
+    let (ran, _) = run(&rt, rt.alloc(), 1, read_of_all(), [&own, &own], 1, 64);
+    assert!(rt; matches!(ran, Outcome::Own(0, u32::MAX)));
+    let memory = [&[][..], &[UnitStep::FailForMemory][..]];
+    let (ran, _) = run(&rt, rt.alloc(), 2, read_of_all(), memory, 1, 64);
+    assert!(rt; matches!(ran, Outcome::NoMemory(1)));
+    let sink = [&[][..], &[UnitStep::StartOf(9)][..]];
+    let (ran, _) = run(&rt, rt.alloc(), 2, read_of_all(), sink, 15, 64);
+    assert!(rt; matches!(ran, Outcome::Sink(1)));
+}
+
+#[test]
+fn as_many_units_as_may_be(rt: HostRuntime) {
+    let steps = [UnitStep::Start(0)];
+    let (ran, _) = run(
+        &rt,
+        rt.alloc(),
+        65_536,
+        read_of_all(),
+        [&steps, &steps],
+        2,
+        64,
+    );
+    assert!(rt;
+        matches!(
+            ran,
+            Outcome::Recorded {
+                entries: 65_536,
+                ..
+            }
+        )
+    );
+}
+
+// A run of two units, each by a worker of its own, with this number of steps each: two, and then starts.
+fn run_of_many<R: Threads + Wait + Sync>(rt: &R, alloc: Global, count: usize) -> Option<Outcome> {
+    let mut steps = Vec::new(alloc);
+    steps.push(UnitStep::Begin).ok()?;
+    steps.push(UnitStep::Await(2, 1)).ok()?;
+    steps.resize(count, UnitStep::Start(0)).ok()?;
+    let steps = [steps.as_slice(), steps.as_slice()];
+    Some(run(rt, alloc, 2, read_of_all(), steps, 2, 1024).0)
+}
+
+/// More than 2^20 entries are recorded.
+#[test]
+fn many_events(rt: HostRuntime) {
+    let ran = run_of_many(&rt, rt.alloc(), 600_002);
+    assert!(rt;
+        matches!(
+            ran,
+            Some(Outcome::Recorded {
+                entries: 1_200_000,
+                ..
+            })
+        )
+    );
+}
+
+// A run of two units that write different resources, each of which waits until the other one has begun.
+fn run_of_writers<R: Threads + Wait + Sync>(rt: &R, alloc: Global) -> Outcome {
+    let steps = [UnitStep::Begin, UnitStep::Await(2, 1)];
+    match engine(alloc, 2, [Need::of(1, 2), Need::of(1, 4)], &steps, &steps) {
+        Some(engine) => run_engine(rt, alloc, &engine, 2, 64),
+        None => Outcome::Refused,
+    }
+}
+
+#[test]
+fn writers_of_different_resources(rt: HostRuntime) {
+    assert!(rt; matches!(run_of_writers(&rt, rt.alloc()), Outcome::Recorded { .. }));
+}
+
 /// Each of 60 units waits until every worker has one.
 #[test]
 fn each_unit_is_run_once(rt: HostRuntime) {
@@ -276,7 +355,7 @@ fn run_of_starts<R: Threads + Wait + Sync>(rt: &R, alloc: Global) -> (Outcome, u
     let mut steps = [UnitStep::Start(0); 1_002];
     steps[0] = UnitStep::Begin;
     steps[1_001] = UnitStep::End;
-    match engine(alloc, 2, read_of_all(), &steps, &steps) {
+    match engine(alloc, 2, [read_of_all(); 2], &steps, &steps) {
         Some(engine) => {
             let outcome = run_engine(rt, alloc, &engine, 2, 1);
             (outcome, engine.begun(), engine.ended())

@@ -24,6 +24,14 @@ impl Seated<'_> {
         self.seat.holds().is_some()
     }
 
+    // Whether the seat held nothing, and holds the need at the first try.
+    fn tries(&mut self, need: Need) -> bool {
+        if self.seat.holds().is_some() {
+            return false;
+        }
+        self.book.try_acquire(&mut self.seat, need).is_ok() && self.seat.holds().is_some()
+    }
+
     // Whether the need conflicts with what the book's word holds, and the seat holds nothing.
     fn finds(&mut self, word: u64, need: Need) -> bool {
         if self.seat.holds().is_some() {
@@ -72,7 +80,7 @@ fn share<R: Wait>(
         && writer.looks() == 0x300
         && writer.finds(0x300, Need::of(0, 4));
     let is_released = first.releases() && second.releases() && third.releases();
-    let is_written = writer.acquires(rt, Need::of(0, 4)) && first.looks() == 0xF00;
+    let is_written = writer.tries(Need::of(0, 4)) && first.looks() == 0xF00;
     is_shared && is_released && is_written
 }
 
@@ -101,13 +109,16 @@ fn shared_readers(rt: HostRuntime) {
     assert!(rt; four_share(&rt, rt.alloc()) == Some(true));
 }
 
-// Whether a writer keeps a reader out.
+// Whether a writer keeps a reader of its resource out, and no other one.
 fn writer_is_found<R: Wait>(rt: &R, book: &Book, seats: &mut Vec<BookSeat>) -> Option<bool>
     requires { All (λ seat. seat.book ≡ book.now) seats.old.items }
 {
     let mut writer = next_seat(book, seats)?;
     let mut reader = next_seat(book, seats)?;
-    Some(writer.acquires(rt, Need::of(0, 1)) && reader.finds(0xF, Need::of(1, 0)))
+    let is_found = writer.acquires(rt, Need::of(0, 1)) && reader.finds(0xF, Need::of(1, 0));
+    // A need of another resource doesn't wait for the writer.
+    let is_held = reader.acquires(rt, Need::of(4, 2)) && writer.looks() == 0x1FF;
+    Some(is_found && is_held)
 }
 
 // The same of a book of two seats.

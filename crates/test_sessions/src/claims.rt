@@ -69,6 +69,22 @@ fn a_claim_on_nothing(rt: HostRuntime) {
     assert!(rt; drawn_of_none(rt.alloc()) == Some(0));
 }
 
+// How many of `limit` numbers were drawn where a seat drew the first one.
+fn drawn_of(alloc: Global, limit: u32) -> Option<u32> {
+    let (claim, mut seats) = Claim::open(alloc, limit, 1).ok()?;
+    let mut seat = seats.pop()?;
+    if !draws(&claim, &mut seat, 0) {
+        return None;
+    }
+    Some(claim.close(vec![in alloc; seat].ok()?))
+}
+
+#[test]
+fn a_claim_on_many(rt: HostRuntime) {
+    assert!(rt; drawn_of(rt.alloc(), 65_537) == Some(1));
+    assert!(rt; drawn_of(rt.alloc(), u32::MAX) == Some(1));
+}
+
 #[test]
 fn one_to_fifteen_seats(rt: HostRuntime) {
     assert!(rt; refuses_seats(rt.alloc(), 0));

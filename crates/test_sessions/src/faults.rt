@@ -1,0 +1,59 @@
+//! Faults of books, claims, replays and sessions as texts.
+use std::alloc::Global;
+use test_support::{are_shown, is_shown, is_shown_as, start};
+use tk_book::BookFault;
+use tk_engine_claim::ClaimFault;
+use tk_ids::IdFault;
+use tk_queue::{CoreFault, OpenFault, RegisterFault, ReplayFault, SendFault};
+
+fn show_open_faults(alloc: Global) -> bool {
+    let faults = [OpenFault::Workers, OpenFault::Capacity, OpenFault::Memory];
+    are_shown(alloc, &faults)
+        && are_shown(alloc, &[BookFault::Seats, BookFault::Memory])
+        && are_shown(alloc, &[ClaimFault::Seats, ClaimFault::Memory])
+}
+
+fn show_core_faults(alloc: Global) -> bool {
+    let faults = [CoreFault::Worker, CoreFault::AfterEnd, CoreFault::Memory];
+    are_shown(alloc, &faults)
+}
+
+fn show_send_faults(alloc: Global) -> bool {
+    is_shown(alloc, &SendFault::UnknownNode(start(0, 0)))
+        && is_shown(alloc, &SendFault::Unlawful(start(0, 0)))
+        && is_shown(alloc, &SendFault::Limit(start(0, 0)))
+        && is_shown(alloc, &SendFault::Full(start(0, 0)))
+}
+
+fn show_register_faults(alloc: Global) -> bool {
+    let faults = [
+        RegisterFault::UnknownNode,
+        RegisterFault::Limit,
+        RegisterFault::Id(IdFault::TooLong),
+        RegisterFault::Memory,
+    ];
+    are_shown(alloc, &faults)
+}
+
+// Whether the faults of a replay have the texts of their lines.
+fn show_replay_faults(alloc: Global) -> bool {
+    is_shown_as(alloc, &ReplayFault::NoHeader, "no header")
+        && is_shown_as(alloc, &ReplayFault::BadLine(2), "line 2 is bad")
+        && is_shown_as(
+            alloc,
+            &ReplayFault::AfterEnd(2),
+            "step 2 comes after the end mark",
+        )
+        && is_shown_as(alloc, &ReplayFault::TooLarge, "input too large")
+        && is_shown_as(alloc, &ReplayFault::Device, "device failed")
+        && is_shown_as(alloc, &ReplayFault::Memory, "out of memory")
+}
+
+#[test]
+fn each_fault_is_shown(rt: HostRuntime) {
+    assert!(rt; show_open_faults(rt.alloc()));
+    assert!(rt; show_core_faults(rt.alloc()));
+    assert!(rt; show_send_faults(rt.alloc()));
+    assert!(rt; show_register_faults(rt.alloc()));
+    assert!(rt; show_replay_faults(rt.alloc()));
+}
