@@ -2,7 +2,7 @@
 use std::alloc::{AllocError, Global};
 use test_support::{are_shown, is_debugged_as, is_shown, is_shown_as, start};
 use testkit_questions::AskFault;
-use tk_events::{Entry, Kind, Pairs};
+use tk_events::{Entry, Kind, Pairs, Status};
 use tk_ids::{IdFault, Segment, TableFault, Text, UniqueId};
 use tk_query::{CondFault, Loose};
 use tk_record::{LineFault, NodesFault, ReadFault, WriteFault};
@@ -133,5 +133,6 @@ fn values_are_debugged(rt: HostRuntime) {
     assert!(rt; matches!(ids_are_debugged(alloc), Ok(true)));
     assert!(rt; matches!(pairs_are_debugged(alloc), Ok(true)));
     assert!(rt; is_debugged_as(alloc, &Kind::Reporting, "Reporting"));
+    assert!(rt; is_debugged_as(alloc, &Status::of_code(3), "Some(Failed)"));
     assert!(rt; is_debugged_as(alloc, &Loose::No(3), "No(3)"));
 }

@@ -88,3 +88,27 @@ fn many_flags(rt: HostRuntime) {
     assert!(rt; ends_at(alloc, Flags::all(alloc, 200_000), 200_000, Some(199_999)));
     assert!(rt; ends_at(alloc, Flags::none(alloc, 200_000), 0, None));
 }
+
+// Whether flags of the bytes 9 of a column of four give these bytes, and count them.
+fn give_bytes(flags: &Flags) -> bool {
+    let column = [9u8, 8, 9, 9];
+    let mut buffer = [1u8; 64];
+    if flags.len() != column.len() {
+        return false;
+    }
+    let count = flags.gather(&column, 0, &mut buffer);
+    count == 3
+        && buffer[2] == 9
+        && buffer[3] == 1
+        && flags.count_byte(&column, 9) == 3
+        && flags.count_byte(&column, 8) == 0
+}
+
+#[test]
+fn bytes_at_flags(rt: HostRuntime) {
+    let hold = match Flags::of_byte(rt.alloc(), &[9, 8, 9, 9], 9) {
+        Ok(flags) => give_bytes(&flags),
+        Err(_) => false,
+    };
+    assert!(rt; hold);
+}

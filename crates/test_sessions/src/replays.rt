@@ -1,13 +1,13 @@
 //! The queue's core by hand, and replays of scripts by turns.
 use crate::ends::{TakenItem, plain};
-use std::alloc::{AllocError, Global};
+use std::alloc::Global;
 use test_support::{
     OneByteSource, OneByteTarget, one_node, small_replay, small_replay_taken, start,
 };
 use tk_events::{Event, Kind};
 use tk_ids::DType;
 use tk_queue::{Core, CoreFault, Item, ReplayFault, Replayed, Turn, replay, replay_text};
-use tk_streams::{ByteSource, ByteTarget, Source, Target};
+use tk_streams::{ByteTarget, Source, Target};
 
 fn is_entry(item: &Item, worker: u8, stamp: u64) -> bool {
     match item {
@@ -176,31 +176,4 @@ fn devices_break_at_each_call(rt: HostRuntime) {
     for call in 0..small_replay_taken().len() {
         assert!(rt; writing_breaks(rt.alloc(), call), "{call}");
     }
-}
-
-// A replay text of one worker, whose script has this number of turns that take.
-fn takes_of(alloc: Global, count: usize) -> Result<Vec<u8>, AllocError> {
-    let mut text = Vec::from_slice(alloc, b"testkit-replay|2\nW|1\nN|T|[engine:e]|e\nS")?;
-    for _ in 0..count {
-        text.extend_from_slice(b"|t")?;
-    }
-    text.push(b'\n')?;
-    Ok(text)
-}
-
-// Whether a replay text is replayed, and nothing is taken.
-fn takes_nothing(alloc: Global, text: &[u8]) -> bool {
-    let mut target = ByteTarget::new(alloc);
-    let answer = replay_text(alloc, &mut ByteSource::new(text), &mut target);
-    let is_replayed = answer.is_ok();
-    drop(answer);
-    is_replayed && target.bytes() == b"testkit-record|2\nN|T|[engine:e]|e\n".as_slice()
-}
-
-/// More than 2^20 turns.
-#[test]
-fn many_turns(rt: HostRuntime) -> Result<(), AllocError> {
-    let text = takes_of(rt.alloc(), 1_100_000)?;
-    assert!(rt; takes_nothing(rt.alloc(), text.as_slice()));
-    Ok(())
 }
