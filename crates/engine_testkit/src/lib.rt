@@ -6,7 +6,6 @@
 #![tactic(auto)]
 
 pub use testkit_questions::AskFault;
-pub use testkit_questions::AskFaultText;
 pub use testkit_questions::Mode;
 pub use testkit_questions::Question;
 pub use testkit_questions::ask;
@@ -152,7 +151,6 @@ pub use tk_record_columns::Statistics;
 pub use tk_report::DEFAULT_CAPACITY;
 pub use tk_report::PlanRun;
 pub use tk_report::ReportFault;
-pub use tk_report::ReportFaultText;
 pub use tk_report::Scripted;
 pub use tk_report::plan_report;
 pub use tk_report::run_plan;
