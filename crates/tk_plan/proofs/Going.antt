@@ -19,7 +19,7 @@ use Rattle.tk_plan.specs.declared.faults.PlanFault.{PlanFault}
 use Rattle.tk_plan.specs.declared.plan_readers.Reader.{Reader}
 use Rattle.tk_plan.specs.NodeInputs.{NodeInput, segment_in, id_of, node_of, below, node_inputs, node_inputs_in, children_of, dynamic_of, children_in, dynamic_in, grown}
 use Rattle.tk_plan.specs.PlanOf.{checks, verdict, joined}
-use Rattle.tk_plan.specs.Progress.{IsNoted, IsStarted, IsSpanned, Adds}
+use Rattle.tk_plan.specs.Progress.{IsNoted, IsStarted, IsSpanned, AddsNodes}
 use Rattle.tk_plan.proofs.CheckSteps.{noted_same}
 use Rattle.tk_plan.proofs.Verdicts.{verdict-append, verdict-cons, nodes-grown, nodes-all, flats-forest, descriptors-forest}
 
@@ -69,7 +69,7 @@ module _ (k m : ℕ) (above up : List SegmentView) (old now : Reader) (all rest 
   unfolding here until
   goes_fault f e = until ∙ after_some _ (node_inputs k x) _ f (sym here ∙ e)
 
-  pub goes_next : (new : Reader) → verdict (contents now.nodes.items) (node_inputs m y) ≡ None → up ≡ above → Adds now new (flat (grown m y)) (descriptors up (grown m y)) → Goes k above old new all left
+  pub goes_next : (new : Reader) → verdict (contents now.nodes.items) (node_inputs m y) ≡ None → up ≡ above → AddsNodes now new (flat (grown m y)) (descriptors up (grown m y)) → Goes k above old new all left
   unfolding here until
   goes_next new e is a =
       let added : new.nodes.items ≡ now.nodes.items ++ flat (grown k x) = a.nodes ∙ ap (λ l. now.nodes.items ++ l) (ap₂ (λ n s. flat (grown n s)) levels same) in
@@ -85,14 +85,14 @@ module _ (k m : ℕ) (above up : List SegmentView) (old now : Reader) (all rest 
       }
 
 pub goes_end : (k : ℕ) (above : List SegmentView) (old now : Reader) (all : List NodeInput) → Goes k above old now all []
-    → (verdict (contents old.nodes.items) (flat_map (node_inputs k) all) ≡ None) × Adds old now (flat_map flat (map (grown k) all)) (flat_map (descriptors above) (map (grown k) all))
+    → (verdict (contents old.nodes.items) (flat_map (node_inputs k) all) ≡ None) × AddsNodes old now (flat_map flat (map (grown k) all)) (flat_map (descriptors above) (map (grown k) all))
 unfolding joined
 goes_end k above old now all g = (g.verdict, record { nodes = sym (g.nodes ∙ append-nil now.nodes.items); descriptors = sym (g.described ∙ append-nil now.descriptors.items); noted = g.noted })
 
 -- where there is nothing to read
 pub goes_nowhere : (k : ℕ) (above : List SegmentView) (old : Reader) (array : List ℕ) (level : ℕ) (b fs : Bool) (earlier : List SegmentView) (ds : List Data) → ds ≡ [] → IsNoted old
     → (verdict (contents old.nodes.items) (flat_map (node_inputs k) (node_inputs_in array level above b fs 0 earlier ds)) ≡ None)
-    × Adds old old (flat_map flat (map (grown k) (node_inputs_in array level above b fs 0 earlier ds))) (flat_map (descriptors above) (map (grown k) (node_inputs_in array level above b fs 0 earlier ds)))
+    × AddsNodes old old (flat_map flat (map (grown k) (node_inputs_in array level above b fs 0 earlier ds))) (flat_map (descriptors above) (map (grown k) (node_inputs_in array level above b fs 0 earlier ds)))
 unfolding joined
 goes_nowhere k above old array level b fs earlier ds none noted = (
   ap (λ l. verdict (contents old.nodes.items) (flat_map (node_inputs k) (node_inputs_in array level above b fs 0 earlier l))) none,
@@ -153,15 +153,15 @@ module _ (k : ℕ) (old : Reader) (xs ys all : List NodeInput) (parts : all ≡ 
   first_fault f e = both ∙ after_some _ (flat_map (node_inputs k) xs) _ f e
 
   module _ (above up : List SegmentView) (is : up ≡ above) (mid : Reader) (none : verdict (contents old.nodes.items) (flat_map (node_inputs k) xs) ≡ None)
-      (first_part : Adds old mid (flat_map flat (map (grown k) xs)) (flat_map (descriptors up) (map (grown k) xs))) where
+      (first_part : AddsNodes old mid (flat_map flat (map (grown k) xs)) (flat_map (descriptors up) (map (grown k) xs))) where
     pub second_verdict : verdict (contents old.nodes.items) (flat_map (node_inputs k) all) ≡ verdict (contents mid.nodes.items) (flat_map (node_inputs k) ys)
     unfolding both
     second_verdict =
         both ∙ after_none _ (flat_map (node_inputs k) xs) _ none
         ∙ ap (λ b. verdict b (flat_map (node_inputs k) ys)) (sym (ap contents first_part.nodes ∙ contents_all old.nodes.items k xs))
 
-    pub both_added : (new : Reader) → Adds mid new (flat_map flat (map (grown k) ys)) (flat_map (descriptors up) (map (grown k) ys))
-        → Adds old new (flat_map flat (map (grown k) all)) (flat_map (descriptors above) (map (grown k) all))
+    pub both_added : (new : Reader) → AddsNodes mid new (flat_map flat (map (grown k) ys)) (flat_map (descriptors up) (map (grown k) ys))
+        → AddsNodes old new (flat_map flat (map (grown k) all)) (flat_map (descriptors above) (map (grown k) all))
     both_added new second =
         let ts : map (grown k) xs ++ map (grown k) ys ≡ map (grown k) all = sym (ap (map (grown k)) parts ∙ map-append (grown k) xs ys) in
         record {
@@ -194,7 +194,7 @@ module _ (k m : ℕ) (levels : m ≡ suc k) (old pushed : Reader) (s : NodeInput
   unfolding joined
   leaf_verdict none = below_verdict ∙ ap (λ ss. verdict (contents pushed.nodes.items) (flat_map (node_inputs k) ss)) none
 
-  pub leaf_added : below s ≡ [] → Adds old pushed (flat (grown m s)) (descriptors s.above (grown m s))
+  pub leaf_added : below s ≡ [] → AddsNodes old pushed (flat (grown m s)) (descriptors s.above (grown m s))
   leaf_added none = record {
     nodes = started.nodes ∙ ap (λ l. old.nodes.items ++ l)
         (ap (λ ss. record { node = node_of s; number = 0; span = suc (length (flat_map flat (map (grown k) ss))) } ∷ flat_map flat (map (grown k) ss)) (sym none) ∙ sym grown_here);
@@ -205,8 +205,8 @@ module _ (k m : ℕ) (levels : m ≡ suc k) (old pushed : Reader) (s : NodeInput
 
   -- then all below it were read, and its span was written
   pub node_added : (read new : Reader) (at : ℕ) → at ≡ length old.nodes.items
-      → Adds pushed read (flat_map flat (map (grown k) (below s))) (flat_map (descriptors (id_of s)) (map (grown k) (below s))) → IsSpanned read new at
-      → Adds old new (flat (grown m s)) (descriptors s.above (grown m s))
+      → AddsNodes pushed read (flat_map flat (map (grown k) (below s))) (flat_map (descriptors (id_of s)) (map (grown k) (below s))) → IsSpanned read new at
+      → AddsNodes old new (flat (grown m s)) (descriptors s.above (grown m s))
   node_added read new at is a spanned =
       let rest : List NumberedNode = flat_map flat (map (grown k) (below s)) in
       let before : List NumberedNode = old.nodes.items in

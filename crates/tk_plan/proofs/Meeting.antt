@@ -4,7 +4,7 @@ use denote.Ref.{Bor}
 use Rattle.std.specs.List.{list_any}
 use Rattle.std.specs.Str.{bytes_eq}
 use Rattle.tk_ids.specs.IdText.{SegmentView}
-use Rattle.tk_plan.specs.Met.{segments_of}
+use Rattle.tk_plan.specs.SegmentSets.{segments_of}
 use Rattle.tk_plan.specs.PlanOf.{same_segment}
 
 any_of : (s : SegmentView) (keys : List (Bor (List ℕ) × Bor (List ℕ))) → list_any (λ y. bytes_eq s.tag y.0.now && bytes_eq s.value y.1.now) keys ≡ list_any (same_segment s) (segments_of keys)

@@ -4,7 +4,7 @@ use Rattle.serde_json.specs.Data.{Data}
 use Rattle.tk_plan_units.specs.Trees.{Tree}
 use Rattle.tk_plan_units.specs.Ids.{ids, AreDistinct}
 use Rattle.tk_plan_units.specs.Planned.{Outline}
-use Rattle.tk_plan.specs.Gives.{Answered, outline}
+use Rattle.tk_plan.specs.PlanAnswers.{Answered, outline}
 use Rattle.tk_plan.specs.PlanOf.{PlanOf, top, root_of, first_fault, ok_unless, verdict}
 use Rattle.tk_plan.specs.Refusals.{IsFault}
 use Rattle.tk_plan.specs.NodeInputs.{node_inputs, grown}

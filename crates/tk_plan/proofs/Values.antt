@@ -5,7 +5,7 @@ use Rattle.std.proofs.lemmas.Str.{IsUtf8-from_is_utf8, is_utf8-from_IsUtf8}
 use Rattle.serde_json.specs.Data.{Data}
 use Rattle.serde_json.specs.Read.{read}
 use Rattle.tk_plan.specs.PlanOf.{PlanOf}
-use Rattle.tk_plan.specs.Gives.{plan_in, plan_or_json}
+use Rattle.tk_plan.specs.PlanAnswers.{plan_in, plan_or_json}
 use Rattle.tk_plan.specs.declared.faults.PlanFault.TheVariants.{Json}
 
 pub value_here : (bytes : List ℕ) (d : Data) → IsUtf8 bytes → read bytes ≡ Some d → plan_in bytes ≡ PlanOf d

@@ -1,9 +1,11 @@
 -- What may be wrong with a JSON value, and the place of it.
-use Rattle.std.specs.Prelude.{ℕ, ◌+◌, ◌==◌, List, [], ◌∷◌, ◌++◌, length, Bool, true, false, Option, Some, None, if◌then◌else◌, map, flat_map}
+use Rattle.std.specs.Prelude.{ℕ, ◌+◌, ◌==◌, List, [], ◌∷◌, ◌++◌, length, Bool, true, false, Option}
+use Rattle.std.specs.Prelude.{Some, None, if◌then◌else◌, map, flat_map}
 use Rattle.std.specs.List.{list_any}
 use Rattle.std.specs.Str.{bytes_eq}
 use Rattle.std.specs.Fmt.{decimal}
-use Rattle.serde_json.specs.Data.{Data, boolean, string, array, object, Items, no_items, item, Members, no_members, member}
+use Rattle.serde_json.specs.Data.{Data, boolean, string, array, object, Items, no_items, item}
+use Rattle.serde_json.specs.Data.{Members, no_members, member}
 use Rattle.serde_json.specs.Find.{get}
 
 -- `~` and `/` have escapes in a JSON Pointer
@@ -64,7 +66,8 @@ array_of check at _ = Some at
 
 -- two items, each by the check
 abbrev pub pair_of : Check → Check
-pair_of check at (array ds) = if length (list_of ds) == 2 then items_wrong check at 0 (list_of ds) else Some at
+pair_of check at (array ds) =
+    if length (list_of ds) == 2 then items_wrong check at 0 (list_of ds) else Some at
 pair_of check at _ = Some at
 
 -- ---- members
@@ -94,7 +97,8 @@ members_wrong rows at d = first (map (row at d) rows)
 -- the first member, in the order of their names, that has no meaning
 abbrev pub unknown_in : List (List ℕ) → List ℕ → Members → Option (List ℕ)
 unknown_in names at no_members = None
-unknown_in names at (member k d ms) = if list_any (λ n. bytes_eq n k) names then unknown_in names at ms else Some (member_at at k)
+unknown_in names at (member k d ms) =
+    if list_any (λ n. bytes_eq n k) names then unknown_in names at ms else Some (member_at at k)
 
 -- an object with no other members
 abbrev pub unknown : List (List ℕ) → Check

@@ -1,5 +1,6 @@
 -- What the members of a node say, where nothing is wrong with them.
-use Rattle.std.specs.Prelude.{ℕ, ◌||◌, ◌++◌, List, [], ◌∷◌, Bool, true, false, not, Option, Some, None, option_and_then, if◌then◌else◌, map, codes}
+use Rattle.std.specs.Prelude.{ℕ, ◌||◌, ◌++◌, List, [], ◌∷◌, Bool, true, false, not, Option, Some}
+use Rattle.std.specs.Prelude.{None, option_and_then, if◌then◌else◌, map, codes}
 use Rattle.std.specs.List.{list_any}
 use Rattle.std.specs.Str.{bytes_eq}
 use Rattle.std.specs.Ordering.{nat_cmp}
@@ -30,7 +31,9 @@ json_truth (Some (boolean b)) = b
 json_truth _ = false
 
 abbrev pub json_dtype : Option Data → DType
-json_dtype (Some (string s)) = if bytes_eq s (codes "container") then Container else (if bytes_eq s (codes "test") then Test else Both)
+json_dtype (Some (string s)) =
+    if bytes_eq s (codes "container") then Container
+    else (if bytes_eq s (codes "test") then Test else Both)
 json_dtype _ = Both
 
 -- the items of an array
@@ -61,14 +64,17 @@ json_writes (Some (string s)) = not (bytes_eq s (codes "read"))
 json_writes _ = true
 
 abbrev pub json_lock : Data → Lock
-json_lock d = record { key = json_text (get (codes "key") d); writes = json_writes (get (codes "mode") d) }
+json_lock d =
+    record { key = json_text (get (codes "key") d); writes = json_writes (get (codes "mode") d) }
 
 abbrev pub json_locks : Option Data → List Lock
 json_locks d = map json_lock (listed d)
 
 -- a node is successful where it has no result
 abbrev pub json_status : Option Data → Status
-json_status (Some (string s)) = if bytes_eq s (codes "aborted") then Aborted else (if bytes_eq s (codes "failed") then Failed else Successful)
+json_status (Some (string s)) =
+    if bytes_eq s (codes "aborted") then Aborted
+    else (if bytes_eq s (codes "failed") then Failed else Successful)
 json_status _ = Successful
 
 -- the status of a result

@@ -9,7 +9,8 @@ use Rattle.serde_json.specs.Data.{Data}
 use Rattle.tk_events.specs.Event.{is_strictly_increasing, is_lawful}
 use Rattle.tk_events.specs.declared.kinds.Kind.TheVariants.{Finished}
 use Rattle.tk_events.specs.declared.payloads.Payload.TheVariants.{Outcome}
-use Rattle.tk_plan.specs.Contents.{status_in, message_in, json_pair, json_entry, repeats as repeats_in}
+use Rattle.tk_plan.specs.Contents.{status_in, message_in, json_pair, json_entry}
+use Rattle.tk_plan.specs.Contents.{repeats as repeats_in}
 use Rattle.tk_plan.specs.declared.member_values.Ending.{Ending}
 use Rattle.tk_plan.specs.declared.member_values.Report.{Report}
 use Rattle.tk_plan.specs.declared.member_values.Reports.{Reports}

@@ -6,11 +6,14 @@ use Rattle.serde_json.specs.Find.{get}
 use Rattle.tk_plan.specs.JsonValues.{view}
 use Rattle.tk_plan.specs.Checks.{Row}
 use Rattle.tk_plan.specs.Contents.{json_text, json_optional, json_dtype, listed}
-use Rattle.tk_plan.specs.Rows.{dtype_row, segment_row, name_row, mode_row, isolated_row, locks_row, skip_row, result_row, entries_row, files_rows, children_row, dynamic_row}
+use Rattle.tk_plan.specs.Rows.{dtype_row, segment_row, name_row, mode_row, isolated_row, locks_row}
+use Rattle.tk_plan.specs.Rows.{skip_row, result_row, entries_row, files_rows, children_row}
+use Rattle.tk_plan.specs.Rows.{dynamic_row}
 use Rattle.tk_events.specs.Event.{is_lawful}
 use Rattle.tk_events.specs.declared.kinds.Kind.TheVariants.{File}
 use Rattle.tk_events.specs.declared.payloads.Payload.TheVariants.{Path}
-use Rattle.tk_plan.specs.NodeInputs.{concurrent_of, isolated_of, locks_of, files_of, children_of, dynamic_of}
+use Rattle.tk_plan.specs.NodeInputs.{concurrent_of, isolated_of, locks_of, files_of, children_of}
+use Rattle.tk_plan.specs.NodeInputs.{dynamic_of}
 use Rattle.tk_plan.specs.Pointers.{IsPairOf}
 use Rattle.tk_plan.specs.Endings.{IsEnding, AreReports}
 use Rattle.tk_plan.specs.declared.node_fields.Heading.{Heading}

@@ -1,12 +1,14 @@
 -- What a JSON value says that borrows its texts.
-use Rattle.std.specs.Prelude.{◌≡◌, ℕ, List, Option, Some, None, IsSome, option_and_then, option_map, Result, Ok, Err, map}
+use Rattle.std.specs.Prelude.{◌≡◌, ℕ, List, Option, Some, None, IsSome, option_and_then, option_map}
+use Rattle.std.specs.Prelude.{Result, Ok, Err, map}
 use Rattle.std.specs.declared.alloc.Global.{Global}
 use denote.Ref.{Bor}
 use Rattle.json.specs.Json as json
 use Rattle.json.specs.Lex.{tokens}
 use Rattle.json.specs.Value as borrowed
 use Rattle.json.specs.declared.value.Value.{Value}
-use Rattle.serde_json.specs.Data.{Num, Data, null, boolean, number, string, array, object, Items, no_items, item, Members, no_members, put}
+use Rattle.serde_json.specs.Data.{Num, Data, null, boolean, number, string, array, object, Items}
+use Rattle.serde_json.specs.Data.{no_items, item, Members, no_members, put}
 use Rattle.serde_json.specs.Read.{number_of, of_json, of_items, of_members, max_depth, read}
 use Rattle.serde_json.specs.View.{items_of}
 use Rattle.tk_plan.specs.Checks.{member_at, unknown_in}
@@ -86,4 +88,5 @@ AreKnown names ms = (at : List ℕ) → unknown_in names at ms ≡ None
 
 -- the name is that of the first member that has none of them
 abbrev pub IsFirstUnknown : List (List ℕ) → Members → Option (Bor (List ℕ)) → Type 0
-IsFirstUnknown names ms name = (at : List ℕ) → unknown_in names at ms ≡ option_map (λ n. member_at at n.now) name
+IsFirstUnknown names ms name =
+    (at : List ℕ) → unknown_in names at ms ≡ option_map (λ n. member_at at n.now) name

@@ -15,14 +15,14 @@ pub mod NodeInputs
 pub mod PlanOf
 pub mod Refusals
 pub mod JsonValues
-pub mod Gives
+pub mod PlanAnswers
 pub mod ReadNodes
 pub mod Answers
 pub mod Pointers
 pub mod Endings
 pub mod Fields
-pub mod Met
-pub mod Seen
+pub mod SegmentSets
+pub mod CodeValues
 pub mod Progress
 pub mod Tables
 pub mod PlanLaws

@@ -1,5 +1,6 @@
 -- The nodes of a plan's value, in preorder.
-use Rattle.std.specs.Prelude.{ℕ, zero, suc, ◌+◌, List, [], ◌∷◌, ◌++◌, Bool, true, false, codes, map, flat_map}
+use Rattle.std.specs.Prelude.{ℕ, zero, suc, ◌+◌, List, [], ◌∷◌, ◌++◌, Bool, true, false, codes, map}
+use Rattle.std.specs.Prelude.{flat_map}
 use Rattle.std.specs.List.{list_any}
 use Rattle.serde_json.specs.Data.{Data}
 use Rattle.serde_json.specs.Find.{get}
@@ -8,9 +9,12 @@ use Rattle.tk_plan_units.specs.declared.nodes.Node.{Node}
 use Rattle.tk_plan_units.specs.declared.nodes.Lock.{Lock}
 use Rattle.tk_plan_units.specs.Trees.{Tree, tree, Forest, no_trees, more}
 use Rattle.tk_plan.specs.Checks.{member_at, item_at}
-use Rattle.tk_plan.specs.Contents.{json_text, json_optional, json_truth, json_dtype, json_segment, json_concurrent, json_locks, status_in, message_in, json_entries, json_files, repeats, listed}
+use Rattle.tk_plan.specs.Contents.{json_text, json_optional, json_truth, json_dtype, json_segment}
+use Rattle.tk_plan.specs.Contents.{json_concurrent, json_locks, status_in, message_in, json_entries}
+use Rattle.tk_plan.specs.Contents.{json_files, repeats, listed}
 
--- A value that stands for a node: its place as a JSON Pointer, its level, whether the plan is of version 2, in which a
+-- A value that stands for a node: its place as a JSON Pointer, its level, whether the plan is of
+-- version 2, in which a
 -- node may have files, its parent's id, and the segments of the children before it.
 pub record NodeInput : Type 0 where
   pub path : List ℕ
@@ -77,8 +81,10 @@ node_of s = record {
   files = files_of s.takes_files s.value;
 }
 
--- the items of the array at that place from item i on, below that id, after children with the earlier segments
-abbrev pub node_inputs_in : List ℕ → ℕ → List SegmentView → Bool → Bool → ℕ → List SegmentView → List Data → List NodeInput
+-- the items of the array at that place from item i on, below that id, after children with the
+-- earlier segments
+abbrev pub node_inputs_in : List ℕ → ℕ → List SegmentView → Bool → Bool → ℕ → List SegmentView
+    → List Data → List NodeInput
 node_inputs_in array level above is_static takes_files i earlier [] = []
 node_inputs_in array level above is_static takes_files i earlier (d ∷ ds) =
     record {
@@ -90,19 +96,27 @@ node_inputs_in array level above is_static takes_files i earlier (d ∷ ds) =
       earlier = earlier;
       value = d;
     }
-    ∷ node_inputs_in array level above is_static takes_files (i + 1) (earlier ++ segment_in d ∷ []) ds
+    ∷ node_inputs_in array level above is_static takes_files (i + 1) (earlier ++ segment_in d
+    ∷ []) ds
 
 abbrev pub children_in : NodeInput → List Data → List NodeInput
-children_in s cs = node_inputs_in (member_at s.path (codes "children")) (s.level + 1) (id_of s) true s.takes_files 0 [] cs
+children_in s cs =
+    node_inputs_in (member_at s.path (codes "children")) (s.level
+    + 1) (id_of s) true s.takes_files 0 [] cs
 
 -- the dynamic children follow the static ones
 abbrev pub dynamic_in : NodeInput → List Data → List Data → List NodeInput
-dynamic_in s cs ds = node_inputs_in (member_at s.path (codes "dynamic")) (s.level + 1) (id_of s) false s.takes_files 0 (map segment_in cs) ds
+dynamic_in s cs ds =
+    node_inputs_in (member_at s.path (codes "dynamic")) (s.level
+    + 1) (id_of s) false s.takes_files 0 (map segment_in cs) ds
 
 abbrev pub below : NodeInput → List NodeInput
-below s = children_in s (children_of s.is_static s.value) ++ dynamic_in s (children_of s.is_static s.value) (dynamic_of s.value)
+below s =
+    children_in s (children_of s.is_static s.value)
+    ++ dynamic_in s (children_of s.is_static s.value) (dynamic_of s.value)
 
--- A node and all below it in preorder, of that many levels more. A level too many is a fault, so no more are looked at.
+-- A node and all below it in preorder, of that many levels more. A level too many is a fault, so no
+-- more are looked at.
 unfoldable pub node_inputs : ℕ → NodeInput → List NodeInput
 node_inputs zero s = s ∷ []
 node_inputs (suc n) s = s ∷ flat_map (node_inputs n) (below s)

@@ -4,7 +4,7 @@ use Rattle.serde_json.specs.Data.{Data}
 use Rattle.tk_plan_units.specs.Trees.{Tree}
 use Rattle.tk_plan_units.specs.Ids.{ids, AreDistinct}
 use Rattle.tk_plan_units.specs.Planned.{Outline}
-use Rattle.tk_plan.specs.Gives.{plan_in, Answered}
+use Rattle.tk_plan.specs.PlanAnswers.{plan_in, Answered}
 use Rattle.tk_plan.specs.PlanOf.{PlanOf}
 use Rattle.tk_plan.specs.declared.faults.PlanFault.{PlanFault}
 use Rattle.tk_plan.specs.declared.faults.PlanFault.TheVariants.{Memory}
@@ -15,4 +15,6 @@ IdsDiffer = (v : Data) (t : Tree) → PlanOf v ≡ Ok t → AreDistinct (ids [] 
 
 -- bytes have one answer, where memory doesn't run out
 abbrev pub AnswerIsUnique : Type 0
-AnswerIsUnique = (bytes : List ℕ) (a b : Result Outline PlanFault) → Answered (plan_in bytes) a → Answered (plan_in bytes) b → a ≢ Err Memory → b ≢ Err Memory → a ≡ b
+AnswerIsUnique =
+    (bytes : List ℕ) (a b : Result Outline PlanFault) → Answered (plan_in bytes) a
+    → Answered (plan_in bytes) b → a ≢ Err Memory → b ≢ Err Memory → a ≡ b

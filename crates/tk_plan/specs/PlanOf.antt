@@ -1,5 +1,7 @@
 -- The plan that a JSON value stands for, or the first fault.
-use Rattle.std.specs.Prelude.{ℕ, ◌&&◌, ◌||◌, ◌==◌, List, [], ◌∷◌, ◌++◌, length, Bool, true, false, not, nat_lt, nat_le, Option, Some, None, option_map, Result, Ok, Err, if◌then◌else◌, codes, unwrap_or}
+use Rattle.std.specs.Prelude.{ℕ, ◌&&◌, ◌||◌, ◌==◌, List, [], ◌∷◌, ◌++◌, length, Bool, true, false}
+use Rattle.std.specs.Prelude.{not, nat_lt, nat_le, Option, Some, None, option_map, Result, Ok, Err}
+use Rattle.std.specs.Prelude.{if◌then◌else◌, codes, unwrap_or}
 use Rattle.std.specs.List.{list_any, count_by}
 use Rattle.std.specs.Str.{bytes_eq}
 use Rattle.serde_json.specs.Data.{Data, null, number, unsigned}
@@ -17,9 +19,11 @@ use Rattle.tk_plan_units.specs.Trees.{Tree}
 use Rattle.tk_plan_units.specs.Script.{moves}
 use Rattle.tk_plan.specs.Checks.{Check, first, object_of, must}
 use Rattle.tk_plan.specs.Rows.{static_node, dynamic_node}
-use Rattle.tk_plan.specs.NodeInputs.{NodeInput, segment_of, node_of, repeats_key, node_inputs, grown}
+use Rattle.tk_plan.specs.NodeInputs.{NodeInput, segment_of, node_of, repeats_key, node_inputs}
+use Rattle.tk_plan.specs.NodeInputs.{grown}
 use Rattle.tk_plan.specs.declared.faults.PlanFault.{PlanFault}
-use Rattle.tk_plan.specs.declared.faults.PlanFault.TheVariants.{Field, Id, Table, TooManyResources, EntryKeyTwice, TooManyEvents, Deep}
+use Rattle.tk_plan.specs.declared.faults.PlanFault.TheVariants.{Field, Id, Table, TooManyResources}
+use Rattle.tk_plan.specs.declared.faults.PlanFault.TheVariants.{EntryKeyTwice, TooManyEvents, Deep}
 use Rattle.tk_plan_units.specs.declared.needs.TheConstants.{MAX_KEYS}
 use Rattle.tk_plan.specs.declared.limits.TheConstants.{MAX_LEVELS}
 
@@ -37,7 +41,9 @@ fits id = nat_le (length (id_text id)) MAX_BYTES && nat_le (length id) MAX_SEGME
 
 -- why a segment can't stand below an id
 abbrev pub id_fault : List SegmentView → SegmentView → Option IdFault
-id_fault above s = if is_empty s.tag || is_empty s.value then Some Empty else when (not (fits (above ++ s ∷ []))) TooLong
+id_fault above s =
+    if is_empty s.tag || is_empty s.value then Some Empty
+    else when (not (fits (above ++ s ∷ []))) TooLong
 
 abbrev pub same_segment : SegmentView → SegmentView → Bool
 same_segment a b = bytes_eq a.tag b.tag && bytes_eq a.value b.value
@@ -45,7 +51,9 @@ same_segment a b = bytes_eq a.tag b.tag && bytes_eq a.value b.value
 -- ---- checks
 
 abbrev pub node_check : NodeInput → Option (List ℕ)
-node_check s = if s.is_static then static_node s.takes_files s.path s.value else dynamic_node s.takes_files s.path s.value
+node_check s =
+    if s.is_static then static_node s.takes_files s.path s.value
+    else dynamic_node s.takes_files s.path s.value
 
 -- static, or dynamic
 abbrev pub is_kind : Bool → Node → Bool
@@ -118,8 +126,11 @@ ok_unless None x = Ok x
 
 -- a fault of the top object, of the nodes, or of the whole tree
 abbrev pub first_fault : Option (List ℕ) → NodeInput → Tree → Option PlanFault
-first_fault top s t = first (option_map Field top ∷ verdict [] (node_inputs MAX_LEVELS s) ∷ events_fault t ∷ [])
+first_fault top s t =
+    first (option_map Field top ∷ verdict [] (node_inputs MAX_LEVELS s) ∷ events_fault t ∷ [])
 
 -- The first fault, or else the tree.
 abbrev pub PlanOf : Data → Result Tree PlanFault
-PlanOf v = ok_unless (first_fault (top [] v) (root_of v) (grown MAX_LEVELS (root_of v))) (grown MAX_LEVELS (root_of v))
+PlanOf v =
+    ok_unless (first_fault (top [] v) (root_of v) (grown MAX_LEVELS (root_of v)))
+    (grown MAX_LEVELS (root_of v))

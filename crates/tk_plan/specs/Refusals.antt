@@ -1,7 +1,9 @@
 -- What a step of the reading answers, by a verdict.
 use Rattle.std.specs.Prelude.{◌≡◌, Option, Some, None, Result, Ok, Err}
 use Rattle.tk_plan.specs.declared.faults.PlanFault.{PlanFault}
-use Rattle.tk_plan.specs.declared.faults.PlanFault.TheVariants.{Json, Field, Id, Table, TooManyResources, EntryKeyTwice, TooManyEvents, Deep, Memory}
+use Rattle.tk_plan.specs.declared.faults.PlanFault.TheVariants.{Json, Field, Id, Table}
+use Rattle.tk_plan.specs.declared.faults.PlanFault.TheVariants.{TooManyResources, EntryKeyTwice}
+use Rattle.tk_plan.specs.declared.faults.PlanFault.TheVariants.{TooManyEvents, Deep, Memory}
 
 -- P holds of the fault, unless memory ran out
 abbrev pub IsFault : (PlanFault → Type 0) → PlanFault → Type 0

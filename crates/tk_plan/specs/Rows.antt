@@ -1,9 +1,11 @@
 -- The members of a node, in the order in which they are checked.
-use Rattle.std.specs.Prelude.{◌==◌, List, [], ◌∷◌, ◌++◌, length, Bool, true, false, codes, Option, Some, None, is_some, ◌&&◌, if◌then◌else◌}
+use Rattle.std.specs.Prelude.{◌==◌, List, [], ◌∷◌, ◌++◌, length, Bool, true, false, codes, Option}
+use Rattle.std.specs.Prelude.{Some, None, is_some, ◌&&◌, if◌then◌else◌}
 use Rattle.std.specs.Str.{bytes_eq}
 use Rattle.serde_json.specs.Data.{Data, string}
 use Rattle.serde_json.specs.Find.{get}
-use Rattle.tk_plan.specs.Checks.{Check, Row, must, may, text, truth, one_of, any_array, array_of, pair_of, object_of, or_else, member_at}
+use Rattle.tk_plan.specs.Checks.{Check, Row, must, may, text, truth, one_of, any_array, array_of}
+use Rattle.tk_plan.specs.Checks.{pair_of, object_of, or_else, member_at}
 
 abbrev pub dtype_row : Row
 dtype_row = must (codes "type") (one_of (codes "container" ∷ codes "test" ∷ codes "both" ∷ []))
@@ -33,7 +35,8 @@ abbrev pub skip_row : Row
 skip_row = may (codes "skip") text
 
 abbrev pub status_row : Row
-status_row = must (codes "status") (one_of (codes "successful" ∷ codes "aborted" ∷ codes "failed" ∷ []))
+status_row =
+    must (codes "status") (one_of (codes "successful" ∷ codes "aborted" ∷ codes "failed" ∷ []))
 
 abbrev pub message_row : Row
 message_row = may (codes "message") text
@@ -45,7 +48,9 @@ succeeds _ = false
 
 -- a successful result has no message
 abbrev pub message_wrong : Check
-message_wrong at d = if succeeds (get (codes "status") d) && is_some (get (codes "message") d) then Some (member_at at (codes "message")) else None
+message_wrong at d =
+    if succeeds (get (codes "status") d) && is_some (get (codes "message") d)
+    then Some (member_at at (codes "message")) else None
 
 abbrev pub result : Check
 result at d = or_else (object_of (status_row ∷ message_row ∷ []) at d) (message_wrong at d)

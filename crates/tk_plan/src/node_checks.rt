@@ -12,7 +12,7 @@ ghost use Rattle.tk_plan.specs.Fields.{HasFields, checked_of};
 ghost use Rattle.tk_plan.specs.PlanOf.{id_fault, node_check, is_kind, checks};
 ghost use Rattle.tk_plan.specs.Refusals.{Meets};
 ghost use Rattle.tk_plan.specs.declared.limits.TheConstants.{MAX_LEVELS};
-ghost use Rattle.tk_plan.specs.Seen.{seen, above_of, json_segment_text, as_plan_fault, IsNamed};
+ghost use Rattle.tk_plan.specs.CodeValues.{seen, above_of, json_segment_text, as_plan_fault, IsNamed};
 ghost use Rattle.tk_plan.specs.Progress.{IsNoted, IsEntered, IsAdmitted, IsChecked, room_checks};
 
 use crate::faults::PlanFault;

@@ -6,9 +6,12 @@ ghost use Rattle.tk_plan_units.specs.Ids.{descriptors};
 ghost use Rattle.tk_plan.specs.Checks.{escape, member_at, first};
 ghost use Rattle.tk_plan.specs.Pointers.{pointer};
 ghost use Rattle.tk_plan.specs.PlanOf.{checks, verdict, root_at};
-ghost use Rattle.tk_plan.specs.Progress.{IsNoted, IsDescribed, IsAdded, IsStarted, IsSpanned, Adds, HasRead};
+ghost use Rattle.tk_ids.specs.declared.tables.TheConstants.{MAX_DESCRIPTORS};
+ghost use Rattle.tk_plan.specs.declared.limits.TheConstants.{MAX_LEVELS};
+ghost use Rattle.tk_plan.specs.Progress.{AddsGroup, AddsTree, NodeGroup, verdict_of_group, verdict_of_node, levels_below, levels_from};
+ghost use Rattle.tk_plan.specs.Progress.{IsNoted, IsDescribed, IsAdded, IsStarted, IsSpanned, HasRead};
 ghost use Rattle.tk_plan.specs.Refusals.{Meets};
-ghost use Rattle.tk_plan.specs.Seen.{seen, node_at};
+ghost use Rattle.tk_plan.specs.CodeValues.{seen, node_at};
 ghost use Rattle.tk_plan.specs.NodeInputs.{node_inputs, node_inputs_in, below, grown, id_of, segment_in, segment_of};
 
 use crate::faults::PlanFault;
@@ -26,7 +29,7 @@ use tk_plan_units::{Node, NumberedNode};
 
 /// Puts the descriptor of a static node at the end, or counts a dynamic node.
 fn add_descriptor(reader: &mut Reader, node: &Node, id: UniqueId) -> Result<(), AllocError>
-    requires { reader.old.dynamics ≤ 65536 }
+    requires { reader.old.dynamics ≤ MAX_DESCRIPTORS }
     ensures { OnOk result (IsDescribed reader.old reader.new node.now id) }
 {
     if node.is_static {
@@ -41,7 +44,7 @@ fn add_descriptor(reader: &mut Reader, node: &Node, id: UniqueId) -> Result<(), 
 
 /// Puts a node at the end.
 fn add_node(reader: &mut Reader, node: Node, id: UniqueId) -> Result<(), AllocError>
-    requires { reader.old.dynamics ≤ 65536 }
+    requires { reader.old.dynamics ≤ MAX_DESCRIPTORS }
     ensures { OnOk result (IsAdded reader.old reader.new node id) }
 {
     let described = add_descriptor(reader, &node, id);
@@ -56,7 +59,7 @@ fn add_node(reader: &mut Reader, node: Node, id: UniqueId) -> Result<(), AllocEr
 
 /// Puts a node that other nodes stand below at the end. Answers its id.
 fn add_parent(reader: &mut Reader, node: Node, id: UniqueId) -> Result<UniqueId, AllocError>
-    requires { reader.old.dynamics ≤ 65536 }
+    requires { reader.old.dynamics ≤ MAX_DESCRIPTORS }
     ensures added { OnOk result (IsAdded reader.old reader.new node id) }
     ensures id { IfOk result (λ i. i ≡ id) }
 {
@@ -106,11 +109,11 @@ fn read_node<'t>(
     value: Value<'t>,
 ) -> Result<(), PlanFault>
     requires noted { IsNoted reader.old }
-    requires level { place.level ≤ 61 }
+    requires level { place.level ≤ MAX_LEVELS + 1 }
     ensures { let s = node_at siblings.old place.entry (view value.entry) in
-        let k = 61 - place.entry.level in
-        Meets (verdict (contents reader.old.nodes.items) (node_inputs k s))
-        (λ _. Adds reader.old reader.new (flat (grown k s)) (descriptors s.above (grown k s))
+        let levels = levels_from place.entry.level in
+        Meets (verdict_of_node reader.old levels s)
+        (λ _. AddsTree reader.old reader.new levels s
         × (siblings.new ≡ siblings.old ++ segment_of s ∷ [])) result }
 {
     let at = reader.nodes.len();
@@ -138,13 +141,12 @@ fn read_below(
     value: Value<'_>,
 ) -> Result<(), PlanFault>
     requires noted { IsNoted reader.old }
-    requires level { place.level ≤ 60 }
+    requires level { place.level ≤ MAX_LEVELS }
     requires id { id.now ≡ id_of (node_at [] place (view value)) }
     ensures { let s = node_at [] place.entry (view value.entry) in
-        let k = 60 - place.entry.level in
-        let ts = map (grown k) (below s) in
-        Meets (verdict (contents reader.old.nodes.items) (flat_map (node_inputs k) (below s)))
-        (λ _. Adds reader.old reader.new (flat_map flat ts) (flat_map (descriptors (id_of s)) ts))
+        let levels = levels_below place.entry.level in
+        let group : NodeGroup = record { above = id_of s; levels = levels; nodes = below s } in
+        Meets (verdict_of_group reader.old group) (λ _. AddsGroup reader.old reader.new group)
         result }
 {
     let (children, dynamic) = into_below(alloc, place.is_static, value);
@@ -185,15 +187,14 @@ fn read_all<'t>(
     values: Vec<Value<'t>>,
 ) -> Result<(), PlanFault>
     requires noted { IsNoted reader.old }
-    requires level { parent.level ≤ 60 }
+    requires level { parent.level ≤ MAX_LEVELS }
     requires plain { flat_map escape name.now ≡ name.now }
     ensures { let ss = node_inputs_in (member_at (pointer parent.entry.path) name.now)
         (parent.entry.level + 1) id.now is_static parent.entry.takes_files 0 siblings.old
         (map view values.entry.items) in
-        let k = 60 - parent.entry.level in
-        let ts = map (grown k) ss in
-        Meets (verdict (contents reader.old.nodes.items) (flat_map (node_inputs k) ss))
-        (λ _. Adds reader.old reader.new (flat_map flat ts) (flat_map (descriptors id.now) ts)
+        let levels = levels_below parent.entry.level in
+        let group : NodeGroup = record { above = id.now; levels = levels; nodes = ss } in
+        Meets (verdict_of_group reader.old group) (λ _. AddsGroup reader.old reader.new group
         × (siblings.new ≡ siblings.old ++ map segment_in (map view values.entry.items))) result }
 {
     if values.is_empty() {
@@ -224,7 +225,7 @@ fn read_root(
     requires descriptors { reader.old.descriptors.items ≡ [] }
     requires noted { IsNoted reader.old }
     ensures { let s = root_at takes_files (view root.entry) in
-        Meets (verdict [] (node_inputs 60 s)) (λ _. HasRead s reader.new) result }
+        Meets (verdict [] (node_inputs MAX_LEVELS s)) (λ _. HasRead s reader.new) result }
 {
     let mut siblings = Siblings::with_capacity(alloc, 1)?;
     let place = NodePlace {
@@ -244,7 +245,7 @@ pub(crate) fn read_nodes(
     root: Value<'_>,
 ) -> Result<Reader, PlanFault>
     ensures { let s = root_at takes_files (view root.entry) in
-        Meets (verdict [] (node_inputs 60 s)) (HasRead s) result }
+        Meets (verdict [] (node_inputs MAX_LEVELS s)) (HasRead s) result }
 {
     let mut reader = Reader::new(alloc);
     read_root(alloc, &mut reader, takes_files, root)?;

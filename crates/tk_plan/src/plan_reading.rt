@@ -5,7 +5,7 @@ ghost use Rattle.tk_plan.specs.JsonValues.{view};
 ghost use Rattle.tk_plan.specs.Answers.{Reads};
 ghost use Rattle.tk_plan.specs.Checks.{member_at, member_wrong, must};
 ghost use Rattle.tk_plan.specs.PlanOf.{PlanOf, one_or_two, is_two, takes_files_in, anything, top};
-ghost use Rattle.tk_plan.specs.Gives.{plan_in, Answered};
+ghost use Rattle.tk_plan.specs.PlanAnswers.{plan_in, Answered};
 ghost use Rattle.tk_plan.specs.Progress.{IsNoted};
 ghost use Rattle.tk_plan.specs.ReadNodes.{IsReadFrom};
 ghost use Rattle.tk_plan.specs.Tables.{Follow};

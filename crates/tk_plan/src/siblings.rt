@@ -2,7 +2,7 @@
 ghost use Rattle.std.specs.Prelude.{◌≡◌, ◌++◌, ◌∷◌, [], not, IfOk, if◌then◌else◌};
 ghost use Rattle.std.specs.List.{list_any};
 ghost use Rattle.tk_plan.specs.PlanOf.{same_segment};
-ghost use Rattle.tk_plan.specs.Seen.{json_segment_text};
+ghost use Rattle.tk_plan.specs.CodeValues.{json_segment_text};
 
 use crate::member_values::TwoTexts;
 use indexmap::IndexSet;
@@ -18,7 +18,7 @@ pub(crate) struct Siblings<'t> {
 impl<'t> Model for Siblings<'t> {
     ghost use Rattle.std.specs.Prelude.{List, map, ℕ};
     ghost use Rattle.tk_ids.specs.IdText.{SegmentView};
-    ghost use Rattle.tk_plan.specs.Met.{segments_of};
+    ghost use Rattle.tk_plan.specs.SegmentSets.{segments_of};
 
     ghost Value = { List SegmentView };
 

@@ -9,7 +9,7 @@ use Rattle.tk_plan_units.specs.Planned.{Outline}
 use Rattle.tk_plan_units.specs.Trees.{Tree, forest}
 use Rattle.tk_plan.specs.declared.faults.PlanFault.{PlanFault}
 use Rattle.tk_plan.specs.declared.faults.PlanFault.TheVariants as plans
-use Rattle.tk_plan.specs.Gives.{plan_in, outline, Answered}
+use Rattle.tk_plan.specs.PlanAnswers.{plan_in, outline, Answered}
 use Rattle.tk_engine_execute.specs.declared.run_faults.RunFault.{RunFault}
 use Rattle.tk_engine_execute.specs.declared.run_faults.RunFault.TheVariants as runs
 use Rattle.tk_engine_execute.specs.declared.engines.UnitFault.{UnitFault}

@@ -1,4 +1,4 @@
-use Rattle.tk_plan.specs.Gives.{plan_in}
+use Rattle.tk_plan.specs.PlanAnswers.{plan_in}
 use Rattle.tk_plan.proofs.PlanLawSteps.{answers_agree}
 use Rattle.tk_plan.proofs.laws.answer_is_unique.Goals as goal
 

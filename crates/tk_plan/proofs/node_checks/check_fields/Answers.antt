@@ -5,7 +5,7 @@ use Rattle.tk_plan_units.specs.Trees.{contents}
 use Rattle.tk_plan.specs.Checks.{first}
 use Rattle.tk_plan.specs.PlanOf.{id_fault}
 use Rattle.tk_plan.specs.Progress.{room_checks}
-use Rattle.tk_plan.specs.Seen.{seen, json_segment_text}
+use Rattle.tk_plan.specs.CodeValues.{seen, json_segment_text}
 use Rattle.tk_plan.specs.NodeInputs as spec
 use Rattle.tk_plan.specs.NodeInputs.{node_of, segment_of}
 use Rattle.tk_plan.proofs.CheckSteps.{Passes, faults_also, repeat_fault, id_fault_here, room_verdict, keys_as}

@@ -2,7 +2,7 @@ use Rattle.std.proofs.Common.{◌≤◌, ◌==◌, ◌&&◌, length, sym, ap, ap
 use Rattle.std.proofs.lemmas.Result.{err_from_is_err_and}
 use Rattle.std.proofs.lemmas.List.{length-map}
 use Rattle.tk_plan.specs.JsonValues.{view}
-use Rattle.tk_plan.specs.Seen.{seen}
+use Rattle.tk_plan.specs.CodeValues.{seen}
 use Rattle.tk_plan.specs.NodeInputs as spec
 use Rattle.tk_plan.proofs.CheckSteps.{faults_also, faults_from_path, deep_fault, field_fault, both}
 use Rattle.tk_plan.proofs.node_checks.check_node.Goals as goal

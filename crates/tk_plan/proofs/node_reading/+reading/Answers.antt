@@ -11,7 +11,7 @@ use Rattle.tk_plan.specs.PlanOf.{checks}
 use Rattle.tk_plan.specs.Progress.{IsNoted, HasBelow}
 use Rattle.tk_plan.specs.NodeInputs as spec
 use Rattle.tk_plan.specs.NodeInputs.{node_inputs, node_inputs_in, segment_in, segment_of, id_of, node_of, grown, below}
-use Rattle.tk_plan.specs.Seen.{node_at}
+use Rattle.tk_plan.specs.CodeValues.{node_at}
 use Rattle.tk_plan.proofs.CheckSteps.{faults_also, meets_also}
 use Rattle.tk_plan.proofs.Going.{Goes, met_next, met_end, goes_next, goes_fault, goes_end, goes_nowhere, node_input_next, check_fault, parts_of, first_fault, second_verdict, both_added, below_verdict, leaf_verdict, leaf_added, node_added, no_values}
 use Rattle.tk_plan.proofs.node_reading.+reading.Goals as goal

@@ -1,6 +1,6 @@
 use Rattle.std.proofs.Common.{None, Some, sym, ◌∙◌}
 use Rattle.tk_plan.specs.NodeInputs as spec
-use Rattle.tk_plan.specs.Seen.{seen}
+use Rattle.tk_plan.specs.CodeValues.{seen}
 use Rattle.tk_plan.proofs.CheckSteps.{node_started}
 use Rattle.tk_plan.proofs.Going.{leaf_below}
 use Rattle.tk_plan.proofs.node_reading.start_node.Goals as goal

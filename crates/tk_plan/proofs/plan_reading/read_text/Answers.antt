@@ -2,7 +2,7 @@ use Rattle.std.proofs.Common.{◌≡◌, Err, None, sym, ap, ◌∙◌, subst, a
 use Rattle.std.proofs.lemmas.Result.{err_from_is_err_and}
 use Rattle.std.specs.Str.{IsUtf8}
 use Rattle.serde_json.specs.Read.{read}
-use Rattle.tk_plan.specs.Gives.{plan_in}
+use Rattle.tk_plan.specs.PlanAnswers.{plan_in}
 use Rattle.tk_plan.specs.JsonValues.{view}
 use Rattle.tk_plan.specs.ReadNodes.{IsReadFrom}
 use Rattle.tk_plan.specs.declared.faults.PlanFault.TheVariants.{Json}

@@ -2,7 +2,7 @@ use Rattle.std.proofs.Common.{◌≡◌, Ok, Err, ap, sym, subst}
 use Rattle.std.proofs.lemmas.Result.{err_from_is_err_and}
 use Rattle.tk_plan_units.specs.Numbers.{IsNumbered}
 use Rattle.tk_plan_units.specs.Planned.{Outline, IsPlanned}
-use Rattle.tk_plan.specs.Gives.{plan_in, Answered}
+use Rattle.tk_plan.specs.PlanAnswers.{plan_in, Answered}
 use Rattle.tk_report.proofs.RunEvents.{has_places, has_report, may_work, no_plan, not_run}
 use Rattle.tk_report.proofs.plan_runs.run_plan.Goals as goal
 

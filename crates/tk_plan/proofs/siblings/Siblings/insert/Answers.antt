@@ -1,6 +1,6 @@
 use Rattle.std.proofs.Common.{◌≡◌, ◌∙◌, not, ap}
-use Rattle.tk_plan.specs.Met.{segments_of}
-use Rattle.tk_plan.specs.Seen.{json_segment_text}
+use Rattle.tk_plan.specs.SegmentSets.{segments_of}
+use Rattle.tk_plan.specs.CodeValues.{json_segment_text}
 use Rattle.tk_plan.proofs.Meeting.{any_met}
 use Rattle.tk_plan.proofs.siblings.Siblings.insert.Goals as goal
 

@@ -22,7 +22,16 @@ above_of (Some id) = id.now
 
 -- data at a place, after siblings with the earlier segments
 abbrev pub node_at : List SegmentView → NodePlace → Data → spec.NodeInput
-node_at earlier p d = record { path = pointer p.path; level = p.level; is_static = p.is_static; takes_files = p.takes_files; above = above_of p.above; earlier = earlier; value = d }
+node_at earlier p d =
+    record {
+      path = pointer p.path;
+      level = p.level;
+      is_static = p.is_static;
+      takes_files = p.takes_files;
+      above = above_of p.above;
+      earlier = earlier;
+      value = d;
+    }
 
 -- a value that stands for a node, after such siblings
 abbrev pub seen : List SegmentView → NodeInput → spec.NodeInput
