@@ -22,7 +22,9 @@ use Rattle.testkit_questions.specs.declared.questions.Mode.{Mode}
 use Rattle.testkit_questions.specs.declared.questions.Mode.TheVariants.{Exactly, Loosely, InOrder}
 use Rattle.testkit_questions.specs.declared.questions.Question.{Question}
 use Rattle.testkit_questions.specs.declared.questions.Question.TheVariants as questions
-use Rattle.testkit_questions.specs.Questions.{Expecting, IsNextExpected, IsExpectation, IsBadExpectation, expecting, AreConditions, IsBadCondition, IsBadWord, IsNoQuestion, IsNoSelection, IsNoMode, IsAskedAs, mode_name, stats, count, match_word, executions}
+use Rattle.testkit_questions.specs.Questions.{Expecting, IsNextExpected, IsExpectation, IsBadExpectation, expecting, AreConditions, IsBadCondition, IsBadWord, IsNoQuestion, IsNoSelection, IsNoMode, IsAskedAs, mode_name, stats, count, match_word, overview_name}
+use Rattle.testkit_questions.specs.declared.questions.Overview.{Overview}
+use Rattle.testkit_questions.specs.declared.questions.Overview.TheVariants as overviews
 use Rattle.testkit_questions.proofs.WordLemmas.{name_lacks}
 
 heads : {A : Type 0} (x y : A) (xs ys : List A) → x ∷ xs ≡ y ∷ ys → x ≡ y
@@ -77,6 +79,17 @@ called InOrder = refl
 
 one_mode : (m n : Mode) → mode_name m ≡ mode_name n → m ≡ n
 one_mode m n e = sym (called m) ∙ ap (λ (name : List ℕ). mode_of name) e ∙ called n
+
+abbrev overview_of : List ℕ → Overview
+overview_of name = if bytes_eq name (codes "executions") then overviews.Executions else (if bytes_eq name (codes "lifecycle") then overviews.Lifecycle else overviews.Report)
+
+entitled : (o : Overview) → overview_of (overview_name o) ≡ o
+entitled overviews.Executions = refl
+entitled overviews.Lifecycle = refl
+entitled overviews.Report = refl
+
+one_overview : (o n : Overview) → overview_name o ≡ overview_name n → o ≡ n
+one_overview o n e = sym (entitled o) ∙ ap (λ (name : List ℕ). overview_of name) e ∙ entitled n
 
 -- ---- expectations
 
@@ -189,7 +202,7 @@ abbrev pub AreSame : Question → Question → Type 0
 AreSame (questions.Stats e) (questions.Stats f) = e ≡ f
 AreSame (questions.Count s) (questions.Count t) = s ≡ t
 AreSame (questions.Match m cs) (questions.Match n ds) = (m ≡ n) × AreAlike cs.items ds.items
-AreSame questions.Executions questions.Executions = Unit {0}
+AreSame (questions.Overview o) (questions.Overview n) = o ≡ n
 AreSame _ _ = ⊥
 
 abbrev pub SameReading : Result Question AskFault → Result Question AskFault → Type 0
@@ -226,9 +239,9 @@ data OfMatch (rest : List (List ℕ)) (x : Result Question AskFault) : Type 0 wh
   match_none : x ≡ Err (faults.Word 0) → IsNoMode rest → OfMatch rest x
   match_fault : (m : Mode) (texts : List (List ℕ)) (at i : ℕ) (f : CondFault) → x ≡ Err (faults.Condition i f) → rest ≡ mode_name m ∷ texts → i ≡ at + 1 → IsBadCondition texts at f → OfMatch rest x
 
-data OfExecutions (rest : List (List ℕ)) (x : Result Question AskFault) : Type 0 where
-  executions_good : x ≡ Ok questions.Executions → rest ≡ [] → OfExecutions rest x
-  executions_more : (extra : List ℕ) (more : List (List ℕ)) → x ≡ Err (faults.Word 0) → rest ≡ extra ∷ more → OfExecutions rest x
+data OfOverview (o : Overview) (rest : List (List ℕ)) (x : Result Question AskFault) : Type 0 where
+  overview_good : x ≡ Ok (questions.Overview o) → rest ≡ [] → OfOverview o rest x
+  overview_more : (extra : List ℕ) (more : List (List ℕ)) → x ≡ Err (faults.Word 0) → rest ≡ extra ∷ more → OfOverview o rest x
 
 one_stats : (rest : List (List ℕ)) (a b : Result Question AskFault) → OfStats rest a → OfStats rest b → SameReading a b
 one_stats rest a b (stats_good e p h) (stats_good f q k) = alike a b (Ok (questions.Stats e)) (Ok (questions.Stats f)) p q (one_expected nothing_expected rest e f h k)
@@ -262,10 +275,10 @@ same_match m n cs ds (questions.Match i es) (questions.Match j fs) p q same like
     (p.0 ∙ same ∙ sym q.0, subst (λ (l : List Condition). AreAlike l fs.items) (sym p.1) (subst (λ (l : List Condition). AreAlike cs l) (sym q.1) like))
 same_match m n cs ds (questions.Match i es) (questions.Stats e) p q same like = absurd q
 same_match m n cs ds (questions.Match i es) (questions.Count e) p q same like = absurd q
-same_match m n cs ds (questions.Match i es) questions.Executions p q same like = absurd q
+same_match m n cs ds (questions.Match i es) (questions.Overview o) p q same like = absurd q
 same_match m n cs ds (questions.Stats e) r p q same like = absurd p
 same_match m n cs ds (questions.Count e) r p q same like = absurd p
-same_match m n cs ds questions.Executions r p q same like = absurd p
+same_match m n cs ds (questions.Overview o) r p q same like = absurd p
 
 good_not_faulty : (texts more : List (List ℕ)) (cs : List Condition) (at : ℕ) (f : CondFault) → texts ≡ more → AreConditions texts cs → IsBadCondition more at f → ⊥
 good_not_faulty texts more cs at f same p bad =
@@ -295,18 +308,18 @@ one_match rest a b (match_fault m texts at i f p h e c) (match_none s k) = absur
 one_match rest a b (match_fault m texts at i f p h e c) (match_fault n more there j g s k x d) =
     alike a b (Err (faults.Condition i f)) (Err (faults.Condition j g)) p s (one_bad texts more i j at there f g (texts_same rest m n texts more h k) e x c d)
 
-one_executions : (rest : List (List ℕ)) (a b : Result Question AskFault) → OfExecutions rest a → OfExecutions rest b → SameReading a b
-one_executions rest a b (executions_good p h) (executions_good q k) = alike a b (Ok questions.Executions) (Ok questions.Executions) p q tt
-one_executions rest a b (executions_good p h) (executions_more extra more q k) = absurd (no_tail extra more rest h k)
-one_executions rest a b (executions_more extra more p h) (executions_good q k) = absurd (no_tail extra more rest k h)
-one_executions rest a b (executions_more extra more p h) (executions_more extra2 more2 q k) = alike a b (Err (faults.Word 0)) (Err (faults.Word 0)) p q refl
+one_of_overview : (o : Overview) (rest : List (List ℕ)) (a b : Result Question AskFault) → OfOverview o rest a → OfOverview o rest b → SameReading a b
+one_of_overview o rest a b (overview_good p h) (overview_good q k) = alike a b (Ok (questions.Overview o)) (Ok (questions.Overview o)) p q refl
+one_of_overview o rest a b (overview_good p h) (overview_more extra more q k) = absurd (no_tail extra more rest h k)
+one_of_overview o rest a b (overview_more extra more p h) (overview_good q k) = absurd (no_tail extra more rest k h)
+one_of_overview o rest a b (overview_more extra more p h) (overview_more extra2 more2 q k) = alike a b (Err (faults.Word 0)) (Err (faults.Word 0)) p q refl
 
 -- what the words begin with
 data Reading (words : List (List ℕ)) (x : Result Question AskFault) : Type 0 where
   of_stats : (rest : List (List ℕ)) → words ≡ stats ∷ rest → OfStats rest x → Reading words x
   of_count : (rest : List (List ℕ)) → words ≡ count ∷ rest → OfCount rest x → Reading words x
   of_match : (rest : List (List ℕ)) → words ≡ match_word ∷ rest → OfMatch rest x → Reading words x
-  of_executions : (rest : List (List ℕ)) → words ≡ executions ∷ rest → OfExecutions rest x → Reading words x
+  of_overview : (o : Overview) (rest : List (List ℕ)) → words ≡ overview_name o ∷ rest → OfOverview o rest x → Reading words x
   of_none : x ≡ Err faults.Question → IsNoQuestion words → Reading words x
 
 word_error : (i j : ℕ) → i ≡ j → (let x : Result Question AskFault = Err (faults.Word i) in x) ≡ Err (faults.Word j)
@@ -317,13 +330,13 @@ word_reading words i (inl h) = of_stats h.0 h.1 (stats_bad i refl h.2)
 word_reading words i (inr (inl h)) = of_count h.0 h.1 (count_none (word_error i 0 h.2) h.3)
 word_reading words i (inr (inr (inl h))) = of_count (selection_name h.0 ∷ h.1 ∷ h.2) h.3 (count_more h.0 h.1 h.2 (word_error i 1 h.4) refl)
 word_reading words i (inr (inr (inr (inl h)))) = of_match h.0 h.1 (match_none (word_error i 0 h.2) h.3)
-word_reading words i (inr (inr (inr (inr h)))) = of_executions (h.0 ∷ h.1) h.2 (executions_more h.0 h.1 (word_error i 0 h.3) refl)
+word_reading words i (inr (inr (inr (inr h)))) = of_overview h.0 (h.1 ∷ h.2) h.3 (overview_more h.1 h.2 (word_error i 0 h.4) refl)
 
 reading : (words : List (List ℕ)) (x : Result Question AskFault) → IsOfWords x → IsAskedAs words x → Reading words x
 reading words (Ok (questions.Stats e)) s p = of_stats p.0 p.1 (stats_good e refl p.2)
 reading words (Ok (questions.Count c)) s p = of_count (selection_name c ∷ []) p (count_good c refl refl)
 reading words (Ok (questions.Match m cs)) s p = of_match (mode_name m ∷ p.0) p.1 (match_good m (questions.Match m cs) cs.items p.0 refl (refl, refl) refl p.2)
-reading words (Ok questions.Executions) s p = of_executions [] p (executions_good refl refl)
+reading words (Ok (questions.Overview o)) s p = of_overview o [] p (overview_good refl refl)
 reading words (Err faults.Question) s p = of_none refl p
 reading words (Err (faults.Word i)) s p = word_reading words i p
 reading words (Err (faults.Condition i f)) s p = of_match (mode_name p.0 ∷ p.1) p.2 (match_fault p.0 p.1 p.3.0 i f refl refl p.3.1 p.3.2)
@@ -340,32 +353,40 @@ clash words a b r s p q apart = apart (ap (λ (t : List ℕ). get_or t 0 0) (hea
 none_here : (words : List (List ℕ)) (a : List ℕ) (r : List (List ℕ)) → IsNoQuestion words → words ≡ a ∷ r → IsNoQuestion (a ∷ r)
 none_here words a r none is = subst (λ (t : List (List ℕ)). IsNoQuestion t) is none
 
+-- no overview's name begins with another letter than `e`, `l` and `r`
+first_apart : (o : Overview) (c : ℕ) → 101 ≢ c → 108 ≢ c → 114 ≢ c → get_or (overview_name o) 0 0 ≡ c → ⊥
+first_apart overviews.Executions c e l r is = e is
+first_apart overviews.Lifecycle c e l r is = l is
+first_apart overviews.Report c e l r is = r is
+
 one_of : (words : List (List ℕ)) (a b : Result Question AskFault) → Reading words a → Reading words b → SameReading a b
 one_of words a b (of_stats r p h) (of_stats s q k) = one_stats r a b h (subst (λ (t : List (List ℕ)). OfStats t b) (rest_same words stats r s p q) k)
 one_of words a b (of_count r p h) (of_count s q k) = one_count r a b h (subst (λ (t : List (List ℕ)). OfCount t b) (rest_same words count r s p q) k)
 one_of words a b (of_match r p h) (of_match s q k) = one_match r a b h (subst (λ (t : List (List ℕ)). OfMatch t b) (rest_same words match_word r s p q) k)
-one_of words a b (of_executions r p h) (of_executions s q k) = one_executions r a b h (subst (λ (t : List (List ℕ)). OfExecutions t b) (rest_same words executions r s p q) k)
+one_of words a b (of_overview o r p h) (of_overview n s q k) =
+    let same = one_overview n o (heads (overview_name n) (overview_name o) s r (sym q ∙ p)) in
+    one_of_overview o r a b h (subst (λ (t : List (List ℕ)). OfOverview o t b) (tails (overview_name n) (overview_name o) s r (sym q ∙ p)) (subst (λ (v : Overview). OfOverview v s b) same k))
 one_of words a b (of_none p h) (of_none q k) = alike a b (Err faults.Question) (Err faults.Question) p q refl
 one_of words a b (of_stats r p h) (of_count s q k) = absurd (clash words stats count r s p q (λ (e : 115 ≡ 99). omega arith))
 one_of words a b (of_stats r p h) (of_match s q k) = absurd (clash words stats match_word r s p q (λ (e : 115 ≡ 109). omega arith))
-one_of words a b (of_stats r p h) (of_executions s q k) = absurd (clash words stats executions r s p q (λ (e : 115 ≡ 101). omega arith))
+one_of words a b (of_stats r p h) (of_overview o s q k) = absurd (clash words stats (overview_name o) r s p q (λ (e : 115 ≡ get_or (overview_name o) 0 0). first_apart o 115 (omega arith) (omega arith) (omega arith) (sym e)))
 one_of words a b (of_stats r p h) (of_none q k) = let n = none_here words stats r k p in absurd (n.0 refl)
 one_of words a b (of_none p h) (of_stats s q k) = let n = none_here words stats s h q in absurd (n.0 refl)
 one_of words a b (of_count r p h) (of_stats s q k) = absurd (clash words count stats r s p q (λ (e : 99 ≡ 115). omega arith))
 one_of words a b (of_count r p h) (of_match s q k) = absurd (clash words count match_word r s p q (λ (e : 99 ≡ 109). omega arith))
-one_of words a b (of_count r p h) (of_executions s q k) = absurd (clash words count executions r s p q (λ (e : 99 ≡ 101). omega arith))
+one_of words a b (of_count r p h) (of_overview o s q k) = absurd (clash words count (overview_name o) r s p q (λ (e : 99 ≡ get_or (overview_name o) 0 0). first_apart o 99 (omega arith) (omega arith) (omega arith) (sym e)))
 one_of words a b (of_count r p h) (of_none q k) = let n = none_here words count r k p in absurd (n.1 refl)
 one_of words a b (of_none p h) (of_count s q k) = let n = none_here words count s h q in absurd (n.1 refl)
 one_of words a b (of_match r p h) (of_stats s q k) = absurd (clash words match_word stats r s p q (λ (e : 109 ≡ 115). omega arith))
 one_of words a b (of_match r p h) (of_count s q k) = absurd (clash words match_word count r s p q (λ (e : 109 ≡ 99). omega arith))
-one_of words a b (of_match r p h) (of_executions s q k) = absurd (clash words match_word executions r s p q (λ (e : 109 ≡ 101). omega arith))
+one_of words a b (of_match r p h) (of_overview o s q k) = absurd (clash words match_word (overview_name o) r s p q (λ (e : 109 ≡ get_or (overview_name o) 0 0). first_apart o 109 (omega arith) (omega arith) (omega arith) (sym e)))
 one_of words a b (of_match r p h) (of_none q k) = let n = none_here words match_word r k p in absurd (n.2 refl)
 one_of words a b (of_none p h) (of_match s q k) = let n = none_here words match_word s h q in absurd (n.2 refl)
-one_of words a b (of_executions r p h) (of_stats s q k) = absurd (clash words executions stats r s p q (λ (e : 101 ≡ 115). omega arith))
-one_of words a b (of_executions r p h) (of_count s q k) = absurd (clash words executions count r s p q (λ (e : 101 ≡ 99). omega arith))
-one_of words a b (of_executions r p h) (of_match s q k) = absurd (clash words executions match_word r s p q (λ (e : 101 ≡ 109). omega arith))
-one_of words a b (of_executions r p h) (of_none q k) = let n = none_here words executions r k p in absurd (n.3 refl)
-one_of words a b (of_none p h) (of_executions s q k) = let n = none_here words executions s h q in absurd (n.3 refl)
+one_of words a b (of_overview o r p h) (of_stats s q k) = absurd (clash words (overview_name o) stats r s p q (λ (e : get_or (overview_name o) 0 0 ≡ 115). first_apart o 115 (omega arith) (omega arith) (omega arith) e))
+one_of words a b (of_overview o r p h) (of_count s q k) = absurd (clash words (overview_name o) count r s p q (λ (e : get_or (overview_name o) 0 0 ≡ 99). first_apart o 99 (omega arith) (omega arith) (omega arith) e))
+one_of words a b (of_overview o r p h) (of_match s q k) = absurd (clash words (overview_name o) match_word r s p q (λ (e : get_or (overview_name o) 0 0 ≡ 109). first_apart o 109 (omega arith) (omega arith) (omega arith) e))
+one_of words a b (of_overview o r p h) (of_none q k) = let n = none_here words (overview_name o) r k p in absurd (n.3 o refl)
+one_of words a b (of_none p h) (of_overview o s q k) = let n = none_here words (overview_name o) s h q in absurd (n.3 o refl)
 
 -- the same words never have two readings
 pub one_reading : (words : List (List ℕ)) (a b : Result Question AskFault) → IsOfWords a → IsOfWords b → IsAskedAs words a → IsAskedAs words b → SameReading a b

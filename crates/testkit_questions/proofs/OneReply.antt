@@ -28,8 +28,12 @@ use Rattle.tk_query.proofs.AnswerIsUnique.{one_exact, one_loose, one_in_order, o
 use Rattle.testkit_questions.specs.declared.questions.Mode.{Mode}
 use Rattle.testkit_questions.specs.declared.questions.Mode.TheVariants.{Exactly, Loosely, InOrder as InTheirOrder}
 use Rattle.testkit_questions.specs.declared.questions.Question.{Question}
-use Rattle.testkit_questions.specs.declared.questions.Question.TheVariants.{Stats, Count, Match, Executions}
-use Rattle.testkit_questions.specs.Answers.{IsMatchAnswer, IsAnswerTo, exact_line, exact_yes, loose_line, loose_yes, position_text, in_order_line, in_order_yes, execution_line}
+use Rattle.testkit_questions.specs.declared.questions.Question.TheVariants.{Stats, Count, Match, Overview as OfRecord}
+use Rattle.testkit_questions.specs.declared.questions.Overview.{Overview}
+use Rattle.testkit_questions.specs.declared.questions.Overview.TheVariants as overviews
+use Rattle.tk_query.specs.declared.lifecycle_rules.Lifecycle.{Lifecycle}
+use Rattle.tk_query.proofs.LifecycleIsUnique.{lifecycle_is_unique}
+use Rattle.testkit_questions.specs.Answers.{IsMatchAnswer, IsAnswerTo, exact_line, exact_yes, loose_line, loose_yes, position_text, in_order_line, in_order_yes, execution_line, IsOverviewOf, lifecycle_line, lifecycle_yes}
 use Rattle.testkit_questions.proofs.OneReading.{AreAlike, AreSame}
 
 -- ---- conditions that say the same hold alike
@@ -147,6 +151,15 @@ one_match_answer InTheirOrder cs ds r y z o p like a b =
     let e = in_order_same a.0 b.0 (one_in_order (all_of r) ds a.0 b.0 (in_order_too (all_of r) cs ds a.0 like a.1) b.1) in
     (a.2 ∙ e.0 ∙ sym b.2, a.3 ∙ e.1 ∙ sym b.3)
 
+one_overview_answer : (o : Overview) (r : Recorded) (y z : Bool) (u v : List ℕ) → IsOverviewOf o r y u → IsOverviewOf o r z v → (y ≡ z) × (u ≡ v)
+one_overview_answer overviews.Executions r y z u v a b =
+    let e = one_list (all_of r) a.0 b.0 a.1 b.1 in
+    (a.2 ∙ sym b.2, a.3 ∙ ap (λ (xs : List Execution). flat_map execution_line xs) e ∙ sym b.3)
+one_overview_answer overviews.Lifecycle r y z u v a b =
+    let e = lifecycle_is_unique r a.0 b.0 a.1 b.1 in
+    (a.2 ∙ ap (λ (x : Lifecycle). lifecycle_yes x) e ∙ sym b.2, a.3 ∙ ap (λ (x : Lifecycle). lifecycle_line x) e ∙ sym b.3)
+one_overview_answer overviews.Report r y z u v a b = (a.0 ∙ sym b.0, a.1 ∙ sym b.1)
+
 -- the same question has one answer
 pub one_reply : (p q : Question) (r : Recorded) (y z : Bool) (o u : List ℕ) → AreSame p q → IsAnswerTo p r y o → IsAnswerTo q r z u → (y ≡ z) × (o ≡ u)
 one_reply (Stats e) (Stats f) r y z o u same a b =
@@ -154,21 +167,20 @@ one_reply (Stats e) (Stats f) r y z o u same a b =
     (c.0 ∙ sym b.0, c.1 ∙ sym b.1)
 one_reply (Stats e) (Count t) r y z o u same a b = absurd same
 one_reply (Stats e) (Match n ds) r y z o u same a b = absurd same
-one_reply (Stats e) Executions r y z o u same a b = absurd same
+one_reply (Stats e) (OfRecord w) r y z o u same a b = absurd same
 one_reply (Count s) (Count t) r y z o u same a b =
     let c = subst (λ (x : Selection). IsAnswerTo (Count x) r y o) same a in
     (c.0 ∙ sym b.0, c.1 ∙ sym b.1)
 one_reply (Count s) (Stats f) r y z o u same a b = absurd same
 one_reply (Count s) (Match n ds) r y z o u same a b = absurd same
-one_reply (Count s) Executions r y z o u same a b = absurd same
+one_reply (Count s) (OfRecord w) r y z o u same a b = absurd same
 one_reply (Match m cs) (Match n ds) r y z o u same a b =
     one_match_answer n cs.items ds.items r y z o u same.1 (subst (λ (x : Mode). IsMatchAnswer x cs.items r y o) same.0 a) b
 one_reply (Match m cs) (Stats f) r y z o u same a b = absurd same
 one_reply (Match m cs) (Count t) r y z o u same a b = absurd same
-one_reply (Match m cs) Executions r y z o u same a b = absurd same
-one_reply Executions Executions r y z o u same a b =
-    let e = one_list (all_of r) a.0 b.0 a.1 b.1 in
-    (a.2 ∙ sym b.2, a.3 ∙ ap (λ (xs : List Execution). flat_map execution_line xs) e ∙ sym b.3)
-one_reply Executions (Stats f) r y z o u same a b = absurd same
-one_reply Executions (Count t) r y z o u same a b = absurd same
-one_reply Executions (Match n ds) r y z o u same a b = absurd same
+one_reply (Match m cs) (OfRecord w) r y z o u same a b = absurd same
+one_reply (OfRecord v) (OfRecord w) r y z o u same a b =
+    one_overview_answer w r y z o u (subst (λ (x : Overview). IsOverviewOf x r y o) same a) b
+one_reply (OfRecord v) (Stats f) r y z o u same a b = absurd same
+one_reply (OfRecord v) (Count t) r y z o u same a b = absurd same
+one_reply (OfRecord v) (Match n ds) r y z o u same a b = absurd same

@@ -13,7 +13,8 @@ use Rattle.tk_query_conditions.specs.declared.faults.CondFault.TheVariants as co
 use Rattle.tk_query_conditions.specs.Answer.{IsReadAs}
 use Rattle.testkit_questions.specs.declared.faults.AskFault.{AskFault}
 use Rattle.testkit_questions.specs.declared.faults.AskFault.TheVariants as faults
-use Rattle.testkit_questions.specs.Questions.{Expecting, IsNextExpected, AreConditions, IsConditionFault, IsWordFault, IsBadWord, count, executions}
+use Rattle.testkit_questions.specs.Questions.{Expecting, IsNextExpected, AreConditions, IsConditionFault, IsWordFault, IsBadWord, count, overview_name}
+use Rattle.testkit_questions.specs.declared.questions.Overview.{Overview}
 
 lacks : (name : List ℕ) → list_all (λ b. not (b == 61)) name ≡ true → (i : ℕ) → i < length name → get_or name i 0 ≢ 61
 lacks name all i lt is =
@@ -91,7 +92,7 @@ pub one_too_many : {A : Type 0} (f : A → List ℕ) → (words : List A) (word 
 one_too_many f words word s [] e n some = absurd (omega arith)
 one_too_many f words word s (extra ∷ more) e n some = inr (inr (inl (s, f extra, map f more, ap (λ t. count ∷ map f t) e ∙ ap (λ t. count ∷ t ∷ f extra ∷ map f more) n, refl)))
 
--- a word after `executions`
-pub none_wanted : {A : Type 0} (f : A → List ℕ) → (words : List A) (word : A) (more : List A) → words ≡ word ∷ more → f word ≡ executions → 0 < length more → IsBadWord (map f words) 0
-none_wanted f words word [] e n some = absurd (omega arith)
-none_wanted f words word (extra ∷ more) e n some = inr (inr (inr (inr (f extra, map f more, ap (map f) e ∙ ap (λ t. t ∷ f extra ∷ map f more) n, refl))))
+-- a word after the name of an overview
+pub none_wanted : {A : Type 0} (f : A → List ℕ) → (o : Overview) (words : List A) → 0 < length words → IsBadWord (overview_name o ∷ map f words) 0
+none_wanted f o [] some = absurd (omega arith)
+none_wanted f o (extra ∷ more) some = inr (inr (inr (inr (o, f extra, map f more, refl, refl))))

@@ -24,8 +24,15 @@ use Rattle.tk_query.specs.Matches.{IsExact, IsLoose, IsInOrder}
 use Rattle.testkit_questions.specs.Characters.{blank, line_feed}
 use Rattle.testkit_questions.specs.declared.questions.Mode.{Mode}
 use Rattle.testkit_questions.specs.declared.questions.Mode.TheVariants.{Exactly, Loosely, InOrder as InTheirOrder}
+use Rattle.tk_query.specs.declared.lifecycle_rules.Lifecycle.{Lifecycle}
+use Rattle.tk_query.specs.declared.lifecycle_rules.Lifecycle.TheVariants as lifecycles
+use Rattle.tk_query.specs.Lifecycle.{IsLifecycle}
+use Rattle.tk_query.specs.LifecycleTexts.{rule_text}
+use Rattle.tk_report_text.specs.Reports.{report_of_record}
+use Rattle.testkit_questions.specs.declared.questions.Overview.{Overview}
+use Rattle.testkit_questions.specs.declared.questions.Overview.TheVariants as overviews
 use Rattle.testkit_questions.specs.declared.questions.Question.{Question}
-use Rattle.testkit_questions.specs.declared.questions.Question.TheVariants.{Stats, Count, Match, Executions}
+use Rattle.testkit_questions.specs.declared.questions.Question.TheVariants.{Stats, Count, Match, Overview as OfRecord}
 
 -- a statistic that differs from what was expected of it
 abbrev pub mismatch_line : Mismatch → List ℕ
@@ -87,6 +94,27 @@ IsMatchAnswer InTheirOrder conditions r is_yes output =
     (answer : InOrder) × IsInOrder (all_of r) conditions answer
     × (is_yes ≡ in_order_yes answer) × (output ≡ in_order_line answer)
 
+-- the record keeps the lifecycle, or where it first doesn't
+abbrev pub lifecycle_line : Lifecycle → List ℕ
+lifecycle_line lifecycles.Kept = codes "yes" ++ line_feed ∷ []
+lifecycle_line (lifecycles.Broken position rule) =
+    codes "no " ++ decimal position ++ blank ∷ rule_text rule ++ line_feed ∷ []
+lifecycle_line (lifecycles.Unfinished key) = codes "no end " ++ decimal key ++ line_feed ∷ []
+
+abbrev pub lifecycle_yes : Lifecycle → Bool
+lifecycle_yes lifecycles.Kept = true
+lifecycle_yes _ = false
+
+-- an overview of a record, and whether it is a yes
+abbrev pub IsOverviewOf : Overview → Recorded → Bool → List ℕ → Type 0
+IsOverviewOf overviews.Executions r is_yes output =
+    (xs : List Execution) × AreExecutions (step_at (all_of r)) xs
+    × (is_yes ≡ true) × (output ≡ flat_map execution_line xs)
+IsOverviewOf overviews.Lifecycle r is_yes output =
+    (answer : Lifecycle) × IsLifecycle r answer
+    × (is_yes ≡ lifecycle_yes answer) × (output ≡ lifecycle_line answer)
+IsOverviewOf overviews.Report r is_yes output = (is_yes ≡ true) × (output ≡ report_of_record r)
+
 -- What a question about a record answers: whether it is a yes, and the output.
 abbrev pub IsAnswerTo : Question → Recorded → Bool → List ℕ → Type 0
 IsAnswerTo (Stats expected) r is_yes output =
@@ -99,6 +127,4 @@ IsAnswerTo (Count selection) r is_yes output =
     × (output ≡ decimal (count_by (selects selection r) r.entries) ++ line_feed ∷ [])
 IsAnswerTo (Match mode conditions) r is_yes output =
     IsMatchAnswer mode conditions.items r is_yes output
-IsAnswerTo Executions r is_yes output =
-    (xs : List Execution) × AreExecutions (step_at (all_of r)) xs
-    × (is_yes ≡ true) × (output ≡ flat_map execution_line xs)
+IsAnswerTo (OfRecord overview) r is_yes output = IsOverviewOf overview r is_yes output

@@ -15,6 +15,8 @@ use Rattle.testkit_questions.specs.declared.faults.AskFault.{AskFault}
 use Rattle.testkit_questions.specs.declared.faults.AskFault.TheVariants as faults
 use Rattle.testkit_questions.specs.declared.questions.Mode.{Mode}
 use Rattle.testkit_questions.specs.declared.questions.Mode.TheVariants.{Exactly, Loosely, InOrder}
+use Rattle.testkit_questions.specs.declared.questions.Overview.{Overview}
+use Rattle.testkit_questions.specs.declared.questions.Overview.TheVariants as overviews
 use Rattle.testkit_questions.specs.declared.questions.Question.{Question}
 use Rattle.testkit_questions.specs.declared.questions.Question.TheVariants as questions
 
@@ -116,8 +118,15 @@ count = codes "count"
 abbrev pub match_word : List ℕ
 match_word = codes "match"
 
-abbrev pub executions : List ℕ
-executions = codes "executions"
+abbrev pub overview_name : Overview → List ℕ
+overview_name overviews.Executions = codes "executions"
+overview_name overviews.Lifecycle = codes "lifecycle"
+overview_name overviews.Report = codes "report"
+
+-- what an overview's name is read as
+abbrev pub IsOverview : List ℕ → Option Overview → Type 0
+IsOverview name (Some overview) = name ≡ overview_name overview
+IsOverview name None = (overview : Overview) → name ≢ overview_name overview
 
 -- the words that ask a question
 abbrev pub Asks : List (List ℕ) → Question → Type 0
@@ -127,13 +136,14 @@ Asks words (questions.Count selection) = words ≡ count ∷ selection_name sele
 Asks words (questions.Match mode conditions) =
     (texts : List (List ℕ)) × (words ≡ match_word ∷ mode_name mode ∷ texts)
     × AreConditions texts conditions.items
-Asks words questions.Executions = words ≡ executions ∷ []
+Asks words (questions.Overview overview) = words ≡ overview_name overview ∷ []
 
--- there is no first word, or it is none of the four questions
+-- there is no first word, or it names no question
 abbrev pub IsNoQuestion : List (List ℕ) → Type 0
 IsNoQuestion [] = Unit {0}
 IsNoQuestion (word ∷ _) =
-    (word ≢ stats) × (word ≢ count) × (word ≢ match_word) × (word ≢ executions)
+    (word ≢ stats) × (word ≢ count) × (word ≢ match_word)
+    × ((overview : Overview) → word ≢ overview_name overview)
 
 -- Word i after the question is the first bad one; a word that should be a condition isn't one of
 -- these.
@@ -144,8 +154,8 @@ IsBadWord words i =
     ⊎ ((selection : Selection) × (extra : List ℕ) × (more : List (List ℕ))
     × (words ≡ count ∷ selection_name selection ∷ extra ∷ more) × (i ≡ 1))
     ⊎ ((rest : List (List ℕ)) × (words ≡ match_word ∷ rest) × (i ≡ 0) × IsNoMode rest)
-    ⊎ ((extra : List ℕ) × (more : List (List ℕ))
-    × (words ≡ executions ∷ extra ∷ more) × (i ≡ 0))
+    ⊎ ((overview : Overview) × (extra : List ℕ) × (more : List (List ℕ))
+    × (words ≡ overview_name overview ∷ extra ∷ more) × (i ≡ 0))
 
 -- what the words are read as: the question, or the first fault
 abbrev pub IsAskedAs : List (List ℕ) → Result Question AskFault → Type 0

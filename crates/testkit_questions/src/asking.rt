@@ -17,7 +17,7 @@ fn answer_about<S: Source>(
     question: &Question,
 ) -> Result<Answer, AskFault>
     ensures answer { IfOk result (λ answer. IfSome (S.remaining source.old) (λ input.
-        IsAnswerAbout question.now input answer.is_yes (string_bytes answer.text))) }
+        IsAnswerAbout question.now input answer.is_yes (answer.text.items))) }
     ensures end { OnOk result (IsAtEnd (S.remaining source.new)) }
     ensures refusal { IfErr result (λ fault. IsReadRefusal (S.remaining source.old) fault) }
     ensures device { IsErrOf result (AskFault.Read read_faults.Device)
@@ -65,7 +65,7 @@ pub fn ask<S: Source, T: Target>(
 {
     let question = read_question(alloc, words)?;
     let answer = answer_about(alloc, source, &question)?;
-    match write_all(target, answer.text.as_str().as_bytes()) {
+    match write_all(target, answer.text.as_slice()) {
         Ok(()) => Ok(answer.is_yes),
         Err(_) => Err(AskFault::Device),
     }

@@ -10,7 +10,7 @@ use tk_record::ReadFault;
 /// Why a question is not answered, in the order in which faults are looked for.
 #[derive(Debug, Drop, Error)]
 pub enum AskFault {
-    /// The question is missing, or none of the four.
+    /// The question is missing, or its name is that of none.
     #[error("unknown question")]
     Question,
     /// The word of this number, counted from 0 after the question, is bad or missing.

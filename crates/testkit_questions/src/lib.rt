@@ -10,4 +10,4 @@ mod questions;
 
 pub use asking::ask;
 pub use faults::AskFault;
-pub use questions::{Mode, Question, read_question};
+pub use questions::{Mode, Overview, Question, read_question};

@@ -1,7 +1,7 @@
 //! What can be asked of a record, and how words ask it.
 ghost use Rattle.std.specs.Prelude.{◌≡◌, ◌∷◌, map, string_bytes, IfOk, IfErr, Ok};
 ghost use Rattle.tk_query_conditions.specs.Answer.{IsReadAs};
-ghost use Rattle.testkit_questions.specs.Questions.{IsAskedAs, IsMode, AreConditions, IsConditionFault, IsWordFault, count, match_word};
+ghost use Rattle.testkit_questions.specs.Questions.{IsAskedAs, IsMode, IsOverview, AreConditions, IsConditionFault, IsWordFault, count, match_word, overview_name};
 
 use crate::expectations::read_expectations;
 use crate::faults::AskFault;
@@ -20,6 +20,17 @@ pub enum Mode {
     InOrder,
 }
 
+/// What is asked of a record as a whole, with no further word.
+#[derive(Clone, Copy, Debug, PartialEq, Eq)]
+pub enum Overview {
+    /// The executions.
+    Executions,
+    /// Whether the record keeps the lifecycle that a listener of an engine may rely on.
+    Lifecycle,
+    /// The report: the statistics, and the events of each id.
+    Report,
+}
+
 /// What is asked of a record.
 #[derive(Drop)]
 pub enum Question {
@@ -29,8 +40,8 @@ pub enum Question {
     Count(Selection),
     /// Whether the events match conditions.
     Match(Mode, Vec<Condition>),
-    /// The executions.
-    Executions,
+    /// The executions, the lifecycle or the report.
+    Overview(Overview),
 }
 
 impl Mode {
@@ -42,6 +53,20 @@ impl Mode {
             "exactly" => Some(Mode::Exactly),
             "loosely" => Some(Mode::Loosely),
             "in-order" => Some(Mode::InOrder),
+            _ => None,
+        }
+    }
+}
+
+impl Overview {
+    /// Reads the name of an overview: `executions`, `lifecycle` or `report`.
+    pub fn read(name: &str) -> Option<Overview>
+        ensures { IsOverview name.now result }
+    {
+        match name {
+            "executions" => Some(Overview::Executions),
+            "lifecycle" => Some(Overview::Lifecycle),
+            "report" => Some(Overview::Report),
             _ => None,
         }
     }
@@ -103,6 +128,17 @@ fn read_count(words: &[String]) -> Result<Question, AskFault>
     }
 }
 
+// Reads the words after the name of an overview, of which there are none.
+fn read_overview(overview: Overview, words: &[String]) -> Result<Question, AskFault>
+    ensures { IsAskedAs (overview_name overview ∷ map string_bytes words.now) result }
+{
+    if words.is_empty() {
+        Ok(Question::Overview(overview))
+    } else {
+        Err(AskFault::Word(0))
+    }
+}
+
 /// Reads the question that the words ask, the first of which names it.
 ///
 /// # Errors
@@ -120,13 +156,9 @@ pub fn read_question(alloc: Global, words: &[String]) -> Result<Question, AskFau
         },
         "count" => read_count(words),
         "match" => read_match(alloc, words),
-        "executions" => {
-            if words.is_empty() {
-                Ok(Question::Executions)
-            } else {
-                Err(AskFault::Word(0))
-            }
-        }
-        _ => Err(AskFault::Question),
+        name => match Overview::read(name) {
+            Some(overview) => read_overview(overview, words),
+            None => Err(AskFault::Question),
+        },
     }
 }

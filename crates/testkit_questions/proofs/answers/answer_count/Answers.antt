@@ -10,4 +10,4 @@ returns c =
     let all = ap (λ (s : Selected). length (filtered_by (selects c.args.selection s.recorded) s).kept) c.in_ok-all.ensures in
     let number = picked ∙ all ∙ kept_count (selects c.args.selection c.args.recording.now) 0 c.args.recording.now.entries in
     let text : string_bytes c.in_ok-text.text ≡ decimal c.count-count.result ++ 10 ∷ [] = search rules in
-    (refl, text ∙ ap (λ (n : ℕ). decimal n ++ 10 ∷ []) number)
+    (c.new.ensures.is_yes, c.new.ensures.text ∙ text ∙ ap (λ (n : ℕ). decimal n ++ 10 ∷ []) number)

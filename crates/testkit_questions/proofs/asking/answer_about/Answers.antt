@@ -22,7 +22,7 @@ pub returns : goal.returns
 returns g c =
     let answer = c.in_ok-answer_to.field-0 in
     record {
-      answer = about _ c.args.question.now c.in-Ok.record answer.is_yes (string_bytes answer.text) (c.in-Ok.ensures.answer (λ e. absurd (no_read _ _ e))) c.in_ok-answer_to.ensures;
+      answer = about _ c.args.question.now c.in-Ok.record answer.is_yes answer.text.items (c.in-Ok.ensures.answer (λ e. absurd (no_read _ _ e))) c.in_ok-answer_to.ensures;
       end = c.in-Ok.ensures.ok;
       refusal = tt;
       device = λ e. absurd (no_fault _ _ e);

@@ -40,9 +40,9 @@ returns-in_err-answer g c =
 pub returns-in-Ok : goal.returns-in-Ok
 returns-in-Ok g c =
     let answer = c.in_ok-answer.answer in
-    let bytes = c.as_bytes.ensures.value ∙ c.as_str.ensures.value in
+    let bytes = c.as_slice.ensures.value in
     record {
-      answer = answered (map string_bytes c.args.words.now) _ c.in_ok-question.question answer.is_yes (string_bytes answer.text) c.as_bytes.result.now _ _ c.in_ok-question.ensures c.in_ok-answer.ensures.answer bytes c.in-Ok.ensures.ok;
+      answer = answered (map string_bytes c.args.words.now) _ c.in_ok-question.question answer.is_yes answer.text.items c.as_slice.result.now _ _ c.in_ok-question.ensures c.in_ok-answer.ensures.answer bytes c.in-Ok.ensures.ok;
       end = c.in_ok-answer.ensures.end;
       unread = tt;
       refusal = tt;
@@ -55,7 +55,7 @@ returns-in-Ok g c =
 pub returns : goal.returns
 returns g c =
     let answer = c.in_ok-answer.answer in
-    let bytes = c.as_bytes.ensures.value ∙ c.as_str.ensures.value in
+    let bytes = c.as_slice.ensures.value in
     record {
       answer = tt;
       end = tt;
@@ -63,6 +63,6 @@ returns g c =
       refusal = (c.in_ok-question.question, c.in_ok-question.ensures);
       unwritten = inl refl;
       device = λ _. c.in-Err.ensures.broken;
-      prefix = λ _. partly (map string_bytes c.args.words.now) _ c.in_ok-question.question answer.is_yes (string_bytes answer.text) c.as_bytes.result.now _ _ c.in_ok-question.ensures c.in_ok-answer.ensures.answer bytes c.in-Err.ensures.err;
+      prefix = λ _. partly (map string_bytes c.args.words.now) _ c.in_ok-question.question answer.is_yes answer.text.items c.as_slice.result.now _ _ c.in_ok-question.ensures c.in_ok-answer.ensures.answer bytes c.in-Err.ensures.err;
       source_device = λ e. absurd (device_fault e);
     }
