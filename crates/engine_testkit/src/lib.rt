@@ -7,6 +7,7 @@
 
 pub use testkit_questions::AskFault;
 pub use testkit_questions::Mode;
+pub use testkit_questions::Overview;
 pub use testkit_questions::Question;
 pub use testkit_questions::ask;
 pub use testkit_questions::read_question;
@@ -156,6 +157,7 @@ pub use tk_report::PlanRun;
 pub use tk_report::ReportFault;
 pub use tk_report::Scripted;
 pub use tk_report::plan_report;
+pub use tk_report::report_of;
 pub use tk_report::run_plan;
 pub use tk_report::write_report;
 pub use tk_report::write_report_of;
