@@ -3,16 +3,17 @@
 - `numbers`: the numbers of the generator.
 - `recordings`, `conditions`: records and conditions.
 - `questions`: selections, statistics, conditions, matches and executions of generated records.
+- `lifecycles`: records that keep the lifecycle, whole or spoiled.
 - `replays`, `plans`: generated replay texts and plans.
 - `changes`: texts of all kinds with a byte changed, dropped or doubled, and texts made of loose parts.
 """
 
 from typing import List
 
-from generated import changes, plans, questions, replays
+from generated import changes, lifecycles, plans, questions, replays
 from harness import Group
 
-LEAST = {questions: 1_980, replays: 301, plans: 752, changes: 1_850}
+LEAST = {questions: 2_100, lifecycles: 2_002, replays: 301, plans: 752, changes: 1_850}
 """The modules with cases, and how many each has at least."""
 
 

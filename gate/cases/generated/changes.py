@@ -37,6 +37,8 @@ def question(numbers: Numbers) -> List[str]:
         ["ask", "stats", "started=1", "failed=1"],
         ["ask", "count", numbers.one_of(form.SELECTIONS)],
         ["ask", "executions"],
+        ["ask", "lifecycle"],
+        ["ask", "report"],
         ["ask", "match", "loosely", condition_text(numbers, 2)],
         ["ask", "match", "exactly", condition_text(numbers, 1)],
         ["ask", "match", "in-order", condition_text(numbers, 1), condition_text(numbers, 1)],

@@ -165,6 +165,13 @@ def executions() -> Cases:
     return cases + [each_is_met("generated executions", met, ["skipped", "aborted", "succeeded", "failed"], 30)]
 
 
+def reports() -> Cases:
+    """Reports of records of few events and of a hundred."""
+    numbers = Numbers(52)
+    texts = [short_record(numbers) for _ in range(100)] + [record_text(numbers, 100) for _ in range(20)]
+    return [modelled(f"generated report/{number}", ["ask", "report"], text) for number, text in enumerate(texts)]
+
+
 def cases() -> Cases:
     return (
         selections()
@@ -176,4 +183,5 @@ def cases() -> Cases:
         + matches("exactly", 6, conditions_of_events, ["yes", "wrong-count", "no 0", "no 1", "no 2"], 4)
         + matches("loosely", 9, conditions_of_events, ["yes", "no 0", "no 1", "no 2"], 4)
         + executions()
+        + reports()
     )
