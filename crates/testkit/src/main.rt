@@ -3,15 +3,23 @@
 #![tactic(auto)]
 
 use std::process::ExitCode;
+use std::sync::Wait;
+use std::thread::Threads;
 use std::{env, io};
-use testkit_program::{FaultLine, exit_code, perform};
+use testkit_command_line::collect_words;
+use testkit_program::{Fault, FaultLine, exit_code, perform};
 use tk_record::{StdSource, StdTarget};
 
+/// Does what the words ask for, from standard input to standard output.
+fn run<R: Threads + Wait + Sync>(host: &HostRuntime, rt: &R) -> Result<bool, Fault> {
+    let words = collect_words(host.alloc(), env::args(host))?;
+    let mut source = StdSource::new(host.reader());
+    let mut target = StdTarget::new(io::writer(host));
+    perform(rt, host.alloc(), words.as_slice(), &mut source, &mut target)
+}
+
 fn main(rt: HostRuntime) -> ExitCode {
-    let mut source = StdSource::new(rt.reader());
-    let mut target = StdTarget::new(io::writer(&rt));
-    let arguments = env::args(&rt);
-    let outcome = perform(&rt, rt.alloc(), arguments, &mut source, &mut target);
+    let outcome = run(&rt, &rt);
     if let Err(fault) = &outcome {
         let _ = rt.eprint(FaultLine(fault));
     }

@@ -1,6 +1,5 @@
 -- What doing a job of the program answers, and what was written then.
-use Rattle.std.specs.Prelude.{◌≡◌, ◌<◌, ◌≤◌, ◌⊎◌, ℕ, Bool, true, List, Option, Err}
-use Rattle.std.specs.Prelude.{IfSome, length, map, string_bytes}
+use Rattle.std.specs.Prelude.{◌≡◌, ◌<◌, ◌≤◌, ◌⊎◌, ℕ, Bool, true, List, Option, Err, IfSome, length, map, string_bytes}
 use Rattle.std.specs.Io.KnownBytes.{Appends}
 use Rattle.testkit_command_line.specs.declared.jobs.Job.{Job}
 use Rattle.testkit_command_line.specs.declared.jobs.Job.TheVariants as jobs
@@ -23,89 +22,59 @@ use Rattle.tk_report.specs.Answers.{OfPlan, MayWork, IsNoPlan, IsNotRun}
 use Rattle.testkit_questions.specs.Asked.{AddsAnswer, AddsPrefix, IsRefusal}
 use Rattle.testkit_questions.specs.Asked as asked
 
--- The two devices of a job, where their bytes are known: the input that its source had left before
--- the job, and what its target had taken before and after it.
-pub record Streams : Type 0 where
-  pub input : Option (List ℕ)
-  pub before : Option (List ℕ)
-  pub after : Option (List ℕ)
+-- the bytes are a plan within the limit, it may be run by `workers` workers, and its report was written
+abbrev pub IsPlanReported : ℕ → List ℕ → Option (List ℕ) → Option (List ℕ) → Type 0
+IsPlanReported workers input old new = OfPlan input (Appends old new) × MayWork workers × (length input ≤ MAX_TEXT)
 
-abbrev pub streams_of : Option (List ℕ) → Option (List ℕ) → Option (List ℕ) → Streams
-streams_of input before after = record { input = input; before = before; after = after }
+-- what doing a job writes, and whether it is a yes
+abbrev pub IsDone : Job → List ℕ → Bool → Option (List ℕ) → Option (List ℕ) → Type 0
+IsDone (jobs.Ask question) input is_yes old new = AddsAnswer (map string_bytes question.now) input is_yes old new
+IsDone jobs.Replay input is_yes old new = (is_yes ≡ true) × IsWritten input old new
+IsDone (jobs.Run workers) input is_yes old new = (is_yes ≡ true) × IsPlanReported workers input old new
 
--- nothing was written
-abbrev pub IsUnwritten : Streams → Type 0
-IsUnwritten s = s.after ≡ s.before
+-- why a question is not answered; nothing was written then, but at a broken device a prefix of the answer
+abbrev pub IsAskFault : List (List ℕ) → Option (List ℕ) → Option (List ℕ) → Option (List ℕ) → AskFault → Type 0
+IsAskFault question input old new fault =
+    IsRefusal question input fault
+    × ((fault ≡ asks.Device) ⊎ (new ≡ old))
+    × (fault ≡ asks.Device → IfSome input (λ bytes. AddsPrefix question bytes old new))
 
--- The bytes are a plan within the limit, as many workers may run it, and its report was written.
-abbrev pub IsPlanReported : ℕ → Streams → List ℕ → Type 0
-IsPlanReported workers s bytes =
-    OfPlan bytes (Appends s.before s.after) × MayWork workers × (length bytes ≤ MAX_TEXT)
+-- nothing was written, or the input plays and a prefix of the record text was
+abbrev pub IsPartlyReplayed : Option (List ℕ) → Option (List ℕ) → Option (List ℕ) → Type 0
+IsPartlyReplayed input old new = (new ≡ old) ⊎ IfSome input (λ bytes. IsPartlyWritten bytes old new)
 
--- what doing a job writes, and whether its answer is a yes, where the input is known
-abbrev pub IsDone : Job → Streams → Bool → Type 0
-IsDone (jobs.Ask question) s is_yes =
-    IfSome s.input (λ bytes.
-    AddsAnswer (map string_bytes question.now) bytes is_yes s.before s.after)
-IsDone jobs.Replay s is_yes =
-    IfSome s.input (λ bytes. (is_yes ≡ true) × IsWritten bytes s.before s.after)
-IsDone (jobs.Run workers) s is_yes =
-    IfSome s.input (λ bytes. (is_yes ≡ true) × IsPlanReported workers s bytes)
+-- why a script is not replayed, and what was written then; where that is for the input, nothing was
+abbrev pub IsReplayFault : Option (List ℕ) → Option (List ℕ) → Option (List ℕ) → ReplayFault → Type 0
+IsReplayFault input old new replays.Device = IsPartlyReplayed input old new
+IsReplayFault input old new fault =
+    IfSome input (λ bytes. IsPlayedAs bytes (Err fault))
+    × (IsOfInput fault → new ≡ old)
+    × IsPartlyReplayed input old new
 
--- Why a question is not answered. Nothing was written then, or the target broke after a prefix of
--- the answer.
-abbrev pub IsAskFault : List (List ℕ) → Streams → AskFault → Type 0
-IsAskFault question s fault =
-    IsRefusal question s.input fault
-    × ((fault ≡ asks.Device) ⊎ IsUnwritten s)
-    × (fault ≡ asks.Device → IfSome s.input (λ bytes. AddsPrefix question bytes s.before s.after))
+-- Why a plan that is run by this number of workers is not reported. The number of workers is judged after the plan.
+abbrev pub IsReportFault : ℕ → Option (List ℕ) → Option (List ℕ) → Option (List ℕ) → ReportFault → Type 0
+IsReportFault workers input old new (reports.Plan fault) = IfSome input (λ bytes. IsNoPlan bytes fault) × (new ≡ old)
+IsReportFault workers input old new (reports.Run fault) = IfSome input (λ bytes. IsNotRun bytes workers fault) × (new ≡ old)
+IsReportFault workers input old new reports.Device = IfSome input (λ bytes. OfPlan bytes (AppendsPrefix old new)) × MayWork workers
+IsReportFault workers input old new reports.Memory = new ≡ old
 
--- nothing was written, or the input plays and a prefix of the record text was written
-abbrev pub IsPartlyReplayed : Streams → Type 0
-IsPartlyReplayed s =
-    IsUnwritten s ⊎ IfSome s.input (λ bytes. IsPartlyWritten bytes s.before s.after)
-
--- Why a script is not replayed. Where the fault is of the input, nothing was written.
-abbrev pub IsReplayFault : Streams → ReplayFault → Type 0
-IsReplayFault s replays.Device = IsPartlyReplayed s
-IsReplayFault s fault =
-    IfSome s.input (λ bytes. IsPlayedAs bytes (Err fault))
-    × (IsOfInput fault → IsUnwritten s)
-    × IsPartlyReplayed s
-
--- Why a plan is not run by as many workers, and reported. The number of workers is judged after the
--- plan.
-abbrev pub IsReportFault : ℕ → Streams → ReportFault → Type 0
-IsReportFault workers s (reports.Plan fault) =
-    IfSome s.input (λ bytes. IsNoPlan bytes fault) × IsUnwritten s
-IsReportFault workers s (reports.Run fault) =
-    IfSome s.input (λ bytes. IsNotRun bytes workers fault) × IsUnwritten s
-IsReportFault workers s reports.Device =
-    IfSome s.input (λ bytes. OfPlan bytes (AppendsPrefix s.before s.after)) × MayWork workers
-IsReportFault workers s reports.Memory = IsUnwritten s
-
--- The fault is of the words alone: of the command line, of a question's words, or an allocation
--- failed where the words were read.
+-- the fault is of the words alone
 abbrev pub IsOfWords : Fault → Type 0
 IsOfWords faults.CommandLine = Unit {0}
-IsOfWords faults.Memory = Unit {0}
 IsOfWords (faults.Ask fault) = asked.IsOfWords fault
 IsOfWords _ = ⊥
 
 -- Why a job is not done, and what was written then. A fault is of the job's own kind.
-abbrev pub IsRefused : Job → Streams → Fault → Type 0
-IsRefused (jobs.Ask question) s (faults.Ask fault) =
-    IsAskFault (map string_bytes question.now) s fault
-IsRefused jobs.Replay s (faults.Replay fault) = IsReplayFault s fault
-IsRefused (jobs.Run workers) s (faults.Load loads.TooLarge) =
-    IfSome s.input (λ bytes. MAX_TEXT < length bytes) × IsUnwritten s
-IsRefused (jobs.Run workers) s (faults.Load fault) = IsUnwritten s
-IsRefused (jobs.Run workers) s (faults.Report fault) = IsReportFault workers s fault
-IsRefused job s _ = ⊥
+abbrev pub IsRefused : Job → Option (List ℕ) → Option (List ℕ) → Option (List ℕ) → Fault → Type 0
+IsRefused (jobs.Ask question) input old new (faults.Ask fault) = IsAskFault (map string_bytes question.now) input old new fault
+IsRefused jobs.Replay input old new (faults.Replay fault) = IsReplayFault input old new fault
+IsRefused (jobs.Run workers) input old new (faults.Load loads.TooLarge) = IfSome input (λ bytes. MAX_TEXT < length bytes) × (new ≡ old)
+IsRefused (jobs.Run workers) input old new (faults.Load fault) = new ≡ old
+IsRefused (jobs.Run workers) input old new (faults.Report fault) = IsReportFault workers input old new fault
+IsRefused job input old new _ = ⊥
 
--- Only a broken device is answered as one: a question names its source for what it reads and its
--- target for what it writes, a replay either, and a run its source until its plan is read and its
--- target from then on.
+-- Only a broken device is given as one: a question says so of the source in what it reads and of the target in what it writes, a
+-- replay of either, and a run of the source before and of the target after its plan.
 abbrev pub IsBroken : Bool → Bool → Fault → Type 0
 IsBroken source target (faults.Ask (asks.Read reads.Device)) = source ≡ true
 IsBroken source target (faults.Ask asks.Device) = target ≡ true
@@ -114,18 +83,17 @@ IsBroken source target (faults.Load loads.Device) = source ≡ true
 IsBroken source target (faults.Report reports.Device) = target ≡ true
 IsBroken source target _ = Unit {0}
 
--- the fault is of the command line, or an allocation failed
+-- the fault is of the command line, or memory was refused
 abbrev pub IsOfLine : Fault → Type 0
 IsOfLine faults.CommandLine = Unit {0}
 IsOfLine faults.Memory = Unit {0}
 IsOfLine _ = ⊥
 
 -- the words ask for a job that was done
-abbrev pub IsPerformed : List (List ℕ) → Streams → Bool → Type 0
-IsPerformed words s is_yes = (job : Job) × IsJobOf words job × IsDone job s is_yes
+abbrev pub IsPerformed : List (List ℕ) → Option (List ℕ) → Option (List ℕ) → Option (List ℕ) → Bool → Type 0
+IsPerformed words input old new is_yes = (job : Job) × IsJobOf words job × IfSome input (λ bytes. IsDone job bytes is_yes old new)
 
 -- the words ask for no job, and nothing was written, or they ask for a job that was refused
-abbrev pub IsNotPerformed : List (List ℕ) → Streams → Fault → Type 0
-IsNotPerformed words s fault =
-    (IsNoAskLine words × IsOfLine fault × IsUnwritten s)
-    ⊎ ((job : Job) × IsJobOf words job × IsRefused job s fault)
+abbrev pub IsNotPerformed : List (List ℕ) → Option (List ℕ) → Option (List ℕ) → Option (List ℕ) → Fault → Type 0
+IsNotPerformed words input old new fault =
+    (IsNoAskLine words × IsOfLine fault × (new ≡ old)) ⊎ ((job : Job) × IsJobOf words job × IsRefused job input old new fault)

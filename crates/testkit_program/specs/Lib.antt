@@ -1,4 +1,3 @@
 pub mod Jobs
 pub mod Lines
-pub mod Programs
 pub mod Statuses

@@ -1,7 +1,7 @@
 //! The faults of the program, and their statuses.
 ghost use Rattle.std.specs.Prelude.{◌≡◌};
 ghost use Rattle.testkit_program.specs.Statuses.{fault_of_line, status_of};
-ghost use Rattle.testkit_program.specs.declared.faults.Fault.TheVariants.{Ask, Load, Replay, Report};
+ghost use Rattle.testkit_program.specs.declared.faults.Fault.TheVariants.{Ask, Replay, Load, Report};
 
 use testkit_command_line::CommandLineFault;
 use testkit_questions::AskFault;
@@ -25,7 +25,7 @@ pub enum Fault {
     Load(LoadFault),
     /// A plan was not run and reported.
     Report(ReportFault),
-    /// An allocation failed.
+    /// Memory was refused.
     Memory,
 }
 

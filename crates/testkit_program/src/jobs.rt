@@ -1,17 +1,14 @@
 //! The jobs of the program.
-ghost use Rattle.std.specs.Prelude.{◌≡◌, true, map, string_bytes, IfErr, IfOk, OnOk};
-ghost use Rattle.testkit_program.specs.Jobs.{IsBroken, IsDone, IsNotPerformed, IsOfWords};
-ghost use Rattle.testkit_program.specs.Jobs.{IsPerformed, IsRefused, streams_of};
-ghost use Rattle.testkit_program.specs.Programs.{HasNotPerformed, HasPerformed};
+ghost use Rattle.std.specs.Prelude.{◌≡◌, map, string_bytes, IfErr, IfOk, IfSome, OnOk};
+ghost use Rattle.testkit_program.specs.Jobs.{IsBroken, IsDone, IsNotPerformed, IsOfWords, IsPerformed, IsPlanReported, IsRefused};
 ghost use Rattle.testkit_command_line.specs.declared.jobs.Job.TheVariants as jobs;
 
 use crate::faults::Fault;
 use std::alloc::Global;
-use std::env::Args;
+use std::mem;
 use std::sync::Wait;
 use std::thread::Threads;
-use std::{io, mem};
-use testkit_command_line::{Job, collect_words, job_of};
+use testkit_command_line::{Job, job_of};
 use testkit_questions::ask;
 use tk_queue_core::replay_text;
 use tk_record::{MAX_TEXT, Source, Target, load};
@@ -28,11 +25,11 @@ fn report_plan<R: Threads + Wait + Sync, S: Source, T: Target>(
     source: &mut S,
     target: &mut T,
 ) -> Result<(), Fault>
-    ensures reported { OnOk result (IsDone (jobs.Run workers) (streams_of (S.remaining source.old)
-        (T.contents target.old) (T.contents target.new)) true) }
+    ensures reported { OnOk result (IfSome (S.remaining source.old) (λ input.
+        IsPlanReported workers input (T.contents target.old) (T.contents target.new))) }
     ensures unread { IfErr result (λ fault. IsOfWords fault → source.new ≡ source.old) }
-    ensures refused { IfErr result (IsRefused (jobs.Run workers)
-        (streams_of (S.remaining source.old) (T.contents target.old) (T.contents target.new))) }
+    ensures refused { IfErr result (IsRefused (jobs.Run workers) (S.remaining source.old)
+        (T.contents target.old) (T.contents target.new)) }
     ensures device { IfErr result (IsBroken (S.broken source.new) (T.broken target.new)) }
 {
     let bytes = match load(alloc, source, MAX_TEXT) {
@@ -69,11 +66,11 @@ pub fn do_job<R: Threads + Wait + Sync, S: Source, T: Target>(
     source: &mut S,
     target: &mut T,
 ) -> Result<bool, Fault>
-    ensures done { IfOk result (IsDone job.entry (streams_of (S.remaining source.old)
-        (T.contents target.old) (T.contents target.new))) }
+    ensures done { IfOk result (λ is_yes. IfSome (S.remaining source.old) (λ input.
+        IsDone job.entry input is_yes (T.contents target.old) (T.contents target.new))) }
     ensures unread { IfErr result (λ fault. IsOfWords fault → source.new ≡ source.old) }
-    ensures refused { IfErr result (IsRefused job.entry (streams_of (S.remaining source.old)
-        (T.contents target.old) (T.contents target.new))) }
+    ensures refused { IfErr result (IsRefused job.entry (S.remaining source.old)
+        (T.contents target.old) (T.contents target.new)) }
     ensures device { IfErr result (IsBroken (S.broken source.new) (T.broken target.new)) }
 {
     match job {
@@ -92,8 +89,12 @@ pub fn do_job<R: Threads + Wait + Sync, S: Source, T: Target>(
     }
 }
 
-// Does the job that a command line asks for; its first word is the program's name.
-fn perform_words<R: Threads + Wait + Sync, S: Source, T: Target>(
+/// Does the job that a command line asks for; its first word is the program's name.
+///
+/// # Errors
+/// A fault of the command line, which is judged before the source is read, or a fault of
+/// [`do_job`].
+pub fn perform<R: Threads + Wait + Sync, S: Source, T: Target>(
     rt: &R,
     alloc: Global,
     words: &[String],
@@ -101,37 +102,12 @@ fn perform_words<R: Threads + Wait + Sync, S: Source, T: Target>(
     target: &mut T,
 ) -> Result<bool, Fault>
     ensures done { IfOk result (IsPerformed (map string_bytes words.now)
-        (streams_of (S.remaining source.old) (T.contents target.old) (T.contents target.new))) }
+        (S.remaining source.old) (T.contents target.old) (T.contents target.new)) }
     ensures unread { IfErr result (λ fault. IsOfWords fault → source.new ≡ source.old) }
     ensures refused { IfErr result (IsNotPerformed (map string_bytes words.now)
-        (streams_of (S.remaining source.old) (T.contents target.old) (T.contents target.new))) }
+        (S.remaining source.old) (T.contents target.old) (T.contents target.new)) }
     ensures device { IfErr result (IsBroken (S.broken source.new) (T.broken target.new)) }
 {
     let job = job_of(alloc, words)?;
     do_job(rt, alloc, job, source, target)
-}
-
-/// Does the job that the program's arguments ask for.
-///
-/// `arguments` is what [`std::env::args`] answered; the first of them is the program's name.
-///
-/// # Errors
-/// A fault of the arguments or of their words, which are judged before the source is read, or a
-/// fault of [`do_job`].
-pub fn perform<R: Threads + Wait + Sync, S: Source, T: Target>(
-    rt: &R,
-    alloc: Global,
-    arguments: io::Result<Args>,
-    source: &mut S,
-    target: &mut T,
-) -> Result<bool, Fault>
-    ensures done { IfOk result (HasPerformed arguments (streams_of (S.remaining source.old)
-        (T.contents target.old) (T.contents target.new))) }
-    ensures unread { IfErr result (λ fault. IsOfWords fault → source.new ≡ source.old) }
-    ensures refused { IfErr result (HasNotPerformed arguments (streams_of (S.remaining source.old)
-        (T.contents target.old) (T.contents target.new))) }
-    ensures device { IfErr result (IsBroken (S.broken source.new) (T.broken target.new)) }
-{
-    let words = collect_words(alloc, arguments)?;
-    perform_words(rt, alloc, words.as_slice(), source, target)
 }

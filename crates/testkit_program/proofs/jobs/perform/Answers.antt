@@ -1,6 +1,6 @@
 use Rattle.std.proofs.Common.{refl}
 use Rattle.std.proofs.lemmas.Result.{err_from_is_err_and}
-use Rattle.testkit_program.proofs.jobs.perform_words.Goals as goal
+use Rattle.testkit_program.proofs.jobs.perform.Goals as goal
 
 pub returns-in_err-job-clause-unread : goal.returns-in_err-job-clause-unread
 returns-in_err-job-clause-unread g c =
