@@ -121,29 +121,29 @@ open_same b n m s k o = ⊎_elim
 
 -- what stands in the parts of a tree that is cut open
 open_each : {A : Type 0} (g : ℕ → cut.Part → List A) (p : ℕ) (n : Node) (k : ℕ) (f : plan.Forest) → cut.all_static f ≡ true
-    → cut.from_each g p (cut.opens n k ∷ (cut.parts_below false f ++ cut.closes n k ∷ []))
-    ≡ g p (cut.opens n k) ++ (cut.from_each g (p + length (done.opening n k)) (cut.parts_below false f) ++ g (p + length (done.opening n k) + length (done.moves_below k f)) (cut.closes n k))
+    → cut.from_each g p (cut.spine_begins n k ∷ (cut.parts_below false f ++ cut.spine_ends n k ∷ []))
+    ≡ g p (cut.spine_begins n k) ++ (cut.from_each g (p + length (done.opening n k)) (cut.parts_below false f) ++ g (p + length (done.opening n k) + length (done.moves_below k f)) (cut.spine_ends n k))
 open_each g p n k f e =
-    ap (λ l. g p (cut.opens n k) ++ l)
-    (from_each-append g (p + length (done.opening n k)) (cut.parts_below false f) (cut.closes n k ∷ [])
+    ap (λ l. g p (cut.spine_begins n k) ++ l)
+    (from_each-append g (p + length (done.opening n k)) (cut.parts_below false f) (cut.spine_ends n k ∷ [])
     ∙ ap (λ l. cut.from_each g (p + length (done.opening n k)) (cut.parts_below false f) ++ l)
-    (append-nil _ ∙ ap (λ ms. g (p + length (done.opening n k) + length ms) (cut.closes n k)) (parts_below-moves false k f e)))
+    (append-nil _ ∙ ap (λ ms. g (p + length (done.opening n k) + length ms) (cut.spine_ends n k)) (parts_below-moves false k f e)))
 
 record Cuts (p : ℕ) (m : Tree) (ps : List cut.Part) : Type 0 where
   units : map run_of (parts p m) ≡ map run_piece (cut.from_each cut.piece p ps)
-  before : static_events (before p m) ≡ cut.from_each cut.head p ps
-  after : static_events (after p m) ≡ cut.from_each cut.tail p ps
+  before : static_events (before p m) ≡ cut.from_each cut.begin_events p ps
+  after : static_events (after p m) ≡ cut.from_each cut.end_events p ps
 
 pub record CutsBelow (p : ℕ) (m : Forest) (ps : List cut.Part) : Type 0 where
   pub units : map run_of (parts_below p m) ≡ map run_piece (cut.from_each cut.piece p ps)
-  pub before : static_events (before_below p m) ≡ cut.from_each cut.head p ps
-  pub after : static_events (after_below p m) ≡ cut.from_each cut.tail p ps
+  pub before : static_events (before_below p m) ≡ cut.from_each cut.begin_events p ps
+  pub after : static_events (after_below p m) ≡ cut.from_each cut.end_events p ps
 
 emitted_published : (p : ℕ) (n : Item) (xs : List Publication) → static_events (published p n xs) ≡ map (telling.event_of_step n.node) (map plain (published p n xs))
 emitted_published p n [] = refl
 emitted_published p n (x ∷ xs) = ap (λ l. static_event (step p n (act_of x)) ∷ l) (emitted_published (p + 1) n xs)
 
-begun_same : (p : ℕ) (n : Item) → static_events (opening p n) ≡ cut.head p (cut.opens n.node n.number)
+begun_same : (p : ℕ) (n : Item) → static_events (opening p n) ≡ cut.begin_events p (cut.spine_begins n.node n.number)
 begun_same p n =
     ap (λ l. static_event (step p n Start) ∷ l) (emitted_published (p + 1) n (publications n))
     ∙ (ap (map (telling.event_of_step n.node)) (plain_opening p n)
@@ -153,7 +153,7 @@ begun_same p n =
 cuts_open : (p : ℕ) (n : Item) (g : Forest) (f : plan.Forest) → is_open n ≡ true → cut.all_static f ≡ true
     → ((q : ℕ) → length (steps_below q g) ≡ length (done.moves_below n.number f))
     → ((q : ℕ) → CutsBelow q g (cut.parts_below false f))
-    → Cuts p (tree n g) (cut.opens n.node n.number ∷ (cut.parts_below false f ++ cut.closes n.node n.number ∷ []))
+    → Cuts p (tree n g) (cut.spine_begins n.node n.number ∷ (cut.parts_below false f ++ cut.spine_ends n.node n.number ∷ []))
 cuts_open p n g f e statics size inner =
     let k = p + length (opening p n) in
     let i = p + length (done.opening n.node n.number) in
@@ -165,15 +165,15 @@ cuts_open p n g f e statics size inner =
           ∙ ap (map run_piece) (sym (open_each cut.piece p n.node n.number f statics ∙ append-nil _))));
       before = ap (λ b. static_events (if b then opening p n ++ before_below k g else [])) e
           ∙ (map-append static_event (opening p n) (before_below k g)
-          ∙ (ap₂ (λ a b. a ++ b) (begun_same p n) (below.before ∙ ap (λ q. cut.from_each cut.head q (cut.parts_below false f)) at ∙ sym (append-nil _))
-          ∙ sym (open_each cut.head p n.node n.number f statics)));
+          ∙ (ap₂ (λ a b. a ++ b) (begun_same p n) (below.before ∙ ap (λ q. cut.from_each cut.begin_events q (cut.parts_below false f)) at ∙ sym (append-nil _))
+          ∙ sym (open_each cut.begin_events p n.node n.number f statics)));
       after = ap (λ b. static_events (if b then after_below k g ++ finish (k + length (steps_below k g)) n ∷ [] else [])) e
           ∙ (map-append static_event (after_below k g) (finish (k + length (steps_below k g)) n ∷ [])
-          ∙ (ap₂ (λ a b. a ++ b) (below.after ∙ ap (λ q. cut.from_each cut.tail q (cut.parts_below false f)) at) (ap (λ q. static_event (finish q n) ∷ []) (ap₂ (λ a b. a + b) at (size k)))
-          ∙ sym (open_each cut.tail p n.node n.number f statics)));
+          ∙ (ap₂ (λ a b. a ++ b) (below.after ∙ ap (λ q. cut.from_each cut.end_events q (cut.parts_below false f)) at) (ap (λ q. static_event (finish q n) ∷ []) (ap₂ (λ a b. a + b) at (size k)))
+          ∙ sym (open_each cut.end_events p n.node n.number f statics)));
     }
 
-cuts_whole : (p : ℕ) (n : Item) (g : Forest) (t : plan.Tree) → is_open n ≡ false → map plain (steps p (tree n g)) ≡ done.stamped p (done.moves t) → Cuts p (tree n g) (cut.runs t ∷ [])
+cuts_whole : (p : ℕ) (n : Item) (g : Forest) (t : plan.Tree) → is_open n ≡ false → map plain (steps p (tree n g)) ≡ done.stamped p (done.moves t) → Cuts p (tree n g) (cut.whole_unit t ∷ [])
 cuts_whole p n g t e same = record {
   units = ap (λ b. map run_of (if b then parts_below (p + length (opening p n)) g else record { first = p; whole = tree n g } ∷ [])) e ∙ ap (λ l. l ∷ []) same;
   before = ap (λ b. static_events (if b then opening p n ++ before_below (p + length (opening p n)) g else [])) e;
@@ -199,10 +199,10 @@ mutual
       ⊎_elim
       (λ y.
       let statics = (spine_facts b n f y).1 in
-      subst (λ s. Cuts p (tree item g) (cond s (cut.opens n k ∷ (cut.parts_below false f ++ cut.closes n k ∷ [])) (cut.runs (plan.tree n k f) ∷ []))) (sym y)
+      subst (λ s. Cuts p (tree item g) (cond s (cut.spine_begins n k ∷ (cut.parts_below false f ++ cut.spine_ends n k ∷ [])) (cut.whole_unit (plan.tree n k f) ∷ []))) (sym y)
       (cuts_open p item g f (same ∙ y) statics (λ q. plain_length q _ _ (plain_below false k (above ++ n.segment ∷ []) q f)) (λ q. cuts_below false k (above ++ n.segment ∷ []) q f statics)))
       (λ y.
-      subst (λ s. Cuts p (tree item g) (cond s (cut.opens n k ∷ (cut.parts_below false f ++ cut.closes n k ∷ [])) (cut.runs (plan.tree n k f) ∷ []))) (sym y)
+      subst (λ s. Cuts p (tree item g) (cond s (cut.spine_begins n k ∷ (cut.parts_below false f ++ cut.spine_ends n k ∷ [])) (cut.whole_unit (plan.tree n k f) ∷ []))) (sym y)
       (cuts_whole p item g (plan.tree n k f) (same ∙ y) (plain_steps b parent above p (plan.tree n k f) ∙ ap (done.stamped p) (static_moves parent n k f e))))
       (cases_Bool (cut.on_spine b n f))
 
@@ -222,7 +222,7 @@ mutual
             ∙ (ap₂ (λ x y. x ++ y) one.units (more.units ∙ ap (λ i. map run_piece (cut.from_each cut.piece i (cut.parts_below b f))) at)
             ∙ (sym (map-append run_piece (cut.from_each cut.piece p (cut.parts b t)) _) ∙ ap (map run_piece) (sym (from_each-append cut.piece p (cut.parts b t) (cut.parts_below b f)))));
         before = map-append static_event (before p m) _
-            ∙ (ap₂ (λ x y. x ++ y) one.before (more.before ∙ ap (λ i. cut.from_each cut.head i (cut.parts_below b f)) at) ∙ sym (from_each-append cut.head p (cut.parts b t) (cut.parts_below b f)));
+            ∙ (ap₂ (λ x y. x ++ y) one.before (more.before ∙ ap (λ i. cut.from_each cut.begin_events i (cut.parts_below b f)) at) ∙ sym (from_each-append cut.begin_events p (cut.parts b t) (cut.parts_below b f)));
         after = map-append static_event (after p m) _
-            ∙ (ap₂ (λ x y. x ++ y) one.after (more.after ∙ ap (λ i. cut.from_each cut.tail i (cut.parts_below b f)) at) ∙ sym (from_each-append cut.tail p (cut.parts b t) (cut.parts_below b f)));
+            ∙ (ap₂ (λ x y. x ++ y) one.after (more.after ∙ ap (λ i. cut.from_each cut.end_events i (cut.parts_below b f)) at) ∙ sym (from_each-append cut.end_events p (cut.parts b t) (cut.parts_below b f)));
       }
