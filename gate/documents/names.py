@@ -86,12 +86,17 @@ def names_in(span: str) -> List[str]:
     return [word for word in words if "_" in word.strip("_") or re.search("[a-z0-9][A-Z]", word)]
 
 
+def is_made(path: str) -> bool:
+    """Whether a path is of what a build makes, which is no file of the repository, built or not."""
+    return "out" in path.split("/")
+
+
 def unknown_of(top: str, document: Document, known: FrozenSet[str]) -> Dict[str, int]:
     """The names in backquotes that the tree doesn't have, each with the number of its first line."""
     found: Dict[str, int] = {}
     for number, span in document.spans():
         if is_path(span):
-            unknown = [] if os.path.exists(os.path.join(top, span)) else [span]
+            unknown = [] if os.path.exists(os.path.join(top, span)) and not is_made(span) else [span]
         else:
             unknown = [word for word in names_in(span) if word not in known]
         for name in unknown:
