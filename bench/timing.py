@@ -26,6 +26,8 @@ class Run:
 class Taken:
     """What a command took: the medians of the seconds, the most memory in MiB, its status, and the file with what it wrote."""
 
+    processors: List[float]
+    """The seconds of processor time of each round."""
     processor: float
     clock: float
     memory: float
@@ -66,11 +68,20 @@ def summed(runs: Sequence[Run], output: str) -> Taken:
     statuses = {run.status for run in runs}
     assert len(statuses) == 1, f"runs of one command end with different statuses: {statuses}"
     return Taken(
+        [run.processor for run in runs],
         statistics.median(run.processor for run in runs),
         statistics.median(run.clock for run in runs),
         max(run.memory for run in runs),
         runs[0].status,
         output,
+    )
+
+
+def beside(ours: Taken, plain: Taken) -> str:
+    """The seconds of ours and of a plain program, of processor time and by the clock, with the ratios plain / ours."""
+    return (
+        f"processor {ours.processor:.3f} s, plain {plain.processor:.3f} s, ratio {plain.processor / ours.processor:.2f};"
+        f" clock {ours.clock:.3f} s, plain {plain.clock:.3f} s, ratio {plain.clock / ours.clock:.2f}"
     )
 
 

@@ -79,7 +79,7 @@ def count_events(report: str) -> int:
 
 
 def measure(folder: str, words: List[str]) -> None:
-    program, plain = os.path.realpath(words[0]), building.compile_plain(f"{HERE}/plain.rs", f"{folder}/plain")
+    program, plain = os.path.realpath(words[0]), building.compile_plain(f"{HERE}/plain/main.rs", f"{folder}/plain")
     print(timing.load())
     for name, children in plans().items():
         plan = os.path.join(folder, f"{name}.json")
@@ -92,9 +92,7 @@ def measure(folder: str, words: List[str]) -> None:
                 raise building.NotMeasured(f"{name}: the reports differ (status {ours.status} and {theirs.status})")
             events = count_events(ours.output)
             print(
-                f"  {workers} workers, {events} events:"
-                f" processor {ours.processor:.3f} s, plain {theirs.processor:.3f} s, ratio {theirs.processor / ours.processor:.2f};"
-                f" clock {ours.clock:.3f} s, plain {theirs.clock:.3f} s, ratio {theirs.clock / ours.clock:.2f};"
+                f"  {workers} workers, {events} events: {timing.beside(ours, theirs)};"
                 f" memory {ours.memory:.0f} MiB, plain {theirs.memory:.0f} MiB;"
                 f" {events / ours.clock / 1e6:.2f} million events a second, plain {events / theirs.clock / 1e6:.2f}",
                 flush=True,

@@ -48,8 +48,7 @@ def measure(folder: str, words: List[str]) -> None:
         ours, theirs = timing.take([[program, "ask", "stats"], [plain]], path, folder)
         print(
             f"{title}, {size:.1f} MiB, {timing.load()}: answers {'agree' if ours.text() == theirs.text() else 'DIFFER'};"
-            f" processor {ours.processor:.3f} s, plain {theirs.processor:.3f} s, ratio {theirs.processor / ours.processor:.2f};"
-            f" clock {ours.clock:.3f} s, plain {theirs.clock:.3f} s, ratio {theirs.clock / ours.clock:.2f} (goal: at least 4);"
+            f" {timing.beside(ours, theirs)} (goal: at least 4);"
             f" memory over input {ours.memory / size:.1f} (goal: at most 2), plain {theirs.memory / size:.1f}",
             flush=True,
         )

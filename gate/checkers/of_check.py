@@ -1,11 +1,15 @@
 """Tests of `./check`, with scripts in place of the checkers."""
 
 import contextlib
+import hashlib
 import os
+import re
 import shutil
 import stat
+import subprocess
 import tempfile
-from typing import Callable, Dict, List, Sequence, Set, Tuple
+from dataclasses import dataclass
+from typing import Callable, Dict, List, Sequence, Set
 
 from outcomes import TOP, Came, Test, called, write_script
 
@@ -54,51 +58,148 @@ def checkers_of_the_gate() -> List[str]:
     return sorted(found)
 
 
+PROGRAM = "crates/testkit/out/testkit"
+RUN = "crates/testkit/out/checked"
+KIT = "kit-7 logic 89ab"
+AUTHOR = {f"GIT_{who}_{what}": "author" for who in ("AUTHOR", "COMMITTER") for what in ("NAME", "EMAIL")}
+
+
+@dataclass(frozen=True)
+class Checked:
+    """What came of `./check`, the calls of the checkers, the file that it leaves for packages, and what it had to leave there."""
+
+    came: Came
+    calls: Set[str]
+    left: str
+    wanted: str
+
+
+def git(at: str, *words: str) -> str:
+    how = {"env": {**os.environ, **AUTHOR}, "stdout": subprocess.PIPE, "stderr": subprocess.DEVNULL, "text": True}
+    of_the_user = ["-c", "commit.gpgSign=false", "-c", "core.hooksPath=/dev/null"]
+    return subprocess.run(["git", "-C", at, *of_the_user, *words], check=False, **how).stdout.strip()
+
+
+def text_of(path: str) -> str:
+    with contextlib.suppress(OSError), open(path, encoding="utf-8") as file:
+        return file.read()
+    return ""
+
+
+def write(path: str, text: str) -> None:
+    with open(path, "w", encoding="utf-8") as file:
+        file.write(text)
+
+
 def repository(at: str) -> None:
-    """Makes a repository in which each checker passes and does nothing else than to write down its call."""
+    """Makes a clean repository in which each checker passes and does nothing else than to write down its call."""
     shutil.copy(f"{TOP}/check", at)
+    shutil.copy(f"{TOP}/.gitignore", at)
     shutil.copytree(f"{TOP}/.ci", f"{at}/.ci")
-    for path in ["bin/rt", *checkers_of_the_gate()]:
-        write_script(f"{at}/{path}", f'echo "{os.path.basename(path)} $*" >>"{at}/calls"', *GOOD)
-    write_script(f"{at}/crates/testkit/out/testkit", "exit 1")
+    os.makedirs(f"{at}/tools")
+    shutil.copy(f"{TOP}/tools/checked.py", f"{at}/tools")
+    os.makedirs(f"{at}/out")
+    for path in checkers_of_the_gate():
+        write_script(f"{at}/{path}", f'echo "{os.path.basename(path)} $*" >>"{at}/out/calls"', *GOOD)
+    write_script(f"{at}/bin/rt", f'echo "rt $*" >>"{at}/out/calls"', f'if [ "$1" = version ]; then echo "{KIT}"; exit; fi', *GOOD)
+    write_script(f"{at}/{PROGRAM}", "exit 1")
     write_script(f"{at}/testkit", "! command -v rt || exit 1", *ANSWERS)
     os.makedirs(f"{at}/examples")
-    with open(f"{at}/examples/two_tests.record", "w", encoding="utf-8") as file:
-        file.write("")
+    write(f"{at}/examples/two_tests.record", "")
+    write(f"{at}/{RUN}", "an older run\n")
+    git(at, "init", "-q")
+    commit(at)
 
 
-def check(change: Callable[[str], None], command: str = "check") -> Tuple[Came, Set[str]]:
-    """Calls `./check` in such a repository after a change; answers what came, and the calls of the checkers."""
+def commit(at: str) -> None:
+    git(at, "add", "-A")
+    git(at, "commit", "-q", "-m", "a commit")
+
+
+def check(change: Callable[[str], object], command: str = "check") -> Checked:
+    """Calls `./check` in such a repository after a change."""
     with tempfile.TemporaryDirectory(prefix="checkers-") as at:
         repository(at)
         change(at)
         came = called(f"{at}/{command}", cwd="/", env={**os.environ, "PATH": f"{at}/bin:{os.environ['PATH']}"})
-        with contextlib.suppress(FileNotFoundError), open(f"{at}/calls", encoding="utf-8") as file:
-            return came, set(file.read().splitlines())
-        return came, set()
+        program = hashlib.sha256(text_of(f"{at}/{PROGRAM}").encode()).hexdigest()
+        commit, tree = git(at, "rev-parse", "HEAD"), git(at, "rev-parse", "HEAD^{tree}")
+        wanted = f"commit {commit}\ntree {tree}\nkit {KIT}\nprogram {program}\npassed {came.passed}\n"
+        return Checked(came, set(text_of(f"{at}/out/calls").splitlines()), text_of(f"{at}/{RUN}"), wanted)
+
+
+def leaves(change: Callable[[str], object]) -> str:
+    """After this change the gate has to pass, and to leave what it passed."""
+    found = check(change)
+    is_left = re.fullmatch(re.escape(found.wanted) + r"date \d{4}-\d\d-\d\dT\d\d:\d\d:\d\dZ\n", found.left)
+    return found.came.fault(True) or ("" if is_left else f"it leaves {found.left!r}, wanted {found.wanted!r} and a date")
+
+
+def leaves_nothing(change: Callable[[str], object], is_right: bool, line: str = "") -> str:
+    """After this change the gate has to pass, or to fail, to leave nothing, and to have this in a line where it says why."""
+    found = check(change)
+    is_said = line in found.came.said and ("no package can be made after this run" in found.came.said) == bool(line)
+    fault = found.came.fault(is_right) or (f"it leaves {found.left!r}" if found.left else "")
+    return fault or ("" if is_said else f"it says {found.came.said[-300:]!r}")
+
+
+def without_repository(at: str) -> None:
+    shutil.rmtree(f"{at}/.git")
+
+
+TESTS_OF_RUNS: Dict[str, Callable[[], str]] = {
+    "a clean tree": lambda: leaves(lambda at: None),
+    "a clean tree of another commit": lambda: leaves(lambda at: (write(f"{at}/new", ""), commit(at))),
+    "a file that is ignored": lambda: leaves(lambda at: write(f"{at}/out/new", "")),
+    "a file changed": lambda: leaves_nothing(lambda at: write(f"{at}/.gitignore", "out/\n\n"), True, ": .gitignore is not as it was"),
+    "a file added": lambda: leaves_nothing(lambda at: write(f"{at}/new", ""), True, ": new is not as it was"),
+    "a file staged": lambda: leaves_nothing(lambda at: (write(f"{at}/new", ""), git(at, "add", "-A")), True, ": new is not as it was"),
+    "a checker that adds a file": lambda: leaves_nothing(
+        lambda at: (write_script(f"{at}/gate/cases/run_cases", f"touch {at}/new", *GOOD), commit(at)), True, ": new is not as it was"
+    ),
+    "a file added that a checker removes": lambda: leaves_nothing(
+        lambda at: (write_script(f"{at}/gate/cases/run_cases", f"rm {at}/new", *GOOD), commit(at), write(f"{at}/new", "")),
+        True,
+        ": new is not as it was",
+    ),
+    "a checker that commits": lambda: leaves_nothing(
+        lambda at: (write_script(f"{at}/gate/cases/run_cases", COMMITS.format(at), *GOOD), commit(at)), True, "it began with"
+    ),
+    "a checker that fails": lambda: leaves_nothing(
+        lambda at: (write_script(f"{at}/gate/cases/run_cases", *WRONG_CHECKERS["has a failure"]), commit(at)), False
+    ),
+    "a launcher that fails": lambda: leaves_nothing(lambda at: (write_script(f"{at}/testkit", "echo 6"), commit(at)), False),
+    "no program": lambda: leaves_nothing(lambda at: os.remove(f"{at}/{PROGRAM}"), False),
+    "no repository": lambda: leaves_nothing(without_repository, True, "not a git repository"),
+    "a kit that has no name": lambda: leaves_nothing(
+        lambda at: (write_script(f"{at}/bin/rt", '[ "$1" = ci ] || exit 1', *GOOD), commit(at)), True, "version"
+    ),
+}
+
+COMMITS = "cd {} && git -c user.name=a -c user.email=a commit -q --allow-empty -m new"
 
 
 def all_pass(command: str) -> str:
-    came, calls = check(lambda at: None, command)
+    found = check(lambda at: None, command)
+    came, calls = found.came, found.calls
     missing = {os.path.basename(path) for path in checkers_of_the_gate()} - {call.split()[0] for call in calls}
     wanted = 3 * (1 + len(checkers_of_the_gate())) + 1
     counted = "" if came.passed == wanted else f"{came.passed} passed, and {wanted} are wanted"
-    program = "crates/testkit/out/testkit"
-    crates = ("test_records", "test_sessions", "test_runs", "test_example_engine")
+    program = PROGRAM
+    crates = ("test_records", "test_questions", "test_sessions", "test_plans", "test_runs", "test_example_engine")
     refusals = f"refuse_requests {program} " + " ".join(f"crates/{it}/out/{it}_tests" for it in crates)
     lacking = {"rt ci", f"run_cases {program}", refusals, f"check_documents {program}", f"test_checkers {program}"} - calls
-    return came.fault(True) or (f"{sorted(missing)} isn't called" if missing else "") or counted or (f"no call {sorted(lacking)}" if lacking else "")
+    uncalled = f"{sorted(missing)} isn't called" if missing else ""
+    return came.fault(True) or uncalled or counted or (f"no call {sorted(lacking)}" if lacking else "")
 
 
 def with_script(path: str, lines: Sequence[str]) -> str:
     """`./check` has to fail where the script at this path is this one."""
-    came, _ = check(lambda at: write_script(f"{at}/{path}", *lines))
-    return came.fault(False)
+    return check(lambda at: write_script(f"{at}/{path}", *lines)).came.fault(False)
 
 
 def without(path: str) -> str:
-    came, _ = check(lambda at: os.remove(f"{at}/{path}"))
-    return came.fault(False)
+    return check(lambda at: os.remove(f"{at}/{path}")).came.fault(False)
 
 
 def nothing_done(lines: Sequence[str]) -> str:
@@ -106,13 +207,11 @@ def nothing_done(lines: Sequence[str]) -> str:
         for path in ["bin/rt", *checkers_of_the_gate()]:
             write_script(f"{at}/{path}", *lines)
 
-    came, _ = check(change)
-    return came.fault(False)
+    return check(change).came.fault(False)
 
 
 def fails_in_ci() -> str:
-    came, _ = check(lambda at: write_script(f"{at}/bin/rt", *WRONG_CHECKERS["has a failure"]), ".ci/run")
-    return came.fault(False)
+    return check(lambda at: write_script(f"{at}/bin/rt", *WRONG_CHECKERS["has a failure"]), ".ci/run").came.fault(False)
 
 
 def tests_of_check() -> List[Test]:
@@ -127,6 +226,7 @@ def tests_of_check() -> List[Test]:
         found.append(Test(f"./testkit {name}", lambda lines=lines: with_script("testkit", lines)))
     for name, lines in [("do nothing", []), ("count nothing", WRONG_CHECKERS["ran nothing"])]:
         found.append(Test(f"all checkers {name}", lambda lines=lines: nothing_done(lines)))
+    found += [Test(f"what a run leaves: {name}", fault) for name, fault in TESTS_OF_RUNS.items()]
     found.append(Test("./testkit is missing", lambda: without("testkit")))
     found.append(Test("the program is missing", lambda: without("crates/testkit/out/testkit")))
     return found

@@ -15,3 +15,5 @@ pub use Rattle.tk_queue.specs.Emission
 pub use Rattle.tk_engine_execute.specs.Run
 pub use Rattle.tk_engine_execute.specs.Engines
 pub use Rattle.tk_engine_execute.specs.Grown
+pub use Rattle.tk_engine_events.specs.Events
+pub use Rattle.tk_engine_events.specs.Emitted

@@ -1,173 +1,27 @@
 //! The one library that an author of an engine names: it passes on the public names of all layers, and has none of its own.
 //!
-//! An engine implements [`Engine`] and emits into a [`Sink`]; [`execute`] runs it by 1 to [`MAX_WORKERS`] workers, and
-//! [`Results`] answers questions about what was recorded. `crates/example_engine` is an engine written so, with its tests.
+//! An engine implements [`Engine`] and emits into a [`Sink`]; [`execute`] runs it by 1 to `MAX_WORKERS` workers, and
+//! [`Results`] answers questions about what was recorded. `crates/example_engine` has engines written so, with their tests.
 //! What clauses cite is in `specs/` under the same roof. JUnit: `EngineTestKit`.
+//!
+//! Here stand the names that most engines and their tests need; every name stands in one of the modules.
 #![tactic(auto)]
 
-pub use testkit_questions::AskFault;
-pub use testkit_questions::Mode;
-pub use testkit_questions::Overview;
-pub use testkit_questions::Question;
-pub use testkit_questions::ask;
-pub use testkit_questions::read_question;
-pub use tk_book::Book;
-pub use tk_book::BookFault;
-pub use tk_book::BookSeat;
-pub use tk_book::Busy;
-pub use tk_book::Holdings;
-pub use tk_book::Need;
-pub use tk_engine_execute::Claim;
-pub use tk_engine_execute::ClaimFault;
-pub use tk_engine_execute::ClaimSeat;
-pub use tk_engine_execute::Engine;
-pub use tk_engine_execute::MAX_UNITS;
-pub use tk_engine_execute::Results;
-pub use tk_engine_execute::RunFault;
-pub use tk_engine_execute::Sink;
-pub use tk_engine_execute::SinkFault;
-pub use tk_engine_execute::UnitFault;
-pub use tk_engine_execute::execute;
-pub use tk_events::Entry;
-pub use tk_events::Event;
-pub use tk_events::Kind;
-pub use tk_events::MAX_WORKERS;
-pub use tk_events::Pairs;
-pub use tk_events::Payload;
-pub use tk_events::Status;
-pub use tk_events::fmt_field;
-pub use tk_events::is_worker;
-pub use tk_events::registered_key;
-pub use tk_events::try_clone_message;
-pub use tk_ids::DType;
-pub use tk_ids::Descriptor;
-pub use tk_ids::IdFault;
-pub use tk_ids::IdText;
-pub use tk_ids::MAX_BYTES;
-pub use tk_ids::MAX_DESCRIPTORS;
-pub use tk_ids::MAX_SEGMENTS;
-pub use tk_ids::Segment;
-pub use tk_ids::Table;
-pub use tk_ids::TableFault;
-pub use tk_ids::Text;
-pub use tk_ids::UniqueId;
-pub use tk_lanes::Flags;
-pub use tk_lanes::admits;
-pub use tk_lanes::and_into;
-pub use tk_lanes::count_byte;
-pub use tk_lanes::first_from;
-pub use tk_lanes::gather;
-pub use tk_lanes::mask_byte;
-pub use tk_lanes::mask_flag;
-pub use tk_lanes::mask_u32;
-pub use tk_lanes::not_into;
-pub use tk_lanes::ones;
-pub use tk_lanes::or_into;
-pub use tk_plan::Act;
-pub use tk_plan::Entries;
-pub use tk_plan::Files;
-pub use tk_plan::Lock;
-pub use tk_plan::Locks;
-pub use tk_plan::MAX_KEYS;
-pub use tk_plan::MAX_LEVELS;
-pub use tk_plan::Node;
-pub use tk_plan::NumberedNode;
-pub use tk_plan::Plan;
-pub use tk_plan::PlanFault;
-pub use tk_plan::Step;
-pub use tk_plan::count_events;
-pub use tk_plan::read_plan;
-pub use tk_query::CondFault;
-pub use tk_query::Condition;
-pub use tk_query::Ending;
-pub use tk_query::Exact;
-pub use tk_query::Execution;
-pub use tk_query::Executions;
-pub use tk_query::InOrder;
-pub use tk_query::Lifecycle;
-pub use tk_query::LifecycleRule;
-pub use tk_query::Loose;
-pub use tk_query::MAX_DEPTH;
-pub use tk_query::executions;
-pub use tk_query::lifecycle;
-pub use tk_query::match_exactly;
-pub use tk_query::match_in_order;
-pub use tk_query::match_loosely;
-pub use tk_query::read_condition;
-pub use tk_query::select;
-pub use tk_query::write_condition;
-pub use tk_queue::CloseFault;
-pub use tk_queue::CloseReason;
-pub use tk_queue::Closed;
-pub use tk_queue::Core;
-pub use tk_queue::CoreFault;
-pub use tk_queue::Ended;
-pub use tk_queue::Item;
-pub use tk_queue::MAX_CAPACITY;
-pub use tk_queue::MAX_EVENTS;
-pub use tk_queue::OpenFault;
-pub use tk_queue::Receiver;
-pub use tk_queue::RegisterFault;
-pub use tk_queue::ReplayFault;
-pub use tk_queue::Replayed;
-pub use tk_queue::SendFault;
-pub use tk_queue::Sender;
-pub use tk_queue::Turn;
-pub use tk_queue::open;
-pub use tk_queue::replay;
-pub use tk_queue::replay_text;
-pub use tk_record::Fields;
-pub use tk_record::LineFault;
-pub use tk_record::MAX_TEXT;
-pub use tk_record::NodesFault;
-pub use tk_record::ReadFault;
-pub use tk_record::Version;
-pub use tk_record::WriteFault;
-pub use tk_record::add_statistics;
-pub use tk_record::cut_at;
-pub use tk_record::cut_header;
-pub use tk_record::cut_line;
-pub use tk_record::push_tail;
-pub use tk_record::push_text;
-pub use tk_record::read_event_line;
-pub use tk_record::read_node_line;
-pub use tk_record::read_nodes;
-pub use tk_record::read_number;
-pub use tk_record::read_record;
-pub use tk_record::read_u8;
-pub use tk_record::read_u32;
-pub use tk_record::read_u64;
-pub use tk_record::write_field;
-pub use tk_record::write_record;
-pub use tk_record::write_tail;
-pub use tk_record_columns::AppendFault;
-pub use tk_record_columns::ColumnTest;
-pub use tk_record_columns::EntryView;
-pub use tk_record_columns::EntryViews;
-pub use tk_record_columns::Events;
-pub use tk_record_columns::Expected;
-pub use tk_record_columns::MAX_ENTRIES;
-pub use tk_record_columns::Mismatch;
-pub use tk_record_columns::Record;
-pub use tk_record_columns::STATISTICS;
-pub use tk_record_columns::Selection;
-pub use tk_record_columns::Statistics;
-pub use tk_report::DEFAULT_CAPACITY;
-pub use tk_report::PlanRun;
-pub use tk_report::ReportFault;
-pub use tk_report::Scripted;
-pub use tk_report::plan_report;
-pub use tk_report::report_of;
-pub use tk_report::run_plan;
-pub use tk_report::write_report;
-pub use tk_report::write_report_of;
-pub use tk_streams::Broken;
-pub use tk_streams::ByteSource;
-pub use tk_streams::ByteTarget;
-pub use tk_streams::LoadFault;
-pub use tk_streams::Source;
-pub use tk_streams::StdSource;
-pub use tk_streams::StdTarget;
-pub use tk_streams::Target;
-pub use tk_streams::load;
-pub use tk_streams::write_all;
+pub mod engine;
+pub mod plans;
+pub mod questions;
+pub mod queue;
+pub mod record;
+
+pub use engine::{
+    BookSeat, Engine, Need, Results, RunFault, Sink, UnitFault, emit, execute, file_published,
+    finish, finished, publish_file, register, report, reported, skip, skipped, start, started,
+};
+pub use questions::{
+    Condition, Ending, Exact, Execution, Executions, InOrder, Lifecycle, LifecycleRule, Loose,
+    executions, match_exactly, match_in_order, match_loosely,
+};
+pub use record::{
+    DType, Descriptor, Event, Events, Expected, Kind, Mismatch, Pairs, Payload, Segment, Selection,
+    Status, Table, TableFault, Text,
+};

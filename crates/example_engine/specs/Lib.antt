@@ -1,2 +1,2 @@
-pub mod Soundness
+pub mod Running
 pub mod Suites

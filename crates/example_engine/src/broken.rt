@@ -1,10 +1,11 @@
 //! Engines that the kit catches: each runs one test, which is to start and to fail, with a defect.
+#![tactic(auto, using(engine_testkit::proofs::Emitting::emissions))]
+
 ghost use Rattle.std.specs.Prelude.{[]};
 ghost use Rattle.std.specs.Arc.{arc_value};
-ghost use Rattle.engine_testkit.specs.Grown.{Grew};
 
 use engine_testkit::{
-    BookSeat, DType, Engine, Event, Kind, Need, Payload, Segment, Sink, Status, Table, UnitFault,
+    BookSeat, DType, Engine, Event, Need, Segment, Sink, Status, Table, UnitFault, finish, start,
 };
 use std::alloc::{AllocError, Global};
 use std::sync::{Arc, Wait};
@@ -50,57 +51,6 @@ impl BrokenEngine {
     }
 }
 
-#[tactic(auto, using(engine_testkit::proofs::Growing::grew_same, engine_testkit::proofs::Growing::grew_one))]
-fn emit<R: Wait, S: Sink>(
-    rt: &R,
-    kind: Kind,
-    payload: Payload,
-    sink: &mut S,
-) -> Result<(), UnitFault>
-    ensures { Grew (S.view sink.old) (S.view sink.new) }
-{
-    sink.emit(
-        rt,
-        Event {
-            kind,
-            key: 0,
-            stamp: 0,
-            payload,
-        },
-    )?;
-    Ok(())
-}
-
-fn start<R: Wait, S: Sink>(rt: &R, sink: &mut S) -> Result<(), UnitFault>
-    ensures { Grew (S.view sink.old) (S.view sink.new) }
-{
-    emit(rt, Kind::Started, Payload::Nothing, sink)
-}
-
-fn finish<R: Wait, S: Sink>(rt: &R, status: Status, sink: &mut S) -> Result<(), UnitFault>
-    ensures { Grew (S.view sink.old) (S.view sink.new) }
-{
-    emit(rt, Kind::Finished, Payload::Outcome(status, None), sink)
-}
-
-// Finishes the test, and starts it then.
-#[tactic(auto, using(engine_testkit::proofs::Growing::grew_trans))]
-fn finish_first<R: Wait, S: Sink>(rt: &R, sink: &mut S) -> Result<(), UnitFault>
-    ensures { Grew (S.view sink.old) (S.view sink.new) }
-{
-    finish(rt, Status::Failed, sink)?;
-    start(rt, sink)
-}
-
-// Starts the test, which fails, and finishes it as a success.
-#[tactic(auto, using(engine_testkit::proofs::Growing::grew_trans))]
-fn hide_failure<R: Wait, S: Sink>(rt: &R, sink: &mut S) -> Result<(), UnitFault>
-    ensures { Grew (S.view sink.old) (S.view sink.new) }
-{
-    start(rt, sink)?;
-    finish(rt, Status::Successful, sink)
-}
-
 impl Engine for BrokenEngine {
     ghost table = { λ e. arc_value e.table };
 
@@ -143,9 +93,15 @@ impl Engine for BrokenEngine {
         sink: &mut S,
     ) -> Result<(), UnitFault> {
         match self.defect {
-            Defect::ForgetsFinish => start(rt, sink),
-            Defect::FinishesFirst => finish_first(rt, sink),
-            Defect::HidesFailure => hide_failure(rt, sink),
+            Defect::ForgetsFinish => start(rt, 0, 0, sink),
+            Defect::FinishesFirst => {
+                finish(rt, 0, 0, Status::Failed, None, sink)?;
+                start(rt, 0, 0, sink)
+            }
+            Defect::HidesFailure => {
+                start(rt, 0, 0, sink)?;
+                finish(rt, 0, 0, Status::Successful, None, sink)
+            }
         }
     }
 }

@@ -1,11 +1,14 @@
 //! The engine.
-ghost use Rattle.std.specs.Prelude.{◌≡◌, ◌+◌, [], ◌∷◌, None, length, ◌≤◌, slice_get, All, IfOk, IfSome, OnOk};
+#![tactic(auto, using(engine_testkit::proofs::Emitting::emissions))]
+
+ghost use Rattle.std.specs.Prelude.{◌≡◌, ◌+◌, [], ◌∷◌, None, length, ◌≤◌, slice_get, IfOk, IfSome, OnOk};
+ghost use Rattle.std.specs.Option.{option_copied};
 
 use crate::cases::{CaseTable, Function};
 use crate::running::run_table;
 use engine_testkit::{
-    BookSeat, DType, Engine, Event, Kind, Need, Payload, Segment, Sink, Status, Table, TableFault,
-    UnitFault,
+    BookSeat, DType, Engine, Event, Need, Segment, Sink, Status, Table, TableFault, UnitFault,
+    finished, started,
 };
 use std::alloc::{AllocError, Global};
 use std::marker::Model;
@@ -96,36 +99,23 @@ impl<'a, F: Function + Sync> CaseEngine<'a, F> {
     }
 }
 
-// An event of the root.
-fn event_of_root(kind: Kind, payload: Payload) -> Event
-    ensures { result ≡ record { kind = kind; key = 0; stamp = 0; payload = payload } }
-{
-    Event {
-        kind,
-        key: 0,
-        stamp: 0,
-        payload,
-    }
-}
-
 impl<F: Function + Sync> Engine for CaseEngine<'_, F> {
-    ghost use Rattle.engine_testkit.specs.Kind.TheVariants.{Started, Finished};
+    ghost use Rattle.engine_testkit.specs.Events.{finished, started};
     ghost use Rattle.engine_testkit.specs.Status.TheVariants.{Successful};
-    ghost use Rattle.engine_testkit.specs.Payload.TheVariants.{Nothing, Outcome};
-    ghost use Rattle.example_engine.specs.Soundness.{IsSound};
+    ghost use Rattle.example_engine.specs.Running.{IsTableRun};
 
     ghost table = { λ e. e.descriptors };
 
     ghost units = { λ e. length e.tables };
 
-    ghost before = { λ e. record { kind = Started; key = 0; stamp = 0; payload = Nothing } ∷ [] };
+    ghost before = { λ e. started 0 0 ∷ [] };
 
-    ghost after = { λ e. record { kind = Finished; key = 0; stamp = 0; payload = Outcome Successful None } ∷ [] };
+    ghost after = { λ e. finished 0 0 Successful None ∷ [] };
 
     ghost need = { λ e u. e.need };
 
-    ghost may = { λ e u w k l. IfSome (slice_get e.tables u)
-        (λ t. All (IsSound (F.value e.function) t.cases.now) l) };
+    ghost may = { λ e u w k l. IfSome (slice_get e.tables u) (λ t.
+        IsTableRun (F.value e.function) t.name.now t.cases.now (option_copied t.disabled) (u + 1) l) };
 
     fn table(&self) -> &Arc<Table> {
         &self.descriptors
@@ -138,14 +128,13 @@ impl<F: Function + Sync> Engine for CaseEngine<'_, F> {
     fn before(&self, alloc: Global) -> Result<Vec<Event>, AllocError> {
         // For the proof: the root is among the descriptors.
         let _descriptors = &self.descriptors;
-        Ok(vec![in alloc; event_of_root(Kind::Started, Payload::Nothing)]?)
+        Ok(vec![in alloc; started(0, 0)]?)
     }
 
     fn after(&self, alloc: Global) -> Result<Vec<Event>, AllocError> {
         // For the proof: the root is among the descriptors.
         let _descriptors = &self.descriptors;
-        let payload = Payload::Outcome(Status::Successful, None);
-        Ok(vec![in alloc; event_of_root(Kind::Finished, payload)]?)
+        Ok(vec![in alloc; finished(0, 0, Status::Successful, None)]?)
     }
 
     fn need(&self, _unit: u32) -> Need {

@@ -1,248 +1,162 @@
 //! The run of one table.
-ghost use Rattle.std.specs.Prelude.{◌≡◌, ◌<◌, None, length, IfOk};
-ghost use Rattle.engine_testkit.specs.Grown.{GrewBy};
-ghost use Rattle.engine_testkit.specs.Status.TheVariants.{Successful};
-ghost use Rattle.engine_testkit.specs.Payload.TheVariants.{Outcome};
-ghost use Rattle.example_engine.specs.Soundness.{IsSound};
+#![tactic(auto, using(engine_testkit::proofs::Emitting::emissions))]
+
+ghost use Rattle.std.specs.Prelude.{◌≡◌, [], ◌∷◌, length, IfOk, OnOk};
+ghost use Rattle.std.specs.Option.{option_copied};
+ghost use Rattle.engine_testkit.specs.Emitted.{Emitted, EmittedAs};
+ghost use Rattle.engine_testkit.specs.Events.{file_published, finished, reported, started};
+ghost use Rattle.engine_testkit.specs.Grown.{Grew};
+ghost use Rattle.example_engine.specs.Running.{status_of, failure_text, message_of, entry_of, path_of, last_events, IsCaseRun, AreCaseRuns, IsTableRun};
 
 use crate::cases::{Case, CaseTable, Function};
-use engine_testkit::{DType, Event, Kind, Pairs, Payload, Segment, Sink, Status, Text, UnitFault};
+use engine_testkit::{
+    DType, Pairs, Segment, Sink, Status, Text, UnitFault, finish, publish_file, register, report,
+    skip, start,
+};
 use std::alloc::{AllocError, Global};
 use std::sync::Wait;
 
+// Why a case fails: both values.
+fn failure_of(alloc: Global, expected: u64, actual: u64) -> Result<Text, AllocError>
+    ensures { IfOk result (λ text. text ≡ failure_text expected actual) }
+{
+    Ok(Text::from(format!(in alloc; "expected: <{expected}> but was: <{actual}>")?))
+}
+
 // A case's outcome: a success, or a failure with both values.
-fn outcome_of<F: Function>(alloc: Global, function: &F, case: Case) -> Result<Payload, AllocError>
-    ensures { IfOk result (λ payload. payload ≡ Outcome Successful None
-        → F.value function.now case.argument ≡ case.expected) }
+fn outcome_of<F: Function>(
+    alloc: Global,
+    function: &F,
+    case: Case,
+) -> Result<(Status, Option<Text>), AllocError>
+    ensures status { IfOk result (λ r. r.0 ≡ status_of (F.value function.now) case) }
+    ensures message { IfOk result (λ r. r.1 ≡ message_of (F.value function.now) case) }
 {
     let actual = function.value(case.argument);
     if actual == case.expected {
-        return Ok(Payload::Outcome(Status::Successful, None));
+        return Ok((Status::Successful, None));
     }
-    let message = format!(in alloc; "expected: <{}> but was: <{actual}>", case.expected)?;
-    Ok(Payload::Outcome(Status::Failed, Some(Text::from(message))))
+    Ok((
+        Status::Failed,
+        Some(failure_of(alloc, case.expected, actual)?),
+    ))
 }
 
-// The entry that a table reports: how many cases it has.
-fn entry_of(alloc: Global, cases: &[Case]) -> Result<Payload, AllocError> {
-    let number = format!(in alloc; "{}", cases.len())?;
-    let mut pairs = Pairs::new(alloc);
-    pairs.push(Text::copy(alloc, "cases")?, Text::from(number))?;
-    Ok(Payload::Report(pairs))
-}
-
-// Where a table's log lies.
-fn path_of(alloc: Global, table: CaseTable<'_>) -> Result<Payload, AllocError> {
-    let path = format!(in alloc; "out/{}.txt", table.name)?;
-    Ok(Payload::Path(Text::from(path)))
-}
-
-#[tactic(auto, using(engine_testkit::proofs::Growing::grew_same, engine_testkit::proofs::Growing::grew_one))]
-fn emit<F: Function, R: Wait, S: Sink>(
-    rt: &R,
-    function: &F,
-    cases: &[Case],
-    event: Event,
-    sink: &mut S,
-) -> Result<(), UnitFault>
-    requires { IsSound (F.value function.now) cases.now event }
-    ensures { GrewBy (IsSound (F.value function.now) cases.now)
-        (S.view sink.old) (S.view sink.new) }
-{
-    let (_, _) = (function, cases);
-    sink.emit(rt, event)?;
-    Ok(())
-}
-
-// Registers the test of a case below its container, and answers its key.
-#[tactic(auto, using(engine_testkit::proofs::Growing::grew_refl, engine_testkit::proofs::Growing::grew_same, engine_testkit::proofs::Growing::grew_registered))]
-fn register<F: Function, R: Wait, S: Sink>(
-    rt: &R,
-    alloc: Global,
-    function: &F,
-    cases: &[Case],
-    index: usize,
-    container: u32,
-    sink: &mut S,
-) -> Result<u32, UnitFault>
-    ensures { GrewBy (IsSound (F.value function.now) cases.now)
-        (S.view sink.old) (S.view sink.new) }
-{
-    let (_, _) = (function, cases);
-    let name = format!(in alloc; "{index}")?;
-    let Ok(segment) = Segment::new(alloc, "case", name.as_str()) else {
-        // No allocation failed here: a short segment is refused only where its allocation failed.
-        return Err(UnitFault::Memory);
-    };
-    Ok(sink.register(
-        rt,
-        container,
-        &segment,
-        name.as_str(),
-        DType::Test,
-        index as u64,
-    )?)
-}
-
-// Emits the start and the finish of a registered case, each with the case's number as stamp.
-#[tactic(auto, using(engine_testkit::proofs::Growing::grew_trans))]
+// Starts a registered case, and finishes it.
 fn run_registered<F: Function, R: Wait, S: Sink>(
     rt: &R,
     alloc: Global,
     function: &F,
-    cases: &[Case],
-    index: usize,
+    case: Case,
+    stamp: u64,
     key: u32,
     sink: &mut S,
 ) -> Result<(), UnitFault>
-    requires { index < length cases.now }
-    ensures { GrewBy (IsSound (F.value function.now) cases.now)
-        (S.view sink.old) (S.view sink.new) }
+    ensures ok { OnOk result (Emitted (S.view sink.old) (S.view sink.new)
+        (started key stamp
+        ∷ finished key stamp (status_of (F.value function.now) case)
+        (message_of (F.value function.now) case) ∷ [])) }
+    ensures grew { Grew (S.view sink.old) (S.view sink.new) }
 {
-    let stamp = index as u64;
-    let started = Event {
-        kind: Kind::Started,
-        key,
-        stamp,
-        payload: Payload::Nothing,
-    };
-    emit(rt, function, cases, started, sink)?;
-    let payload = outcome_of(alloc, function, cases[index])?;
-    let finished = Event {
-        kind: Kind::Finished,
-        key,
-        stamp,
-        payload,
-    };
-    emit(rt, function, cases, finished, sink)
+    start(rt, key, stamp, sink)?;
+    let (status, message) = outcome_of(alloc, function, case)?;
+    finish(rt, key, stamp, status, message, sink)
 }
 
-// Runs a case as a dynamic test: its registration, its start and its finish.
-#[tactic(auto, using(engine_testkit::proofs::Growing::grew_trans))]
+// Runs a case as a dynamic test, with the case's number as stamp.
 fn run_case<F: Function, R: Wait, S: Sink>(
     rt: &R,
     alloc: Global,
     function: &F,
-    cases: &[Case],
+    case: Case,
     index: usize,
-    container: u32,
+    table: u32,
     sink: &mut S,
 ) -> Result<(), UnitFault>
-    requires { index < length cases.now }
-    ensures { GrewBy (IsSound (F.value function.now) cases.now)
-        (S.view sink.old) (S.view sink.new) }
+    ensures ok { OnOk result (EmittedAs (IsCaseRun (F.value function.now) index case)
+        (S.view sink.old) (S.view sink.new)) }
+    ensures grew { Grew (S.view sink.old) (S.view sink.new) }
 {
-    let key = register(rt, alloc, function, cases, index, container, sink)?;
-    run_registered(rt, alloc, function, cases, index, key, sink)
-}
-
-// Emits an event of the container, whose stamp is the number of the cases.
-fn emit_of_table<F: Function, R: Wait, S: Sink>(
-    rt: &R,
-    function: &F,
-    cases: &[Case],
-    kind: Kind,
-    key: u32,
-    payload: Payload,
-    sink: &mut S,
-) -> Result<(), UnitFault>
-    ensures { GrewBy (IsSound (F.value function.now) cases.now)
-        (S.view sink.old) (S.view sink.new) }
-{
-    let stamp = cases.len() as u64;
-    emit(
-        rt,
-        function,
-        cases,
-        Event {
-            kind,
-            key,
-            stamp,
-            payload,
-        },
-        sink,
-    )
+    let name = format!(in alloc; "{index}")?;
+    let segment = Segment::new(alloc, "case", name.as_str())?;
+    let stamp = index as u64;
+    let key = register(rt, table, &segment, name.as_str(), DType::Test, stamp, sink)?;
+    run_registered(rt, alloc, function, case, stamp, key, sink)
 }
 
 // Runs each case.
-#[tactic(auto, using(engine_testkit::proofs::Growing::grew_refl, engine_testkit::proofs::Growing::grew_trans))]
 fn run_cases<F: Function, R: Wait, S: Sink>(
     rt: &R,
     alloc: Global,
     function: &F,
     cases: &[Case],
-    container: u32,
+    table: u32,
     sink: &mut S,
 ) -> Result<(), UnitFault>
-    ensures { GrewBy (IsSound (F.value function.now) cases.now)
-        (S.view sink.old) (S.view sink.new) }
+    ensures ok { OnOk result
+        (EmittedAs (AreCaseRuns (F.value function.now) cases.now (length cases.now))
+        (S.view sink.old) (S.view sink.new)) }
+    ensures grew { Grew (S.view sink.old) (S.view sink.new) }
 {
     for index in 0..cases.len() {
-        run_case(rt, alloc, function, cases, index, container, sink)?;
+        run_case(rt, alloc, function, cases[index], index, table, sink)?;
     }
     Ok(())
 }
 
-// Publishes an entry and a file of a table whose cases were run.
-#[tactic(auto, using(engine_testkit::proofs::Growing::grew_refl, engine_testkit::proofs::Growing::grew_trans))]
-fn publish<F: Function, R: Wait, S: Sink>(
+// Publishes an entry of a table: how many cases it has.
+fn report_number<R: Wait, S: Sink>(
     rt: &R,
     alloc: Global,
-    function: &F,
-    table: CaseTable<'_>,
-    container: u32,
+    cases: u64,
+    key: u32,
     sink: &mut S,
 ) -> Result<(), UnitFault>
-    ensures { GrewBy (IsSound (F.value function.now) table.entry.cases.now)
-        (S.view sink.old) (S.view sink.new) }
+    ensures ok { OnOk result (Emitted (S.view sink.old) (S.view sink.new)
+        (reported key cases (entry_of cases) ∷ [])) }
+    ensures grew { Grew (S.view sink.old) (S.view sink.new) }
 {
-    let cases = table.cases;
-    let entry = entry_of(alloc, cases)?;
-    emit_of_table(rt, function, cases, Kind::Reporting, container, entry, sink)?;
-    let path = path_of(alloc, table)?;
-    emit_of_table(rt, function, cases, Kind::File, container, path, sink)
+    let number = Text::from(format!(in alloc; "{cases}")?);
+    let entry = Pairs::shared_pair(alloc, Text::copy(alloc, "cases")?, number)?;
+    report(rt, key, cases, entry, sink)
 }
 
-// Runs the cases of a table that has started, and publishes an entry and a file.
-#[tactic(auto, using(engine_testkit::proofs::Growing::grew_trans))]
-fn run_started<F: Function, R: Wait, S: Sink>(
+// Publishes the file in which a table's log lies.
+fn publish_log<R: Wait, S: Sink>(
     rt: &R,
     alloc: Global,
-    function: &F,
-    table: CaseTable<'_>,
-    container: u32,
+    name: &str,
+    stamp: u64,
+    key: u32,
     sink: &mut S,
 ) -> Result<(), UnitFault>
-    ensures { GrewBy (IsSound (F.value function.now) table.entry.cases.now)
-        (S.view sink.old) (S.view sink.new) }
+    ensures ok { OnOk result (Emitted (S.view sink.old) (S.view sink.new)
+        (file_published key stamp (path_of name.now) ∷ [])) }
+    ensures grew { Grew (S.view sink.old) (S.view sink.new) }
 {
-    run_cases(rt, alloc, function, table.cases, container, sink)?;
-    publish(rt, alloc, function, table, container, sink)
+    let path = Text::from(format!(in alloc; "out/{name}.txt")?);
+    publish_file(rt, key, stamp, path, sink)
 }
 
-// Runs a table that isn't disabled: a start, the cases, a report entry, a file and a finish.
-#[tactic(auto, using(engine_testkit::proofs::Growing::grew_trans))]
-fn run_enabled<F: Function, R: Wait, S: Sink>(
+// Publishes an entry and a file of a table whose cases were run, and finishes it.
+fn finish_table<R: Wait, S: Sink>(
     rt: &R,
     alloc: Global,
-    function: &F,
     table: CaseTable<'_>,
     key: u32,
     sink: &mut S,
 ) -> Result<(), UnitFault>
-    ensures { GrewBy (IsSound (F.value function.now) table.entry.cases.now)
-        (S.view sink.old) (S.view sink.new) }
+    ensures ok { OnOk result (Emitted (S.view sink.old) (S.view sink.new)
+        (last_events table.entry.name.now (length table.entry.cases.now) key)) }
+    ensures grew { Grew (S.view sink.old) (S.view sink.new) }
 {
-    let cases = table.cases;
-    let started = Payload::Nothing;
-    emit_of_table(rt, function, cases, Kind::Started, key, started, sink)?;
-    run_started(rt, alloc, function, table, key, sink)?;
-    let finished = Payload::Outcome(Status::Successful, None);
-    emit_of_table(rt, function, cases, Kind::Finished, key, finished, sink)
+    let cases = table.cases.len() as u64;
+    report_number(rt, alloc, cases, key, sink)?;
+    publish_log(rt, alloc, table.name, cases, key, sink)?;
+    finish(rt, key, cases, Status::Successful, None, sink)
 }
 
 /// Runs a table: a skip, or a start, the cases, a report entry, a file and a finish.
-#[tactic(auto, using(engine_testkit::proofs::Growing::grew_refl))]
 pub(crate) fn run_table<F: Function, R: Wait, S: Sink>(
     rt: &R,
     alloc: Global,
@@ -251,14 +165,19 @@ pub(crate) fn run_table<F: Function, R: Wait, S: Sink>(
     key: u32,
     sink: &mut S,
 ) -> Result<(), UnitFault>
-    ensures { GrewBy (IsSound (F.value function.now) table.entry.cases.now)
-        (S.view sink.old) (S.view sink.new) }
+    ensures ok { OnOk result
+        (EmittedAs (IsTableRun (F.value function.now) table.entry.name.now
+        table.entry.cases.now (option_copied table.entry.disabled) key)
+        (S.view sink.old) (S.view sink.new)) }
+    ensures grew { Grew (S.view sink.old) (S.view sink.new) }
 {
+    let stamp = table.cases.len() as u64;
     match table.disabled {
-        Some(reason) => {
-            let payload = Payload::Reason(Text::copy(alloc, reason)?);
-            emit_of_table(rt, function, table.cases, Kind::Skipped, key, payload, sink)
+        Some(reason) => skip(rt, key, stamp, Text::copy(alloc, reason)?, sink),
+        None => {
+            start(rt, key, stamp, sink)?;
+            run_cases(rt, alloc, function, table.cases, key, sink)?;
+            finish_table(rt, alloc, table, key, sink)
         }
-        None => run_enabled(rt, alloc, function, table, key, sink),
     }
 }

@@ -1,4 +1,5 @@
 //! What the kit says of engines with a defect.
+use engine_testkit::questions::{Lifecycle, LifecycleRule};
 use engine_testkit::{
     Condition, Events, Exact, Expected, Mismatch, Results, Selection, execute, executions,
     match_exactly,
@@ -82,4 +83,30 @@ fn defects_are_found(rt: HostRuntime) {
     assert!(rt; is_found(&rt, rt.alloc(), Defect::FinishesFirst, turned));
     let hid = (Some(no_failure), Exact::No(1), 1);
     assert!(rt; is_found(&rt, rt.alloc(), Defect::HidesFailure, hid));
+}
+
+// The lifecycle of a run of an engine with the defect.
+fn lifecycle_of<R: Threads + Wait + Sync>(
+    rt: &R,
+    alloc: Global,
+    defect: Defect,
+) -> Option<Lifecycle> {
+    let engine = BrokenEngine::new(alloc, defect)?;
+    let ran = execute(rt, alloc, &engine, 1, 1);
+    let lifecycle = match &ran {
+        Ok(results) => results.lifecycle(alloc).ok(),
+        Err(_) => None,
+    };
+    drop(ran);
+    lifecycle
+}
+
+#[test]
+fn lifecycles_of_defects(rt: HostRuntime) {
+    let forgot = lifecycle_of(&rt, rt.alloc(), Defect::ForgetsFinish);
+    assert!(rt; forgot == Some(Lifecycle::Unfinished(0)));
+    let turned = lifecycle_of(&rt, rt.alloc(), Defect::FinishesFirst);
+    assert!(rt; turned == Some(Lifecycle::Broken(0, LifecycleRule::NotRunning)));
+    let hid = lifecycle_of(&rt, rt.alloc(), Defect::HidesFailure);
+    assert!(rt; hid == Some(Lifecycle::Kept));
 }

@@ -1,10 +1,11 @@
 //! Halves of numbers, in three tables: one that succeeds, one with a failure, one that is skipped.
 ghost use Rattle.std.specs.Prelude.{◌/◌};
 
+use engine_testkit::plans::write_report;
+use engine_testkit::record::{ByteTarget, write_record};
 use engine_testkit::{
-    ByteTarget, Condition, Ending, Events, Exact, Execution, Expected, InOrder, Kind, Loose, Need,
-    Results, Text, execute, executions, match_exactly, match_in_order, match_loosely, write_record,
-    write_report,
+    Condition, Ending, Events, Exact, Execution, Expected, InOrder, Kind, Loose, Need, Results,
+    Text, execute, executions, match_exactly, match_in_order, match_loosely,
 };
 use example_engine::{Case, CaseEngine, CaseTable, Function};
 use std::alloc::Global;
@@ -52,7 +53,11 @@ const WRONG: [Case; 2] = [
 const FIRST_TEST: u32 = 65_536;
 
 // A run of the three tables, which share one lock.
-fn run<R: Threads + Wait + Sync>(rt: &R, alloc: Global, workers: usize) -> Option<Results> {
+pub(crate) fn run<R: Threads + Wait + Sync>(
+    rt: &R,
+    alloc: Global,
+    workers: usize,
+) -> Option<Results> {
     let tables = [
         CaseTable {
             name: "right",

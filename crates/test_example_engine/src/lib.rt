@@ -5,3 +5,7 @@
 mod broken;
 #[cfg(test)]
 mod cases;
+#[cfg(test)]
+mod even;
+#[cfg(test)]
+mod questions;

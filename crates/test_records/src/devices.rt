@@ -1,59 +1,7 @@
-//! Devices that pass one byte a call and break at some call, at each call in turn.
-use std::alloc::{AllocError, Global};
-use test_support::{OneByteSource, OneByteTarget, record_of, two_tests, two_tests_report};
-use testkit_questions::{AskFault, ask};
-use tk_record::{ReadFault, Record, WriteFault, write_record};
-use tk_report_text::write_report_of;
-use tk_streams::{ByteTarget, Target};
-
-// Whether the answer is that the device of the record broke.
-fn is_device(answer: &Result<bool, AskFault>) -> bool {
-    matches!(answer, Err(AskFault::Read(ReadFault::Device)))
-}
-
-// Whether a question about a source that breaks at a call is answered so.
-fn meets_device(
-    alloc: Global,
-    words: &[String],
-    breaks_at: usize,
-    target: &mut ByteTarget,
-) -> bool {
-    let mut source = OneByteSource::new(two_tests(), breaks_at);
-    let answer = ask(alloc, words, &mut source, target);
-    let is_device = is_device(&answer);
-    drop(answer);
-    is_device
-}
-
-// Whether asking a question answers that the device broke, with nothing written.
-fn asking_breaks(alloc: Global, words: &[String], breaks_at: usize) -> bool {
-    let mut target = ByteTarget::new(alloc);
-    meets_device(alloc, words, breaks_at, &mut target) && target.bytes().is_empty()
-}
-
-/// The call after the last byte answers that the end is reached.
-#[test]
-fn reading_at_each_call(rt: HostRuntime) -> Result<(), AllocError> {
-    let words = vec![in rt.alloc(); String::from_str(rt.alloc(), "stats")?]?;
-    for call in 0..=two_tests().len() {
-        assert!(rt; asking_breaks(rt.alloc(), words.as_slice(), call), "{call}");
-    }
-    assert!(rt; !asking_breaks(rt.alloc(), words.as_slice(), two_tests().len() + 1));
-    Ok(())
-}
-
-// Whether a target that broke got this number of bytes of a text, and the writer answered so.
-fn is_cut(
-    answer: Result<(), WriteFault>,
-    target: &OneByteTarget,
-    text: &[u8],
-    bytes: usize,
-) -> bool {
-    answer == Err(WriteFault::Device)
-        && target.is_broken()
-        && target.taken().len() == bytes
-        && text.starts_with(target.taken())
-}
+//! Writing a record to a device that takes one byte a call and breaks at some call, at each call in turn.
+use std::alloc::Global;
+use test_support::{OneByteTarget, is_cut, record_of, two_tests};
+use tk_record::{Record, write_record};
 
 fn writing_breaks(alloc: Global, record: &Record, bytes: usize) -> bool {
     let mut target = OneByteTarget::new(alloc, bytes);
@@ -61,32 +9,20 @@ fn writing_breaks(alloc: Global, record: &Record, bytes: usize) -> bool {
     is_cut(answer, &target, two_tests(), bytes)
 }
 
-fn reporting_breaks(alloc: Global, record: &Record, bytes: usize) -> bool {
-    let mut target = OneByteTarget::new(alloc, bytes);
-    let answer = write_report_of(alloc, record, &mut target);
-    is_cut(answer, &target, two_tests_report(), bytes)
-}
-
-// Whether both writers answer so at each call before the last byte went out, and not after it.
-fn writers_break(alloc: Global, record: &Record) -> bool {
+// Whether the writer answers so at each call before the last byte went out, and not after it.
+fn writer_breaks(alloc: Global, record: &Record) -> bool {
     for bytes in 0..two_tests().len() {
         if !writing_breaks(alloc, record, bytes) {
             return false;
         }
     }
-    for bytes in 0..two_tests_report().len() {
-        if !reporting_breaks(alloc, record, bytes) {
-            return false;
-        }
-    }
     !writing_breaks(alloc, record, two_tests().len())
-        && !reporting_breaks(alloc, record, two_tests_report().len())
 }
 
 #[test]
 fn writing_at_each_call(rt: HostRuntime) {
     let holds = match record_of(rt.alloc(), two_tests()) {
-        Some(record) => writers_break(rt.alloc(), &record),
+        Some(record) => writer_breaks(rt.alloc(), &record),
         None => false,
     };
     assert!(rt; holds);

@@ -1,37 +1,11 @@
 //! Faults as texts.
 use std::alloc::{AllocError, Global};
 use test_support::{are_shown, is_debugged_as, is_shown, is_shown_as, start};
-use testkit_questions::AskFault;
 use tk_events::{Entry, Kind, Pairs, Status};
 use tk_ids::{IdFault, Segment, TableFault, Text, UniqueId};
-use tk_query::{CondFault, Loose};
 use tk_record::{LineFault, NodesFault, ReadFault, WriteFault};
 use tk_record_columns::AppendFault;
 use tk_streams::{Broken, LoadFault};
-
-// Whether the faults of a question's words have their texts.
-fn show_word_faults(alloc: Global) -> bool {
-    is_shown_as(alloc, &AskFault::Question, "unknown question")
-        && is_shown_as(alloc, &AskFault::Word(12), "bad word 12")
-        && is_shown_as(
-            alloc,
-            &AskFault::Condition(3, CondFault::Deep),
-            "condition 3 is too deep",
-        )
-}
-
-// Whether the other faults of a question have their texts.
-fn show_other_faults(alloc: Global) -> bool {
-    is_shown_as(alloc, &AskFault::Read(ReadFault::NoHeader), "no header")
-        && is_shown_as(alloc, &AskFault::Device, "device failed")
-        && is_shown_as(alloc, &AskFault::Memory, "out of memory")
-}
-
-#[test]
-fn ask_faults(rt: HostRuntime) {
-    assert!(rt; show_word_faults(rt.alloc()));
-    assert!(rt; show_other_faults(rt.alloc()));
-}
 
 fn show_id_faults(alloc: Global) -> bool {
     let faults = [
@@ -93,11 +67,6 @@ fn show_device_faults(alloc: Global) -> bool {
         && is_shown(alloc, &Broken)
 }
 
-fn show_condition_faults(alloc: Global) -> bool {
-    let faults = [CondFault::BadAtom(3), CondFault::Deep, CondFault::Memory];
-    are_shown(alloc, &faults)
-}
-
 #[test]
 fn each_fault_is_shown(rt: HostRuntime) {
     assert!(rt; show_id_faults(rt.alloc()));
@@ -106,7 +75,6 @@ fn each_fault_is_shown(rt: HostRuntime) {
     assert!(rt; show_read_faults(rt.alloc()));
     assert!(rt; show_line_faults(rt.alloc()));
     assert!(rt; show_device_faults(rt.alloc()));
-    assert!(rt; show_condition_faults(rt.alloc()));
 }
 
 // Whether a text, a segment and an id are shown with the characters that they have.
@@ -134,5 +102,4 @@ fn values_are_debugged(rt: HostRuntime) {
     assert!(rt; matches!(pairs_are_debugged(alloc), Ok(true)));
     assert!(rt; is_debugged_as(alloc, &Kind::Reporting, "Reporting"));
     assert!(rt; is_debugged_as(alloc, &Status::of_code(3), "Some(Failed)"));
-    assert!(rt; is_debugged_as(alloc, &Loose::No(3), "No(3)"));
 }

@@ -1,19 +1,16 @@
-//! From values to what is asked of records: lanes, ids and tables, streams, entries, texts, selections,
-//! matches, executions and reports.
+//! From values to records: lanes, ids and tables, streams, entries, and texts of records.
 #![tactic(auto)]
 
 #[cfg(test)]
 mod appending;
 #[cfg(test)]
-mod conditions;
-#[cfg(test)]
 mod devices;
 #[cfg(test)]
 mod entries;
 #[cfg(test)]
-mod executions;
-#[cfg(test)]
 mod faults;
+#[cfg(test)]
+mod fields;
 #[cfg(test)]
 mod ids;
 #[cfg(test)]
@@ -21,15 +18,7 @@ mod lanes;
 #[cfg(test)]
 mod loading;
 #[cfg(test)]
-mod long_records;
-#[cfg(test)]
-mod matches;
-#[cfg(test)]
 mod refusals;
-#[cfg(test)]
-mod reports;
-#[cfg(test)]
-mod selections;
 #[cfg(test)]
 mod shared_pairs;
 #[cfg(test)]

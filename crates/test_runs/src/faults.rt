@@ -58,6 +58,20 @@ fn show_run_faults(alloc: Global) -> bool {
     are_shown(alloc, &faults)
 }
 
+// Whether a unit's failure is shown with its cause.
+fn show_causes(alloc: Global) -> bool {
+    let unknown = SinkFault::Send(SendFault::UnknownNode(start(3, 0)));
+    is_shown_as(
+        alloc,
+        &RunFault::Engine(0, UnitFault::Sink(unknown)),
+        "unit 0 failed: unknown key 3",
+    ) && is_shown_as(
+        alloc,
+        &RunFault::Engine(12, UnitFault::Memory),
+        "unit 12 failed: out of memory",
+    )
+}
+
 // Whether the faults of a report have the texts of the faults that they wrap.
 fn show_report_faults(alloc: Global) -> bool {
     let failed = RunFault::Engine(3, UnitFault::Own(7));
@@ -65,8 +79,11 @@ fn show_report_faults(alloc: Global) -> bool {
         alloc,
         &ReportFault::Plan(PlanFault::Json),
         "plan is not JSON",
-    ) && is_shown_as(alloc, &ReportFault::Run(failed), "unit 3 failed")
-        && is_shown_as(alloc, &ReportFault::Run(RunFault::Threads), "no thread")
+    ) && is_shown_as(
+        alloc,
+        &ReportFault::Run(failed),
+        "unit 3 failed: engine fault 7",
+    ) && is_shown_as(alloc, &ReportFault::Run(RunFault::Threads), "no thread")
         && is_shown_as(alloc, &ReportFault::Device, "device failed")
         && is_shown_as(alloc, &ReportFault::Memory, "out of memory")
 }
@@ -78,6 +95,7 @@ fn each_fault_is_shown(rt: HostRuntime) {
     assert!(rt; show_field_fault(rt.alloc()));
     assert!(rt; show_unit_faults(rt.alloc()));
     assert!(rt; show_run_faults(rt.alloc()));
+    assert!(rt; show_causes(rt.alloc()));
     assert!(rt; show_report_faults(rt.alloc()));
 }
 

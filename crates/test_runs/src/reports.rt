@@ -4,8 +4,9 @@ use std::sync::Wait;
 use std::thread::Threads;
 use test_support::{OneByteTarget, demo_plan, demo_report};
 use tk_plan::read_plan;
+use tk_query::Lifecycle;
 use tk_report::{
-    DEFAULT_CAPACITY, ReportFault, Results, Scripted, execute, plan_report, write_report,
+    DEFAULT_CAPACITY, ReportFault, Results, Scripted, execute, plan_report, run_plan, write_report,
 };
 
 // What three workers record of the demo plan.
@@ -88,4 +89,27 @@ fn a_run_and_its_report(rt: HostRuntime) {
 #[test]
 fn a_report_to_a_device_that_breaks(rt: HostRuntime) {
     assert!(rt; reporting_breaks(&rt, rt.alloc(), 90));
+}
+
+// What `lifecycle` answers of a run of the demo plan, none where there is no run.
+fn lifecycle_of_run<R: Threads + Wait + Sync>(
+    rt: &R,
+    alloc: Global,
+    workers: usize,
+) -> Option<Lifecycle> {
+    let ran = run_plan(rt, alloc, demo_plan(), workers);
+    let lifecycle = match &ran {
+        Ok(run) => run.results.lifecycle(alloc).ok(),
+        Err(_) => None,
+    };
+    drop(ran);
+    lifecycle
+}
+
+#[test]
+fn runs_keep_the_lifecycle(rt: HostRuntime) {
+    for workers in [1, 4, 15] {
+        let lifecycle = lifecycle_of_run(&rt, rt.alloc(), workers);
+        assert!(rt; lifecycle == Some(Lifecycle::Kept), "{workers}");
+    }
 }

@@ -6,10 +6,12 @@ mod devices;
 mod samples;
 mod shown;
 mod texts;
+mod written;
 
 pub use devices::{OneByteSource, OneByteTarget};
-pub use samples::{one_node, record_of, start, starts};
+pub use samples::{one_node, read_again, record_of, start, starts};
 pub use shown::{are_shown, is_debugged_as, is_shown, is_shown_as};
 pub use texts::{
     demo_plan, demo_report, small_replay, small_replay_taken, two_tests, two_tests_report,
 };
+pub use written::{is_cut, is_written};

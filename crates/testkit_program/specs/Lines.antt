@@ -11,6 +11,7 @@ use Rattle.tk_record.specs.FaultTexts.{read_fault_text}
 use Rattle.tk_queue_core.specs.FaultTexts.{replay_fault_text}
 use Rattle.tk_plan.specs.FaultTexts.{plan_fault_text}
 use Rattle.tk_engine_execute.specs.FaultTexts.{run_fault_text}
+use Rattle.tk_engine_execute.specs.declared.run_faults.RunFault.TheVariants as runs
 use Rattle.tk_report.specs.declared.faults.ReportFault.{ReportFault}
 use Rattle.tk_report.specs.declared.faults.ReportFault.TheVariants as reports
 use Rattle.testkit_program.specs.declared.faults.Fault.{Fault}
@@ -19,7 +20,8 @@ use Rattle.testkit_program.specs.declared.faults.Fault.TheVariants as faults
 -- why the word of this number is no condition
 abbrev pub condition_text : ℕ → CondFault → List ℕ
 condition_text word conditions.Memory = codes "out of memory"
-condition_text word fault = codes "condition " ++ decimal word ++ codes " is " ++ condition_fault_text fault
+condition_text word fault =
+    codes "condition " ++ decimal word ++ codes " is " ++ condition_fault_text fault
 
 abbrev pub ask_text : AskFault → List ℕ
 ask_text asks.Question = codes "unknown question"
@@ -31,6 +33,7 @@ ask_text asks.Memory = codes "out of memory"
 
 abbrev pub report_text : ReportFault → List ℕ
 report_text (reports.Plan fault) = plan_fault_text fault
+report_text (reports.Run (runs.Engine unit why)) = codes "unit " ++ decimal unit ++ codes " failed"
 report_text (reports.Run fault) = run_fault_text fault
 report_text reports.Device = codes "device failed"
 report_text reports.Memory = codes "out of memory"

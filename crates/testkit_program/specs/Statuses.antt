@@ -18,7 +18,8 @@ abbrev pub fault_of_line : CommandLineFault → Fault
 fault_of_line lines.BadWords = faults.CommandLine
 fault_of_line lines.Memory = faults.Memory
 
--- the exit status of a fault: 3 where a device, memory, a thread or a unit failed, 2 where the words or the input are bad
+-- the exit status of a fault: 3 where a device, memory, a thread or a unit failed, 2 where the
+-- words or the input are bad
 abbrev pub status_of : Fault → ℕ
 status_of faults.Memory = 3
 status_of (faults.Ask asks.Device) = 3

@@ -1,19 +1,24 @@
 -- The events that a question counts.
-use Rattle.std.proofs.Common.{◌≡◌, ℕ, ◌+◌, Bool, true, false, cond, List, [], ◌∷◌, ◌++◌, length, map, count_by, Result, Ok, Err, refl, sym, ap, ◌∙◌, arith}
+use Rattle.std.proofs.Common.{◌≡◌, ℕ, ◌+◌, ◌<◌, Bool, true, false, cond, ◌&&◌, List, [], ◌∷◌, ◌++◌, length, take, get_or, count_by, Result, Ok, Err, refl, sym, ap, ◌∙◌, arith}
 use Rattle.std.specs.Prelude.{filter, IfOk}
 use Rattle.std.proofs.lemmas.List.Sums.{sum_by-cons}
 use Rattle.tk_events.specs.declared.events.Entry.{Entry}
 use Rattle.std.specs.Prelude.{◌==◌}
-use Rattle.std.specs.List.{flat_map}
+use Rattle.std.specs.List.{flat_map, list_all}
+use Rattle.std.proofs.lemmas.List.Elements.{filter_agree}
+use Rattle.std.proofs.lemmas.List.Folds.{list_all_more}
 use Rattle.tk_record_columns.specs.declared.statistics.Statistics.{Statistics}
 use Rattle.tk_record_columns.specs.declared.statistics.Expected.{Expected}
 use Rattle.tk_record_columns.specs.declared.statistics.Mismatch.{Mismatch}
 use Rattle.tk_record_columns.specs.Recorded.{Recorded}
-use Rattle.tk_record_columns.specs.Selections.{PositionedEntry, positioned_from, Selected, all_of, events_of}
+use Rattle.tk_record_columns.specs.Selections.{PositionedEntry, positioned_from, positioned, Selected, all_of, events_of, filtered_by, selects}
+use Rattle.tk_record_columns.specs.declared.selections.Selection.{Selection}
+use Rattle.tk_query_conditions.specs.declared.conditions.Condition.{Condition}
+use Rattle.tk_query.specs.Holds.{holds}
 use Rattle.tk_record_columns.specs.Statistics.{statistics_of, mismatches}
 use Rattle.tk_record_columns.proofs.Picking.{all_events}
 use Rattle.tk_record.specs.StatisticsText.{statistics_text}
-use Rattle.testkit_questions.specs.Answers.{IsAnswerTo, mismatch_line}
+use Rattle.testkit_questions.specs.Answers.{IsAnswerTo, events_where, mismatch_line}
 use Rattle.testkit_questions.specs.declared.questions.Question.TheVariants.{Stats}
 
 -- those kept are as many as the entries that pass
@@ -41,3 +46,44 @@ stats_are e r events s ms is_yes text all s_is ms_is yes_is text_is =
       yes_is ∙ ap (λ (l : List Mismatch). length l == 0) m,
       text_is ∙ ap (λ (t : Statistics). statistics_text t ++ flat_map mismatch_line ms) (s_is ∙ ap statistics_of es) ∙ ap (λ (l : List Mismatch). statistics_text (statistics_of r.entries) ++ flat_map mismatch_line l) m,
     )
+
+-- ---- events that a selection picks and of which conditions hold
+
+and_true : (a : Bool) → a ≡ (a && true)
+and_true true = refl
+and_true false = refl
+
+and_both : (a b c : Bool) → (a && (b && c)) ≡ ((a && b) && c)
+and_both true b c = refl
+and_both false b c = refl
+
+-- a filter of what a filter keeps
+filter_both : {X : Type 0} (p q both : X → Bool) → ((x : X) → both x ≡ (p x && q x)) → (xs : List X) → filter q (filter p xs) ≡ filter both xs
+filter_both {X = X} p q both is [] = refl
+filter_both {X = X} p q both is (x ∷ xs) = by (p x) (q x) refl (filter_both p q both is xs) ∙ ap (λ (b : Bool). cond b (x ∷ filter both xs) (filter both xs)) (sym (is x))
+  where
+    by : (a b : Bool) → q x ≡ b → filter q (filter p xs) ≡ filter both xs → filter q (cond a (x ∷ filter p xs) (filter p xs)) ≡ cond (a && b) (x ∷ filter both xs) (filter both xs)
+    by true true e rest = ap (λ (b : Bool). cond b (x ∷ filter q (filter p xs)) (filter q (filter p xs))) e ∙ ap (λ (l : List X). x ∷ l) rest
+    by true false e rest = ap (λ (b : Bool). cond b (x ∷ filter q (filter p xs)) (filter q (filter p xs))) e ∙ rest
+    by false b e rest = rest
+
+-- before the first condition
+pub where_none : (s : Selection) (r : Recorded) (all picked : Selected) → all ≡ all_of r → picked ≡ filtered_by (selects s all.recorded) all → picked ≡ events_where s [] r
+where_none s r all picked all_is is =
+    is ∙ ap (λ (e : Selected). filtered_by (selects s e.recorded) e) all_is
+    ∙ ap (λ (kept : List PositionedEntry). record { recorded = r; kept = kept })
+    (filter_agree (λ x. selects s r x.entry) (λ x. selects s r x.entry && true) (λ x. and_true (selects s r x.entry)) (positioned r.entries))
+
+-- one condition more
+pub where_more : (s : Selection) (cs : List Condition) (i : ℕ) (c : Condition) (r : Recorded) (before after : Selected) → i < length cs → c ≡ get_or cs i c → before ≡ events_where s (take i cs) r
+    → after ≡ filtered_by (holds before.recorded c) before → after ≡ events_where s (take (i + 1) cs) r
+where_more s cs i c r before after lt at before_is is =
+    is ∙ ap (λ (e : Selected). filtered_by (holds e.recorded c) e) before_is
+    ∙ ap (λ (kept : List PositionedEntry). record { recorded = r; kept = kept })
+    (filter_both (λ x. selects s r x.entry && list_all (λ d. holds r d x.entry) (take i cs)) (λ x. holds r c x.entry) (λ x. selects s r x.entry && list_all (λ d. holds r d x.entry) (take (i + 1) cs)) both (positioned r.entries))
+  where
+    both : (x : PositionedEntry) → (selects s r x.entry && list_all (λ d. holds r d x.entry) (take (i + 1) cs)) ≡ ((selects s r x.entry && list_all (λ d. holds r d x.entry) (take i cs)) && holds r c x.entry)
+    both x =
+        ap (λ (b : Bool). selects s r x.entry && b)
+        (list_all_more (λ d. holds r d x.entry) cs i c lt ∙ ap (λ (d : Condition). list_all (λ f. holds r f x.entry) (take i cs) && holds r d x.entry) (sym at))
+        ∙ and_both (selects s r x.entry) (list_all (λ d. holds r d x.entry) (take i cs)) (holds r c x.entry)

@@ -1,5 +1,5 @@
 -- An answer, from what reading and writing gave.
-use Rattle.std.proofs.Common.{◌≡◌, ℕ, Bool, List, Option, Some, None, Ok, Err, subst}
+use Rattle.std.proofs.Common.{◌≡◌, ℕ, Bool, List, Option, Some, None, Ok, Err, subst, inl, inr}
 use Rattle.std.specs.Prelude.{IfSome, IsErrOf}
 use Rattle.std.specs.Io.KnownBytes.{Appends}
 use Rattle.tk_record_columns.specs.Recorded.{Recorded}
@@ -32,7 +32,13 @@ partly words (Some b) q is_yes output bytes old new asks answer same added = (is
 pub refused_words : (words : List (List ℕ)) (input : Option (List ℕ)) (fault : AskFault) → IsAskedAs words (Err fault) → IsRefusal words input fault
 refused_words words input faults.Question asked = asked
 refused_words words input (faults.Word i) asked = asked
-refused_words words input (faults.Condition i fault) asked = (asked, asked.3.2.read)
+refused_words words input (faults.Condition i fault) asked = (
+  asked,
+  elim asked [
+    | inl of_match ↦ of_match.1.2.2.read
+    | inr of_list ↦ of_list.1.2.2.read
+  ],
+)
 refused_words words input (faults.Read fault) asked = absurd asked
 refused_words words input faults.Device asked = absurd asked
 refused_words words input faults.Memory asked = tt

@@ -1,5 +1,5 @@
 -- Words are read in one way.
-use Rattle.std.proofs.Common.{◌≡◌, ◌≢◌, ◌<◌, ◌+◌, ◌++◌, ◌∷◌, [], ℕ, zero, suc, List, length, take, get_or, Some, None, Result, Ok, Err, refl, sym, ap, subst, ◌∙◌, arith, inl, inr}
+use Rattle.std.proofs.Common.{◌≡◌, ◌≢◌, ◌<◌, ◌+◌, ◌++◌, ◌∷◌, [], ℕ, zero, suc, List, length, take, get_or, Some, None, Result, Ok, Err, Vec, Global, refl, sym, ap, subst, ◌∙◌, arith, inl, inr}
 use Rattle.std.specs.Prelude.{codes, bytes_eq, if◌then◌else◌}
 use Rattle.std.specs.List.{slice_get}
 use Rattle.std.specs.Fmt.{decimal}
@@ -22,7 +22,7 @@ use Rattle.testkit_questions.specs.declared.questions.Mode.{Mode}
 use Rattle.testkit_questions.specs.declared.questions.Mode.TheVariants.{Exactly, Loosely, InOrder}
 use Rattle.testkit_questions.specs.declared.questions.Question.{Question}
 use Rattle.testkit_questions.specs.declared.questions.Question.TheVariants as questions
-use Rattle.testkit_questions.specs.Questions.{Expecting, IsNextExpected, IsExpectation, IsBadExpectation, expecting, AreConditions, IsBadCondition, IsBadWord, IsNoQuestion, IsNoSelection, IsNoMode, IsAskedAs, mode_name, stats, count, match_word, overview_name}
+use Rattle.testkit_questions.specs.Questions.{Expecting, IsNextExpected, IsExpectation, IsBadExpectation, expecting, AreConditions, IsBadCondition, IsBadWord, IsNoName, IsNoQuestion, IsAskedAs, mode_name, stats, count, match_word, list_word, overview_name}
 use Rattle.testkit_questions.specs.declared.questions.Overview.{Overview}
 use Rattle.testkit_questions.specs.declared.questions.Overview.TheVariants as overviews
 use Rattle.testkit_questions.proofs.WordLemmas.{name_lacks}
@@ -202,6 +202,7 @@ abbrev pub AreSame : Question → Question → Type 0
 AreSame (questions.Stats e) (questions.Stats f) = e ≡ f
 AreSame (questions.Count s) (questions.Count t) = s ≡ t
 AreSame (questions.Match m cs) (questions.Match n ds) = (m ≡ n) × AreAlike cs.items ds.items
+AreSame (questions.List s cs) (questions.List t ds) = (s ≡ t) × AreAlike cs.items ds.items
 AreSame (questions.Overview o) (questions.Overview n) = o ≡ n
 AreSame _ _ = ⊥
 
@@ -227,17 +228,17 @@ data OfStats (rest : List (List ℕ)) (x : Result Question AskFault) : Type 0 wh
 
 data OfCount (rest : List (List ℕ)) (x : Result Question AskFault) : Type 0 where
   count_good : (s : Selection) → x ≡ Ok (questions.Count s) → rest ≡ selection_name s ∷ [] → OfCount rest x
-  count_none : x ≡ Err (faults.Word 0) → IsNoSelection rest → OfCount rest x
+  count_none : x ≡ Err (faults.Word 0) → IsNoName selection_name rest → OfCount rest x
   count_more : (s : Selection) (extra : List ℕ) (more : List (List ℕ)) → x ≡ Err (faults.Word 1) → rest ≡ selection_name s ∷ extra ∷ more → OfCount rest x
 
-abbrev IsMatch : Mode → List Condition → Question → Type 0
-IsMatch m cs (questions.Match n ds) = (n ≡ m) × (ds.items ≡ cs)
-IsMatch m cs _ = ⊥
+-- a question of conditions, which stand after a name
+abbrev pub OfNamed : Type 0 → Type 0
+OfNamed A = A → Vec Condition Global → Question
 
-data OfMatch (rest : List (List ℕ)) (x : Result Question AskFault) : Type 0 where
-  match_good : (m : Mode) (q : Question) (cs : List Condition) (texts : List (List ℕ)) → x ≡ Ok q → IsMatch m cs q → rest ≡ mode_name m ∷ texts → AreConditions texts cs → OfMatch rest x
-  match_none : x ≡ Err (faults.Word 0) → IsNoMode rest → OfMatch rest x
-  match_fault : (m : Mode) (texts : List (List ℕ)) (at i : ℕ) (f : CondFault) → x ≡ Err (faults.Condition i f) → rest ≡ mode_name m ∷ texts → i ≡ at + 1 → IsBadCondition texts at f → OfMatch rest x
+data OfConditions {A : Type 0} (name : A → List ℕ) (question : OfNamed A) (rest : List (List ℕ)) (x : Result Question AskFault) : Type 0 where
+  conditions_good : (a : A) (cs : Vec Condition Global) (texts : List (List ℕ)) → x ≡ Ok (question a cs) → rest ≡ name a ∷ texts → AreConditions texts cs.items → OfConditions name question rest x
+  conditions_none : x ≡ Err (faults.Word 0) → IsNoName name rest → OfConditions name question rest x
+  conditions_fault : (a : A) (texts : List (List ℕ)) (at i : ℕ) (f : CondFault) → x ≡ Err (faults.Condition i f) → rest ≡ name a ∷ texts → i ≡ at + 1 → IsBadCondition texts at f → OfConditions name question rest x
 
 data OfOverview (o : Overview) (rest : List (List ℕ)) (x : Result Question AskFault) : Type 0 where
   overview_good : x ≡ Ok (questions.Overview o) → rest ≡ [] → OfOverview o rest x
@@ -250,35 +251,22 @@ one_stats rest a b (stats_bad i p h) (stats_good e q k) = absurd (good_not_bad n
 one_stats rest a b (stats_bad i p h) (stats_bad j q k) = alike a b (Err (faults.Word i)) (Err (faults.Word j)) p q
     (ap (λ (n : ℕ). faults.Word n) (both_bad nothing_expected rest i j h.expected k.expected h.word k.word h.before k.before h.at k.at h.bad k.bad))
 
-no_selection : (rest : List (List ℕ)) (s : Selection) (more : List (List ℕ)) → IsNoSelection rest → rest ≡ selection_name s ∷ more → ⊥
-no_selection rest s more none is = let h : IsNoSelection (selection_name s ∷ more) = subst (λ (t : List (List ℕ)). IsNoSelection t) is none in h s refl
-
-no_mode : (rest : List (List ℕ)) (m : Mode) (more : List (List ℕ)) → IsNoMode rest → rest ≡ mode_name m ∷ more → ⊥
-no_mode rest m more none is = let h : IsNoMode (mode_name m ∷ more) = subst (λ (t : List (List ℕ)). IsNoMode t) is none in h m refl
+no_name : {A : Type 0} (name : A → List ℕ) (rest : List (List ℕ)) (a : A) (more : List (List ℕ)) → IsNoName name rest → rest ≡ name a ∷ more → ⊥
+no_name name rest a more none is = let h : IsNoName name (name a ∷ more) = subst (λ (t : List (List ℕ)). IsNoName name t) is none in h a refl
 
 no_more : (rest : List (List ℕ)) (s t : List ℕ) (extra : List ℕ) (more : List (List ℕ)) → rest ≡ s ∷ [] → rest ≡ t ∷ extra ∷ more → ⊥
 no_more rest s t extra more p q = no_tail extra more [] refl (tails s t [] (extra ∷ more) (sym p ∙ q))
 
 one_count : (rest : List (List ℕ)) (a b : Result Question AskFault) → OfCount rest a → OfCount rest b → SameReading a b
 one_count rest a b (count_good s p h) (count_good t q k) = alike a b (Ok (questions.Count s)) (Ok (questions.Count t)) p q (one_selection s t (heads (selection_name s) (selection_name t) [] [] (sym h ∙ k)))
-one_count rest a b (count_good s p h) (count_none q k) = absurd (no_selection rest s [] k h)
+one_count rest a b (count_good s p h) (count_none q k) = absurd (no_name selection_name rest s [] k h)
 one_count rest a b (count_good s p h) (count_more t extra more q k) = absurd (no_more rest (selection_name s) (selection_name t) extra more h k)
-one_count rest a b (count_none p h) (count_good t q k) = absurd (no_selection rest t [] h k)
+one_count rest a b (count_none p h) (count_good t q k) = absurd (no_name selection_name rest t [] h k)
 one_count rest a b (count_none p h) (count_none q k) = alike a b (Err (faults.Word 0)) (Err (faults.Word 0)) p q refl
-one_count rest a b (count_none p h) (count_more t extra more q k) = absurd (no_selection rest t (extra ∷ more) h k)
+one_count rest a b (count_none p h) (count_more t extra more q k) = absurd (no_name selection_name rest t (extra ∷ more) h k)
 one_count rest a b (count_more s extra more p h) (count_good t q k) = absurd (no_more rest (selection_name t) (selection_name s) extra more k h)
-one_count rest a b (count_more s extra more p h) (count_none q k) = absurd (no_selection rest s (extra ∷ more) k h)
+one_count rest a b (count_more s extra more p h) (count_none q k) = absurd (no_name selection_name rest s (extra ∷ more) k h)
 one_count rest a b (count_more s extra more p h) (count_more t extra2 more2 q k) = alike a b (Err (faults.Word 1)) (Err (faults.Word 1)) p q refl
-
-same_match : (m n : Mode) (cs ds : List Condition) (q r : Question) → IsMatch m cs q → IsMatch n ds r → m ≡ n → AreAlike cs ds → AreSame q r
-same_match m n cs ds (questions.Match i es) (questions.Match j fs) p q same like =
-    (p.0 ∙ same ∙ sym q.0, subst (λ (l : List Condition). AreAlike l fs.items) (sym p.1) (subst (λ (l : List Condition). AreAlike cs l) (sym q.1) like))
-same_match m n cs ds (questions.Match i es) (questions.Stats e) p q same like = absurd q
-same_match m n cs ds (questions.Match i es) (questions.Count e) p q same like = absurd q
-same_match m n cs ds (questions.Match i es) (questions.Overview o) p q same like = absurd q
-same_match m n cs ds (questions.Stats e) r p q same like = absurd p
-same_match m n cs ds (questions.Count e) r p q same like = absurd p
-same_match m n cs ds (questions.Overview o) r p q same like = absurd p
 
 good_not_faulty : (texts more : List (List ℕ)) (cs : List Condition) (at : ℕ) (f : CondFault) → texts ≡ more → AreConditions texts cs → IsBadCondition more at f → ⊥
 good_not_faulty texts more cs at f same p bad =
@@ -291,22 +279,36 @@ one_bad texts more i j at there f g same p q bad other =
     let both = both_faulty texts at there bad.conditions worse.conditions bad.text worse.text f g bad.before worse.before bad.at worse.at bad.bad worse.bad bad.read worse.read in
     condition_fault_same i j f g (p ∙ ap (λ (n : ℕ). n + 1) both.0 ∙ sym q) both.1
 
-texts_same : (rest : List (List ℕ)) (m n : Mode) (texts more : List (List ℕ)) → rest ≡ mode_name m ∷ texts → rest ≡ mode_name n ∷ more → texts ≡ more
-texts_same rest m n texts more p q = tails (mode_name m) (mode_name n) texts more (sym p ∙ q)
+texts_same : {A : Type 0} (name : A → List ℕ) (rest : List (List ℕ)) (a b : A) (texts more : List (List ℕ)) → rest ≡ name a ∷ texts → rest ≡ name b ∷ more → texts ≡ more
+texts_same name rest a b texts more p q = tails (name a) (name b) texts more (sym p ∙ q)
 
-one_match : (rest : List (List ℕ)) (a b : Result Question AskFault) → OfMatch rest a → OfMatch rest b → SameReading a b
-one_match rest a b (match_good m q cs texts p is h c) (match_good n r ds more s at k d) =
-    alike a b (Ok q) (Ok r) p s (same_match m n cs ds q r is at (one_mode m n (heads (mode_name m) (mode_name n) texts more (sym h ∙ k)))
-    (one_conditions texts cs ds c (subst (λ (t : List (List ℕ)). AreConditions t ds) (sym (texts_same rest m n texts more h k)) d)))
-one_match rest a b (match_good m q cs texts p is h c) (match_none s k) = absurd (no_mode rest m texts k h)
-one_match rest a b (match_good m q cs texts p is h c) (match_fault n more at i f s k e d) = absurd (good_not_faulty texts more cs at f (texts_same rest m n texts more h k) c d)
-one_match rest a b (match_none p h) (match_good n r ds more s at k d) = absurd (no_mode rest n more h k)
-one_match rest a b (match_none p h) (match_none s k) = alike a b (Err (faults.Word 0)) (Err (faults.Word 0)) p s refl
-one_match rest a b (match_none p h) (match_fault n more at i f s k e d) = absurd (no_mode rest n more h k)
-one_match rest a b (match_fault m texts at i f p h e c) (match_good n r ds more s is k d) = absurd (good_not_faulty more texts ds at f (texts_same rest n m more texts k h) d c)
-one_match rest a b (match_fault m texts at i f p h e c) (match_none s k) = absurd (no_mode rest m texts k h)
-one_match rest a b (match_fault m texts at i f p h e c) (match_fault n more there j g s k x d) =
-    alike a b (Err (faults.Condition i f)) (Err (faults.Condition j g)) p s (one_bad texts more i j at there f g (texts_same rest m n texts more h k) e x c d)
+-- one name for each question, and the same question of conditions that say the same
+record AreOne {A : Type 0} (name : A → List ℕ) (question : OfNamed A) : Type 0 where
+  names : (a b : A) → name a ≡ name b → a ≡ b
+  questions : (a b : A) (cs ds : Vec Condition Global) → a ≡ b → AreAlike cs.items ds.items → AreSame (question a cs) (question b ds)
+
+one_of_conditions : {A : Type 0} (name : A → List ℕ) (question : OfNamed A) → AreOne name question → (rest : List (List ℕ)) (x y : Result Question AskFault)
+    → OfConditions name question rest x → OfConditions name question rest y → SameReading x y
+one_of_conditions name question one rest x y (conditions_good a cs texts p h c) (conditions_good b ds more s k d) =
+    alike x y (Ok (question a cs)) (Ok (question b ds)) p s (one.questions a b cs ds (one.names a b (heads (name a) (name b) texts more (sym h ∙ k)))
+    (one_conditions texts cs.items ds.items c (subst (λ (t : List (List ℕ)). AreConditions t ds.items) (sym (texts_same name rest a b texts more h k)) d)))
+one_of_conditions name question one rest x y (conditions_good a cs texts p h c) (conditions_none s k) = absurd (no_name name rest a texts k h)
+one_of_conditions name question one rest x y (conditions_good a cs texts p h c) (conditions_fault b more at i f s k e d) =
+    absurd (good_not_faulty texts more cs.items at f (texts_same name rest a b texts more h k) c d)
+one_of_conditions name question one rest x y (conditions_none p h) (conditions_good b ds more s k d) = absurd (no_name name rest b more h k)
+one_of_conditions name question one rest x y (conditions_none p h) (conditions_none s k) = alike x y (Err (faults.Word 0)) (Err (faults.Word 0)) p s refl
+one_of_conditions name question one rest x y (conditions_none p h) (conditions_fault b more at i f s k e d) = absurd (no_name name rest b more h k)
+one_of_conditions name question one rest x y (conditions_fault a texts at i f p h e c) (conditions_good b ds more s k d) =
+    absurd (good_not_faulty more texts ds.items at f (texts_same name rest b a more texts k h) d c)
+one_of_conditions name question one rest x y (conditions_fault a texts at i f p h e c) (conditions_none s k) = absurd (no_name name rest a texts k h)
+one_of_conditions name question one rest x y (conditions_fault a texts at i f p h e c) (conditions_fault b more there j g s k u d) =
+    alike x y (Err (faults.Condition i f)) (Err (faults.Condition j g)) p s (one_bad texts more i j at there f g (texts_same name rest a b texts more h k) e u c d)
+
+one_matching : AreOne mode_name (λ m cs. questions.Match m cs)
+one_matching = record { names = one_mode; questions = λ m n cs ds same like. (same, like) }
+
+one_listing : AreOne selection_name (λ s cs. questions.List s cs)
+one_listing = record { names = one_selection; questions = λ s t cs ds same like. (same, like) }
 
 one_of_overview : (o : Overview) (rest : List (List ℕ)) (a b : Result Question AskFault) → OfOverview o rest a → OfOverview o rest b → SameReading a b
 one_of_overview o rest a b (overview_good p h) (overview_good q k) = alike a b (Ok (questions.Overview o)) (Ok (questions.Overview o)) p q refl
@@ -318,7 +320,8 @@ one_of_overview o rest a b (overview_more extra more p h) (overview_more extra2 
 data Reading (words : List (List ℕ)) (x : Result Question AskFault) : Type 0 where
   of_stats : (rest : List (List ℕ)) → words ≡ stats ∷ rest → OfStats rest x → Reading words x
   of_count : (rest : List (List ℕ)) → words ≡ count ∷ rest → OfCount rest x → Reading words x
-  of_match : (rest : List (List ℕ)) → words ≡ match_word ∷ rest → OfMatch rest x → Reading words x
+  of_match : (rest : List (List ℕ)) → words ≡ match_word ∷ rest → OfConditions mode_name (λ m cs. questions.Match m cs) rest x → Reading words x
+  of_list : (rest : List (List ℕ)) → words ≡ list_word ∷ rest → OfConditions selection_name (λ s cs. questions.List s cs) rest x → Reading words x
   of_overview : (o : Overview) (rest : List (List ℕ)) → words ≡ overview_name o ∷ rest → OfOverview o rest x → Reading words x
   of_none : x ≡ Err faults.Question → IsNoQuestion words → Reading words x
 
@@ -329,17 +332,23 @@ word_reading : (words : List (List ℕ)) (i : ℕ) → IsBadWord words i → Rea
 word_reading words i (inl h) = of_stats h.0 h.1 (stats_bad i refl h.2)
 word_reading words i (inr (inl h)) = of_count h.0 h.1 (count_none (word_error i 0 h.2) h.3)
 word_reading words i (inr (inr (inl h))) = of_count (selection_name h.0 ∷ h.1 ∷ h.2) h.3 (count_more h.0 h.1 h.2 (word_error i 1 h.4) refl)
-word_reading words i (inr (inr (inr (inl h)))) = of_match h.0 h.1 (match_none (word_error i 0 h.2) h.3)
-word_reading words i (inr (inr (inr (inr h)))) = of_overview h.0 (h.1 ∷ h.2) h.3 (overview_more h.1 h.2 (word_error i 0 h.4) refl)
+word_reading words i (inr (inr (inr (inl h)))) = of_match h.0 h.1 (conditions_none (word_error i 0 h.2) h.3)
+word_reading words i (inr (inr (inr (inr (inl h))))) = of_list h.0 h.1 (conditions_none (word_error i 0 h.2) h.3)
+word_reading words i (inr (inr (inr (inr (inr h))))) = of_overview h.0 (h.1 ∷ h.2) h.3 (overview_more h.1 h.2 (word_error i 0 h.4) refl)
+
+condition_reading : (words : List (List ℕ)) (i : ℕ) (f : CondFault) → IsAskedAs words (Err (faults.Condition i f)) → Reading words (Err (faults.Condition i f))
+condition_reading words i f (inl p) = of_match (mode_name p.0 ∷ p.1.0) p.1.1 (conditions_fault p.0 p.1.0 p.1.2.0 i f refl refl p.1.2.1 p.1.2.2)
+condition_reading words i f (inr p) = of_list (selection_name p.0 ∷ p.1.0) p.1.1 (conditions_fault p.0 p.1.0 p.1.2.0 i f refl refl p.1.2.1 p.1.2.2)
 
 reading : (words : List (List ℕ)) (x : Result Question AskFault) → IsOfWords x → IsAskedAs words x → Reading words x
 reading words (Ok (questions.Stats e)) s p = of_stats p.0 p.1 (stats_good e refl p.2)
 reading words (Ok (questions.Count c)) s p = of_count (selection_name c ∷ []) p (count_good c refl refl)
-reading words (Ok (questions.Match m cs)) s p = of_match (mode_name m ∷ p.0) p.1 (match_good m (questions.Match m cs) cs.items p.0 refl (refl, refl) refl p.2)
+reading words (Ok (questions.Match m cs)) s p = of_match (mode_name m ∷ p.0) p.1 (conditions_good m cs p.0 refl refl p.2)
+reading words (Ok (questions.List c cs)) s p = of_list (selection_name c ∷ p.0) p.1 (conditions_good c cs p.0 refl refl p.2)
 reading words (Ok (questions.Overview o)) s p = of_overview o [] p (overview_good refl refl)
 reading words (Err faults.Question) s p = of_none refl p
 reading words (Err (faults.Word i)) s p = word_reading words i p
-reading words (Err (faults.Condition i f)) s p = of_match (mode_name p.0 ∷ p.1) p.2 (match_fault p.0 p.1 p.3.0 i f refl refl p.3.1 p.3.2)
+reading words (Err (faults.Condition i f)) s p = condition_reading words i f p
 reading words (Err (faults.Read f)) s p = absurd p
 reading words (Err faults.Device) s p = absurd p
 reading words (Err faults.Memory) s p = absurd s
@@ -347,22 +356,36 @@ reading words (Err faults.Memory) s p = absurd s
 rest_same : (words : List (List ℕ)) (a : List ℕ) (r s : List (List ℕ)) → words ≡ a ∷ r → words ≡ a ∷ s → s ≡ r
 rest_same words a r s p q = tails a a s r (sym q ∙ p)
 
+-- two words with another letter at this place
+clash_at : (k : ℕ) (words : List (List ℕ)) (a b : List ℕ) (r s : List (List ℕ)) → words ≡ a ∷ r → words ≡ b ∷ s → (get_or a k 0 ≡ get_or b k 0 → ⊥) → ⊥
+clash_at k words a b r s p q apart = apart (ap (λ (t : List ℕ). get_or t k 0) (heads a b r s (sym p ∙ q)))
+
 clash : (words : List (List ℕ)) (a b : List ℕ) (r s : List (List ℕ)) → words ≡ a ∷ r → words ≡ b ∷ s → (get_or a 0 0 ≡ get_or b 0 0 → ⊥) → ⊥
-clash words a b r s p q apart = apart (ap (λ (t : List ℕ). get_or t 0 0) (heads a b r s (sym p ∙ q)))
+clash = clash_at 0
 
 none_here : (words : List (List ℕ)) (a : List ℕ) (r : List (List ℕ)) → IsNoQuestion words → words ≡ a ∷ r → IsNoQuestion (a ∷ r)
 none_here words a r none is = subst (λ (t : List (List ℕ)). IsNoQuestion t) is none
 
--- no overview's name begins with another letter than `e`, `l` and `r`
+-- no overview's name has another letter at this place than three
+letter_apart : (o : Overview) (k c : ℕ) → get_or (codes "executions") k 0 ≢ c → get_or (codes "lifecycle") k 0 ≢ c → get_or (codes "report") k 0 ≢ c → get_or (overview_name o) k 0 ≡ c → ⊥
+letter_apart overviews.Executions k c e l r is = e is
+letter_apart overviews.Lifecycle k c e l r is = l is
+letter_apart overviews.Report k c e l r is = r is
+
 first_apart : (o : Overview) (c : ℕ) → 101 ≢ c → 108 ≢ c → 114 ≢ c → get_or (overview_name o) 0 0 ≡ c → ⊥
-first_apart overviews.Executions c e l r is = e is
-first_apart overviews.Lifecycle c e l r is = l is
-first_apart overviews.Report c e l r is = r is
+first_apart o c e l r is = letter_apart o 0 c e l r is
+
+-- its third letter is not that of `list`
+third_apart : (o : Overview) → get_or (overview_name o) 2 0 ≡ 115 → ⊥
+third_apart o is = letter_apart o 2 115 (λ (e : 101 ≡ 115). omega arith) (λ (e : 102 ≡ 115). omega arith) (λ (e : 112 ≡ 115). omega arith) is
 
 one_of : (words : List (List ℕ)) (a b : Result Question AskFault) → Reading words a → Reading words b → SameReading a b
 one_of words a b (of_stats r p h) (of_stats s q k) = one_stats r a b h (subst (λ (t : List (List ℕ)). OfStats t b) (rest_same words stats r s p q) k)
 one_of words a b (of_count r p h) (of_count s q k) = one_count r a b h (subst (λ (t : List (List ℕ)). OfCount t b) (rest_same words count r s p q) k)
-one_of words a b (of_match r p h) (of_match s q k) = one_match r a b h (subst (λ (t : List (List ℕ)). OfMatch t b) (rest_same words match_word r s p q) k)
+one_of words a b (of_match r p h) (of_match s q k) =
+    one_of_conditions mode_name (λ m cs. questions.Match m cs) one_matching r a b h (subst (λ (t : List (List ℕ)). OfConditions mode_name (λ m cs. questions.Match m cs) t b) (rest_same words match_word r s p q) k)
+one_of words a b (of_list r p h) (of_list s q k) =
+    one_of_conditions selection_name (λ t cs. questions.List t cs) one_listing r a b h (subst (λ (t : List (List ℕ)). OfConditions selection_name (λ v cs. questions.List v cs) t b) (rest_same words list_word r s p q) k)
 one_of words a b (of_overview o r p h) (of_overview n s q k) =
     let same = one_overview n o (heads (overview_name n) (overview_name o) s r (sym q ∙ p)) in
     one_of_overview o r a b h (subst (λ (t : List (List ℕ)). OfOverview o t b) (tails (overview_name n) (overview_name o) s r (sym q ∙ p)) (subst (λ (v : Overview). OfOverview v s b) same k))
@@ -382,11 +405,21 @@ one_of words a b (of_match r p h) (of_count s q k) = absurd (clash words match_w
 one_of words a b (of_match r p h) (of_overview o s q k) = absurd (clash words match_word (overview_name o) r s p q (λ (e : 109 ≡ get_or (overview_name o) 0 0). first_apart o 109 (omega arith) (omega arith) (omega arith) (sym e)))
 one_of words a b (of_match r p h) (of_none q k) = let n = none_here words match_word r k p in absurd (n.2 refl)
 one_of words a b (of_none p h) (of_match s q k) = let n = none_here words match_word s h q in absurd (n.2 refl)
+one_of words a b (of_list r p h) (of_stats s q k) = absurd (clash words list_word stats r s p q (λ (e : 108 ≡ 115). omega arith))
+one_of words a b (of_list r p h) (of_count s q k) = absurd (clash words list_word count r s p q (λ (e : 108 ≡ 99). omega arith))
+one_of words a b (of_list r p h) (of_match s q k) = absurd (clash words list_word match_word r s p q (λ (e : 108 ≡ 109). omega arith))
+one_of words a b (of_stats r p h) (of_list s q k) = absurd (clash words stats list_word r s p q (λ (e : 115 ≡ 108). omega arith))
+one_of words a b (of_count r p h) (of_list s q k) = absurd (clash words count list_word r s p q (λ (e : 99 ≡ 108). omega arith))
+one_of words a b (of_match r p h) (of_list s q k) = absurd (clash words match_word list_word r s p q (λ (e : 109 ≡ 108). omega arith))
+one_of words a b (of_list r p h) (of_overview o s q k) = absurd (clash_at 2 words list_word (overview_name o) r s p q (λ (e : 115 ≡ get_or (overview_name o) 2 0). third_apart o (sym e)))
+one_of words a b (of_overview o r p h) (of_list s q k) = absurd (clash_at 2 words (overview_name o) list_word r s p q (λ (e : get_or (overview_name o) 2 0 ≡ 115). third_apart o e))
+one_of words a b (of_list r p h) (of_none q k) = let n = none_here words list_word r k p in absurd (n.3 refl)
+one_of words a b (of_none p h) (of_list s q k) = let n = none_here words list_word s h q in absurd (n.3 refl)
 one_of words a b (of_overview o r p h) (of_stats s q k) = absurd (clash words (overview_name o) stats r s p q (λ (e : get_or (overview_name o) 0 0 ≡ 115). first_apart o 115 (omega arith) (omega arith) (omega arith) e))
 one_of words a b (of_overview o r p h) (of_count s q k) = absurd (clash words (overview_name o) count r s p q (λ (e : get_or (overview_name o) 0 0 ≡ 99). first_apart o 99 (omega arith) (omega arith) (omega arith) e))
 one_of words a b (of_overview o r p h) (of_match s q k) = absurd (clash words (overview_name o) match_word r s p q (λ (e : get_or (overview_name o) 0 0 ≡ 109). first_apart o 109 (omega arith) (omega arith) (omega arith) e))
-one_of words a b (of_overview o r p h) (of_none q k) = let n = none_here words (overview_name o) r k p in absurd (n.3 o refl)
-one_of words a b (of_none p h) (of_overview o s q k) = let n = none_here words (overview_name o) s h q in absurd (n.3 o refl)
+one_of words a b (of_overview o r p h) (of_none q k) = let n = none_here words (overview_name o) r k p in absurd (n.4 o refl)
+one_of words a b (of_none p h) (of_overview o s q k) = let n = none_here words (overview_name o) s h q in absurd (n.4 o refl)
 
 -- the same words never have two readings
 pub one_reading : (words : List (List ℕ)) (a b : Result Question AskFault) → IsOfWords a → IsOfWords b → IsAskedAs words a → IsAskedAs words b → SameReading a b

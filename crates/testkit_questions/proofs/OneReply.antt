@@ -1,14 +1,16 @@
 -- A question has one answer about a record.
-use Rattle.std.proofs.Common.{◌≡◌, ◌<◌, ◌+◌, ◌++◌, ◌∷◌, [], ℕ, zero, suc, Bool, List, length, take, Some, refl, sym, ap, subst, ◌∙◌}
+use Rattle.std.proofs.Common.{◌≡◌, ◌<◌, ◌+◌, ◌++◌, ◌∷◌, [], ℕ, zero, suc, Bool, ◌&&◌, List, length, take, Some, refl, sym, ap, ap₂, subst, ◌∙◌}
 use Rattle.std.specs.Prelude.{codes}
-use Rattle.std.specs.List.{slice_get, flat_map}
+use Rattle.std.specs.List.{slice_get, flat_map, list_all}
 use Rattle.std.specs.Fmt.{decimal}
 use Rattle.std.proofs.lemmas.Option.{same_Some, none-some}
+use Rattle.std.proofs.lemmas.List.Elements.{filter_agree}
 use Rattle.tk_events.specs.declared.events.Entry.{Entry}
 use Rattle.tk_record_columns.specs.declared.statistics.Expected.{Expected}
 use Rattle.tk_record_columns.specs.declared.selections.Selection.{Selection}
 use Rattle.tk_record_columns.specs.Recorded.{Recorded}
-use Rattle.tk_record_columns.specs.Selections.{Selected, all_of, events_of}
+use Rattle.tk_record_columns.specs.Selections.{PositionedEntry, Selected, all_of, events_of, positioned, selects}
+use Rattle.tk_record.specs.EventLists.{event_list}
 use Rattle.tk_query_conditions.specs.declared.conditions.Condition.{Condition}
 use Rattle.tk_query_conditions.specs.Cond.{Cond}
 use Rattle.tk_query_conditions.specs.CondOf.{cond_of}
@@ -28,12 +30,12 @@ use Rattle.tk_query.proofs.AnswerIsUnique.{one_exact, one_loose, one_in_order, o
 use Rattle.testkit_questions.specs.declared.questions.Mode.{Mode}
 use Rattle.testkit_questions.specs.declared.questions.Mode.TheVariants.{Exactly, Loosely, InOrder as InTheirOrder}
 use Rattle.testkit_questions.specs.declared.questions.Question.{Question}
-use Rattle.testkit_questions.specs.declared.questions.Question.TheVariants.{Stats, Count, Match, Overview as OfRecord}
+use Rattle.testkit_questions.specs.declared.questions.Question.TheVariants.{Stats, Count, Match, List as Listed, Overview as OfRecord}
 use Rattle.testkit_questions.specs.declared.questions.Overview.{Overview}
 use Rattle.testkit_questions.specs.declared.questions.Overview.TheVariants as overviews
 use Rattle.tk_query.specs.declared.lifecycle_rules.Lifecycle.{Lifecycle}
 use Rattle.tk_query.proofs.LifecycleIsUnique.{lifecycle_is_unique}
-use Rattle.testkit_questions.specs.Answers.{IsMatchAnswer, IsAnswerTo, exact_line, exact_yes, loose_line, loose_yes, position_text, in_order_line, in_order_yes, execution_line, IsOverviewOf, lifecycle_line, lifecycle_yes}
+use Rattle.testkit_questions.specs.Answers.{IsMatchAnswer, events_where, IsAnswerTo, exact_line, exact_yes, loose_line, loose_yes, position_text, in_order_line, in_order_yes, execution_line, IsOverviewOf, lifecycle_line, lifecycle_yes}
 use Rattle.testkit_questions.proofs.OneReading.{AreAlike, AreSame}
 
 -- ---- conditions that say the same hold alike
@@ -132,6 +134,19 @@ in_order_too asked cs ds (in_order.No k) like h = record {
   before = λ j lt. let can = h.before j lt in (can.0, in_turn asked 0 (take (j + 1) cs) (take (j + 1) ds) can.0 (prefix (j + 1) cs ds like) can.1);
 }
 
+-- the same events pass a selection and conditions that say the same
+all_alike : (r : Recorded) (cs ds : List Condition) (e : Entry) → AreAlike cs ds → list_all (λ c. holds r c e) cs ≡ list_all (λ d. holds r d e) ds
+all_alike r [] [] e like = refl
+all_alike r [] (d ∷ ds) e like = absurd like
+all_alike r (c ∷ cs) [] e like = absurd like
+all_alike r (c ∷ cs) (d ∷ ds) e like = ap₂ (λ x y. x && y) (same_holds r c d e like.0) (all_alike r cs ds e like.1)
+
+same_events : (s : Selection) (cs ds : List Condition) (r : Recorded) → AreAlike cs ds → events_where s cs r ≡ events_where s ds r
+same_events s cs ds r like =
+    ap (λ (kept : List PositionedEntry). record { recorded = r; kept = kept })
+    (filter_agree (λ x. selects s r x.entry && list_all (λ c. holds r c x.entry) cs) (λ x. selects s r x.entry && list_all (λ d. holds r d x.entry) ds)
+    (λ x. ap (λ b. selects s r x.entry && b) (all_alike r cs ds x.entry like)) (positioned r.entries))
+
 -- ---- answers
 
 in_order_same : (a b : InOrder) → laws.AreAlike a b → (in_order_yes a ≡ in_order_yes b) × (in_order_line a ≡ in_order_line b)
@@ -179,6 +194,17 @@ one_reply (Match m cs) (Match n ds) r y z o u same a b =
 one_reply (Match m cs) (Stats f) r y z o u same a b = absurd same
 one_reply (Match m cs) (Count t) r y z o u same a b = absurd same
 one_reply (Match m cs) (OfRecord w) r y z o u same a b = absurd same
+one_reply (Match m cs) (Listed t ds) r y z o u same a b = absurd same
+one_reply (Listed s cs) (Listed t ds) r y z o u same a b =
+    let c = subst (λ (x : Selection). IsAnswerTo (Listed x cs) r y o) same.0 a in
+    (c.0 ∙ sym b.0, c.1 ∙ ap event_list (same_events t cs.items ds.items r same.1) ∙ sym b.1)
+one_reply (Listed s cs) (Stats f) r y z o u same a b = absurd same
+one_reply (Listed s cs) (Count t) r y z o u same a b = absurd same
+one_reply (Listed s cs) (Match n ds) r y z o u same a b = absurd same
+one_reply (Listed s cs) (OfRecord w) r y z o u same a b = absurd same
+one_reply (Stats e) (Listed t ds) r y z o u same a b = absurd same
+one_reply (Count s) (Listed t ds) r y z o u same a b = absurd same
+one_reply (OfRecord v) (Listed t ds) r y z o u same a b = absurd same
 one_reply (OfRecord v) (OfRecord w) r y z o u same a b =
     one_overview_answer w r y z o u (subst (λ (x : Overview). IsOverviewOf x r y o) same a) b
 one_reply (OfRecord v) (Stats f) r y z o u same a b = absurd same

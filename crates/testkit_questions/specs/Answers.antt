@@ -1,13 +1,35 @@
 -- The answers to questions, as text.
-use Rattle.std.specs.Prelude.{◌≡◌, ℕ, Bool, true, false, List, [], ◌∷◌, ◌++◌, codes, count_by, length, ◌==◌}
-use Rattle.std.specs.List.{flat_map}
+use Rattle.std.specs.Prelude.{
+  ◌≡◌,
+  ℕ,
+  Bool,
+  true,
+  false,
+  ◌&&◌,
+  List,
+  [],
+  ◌∷◌,
+  ◌++◌,
+  codes,
+  count_by,
+  length,
+  ◌==◌,
+}
+use Rattle.std.specs.List.{flat_map, list_all}
 use Rattle.std.specs.Fmt.{decimal}
 use Rattle.tk_record_columns.specs.declared.selections.Selection.{Selection}
 use Rattle.tk_record_columns.specs.declared.statistics.Mismatch.{Mismatch}
 use Rattle.tk_record_columns.specs.Recorded.{Recorded}
-use Rattle.tk_record_columns.specs.Selections.{selection_name, all_of, selects}
+use Rattle.tk_record_columns.specs.Selections.{
+  selection_name,
+  Selected,
+  all_of,
+  filtered_by,
+  selects,
+}
 use Rattle.tk_record_columns.specs.Statistics.{statistics_of, mismatches}
 use Rattle.tk_record.specs.StatisticsText.{statistics_text}
+use Rattle.tk_record.specs.EventLists.{event_list}
 use Rattle.tk_query_conditions.specs.declared.conditions.Condition.{Condition}
 use Rattle.tk_query.specs.declared.answers.Exact.{Exact}
 use Rattle.tk_query.specs.declared.answers.Exact.TheVariants as exact
@@ -16,14 +38,24 @@ use Rattle.tk_query.specs.declared.answers.Loose.TheVariants as loose
 use Rattle.tk_query.specs.declared.answers.InOrder.{InOrder}
 use Rattle.tk_query.specs.declared.answers.InOrder.TheVariants as in_order
 use Rattle.tk_query.specs.declared.execution.Ending.{Ending}
-use Rattle.tk_query.specs.declared.execution.Ending.TheVariants.{Skipped, Aborted, Successful, Failed}
+use Rattle.tk_query.specs.declared.execution.Ending.TheVariants.{
+  Skipped,
+  Aborted,
+  Successful,
+  Failed,
+}
 use Rattle.tk_query.specs.declared.execution.Execution.{Execution}
 use Rattle.tk_query.specs.ExecutionSteps.{step_at}
 use Rattle.tk_query.specs.Executions.{AreExecutions}
+use Rattle.tk_query.specs.Holds.{holds}
 use Rattle.tk_query.specs.Matches.{IsExact, IsLoose, IsInOrder}
 use Rattle.testkit_questions.specs.Characters.{blank, line_feed}
 use Rattle.testkit_questions.specs.declared.questions.Mode.{Mode}
-use Rattle.testkit_questions.specs.declared.questions.Mode.TheVariants.{Exactly, Loosely, InOrder as InTheirOrder}
+use Rattle.testkit_questions.specs.declared.questions.Mode.TheVariants.{
+  Exactly,
+  Loosely,
+  InOrder as InTheirOrder,
+}
 use Rattle.tk_query.specs.declared.lifecycle_rules.Lifecycle.{Lifecycle}
 use Rattle.tk_query.specs.declared.lifecycle_rules.Lifecycle.TheVariants as lifecycles
 use Rattle.tk_query.specs.Lifecycle.{IsLifecycle}
@@ -32,7 +64,13 @@ use Rattle.tk_report_text.specs.Reports.{report_of_record}
 use Rattle.testkit_questions.specs.declared.questions.Overview.{Overview}
 use Rattle.testkit_questions.specs.declared.questions.Overview.TheVariants as overviews
 use Rattle.testkit_questions.specs.declared.questions.Question.{Question}
-use Rattle.testkit_questions.specs.declared.questions.Question.TheVariants.{Stats, Count, Match, Overview as OfRecord}
+use Rattle.testkit_questions.specs.declared.questions.Question.TheVariants.{
+  Stats,
+  Count,
+  Match,
+  List as Listed,
+  Overview as OfRecord,
+}
 
 -- a statistic that differs from what was expected of it
 abbrev pub mismatch_line : Mismatch → List ℕ
@@ -94,6 +132,11 @@ IsMatchAnswer InTheirOrder conditions r is_yes output =
     (answer : InOrder) × IsInOrder (all_of r) conditions answer
     × (is_yes ≡ in_order_yes answer) × (output ≡ in_order_line answer)
 
+-- the events of the record that the selection picks and of which each condition holds
+abbrev pub events_where : Selection → List Condition → Recorded → Selected
+events_where selection conditions r =
+    filtered_by (λ e. selects selection r e && list_all (λ c. holds r c e) conditions) (all_of r)
+
 -- the record keeps the lifecycle, or where it first doesn't
 abbrev pub lifecycle_line : Lifecycle → List ℕ
 lifecycle_line lifecycles.Kept = codes "yes" ++ line_feed ∷ []
@@ -127,4 +170,6 @@ IsAnswerTo (Count selection) r is_yes output =
     × (output ≡ decimal (count_by (selects selection r) r.entries) ++ line_feed ∷ [])
 IsAnswerTo (Match mode conditions) r is_yes output =
     IsMatchAnswer mode conditions.items r is_yes output
+IsAnswerTo (Listed selection conditions) r is_yes output =
+    (is_yes ≡ true) × (output ≡ event_list (events_where selection conditions.items r))
 IsAnswerTo (OfRecord overview) r is_yes output = IsOverviewOf overview r is_yes output

@@ -1,5 +1,28 @@
 -- Which words ask which question, and which words are bad.
-use Rattle.std.specs.Prelude.{◌≡◌, ◌≢◌, ℕ, ◌+◌, ◌<◌, ◌^◌, ◌⊎◌, List, [], ◌∷◌, ◌++◌, take, codes, Option, Some, None, Result, Ok, Err, is_none, ◌&&◌, if◌then◌else◌}
+use Rattle.std.specs.Prelude.{
+  ◌≡◌,
+  ◌≢◌,
+  ℕ,
+  ◌+◌,
+  ◌<◌,
+  ◌^◌,
+  ◌⊎◌,
+  List,
+  [],
+  ◌∷◌,
+  ◌++◌,
+  take,
+  codes,
+  Option,
+  Some,
+  None,
+  Result,
+  Ok,
+  Err,
+  is_none,
+  ◌&&◌,
+  if◌then◌else◌,
+}
 use Rattle.std.specs.List.{slice_get}
 use Rattle.std.specs.Fmt.{decimal}
 use Rattle.tk_query_conditions.specs.declared.faults.CondFault.{CondFault}
@@ -9,7 +32,12 @@ use Rattle.tk_query_conditions.specs.Answer.{IsReadAs}
 use Rattle.tk_record_columns.specs.declared.selections.Selection.{Selection}
 use Rattle.tk_record_columns.specs.declared.statistics.Expected.{Expected}
 use Rattle.tk_record_columns.specs.Selections.{selection_name}
-use Rattle.tk_record_columns.specs.Statistics.{nothing_expected, expected_of, with_expected, is_counted}
+use Rattle.tk_record_columns.specs.Statistics.{
+  nothing_expected,
+  expected_of,
+  with_expected,
+  is_counted,
+}
 use Rattle.testkit_questions.specs.Characters.{equals_sign}
 use Rattle.testkit_questions.specs.declared.faults.AskFault.{AskFault}
 use Rattle.testkit_questions.specs.declared.faults.AskFault.TheVariants as faults
@@ -92,22 +120,17 @@ IsWordFault number word (faults.Condition i fault) =
 IsWordFault number word faults.Memory = Unit {0}
 IsWordFault number word _ = ⊥
 
--- the fault of words after a mode; the mode is word 0
+-- the fault of words after word 0, which is a mode or a selection
 abbrev pub IsConditionFault : List (List ℕ) → AskFault → Type 0
 IsConditionFault texts (faults.Condition i fault) =
     (at : ℕ) × (i ≡ at + 1) × IsBadCondition texts at fault
 IsConditionFault texts faults.Memory = Unit {0}
 IsConditionFault texts _ = ⊥
 
--- the first of the words is no selection
-abbrev pub IsNoSelection : List (List ℕ) → Type 0
-IsNoSelection [] = Unit {0}
-IsNoSelection (word ∷ _) = (selection : Selection) → word ≢ selection_name selection
-
--- the first of the words is no mode
-abbrev pub IsNoMode : List (List ℕ) → Type 0
-IsNoMode [] = Unit {0}
-IsNoMode (word ∷ _) = (mode : Mode) → word ≢ mode_name mode
+-- there is no first word, or it is none of the names
+abbrev pub IsNoName : {A : Type 0} → (A → List ℕ) → List (List ℕ) → Type 0
+IsNoName name [] = Unit {0}
+IsNoName {A = A} name (word ∷ _) = (named : A) → word ≢ name named
 
 abbrev pub stats : List ℕ
 stats = codes "stats"
@@ -117,6 +140,9 @@ count = codes "count"
 
 abbrev pub match_word : List ℕ
 match_word = codes "match"
+
+abbrev pub list_word : List ℕ
+list_word = codes "list"
 
 abbrev pub overview_name : Overview → List ℕ
 overview_name overviews.Executions = codes "executions"
@@ -136,13 +162,16 @@ Asks words (questions.Count selection) = words ≡ count ∷ selection_name sele
 Asks words (questions.Match mode conditions) =
     (texts : List (List ℕ)) × (words ≡ match_word ∷ mode_name mode ∷ texts)
     × AreConditions texts conditions.items
+Asks words (questions.List selection conditions) =
+    (texts : List (List ℕ)) × (words ≡ list_word ∷ selection_name selection ∷ texts)
+    × AreConditions texts conditions.items
 Asks words (questions.Overview overview) = words ≡ overview_name overview ∷ []
 
 -- there is no first word, or it names no question
 abbrev pub IsNoQuestion : List (List ℕ) → Type 0
 IsNoQuestion [] = Unit {0}
 IsNoQuestion (word ∷ _) =
-    (word ≢ stats) × (word ≢ count) × (word ≢ match_word)
+    (word ≢ stats) × (word ≢ count) × (word ≢ match_word) × (word ≢ list_word)
     × ((overview : Overview) → word ≢ overview_name overview)
 
 -- Word i after the question is the first bad one; a word that should be a condition isn't one of
@@ -150,12 +179,22 @@ IsNoQuestion (word ∷ _) =
 abbrev pub IsBadWord : List (List ℕ) → ℕ → Type 0
 IsBadWord words i =
     ((rest : List (List ℕ)) × (words ≡ stats ∷ rest) × IsBadExpectation rest i)
-    ⊎ ((rest : List (List ℕ)) × (words ≡ count ∷ rest) × (i ≡ 0) × IsNoSelection rest)
+    ⊎ ((rest : List (List ℕ)) × (words ≡ count ∷ rest) × (i ≡ 0)
+    × IsNoName selection_name rest)
     ⊎ ((selection : Selection) × (extra : List ℕ) × (more : List (List ℕ))
     × (words ≡ count ∷ selection_name selection ∷ extra ∷ more) × (i ≡ 1))
-    ⊎ ((rest : List (List ℕ)) × (words ≡ match_word ∷ rest) × (i ≡ 0) × IsNoMode rest)
+    ⊎ ((rest : List (List ℕ)) × (words ≡ match_word ∷ rest) × (i ≡ 0)
+    × IsNoName mode_name rest)
+    ⊎ ((rest : List (List ℕ)) × (words ≡ list_word ∷ rest) × (i ≡ 0)
+    × IsNoName selection_name rest)
     ⊎ ((overview : Overview) × (extra : List ℕ) × (more : List (List ℕ))
     × (words ≡ overview_name overview ∷ extra ∷ more) × (i ≡ 0))
+
+-- A word that should be a condition isn't one: those before it are, and stand after the question's
+-- word and word 0.
+abbrev pub HasConditionFault : List ℕ → List ℕ → List (List ℕ) → AskFault → Type 0
+HasConditionFault question word words fault =
+    (texts : List (List ℕ)) × (words ≡ question ∷ word ∷ texts) × IsConditionFault texts fault
 
 -- what the words are read as: the question, or the first fault
 abbrev pub IsAskedAs : List (List ℕ) → Result Question AskFault → Type 0
@@ -163,7 +202,9 @@ IsAskedAs words (Ok question) = Asks words question
 IsAskedAs words (Err faults.Question) = IsNoQuestion words
 IsAskedAs words (Err (faults.Word i)) = IsBadWord words i
 IsAskedAs words (Err (faults.Condition i fault)) =
-    (mode : Mode) × (texts : List (List ℕ)) × (words ≡ match_word ∷ mode_name mode ∷ texts)
-    × IsConditionFault texts (faults.Condition i fault)
+    ((mode : Mode) × HasConditionFault match_word (mode_name mode) words
+    (faults.Condition i fault))
+    ⊎ ((selection : Selection) × HasConditionFault list_word (selection_name selection) words
+    (faults.Condition i fault))
 IsAskedAs words (Err faults.Memory) = Unit {0}
 IsAskedAs words (Err _) = ⊥

@@ -1,7 +1,7 @@
 //! What can be asked of a record, and how words ask it.
 ghost use Rattle.std.specs.Prelude.{◌≡◌, ◌∷◌, map, string_bytes, IfOk, IfErr, Ok};
 ghost use Rattle.tk_query_conditions.specs.Answer.{IsReadAs};
-ghost use Rattle.testkit_questions.specs.Questions.{IsAskedAs, IsMode, IsOverview, AreConditions, IsConditionFault, IsWordFault, count, match_word, overview_name};
+ghost use Rattle.testkit_questions.specs.Questions.{IsAskedAs, IsMode, IsOverview, AreConditions, IsConditionFault, IsWordFault, count, list_word, match_word, overview_name};
 
 use crate::expectations::read_expectations;
 use crate::faults::AskFault;
@@ -40,6 +40,8 @@ pub enum Question {
     Count(Selection),
     /// Whether the events match conditions.
     Match(Mode, Vec<Condition>),
+    /// Which events a selection keeps of which each condition holds.
+    List(Selection, Vec<Condition>),
     /// The executions, the lifecycle or the report.
     Overview(Overview),
 }
@@ -85,7 +87,7 @@ fn read_numbered_condition(alloc: Global, number: usize, word: &str) -> Result<C
     }
 }
 
-// Reads the conditions that the words spell, which follow the mode's name.
+// Reads the conditions that the words spell, which follow the name of a mode or a selection.
 fn read_conditions(alloc: Global, words: &[String]) -> Result<Vec<Condition>, AskFault>
     ensures ok { IfOk result (λ conditions.
         AreConditions (map string_bytes words.now) conditions.items) }
@@ -110,6 +112,19 @@ fn read_match(alloc: Global, words: &[String]) -> Result<Question, AskFault>
     };
     let conditions = read_conditions(alloc, texts)?;
     Ok(Question::Match(mode, conditions))
+}
+
+fn read_list(alloc: Global, words: &[String]) -> Result<Question, AskFault>
+    ensures { IsAskedAs (list_word ∷ map string_bytes words.now) result }
+{
+    let Some((selection, texts)) = words.split_first() else {
+        return Err(AskFault::Word(0));
+    };
+    let Some(selection) = Selection::read(selection.as_str()) else {
+        return Err(AskFault::Word(0));
+    };
+    let conditions = read_conditions(alloc, texts)?;
+    Ok(Question::List(selection, conditions))
 }
 
 fn read_count(words: &[String]) -> Result<Question, AskFault>
@@ -156,6 +171,7 @@ pub fn read_question(alloc: Global, words: &[String]) -> Result<Question, AskFau
         },
         "count" => read_count(words),
         "match" => read_match(alloc, words),
+        "list" => read_list(alloc, words),
         name => match Overview::read(name) {
             Some(overview) => read_overview(overview, words),
             None => Err(AskFault::Question),

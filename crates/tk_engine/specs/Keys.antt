@@ -1,5 +1,18 @@
 -- Which keys a unit's registrations have.
-use Rattle.std.specs.Prelude.{ℕ, ◌+◌, ◌==◌, nat_lt, nat_eq, if◌then◌else◌, List, [], ◌∷◌, Option, Some, None}
+use Rattle.std.specs.Prelude.{
+  ℕ,
+  ◌+◌,
+  ◌==◌,
+  nat_lt,
+  nat_eq,
+  if◌then◌else◌,
+  List,
+  [],
+  ◌∷◌,
+  Option,
+  Some,
+  None,
+}
 use Rattle.std.specs.Option.{option_or}
 use Rattle.indexmap.specs.IndexMap.{get}
 use Rattle.tk_engine.specs.declared.keys.Keys.{Keys}
@@ -17,6 +30,7 @@ key_in base (n ∷ ns) node = if n == node then Some base else key_in (base + 1)
 abbrev pub noted : (ℕ → Option ℕ) → ℕ → ℕ → ℕ → Option ℕ
 noted keys node key other = option_or (keys other) (if node == other then Some key else None)
 
--- the key of a node: its number, where it is below the number of static ones, else its registration's
+-- the key of a node: its number, where it is below the number of static ones, else that of its
+-- registration
 abbrev pub key_found : ℕ → (ℕ → Option ℕ) → ℕ → Option ℕ
 key_found statics keys node = if nat_lt node statics then Some node else keys node

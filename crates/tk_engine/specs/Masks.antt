@@ -20,7 +20,8 @@ is_write nothing = false
 is_write reads = false
 is_write writes = true
 
--- a read of each resource that the unit's nodes read and none writes, and a write of each that one writes
+-- a read of each resource that the unit's nodes read and none writes, and a write of each that one
+-- writes
 abbrev pub need_of : List NumberedNode → ℕ → NeedView
 need_of nodes unit = record {
   reads = mask 16 (λ r. is_read (unit_asks nodes unit r));

@@ -1,5 +1,19 @@
 -- What a worker has emitted while it plays a unit's script.
-use Rattle.std.specs.Prelude.{◌≡◌, ℕ, ◌+◌, ◌<◌, List, [], ◌++◌, length, Option, Some, None, Ok, slice_get}
+use Rattle.std.specs.Prelude.{
+  ◌≡◌,
+  ℕ,
+  ◌+◌,
+  ◌<◌,
+  List,
+  [],
+  ◌++◌,
+  length,
+  Option,
+  Some,
+  None,
+  Ok,
+  slice_get,
+}
 use Rattle.tk_ids.specs.declared.descriptors.Descriptor.{Descriptor}
 use Rattle.tk_events.specs.declared.events.Event.{Event}
 use Rattle.tk_events.specs.Registration.{registered_key}
@@ -22,26 +36,39 @@ use Rattle.tk_engine.specs.Keys.{key_in}
 abbrev pub next_key : ℕ → List Event → ℕ
 next_key worker sent = registered_key worker (registrations sent)
 
--- After what the worker had sent it played these steps of a plan's script, and their registrations have these keys, which
--- no descriptor had before.
-pub record IsPlayed (nodes : List NumberedNode) (table : List Descriptor) (worker : ℕ) (sent : List Event) (prefix : List Step) (now : List Event) (keys : ℕ → Option ℕ) : Type 0 where
+-- After what the worker had sent it played these steps of a plan's script, and their registrations
+-- have these keys, which no descriptor had before.
+pub record IsPlayed (nodes : List NumberedNode) (table : List Descriptor) (worker : ℕ)
+    (sent : List Event) (prefix : List Step) (now : List Event) (keys : ℕ → Option ℕ) :
+    Type 0 where
   pub emitted : now ≡ sent ++ played nodes (length table) (next_key worker sent) [] prefix
   pub keys_are : (node : ℕ) → keys node ≡ key_in (next_key worker sent) (known_in [] prefix) node
-  pub unused : (j : ℕ) → j < length (known_in [] prefix) → desc (record { table = table; entries = entries_by worker sent }) (next_key worker sent + j) ≡ None
+  pub unused : (j : ℕ) → j < length (known_in [] prefix)
+      → desc (record { table = table; entries = entries_by worker sent })
+      (next_key worker sent + j)
+      ≡ None
 
 -- the sink took the event of a step under that key
-pub record IsEmitted (nodes : List NumberedNode) (old new : SenderView) (s : Step) (key : ℕ) : Type 0 where
+pub record IsEmitted (nodes : List NumberedNode) (old new : SenderView) (s : Step) (key : ℕ) :
+    Type 0 where
   pub node : Node
   pub is : slice_get (in_order nodes) s.node ≡ Some node
   pub sent : new ≡ sends old (event (kind_of s.act) key s.stamp (payload_of node s.act))
 
 -- the sink registered the node of a step below the descriptor with the key above
-pub record IsRegistered (nodes : List NumberedNode) (old new : SenderView) (s : Step) (above key : ℕ) : Type 0 where
+pub record IsRegistered (nodes : List NumberedNode) (old new : SenderView) (s : Step)
+    (above key : ℕ) : Type 0 where
   pub node : Node
   pub is : slice_get (in_order nodes) s.node ≡ Some node
   pub registered :
       IsRegisteredAs old new
-      (record { parent = above; segment = node.segment; name = node.name; dtype = node.dtype; stamp = s.stamp })
+      (record {
+        parent = above;
+        segment = node.segment;
+        name = node.name;
+        dtype = node.dtype;
+        stamp = s.stamp;
+      })
       (Ok key)
 
 -- a unit's fault that is the sink's, or want of memory, and none of the engine's own

@@ -1,6 +1,8 @@
 //! What holds of each run of a plan's engine.
 ghost use Rattle.std.specs.Prelude.{ℕ, length};
+ghost use Rattle.tk_query.specs.KeepsLifecycle.{KeepsLifecycle};
 ghost use Rattle.tk_report_text.specs.Labels.{events, labels, name};
+ghost use Rattle.tk_engine_laws.specs.Laws.{IsKept};
 ghost use Rattle.tk_engine_laws.specs.Listening.{Listens, ListensByKey};
 ghost use Rattle.tk_engine_laws.specs.Scripts.{IsRunOf};
 
@@ -26,4 +28,18 @@ pub fn listener(engine: &Scripted, results: &Results)
     let _table = engine.plan().table();
     tk_engine_laws::laws::listener();
     tk_engine_laws::laws::listener_by_key();
+}
+
+/// Each record that is a run of the engine keeps the lifecycle, and `Kept` is the one answer of
+/// `Results::lifecycle` on it. Each record that `execute` answers for the engine is such a run.
+pub fn lifecycle(engine: &Scripted, results: &Results)
+    requires { (workers : ℕ)
+        × IsRunOf engine.now.nodes engine.now.table workers results.now.recorded }
+    ensures keeps { KeepsLifecycle results.now.recorded }
+    ensures kept { IsKept results.now.recorded }
+{
+    let _ = results;
+    // For the proof: the plan's invariant, which a call on the plan shows.
+    let _table = engine.plan().table();
+    tk_engine_laws::laws::lifecycle();
 }

@@ -8,6 +8,10 @@ mod playing;
 mod scripted;
 
 pub use scripted::Scripted;
+pub use tk_engine_events::{
+    emit, file_published, finish, finished, publish_file, register, report, reported, skip,
+    skipped, start, started,
+};
 pub use tk_engine_execute::{
     Claim, ClaimFault, ClaimSeat, Engine, MAX_UNITS, Results, RunFault, Sink, SinkFault, UnitFault,
     execute,

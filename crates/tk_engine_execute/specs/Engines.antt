@@ -4,7 +4,12 @@ use Rattle.tk_events.specs.declared.events.Event.{Event}
 use Rattle.tk_queue.specs.Emission.{is_plain, registrations}
 use Rattle.tk_queue.specs.Limits.{most_events}
 use Rattle.tk_queue.specs.Senders.{SenderView}
+use Rattle.tk_ids.specs.declared.id_faults.IdFault.{IdFault}
+use Rattle.tk_ids.specs.declared.id_faults.IdFault.TheVariants as ids
+use Rattle.tk_queue.specs.declared.sender_faults.RegisterFault.TheVariants as registers
+use Rattle.tk_engine_execute.specs.declared.sinks.SinkFault.TheVariants as sinks
 use Rattle.tk_engine_execute.specs.declared.engines.UnitFault.{UnitFault}
+use Rattle.tk_engine_execute.specs.declared.engines.UnitFault.TheVariants as units
 
 -- b is of the same session, table and worker as a
 pub record IsSameSender (a b : SenderView) : Type 0 where
@@ -35,3 +40,8 @@ pub record AreOfWorkerZero (n : ℕ) (es : List Event) : Type 0 where
 -- a unit of an engine of `units` units that may fail with this fault, as the engine's `fails` says
 abbrev pub MayFail : ℕ → (ℕ → UnitFault → Type 0) → ℕ → UnitFault → Type 0
 MayFail units fails unit why = (unit < units) × fails unit why
+
+-- a unit's fault where it can't make a segment: memory, or that of registering with this segment
+abbrev pub fault_of_id : IdFault → UnitFault
+fault_of_id ids.Memory = units.Memory
+fault_of_id fault = units.Sink (sinks.Register (registers.Id fault))

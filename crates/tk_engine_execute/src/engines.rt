@@ -14,7 +14,8 @@ use std::fmt;
 use std::sync::{Arc, Wait};
 use tk_book::{BookSeat, Need};
 use tk_events::Event;
-use tk_ids::Table;
+use tk_ids::{IdFault, Table};
+use tk_queue::RegisterFault;
 
 /// The most units that an engine may have.
 pub const MAX_UNITS: u32 = 65_536;
@@ -64,6 +65,20 @@ impl From<AllocError> for UnitFault {
 
     fn from(_: AllocError) -> UnitFault {
         UnitFault::Memory
+    }
+}
+
+/// A segment of a dynamic descriptor that can't be made, as where its value is empty.
+impl From<IdFault> for UnitFault {
+    ghost use Rattle.tk_engine_execute.specs.Engines.{fault_of_id};
+
+    ghost from_gives = { λ fault e. e ≡ fault_of_id fault };
+
+    fn from(fault: IdFault) -> UnitFault {
+        match fault {
+            IdFault::Memory => UnitFault::Memory,
+            fault => UnitFault::Sink(SinkFault::Register(RegisterFault::Id(fault))),
+        }
     }
 }
 

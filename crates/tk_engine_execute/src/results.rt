@@ -2,10 +2,12 @@
 ghost use Rattle.std.specs.Prelude.{◌≡◌, IfOk};
 ghost use Rattle.tk_record_columns.specs.declared.selections.Selection.TheVariants.{Tests, Containers};
 ghost use Rattle.tk_record_columns.specs.Selections.{all_of, filtered_by, selects};
+ghost use Rattle.tk_query.specs.Lifecycle.{IsLifecycle};
 ghost use Rattle.tk_engine_execute.specs.Results.{RunResults};
 
 use std::alloc::{AllocError, Global};
 use std::marker::Model;
+use tk_query::{Lifecycle, lifecycle};
 use tk_queue::Closed;
 use tk_record_columns::{Events, Record, Selection};
 
@@ -71,5 +73,13 @@ impl Results {
             ≡ filtered_by (selects Containers self.now.recorded) (all_of self.now.recorded)) }
     {
         self.all_events(alloc)?.pick(alloc, Selection::Containers)
+    }
+
+    /// Says whether the run keeps the lifecycle that a listener may rely on, and where it first
+    /// doesn't.
+    pub fn lifecycle(&self, alloc: Global) -> Result<Lifecycle, AllocError>
+        ensures { IfOk result (IsLifecycle self.now.recorded) }
+    {
+        lifecycle(alloc, &self.recording)
     }
 }

@@ -79,7 +79,7 @@ registered_has P (e ∷ es) k h some = ⊎_elim
     registered_has P es k h.1 (λ none. some (ap id_in other ∙ none)))
     (cases_Bool (e.event.key == k))
 
-map_get : {A B : Type 0} (g : A → B) (xs : List A) (i : ℕ) (x : A) → slice_get xs i ≡ Some x → slice_get (map g xs) i ≡ Some (g x)
+pub map_get : {A B : Type 0} (g : A → B) (xs : List A) (i : ℕ) (x : A) → slice_get xs i ≡ Some x → slice_get (map g xs) i ≡ Some (g x)
 map_get g [] i x e = cc
 map_get g (y ∷ ys) zero x e = ap (option_map g) e
 map_get g (y ∷ ys) (suc i) x e = map_get g ys i x e

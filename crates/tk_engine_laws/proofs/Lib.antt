@@ -12,10 +12,12 @@ pub mod Grounds
 pub mod Ordered
 pub mod SameReports
 pub mod Orders
+pub mod Positions
 pub mod Scripts
 pub mod ListenerSteps
 pub mod OneKey
 pub mod ByKey
+pub mod Keeping
 pub mod Stamps
 pub mod Samples
 pub mod Playing

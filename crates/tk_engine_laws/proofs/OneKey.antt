@@ -121,7 +121,7 @@ hits_some k b j [] x e s = cc
 hits_some k b zero (y ∷ ys) x e s = let same : (b == k) ≡ true = grind (arith, tests, e) in rw same (omega arith)
 hits_some k b (suc j) (y ∷ ys) x e s = let l : b < k = omega (arith, e) in let differ : (b == k) ≡ false = grind (arith, tests, l) in rw differ (hits_some k (b + 1) j ys x (omega (arith, e)) s)
 
-count_kept : (p q : Label → Bool) → Only p q → (ls : List Label) → count p ls ≡ count p (filter q ls)
+pub count_kept : (p q : Label → Bool) → Only p q → (ls : List Label) → count p ls ≡ count p (filter q ls)
 count_kept p q only [] = refl
 count_kept p q only (x ∷ xs) =
     let h = count_kept p q only xs in
@@ -189,7 +189,7 @@ module _ (all : List NumberedNode) (table : List Descriptor) (f : Forest) (worke
   at_most true n h = omega (arith, h)
   at_most false n h = h
 
-  counted : (i : List SegmentView) → count (registers i) (labels r) ≤ 1
+  pub counted : (i : List SegmentView) → count (registers i) (labels r) ≤ 1
   counted i = subst (λ n. n ≤ 1) (sym (count_kept (registers i) (is_of i) (register_only i) (labels r))) (⊎_elim
       (λ e. subst (λ l. count (registers i) l ≤ 1) (sym e) (omega arith))
       (λ e. subst (λ l. count (registers i) l ≤ 1) (sym e.2) (at_most (e.0).is_static _ (count_own i e.0)))
@@ -200,7 +200,7 @@ module _ (all : List NumberedNode) (table : List Descriptor) (f : Forest) (worke
   static_none false n f h = absurd (f refl)
 
   -- an id of the table is never registered
-  not_emitted : (k : ℕ) (i : List SegmentView) → slice_get (ids_of table) k ≡ Some i → count (registers i) (labels r) ≡ 0
+  pub not_emitted : (k : ℕ) (i : List SegmentView) → slice_get (ids_of table) k ≡ Some i → count (registers i) (labels r) ≡ 0
   not_emitted k i s = count_kept (registers i) (is_of i) (register_only i) (labels r) ∙ ⊎_elim
       (λ e. ap (count (registers i)) e)
       (λ e. ap (count (registers i)) e.2 ∙ static_none (e.0).is_static _ (λ f. e.3 f k (s ∙ ap Some (sym ((same_decides (e.0).id i).0 e.1)))) (count_own i e.0))

@@ -1,10 +1,28 @@
 -- What holds of each run of a plan.
-use Rattle.std.specs.Prelude.{◌≡◌, ◌+◌, ◌<◌, ℕ, List, [], ◌++◌, Some, None, slice_get, length, option_map}
+use Rattle.std.specs.Prelude.{
+  ◌≡◌,
+  ◌↔◌,
+  ◌+◌,
+  ◌<◌,
+  ℕ,
+  List,
+  [],
+  ◌++◌,
+  Some,
+  None,
+  slice_get,
+  length,
+  option_map,
+}
 use Rattle.tk_ids.specs.declared.descriptors.Descriptor.{Descriptor}
 use Rattle.tk_events.specs.declared.events.Event.{Event}
 use Rattle.tk_events.specs.Registration.{registered_key}
 use Rattle.tk_record_columns.specs.Recorded.{Recorded}
 use Rattle.tk_record_columns.specs.Entries.{desc}
+use Rattle.tk_query.specs.KeepsLifecycle.{KeepsLifecycle}
+use Rattle.tk_query.specs.Lifecycle.{IsLifecycle}
+use Rattle.tk_query.specs.declared.lifecycle_rules.Lifecycle.{Lifecycle}
+use Rattle.tk_query.specs.declared.lifecycle_rules.Lifecycle.TheVariants.{Kept}
 use Rattle.tk_queue.specs.Emission.{registrations, entries_by}
 use Rattle.tk_plan_units.specs.declared.nodes.NumberedNode.{NumberedNode}
 use Rattle.tk_plan_units.specs.declared.steps.Step.{Step}
@@ -13,7 +31,17 @@ use Rattle.tk_plan_units.specs.Cutting.{root_script, script_of}
 use Rattle.tk_plan_units.specs.Numbers.{IsNumbered}
 use Rattle.tk_plan_units.specs.Planned.{IsPlanned}
 use Rattle.tk_report_text.specs.Labels.{name, events, labels}
-use Rattle.tk_engine_laws.specs.Scripts.{IsRunOf, ArePlayable, HasKey, id_at, key_of, known_in, record_played, next_key, NextKeysAreFree}
+use Rattle.tk_engine_laws.specs.Scripts.{
+  IsRunOf,
+  ArePlayable,
+  HasKey,
+  id_at,
+  key_of,
+  known_in,
+  record_played,
+  next_key,
+  NextKeysAreFree,
+}
 use Rattle.tk_report_text.specs.Reports.{report_of_record}
 use Rattle.tk_engine_laws.specs.Reports.{report_of_plan}
 use Rattle.tk_engine_laws.specs.Listening.{Listens, ListensByKey}
@@ -65,3 +93,21 @@ ListenerByKey =
     (nodes : List NumberedNode) (table : List Descriptor) (workers : ℕ) (r : Recorded)
     → IsPlanned nodes table → IsNumbered nodes
     → IsRunOf nodes table workers r → ListensByKey (length table) (name r) (events r.entries)
+
+-- the record of a run keeps the lifecycle
+abbrev pub RunsKeepLifecycle : Type 0
+RunsKeepLifecycle =
+    (nodes : List NumberedNode) (table : List Descriptor) (workers : ℕ) (r : Recorded)
+    → IsPlanned nodes table → IsNumbered nodes
+    → IsRunOf nodes table workers r → KeepsLifecycle r
+
+-- `Kept` is what is said of the record's lifecycle, and nothing else is
+abbrev pub IsKept : Recorded → Type 0
+IsKept r = (answer : Lifecycle) → IsLifecycle r answer ↔ (answer ≡ Kept)
+
+-- of the record of a run `Kept` is said, and nothing else
+abbrev pub RunsAreKept : Type 0
+RunsAreKept =
+    (nodes : List NumberedNode) (table : List Descriptor) (workers : ℕ) (r : Recorded)
+    → IsPlanned nodes table → IsNumbered nodes
+    → IsRunOf nodes table workers r → IsKept r

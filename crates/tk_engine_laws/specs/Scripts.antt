@@ -1,5 +1,28 @@
 -- What a scripted engine emits: the scripts of a plan's units.
-use Rattle.std.specs.Prelude.{◌≡◌, ◌<◌, ◌≤◌, ◌⊎◌, ℕ, suc, ◌+◌, ◌==◌, nat_lt, if◌then◌else◌, Bool, true, false, List, [], ◌∷◌, ◌++◌, length, Option, Some, None, slice_get}
+use Rattle.std.specs.Prelude.{
+  ◌≡◌,
+  ◌<◌,
+  ◌≤◌,
+  ◌⊎◌,
+  ℕ,
+  suc,
+  ◌+◌,
+  ◌==◌,
+  nat_lt,
+  if◌then◌else◌,
+  Bool,
+  true,
+  false,
+  List,
+  [],
+  ◌∷◌,
+  ◌++◌,
+  length,
+  Option,
+  Some,
+  None,
+  slice_get,
+}
 use Rattle.tk_ids.specs.IdText.{SegmentView}
 use Rattle.tk_ids.specs.declared.descriptors.Descriptor.{Descriptor}
 use Rattle.tk_ids.specs.Table.{ids_of}
@@ -12,7 +35,14 @@ use Rattle.tk_record_columns.specs.Entries.{desc}
 use Rattle.tk_plan_units.specs.declared.nodes.Node.{Node}
 use Rattle.tk_plan_units.specs.declared.nodes.NumberedNode.{NumberedNode}
 use Rattle.tk_plan_units.specs.declared.steps.Act.{Act}
-use Rattle.tk_plan_units.specs.declared.steps.Act.TheVariants.{Register, Skip, Start, Report, File, Finish}
+use Rattle.tk_plan_units.specs.declared.steps.Act.TheVariants.{
+  Register,
+  Skip,
+  Start,
+  Report,
+  File,
+  Finish,
+}
 use Rattle.tk_plan_units.specs.declared.steps.Step.{Step}
 use Rattle.tk_plan_units.specs.Trees.{forest}
 use Rattle.tk_plan_units.specs.Cutting.{before_of, after_of, units_of, script_of, root_script}

@@ -1,5 +1,7 @@
 //! Laws of runs of plans, which hold of the definitions alone.
-ghost use Rattle.tk_engine_laws.specs.Laws.{StampsArePositions, ScriptsArePlayable, NodesAreFound, ReportIsUnique, Listener, ListenerByKey};
+ghost use Rattle.tk_engine_laws.specs.Laws.{StampsArePositions, ScriptsArePlayable, NodesAreFound, ReportIsUnique, Listener, ListenerByKey, RunsKeepLifecycle, RunsAreKept};
+
+use tk_query::laws::{kept_is_keeping, lifecycle_is_unique};
 
 /// The stamp of a step is its position in the root's script.
 pub fn stamps_are_positions()
@@ -32,3 +34,12 @@ pub fn listener()
 pub fn listener_by_key()
     ensures { ListenerByKey }
 {}
+
+/// Every run of a plan keeps the lifecycle, and `Kept` is the one answer of `lifecycle` on its record.
+pub fn lifecycle()
+    ensures keeps { RunsKeepLifecycle }
+    ensures kept { RunsAreKept }
+{
+    kept_is_keeping();
+    lifecycle_is_unique();
+}

@@ -8,6 +8,8 @@ pub use Rattle.tk_plan_units.specs.Numbers
 pub use Rattle.tk_plan_units.specs.Ids
 pub use Rattle.tk_plan_units.specs.Planned
 pub use Rattle.tk_plan_units.specs.Laws
+pub use Rattle.tk_plan_nodes.specs.NodeViews
+pub use Rattle.tk_plan_nodes.specs.NodeJson
 pub mod Checks
 pub mod Rows
 pub mod Contents
@@ -16,6 +18,7 @@ pub mod PlanOf
 pub mod Refusals
 pub mod JsonValues
 pub mod PlanAnswers
+pub mod BuiltPlans
 pub mod ReadNodes
 pub mod Answers
 pub mod Pointers

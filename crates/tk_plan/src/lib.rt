@@ -1,7 +1,8 @@
-//! Plans, read from JSON.
+//! Plans, read from JSON or built from nodes in code.
 //!
 //! - The whole plan, from its bytes: `plan_reading`. All nodes in preorder: `node_reading`, which
 //!   drops the value of each as soon as it was read.
+//! - The whole plan, from nodes in code: `plan_building`.
 //! - One node: its members together in `node_fields`, its checks in `node_checks`.
 //! - Single members: `json_members`, `lock_members`, `file_members`, and `result_members` for the
 //!   result and the entries. What these readers hand on: `member_values`.
@@ -31,6 +32,7 @@ mod node_fields;
 mod node_inputs;
 mod node_reading;
 mod path_texts;
+mod plan_building;
 mod plan_readers;
 mod plan_reading;
 mod result_members;
@@ -38,7 +40,9 @@ mod siblings;
 
 pub use faults::PlanFault;
 pub use limits::MAX_LEVELS;
+pub use plan_building::build_plan;
 pub use plan_reading::read_plan;
+pub use tk_plan_nodes::{ExecutionMode, LockMode, PlanLock, PlanNode};
 pub use tk_plan_units::{
     Act, Entries, Files, Lock, Locks, MAX_EVENTS, MAX_KEYS, Node, NumberedNode, Plan, Step,
     count_events,

@@ -82,7 +82,7 @@ fn table_of(alloc: Global, descriptors: Vec<Descriptor>) -> Result<Arc<Table>, A
 }
 
 /// Makes the plan of the nodes that were read.
-fn plan_from(alloc: Global, reader: Reader) -> Result<Plan, AllocError>
+pub(crate) fn plan_from(alloc: Global, reader: Reader) -> Result<Plan, AllocError>
     requires follow { Follow [] reader.descriptors.items }
     requires noted { IsNoted reader }
     requires planned { IsPlanned reader.nodes.items reader.descriptors.items }
@@ -101,7 +101,7 @@ fn plan_from(alloc: Global, reader: Reader) -> Result<Plan, AllocError>
 }
 
 /// Reads the nodes of the plan that a value stands for.
-fn nodes_of(alloc: Global, value: Value<'_>) -> Result<Reader, PlanFault>
+pub(crate) fn nodes_of(alloc: Global, value: Value<'_>) -> Result<Reader, PlanFault>
     ensures { IsReadFrom (PlanOf (view value.entry)) result }
 {
     let (takes_files, root) = top_members(alloc, value)?;

@@ -43,7 +43,8 @@ pub data Part : Type 0 where
   whole_unit : Tree → Part
   spine_ends : Node → ℕ → Part
 
--- A spine node begins before the parts of its children and ends after them; any other tree is a unit.
+-- A spine node begins before the parts of its children and ends after them; any other tree is a
+-- unit.
 abbrev mutual
   pub parts : Bool → Tree → List Part
   parts is_root (tree n k f) =

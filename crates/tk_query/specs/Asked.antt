@@ -1,5 +1,21 @@
 -- The events that are asked, at their positions in the record.
-use Rattle.std.specs.Prelude.{◌≡◌, ℕ, Bool, true, false, ◌==◌, if◌then◌else◌, List, [], ◌∷◌, get_or, Option, Some, None, slice_get}
+use Rattle.std.specs.Prelude.{
+  ◌≡◌,
+  ℕ,
+  Bool,
+  true,
+  false,
+  ◌==◌,
+  if◌then◌else◌,
+  List,
+  [],
+  ◌∷◌,
+  get_or,
+  Option,
+  Some,
+  None,
+  slice_get,
+}
 use Rattle.tk_events.specs.declared.events.Entry.{Entry}
 use Rattle.tk_record_columns.specs.declared.records.EntryView.{EntryView}
 use Rattle.tk_record_columns.specs.Selections.{PositionedEntry, Selected}

@@ -1,5 +1,23 @@
 -- What a condition says of an event of a record.
-use Rattle.std.specs.Prelude.{ℕ, Bool, true, false, not, ◌&&◌, ◌||◌, ◌==◌, List, [], ◌∷◌, ◌++◌, Option, Some, None, bytes_eq, codes}
+use Rattle.std.specs.Prelude.{
+  ℕ,
+  Bool,
+  true,
+  false,
+  not,
+  ◌&&◌,
+  ◌||◌,
+  ◌==◌,
+  List,
+  [],
+  ◌∷◌,
+  ◌++◌,
+  Option,
+  Some,
+  None,
+  bytes_eq,
+  codes,
+}
 use Rattle.std.specs.List.{list_any, list_all}
 use Rattle.tk_ids.specs.IdText.{SegmentView, id_text}
 use Rattle.tk_ids.specs.declared.descriptors.Descriptor.{Descriptor}
@@ -12,7 +30,37 @@ use Rattle.tk_ids.specs.DTypes.{is_test, is_container}
 use Rattle.tk_record_columns.specs.Entries.{of_kind, of_status, desc}
 use Rattle.tk_record_columns.specs.Recorded.{Recorded}
 use Rattle.tk_record_columns.specs.Selections.{has_type}
-use Rattle.tk_query_conditions.specs.Cond.{Bare, Test, Container, Engine, Started, Succeeded, Failed, Aborted, TextAtom, Id, Name, Skipped, FailedWith, AbortedWith, File, Pairs, NoPairs, MorePairs, Cond, Plain, With, OfKind, HasPairs, All, Any, Not, Conds, Nothing, More}
+use Rattle.tk_query_conditions.specs.Cond.{
+  Bare,
+  Test,
+  Container,
+  Engine,
+  Started,
+  Succeeded,
+  Failed,
+  Aborted,
+  TextAtom,
+  Id,
+  Name,
+  Skipped,
+  FailedWith,
+  AbortedWith,
+  File,
+  Pairs,
+  NoPairs,
+  MorePairs,
+  Cond,
+  Plain,
+  With,
+  OfKind,
+  HasPairs,
+  All,
+  Any,
+  Not,
+  Conds,
+  Nothing,
+  More,
+}
 use Rattle.tk_query_conditions.specs.CondOf.{cond_of}
 use Rattle.tk_query_conditions.specs.Reading.{begins_with}
 use Rattle.tk_query_conditions.specs.declared.conditions.Condition.{Condition}

@@ -1,5 +1,21 @@
 -- A record that keeps the lifecycle, by its events alone.
-use Rattle.std.specs.Prelude.{◌≡◌, ℕ, ◌<◌, Bool, ◌&&◌, ◌||◌, ◌==◌, true, if◌then◌else◌, List, [], ◌∷◌, length, Some, slice_get}
+use Rattle.std.specs.Prelude.{
+  ◌≡◌,
+  ℕ,
+  ◌<◌,
+  Bool,
+  ◌&&◌,
+  ◌||◌,
+  ◌==◌,
+  true,
+  if◌then◌else◌,
+  List,
+  [],
+  ◌∷◌,
+  length,
+  Some,
+  slice_get,
+}
 use Rattle.tk_ids.specs.IdText.{SegmentView, parent_of}
 use Rattle.tk_events.specs.declared.kinds.Kind.{Kind}
 use Rattle.tk_events.specs.declared.kinds.Kind.TheVariants.{Skipped, Started, Finished}
@@ -30,8 +46,8 @@ IsWhole (Skipped ∷ []) = Unit {0}
 IsWhole (Started ∷ Finished ∷ []) = Unit {0}
 IsWhole _ = ⊥
 
--- Event p of the record, if the id of its key has a parent's id: a key has the parent's id, and runs
--- before the event.
+-- Event p of the record, if the id of its key has a parent's id: a key has the parent's id, and
+-- runs before the event.
 abbrev pub IsBelowRunning : Recorded → ℕ → Entry → Type 0
 IsBelowRunning r p e =
     (id : List SegmentView) →
@@ -39,8 +55,9 @@ IsBelowRunning r p e =
     (parent : ℕ) × HasId (first_entries p r) parent (parent_of id)
     × (runs parent (first_entries p r).entries ≡ true)
 
--- Each registered id is a new one; each event of a child stands after a start of its parent, and not
--- after a finish of it; each key is left alone, skipped once, or started once and then finished once.
+-- Each registered id is a new one; each event of a child stands after a start of its parent, and
+-- not after a finish of it; each key is left alone, skipped once, or started once and then finished
+-- once.
 pub record KeepsLifecycle (r : Recorded) : Type 0 where
   pub ids : (p : ℕ) (e : Entry) → slice_get r.entries p ≡ Some e → ¬ KnowsId (first_entries p r) e
   pub below : (p : ℕ) (e : Entry) → slice_get r.entries p ≡ Some e → IsBelowRunning r p e

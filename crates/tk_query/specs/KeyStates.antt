@@ -1,11 +1,41 @@
 -- What is kept of each key while the events of a record are gone through.
-use Rattle.std.specs.Prelude.{◌≡◌, ◌≢◌, ℕ, ◌+◌, ◌-◌, ◌<◌, Bool, true, false, ◌&&◌, ◌==◌, if◌then◌else◌, List, get_or, Option, Some, None, bytes_eq}
+use Rattle.std.specs.Prelude.{
+  ◌≡◌,
+  ◌≢◌,
+  ℕ,
+  ◌+◌,
+  ◌-◌,
+  ◌<◌,
+  Bool,
+  true,
+  false,
+  ◌&&◌,
+  ◌==◌,
+  if◌then◌else◌,
+  List,
+  get_or,
+  Option,
+  Some,
+  None,
+  bytes_eq,
+}
 use Rattle.std.specs.List.{sum_by}
 use Rattle.std.specs.Map.{lookup}
 use Rattle.tk_events.specs.declared.kinds.Kind.{Kind}
-use Rattle.tk_events.specs.declared.kinds.Kind.TheVariants.{Dynamic, Skipped, Started, Finished, Reporting, File}
+use Rattle.tk_events.specs.declared.kinds.Kind.TheVariants.{
+  Dynamic,
+  Skipped,
+  Started,
+  Finished,
+  Reporting,
+  File,
+}
 use Rattle.tk_query.specs.declared.lifecycle_rules.LifecycleRule.{LifecycleRule}
-use Rattle.tk_query.specs.declared.lifecycle_rules.LifecycleRule.TheVariants.{RanAlready, NotRunning, ChildRunning}
+use Rattle.tk_query.specs.declared.lifecycle_rules.LifecycleRule.TheVariants.{
+  RanAlready,
+  NotRunning,
+  ChildRunning,
+}
 use Rattle.tk_query.specs.declared.key_states.Phase.{Phase}
 use Rattle.tk_query.specs.declared.key_states.Phase.TheVariants.{Idle, Running, Ended}
 use Rattle.tk_query.specs.declared.key_states.Parent.{Parent}

@@ -1,6 +1,23 @@
 -- What a listener of an engine may rely on: the rules of each event, and what a record keeps of
 -- them.
-use Rattle.std.specs.Prelude.{◌≡◌, ℕ, ◌<◌, Bool, true, false, not, ◌&&◌, ◌||◌, ◌==◌, List, length, take, Option, Some, slice_get}
+use Rattle.std.specs.Prelude.{
+  ◌≡◌,
+  ℕ,
+  ◌<◌,
+  Bool,
+  true,
+  false,
+  not,
+  ◌&&◌,
+  ◌||◌,
+  ◌==◌,
+  List,
+  length,
+  take,
+  Option,
+  Some,
+  slice_get,
+}
 use Rattle.std.specs.List.{list_any}
 use Rattle.tk_ids.specs.IdText.{SegmentView, parent_of}
 use Rattle.tk_ids.specs.declared.descriptors.Descriptor.{Descriptor}
@@ -12,7 +29,14 @@ use Rattle.tk_record_columns.specs.Recorded.{Recorded}
 use Rattle.tk_query.specs.declared.lifecycle_rules.Lifecycle.{Lifecycle}
 use Rattle.tk_query.specs.declared.lifecycle_rules.Lifecycle.TheVariants.{Kept, Broken, Unfinished}
 use Rattle.tk_query.specs.declared.lifecycle_rules.LifecycleRule.{LifecycleRule}
-use Rattle.tk_query.specs.declared.lifecycle_rules.LifecycleRule.TheVariants.{IdKnown, ParentUnknown, ParentNotRunning, RanAlready, NotRunning, ChildRunning}
+use Rattle.tk_query.specs.declared.lifecycle_rules.LifecycleRule.TheVariants.{
+  IdKnown,
+  ParentUnknown,
+  ParentNotRunning,
+  RanAlready,
+  NotRunning,
+  ChildRunning,
+}
 
 -- whether the event is of this kind and of this key
 abbrev pub is_event : Kind → ℕ → Entry → Bool

@@ -1,7 +1,14 @@
 -- The words of the lifecycle's rules.
 use Rattle.std.specs.Prelude.{ℕ, List, codes}
 use Rattle.tk_query.specs.declared.lifecycle_rules.LifecycleRule.{LifecycleRule}
-use Rattle.tk_query.specs.declared.lifecycle_rules.LifecycleRule.TheVariants.{IdKnown, ParentUnknown, ParentNotRunning, RanAlready, NotRunning, ChildRunning}
+use Rattle.tk_query.specs.declared.lifecycle_rules.LifecycleRule.TheVariants.{
+  IdKnown,
+  ParentUnknown,
+  ParentNotRunning,
+  RanAlready,
+  NotRunning,
+  ChildRunning,
+}
 
 abbrev pub rule_text : LifecycleRule → List ℕ
 rule_text IdKnown = codes "id-known"

@@ -1,5 +1,26 @@
 -- What is known after the first events of a record, and what one more event makes of it.
-use Rattle.std.specs.Prelude.{◌≡◌, ◌≢◌, ℕ, ◌<◌, Bool, true, false, not, ◌&&◌, if◌then◌else◌, List, length, Option, Some, None, slice_get, bytes_eq, Result, Ok, Err}
+use Rattle.std.specs.Prelude.{
+  ◌≡◌,
+  ◌≢◌,
+  ℕ,
+  ◌<◌,
+  Bool,
+  true,
+  false,
+  not,
+  ◌&&◌,
+  if◌then◌else◌,
+  List,
+  length,
+  Option,
+  Some,
+  None,
+  slice_get,
+  bytes_eq,
+  Result,
+  Ok,
+  Err,
+}
 use Rattle.std.specs.List.{sum_by}
 use Rattle.tk_ids.specs.IdText.{SegmentView, IsId, id_text, parent_of}
 use Rattle.tk_ids.specs.declared.descriptors.Descriptor.{Descriptor}
@@ -8,9 +29,21 @@ use Rattle.tk_events.specs.declared.events.Entry.{Entry}
 use Rattle.tk_record_columns.specs.Entries.{of_kind, with_entry}
 use Rattle.tk_record_columns.specs.Recorded.{Recorded}
 use Rattle.tk_query.specs.Lifecycle.{BreaksFirst, BreaksNone, HasId, has_event, has_run, runs}
-use Rattle.tk_query.specs.KeyStates.{key_under, ArePut, IsCounted, advanced, is_running, refusal, running_child, state_of}
+use Rattle.tk_query.specs.KeyStates.{
+  key_under,
+  ArePut,
+  IsCounted,
+  advanced,
+  is_running,
+  refusal,
+  running_child,
+  state_of,
+}
 use Rattle.tk_query.specs.declared.lifecycle_rules.LifecycleRule.{LifecycleRule}
-use Rattle.tk_query.specs.declared.lifecycle_rules.LifecycleRule.TheVariants.{ParentUnknown, ParentNotRunning}
+use Rattle.tk_query.specs.declared.lifecycle_rules.LifecycleRule.TheVariants.{
+  ParentUnknown,
+  ParentNotRunning,
+}
 use Rattle.tk_query.specs.declared.key_states.Phase.{Phase}
 use Rattle.tk_query.specs.declared.key_states.Phase.TheVariants.{Idle, Running, Ended}
 use Rattle.tk_query.specs.declared.key_states.Parent.{Parent}

@@ -1,7 +1,11 @@
 -- What the reader of the code has read, as a state of the machine.
 use Rattle.std.specs.Prelude.{ℕ, List, [], ◌∷◌, ◌++◌, length, IsUtf8}
 use Rattle.tk_query_conditions.specs.declared.partial_texts.Escape.{Escape}
-use Rattle.tk_query_conditions.specs.declared.partial_texts.Escape.TheVariants.{Outside, Percent, Digit}
+use Rattle.tk_query_conditions.specs.declared.partial_texts.Escape.TheVariants.{
+  Outside,
+  Percent,
+  Digit,
+}
 use Rattle.tk_query_conditions.specs.declared.words.TextAtom as text_atom
 use Rattle.tk_query_conditions.specs.declared.words.TextAtom.TheVariants as text_atoms
 use Rattle.tk_query_conditions.specs.declared.words.Opener as opener
@@ -12,9 +16,37 @@ use Rattle.tk_query_conditions.specs.declared.readers.Position.{Position}
 use Rattle.tk_query_conditions.specs.declared.readers.Position.TheVariants as positions
 use Rattle.tk_query_conditions.specs.declared.readers.Reader.{Reader}
 use Rattle.tk_query_conditions.specs.Characters.{percent, digit_two}
-use Rattle.tk_query_conditions.specs.Cond.{TextAtom, Id, Name, Skipped, FailedWith, AbortedWith, File, NoPairs, Nothing}
+use Rattle.tk_query_conditions.specs.Cond.{
+  TextAtom,
+  Id,
+  Name,
+  Skipped,
+  FailedWith,
+  AbortedWith,
+  File,
+  NoPairs,
+  Nothing,
+}
 use Rattle.tk_query_conditions.specs.CondOf.{cond_of, conds_from, pairs_from}
-use Rattle.tk_query_conditions.specs.Reading.{OpenGroup, OpenNot, OpenAll, OpenAny, Opener, OfText, OfKinds, OfPairs, OfAll, OfAny, OfNot, State, Word, InText, InKind, InPairs, After}
+use Rattle.tk_query_conditions.specs.Reading.{
+  OpenGroup,
+  OpenNot,
+  OpenAll,
+  OpenAny,
+  Opener,
+  OfText,
+  OfKinds,
+  OfPairs,
+  OfAll,
+  OfAny,
+  OfNot,
+  State,
+  Word,
+  InText,
+  InKind,
+  InPairs,
+  After,
+}
 
 abbrev pub text_atom_of : text_atom.TextAtom → TextAtom
 text_atom_of text_atoms.Id = Id

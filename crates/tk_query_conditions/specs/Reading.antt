@@ -1,11 +1,77 @@
 -- The machine that reads a condition byte by byte. Its state says which brackets of `all(`, `any(`
 -- and `not(` are open, the last one first, and in which part of the grammar the next byte stands.
-use Rattle.std.specs.Prelude.{ℕ, Bool, true, false, List, [], ◌∷◌, ◌++◌, Option, Some, None, option_and_then, option_map, ◌==◌, ◌||◌, if◌then◌else◌, bytes_eq, codes, map, ◌&&◌}
+use Rattle.std.specs.Prelude.{
+  ℕ,
+  Bool,
+  true,
+  false,
+  List,
+  [],
+  ◌∷◌,
+  ◌++◌,
+  Option,
+  Some,
+  None,
+  option_and_then,
+  option_map,
+  ◌==◌,
+  ◌||◌,
+  if◌then◌else◌,
+  bytes_eq,
+  codes,
+  map,
+  ◌&&◌,
+}
 use Rattle.std.specs.List.{list_any}
-use Rattle.tk_query_conditions.specs.Characters.{percent, opening_bracket, closing_bracket, comma, digit_two, digit_five, digit_eight, digit_nine, digit_c}
-use Rattle.tk_query_conditions.specs.Cond.{Bare, Test, Container, Engine, Started, Succeeded, Failed, Aborted, TextAtom, Id, Name, Skipped, FailedWith, AbortedWith, File, Pairs, NoPairs, MorePairs, Cond, Plain, With, OfKind, HasPairs, All, Any, Not, Conds, Nothing, More, kind_text}
+use Rattle.tk_query_conditions.specs.Characters.{
+  percent,
+  opening_bracket,
+  closing_bracket,
+  comma,
+  digit_two,
+  digit_five,
+  digit_eight,
+  digit_nine,
+  digit_c,
+}
+use Rattle.tk_query_conditions.specs.Cond.{
+  Bare,
+  Test,
+  Container,
+  Engine,
+  Started,
+  Succeeded,
+  Failed,
+  Aborted,
+  TextAtom,
+  Id,
+  Name,
+  Skipped,
+  FailedWith,
+  AbortedWith,
+  File,
+  Pairs,
+  NoPairs,
+  MorePairs,
+  Cond,
+  Plain,
+  With,
+  OfKind,
+  HasPairs,
+  All,
+  Any,
+  Not,
+  Conds,
+  Nothing,
+  More,
+  kind_text,
+}
 use Rattle.tk_query_conditions.specs.declared.partial_texts.Escape.{Escape}
-use Rattle.tk_query_conditions.specs.declared.partial_texts.Escape.TheVariants.{Outside, Percent, Digit}
+use Rattle.tk_query_conditions.specs.declared.partial_texts.Escape.TheVariants.{
+  Outside,
+  Percent,
+  Digit,
+}
 use Rattle.tk_events.specs.declared.kinds.Kind.{Kind}
 use Rattle.tk_events.specs.declared.kinds.Kind.TheVariants as event
 

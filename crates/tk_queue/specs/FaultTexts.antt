@@ -1,5 +1,6 @@
 -- The texts of the faults.
-use Rattle.std.specs.Prelude.{ℕ, List, codes}
+use Rattle.std.specs.Prelude.{ℕ, List, ◌++◌, codes}
+use Rattle.std.specs.Fmt.{decimal}
 use Rattle.tk_ids.specs.FaultTexts.{id_fault_text}
 use Rattle.tk_queue.specs.declared.sender_faults.SendFault.{SendFault}
 use Rattle.tk_queue.specs.declared.sender_faults.SendFault.TheVariants as sends
@@ -9,7 +10,7 @@ use Rattle.tk_queue.specs.declared.sessions.OpenFault.{OpenFault}
 use Rattle.tk_queue.specs.declared.sessions.OpenFault.TheVariants as opens
 
 abbrev pub send_fault_text : SendFault → List ℕ
-send_fault_text (sends.UnknownNode event) = codes "event has an unknown key"
+send_fault_text (sends.UnknownNode event) = codes "unknown key " ++ decimal event.key
 send_fault_text (sends.Unlawful event) = codes "event is unlawful"
 send_fault_text (sends.Limit event) = codes "event is one too many"
 send_fault_text (sends.Full event) = codes "queue is full"

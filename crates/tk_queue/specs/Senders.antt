@@ -1,5 +1,31 @@
 -- What contracts see of a sender: the session, its worker, and what it emitted.
-use Rattle.std.specs.Prelude.{◌≡◌, ℕ, zero, suc, ◌<◌, ◌≤◌, ◌-◌, not, nat_lt, Bool, true, false, if◌then◌else◌, List, [], ◌∷◌, ◌++◌, length, slice_get, Option, Some, None, is_some, option_map, ◌+◌}
+use Rattle.std.specs.Prelude.{
+  ◌≡◌,
+  ℕ,
+  zero,
+  suc,
+  ◌<◌,
+  ◌≤◌,
+  ◌-◌,
+  not,
+  nat_lt,
+  Bool,
+  true,
+  false,
+  if◌then◌else◌,
+  List,
+  [],
+  ◌∷◌,
+  ◌++◌,
+  length,
+  slice_get,
+  Option,
+  Some,
+  None,
+  is_some,
+  option_map,
+  ◌+◌,
+}
 use Rattle.atomic_table.specs.Seated.{TableId}
 use Rattle.tk_ids.specs.declared.descriptors.Descriptor.{Descriptor}
 use Rattle.tk_ids.specs.declared.tables.TheConstants.{MAX_DESCRIPTORS}
@@ -12,7 +38,11 @@ use Rattle.tk_record_columns.specs.Recorded.{Recorded}
 use Rattle.tk_record_columns.specs.Entries.{desc, desc_in}
 use Rattle.tk_queue_core.specs.Limits.{most_workers}
 use Rattle.tk_queue.specs.declared.sender_faults.SendFault.{SendFault}
-use Rattle.tk_queue.specs.declared.sender_faults.SendFault.TheVariants.{UnknownNode, Unlawful, Limit}
+use Rattle.tk_queue.specs.declared.sender_faults.SendFault.TheVariants.{
+  UnknownNode,
+  Unlawful,
+  Limit,
+}
 use Rattle.tk_queue.specs.declared.session_rules.PassView.{PassView}
 use Rattle.tk_queue.specs.declared.session_rules.PassView.TheVariants.{Sends}
 use Rattle.tk_queue.specs.Limits.{most_events}

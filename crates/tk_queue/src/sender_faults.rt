@@ -26,7 +26,7 @@ impl fmt::Display for SendFault {
 
     fn fmt<W: fmt::Write>(&self, f: &mut fmt::Formatter<W>) -> fmt::Result {
         match self {
-            SendFault::UnknownNode(_) => f.write_str("event has an unknown key"),
+            SendFault::UnknownNode(event) => write!(f, "unknown key {}", event.key),
             SendFault::Unlawful(_) => f.write_str("event is unlawful"),
             SendFault::Limit(_) => f.write_str("event is one too many"),
             SendFault::Full(_) => f.write_str("queue is full"),

@@ -1,5 +1,19 @@
 -- A replay goes through states of the core.
-use Rattle.std.specs.Prelude.{◌≡◌, ℕ, ◌≤◌, List, ◌++◌, length, take, slice_get, Some, None, true, Result, Err}
+use Rattle.std.specs.Prelude.{
+  ◌≡◌,
+  ℕ,
+  ◌≤◌,
+  List,
+  ◌++◌,
+  length,
+  take,
+  slice_get,
+  Some,
+  None,
+  true,
+  Result,
+  Err,
+}
 use Rattle.std.specs.List.{AllByRecursion}
 use Rattle.tk_ids.specs.declared.descriptors.Descriptor.{Descriptor}
 use Rattle.tk_events.specs.declared.events.Event.{Event}
@@ -13,7 +27,16 @@ use Rattle.tk_queue_core.specs.declared.replays.ReplayFault.TheVariants as fault
 use Rattle.tk_queue_core.specs.ReplayText.{IsPlayed}
 use Rattle.tk_queue_core.specs.CoreState.{has_ended}
 use Rattle.tk_queue_core.specs.Core.{Core, IsCore, entries}
-use Rattle.tk_queue_core.specs.Replay.{Moment, Faulty, IsTurn, script_of, count_of, plays, start, StopsAt}
+use Rattle.tk_queue_core.specs.Replay.{
+  Moment,
+  Faulty,
+  IsTurn,
+  script_of,
+  count_of,
+  plays,
+  start,
+  StopsAt,
+}
 use Rattle.tk_queue_core.specs.TurnItems.{AreItemsOf, item_after}
 
 -- the moment is the core's state in which each worker sent as much of its script as is counted, and

@@ -1,5 +1,21 @@
 -- The lines of a replay text that no record text has: the number of workers, and the turns.
-use Rattle.std.specs.Prelude.{◌^◌, ◌&&◌, ℕ, List, [], ◌∷◌, Option, Some, None, codes, if◌then◌else◌, bytes_eq, nat_lt, nat_le, map}
+use Rattle.std.specs.Prelude.{
+  ◌^◌,
+  ◌&&◌,
+  ℕ,
+  List,
+  [],
+  ◌∷◌,
+  Option,
+  Some,
+  None,
+  codes,
+  if◌then◌else◌,
+  bytes_eq,
+  nat_lt,
+  nat_le,
+  map,
+}
 use Rattle.std.specs.List.{AllByRecursion}
 use Rattle.std.specs.Fmt.{decimal}
 use Rattle.tk_record_columns.specs.Mixing.{IsWorkerOf}

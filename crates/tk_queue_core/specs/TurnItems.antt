@@ -1,6 +1,20 @@
 -- What the turns of a replay put into the queue: the j-th turn of a worker gives item j of its
 -- script followed by its mark, and the items stand in the order of the turns.
-use Rattle.std.specs.Prelude.{◌≡◌, ℕ, ◌==◌, Bool, true, false, List, ◌∷◌, ◌++◌, length, count_by, slice_get, Option}
+use Rattle.std.specs.Prelude.{
+  ◌≡◌,
+  ℕ,
+  ◌==◌,
+  Bool,
+  true,
+  false,
+  List,
+  ◌∷◌,
+  ◌++◌,
+  length,
+  count_by,
+  slice_get,
+  Option,
+}
 use Rattle.tk_events.specs.declared.events.Event.{Event}
 use Rattle.tk_queue_core.specs.declared.items.Item.{Item}
 use Rattle.tk_queue_core.specs.declared.items.Turn.{Turn}

@@ -4,6 +4,7 @@ use Rattle.std.specs.Io.KnownBytes.{Appends}
 use Rattle.tk_limits.specs.declared.limits.TheConstants.{MAX_WORKERS}
 use Rattle.tk_record_columns.specs.Recorded.{Recorded}
 use Rattle.tk_streams.specs.Stream.{AppendsPrefix}
+use Rattle.tk_query.specs.KeepsLifecycle.{KeepsLifecycle}
 use Rattle.tk_plan_units.specs.Cutting.{units_of}
 use Rattle.tk_plan_units.specs.Planned.{Outline}
 use Rattle.tk_plan_units.specs.Trees.{Tree, forest}
@@ -17,6 +18,7 @@ use Rattle.tk_engine_execute.specs.Engines.{MayFail}
 use Rattle.tk_engine_execute.specs.Outcomes.{IsFaultOfExecute}
 use Rattle.tk_engine_execute.specs.Results.{IsTallied}
 use Rattle.tk_report_text.specs.Reports.{report_of_record}
+use Rattle.tk_engine_laws.specs.Laws.{IsKept}
 use Rattle.tk_engine_laws.specs.Reports.{report_of_plan}
 use Rattle.tk_engine_laws.specs.Scripts.{IsRunOf, may}
 use Rattle.tk_engine.specs.Plays.{IsPlayFault}
@@ -24,8 +26,8 @@ use Rattle.tk_report.specs.declared.plan_runs.PlanRun.{PlanRun}
 use Rattle.tk_report.specs.declared.faults.ReportFault.{ReportFault}
 use Rattle.tk_report.specs.declared.faults.ReportFault.TheVariants.{Plan, Run, Device, Memory}
 
--- What writing the report of a record answers: it was written, or a prefix of it to a broken target,
--- or nothing where memory was refused.
+-- What writing the report of a record answers: it was written, or a prefix of it to a broken
+-- target, or nothing where memory was refused.
 abbrev pub IsRunReport :
     Recorded → Option (List ℕ) → Option (List ℕ) → Result (Unit {0}) ReportFault → Type 0
 IsRunReport r old new (Ok _) = Appends old new (report_of_record r)
@@ -57,8 +59,8 @@ abbrev pub IsExecuteFault : ℕ → Outline → RunFault → Type 0
 IsExecuteFault workers plan =
     IsFaultOfExecute (may plan.nodes plan.table) (UnitMayFail plan) workers
 
--- Why a plan is not run. The number of workers is refused exactly where it is out of its limits, and
--- the capacity never is. Where memory was refused, that is the report's own fault.
+-- Why a plan is not run. The number of workers is refused exactly where it is out of its limits,
+-- and the capacity never is. Where memory was refused, that is the report's own fault.
 abbrev pub IsRunFault : ℕ → Outline → RunFault → Type 0
 IsRunFault workers plan runs.Workers = ¬ MayWork workers
 IsRunFault workers plan runs.Capacity = ⊥
@@ -77,13 +79,16 @@ IsNotRun bytes workers fault =
 abbrev pub IsNoPlan : List ℕ → PlanFault → Type 0
 IsNoPlan bytes fault = Answered (plan_in bytes) (Err fault) × (fault ≢ plans.Memory)
 
--- The bytes are a plan that was run by `workers` workers. The report of the run is the plan's.
+-- The bytes are a plan that was run by `workers` workers. The report of the run is the plan's, and
+-- the run keeps the lifecycle.
 pub record IsRunOfPlan (bytes : List ℕ) (workers : ℕ) (run : PlanRun) : Type 0 where
   pub plan : Answered (plan_in bytes) (Ok run.engine)
   pub may_work : MayWork workers
   pub is_run : IsRunOf run.engine.nodes run.engine.table workers run.results.recorded
   pub tally : IsTallied workers run.results.closed run.results.recorded.entries
   pub report : OfPlan bytes (λ text. report_of_record run.results.recorded ≡ text)
+  pub keeps : KeepsLifecycle run.results.recorded
+  pub kept : IsKept run.results.recorded
 
 -- What running a plan by `workers` workers answers. Nothing is written, so no target breaks.
 abbrev pub IsPlanRun : List ℕ → ℕ → Result PlanRun ReportFault → Type 0

@@ -11,8 +11,8 @@ abbrev pub fault_of_plan : PlanFault → ReportFault
 fault_of_plan plans.Memory = Memory
 fault_of_plan fault = Plan fault
 
--- a run's fault, with the unit that failed and its cause, but memory that was refused is the report's
--- own fault
+-- a run's fault, with the unit that failed and its cause, but memory that was refused is the
+-- report's own fault
 abbrev pub fault_of_run : RunFault → ReportFault
 fault_of_run runs.Memory = Memory
 fault_of_run fault = Run fault

@@ -7,7 +7,7 @@ use std::sync::Wait;
 use std::thread::Threads;
 use tk_engine::Scripted;
 use tk_engine_execute::{Results, execute};
-use tk_engine_laws::laws::report_is_unique;
+use tk_engine_laws::laws::{lifecycle, report_is_unique};
 use tk_plan::read_plan;
 
 /// How many items the queue of a run holds where the caller gives no number, as in [`run_plan`].
@@ -23,7 +23,7 @@ pub struct PlanRun {
 /// Reads a plan and runs it by 1 to `MAX_WORKERS` workers, each in a thread of its own.
 ///
 /// `bytes` are a plan's JSON text, of version 1 or 2. The report of the results is the plan's,
-/// however many workers there are.
+/// and `Results::lifecycle` answers `Kept`, however many workers there are.
 ///
 /// # Errors
 /// `Plan` or `Run`. `Memory` where memory was refused, also in reading the plan and in running it,
@@ -40,6 +40,7 @@ pub fn run_plan<R: Threads + Wait + Sync>(
     let engine = Scripted::new(plan);
     let results = execute(rt, alloc, &engine, workers, DEFAULT_CAPACITY)?;
     report_is_unique();
+    lifecycle();
     // For the proof: the plan's invariant, which a call on the plan shows.
     let _table = engine.plan().table();
     Ok(PlanRun { engine, results })

@@ -1,5 +1,26 @@
 -- The lines of each id, while the events of a record are gathered.
-use Rattle.std.specs.Prelude.{◌≡◌, ◌<◌, ℕ, Bool, ◌||◌, if◌then◌else◌, cond, nat_eq, List, [], ◌∷◌, ◌++◌, length, map, get_or, Option, Some, None, is_some, bytes_eq}
+use Rattle.std.specs.Prelude.{
+  ◌≡◌,
+  ◌<◌,
+  ℕ,
+  Bool,
+  ◌||◌,
+  if◌then◌else◌,
+  cond,
+  nat_eq,
+  List,
+  [],
+  ◌∷◌,
+  ◌++◌,
+  length,
+  map,
+  get_or,
+  Option,
+  Some,
+  None,
+  is_some,
+  bytes_eq,
+}
 use Rattle.std.specs.Borrow.{Bor}
 use Rattle.std.specs.List.{flat_map, list_any}
 use Rattle.std.specs.List.Sorted.{IsPermutation, IsStrictlySortedBy}
@@ -101,7 +122,8 @@ pub record IsKept (ls : List Label) (kept : LinesById) : Type 0 where
       → get_or kept.lines.items i [] ≡ flat_map label_line (labels_of_id x ls)
 
 -- the entries of a map in the order of its keys
-pub record IsInOrder {S : Type 0} (ids : HashMap BorrowedText ℕ S) (sorted : List (BorrowedText × ℕ)) : Type 0 where
+pub record IsInOrder {S : Type 0} (ids : HashMap BorrowedText ℕ S)
+    (sorted : List (BorrowedText × ℕ)) : Type 0 where
   pub unique : IsUnique (λ x y. bytes_eq x.now y.now) ids
   pub same : IsPermutation ids.entries sorted
   pub ordered : IsStrictlySortedBy (slice_cmp nat_cmp) (map (λ e. e.0.now) sorted)

@@ -9,4 +9,4 @@ mod transfers;
 pub use device_streams::{StdSource, StdTarget};
 pub use memory_streams::{ByteSource, ByteTarget};
 pub use streams::{Broken, Source, Target};
-pub use transfers::{LoadFault, load, write_all};
+pub use transfers::{CHUNK, LoadFault, load, write_all};

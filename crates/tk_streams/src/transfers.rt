@@ -44,7 +44,7 @@ impl From<AllocError> for LoadFault {
     }
 }
 
-/// How many bytes [`load`] asks for at a time.
+/// How many bytes a reader asks a source for at a time.
 pub const CHUNK: usize = 65_536;
 
 /// Reads a source to its end, where it has at most `limit` bytes.

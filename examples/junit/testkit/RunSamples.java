@@ -2,8 +2,12 @@ package testkit;
 
 import static org.junit.platform.engine.discovery.DiscoverySelectors.selectClass;
 
+import java.util.Arrays;
+import java.util.List;
+
 import org.junit.platform.engine.TestExecutionResult;
 import org.junit.platform.launcher.Launcher;
+import org.junit.platform.launcher.LauncherDiscoveryRequest;
 import org.junit.platform.launcher.TestExecutionListener;
 import org.junit.platform.launcher.TestIdentifier;
 import org.junit.platform.launcher.TestPlan;
@@ -16,11 +20,12 @@ import org.junit.platform.launcher.listeners.TestExecutionSummary;
 /**
  * Records a run at a path, and prints what {@link SummaryGeneratingListener} counted as words of {@code ask stats}.
  *
- * <p>The run is {@code sample}, the sample tests in parallel, {@code odd}, the odd engine, or {@code cut}, the sample tests until
- * their twentieth start, at which the process ends.
+ * <p>The run is {@code sample}, the sample tests in parallel; {@code odd}, the odd engine; or the sample tests until their twentieth
+ * start, at which {@code halt} or {@code exit} ends the process, or {@code memory} throws what a test without memory does.
  */
 public class RunSamples {
 
+    private static final List<String> CUT = Arrays.asList("halt", "exit", "memory");
     private static final int CUT_AT = 20;
 
     /** What the summary counts beyond events: a descriptor of both types twice, and what is below a skipped one. */
@@ -78,13 +83,25 @@ public class RunSamples {
         }
     }
 
+    /** Ends the run in this way. */
+    private static void end(String how) {
+        if (how.equals("halt")) {
+            // (as by a signal that can't be caught: nothing is closed or flushed)
+            Runtime.getRuntime().halt(0);
+        }
+        if (how.equals("exit")) {
+            System.exit(0);
+        }
+        throw new OutOfMemoryError("as where there is no memory");
+    }
+
     /** Runs what {@code arguments[0]} names, and records it at the path {@code arguments[1]}. */
     public static void main(String[] arguments) {
         String which = arguments[0];
         RecordListener recorder = new RecordListener(arguments[1]);
         SummaryGeneratingListener summary = new SummaryGeneratingListener();
         Surplus surplus = new Surplus();
-        TestExecutionListener cut = new TestExecutionListener() {
+        TestExecutionListener ending = new TestExecutionListener() {
 
             private int starts;
 
@@ -93,8 +110,7 @@ public class RunSamples {
                 if (++starts == CUT_AT) {
                     System.out.println(surplus.words(summary.getSummary()));
                     System.out.flush();
-                    // (as by a signal that can't be caught: nothing is closed or flushed)
-                    Runtime.getRuntime().halt(0);
+                    end(which);
                 }
             }
         };
@@ -104,16 +120,21 @@ public class RunSamples {
         }
         Launcher launcher = LauncherFactory.create(config.build());
         launcher.registerTestExecutionListeners(recorder, summary, surplus);
-        if (which.equals("cut")) {
-            launcher.registerTestExecutionListeners(cut);
+        if (CUT.contains(which)) {
+            launcher.registerTestExecutionListeners(ending);
         }
-        launcher.execute(LauncherDiscoveryRequestBuilder.request()
+        LauncherDiscoveryRequest request = LauncherDiscoveryRequestBuilder.request()
                 .selectors(selectClass(SampleTests.class))
                 .selectors(selectClass(SampleTests.BrokenTests.class), selectClass(SampleTests.AbortedTests.class))
                 .configurationParameter("junit.jupiter.execution.parallel.enabled", which.equals("sample") ? "true" : "false")
                 .configurationParameter("junit.jupiter.execution.parallel.config.strategy", "fixed")
                 .configurationParameter("junit.jupiter.execution.parallel.config.fixed.parallelism", "4")
-                .build());
+                .build();
+        try {
+            launcher.execute(request);
+        } catch (OutOfMemoryError fault) {
+            System.exit(0);
+        }
         System.out.println(surplus.words(summary.getSummary()));
         if (!recorder.isWhole()) {
             System.exit(1);

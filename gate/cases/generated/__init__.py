@@ -2,7 +2,7 @@
 
 - `numbers`: the numbers of the generator.
 - `recordings`, `conditions`: records and conditions.
-- `questions`: selections, statistics, conditions, matches and executions of generated records.
+- `questions`: selections, statistics, conditions, matches, lists, executions and reports of generated records.
 - `lifecycles`: records that keep the lifecycle, whole or spoiled.
 - `replays`, `plans`: generated replay texts and plans.
 - `changes`: texts of all kinds with a byte changed, dropped or doubled, and texts made of loose parts.
@@ -13,7 +13,7 @@ from typing import List
 from generated import changes, lifecycles, plans, questions, replays
 from harness import Group
 
-LEAST = {questions: 2_100, lifecycles: 2_002, replays: 301, plans: 752, changes: 1_850}
+LEAST = {questions: 2_353, lifecycles: 2_002, replays: 301, plans: 752, changes: 1_850}
 """The modules with cases, and how many each has at least."""
 
 

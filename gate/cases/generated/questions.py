@@ -1,4 +1,4 @@
-"""Selections, statistics, conditions, matches and executions of generated records."""
+"""Selections, statistics, conditions, matches, lists, executions and reports of generated records."""
 
 from typing import List, Union
 
@@ -153,6 +153,19 @@ def kind_of_answer(output: str) -> str:
 IN_ORDER_ANSWERS = ["yes", "yes of 1", "yes of 2", "yes of 3", "yes of 4", "no 0", "no 1", "no 2", "no 3"]
 
 
+def lists() -> Cases:
+    """Lists of events by a selection and up to three conditions, of few events and of up to 300."""
+    numbers = Numbers(53)
+    texts = [short_record(numbers) for _ in range(200)] + [record_text(numbers, size) for size in SIZES for _ in range(4)]
+    cases: Cases = []
+    for number, text in enumerate(texts):
+        name = numbers.one_of(("all",) * 9 + form.SELECTIONS)
+        words = [write_condition(condition(numbers, 2)) for _ in range(numbers.below(4))]
+        cases.append(modelled(f"generated list/{number}", ["ask", "list", name, *words], text))
+    met = [min(case.output.decode().count("\n"), 3) for case in cases]
+    return cases + [each_is_met("generated list", [f"{count} lines" for count in met], [f"{count} lines" for count in range(4)], 10)]
+
+
 def executions() -> Cases:
     """Lists of executions, of few events and of a hundred."""
     numbers = Numbers(8)
@@ -182,6 +195,7 @@ def cases() -> Cases:
         + matches("in-order", 5, conditions_in_turn, IN_ORDER_ANSWERS, 4)
         + matches("exactly", 6, conditions_of_events, ["yes", "wrong-count", "no 0", "no 1", "no 2"], 4)
         + matches("loosely", 9, conditions_of_events, ["yes", "no 0", "no 1", "no 2"], 4)
+        + lists()
         + executions()
         + reports()
     )

@@ -1,22 +1,25 @@
 """Each fault line of the program is wanted by a case, with its status, and no case wants another line."""
 
+import importlib
 import re
 from typing import List, Tuple
 
 from harness import Case, Check
-from tables import (
-    command_lines,
-    condition_faults,
-    devices,
-    large_plans,
-    open_inputs,
-    plan_json,
-    plan_members,
-    plan_rules,
-    record_lines,
-    replays,
-    text_sizes,
-)
+
+WITH_FAULTS = [
+    "command_lines",
+    "condition_faults",
+    "devices",
+    "large_plans",
+    "open_inputs",
+    "plan_json",
+    "plan_members",
+    "plan_rules",
+    "record_lines",
+    "replays",
+    "text_sizes",
+]
+"""The modules of this folder that have cases of faults, by name."""
 
 LINES = [
     ("bad command line", 2),
@@ -57,19 +60,7 @@ def pattern(line: str) -> "re.Pattern[bytes]":
 
 
 def cases_of_faults() -> List[Case]:
-    modules = [
-        command_lines,
-        condition_faults,
-        devices,
-        large_plans,
-        open_inputs,
-        plan_json,
-        plan_members,
-        plan_rules,
-        record_lines,
-        replays,
-        text_sizes,
-    ]
+    modules = [importlib.import_module(f"tables.{name}") for name in WITH_FAULTS]
     return [case for module in modules for case in module.CASES if isinstance(case, Case) and case.error]
 
 

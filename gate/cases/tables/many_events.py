@@ -32,6 +32,11 @@ def many_executions() -> bytes:
     ).encode()
 
 
+def many_skips() -> bytes:
+    """The list of the skips."""
+    return "".join(f"{position} E|3|3|{position}|skip|off\n" for position in range(5, 6 * ROUNDS, 6)).encode()
+
+
 MANY_NUMBERS = dict(
     all=6 * ROUNDS,
     tests=6 * ROUNDS,
@@ -72,6 +77,7 @@ MANY_EVENTS = [
         MANY_STATS + "mismatch started expected 99999 actual 100000\n",
     ),
     answer("300,000 events/executions", "ask executions", many_events, many_executions),
+    answer("300,000 events/list by 100 conditions", ["ask", "list", "skipped"] + ["not(started)"] * 100, many_events, many_skips),
     no("300,000 events/exactly", ["ask", "match", "exactly"] + TEN_CONDITIONS * 10, many_events, "wrong-count\n"),
     answer("300,000 events/loosely", ["ask", "match", "loosely"] + TEN_CONDITIONS * 10, many_events, "yes\n"),
     no(

@@ -32,6 +32,8 @@ WORDS = [
         ("ask match most", "bad word 0"),
         ("ask match exactly test tesx", "condition 2 is bad at 3"),
         ("ask match loosely " + "not(" * 33, "condition 1 is too deep"),
+        ("ask list", "bad word 0"),
+        ("ask list tests test tesx", "condition 2 is bad at 3"),
         ("ask executions x", "bad word 0"),
     ]
 ]
@@ -42,6 +44,7 @@ TOO_LARGE = [
     for words, text in [
         ("ask stats", ONE_START),
         ("ask match in-order started", ONE_START),
+        ("ask list all", ONE_START),
         ("replay", SMALL_REPLAY),
         ("run", ONE_TEST_PLAN),
         ("run --workers 0", ONE_TEST_PLAN),

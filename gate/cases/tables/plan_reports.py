@@ -26,6 +26,11 @@ def dynamic(*nodes: str) -> str:
     return ',"dynamic":[' + ",".join(nodes) + "]"
 
 
+def passed(*ids: str) -> list:
+    """The lines of nodes that started and succeeded, and did nothing else."""
+    return [line for id_text in ids for line in (id_text, "  start", "  finish|ok")]
+
+
 def reports(name: str, text: str, statistics: str, *lines: str) -> list:
     """The plan has this report, for any number of workers."""
     report = statistics + "".join(line + "\n" for line in lines)
@@ -39,31 +44,13 @@ ONE = stats(started=1, finished=1, succeeded=1)
 TWO = stats(started=2, finished=2, succeeded=2)
 
 MEMBERS = [
-    *reports("container", root(""), ONE, "[engine:e]", "  start", "  finish|ok"),
-    *reports("both", plan(node("both", "a", "b")), ONE, "[a:b]", "  start", "  finish|ok"),
+    *reports("container", root(""), ONE, *passed("[engine:e]")),
+    *reports("both", plan(node("both", "a", "b")), ONE, *passed("[a:b]")),
     *reports("skip", root(',"skip":"off"'), stats(skipped=1), "[engine:e]", "  skip|off"),
     *reports("empty reason", root(',"skip":""'), stats(skipped=1), "[engine:e]", "  skip|"),
-    *reports(
-        "reason with escapes",
-        root(',"skip":"a|b\\nc\\\\"'),
-        stats(skipped=1),
-        "[engine:e]",
-        "  skip|a\\pb\\nc\\\\",
-    ),
-    *reports(
-        "skip and a result",
-        root(',"skip":"off","result":{"status":"failed"}'),
-        stats(skipped=1),
-        "[engine:e]",
-        "  skip|off",
-    ),
-    *reports(
-        "skip and entries",
-        root(',"skip":"off","entries":[[],[]]'),
-        stats(skipped=1),
-        "[engine:e]",
-        "  skip|off",
-    ),
+    *reports("reason with escapes", root(',"skip":"a|b\\nc\\\\"'), stats(skipped=1), "[engine:e]", "  skip|a\\pb\\nc\\\\"),
+    *reports("skip and a result", root(',"skip":"off","result":{"status":"failed"}'), stats(skipped=1), "[engine:e]", "  skip|off"),
+    *reports("skip and entries", root(',"skip":"off","entries":[[],[]]'), stats(skipped=1), "[engine:e]", "  skip|off"),
     *reports(
         "skip and nodes below",
         root(',"skip":"off"' + children(node("test", "t", "1")) + dynamic(node("test", "t", "2"))),
@@ -71,7 +58,7 @@ MEMBERS = [
         "[engine:e]",
         "  skip|off",
     ),
-    *reports("successful", root(',"result":{"status":"successful"}'), ONE, "[engine:e]", "  start", "  finish|ok"),
+    *reports("successful", root(',"result":{"status":"successful"}'), ONE, *passed("[engine:e]")),
     *reports(
         "failed",
         root(',"result":{"status":"failed"}'),
@@ -112,7 +99,7 @@ MEMBERS = [
         "  start",
         "  finish|abort|late",
     ),
-    *reports("no entries", root(',"entries":[]'), ONE, "[engine:e]", "  start", "  finish|ok"),
+    *reports("no entries", root(',"entries":[]'), ONE, *passed("[engine:e]")),
     *reports(
         "an entry without pairs",
         root(',"entries":[[]]'),
@@ -150,33 +137,20 @@ MEMBERS = [
             ',"locks":[{"key":"a"},{"key":"a","mode":"read"},{"key":"global","mode":"read_write"}]'
         ),
         ONE,
-        "[engine:e]",
-        "  start",
-        "  finish|ok",
+        *passed("[engine:e]"),
     ),
-    *reports(
-        "id with escapes",
-        plan(node("test", "a/b", "c:[d]|%+é")),
-        ONE,
-        "[a%2Fb:c%3A%5Bd%5D\\p%25%2Bé]",
-        "  start",
-        "  finish|ok",
-    ),
+    *reports("id with escapes", plan(node("test", "a/b", "c:[d]|%+é")), ONE, *passed("[a%2Fb:c%3A%5Bd%5D\\p%25%2Bé]")),
     *reports(
         "texts with JSON's escapes",
         plan('{"type":"test","segment":["\\u0061","\\ud83e\\udd80\\/\\b"],"name":"\\t"}'),
         ONE,
-        "[a:🦀%2F\b]",
-        "  start",
-        "  finish|ok",
+        *passed("[a:🦀%2F\b]"),
     ),
     *reports(
         "blanks between the parts",
         plan(' {\t"type" :\r\n "test", "segment":[ "a" ,"b" ] , "name":"n" }\n') + " \n\t\r\n",
         ONE,
-        "[a:b]",
-        "  start",
-        "  finish|ok",
+        *passed("[a:b]"),
     ),
 ]
 
@@ -185,9 +159,7 @@ DYNAMIC = [
         "a dynamic node",
         root(dynamic(node("test", "d", "1"))),
         stats(started=2, finished=2, succeeded=2, dynamic=1),
-        "[engine:e]",
-        "  start",
-        "  finish|ok",
+        *passed("[engine:e]"),
         "[engine:e]/[d:1]",
         "  dynamic|T|[engine:e]/[d:1]|1",
         "  start",
@@ -197,9 +169,7 @@ DYNAMIC = [
         "a dynamic node that is skipped",
         root(dynamic(node("container", "d", "1", ',"skip":"off"' + dynamic(node("test", "d", "2"))))),
         stats(skipped=1, started=1, finished=1, succeeded=1, dynamic=1),
-        "[engine:e]",
-        "  start",
-        "  finish|ok",
+        *passed("[engine:e]"),
         "[engine:e]/[d:1]",
         "  dynamic|C|[engine:e]/[d:1]|1",
         "  skip|off",
@@ -213,9 +183,7 @@ DYNAMIC = [
             )
         ),
         stats(started=4, finished=4, succeeded=4, reporting=1, dynamic=3),
-        "[engine:e]",
-        "  start",
-        "  finish|ok",
+        *passed("[engine:e]"),
         "[engine:e]/[d:1]",
         "  dynamic|B|[engine:e]/[d:1]|1",
         "  start",
@@ -234,24 +202,18 @@ DYNAMIC = [
         "dynamic nodes beside children",
         root(dynamic(node("test", "d", "1")) + children(node("test", "t", "1"))),
         stats(started=3, finished=3, succeeded=3, dynamic=1),
-        "[engine:e]",
-        "  start",
-        "  finish|ok",
+        *passed("[engine:e]"),
         "[engine:e]/[d:1]",
         "  dynamic|T|[engine:e]/[d:1]|1",
         "  start",
         "  finish|ok",
-        "[engine:e]/[t:1]",
-        "  start",
-        "  finish|ok",
+        *passed("[engine:e]/[t:1]"),
     ),
     *reports(
         "name of a dynamic node",
         root(dynamic('{"type":"test","segment":["d","1"],"name":"a|b\\\\c\\nd"}')),
         stats(started=2, finished=2, succeeded=2, dynamic=1),
-        "[engine:e]",
-        "  start",
-        "  finish|ok",
+        *passed("[engine:e]"),
         "[engine:e]/[d:1]",
         "  dynamic|T|[engine:e]/[d:1]|a\\pb\\\\c\\nd",
         "  start",

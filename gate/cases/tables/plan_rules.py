@@ -1,7 +1,15 @@
 """Plans whose members are good and whose nodes are refused."""
 
+from typing import List, Tuple
+
+from harness import Case
 from tables.building import answer, stats
 from tables.plan_texts import CHILD, ONE_START, plan_of, refused, rooted
+
+
+def each_refused(line: str, *rows: Tuple[str, str]) -> List[Case]:
+    """The plans of these rows, each with the name of its case, are refused with this line."""
+    return [refused(name, plan, line) for name, plan in rows]
 
 
 def locks(keys) -> str:
@@ -9,67 +17,48 @@ def locks(keys) -> str:
 
 
 RULES = [
-    refused("entry key twice", rooted(',"entries":[[["k","1"],["k","2"]]]'), "entry key twice"),
-    refused("entry key twice with one value", rooted(',"entries":[[["k","1"],["k","1"]]]'), "entry key twice"),
-    refused("entry key twice apart", rooted(',"entries":[[],[["k","1"],["l","1"],["k","2"]]]'), "entry key twice"),
-    refused("empty entry key twice", rooted(',"entries":[[["",""],["",""]]]'), "entry key twice"),
-    refused(
-        "entry key twice of a skipped node",
-        rooted(',"skip":"off","entries":[[["k","1"],["k","2"]]]'),
+    *each_refused(
         "entry key twice",
+        ("entry key twice", rooted(',"entries":[[["k","1"],["k","2"]]]')),
+        ("entry key twice with one value", rooted(',"entries":[[["k","1"],["k","1"]]]')),
+        ("entry key twice apart", rooted(',"entries":[[],[["k","1"],["l","1"],["k","2"]]]')),
+        ("empty entry key twice", rooted(',"entries":[[["",""],["",""]]]')),
+        ("entry key twice of a skipped node", rooted(',"skip":"off","entries":[[["k","1"],["k","2"]]]')),
+        ("entry key twice before the children", rooted(',"entries":[[["k","1"],["k","2"]]],"children":[3]')),
+    ),
+    *each_refused(
+        "plan id is bad",
+        ("empty tag", plan_of('{"type":"test","segment":["","x"],"name":"e"}')),
+        ("empty value", plan_of('{"type":"test","segment":["x",""],"name":"e"}')),
+        ("empty segment", plan_of('{"type":"test","segment":["",""],"name":"e"}')),
+        ("empty tag of a child", rooted(',"children":[{"type":"test","segment":["","y"],"name":"m"}]')),
+        ("empty value of a dynamic node", rooted(',"dynamic":[{"type":"test","segment":["x",""],"name":"m"}]')),
+    ),
+    *each_refused(
+        "plan table is refused",
+        ("children twice", rooted(',"children":[CHILD,CHILD]')),
+        ("dynamic nodes twice", rooted(',"dynamic":[CHILD,CHILD]')),
+        ("a child and a dynamic node", rooted(',"children":[CHILD],"dynamic":[CHILD]')),
+        ("a dynamic node and a child, as they are written", rooted(',"dynamic":[CHILD],"children":[CHILD]')),
+        ("children twice below a skipped node", rooted(',"skip":"off","children":[CHILD,CHILD]')),
+        ("twice before a later node", rooted(',"children":[CHILD,CHILD,3]')),
     ),
     refused(
         "entry key twice before the id",
         plan_of('{"type":"test","segment":["",""],"name":"","entries":[[["k","1"],["k","2"]]]}'),
         "entry key twice",
     ),
-    refused(
-        "member before entry key twice",
-        rooted(',"entries":[[["k","1"],["k","2"]]],"dynamic":3'),
-        "plan member /root/dynamic is bad",
-    ),
-    refused(
-        "entry key twice before the children",
-        rooted(',"entries":[[["k","1"],["k","2"]]],"children":[3]'),
-        "entry key twice",
-    ),
-    refused("empty tag", plan_of('{"type":"test","segment":["","x"],"name":"e"}'), "plan id is bad"),
-    refused("empty value", plan_of('{"type":"test","segment":["x",""],"name":"e"}'), "plan id is bad"),
-    refused("empty segment", plan_of('{"type":"test","segment":["",""],"name":"e"}'), "plan id is bad"),
-    refused(
-        "empty tag of a child",
-        rooted(',"children":[{"type":"test","segment":["","y"],"name":"m"}]'),
-        "plan id is bad",
-    ),
-    refused(
-        "empty value of a dynamic node",
-        rooted(',"dynamic":[{"type":"test","segment":["x",""],"name":"m"}]'),
-        "plan id is bad",
-    ),
+    refused("member before entry key twice", rooted(',"entries":[[["k","1"],["k","2"]]],"dynamic":3'), "plan member /root/dynamic is bad"),
     refused(
         "empty tag before too many resources",
         plan_of('{"type":"test","segment":["","x"],"name":"e"' + locks(range(16)) + "}"),
         "plan id is bad",
-    ),
-    refused("children twice", rooted(',"children":[CHILD,CHILD]'), "plan table is refused"),
-    refused("dynamic nodes twice", rooted(',"dynamic":[CHILD,CHILD]'), "plan table is refused"),
-    refused("a child and a dynamic node", rooted(',"children":[CHILD],"dynamic":[CHILD]'), "plan table is refused"),
-    refused(
-        "a dynamic node and a child, as they are written",
-        rooted(',"dynamic":[CHILD],"children":[CHILD]'),
-        "plan table is refused",
-    ),
-    refused(
-        "children twice below a skipped node",
-        rooted(',"skip":"off","children":[CHILD,CHILD]'),
-        "plan table is refused",
     ),
     refused(
         "children twice with other types and names",
         rooted(',"children":[CHILD,{"type":"container","segment":["b","y"],"name":"n"}]'),
         "plan table is refused",
     ),
-    refused("twice before a later node", rooted(',"children":[CHILD,CHILD,3]'), "plan table is refused"),
     refused("a node before twice", rooted(',"children":[CHILD,3,CHILD]'), "plan member /root/children/1 is bad"),
     refused(
         "member before twice",
@@ -86,14 +75,18 @@ def child_with(members: str) -> str:
 FIFTEEN = [f"k{number}" for number in range(15)]
 
 RESOURCES = [
+    *each_refused(
+        "too many resources",
+        ("sixteen lock keys", rooted(locks(FIFTEEN + ["x"]))),
+        ("sixteen lock keys with global between", rooted(locks(FIFTEEN + ["global", "x"]))),
+        ("Global is no global", rooted(locks(FIFTEEN + ["Global"]))),
+        ("sixteen lock keys, one empty", rooted(locks(FIFTEEN + [""]))),
+        ("too many resources before the children", rooted(locks(FIFTEEN + ["x"]) + ',"children":[3]')),
+    ),
     answer("plan/fifteen lock keys", "run", rooted(locks(FIFTEEN)), ONE_START),
     answer("plan/fifteen lock keys and global", "run", rooted(locks(FIFTEEN + ["global"])), ONE_START),
     answer("plan/fifteen lock keys twice", "run", rooted(locks(FIFTEEN + FIFTEEN)), ONE_START),
     answer("plan/empty lock key", "run", rooted(locks(FIFTEEN[:14] + [""])), ONE_START),
-    refused("sixteen lock keys", rooted(locks(FIFTEEN + ["x"])), "too many resources"),
-    refused("sixteen lock keys with global between", rooted(locks(FIFTEEN + ["global", "x"])), "too many resources"),
-    refused("Global is no global", rooted(locks(FIFTEEN + ["Global"])), "too many resources"),
-    refused("sixteen lock keys, one empty", rooted(locks(FIFTEEN + [""])), "too many resources"),
     refused(
         "sixteenth lock key of a child",
         rooted(locks(FIFTEEN) + ',"children":[' + child_with(locks(["x"])) + "]"),
@@ -102,11 +95,6 @@ RESOURCES = [
     refused(
         "sixteenth lock key below a skipped node",
         rooted(',"skip":"off"' + locks(FIFTEEN) + ',"children":[' + child_with(locks(["x"])) + "]"),
-        "too many resources",
-    ),
-    refused(
-        "too many resources before the children",
-        rooted(locks(FIFTEEN + ["x"]) + ',"children":[3]'),
         "too many resources",
     ),
     refused(
@@ -143,11 +131,7 @@ LEVELS = [
     refused("61 levels of dynamic nodes", dynamic_chain(61), "plan too deep"),
     refused("level 61 before its members", chain(60, ',"children":[3]'), "plan too deep"),
     refused("level 61 of a dynamic node", chain(60, ',"dynamic":[CHILD]'.replace("CHILD", CHILD)), "plan too deep"),
-    refused(
-        "an earlier fault before level 61",
-        chain(61).replace('"name":"n"', '"name":3', 1),
-        "plan member /root/name is bad",
-    ),
+    refused("an earlier fault before level 61", chain(61).replace('"name":"n"', '"name":3', 1), "plan member /root/name is bad"),
     refused(
         "member of level 60 before level 61",
         chain(60, ',"dynamic":3,"children":[3]'),
@@ -182,16 +166,8 @@ LONG_IDS = [
         + f"[s:{'x' * 4_086}]\n  start\n  finish|ok\n[s:{'x' * 4_086}]/[c:y]\n  start\n  finish|ok\n",
     ),
     refused("child's id of 4,097 bytes", long_id("x", 4_087, LOWER), "plan id is bad"),
-    refused(
-        "dynamic node's id of 4,097 bytes",
-        long_id("x", 4_087, LOWER.replace("children", "dynamic")),
-        "plan id is bad",
-    ),
-    refused(
-        "child's id of 4,097 bytes below a skipped node",
-        long_id("x", 4_087, ',"skip":"off"' + LOWER),
-        "plan id is bad",
-    ),
+    refused("dynamic node's id of 4,097 bytes", long_id("x", 4_087, LOWER.replace("children", "dynamic")), "plan id is bad"),
+    refused("child's id of 4,097 bytes below a skipped node", long_id("x", 4_087, ',"skip":"off"' + LOWER), "plan id is bad"),
 ]
 
 CASES = RULES + RESOURCES + LEVELS + LONG_IDS

@@ -1,7 +1,7 @@
 """Reports of plans that are cut into units in each way, and the order of ids."""
 
 from tables.building import stats
-from tables.plan_reports import TWO, children, node, reports, root
+from tables.plan_reports import TWO, children, node, passed, reports, root
 
 SPINE_ENTRIES = (
     children(
@@ -14,27 +14,12 @@ SPINE_ENTRIES = (
 )
 
 CUTS = [
-    *reports(
-        "one child of the same thread",
-        root(children(node("test", "t", "1"))),
-        TWO,
-        "[engine:e]",
-        "  start",
-        "  finish|ok",
-        "[engine:e]/[t:1]",
-        "  start",
-        "  finish|ok",
-    ),
+    *reports("one child of the same thread", root(children(node("test", "t", "1"))), TWO, *passed("[engine:e]", "[engine:e]/[t:1]")),
     *reports(
         "one concurrent child",
         root(children(node("test", "t", "1", ',"mode":"concurrent"'))),
         TWO,
-        "[engine:e]",
-        "  start",
-        "  finish|ok",
-        "[engine:e]/[t:1]",
-        "  start",
-        "  finish|ok",
+        *passed("[engine:e]", "[engine:e]/[t:1]"),
     ),
     *reports(
         "spine nodes with entries and results",
@@ -49,15 +34,11 @@ CUTS = [
         "  start",
         "  report|k|v",
         "  finish|abort",
-        "[engine:e]/[c:1]/[t:1]",
-        "  start",
-        "  finish|ok",
+        *passed("[engine:e]/[c:1]/[t:1]"),
         "[engine:e]/[t:1]",
         "  start",
         "  finish|fail|boom",
-        "[engine:e]/[t:2]",
-        "  start",
-        "  finish|ok",
+        *passed("[engine:e]/[t:2]"),
     ),
     *reports(
         "a child of the same thread among concurrent ones",
@@ -68,12 +49,7 @@ CUTS = [
             )
         ),
         stats(skipped=1, started=2, finished=2, succeeded=2),
-        "[engine:e]",
-        "  start",
-        "  finish|ok",
-        "[engine:e]/[t:1]",
-        "  start",
-        "  finish|ok",
+        *passed("[engine:e]", "[engine:e]/[t:1]"),
         "[engine:e]/[t:2]",
         "  skip|off",
     ),
@@ -97,21 +73,17 @@ CUTS = [
             )
         ),
         stats(started=9, finished=9, succeeded=9),
-        *[
-            line
-            for id_text in [
-                "[engine:e]",
-                "[engine:e]/[T:1]",
-                "[engine:e]/[a:z]",
-                "[engine:e]/[t:%5D]",
-                "[engine:e]/[t:1 ]",
-                "[engine:e]/[t:10]",
-                "[engine:e]/[t:1]",
-                "[engine:e]/[t:9]",
-                "[engine:e]/[é:1]",
-            ]
-            for line in [id_text, "  start", "  finish|ok"]
-        ],
+        *passed(
+            "[engine:e]",
+            "[engine:e]/[T:1]",
+            "[engine:e]/[a:z]",
+            "[engine:e]/[t:%5D]",
+            "[engine:e]/[t:1 ]",
+            "[engine:e]/[t:10]",
+            "[engine:e]/[t:1]",
+            "[engine:e]/[t:9]",
+            "[engine:e]/[é:1]",
+        ),
     ),
     *reports(
         "units that all write one resource",
@@ -124,10 +96,7 @@ CUTS = [
             )
         ),
         stats(started=10, finished=10, succeeded=10),
-        "[engine:e]",
-        "  start",
-        "  finish|ok",
-        *[line for number in range(9) for line in [f"[engine:e]/[t:{number}]", "  start", "  finish|ok"]],
+        *passed("[engine:e]", *[f"[engine:e]/[t:{number}]" for number in range(9)]),
     ),
     *reports(
         "units that are all isolated",
@@ -135,10 +104,7 @@ CUTS = [
             children(*[node("test", "t", str(number), ',"mode":"concurrent","isolated":true') for number in range(9)])
         ),
         stats(started=10, finished=10, succeeded=10),
-        "[engine:e]",
-        "  start",
-        "  finish|ok",
-        *[line for number in range(9) for line in [f"[engine:e]/[t:{number}]", "  start", "  finish|ok"]],
+        *passed("[engine:e]", *[f"[engine:e]/[t:{number}]" for number in range(9)]),
     ),
     *reports(
         "units that each write one of fifteen resources and global",
@@ -156,10 +122,7 @@ CUTS = [
             )
         ),
         stats(started=16, finished=16, succeeded=16),
-        "[engine:e]",
-        "  start",
-        "  finish|ok",
-        *[line for number in range(15) for line in [f"[engine:e]/[t:{number:02}]", "  start", "  finish|ok"]],
+        *passed("[engine:e]", *[f"[engine:e]/[t:{number:02}]" for number in range(15)]),
     ),
 ]
 

@@ -62,12 +62,7 @@ STATS = [
 EXPECTATIONS = [
     answer("expectations/met", "ask stats failed=1 skipped=1", TWO_TESTS, TWO_TESTS_STATS),
     answer("expectations/all met", ["ask", "stats"] + [f"{name}=0" for name in form.STATISTICS], EMPTY, stats()),
-    no(
-        "expectations/one is missed",
-        "ask stats failed=1 skipped=0",
-        TWO_TESTS,
-        TWO_TESTS_STATS + "mismatch skipped expected 0 actual 1\n",
-    ),
+    no("expectations/one is missed", "ask stats failed=1 skipped=0", TWO_TESTS, TWO_TESTS_STATS + "mismatch skipped expected 0 actual 1\n"),
     no(
         "expectations/two are missed, in the order of the statistics",
         "ask stats failed=2 skipped=0 started=2",
@@ -124,12 +119,7 @@ TWO_STARTS = record("N|T|[engine:e]|e", "E|1|0|0|start", "E|1|0|1|start")
 START_FINISH_START = record("N|T|[engine:e]|e", "E|1|0|0|start", "E|1|0|1|finish|ok", "E|1|0|2|start")
 
 MATCHES = [
-    no(
-        "match/exactly, one start and two conditions",
-        "ask match exactly started started",
-        ONE_START,
-        "wrong-count\n",
-    ),
+    no("match/exactly, one start and two conditions", "ask match exactly started started", ONE_START, "wrong-count\n"),
     no("match/exactly, one start that failed", "ask match exactly failed", ONE_START, "no 0\n"),
     answer("match/exactly, one start", "ask match exactly started", ONE_START, "yes\n"),
     no("match/exactly, no condition", "ask match exactly", ONE_START, "wrong-count\n"),
@@ -166,48 +156,23 @@ MATCHES = [
     answer("match/in-order, no condition", "ask match in-order", ONE_START, "yes\n"),
     answer("match/in-order, nothing of nothing", "ask match in-order", EMPTY, "yes\n"),
     no("match/in-order, all() of nothing", "ask match in-order all()", EMPTY, "no 0\n"),
-    answer(
-        "match/in-order, two tests",
-        "ask match in-order started failed(boom) succeeded",
-        TWO_TESTS,
-        "yes 0 2 4\n",
-    ),
+    answer("match/in-order, two tests", "ask match in-order started failed(boom) succeeded", TWO_TESTS, "yes 0 2 4\n"),
     no("match/in-order, nothing starts after the end", "ask match in-order succeeded started", TWO_TESTS, "no 1\n"),
     no("match/in-order, the first fails", "ask match in-order aborted started", TWO_TESTS, "no 0\n"),
     answer("match/in-order, the first of several", "ask match in-order all() all()", TWO_TESTS, "yes 0 1\n"),
-    answer(
-        "match/in-order, all events",
-        "ask match in-order all() all() all() all() all()",
-        TWO_TESTS,
-        "yes 0 1 2 3 4\n",
-    ),
+    answer("match/in-order, all events", "ask match in-order all() all() all() all() all()", TWO_TESTS, "yes 0 1 2 3 4\n"),
     no("match/in-order, one too many", "ask match in-order all() all() all() all() all() all()", TWO_TESTS, "no 5\n"),
     answer("match/in-order, two starts", "ask match in-order started started", TWO_STARTS, "yes 0 1\n"),
     answer("match/in-order, the last fit", "ask match in-order succeeded started", START_FINISH_START, "yes 1 2\n"),
-    answer(
-        "match/in-order, the least fit",
-        "ask match in-order any(started,succeeded) started",
-        START_FINISH_START,
-        "yes 0 2\n",
-    ),
+    answer("match/in-order, the least fit", "ask match in-order any(started,succeeded) started", START_FINISH_START, "yes 0 2\n"),
     answer(
         "match/in-order, sixty-five starts",
         ["ask", "match", "in-order"] + ["started"] * 65,
         SIXTY_FIVE_STARTS,
         "yes " + " ".join(str(position) for position in range(65)) + "\n",
     ),
-    no(
-        "match/in-order, sixty-six of sixty-five starts",
-        ["ask", "match", "in-order"] + ["started"] * 66,
-        SIXTY_FIVE_STARTS,
-        "no 65\n",
-    ),
-    no(
-        "match/loosely, not(started) of sixty-five starts",
-        "ask match loosely not(started)",
-        SIXTY_FIVE_STARTS,
-        "no 0\n",
-    ),
+    no("match/in-order, sixty-six of sixty-five starts", ["ask", "match", "in-order"] + ["started"] * 66, SIXTY_FIVE_STARTS, "no 65\n"),
+    no("match/loosely, not(started) of sixty-five starts", "ask match loosely not(started)", SIXTY_FIVE_STARTS, "no 0\n"),
 ]
 
 
@@ -221,12 +186,7 @@ EXECUTIONS = [
     answer("executions/two tests", "ask executions", TWO_TESTS, "1 failed 1 2\n2 skipped 1 1\n0 succeeded 0 9\n"),
     answer("executions/both kinds", "ask executions", BOTH_KINDS, "0 succeeded 0 1\n"),
     answer("executions/one start", "ask executions", ONE_START, ""),
-    answer(
-        "executions/repeated marks",
-        "ask executions",
-        marks("start", "start", "finish|ok", "finish|ok"),
-        "0 succeeded 2 3\n",
-    ),
+    answer("executions/repeated marks", "ask executions", marks("start", "start", "finish|ok", "finish|ok"), "0 succeeded 2 3\n"),
     answer("executions/skip between", "ask executions", marks("start", "skip|off", "finish|ok"), "0 skipped 2 2\n"),
     answer("executions/finish alone", "ask executions", marks("finish|ok"), ""),
     answer("executions/two skips", "ask executions", marks("skip|a", "skip|b"), "0 skipped 1 1\n0 skipped 2 2\n"),
@@ -236,12 +196,7 @@ EXECUTIONS = [
         marks("start", "finish|abort", "start", "finish|fail|boom"),
         "0 aborted 1 2\n0 failed 3 4\n",
     ),
-    answer(
-        "executions/report between",
-        "ask executions",
-        marks("start", "report|k|v", "finish|ok"),
-        "0 succeeded 1 3\n",
-    ),
+    answer("executions/report between", "ask executions", marks("start", "report|k|v", "finish|ok"), "0 succeeded 1 3\n"),
     answer(
         "executions/of several workers",
         "ask executions",
@@ -291,12 +246,7 @@ EXECUTIONS = [
         record("N|T|[engine:e]|e", "E|1|0|18446744073709551615|start", "E|1|0|18446744073709551614|finish|ok"),
         "0 succeeded 18446744073709551615 18446744073709551614\n",
     ),
-    answer(
-        "executions/every kind",
-        "ask executions",
-        EVERY_KIND,
-        "1 aborted 2 6\n65536 skipped 7 7\n0 succeeded 0 11\n",
-    ),
+    answer("executions/every kind", "ask executions", EVERY_KIND, "1 aborted 2 6\n65536 skipped 7 7\n0 succeeded 0 11\n"),
 ]
 
 FILES = record("N|T|[engine:e]|e", "E|1|0|0|start", "E|1|0|1|file|out/log.txt", "E|1|0|2|finish|ok")

@@ -16,6 +16,12 @@ def record_of_size(size: int) -> bytes:
     return (text + "x" * (size - len(text) - 1) + "\n").encode()
 
 
+def listed(text: bytes) -> bytes:
+    """The lines of all events of a record text, each after its position."""
+    events = [line for line in text.split(b"\n") if line.startswith(b"E|")]
+    return b"".join(b"%d %s\n" % (position, event) for position, event in enumerate(events))
+
+
 def name_of_size(header: str, rest: str, size: int) -> str:
     """An N line whose name fills the text of `header`, this line and `rest` up to `size` bytes."""
     node = "N|T|[engine:e]|"
@@ -44,6 +50,19 @@ SIZES = [
         lambda: record_of_size(form.MAX_TEXT),
         "yes\n",
     ),
+    answer(
+        "16 MiB/record, the list of its last event",
+        "ask list skipped not(started)",
+        lambda: record_of_size(form.MAX_TEXT),
+        lambda: b"1000000 " + record_of_size(form.MAX_TEXT).split(b"\n")[-2] + b"\n",
+    ),
+    answer(
+        "16 MiB/record, the list of all",
+        "ask list all",
+        lambda: record_of_size(form.MAX_TEXT),
+        lambda: listed(record_of_size(form.MAX_TEXT)),
+    ),
+    fault("16 MiB and a byte/record, listed", "ask list files", lambda: record_of_size(form.MAX_TEXT + 1), TOO_LARGE),
     fault("16 MiB and a byte/record", "ask stats", lambda: record_of_size(form.MAX_TEXT + 1), TOO_LARGE),
     fault("16 MiB and a byte/no header", "ask count all", lambda: b"x" * (form.MAX_TEXT + 1), TOO_LARGE),
     fault("16 MiB/no header", "ask count all", lambda: b"x" * form.MAX_TEXT, "no header"),

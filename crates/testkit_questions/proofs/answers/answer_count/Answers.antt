@@ -1,4 +1,4 @@
-use Rattle.std.proofs.Common.{rules, ◌≡◌, ◌++◌, ◌∷◌, [], ℕ, length, string_bytes, refl, ap, ◌∙◌}
+use Rattle.std.proofs.Common.{rules, ◌≡◌, ◌++◌, ◌∷◌, [], ℕ, length, string_bytes, ap, ◌∙◌}
 use Rattle.std.specs.Fmt.{decimal}
 use Rattle.tk_record_columns.specs.Selections.{Selected, filtered_by, selects}
 use Rattle.testkit_questions.proofs.AnswerLemmas.{kept_count}

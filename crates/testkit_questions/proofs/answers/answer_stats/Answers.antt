@@ -1,4 +1,4 @@
-use Rattle.std.proofs.Common.{◌∙◌, string_bytes}
+use Rattle.std.proofs.Common.{◌∙◌}
 use Rattle.testkit_questions.proofs.AnswerLemmas.{if_ok_then, stats_are}
 use Rattle.testkit_questions.proofs.answers.answer_stats.Goals as goal
 

@@ -1,4 +1,4 @@
-use Rattle.std.proofs.Common.{rules, Err, ap, string_bytes}
+use Rattle.std.proofs.Common.{rules, Err, ap}
 use Rattle.std.proofs.lemmas.Result.{err_from_is_err_and}
 use Rattle.testkit_questions.proofs.AskLemmas.{about, same_read, no_read, no_fault, memory_fault, source_fault}
 use Rattle.testkit_questions.proofs.asking.answer_about.Goals as goal

@@ -1,4 +1,4 @@
-use Rattle.std.proofs.Common.{Err, ◌∙◌, ap, inl, inr, map, refl, string_bytes}
+use Rattle.std.proofs.Common.{Err, ap, inl, inr, map, refl, string_bytes}
 use Rattle.std.proofs.lemmas.Result.{err_from_is_err_and}
 use Rattle.testkit_questions.proofs.AskLemmas.{answered, partly, refused_words, refused_read, not_of_words, no_device, no_source, no_target, same_fault, no_fault, device_fault}
 use Rattle.testkit_questions.proofs.asking.ask.Goals as goal

@@ -26,13 +26,15 @@ returns g c =
     let run = c.in_ok-results.results in
     let is : c.plan.result.now ≡ engine = c.plan.ensures in
     let plan = subst (λ (o : Outline). Answered (plan_in c.args.bytes.now) (Ok o)) (sym c.new-engine.ensures) c.in_ok-plan.ensures in
-    let same = c.report_is_unique.ensures engine.nodes engine.table c.args.workers run.recorded
-    (subst (λ (p : Outline). IsPlanned p.nodes p.table) is c.table-table.ensures.planned) (subst (λ (p : Outline). IsNumbered p.nodes) is c.table-table.ensures.numbered)
-    c.in_ok-results.ensures.run in
+    let planned = subst (λ (p : Outline). IsPlanned p.nodes p.table) is c.table-table.ensures.planned in
+    let numbered = subst (λ (p : Outline). IsNumbered p.nodes) is c.table-table.ensures.numbered in
+    let same = c.report_is_unique.ensures engine.nodes engine.table c.args.workers run.recorded planned numbered c.in_ok-results.ensures.run in
     record {
       plan = plan;
       may_work = may_work c.args.workers (λ out. let bad = c.in_ok-results.ensures.workers.1 out in cc);
       is_run = c.in_ok-results.ensures.run;
       tally = c.in_ok-results.ensures.tally;
       report = has_report c.args.bytes.now engine run.recorded plan same;
+      keeps = c.lifecycle.ensures.keeps engine.nodes engine.table c.args.workers run.recorded planned numbered c.in_ok-results.ensures.run;
+      kept = c.lifecycle.ensures.kept engine.nodes engine.table c.args.workers run.recorded planned numbered c.in_ok-results.ensures.run;
     }

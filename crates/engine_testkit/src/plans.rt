@@ -1,0 +1,9 @@
+//! Plans, the engine of a plan, and reports of runs.
+pub use tk_plan::{
+    Act, Entries, ExecutionMode, Files, Lock, LockMode, Locks, MAX_KEYS, MAX_LEVELS, Node,
+    NumberedNode, Plan, PlanFault, PlanLock, PlanNode, Step, build_plan, count_events, read_plan,
+};
+pub use tk_report::{
+    DEFAULT_CAPACITY, PlanRun, ReportFault, Scripted, plan_report, report_of, run_plan,
+    write_report, write_report_of,
+};

@@ -1,0 +1,89 @@
+//! An engine of one test: is a number even?
+#![tactic(auto, using(engine_testkit::proofs::Emitting::emissions))]
+
+ghost use Rattle.std.specs.Prelude.{◌≡◌, ◌%◌, ◌==◌, if◌then◌else◌, [], ◌∷◌, None, IfSome};
+ghost use Rattle.std.specs.Arc.{arc_value};
+ghost use Rattle.engine_testkit.specs.Events.{finished, started};
+ghost use Rattle.engine_testkit.specs.Status.TheVariants.{Failed, Successful};
+
+use engine_testkit::{
+    BookSeat, DType, Engine, Event, Need, Segment, Sink, Status, Table, UnitFault, finish, start,
+};
+use std::alloc::{AllocError, Global};
+use std::sync::{Arc, Wait};
+
+/// Its test `[engine:even]` succeeds where the number is even.
+#[derive(Drop)]
+pub struct EvenEngine {
+    number: u64,
+    need: Need,
+    table: Arc<Table>,
+}
+
+impl EvenEngine {
+    /// Makes an engine of this number, or `None` where memory is refused.
+    pub fn new(alloc: Global, number: u64) -> Option<EvenEngine>
+        ensures { IfSome result (λ engine. engine.number ≡ number) }
+    {
+        let segment = Segment::new(alloc, "engine", "even").ok()?;
+        let mut table = Table::new(alloc);
+        table.add(alloc, None, &segment, "even", DType::Test).ok()?;
+        let (need, table) = (Need::of(0, 0), Arc::new(alloc, table).ok()?);
+        Some(EvenEngine {
+            number,
+            need,
+            table,
+        })
+    }
+}
+
+impl Engine for EvenEngine {
+    ghost table = { λ e. arc_value e.table };
+
+    ghost units = { λ e. 1 };
+
+    ghost before = { λ e. [] };
+
+    ghost after = { λ e. [] };
+
+    ghost need = { λ e u. e.need };
+
+    ghost may = { λ e u w k l. l ≡ started 0 0
+        ∷ finished 0 0 (if e.number % 2 == 0 then Successful else Failed) None ∷ [] };
+
+    fn table(&self) -> &Arc<Table> {
+        &self.table
+    }
+
+    fn units(&self) -> u32 {
+        1
+    }
+
+    fn before(&self, alloc: Global) -> Result<Vec<Event>, AllocError> {
+        Ok(Vec::new(alloc))
+    }
+
+    fn after(&self, alloc: Global) -> Result<Vec<Event>, AllocError> {
+        Ok(Vec::new(alloc))
+    }
+
+    fn need(&self, _unit: u32) -> Need {
+        self.need
+    }
+
+    fn run<R: Wait, S: Sink>(
+        &self,
+        rt: &R,
+        _alloc: Global,
+        _unit: u32,
+        _seat: &BookSeat,
+        sink: &mut S,
+    ) -> Result<(), UnitFault> {
+        start(rt, 0, 0, sink)?;
+        let status = match self.number % 2 {
+            0 => Status::Successful,
+            _ => Status::Failed,
+        };
+        finish(rt, 0, 0, status, None, sink)
+    }
+}

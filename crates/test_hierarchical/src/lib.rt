@@ -1,0 +1,5 @@
+//! Tests of the engine of a plan whose tests have bodies.
+#![tactic(auto)]
+
+#[cfg(test)]
+mod bodies;

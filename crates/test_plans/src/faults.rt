@@ -1,0 +1,129 @@
+//! Each fault of a plan in code, and which comes first.
+use std::alloc::{AllocError, Global};
+use tk_events::Status;
+use tk_plan::{LockMode, PlanNode, build_plan};
+
+type Node = Result<PlanNode<'static>, AllocError>;
+
+fn root(alloc: Global) -> PlanNode<'static> {
+    PlanNode::container(alloc, ("engine", "e"), "e")
+}
+
+fn test(alloc: Global, value: &'static str) -> PlanNode<'static> {
+    PlanNode::test(alloc, ("t", value), "t")
+}
+
+// Whether no plan is built, for the fault that is shown so.
+fn is_refused(alloc: Global, node: Node, fault: &str) -> Result<bool, AllocError> {
+    let node = node?;
+    match build_plan(alloc, &node) {
+        Ok(_) => Ok(false),
+        Err(why) => Ok(format!(in alloc; "{why:?}")?.as_str() == fault),
+    }
+}
+
+fn two_alike(alloc: Global) -> Node {
+    root(alloc).child(test(alloc, "1"))?.child(test(alloc, "1"))
+}
+
+// A dynamic node with the segment of a static one.
+fn static_and_dynamic(alloc: Global) -> Node {
+    root(alloc)
+        .child(test(alloc, "1"))?
+        .dynamic(test(alloc, "1"))
+}
+
+// An entry with this key twice.
+fn with_key_twice(alloc: Global, node: PlanNode<'static>, key: &'static str) -> Node {
+    let mut pairs = Vec::new(alloc);
+    pairs.push((key, "1"))?;
+    pairs.push((key, "2"))?;
+    node.entry(pairs)
+}
+
+#[test]
+fn faults_of_one_node(rt: HostRuntime) {
+    let alloc = rt.alloc();
+    let no_value = Ok(PlanNode::test(alloc, ("engine", ""), "e"));
+    let message = Ok(root(alloc).outcome(Status::Successful, Some("fine")));
+    assert!(rt; matches!(is_refused(alloc, no_value, "Id(Empty)"), Ok(true)));
+    assert!(rt;
+        matches!(
+            is_refused(alloc, message, "Field(\"/root/result/message\")"),
+            Ok(true)
+        )
+    );
+    assert!(rt;
+        matches!(
+            is_refused(alloc, root(alloc).file(""), "Field(\"/root/files/0\")"),
+            Ok(true)
+        )
+    );
+    assert!(rt;
+        matches!(
+            is_refused(
+                alloc,
+                with_key_twice(alloc, root(alloc), "k"),
+                "EntryKeyTwice"
+            ),
+            Ok(true)
+        )
+    );
+}
+
+#[test]
+fn faults_among_siblings(rt: HostRuntime) {
+    let alloc = rt.alloc();
+    assert!(rt;
+        matches!(
+            is_refused(alloc, two_alike(alloc), "Table(Twice)"),
+            Ok(true)
+        )
+    );
+    assert!(rt;
+        matches!(
+            is_refused(alloc, static_and_dynamic(alloc), "Table(Twice)"),
+            Ok(true)
+        )
+    );
+}
+
+#[test]
+fn members_of_static_nodes_alone(rt: HostRuntime) {
+    let alloc = rt.alloc();
+    let isolated = root(alloc).dynamic(test(alloc, "1").isolated());
+    assert!(rt;
+        matches!(
+            is_refused(alloc, isolated, "Field(\"/root/dynamic/0/isolated\")"),
+            Ok(true)
+        )
+    );
+    let locked = test(alloc, "1").lock("db", LockMode::Read);
+    let locked = match locked {
+        Ok(locked) => root(alloc).dynamic(locked),
+        Err(fault) => Err(fault),
+    };
+    assert!(rt;
+        matches!(
+            is_refused(alloc, locked, "Field(\"/root/dynamic/0/locks\")"),
+            Ok(true)
+        )
+    );
+}
+
+// The first child has an entry with a key twice and no id, the second is wrong before that.
+fn several(alloc: Global) -> Node {
+    let first = with_key_twice(alloc, PlanNode::test(alloc, ("", "1"), "t"), "k")?;
+    let second = test(alloc, "2").file("")?;
+    root(alloc).child(first)?.child(second)
+}
+
+#[test]
+fn the_first_fault(rt: HostRuntime) {
+    assert!(rt;
+        matches!(
+            is_refused(rt.alloc(), several(rt.alloc()), "EntryKeyTwice"),
+            Ok(true)
+        )
+    );
+}

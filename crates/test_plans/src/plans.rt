@@ -1,0 +1,156 @@
+//! Plans in code say what the same plans in JSON say.
+use crate::shown_plans::shown;
+use std::alloc::{AllocError, Global};
+use tk_events::Status;
+use tk_ids::{DType, UniqueId};
+use tk_plan::{ExecutionMode, LockMode, Plan, PlanFault, PlanNode, build_plan, read_plan};
+
+// A class that may run beside its siblings.
+fn class(alloc: Global, name: &'static str) -> PlanNode<'static> {
+    PlanNode::container(alloc, ("class", name), name).mode(ExecutionMode::Concurrent)
+}
+
+fn method(alloc: Global) -> PlanNode<'static> {
+    PlanNode::test(alloc, ("method", "m"), "m")
+}
+
+/// The demo plan.
+pub fn demo(alloc: Global) -> Result<PlanNode<'static>, AllocError> {
+    let failing = method(alloc).outcome(Status::Failed, Some("boom"));
+    let a = class(alloc, "A").child(method(alloc))?;
+    let b = class(alloc, "B").child(failing)?;
+    let c = class(alloc, "C").skip("off");
+    let registered = PlanNode::test(alloc, ("dyn", "1"), "one");
+    let d = class(alloc, "D")
+        .lock("db", LockMode::ReadWrite)?
+        .dynamic(registered)?;
+    PlanNode::container(alloc, ("engine", "demo"), "demo")
+        .child(a)?
+        .child(b)?
+        .child(c)?
+        .child(d)
+}
+
+// The text of examples/demo.plan.
+fn demo_in_json() -> &'static [u8] {
+    b"{\"version\":2,\"root\":{\"type\":\"container\",\"segment\":[\"engine\",\"demo\"],\"name\":\"demo\",\"children\":[
+{\"type\":\"container\",\"segment\":[\"class\",\"A\"],\"name\":\"A\",\"mode\":\"concurrent\",\"children\":[
+ {\"type\":\"test\",\"segment\":[\"method\",\"m\"],\"name\":\"m\"}]},
+{\"type\":\"container\",\"segment\":[\"class\",\"B\"],\"name\":\"B\",\"mode\":\"concurrent\",\"children\":[
+ {\"type\":\"test\",\"segment\":[\"method\",\"m\"],\"name\":\"m\",\"result\":{\"status\":\"failed\",\"message\":\"boom\"}}]},
+{\"type\":\"container\",\"segment\":[\"class\",\"C\"],\"name\":\"C\",\"mode\":\"concurrent\",\"skip\":\"off\"},
+{\"type\":\"container\",\"segment\":[\"class\",\"D\"],\"name\":\"D\",\"mode\":\"concurrent\",\"locks\":[{\"key\":\"db\"}],
+ \"dynamic\":[{\"type\":\"test\",\"segment\":[\"dyn\",\"1\"],\"name\":\"one\"}]}]}}"
+}
+
+// Whether the plan in code says what the plan of the text says.
+fn is_plan_of(alloc: Global, root: &PlanNode<'_>, text: &[u8]) -> Result<bool, PlanFault> {
+    let built = build_plan(alloc, root)?;
+    let read = read_plan(alloc, text)?;
+    Ok(shown(alloc, &built)? == shown(alloc, &read)?)
+}
+
+#[test]
+fn the_demo_plan(rt: HostRuntime) {
+    let root = demo(rt.alloc());
+    match &root {
+        Ok(root) => assert!(rt; matches!(is_plan_of(rt.alloc(), root, demo_in_json()), Ok(true))),
+        Err(_) => assert!(rt; false, "no memory"),
+    }
+    drop(root);
+}
+
+// Each member with a value other than that of a plan that lacks it.
+fn each_member_in_json() -> &'static [u8] {
+    b"{\"version\":2,\"root\":{\"type\":\"both\",\"segment\":[\"engine\",\"e\"],\"name\":\"all\",\"entries\":[[[\"k\",\"v\"],[\"a\",\"b\"]],[]],
+\"files\":[\"out/a\",\"out/b\"],\"result\":{\"status\":\"aborted\",\"message\":\"m\"},\"children\":[
+ {\"type\":\"container\",\"segment\":[\"c\",\"1\"],\"name\":\"one\",\"mode\":\"concurrent\",\"isolated\":true,\"result\":{\"status\":\"failed\"},
+  \"locks\":[{\"key\":\"db\",\"mode\":\"read\"},{\"key\":\"net\",\"mode\":\"read_write\"},{\"key\":\"global\",\"mode\":\"read\"}],
+  \"children\":[{\"type\":\"test\",\"segment\":[\"t\",\"1\"],\"name\":\"first\"},{\"type\":\"test\",\"segment\":[\"t\",\"2\"],\"name\":\"second\",\"skip\":\"off\"}],
+  \"dynamic\":[{\"type\":\"container\",\"segment\":[\"d\",\"1\"],\"name\":\"third\",\"dynamic\":[
+   {\"type\":\"test\",\"segment\":[\"d\",\"2\"],\"name\":\"fourth\",\"skip\":\"\",\"entries\":[[[\"x\",\"y\"]]]}]}]},
+ {\"type\":\"container\",\"segment\":[\"c\",\"2\"],\"name\":\"two\",\"mode\":\"same_thread\"}]}}"
+}
+
+fn two_pairs(alloc: Global) -> Result<Vec<(&'static str, &'static str)>, AllocError> {
+    let mut pairs = Vec::new(alloc);
+    pairs.push(("k", "v"))?;
+    pairs.push(("a", "b"))?;
+    Ok(pairs)
+}
+
+fn one_pair(alloc: Global) -> Result<Vec<(&'static str, &'static str)>, AllocError> {
+    let mut pairs = Vec::new(alloc);
+    pairs.push(("x", "y"))?;
+    Ok(pairs)
+}
+
+fn locked(alloc: Global) -> Result<PlanNode<'static>, AllocError> {
+    let first = PlanNode::test(alloc, ("t", "1"), "first");
+    let second = PlanNode::new(alloc, DType::Test, ("t", "2"), "second").skip("off");
+    let fourth = PlanNode::test(alloc, ("d", "2"), "fourth")
+        .skip("")
+        .entry(one_pair(alloc)?)?;
+    let third = PlanNode::container(alloc, ("d", "1"), "third").dynamic(fourth)?;
+    PlanNode::container(alloc, ("c", "1"), "one")
+        .mode(ExecutionMode::Concurrent)
+        .isolated()
+        .outcome(Status::Failed, None)
+        .lock("db", LockMode::Read)?
+        .lock("net", LockMode::ReadWrite)?
+        .lock("global", LockMode::Read)?
+        .child(first)?
+        .child(second)?
+        .dynamic(third)
+}
+
+fn each_member(alloc: Global) -> Result<PlanNode<'static>, AllocError> {
+    let two = PlanNode::container(alloc, ("c", "2"), "two").mode(ExecutionMode::SameThread);
+    PlanNode::container_and_test(alloc, ("engine", "e"), "all")
+        .entry(two_pairs(alloc)?)?
+        .entry(Vec::new(alloc))?
+        .file("out/a")?
+        .file("out/b")?
+        .outcome(Status::Aborted, Some("m"))
+        .child(locked(alloc)?)?
+        .child(two)
+}
+
+#[test]
+fn a_plan_with_each_member(rt: HostRuntime) {
+    let root = each_member(rt.alloc());
+    match &root {
+        Ok(root) => {
+            let answer = is_plan_of(rt.alloc(), root, each_member_in_json());
+            assert!(rt; matches!(answer, Ok(true)));
+        }
+        Err(_) => assert!(rt; false, "no memory"),
+    }
+    drop(root);
+}
+
+// The key of the static node with this id.
+fn key_of(alloc: Global, plan: &Plan, id: &str) -> Option<u32> {
+    match UniqueId::read(alloc, id) {
+        Ok(id) => plan.table().find(&id),
+        Err(_) => None,
+    }
+}
+
+#[test]
+fn keys_of_ids(rt: HostRuntime) {
+    let built = match demo(rt.alloc()) {
+        Ok(root) => build_plan(rt.alloc(), &root),
+        Err(_) => Err(PlanFault::Memory),
+    };
+    match &built {
+        Ok(plan) => {
+            assert!(rt; key_of(rt.alloc(), plan, "[engine:demo]") == Some(0));
+            assert!(rt; key_of(rt.alloc(), plan, "[engine:demo]/[class:B]/[method:m]") == Some(4));
+            assert!(rt; key_of(rt.alloc(), plan, "[engine:demo]/[class:D]") == Some(6));
+            assert!(rt; key_of(rt.alloc(), plan, "[engine:demo]/[class:D]/[dyn:1]").is_none());
+        }
+        Err(_) => assert!(rt; false, "no plan"),
+    }
+    drop(built);
+}

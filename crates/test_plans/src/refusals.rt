@@ -1,0 +1,22 @@
+//! Building the demo plan, with ample memory and with any one request for memory refused. What is
+//! refused is asked once more, and then it has to succeed.
+use crate::plans::demo;
+use std::alloc::Global;
+use tk_plan::{PlanFault, build_plan};
+
+// Whether the plan was built, where memory was not refused.
+fn built(alloc: Global) -> Result<bool, PlanFault> {
+    let root = demo(alloc)?;
+    let plan = build_plan(alloc, &root)?;
+    Ok(plan.total_events() == 16)
+}
+
+#[test]
+fn a_plan_in_code(rt: HostRuntime) {
+    let first = built(rt.alloc());
+    assert!(rt; matches!(first, Ok(true) | Err(PlanFault::Memory)));
+    if first.is_err() {
+        assert!(rt; matches!(built(rt.alloc()), Ok(true)));
+    }
+    drop(first);
+}

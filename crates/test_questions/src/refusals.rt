@@ -1,0 +1,102 @@
+//! Calls on questions, with ample memory and with any one request for memory refused. Calls of which
+//! one answers `Memory` are made once more, and then all have to succeed.
+use std::alloc::Global;
+use test_support::{is_written, read_again, two_tests_report};
+use tk_query::{Condition, InOrder, executions, match_in_order, read_condition, select};
+use tk_record_columns::{Events, Record};
+use tk_report_text::write_report_of;
+use tk_streams::ByteTarget;
+
+// Whether the only failure among the events is at position 2.
+fn is_failure_selected(alloc: Global, events: &Events) -> Option<bool> {
+    let failures = select(alloc, events, &Condition::Failed(None)).ok()?;
+    let positions = failures.positions(alloc).ok()?;
+    Some(positions.as_slice() == [2].as_slice())
+}
+
+// Whether the failures of tests are selected, at their positions.
+fn are_selected(alloc: Global, record: &Record) -> Option<bool> {
+    let tests = Events::all(alloc, record).ok()?.tests(alloc).ok()?;
+    is_failure_selected(alloc, &tests)
+}
+
+// Whether two conditions match in order.
+fn is_matched(alloc: Global, record: &Record) -> Option<bool> {
+    let events = Events::all(alloc, record).ok()?;
+    let list = [Condition::Started, Condition::Succeeded];
+    match match_in_order(alloc, &events, &list).ok()? {
+        InOrder::Yes(positions) => Some(positions.as_slice() == [0, 4].as_slice()),
+        InOrder::No(_) => Some(false),
+    }
+}
+
+// Whether there are three executions, of which one failed.
+fn are_executed(alloc: Global, record: &Record) -> Option<bool> {
+    let events = Events::all(alloc, record).ok()?;
+    let list = executions(alloc, &events).ok()?;
+    Some(list.len() == 3 && list.failed(alloc).ok()?.len() == 1)
+}
+
+// Whether the questions are answered, also where one request for memory is refused.
+fn questions_hold(alloc: Global, record: &Record) -> bool {
+    let selected = match are_selected(alloc, record) {
+        None => are_selected(alloc, record),
+        answer => answer,
+    };
+    let matched = match is_matched(alloc, record) {
+        None => is_matched(alloc, record),
+        answer => answer,
+    };
+    let executed = match are_executed(alloc, record) {
+        None => are_executed(alloc, record),
+        answer => answer,
+    };
+    selected == Some(true) && matched == Some(true) && executed == Some(true)
+}
+
+#[test]
+fn questions(rt: HostRuntime) {
+    let hold = match read_again(rt.alloc()) {
+        Some(record) => questions_hold(rt.alloc(), &record),
+        None => false,
+    };
+    assert!(rt; hold);
+}
+
+// Whether the report of the record of two tests is written.
+fn is_report_written(alloc: Global, record: &Record) -> Option<bool> {
+    let mut target = ByteTarget::new(alloc);
+    is_written(
+        write_report_of(alloc, record, &mut target),
+        &target,
+        two_tests_report(),
+    )
+}
+
+// Whether the report is written, also where one request for memory is refused.
+fn report_holds(alloc: Global, record: &Record) -> bool {
+    let written = match is_report_written(alloc, record) {
+        None => is_report_written(alloc, record),
+        answer => answer,
+    };
+    written == Some(true)
+}
+
+#[test]
+fn reports(rt: HostRuntime) {
+    let hold = match read_again(rt.alloc()) {
+        Some(record) => report_holds(rt.alloc(), &record),
+        None => false,
+    };
+    assert!(rt; hold);
+}
+
+// Whether a condition is read.
+fn is_condition_read(alloc: Global) -> bool {
+    read_condition(alloc, "all(failed(a),not(entry(k,v)))").is_ok()
+}
+
+#[test]
+fn conditions(rt: HostRuntime) {
+    assert!(rt; is_condition_read(rt.alloc()) || is_condition_read(rt.alloc()));
+}

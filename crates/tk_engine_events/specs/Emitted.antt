@@ -1,0 +1,29 @@
+-- What was emitted into a sink, in order.
+use Rattle.std.specs.Prelude.{◌≡◌, ℕ, List, [], ◌∷◌, ◌++◌, Some}
+use Rattle.tk_ids.specs.declared.descriptors.Descriptor.{Descriptor}
+use Rattle.tk_events.specs.declared.events.Event.{Event}
+use Rattle.tk_events.specs.Registration.{registered_key}
+use Rattle.tk_queue.specs.Emission.{registrations}
+use Rattle.tk_queue.specs.Registering.{RegisterRequest, child_of, parent_of}
+use Rattle.tk_queue.specs.Senders.{SenderView}
+use Rattle.tk_engine_execute.specs.Engines.{IsSameSender}
+use Rattle.tk_engine_events.specs.Events.{registered}
+
+-- b is a after it emitted these events, in this order, and no others
+pub record Emitted (a b : SenderView) (es : List Event) : Type 0 where
+  pub same : IsSameSender a b
+  pub sent : b.sent ≡ a.sent ++ es
+
+-- b is a after it emitted a list of which P holds
+pub record EmittedAs (P : List Event → Type 0) (a b : SenderView) : Type 0 where
+  pub events : List Event
+  pub emitted : Emitted a b events
+  pub holds : P events
+
+-- The descriptor that was asked for was registered below its parent, under the next key of the
+-- worker. Its registration is all that was emitted.
+pub record Registered (a b : SenderView) (ask : RegisterRequest) (key : ℕ) : Type 0 where
+  pub above : Descriptor
+  pub parent : parent_of a ask.parent ≡ Some above
+  pub next : key ≡ registered_key a.worker (registrations a.sent)
+  pub emitted : Emitted a b (registered key ask.stamp (child_of ask above) ∷ [])

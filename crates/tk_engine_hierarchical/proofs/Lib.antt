@@ -1,0 +1,4 @@
+pub mod Emitted
+pub mod Owned
+pub mod Running
+pub mod Shaped

@@ -1,0 +1,401 @@
+-- A unit of a hierarchical engine after each thing that it may do.
+use Rattle.std.proofs.Common.{◌≡◌, ◌<◌, ◌≤◌, ◌+◌, ◌==◌, ◌||◌, ℕ, zero, suc, inl, ⊎_elim, Bool, true, false, List, [], ◌∷◌, ◌++◌, length, Option, Some, None, slice_get, refl, sym, ap, ◌∙◌, subst, append_assoc, append-nil, arith}
+use Rattle.std.specs.Prelude.{Result, Ok, Err, OnOk, OnErr, IfSome, IfNone, bytes_eq, get_or, is_some, not}
+use Rattle.std.proofs.lemmas.List.Elements.{All-cons, All-nil, All-head, All-tail, All-weaker}
+use Rattle.std.proofs.lemmas.Slice.Eq.{bytes_eq-Decides}
+use Rattle.tk_ids.specs.IdText.{SegmentView, id_text, parent_of}
+use Rattle.tk_ids.specs.declared.descriptors.Descriptor.{Descriptor}
+use Rattle.tk_ids.specs.Table.{AreDifferent, HasId as TableHasId, ids_of}
+use Rattle.tk_events.specs.declared.events.Event.{Event}
+use Rattle.tk_events.specs.declared.kinds.Kind.TheVariants.{Dynamic, File, Finished, Reporting, Skipped, Started}
+use Rattle.tk_events.specs.Event.{kind_code}
+use Rattle.tk_record_columns.specs.Recorded.{Recorded}
+use Rattle.tk_queue.specs.Emission.{entries_by}
+use Rattle.tk_record_columns.specs.Entries.{desc, desc_in}
+use Rattle.tk_queue.specs.Registering.{IsRegisteredAs, RegisterRequest, child_of, registration}
+use Rattle.tk_queue.specs.Senders.{SenderView, record_of_sender, sends}
+use Rattle.tk_query.specs.Lifecycle.{HasId}
+use Rattle.tk_query.specs.KeepsLifecycle.{is_step}
+use Rattle.tk_engine_lifecycle.specs.Units.{Frame, KeepsAround}
+use Rattle.tk_engine_lifecycle.specs.UnderWay.{IsOneOf, MayBegin, so_far}
+use Rattle.tk_engine_lifecycle.proofs.ByKey.{events_by, from_table, one_id, registration_of, table_or_entry}
+use Rattle.tk_engine_lifecycle.proofs.Apart.{plain}
+use Rattle.tk_engine_execute.specs.Engines.{Extends, IsSameSender}
+use Rattle.tk_engine_hierarchical.specs.Emitting.{IsEmitting}
+use Rattle.tk_engine_hierarchical.specs.Events.{HasKept, HasParentAmong, HaveIds, IsRunning, MayStart, keys_of, progress}
+use Rattle.tk_engine_hierarchical.specs.RegisteredIds.{is_registered}
+use Rattle.tk_engine_hierarchical.specs.declared.running_keys.RunningKey.{RunningKey}
+use Rattle.tk_engine_hierarchical.specs.Shapes.{ShapeView, frame}
+use Rattle.tk_engine_hierarchical.proofs.Owned.{owner_child, owner_static}
+use Rattle.tk_engine_hierarchical.proofs.Emitted.{Registered, Registering, emitted_finish, emitted_all, emitted_registration, emitted_report, emitted_skip, emitted_start, emitting_none, emitting_noted, registered_skip, registered_start, sender_later, sender_now}
+
+-- what holds of a sink before and after an event holds of it, whatever emitting answered
+pub after_emit : {F : Type 0} (old now new : SenderView) (r : Result (Unit {0}) F) (P : SenderView → Type 0)
+    → OnOk r (now ≡ new) → OnErr r (now ≡ old) → P old → P new → P now
+after_emit old now new (Ok _) P ok err before after = subst P (sym ok) after
+after_emit old now new (Err _) P ok err before after = subst P (sym err) before
+
+no_step_reporting : (e : Event) → e.kind ≡ Reporting → is_step e.kind ≡ false
+no_step_reporting e k = ap is_step k
+
+plain_reporting : (e : Event) → e.kind ≡ Reporting → (kind_code e.kind == kind_code Dynamic) ≡ false
+plain_reporting e k = ap (λ x. kind_code x == kind_code Dynamic) k
+
+no_step_file : (e : Event) → e.kind ≡ File → is_step e.kind ≡ false
+no_step_file e k = ap is_step k
+
+plain_file : (e : Event) → e.kind ≡ File → (kind_code e.kind == kind_code Dynamic) ≡ false
+plain_file e k = ap (λ x. kind_code x == kind_code Dynamic) k
+
+some_same : {A : Type 0} {x y : A} → Some x ≡ Some y → x ≡ y
+some_same e = cc
+
+later_ids : (s : SenderView) (e : Event) (running : List RunningKey) → HaveIds s running → HaveIds (sends s e) running
+later_ids s e running h = All-weaker (λ k. HasId (record_of_sender s) k.key k.id) (λ k. HasId (record_of_sender (sends s e)) k.key k.id) (λ k i. sender_later s e k.key k.id i) running h
+
+innermost_is : (running rest : List RunningKey) (first : RunningKey) → running ≡ first ∷ rest → IsOneOf first.key (keys_of running)
+innermost_is running rest first is = subst (λ l. IsOneOf first.key (keys_of l)) (sym is) (inl refl)
+
+-- a report entry of the innermost running key
+pub ran_report : (f : Frame) (unit : ℕ) (start now : SenderView) (running : List RunningKey) (registered : List (List ℕ × ℕ)) (next : ℕ)
+    (first : RunningKey) (e : Event) → IsRunning f unit start now running registered next
+    → (rest : List RunningKey) × (running ≡ first ∷ rest) → e.kind ≡ Reporting → e.key ≡ first.key
+    → IsRunning f unit start (sends now e) running registered next
+ran_report f unit start now running registered next first e r is kind key = record {
+  emitting = emitted_report f unit start now (progress running registered next) e r.emitting (no_step_reporting e kind) (plain_reporting e kind)
+      (subst (λ k. IsOneOf k (keys_of running)) (sym key) (innermost_is running is.0 first is.1));
+  ids = later_ids now e running r.ids;
+}
+
+-- a file of the innermost running key
+pub ran_file : (f : Frame) (unit : ℕ) (start now : SenderView) (running : List RunningKey) (registered : List (List ℕ × ℕ)) (next : ℕ)
+    (first : RunningKey) (e : Event) → IsRunning f unit start now running registered next
+    → (rest : List RunningKey) × (running ≡ first ∷ rest) → e.kind ≡ File → e.key ≡ first.key
+    → IsRunning f unit start (sends now e) running registered next
+ran_file f unit start now running registered next first e r is kind key = record {
+  emitting = emitted_report f unit start now (progress running registered next) e r.emitting (no_step_file e kind) (plain_file e kind)
+      (subst (λ k. IsOneOf k (keys_of running)) (sym key) (innermost_is running is.0 first is.1));
+  ids = later_ids now e running r.ids;
+}
+
+-- the innermost running key finishes
+pub ran_finish : (f : Frame) (unit : ℕ) (start now : SenderView) (running rest : List RunningKey) (registered : List (List ℕ × ℕ)) (next : ℕ)
+    (first : RunningKey) (e : Event) → IsRunning f unit start now running registered next
+    → running ≡ first ∷ rest → e.kind ≡ Finished → e.key ≡ first.key
+    → IsRunning f unit start (sends now e) rest registered next
+ran_finish f unit start now running rest registered next first e r is kind key =
+    let i : IsEmitting f unit start now (record { running = e.key ∷ keys_of rest; registered = is_registered registered; next = next })
+    = subst (λ l. IsEmitting f unit start now (record { running = l; registered = is_registered registered; next = next })) (ap keys_of is ∙ ap (λ k. k ∷ keys_of rest) (sym key)) r.emitting in
+    record {
+      emitting = emitted_finish f unit start now (keys_of rest) (is_registered registered) next e i kind;
+      ids = All-tail (λ k. HasId (record_of_sender (sends now e)) k.key k.id) first rest (later_ids now e (first ∷ rest) (subst (HaveIds now) is r.ids));
+    }
+
+-- ---- static keys
+
+table_id : (table : List Descriptor) (k : ℕ) (id : List SegmentView) → slice_get (ids_of table) k ≡ Some id → (d : Descriptor) × (slice_get table k ≡ Some d) × (d.id ≡ id)
+table_id [] k id e = cc
+table_id (d ∷ ds) zero id e = (d, refl, some_same e)
+table_id (d ∷ ds) (suc k) id e = table_id ds k id e
+
+static_id : (r : Recorded) (k : ℕ) (id : List SegmentView) → slice_get (ids_of r.table) k ≡ Some id → HasId r k id
+static_id r k id e = let d = table_id r.table k id e in record { descriptor = d.0; described = from_table r k d.0 d.1; id_is = d.2 }
+
+pub described_id : (r : Recorded) (k : ℕ) (d : Descriptor) → slice_get r.table k ≡ Some d → HasId r k d.id
+described_id r k d e = record { descriptor = d; described = from_table r k d e; id_is = refl }
+
+-- a static key that may start may have its first event
+may_begin : (f : Frame) (unit w : ℕ) (l : List Event) (running : List ℕ) (key : ℕ) → MayStart f unit running key → MayBegin f (so_far f w l) unit running key
+may_begin f unit w l running key m =
+    let its = described_id (so_far f w l) key m.descriptor m.described in
+    record {
+      id = m.descriptor.id;
+      its = its;
+      belongs = m.belongs;
+      parent = λ id h long.
+          let same : m.descriptor.id ≡ id = one_id (so_far f w l) key m.descriptor.id id its h in
+          let p = m.parent (subst (λ x. 1 < length x) (sym same) long) in
+          (p.0, subst (λ x. HasId (so_far f w l) p.0 (parent_of x)) same (static_id (so_far f w l) p.0 (parent_of m.descriptor.id) p.1), p.2);
+    }
+
+static_below : (table : List Descriptor) (k : ℕ) (d : Descriptor) → slice_get table k ≡ Some d → k < length table
+static_below [] k d e = cc
+static_below (x ∷ xs) zero d e = omega arith
+static_below (x ∷ xs) (suc k) d e = let h = static_below xs k d e in omega (arith, h)
+
+-- a static key starts
+pub ran_start : (f : Frame) (unit : ℕ) (start now : SenderView) (running : List RunningKey) (registered : List (List ℕ × ℕ)) (next key : ℕ)
+    (id : List SegmentView) (e : Event) → IsRunning f unit start now running registered next
+    → MayStart f unit (keys_of running) key → next ≤ key → slice_get (ids_of f.table) key ≡ Some id → e.kind ≡ Started → e.key ≡ key
+    → IsRunning f unit start (sends now e) (record { key = key; id = id } ∷ running) registered (key + 1)
+ran_start f unit start now running registered next key id e r m low at kind same =
+    let i = r.emitting in
+    let b = may_begin f unit start.worker i.events (keys_of running) key m in
+    let static = static_below f.table key m.descriptor m.described in
+    let table : now.table ≡ f.table = i.same.table ∙ i.table in
+    record {
+      emitting = subst (λ k. IsEmitting f unit start (sends now e) (record { running = k ∷ keys_of running; registered = is_registered registered; next = k + 1 })) same
+          (emitted_start f unit start now (progress running registered next) e i kind (subst (λ k. next ≤ k) (sym same) low) (subst (λ k. k < length f.table) (sym same) static)
+          (subst (MayBegin f (so_far f start.worker i.events) unit (keys_of running)) (sym same) b));
+      ids = All-cons (λ k. HasId (record_of_sender (sends now e)) k.key k.id) (record { key = key; id = id }) running
+          (static_id (record_of_sender (sends now e)) key id (ap (λ t. slice_get (ids_of t) key) table ∙ at)) (later_ids now e running r.ids);
+    }
+
+-- or is skipped
+pub ran_skip : (f : Frame) (unit : ℕ) (start now : SenderView) (running : List RunningKey) (registered : List (List ℕ × ℕ)) (next key : ℕ)
+    (e : Event) → IsRunning f unit start now running registered next
+    → MayStart f unit (keys_of running) key → next ≤ key → e.kind ≡ Skipped → e.key ≡ key
+    → IsRunning f unit start (sends now e) running registered (key + 1)
+ran_skip f unit start now running registered next key e r m low kind same =
+    let i = r.emitting in
+    let b = may_begin f unit start.worker i.events (keys_of running) key m in
+    let static = static_below f.table key m.descriptor m.described in
+    record {
+      emitting = subst (λ k. IsEmitting f unit start (sends now e) (record { running = keys_of running; registered = is_registered registered; next = k + 1 })) same
+          (emitted_skip f unit start now (progress running registered next) e i kind (subst (λ k. next ≤ k) (sym same) low) (subst (λ k. k < length f.table) (sym same) static)
+          (subst (MayBegin f (so_far f start.worker i.events) unit (keys_of running)) (sym same) b));
+      ids = later_ids now e running r.ids;
+    }
+
+no_key : (first : RunningKey) (rest : List RunningKey) → [] ≡ first ∷ rest → ⊥
+no_key first rest e = cc
+
+first_same : {x y : RunningKey} {xs ys : List RunningKey} → x ∷ xs ≡ y ∷ ys → x ≡ y
+first_same e = cc
+
+-- what is left where the innermost running key was taken off
+pub popped : (old new rest : List RunningKey) (first : RunningKey) (r : Option RunningKey) → old ≡ first ∷ rest
+    → IfSome r (λ k. old ≡ k ∷ new) → IfNone r ((old ≡ []) × (new ≡ [])) → old ≡ first ∷ new
+popped old new rest first None is some none = absurd (no_key first rest (sym none.0 ∙ is))
+popped old new rest first (Some k) is some none =
+    let same : k ≡ first = first_same (sym some ∙ is) in
+    some ∙ ap (λ x. x ∷ new) same
+
+pub described_here : (table : List Descriptor) (k : ℕ) (d : Descriptor) → slice_get table k ≡ Some d → slice_get (ids_of table) k ≡ Some d.id
+described_here [] k d e = cc
+described_here (x ∷ xs) zero d e = ap (λ (y : Descriptor). Some y.id) (some_same e)
+described_here (x ∷ xs) (suc k) d e = described_here xs k d e
+
+-- a static key whose owner is the unit, and whose parent runs, may start
+pub may_start : (s : ShapeView) (unit key : ℕ) (running : List RunningKey) (d : Descriptor) → AreDifferent s.table → slice_get s.table key ≡ Some d
+    → get_or s.owners key s.units ≡ unit → HasParentAmong (frame s) (keys_of running) d.id → MayStart (frame s) unit (keys_of running) key
+may_start s unit key running d different is owner parent = record {
+  descriptor = d;
+  described = is;
+  belongs = owner_static s.table s.owners s.units key d.id different (described_here s.table key d is) ∙ owner;
+  parent = parent;
+}
+
+-- what holds of an id that was found
+pub found_id : {A : Type 0} (found : Option A) (id : A) (P : A → Type 0) → found ≡ Some id → IfSome found P → P id
+found_id found id P is h = subst (λ o. IfSome o P) is h
+
+-- a unit after the start of a static key
+pub started : (f : Frame) (unit : ℕ) (start old now : SenderView) (running pushed : List RunningKey) (registered : List (List ℕ × ℕ)) (next after key : ℕ) (id : List SegmentView) (e : Event)
+    → now ≡ sends old e → pushed ≡ record { key = key; id = id } ∷ running → after ≡ key + 1 → e.kind ≡ Started → e.key ≡ key
+    → IsRunning f unit start old running registered next → MayStart f unit (keys_of running) key → next ≤ key → slice_get (ids_of f.table) key ≡ Some id
+    → IsRunning f unit start now pushed registered after
+started f unit start old now running pushed registered next after key id e sent push more kind own r may low at =
+    subst (λ s. IsRunning f unit start s pushed registered after) (sym sent)
+    (subst (λ l. IsRunning f unit start (sends old e) l registered after) (sym push)
+    (subst (λ n. IsRunning f unit start (sends old e) (record { key = key; id = id } ∷ running) registered n) (sym more)
+    (ran_start f unit start old running registered next key id e r may low at kind own)))
+
+-- a unit after the skip of a static key
+pub skipped : (f : Frame) (unit : ℕ) (start old now : SenderView) (running : List RunningKey) (registered : List (List ℕ × ℕ)) (next after key : ℕ) (e : Event)
+    → now ≡ sends old e → after ≡ key + 1 → e.kind ≡ Skipped → e.key ≡ key
+    → IsRunning f unit start old running registered next → MayStart f unit (keys_of running) key → next ≤ key
+    → IsRunning f unit start now running registered after
+skipped f unit start old now running registered next after key e sent more kind own r may low =
+    subst (λ s. IsRunning f unit start s running registered after) (sym sent)
+    (subst (λ n. IsRunning f unit start (sends old e) running registered n) (sym more)
+    (ran_skip f unit start old running registered next key e r may low kind own))
+
+-- what may start in a shape of the engine may start in its frame
+pub may_here : (s : ShapeView) (f : Frame) (u unit key : ℕ) (running : List RunningKey) → frame s ≡ f → u ≡ unit → MayStart (frame s) u (keys_of running) key → MayStart f unit (keys_of running) key
+may_here s f u unit key running a b m = subst (λ g. MayStart g unit (keys_of running) key) a (subst (λ v. MayStart (frame s) v (keys_of running) key) b m)
+
+pub id_here : (s : ShapeView) (f : Frame) (key : ℕ) (id : List SegmentView) → frame s ≡ f → slice_get (ids_of s.table) key ≡ Some id → slice_get (ids_of f.table) key ≡ Some id
+id_here s f key id a e = ap (λ (g : Frame). slice_get (ids_of g.table) key) (sym a) ∙ e
+
+-- ---- registrations
+
+-- a unit after it registered a descriptor below the innermost running key
+pub record HasRegistered (f : Frame) (unit : ℕ) (start now : SenderView) (running : List RunningKey) (registered : List (List ℕ × ℕ)) (next key : ℕ) (id : List SegmentView) : Type 0 where
+  pub registration : Registered f unit start now (progress running registered next) key
+  pub ids : HaveIds now running
+  pub own : HasId (record_of_sender now) key id
+
+first_id : (s : SenderView) (first : RunningKey) (rest running : List RunningKey) → running ≡ first ∷ rest → HaveIds s running → HasId (record_of_sender s) first.key first.id
+first_id s first rest running is h = All-head (λ k. HasId (record_of_sender s) k.key k.id) first rest (subst (HaveIds s) is h)
+
+or_true : (b : Bool) → (b || true) ≡ true
+or_true true = refl
+or_true false = refl
+
+noted_more : (registered noted : List (List ℕ × ℕ)) (own : List ℕ) → ((text : List ℕ) → is_registered noted text ≡ (bytes_eq text own || is_registered registered text))
+    → (text : List ℕ) → is_registered registered text ≡ true → is_registered noted text ≡ true
+noted_more registered noted own all text h = all text ∙ ap (λ b. bytes_eq text own || b) h ∙ or_true (bytes_eq text own)
+
+true_or : (a b : Bool) → a ≡ true → (a || b) ≡ true
+true_or true b e = refl
+true_or false b e = cc
+
+noted_own : (registered noted : List (List ℕ × ℕ)) (own : List ℕ) → ((text : List ℕ) → is_registered noted text ≡ (bytes_eq text own || is_registered registered text))
+    → is_registered noted own ≡ true
+noted_own registered noted own all = all own ∙ true_or (bytes_eq own own) (is_registered registered own) ((bytes_eq-Decides own own).1 refl)
+
+-- the ids were noted, and nothing was emitted
+pub ran_noted : (f : Frame) (unit : ℕ) (start now : SenderView) (running : List RunningKey) (registered noted : List (List ℕ × ℕ)) (next : ℕ) (own : List ℕ)
+    → ((text : List ℕ) → is_registered noted text ≡ (bytes_eq text own || is_registered registered text))
+    → IsRunning f unit start now running registered next → IsRunning f unit start now running noted next
+ran_noted f unit start now running registered noted next own all r = record {
+  emitting = emitting_noted f unit start now (progress running registered next) r.emitting (is_registered noted) (noted_more registered noted own all);
+  ids = r.ids;
+}
+
+pub ran_registration : (s : ShapeView) (unit : ℕ) (start old now : SenderView) (running rest : List RunningKey) (registered noted : List (List ℕ × ℕ)) (next key : ℕ)
+    (first : RunningKey) (id : List SegmentView) (ask : RegisterRequest)
+    → IsRunning (frame s) unit start old running registered next → running ≡ first ∷ rest → IsRegisteredAs old now ask (Ok key)
+    → ask.parent ≡ first.key → id ≡ first.id ++ ask.segment ∷ []
+    → ¬ TableHasId s.table id → is_registered registered (id_text id) ≡ false
+    → ((text : List ℕ) → is_registered noted text ≡ (bytes_eq text (id_text id) || is_registered registered text))
+    → HasRegistered (frame s) unit start now running noted next key id
+ran_registration s unit start old now running rest registered noted next key first id ask r is a parent made static fresh all =
+    let i = r.emitting in
+    let f = frame s in
+    let above : Descriptor = a.0 in
+    let d = child_of ask above in
+    let e = registration old ask.stamp d in
+    let its = first_id old first rest running is r.ids in
+    let there : HasId (record_of_sender old) first.key above.id = record { descriptor = above; described = subst (λ k. desc (record_of_sender old) k ≡ Some above) parent a.1; id_is = refl } in
+    let same : above.id ≡ first.id = one_id (record_of_sender old) first.key above.id first.id there its in
+    let id_is : d.id ≡ id = ap (λ x. x ++ ask.segment ∷ []) same ∙ sym made in
+    let now_is : now ≡ sends old e = a.5 in
+    let key_is : key ≡ e.key = a.4 in
+    let g : Registering f unit start old (progress running registered next) i e d = record {
+      kind = refl;
+      payload = refl;
+      free = subst (λ k. desc (record_of_sender old) k ≡ None) key_is a.6;
+      above = first.key;
+      runs = innermost_is running rest first is;
+      id = above.id;
+      above_is = there;
+      segment = ask.segment;
+      child = refl;
+      not_static = subst (λ x. ¬ TableHasId s.table x) (sym id_is) static;
+      not_registered = subst (λ x. is_registered registered (id_text x) ≡ false) (sym id_is) fresh;
+      owner = owner_child s.table s.owners s.units above.id ask.segment (subst (λ x. ¬ TableHasId s.table x) (sym id_is) static);
+    } in
+    let done = emitted_registration f unit start old (progress running registered next) e d i g (is_registered noted) (noted_more registered noted (id_text id) all)
+    (subst (λ x. is_registered noted (id_text x) ≡ true) (sym id_is) (noted_own registered noted (id_text id) all)) in
+    record {
+      registration = subst (λ k. Registered f unit start now (progress running noted next) k) (sym key_is) (subst (λ v. Registered f unit start v (progress running noted next) e.key) (sym now_is) done);
+      ids = subst (λ v. HaveIds v running) (sym now_is) (later_ids old e running r.ids);
+      own = subst (λ k. HasId (record_of_sender now) k id) (sym key_is) (subst (λ v. HasId (record_of_sender v) e.key id) (sym now_is)
+          (subst (HasId (record_of_sender (sends old e)) e.key) id_is (sender_now old e d refl refl (subst (λ k. desc (record_of_sender old) k ≡ None) key_is a.6))));
+    }
+
+-- what was registered and didn't begin
+pub ran_registered : (f : Frame) (unit : ℕ) (start now : SenderView) (running : List RunningKey) (registered : List (List ℕ × ℕ)) (next key : ℕ) (id : List SegmentView)
+    → HasRegistered f unit start now running registered next key id → IsRunning f unit start now running registered next
+ran_registered f unit start now running registered next key id h = record { emitting = h.registration.emitting; ids = h.ids }
+
+-- what was registered starts
+pub ran_child : (f : Frame) (unit : ℕ) (start old now : SenderView) (running pushed : List RunningKey) (registered : List (List ℕ × ℕ)) (next key : ℕ) (id : List SegmentView) (e : Event)
+    → now ≡ sends old e → pushed ≡ record { key = key; id = id } ∷ running → e.kind ≡ Started → e.key ≡ key
+    → HasRegistered f unit start old running registered next key id → IsRunning f unit start now pushed registered next
+ran_child f unit start old now running pushed registered next key id e sent push kind own h =
+    subst (λ s. IsRunning f unit start s pushed registered next) (sym sent)
+    (subst (λ l. IsRunning f unit start (sends old e) l registered next) (sym push)
+    (record {
+      emitting = subst (λ k. IsEmitting f unit start (sends old e) (record { running = k ∷ keys_of running; registered = is_registered registered; next = next })) own
+          (registered_start f unit start old (progress running registered next) e (subst (Registered f unit start old (progress running registered next)) (sym own) h.registration) kind);
+      ids = All-cons (λ k. HasId (record_of_sender (sends old e)) k.key k.id) (record { key = key; id = id }) running (sender_later old e key id h.own) (later_ids old e running h.ids);
+    }))
+
+-- what was registered is skipped
+pub ran_child_skip : (f : Frame) (unit : ℕ) (start old now : SenderView) (running : List RunningKey) (registered : List (List ℕ × ℕ)) (next key : ℕ) (id : List SegmentView) (e : Event)
+    → now ≡ sends old e → e.kind ≡ Skipped → e.key ≡ key
+    → HasRegistered f unit start old running registered next key id → IsRunning f unit start now running registered next
+ran_child_skip f unit start old now running registered next key id e sent kind own h =
+    subst (λ s. IsRunning f unit start s running registered next) (sym sent) (record {
+      emitting = registered_skip f unit start old (progress running registered next) e (subst (Registered f unit start old (progress running registered next)) (sym own) h.registration) kind;
+      ids = later_ids old e running h.ids;
+    })
+
+-- a unit after the registration of a child
+pub registered_child : (s : ShapeView) (f : Frame) (unit : ℕ) (start old now : SenderView) (running rest : List RunningKey) (registered noted : List (List ℕ × ℕ)) (next key : ℕ)
+    (first : RunningKey) (id : List SegmentView) (ask : RegisterRequest) → frame s ≡ f
+    → IsRunning f unit start old running registered next → running ≡ first ∷ rest → IsRegisteredAs old now ask (Ok key)
+    → ask.parent ≡ first.key → id ≡ first.id ++ ask.segment ∷ []
+    → ¬ TableHasId s.table id → is_registered registered (id_text id) ≡ false
+    → ((text : List ℕ) → is_registered noted text ≡ (bytes_eq text (id_text id) || is_registered registered text))
+    → HasRegistered f unit start now running noted next key id
+registered_child s f unit start old now running rest registered noted next key first id ask same r is a parent made static fresh all =
+    subst (λ g. HasRegistered g unit start now running noted next key id) same
+    (ran_registration s unit start old now running rest registered noted next key first id ask (subst (λ g. IsRunning g unit start old running registered next) (sym same) r) is a parent made static fresh all)
+
+rest_same : {x y : RunningKey} {xs ys : List RunningKey} → x ∷ xs ≡ y ∷ ys → xs ≡ ys
+rest_same e = cc
+
+-- a unit whose child was registered, and which took the child off again that didn't start
+pub child_off : (f : Frame) (unit : ℕ) (start old now : SenderView) (running pushed left : List RunningKey) (registered : List (List ℕ × ℕ)) (next key : ℕ) (id : List SegmentView) (r : Option RunningKey)
+    → now ≡ old → pushed ≡ record { key = key; id = id } ∷ running
+    → IfSome r (λ k. pushed ≡ k ∷ left) → IfNone r ((pushed ≡ []) × (left ≡ []))
+    → HasRegistered f unit start old running registered next key id → IsRunning f unit start now left registered next
+child_off f unit start old now running pushed left registered next key id r sent push some none h =
+    let off = popped pushed left running (record { key = key; id = id }) r push some none in
+    let same : left ≡ running = rest_same (sym off ∙ push) in
+    subst (λ s. IsRunning f unit start s left registered next) (sym sent) (subst (λ l. IsRunning f unit start old l registered next) (sym same) (ran_registered f unit start old running registered next key id h))
+
+-- ---- a unit that begins, and that ends
+
+plain_before : (f : Frame) → KeepsAround f → (key : ℕ) (d : Descriptor) → desc_in (entries_by 0 f.before) key ≡ Some d → ⊥
+plain_before f around key d e =
+    let r = registration_of (entries_by 0 f.before) key d e in
+    plain f around r.prefix r.event (r.suffix ++ f.after)
+    (ap (λ l. l ++ f.after) (sym (events_by 0 f.before) ∙ r.is) ∙ append_assoc r.prefix (r.event ∷ r.suffix) f.after) r.dynamic
+
+static_first : (f : Frame) (w : ℕ) → KeepsAround f → (key : ℕ) (id : List SegmentView) → HasId (so_far f w []) key id → (d : Descriptor) × (slice_get f.table key ≡ Some d) × (d.id ≡ id)
+static_first f w around key id h =
+    ⊎_elim
+    (λ a. (h.descriptor, a, h.id_is))
+    (λ b. absurd (plain_before f around key h.descriptor (ap (λ l. desc_in l key) (sym (append-nil (entries_by 0 f.before))) ∙ b.1)))
+    (table_or_entry (so_far f w []) key h.descriptor h.described)
+
+pub ran_nothing : (f : Frame) (unit : ℕ) (start : SenderView) (running : List RunningKey) (registered : List (List ℕ × ℕ)) → running ≡ [] → KeepsAround f → unit < f.units → start.table ≡ f.table
+    → IsRunning f unit start start running registered 0
+ran_nothing f unit start running registered none around low table =
+    subst (λ l. IsRunning f unit start start l registered 0) (sym none) (record {
+      emitting = emitting_none f unit start (is_registered registered) around low table
+          (λ key id h. let d = static_first f start.worker around key id h in (key, described_here f.table key d.0 d.1 ∙ ap (λ i. Some i) d.2))
+          (λ key id h. let d = static_first f start.worker around key id h in
+          record { descriptor = d.0; described = from_table (record_of_sender start) key d.0 (ap (λ t. slice_get t key) table ∙ d.1); id_is = d.2 });
+      ids = All-nil (λ k. HasId (record_of_sender start) k.key k.id);
+    })
+
+pub ran_same : (f : Frame) (unit : ℕ) (start now : SenderView) (running : List RunningKey) (registered : List (List ℕ × ℕ)) (next : ℕ)
+    → IsRunning f unit start now running registered next → IsSameSender start now
+ran_same f unit start now running registered next r = r.emitting.same
+
+pub ran_some : (f : Frame) (unit : ℕ) (start now : SenderView) (running : List RunningKey) (registered : List (List ℕ × ℕ)) (next : ℕ)
+    → IsRunning f unit start now running registered next → Extends start now
+ran_some f unit start now running registered next r = (r.emitting.events, r.emitting.sent)
+
+pub ran_all : (f : Frame) (unit : ℕ) (start now : SenderView) (running : List RunningKey) (registered : List (List ℕ × ℕ)) (next : ℕ)
+    → IsRunning f unit start now running registered next → running ≡ [] → HasKept f unit start now
+ran_all f unit start now running registered next r none =
+    (r.emitting.events, r.emitting.sent, emitted_all f unit start now (progress running registered next) r.emitting (ap keys_of none))
+
+pub began : (s : ShapeView) (f : Frame) (u unit : ℕ) (start now : SenderView) (running : List RunningKey) (registered : List (List ℕ × ℕ)) → frame s ≡ f → u ≡ unit → now ≡ start → running ≡ []
+    → KeepsAround (frame s) → u < s.units → start.table ≡ f.table → IsRunning f unit start now running registered 0
+began s f u unit start now running registered a b c none around low table =
+    subst (λ v. IsRunning f unit start v running registered 0) (sym c)
+    (ran_nothing f unit start running registered none (subst KeepsAround a around)
+    (subst (λ (g : Frame). unit < g.units) a (subst (λ v. v < s.units) b low)) table)
+
+-- what holds where there is none
+pub at_none : {A : Type 0} (r : Option A) (b : Bool) (P : Type 0) → is_some r ≡ not b → IfNone r P → b ≡ true → P
+at_none None b P e h t = h
+at_none (Some x) b P e h t = let bad : true ≡ false = e ∙ ap not t in cc

@@ -1,0 +1,17 @@
+use Rattle.std.proofs.Common.{refl, sym, subst, ◌∙◌}
+use Rattle.tk_engine_hierarchical.specs.Events.{IsRunning}
+use Rattle.tk_engine_hierarchical.proofs.Running.{popped, ran_finish}
+use Rattle.tk_engine_hierarchical.proofs.unit_events.UnitEvents.finish.Goals as goal
+
+pub invariant_of-self-2 : goal.invariant_of-self-2
+invariant_of-self-2 g c =
+    let i = c.self.invariant in
+    let first = c.in-Some.innermost.now in
+    let rest = c.in-Some.ensures.some.0 in
+    let left = popped c.self.inside.running c.pop-finished.new.self rest first c.pop-finished.result c.in-Some.ensures.some.1 c.pop-finished.ensures.some c.pop-finished.ensures.none in (
+      c.emit.ensures.same ∙ i.0,
+      i.1,
+      i.2,
+      subst (λ s. IsRunning g.K.UnitRun.frame g.K.UnitRun.unit g.K.UnitRun.start s c.pop-finished.new.self c.self.inside.registered c.self.inside.next) (sym c.in_ok-emit.ensures.ok)
+          (ran_finish _ _ _ _ _ _ _ _ first _ i.3 left refl refl),
+    )

@@ -1,0 +1,16 @@
+use Rattle.std.proofs.Common.{refl, ◌∙◌}
+use Rattle.tk_engine_hierarchical.proofs.Running.{found_id, id_here, may_here, started}
+use Rattle.tk_engine_hierarchical.proofs.unit_events.UnitEvents.start.Goals as goal
+
+pub invariant_of-self-in-Ok : goal.invariant_of-self-in-Ok
+invariant_of-self-in-Ok g c =
+    let i = c.self.invariant in
+    let m = found_id _ c.in-Some-2.id _ c.in-Some-2.is c.in_ok-id.ensures in (
+      c.emit.ensures.same ∙ i.0,
+      i.1,
+      i.2,
+      started g.K.UnitRun.frame g.K.UnitRun.unit g.K.UnitRun.start _ _ c.self.inside.running c.push.new.self c.self.inside.registered c.self.inside.next c.in-Some.next c.args.key c.in-Some-2.id _
+          c.in-Ok.ensures.ok c.in_ok-push.ensures.ok c.in-Some.ensures.1 refl refl i.3
+          (may_here c.self.inside.shape.now g.K.UnitRun.frame c.self.inside.unit g.K.UnitRun.unit c.args.key c.self.inside.running i.1 i.2 m.0) c.if-key-self.false
+          (id_here c.self.inside.shape.now g.K.UnitRun.frame c.args.key c.in-Some-2.id i.1 m.1),
+    )

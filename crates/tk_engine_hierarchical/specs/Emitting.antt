@@ -1,0 +1,37 @@
+-- What a unit of a hierarchical engine has emitted into its sink.
+use Rattle.std.specs.Prelude.{◌≡◌, ◌⊎◌, ℕ, ◌<◌, ◌≤◌, Bool, true, List, [], ◌++◌, length}
+use Rattle.tk_ids.specs.IdText.{SegmentView, id_text}
+use Rattle.tk_events.specs.declared.events.Event.{Event}
+use Rattle.tk_queue.specs.Senders.{SenderView, record_of_sender}
+use Rattle.tk_engine_execute.specs.Engines.{IsSameSender}
+use Rattle.tk_ids.specs.Table.{HasId as TableHasId}
+use Rattle.tk_query.specs.Lifecycle.{HasId}
+use Rattle.tk_queue.specs.Emission.{entries_by}
+use Rattle.tk_query.specs.KeepsLifecycle.{steps_of}
+use Rattle.tk_engine_lifecycle.specs.Units.{Frame}
+use Rattle.tk_engine_lifecycle.specs.UnderWay.{so_far}
+use Rattle.tk_engine_lifecycle.specs.Laws.{IsGoing}
+
+-- Where a unit stands: the keys that run, innermost first, which texts of ids it has registered,
+-- and the least static key that it may still start or skip.
+pub record Progress : Type 0 where
+  pub running : List ℕ
+  pub registered : List ℕ → Bool
+  pub next : ℕ
+
+-- The sink took some events since the unit began; with them the unit is under way. What has an id
+-- in the record has it in the sink too, and is static or was registered by the unit; the static
+-- keys from the next one on had no step.
+pub record IsEmitting (f : Frame) (unit : ℕ) (start now : SenderView) (p : Progress) : Type 0 where
+  pub same : IsSameSender start now
+  pub table : start.table ≡ f.table
+  pub events : List Event
+  pub sent : now.sent ≡ start.sent ++ events
+  pub going : IsGoing f unit start.worker events p.running
+  pub known : (key : ℕ) (id : List SegmentView)
+      → HasId (so_far f start.worker events) key id → HasId (record_of_sender now) key id
+  pub ids : (key : ℕ) (id : List SegmentView)
+      → HasId (so_far f start.worker events) key id
+      → TableHasId f.table id ⊎ (p.registered (id_text id) ≡ true)
+  pub fresh : (key : ℕ) → p.next ≤ key → key < length f.table
+      → steps_of key (entries_by start.worker events) ≡ []

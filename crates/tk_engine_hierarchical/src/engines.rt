@@ -1,0 +1,176 @@
+//! The engine of a plan whose tests have bodies, as `execute` takes it.
+ghost use Rattle.std.specs.Prelude.{◌≡◌, length};
+ghost use Rattle.tk_plan_units.specs.Trees.{forest};
+ghost use Rattle.tk_plan_units.specs.Cutting.{before_of, after_of, units_of};
+ghost use Rattle.tk_engine_lifecycle.specs.Units.{KeepsAround};
+ghost use Rattle.tk_engine_hierarchical.specs.Shapes.{frame};
+
+use crate::hierarchical::run_unit;
+use crate::leases::Lease;
+use crate::shapes::Shape;
+use crate::tests::Tests;
+use std::alloc::{AllocError, Global};
+use std::marker::Brand;
+use std::sync::{Arc, Wait};
+use tk_book::{BookSeat, Need};
+use tk_engine::{Engine, Scripted, Sink, UnitFault};
+use tk_events::Event;
+use tk_ids::Table;
+use tk_plan_units::Plan;
+
+/// Why there is no engine of a plan.
+#[derive(Debug, Drop)]
+pub enum HierarchicalFault {
+    /// The events of the plan around its units don't keep the lifecycle. No plan has such events.
+    Lifecycle,
+    /// A request for memory was refused.
+    Memory,
+}
+
+impl From<AllocError> for HierarchicalFault {
+    fn from(_: AllocError) -> HierarchicalFault {
+        HierarchicalFault::Memory
+    }
+}
+
+/// The engine of a plan whose tests have bodies: it starts, runs and finishes them.
+///
+/// JUnit: `HierarchicalTestEngine`.
+#[derive(Drop)]
+pub struct Hierarchical<T> {
+    scripted: Scripted,
+    shape: Shape,
+    tests: T,
+    ghost table: { shape.table ≡ scripted.table },
+    ghost before: { shape.before ≡ before_of (forest scripted.nodes) },
+    ghost after: { shape.after ≡ after_of (forest scripted.nodes) },
+    ghost units: { shape.units ≡ length (units_of (forest scripted.nodes)) },
+}
+
+// The unit to which each static key belongs, or the number of the units.
+fn owners_of(alloc: Global, plan: &Plan) -> Result<Vec<u32>, AllocError> {
+    let none = plan.units().len() as u32;
+    let mut owners: Vec<u32> = Vec::new(alloc);
+    let mut path: Vec<u32> = Vec::new(alloc);
+    let mut unit: usize = 0;
+    let mut key: u32 = 0;
+    for descriptor in plan.table().iter() {
+        let depth = descriptor.id.segments().len();
+        path.truncate(depth.saturating_sub(1));
+        let above = match path.as_slice().last() {
+            Some(owner) => *owner,
+            None => none,
+        };
+        let begins = match plan.units().get(unit) {
+            Some(root) => *root == key,
+            None => false,
+        };
+        let owner = if begins { unit as u32 } else { above };
+        if begins {
+            unit = unit.saturating_add(1);
+        }
+        owners.push(owner)?;
+        path.push(owner)?;
+        key = key.saturating_add(1);
+    }
+    Ok(owners)
+}
+
+impl<T: Tests + Drop> Hierarchical<T> {
+    /// Makes the engine of a plan and of its tests.
+    ///
+    /// # Errors
+    /// `Memory`; no plan has the other fault.
+    pub fn new(alloc: Global, plan: Plan, tests: T) -> Result<Hierarchical<T>, HierarchicalFault> {
+        let owners = owners_of(alloc, &plan)?;
+        let before = plan.before(alloc)?;
+        let after = plan.after(alloc)?;
+        let units = plan.units().len() as u32;
+        let table = Arc::try_clone(plan.table())?;
+        let Some(shape) = Shape::new(alloc, table, before, after, units, owners)? else {
+            return Err(HierarchicalFault::Lifecycle);
+        };
+        Ok(Hierarchical {
+            scripted: Scripted::new(plan),
+            shape,
+            tests,
+        })
+    }
+}
+
+impl<T> Hierarchical<T> {
+    // Shows what holds around the units.
+    pub(crate) fn shows_shape(&self)
+        ensures around { KeepsAround (frame self.now.shape) }
+        ensures table { self.now.shape.table ≡ self.now.scripted.table }
+        ensures before { self.now.shape.before ≡ before_of (forest self.now.scripted.nodes) }
+        ensures after { self.now.shape.after ≡ after_of (forest self.now.scripted.nodes) }
+        ensures units { self.now.shape.units ≡ length (units_of (forest self.now.scripted.nodes)) }
+    {
+        self.shape.shows_shape();
+    }
+}
+
+impl<T: Tests + Sync> Engine for Hierarchical<T> {
+    ghost use Rattle.std.specs.Prelude.{length};
+    ghost use Rattle.tk_plan_units.specs.Trees.{forest};
+    ghost use Rattle.tk_plan_units.specs.Cutting.{before_of, after_of, units_of};
+    ghost use Rattle.tk_engine.specs.Masks.{need_of};
+    ghost use Rattle.tk_engine_lifecycle.specs.Units.{KeepsAlone};
+    ghost use Rattle.tk_engine_hierarchical.specs.Shapes.{frame};
+
+    ghost table = { λ e. e.scripted.table };
+
+    ghost units = { λ e. length (units_of (forest e.scripted.nodes)) };
+
+    ghost before = { λ e. before_of (forest e.scripted.nodes) };
+
+    ghost after = { λ e. after_of (forest e.scripted.nodes) };
+
+    ghost need = { λ e unit. need_of e.scripted.nodes unit };
+
+    ghost may = { λ e unit worker earlier events. KeepsAlone (frame e.shape) unit worker events };
+
+    fn table(&self) -> &Arc<Table> {
+        self.scripted.table()
+    }
+
+    fn units(&self) -> u32 {
+        self.scripted.units()
+    }
+
+    fn before(&self, alloc: Global) -> Result<Vec<Event>, AllocError> {
+        self.scripted.before(alloc)
+    }
+
+    fn after(&self, alloc: Global) -> Result<Vec<Event>, AllocError> {
+        self.scripted.after(alloc)
+    }
+
+    fn need(&self, unit: u32) -> Need {
+        self.scripted.need(unit)
+    }
+
+    fn run<R: Wait, S: Sink>(
+        &self,
+        rt: &R,
+        alloc: Global,
+        unit: u32,
+        _seat: &BookSeat,
+        sink: &mut S,
+    ) -> Result<(), UnitFault> {
+        let lease = Lease { sink };
+        let mut ran = Ok(());
+        let _lease = run_unit::<R, S, Brand, T>(
+            rt,
+            alloc,
+            self.scripted.plan(),
+            &self.tests,
+            &self.shape,
+            unit,
+            lease,
+            &mut ran,
+        );
+        ran
+    }
+}

@@ -1,0 +1,23 @@
+//! The law of engines whose tests have bodies.
+ghost use Rattle.std.specs.Prelude.{ℕ};
+ghost use Rattle.tk_query.specs.KeepsLifecycle.{KeepsLifecycle};
+ghost use Rattle.tk_engine_runs.specs.Run.{IsRun};
+
+use crate::engines::Hierarchical;
+use crate::tests::Tests;
+use tk_engine::{Engine, Results};
+use tk_engine_lifecycle::laws::runs_keep_lifecycle;
+
+/// The record of each run of the engine keeps the lifecycle, whatever its tests do.
+pub fn lifecycle<T: Tests + Sync>(engine: &Hierarchical<T>, results: &Results)
+    requires { (workers : ℕ)
+        × IsRun (⟦<Hierarchical<T> as Engine>⟧.may engine.now)
+        (⟦<Hierarchical<T> as Engine>⟧.table engine.now)
+        (⟦<Hierarchical<T> as Engine>⟧.before engine.now)
+        (⟦<Hierarchical<T> as Engine>⟧.after engine.now)
+        (⟦<Hierarchical<T> as Engine>⟧.units engine.now) workers results.now.recorded }
+    ensures { KeepsLifecycle results.now.recorded }
+{
+    engine.shows_shape();
+    runs_keep_lifecycle(engine, results);
+}

@@ -1,0 +1,19 @@
+//! The engine of a plan whose tests have bodies in Rust.
+#![tactic(auto)]
+
+mod engines;
+mod hierarchical;
+pub mod laws;
+mod leases;
+mod registered_ids;
+mod reporters;
+mod running_keys;
+mod shapes;
+mod tests;
+mod unit_events;
+mod unit_runs;
+
+pub use engines::{Hierarchical, HierarchicalFault};
+pub use reporters::Reporter;
+pub use tests::{Body, Outcome, Tests};
+pub use unit_runs::UnitRun;

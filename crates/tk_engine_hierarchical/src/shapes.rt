@@ -1,0 +1,271 @@
+//! What stands around the units of an engine.
+ghost use Rattle.std.specs.Prelude.{◌≡◌, ◌≢◌, ◌⊎◌, ◌<◌, ◌≤◌, ◌++◌, ℕ, All, IsTrue, true, get_or, length, slice_get, Some, IfOk, IfSome, OnOk};
+ghost use Rattle.tk_events.specs.declared.kinds.Kind.TheVariants.{Finished, Started};
+ghost use Rattle.std.specs.Arc.{arc_value};
+ghost use Rattle.tk_ids.specs.Table.{AreDifferent};
+ghost use Rattle.tk_queue.specs.Emission.{entries_by};
+ghost use Rattle.tk_query.specs.KeepsLifecycle.{KeepsLifecycle};
+ghost use Rattle.tk_query.specs.Lifecycle.{runs};
+ghost use Rattle.tk_engine_execute.specs.Engines.{IsStaticEvent};
+ghost use Rattle.tk_engine_lifecycle.specs.Units.{KeepsAround};
+ghost use Rattle.tk_engine_hierarchical.specs.Shapes.{frame, AreRunning};
+
+use std::alloc::{AllocError, Global};
+use std::marker::Model;
+use std::sync::Arc;
+use tk_events::{Entry, Event, Kind};
+use tk_ids::Table;
+use tk_query::laws::kept_is_keeping;
+use tk_query::{Lifecycle, lifecycle};
+use tk_record_columns::Record;
+
+/// The table of an engine, its events before and after its units, and which static key belongs to
+/// which unit. The record without a unit keeps the lifecycle.
+#[derive(Drop)]
+pub(crate) struct Shape {
+    table: Arc<Table>,
+    before: Vec<Event>,
+    after: Vec<Event>,
+    units: u32,
+    owners: Vec<u32>,
+    run_before: Vec<bool>,
+}
+
+impl Model for Shape {
+    ghost use Rattle.std.specs.Arc.{arc_value};
+    ghost use Rattle.tk_engine_lifecycle.specs.Units.{KeepsAround};
+    ghost use Rattle.tk_engine_hierarchical.specs.Shapes.{ShapeView, frame, AreRunning};
+
+    ghost Value = { ShapeView };
+
+    ghost view = { λ s. record {
+      table = arc_value s.table;
+      before = s.before.items;
+      after = s.after.items;
+      units = s.units;
+      owners = s.owners.items;
+    } };
+
+    ghost invariant = { λ s. KeepsAround (frame (record {
+      table = arc_value s.table;
+      before = s.before.items;
+      after = s.after.items;
+      units = s.units;
+      owners = s.owners.items;
+    })) × AreRunning s.before.items s.run_before.items };
+}
+
+// Whether an event is of a static descriptor that belongs to no unit, and registers nothing.
+fn is_common(table: &Table, owners: &[u32], units: u32, event: &Event) -> bool
+    ensures statics { IsTrue result → IsStaticEvent (length table.now) event.now }
+    ensures common { IsTrue result → units ≤ get_or owners.now event.now.key units }
+{
+    let owner = match owners.get(event.key as usize) {
+        Some(owner) => *owner,
+        None => units,
+    };
+    (event.key as usize) < table.len()
+        && units <= owner
+        && event.kind != Kind::Dynamic
+        && event.is_lawful()
+}
+
+// Whether all events are.
+fn are_common(table: &Table, owners: &[u32], units: u32, events: &[Event]) -> bool
+    ensures statics { IsTrue result → All (IsStaticEvent (length table.now)) events.now }
+    ensures common { IsTrue result
+        → All (λ e. units ≤ get_or owners.now e.key units) events.now }
+{
+    for event in events {
+        if !is_common(table, owners, units, event) {
+            return false;
+        }
+    }
+    true
+}
+
+// Adds events of worker 0 to a record, where it takes them all.
+fn append_all(alloc: Global, entries: &mut Record, events: &[Event]) -> Result<bool, AllocError>
+    ensures table { OnOk result (entries.new.table ≡ entries.old.table) }
+    ensures all { IfOk result (λ all. IsTrue all
+        → entries.new.entries ≡ entries.old.entries ++ entries_by 0 events.now) }
+{
+    for event in events {
+        let entry = Entry {
+            worker: 0,
+            event: event.try_clone(alloc)?,
+        };
+        if entries.append(entry).is_err() {
+            return Ok(false);
+        }
+    }
+    Ok(true)
+}
+
+// Shows that no two descriptors of a table have one id, which a look-up says.
+fn shows_different_ids(table: &Table)
+    ensures { AreDifferent table.now }
+{
+    if let Some(descriptor) = table.get(0) {
+        let _found = table.find(&descriptor.id);
+    }
+}
+
+// Whether a record keeps the lifecycle.
+fn record_keeps(alloc: Global, entries: &Record) -> Result<bool, AllocError>
+    ensures { IfOk result (λ keeps. IsTrue keeps → KeepsLifecycle entries.now) }
+{
+    kept_is_keeping();
+    shows_different_ids(entries.table());
+    match lifecycle(alloc, entries)? {
+        Lifecycle::Kept => Ok(true),
+        _ => Ok(false),
+    }
+}
+
+// Whether the events before and after the units keep the lifecycle.
+fn keeps_lifecycle(
+    alloc: Global,
+    table: &Arc<Table>,
+    before: &[Event],
+    after: &[Event],
+) -> Result<bool, AllocError>
+    ensures { IfOk result (λ keeps. IsTrue keeps → KeepsLifecycle (record {
+      table = arc_value table.now;
+      entries = entries_by 0 before.now ++ entries_by 0 after.now;
+    })) }
+{
+    let mut entries = Record::new(alloc, Arc::try_clone(table)?);
+    if !append_all(alloc, &mut entries, before)? {
+        return Ok(false);
+    }
+    if !append_all(alloc, &mut entries, after)? {
+        return Ok(false);
+    }
+    record_keeps(alloc, &entries)
+}
+
+// Sets the flag of a key that starts, and says whether it could; nothing finishes in these events.
+fn note_start(flags: &mut Vec<bool>, event: &Event) -> bool
+    ensures flags { IsTrue result → (key : ℕ) → slice_get flags.new.items key ≡ Some true
+        → (slice_get flags.old.items key ≡ Some true)
+        ⊎ ((event.now.kind ≡ Started) × (event.now.key ≡ key)) }
+    ensures kind { IsTrue result → event.now.kind ≢ Finished }
+{
+    match event.kind {
+        Kind::Finished => false,
+        Kind::Started => {
+            let index = event.key as usize;
+            if index >= flags.len() {
+                return false;
+            }
+            flags[index] = true;
+            true
+        }
+        _ => true,
+    }
+}
+
+// A flag for each static key: whether it runs after these events; nothing where a key finishes in
+// them.
+fn running_after(
+    alloc: Global,
+    keys: usize,
+    before: &[Event],
+) -> Result<Option<Vec<bool>>, AllocError>
+    ensures { IfOk result (λ found. IfSome found (λ flags. AreRunning before.now flags.items)) }
+{
+    let mut flags = Vec::with_capacity(alloc, keys)?;
+    for _ in 0..keys {
+        flags.push(false)?;
+    }
+    for event in before {
+        if !note_start(&mut flags, event) {
+            return Ok(None);
+        }
+    }
+    Ok(Some(flags))
+}
+
+impl Shape {
+    /// Makes the shape of an engine, where the record without a unit keeps the lifecycle.
+    pub(crate) fn new(
+        alloc: Global,
+        table: Arc<Table>,
+        before: Vec<Event>,
+        after: Vec<Event>,
+        units: u32,
+        owners: Vec<u32>,
+    ) -> Result<Option<Shape>, AllocError>
+        ensures { IfOk result (λ found. IfSome found (λ s. s ≡ record {
+          table = arc_value table;
+          before = before.items;
+          after = after.items;
+          units = units;
+          owners = owners.items;
+        })) }
+    {
+        if !are_common(&table, owners.as_slice(), units, before.as_slice()) {
+            return Ok(None);
+        }
+        if !are_common(&table, owners.as_slice(), units, after.as_slice()) {
+            return Ok(None);
+        }
+        if !keeps_lifecycle(alloc, &table, before.as_slice(), after.as_slice())? {
+            return Ok(None);
+        }
+        shows_different_ids(&table);
+        let Some(run_before) = running_after(alloc, table.len(), before.as_slice())? else {
+            return Ok(None);
+        };
+        Ok(Some(Shape {
+            table,
+            before,
+            after,
+            units,
+            owners,
+            run_before,
+        }))
+    }
+
+    /// The table of the static descriptors.
+    pub(crate) fn table(&self) -> &Arc<Table>
+        ensures { arc_value result.now ≡ self.now.table }
+    {
+        &self.table
+    }
+
+    /// How many units there are.
+    pub(crate) fn units(&self) -> u32
+        ensures { result ≡ self.now.units }
+    {
+        self.units
+    }
+
+    /// The unit to which a static key belongs, or the number of the units.
+    pub(crate) fn owner(&self, key: u32) -> u32
+        ensures { result ≡ get_or self.now.owners key self.now.units }
+    {
+        match self.owners.as_slice().get(key as usize) {
+            Some(owner) => *owner,
+            None => self.units,
+        }
+    }
+
+    /// Whether a static key runs after the events before the units.
+    pub(crate) fn runs_before(&self, key: u32) -> bool
+        ensures { IsTrue result → runs key (entries_by 0 self.now.before) ≡ true }
+    {
+        match self.run_before.as_slice().get(key as usize) {
+            Some(runs) => *runs,
+            None => false,
+        }
+    }
+
+    /// Shows what holds of each shape.
+    pub(crate) fn shows_shape(&self)
+        ensures { KeepsAround (frame self.now) }
+    {
+        let _table = &self.table;
+    }
+}

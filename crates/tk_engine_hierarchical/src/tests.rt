@@ -1,0 +1,66 @@
+//! What an author writes: tests, and the bodies of dynamic ones.
+use crate::reporters::Reporter;
+use crate::unit_runs::UnitRun;
+use std::alloc::Global;
+use std::sync::Wait;
+use tk_engine_execute::{Sink, UnitFault};
+use tk_events::Status;
+use tk_ids::Text;
+
+/// How a test ended.
+///
+/// JUnit: `TestExecutionResult`.
+#[derive(Debug, Drop)]
+pub enum Outcome {
+    /// The test succeeded.
+    Successful,
+    /// The test was aborted, with a message where there is one.
+    Aborted(Option<Text>),
+    /// The test failed, with a message where there is one.
+    Failed(Option<Text>),
+}
+
+/// The tests of an engine: what each static test of its plan does.
+///
+/// JUnit: the bodies of a `HierarchicalTestEngine`'s nodes.
+pub trait Tests {
+    /// Runs the test with this key, and says how it ended.
+    ///
+    /// The keys of a plan's static nodes are their numbers in preorder. `execute` calls this from
+    /// the thread of the worker that drew the test's unit, between the test's start and its finish,
+    /// which has the outcome. What the test publishes goes through `reporter`.
+    ///
+    /// # Errors
+    /// What `reporter` answered, or `Own(n)` where the engine can't go on. A test that fails is no
+    /// error.
+    fn run<R: Wait, S: Sink, K: UnitRun>(
+        &self,
+        rt: &R,
+        alloc: Global,
+        key: u32,
+        reporter: &mut Reporter<'_, S, K>,
+    ) -> Result<Outcome, UnitFault>;
+}
+
+/// The body of a dynamic test or container.
+pub trait Body {
+    /// Runs the body, and says how it ended.
+    ///
+    /// # Errors
+    /// As [`Tests::run`].
+    fn run<R: Wait, S: Sink, K: UnitRun>(
+        &self,
+        rt: &R,
+        alloc: Global,
+        reporter: &mut Reporter<'_, S, K>,
+    ) -> Result<Outcome, UnitFault>;
+}
+
+/// The payload of a finish with this outcome.
+pub(crate) fn outcome_parts(outcome: Outcome) -> (Status, Option<Text>) {
+    match outcome {
+        Outcome::Successful => (Status::Successful, None),
+        Outcome::Aborted(message) => (Status::Aborted, message),
+        Outcome::Failed(message) => (Status::Failed, message),
+    }
+}

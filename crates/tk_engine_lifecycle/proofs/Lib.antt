@@ -1,0 +1,13 @@
+pub mod Splits
+pub mod ByKey
+pub mod Registered
+pub mod Turns
+pub mod Apart
+pub mod Only
+pub mod Prefixes
+pub mod Kept
+pub mod Whole
+pub mod Closing
+pub mod Going
+pub mod Steps
+pub mod Samples

@@ -1,0 +1,36 @@
+//! The words of a plan's JSON.
+ghost use Rattle.std.specs.Prelude.{◌≡◌};
+ghost use Rattle.tk_plan_nodes.specs.NodeJson.{dtype_word, lock_mode_word, status_word};
+
+use crate::modes::LockMode;
+use tk_events::Status;
+use tk_ids::DType;
+
+pub(crate) fn dtype_text(dtype: DType) -> &'static str
+    ensures { result.now ≡ dtype_word dtype }
+{
+    match dtype {
+        DType::Container => "container",
+        DType::Test => "test",
+        DType::Both => "both",
+    }
+}
+
+pub(crate) fn lock_mode_text(mode: LockMode) -> &'static str
+    ensures { result.now ≡ lock_mode_word mode }
+{
+    match mode {
+        LockMode::Read => "read",
+        LockMode::ReadWrite => "read_write",
+    }
+}
+
+pub(crate) fn status_text(status: Status) -> &'static str
+    ensures { result.now ≡ status_word status }
+{
+    match status {
+        Status::Successful => "successful",
+        Status::Aborted => "aborted",
+        Status::Failed => "failed",
+    }
+}

@@ -1,0 +1,142 @@
+package testkit;
+
+import java.io.File;
+import java.io.PrintStream;
+import java.util.LinkedHashMap;
+import java.util.Map;
+
+import org.junit.platform.engine.ExecutionRequest;
+import org.junit.platform.engine.TestDescriptor.Type;
+import org.junit.platform.engine.TestEngine;
+import org.junit.platform.engine.UniqueId;
+import org.junit.platform.testkit.engine.ExecutionRecorder;
+import testkit.ScriptedEngine.Node;
+import testkit.ScriptedEngine.Script;
+import testkit.ScriptedEngine.Tree;
+
+/**
+ * Runs of small engines under the recorder of JUnit's {@code EngineTestKit}, whose results {@link ResultsWriter} writes.
+ *
+ * <p>It leaves what {@link ListenerCases} does.
+ */
+public class KitCases {
+
+    private interface Case {
+        void run(String path, String name);
+    }
+
+    private static final Map<String, Case> CASES = new LinkedHashMap<>();
+
+    static {
+        CASES.put("kit-kinds", (path, name) -> write(path, name, ListenerCases::kindsTree, ListenerCases::kindsScript));
+        CASES.put("kit-no-event", (path, name) -> write(path, name, root -> { }, (calls, root) -> { }));
+        CASES.put("kit-endings", KitCases::endings);
+        CASES.put("kit-unregistered", KitCases::unregistered);
+        CASES.put("kit-threads", KitCases::threads);
+        CASES.put("kit-times", KitCases::times);
+        CASES.put("kit-positions", KitCases::positions);
+        CASES.put("kit-bad-path", (path, name) -> write("nowhere/at/all.record", name, root -> { }, (calls, root) -> calls.start(root)));
+    }
+
+    private KitCases() {
+    }
+
+    /** Runs the cases {@code arguments[1]} and so on, and leaves what they made in the folder {@code arguments[0]}. */
+    public static void main(String[] arguments) throws Exception {
+        for (int i = 1; i < arguments.length; i++) {
+            String place = arguments[0] + File.separator + arguments[i];
+            PrintStream errors = System.err;
+            try (PrintStream messages = new PrintStream(place + ".messages", "UTF-8")) {
+                System.setErr(messages);
+                long begun = System.nanoTime();
+                CASES.get(arguments[i]).run(place + ".record", arguments[i]);
+                System.out.println(arguments[i] + " microseconds " + (System.nanoTime() - begun) / 1_000);
+            } finally {
+                System.setErr(errors);
+            }
+        }
+    }
+
+    /** Runs an engine under the kit's recorder, and writes its results. */
+    private static void write(String path, String name, Tree tree, Script script) {
+        ExecutionRecorder recorder = new ExecutionRecorder();
+        TestEngine engine = new ScriptedEngine("e", "engine", tree, script);
+        engine.execute(new ExecutionRequest(engine.discover(null, UniqueId.forEngine("e")), recorder, null));
+        System.out.println(name + " whole " + ResultsWriter.write(recorder.getExecutionResults(), path));
+    }
+
+    private static void oneTest(Node root) {
+        root.add("t", "1", "one", Type.TEST);
+    }
+
+    private static void endings(String path, String name) {
+        write(path, name, KitCases::oneTest, (calls, root) -> {
+            calls.start(root);
+            calls.fail(root.child(0), null);
+            calls.abort(root.child(0), new IllegalStateException());
+            calls.skip(root.child(0), null);
+            calls.skip(root.child(0), "a|b");
+            calls.report(root.child(0), "b", "1", "a", "2");
+            calls.abort(root, new IllegalStateException("why"));
+        });
+    }
+
+    /** Events that JUnit's launcher would drop. */
+    private static void unregistered(String path, String name) {
+        write(path, name, KitCases::oneTest, (calls, root) -> {
+            calls.start(root);
+            // Nobody's child, and registered by nobody.
+            calls.play(new Node(root.getUniqueId().append("t", "2"), "two", Type.TEST));
+            // Started before it is registered.
+            Node late = root.add("d", "late", "late", Type.TEST);
+            calls.start(late);
+            calls.register(late);
+            calls.succeed(late);
+            // Below a registered container.
+            Node container = calls.register(root, "1", "a dynamic container", Type.CONTAINER);
+            container.add("t", "never", "without an event", Type.TEST);
+            calls.start(container);
+            calls.play(container.add("t", "3", "three", Type.TEST));
+            calls.succeed(container);
+            // In the tree like what was discovered.
+            calls.play(root.add("t", "4", "four", Type.TEST));
+            // A root of its own, registered.
+            Node other = new Node(UniqueId.forEngine("other"), "other", Type.CONTAINER);
+            calls.register(other);
+            calls.play(other);
+            calls.succeed(root);
+        });
+    }
+
+    private static void threads(String path, String name) {
+        write(path, name, KitCases::oneTest, (calls, root) -> {
+            calls.start(root);
+            calls.onThread(() -> calls.play(root.child(0)));
+            calls.onThread(() -> calls.play(calls.register(root, "1", "on a thread", Type.TEST)));
+            calls.play(calls.register(root, "2", "dynamic", Type.TEST));
+            calls.succeed(root);
+        });
+    }
+
+    private static void times(String path, String name) {
+        write(path, name, KitCases::oneTest, (calls, root) -> {
+            ListenerCases.pause();
+            calls.start(root);
+            ListenerCases.pause();
+            calls.succeed(root);
+        });
+    }
+
+    private static void positions(String path, String name) {
+        System.setProperty("testkit.stamps", "positions");
+        try {
+            write(path, name, KitCases::oneTest, (calls, root) -> {
+                calls.start(root);
+                calls.play(root.child(0));
+                calls.succeed(root);
+            });
+        } finally {
+            System.clearProperty("testkit.stamps");
+        }
+    }
+}

@@ -1,0 +1,134 @@
+package testkit;
+
+import java.time.Instant;
+import java.time.temporal.ChronoUnit;
+import java.util.HashSet;
+import java.util.LinkedHashMap;
+import java.util.List;
+import java.util.Map;
+import java.util.Set;
+
+import org.junit.platform.engine.TestDescriptor;
+import org.junit.platform.engine.TestExecutionResult;
+import org.junit.platform.engine.UniqueId;
+import org.junit.platform.engine.reporting.ReportEntry;
+import org.junit.platform.launcher.TestIdentifier;
+import org.junit.platform.testkit.engine.EngineExecutionResults;
+import org.junit.platform.testkit.engine.Event;
+import org.junit.platform.testkit.engine.EventType;
+
+/**
+ * Writes a record text of version 2 ({@code docs/FORMATS.md}) of a run of {@code EngineTestKit}.
+ *
+ * <p>The record has each event of {@code allEvents}, in that order. The results don't say which threads called, so each entry
+ * is of worker 1. A stamp is the time since the first event, in microseconds.
+ */
+public final class ResultsWriter {
+
+    /** The listener to which the events are reported once more, each at its own time. */
+    private static class Replay extends RecordListener {
+
+        private final Instant first;
+        private Instant now;
+
+        Replay(Instant first) {
+            this.first = first;
+            now = first;
+        }
+
+        @Override
+        long nanoTime() {
+            return first.until(now, ChronoUnit.NANOS);
+        }
+
+        void report(Event event) {
+            now = event.getTimestamp();
+            TestIdentifier identifier = TestIdentifier.from(event.getTestDescriptor());
+            switch (event.getType()) {
+                case DYNAMIC_TEST_REGISTERED:
+                    dynamicTestRegistered(identifier);
+                    break;
+                case SKIPPED:
+                    executionSkipped(identifier, event.getPayload(String.class).orElse(null));
+                    break;
+                case STARTED:
+                    executionStarted(identifier);
+                    break;
+                case FINISHED:
+                    executionFinished(identifier, event.getRequiredPayload(TestExecutionResult.class));
+                    break;
+                case REPORTING_ENTRY_PUBLISHED:
+                    reportingEntryPublished(identifier, event.getRequiredPayload(ReportEntry.class));
+                    break;
+                default:
+                    stop("no record of JUnit has an event of the type " + event.getType());
+            }
+        }
+    }
+
+    private ResultsWriter() {
+    }
+
+    /**
+     * Writes the record of {@code results} to {@code path}, and returns whether it has each event.
+     *
+     * <p>The path, and what ends a recording early, are as {@link RecordListener} has them. The system property
+     * {@link RecordListener#STAMPS_PARAMETER} says what the stamps are.
+     */
+    public static boolean write(EngineExecutionResults results, String path) {
+        List<Event> events = results.allEvents().list();
+        Replay replay = new Replay(events.isEmpty() ? Instant.EPOCH : events.get(0).getTimestamp());
+        replay.begin(path, System.getProperty(RecordListener.STAMPS_PARAMETER, ""), staticIdentifiers(events));
+        events.forEach(replay::report);
+        replay.end();
+        return replay.isWhole();
+    }
+
+    /**
+     * Returns the descriptors that need a line before the events: what stands in the trees of the events' descriptors and neither was
+     * registered nor is below what was, and what has an event before it was registered, or was never.
+     */
+    private static Map<UniqueId, TestIdentifier> staticIdentifiers(List<Event> events) {
+        Set<UniqueId> registered = new HashSet<>();
+        for (Event event : events) {
+            if (isRegistration(event)) {
+                registered.add(event.getTestDescriptor().getUniqueId());
+            }
+        }
+        Map<UniqueId, TestIdentifier> identifiers = new LinkedHashMap<>();
+        for (Event event : events) {
+            TestDescriptor root = root(event.getTestDescriptor());
+            // (a descriptor with a longer id that has no parent is in the tree of no engine)
+            if (root.getUniqueId().getSegments().size() == 1) {
+                collect(root, registered, identifiers);
+            }
+        }
+        Set<UniqueId> known = new HashSet<>(identifiers.keySet());
+        for (Event event : events) {
+            TestDescriptor descriptor = event.getTestDescriptor();
+            if (!isRegistration(event) && !known.contains(descriptor.getUniqueId())) {
+                System.err.println("testkit: nobody registered " + descriptor.getUniqueId() + " before its first event");
+                identifiers.put(descriptor.getUniqueId(), TestIdentifier.from(descriptor));
+            }
+            known.add(descriptor.getUniqueId());
+        }
+        return identifiers;
+    }
+
+    private static boolean isRegistration(Event event) {
+        return event.getType() == EventType.DYNAMIC_TEST_REGISTERED;
+    }
+
+    private static TestDescriptor root(TestDescriptor descriptor) {
+        return descriptor.getParent().map(ResultsWriter::root).orElse(descriptor);
+    }
+
+    /** Puts a descriptor that wasn't registered, and what is below it, into {@code identifiers}, parents first. */
+    private static void collect(TestDescriptor descriptor, Set<UniqueId> registered, Map<UniqueId, TestIdentifier> identifiers) {
+        if (registered.contains(descriptor.getUniqueId()) || identifiers.containsKey(descriptor.getUniqueId())) {
+            return;
+        }
+        identifiers.put(descriptor.getUniqueId(), TestIdentifier.from(descriptor));
+        descriptor.getChildren().forEach(child -> collect(child, registered, identifiers));
+    }
+}

@@ -1,0 +1,95 @@
+"""What a run of `./check` that passed leaves behind, in a file of lines of a name and a value.
+
+`./check` writes it where nothing failed and the work tree was clean; `tools/package` makes no package without it.
+"""
+
+import hashlib
+import os
+import subprocess
+from dataclasses import asdict, dataclass, fields
+from typing import Optional
+
+PROGRAM = "crates/testkit/out/testkit"
+RUN = "crates/testkit/out/checked"
+"""Where the file stands. Git ignores the folder."""
+
+ELSEWHERE = ("GIT_DIR", "GIT_WORK_TREE", "GIT_INDEX_FILE")
+"""Variables that would have git answer about another tree."""
+
+
+class Unknown(Exception):
+    """Git doesn't say what the tree is."""
+
+
+@dataclass(frozen=True)
+class State:
+    """The commit that is checked out, its tree, and the first file that differs from it, or nothing."""
+
+    commit: str
+    tree: str
+    changed: str
+
+
+@dataclass(frozen=True)
+class Run:
+    """A run of the gate in which nothing failed."""
+
+    commit: str
+    tree: str
+    kit: str
+    program: str
+    """The hash of the program's file."""
+    passed: int
+    date: str
+
+
+def git(top: str, *words: str) -> bytes:
+    """Answers what git prints of the tree at `top`."""
+    environment = {name: value for name, value in os.environ.items() if name not in ELSEWHERE}
+    try:
+        ran = subprocess.run(["git", "-C", top, *words], env=environment, stdin=subprocess.DEVNULL, capture_output=True, check=False)
+    except OSError as fault:
+        raise Unknown(f"git can't be run: {fault}") from fault
+    if ran.returncode:
+        raise Unknown(" ".join(ran.stderr.decode(errors="replace").split()) or f"git {words[0]} failed")
+    return ran.stdout
+
+
+def state_of(top: str) -> State:
+    """Reads the state of a work tree, in which files that .gitignore doesn't name count as changes."""
+    if os.path.realpath(git(top, "rev-parse", "--show-toplevel").decode().rstrip("\n")) != os.path.realpath(top):
+        raise Unknown(f"{top} is not the top of a repository")
+    commit, tree = git(top, "rev-parse", "HEAD", "HEAD^{tree}").decode().split()
+    changes = git(top, "-c", "core.excludesFile=/dev/null", "-c", "core.fileMode=true", "status", "--porcelain", "--untracked-files=all")
+    return State(commit, tree, (changes.decode(errors="replace").splitlines() or [""])[0][3:])
+
+
+def hash_of(path: str) -> str:
+    """Answers the SHA-256 of a file."""
+    with open(path, "rb") as file:
+        return hashlib.sha256(file.read()).hexdigest()
+
+
+def write(top: str, run: Run) -> None:
+    with open(f"{top}/{RUN}", "w", encoding="utf-8") as file:
+        file.write("".join(f"{name} {value}\n" for name, value in asdict(run).items()))
+
+
+def read(top: str) -> Optional[Run]:
+    """Reads the run that the gate left, if it left one and it is whole."""
+    try:
+        with open(f"{top}/{RUN}", encoding="utf-8") as file:
+            lines = [line.rstrip("\n").partition(" ") for line in file]
+        if [name for name, _, value in lines if value] != [it.name for it in fields(Run)]:
+            return None
+        found = {name: value for name, _, value in lines}
+        run = Run(**{**found, "passed": int(found["passed"])})
+        return run if run.passed > 0 else None
+    except (OSError, ValueError):
+        return None
+
+
+def remove(top: str) -> None:
+    """Removes what an earlier run left."""
+    if os.path.lexists(f"{top}/{RUN}"):
+        os.remove(f"{top}/{RUN}")

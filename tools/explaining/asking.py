@@ -1,0 +1,92 @@
+"""Asking the program about a record, and the lines of the record's text."""
+
+import os
+import re
+import subprocess
+import sys
+import tempfile
+from dataclasses import dataclass, field
+from typing import BinaryIO, Dict, List, Sequence, Tuple
+
+TOP = os.path.dirname(os.path.dirname(os.path.dirname(os.path.realpath(__file__))))
+PROGRAM = os.environ.get("PROGRAM", f"{TOP}/testkit")
+
+NUMBER = rb"(?:0|[1-9][0-9]*)"
+LISTED = re.compile(rb"(" + NUMBER + rb") (.*)", re.DOTALL)
+"""A line of `ask list`: the position of an event, and its line in the record."""
+
+
+class Failed(Exception):
+    """The script can't explain the answer."""
+
+
+class Refused(Exception):
+    """The program answered a fault, with this status and its line on standard error."""
+
+    def __init__(self, status: int, line: str):
+        super().__init__(line)
+        self.status = status
+
+
+@dataclass(frozen=True)
+class Record:
+    """A record text in a file, which the program reads anew for each question, with its lines of descriptors and of events."""
+
+    file: BinaryIO
+    descriptors: Sequence[bytes]
+    events: Sequence[bytes]
+    held: Dict[bytes, List[int]] = field(default_factory=dict)
+    """The positions at which a condition holds, of those that were asked for."""
+
+    @staticmethod
+    def read(source: BinaryIO) -> "Record":
+        text = source.read()
+        file = tempfile.TemporaryFile()
+        file.write(text)
+        lines = text.split(b"\n")
+        return Record(file, *([line for line in lines if line.startswith(letter)] for letter in (b"N|", b"E|")))
+
+    def ask(self, *words: bytes) -> Tuple[int, bytes]:
+        """Asks a question; answers the status, 0 or 1, and what was written."""
+        self.file.seek(0)
+        command = [os.fsencode(PROGRAM), b"ask", *words]
+        ran = subprocess.run(command, stdin=self.file, stdout=subprocess.PIPE, stderr=subprocess.PIPE)
+        if ran.returncode < 0:
+            raise Failed(f"{PROGRAM} was stopped by signal {-ran.returncode}")
+        if ran.returncode > 1:
+            raise Refused(ran.returncode, ran.stderr.decode(errors="replace"))
+        return ran.returncode, ran.stdout
+
+    def positions(self, condition: bytes) -> List[int]:
+        """The positions at which a condition holds. The program is asked once for each condition."""
+        if condition not in self.held:
+            status, output = self.ask(b"list", b"all", condition)
+            self.held[condition] = self.listed(status, output)
+        return self.held[condition]
+
+    def listed(self, status: int, output: bytes) -> List[int]:
+        """The positions of a list of events, whose lines are the record's."""
+        *lines, rest = output.split(b"\n")
+        found: List[int] = []
+        for line in lines:
+            parts = LISTED.fullmatch(line)
+            if not parts or int(parts[1]) >= len(self.events) or self.events[int(parts[1])] != parts[2]:
+                raise not_an_answer(status, output)
+            found.append(int(parts[1]))
+        if status or rest or any(first >= second for first, second in zip(found, found[1:])):
+            raise not_an_answer(status, output)
+        return found
+
+
+def not_an_answer(status: int, output: bytes) -> Failed:
+    return Failed(f"{PROGRAM} answers {output[:80]!r} with status {status}")
+
+
+def show(*texts: bytes) -> None:
+    """Prints a line in which words and texts stand as they were given, whatever the language of the terminal."""
+    sys.stdout.buffer.write(b"".join(texts) + b"\n")
+
+
+def show_event(record: Record, position: int, more: bytes = b"") -> None:
+    """Prints the line of an event, after its position."""
+    show(f"    {position}: ".encode(), record.events[position], more)

@@ -1,0 +1,112 @@
+"""The parts of a condition, and how near an event comes to it."""
+
+import re
+from dataclasses import dataclass
+from functools import lru_cache
+from typing import Dict, FrozenSet, List, Optional, Tuple
+
+KINDS = {
+    b"started": b"start",
+    b"succeeded": b"finish",
+    b"failed": b"finish",
+    b"aborted": b"finish",
+    b"skipped": b"skip",
+    b"file": b"file",
+    b"entry": b"report",
+}
+"""The kind of the events of which an atom can hold, where it has one. `kind(K)` names it."""
+
+STATUSES = {b"succeeded": b"ok", b"failed": b"fail", b"aborted": b"abort"}
+"""The status of the finishes of which an atom can hold."""
+
+FIELD_ESCAPES: Dict[bytes, bytes] = {b"\\p": b"|", b"\\n": b"\n", b"\\\\": b"\\"}
+"""How a field of a record spells three letters, which stand for themselves in a condition."""
+
+LETTERS = {b"|": b"|", b"\n": b"a line feed", b"\\": b"\\"}
+"""How these letters are shown."""
+
+
+@dataclass(frozen=True)
+class Part:
+    """A condition that another one joins by `all`, or that stands alone."""
+
+    text: bytes
+
+    @property
+    def word(self) -> bytes:
+        return self.text.partition(b"(")[0]
+
+    def may_hold_of_kind(self, event: bytes) -> bool:
+        """Whether it can hold of an event of this one's kind."""
+        kinds = kinds_of(self.text)
+        return kinds is None or event.split(b"|", 5)[4] in kinds
+
+    def lacks_text_alone(self, event: bytes) -> bool:
+        """Whether an event of which this doesn't hold has all that it asks but the text: a message, a reason, a path or entries."""
+        if b"(" not in self.text or self.word not in KINDS or not self.may_hold_of_kind(event):
+            return False
+        return self.word not in STATUSES or event.split(b"|", 6)[5] == STATUSES[self.word]
+
+
+def members_of(condition: bytes) -> List[bytes]:
+    """The conditions between the brackets of `all(..)`, `any(..)` or `not(..)`. (Texts have no bracket and no comma.)"""
+    inner = condition.partition(b"(")[2][:-1]
+    members, depth = [b""] if inner else [], 0
+    for piece in re.split(rb"([(),])", inner):
+        depth += (piece == b"(") - (piece == b")")
+        if piece == b"," and depth == 0:
+            members.append(b"")
+        elif inner:
+            members[-1] += piece
+    return members
+
+
+@lru_cache(maxsize=None)
+def kinds_of(condition: bytes) -> Optional[FrozenSet[bytes]]:
+    """The kinds of the events of which a condition can hold, where its atoms say so."""
+    word = condition.partition(b"(")[0]
+    if word == b"kind":
+        return frozenset([condition[len(b"kind(") : -1]])
+    if word in KINDS:
+        return frozenset([KINDS[word]])
+    members = [kinds_of(member) for member in members_of(condition)] if word in (b"all", b"any") else [None]
+    known = [kinds for kinds in members if kinds is not None]
+    if word == b"all" and known:
+        return frozenset.intersection(*known)
+    return frozenset().union(*known) if len(known) == len(members) else None
+
+
+def parts_of(condition: bytes) -> List[Part]:
+    """The conditions that a condition joins by `all`, also by an `all` within; the condition itself where it joins none."""
+    if not condition.startswith(b"all(") or condition == b"all()":
+        return [Part(condition)]
+    return [part for member in members_of(condition) for part in parts_of(member)]
+
+
+def atoms_of(condition: bytes) -> List[bytes]:
+    """The atoms of a condition, each once, in their order."""
+    if not condition.startswith((b"all(", b"any(", b"not(")):
+        return [condition]
+    return list(dict.fromkeys(atom for member in members_of(condition) for atom in atoms_of(member)))
+
+
+def field_escapes_of(atom: bytes) -> List[bytes]:
+    """The escapes of a record's field that stand in an atom, each once; none where it isn't wholly spelled as a field."""
+    pieces = re.findall(rb"\\.?", atom, re.DOTALL)
+    return list(dict.fromkeys(pieces)) if all(piece in FIELD_ESCAPES for piece in pieces) else []
+
+
+def without_field_escapes(atom: bytes) -> bytes:
+    """The atom of the text that a record's field spells so."""
+    return re.sub(rb"\\.", lambda escape: FIELD_ESCAPES[escape[0]], atom, flags=re.DOTALL)
+
+
+def distance(event: bytes, lacking: List[Part]) -> Tuple[int, int, int]:
+    """How far an event is from a condition of which these parts don't hold: the least is the nearest.
+
+    First counts how many parts don't hold, then how many of them lack more than their text, and then how many are of another kind of
+    event.
+    """
+    more_than_text = sum(not part.lacks_text_alone(event) for part in lacking)
+    of_other_kinds = sum(not part.may_hold_of_kind(event) for part in lacking)
+    return len(lacking), more_than_text, of_other_kinds
