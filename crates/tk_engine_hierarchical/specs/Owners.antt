@@ -1,7 +1,22 @@
 -- To which unit an id belongs.
 use Rattle.std.specs.Prelude.{
-    ℕ, zero, suc, Bool, true, false, ◌&&◌, bytes_eq, List, [], ◌∷◌, length,
-    Option, Some, None, get_or, if◌then◌else◌
+  ℕ,
+  zero,
+  suc,
+  Bool,
+  true,
+  false,
+  ◌&&◌,
+  bytes_eq,
+  List,
+  [],
+  ◌∷◌,
+  length,
+  Option,
+  Some,
+  None,
+  get_or,
+  if◌then◌else◌,
 }
 use Rattle.std.specs.Option.{option_map}
 use Rattle.tk_ids.specs.IdText.{SegmentView, parent_of}
