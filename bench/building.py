@@ -7,7 +7,8 @@ import sys
 import tempfile
 from typing import Callable, Dict, List, Sequence
 
-ROOT = os.path.dirname(os.path.dirname(os.path.realpath(__file__)))
+BENCH = os.path.dirname(os.path.realpath(__file__))
+ROOT = os.path.dirname(BENCH)
 PARTS = ["src", "specs", "proofs", "out/rlib"]
 """What of a crate is copied: its sources and its built library."""
 
@@ -31,6 +32,11 @@ def run_script(measure: Callable[[str, List[str]], None], usage: str, least: int
     except (NotMeasured, OSError) as fault:
         print(f"{usage.split()[0]}: {fault}", file=sys.stderr)
         sys.exit(70)
+
+
+def folder_of(name: str) -> str:
+    """The folder of what a script compiles."""
+    return f"{BENCH}/{name}"
 
 
 def call(command: Sequence[str], folder: str = ".", **how) -> bytes:

@@ -1,9 +1,9 @@
-#!/usr/bin/env python3
-"""Measures how long `read_plan` takes for plans of several shapes, most near 16 MiB: `bench/plan/measure_plan.py`.
+#!/usr/bin/env -S python3 -B
+"""Measures how long `read_plan` takes for plans of several shapes, most near 16 MiB: `bench/measure_plan.py`.
 
 Beside it stands serde_json's reading of the same bytes. It wants the libraries that `./testkit` builds and rt, and leaves nothing behind.
-The program (main.rt.in) is proved and built in a copy, over the libraries, since it is no part of the product; each reading has a process
-of its own, as a plan has in use. On a busy machine PRIORITY="chrt -f 10" before it gives the program a processor when it wants it.
+The program (plan/main.rt.in) is proved and built in a copy, over the libraries, since it is no part of the product; each reading has a
+process of its own, as a plan has in use. On a busy machine PRIORITY="chrt -f 10" before it gives the program a processor when it wants it.
 
 Each line: the shape, its nodes, seconds by the clock (medians of five readings in turn), and the ratio of `read_plan` to serde_json's
 reading, and to its reading and dropping the value (`read_plan` reads and drops a value of json).
@@ -12,17 +12,13 @@ reading, and to its reading and dropping the value (`read_plan` reads and drops 
 import json
 import os
 import statistics
-import sys
 from typing import Dict, List
-
-HERE = os.path.dirname(os.path.realpath(__file__))
-sys.path.insert(0, os.path.dirname(HERE))
-sys.dont_write_bytecode = True
 
 import building
 import timing
 
-USAGE = "bench/plan/measure_plan.py"
+USAGE = "bench/measure_plan.py"
+HERE = building.folder_of("plan")
 MAX_TEXT = 16 * 2**20
 ROUNDS = 5
 

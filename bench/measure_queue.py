@@ -1,28 +1,23 @@
-#!/usr/bin/env python3
-"""Measures events a second through one session of tk_queue with 1, 2, 4 and 8 senders and 64 places: `bench/queue/measure_queue.py`.
+#!/usr/bin/env -S python3 -B
+"""Measures events a second through one session of tk_queue with 1, 2, 4 and 8 senders and capacity 64: `bench/measure_queue.py`.
 
-Beside it stand plain bounded queues (plain.rs, rustc -O) with the same push into a record at their end. It wants the libraries that
-`./testkit` builds, rt and rustc, and leaves nothing behind. The program (main.rt.in) is proved and built in a copy, over the libraries. On
-a busy machine PRIORITY="chrt -f 10" before it gives each program a processor when it wants it.
+Beside it stand plain bounded queues (queue/plain.rs, rustc -O) with the same push into a record at their end. It wants the libraries that
+`./testkit` builds, rt and rustc, and leaves nothing behind. The program (queue/main.rt.in) is proved and built in a copy, over the
+libraries. On a busy machine PRIORITY="chrt -f 10" before it gives each program a processor when it wants it.
 
 Each line: senders; millions of events a second, medians of 15 rounds in turn: of the session; of the plain queue, the better of waiting at
 condition variables and of spinning and yielding, with the ratio ours / plain; and of a plain queue whose receiver takes all that is there
-at once and sleeps until half of the places are taken.
+at once and sleeps until the queue is half full.
 """
 
-import os
 import statistics
-import sys
 from typing import Dict, List
-
-HERE = os.path.dirname(os.path.realpath(__file__))
-sys.path.insert(0, os.path.dirname(HERE))
-sys.dont_write_bytecode = True
 
 import building
 import timing
 
-USAGE = "bench/queue/measure_queue.py"
+USAGE = "bench/measure_queue.py"
+HERE = building.folder_of("queue")
 ROUNDS = 5
 """How often each program runs; each run prints three rounds."""
 

@@ -1,5 +1,5 @@
-#!/usr/bin/env python3
-"""Times `run` with 1, 2 and 4 workers on three plans beside a plain Rust program that does the same: `bench/run/measure_run.py PROGRAM`.
+#!/usr/bin/env -S python3 -B
+"""Times `run` with 1, 2 and 4 workers on three plans beside a plain Rust program that does the same: `bench/measure_run.py PROGRAM`.
 
 It wants rustc, and leaves nothing behind. The reports of both have to be the same. Each line: workers and events of a run; seconds of
 processor time and by the clock, medians of five runs in turn; the ratios plain / ours (above 1 we are faster); the most memory; events a
@@ -9,17 +9,13 @@ second by the clock.
 import filecmp
 import json
 import os
-import sys
 from typing import List
-
-HERE = os.path.dirname(os.path.realpath(__file__))
-sys.path.insert(0, os.path.dirname(HERE))
-sys.dont_write_bytecode = True
 
 import building
 import timing
 
-USAGE = "bench/run/measure_run.py PROGRAM"
+USAGE = "bench/measure_run.py PROGRAM"
+HERE = building.folder_of("run")
 WORKERS = [1, 2, 4]
 STATISTICS = ["skipped", "started", "finished", "reporting", "dynamic", "files"]
 """The lines of a report whose numbers together are that of the events."""

@@ -1,5 +1,5 @@
-#!/usr/bin/env python3
-"""Times lists of events, lifecycles and reports of three large records: `bench/match/measure_overviews.py PROGRAM`.
+#!/usr/bin/env -S python3 -B
+"""Times lists of events, lifecycles and reports of three large records: `bench/measure_overviews.py PROGRAM`.
 
 It leaves nothing behind. Each line: what is asked of which record, the seconds of processor time beside those of `ask count all` of the same
 record (medians of five runs in turn), and their ratio with its goal and with the least and the greatest ratio of a round. Every question
@@ -7,17 +7,13 @@ reads the whole record first.
 """
 
 import os
-import sys
 from dataclasses import dataclass
 from typing import Callable, List
-
-sys.path.insert(0, os.path.dirname(os.path.dirname(os.path.realpath(__file__))))
-sys.dont_write_bytecode = True
 
 import building
 import timing
 
-USAGE = "bench/match/measure_overviews.py PROGRAM"
+USAGE = "bench/measure_overviews.py PROGRAM"
 
 LARGEST = 16 * 1024 * 1024
 """How many bytes a record may have."""

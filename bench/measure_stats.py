@@ -1,5 +1,5 @@
-#!/usr/bin/env python3
-"""Times `ask stats` beside a plain Rust reader of the same record text: `bench/stats/measure_stats.py PROGRAM [MIB]`.
+#!/usr/bin/env -S python3 -B
+"""Times `ask stats` beside a plain Rust reader of the same record text: `bench/measure_stats.py PROGRAM [MIB]`.
 
 It wants rustc, and leaves nothing behind. A line for a record whose ids have one segment, and one for a record whose ids have two: whether
 the answers agree; seconds of processor time and by the clock, medians of five runs in turn; the ratios plain / ours (above 1 we are
@@ -7,17 +7,13 @@ faster); the most memory of each over the size of the record.
 """
 
 import os
-import sys
 from typing import List
-
-HERE = os.path.dirname(os.path.realpath(__file__))
-sys.path.insert(0, os.path.dirname(HERE))
-sys.dont_write_bytecode = True
 
 import building
 import timing
 
-USAGE = "bench/stats/measure_stats.py PROGRAM [MIB]"
+USAGE = "bench/measure_stats.py PROGRAM [MIB]"
+HERE = building.folder_of("stats")
 MIB = 15.9
 TESTS = 2_000
 WORKERS = 8

@@ -1,5 +1,5 @@
-#!/usr/bin/env python3
-"""Times matches and executions of a record of 640,000 events: `bench/match/measure_matches.py PROGRAM`.
+#!/usr/bin/env -S python3 -B
+"""Times matches and executions of a record of 640,000 events: `bench/measure_matches.py PROGRAM`.
 
 It leaves nothing behind. Each line: what is asked and beside what, the seconds of both in processor time and by the clock (medians of five
 runs in turn), their ratio with the goal where there is one, and the most memory. All that is timed reads the whole record first; so a
@@ -7,16 +7,12 @@ question beside `count all` shows what it costs beside reading.
 """
 
 import os
-import sys
 from typing import List, Optional
-
-sys.path.insert(0, os.path.dirname(os.path.dirname(os.path.realpath(__file__))))
-sys.dont_write_bytecode = True
 
 import building
 import timing
 
-USAGE = "bench/match/measure_matches.py PROGRAM"
+USAGE = "bench/measure_matches.py PROGRAM"
 
 EVENTS = 640_000
 TESTS = 2_000
