@@ -15,7 +15,7 @@ fn is_answered(
     }
 }
 
-// A test below so many containers that there are `levels` levels.
+// A test at the bottom of a chain of nodes, `levels` levels in all.
 fn chain(alloc: Global, levels: u32) -> Result<PlanNode<'static>, AllocError> {
     let mut node = PlanNode::test(alloc, ("t", "t"), "t");
     for _ in 1..levels {
@@ -98,7 +98,7 @@ fn resources(rt: HostRuntime) {
     assert!(rt; matches!(is_locked(alloc, 16, "TooManyResources"), Ok(true)));
 }
 
-// A test that publishes so many entries without pairs.
+// A test that publishes `count` entries without pairs.
 fn publishing(alloc: Global, count: u32) -> Result<PlanNode<'static>, AllocError> {
     let mut root = PlanNode::test(alloc, ("engine", "e"), "e");
     for _ in 0..count {

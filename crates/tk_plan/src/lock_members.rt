@@ -56,6 +56,7 @@ fn locks(alloc: Global, at: &str, value: &Value<'_>) -> Result<Locks, PlanFault>
     Ok(Locks::new(locks))
 }
 
+/// Reads the member `locks` of a node, which has none where it is absent.
 pub(crate) fn locks_member(
     alloc: Global,
     at: JsonPath<'_>,

@@ -51,6 +51,7 @@ fn ending(alloc: Global, at: JsonPath<'_>, value: &Value<'_>) -> Result<Ending, 
     Ok(Ending { status, message })
 }
 
+/// Reads the member `result` of a node, which is successful where it is absent.
 pub(crate) fn result_member(
     alloc: Global,
     at: JsonPath<'_>,
@@ -158,6 +159,7 @@ fn entries(alloc: Global, at: &str, value: &Value<'_>) -> Result<Reports, PlanFa
     })
 }
 
+/// Reads the member `entries` of a node, which has none where it is absent.
 pub(crate) fn entries_member(
     alloc: Global,
     at: JsonPath<'_>,

@@ -6,6 +6,7 @@ use crate::modes::LockMode;
 use tk_events::Status;
 use tk_ids::DType;
 
+/// Gives the word of a type in a plan's text.
 pub(crate) fn dtype_text(dtype: DType) -> &'static str
     ensures { result.now ≡ dtype_word dtype }
 {
@@ -16,6 +17,7 @@ pub(crate) fn dtype_text(dtype: DType) -> &'static str
     }
 }
 
+/// Gives the word of a lock's mode in a plan's text.
 pub(crate) fn lock_mode_text(mode: LockMode) -> &'static str
     ensures { result.now ≡ lock_mode_word mode }
 {
@@ -25,6 +27,7 @@ pub(crate) fn lock_mode_text(mode: LockMode) -> &'static str
     }
 }
 
+/// Gives the word of a status in a plan's text.
 pub(crate) fn status_text(status: Status) -> &'static str
     ensures { result.now ≡ status_word status }
 {

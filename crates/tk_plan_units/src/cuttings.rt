@@ -51,6 +51,7 @@ pub(crate) struct Cutting {
 }
 
 impl Cutting {
+    /// Makes the cutting of no node.
     pub(crate) fn new(alloc: Global) -> Cutting
         ensures spine { result.spine.items ≡ [] }
         ensures units { result.units.items ≡ [] }

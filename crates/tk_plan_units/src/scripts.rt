@@ -34,6 +34,7 @@ fn push_opening(node: &Node, number: u32, moves: &mut Vec<Move>) -> Result<(), A
     Ok(())
 }
 
+/// Adds what a node and those below it do, in order.
 #[cycle(moving)]
 pub(crate) fn push_tree(
     numbered_node: &NumberedNode,

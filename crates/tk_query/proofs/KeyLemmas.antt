@@ -97,18 +97,18 @@ answered_now r c position b answered = record { answers_at = λ e stands. subst 
 pub candidate_answered : (r : Recorded) (c : Condition) (flags : List Bool) (position : ℕ) (b : Bool) → AreCandidates r c flags → get_or flags position false ≡ false → b ≡ false → AnswersAt r c position b
 candidate_answered r c flags position b are clear is = record { answers_at = λ e stands. is ∙ sym (are.others position e stands clear) }
 
-pub candidates_are : (rule : ColumnTest) (r : Recorded) (c : Condition) (flags : List Bool) → HoldsWithin rule r c → flags ≡ map (passes rule r) r.entries → AreCandidates r c flags
-candidates_are rule r c flags h is = record {
+pub candidates_are : (column_test : ColumnTest) (r : Recorded) (c : Condition) (flags : List Bool) → HoldsWithin column_test r c → flags ≡ map (passes column_test r) r.entries → AreCandidates r c flags
+candidates_are column_test r c flags h is = record {
   others = λ position e stands clear.
-      h.within e (sym (map_get (passes rule r) r.entries position e stands) ∙ ap (λ l. get_or l position false) (sym is) ∙ clear);
+      h.within e (sym (map_get (passes column_test r) r.entries position e stands) ∙ ap (λ l. get_or l position false) (sym is) ∙ clear);
 }
 
--- a condition that asks for the key alone, or for more than the rule
+-- a condition that asks for the key alone, or for more than the test of a column
 pub by_key : (r : Recorded) (c d : Condition) (p : ℕ → Bool) → c ≡ d → ((e : Entry) → holds r d e ≡ p e.event.key) → IsOfKey r c
 by_key r c d p is test = subst (IsOfKey r) (sym is) (record { same = λ a b same. test a ∙ ap p same ∙ sym (test b) })
 
-pub within_rule : (rule : ColumnTest) (r : Recorded) (c d : Condition) (p : Entry → Bool) → c ≡ d → ((e : Entry) → holds r d e ≡ (passes rule r e && p e)) → HoldsWithin rule r c
-within_rule rule r c d p is test = subst (HoldsWithin rule r) (sym is) (record { within = λ e fails. test e ∙ ap (λ b. b && p e) fails })
+pub within_column_test : (column_test : ColumnTest) (r : Recorded) (c d : Condition) (p : Entry → Bool) → c ≡ d → ((e : Entry) → holds r d e ≡ (passes column_test r e && p e)) → HoldsWithin column_test r c
+within_column_test column_test r c d p is test = subst (HoldsWithin column_test r) (sym is) (record { within = λ e fails. test e ∙ ap (λ b. b && p e) fails })
 
 pub on_ok_from : {X E A B : Type 0} (o : Result X E) → (A → B) → OnOk o A → OnOk o B
 on_ok_from (Ok x) f h = f h

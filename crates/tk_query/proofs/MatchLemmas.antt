@@ -191,17 +191,17 @@ module _ (asked : Selected) (flags : List Bool) (are : AreFlags asked flags) (r 
   mask_tells None b none is = subst (HoldsOfSome asked c) (sym is) (λ k. clear_fits k (get_or flags k false) refl (none.none k (omega arith)))
   mask_tells (Some at) b next is = subst (HoldsOfSome asked c) (sym is) (at, set_fits at next.set)
 
--- the candidates that pass a rule, and of them those of the events asked
-module _ (asked : Selected) (flags : List Bool) (are : AreFlags asked flags) (r : Recorded) (same : r ≡ asked.recorded) (c : Condition) (rule : ColumnTest) (within : HoldsWithin rule r c) (candidates both : List Bool)
-    (candidates_are : candidates ≡ map (passes rule r) r.entries) (both_is : both ≡ zip2 ◌&&◌ candidates flags) where
-  left_at : (k : ℕ) → get_or both k false ≡ (get_or (map (passes rule r) r.entries) k false && get_or flags k false)
+-- the candidates that pass a test of a column, and of them those of the events asked
+module _ (asked : Selected) (flags : List Bool) (are : AreFlags asked flags) (r : Recorded) (same : r ≡ asked.recorded) (c : Condition) (column_test : ColumnTest) (within : HoldsWithin column_test r c) (candidates both : List Bool)
+    (candidates_are : candidates ≡ map (passes column_test r) r.entries) (both_is : both ≡ zip2 ◌&&◌ candidates flags) where
+  left_at : (k : ℕ) → get_or both k false ≡ (get_or (map (passes column_test r) r.entries) k false && get_or flags k false)
   left_at k = ap (λ l. get_or l k false) both_is ∙ zip_get candidates flags k ∙ ap (λ l. get_or l k false && get_or flags k false) candidates_are
 
   outside : (k : ℕ) → get_or both k false ≡ false → get_or flags k false ≡ true → (o : Option Entry) → slice_get r.entries k ≡ o → MatchOption o (false ≡ false) (λ e. false ≡ holds r c e)
   outside k clear set None stands = refl
   outside k clear set (Some e) stands =
-      let fails : passes rule r e ≡ false =
-      and_true (passes rule r e) ∙ ap (λ b. passes rule r e && b) (sym set) ∙ ap (λ b. b && get_or flags k false) (sym (map_get (passes rule r) r.entries k e stands)) ∙ sym (left_at k) ∙ clear in
+      let fails : passes column_test r e ≡ false =
+      and_true (passes column_test r e) ∙ ap (λ b. passes column_test r e && b) (sym set) ∙ ap (λ b. b && get_or flags k false) (sym (map_get (passes column_test r) r.entries k e stands)) ∙ sym (left_at k) ∙ clear in
       sym (within.within e fails)
 
   others_fail : (k : ℕ) (b : Bool) → get_or flags k false ≡ b → get_or both k false ≡ false → fits asked c k ≡ false
@@ -210,6 +210,6 @@ module _ (asked : Selected) (flags : List Bool) (are : AreFlags asked flags) (r 
 
   pub are_left : AreLeft asked c both
   are_left = record {
-    there = λ k set. asked_set asked flags are k (and_parts (get_or (map (passes rule r) r.entries) k false) (get_or flags k false) (sym (left_at k) ∙ set)).1;
+    there = λ k set. asked_set asked flags are k (and_parts (get_or (map (passes column_test r) r.entries) k false) (get_or flags k false) (sym (left_at k) ∙ set)).1;
     others = λ k clear. others_fail k (get_or flags k false) refl clear;
   }

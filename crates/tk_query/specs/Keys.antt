@@ -31,14 +31,15 @@ pub record AreAnswers (r : Recorded) (c : Condition) (answers : List (Option Boo
   pub answers_are :
       (e : Entry) (b : Bool) → get_or answers e.event.key None ≡ Some b → b ≡ holds r c e
 
--- the condition holds only of entries that pass the rule
-pub record HoldsWithin (rule : ColumnTest) (r : Recorded) (c : Condition) : Type 0 where
-  pub within : (e : Entry) → passes rule r e ≡ false → holds r c e ≡ false
+-- the condition holds only of entries that pass the test of a column
+pub record HoldsWithin (column_test : ColumnTest) (r : Recorded) (c : Condition) : Type 0 where
+  pub within : (e : Entry) → passes column_test r e ≡ false → holds r c e ≡ false
 
--- all of the conditions hold only of entries that pass the rule
-pub record AllHoldWithin (rule : ColumnTest) (r : Recorded) (cs : List Condition) : Type 0 where
+-- all of the conditions hold only of entries that pass the test of a column
+pub record AllHoldWithin (column_test : ColumnTest) (r : Recorded) (cs : List Condition) :
+    Type 0 where
   pub all_within :
-      (e : Entry) → passes rule r e ≡ false → list_all (λ c. holds r c e) cs ≡ false
+      (e : Entry) → passes column_test r e ≡ false → list_all (λ c. holds r c e) cs ≡ false
 
 -- the condition holds only of entries at whose positions the flag is set
 pub record AreCandidates (r : Recorded) (c : Condition) (flags : List Bool) : Type 0 where

@@ -62,6 +62,7 @@ impl Model for Executions {
 }
 
 impl Executions {
+    /// Makes executions of their list.
     pub(crate) fn of(items: Vec<Execution>) -> Executions
         ensures { result ≡ items.items }
     {

@@ -14,19 +14,19 @@ use tk_ids::{Descriptor, Text};
 use tk_query_conditions::Condition;
 use tk_record_columns::{EntryView, Record};
 
-fn is_test(recording: &Record, event: &EntryView) -> bool
-    ensures { result ≡ has_type is_test (desc recording.now event.now.key) }
+fn is_test(record: &Record, event: &EntryView) -> bool
+    ensures { result ≡ has_type is_test (desc «record».now event.now.key) }
 {
-    match recording.describe(event.key) {
+    match record.describe(event.key) {
         Some(descriptor) => descriptor.dtype.is_test(),
         None => false,
     }
 }
 
-fn is_container(recording: &Record, event: &EntryView) -> bool
-    ensures { result ≡ has_type is_container (desc recording.now event.now.key) }
+fn is_container(record: &Record, event: &EntryView) -> bool
+    ensures { result ≡ has_type is_container (desc «record».now event.now.key) }
 {
-    match recording.describe(event.key) {
+    match record.describe(event.key) {
         Some(descriptor) => descriptor.dtype.is_container(),
         None => false,
     }
@@ -38,10 +38,10 @@ fn is_engine(descriptor: &Descriptor) -> bool
     descriptor.id.is_engine()
 }
 
-fn is_of_engine(recording: &Record, event: &EntryView) -> bool
-    ensures { result ≡ has_descriptor (λ d. is_engine d.id) (desc recording.now event.now.key) }
+fn is_of_engine(record: &Record, event: &EntryView) -> bool
+    ensures { result ≡ has_descriptor (λ d. is_engine d.id) (desc «record».now event.now.key) }
 {
-    match recording.describe(event.key) {
+    match record.describe(event.key) {
         Some(descriptor) => is_engine(descriptor),
         None => false,
     }
@@ -53,11 +53,11 @@ fn has_within(text: &str, part: &str) -> bool
     text.contains(part)
 }
 
-fn id_has(recording: &Record, event: &EntryView, text: &Text) -> bool
+fn id_has(record: &Record, event: &EntryView, text: &Text) -> bool
     ensures { result ≡ has_descriptor (λ d.
-        has_within text.now (id_text d.id)) (desc recording.now event.now.key) }
+        has_within text.now (id_text d.id)) (desc «record».now event.now.key) }
 {
-    match recording.describe(event.key) {
+    match record.describe(event.key) {
         Some(descriptor) => has_within(descriptor.id.as_text().as_str(), text.as_str()),
         None => false,
     }
@@ -69,11 +69,11 @@ fn same(text: &Text, other: &Text) -> bool
     text.as_str() == other.as_str()
 }
 
-fn is_named(recording: &Record, event: &EntryView, name: &Text) -> bool
+fn is_named(record: &Record, event: &EntryView, name: &Text) -> bool
     ensures { result ≡ has_descriptor (λ d.
-        bytes_eq d.name name.now) (desc recording.now event.now.key) }
+        bytes_eq d.name name.now) (desc «record».now event.now.key) }
 {
-    match recording.describe(event.key) {
+    match record.describe(event.key) {
         Some(descriptor) => same(&descriptor.name, name),
         None => false,
     }
@@ -161,15 +161,15 @@ fn reports(payload: &Payload, named: &Pairs) -> bool
 
 /// Whether a condition holds of an event of a record.
 #[cycle(holds)]
-pub(crate) fn holds(recording: &Record, condition: &Condition, event: &EntryView) -> bool
-    ensures { result ≡ holds recording.now condition.now (entry_of event.now) }
+pub(crate) fn holds(record: &Record, condition: &Condition, event: &EntryView) -> bool
+    ensures { result ≡ holds «record».now condition.now (entry_of event.now) }
 {
     match condition {
-        Condition::Test => is_test(recording, event),
-        Condition::Container => is_container(recording, event),
-        Condition::Engine => is_of_engine(recording, event),
-        Condition::Id(text) => id_has(recording, event, text),
-        Condition::Name(text) => is_named(recording, event, text),
+        Condition::Test => is_test(record, event),
+        Condition::Container => is_container(record, event),
+        Condition::Engine => is_of_engine(record, event),
+        Condition::Id(text) => id_has(record, event, text),
+        Condition::Name(text) => is_named(record, event, text),
         Condition::Kind(kind) => is_of_kind(event, *kind),
         Condition::Skipped(text) => is_of_kind(event, Kind::Skipped)
             && has_reason(event.payload, text),
@@ -182,19 +182,19 @@ pub(crate) fn holds(recording: &Record, condition: &Condition, event: &EntryView
         Condition::File(text) => is_of_kind(event, Kind::File) && has_path(event.payload, text),
         Condition::Entry(pairs) => is_of_kind(event, Kind::Reporting)
             && reports(event.payload, pairs),
-        Condition::All(members) => all_hold(recording, members, event),
-        Condition::Any(members) => any_holds(recording, members, event),
-        Condition::Not(member) => !holds(recording, member, event),
+        Condition::All(members) => all_hold(record, members, event),
+        Condition::Any(members) => any_holds(record, members, event),
+        Condition::Not(member) => !holds(record, member, event),
     }
 }
 
 #[cycle(holds)]
-fn all_hold(recording: &Record, members: &[Condition], event: &EntryView) -> bool
+fn all_hold(record: &Record, members: &[Condition], event: &EntryView) -> bool
     ensures { result ≡ list_all (λ member.
-        holds recording.now member (entry_of event.now)) members.now }
+        holds «record».now member (entry_of event.now)) members.now }
 {
     for member in members {
-        if !holds(recording, member, event) {
+        if !holds(record, member, event) {
             return false;
         }
     }
@@ -202,12 +202,12 @@ fn all_hold(recording: &Record, members: &[Condition], event: &EntryView) -> boo
 }
 
 #[cycle(holds)]
-fn any_holds(recording: &Record, members: &[Condition], event: &EntryView) -> bool
+fn any_holds(record: &Record, members: &[Condition], event: &EntryView) -> bool
     ensures { result ≡ list_any (λ member.
-        holds recording.now member (entry_of event.now)) members.now }
+        holds «record».now member (entry_of event.now)) members.now }
 {
     for member in members {
-        if holds(recording, member, event) {
+        if holds(record, member, event) {
             return true;
         }
     }
@@ -215,12 +215,12 @@ fn any_holds(recording: &Record, members: &[Condition], event: &EntryView) -> bo
 }
 
 /// Whether a condition holds of the entry at a position. Past the last one it holds of none.
-pub(crate) fn holds_at(recording: &Record, condition: &Condition, position: usize) -> bool
-    ensures { MatchOption (slice_get recording.now.entries position) (result ≡ false) (λ e.
-        result ≡ holds recording.now condition.now e) }
+pub(crate) fn holds_at(record: &Record, condition: &Condition, position: usize) -> bool
+    ensures { MatchOption (slice_get «record».now.entries position) (result ≡ false) (λ e.
+        result ≡ holds «record».now condition.now e) }
 {
-    match recording.entry(position) {
-        Some(event) => holds(recording, condition, &event),
+    match record.entry(position) {
+        Some(event) => holds(record, condition, &event),
         None => false,
     }
 }

@@ -2,6 +2,7 @@
 #![tactic(auto)]
 
 mod answers;
+mod column_tests;
 mod execution;
 mod execution_steps;
 mod holding;
@@ -15,7 +16,6 @@ mod open_starts;
 mod pairing;
 mod progress;
 mod registered_ids;
-mod rules;
 
 pub use answers::{Exact, InOrder, Loose};
 pub use execution::{Ending, Execution, Executions};

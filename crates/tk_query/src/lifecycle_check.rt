@@ -20,7 +20,7 @@ fn shows_different_ids(table: &Table)
 
 /// Says whether the record keeps the lifecycle, and where it first doesn't.
 pub fn lifecycle(alloc: Global, record: &Record) -> Result<Lifecycle, AllocError>
-    ensures { IfOk result (IsLifecycle record.now) }
+    ensures { IfOk result (IsLifecycle «record».now) }
 {
     record.shows_record();
     shows_different_ids(record.table());

@@ -19,12 +19,12 @@ fn byte_of(flag: bool) -> u8
 }
 
 /// The key of each entry.
-pub(crate) fn keys_of(alloc: Global, recording: &Record) -> Result<Vec<u32>, AllocError>
-    ensures { IfOk result (λ keys. AreKeys recording.now keys.items) }
+pub(crate) fn keys_of(alloc: Global, record: &Record) -> Result<Vec<u32>, AllocError>
+    ensures { IfOk result (λ keys. AreKeys «record».now keys.items) }
 {
-    let mut keys = Vec::with_capacity(alloc, recording.len())?;
-    for position in 0..recording.len() {
-        let Some(event) = recording.entry(position) else {
+    let mut keys = Vec::with_capacity(alloc, record.len())?;
+    for position in 0..record.len() {
+        let Some(event) = record.entry(position) else {
             break;
         };
         keys.push(event.key)?;
@@ -33,15 +33,15 @@ pub(crate) fn keys_of(alloc: Global, recording: &Record) -> Result<Vec<u32>, All
 }
 
 /// The key of the entry at a position, taken from `keys` where that has it.
-fn key_at(recording: &Record, keys: &[u32], position: usize) -> Option<u32>
-    requires { AreKeys recording.now keys.now }
-    ensures { MatchOption result (slice_get recording.now.entries position ≡ None)
-        (λ key. IsKeyAt recording.now position key) }
+fn key_at(record: &Record, keys: &[u32], position: usize) -> Option<u32>
+    requires { AreKeys «record».now keys.now }
+    ensures { MatchOption result (slice_get «record».now.entries position ≡ None)
+        (λ key. IsKeyAt «record».now position key) }
 {
     if let Some(key) = keys.get(position) {
         return Some(*key);
     }
-    Some(recording.entry(position)?.key)
+    Some(record.entry(position)?.key)
 }
 
 /// The answer of a key, where it was asked before.
@@ -59,25 +59,25 @@ fn answer_before(answers: &[Option<bool>], index: usize) -> Option<bool>
 /// under each key that was asked before, its answer.
 fn answer_by_key(
     answers: &mut Vec<Option<bool>>,
-    recording: &Record,
+    record: &Record,
     keys: &[u32],
     condition: &Condition,
     position: usize,
 ) -> Result<bool, AllocError>
-    requires of_key { IsOfKey recording.now condition.now }
-    requires keys { AreKeys recording.now keys.now }
-    requires before { AreAnswers recording.now condition.now answers.old.items }
-    ensures answer { IfOk result (AnswersAt recording.now condition.now position) }
-    ensures answers { OnOk result (AreAnswers recording.now condition.now answers.new.items) }
+    requires of_key { IsOfKey «record».now condition.now }
+    requires keys { AreKeys «record».now keys.now }
+    requires before { AreAnswers «record».now condition.now answers.old.items }
+    ensures answer { IfOk result (AnswersAt «record».now condition.now position) }
+    ensures answers { OnOk result (AreAnswers «record».now condition.now answers.new.items) }
 {
-    let Some(key) = key_at(recording, keys, position) else {
+    let Some(key) = key_at(record, keys, position) else {
         return Ok(false);
     };
     let index = key as usize;
     if let Some(answer) = answer_before(answers, index) {
         return Ok(answer);
     }
-    let answer = holds_at(recording, condition, position);
+    let answer = holds_at(record, condition, position);
     while answers.len() <= index {
         answers.push(None)?;
     }
@@ -88,52 +88,47 @@ fn answer_by_key(
 /// For each entry whether the condition holds of it, asked once for each key.
 fn key_mask(
     alloc: Global,
-    recording: &Record,
+    record: &Record,
     keys: &[u32],
     condition: &Condition,
 ) -> Result<Flags, AllocError>
-    requires of_key { IsOfKey recording.now condition.now }
-    requires keys { AreKeys recording.now keys.now }
+    requires of_key { IsOfKey «record».now condition.now }
+    requires keys { AreKeys «record».now keys.now }
     ensures { IfOk result (λ flags.
-        flags ≡ map (holds recording.now condition.now) recording.now.entries) }
+        flags ≡ map (holds «record».now condition.now) «record».now.entries) }
 {
     let mut answers = Vec::new(alloc);
-    let mut column = Vec::with_capacity(alloc, recording.len())?;
-    for position in 0..recording.len() {
-        let answer = answer_by_key(&mut answers, recording, keys, condition, position)?;
+    let mut column = Vec::with_capacity(alloc, record.len())?;
+    for position in 0..record.len() {
+        let answer = answer_by_key(&mut answers, record, keys, condition, position)?;
         column.push(byte_of(answer))?;
     }
     Flags::of_byte(alloc, &column, 1)
 }
 
 /// Whether the condition holds of the entry at a position, asked only where that is a candidate.
-fn answer_among(
-    candidates: &Flags,
-    recording: &Record,
-    condition: &Condition,
-    position: usize,
-) -> bool
-    requires { AreCandidates recording.now condition.now candidates.now }
-    ensures { AnswersAt recording.now condition.now position result }
+fn answer_among(candidates: &Flags, record: &Record, condition: &Condition, position: usize) -> bool
+    requires { AreCandidates «record».now condition.now candidates.now }
+    ensures { AnswersAt «record».now condition.now position result }
 {
-    candidates.is_set(position) && holds_at(recording, condition, position)
+    candidates.is_set(position) && holds_at(record, condition, position)
 }
 
-/// For each entry whether the condition holds of it, asked only of those that pass a rule.
-fn rule_mask(
+/// For each entry whether the condition holds of it, asked only of those that pass a test of a column.
+fn column_test_mask(
     alloc: Global,
-    recording: &Record,
-    rule: ColumnTest,
+    record: &Record,
+    column_test: ColumnTest,
     condition: &Condition,
 ) -> Result<Flags, AllocError>
-    requires { HoldsWithin rule recording.now condition.now }
+    requires { HoldsWithin column_test «record».now condition.now }
     ensures { IfOk result (λ flags.
-        flags ≡ map (holds recording.now condition.now) recording.now.entries) }
+        flags ≡ map (holds «record».now condition.now) «record».now.entries) }
 {
-    let candidates = recording.flags(alloc, rule)?;
-    let mut column = Vec::with_capacity(alloc, recording.len())?;
-    for position in 0..recording.len() {
-        let answer = answer_among(&candidates, recording, condition, position);
+    let candidates = record.flags(alloc, column_test)?;
+    let mut column = Vec::with_capacity(alloc, record.len())?;
+    for position in 0..record.len() {
+        let answer = answer_among(&candidates, record, condition, position);
         column.push(byte_of(answer))?;
     }
     Flags::of_byte(alloc, &column, 1)
@@ -143,67 +138,62 @@ fn rule_mask(
 #[cycle(masks)]
 pub(crate) fn mask(
     alloc: Global,
-    recording: &Record,
+    record: &Record,
     keys: &[u32],
     condition: &Condition,
 ) -> Result<Flags, AllocError>
-    requires { AreKeys recording.now keys.now }
+    requires { AreKeys «record».now keys.now }
     ensures { IfOk result (λ flags.
-        flags ≡ map (holds recording.now condition.now) recording.now.entries) }
+        flags ≡ map (holds «record».now condition.now) «record».now.entries) }
 {
     match condition {
-        Condition::Test => recording.flags(alloc, ColumnTest::Test),
-        Condition::Container => recording.flags(alloc, ColumnTest::Container),
+        Condition::Test => record.flags(alloc, ColumnTest::Test),
+        Condition::Container => record.flags(alloc, ColumnTest::Container),
         Condition::Engine | Condition::Id(_) | Condition::Name(_) => {
-            key_mask(alloc, recording, keys, condition)
+            key_mask(alloc, record, keys, condition)
         }
-        Condition::Kind(kind) => recording.flags(alloc, ColumnTest::OfKind(*kind)),
+        Condition::Kind(kind) => record.flags(alloc, ColumnTest::OfKind(*kind)),
         Condition::Skipped(_) => {
-            rule_mask(
-                alloc,
-                recording,
-                ColumnTest::OfKind(Kind::Skipped),
-                condition,
-            )
+            column_test_mask(alloc, record, ColumnTest::OfKind(Kind::Skipped), condition)
         }
-        Condition::Started => recording.flags(alloc, ColumnTest::OfKind(Kind::Started)),
-        Condition::Succeeded => recording.flags(alloc, ColumnTest::OfStatus(Status::Successful)),
-        Condition::Failed(None) => recording.flags(alloc, ColumnTest::OfStatus(Status::Failed)),
+        Condition::Started => record.flags(alloc, ColumnTest::OfKind(Kind::Started)),
+        Condition::Succeeded => record.flags(alloc, ColumnTest::OfStatus(Status::Successful)),
+        Condition::Failed(None) => record.flags(alloc, ColumnTest::OfStatus(Status::Failed)),
         Condition::Failed(Some(_)) => {
-            rule_mask(
+            column_test_mask(
                 alloc,
-                recording,
+                record,
                 ColumnTest::OfStatus(Status::Failed),
                 condition,
             )
         }
-        Condition::Aborted(None) => recording.flags(alloc, ColumnTest::OfStatus(Status::Aborted)),
+        Condition::Aborted(None) => record.flags(alloc, ColumnTest::OfStatus(Status::Aborted)),
         Condition::Aborted(Some(_)) => {
-            rule_mask(
+            column_test_mask(
                 alloc,
-                recording,
+                record,
                 ColumnTest::OfStatus(Status::Aborted),
                 condition,
             )
         }
-        Condition::File(_) => rule_mask(
+        Condition::File(_) => column_test_mask(
             alloc,
-            recording,
+            record,
             ColumnTest::OfKind(Kind::File),
             condition,
         ),
         Condition::Entry(_) => {
-            rule_mask(
+            column_test_mask(
                 alloc,
-                recording,
+                record,
                 ColumnTest::OfKind(Kind::Reporting),
                 condition,
             )
         }
-        Condition::All(members) => all_mask(alloc, recording, keys, members),
-        Condition::Any(members) => any_mask(alloc, recording, keys, members),
+        Condition::All(members) => all_mask(alloc, record, keys, members),
+        Condition::Any(members) => any_mask(alloc, record, keys, members),
         Condition::Not(member) => {
-            let mut flags = mask(alloc, recording, keys, member)?;
+            let mut flags = mask(alloc, record, keys, member)?;
             flags.invert();
             Ok(flags)
         }
@@ -213,17 +203,17 @@ pub(crate) fn mask(
 #[cycle(masks)]
 fn all_mask(
     alloc: Global,
-    recording: &Record,
+    record: &Record,
     keys: &[u32],
     members: &[Condition],
 ) -> Result<Flags, AllocError>
-    requires { AreKeys recording.now keys.now }
+    requires { AreKeys «record».now keys.now }
     ensures { IfOk result (λ flags. flags ≡ map (λ e.
-        list_all (λ member. holds recording.now member e) members.now) recording.now.entries) }
+        list_all (λ member. holds «record».now member e) members.now) «record».now.entries) }
 {
-    let mut flags = Flags::all(alloc, recording.len())?;
+    let mut flags = Flags::all(alloc, record.len())?;
     for member in members {
-        flags.and(&mask(alloc, recording, keys, member)?);
+        flags.and(&mask(alloc, record, keys, member)?);
     }
     Ok(flags)
 }
@@ -231,17 +221,17 @@ fn all_mask(
 #[cycle(masks)]
 fn any_mask(
     alloc: Global,
-    recording: &Record,
+    record: &Record,
     keys: &[u32],
     members: &[Condition],
 ) -> Result<Flags, AllocError>
-    requires { AreKeys recording.now keys.now }
+    requires { AreKeys «record».now keys.now }
     ensures { IfOk result (λ flags. flags ≡ map (λ e.
-        list_any (λ member. holds recording.now member e) members.now) recording.now.entries) }
+        list_any (λ member. holds «record».now member e) members.now) «record».now.entries) }
 {
-    let mut flags = Flags::none(alloc, recording.len())?;
+    let mut flags = Flags::none(alloc, record.len())?;
     for member in members {
-        flags.or(&mask(alloc, recording, keys, member)?);
+        flags.or(&mask(alloc, record, keys, member)?);
     }
     Ok(flags)
 }
@@ -255,8 +245,8 @@ pub fn select<'r>(
     ensures { IfOk result (λ kept.
         kept ≡ filtered_by (holds events.now.recorded condition.now) events.now) }
 {
-    let recording = events.record();
-    prove!(events.flags().len() == recording.len());
-    let flags = mask(alloc, recording, &[], condition)?;
+    let record = events.record();
+    prove!(events.flags().len() == record.len());
+    let flags = mask(alloc, record, &[], condition)?;
     Ok(events.intersect(flags))
 }

@@ -6,9 +6,9 @@ ghost use Rattle.tk_query.specs.Keys.{AreKeys};
 ghost use Rattle.tk_query.specs.Matches.{IsExact, IsLoose, IsInOrder};
 
 use crate::answers::{Exact, InOrder, Loose};
+use crate::column_tests::column_test_of;
 use crate::holding::holds_at;
 use crate::masks::{keys_of, mask};
-use crate::rules::rule_of;
 use std::alloc::{AllocError, Global};
 use tk_lanes::Flags;
 use tk_query_conditions::Condition;
@@ -93,20 +93,21 @@ fn holds_among(events: &Events, candidates: &Flags, condition: &Condition) -> bo
     false
 }
 
-/// Whether the condition holds of some event, where it implies a rule that few events pass.
-fn try_rule(
+/// Whether the condition holds of some event, where it implies a test of a column that few events
+/// pass.
+fn try_column_test(
     alloc: Global,
     events: &Events,
     condition: &Condition,
 ) -> Result<Option<bool>, AllocError>
     ensures { IfOk result (λ found. IfSome found (HoldsOfSome events.now condition.now)) }
 {
-    let Some(rule) = rule_of(condition) else {
+    let Some(column_test) = column_test_of(condition) else {
         return Ok(None);
     };
-    let recording = events.record();
-    prove!(events.flags().len() == recording.len());
-    let mut candidates = recording.flags(alloc, rule)?;
+    let record = events.record();
+    prove!(events.flags().len() == record.len());
+    let mut candidates = record.flags(alloc, column_test)?;
     candidates.and(events.flags());
     if MAX_CANDIDATES < candidates.count() {
         return Ok(None);
@@ -124,9 +125,9 @@ fn try_mask(
     requires { AreKeys events.now.recorded keys.now }
     ensures { IfOk result (HoldsOfSome events.now condition.now) }
 {
-    let recording = events.record();
-    prove!(events.flags().len() == recording.len());
-    let mut flags = mask(alloc, recording, keys, condition)?;
+    let record = events.record();
+    prove!(events.flags().len() == record.len());
+    let mut flags = mask(alloc, record, keys, condition)?;
     flags.and(events.flags());
     Ok(flags.first_from(0).is_some())
 }
@@ -146,7 +147,7 @@ fn holds_of_some(
     if let Some(answer) = try_first(events, condition) {
         return Ok(answer);
     }
-    if let Some(answer) = try_rule(alloc, events, condition)? {
+    if let Some(answer) = try_column_test(alloc, events, condition)? {
         return Ok(answer);
     }
     if keys.is_empty() {

@@ -64,6 +64,7 @@ impl Model for OpenStarts {
 }
 
 impl OpenStarts {
+    /// Makes the open starts before the first event: none.
     pub(crate) fn new(alloc: Global) -> OpenStarts
         ensures { result ≡ [] }
     {

@@ -61,10 +61,10 @@ fn take_step(
 }
 
 /// What the entry at a position does to executions.
-fn step_at(recording: &Record, position: usize) -> Option<ExecutionStep>
-    ensures { result ≡ option_and_then step_of (slice_get recording.now.entries position) }
+fn step_at(record: &Record, position: usize) -> Option<ExecutionStep>
+    ensures { result ≡ option_and_then step_of (slice_get «record».now.entries position) }
 {
-    match recording.entry(position) {
+    match record.entry(position) {
         Some(event) => step_of(&event),
         None => None,
     }

@@ -46,8 +46,8 @@ fn missing_parent(registers: bool) -> LifecycleRule
 impl Progress {
     /// Makes what is known before the first event.
     pub(crate) fn new(alloc: Global, record: &Record) -> Progress
-        requires { AreDifferent record.now.table }
-        ensures { IsProgress (first_entries 0 record.now) result.states result.ids }
+        requires { AreDifferent «record».now.table }
+        ensures { IsProgress (first_entries 0 «record».now) result.states result.ids }
     {
         Progress {
             states: KeyStates::new(alloc),
@@ -57,7 +57,7 @@ impl Progress {
 
     // Looks up the key of an id, static or registered.
     fn find(&self, record: &Record, id: &UniqueId) -> Option<u32>
-        ensures { (past : Recorded) → past.table ≡ record.now.table → AreIds past self.now.ids
+        ensures { (past : Recorded) → past.table ≡ «record».now.table → AreIds past self.now.ids
             → IsFound past id.now result }
     {
         match record.table().find(id) {
@@ -68,7 +68,7 @@ impl Progress {
 
     // Whether an event registers an id that a descriptor has already.
     fn knows_id(&self, record: &Record, registers: bool, id: &UniqueId) -> bool
-        ensures { (past : Recorded) → past.table ≡ record.now.table → AreIds past self.now.ids
+        ensures { (past : Recorded) → past.table ≡ «record».now.table → AreIds past self.now.ids
             → IsKnownId past registers id.now result }
     {
         if !registers {
@@ -87,7 +87,7 @@ impl Progress {
         record: &Record,
         id: &UniqueId,
     ) -> Result<Option<Parent>, AllocError>
-        ensures { IfOk result (λ found. (past : Recorded) → past.table ≡ record.now.table
+        ensures { IfOk result (λ found. (past : Recorded) → past.table ≡ «record».now.table
             → AreIds past self.now.ids → IsSought past id.now found) }
     {
         let Some(parent) = id.parent(alloc)? else {
@@ -107,7 +107,7 @@ impl Progress {
         id: &UniqueId,
         before: Parent,
     ) -> Result<Option<Parent>, AllocError>
-        ensures { IfOk result (λ found. (past : Recorded) → past.table ≡ record.now.table
+        ensures { IfOk result (λ found. (past : Recorded) → past.table ≡ «record».now.table
             → AreIds past self.now.ids → IsKnownParent past id.now before found) }
     {
         match before {
@@ -134,7 +134,7 @@ impl Progress {
         descriptor: &Descriptor,
         event: &EntryView,
     ) -> Result<Result<Parent, LifecycleRule>, AllocError>
-        ensures { IfOk result (λ found. (past : Recorded) → past.table ≡ record.now.table
+        ensures { IfOk result (λ found. (past : Recorded) → past.table ≡ «record».now.table
             → IsProgress past self.now.states self.now.ids
             → HasId (with_entry past (entry_of event.now)) event.now.key descriptor.now.id
             → IsChecked past self.now.states (entry_of event.now) descriptor.now.id found) }
@@ -184,10 +184,10 @@ impl Progress {
         position: usize,
         event: &EntryView,
     ) -> Result<Option<LifecycleRule>, AllocError>
-        requires stands { slice_get record.now.entries position ≡ Some (entry_of event.now) }
-        requires progress { IsProgress (first_entries position record.now)
+        requires stands { slice_get «record».now.entries position ≡ Some (entry_of event.now) }
+        requires progress { IsProgress (first_entries position «record».now)
             self.old.states self.old.ids }
-        ensures { IfOk result (IsTaken (first_entries position record.now) (entry_of event.now)
+        ensures { IfOk result (IsTaken (first_entries position «record».now) (entry_of event.now)
             self.new.states self.new.ids) }
     {
         record.shows_record();

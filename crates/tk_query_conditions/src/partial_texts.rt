@@ -44,6 +44,7 @@ fn special_byte(last: u8) -> Option<u8>
 }
 
 impl PartialText {
+    /// Makes a text of no byte, outside an escape.
     pub(crate) fn new(alloc: Global) -> PartialText
         ensures { result ≡ ([], Escape.Outside) }
     {
@@ -88,6 +89,7 @@ impl PartialText {
         Ok(true)
     }
 
+    /// Whether the text has no byte yet.
     pub(crate) fn is_empty(&self) -> bool
         ensures { result ≡ (length self.now.0 == 0) }
     {

@@ -286,6 +286,7 @@ fn feed_pairs(
 }
 
 impl Reader {
+    /// Makes the reader before the first byte.
     pub(crate) fn new(alloc: Global) -> Reader
         ensures { state_of result ≡ start }
     {

@@ -1,5 +1,6 @@
 //! Writing the text of a condition.
 ghost use Rattle.std.specs.Prelude.{◌≡◌, ◌++◌, ◌∷◌, [], IfOk, OnOk, string_bytes, encode_utf8};
+ghost use Rattle.tk_query_conditions.specs.Characters.{closing_bracket, opening_bracket};
 ghost use Rattle.tk_query_conditions.specs.Cond.{NoPairs, Nothing, cond_text, escaped, list_text, pairs_text};
 ghost use Rattle.tk_query_conditions.specs.CondOf.{cond_of, conds_from, pairs_from};
 ghost use Rattle.tk_query_conditions.specs.Writing.{separator, word_of, operand_text};
@@ -41,7 +42,7 @@ fn push_escaped(out: &mut String, text: &str) -> Result<(), AllocError>
 /// Writes a text in brackets, with its escapes.
 fn push_text(out: &mut String, text: &str) -> Result<(), AllocError>
     ensures { OnOk result (string_bytes out.new
-        ≡ string_bytes out.old ++ (40 ∷ escaped text.now ++ 41 ∷ [])) }
+        ≡ string_bytes out.old ++ (opening_bracket ∷ escaped text.now ++ closing_bracket ∷ [])) }
 {
     push(out, "(")?;
     push_escaped(out, text)?;

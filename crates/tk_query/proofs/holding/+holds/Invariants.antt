@@ -5,7 +5,7 @@ use Rattle.tk_query.specs.Holds.{holds}
 use Rattle.tk_query.proofs.holding.+holds.Given as goal
 
 abbrev pub invariant-all_hold-loop-member : goal.invariant-all_hold-loop-member
-invariant-all_hold-loop-member l = list_all (λ member. holds l.recording member (entry_of l.event)) (take l.member-index l.members) ≡ true
+invariant-all_hold-loop-member l = list_all (λ member. holds l.«record» member (entry_of l.event)) (take l.member-index l.members) ≡ true
 
 abbrev pub invariant-any_holds-loop-member : goal.invariant-any_holds-loop-member
-invariant-any_holds-loop-member l = list_any (λ member. holds l.recording member (entry_of l.event)) (take l.member-index l.members) ≡ false
+invariant-any_holds-loop-member l = list_any (λ member. holds l.«record» member (entry_of l.event)) (take l.member-index l.members) ≡ false

@@ -5,4 +5,4 @@ use Rattle.tk_query.specs.Keys.{AreAnswers}
 use Rattle.tk_query.proofs.masks.key_mask.Given as goal
 
 abbrev pub invariant-loop-position : goal.invariant-loop-position
-invariant-loop-position l = (l.column.items ≡ map (λ e. if holds l.recording l.condition e then 1 else 0) (take l.position l.recording.entries)) × AreAnswers l.recording l.condition l.answers.items
+invariant-loop-position l = (l.column.items ≡ map (λ e. if holds l.«record» l.condition e then 1 else 0) (take l.position l.«record».entries)) × AreAnswers l.«record» l.condition l.answers.items

@@ -7,11 +7,11 @@ use Rattle.tk_query.proofs.KeyLemmas.{keys_none, keys_more}
 use Rattle.tk_query.proofs.masks.keys_of.Goals as goal
 
 pub loop-position-init : goal.loop-position-init
-loop-position-init c = (ap length c.in_ok-keys.ensures.items, keys_none c.args.recording.now c.in_ok-keys.keys.items c.in_ok-keys.ensures.items)
+loop-position-init c = (ap length c.in_ok-keys.ensures.items, keys_none c.args.«record».now c.in_ok-keys.keys.items c.in_ok-keys.ensures.items)
 
 pub loop-position-preserved : goal.loop-position-preserved
 loop-position-preserved c =
-    let r = c.args.recording.now in
+    let r = c.args.«record».now in
     let keys = c.loop-position.keys.items in
     let long = c.loop-position.invariant.0 in
     let is = c.in_ok-push.ensures.items in

@@ -14,4 +14,4 @@ returns c =
     c.intersect.ensures
     ∙ ap (λ (kept : List PositionedEntry). let s : Selected = record { recorded = asked.recorded; kept = kept } in s)
     (intersected_is asked flags are (holds asked.recorded c.args.condition.now) c.in_ok-flags.flags
-    (c.in_ok-flags.ensures ∙ ap (λ (r : Recorded). map (holds r c.args.condition.now) r.entries) c.record-recording.ensures))
+    (c.in_ok-flags.ensures ∙ ap (λ (r : Recorded). map (holds r c.args.condition.now) r.entries) c.record-record.ensures))

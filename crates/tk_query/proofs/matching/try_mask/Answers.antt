@@ -7,5 +7,5 @@ returns c =
     let asked = c.args.events.now in
     let flags = c.flags-2.result.now in
     let are : AreFlags asked flags = record { kept = c.flags-2.ensures.kept } in
-    mask_tells asked flags are c.record-recording.result.now c.record-recording.ensures c.args.condition.now c.in_ok-flags.flags c.and.new.self c.in_ok-flags.ensures c.and.ensures
+    mask_tells asked flags are c.record-record.result.now c.record-record.ensures c.args.condition.now c.in_ok-flags.flags c.and.new.self c.in_ok-flags.ensures c.and.ensures
     c.first_from.result c.is_some.result c.first_from.ensures.value c.is_some.ensures

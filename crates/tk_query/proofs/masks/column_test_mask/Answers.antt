@@ -5,16 +5,16 @@ use Rattle.std.specs.Prelude.{◌==◌}
 use Rattle.tk_query.specs.Holds.{holds}
 use Rattle.tk_query.proofs.KeyLemmas.{candidates_are}
 use Rattle.tk_query.proofs.MaskLemmas.{column_more, column_done, if_ok_same}
-use Rattle.tk_query.proofs.masks.rule_mask.Goals as goal
+use Rattle.tk_query.proofs.masks.column_test_mask.Goals as goal
 
 pub loop-position-preserved : goal.loop-position-preserved
 loop-position-preserved c =
-    column_more c.args.recording.now c.args.condition.now c.loop-position.position c.answer_among-answer.result c.loop-position.column.items c.push.new.self.items (omega arith) c.loop-position.invariant c.answer_among-answer.ensures
+    column_more c.args.«record».now c.args.condition.now c.loop-position.position c.answer_among-answer.result c.loop-position.column.items c.push.new.self.items (omega arith) c.loop-position.invariant c.answer_among-answer.ensures
     (c.in_ok-push.ensures.items ∙ ap (λ b. c.loop-position.column.items ++ b ∷ []) c.byte_of.ensures)
 
 pub returns : goal.returns
 returns c =
-    let r = c.args.recording.now in
+    let r = c.args.«record».now in
     if_ok_same c.of_byte.result _ (map (holds r c.args.condition.now) r.entries)
     (ap (map (λ x. x == 1)) c.deref.ensures.value ∙ column_done r c.args.condition.now c.loop-position.position c.loop-position.column.items (omega arith) c.loop-position.invariant)
     c.of_byte.ensures
@@ -29,7 +29,7 @@ pub loop-position-init : goal.loop-position-init
 loop-position-init c = c.in_ok-column.ensures.items
 
 pub answer_among-answer-requires : goal.answer_among-answer-requires
-answer_among-answer-requires c = candidates_are c.args.rule c.args.recording.now c.args.condition.now c.in_ok-candidates.candidates c.requires c.in_ok-candidates.ensures
+answer_among-answer-requires c = candidates_are c.args.column_test c.args.«record».now c.args.condition.now c.in_ok-candidates.candidates c.requires c.in_ok-candidates.ensures
 
 pub returns-in_err-push : goal.returns-in_err-push
 returns-in_err-push c = let p = err_from_is_err_and c.from_residual-in_err-push.result c.from_residual-in_err-push.ensures.1 in rw p.1 tt

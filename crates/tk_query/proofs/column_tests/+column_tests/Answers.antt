@@ -1,0 +1,16 @@
+use Rattle.std.proofs.Common.{ap, sym, ◌∙◌}
+use Rattle.std.specs.List.{list_all}
+use Rattle.tk_query.specs.Holds.{holds}
+use Rattle.tk_query.proofs.HoldsLemmas.{holds-All}
+use Rattle.tk_query.proofs.ColumnTestLemmas.{some_map, all_false}
+use Rattle.tk_query.proofs.column_tests.+column_tests.Goals as goal
+
+pub column_test_of-returns-in-All : goal.column_test_of-returns-in-All
+column_test_of-returns-in-All t c = some_map c.column_test_of_all.result _ _
+    (λ column_test all r. record { within = λ e fails. ap (λ d. holds r d e) c.in-All.is ∙ holds-All r c.in-All.members e ∙ ap (list_all (λ m. holds r m e)) (sym c.deref.ensures.value) ∙ (all r).all_within e fails })
+    c.column_test_of_all.ensures
+
+pub column_test_of_all-returns-in-Some : goal.column_test_of_all-returns-in-Some
+column_test_of_all-returns-in-Some t c r = record {
+  all_within = λ e fails. all_false (λ m. holds r m e) c.args.members.now c.loop-member.member-index c.member-item.result c.loop-member-test.true (ap (λ m. holds r m e) (sym c.member-item.is) ∙ (c.in-Some.ensures r).within e fails);
+}
