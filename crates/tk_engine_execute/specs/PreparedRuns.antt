@@ -41,9 +41,9 @@ pub record IsCapacity (capacity : ℕ) : Type 0 where
 pub record IsFreshCollector (table : List Descriptor) (before : List Event) (workers capacity : ℕ)
     (a : EventCollector) : Type 0 where
   pub receiver : a.receiver ≡ fresh_receiver a.receiver.session table workers
-  pub places : capacity_of a.receiver.session ≡ capacity
-  pub table_is : a.recording.table ≡ table
-  pub entries : a.recording.entries ≡ entries_by 0 before
+  pub of_capacity : capacity_of a.receiver.session ≡ capacity
+  pub table_is : a.«record».table ≡ table
+  pub entries : a.«record».entries ≡ entries_by 0 before
   pub static_events : AreOfWorkerZero (length table) before
   pub width : length a.awaited.items ≡ workers
   pub awaited : (i : ℕ) (b : Bool) → slice_get a.awaited.items i ≡ Some b → b ≡ true

@@ -16,7 +16,7 @@ use tk_record_columns::{Events, Record, Selection};
 /// JUnit: `EngineExecutionResults`.
 #[derive(Drop)]
 pub struct Results {
-    recording: Record,
+    record: Record,
     closed: Closed,
 }
 
@@ -25,22 +25,25 @@ impl Model for Results {
 
     ghost Value = { RunResults };
 
-    ghost view = { λ r. record { recorded = r.recording; closed = r.closed } };
+    ghost view = { λ r. record { recorded = r.«record»; closed = r.closed } };
 }
 
 impl Results {
     /// Puts a record and the numbers of a closed session together.
-    pub(crate) fn of(recording: Record, closed: Closed) -> Results
-        ensures { result ≡ record { recorded = recording; closed = closed } }
+    pub(crate) fn of(complete_record: Record, closed: Closed) -> Results
+        ensures { result ≡ record { recorded = complete_record; closed = closed } }
     {
-        Results { recording, closed }
+        Results {
+            record: complete_record,
+            closed,
+        }
     }
 
     /// Returns the record of the run.
     pub fn recorded(&self) -> &Record
         ensures { result.now ≡ self.now.recorded }
     {
-        &self.recording
+        &self.record
     }
 
     /// Returns how many events each worker emitted, as `Receiver::close` returned it.
@@ -54,7 +57,7 @@ impl Results {
     pub fn all_events(&self, alloc: Global) -> Result<Events<'_>, AllocError>
         ensures { IfOk result (λ events. events ≡ all_of self.now.recorded) }
     {
-        Events::all(alloc, &self.recording)
+        Events::all(alloc, &self.record)
     }
 
     /// Selects the events of tests.
@@ -80,6 +83,6 @@ impl Results {
     pub fn lifecycle(&self, alloc: Global) -> Result<Lifecycle, AllocError>
         ensures { IfOk result (IsLifecycle self.now.recorded) }
     {
-        lifecycle(alloc, &self.recording)
+        lifecycle(alloc, &self.record)
     }
 }

@@ -4,4 +4,4 @@ pub mod Closing
 pub mod KnownKeys
 pub mod SenderSteps
 pub mod ReceiverSteps
-pub mod Recordings
+pub mod Recordables

@@ -16,5 +16,5 @@ pub mod Tokens
 pub mod Receivers
 pub mod Closing
 pub mod Steps
-pub mod Recording
+pub mod Recordable
 pub mod FaultTexts

@@ -1,7 +1,7 @@
 //! Laws of sessions, which hold of the definitions alone.
 ghost use Rattle.std.specs.Prelude.{◌≡◌};
 ghost use Rattle.tk_queue.specs.Steps.{HoldsStates, BeginsFresh, PushIsStep, FullIsNone, TakeIsStep, EmptyIsNone, SplitIsNone, BitIsNone, JoinIsNone};
-ghost use Rattle.tk_queue.specs.Recording.{IsNeverRefused, IsShort};
+ghost use Rattle.tk_queue.specs.Recordable.{IsNeverRefused, IsShort};
 
 use crate::limits::MAX_CAPACITY;
 use crate::session_rules::{

@@ -76,7 +76,7 @@ fn open_within_limits(
     ensures ends { IfOk result (λ made.
         (made.1 ≡ fresh_receiver made.1.session (arc_value table) workers)
         × (made.0.items ≡ fresh_senders made.1.session (arc_value table) workers)) }
-    ensures places { IfOk result (λ made. capacity_of made.1.session ≡ capacity) }
+    ensures of_capacity { IfOk result (λ made. capacity_of made.1.session ≡ capacity) }
 {
     let (queue, mut pass) = EventQueue::ruled(alloc, capacity)?;
     set_static_count(&queue, &mut pass, table.len() as u32);
@@ -115,7 +115,7 @@ pub fn open(
         made.1 ≡ fresh_receiver made.1.session (arc_value table) workers) }
     ensures senders { IfOk result (λ made.
         made.0.items ≡ fresh_senders made.1.session (arc_value table) workers) }
-    ensures places { IfOk result (λ made. capacity_of made.1.session ≡ capacity) }
+    ensures of_capacity { IfOk result (λ made. capacity_of made.1.session ≡ capacity) }
 {
     if workers == 0 || workers > MAX_WORKERS as usize {
         return Err(OpenFault::Workers);

@@ -1,5 +1,5 @@
 -- What each step of reading a replay text finds, or why it finds nothing.
-use Rattle.std.specs.Prelude.{◌≡◌, ◌≢◌, ◌+◌, ◌⊎◌, ℕ, List, [], ◌∷◌, ◌++◌, length}
+use Rattle.std.specs.Prelude.{◌≡◌, ◌≢◌, ◌+◌, ◌⊎◌, ℕ, List, [], ◌++◌, length, codes}
 use Rattle.tk_ids.specs.declared.descriptors.Descriptor.{Descriptor}
 use Rattle.tk_events.specs.declared.events.Entry.{Entry}
 use Rattle.tk_record.specs.Text.{with_line_feed, nodes_text, entries_text, AreNodes}
@@ -13,7 +13,7 @@ use Rattle.tk_queue_core.specs.ReplayText.{AreOwn, IsBadAfter, NoCount}
 
 -- no line of an entry stands at the start
 abbrev pub LacksEntryStart : List ℕ → Type 0
-LacksEntryStart rest = (more : List ℕ) → rest ≢ 69 ∷ 124 ∷ more
+LacksEntryStart rest = (more : List ℕ) → rest ≢ codes "E|" ++ more
 
 -- the input begins with the lines of these entries, and no further such line
 pub record IsEntriesPrefix (version : Version) (n : ℕ) (input : List ℕ) (entries : List Entry)

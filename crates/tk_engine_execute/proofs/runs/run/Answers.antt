@@ -23,7 +23,7 @@ use Rattle.tk_engine_execute.proofs.runs.run.Goals as goal
 
 -- the record of a new collector that took some items
 prefix_is : (table : List Descriptor) (before : List Event) (workers capacity : ℕ) (a b : EventCollector) → IsFreshCollector table before workers capacity a → TookMore a b → b.is_out_of_memory ≡ false
-    → b.recording.entries ≡ entries_by 0 before ++ entries b.receiver.taken
+    → b.«record».entries ≡ entries_by 0 before ++ entries b.receiver.taken
 prefix_is table before workers capacity a b fresh took_more room =
     let none : a.receiver.taken ≡ [] = ap (λ (r : ReceiverView). r.taken) fresh.receiver in
     let taken : entries b.receiver.taken ≡ entries took_more.items = ap entries (took_more.taken ∙ ap (λ l. l ++ took_more.items) none) in
@@ -71,7 +71,7 @@ close-requires-clause-done g c κs within = λ going. rw c.run_workers-collected
 
 pub finish-requires-clause-room : goal.finish-requires-clause-room
 finish-requires-clause-room g c κs within =
-    let stated = c.in_ok-recording.ensures.recorded in
+    let stated = c.in_ok-record.ensures.recorded in
     rw stated.0 (room_left c.run_workers-collected.result.collector most_events c.run_workers-collected.ensures.collector stated.1 (omega arith))
 
 pub returns-clause-run : goal.returns-clause-run
@@ -81,11 +81,11 @@ returns-clause-run g c =
     let after = g.E.Engine.after c.args.engine.now in
     let start = c.in_ok-start.ensures.start in
     let took_more = c.run_workers-collected.ensures.took_more in
-    let stated = c.in_ok-recording.ensures.recorded in
+    let stated = c.in_ok-record.ensures.recorded in
     let mid = entries c.run_workers-collected.result.collector.receiver.taken in
-    let prefix : c.in_ok-recording.recording.entries ≡ entries_by 0 before ++ mid = ap (λ (r : Recorded). r.entries) (stated.0) ∙ prefix_is table before c.args.workers c.args.capacity _ c.run_workers-collected.result.collector start.collector took_more (stated.1) in
-    let over : c.in_ok-recording.recording.table ≡ table = ap (λ (r : Recorded). r.table) (stated.0) ∙ took_more.table ∙ start.collector.table_is in
-    IfOk-weaker c.finish.result _ _ (is_run (g.E.Engine.may c.args.engine.now) table before after (g.E.Engine.units c.args.engine.now) c.args.workers mid c.in_ok-recording.recording.entries c.in_ok-recording.recording.table over prefix c.in_ok-recording.ensures.shared)
+    let prefix : c.in_ok-record.«record».entries ≡ entries_by 0 before ++ mid = ap (λ (r : Recorded). r.entries) (stated.0) ∙ prefix_is table before c.args.workers c.args.capacity _ c.run_workers-collected.result.collector start.collector took_more (stated.1) in
+    let over : c.in_ok-record.«record».table ≡ table = ap (λ (r : Recorded). r.table) (stated.0) ∙ took_more.table ∙ start.collector.table_is in
+    IfOk-weaker c.finish.result _ _ (is_run (g.E.Engine.may c.args.engine.now) table before after (g.E.Engine.units c.args.engine.now) c.args.workers mid c.in_ok-record.«record».entries c.in_ok-record.«record».table over prefix c.in_ok-record.ensures.shared)
     (both c.finish.result _ _ c.finish.ensures.table c.finish.ensures.entries)
 
 pub returns-clause-tally : goal.returns-clause-tally
@@ -93,10 +93,10 @@ returns-clause-tally g c =
     let before = g.E.Engine.before c.args.engine.now in
     let after = g.E.Engine.after c.args.engine.now in
     let start = c.in_ok-start.ensures.start in
-    let stated = c.in_ok-recording.ensures.recorded in
+    let stated = c.in_ok-record.ensures.recorded in
     let mid = entries c.run_workers-collected.result.collector.receiver.taken in
-    let prefix : c.in_ok-recording.recording.entries ≡ entries_by 0 before ++ mid = ap (λ (r : Recorded). r.entries) (stated.0) ∙ prefix_is _ before c.args.workers c.args.capacity _ c.run_workers-collected.result.collector start.collector c.run_workers-collected.ensures.took_more (stated.1) in
-    IfOk-weaker c.finish.result _ _ (is_tallied c.args.workers c.in_ok-recording.closed before after mid c.in_ok-recording.recording.entries prefix c.in_ok-recording.ensures.tally)
+    let prefix : c.in_ok-record.«record».entries ≡ entries_by 0 before ++ mid = ap (λ (r : Recorded). r.entries) (stated.0) ∙ prefix_is _ before c.args.workers c.args.capacity _ c.run_workers-collected.result.collector start.collector c.run_workers-collected.ensures.took_more (stated.1) in
+    IfOk-weaker c.finish.result _ _ (is_tallied c.args.workers c.in_ok-record.closed before after mid c.in_ok-record.«record».entries prefix c.in_ok-record.ensures.tally)
     (both c.finish.result _ _ c.finish.ensures.entries c.finish.ensures.closed)
 
 pub close-requires-clause-fewer : goal.close-requires-clause-fewer

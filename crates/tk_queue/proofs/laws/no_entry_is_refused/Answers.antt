@@ -1,4 +1,4 @@
-use Rattle.tk_queue.proofs.Recordings.{is_never_refused, is_short}
+use Rattle.tk_queue.proofs.Recordables.{is_never_refused, is_short}
 use Rattle.tk_queue.proofs.laws.no_entry_is_refused.Goals as goal
 
 pub returns-clause-never : goal.returns-clause-never

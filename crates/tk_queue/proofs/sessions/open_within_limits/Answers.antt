@@ -24,8 +24,8 @@ loop-before-preserved c =
       made = fresh_more _ _ _ _ _ _ _ (sym q.0.0) c.loop-before.invariant.made c.in_ok-push.ensures.items (c.with_pass.ensures ∙ (λ i. record { session = sid i; table = same_table i; worker = c.loop-before.before + 1; sent = [] }));
     }
 
-pub returns-clause-places : goal.returns-clause-places
-returns-clause-places c =
+pub returns-clause-of_capacity : goal.returns-clause-of_capacity
+returns-clause-of_capacity c =
     let same : arc_value c.in_ok-shared_queue.shared_queue ≡ c.in_ok-queue.queue = c.in_ok-shared_queue.ensures.ok in
     let below : (arc_value c.in_ok-shared_queue.shared_queue).table.shared.table_id ≡ c.in_ok-queue.queue.table.shared.table_id = rw same refl in
     ap (λ (r : ReceiverView). r.session.slots) c.with_pass-2.ensures ∙ ap (λ (t : TableId). t.slots) (c.loop-before.invariant.same.0 ∙ below) ∙ c.in_ok-queue.queue.sized.1 ∙ c.in_ok-queue.ensures.0

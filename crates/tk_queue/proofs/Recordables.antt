@@ -18,7 +18,7 @@ use Rattle.tk_record_columns.specs.Record.{is_next, is_known}
 use Rattle.tk_record_columns.specs.Mixing.{IsWorkerOf, of_worker}
 use Rattle.tk_queue_core.specs.Limits.{most_workers}
 use Rattle.tk_queue.specs.Limits.{most_events}
-use Rattle.tk_queue.specs.Recording.{IsNeverRefused, IsShort}
+use Rattle.tk_queue.specs.Recordable.{IsNeverRefused, IsShort}
 use Rattle.tk_queue.proofs.KnownKeys.{known_after}
 use Rattle.tk_queue.proofs.ReceiverSteps.{few_more}
 
