@@ -34,7 +34,7 @@ use Rattle.tk_engine_laws.specs.Laws.{ScriptsArePlayable, NodesAreFound}
 use Rattle.tk_engine_execute.specs.Engines.{IsSameSender}
 use Rattle.tk_engine_execute.proofs.Emitted.{registrations-append}
 use Rattle.tk_engine.specs.Keys.{key_in, noted, key_found}
-use Rattle.tk_engine.specs.Plays.{IsPlayed, IsRegistered, IsEmitted, next_key}
+use Rattle.tk_engine.specs.Plays.{IsPlayed, IsRegistered, IsEmitted, begun, next_key}
 use Rattle.tk_engine.proofs.Noting.{key_in_more, has_its_key, is_found}
 
 -- ---- scripts
@@ -125,7 +125,7 @@ unused_before table w sent more key e =
     ap₂ option_or table_none sent_none
 
 module _ (nodes : List NumberedNode) (table : List Descriptor) (planned : IsPlanned nodes table) (numbers : IsNumbered nodes) (plays : ScriptsArePlayable) (finds : NodesAreFound)
-    (unit : ℕ) (prefix back : List Step) (sent : List Event) (old new : SenderView) (keys : ℕ → Option ℕ) (was : IsPlayed nodes table old.worker sent prefix old.sent keys) where
+    (unit : ℕ) (prefix back : List Step) (sent : List Event) (old new : SenderView) (keys : ℕ → Option ℕ) (was : IsPlayed (begun nodes table old.worker sent) prefix old.sent keys) where
   abbrev base : ℕ
   base = next_key old.worker sent
 
@@ -142,7 +142,7 @@ module _ (nodes : List NumberedNode) (table : List Descriptor) (planned : IsPlan
   emitted_found s whole plain = is_found nodes table base known keys was.keys_are s.node (has_key nodes table known s.node s.act plain (here s whole))
 
   pub emitted_plays : (s : Step) (key : ℕ) → at_step s → is_registration s.act ≡ false → key_found (length table) keys s.node ≡ Some key → IsEmitted nodes old new s key
-      → IsPlayed nodes table old.worker sent (prefix ++ s ∷ []) new.sent keys
+      → IsPlayed (begun nodes table old.worker sent) (prefix ++ s ∷ []) new.sent keys
   emitted_plays s key whole plain found t =
       let there = has_key nodes table known s.node s.act plain (here s whole) in
       let its : key ≡ key_of (length table) base known s.node = some_same (sym found ∙ has_its_key nodes table base known keys was.keys_are s.node there) in
@@ -166,7 +166,7 @@ module _ (nodes : List NumberedNode) (table : List Descriptor) (planned : IsPlan
     parent_found = is_found nodes table base known keys was.keys_are parent (here step whole).0
 
     step_registers : (above key : ℕ) (later : ℕ → Option ℕ) → old.table ≡ table → key_found (length table) keys parent ≡ Some above → IsRegistered nodes old new step above key
-        → ((node : ℕ) → later node ≡ noted keys number key node) → IsPlayed nodes table old.worker sent (prefix ++ step ∷ []) new.sent later
+        → ((node : ℕ) → later node ≡ noted keys number key node) → IsPlayed (begun nodes table old.worker sent) (prefix ++ step ∷ []) new.sent later
     step_registers above key later over found r notes =
         let can = here step whole in
         let above_is : above ≡ key_of (length table) base known parent = some_same (sym found ∙ has_its_key nodes table base known keys was.keys_are parent can.0) in
@@ -211,10 +211,10 @@ module _ (nodes : List NumberedNode) (table : List Descriptor) (planned : IsPlan
   registered_found s parent e whole = parent_found s.node s.stamp parent (subst at_step (with_act s parent e) whole)
 
   pub registered_plays : (s : Step) (parent above key : ℕ) (later : ℕ → Option ℕ) → s.act ≡ Register parent → at_step s → old.table ≡ table → key_found (length table) keys parent ≡ Some above → IsRegistered nodes old new s above key
-      → ((node : ℕ) → later node ≡ noted keys s.node key node) → IsPlayed nodes table old.worker sent (prefix ++ s ∷ []) new.sent later
+      → ((node : ℕ) → later node ≡ noted keys s.node key node) → IsPlayed (begun nodes table old.worker sent) (prefix ++ s ∷ []) new.sent later
   registered_plays s parent above key later e whole over found r notes =
       let is = with_act s parent e in
-      subst (λ x. IsPlayed nodes table old.worker sent (prefix ++ x ∷ []) new.sent later) (sym is)
+      subst (λ x. IsPlayed (begun nodes table old.worker sent) (prefix ++ x ∷ []) new.sent later) (sym is)
       (step_registers s.node s.stamp parent (subst at_step is whole) above key later over found (subst (λ x. IsRegistered nodes old new x above key) is r) notes)
 
 -- ---- at a step

@@ -36,16 +36,30 @@ use Rattle.tk_engine.specs.Keys.{key_in}
 abbrev pub next_key : ℕ → List Event → ℕ
 next_key worker sent = registered_key worker (registrations sent)
 
+-- what a worker plays a unit's script with: a plan's nodes and table, its number, and what it had
+-- sent before
+pub record Begun : Type 0 where
+  pub nodes : List NumberedNode
+  pub table : List Descriptor
+  pub worker : ℕ
+  pub sent : List Event
+
+abbrev pub begun : List NumberedNode → List Descriptor → ℕ → List Event → Begun
+begun nodes table worker sent =
+    record { nodes = nodes; table = table; worker = worker; sent = sent }
+
+-- the first key that the worker registers for the unit
+abbrev pub first_key : Begun → ℕ
+first_key b = next_key b.worker b.sent
+
 -- After what the worker had sent it played these steps of a plan's script, and their registrations
 -- have these keys, which no descriptor had before.
-pub record IsPlayed (nodes : List NumberedNode) (table : List Descriptor) (worker : ℕ)
-    (sent : List Event) (prefix : List Step) (now : List Event) (keys : ℕ → Option ℕ) :
+pub record IsPlayed (b : Begun) (prefix : List Step) (now : List Event) (keys : ℕ → Option ℕ) :
     Type 0 where
-  pub emitted : now ≡ sent ++ played nodes (length table) (next_key worker sent) [] prefix
-  pub keys_are : (node : ℕ) → keys node ≡ key_in (next_key worker sent) (known_in [] prefix) node
+  pub emitted : now ≡ b.sent ++ played b.nodes (length b.table) (first_key b) [] prefix
+  pub keys_are : (node : ℕ) → keys node ≡ key_in (first_key b) (known_in [] prefix) node
   pub unused : (j : ℕ) → j < length (known_in [] prefix)
-      → desc (record { table = table; entries = entries_by worker sent })
-      (next_key worker sent + j)
+      → desc (record { table = b.table; entries = entries_by b.worker b.sent }) (first_key b + j)
       ≡ None
 
 -- the sink took the event of a step under that key

@@ -9,7 +9,7 @@ ghost use Rattle.tk_plan_units.specs.Planned.{IsPlanned};
 ghost use Rattle.tk_plan_units.specs.Trees.{forest};
 ghost use Rattle.tk_engine_laws.specs.Scripts.{may, played};
 ghost use Rattle.tk_engine.specs.Keys.{kept};
-ghost use Rattle.tk_engine.specs.Plays.{IsPlayFault, IsPlayed, IsRegistered, IsEmitted, next_key};
+ghost use Rattle.tk_engine.specs.Plays.{IsPlayFault, IsPlayed, IsRegistered, IsEmitted, begun, next_key};
 
 use crate::keys::Keys;
 use std::alloc::Global;
@@ -86,11 +86,11 @@ fn play<R: Wait, S: Sink>(
     requires script { (unit : ℕ) × (steps.now ≡ script_of (forest plan.now.nodes) unit) }
     requires known { All (λ s. IsKnown plan.now.nodes s.node s.act) steps.now }
     requires table { (S.view sink.old).table ≡ plan.now.table }
-    requires played { IsPlayed plan.now.nodes plan.now.table (S.view sink.old).worker sent
+    requires played { IsPlayed (begun plan.now.nodes plan.now.table (S.view sink.old).worker sent)
         (take at steps.now) (S.view sink.old).sent (kept keys.old) }
     ensures same { IsSameSender (S.view sink.old) (S.view sink.new) }
     ensures ok { OnOk result
-        (IsPlayed plan.now.nodes plan.now.table (S.view sink.old).worker sent
+        (IsPlayed (begun plan.now.nodes plan.now.table (S.view sink.old).worker sent)
         (take (at + 1) steps.now) (S.view sink.new).sent (kept keys.new)) }
     ensures err { OnErr result (Extends (S.view sink.old) (S.view sink.new)) }
     ensures cause { IfErr result IsPlayFault }

@@ -18,8 +18,8 @@ use Rattle.tk_query.specs.KeepsLifecycle.{is_step, steps_of}
 use Rattle.tk_queue.specs.Senders.{SenderView, record_of_sender, sends}
 use Rattle.tk_ids.specs.Table.{HasId as TableHasId}
 use Rattle.tk_engine_lifecycle.specs.Units.{Frame, KeepsAlone, KeepsAround}
+use Rattle.tk_engine_lifecycle.proofs.States.{state}
 use Rattle.tk_engine_lifecycle.specs.UnderWay.{IsOneOf, IsUnderWay, MayBegin, MayBeRegistered, so_far}
-use Rattle.tk_engine_lifecycle.specs.Laws.{IsGoing}
 use Rattle.tk_engine_hierarchical.specs.Emitting.{IsEmitting, Progress}
 use Rattle.tk_engine_lifecycle.proofs.ByKey.{desc_in-append, later_id, one_id, from_table}
 use Rattle.tk_engine_lifecycle.proofs.Going.{other_steps, so_far_more}
@@ -77,7 +77,7 @@ sent_more : (a b l : List Event) (e : Event) → a ≡ b ++ l → a ++ e ∷ [] 
 sent_more a b l e is = ap (λ x. x ++ e ∷ []) is ∙ append_assoc b l (e ∷ [])
 
 emitted_plain : (f : Frame) (unit : ℕ) (start now : SenderView) (p : Progress) (e : Event) (running : List ℕ) (next : ℕ) (i : IsEmitting f unit start now p)
-    → (kind_code e.kind == kind_code Dynamic) ≡ false → IsUnderWay f unit start.worker (i.events ++ e ∷ []) running
+    → (kind_code e.kind == kind_code Dynamic) ≡ false → IsUnderWay (state f unit start.worker (i.events ++ e ∷ []) running)
     → ((key : ℕ) → next ≤ key → key < length f.table → steps_of key (entries_by start.worker (i.events ++ e ∷ [])) ≡ [])
     → IsEmitting f unit start (sends now e) (record { running = running; registered = p.registered; next = next })
 emitted_plain f unit start now p e running next i plain u fresh = record {
@@ -105,7 +105,7 @@ differs key other next a b same = absurd (omega (arith, a, b, same))
 
 -- a static key from the next one on starts
 pub emitted_start : (f : Frame) (unit : ℕ) (start now : SenderView) (p : Progress) (e : Event) (i : IsEmitting f unit start now p)
-    → e.kind ≡ Started → p.next ≤ e.key → e.key < length f.table → MayBegin f (so_far f start.worker i.events) unit p.running e.key
+    → e.kind ≡ Started → p.next ≤ e.key → e.key < length f.table → MayBegin (state f unit start.worker i.events p.running) e.key
     → IsEmitting f unit start (sends now e) (record { running = e.key ∷ p.running; registered = p.registered; next = e.key + 1 })
 emitted_start f unit start now p e i kind low static b =
     emitted_plain f unit start now p e (e.key ∷ p.running) (e.key + 1) i (plain_start e.kind kind)
@@ -114,7 +114,7 @@ emitted_start f unit start now p e i kind low static b =
 
 -- or is skipped
 pub emitted_skip : (f : Frame) (unit : ℕ) (start now : SenderView) (p : Progress) (e : Event) (i : IsEmitting f unit start now p)
-    → e.kind ≡ Skipped → p.next ≤ e.key → e.key < length f.table → MayBegin f (so_far f start.worker i.events) unit p.running e.key
+    → e.kind ≡ Skipped → p.next ≤ e.key → e.key < length f.table → MayBegin (state f unit start.worker i.events p.running) e.key
     → IsEmitting f unit start (sends now e) (record { running = p.running; registered = p.registered; next = e.key + 1 })
 emitted_skip f unit start now p e i kind low static b =
     emitted_plain f unit start now p e p.running (e.key + 1) i (plain_skip e.kind kind)
@@ -181,7 +181,7 @@ free_there f unit start now p i key free =
     (none_or_some (desc (so_far f start.worker i.events) key))
 
 pub may_register : (f : Frame) (unit : ℕ) (start now : SenderView) (p : Progress) (i : IsEmitting f unit start now p) (e : Event) (d : Descriptor)
-    → Registering f unit start now p i e d → MayBeRegistered f (so_far f start.worker i.events) unit p.running e.key d
+    → Registering f unit start now p i e d → MayBeRegistered (state f unit start.worker i.events p.running) e.key d
 may_register f unit start now p i e d r =
     let its = running_id f unit start.worker i.events p.running i.going.under_way r.above r.runs in
     let same : its.0 ≡ r.id = one_id (record_of_sender now) r.above its.0 r.id (i.known r.above its.0 its.1) r.above_is in
@@ -257,7 +257,7 @@ free_is_dynamic r key free =
 -- what a unit is after a registration, and what it may do with the key
 pub record Registered (f : Frame) (unit : ℕ) (start now : SenderView) (p : Progress) (key : ℕ) : Type 0 where
   pub emitting : IsEmitting f unit start now p
-  pub may_begin : MayBegin f (so_far f start.worker emitting.events) unit p.running key
+  pub may_begin : MayBegin (state f unit start.worker emitting.events p.running) key
   pub no_step : steps_of key (entries_by start.worker emitting.events) ≡ []
   pub dynamic : length f.table ≤ key
 
@@ -315,7 +315,7 @@ registered_skip f unit start now p e r kind =
 
 -- a unit of which no key runs has kept the lifecycle
 pub emitted_all : (f : Frame) (unit : ℕ) (start now : SenderView) (p : Progress) (i : IsEmitting f unit start now p) → p.running ≡ [] → KeepsAlone f unit start.worker i.events
-emitted_all f unit start now p i none = law_closes f unit start.worker i.events (subst (IsGoing f unit start.worker i.events) none i.going)
+emitted_all f unit start now p i none = law_closes (state f unit start.worker i.events p.running) i.going none
 
 -- more ids may be noted than were registered
 pub emitting_noted : (f : Frame) (unit : ℕ) (start now : SenderView) (p : Progress) (i : IsEmitting f unit start now p) (noted : List ℕ → Bool)

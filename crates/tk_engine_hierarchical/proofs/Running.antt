@@ -17,6 +17,7 @@ use Rattle.tk_queue.specs.Senders.{SenderView, record_of_sender, sends}
 use Rattle.tk_query.specs.Lifecycle.{HasId}
 use Rattle.tk_query.specs.KeepsLifecycle.{is_step}
 use Rattle.tk_engine_lifecycle.specs.Units.{Frame, KeepsAround}
+use Rattle.tk_engine_lifecycle.proofs.States.{state}
 use Rattle.tk_engine_lifecycle.specs.UnderWay.{IsOneOf, MayBegin, so_far}
 use Rattle.tk_engine_lifecycle.proofs.ByKey.{events_by, from_table, one_id, registration_of, table_or_entry}
 use Rattle.tk_engine_lifecycle.proofs.Apart.{plain}
@@ -105,7 +106,7 @@ pub described_id : (r : Recorded) (k : ℕ) (d : Descriptor) → slice_get r.tab
 described_id r k d e = record { descriptor = d; described = from_table r k d e; id_is = refl }
 
 -- a static key that may start may have its first event
-may_begin : (f : Frame) (unit w : ℕ) (l : List Event) (running : List ℕ) (key : ℕ) → MayStart f unit running key → MayBegin f (so_far f w l) unit running key
+may_begin : (f : Frame) (unit w : ℕ) (l : List Event) (running : List ℕ) (key : ℕ) → MayStart f unit running key → MayBegin (state f unit w l running) key
 may_begin f unit w l running key m =
     let its = described_id (so_far f w l) key m.descriptor m.described in
     record {
@@ -136,7 +137,7 @@ ran_start f unit start now running registered next key id e r m low at kind same
     record {
       emitting = subst (λ k. IsEmitting f unit start (sends now e) (record { running = k ∷ keys_of running; registered = is_registered registered; next = k + 1 })) same
           (emitted_start f unit start now (progress running registered next) e i kind (subst (λ k. next ≤ k) (sym same) low) (subst (λ k. k < length f.table) (sym same) static)
-          (subst (MayBegin f (so_far f start.worker i.events) unit (keys_of running)) (sym same) b));
+          (subst (MayBegin (state f unit start.worker i.events (keys_of running))) (sym same) b));
       ids = All-cons (λ k. HasId (record_of_sender (sends now e)) k.key k.id) (record { key = key; id = id }) running
           (static_id (record_of_sender (sends now e)) key id (ap (λ t. slice_get (ids_of t) key) table ∙ at)) (later_ids now e running r.ids);
     }
@@ -153,7 +154,7 @@ ran_skip f unit start now running registered next key e r m low kind same =
     record {
       emitting = subst (λ k. IsEmitting f unit start (sends now e) (record { running = keys_of running; registered = is_registered registered; next = k + 1 })) same
           (emitted_skip f unit start now (progress running registered next) e i kind (subst (λ k. next ≤ k) (sym same) low) (subst (λ k. k < length f.table) (sym same) static)
-          (subst (MayBegin f (so_far f start.worker i.events) unit (keys_of running)) (sym same) b));
+          (subst (MayBegin (state f unit start.worker i.events (keys_of running))) (sym same) b));
       ids = later_ids now e running r.ids;
     }
 

@@ -27,7 +27,15 @@ pub record IsEmitting (f : Frame) (unit : ℕ) (start now : SenderView) (p : Pro
   pub table : start.table ≡ f.table
   pub events : List Event
   pub sent : now.sent ≡ start.sent ++ events
-  pub going : IsGoing f unit start.worker events p.running
+  pub going :
+      IsGoing
+      (record {
+        frame = f;
+        unit = unit;
+        worker = start.worker;
+        events = events;
+        running = p.running;
+      })
   pub known : (key : ℕ) (id : List SegmentView)
       → HasId (so_far f start.worker events) key id → HasId (record_of_sender now) key id
   pub ids : (key : ℕ) (id : List SegmentView)

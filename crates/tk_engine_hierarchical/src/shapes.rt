@@ -15,7 +15,7 @@ use std::marker::Model;
 use std::sync::Arc;
 use tk_events::{Entry, Event, Kind};
 use tk_ids::Table;
-use tk_query::laws::kept_is_keeping;
+use tk_query::laws::kept_by_its_events;
 use tk_query::{Lifecycle, lifecycle};
 use tk_record_columns::Record;
 
@@ -115,7 +115,7 @@ fn shows_different_ids(table: &Table)
 fn record_keeps(alloc: Global, entries: &Record) -> Result<bool, AllocError>
     ensures { IfOk result (λ keeps. IsTrue keeps → KeepsLifecycle entries.now) }
 {
-    kept_is_keeping();
+    kept_by_its_events();
     shows_different_ids(entries.table());
     match lifecycle(alloc, entries)? {
         Lifecycle::Kept => Ok(true),

@@ -8,6 +8,7 @@ use Rattle.tk_queue.specs.Emission.{entries_by, entry_by}
 use Rattle.tk_query.specs.Lifecycle.{HasId}
 use Rattle.tk_query.specs.KeepsLifecycle.{IsWhole, steps_of}
 use Rattle.tk_engine_lifecycle.specs.Units.{Frame, AreOf, KeepsAlone, KeepsAround, run_alone}
+use Rattle.tk_engine_lifecycle.proofs.States.{state}
 use Rattle.tk_engine_lifecycle.specs.UnderWay.{IsUnderWay, so_far}
 use Rattle.tk_engine_lifecycle.proofs.Splits.{InFirst, InSecond, get_split, in_parts, left_nil, right_nil}
 use Rattle.tk_engine_lifecycle.proofs.ByKey.{events, events-append, events_by, from_table, hits, hits-append, later_id, one_id, same_id, same_runs, same_steps}
@@ -85,7 +86,7 @@ below_after f unit w l around low own p x q is id h long =
 new_after : (f : Frame) → KeepsAround f → (s p : List Entry) (x : Entry) (q : List Entry) → entries_by 0 f.after ≡ p ++ x ∷ q → New f.table (s ++ p) x
 new_after f around s p x q is k = plain_after f p x q around is k.dynamic
 
-of_unit : (f : Frame) (unit w : ℕ) (l : List Event) → IsUnderWay f unit w l [] → (p : List Entry) (x : Entry) (q : List Entry) → entries_by w l ≡ p ++ x ∷ q
+of_unit : (f : Frame) (unit w : ℕ) (l : List Event) → IsUnderWay (state f unit w l []) → (p : List Entry) (x : Entry) (q : List Entry) → entries_by w l ≡ p ++ x ∷ q
     → New f.table (start_of f p) x × Below f.table (start_of f p) x
 of_unit f unit w l u p x q is =
     let b = by_worker w l p x q is in
@@ -93,7 +94,7 @@ of_unit f unit w l u p x q is =
     subst (λ y. New f.table (start_of f p) y × Below f.table (start_of f p) y) (sym b.entry)
     (subst (λ s. New f.table (start_of f s) (entry_by w b.event) × Below f.table (start_of f s) (entry_by w b.event)) (sym b.prefix) (m.new, m.below))
 
-new_and_below : (f : Frame) (unit w : ℕ) (l : List Event) → KeepsAround f → unit < f.units → IsUnderWay f unit w l []
+new_and_below : (f : Frame) (unit w : ℕ) (l : List Event) → KeepsAround f → unit < f.units → IsUnderWay (state f unit w l [])
     → (p : List Entry) (x : Entry) (q : List Entry) → (run_alone f w l).entries ≡ p ++ x ∷ q → New f.table p x × Below f.table p x
 new_and_below f unit w l around low u p x q is =
     ⊎_elim
@@ -114,7 +115,7 @@ new_and_below f unit w l around low u p x q is =
 alone_hits : (f : Frame) (w : ℕ) (l : List Event) (key : ℕ) → hits key (events (run_alone f w l).entries) ≡ (hits key f.before ++ hits key l) ++ hits key f.after
 alone_hits f w l key = ap (hits key) (alone_events f w l) ∙ three key f.before l f.after
 
-whole_alone : (f : Frame) (unit w : ℕ) (l : List Event) → KeepsAround f → unit < f.units → IsUnderWay f unit w l [] → (key : ℕ) → IsWhole (steps_of key (run_alone f w l).entries)
+whole_alone : (f : Frame) (unit w : ℕ) (l : List Event) → KeepsAround f → unit < f.units → IsUnderWay (state f unit w l []) → (key : ℕ) → IsWhole (steps_of key (run_alone f w l).entries)
 whole_alone f unit w l around low u key =
     ⊎_elim
     (λ n.
@@ -135,7 +136,7 @@ own_alone f unit w l es own = All-weaker (λ e. (id : List SegmentView) × HasId
     (λ e h. (h.0, later_id f.table (start_of f (entries_by w l)) (entries_by 0 f.after) e.key h.0 h.1, h.2)) es own
 
 -- what a unit emits that keeps the lifecycle and ends where no key runs keeps it alone
-pub closes : (f : Frame) (unit w : ℕ) (l : List Event) → KeepsAround f → unit < f.units → IsUnderWay f unit w l [] → KeepsAlone f unit w l
+pub closes : (f : Frame) (unit w : ℕ) (l : List Event) → KeepsAround f → unit < f.units → IsUnderWay (state f unit w l []) → KeepsAlone f unit w l
 closes f unit w l around low u = record {
   keeps = record {
     ids = λ p x get. let s = get_split (run_alone f w l).entries p x get in (new_and_below f unit w l around low u (take p (run_alone f w l).entries) x s.0 s.1).0;

@@ -1,3 +1,4 @@
+pub mod States
 pub mod Splits
 pub mod ByKey
 pub mod Registered

@@ -16,6 +16,7 @@ use Rattle.tk_query.specs.KeepsLifecycle.{IsWhole, steps_of}
 use Rattle.tk_record_columns.specs.Entries.{with_entry}
 use Rattle.tk_engine_execute.specs.Engines.{IsStaticEvent}
 use Rattle.tk_engine_lifecycle.specs.Units.{Frame, KeepsAlone, KeepsAround, UnitsKeepLifecycle, run_alone}
+use Rattle.tk_engine_lifecycle.proofs.States.{state}
 use Rattle.tk_engine_lifecycle.specs.UnderWay.{IsUnderWay, MayBegin, so_far}
 use Rattle.tk_engine_lifecycle.proofs.ByKey.{from_table, one_id}
 use Rattle.tk_engine_lifecycle.proofs.Steps.{begins, finishes, starts}
@@ -106,7 +107,7 @@ module _ (root test : Descriptor) (engine one : SegmentView) (is_root : root.id 
   own_test : frame.owner test.id ≡ 0
   own_test = ap (λ id. if length id == 2 then 0 else 1) is_test
 
-  may_begin : (worker : ℕ) → MayBegin frame (so_far frame worker []) 0 [] 1
+  may_begin : (worker : ℕ) → MayBegin (state frame 0 worker [] []) 1
   may_begin worker = record {
     id = test.id;
     its = test_id (so_far frame worker []) refl;
@@ -124,10 +125,10 @@ module _ (root test : Descriptor) (engine one : SegmentView) (is_root : root.id 
   abbrev started : List Event
   started = begun_event 1 ∷ []
 
-  kept_by : (worker : ℕ) → MayBegin frame (so_far frame worker []) 0 [] 1 → KeepsAlone frame 0 worker (begun_event 1 ∷ (ended_event 1 ∷ []))
+  kept_by : (worker : ℕ) → MayBegin (state frame 0 worker [] []) 1 → KeepsAlone frame 0 worker (begun_event 1 ∷ (ended_event 1 ∷ []))
   kept_by worker b =
       let low : 0 < 1 = omega arith in
-      let at_start : IsUnderWay frame 0 worker started (1 ∷ []) = starts frame 0 worker [] [] (begun_event 1) around low (begins frame 0 worker) refl refl b in
+      let at_start : IsUnderWay (state frame 0 worker started (1 ∷ [])) = starts frame 0 worker [] [] (begun_event 1) around low (begins frame 0 worker) refl refl b in
       closes frame 0 worker (begun_event 1 ∷ (ended_event 1 ∷ [])) around low (finishes frame 0 worker started [] (ended_event 1) around low at_start refl)
 
   -- the definitions are met

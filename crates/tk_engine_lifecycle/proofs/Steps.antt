@@ -16,6 +16,7 @@ use Rattle.tk_queue.specs.Emission.{entries_by, entry_by}
 use Rattle.tk_query.specs.Lifecycle.{HasId, runs}
 use Rattle.tk_query.specs.KeepsLifecycle.{IsWhole, is_step, steps_of}
 use Rattle.tk_engine_lifecycle.specs.Units.{Frame, AreOf, KeepsAround}
+use Rattle.tk_engine_lifecycle.proofs.States.{begins_again, registered_again, state, under_way_again}
 use Rattle.tk_engine_lifecycle.specs.UnderWay.{AreNested, HasRunningParentIn, IsOneOf, IsUnderWay, MayBegin, MayBeRegistered, MayFollow, so_far}
 use Rattle.tk_engine_lifecycle.proofs.Splits.{split_take}
 use Rattle.tk_engine_lifecycle.proofs.ByKey.{desc_in-append, events, events_by, has_event_is, has_kind, has_run, hits, hits-append, kinds, later_id, one_id, same_runs}
@@ -67,14 +68,14 @@ runs_by_steps key es e =
 no_steps : (k : Kind) → [] ≡ k ∷ [] → ⊥
 no_steps k e = cc
 
-running_hit : (f : Frame) (unit w : ℕ) (l : List Event) (running : List ℕ) (key : ℕ) → IsUnderWay f unit w l running → IsOneOf key running → Hit key l
+running_hit : (f : Frame) (unit w : ℕ) (l : List Event) (running : List ℕ) (key : ℕ) → IsUnderWay (state f unit w l running) → IsOneOf key running → Hit key l
 running_hit f unit w l running key u o =
     ⊎_elim
     (λ n. absurd (no_steps Started (sym (steps_by key w l ∙ ap kinds n) ∙ u.started key o)))
     (λ h. h)
     (hit_or_none key l)
 
-pub running_id : (f : Frame) (unit w : ℕ) (l : List Event) (running : List ℕ) → IsUnderWay f unit w l running → (key : ℕ) → IsOneOf key running
+pub running_id : (f : Frame) (unit w : ℕ) (l : List Event) (running : List ℕ) → IsUnderWay (state f unit w l running) → (key : ℕ) → IsOneOf key running
     → (id : List SegmentView) × HasId (so_far f w l) key id × (f.owner id ≡ unit)
 running_id f unit w l running u key o = own_id f unit w l key u.own (running_hit f unit w l running key u o)
 
@@ -82,7 +83,7 @@ so_far_hits : (f : Frame) (w : ℕ) (l : List Event) (key : ℕ) → hits key (e
 so_far_hits f w l key = ap (hits key) (start_events f (entries_by w l) ∙ ap (λ x. f.before ++ x) (events_by w l)) ∙ hits-append key f.before l
 
 -- a running key runs
-pub runs_there : (f : Frame) (unit w : ℕ) (l : List Event) (running : List ℕ) (key : ℕ) → KeepsAround f → unit < f.units → IsUnderWay f unit w l running
+pub runs_there : (f : Frame) (unit w : ℕ) (l : List Event) (running : List ℕ) (key : ℕ) → KeepsAround f → unit < f.units → IsUnderWay (state f unit w l running)
     → IsOneOf key running → runs key (so_far f w l).entries ≡ true
 runs_there f unit w l running key around low u o =
     let none : hits key f.before ≡ [] = ⊎_elim (λ n. n)
@@ -109,7 +110,7 @@ runs_before f unit w l key around low own r =
     (hit_or_none key f.before)
 
 -- the parent of a key, where it has a running one, runs
-parent_runs : (f : Frame) (unit w : ℕ) (l : List Event) (running : List ℕ) (key : ℕ) → KeepsAround f → unit < f.units → IsUnderWay f unit w l running
+parent_runs : (f : Frame) (unit w : ℕ) (l : List Event) (running : List ℕ) (key : ℕ) → KeepsAround f → unit < f.units → IsUnderWay (state f unit w l running)
     → HasRunningParentIn f (so_far f w l) running key → (id : List SegmentView) → HasId (so_far f w l) key id → 1 < length id
     → (parent : ℕ) × HasId (so_far f w l) parent (parent_of id) × (runs parent (so_far f w l).entries ≡ true)
 parent_runs f unit w l running key around low u p id h long =
@@ -126,8 +127,8 @@ not_dynamic Finished e n = cc
 not_dynamic Reporting e n = cc
 not_dynamic File e n = cc
 
-follows : (f : Frame) (unit w : ℕ) (l : List Event) (running : List ℕ) (e : Event) → KeepsAround f → unit < f.units → IsUnderWay f unit w l running
-    → e.kind ≢ Dynamic → MayBegin f (so_far f w l) unit running e.key → MayFollow (so_far f w l) (entry_by w e)
+follows : (f : Frame) (unit w : ℕ) (l : List Event) (running : List ℕ) (e : Event) → KeepsAround f → unit < f.units → IsUnderWay (state f unit w l running)
+    → e.kind ≢ Dynamic → MayBegin (state f unit w l running) e.key → MayFollow (so_far f w l) (entry_by w e)
 follows f unit w l running e around low u plain b = record {
   new = λ k. not_dynamic e.kind k.dynamic plain;
   below = λ id h long.
@@ -144,7 +145,7 @@ nested_at f r [] key n o = absurd o
 nested_at f r (first ∷ running) key n (inl same) = subst (λ k. HasRunningParentIn f r (first ∷ running) k) (sym same) (weaker f r running first first n.0)
 nested_at f r (first ∷ running) key n (inr o) = weaker f r running key first (nested_at f r running key n.2 o)
 
-running_begins : (f : Frame) (unit w : ℕ) (l : List Event) (running : List ℕ) (key : ℕ) → IsUnderWay f unit w l running → IsOneOf key running → MayBegin f (so_far f w l) unit running key
+running_begins : (f : Frame) (unit w : ℕ) (l : List Event) (running : List ℕ) (key : ℕ) → IsUnderWay (state f unit w l running) → IsOneOf key running → MayBegin (state f unit w l running) key
 running_begins f unit w l running key u o =
     let i = running_id f unit w l running u key o in
     record { id = i.0; its = i.1; belongs = i.2; parent = nested_at f (so_far f w l) running key u.nested o }
@@ -166,7 +167,7 @@ no_split [] e b h = cc
 no_split (x ∷ a) e b h = cc
 
 -- nothing was emitted yet
-pub begins : (f : Frame) (unit w : ℕ) → IsUnderWay f unit w [] []
+pub begins : (f : Frame) (unit w : ℕ) → IsUnderWay (state f unit w [] [])
 begins f unit w = record {
   each = λ a e b is. absurd (no_split a e b is);
   own = λ k d h. absurd (omega (arith, h));
@@ -176,8 +177,8 @@ begins f unit w = record {
 }
 
 -- an event that is no step, of a key that is known
-emits_plain : (f : Frame) (unit w : ℕ) (l : List Event) (running : List ℕ) (e : Event) (id : List SegmentView) → IsUnderWay f unit w l running → is_step e.kind ≡ false
-    → MayFollow (so_far f w l) (entry_by w e) → HasId (so_far f w (l ++ e ∷ [])) e.key id → f.owner id ≡ unit → IsUnderWay f unit w (l ++ e ∷ []) running
+emits_plain : (f : Frame) (unit w : ℕ) (l : List Event) (running : List ℕ) (e : Event) (id : List SegmentView) → IsUnderWay (state f unit w l running) → is_step e.kind ≡ false
+    → MayFollow (so_far f w l) (entry_by w e) → HasId (so_far f w (l ++ e ∷ [])) e.key id → f.owner id ≡ unit → IsUnderWay (state f unit w (l ++ e ∷ []) running)
 emits_plain f unit w l running e id u none follow its belongs = record {
   each = each_more f w l e u.each follow;
   own = own_more f unit w l e id u.own its belongs;
@@ -187,8 +188,8 @@ emits_plain f unit w l running e id u none follow its belongs = record {
 }
 
 -- a report entry or a file of a running key
-pub reports : (f : Frame) (unit w : ℕ) (l : List Event) (running : List ℕ) (e : Event) → KeepsAround f → unit < f.units → IsUnderWay f unit w l running
-    → is_step e.kind ≡ false → e.kind ≢ Dynamic → IsOneOf e.key running → IsUnderWay f unit w (l ++ e ∷ []) running
+pub reports : (f : Frame) (unit w : ℕ) (l : List Event) (running : List ℕ) (e : Event) → KeepsAround f → unit < f.units → IsUnderWay (state f unit w l running)
+    → is_step e.kind ≡ false → e.kind ≢ Dynamic → IsOneOf e.key running → IsUnderWay (state f unit w (l ++ e ∷ []) running)
 reports f unit w l running e around low u none plain o =
     let b = running_begins f unit w l running e.key u o in
     emits_plain f unit w l running e b.id u none (follows f unit w l running e around low u plain b) (kept_id f w l e e.key b.id b.its) b.belongs
@@ -228,13 +229,13 @@ step_added w l e kind same s =
     ∙ ap (λ b. steps_of e.key (entries_by w l) ++ (if b then e.kind ∷ [] else [])) (kind_is_step e.kind kind same s)
     ∙ ap (λ k. steps_of e.key (entries_by w l) ++ k ∷ []) same
 
-fresh_differs : (f : Frame) (unit w : ℕ) (l : List Event) (running : List ℕ) (key other : ℕ) → IsUnderWay f unit w l running → steps_of key (entries_by w l) ≡ [] → IsOneOf other running → key ≢ other
+fresh_differs : (f : Frame) (unit w : ℕ) (l : List Event) (running : List ℕ) (key other : ℕ) → IsUnderWay (state f unit w l running) → steps_of key (entries_by w l) ≡ [] → IsOneOf other running → key ≢ other
 fresh_differs f unit w l running key other u fresh o same =
     no_steps Started (sym fresh ∙ ap (λ k. steps_of k (entries_by w l)) same ∙ u.started other o)
 
 -- the start of a key that had no step
-pub starts : (f : Frame) (unit w : ℕ) (l : List Event) (running : List ℕ) (e : Event) → KeepsAround f → unit < f.units → IsUnderWay f unit w l running
-    → e.kind ≡ Started → steps_of e.key (entries_by w l) ≡ [] → MayBegin f (so_far f w l) unit running e.key → IsUnderWay f unit w (l ++ e ∷ []) (e.key ∷ running)
+pub starts : (f : Frame) (unit w : ℕ) (l : List Event) (running : List ℕ) (e : Event) → KeepsAround f → unit < f.units → IsUnderWay (state f unit w l running)
+    → e.kind ≡ Started → steps_of e.key (entries_by w l) ≡ [] → MayBegin (state f unit w l running) e.key → IsUnderWay (state f unit w (l ++ e ∷ []) (e.key ∷ running))
 starts f unit w l running e around low u kind fresh b =
     let follow = follows f unit w l running e around low u (started_plain e.kind kind) b in
     let ids : (k : ℕ) → IsOneOf k running → (id : List SegmentView) × HasId (so_far f w l) k id = λ k o. let i = running_id f unit w l running u k o in (i.0, i.1) in
@@ -258,8 +259,8 @@ starts f unit w l running e around low u kind fresh b =
     }
 
 -- a key that had no step is skipped
-pub skips : (f : Frame) (unit w : ℕ) (l : List Event) (running : List ℕ) (e : Event) → KeepsAround f → unit < f.units → IsUnderWay f unit w l running
-    → e.kind ≡ Skipped → steps_of e.key (entries_by w l) ≡ [] → MayBegin f (so_far f w l) unit running e.key → IsUnderWay f unit w (l ++ e ∷ []) running
+pub skips : (f : Frame) (unit w : ℕ) (l : List Event) (running : List ℕ) (e : Event) → KeepsAround f → unit < f.units → IsUnderWay (state f unit w l running)
+    → e.kind ≡ Skipped → steps_of e.key (entries_by w l) ≡ [] → MayBegin (state f unit w l running) e.key → IsUnderWay (state f unit w (l ++ e ∷ []) running)
 skips f unit w l running e around low u kind fresh b =
     let follow = follows f unit w l running e around low u (skipped_plain e.kind kind) b in
     record {
@@ -274,8 +275,8 @@ skips f unit w l running e around low u kind fresh b =
     }
 
 -- the innermost running key finishes
-pub finishes : (f : Frame) (unit w : ℕ) (l : List Event) (running : List ℕ) (e : Event) → KeepsAround f → unit < f.units → IsUnderWay f unit w l (e.key ∷ running)
-    → e.kind ≡ Finished → IsUnderWay f unit w (l ++ e ∷ []) running
+pub finishes : (f : Frame) (unit w : ℕ) (l : List Event) (running : List ℕ) (e : Event) → KeepsAround f → unit < f.units → IsUnderWay (state f unit w l (e.key ∷ running))
+    → e.kind ≡ Finished → IsUnderWay (state f unit w (l ++ e ∷ []) running)
 finishes f unit w l running e around low u kind =
     let b = running_begins f unit w l (e.key ∷ running) e.key u (inl refl) in
     let follow = follows f unit w l (e.key ∷ running) e around low u (finished_plain e.kind kind) b in
@@ -341,8 +342,8 @@ described_now f w l e d kind payload free = record {
 }
 
 -- a registration below a running key
-pub registers_below : (f : Frame) (unit w : ℕ) (l : List Event) (running : List ℕ) (e : Event) (d : Descriptor) → KeepsAround f → unit < f.units → IsUnderWay f unit w l running
-    → e.kind ≡ Dynamic → e.payload ≡ Described d → MayBeRegistered f (so_far f w l) unit running e.key d → IsUnderWay f unit w (l ++ e ∷ []) running
+pub registers_below : (f : Frame) (unit w : ℕ) (l : List Event) (running : List ℕ) (e : Event) (d : Descriptor) → KeepsAround f → unit < f.units → IsUnderWay (state f unit w l running)
+    → e.kind ≡ Dynamic → e.payload ≡ Described d → MayBeRegistered (state f unit w l running) e.key d → IsUnderWay (state f unit w (l ++ e ∷ []) running)
 registers_below f unit w l running e d around low u kind payload m =
     let now = described_now f w l e d kind payload m.free in
     let follow : MayFollow (so_far f w l) (entry_by w e) = record {
@@ -358,7 +359,7 @@ registers_below f unit w l running e d around low u kind payload m =
 
 -- and what was registered may begin
 pub begins_registered : (f : Frame) (unit w : ℕ) (l : List Event) (running : List ℕ) (e : Event) (d : Descriptor)
-    → e.kind ≡ Dynamic → e.payload ≡ Described d → MayBeRegistered f (so_far f w l) unit running e.key d → MayBegin f (so_far f w (l ++ e ∷ [])) unit running e.key
+    → e.kind ≡ Dynamic → e.payload ≡ Described d → MayBeRegistered (state f unit w l running) e.key d → MayBegin (state f unit w (l ++ e ∷ []) running) e.key
 begins_registered f unit w l running e d kind payload m =
     let now = subst (λ r. HasId r e.key d.id) (sym (so_far_more f w l e)) (described_now f w l e d kind payload m.free) in
     record {
@@ -376,14 +377,14 @@ none_some None x e h = cc
 none_some (Some y) x e h = cc
 
 -- a key without a descriptor has no step yet
-pub no_steps_yet : (f : Frame) (unit w : ℕ) (l : List Event) (running : List ℕ) (key : ℕ) → IsUnderWay f unit w l running → desc (so_far f w l) key ≡ None → steps_of key (entries_by w l) ≡ []
+pub no_steps_yet : (f : Frame) (unit w : ℕ) (l : List Event) (running : List ℕ) (key : ℕ) → IsUnderWay (state f unit w l running) → desc (so_far f w l) key ≡ None → steps_of key (entries_by w l) ≡ []
 no_steps_yet f unit w l running key u free =
     ⊎_elim
     (λ n. steps_by key w l ∙ ap kinds n)
     (λ h. let o = own_id f unit w l key u.own h in absurd (none_some (desc (so_far f w l) key) o.1.descriptor free o.1.described))
     (hit_or_none key l)
 
-pub dynamic_key_fresh : (f : Frame) (unit w : ℕ) (l : List Event) (running : List ℕ) (e : Event) → IsUnderWay f unit w l running → e.kind ≡ Dynamic → desc (so_far f w l) e.key ≡ None
+pub dynamic_key_fresh : (f : Frame) (unit w : ℕ) (l : List Event) (running : List ℕ) (e : Event) → IsUnderWay (state f unit w l running) → e.kind ≡ Dynamic → desc (so_far f w l) e.key ≡ None
     → steps_of e.key (entries_by w (l ++ e ∷ [])) ≡ []
 dynamic_key_fresh f unit w l running e u kind free = no_step_added e.key w l e (dynamic_no_step e.kind kind) ∙ no_steps_yet f unit w l running e.key u free
 
@@ -391,23 +392,30 @@ pub law_begins : Begins
 law_begins f unit w = begins f unit w
 
 pub law_starts : Starts
-law_starts f unit w l running e g kind fresh b = starts f unit w l running e g.around g.is_unit g.under_way kind fresh b
+law_starts s e g kind fresh b =
+    starts s.frame s.unit s.worker s.events s.running e g.around g.is_unit (under_way_again s g.under_way) kind fresh (begins_again s e.key b)
 
 pub law_skips : Skips
-law_skips f unit w l running e g kind fresh b = skips f unit w l running e g.around g.is_unit g.under_way kind fresh b
+law_skips s e g kind fresh b =
+    skips s.frame s.unit s.worker s.events s.running e g.around g.is_unit (under_way_again s g.under_way) kind fresh (begins_again s e.key b)
 
 pub law_reports : Reports
-law_reports f unit w l running e g none plain o = reports f unit w l running e g.around g.is_unit g.under_way none plain o
+law_reports s e g none plain o = reports s.frame s.unit s.worker s.events s.running e g.around g.is_unit (under_way_again s g.under_way) none plain o
 
 pub law_registers : Registers
-law_registers f unit w l running e d g kind payload m = (
-  registers_below f unit w l running e d g.around g.is_unit g.under_way kind payload m,
-  dynamic_key_fresh f unit w l running e g.under_way kind m.free,
-  begins_registered f unit w l running e d kind payload m,
+law_registers s e d g kind payload m = (
+  registers_below s.frame s.unit s.worker s.events s.running e d g.around g.is_unit (under_way_again s g.under_way) kind payload (registered_again s e.key d m),
+  dynamic_key_fresh s.frame s.unit s.worker s.events s.running e (under_way_again s g.under_way) kind m.free,
+  begins_registered s.frame s.unit s.worker s.events s.running e d kind payload (registered_again s e.key d m),
 )
 
 pub law_finishes : Finishes
-law_finishes f unit w l running e g kind = finishes f unit w l running e g.around g.is_unit g.under_way kind
+law_finishes s e outer g runs kind =
+    finishes s.frame s.unit s.worker s.events outer e g.around g.is_unit
+    (subst (λ (running : List ℕ). IsUnderWay (state s.frame s.unit s.worker s.events running)) runs (under_way_again s g.under_way))
+    kind
 
 pub law_closes : Closes
-law_closes f unit w l g = closes f unit w l g.around g.is_unit g.under_way
+law_closes s g none =
+    closes s.frame s.unit s.worker s.events g.around g.is_unit
+    (subst (λ (running : List ℕ). IsUnderWay (state s.frame s.unit s.worker s.events running)) none (under_way_again s g.under_way))

@@ -8,6 +8,7 @@ use Rattle.tk_record_columns.specs.Recorded.{Recorded}
 use Rattle.tk_queue.specs.Emission.{entries_by, entry_by}
 use Rattle.tk_query.specs.Lifecycle.{HasId, KnowsId, runs}
 use Rattle.tk_record_columns.specs.Entries.{with_entry, desc}
+use Rattle.tk_events.specs.declared.kinds.Kind.{Kind}
 use Rattle.tk_events.specs.declared.kinds.Kind.TheVariants.{Started}
 use Rattle.tk_query.specs.KeepsLifecycle.{IsWhole, steps_of}
 use Rattle.tk_engine_lifecycle.specs.Units.{Frame, AreOf}
@@ -43,38 +44,61 @@ AreNested f r [] = Unit {0}
 AreNested f r (key ∷ running) =
     HasRunningParentIn f r running key × (¬ IsOneOf key running) × AreNested f r running
 
+-- How far a unit of an engine is: the worker that runs it, what it has emitted, and the keys that
+-- run, innermost first.
+pub record UnitState : Type 0 where
+  pub frame : Frame
+  pub unit : ℕ
+  pub worker : ℕ
+  pub events : List Event
+  pub running : List ℕ
+
+-- the record of what came before the units and of what the unit has emitted
+abbrev pub record_of : UnitState → Recorded
+record_of s = so_far s.frame s.worker s.events
+
+-- the unit after one event more, with these running keys
+abbrev pub emits : UnitState → Event → List ℕ → UnitState
+emits s e running = record {
+  frame = s.frame;
+  unit = s.unit;
+  worker = s.worker;
+  events = s.events ++ e ∷ [];
+  running = running;
+}
+
+-- the kinds of the steps of a key that the unit has emitted
+abbrev pub steps_so_far : UnitState → ℕ → List Kind
+steps_so_far s key = steps_of key (entries_by s.worker s.events)
+
 -- What a unit has emitted: each event may follow those before it, each is of a descriptor that
 -- belongs to the unit, the keys that run are nested, innermost first, and have started, and every
 -- other key has nothing, a skip, or a start and a finish.
-pub record IsUnderWay (f : Frame) (unit worker : ℕ) (events : List Event) (running : List ℕ) :
-    Type 0 where
-  pub each : (a : List Event) (e : Event) (b : List Event) → events ≡ a ++ e ∷ b
-      → MayFollow (so_far f worker a) (entry_by worker e)
-  pub own : AreOf (λ id. f.owner id ≡ unit) (so_far f worker events) events
-  pub nested : AreNested f (so_far f worker events) running
-  pub started : (key : ℕ) → IsOneOf key running
-      → steps_of key (entries_by worker events) ≡ Started ∷ []
-  pub whole : (key : ℕ) → ¬ IsOneOf key running → IsWhole (steps_of key (entries_by worker events))
+pub record IsUnderWay (s : UnitState) : Type 0 where
+  pub each : (a : List Event) (e : Event) (b : List Event) → s.events ≡ a ++ e ∷ b
+      → MayFollow (so_far s.frame s.worker a) (entry_by s.worker e)
+  pub own : AreOf (λ id. s.frame.owner id ≡ s.unit) (record_of s) s.events
+  pub nested : AreNested s.frame (record_of s) s.running
+  pub started : (key : ℕ) → IsOneOf key s.running → steps_so_far s key ≡ Started ∷ []
+  pub whole : (key : ℕ) → ¬ IsOneOf key s.running → IsWhole (steps_so_far s key)
 
 -- The key may have its first event: it has an id that belongs to the unit, and where that has a
 -- parent's id, one of the running keys has it, or a key that runs before the units.
-pub record MayBegin (f : Frame) (r : Recorded) (unit : ℕ) (running : List ℕ) (key : ℕ) :
-    Type 0 where
+pub record MayBegin (s : UnitState) (key : ℕ) : Type 0 where
   pub id : List SegmentView
-  pub its : HasId r key id
-  pub belongs : f.owner id ≡ unit
-  pub parent : HasRunningParentIn f r running key
+  pub its : HasId (record_of s) key id
+  pub belongs : s.frame.owner id ≡ s.unit
+  pub parent : HasRunningParentIn s.frame (record_of s) s.running key
 
 -- A descriptor that may be registered under a key which has none: its id is new, belongs to the
 -- unit, and is that of a running key with one segment more.
-pub record MayBeRegistered (f : Frame) (r : Recorded) (unit : ℕ) (running : List ℕ)
-    (key : ℕ) (d : Descriptor) : Type 0 where
-  pub free : desc r key ≡ None
-  pub new : (other : ℕ) → ¬ HasId r other d.id
-  pub belongs : f.owner d.id ≡ unit
+pub record MayBeRegistered (s : UnitState) (key : ℕ) (d : Descriptor) : Type 0 where
+  pub free : desc (record_of s) key ≡ None
+  pub new : (other : ℕ) → ¬ HasId (record_of s) other d.id
+  pub belongs : s.frame.owner d.id ≡ s.unit
   pub above : ℕ
-  pub runs : IsOneOf above running
+  pub runs : IsOneOf above s.running
   pub id : List SegmentView
-  pub above_is : HasId r above id
+  pub above_is : HasId (record_of s) above id
   pub segment : SegmentView
   pub child : d.id ≡ id ++ segment ∷ []

@@ -17,7 +17,7 @@ use Rattle.tk_record_columns.specs.Entries.{of_kind, desc, with_entry}
 use Rattle.tk_record_columns.specs.Recorded.{Recorded}
 use Rattle.tk_query.specs.Lifecycle.{is_event, has_event, has_run, runs, HasId, Breaks, BreaksNone, NoneBreaks, IsLifecycle, KnowsId, KnowsNoParent, HasNoRunningParent, RunsAgain, EndsNothing, LeavesChild, first_entries}
 use Rattle.tk_query.specs.KeepsLifecycle.{is_step, steps_of, IsWhole, IsBelowRunning, KeepsLifecycle}
-use Rattle.tk_query.specs.LifecycleLaws.{KeptIsKeeping}
+use Rattle.tk_query.specs.LifecycleLaws.{KeptByItsEvents}
 use Rattle.tk_query.specs.declared.lifecycle_rules.Lifecycle.TheVariants.{Kept}
 use Rattle.tk_query.specs.declared.lifecycle_rules.LifecycleRule.{LifecycleRule}
 use Rattle.tk_query.specs.declared.lifecycle_rules.LifecycleRule.TheVariants.{IdKnown, ParentUnknown, ParentNotRunning, RanAlready, NotRunning, ChildRunning}
@@ -293,5 +293,5 @@ keeping_kept r different keeps = (none, λ key. runs_steps key r.entries ∙ who
         ∙ sym (runs_steps e.event.key (take p r.entries)) ∙ h.at_rest)
     none p e lt at ChildRunning h = no_left r different keeps p e at h
 
-pub kept_is_keeping : KeptIsKeeping
-kept_is_keeping r different = (kept_keeps r, keeping_kept r different)
+pub kept_by_its_events : KeptByItsEvents
+kept_by_its_events r different = (kept_keeps r, keeping_kept r different)

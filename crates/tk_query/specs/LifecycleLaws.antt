@@ -22,5 +22,5 @@ BreakIsFinal =
 
 -- `Kept` is the answer exactly where the record keeps the lifecycle. No two descriptors of a table
 -- have one id.
-abbrev pub KeptIsKeeping : Type 0
-KeptIsKeeping = (r : Recorded) → AreDifferent r.table → IsLifecycle r Kept ↔ KeepsLifecycle r
+abbrev pub KeptByItsEvents : Type 0
+KeptByItsEvents = (r : Recorded) → AreDifferent r.table → IsLifecycle r Kept ↔ KeepsLifecycle r

@@ -1,6 +1,6 @@
 //! What the definitions of the answers imply.
 ghost use Rattle.tk_query.specs.Laws.{ExactIsUnique, LooseIsUnique, InOrderIsUnique, ListIsUnique};
-ghost use Rattle.tk_query.specs.LifecycleLaws.{LifecycleIsUnique, BreakIsFinal, KeptIsKeeping};
+ghost use Rattle.tk_query.specs.LifecycleLaws.{LifecycleIsUnique, BreakIsFinal, KeptByItsEvents};
 
 /// The same events and the same conditions have one answer.
 pub fn answer_is_unique()
@@ -17,6 +17,6 @@ pub fn lifecycle_is_unique()
 {}
 
 /// A record's lifecycle is kept exactly where its ids, parents and executions are in order.
-pub fn kept_is_keeping()
-    ensures { KeptIsKeeping }
+pub fn kept_by_its_events()
+    ensures { KeptByItsEvents }
 {}

@@ -2,7 +2,7 @@ use Rattle.std.proofs.Common.{◌≡◌, ◌<◌, ◌⊎◌, length, take, drop,
 use Rattle.std.specs.Prelude.{IsSome, Some}
 use Rattle.tk_plan_units.specs.declared.steps.Act.TheVariants.{Register}
 use Rattle.tk_engine.specs.Keys.{kept, key_found}
-use Rattle.tk_engine.specs.Plays.{IsPlayed}
+use Rattle.tk_engine.specs.Plays.{IsPlayed, begun}
 use Rattle.tk_engine.proofs.Stepping.{emitted_found, emitted_plays, emitted_same, registered_found, registered_plays, plain_act, cut_at, take_more}
 use Rattle.tk_engine.proofs.playing.play.Goals as goal
 
@@ -32,7 +32,7 @@ returns-in_ok-note-in-Register-clause-ok g c =
     let planned = c.requires.1.1.1.0 in let script = c.requires.1.1.1.1.0 in
     let s = c.args.sink.now in let steps = c.args.steps.now in let at = c.args.at in
     let statics : c.len-statics.result ≡ length c.args.plan.now.table = c.len-statics.ensures.len ∙ ap length (c.deref.ensures ∙ c.table.ensures.table) in
-    subst (λ prefix. IsPlayed c.args.plan.now.nodes c.args.plan.now.table (g.S.Sink.view s).worker g.sent prefix (g.S.Sink.view c.register.new.sink).sent (kept c.note.new.self)) (sym (take_more steps at _ c.requires.1.1.0))
+    subst (λ prefix. IsPlayed (begun c.args.plan.now.nodes c.args.plan.now.table (g.S.Sink.view s).worker g.sent) prefix (g.S.Sink.view c.register.new.sink).sent (kept c.note.new.self)) (sym (take_more steps at _ c.requires.1.1.0))
     (registered_plays c.args.plan.now.nodes c.args.plan.now.table planned.0 planned.1 c.scripts_are_playable.ensures c.nodes_are_found.ensures
     script.0 (take at steps) (drop (suc at) steps) g.sent (g.S.Sink.view s) (g.S.Sink.view c.register.new.sink) (kept c.args.keys.now) c.requires.1.1.1.1.1.1.1
     _ c.in-Register.parent c.of-above.result c.in_ok-key-in-Register.key (kept c.note.new.self) c.in-Register.is (sym script.1 ∙ cut_at steps at _ c.requires.1.1.0)
@@ -48,7 +48,7 @@ returns-in_ok-emit_step-in-Skip g c =
     let event_of_step = c.in_ok-emit_step-in-Skip.ensures.ok in
     record {
       same = emitted_same c.args.plan.now.nodes (g.S.Sink.view s) (g.S.Sink.view c.emit_step.new.sink) step c.of-key.result event_of_step;
-      ok = subst (λ prefix. IsPlayed c.args.plan.now.nodes c.args.plan.now.table (g.S.Sink.view s).worker g.sent prefix (g.S.Sink.view c.emit_step.new.sink).sent (kept c.args.keys.now)) (sym (take_more steps at _ c.requires.1.1.0))
+      ok = subst (λ prefix. IsPlayed (begun c.args.plan.now.nodes c.args.plan.now.table (g.S.Sink.view s).worker g.sent) prefix (g.S.Sink.view c.emit_step.new.sink).sent (kept c.args.keys.now)) (sym (take_more steps at _ c.requires.1.1.0))
           (emitted_plays c.args.plan.now.nodes c.args.plan.now.table planned.0 planned.1 c.scripts_are_playable.ensures c.nodes_are_found.ensures
           script.0 (take at steps) (drop (suc at) steps) g.sent (g.S.Sink.view s) (g.S.Sink.view c.emit_step.new.sink) (kept c.args.keys.now) c.requires.1.1.1.1.1.1.1
           step c.of-key.result (sym script.1 ∙ cut_at steps at _ c.requires.1.1.0) (plain_act step.act c.in-Skip.is)

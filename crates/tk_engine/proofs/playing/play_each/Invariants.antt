@@ -1,7 +1,7 @@
 use Rattle.std.proofs.Common.{take}
 use Rattle.tk_engine_execute.specs.Engines.{IsSameSender}
 use Rattle.tk_engine.specs.Keys.{kept}
-use Rattle.tk_engine.specs.Plays.{IsPlayed}
+use Rattle.tk_engine.specs.Plays.{IsPlayed, begun}
 use Rattle.tk_engine.proofs.playing.play_each.Given as goal
 
 abbrev pub ghost-play : goal.ghost-play
@@ -11,4 +11,4 @@ ghost-play g a = g.sent
 abbrev pub invariant-loop-at : goal.invariant-loop-at
 invariant-loop-at g l =
     IsSameSender (g.S.Sink.view l.fn.sink) (g.S.Sink.view l.sink)
-    × IsPlayed l.plan.nodes l.plan.table (g.S.Sink.view l.fn.sink).worker g.sent (take l.at l.steps) (g.S.Sink.view l.sink).sent (kept l.keys)
+    × IsPlayed (begun l.plan.nodes l.plan.table (g.S.Sink.view l.fn.sink).worker g.sent) (take l.at l.steps) (g.S.Sink.view l.sink).sent (kept l.keys)

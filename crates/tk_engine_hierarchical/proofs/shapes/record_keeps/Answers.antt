@@ -5,5 +5,5 @@ use Rattle.tk_engine_hierarchical.proofs.shapes.record_keeps.Goals as goal
 
 pub returns-in-Kept : goal.returns-in-Kept
 returns-in-Kept c = λ _.
-    (c.kept_is_keeping.ensures c.args.entries.now (subst AreDifferent c.table.ensures c.shows_different_ids.ensures)).0
+    (c.kept_by_its_events.ensures c.args.entries.now (subst AreDifferent c.table.ensures c.shows_different_ids.ensures)).0
     (subst (IsLifecycle c.args.entries.now) c.in-Kept.is c.in_ok-lifecycle.ensures)

@@ -14,6 +14,6 @@ returns c = record {
   keeps = keeps;
   kept = λ nodes table workers r planned numbers run answer.
       let different = run_ids_differ nodes table (trees_of nodes) workers r (models nodes table planned numbers) run in
-      let kept = (c.kept_is_keeping.ensures r different).1 (keeps nodes table workers r planned numbers run) in
+      let kept = (c.kept_by_its_events.ensures r different).1 (keeps nodes table workers r planned numbers run) in
       (λ is. c.lifecycle_is_unique.ensures.one r answer Kept is kept, λ same. subst (IsLifecycle r) (sym same) kept);
 }
