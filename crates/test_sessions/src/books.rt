@@ -84,7 +84,7 @@ fn share<R: Wait>(
     is_shared && is_released && is_written
 }
 
-// The same of four seats of the book.
+// Whether the first three of four seats of the book share a resource that the fourth writes last.
 fn seats_share<R: Wait>(rt: &R, book: &Book, seats: &mut Vec<BookSeat>) -> Option<bool>
     requires { All (λ seat. seat.book ≡ book.now) seats.old.items }
 {
@@ -95,7 +95,7 @@ fn seats_share<R: Wait>(rt: &R, book: &Book, seats: &mut Vec<BookSeat>) -> Optio
     Some(share(rt, &mut first, &mut second, &mut third, &mut writer))
 }
 
-// The same of a book of four seats.
+// Whether three seats of a book of four share a resource that the fourth writes last.
 fn four_share<R: Wait>(rt: &R, alloc: Global) -> Option<bool> {
     let (book, mut seats) = Book::open(alloc, 4).ok()?;
     let hold = seats_share(rt, &book, &mut seats);
@@ -121,7 +121,7 @@ fn writer_is_found<R: Wait>(rt: &R, book: &Book, seats: &mut Vec<BookSeat>) -> O
     Some(is_found && is_held)
 }
 
-// The same of a book of two seats.
+// Whether a writer in a book of two seats keeps a reader of its resource out, and no other one.
 fn two_exclude<R: Wait>(rt: &R, alloc: Global) -> Option<bool> {
     let (book, mut seats) = Book::open(alloc, 2).ok()?;
     let is_found = writer_is_found(rt, &book, &mut seats);

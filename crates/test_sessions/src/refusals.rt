@@ -139,7 +139,7 @@ fn is_registered<R: Wait>(
         && take(rt, receiver) == TakenItem::Nothing
 }
 
-// The same in a session of two senders.
+// Whether worker 2 of a session of two senders registers a segment, and nothing else is taken.
 fn registers<R: Wait>(rt: &R, alloc: Global) -> Option<bool> {
     let segment = made_segment(alloc)?;
     let (_first, mut second, mut receiver) = opened(alloc)?;

@@ -107,7 +107,7 @@ fn fill<R: Wait>(rt: &R, first: &mut Sender, second: &mut Sender, receiver: &mut
         && send(rt, first, start(0, 3)) == Answer::Sent
 }
 
-// The same of a session of two senders and two places.
+// Whether the third start finds the queue of capacity two full, and goes out once one was taken.
 fn two_places_are_filled<R: Wait>(rt: &R, alloc: Global) -> Option<bool> {
     let (mut first, mut second, mut receiver) = two_senders(alloc, 2)?;
     Some(fill(rt, &mut first, &mut second, &mut receiver))
@@ -130,7 +130,7 @@ fn sent<R: Wait>(rt: &R, sender: &mut Sender) -> Option<u64> {
     None
 }
 
-// The same of a session of one sender and this capacity.
+// How many starts are sent through a session of one sender until its queue is full.
 fn sent_through<R: Wait>(rt: &R, alloc: Global, places: usize) -> Option<u64> {
     let (mut sender, _receiver) = one_sender(alloc, places)?;
     sent(rt, &mut sender)
