@@ -3,14 +3,14 @@ use Rattle.std.proofs.Common.{◌≡◌, ◌<◌, ℕ, Bool, true, List, Option,
 use Rattle.std.specs.Prelude.{IfSome}
 use Rattle.testkit_command_line.specs.declared.jobs.Job.TheVariants as jobs
 use Rattle.testkit_program.specs.declared.faults.Fault.TheVariants as faults
-use Rattle.testkit_program.specs.Jobs.{IsBroken, IsRefused}
+use Rattle.testkit_program.specs.Jobs.{IsBroken, IsRefused, transfer}
 use Rattle.tk_record.specs.declared.reading.TheConstants.{MAX_TEXT}
 use Rattle.tk_streams.specs.declared.transfers.LoadFault.{LoadFault}
 use Rattle.tk_streams.specs.declared.transfers.LoadFault.TheVariants as loads
 
 -- nothing was written, and what is too large is so
 pub load_refused : (workers : ℕ) (input contents : Option (List ℕ)) (fault : LoadFault)
-    → (fault ≡ loads.TooLarge → IfSome input (λ bytes. MAX_TEXT < length bytes)) → IsRefused (jobs.Run workers) input contents contents (faults.Load fault)
+    → (fault ≡ loads.TooLarge → IfSome input (λ bytes. MAX_TEXT < length bytes)) → IsRefused (jobs.Run workers) (transfer input contents contents) (faults.Load fault)
 load_refused workers input contents loads.TooLarge large = (large refl, refl)
 load_refused workers input contents loads.Device large = refl
 load_refused workers input contents loads.Memory large = refl

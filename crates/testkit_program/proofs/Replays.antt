@@ -2,7 +2,7 @@
 use Rattle.std.proofs.Common.{◌≡◌, ◌⊎◌, ℕ, Bool, true, List, Option, Err, refl, ap, inl, inr}
 use Rattle.std.specs.Prelude.{IfSome, IsErrOf}
 use Rattle.testkit_program.specs.declared.faults.Fault.TheVariants as faults
-use Rattle.testkit_program.specs.Jobs.{IsBroken, IsPartlyReplayed, IsReplayFault}
+use Rattle.testkit_program.specs.Jobs.{IsBroken, IsPartlyReplayed, IsReplayFault, transfer}
 use Rattle.tk_queue_core.specs.declared.replays.ReplayFault.{ReplayFault}
 use Rattle.tk_queue_core.specs.declared.replays.ReplayFault.TheVariants as replays
 use Rattle.tk_queue_core.specs.ReplayText.{IsOfInput, IsPartlyWritten}
@@ -10,13 +10,13 @@ use Rattle.tk_queue_core.specs.ReplayText.{IsAnswer as IsPlayedAs}
 
 -- of the bytes that a target holds
 pub partly_replayed : {A : Type 0} (contents : A → Option (List ℕ)) (input : Option (List ℕ)) (old new : A)
-    → (new ≡ old) ⊎ IfSome input (λ bytes. IsPartlyWritten bytes (contents old) (contents new)) → IsPartlyReplayed input (contents old) (contents new)
+    → (new ≡ old) ⊎ IfSome input (λ bytes. IsPartlyWritten bytes (contents old) (contents new)) → IsPartlyReplayed (transfer input (contents old) (contents new))
 partly_replayed contents input old new (inl same) = inl (ap contents same)
 partly_replayed contents input old new (inr prefix) = inr prefix
 
 -- the cause, and what was written
 pub replay_fault : (input old new : Option (List ℕ)) (fault : ReplayFault) → (¬ (IsErrOf {T = Unit {0}} (Err fault) replays.Device) → IfSome input (λ bytes. IsPlayedAs bytes (Err fault)))
-    → (IsOfInput fault → new ≡ old) → IsPartlyReplayed input old new → IsReplayFault input old new fault
+    → (IsOfInput fault → new ≡ old) → IsPartlyReplayed (transfer input old new) → IsReplayFault (transfer input old new) fault
 replay_fault input old new replays.NoHeader cause nothing partly = (cause (λ e. cc), nothing, partly)
 replay_fault input old new (replays.BadLine line) cause nothing partly = (cause (λ e. cc), nothing, partly)
 replay_fault input old new (replays.AfterEnd step) cause nothing partly = (cause (λ e. cc), nothing, partly)

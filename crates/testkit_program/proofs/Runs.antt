@@ -6,7 +6,7 @@ use Rattle.tk_report.specs.declared.faults.ReportFault.{ReportFault}
 use Rattle.tk_report.specs.declared.faults.ReportFault.TheVariants.{Plan, Run, Device, Memory}
 use Rattle.tk_report.specs.declared.plan_runs.PlanRun.{PlanRun}
 use Rattle.tk_report.specs.Answers.{IsRunOfPlan, IsRunReport, OfPlan}
-use Rattle.testkit_program.specs.Jobs.{IsReportFault}
+use Rattle.testkit_program.specs.Jobs.{IsReportFault, transfer}
 
 -- all bytes of a source were loaded, where its bytes are known
 all_loaded : (old new : Option (List ℕ)) (bytes : List ℕ) → IsLoaded old new bytes → IfSome old (λ all. bytes ≡ all)
@@ -19,7 +19,7 @@ of_input None bytes P is p = tt
 of_input (Some all) bytes P is p = subst P is p
 
 pub not_written : (workers : ℕ) (input left : Option (List ℕ)) (bytes : List ℕ) (old new : Option (List ℕ)) (run : PlanRun) (fault : ReportFault) → IsLoaded input left bytes → IsRunOfPlan bytes workers run
-    → IsRunReport run.results.recorded old new (Err fault) → IsReportFault workers input old new fault
+    → IsRunReport run.results.recorded old new (Err fault) → IsReportFault workers (transfer input old new) fault
 not_written workers input left bytes old new run (Plan f) loaded of h = absurd h
 not_written workers input left bytes old new run (Run f) loaded of h = absurd h
 not_written workers input left bytes old new run Device loaded of h =

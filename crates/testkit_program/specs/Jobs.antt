@@ -43,47 +43,59 @@ abbrev pub IsPlanReported : ℕ → List ℕ → Option (List ℕ) → Option (L
 IsPlanReported workers input old new =
     OfPlan input (Appends old new) × MayWork workers × (length input ≤ MAX_TEXT)
 
+-- what a job may read, and what was written before it and after it, where these bytes are known
+pub record Transfer : Type 0 where
+  pub input : Option (List ℕ)
+  pub old : Option (List ℕ)
+  pub new : Option (List ℕ)
+
+abbrev pub transfer : Option (List ℕ) → Option (List ℕ) → Option (List ℕ) → Transfer
+transfer input old new = record { input = input; old = old; new = new }
+
+-- nothing was written
+abbrev pub WritesNothing : Transfer → Type 0
+WritesNothing t = t.new ≡ t.old
+
 -- what doing a job writes, and whether it is a yes
-abbrev pub IsDone : Job → List ℕ → Bool → Option (List ℕ) → Option (List ℕ) → Type 0
-IsDone (jobs.Ask question) input is_yes old new =
-    AddsAnswer (map string_bytes question.now) input is_yes old new
-IsDone jobs.Replay input is_yes old new = (is_yes ≡ true) × IsWritten input old new
-IsDone (jobs.Run workers) input is_yes old new =
-    (is_yes ≡ true) × IsPlanReported workers input old new
+abbrev pub IsDone : Job → Transfer → Bool → Type 0
+IsDone (jobs.Ask question) t is_yes =
+    IfSome t.input (λ bytes. AddsAnswer (map string_bytes question.now) bytes is_yes t.old t.new)
+IsDone jobs.Replay t is_yes =
+    IfSome t.input (λ bytes. (is_yes ≡ true) × IsWritten bytes t.old t.new)
+IsDone (jobs.Run workers) t is_yes =
+    IfSome t.input (λ bytes. (is_yes ≡ true) × IsPlanReported workers bytes t.old t.new)
 
 -- why a question is not answered; nothing was written then, but at a broken device a prefix of the
 -- answer
-abbrev pub IsAskFault :
-    List (List ℕ) → Option (List ℕ) → Option (List ℕ) → Option (List ℕ) → AskFault → Type 0
-IsAskFault question input old new fault =
-    IsRefusal question input fault
-    × ((fault ≡ asks.Device) ⊎ (new ≡ old))
-    × (fault ≡ asks.Device → IfSome input (λ bytes. AddsPrefix question bytes old new))
+abbrev pub IsAskFault : List (List ℕ) → Transfer → AskFault → Type 0
+IsAskFault question t fault =
+    IsRefusal question t.input fault
+    × ((fault ≡ asks.Device) ⊎ WritesNothing t)
+    × (fault ≡ asks.Device → IfSome t.input (λ bytes. AddsPrefix question bytes t.old t.new))
 
 -- nothing was written, or the input plays and a prefix of the record text was
-abbrev pub IsPartlyReplayed : Option (List ℕ) → Option (List ℕ) → Option (List ℕ) → Type 0
-IsPartlyReplayed input old new = (new ≡ old) ⊎ IfSome input (λ bytes. IsPartlyWritten bytes old new)
+abbrev pub IsPartlyReplayed : Transfer → Type 0
+IsPartlyReplayed t =
+    WritesNothing t ⊎ IfSome t.input (λ bytes. IsPartlyWritten bytes t.old t.new)
 
 -- why a script is not replayed, and what was written then; where that is for the input, nothing was
-abbrev pub IsReplayFault :
-    Option (List ℕ) → Option (List ℕ) → Option (List ℕ) → ReplayFault → Type 0
-IsReplayFault input old new replays.Device = IsPartlyReplayed input old new
-IsReplayFault input old new fault =
-    IfSome input (λ bytes. IsPlayedAs bytes (Err fault))
-    × (IsOfInput fault → new ≡ old)
-    × IsPartlyReplayed input old new
+abbrev pub IsReplayFault : Transfer → ReplayFault → Type 0
+IsReplayFault t replays.Device = IsPartlyReplayed t
+IsReplayFault t fault =
+    IfSome t.input (λ bytes. IsPlayedAs bytes (Err fault))
+    × (IsOfInput fault → WritesNothing t)
+    × IsPartlyReplayed t
 
 -- Why a plan that is run by this number of workers is not reported. The number of workers is judged
 -- after the plan.
-abbrev pub IsReportFault :
-    ℕ → Option (List ℕ) → Option (List ℕ) → Option (List ℕ) → ReportFault → Type 0
-IsReportFault workers input old new (reports.Plan fault) =
-    IfSome input (λ bytes. IsNoPlan bytes fault) × (new ≡ old)
-IsReportFault workers input old new (reports.Run fault) =
-    IfSome input (λ bytes. IsNotRun bytes workers fault) × (new ≡ old)
-IsReportFault workers input old new reports.Device =
-    IfSome input (λ bytes. OfPlan bytes (AppendsPrefix old new)) × MayWork workers
-IsReportFault workers input old new reports.Memory = new ≡ old
+abbrev pub IsReportFault : ℕ → Transfer → ReportFault → Type 0
+IsReportFault workers t (reports.Plan fault) =
+    IfSome t.input (λ bytes. IsNoPlan bytes fault) × WritesNothing t
+IsReportFault workers t (reports.Run fault) =
+    IfSome t.input (λ bytes. IsNotRun bytes workers fault) × WritesNothing t
+IsReportFault workers t reports.Device =
+    IfSome t.input (λ bytes. OfPlan bytes (AppendsPrefix t.old t.new)) × MayWork workers
+IsReportFault workers t reports.Memory = WritesNothing t
 
 -- the fault is of the words alone
 abbrev pub IsOfWords : Fault → Type 0
@@ -92,17 +104,15 @@ IsOfWords (faults.Ask fault) = asked.IsOfWords fault
 IsOfWords _ = ⊥
 
 -- Why a job is not done, and what was written then. A fault is of the job's own kind.
-abbrev pub IsRefused :
-    Job → Option (List ℕ) → Option (List ℕ) → Option (List ℕ) → Fault → Type 0
-IsRefused (jobs.Ask question) input old new (faults.Ask fault) =
-    IsAskFault (map string_bytes question.now) input old new fault
-IsRefused jobs.Replay input old new (faults.Replay fault) = IsReplayFault input old new fault
-IsRefused (jobs.Run workers) input old new (faults.Load loads.TooLarge) =
-    IfSome input (λ bytes. MAX_TEXT < length bytes) × (new ≡ old)
-IsRefused (jobs.Run workers) input old new (faults.Load fault) = new ≡ old
-IsRefused (jobs.Run workers) input old new (faults.Report fault) =
-    IsReportFault workers input old new fault
-IsRefused job input old new _ = ⊥
+abbrev pub IsRefused : Job → Transfer → Fault → Type 0
+IsRefused (jobs.Ask question) t (faults.Ask fault) =
+    IsAskFault (map string_bytes question.now) t fault
+IsRefused jobs.Replay t (faults.Replay fault) = IsReplayFault t fault
+IsRefused (jobs.Run workers) t (faults.Load loads.TooLarge) =
+    IfSome t.input (λ bytes. MAX_TEXT < length bytes) × WritesNothing t
+IsRefused (jobs.Run workers) t (faults.Load fault) = WritesNothing t
+IsRefused (jobs.Run workers) t (faults.Report fault) = IsReportFault workers t fault
+IsRefused job t _ = ⊥
 
 -- Only a broken device is given as one: a question says so of the source in what it reads and of
 -- the target in what it writes, a replay of either, and a run of the source before and of the
@@ -122,14 +132,11 @@ IsOfLine faults.Memory = Unit {0}
 IsOfLine _ = ⊥
 
 -- the words ask for a job that was done
-abbrev pub IsPerformed :
-    List (List ℕ) → Option (List ℕ) → Option (List ℕ) → Option (List ℕ) → Bool → Type 0
-IsPerformed words input old new is_yes =
-    (job : Job) × IsJobOf words job × IfSome input (λ bytes. IsDone job bytes is_yes old new)
+abbrev pub IsPerformed : List (List ℕ) → Transfer → Bool → Type 0
+IsPerformed words t is_yes = (job : Job) × IsJobOf words job × IsDone job t is_yes
 
 -- the words ask for no job, and nothing was written, or they ask for a job that was refused
-abbrev pub IsNotPerformed :
-    List (List ℕ) → Option (List ℕ) → Option (List ℕ) → Option (List ℕ) → Fault → Type 0
-IsNotPerformed words input old new fault =
-    (IsNoAskLine words × IsOfLine fault × (new ≡ old))
-    ⊎ ((job : Job) × IsJobOf words job × IsRefused job input old new fault)
+abbrev pub IsNotPerformed : List (List ℕ) → Transfer → Fault → Type 0
+IsNotPerformed words t fault =
+    (IsNoAskLine words × IsOfLine fault × WritesNothing t)
+    ⊎ ((job : Job) × IsJobOf words job × IsRefused job t fault)

@@ -3,6 +3,7 @@ use Rattle.std.specs.Prelude.{ℕ, List, ◌∷◌, ◌++◌, [], codes}
 use Rattle.std.specs.Fmt.{decimal}
 use Rattle.tk_query_conditions.specs.declared.faults.CondFault.{CondFault}
 use Rattle.tk_query_conditions.specs.declared.faults.CondFault.TheVariants as conditions
+use Rattle.testkit_questions.specs.Characters.{line_feed}
 use Rattle.testkit_questions.specs.declared.faults.AskFault.{AskFault}
 use Rattle.testkit_questions.specs.declared.faults.AskFault.TheVariants as asks
 use Rattle.tk_query_conditions.specs.FaultTexts.{condition_fault_text}
@@ -48,4 +49,4 @@ fault_text faults.Memory = codes "out of memory"
 
 -- what is printed on standard error
 abbrev pub fault_line : Fault → List ℕ
-fault_line fault = codes "testkit: " ++ fault_text fault ++ 10 ∷ []
+fault_line fault = codes "testkit: " ++ fault_text fault ++ line_feed ∷ []

@@ -1,6 +1,6 @@
 //! The jobs of the program.
 ghost use Rattle.std.specs.Prelude.{◌≡◌, map, string_bytes, IfErr, IfOk, IfSome, OnOk};
-ghost use Rattle.testkit_program.specs.Jobs.{IsBroken, IsDone, IsNotPerformed, IsOfWords, IsPerformed, IsPlanReported, IsRefused};
+ghost use Rattle.testkit_program.specs.Jobs.{IsBroken, IsDone, IsNotPerformed, IsOfWords, IsPerformed, IsPlanReported, IsRefused, transfer};
 ghost use Rattle.testkit_command_line.specs.declared.jobs.Job.TheVariants as jobs;
 
 use crate::faults::Fault;
@@ -28,8 +28,8 @@ fn report_plan<R: Threads + Wait + Sync, S: Source, T: Target>(
     ensures reported { OnOk result (IfSome (S.remaining source.old) (λ input.
         IsPlanReported workers input (T.contents target.old) (T.contents target.new))) }
     ensures unread { IfErr result (λ fault. IsOfWords fault → source.new ≡ source.old) }
-    ensures refused { IfErr result (IsRefused (jobs.Run workers) (S.remaining source.old)
-        (T.contents target.old) (T.contents target.new)) }
+    ensures refused { IfErr result (IsRefused (jobs.Run workers)
+        (transfer (S.remaining source.old) (T.contents target.old) (T.contents target.new))) }
     ensures device { IfErr result (IsBroken (S.broken source.new) (T.broken target.new)) }
 {
     let bytes = match load(alloc, source, MAX_TEXT) {
@@ -66,11 +66,11 @@ pub fn do_job<R: Threads + Wait + Sync, S: Source, T: Target>(
     source: &mut S,
     target: &mut T,
 ) -> Result<bool, Fault>
-    ensures done { IfOk result (λ is_yes. IfSome (S.remaining source.old) (λ input.
-        IsDone job.entry input is_yes (T.contents target.old) (T.contents target.new))) }
+    ensures done { IfOk result (IsDone job.entry
+        (transfer (S.remaining source.old) (T.contents target.old) (T.contents target.new))) }
     ensures unread { IfErr result (λ fault. IsOfWords fault → source.new ≡ source.old) }
-    ensures refused { IfErr result (IsRefused job.entry (S.remaining source.old)
-        (T.contents target.old) (T.contents target.new)) }
+    ensures refused { IfErr result (IsRefused job.entry
+        (transfer (S.remaining source.old) (T.contents target.old) (T.contents target.new))) }
     ensures device { IfErr result (IsBroken (S.broken source.new) (T.broken target.new)) }
 {
     match job {
@@ -102,10 +102,10 @@ pub fn perform<R: Threads + Wait + Sync, S: Source, T: Target>(
     target: &mut T,
 ) -> Result<bool, Fault>
     ensures done { IfOk result (IsPerformed (map string_bytes words.now)
-        (S.remaining source.old) (T.contents target.old) (T.contents target.new)) }
+        (transfer (S.remaining source.old) (T.contents target.old) (T.contents target.new))) }
     ensures unread { IfErr result (λ fault. IsOfWords fault → source.new ≡ source.old) }
     ensures refused { IfErr result (IsNotPerformed (map string_bytes words.now)
-        (S.remaining source.old) (T.contents target.old) (T.contents target.new)) }
+        (transfer (S.remaining source.old) (T.contents target.old) (T.contents target.new))) }
     ensures device { IfErr result (IsBroken (S.broken source.new) (T.broken target.new)) }
 {
     let job = job_of(alloc, words)?;

@@ -20,7 +20,7 @@ unit_fault_text (units.Own number) = codes "engine fault " ++ decimal number
 
 abbrev pub run_fault_text : RunFault → List ℕ
 run_fault_text runs.Workers = codes "workers must be 1 to 15"
-run_fault_text runs.Capacity = codes "places must be 1 to 1024"
+run_fault_text runs.Capacity = codes "capacity must be 1 to 1024"
 run_fault_text (runs.Engine unit why) =
     codes "unit " ++ decimal unit ++ codes " failed: " ++ unit_fault_text why
 run_fault_text runs.Memory = codes "out of memory"

@@ -33,7 +33,7 @@ impl fmt::Display for RunFault {
     fn fmt<W: fmt::Write>(&self, f: &mut fmt::Formatter<W>) -> fmt::Result {
         match self {
             RunFault::Workers => f.write_str("workers must be 1 to 15"),
-            RunFault::Capacity => f.write_str("places must be 1 to 1024"),
+            RunFault::Capacity => f.write_str("capacity must be 1 to 1024"),
             RunFault::Engine(unit, why) => write!(f, "unit {unit} failed: {why}"),
             RunFault::Memory => f.write_str("out of memory"),
             RunFault::Threads => f.write_str("no thread"),
