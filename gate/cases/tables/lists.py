@@ -71,6 +71,8 @@ SELECTIONS = (
 
 CONDITIONS = [
     listed("one condition", "all started", TWO_TESTS, 0, 1),
+    listed("any of two endings", "all any(succeeded,aborted)", TWO_TESTS, 4),
+    listed("all of nothing", "all all()", TWO_TESTS, 0, 1, 2, 3, 4),
     listed("a selection and its opposite", "tests not(started)", TWO_TESTS, 2, 3),
     listed("two conditions, of which both have to hold", "all test started", TWO_TESTS, 1),
     listed("two conditions, of which none holds of one event", "all started skipped(off)", TWO_TESTS),
