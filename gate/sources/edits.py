@@ -39,7 +39,7 @@ def edit_fault(tree: Tree, path: str) -> str:
         word, _, rest = line.partition(": ")
         if word == "file":
             file = rest.strip()
-            if not re.fullmatch(r"src/\w+\.rt", file):
+            if not re.fullmatch(r"src/[\w/]+\.rt", file):
                 return f"{file} is no source"
             texts.setdefault(file, (tree.text(f"{crate}/{file}"),) * 2)
         elif word == "old":
