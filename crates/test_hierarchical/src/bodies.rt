@@ -1,14 +1,17 @@
 //! An engine whose tests have bodies: what it records, and what it refuses.
 use std::alloc::Global;
 use std::sync::Wait;
+use std::sync::atomic::{AtomicU64, Ordering};
 use std::thread::Threads;
 use tk_engine::{Results, RunFault, Sink, UnitFault, execute};
 use tk_engine_hierarchical::{Body, Hierarchical, Outcome, Reporter, Tests, UnitRun};
 use tk_events::Pairs;
 use tk_ids::{Segment, Text};
-use tk_plan::{ExecutionMode, Plan, PlanNode, build_plan};
+use tk_plan::{ExecutionMode, LockMode, Plan, PlanNode, build_plan};
 use tk_query::Lifecycle;
+use tk_record::write_record;
 use tk_record_columns::Statistics;
+use tk_streams::ByteTarget;
 
 // A body that publishes a file and fails.
 struct Failing;
@@ -50,10 +53,31 @@ fn segment(alloc: Global, value: &str) -> Result<Segment, UnitFault> {
     }
 }
 
-// The tests of the plan: key 1 has a dynamic container, key 2 registers an id twice if it is to.
+// What the second test does after its dynamic test.
+#[derive(Clone, Copy)]
+enum Then {
+    Aborts,
+    RegistersTwice,
+    Faults,
+}
+
+// The tests of the plan: the first has a dynamic container, the second a dynamic test.
 #[derive(Drop)]
-struct Sample {
-    twice: bool,
+pub(crate) struct Sample {
+    then: Then,
+}
+
+fn first_test<R: Wait, S: Sink, K: UnitRun>(
+    rt: &R,
+    alloc: Global,
+    reporter: &mut Reporter<'_, S, K>,
+) -> Result<Outcome, UnitFault> {
+    let mut pairs = Pairs::new(alloc);
+    pairs.push(Text::copy(alloc, "k")?, Text::copy(alloc, "v")?)?;
+    reporter.report(rt, pairs)?;
+    let group = segment(alloc, "g")?;
+    reporter.dynamic_container(rt, alloc, &group, "group", &Group)?;
+    Ok(Outcome::Successful)
 }
 
 impl Tests for Sample {
@@ -65,31 +89,114 @@ impl Tests for Sample {
         reporter: &mut Reporter<'_, S, K>,
     ) -> Result<Outcome, UnitFault> {
         if key == 1 {
-            reporter.report(rt, Pairs::new(alloc))?;
-            let group = segment(alloc, "g")?;
-            reporter.dynamic_container(rt, alloc, &group, "group", &Group)?;
+            return first_test(rt, alloc, reporter);
+        }
+        if key != 2 {
             return Ok(Outcome::Successful);
         }
         let one = segment(alloc, "x")?;
         reporter.dynamic_test(rt, alloc, &one, "x", &Failing)?;
-        if self.twice {
-            reporter.dynamic_test(rt, alloc, &one, "x", &Failing)?;
+        match self.then {
+            Then::Aborts => Ok(Outcome::Aborted(None)),
+            Then::RegistersTwice => {
+                reporter.skip_test(rt, alloc, &one, "y", Text::copy(alloc, "off")?)?;
+                Ok(Outcome::Successful)
+            }
+            Then::Faults => Err(UnitFault::Own(7)),
         }
-        Ok(Outcome::Aborted(None))
     }
 }
 
-// A root with two tests that may run beside one another.
-fn plan(alloc: Global) -> Option<Plan> {
-    let first = PlanNode::test(alloc, ("t", "1"), "one").mode(ExecutionMode::Concurrent);
-    let second = PlanNode::test(alloc, ("t", "2"), "two").mode(ExecutionMode::Concurrent);
-    let root = PlanNode::container(alloc, ("engine", "e"), "e");
-    let root = root.child(first).ok()?.child(second).ok()?;
-    build_plan(alloc, &root).ok()
+fn concurrent<'t>(node: PlanNode<'t>) -> PlanNode<'t> {
+    node.mode(ExecutionMode::Concurrent)
 }
 
-fn engine(alloc: Global, twice: bool) -> Option<Hierarchical<Sample>> {
-    Hierarchical::new(alloc, plan(alloc)?, Sample { twice }).ok()
+// A root with two tests, a container with a test, and one that is skipped; all four may run beside
+// one another.
+fn plan(alloc: Global) -> Option<Plan> {
+    let group = PlanNode::container(alloc, ("c", "3"), "three");
+    let group = group.child(PlanNode::test(alloc, ("t", "4"), "four")).ok()?;
+    let later = PlanNode::container(alloc, ("c", "5"), "five").skip("later");
+    let later = later.child(PlanNode::test(alloc, ("t", "6"), "six")).ok()?;
+    let root = PlanNode::container(alloc, ("engine", "e"), "e");
+    let root = root
+        .child(concurrent(PlanNode::test(alloc, ("t", "1"), "one")))
+        .ok()?;
+    let root = root
+        .child(concurrent(PlanNode::test(alloc, ("t", "2"), "two")))
+        .ok()?;
+    let root = root.child(concurrent(group)).ok()?;
+    build_plan(alloc, &root.child(concurrent(later)).ok()?).ok()
+}
+
+fn engine(alloc: Global, then: Then) -> Option<Hierarchical<Sample>> {
+    Hierarchical::new(alloc, plan(alloc)?, Sample { then }).ok()
+}
+
+/// The engine of the sample, whose second test aborts.
+pub(crate) fn sample_engine(alloc: Global) -> Option<Hierarchical<Sample>> {
+    engine(alloc, Then::Aborts)
+}
+
+// The record of a run by one worker. A body's events have the stamp of its test's start.
+fn record() -> &'static [u8] {
+    b"testkit-record|2
+N|C|[engine:e]|e
+N|T|[engine:e]/[t:1]|one
+N|T|[engine:e]/[t:2]|two
+N|C|[engine:e]/[c:3]|three
+N|T|[engine:e]/[c:3]/[t:4]|four
+N|C|[engine:e]/[c:5]|five
+N|T|[engine:e]/[c:5]/[t:6]|six
+E|0|0|0|start
+E|1|1|1|start
+E|1|1|1|report|k|v
+E|1|65536|1|dynamic|C|[engine:e]/[t:1]/[d:g]|group
+E|1|65536|1|start
+E|1|65537|1|dynamic|T|[engine:e]/[t:1]/[d:g]/[d:1]|one
+E|1|65537|1|start
+E|1|65537|1|file|out.txt
+E|1|65537|1|finish|fail|boom
+E|1|65538|1|dynamic|T|[engine:e]/[t:1]/[d:g]/[d:2]|two
+E|1|65538|1|skip|off
+E|1|65536|1|finish|ok
+E|1|1|2|finish|ok
+E|1|2|3|start
+E|1|65539|3|dynamic|T|[engine:e]/[t:2]/[d:x]|x
+E|1|65539|3|start
+E|1|65539|3|file|out.txt
+E|1|65539|3|finish|fail|boom
+E|1|2|4|finish|abort
+E|1|3|5|start
+E|1|4|6|start
+E|1|4|7|finish|ok
+E|1|3|8|finish|ok
+E|1|5|9|skip|later
+E|0|0|10|finish|ok
+"
+}
+
+/// Whether that is the record of a run.
+pub(crate) fn is_recorded(alloc: Global, results: &Results) -> bool {
+    let mut target = ByteTarget::new(alloc);
+    write_record(alloc, results.recorded(), &mut target).is_ok() && target.bytes() == record()
+}
+
+// Whether a run by one worker has that record.
+fn has_record<R: Threads + Wait + Sync>(rt: &R, alloc: Global) -> Option<bool> {
+    let engine = sample_engine(alloc)?;
+    let ran = execute(rt, alloc, &engine, 1, 4);
+    let found = match &ran {
+        Ok(results) => is_recorded(alloc, results),
+        Err(_) => false,
+    };
+    drop(ran);
+    Some(found)
+}
+
+#[test]
+fn each_event_of_a_run(rt: HostRuntime) {
+    assert!(rt; has_record(&rt, rt.alloc()) == Some(true));
 }
 
 fn seen(alloc: Global, results: &Results) -> Option<(Lifecycle, Statistics)> {
@@ -104,7 +211,7 @@ fn run<R: Threads + Wait + Sync>(
     alloc: Global,
     workers: usize,
 ) -> Option<(Lifecycle, Statistics)> {
-    let engine = engine(alloc, false)?;
+    let engine = sample_engine(alloc)?;
     let ran = execute(rt, alloc, &engine, workers, 4);
     let found = match &ran {
         Ok(results) => seen(alloc, results),
@@ -114,35 +221,104 @@ fn run<R: Threads + Wait + Sync>(
     found
 }
 
-// Whether a run is refused whose second test registers an id twice.
-fn refuses_twice<R: Threads + Wait + Sync>(rt: &R, alloc: Global) -> Option<bool> {
-    let engine = engine(alloc, true)?;
-    let ran = execute(rt, alloc, &engine, 1, 4);
-    let refused = matches!(&ran, Err(RunFault::Engine(1, UnitFault::Own(_))));
-    drop(ran);
-    Some(refused)
-}
-
 #[test]
 fn bodies_run_and_keep_the_lifecycle(rt: HostRuntime) {
     let statistics = Statistics {
-        skipped: 1,
-        started: 6,
-        finished: 6,
+        skipped: 2,
+        started: 8,
+        finished: 8,
         aborted: 1,
-        succeeded: 3,
+        succeeded: 5,
         failed: 2,
         reporting: 1,
         dynamic: 4,
         files: 2,
     };
-    for workers in [1, 2] {
+    for workers in [1, 4, 15] {
         let found = run(&rt, rt.alloc(), workers);
         assert!(rt; found == Some((Lifecycle::Kept, statistics)), "{workers}");
     }
 }
 
+// With which number the second unit fails, where it does.
+fn own_fault<R: Threads + Wait + Sync>(rt: &R, alloc: Global, then: Then) -> Option<u32> {
+    let engine = engine(alloc, then)?;
+    let ran = execute(rt, alloc, &engine, 1, 4);
+    let number = match &ran {
+        Err(RunFault::Engine(1, UnitFault::Own(number))) => Some(*number),
+        _ => None,
+    };
+    drop(ran);
+    number
+}
+
 #[test]
-fn an_id_is_registered_once(rt: HostRuntime) {
-    assert!(rt; refuses_twice(&rt, rt.alloc()) == Some(true));
+fn faults_of_a_unit(rt: HostRuntime) {
+    // `TWICE`: a sibling has the id already.
+    let twice = own_fault(&rt, rt.alloc(), Then::RegistersTwice);
+    assert!(rt; twice == Some(4_294_967_294));
+    let own = own_fault(&rt, rt.alloc(), Then::Faults);
+    assert!(rt; own == Some(7));
+}
+
+// Tests that count who is inside: none may find another there.
+#[derive(Drop)]
+struct Alone {
+    inside: AtomicU64,
+}
+
+impl Tests for Alone {
+    fn run<R: Wait, S: Sink, K: UnitRun>(
+        &self,
+        _rt: &R,
+        _alloc: Global,
+        _key: u32,
+        _reporter: &mut Reporter<'_, S, K>,
+    ) -> Result<Outcome, UnitFault> {
+        let mut alone = self.inside.fetch_add(1, Ordering::SeqCst) == 0;
+        for _ in 0..1000 {
+            alone = alone && self.inside.load(Ordering::SeqCst) == 1;
+        }
+        let _before = self.inside.fetch_sub(1, Ordering::SeqCst);
+        Ok(if alone {
+            Outcome::Successful
+        } else {
+            Outcome::Failed(None)
+        })
+    }
+}
+
+// A test that writes a resource.
+fn writer<'t>(alloc: Global, id: &'t str) -> Option<PlanNode<'t>> {
+    let node = concurrent(PlanNode::test(alloc, ("t", id), id));
+    node.lock("db", LockMode::ReadWrite).ok()
+}
+
+fn writers(alloc: Global) -> Option<Hierarchical<Alone>> {
+    let mut root = PlanNode::container(alloc, ("engine", "e"), "e");
+    for id in ["1", "2", "3", "4", "5", "6", "7", "8"] {
+        root = root.child(writer(alloc, id)?).ok()?;
+    }
+    let tests = Alone {
+        inside: AtomicU64::new(0),
+    };
+    Hierarchical::new(alloc, build_plan(alloc, &root).ok()?, tests).ok()
+}
+
+// How many tests ran alone that write one resource, by four workers.
+fn count_alone<R: Threads + Wait + Sync>(rt: &R, alloc: Global) -> Option<u64> {
+    let engine = writers(alloc)?;
+    let ran = execute(rt, alloc, &engine, 4, 4);
+    let found = match &ran {
+        Ok(results) => seen(alloc, results),
+        Err(_) => None,
+    };
+    drop(ran);
+    Some(found?.1.succeeded)
+}
+
+#[test]
+fn bodies_that_conflict_run_alone(rt: HostRuntime) {
+    // The tests, and the root.
+    assert!(rt; count_alone(&rt, rt.alloc()) == Some(9));
 }

@@ -26,11 +26,11 @@ use Rattle.tk_engine_lifecycle.proofs.Going.{other_steps, so_far_more}
 use Rattle.tk_engine_lifecycle.proofs.Steps.{begins, begins_registered, dynamic_key_fresh, dynamic_no_step, finishes, its_own, law_closes, no_step_added, or_none, or_or, registers_below, reports, running_id, skips, starts}
 
 -- a unit that begins
-pub emitting_none : (f : Frame) (unit : ℕ) (start : SenderView) (none : List ℕ → Bool) → KeepsAround f → unit < f.units → start.table ≡ f.table
+pub emitting_none : (f : Frame) (unit : ℕ) (start : SenderView) (none : List ℕ → Bool) (next : ℕ) → KeepsAround f → unit < f.units → start.table ≡ f.table
     → ((key : ℕ) (id : List SegmentView) → HasId (so_far f start.worker []) key id → TableHasId f.table id)
     → ((key : ℕ) (id : List SegmentView) → HasId (so_far f start.worker []) key id → HasId (record_of_sender start) key id)
-    → IsEmitting f unit start start (record { running = []; registered = none; next = 0 })
-emitting_none f unit start none around low table ids known = record {
+    → IsEmitting f unit start start (record { running = []; registered = none; next = next })
+emitting_none f unit start none next around low table ids known = record {
   same = record { session = refl; table = refl; worker = refl };
   table = table;
   events = [];
@@ -329,4 +329,18 @@ emitting_noted f unit start now p i noted more = record {
   known = i.known;
   ids = λ key id h. ⊎_elim (λ a. inl a) (λ b. inr (more (id_text id) b)) (i.ids key id h);
   fresh = i.fresh;
+}
+
+-- a later key may be the next one
+pub emitting_later : (f : Frame) (unit : ℕ) (start now : SenderView) (p : Progress) (i : IsEmitting f unit start now p) (next : ℕ)
+    → p.next ≤ next → IsEmitting f unit start now (record { running = p.running; registered = p.registered; next = next })
+emitting_later f unit start now p i next more = record {
+  same = i.same;
+  table = i.table;
+  events = i.events;
+  sent = i.sent;
+  going = i.going;
+  known = i.known;
+  ids = i.ids;
+  fresh = λ key a b. i.fresh key (omega (arith, a, more)) b;
 }

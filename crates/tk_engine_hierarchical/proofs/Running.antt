@@ -1,6 +1,6 @@
 -- A unit of a hierarchical engine after each thing that it may do.
 use Rattle.std.proofs.Common.{◌≡◌, ◌<◌, ◌≤◌, ◌+◌, ◌==◌, ◌||◌, ℕ, zero, suc, inl, ⊎_elim, Bool, true, false, List, [], ◌∷◌, ◌++◌, length, Option, Some, None, slice_get, refl, sym, ap, ◌∙◌, subst, append_assoc, append-nil, arith}
-use Rattle.std.specs.Prelude.{Result, Ok, Err, OnOk, OnErr, IfSome, IfNone, bytes_eq, get_or, is_some, not}
+use Rattle.std.specs.Prelude.{All, Result, Ok, Err, OnOk, OnErr, IfSome, IfNone, bytes_eq, get_or, is_some, not}
 use Rattle.std.proofs.lemmas.List.Elements.{All-cons, All-nil, All-head, All-tail, All-weaker}
 use Rattle.std.proofs.lemmas.Slice.Eq.{bytes_eq-Decides}
 use Rattle.tk_ids.specs.IdText.{SegmentView, id_text, parent_of}
@@ -23,12 +23,16 @@ use Rattle.tk_engine_lifecycle.proofs.ByKey.{events_by, from_table, one_id, regi
 use Rattle.tk_engine_lifecycle.proofs.Apart.{plain}
 use Rattle.tk_engine_execute.specs.Engines.{Extends, IsSameSender}
 use Rattle.tk_engine_hierarchical.specs.Emitting.{IsEmitting}
-use Rattle.tk_engine_hierarchical.specs.Events.{HasKept, HasParentAmong, HaveIds, IsRunning, MayStart, keys_of, progress}
+use Rattle.tk_engine_hierarchical.specs.Covered.{AreCovered}
+use Rattle.tk_engine_hierarchical.specs.Endings.{EndsAsItMay}
+use Rattle.tk_engine_hierarchical.specs.Units.{HasPlayed, RunsUnit, UnitKeys}
+use Rattle.tk_engine_hierarchical.specs.declared.tests.Outcome.{Outcome}
+use Rattle.tk_engine_hierarchical.specs.Events.{HasRun, HasParentAmong, HaveIds, IsRunning, MayStart, keys_of, progress}
 use Rattle.tk_engine_hierarchical.specs.RegisteredIds.{is_registered}
 use Rattle.tk_engine_hierarchical.specs.declared.running_keys.RunningKey.{RunningKey}
 use Rattle.tk_engine_hierarchical.specs.Shapes.{ShapeView, frame}
 use Rattle.tk_engine_hierarchical.proofs.Owned.{owner_child, owner_static}
-use Rattle.tk_engine_hierarchical.proofs.Emitted.{Registered, Registering, emitted_finish, emitted_all, emitted_registration, emitted_report, emitted_skip, emitted_start, emitting_none, emitting_noted, registered_skip, registered_start, sender_later, sender_now}
+use Rattle.tk_engine_hierarchical.proofs.Emitted.{Registered, Registering, emitted_finish, emitted_all, emitted_registration, emitted_report, emitted_skip, emitted_start, emitting_later, emitting_none, emitting_noted, registered_skip, registered_start, sender_later, sender_now}
 
 -- what holds of a sink before and after an event holds of it, whatever emitting answered
 pub after_emit : {F : Type 0} (old now new : SenderView) (r : Result (Unit {0}) F) (P : SenderView → Type 0)
@@ -124,6 +128,9 @@ static_below [] k d e = cc
 static_below (x ∷ xs) zero d e = omega arith
 static_below (x ∷ xs) (suc k) d e = let h = static_below xs k d e in omega (arith, h)
 
+pub below_table : (table : List Descriptor) (k : ℕ) (id : List SegmentView) → slice_get (ids_of table) k ≡ Some id → k < length table
+below_table table k id e = let d = table_id table k id e in static_below table k d.0 d.1
+
 -- a static key starts
 pub ran_start : (f : Frame) (unit : ℕ) (start now : SenderView) (running : List RunningKey) (registered : List (List ℕ × ℕ)) (next key : ℕ)
     (id : List SegmentView) (e : Event) → IsRunning f unit start now running registered next
@@ -202,14 +209,20 @@ started f unit start old now running pushed registered next after key id e sent 
     (subst (λ n. IsRunning f unit start (sends old e) (record { key = key; id = id } ∷ running) registered n) (sym more)
     (ran_start f unit start old running registered next key id e r may low at kind own)))
 
+-- a later key may be the next one
+ran_later : (f : Frame) (unit : ℕ) (start now : SenderView) (running : List RunningKey) (registered : List (List ℕ × ℕ)) (next after : ℕ)
+    → next ≤ after → IsRunning f unit start now running registered next → IsRunning f unit start now running registered after
+ran_later f unit start now running registered next after more r =
+    record { emitting = emitting_later f unit start now (progress running registered next) r.emitting after more; ids = r.ids }
+
 -- a unit after the skip of a static key
 pub skipped : (f : Frame) (unit : ℕ) (start old now : SenderView) (running : List RunningKey) (registered : List (List ℕ × ℕ)) (next after key : ℕ) (e : Event)
-    → now ≡ sends old e → after ≡ key + 1 → e.kind ≡ Skipped → e.key ≡ key
+    → now ≡ sends old e → key < after → e.kind ≡ Skipped → e.key ≡ key
     → IsRunning f unit start old running registered next → MayStart f unit (keys_of running) key → next ≤ key
     → IsRunning f unit start now running registered after
 skipped f unit start old now running registered next after key e sent more kind own r may low =
     subst (λ s. IsRunning f unit start s running registered after) (sym sent)
-    (subst (λ n. IsRunning f unit start (sends old e) running registered n) (sym more)
+    (ran_later f unit start (sends old e) running registered (key + 1) after (omega (arith, more))
     (ran_skip f unit start old running registered next key e r may low kind own))
 
 -- what may start in a shape of the engine may start in its frame
@@ -365,11 +378,11 @@ static_first f w around key id h =
     (λ b. absurd (plain_before f around key h.descriptor (ap (λ l. desc_in l key) (sym (append-nil (entries_by 0 f.before))) ∙ b.1)))
     (table_or_entry (so_far f w []) key h.descriptor h.described)
 
-pub ran_nothing : (f : Frame) (unit : ℕ) (start : SenderView) (running : List RunningKey) (registered : List (List ℕ × ℕ)) → running ≡ [] → KeepsAround f → unit < f.units → start.table ≡ f.table
-    → IsRunning f unit start start running registered 0
-ran_nothing f unit start running registered none around low table =
-    subst (λ l. IsRunning f unit start start l registered 0) (sym none) (record {
-      emitting = emitting_none f unit start (is_registered registered) around low table
+pub ran_nothing : (f : Frame) (unit : ℕ) (start : SenderView) (running : List RunningKey) (registered : List (List ℕ × ℕ)) (next : ℕ) → running ≡ [] → KeepsAround f → unit < f.units → start.table ≡ f.table
+    → IsRunning f unit start start running registered next
+ran_nothing f unit start running registered next none around low table =
+    subst (λ l. IsRunning f unit start start l registered next) (sym none) (record {
+      emitting = emitting_none f unit start (is_registered registered) next around low table
           (λ key id h. let d = static_first f start.worker around key id h in (key, described_here f.table key d.0 d.1 ∙ ap (λ i. Some i) d.2))
           (λ key id h. let d = static_first f start.worker around key id h in
           record { descriptor = d.0; described = from_table (record_of_sender start) key d.0 (ap (λ t. slice_get t key) table ∙ d.1); id_is = d.2 });
@@ -384,16 +397,31 @@ pub ran_some : (f : Frame) (unit : ℕ) (start now : SenderView) (running : List
     → IsRunning f unit start now running registered next → Extends start now
 ran_some f unit start now running registered next r = (r.emitting.events, r.emitting.sent)
 
-pub ran_all : (f : Frame) (unit : ℕ) (start now : SenderView) (running : List RunningKey) (registered : List (List ℕ × ℕ)) (next : ℕ)
-    → IsRunning f unit start now running registered next → running ≡ [] → HasKept f unit start now
-ran_all f unit start now running registered next r none =
-    (r.emitting.events, r.emitting.sent, emitted_all f unit start now (progress running registered next) r.emitting (ap keys_of none))
+cancel : (a x y : List Event) → a ++ x ≡ a ++ y → x ≡ y
+cancel [] x y e = e
+cancel (v ∷ a) x y e = let rest : a ++ x ≡ a ++ y = cc in cancel a x y rest
 
-pub began : (s : ShapeView) (f : Frame) (u unit : ℕ) (start now : SenderView) (running : List RunningKey) (registered : List (List ℕ × ℕ)) → frame s ≡ f → u ≡ unit → now ≡ start → running ≡ []
-    → KeepsAround (frame s) → u < s.units → start.table ≡ f.table → IsRunning f unit start now running registered 0
-began s f u unit start now running registered a b c none around low table =
-    subst (λ v. IsRunning f unit start v running registered 0) (sym c)
-    (ran_nothing f unit start running registered none (subst KeepsAround a around)
+-- a unit of which no key runs, and each of whose static keys had its turn
+pub ran_all : (f : Frame) (may_end : ℕ → Outcome → Type 0) (keys : UnitKeys) (start now : SenderView) (running : List RunningKey) (registered : List (List ℕ × ℕ)) (next : ℕ)
+    → IsRunning f keys.unit start now running registered next → HasPlayed f.table may_end keys.first next start now → running ≡ [] → keys.end ≤ next
+    → HasRun f may_end keys start now
+ran_all f may_end keys start now running registered next r d none past =
+    let i = r.emitting in
+    let same : d.events ≡ i.events = cancel start.sent d.events i.events (sym d.sent ∙ i.sent) in (
+      i.events,
+      i.sent,
+      record {
+        keeps = emitted_all f keys.unit start now (progress running registered next) i (ap keys_of none);
+        ended = subst (All (EndsAsItMay f.table may_end)) same d.each_holds;
+        covered = λ key a b. subst (λ l. AreCovered f.table (entries_by start.worker l) keys.first next) same d.all_hold key a (omega (arith, b, past));
+      },
+    )
+
+pub began : (s : ShapeView) (f : Frame) (u unit : ℕ) (start now : SenderView) (running : List RunningKey) (registered : List (List ℕ × ℕ)) (next : ℕ) → frame s ≡ f → u ≡ unit → now ≡ start → running ≡ []
+    → KeepsAround (frame s) → u < s.units → start.table ≡ f.table → IsRunning f unit start now running registered next
+began s f u unit start now running registered next a b c none around low table =
+    subst (λ v. IsRunning f unit start v running registered next) (sym c)
+    (ran_nothing f unit start running registered next none (subst KeepsAround a around)
     (subst (λ (g : Frame). unit < g.units) a (subst (λ v. v < s.units) b low)) table)
 
 -- what holds where there is none

@@ -15,21 +15,17 @@ use Rattle.tk_query.specs.Lifecycle.{HasId, has_event, is_event}
 use Rattle.tk_query.specs.KeepsLifecycle.{KeepsLifecycle}
 use Rattle.tk_engine_execute.specs.Engines.{IsStaticEvent}
 use Rattle.tk_engine_lifecycle.specs.Units.{KeepsAlone, KeepsAround, UnitsKeepLifecycle, run_alone}
-use Rattle.tk_engine_hierarchical.specs.Shapes.{AreRunning, ShapeView, frame}
+use Rattle.tk_engine_hierarchical.specs.Shapes.{AreRunning, HavePlaces, IsInUnit, ShapeView, frame}
+use Rattle.tk_engine_hierarchical.specs.Units.{RunsUnit}
+use Rattle.tk_engine_hierarchical.specs.Shapes.{keys_in}
+use Rattle.tk_engine_hierarchical.specs.declared.tests.Outcome.{Outcome}
 use Rattle.tk_engine_hierarchical.proofs.Owned.{owner_static}
+use Rattle.tk_engine_hierarchical.proofs.Played.{any-append, or_left}
 use Rattle.tk_engine_hierarchical.proofs.Running.{described_here, described_id}
 
 -- what holds of the first elements holds of all
 pub all_taken : {A : Type 0} (P : A → Type 0) (i : ℕ) (xs : List A) → length xs ≤ i → All P (take i xs) → All P xs
 all_taken P i xs past h = subst (All P) (take_all i xs past) h
-
-or_assoc : (a b c : Bool) → (a || (b || c)) ≡ ((a || b) || c)
-or_assoc true b c = refl
-or_assoc false b c = refl
-
-any-append : {A : Type 0} (p : A → Bool) (xs ys : List A) → list_any p (xs ++ ys) ≡ (list_any p xs || list_any p ys)
-any-append p [] ys = refl
-any-append p (x ∷ xs) ys = ap (λ b. p x || b) (any-append p xs ys) ∙ or_assoc (p x) (list_any p xs) (list_any p ys)
 
 event_more : (kind : Kind) (key : ℕ) (es : List Event) (e : Event) → has_event kind key (entries_by 0 (es ++ e ∷ [])) ≡ (has_event kind key (entries_by 0 es) || (is_event kind key (entry_by 0 e) || false))
 event_more kind key es e =
@@ -58,10 +54,6 @@ or_right : (a b : Bool) → b ≡ true → (a || (b || false)) ≡ true
 or_right true b e = refl
 or_right false true e = refl
 or_right false false e = cc
-
-or_left : (a b : Bool) → a ≡ true → (a || b) ≡ true
-or_left true b e = refl
-or_left false b e = cc
 
 both_parts : (a b : Bool) → (a && not b) ≡ true → a ≡ true
 both_parts true b e = refl
@@ -145,6 +137,11 @@ moved_keeps t u xs ys vs ws a b c h = subst KeepsLifecycle (ap₂ (λ v l. recor
 pub moved_running : (xs ys : List Event) (flags : List Bool) → xs ≡ ys → AreRunning xs flags → AreRunning ys flags
 moved_running xs ys flags e h = subst (λ l. AreRunning l flags) e h
 
+pub places_of : (s : ShapeView) (flags seen : List Bool) (count : ℕ) → seen ≡ flags → count ≡ length s.table → AreRunning s.before flags
+    → ((key : ℕ) → key < count → IsInUnit s.units s.firsts s.ends key ⊎ (slice_get seen key ≡ Some true)) → HavePlaces s
+places_of s flags seen count same all running each key low =
+    ⊎_elim (λ a. inl a) (λ b. inr (running key (subst (λ l. slice_get l key ≡ Some true) same b))) (each key (omega (arith, low, all)))
+
 -- ---- the law
 
 pub same_frame : (s : ShapeView) (table : List Descriptor) (before after : List Event) (units : ℕ) → s.table ≡ table → s.before ≡ before → s.after ≡ after → s.units ≡ units
@@ -153,5 +150,6 @@ same_frame s table before after units a b c d =
     ap₂ (λ t x. record { table = t; before = x; after = s.after; units = s.units; owner = (frame s).owner }) a b
     ∙ ap₂ (λ x u. record { table = table; before = before; after = x; units = u; owner = (frame s).owner }) c d
 
-pub kept_units : (s : ShapeView) → KeepsAround (frame s) → UnitsKeepLifecycle (frame s) (λ unit worker earlier events. KeepsAlone (frame s) unit worker events)
-kept_units s around = record { around = around; each = λ unit worker earlier events low kept. kept }
+pub kept_units : (s : ShapeView) (may_end : ℕ → Outcome → Type 0) → KeepsAround (frame s)
+    → UnitsKeepLifecycle (frame s) (λ unit worker earlier events. RunsUnit (frame s) may_end (keys_in s unit) worker events)
+kept_units s may_end around = record { around = around; each = λ unit worker earlier events low runs. runs.keeps }

@@ -7,11 +7,13 @@ use Rattle.tk_queue.specs.Emission.{entries_by}
 use Rattle.tk_queue.specs.Senders.{SenderView, record_of_sender}
 use Rattle.tk_query.specs.Lifecycle.{HasId, runs}
 use Rattle.tk_events.specs.declared.events.Event.{Event}
-use Rattle.tk_engine_lifecycle.specs.Units.{Frame, KeepsAlone}
+use Rattle.tk_engine_lifecycle.specs.Units.{Frame}
 use Rattle.tk_engine_lifecycle.specs.UnderWay.{IsOneOf}
 use Rattle.tk_engine_hierarchical.specs.Emitting.{IsEmitting, Progress}
 use Rattle.tk_engine_hierarchical.specs.RegisteredIds.{is_registered}
+use Rattle.tk_engine_hierarchical.specs.Units.{RunsUnit, UnitKeys}
 use Rattle.tk_engine_hierarchical.specs.declared.running_keys.RunningKey.{RunningKey}
+use Rattle.tk_engine_hierarchical.specs.declared.tests.Outcome.{Outcome}
 
 abbrev pub keys_of : List RunningKey → List ℕ
 keys_of running = map (λ k. k.key) running
@@ -49,8 +51,9 @@ pub record MayStart (f : Frame) (unit : ℕ) (running : List ℕ) (key : ℕ) : 
   pub belongs : f.owner descriptor.id ≡ unit
   pub parent : HasParentAmong f running descriptor.id
 
--- the sink took a list of events since the unit began with which the unit keeps the lifecycle alone
-abbrev pub HasKept : Frame → ℕ → SenderView → SenderView → Type 0
-HasKept f unit start now =
+-- the sink took a list of events since the unit began, which is what the unit emits
+abbrev pub HasRun :
+    Frame → (ℕ → Outcome → Type 0) → UnitKeys → SenderView → SenderView → Type 0
+HasRun f may_end keys start now =
     (events : List Event) × (now.sent ≡ start.sent ++ events)
-    × KeepsAlone f unit start.worker events
+    × RunsUnit f may_end keys start.worker events

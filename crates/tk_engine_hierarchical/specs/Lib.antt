@@ -3,3 +3,8 @@ pub mod Owners
 pub mod RegisteredIds
 pub mod Shapes
 pub mod Events
+pub mod Endings
+pub mod Covered
+pub mod Units
+pub mod Reporting
+pub mod Laws

@@ -1,13 +1,13 @@
 //! The engine of a plan whose tests have bodies, as `execute` takes it.
-ghost use Rattle.std.specs.Prelude.{◌≡◌, length};
+ghost use Rattle.std.specs.Prelude.{◌≡◌, length, IfOk};
 ghost use Rattle.tk_plan_units.specs.Trees.{forest};
 ghost use Rattle.tk_plan_units.specs.Cutting.{before_of, after_of, units_of};
 ghost use Rattle.tk_engine_lifecycle.specs.Units.{KeepsAround};
-ghost use Rattle.tk_engine_hierarchical.specs.Shapes.{frame};
+ghost use Rattle.tk_engine_hierarchical.specs.Shapes.{frame, HavePlaces};
 
 use crate::hierarchical::run_unit;
 use crate::leases::Lease;
-use crate::shapes::Shape;
+use crate::shapes::{KeysOfUnits, Shape};
 use crate::tests::Tests;
 use std::alloc::{AllocError, Global};
 use std::marker::Brand;
@@ -47,47 +47,61 @@ pub struct Hierarchical<T> {
     ghost units: { shape.units ≡ length (units_of (forest scripted.nodes)) },
 }
 
-// The unit to which each static key belongs, or the number of the units.
-fn owners_of(alloc: Global, plan: &Plan) -> Result<Vec<u32>, AllocError> {
+// Which static keys belong to which unit; those of the spine to none, by the number of the units.
+fn keys_of_units(alloc: Global, plan: &Plan) -> Result<KeysOfUnits, AllocError> {
     let none = plan.units().len() as u32;
     let mut owners: Vec<u32> = Vec::new(alloc);
+    let mut firsts: Vec<u32> = Vec::new(alloc);
+    let mut ends: Vec<u32> = Vec::new(alloc);
     let mut path: Vec<u32> = Vec::new(alloc);
-    let mut unit: usize = 0;
     let mut key: u32 = 0;
     for descriptor in plan.table().iter() {
+        let next = key.saturating_add(1);
         let depth = descriptor.id.segments().len();
         path.truncate(depth.saturating_sub(1));
         let above = match path.as_slice().last() {
             Some(owner) => *owner,
             None => none,
         };
+        let unit = ends.len();
         let begins = match plan.units().get(unit) {
             Some(root) => *root == key,
             None => false,
         };
         let owner = if begins { unit as u32 } else { above };
         if begins {
-            unit = unit.saturating_add(1);
+            firsts.push(key)?;
+            ends.push(next)?;
+        } else if (owner as usize) < ends.len() {
+            ends[owner as usize] = next;
         }
         owners.push(owner)?;
         path.push(owner)?;
-        key = key.saturating_add(1);
+        key = next;
     }
-    Ok(owners)
+    Ok(KeysOfUnits {
+        owners,
+        firsts,
+        ends,
+    })
 }
 
 impl<T: Tests + Drop> Hierarchical<T> {
-    /// Makes the engine of a plan and of its tests.
+    /// Makes the engine of a plan and of its tests. Its table, its units, and its events before and
+    /// after them are the plan's.
     ///
     /// # Errors
     /// `Memory`; no plan has the other fault.
-    pub fn new(alloc: Global, plan: Plan, tests: T) -> Result<Hierarchical<T>, HierarchicalFault> {
-        let owners = owners_of(alloc, &plan)?;
+    pub fn new(alloc: Global, plan: Plan, tests: T) -> Result<Hierarchical<T>, HierarchicalFault>
+        ensures plan { IfOk result (λ engine. engine.scripted ≡ plan) }
+        ensures tests { IfOk result (λ engine. engine.tests ≡ tests) }
+    {
+        let keys = keys_of_units(alloc, &plan)?;
         let before = plan.before(alloc)?;
         let after = plan.after(alloc)?;
         let units = plan.units().len() as u32;
         let table = Arc::try_clone(plan.table())?;
-        let Some(shape) = Shape::new(alloc, table, before, after, units, owners)? else {
+        let Some(shape) = Shape::new(alloc, table, before, after, units, keys)? else {
             return Err(HierarchicalFault::Lifecycle);
         };
         Ok(Hierarchical {
@@ -102,6 +116,7 @@ impl<T> Hierarchical<T> {
     // Shows what holds around the units.
     pub(crate) fn shows_shape(&self)
         ensures around { KeepsAround (frame self.now.shape) }
+        ensures places { HavePlaces self.now.shape }
         ensures table { self.now.shape.table ≡ self.now.scripted.table }
         ensures before { self.now.shape.before ≡ before_of (forest self.now.scripted.nodes) }
         ensures after { self.now.shape.after ≡ after_of (forest self.now.scripted.nodes) }
@@ -116,8 +131,8 @@ impl<T: Tests + Sync> Engine for Hierarchical<T> {
     ghost use Rattle.tk_plan_units.specs.Trees.{forest};
     ghost use Rattle.tk_plan_units.specs.Cutting.{before_of, after_of, units_of};
     ghost use Rattle.tk_engine.specs.Masks.{need_of};
-    ghost use Rattle.tk_engine_lifecycle.specs.Units.{KeepsAlone};
-    ghost use Rattle.tk_engine_hierarchical.specs.Shapes.{frame};
+    ghost use Rattle.tk_engine_hierarchical.specs.Shapes.{frame, keys_in};
+    ghost use Rattle.tk_engine_hierarchical.specs.Units.{RunsUnit};
 
     ghost table = { λ e. e.scripted.table };
 
@@ -129,7 +144,8 @@ impl<T: Tests + Sync> Engine for Hierarchical<T> {
 
     ghost need = { λ e unit. need_of e.scripted.nodes unit };
 
-    ghost may = { λ e unit worker earlier events. KeepsAlone (frame e.shape) unit worker events };
+    ghost may = { λ e unit worker earlier events.
+        RunsUnit (frame e.shape) (T.may_end e.tests) (keys_in e.shape unit) worker events };
 
     fn table(&self) -> &Arc<Table> {
         self.scripted.table()

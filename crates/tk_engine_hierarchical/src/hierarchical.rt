@@ -1,11 +1,12 @@
 //! The engine of a plan whose tests have bodies.
-ghost use Rattle.std.specs.Prelude.{◌≡◌, ◌<◌, All, IsTrue, OnOk, OnErr, length};
+ghost use Rattle.std.specs.Prelude.{◌≡◌, ◌<◌, ℕ, All, IfSome, OnOk, length};
 ghost use Rattle.tk_plan_units.specs.Known.{IsKnown};
 ghost use Rattle.tk_plan_units.specs.Cutting.{units_of};
 ghost use Rattle.tk_plan_units.specs.Trees.{forest};
 ghost use Rattle.tk_engine_execute.specs.Engines.{Extends, IsSameSender};
-ghost use Rattle.tk_engine_hierarchical.specs.Events.{HasKept};
-ghost use Rattle.tk_engine_hierarchical.specs.Shapes.{frame};
+ghost use Rattle.tk_engine_hierarchical.specs.Events.{HasRun};
+ghost use Rattle.tk_engine_hierarchical.specs.Shapes.{frame, keys_in};
+ghost use Rattle.tk_engine_hierarchical.specs.declared.tests.Outcome.{Outcome};
 
 use crate::leases::Lease;
 use crate::reporters::Reporter;
@@ -16,6 +17,7 @@ use crate::unit_runs::UnitRun;
 use std::alloc::Global;
 use std::sync::Wait;
 use tk_engine_execute::{Sink, UnitFault};
+use tk_events::Payload;
 use tk_plan_units::{Act, Plan, Step};
 
 // The outcome of a test that runs.
@@ -23,6 +25,40 @@ use tk_plan_units::{Act, Plan, Step};
 struct Ended {
     key: u32,
     outcome: Outcome,
+}
+
+// Takes the last test off, where it is that node.
+fn take_ended<T: Tests>(tests: &T, ended: &mut Vec<Ended>, node: u32) -> Option<Ended>
+    requires { All (λ e. T.may_end tests.now e.key e.outcome) ended.old.items }
+    ensures others { All (λ e. T.may_end tests.now e.key e.outcome) ended.new.items }
+    ensures last { IfSome result (λ e. T.may_end tests.now e.key e.outcome) }
+{
+    let _ = tests;
+    let has_body = match ended.as_slice().last() {
+        Some(last) => last.key == node,
+        None => false,
+    };
+    if !has_body {
+        return None;
+    }
+    ended.pop()
+}
+
+// Finishes the innermost running key with the outcome that the plan has for it, which is none that a
+// test's body gave.
+fn finish_without_body<R: Wait, S: Sink, K: UnitRun>(
+    rt: &R,
+    stamp: u64,
+    outcome: Payload,
+    reporter: &mut Reporter<'_, S, K>,
+) -> Result<(), UnitFault> {
+    let Some(key) = reporter.events.innermost() else {
+        return Err(UnitFault::Own(OUT_OF_ORDER));
+    };
+    if reporter.events.is_static_test(key) {
+        return Err(UnitFault::Own(OUT_OF_ORDER));
+    }
+    reporter.events.finish(rt, key, stamp, outcome)
 }
 
 // Starts a node: a static one by its key, any other by its registration; runs the body of a test.
@@ -35,7 +71,10 @@ fn start_node<R: Wait, S: Sink, K: UnitRun, T: Tests>(
     ended: &mut Vec<Ended>,
     reporter: &mut Reporter<'_, S, K>,
 ) -> Result<(), UnitFault>
-    requires { IsKnown plan.now.nodes step.node step.act }
+    requires known { IsKnown plan.now.nodes step.node step.act }
+    requires may { (key : ℕ) (o : Outcome) → T.may_end tests.now key o → K.may_end key o }
+    requires ended { All (λ e. T.may_end tests.now e.key e.outcome) ended.old.items }
+    ensures { OnOk result (All (λ e. T.may_end tests.now e.key e.outcome) ended.new.items) }
 {
     reporter.events.set_stamp(step.stamp);
     if (step.node as usize) >= plan.table().len() {
@@ -72,7 +111,10 @@ fn do_step<R: Wait, S: Sink, K: UnitRun, T: Tests>(
     ended: &mut Vec<Ended>,
     reporter: &mut Reporter<'_, S, K>,
 ) -> Result<(), UnitFault>
-    requires { IsKnown plan.now.nodes step.node step.act }
+    requires known { IsKnown plan.now.nodes step.node step.act }
+    requires may { (key : ℕ) (o : Outcome) → T.may_end tests.now key o → K.may_end key o }
+    requires ended { All (λ e. T.may_end tests.now e.key e.outcome) ended.old.items }
+    ensures { OnOk result (All (λ e. T.may_end tests.now e.key e.outcome) ended.new.items) }
 {
     match step.act {
         // What is registered is so when it starts or is skipped.
@@ -104,15 +146,11 @@ fn do_step<R: Wait, S: Sink, K: UnitRun, T: Tests>(
         }
         Act::Finish => {
             reporter.events.set_stamp(step.stamp);
-            let has_body = match ended.as_slice().last() {
-                Some(last) => last.key == step.node,
-                None => false,
-            };
-            if has_body && let Some(last) = ended.pop() {
+            if let Some(last) = take_ended(tests, ended, step.node) {
                 return reporter.finish(rt, last.key, last.outcome);
             }
             let outcome = plan.payload(alloc, step)?;
-            reporter.events.finish(rt, step.stamp, outcome)
+            finish_without_body(rt, step.stamp, outcome, reporter)
         }
     }
 }
@@ -126,7 +164,8 @@ fn do_steps<R: Wait, S: Sink, K: UnitRun, T: Tests>(
     steps: &[Step],
     reporter: &mut Reporter<'_, S, K>,
 ) -> Result<(), UnitFault>
-    requires { All (λ s. IsKnown plan.now.nodes s.node s.act) steps.now }
+    requires known { All (λ s. IsKnown plan.now.nodes s.node s.act) steps.now }
+    requires may { (key : ℕ) (o : Outcome) → T.may_end tests.now key o → K.may_end key o }
 {
     let mut ended = Vec::new(alloc);
     for step in steps {
@@ -150,13 +189,15 @@ pub(crate) fn run_unit<'a, R: Wait, S: Sink, K: UnitRun, T: Tests>(
     requires name { lease.sink.ghost_name ≡ K.name }
     requires start { S.view lease.sink.now ≡ K.start }
     requires frame { frame shape.now ≡ K.frame }
-    requires unit { unit ≡ K.unit }
+    requires keys { keys_in shape.now unit ≡ K.keys }
+    requires may { (key : ℕ) (o : Outcome) → T.may_end tests.now key o → K.may_end key o }
     requires is_unit { unit < shape.now.units }
     requires table { K.start.table ≡ K.frame.table }
     ensures name { result.sink.ghost_name ≡ K.name }
     ensures same { IsSameSender K.start (S.view result.sink.now) }
     ensures some { Extends K.start (S.view result.sink.now) }
-    ensures kept { OnOk ran.new (HasKept K.frame K.unit K.start (S.view result.sink.now)) }
+    ensures run { OnOk ran.new
+        (HasRun K.frame K.may_end K.keys K.start (S.view result.sink.now)) }
 {
     let steps = match plan.script(alloc, unit) {
         Ok(steps) => steps,
@@ -171,9 +212,9 @@ pub(crate) fn run_unit<'a, R: Wait, S: Sink, K: UnitRun, T: Tests>(
     };
     let played = do_steps(rt, alloc, plan, tests, steps.as_slice(), &mut reporter);
     let Reporter { events } = reporter;
-    let (lease, closed) = events.end();
+    let (lease, rests, had_turns) = events.end();
     *ran = match played {
-        Ok(()) if closed => Ok(()),
+        Ok(()) if rests && had_turns => Ok(()),
         Ok(()) => Err(UnitFault::Own(OUT_OF_ORDER)),
         Err(fault) => Err(fault),
     };

@@ -1,7 +1,8 @@
-//! The law of engines whose tests have bodies.
+//! The laws of engines whose tests have bodies.
 ghost use Rattle.std.specs.Prelude.{ℕ};
 ghost use Rattle.tk_query.specs.KeepsLifecycle.{KeepsLifecycle};
 ghost use Rattle.tk_engine_runs.specs.Run.{IsRun};
+ghost use Rattle.tk_engine_hierarchical.specs.Laws.{HasOutcomes, HaveTurns};
 
 use crate::engines::Hierarchical;
 use crate::tests::Tests;
@@ -20,4 +21,34 @@ pub fn lifecycle<T: Tests + Sync>(engine: &Hierarchical<T>, results: &Results)
 {
     engine.shows_shape();
     runs_keep_lifecycle(engine, results);
+}
+
+/// Each static test that a unit finishes has an outcome that its `run` answered there: one that
+/// `may_end` allows.
+pub fn outcomes<T: Tests + Sync>(engine: &Hierarchical<T>, results: &Results)
+    requires { (workers : ℕ)
+        × IsRun (⟦<Hierarchical<T> as Engine>⟧.may engine.now)
+        (⟦<Hierarchical<T> as Engine>⟧.table engine.now)
+        (⟦<Hierarchical<T> as Engine>⟧.before engine.now)
+        (⟦<Hierarchical<T> as Engine>⟧.after engine.now)
+        (⟦<Hierarchical<T> as Engine>⟧.units engine.now) workers results.now.recorded }
+    ensures { HasOutcomes (T.may_end engine.now.tests) results.now.recorded }
+{
+    engine.shows_shape();
+    let _ = results;
+}
+
+/// Each static descriptor starts once and then finishes once, or is skipped once, or stands below
+/// one that was skipped.
+pub fn turns<T: Tests + Sync>(engine: &Hierarchical<T>, results: &Results)
+    requires { (workers : ℕ)
+        × IsRun (⟦<Hierarchical<T> as Engine>⟧.may engine.now)
+        (⟦<Hierarchical<T> as Engine>⟧.table engine.now)
+        (⟦<Hierarchical<T> as Engine>⟧.before engine.now)
+        (⟦<Hierarchical<T> as Engine>⟧.after engine.now)
+        (⟦<Hierarchical<T> as Engine>⟧.units engine.now) workers results.now.recorded }
+    ensures { HaveTurns results.now.recorded }
+{
+    engine.shows_shape();
+    lifecycle(engine, results);
 }

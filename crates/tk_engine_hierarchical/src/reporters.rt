@@ -1,6 +1,14 @@
 //! What a test publishes while it runs.
-use crate::tests::{Body, Outcome, outcome_parts};
-use crate::unit_events::{Child, OUT_OF_ORDER, UnitEvents};
+ghost use Rattle.std.specs.Prelude.{◌≡◌, ◌≤◌, ℕ, OnErr, OnOk, length};
+ghost use Rattle.tk_ids.specs.declared.descriptors.DType.TheVariants.{Test};
+ghost use Rattle.tk_events.specs.declared.kinds.Kind.TheVariants as kinds;
+ghost use Rattle.tk_events.specs.declared.payloads.Payload.TheVariants as payloads;
+ghost use Rattle.tk_engine_execute.specs.Engines.{Extends, IsSameSender};
+ghost use Rattle.tk_engine_hierarchical.specs.Endings.{IsStaticTest};
+ghost use Rattle.tk_engine_hierarchical.specs.Reporting.{EndsChild, Grew, HasSkipped, Published};
+
+use crate::tests::{Body, Outcome, payload_of};
+use crate::unit_events::{Child, UnitEvents};
 use crate::unit_runs::UnitRun;
 use std::alloc::Global;
 use std::sync::Wait;
@@ -23,14 +31,13 @@ impl<'a, S: Sink, K: UnitRun> Reporter<'a, S, K> {
         rt: &R,
         key: u32,
         outcome: Outcome,
-    ) -> Result<(), UnitFault> {
-        let (status, message) = outcome_parts(outcome);
-        if self.events.innermost() != Some(key) {
-            return Err(UnitFault::Own(OUT_OF_ORDER));
-        }
+    ) -> Result<(), UnitFault>
+        requires { IsStaticTest K.frame.table key → K.may_end key outcome }
+        ensures { OnOk result (length K.frame.table ≤ key
+            → EndsChild K.frame.table self.new.events) }
+    {
         let stamp = self.events.stamp();
-        self.events
-            .finish(rt, stamp, Payload::Outcome(status, message))
+        self.events.finish(rt, key, stamp, payload_of(outcome))
     }
 
     // Registers and starts a child, runs its body, and finishes it.
@@ -40,7 +47,9 @@ impl<'a, S: Sink, K: UnitRun> Reporter<'a, S, K> {
         alloc: Global,
         child: &Child<'_>,
         body: &B,
-    ) -> Result<(), UnitFault> {
+    ) -> Result<(), UnitFault>
+        ensures { OnOk result (EndsChild K.frame.table self.new.events) }
+    {
         let stamp = self.events.stamp();
         let key = self.events.start_child(rt, alloc, child, stamp)?;
         let outcome = body.run(rt, alloc, self)?;
@@ -53,7 +62,11 @@ impl<'a, S: Sink, K: UnitRun> Reporter<'a, S, K> {
     ///
     /// # Errors
     /// The fault of the sink.
-    pub fn report<R: Wait>(&mut self, rt: &R, pairs: Pairs) -> Result<(), UnitFault> {
+    pub fn report<R: Wait>(&mut self, rt: &R, pairs: Pairs) -> Result<(), UnitFault>
+        ensures ok { OnOk result (Published self.old.events self.new.events kinds.Reporting
+            self.old.events.stamp (payloads.Report pairs)) }
+        ensures err { OnErr result (self.new.events ≡ self.old.events) }
+    {
         let stamp = self.events.stamp();
         self.events.report(rt, stamp, Payload::Report(pairs))
     }
@@ -62,7 +75,11 @@ impl<'a, S: Sink, K: UnitRun> Reporter<'a, S, K> {
     ///
     /// # Errors
     /// The fault of the sink.
-    pub fn publish_file<R: Wait>(&mut self, rt: &R, path: Text) -> Result<(), UnitFault> {
+    pub fn publish_file<R: Wait>(&mut self, rt: &R, path: Text) -> Result<(), UnitFault>
+        ensures ok { OnOk result (Published self.old.events self.new.events kinds.File
+            self.old.events.stamp (payloads.Path path)) }
+        ensures err { OnErr result (self.new.events ≡ self.old.events) }
+    {
         let stamp = self.events.stamp();
         self.events.publish_file(rt, stamp, Payload::Path(path))
     }
@@ -81,13 +98,20 @@ impl<'a, S: Sink, K: UnitRun> Reporter<'a, S, K> {
         segment: &Segment,
         name: &str,
         body: &B,
-    ) -> Result<(), UnitFault> {
+    ) -> Result<(), UnitFault>
+        ensures ok { OnOk result (EndsChild K.frame.table self.new.events) }
+        // Whatever the body does.
+        ensures same { IsSameSender K.start self.new.events.sink }
+        ensures some { Extends K.start self.new.events.sink }
+    {
         let child = Child {
             segment,
             name,
             dtype: DType::Test,
         };
-        self.run_child(rt, alloc, &child, body)
+        let ended = self.run_child(rt, alloc, &child, body);
+        self.events.shows_sink();
+        ended
     }
 
     /// Does the same for a dynamic container, whose body runs what is below it.
@@ -101,13 +125,20 @@ impl<'a, S: Sink, K: UnitRun> Reporter<'a, S, K> {
         segment: &Segment,
         name: &str,
         body: &B,
-    ) -> Result<(), UnitFault> {
+    ) -> Result<(), UnitFault>
+        ensures ok { OnOk result (EndsChild K.frame.table self.new.events) }
+        // Whatever the body does.
+        ensures same { IsSameSender K.start self.new.events.sink }
+        ensures some { Extends K.start self.new.events.sink }
+    {
         let child = Child {
             segment,
             name,
             dtype: DType::Container,
         };
-        self.run_child(rt, alloc, &child, body)
+        let ended = self.run_child(rt, alloc, &child, body);
+        self.events.shows_sink();
+        ended
     }
 
     /// Registers a dynamic test below the test or container that runs, and skips it.
@@ -121,7 +152,17 @@ impl<'a, S: Sink, K: UnitRun> Reporter<'a, S, K> {
         segment: &Segment,
         name: &str,
         reason: Text,
-    ) -> Result<(), UnitFault> {
+    ) -> Result<(), UnitFault>
+        ensures ok { OnOk result ((above : ℕ) × HasSkipped self.old.events self.new.events
+            (record {
+              parent = above;
+              segment = segment.now;
+              name = name.now;
+              dtype = Test;
+              stamp = self.old.events.stamp;
+            }) (payloads.Reason reason)) }
+        ensures err { OnErr result (Grew self.old.events self.new.events) }
+    {
         let child = Child {
             segment,
             name,

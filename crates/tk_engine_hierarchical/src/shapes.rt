@@ -8,7 +8,7 @@ ghost use Rattle.tk_query.specs.KeepsLifecycle.{KeepsLifecycle};
 ghost use Rattle.tk_query.specs.Lifecycle.{runs};
 ghost use Rattle.tk_engine_execute.specs.Engines.{IsStaticEvent};
 ghost use Rattle.tk_engine_lifecycle.specs.Units.{KeepsAround};
-ghost use Rattle.tk_engine_hierarchical.specs.Shapes.{frame, AreRunning};
+ghost use Rattle.tk_engine_hierarchical.specs.Shapes.{frame, keys_in, AreRunning, HavePlaces, IsInUnit};
 
 use std::alloc::{AllocError, Global};
 use std::marker::Model;
@@ -19,22 +19,32 @@ use tk_query::laws::kept_by_its_events;
 use tk_query::{Lifecycle, lifecycle};
 use tk_record_columns::Record;
 
+/// Which static keys belong to which unit: for each key its unit, and for each unit its first key
+/// and the end of its keys.
+#[derive(Drop)]
+pub(crate) struct KeysOfUnits {
+    pub(crate) owners: Vec<u32>,
+    pub(crate) firsts: Vec<u32>,
+    pub(crate) ends: Vec<u32>,
+}
+
 /// The table of an engine, its events before and after its units, and which static key belongs to
-/// which unit. The record without a unit keeps the lifecycle.
+/// which unit. The record without a unit keeps the lifecycle, and each static key belongs to a unit
+/// or runs before the units.
 #[derive(Drop)]
 pub(crate) struct Shape {
     table: Arc<Table>,
     before: Vec<Event>,
     after: Vec<Event>,
     units: u32,
-    owners: Vec<u32>,
+    keys: KeysOfUnits,
     run_before: Vec<bool>,
 }
 
 impl Model for Shape {
     ghost use Rattle.std.specs.Arc.{arc_value};
     ghost use Rattle.tk_engine_lifecycle.specs.Units.{KeepsAround};
-    ghost use Rattle.tk_engine_hierarchical.specs.Shapes.{ShapeView, frame, AreRunning};
+    ghost use Rattle.tk_engine_hierarchical.specs.Shapes.{ShapeView, frame, AreRunning, HavePlaces};
 
     ghost Value = { ShapeView };
 
@@ -43,7 +53,9 @@ impl Model for Shape {
       before = s.before.items;
       after = s.after.items;
       units = s.units;
-      owners = s.owners.items;
+      owners = s.keys.owners.items;
+      firsts = s.keys.firsts.items;
+      ends = s.keys.ends.items;
     } };
 
     ghost invariant = { λ s. KeepsAround (frame (record {
@@ -51,8 +63,18 @@ impl Model for Shape {
       before = s.before.items;
       after = s.after.items;
       units = s.units;
-      owners = s.owners.items;
-    })) × AreRunning s.before.items s.run_before.items };
+      owners = s.keys.owners.items;
+      firsts = s.keys.firsts.items;
+      ends = s.keys.ends.items;
+    })) × AreRunning s.before.items s.run_before.items × HavePlaces (record {
+      table = arc_value s.table;
+      before = s.before.items;
+      after = s.after.items;
+      units = s.units;
+      owners = s.keys.owners.items;
+      firsts = s.keys.firsts.items;
+      ends = s.keys.ends.items;
+    }) };
 }
 
 // Whether an event is of a static descriptor that belongs to no unit, and registers nothing.
@@ -187,6 +209,50 @@ fn running_after(
     Ok(Some(flags))
 }
 
+// The number at an index, or 0 past the end.
+fn number_at(numbers: &[u32], index: u32) -> u32
+    ensures { result ≡ get_or numbers.now index 0 }
+{
+    match numbers.get(index as usize) {
+        Some(number) => *number,
+        None => 0,
+    }
+}
+
+// Whether a static key is one of a unit's keys, or has a flag.
+fn has_place(keys: &KeysOfUnits, units: u32, flags: &[bool], key: u32) -> bool
+    ensures { IsTrue result
+        → IsInUnit units keys.now.firsts.items keys.now.ends.items key
+        ⊎ (slice_get flags.now key ≡ Some true) }
+{
+    let unit = match keys.owners.as_slice().get(key as usize) {
+        Some(unit) => *unit,
+        None => units,
+    };
+    if unit < units {
+        let first = number_at(keys.firsts.as_slice(), unit);
+        return first <= key && key < number_at(keys.ends.as_slice(), unit);
+    }
+    match flags.get(key as usize) {
+        Some(flag) => *flag,
+        None => false,
+    }
+}
+
+// Whether each of the first static keys is one of a unit's keys, or has a flag.
+fn have_places(keys: &KeysOfUnits, units: u32, flags: &[bool], count: u32) -> bool
+    ensures { IsTrue result → (key : ℕ) → key < count
+        → IsInUnit units keys.now.firsts.items keys.now.ends.items key
+        ⊎ (slice_get flags.now key ≡ Some true) }
+{
+    for key in 0..count {
+        if !has_place(keys, units, flags, key) {
+            return false;
+        }
+    }
+    true
+}
+
 impl Shape {
     /// Makes the shape of an engine, where the record without a unit keeps the lifecycle.
     pub(crate) fn new(
@@ -195,20 +261,22 @@ impl Shape {
         before: Vec<Event>,
         after: Vec<Event>,
         units: u32,
-        owners: Vec<u32>,
+        keys: KeysOfUnits,
     ) -> Result<Option<Shape>, AllocError>
         ensures { IfOk result (λ found. IfSome found (λ s. s ≡ record {
           table = arc_value table;
           before = before.items;
           after = after.items;
           units = units;
-          owners = owners.items;
+          owners = keys.owners.items;
+          firsts = keys.firsts.items;
+          ends = keys.ends.items;
         })) }
     {
-        if !are_common(&table, owners.as_slice(), units, before.as_slice()) {
+        if !are_common(&table, keys.owners.as_slice(), units, before.as_slice()) {
             return Ok(None);
         }
-        if !are_common(&table, owners.as_slice(), units, after.as_slice()) {
+        if !are_common(&table, keys.owners.as_slice(), units, after.as_slice()) {
             return Ok(None);
         }
         if !keeps_lifecycle(alloc, &table, before.as_slice(), after.as_slice())? {
@@ -218,12 +286,16 @@ impl Shape {
         let Some(run_before) = running_after(alloc, table.len(), before.as_slice())? else {
             return Ok(None);
         };
+        let count = table.len() as u32;
+        if !have_places(&keys, units, run_before.as_slice(), count) {
+            return Ok(None);
+        }
         Ok(Some(Shape {
             table,
             before,
             after,
             units,
-            owners,
+            keys,
             run_before,
         }))
     }
@@ -246,10 +318,19 @@ impl Shape {
     pub(crate) fn owner(&self, key: u32) -> u32
         ensures { result ≡ get_or self.now.owners key self.now.units }
     {
-        match self.owners.as_slice().get(key as usize) {
+        match self.keys.owners.as_slice().get(key as usize) {
             Some(owner) => *owner,
             None => self.units,
         }
+    }
+
+    /// The first static key of a unit, and the end of its keys.
+    pub(crate) fn keys_of(&self, unit: u32) -> (u32, u32)
+        ensures { record { unit = unit; first = result.0; end = result.1 }
+            ≡ keys_in self.now unit }
+    {
+        let first = number_at(self.keys.firsts.as_slice(), unit);
+        (first, number_at(self.keys.ends.as_slice(), unit))
     }
 
     /// Whether a static key runs after the events before the units.
@@ -264,7 +345,8 @@ impl Shape {
 
     /// Shows what holds of each shape.
     pub(crate) fn shows_shape(&self)
-        ensures { KeepsAround (frame self.now) }
+        ensures around { KeepsAround (frame self.now) }
+        ensures places { HavePlaces self.now }
     {
         let _table = &self.table;
     }

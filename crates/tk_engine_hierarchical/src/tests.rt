@@ -1,10 +1,13 @@
 //! What an author writes: tests, and the bodies of dynamic ones.
+ghost use Rattle.std.specs.Prelude.{◌≡◌, IfOk};
+ghost use Rattle.tk_engine_hierarchical.specs.Endings.{payload_of};
+
 use crate::reporters::Reporter;
 use crate::unit_runs::UnitRun;
 use std::alloc::Global;
 use std::sync::Wait;
 use tk_engine_execute::{Sink, UnitFault};
-use tk_events::Status;
+use tk_events::{Payload, Status};
 use tk_ids::Text;
 
 /// How a test ended.
@@ -22,8 +25,14 @@ pub enum Outcome {
 
 /// The tests of an engine: what each static test of its plan does.
 ///
+/// `may_end` says which outcomes a test may have. An author who leaves it out promises nothing.
 /// JUnit: the bodies of a `HierarchicalTestEngine`'s nodes.
 pub trait Tests {
+    ghost use Rattle.std.specs.Prelude.{ℕ, IfOk};
+    ghost use Rattle.tk_engine_hierarchical.specs.declared.tests.Outcome.{Outcome};
+
+    ghost may_end: { Self → ℕ → Outcome → Type 0 } = { λ tests key outcome. Unit {0} };
+
     /// Runs the test with this key, and says how it ended.
     ///
     /// The keys of a plan's static nodes are their numbers in preorder. `execute` calls this from
@@ -39,7 +48,8 @@ pub trait Tests {
         alloc: Global,
         key: u32,
         reporter: &mut Reporter<'_, S, K>,
-    ) -> Result<Outcome, UnitFault>;
+    ) -> Result<Outcome, UnitFault>
+        ensures { IfOk result (λ outcome. may_end self.now key outcome) };
 }
 
 /// The body of a dynamic test or container.
@@ -57,10 +67,12 @@ pub trait Body {
 }
 
 /// The payload of a finish with this outcome.
-pub(crate) fn outcome_parts(outcome: Outcome) -> (Status, Option<Text>) {
+pub(crate) fn payload_of(outcome: Outcome) -> Payload
+    ensures { result ≡ payload_of outcome }
+{
     match outcome {
-        Outcome::Successful => (Status::Successful, None),
-        Outcome::Aborted(message) => (Status::Aborted, message),
-        Outcome::Failed(message) => (Status::Failed, message),
+        Outcome::Successful => Payload::Outcome(Status::Successful, None),
+        Outcome::Aborted(message) => Payload::Outcome(Status::Aborted, message),
+        Outcome::Failed(message) => Payload::Outcome(Status::Failed, message),
     }
 }

@@ -1,11 +1,15 @@
 //! What a unit emits.
-ghost use Rattle.std.specs.Prelude.{◌≡◌, ◌<◌, ◌++◌, ◌∷◌, [], IfOk, IfSome, IsTrue, Some, false, slice_get};
+ghost use Rattle.std.specs.Prelude.{◌≡◌, ◌<◌, ◌≤◌, ◌++◌, ◌∷◌, ℕ, [], IfOk, IfSome, IsTrue, OnErr, OnOk, Some, false, length, slice_get};
 ghost use Rattle.tk_ids.specs.IdText.{id_text};
 ghost use Rattle.tk_ids.specs.Table.{HasId as TableHasId, ids_of};
 ghost use Rattle.tk_engine_execute.specs.Engines.{Extends, IsSameSender};
-ghost use Rattle.tk_engine_hierarchical.specs.Events.{HasKept, HasParentAmong, MayStart, keys_of};
+ghost use Rattle.tk_events.specs.declared.kinds.Kind.TheVariants.{File, Reporting};
+ghost use Rattle.tk_engine_hierarchical.specs.Covered.{IsBelow, IsKeyBelow};
+ghost use Rattle.tk_engine_hierarchical.specs.Endings.{IsStaticTest, MayFinish};
+ghost use Rattle.tk_engine_hierarchical.specs.Events.{HasParentAmong, HasRun, MayStart, keys_of};
+ghost use Rattle.tk_engine_hierarchical.specs.Reporting.{Grew, HasFinished, HasSkipped, Published};
 ghost use Rattle.tk_engine_hierarchical.specs.RegisteredIds.{is_registered};
-ghost use Rattle.tk_engine_hierarchical.specs.Shapes.{frame};
+ghost use Rattle.tk_engine_hierarchical.specs.Shapes.{frame, keys_in};
 
 use crate::leases::Lease;
 use crate::registered_ids::RegisteredIds;
@@ -17,7 +21,7 @@ use std::marker::{Model, PhantomData};
 use std::sync::Wait;
 use tk_engine_execute::{Sink, SinkFault, UnitFault};
 use tk_events::{Event, Kind, Payload};
-use tk_ids::{DType, IdFault, Segment, UniqueId};
+use tk_ids::{DType, IdFault, Segment, Table, UniqueId};
 use tk_queue::RegisterFault;
 
 /// The number of the fault of a unit whose events are out of order.
@@ -34,12 +38,13 @@ pub(crate) struct Child<'a> {
     pub(crate) dtype: DType,
 }
 
-/// What a unit has emitted, which keeps the lifecycle.
+/// What a unit has emitted, which keeps the lifecycle. Contracts see the sink, and which keys run.
 #[derive(Drop)]
 pub(crate) struct UnitEvents<'a, S: Sink, K: UnitRun> {
     lease: Lease<'a, S>,
     shape: &'a Shape,
     unit: u32,
+    end: u32,
     running: RunningKeys,
     registered: RegisteredIds,
     next: u32,
@@ -48,18 +53,28 @@ pub(crate) struct UnitEvents<'a, S: Sink, K: UnitRun> {
 }
 
 impl<'a, S: Sink, K: UnitRun> Model for UnitEvents<'a, S, K> {
-    ghost use Rattle.std.specs.Prelude.{◌≡◌, ℕ};
-    ghost use Rattle.tk_engine_hierarchical.specs.Events.{IsRunning};
+    ghost use Rattle.std.specs.Prelude.{◌≡◌};
+    ghost use Rattle.tk_engine_hierarchical.specs.Events.{IsRunning, keys_of};
+    ghost use Rattle.tk_engine_hierarchical.specs.Reporting.{UnitView};
     ghost use Rattle.tk_engine_hierarchical.specs.Shapes.{frame};
+    ghost use Rattle.tk_engine_hierarchical.specs.Units.{HasPlayed};
 
-    ghost Value = { ℕ };
+    ghost Value = { UnitView };
 
-    ghost view = { λ e. e.next };
+    ghost view = { λ e. record {
+      sink = S.view e.lease.sink.now;
+      running = keys_of e.running;
+      stamp = e.stamp;
+    } };
 
     ghost invariant = { λ e. (e.lease.sink.ghost_name ≡ K.name)
         × (frame e.shape.now ≡ K.frame)
-        × (e.unit ≡ K.unit)
-        × IsRunning K.frame K.unit K.start (S.view e.lease.sink.now) e.running e.registered e.next };
+        × (e.unit ≡ K.keys.unit)
+        × (e.end ≡ K.keys.end)
+        × IsRunning K.frame K.keys.unit K.start (S.view e.lease.sink.now) e.running e.registered
+        e.next
+        × HasPlayed K.frame.table K.may_end K.keys.first e.next K.start
+        (S.view e.lease.sink.now) };
 }
 
 // Whether the parent of an id runs; it does where the id has none.
@@ -136,6 +151,49 @@ fn new_child(
     Ok(id)
 }
 
+// Whether two segments have the same tag and the same value.
+fn is_same(a: &Segment, b: &Segment) -> bool
+    ensures { IsTrue result → a.now ≡ b.now }
+{
+    a.tag() == b.tag() && a.value() == b.value()
+}
+
+// Whether an id stands below another.
+fn is_below(above: &UniqueId, id: &UniqueId) -> bool
+    ensures { IsTrue result → IsBelow above.now id.now }
+{
+    let outer = above.segments();
+    let inner = id.segments();
+    if inner.len() <= outer.len() {
+        return false;
+    }
+    for index in 0..outer.len() {
+        if !is_same(&outer[index], &inner[index]) {
+            return false;
+        }
+    }
+    true
+}
+
+// The first key after this one whose descriptor doesn't stand below the id, or the table's end.
+fn end_below(table: &Table, id: &UniqueId, key: u32) -> u32
+    requires { key < length table.now }
+    ensures more { key < result }
+    ensures below { (other : ℕ) → key < other → other < result
+        → IsKeyBelow table.now id.now other }
+{
+    let count = table.len() as u32;
+    for other in key + 1..count {
+        let Some(descriptor) = table.get(other) else {
+            return other;
+        };
+        if !is_below(id, &descriptor.id) {
+            return other;
+        }
+    }
+    count
+}
+
 impl<'a, S: Sink, K: UnitRun> UnitEvents<'a, S, K> {
     /// A unit that begins.
     pub(crate) fn begin(
@@ -147,33 +205,45 @@ impl<'a, S: Sink, K: UnitRun> UnitEvents<'a, S, K> {
         requires name { lease.sink.ghost_name ≡ K.name }
         requires start { S.view lease.sink.now ≡ K.start }
         requires frame { frame shape.now ≡ K.frame }
-        requires unit { unit ≡ K.unit }
+        requires keys { keys_in shape.now unit ≡ K.keys }
         requires is_unit { unit < shape.now.units }
         requires table { K.start.table ≡ K.frame.table }
     {
         shape.shows_shape();
+        let (next, end) = shape.keys_of(unit);
         UnitEvents {
             lease,
             shape,
             unit,
+            end,
             running: RunningKeys::new(alloc),
             registered: RegisteredIds::new(alloc),
-            next: 0,
+            next,
             stamp: 0,
             of: PhantomData,
         }
     }
 
-    /// Gives the sink back, and says whether no key runs.
-    pub(crate) fn end(self) -> (Lease<'a, S>, bool)
+    /// Gives the sink back, and says whether no key runs, and whether each static one had its turn.
+    pub(crate) fn end(self) -> (Lease<'a, S>, bool, bool)
         ensures name { result.0.sink.ghost_name ≡ K.name }
         ensures same { IsSameSender K.start (S.view result.0.sink.now) }
         ensures some { Extends K.start (S.view result.0.sink.now) }
-        ensures kept { IsTrue result.1 → HasKept K.frame K.unit K.start (S.view result.0.sink.now) }
+        ensures run { IsTrue result.1 → IsTrue result.2
+            → HasRun K.frame K.may_end K.keys K.start (S.view result.0.sink.now) }
     {
-        let closed = self.running.innermost().is_none();
+        let rests = self.running.innermost().is_none();
+        let had_turns = self.end <= self.next;
         let UnitEvents { lease, .. } = self;
-        (lease, closed)
+        (lease, rests, had_turns)
+    }
+
+    /// Shows what holds of the sink since the unit began.
+    pub(crate) fn shows_sink(&self)
+        ensures same { IsSameSender K.start self.now.sink }
+        ensures some { Extends K.start self.now.sink }
+    {
+        let _lease = &self.lease;
     }
 
     /// The innermost running key.
@@ -181,17 +251,31 @@ impl<'a, S: Sink, K: UnitRun> UnitEvents<'a, S, K> {
         Some(self.running.innermost()?.key)
     }
 
+    /// Whether the key is that of a static test.
+    pub(crate) fn is_static_test(&self, key: u32) -> bool
+        ensures { result ≡ false → ¬ IsStaticTest K.frame.table key }
+    {
+        match self.shape.table().get(key) {
+            Some(descriptor) => descriptor.dtype.is_test(),
+            None => false,
+        }
+    }
+
     /// Sets the stamp of the events that a body publishes.
-    pub(crate) fn set_stamp(&mut self, stamp: u64) {
+    pub(crate) fn set_stamp(&mut self, stamp: u64)
+        ensures { self.new ≡ record self.old { stamp = stamp } }
+    {
         self.stamp = stamp;
     }
 
     /// The stamp of the events that a body publishes.
-    pub(crate) fn stamp(&self) -> u64 {
+    pub(crate) fn stamp(&self) -> u64
+        ensures { result ≡ self.now.stamp }
+    {
         self.stamp
     }
 
-    /// Starts a static descriptor, below the innermost running key.
+    /// Starts the next static descriptor, below the innermost running key.
     pub(crate) fn start<R: Wait>(
         &mut self,
         rt: &R,
@@ -202,7 +286,7 @@ impl<'a, S: Sink, K: UnitRun> UnitEvents<'a, S, K> {
         let Some(next) = key.checked_add(1) else {
             return Err(UnitFault::Own(OUT_OF_ORDER));
         };
-        if key < self.next {
+        if key != self.next {
             return Err(UnitFault::Own(OUT_OF_ORDER));
         }
         let Some(id) = id_to_start(alloc, self.shape, self.unit, &self.running, key)? else {
@@ -227,7 +311,7 @@ impl<'a, S: Sink, K: UnitRun> UnitEvents<'a, S, K> {
         }
     }
 
-    /// Skips a static descriptor, below the innermost running key.
+    /// Skips the next static descriptor, below the innermost running key, and all below it.
     pub(crate) fn skip<R: Wait>(
         &mut self,
         rt: &R,
@@ -236,15 +320,13 @@ impl<'a, S: Sink, K: UnitRun> UnitEvents<'a, S, K> {
         stamp: u64,
         reason: Payload,
     ) -> Result<(), UnitFault> {
-        let Some(next) = key.checked_add(1) else {
-            return Err(UnitFault::Own(OUT_OF_ORDER));
-        };
-        if key < self.next {
+        if key != self.next {
             return Err(UnitFault::Own(OUT_OF_ORDER));
         }
-        let Some(_id) = id_to_start(alloc, self.shape, self.unit, &self.running, key)? else {
+        let Some(id) = id_to_start(alloc, self.shape, self.unit, &self.running, key)? else {
             return Err(UnitFault::Own(OUT_OF_ORDER));
         };
+        let next = end_below(self.shape.table(), &id, key);
         let event = Event {
             kind: Kind::Skipped,
             key,
@@ -262,7 +344,10 @@ impl<'a, S: Sink, K: UnitRun> UnitEvents<'a, S, K> {
         rt: &R,
         stamp: u64,
         pairs: Payload,
-    ) -> Result<(), UnitFault> {
+    ) -> Result<(), UnitFault>
+        ensures ok { OnOk result (Published self.old self.new Reporting stamp pairs) }
+        ensures err { OnErr result (self.new ≡ self.old) }
+    {
         let Some(innermost) = self.running.innermost() else {
             return Err(UnitFault::Own(OUT_OF_ORDER));
         };
@@ -281,7 +366,10 @@ impl<'a, S: Sink, K: UnitRun> UnitEvents<'a, S, K> {
         rt: &R,
         stamp: u64,
         path: Payload,
-    ) -> Result<(), UnitFault> {
+    ) -> Result<(), UnitFault>
+        ensures ok { OnOk result (Published self.old self.new File stamp path) }
+        ensures err { OnErr result (self.new ≡ self.old) }
+    {
         let Some(innermost) = self.running.innermost() else {
             return Err(UnitFault::Own(OUT_OF_ORDER));
         };
@@ -294,19 +382,28 @@ impl<'a, S: Sink, K: UnitRun> UnitEvents<'a, S, K> {
         self.lease.emit(rt, event)
     }
 
-    /// Finishes the innermost running key.
+    /// Finishes a key, which has to be the innermost running one.
     pub(crate) fn finish<R: Wait>(
         &mut self,
         rt: &R,
+        key: u32,
         stamp: u64,
         outcome: Payload,
-    ) -> Result<(), UnitFault> {
+    ) -> Result<(), UnitFault>
+        requires { MayFinish K.frame.table K.may_end key outcome }
+        ensures ok { OnOk result (HasFinished self.old self.new key stamp outcome) }
+        ensures err { OnErr result (self.new ≡ self.old) }
+        ensures stamp { self.new.stamp ≡ self.old.stamp }
+    {
         let Some(innermost) = self.running.innermost() else {
             return Err(UnitFault::Own(OUT_OF_ORDER));
         };
+        if innermost.key != key {
+            return Err(UnitFault::Own(OUT_OF_ORDER));
+        }
         let event = Event {
             kind: Kind::Finished,
-            key: innermost.key,
+            key,
             stamp,
             payload: outcome,
         };
@@ -322,7 +419,9 @@ impl<'a, S: Sink, K: UnitRun> UnitEvents<'a, S, K> {
         alloc: Global,
         child: &Child<'_>,
         stamp: u64,
-    ) -> Result<u32, UnitFault> {
+    ) -> Result<u32, UnitFault>
+        ensures { IfOk result (λ key. length K.frame.table ≤ key) }
+    {
         let Some(innermost) = self.running.innermost() else {
             return Err(UnitFault::Own(OUT_OF_ORDER));
         };
@@ -362,7 +461,17 @@ impl<'a, S: Sink, K: UnitRun> UnitEvents<'a, S, K> {
         child: &Child<'_>,
         stamp: u64,
         reason: Payload,
-    ) -> Result<(), UnitFault> {
+    ) -> Result<(), UnitFault>
+        ensures ok { OnOk result ((above : ℕ) × HasSkipped self.old self.new
+            (record {
+              parent = above;
+              segment = child.now.segment.now;
+              name = child.now.name.now;
+              dtype = child.now.dtype;
+              stamp = stamp;
+            }) reason) }
+        ensures err { OnErr result (Grew self.old self.new) }
+    {
         let Some(innermost) = self.running.innermost() else {
             return Err(UnitFault::Own(OUT_OF_ORDER));
         };

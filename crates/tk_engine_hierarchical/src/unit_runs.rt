@@ -2,16 +2,21 @@
 
 use std::marker::Brand;
 
-/// Which run of a unit a proof speaks of: the engine's frame, the unit, the sink as it was when the
-/// unit began, and the name of the reference to it. Each call of a unit picks it.
+/// Which run of a unit a proof speaks of: the engine's frame, the unit and its static keys, which
+/// outcomes a static test may have, the sink as it was when the unit began, and the name of the
+/// reference to it. Each call of a unit picks it.
 pub trait UnitRun {
     ghost use Rattle.std.specs.Prelude.{ℕ};
     ghost use Rattle.tk_engine_lifecycle.specs.Units.{Frame};
     ghost use Rattle.tk_queue.specs.Senders.{SenderView};
+    ghost use Rattle.tk_engine_hierarchical.specs.Units.{UnitKeys};
+    ghost use Rattle.tk_engine_hierarchical.specs.declared.tests.Outcome.{Outcome};
 
     ghost frame: { Frame };
 
-    ghost unit: { ℕ };
+    ghost keys: { UnitKeys };
+
+    ghost may_end: { ℕ → Outcome → Type 0 };
 
     ghost start: { SenderView };
 
@@ -24,7 +29,9 @@ impl UnitRun for Brand {
 
     ghost frame = { record { table = []; before = []; after = []; units = 0; owner = λ _. 0 } };
 
-    ghost unit = { 0 };
+    ghost keys = { record { unit = 0; first = 0; end = 0 } };
+
+    ghost may_end = { λ key outcome. Unit {0} };
 
     ghost start = { record {
       session = record {

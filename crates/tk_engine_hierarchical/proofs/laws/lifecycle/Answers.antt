@@ -1,6 +1,7 @@
 use Rattle.std.proofs.Common.{subst}
-use Rattle.tk_engine_lifecycle.specs.Units.{KeepsAlone, UnitsKeepLifecycle}
-use Rattle.tk_engine_hierarchical.specs.Shapes.{frame}
+use Rattle.tk_engine_lifecycle.specs.Units.{UnitsKeepLifecycle}
+use Rattle.tk_engine_hierarchical.specs.Shapes.{frame, keys_in}
+use Rattle.tk_engine_hierarchical.specs.Units.{RunsUnit}
 use Rattle.tk_engine_hierarchical.proofs.Shaped.{kept_units, same_frame}
 use Rattle.tk_engine_hierarchical.proofs.laws.lifecycle.Goals as goal
 
@@ -8,6 +9,7 @@ pub returns : goal.returns
 returns g c =
     let s = c.args.engine.now.shape in
     let shown = c.shows_shape.ensures in
+    let may_end = g.T.Tests.may_end c.args.engine.now.tests in
     c.runs_keep_lifecycle.ensures (frame s).owner
-    (subst (λ f. UnitsKeepLifecycle f (λ unit worker earlier events. KeepsAlone (frame s) unit worker events))
-    (same_frame s _ _ _ _ shown.table shown.before shown.after shown.units) (kept_units s shown.around))
+    (subst (λ f. UnitsKeepLifecycle f (λ unit worker earlier events. RunsUnit (frame s) may_end (keys_in s unit) worker events))
+    (same_frame s _ _ _ _ shown.table shown.before shown.after shown.units) (kept_units s may_end shown.around))

@@ -1,11 +1,18 @@
+use Rattle.std.proofs.Common.{ap, ◌∙◌}
+use Rattle.tk_engine_hierarchical.specs.Units.{UnitKeys}
+use Rattle.tk_engine_hierarchical.proofs.Played.{played_none}
 use Rattle.tk_engine_hierarchical.proofs.Running.{began}
 use Rattle.tk_engine_hierarchical.proofs.unit_events.UnitEvents.begin.Goals as goal
 
 pub invariant_of-result : goal.invariant_of-result
-invariant_of-result g c = (
-  c.requires.name,
-  c.requires.frame,
-  c.requires.unit,
-  began c.args.shape.now g.K.UnitRun.frame c.args.unit g.K.UnitRun.unit g.K.UnitRun.start _ c.new.result c.new-2.result c.requires.frame c.requires.unit c.requires.start c.new.ensures
-      c.shows_shape.ensures c.requires.is_unit c.requires.table,
-)
+invariant_of-result g c =
+    let keys = c.keys_of-next.ensures ∙ c.requires.keys in
+    let unit = ap (λ (k : UnitKeys). k.unit) keys in (
+      c.requires.name,
+      c.requires.frame,
+      unit,
+      ap (λ (k : UnitKeys). k.end) keys,
+      began c.args.shape.now g.K.UnitRun.frame c.args.unit g.K.UnitRun.keys.unit g.K.UnitRun.start _ c.new.result c.new-2.result c.keys_of-next.result.0 c.requires.frame unit c.requires.start c.new.ensures
+          c.shows_shape.ensures.around c.requires.is_unit c.requires.table,
+      played_none g.K.UnitRun.frame.table g.K.UnitRun.may_end g.K.UnitRun.keys.first g.K.UnitRun.start _ c.keys_of-next.result.0 c.requires.start (ap (λ (k : UnitKeys). k.first) keys),
+    )

@@ -1,5 +1,7 @@
 use Rattle.std.proofs.Common.{refl, sym, subst, ◌∙◌}
 use Rattle.tk_engine_hierarchical.specs.Events.{IsRunning}
+use Rattle.tk_engine_hierarchical.specs.Units.{HasPlayed}
+use Rattle.tk_engine_hierarchical.proofs.Played.{played_more}
 use Rattle.tk_engine_hierarchical.proofs.Running.{popped, ran_finish}
 use Rattle.tk_engine_hierarchical.proofs.unit_events.UnitEvents.finish.Goals as goal
 
@@ -12,6 +14,9 @@ invariant_of-self-2 g c =
       c.emit.ensures.same ∙ i.0,
       i.1,
       i.2,
-      subst (λ s. IsRunning g.K.UnitRun.frame g.K.UnitRun.unit g.K.UnitRun.start s c.pop-finished.new.self c.self.inside.registered c.self.inside.next) (sym c.in_ok-emit.ensures.ok)
-          (ran_finish _ _ _ _ _ _ _ _ first _ i.3 left refl refl),
+      i.3,
+      subst (λ s. IsRunning g.K.UnitRun.frame g.K.UnitRun.keys.unit g.K.UnitRun.start s c.pop-finished.new.self c.self.inside.registered c.self.inside.next) (sym c.in_ok-emit.ensures.ok)
+          (ran_finish _ _ _ _ _ _ _ _ first _ i.4 left refl (sym c.if-innermost-key.false)),
+      subst (λ s. HasPlayed g.K.UnitRun.frame.table g.K.UnitRun.may_end g.K.UnitRun.keys.first c.self.inside.next g.K.UnitRun.start s) (sym c.in_ok-emit.ensures.ok)
+          (played_more g.K.UnitRun.frame.table g.K.UnitRun.may_end g.K.UnitRun.keys.first g.K.UnitRun.start _ c.self.inside.next _ i.5 (λ f. c.requires)),
     )

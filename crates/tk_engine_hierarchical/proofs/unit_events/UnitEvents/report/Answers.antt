@@ -1,5 +1,10 @@
-use Rattle.std.proofs.Common.{refl, ◌∙◌}
+use Rattle.std.proofs.Common.{ap, refl, sym, ◌∙◌}
+use Rattle.tk_engine_hierarchical.specs.Reporting.{UnitView}
+use Rattle.tk_engine_hierarchical.proofs.Reported.{on_ok, published}
+use Rattle.tk_events.specs.declared.kinds.Kind.TheVariants.{Reporting}
 use Rattle.tk_engine_hierarchical.specs.Events.{IsRunning}
+use Rattle.tk_engine_hierarchical.specs.Units.{HasPlayed}
+use Rattle.tk_engine_hierarchical.proofs.Played.{played_plain, reporting_is_not}
 use Rattle.tk_engine_hierarchical.proofs.Running.{after_emit, ran_report}
 use Rattle.tk_engine_hierarchical.proofs.unit_events.UnitEvents.report.Goals as goal
 
@@ -9,6 +14,16 @@ invariant_of-self g c =
       c.emit.ensures.same ∙ i.0,
       i.1,
       i.2,
-      after_emit _ _ _ c.emit.result (λ s. IsRunning g.K.UnitRun.frame g.K.UnitRun.unit g.K.UnitRun.start s c.self.inside.running c.self.inside.registered c.self.inside.next) c.emit.ensures.ok c.emit.ensures.err i.3
-          (ran_report _ _ _ _ _ _ _ c.in-Some.innermost.now _ i.3 c.in-Some.ensures.some refl refl),
+      i.3,
+      after_emit _ _ _ c.emit.result (λ s. IsRunning g.K.UnitRun.frame g.K.UnitRun.keys.unit g.K.UnitRun.start s c.self.inside.running c.self.inside.registered c.self.inside.next) c.emit.ensures.ok c.emit.ensures.err i.4
+          (ran_report _ _ _ _ _ _ _ c.in-Some.innermost.now _ i.4 c.in-Some.ensures.some refl refl),
+      after_emit _ _ _ c.emit.result (λ s. HasPlayed g.K.UnitRun.frame.table g.K.UnitRun.may_end g.K.UnitRun.keys.first c.self.inside.next g.K.UnitRun.start s) c.emit.ensures.ok c.emit.ensures.err i.5
+          (played_plain g.K.UnitRun.frame.table g.K.UnitRun.may_end g.K.UnitRun.keys.first g.K.UnitRun.start _ c.self.inside.next _ Reporting refl reporting_is_not i.5),
     )
+
+pub returns-clause-ok : goal.returns-clause-ok
+returns-clause-ok g c =
+    let sink = ap (λ (v : UnitView). v.sink) c.self.view_is in
+    let runs = ap (λ (v : UnitView). v.running) c.self.view_is in
+    on_ok c.emit.result c.emit.ensures.ok
+    (λ e. published _ _ _ c.self.inside.running c.in-Some.ensures.some.0 c.in-Some.innermost.now Reporting c.args.stamp c.args.pairs (sym sink) (sym runs) c.in-Some.ensures.some.1 e runs)

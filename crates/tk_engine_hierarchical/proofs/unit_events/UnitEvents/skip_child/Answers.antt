@@ -1,5 +1,10 @@
-use Rattle.std.proofs.Common.{refl, sym, subst, ◌∙◌}
+use Rattle.std.proofs.Common.{ap, refl, sym, subst, ◌∙◌}
+use Rattle.tk_engine_hierarchical.specs.Reporting.{UnitView}
+use Rattle.tk_engine_hierarchical.proofs.Reported.{err_of, grew_registered, grew_same, on_err, on_ok, skipped_child}
+use Rattle.tk_events.specs.declared.kinds.Kind.TheVariants.{Skipped}
 use Rattle.tk_engine_hierarchical.specs.Events.{IsRunning}
+use Rattle.tk_engine_hierarchical.specs.Units.{HasPlayed}
+use Rattle.tk_engine_hierarchical.proofs.Played.{played_plain, played_registration, skipped_is_not}
 use Rattle.tk_engine_hierarchical.proofs.Running.{after_emit, ran_child_skip, ran_noted, ran_registered, registered_child}
 use Rattle.tk_engine_hierarchical.proofs.unit_events.UnitEvents.skip_child.Goals as goal
 
@@ -9,19 +14,46 @@ invariant_of-self-in_err-key g c =
       c.register.ensures.same ∙ i.0,
       i.1,
       i.2,
-      subst (λ s. IsRunning g.K.UnitRun.frame g.K.UnitRun.unit g.K.UnitRun.start s c.self.inside.running c.add.new.self c.self.inside.next) (sym c.in_err-key.ensures.err)
-          (ran_noted g.K.UnitRun.frame g.K.UnitRun.unit g.K.UnitRun.start _ c.self.inside.running c.self.inside.registered c.add.new.self c.self.inside.next _ c.in_ok-add.ensures.ok i.3),
+      i.3,
+      subst (λ s. IsRunning g.K.UnitRun.frame g.K.UnitRun.keys.unit g.K.UnitRun.start s c.self.inside.running c.add.new.self c.self.inside.next) (sym c.in_err-key.ensures.err)
+          (ran_noted g.K.UnitRun.frame g.K.UnitRun.keys.unit g.K.UnitRun.start _ c.self.inside.running c.self.inside.registered c.add.new.self c.self.inside.next _ c.in_ok-add.ensures.ok i.4),
+      subst (λ s. HasPlayed g.K.UnitRun.frame.table g.K.UnitRun.may_end g.K.UnitRun.keys.first c.self.inside.next g.K.UnitRun.start s) (sym c.in_err-key.ensures.err) i.5,
     )
 
 pub invariant_of-self-2 : goal.invariant_of-self-2
 invariant_of-self-2 g c =
     let i = c.self.invariant in
-    let h = registered_child c.self.inside.shape.now g.K.UnitRun.frame g.K.UnitRun.unit g.K.UnitRun.start _ _ c.self.inside.running _ c.self.inside.registered c.add.new.self c.self.inside.next c.in_ok-key.key c.in-Some.innermost.now _ _ i.1 i.3
-    c.in-Some.ensures.some.1 c.in_ok-key.ensures.ok refl c.in_ok-id.ensures.id c.in_ok-id.ensures.not_static c.in_ok-id.ensures.not_registered c.in_ok-add.ensures.ok in (
+    let h = registered_child c.self.inside.shape.now g.K.UnitRun.frame g.K.UnitRun.keys.unit g.K.UnitRun.start _ _ c.self.inside.running _ c.self.inside.registered c.add.new.self c.self.inside.next c.in_ok-key.key c.in-Some.innermost.now _ _ i.1 i.4
+    c.in-Some.ensures.some.1 c.in_ok-key.ensures.ok refl c.in_ok-id.ensures.id c.in_ok-id.ensures.not_static c.in_ok-id.ensures.not_registered c.in_ok-add.ensures.ok in
+    let p = played_registration g.K.UnitRun.frame.table g.K.UnitRun.may_end g.K.UnitRun.keys.first g.K.UnitRun.start _ _ c.self.inside.next c.in_ok-key.key _ c.in_ok-key.ensures.ok i.5 in (
       c.emit.ensures.same ∙ (c.register.ensures.same ∙ i.0),
       i.1,
       i.2,
-      after_emit _ _ _ c.emit.result (λ s. IsRunning g.K.UnitRun.frame g.K.UnitRun.unit g.K.UnitRun.start s c.self.inside.running c.add.new.self c.self.inside.next) c.emit.ensures.ok c.emit.ensures.err
-          (ran_registered g.K.UnitRun.frame g.K.UnitRun.unit g.K.UnitRun.start _ c.self.inside.running c.add.new.self c.self.inside.next c.in_ok-key.key _ h)
-          (ran_child_skip g.K.UnitRun.frame g.K.UnitRun.unit g.K.UnitRun.start _ _ c.self.inside.running c.add.new.self c.self.inside.next c.in_ok-key.key _ _ refl refl refl h),
+      i.3,
+      after_emit _ _ _ c.emit.result (λ s. IsRunning g.K.UnitRun.frame g.K.UnitRun.keys.unit g.K.UnitRun.start s c.self.inside.running c.add.new.self c.self.inside.next) c.emit.ensures.ok c.emit.ensures.err
+          (ran_registered g.K.UnitRun.frame g.K.UnitRun.keys.unit g.K.UnitRun.start _ c.self.inside.running c.add.new.self c.self.inside.next c.in_ok-key.key _ h)
+          (ran_child_skip g.K.UnitRun.frame g.K.UnitRun.keys.unit g.K.UnitRun.start _ _ c.self.inside.running c.add.new.self c.self.inside.next c.in_ok-key.key _ _ refl refl refl h),
+      after_emit _ _ _ c.emit.result (λ s. HasPlayed g.K.UnitRun.frame.table g.K.UnitRun.may_end g.K.UnitRun.keys.first c.self.inside.next g.K.UnitRun.start s) c.emit.ensures.ok c.emit.ensures.err p
+          (played_plain g.K.UnitRun.frame.table g.K.UnitRun.may_end g.K.UnitRun.keys.first g.K.UnitRun.start _ c.self.inside.next _ Skipped refl skipped_is_not p),
     )
+
+pub returns-in_err-add-clause-err : goal.returns-in_err-add-clause-err
+returns-in_err-add-clause-err g c =
+    err_of _ (grew_same _ _ _ _ (ap (λ (v : UnitView). v.sink) c.self.view_is) (ap (λ (v : UnitView). v.running) c.self.view_is))
+
+pub returns-in_err-key-clause-err : goal.returns-in_err-key-clause-err
+returns-in_err-key-clause-err g c =
+    err_of _ (grew_same _ _ _ _ (c.in_err-key.ensures.err ∙ ap (λ (v : UnitView). v.sink) c.self.view_is) (ap (λ (v : UnitView). v.running) c.self.view_is))
+
+pub returns-clause-ok : goal.returns-clause-ok
+returns-clause-ok g c =
+    let sink = ap (λ (v : UnitView). v.sink) c.self.view_is in
+    let runs = ap (λ (v : UnitView). v.running) c.self.view_is in
+    on_ok c.emit.result c.emit.ensures.ok
+    (λ e. (c.in-Some.innermost.now.key, skipped_child _ _ _ _ c.self.inside.running c.in-Some.ensures.some.0 c.in-Some.innermost.now _ c.in_ok-key.key c.args.reason (sym sink) (sym runs) c.in-Some.ensures.some.1 refl c.in_ok-key.ensures.ok e runs))
+
+pub returns-clause-err : goal.returns-clause-err
+returns-clause-err g c =
+    let sink = ap (λ (v : UnitView). v.sink) c.self.view_is in
+    let runs = ap (λ (v : UnitView). v.running) c.self.view_is in
+    on_err c.emit.result c.emit.ensures.err (λ e. grew_registered _ _ _ _ _ _ _ c.in_ok-key.key (sym sink) c.in_ok-key.ensures.ok e runs)

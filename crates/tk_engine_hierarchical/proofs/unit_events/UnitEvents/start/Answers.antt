@@ -1,4 +1,5 @@
-use Rattle.std.proofs.Common.{refl, ◌∙◌}
+use Rattle.std.proofs.Common.{refl, ◌∙◌, arith}
+use Rattle.tk_engine_hierarchical.proofs.Played.{played_start}
 use Rattle.tk_engine_hierarchical.proofs.Running.{found_id, id_here, may_here, started}
 use Rattle.tk_engine_hierarchical.proofs.unit_events.UnitEvents.start.Goals as goal
 
@@ -9,8 +10,10 @@ invariant_of-self-in-Ok g c =
       c.emit.ensures.same ∙ i.0,
       i.1,
       i.2,
-      started g.K.UnitRun.frame g.K.UnitRun.unit g.K.UnitRun.start _ _ c.self.inside.running c.push.new.self c.self.inside.registered c.self.inside.next c.in-Some.next c.args.key c.in-Some-2.id _
-          c.in-Ok.ensures.ok c.in_ok-push.ensures.ok c.in-Some.ensures.1 refl refl i.3
-          (may_here c.self.inside.shape.now g.K.UnitRun.frame c.self.inside.unit g.K.UnitRun.unit c.args.key c.self.inside.running i.1 i.2 m.0) c.if-key-self.false
+      i.3,
+      started g.K.UnitRun.frame g.K.UnitRun.keys.unit g.K.UnitRun.start _ _ c.self.inside.running c.push.new.self c.self.inside.registered c.self.inside.next c.in-Some.next c.args.key c.in-Some-2.id _
+          c.in-Ok.ensures.ok c.in_ok-push.ensures.ok c.in-Some.ensures.1 refl refl i.4
+          (may_here c.self.inside.shape.now g.K.UnitRun.frame c.self.inside.unit g.K.UnitRun.keys.unit c.args.key c.self.inside.running i.1 i.2 m.0) (omega (arith, c.if-key-self.false))
           (id_here c.self.inside.shape.now g.K.UnitRun.frame c.args.key c.in-Some-2.id i.1 m.1),
+      played_start g.K.UnitRun.frame.table g.K.UnitRun.may_end g.K.UnitRun.keys.first g.K.UnitRun.start _ _ c.self.inside.next c.in-Some.next c.args.key _ c.in-Ok.ensures.ok c.in-Some.ensures.1 c.if-key-self.false refl refl i.5,
     )

@@ -1,5 +1,8 @@
 use Rattle.std.proofs.Common.{refl, sym, subst, ◌∙◌}
+use Rattle.tk_events.specs.declared.kinds.Kind.TheVariants.{Started}
 use Rattle.tk_engine_hierarchical.specs.Events.{IsRunning}
+use Rattle.tk_engine_hierarchical.specs.Units.{HasPlayed}
+use Rattle.tk_engine_hierarchical.proofs.Played.{played_plain, played_registration, started_is_not}
 use Rattle.tk_engine_hierarchical.proofs.Running.{child_off, ran_child, ran_noted, ran_registered, registered_child}
 use Rattle.tk_engine_hierarchical.proofs.unit_events.UnitEvents.start_child.Goals as goal
 
@@ -9,8 +12,10 @@ invariant_of-self-in_err-key g c =
       c.register.ensures.same ∙ i.0,
       i.1,
       i.2,
-      subst (λ s. IsRunning g.K.UnitRun.frame g.K.UnitRun.unit g.K.UnitRun.start s c.self.inside.running c.add.new.self c.self.inside.next) (sym c.in_err-key.ensures.err)
-          (ran_noted g.K.UnitRun.frame g.K.UnitRun.unit g.K.UnitRun.start _ c.self.inside.running c.self.inside.registered c.add.new.self c.self.inside.next _ c.in_ok-add.ensures.ok i.3),
+      i.3,
+      subst (λ s. IsRunning g.K.UnitRun.frame g.K.UnitRun.keys.unit g.K.UnitRun.start s c.self.inside.running c.add.new.self c.self.inside.next) (sym c.in_err-key.ensures.err)
+          (ran_noted g.K.UnitRun.frame g.K.UnitRun.keys.unit g.K.UnitRun.start _ c.self.inside.running c.self.inside.registered c.add.new.self c.self.inside.next _ c.in_ok-add.ensures.ok i.4),
+      subst (λ s. HasPlayed g.K.UnitRun.frame.table g.K.UnitRun.may_end g.K.UnitRun.keys.first c.self.inside.next g.K.UnitRun.start s) (sym c.in_err-key.ensures.err) i.5,
     )
 
 pub invariant_of-self-in_err-push : goal.invariant_of-self-in_err-push
@@ -19,10 +24,12 @@ invariant_of-self-in_err-push g c =
       c.register.ensures.same ∙ i.0,
       i.1,
       i.2,
-      subst (λ l. IsRunning g.K.UnitRun.frame g.K.UnitRun.unit g.K.UnitRun.start (g.S.Sink.view c.register.new.self.sink.now) l c.add.new.self c.self.inside.next) (sym c.in_err-push.ensures.err)
-          (ran_registered g.K.UnitRun.frame g.K.UnitRun.unit g.K.UnitRun.start _ c.self.inside.running c.add.new.self c.self.inside.next c.in_ok-key.key _
-          (registered_child c.self.inside.shape.now g.K.UnitRun.frame g.K.UnitRun.unit g.K.UnitRun.start _ _ c.self.inside.running _ c.self.inside.registered c.add.new.self c.self.inside.next c.in_ok-key.key c.in-Some.innermost.now _ _ i.1 i.3
+      i.3,
+      subst (λ l. IsRunning g.K.UnitRun.frame g.K.UnitRun.keys.unit g.K.UnitRun.start (g.S.Sink.view c.register.new.self.sink.now) l c.add.new.self c.self.inside.next) (sym c.in_err-push.ensures.err)
+          (ran_registered g.K.UnitRun.frame g.K.UnitRun.keys.unit g.K.UnitRun.start _ c.self.inside.running c.add.new.self c.self.inside.next c.in_ok-key.key _
+          (registered_child c.self.inside.shape.now g.K.UnitRun.frame g.K.UnitRun.keys.unit g.K.UnitRun.start _ _ c.self.inside.running _ c.self.inside.registered c.add.new.self c.self.inside.next c.in_ok-key.key c.in-Some.innermost.now _ _ i.1 i.4
           c.in-Some.ensures.some.1 c.in_ok-key.ensures.ok refl c.in_ok-id.ensures.id c.in_ok-id.ensures.not_static c.in_ok-id.ensures.not_registered c.in_ok-add.ensures.ok)),
+      played_registration g.K.UnitRun.frame.table g.K.UnitRun.may_end g.K.UnitRun.keys.first g.K.UnitRun.start _ _ c.self.inside.next c.in_ok-key.key _ c.in_ok-key.ensures.ok i.5,
     )
 
 pub invariant_of-self-in-Ok : goal.invariant_of-self-in-Ok
@@ -31,10 +38,14 @@ invariant_of-self-in-Ok g c =
       c.emit.ensures.same ∙ (c.register.ensures.same ∙ i.0),
       i.1,
       i.2,
-      ran_child g.K.UnitRun.frame g.K.UnitRun.unit g.K.UnitRun.start _ _ c.self.inside.running c.push.new.self c.add.new.self c.self.inside.next c.in_ok-key.key _ _
+      i.3,
+      ran_child g.K.UnitRun.frame g.K.UnitRun.keys.unit g.K.UnitRun.start _ _ c.self.inside.running c.push.new.self c.add.new.self c.self.inside.next c.in_ok-key.key _ _
           c.in-Ok.ensures.ok c.in_ok-push.ensures.ok refl refl
-          (registered_child c.self.inside.shape.now g.K.UnitRun.frame g.K.UnitRun.unit g.K.UnitRun.start _ _ c.self.inside.running _ c.self.inside.registered c.add.new.self c.self.inside.next c.in_ok-key.key c.in-Some.innermost.now _ _ i.1 i.3
+          (registered_child c.self.inside.shape.now g.K.UnitRun.frame g.K.UnitRun.keys.unit g.K.UnitRun.start _ _ c.self.inside.running _ c.self.inside.registered c.add.new.self c.self.inside.next c.in_ok-key.key c.in-Some.innermost.now _ _ i.1 i.4
           c.in-Some.ensures.some.1 c.in_ok-key.ensures.ok refl c.in_ok-id.ensures.id c.in_ok-id.ensures.not_static c.in_ok-id.ensures.not_registered c.in_ok-add.ensures.ok),
+      subst (λ s. HasPlayed g.K.UnitRun.frame.table g.K.UnitRun.may_end g.K.UnitRun.keys.first c.self.inside.next g.K.UnitRun.start s) (sym c.in-Ok.ensures.ok)
+          (played_plain g.K.UnitRun.frame.table g.K.UnitRun.may_end g.K.UnitRun.keys.first g.K.UnitRun.start _ c.self.inside.next _ Started refl started_is_not
+          (played_registration g.K.UnitRun.frame.table g.K.UnitRun.may_end g.K.UnitRun.keys.first g.K.UnitRun.start _ _ c.self.inside.next c.in_ok-key.key _ c.in_ok-key.ensures.ok i.5)),
     )
 
 pub invariant_of-self-in-Err : goal.invariant_of-self-in-Err
@@ -43,8 +54,11 @@ invariant_of-self-in-Err g c =
       c.emit.ensures.same ∙ (c.register.ensures.same ∙ i.0),
       i.1,
       i.2,
-      child_off g.K.UnitRun.frame g.K.UnitRun.unit g.K.UnitRun.start _ _ c.self.inside.running c.push.new.self c.pop-started.new.self c.add.new.self c.self.inside.next c.in_ok-key.key _ c.pop-started.result
+      i.3,
+      child_off g.K.UnitRun.frame g.K.UnitRun.keys.unit g.K.UnitRun.start _ _ c.self.inside.running c.push.new.self c.pop-started.new.self c.add.new.self c.self.inside.next c.in_ok-key.key _ c.pop-started.result
           c.in-Err.ensures.err c.in_ok-push.ensures.ok c.pop-started.ensures.some c.pop-started.ensures.none
-          (registered_child c.self.inside.shape.now g.K.UnitRun.frame g.K.UnitRun.unit g.K.UnitRun.start _ _ c.self.inside.running _ c.self.inside.registered c.add.new.self c.self.inside.next c.in_ok-key.key c.in-Some.innermost.now _ _ i.1 i.3
+          (registered_child c.self.inside.shape.now g.K.UnitRun.frame g.K.UnitRun.keys.unit g.K.UnitRun.start _ _ c.self.inside.running _ c.self.inside.registered c.add.new.self c.self.inside.next c.in_ok-key.key c.in-Some.innermost.now _ _ i.1 i.4
           c.in-Some.ensures.some.1 c.in_ok-key.ensures.ok refl c.in_ok-id.ensures.id c.in_ok-id.ensures.not_static c.in_ok-id.ensures.not_registered c.in_ok-add.ensures.ok),
+      subst (λ s. HasPlayed g.K.UnitRun.frame.table g.K.UnitRun.may_end g.K.UnitRun.keys.first c.self.inside.next g.K.UnitRun.start s) (sym c.in-Err.ensures.err)
+          (played_registration g.K.UnitRun.frame.table g.K.UnitRun.may_end g.K.UnitRun.keys.first g.K.UnitRun.start _ _ c.self.inside.next c.in_ok-key.key _ c.in_ok-key.ensures.ok i.5),
     )

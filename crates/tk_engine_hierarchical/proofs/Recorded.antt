@@ -1,0 +1,285 @@
+-- What the record of a run says, by what its units emit.
+use Rattle.std.proofs.Common.{◌≡◌, ◌<◌, ◌≤◌, ◌+◌, ◌==◌, ◌&&◌, ◌||◌, not, nat_eq, nat_lt, ℕ, zero, suc, ◌⊎◌, inl, inr, ⊎_elim, Bool, true, false, cond, if◌then◌else◌, List, [], ◌∷◌, ◌++◌, length, map, filter, Some, slice_get, All, refl, sym, ap, ap₂, ◌∙◌, subst, arith, tests}
+use Rattle.std.specs.List.{list_any}
+use Rattle.std.proofs.lemmas.List.{map-append}
+use Rattle.std.proofs.lemmas.List.Elements.{All-nil, All-cons, All-head, All-tail, All-append, All-weaker}
+use Rattle.std.proofs.lemmas.List.Sums.{length-filter}
+use Rattle.std.proofs.lemmas.List.Recursion.{is_sum_by}
+use Rattle.tk_ids.specs.declared.descriptors.Descriptor.{Descriptor}
+use Rattle.tk_events.specs.Event.{kind_code}
+use Rattle.tk_events.specs.declared.events.Event.{Event}
+use Rattle.tk_events.specs.declared.events.Entry.{Entry}
+use Rattle.tk_events.specs.declared.kinds.Kind.{Kind}
+use Rattle.tk_events.specs.declared.kinds.Kind.TheVariants.{Dynamic, File, Finished, Reporting, Skipped, Started}
+use Rattle.tk_record_columns.specs.Recorded.{Recorded}
+use Rattle.tk_record_columns.specs.Mixing.{IsWorkerOf, of_worker}
+use Rattle.tk_queue.specs.Emission.{entries_by, entry_by, registrations}
+use Rattle.tk_query.specs.Lifecycle.{has_event, has_run, is_event, runs}
+use Rattle.tk_query.specs.KeepsLifecycle.{IsWhole, KeepsLifecycle, is_step, steps_of}
+use Rattle.tk_engine_claim.specs.Claims.{once_below, times}
+use Rattle.tk_engine_runs.specs.Run.{Emits, IsRun, IsShared}
+use Rattle.tk_engine_lifecycle.proofs.Apart.{other_first, own_first}
+use Rattle.tk_engine_hierarchical.specs.Covered.{IsBelowSkipped, IsCovered}
+use Rattle.tk_engine_hierarchical.specs.Endings.{EndsAsItMay}
+use Rattle.tk_engine_hierarchical.specs.Laws.{HasOutcomes, HasTurn, HaveTurns}
+use Rattle.tk_engine_hierarchical.specs.Shapes.{HavePlaces, IsInUnit, ShapeView, frame, keys_in}
+use Rattle.tk_engine_hierarchical.specs.Units.{RunsUnit}
+use Rattle.tk_engine_hierarchical.specs.declared.tests.Outcome.{Outcome}
+use Rattle.tk_engine_hierarchical.proofs.Played.{any-append, any_kept, covered_by, or_cases, or_left, or_right}
+
+get_below : {A : Type 0} (xs : List A) (i : ℕ) → i < length xs → (x : A) × (slice_get xs i ≡ Some x)
+get_below [] i h = absurd (omega (arith, h))
+get_below (x ∷ xs) zero h = (x, refl)
+get_below (x ∷ xs) (suc i) h = get_below xs i (omega (arith, h))
+
+-- ---- the events of the workers
+
+tail_of : (P : Event → Type 0) (b : Bool) (w : ℕ) (x : Entry) (xs : List Entry) → (x.worker == w) ≡ b → All P (of_worker w (x ∷ xs)) → All P (of_worker w xs)
+tail_of P true w x xs e h = All-tail P x.event (of_worker w xs) (subst (All P) (own_first w x xs e) h)
+tail_of P false w x xs e h = subst (All P) (other_first w x xs e) h
+
+-- what holds of the events of each worker holds of all
+all_of_workers : (P : Event → Type 0) (n : ℕ) (mid : List Entry) → All (λ (x : Entry). IsWorkerOf n x.worker) mid
+    → ((w : ℕ) → IsWorkerOf n w → All P (of_worker w mid)) → All (λ (x : Entry). P x.event) mid
+all_of_workers P n [] ws each = All-nil (λ (x : Entry). P x.event)
+all_of_workers P n (x ∷ xs) ws each =
+    let own : (x.worker == x.worker) ≡ true = grind (arith, tests) in
+    let here : All P (x.event ∷ of_worker x.worker xs) = subst (All P) (own_first x.worker x xs own) (each x.worker (All-head (λ (y : Entry). IsWorkerOf n y.worker) x xs ws)) in
+    All-cons (λ (y : Entry). P y.event) x xs (All-head P x.event (of_worker x.worker xs) here)
+    (all_of_workers P n xs (All-tail (λ (y : Entry). IsWorkerOf n y.worker) x xs ws)
+    (λ w within. tail_of P (x.worker == w) w x xs refl (each w within)))
+
+in_all_at : (b : Bool) (kind : Kind) (key w : ℕ) (x : Entry) (xs : List Entry) → (x.worker == w) ≡ b → has_event kind key (entries_by w (of_worker w (x ∷ xs))) ≡ true
+    → (has_event kind key (entries_by w (of_worker w xs)) ≡ true → has_event kind key xs ≡ true) → has_event kind key (x ∷ xs) ≡ true
+in_all_at true kind key w x xs e h more =
+    ⊎_elim
+    (λ a. or_left (is_event kind key x) (has_event kind key xs) a)
+    (λ b. or_right (is_event kind key x) (has_event kind key xs) (more b))
+    (or_cases (is_event kind key x) (has_event kind key (entries_by w (of_worker w xs))) (subst (λ l. has_event kind key (entries_by w l) ≡ true) (own_first w x xs e) h))
+in_all_at false kind key w x xs e h more =
+    or_right (is_event kind key x) (has_event kind key xs)
+    (more (subst (λ l. has_event kind key (entries_by w l) ≡ true) (other_first w x xs e) h))
+
+-- an event of a worker is an event of all
+in_all : (kind : Kind) (key w : ℕ) (mid : List Entry) → has_event kind key (entries_by w (of_worker w mid)) ≡ true → has_event kind key mid ≡ true
+in_all kind key w [] h = h
+in_all kind key w (x ∷ xs) h = in_all_at (x.worker == w) kind key w x xs refl h (in_all kind key w xs)
+
+any_after : (kind : Kind) (key w : ℕ) (l more : List Event) → has_event kind key (entries_by w more) ≡ true → has_event kind key (entries_by w (l ++ more)) ≡ true
+any_after kind key w l more h =
+    ap (list_any (is_event kind key)) (map-append (entry_by w) l more) ∙ any-append (is_event kind key) (entries_by w l) (entries_by w more)
+    ∙ or_right (has_event kind key (entries_by w l)) (has_event kind key (entries_by w more)) h
+
+any_in : (kind : Kind) (key : ℕ) (a m b : List Entry) → has_event kind key m ≡ true → has_event kind key (a ++ m ++ b) ≡ true
+any_in kind key a m b h =
+    any-append (is_event kind key) (a ++ m) b
+    ∙ or_left (has_event kind key (a ++ m)) (has_event kind key b) (any-append (is_event kind key) a m ∙ or_right (has_event kind key a) (has_event kind key m) h)
+
+any_first : (kind : Kind) (key : ℕ) (a m b : List Entry) → has_event kind key a ≡ true → has_event kind key (a ++ m ++ b) ≡ true
+any_first kind key a m b h =
+    any-append (is_event kind key) (a ++ m) b
+    ∙ or_left (has_event kind key (a ++ m)) (has_event kind key b) (any-append (is_event kind key) a m ∙ or_left (has_event kind key a) (has_event kind key m) h)
+
+-- how often a unit was drawn
+abbrev drawn_by : ℕ → List ℕ → ℕ
+drawn_by u us = length (filter (λ y. nat_eq y u) us)
+
+abbrev drawn_in : ℕ → List (List ℕ) → ℕ
+drawn_in u [] = 0
+drawn_in u (us ∷ drawn) = times u us + drawn_in u drawn
+
+none_or_some : (n : ℕ) → (n ≡ 0) ⊎ (0 < n)
+none_or_some n = grind (arith, tests)
+
+drew : (u : ℕ) (drawn : List (List ℕ)) → 0 < drawn_in u drawn → (i : ℕ) × (us : List ℕ) × (i < length drawn) × (slice_get drawn i ≡ Some us) × (0 < drawn_by u us)
+drew u [] h = absurd (omega (arith, h))
+drew u (us ∷ drawn) h =
+    ⊎_elim
+    (λ none. let r = drew u drawn (omega (arith, h, none)) in (suc r.0, r.1, omega (arith, r.2), r.3, r.4))
+    (λ some. (0, us, omega arith, refl, subst (λ n. 0 < n) (sym (length-filter (λ y. nat_eq y u) us)) some))
+    (none_or_some (times u us))
+
+module _ (may : ℕ → ℕ → ℕ → List Event → Type 0) where
+  -- what holds of what each unit emits holds of what a worker emits
+  emits_all : (P : Event → Type 0) → ((u w k : ℕ) (l : List Event) → may u w k l → All P l)
+      → (w k : ℕ) (us : List ℕ) (l : List Event) → Emits may w k us l → All P l
+  emits_all P each w k [] l e = subst (All P) (sym e) (All-nil P)
+  emits_all P each w k (u ∷ us) l e =
+      subst (All P) (sym e.2) (All-append P e.0 e.1 (each u w k e.0 e.3) (emits_all P each w (k + registrations e.0) us e.1 e.4))
+
+  worker_emits : (units workers : ℕ) (mid : List Entry) → IsShared may units workers mid → (w : ℕ) → IsWorkerOf workers w
+      → (us : List ℕ) × Emits may w 0 us (of_worker w mid)
+  worker_emits units workers mid s zero h = absurd (omega (arith, h.0))
+  worker_emits units workers mid s (suc i) h =
+      let g = get_below s.drawn i (omega (arith, h.1, s.seats)) in
+      let same : i + 1 ≡ suc i = omega arith in
+      (g.0, subst (Emits may (suc i) 0 g.0) (sym (s.mix.each (suc i) h)) (subst (λ v. Emits may v 0 g.0 (s.lists v)) same (s.emits i g.0 g.1)))
+
+  pub all_emitted : (P : Event → Type 0) → ((u w k : ℕ) (l : List Event) → may u w k l → All P l)
+      → (units workers : ℕ) (mid : List Entry) → IsShared may units workers mid → All (λ (x : Entry). P x.event) mid
+  all_emitted P each units workers mid s =
+      all_of_workers P workers mid s.mix.workers (λ w within. let e = worker_emits units workers mid s w within in emits_all P each w 0 e.0 (of_worker w mid) e.1)
+
+  -- the list that a unit emitted, with its events in a longer one
+  pub record Part (u w : ℕ) (l : List Event) : Type 0 where
+    pub k : ℕ
+    pub list : List Event
+    pub may_be : may u w k list
+    pub within : (kind : Kind) (key : ℕ) → has_event kind key (entries_by w list) ≡ true → has_event kind key (entries_by w l) ≡ true
+
+  part_at : (b : Bool) (u x w k : ℕ) (us : List ℕ) (l : List Event) (e : Emits may w k (x ∷ us) l) → nat_eq x u ≡ b → 0 < drawn_by u (x ∷ us)
+      → (0 < drawn_by u us → Part u w e.1) → Part u w l
+  part_at true u x w k us l e is some more =
+      let same : x ≡ u = grind (arith, tests, is) in record {
+        k = k;
+        list = e.0;
+        may_be = subst (λ v. may v w k e.0) same e.3;
+        within = λ kind key h. subst (λ m. has_event kind key (entries_by w m) ≡ true) (sym e.2) (any_kept kind key w e.0 e.1 h);
+      }
+  part_at false u x w k us l e is some more =
+      let p = more (subst (λ n. 0 < n) (ap (λ b. length (cond b (x ∷ filter (λ y. nat_eq y u) us) (filter (λ y. nat_eq y u) us))) is) some) in record {
+        k = p.k;
+        list = p.list;
+        may_be = p.may_be;
+        within = λ kind key h. subst (λ m. has_event kind key (entries_by w m) ≡ true) (sym e.2) (any_after kind key w e.0 e.1 (p.within kind key h));
+      }
+
+  part_of : (u w k : ℕ) (us : List ℕ) (l : List Event) → Emits may w k us l → 0 < drawn_by u us → Part u w l
+  part_of u w k [] l e some = absurd (omega (arith, some))
+  part_of u w k (x ∷ us) l e some = part_at (nat_eq x u) u x w k us l e refl some (λ s. part_of u w (k + registrations e.0) us e.1 e.4 s)
+
+  false_true : false ≡ true → ⊥
+  false_true e = cc
+
+  once : (b : Bool) (n : ℕ) → b ≡ true → n ≡ cond b 1 0 → 0 < n
+  once true n is e = omega (arith, e)
+  once false n is e = absurd (false_true is)
+
+  -- each unit emitted a list, all of whose events are there
+  pub record Ran (u : ℕ) (mid : List Entry) : Type 0 where
+    pub worker : ℕ
+    pub k : ℕ
+    pub list : List Event
+    pub may_be : may u worker k list
+    pub within : (kind : Kind) (key : ℕ) → has_event kind key (entries_by worker list) ≡ true → has_event kind key mid ≡ true
+
+  pub unit_ran : (units workers : ℕ) (mid : List Entry) → IsShared may units workers mid → (u : ℕ) → u < units → Ran u mid
+  unit_ran units workers mid s u low =
+      let below : nat_lt u units ≡ true = grind (arith, tests, low) in
+      let count : drawn_in u s.drawn ≡ once_below u units = is_sum_by (drawn_in u) (times u) refl (λ us ds. refl) s.drawn ∙ s.claims.once u in
+      let d = drew u s.drawn (once (nat_lt u units) (drawn_in u s.drawn) below count) in
+      let w : IsWorkerOf workers (d.0 + 1) = (omega arith, omega (arith, d.2, s.seats)) in
+      let p = part_of u (d.0 + 1) 0 d.1 (s.lists (d.0 + 1)) (s.emits d.0 d.1 d.3) d.4 in
+      record {
+        worker = d.0 + 1;
+        k = p.k;
+        list = p.list;
+        may_be = p.may_be;
+        within = λ kind key h. in_all kind key (d.0 + 1) mid
+            (subst (λ l. has_event kind key (entries_by (d.0 + 1) l) ≡ true) (sym (s.mix.each (d.0 + 1) w)) (p.within kind key h));
+      }
+
+-- ---- outcomes
+
+around_none : (Q : Event → Type 0) (es : List Event) → All (λ (x : Entry). 0 < x.worker → Q x.event) (entries_by 0 es)
+around_none Q [] = All-nil (λ (x : Entry). 0 < x.worker → Q x.event)
+around_none Q (e ∷ es) = All-cons (λ (x : Entry). 0 < x.worker → Q x.event) (entry_by 0 e) (entries_by 0 es) (λ h. absurd (omega (arith, h))) (around_none Q es)
+
+pub has_outcomes : (s : ShapeView) (may_end : ℕ → Outcome → Type 0) (before after : List Event) (units workers : ℕ) (r : Recorded)
+    → IsRun (λ unit worker earlier events. RunsUnit (frame s) may_end (keys_in s unit) worker events) s.table before after units workers r → HasOutcomes may_end r
+has_outcomes s may_end before after units workers r run =
+    let Q : Event → Type 0 = EndsAsItMay s.table may_end in
+    let P : Entry → Type 0 = λ x. 0 < x.worker → Q x.event in
+    let mid = all_emitted (λ unit worker earlier events. RunsUnit (frame s) may_end (keys_in s unit) worker events) Q (λ u w k l m. m.ended) units workers run.mid run.shared in
+    subst (λ t. All (λ (x : Entry). 0 < x.worker → EndsAsItMay t may_end x.event) r.entries) (sym run.over)
+    (subst (All P) (sym run.whole)
+    (All-append P (entries_by 0 before ++ run.mid) (entries_by 0 after)
+    (All-append P (entries_by 0 before) run.mid (around_none Q before) (All-weaker (λ (x : Entry). Q x.event) P (λ x q h. q) run.mid mid))
+    (around_none Q after)))
+
+-- ---- turns
+
+abbrev has_kind : Kind → List Kind → Bool
+has_kind kind ks = list_any (λ k. kind_code k == kind_code kind) ks
+
+kept_kind : (kind k : Kind) (b : Bool) (ks : List Kind) → has_kind kind ks ≡ true → has_kind kind (if b then k ∷ ks else ks) ≡ true
+kept_kind kind k true ks h = or_right (kind_code k == kind_code kind) (has_kind kind ks) h
+kept_kind kind k false ks h = h
+
+both_true : (a b : Bool) → (a && b) ≡ true → (a ≡ true) × (b ≡ true)
+both_true true true e = (refl, refl)
+both_true true false e = cc
+both_true false b e = cc
+
+is_step_code : (kind k : Kind) → kind_code k ≡ kind_code kind → is_step kind ≡ true → is_step k ≡ true
+is_step_code kind k e h = ap (λ n. (n == kind_code Started) || ((n == kind_code Skipped) || (n == kind_code Finished))) e ∙ h
+
+first_kind : (kind : Kind) (key : ℕ) (x : Entry) (ks : List Kind) → is_step kind ≡ true → is_event kind key x ≡ true
+    → has_kind kind (if is_step x.event.kind && (x.event.key == key) then x.event.kind ∷ ks else ks) ≡ true
+first_kind kind key x ks step h =
+    let both = both_true (kind_code x.event.kind == kind_code kind) (x.event.key == key) h in
+    let code : kind_code x.event.kind ≡ kind_code kind = grind (arith, tests, both.0) in
+    ap₂ (λ a b. has_kind kind (if a && b then x.event.kind ∷ ks else ks)) (is_step_code kind x.event.kind code step) both.1
+    ∙ or_left (kind_code x.event.kind == kind_code kind) (has_kind kind ks) both.0
+
+steps_have : (kind : Kind) (key : ℕ) (es : List Entry) → is_step kind ≡ true → has_event kind key es ≡ true → has_kind kind (steps_of key es) ≡ true
+steps_have kind key [] step h = h
+steps_have kind key (x ∷ xs) step h =
+    ⊎_elim
+    (λ a. first_kind kind key x (steps_of key xs) step a)
+    (λ b. kept_kind kind x.event.kind (is_step x.event.kind && (x.event.key == key)) (steps_of key xs) (steps_have kind key xs step b))
+    (or_cases (is_event kind key x) (has_event kind key xs) h)
+
+whole_is : (ks : List Kind) → IsWhole ks → (ks ≡ []) ⊎ ((ks ≡ Started ∷ Finished ∷ []) ⊎ (ks ≡ Skipped ∷ []))
+whole_is [] w = inl refl
+whole_is (Skipped ∷ []) w = inr (inr refl)
+whole_is (Skipped ∷ (k ∷ ks)) w = absurd w
+whole_is (Started ∷ []) w = absurd w
+whole_is (Started ∷ (Finished ∷ [])) w = inr (inl refl)
+whole_is (Started ∷ (Finished ∷ (k ∷ ks))) w = absurd w
+whole_is (Started ∷ (Dynamic ∷ ks)) w = absurd w
+whole_is (Started ∷ (Skipped ∷ ks)) w = absurd w
+whole_is (Started ∷ (Started ∷ ks)) w = absurd w
+whole_is (Started ∷ (Reporting ∷ ks)) w = absurd w
+whole_is (Started ∷ (File ∷ ks)) w = absurd w
+whole_is (Dynamic ∷ ks) w = absurd w
+whole_is (Finished ∷ ks) w = absurd w
+whole_is (Reporting ∷ ks) w = absurd w
+whole_is (File ∷ ks) w = absurd w
+
+not_empty : (kind : Kind) (ks : List Kind) → has_kind kind ks ≡ true → ks ≡ [] → ⊥
+not_empty kind ks h e = let bad : false ≡ true = ap (has_kind kind) (sym e) ∙ h in cc
+
+turn_of : (r : Recorded) (key : ℕ) (kind : Kind) → KeepsLifecycle r → is_step kind ≡ true → has_event kind key r.entries ≡ true → HasTurn r key
+turn_of r key kind keeps step h =
+    ⊎_elim
+    (λ none. absurd (not_empty kind (steps_of key r.entries) (steps_have kind key r.entries step h) none))
+    (λ some. ⊎_elim (λ a. inl a) (λ b. inr (inl b)) some)
+    (whole_is (steps_of key r.entries) (keeps.whole key))
+
+has_turn : (r : Recorded) (key : ℕ) → KeepsLifecycle r → IsCovered r.table r.entries key → HasTurn r key
+has_turn r key keeps (inl h) =
+    ⊎_elim (λ a. turn_of r key Started keeps refl a) (λ b. turn_of r key Skipped keeps refl b) (or_cases (has_event Started key r.entries) (has_event Skipped key r.entries) h)
+has_turn r key keeps (inr h) = inr (inr h)
+
+first_part : (a b : Bool) → (a && not b) ≡ true → a ≡ true
+first_part true b e = refl
+first_part false b e = cc
+
+pub have_turns : (s : ShapeView) (may_end : ℕ → Outcome → Type 0) (after : List Event) (workers : ℕ) (r : Recorded) → HavePlaces s
+    → IsRun (λ unit worker earlier events. RunsUnit (frame s) may_end (keys_in s unit) worker events) s.table s.before after s.units workers r
+    → KeepsLifecycle r → HaveTurns r
+have_turns s may_end after workers r places run keeps key low =
+    let M : ℕ → ℕ → ℕ → List Event → Type 0 = λ unit worker earlier events. RunsUnit (frame s) may_end (keys_in s unit) worker events in
+    let e0 = entries_by 0 s.before in
+    let e1 = entries_by 0 after in
+    let covered : IsCovered s.table r.entries key = ⊎_elim
+    (λ (u : IsInUnit s.units s.firsts s.ends key).
+    let ran = unit_ran M s.units workers run.mid run.shared u.0 u.1 in
+    covered_by s.table (entries_by ran.worker ran.list) r.entries
+    (λ kind k h. subst (λ l. has_event kind k l ≡ true) (sym run.whole) (any_in kind k e0 run.mid e1 (ran.within kind k h)))
+    key (ran.may_be.covered key u.2 u.3))
+    (λ h. inl (or_left (has_event Started key r.entries) (has_event Skipped key r.entries)
+    (subst (λ l. has_event Started key l ≡ true) (sym run.whole) (any_first Started key e0 run.mid e1 (first_part (has_event Started key e0) (has_event Finished key e0) h)))))
+    (places key (subst (λ (t : List Descriptor). key < length t) run.over low)) in
+    has_turn r key keeps (subst (λ t. IsCovered t r.entries key) (sym run.over) covered)

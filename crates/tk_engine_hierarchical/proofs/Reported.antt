@@ -1,0 +1,98 @@
+-- What a reporter's calls promise.
+use Rattle.std.proofs.Common.{◌≡◌, ◌<◌, ◌≤◌, ℕ, zero, suc, List, [], ◌∷◌, ◌++◌, length, Option, Some, None, slice_get, true, false, refl, sym, ap, ◌∙◌, subst, append-nil, arith}
+use Rattle.std.specs.Prelude.{Result, Ok, Err, OnOk, OnErr}
+use Rattle.tk_ids.specs.DTypes.{is_test}
+use Rattle.tk_ids.specs.declared.descriptors.Descriptor.{Descriptor}
+use Rattle.tk_events.specs.declared.events.Event.{Event}
+use Rattle.tk_events.specs.declared.kinds.Kind.{Kind}
+use Rattle.tk_events.specs.declared.kinds.Kind.TheVariants.{Skipped}
+use Rattle.tk_events.specs.declared.payloads.Payload.{Payload}
+use Rattle.tk_queue.specs.Registering.{IsRegisteredAs, RegisterRequest, child_of, registration}
+use Rattle.tk_queue.specs.Senders.{SenderView, sends}
+use Rattle.tk_engine_execute.specs.Engines.{Extends}
+use Rattle.tk_engine_hierarchical.specs.Endings.{IsStaticTest}
+use Rattle.tk_engine_hierarchical.specs.Events.{keys_of}
+use Rattle.tk_engine_hierarchical.specs.Reporting.{HasSkipped, Published, UnitView, event}
+use Rattle.tk_engine_hierarchical.specs.declared.running_keys.RunningKey.{RunningKey}
+
+-- what follows from what holds at `Ok`
+pub on_ok : {F A B : Type 0} (r : Result (Unit {0}) F) → OnOk r A → (A → B) → OnOk r B
+on_ok (Ok _) a f = f a
+on_ok (Err _) a f = tt
+
+pub on_err : {F A B : Type 0} (r : Result (Unit {0}) F) → OnErr r A → (A → B) → OnErr r B
+on_err (Ok _) a f = tt
+on_err (Err _) a f = f a
+
+pub extends_same : (a b : SenderView) → b ≡ a → Extends a b
+extends_same a b e = ([], ap (λ (s : SenderView). s.sent) e ∙ sym (append-nil a.sent))
+
+pub extends_registered : (a b c : SenderView) (ask : RegisterRequest) (key : ℕ) → IsRegisteredAs a b ask (Ok key) → c ≡ b → Extends a c
+extends_registered a b c ask key r e =
+    (registration a ask.stamp (child_of ask r.0) ∷ [], ap (λ (s : SenderView). s.sent) (e ∙ r.5))
+
+-- what holds holds at `Err`
+pub err_of : {F A : Type 0} (r : Result (Unit {0}) F) → A → OnErr r A
+err_of (Ok _) a = tt
+err_of (Err _) a = a
+
+pub grew_same : (old new : SenderView) (outer running : List ℕ) → new ≡ old → running ≡ outer → Extends old new × (running ≡ outer)
+grew_same old new outer running sink same = (extends_same old new sink, same)
+
+pub grew_registered : (old new sink registered : SenderView) (outer running : List ℕ) (ask : RegisterRequest) (key : ℕ) → old ≡ sink
+    → IsRegisteredAs sink registered ask (Ok key) → new ≡ registered → running ≡ outer → Extends old new × (running ≡ outer)
+grew_registered old new sink registered outer running ask key was r now same =
+    (subst (λ s. Extends s new) (sym was) (extends_registered sink registered new ask key r now), same)
+
+pub published : (old new : UnitView) (sink : SenderView) (running rest : List RunningKey) (first : RunningKey) (kind : Kind) (stamp : ℕ) (payload : Payload)
+    → old.sink ≡ sink → old.running ≡ keys_of running → running ≡ first ∷ rest → new.sink ≡ sends sink (event kind first.key stamp payload) → new.running ≡ old.running
+    → Published old new kind stamp payload
+published old new sink running rest first kind stamp payload was view is took same = record {
+  key = first.key;
+  outer = keys_of rest;
+  innermost = view ∙ ap keys_of is;
+  took = took ∙ ap (λ s. sends s (event kind first.key stamp payload)) (sym was);
+  running = same;
+}
+
+pub skipped_child : (old new : UnitView) (sink registered : SenderView) (running rest : List RunningKey) (first : RunningKey) (ask : RegisterRequest) (key : ℕ) (reason : Payload)
+    → old.sink ≡ sink → old.running ≡ keys_of running → running ≡ first ∷ rest → ask.parent ≡ first.key → IsRegisteredAs sink registered ask (Ok key)
+    → new.sink ≡ sends registered (event Skipped key ask.stamp reason) → new.running ≡ old.running → HasSkipped old new ask reason
+skipped_child old new sink registered running rest first ask key reason was view is parent r took same = record {
+  outer = keys_of rest;
+  innermost = view ∙ ap keys_of is ∙ ap (λ k. k ∷ keys_of rest) (sym parent);
+  key = key;
+  registered = registered;
+  registration = subst (λ s. IsRegisteredAs s registered ask (Ok key)) (sym was) r;
+  took = took;
+  running = same;
+}
+
+-- ---- static tests
+
+some_none : {A : Type 0} {x : A} (o : Option A) → o ≡ None → o ≡ Some x → ⊥
+some_none None e h = cc
+some_none (Some y) e h = cc
+
+some_same : {A : Type 0} {x y : A} → Some x ≡ Some y → x ≡ y
+some_same e = cc
+
+false_true : false ≡ true → ⊥
+false_true e = cc
+
+pub not_test : (table : List Descriptor) (key : ℕ) (d : Descriptor) → slice_get table key ≡ Some d → is_test d.dtype ≡ false → IsStaticTest table key → ⊥
+not_test table key d is fails t =
+    let same : d ≡ t.descriptor = some_same (sym is ∙ t.described) in
+    false_true (sym fails ∙ (ap (λ (x : Descriptor). is_test x.dtype) same ∙ t.test))
+
+pub not_there : (table : List Descriptor) (key : ℕ) → slice_get table key ≡ None → IsStaticTest table key → ⊥
+not_there table key is t = some_none (slice_get table key) is t.described
+
+get_past : (table : List Descriptor) (key : ℕ) → length table ≤ key → slice_get table key ≡ None
+get_past [] key h = refl
+get_past (x ∷ xs) zero h = absurd (omega (arith, h))
+get_past (x ∷ xs) (suc key) h = get_past xs key (omega (arith, h))
+
+-- the key of a dynamic descriptor is no static test's
+pub dynamic_is_no_test : (table : List Descriptor) (key : ℕ) → length table ≤ key → IsStaticTest table key → ⊥
+dynamic_is_no_test table key h = not_there table key (get_past table key h)

@@ -1,0 +1,13 @@
+use Rattle.std.proofs.Common.{subst}
+use Rattle.tk_engine_execute.specs.Engines.{Extends, IsSameSender}
+use Rattle.tk_engine_hierarchical.specs.Reporting.{UnitView}
+use Rattle.tk_engine_hierarchical.proofs.Running.{ran_same, ran_some}
+use Rattle.tk_engine_hierarchical.proofs.unit_events.UnitEvents.shows_sink.Goals as goal
+
+pub returns-clause-same : goal.returns-clause-same
+returns-clause-same g c =
+    subst (λ (v : UnitView). IsSameSender g.K.UnitRun.start v.sink) c.self.view_is (ran_same g.K.UnitRun.frame g.K.UnitRun.keys.unit g.K.UnitRun.start _ _ _ _ c.self.invariant.4)
+
+pub returns-clause-some : goal.returns-clause-some
+returns-clause-some g c =
+    subst (λ (v : UnitView). Extends g.K.UnitRun.start v.sink) c.self.view_is (ran_some g.K.UnitRun.frame g.K.UnitRun.keys.unit g.K.UnitRun.start _ _ _ _ c.self.invariant.4)

@@ -1,0 +1,24 @@
+-- What the record of a run of a hierarchical engine says.
+use Rattle.std.specs.Prelude.{◌≡◌, ◌⊎◌, ℕ, ◌<◌, [], ◌∷◌, All, length}
+use Rattle.tk_events.specs.declared.kinds.Kind.TheVariants.{Finished, Skipped, Started}
+use Rattle.tk_record_columns.specs.Recorded.{Recorded}
+use Rattle.tk_query.specs.KeepsLifecycle.{steps_of}
+use Rattle.tk_engine_hierarchical.specs.Covered.{IsBelowSkipped}
+use Rattle.tk_engine_hierarchical.specs.Endings.{EndsAsItMay}
+use Rattle.tk_engine_hierarchical.specs.declared.tests.Outcome.{Outcome}
+
+-- each finish of a static test has an outcome that the test may have, where a unit emitted it;
+-- worker 0 emits the events around the units, which are the plan's
+abbrev pub HasOutcomes : (ℕ → Outcome → Type 0) → Recorded → Type 0
+HasOutcomes may_end r =
+    All (λ x. 0 < x.worker → EndsAsItMay r.table may_end x.event) r.entries
+
+-- the key has one start and then one finish, or one skip, or stands below a key that was skipped
+abbrev pub HasTurn : Recorded → ℕ → Type 0
+HasTurn r key =
+    (steps_of key r.entries ≡ Started ∷ Finished ∷ [])
+    ⊎ ((steps_of key r.entries ≡ Skipped ∷ []) ⊎ IsBelowSkipped r.table r.entries key)
+
+-- so has each static key
+abbrev pub HaveTurns : Recorded → Type 0
+HaveTurns r = (key : ℕ) → key < length r.table → HasTurn r key

@@ -1,0 +1,40 @@
+-- What a unit of a hierarchical engine emits.
+use Rattle.std.specs.Prelude.{◌≡◌, ℕ, List, ◌++◌, All}
+use Rattle.tk_ids.specs.declared.descriptors.Descriptor.{Descriptor}
+use Rattle.tk_events.specs.declared.events.Event.{Event}
+use Rattle.tk_events.specs.declared.events.Entry.{Entry}
+use Rattle.tk_queue.specs.Emission.{entries_by}
+use Rattle.tk_queue.specs.Senders.{SenderView}
+use Rattle.tk_engine_lifecycle.specs.Units.{Frame, KeepsAlone}
+use Rattle.tk_engine_hierarchical.specs.Covered.{AreCovered}
+use Rattle.tk_engine_hierarchical.specs.Endings.{EndsAsItMay}
+use Rattle.tk_engine_hierarchical.specs.declared.tests.Outcome.{Outcome}
+
+-- the number of a unit, and its static keys: from the first one on, and below the end
+pub record UnitKeys : Type 0 where
+  pub unit : ℕ
+  pub first : ℕ
+  pub end : ℕ
+
+-- Of what a unit emits: it keeps the lifecycle where the unit runs alone, each finish of a static
+-- test has an outcome that the test may have, and each of the unit's static keys had its turn.
+pub record RunsUnit (f : Frame) (may_end : ℕ → Outcome → Type 0) (keys : UnitKeys)
+    (worker : ℕ) (events : List Event) : Type 0 where
+  pub keeps : KeepsAlone f keys.unit worker events
+  pub ended : All (EndsAsItMay f.table may_end) events
+  pub covered : AreCovered f.table (entries_by worker events) keys.first keys.end
+
+-- the sink took events since the unit began: this holds of each, and that of all
+pub record HasTaken (each : Event → Type 0) (all : List Entry → Type 0)
+    (start now : SenderView) : Type 0 where
+  pub events : List Event
+  pub sent : now.sent ≡ start.sent ++ events
+  pub each_holds : All each events
+  pub all_hold : all (entries_by start.worker events)
+
+-- so far each finish of a static test has an outcome that the test may have, and each static key
+-- from the first one on and below the next had its turn
+abbrev pub HasPlayed :
+    List Descriptor → (ℕ → Outcome → Type 0) → ℕ → ℕ → SenderView → SenderView → Type 0
+HasPlayed table may_end first next start now =
+    HasTaken (EndsAsItMay table may_end) (λ entries. AreCovered table entries first next) start now
