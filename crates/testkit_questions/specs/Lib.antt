@@ -3,3 +3,4 @@ pub mod Questions
 pub mod Answers
 pub mod Asked
 pub mod Laws
+pub mod FaultTexts

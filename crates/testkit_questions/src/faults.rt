@@ -2,6 +2,7 @@
 ghost use Rattle.std.specs.Prelude.{◌≡◌};
 ghost use Rattle.testkit_questions.specs.declared.faults.AskFault.TheVariants.{Memory as MemoryFault};
 
+use crate::fault_texts::AskFaultText;
 use std::alloc::AllocError;
 use thiserror::Error;
 use tk_query::CondFault;
@@ -9,24 +10,19 @@ use tk_record::ReadFault;
 
 /// Why a question is not answered, in the order in which faults are looked for.
 #[derive(Debug, Drop, Error)]
+#[error("{}", AskFaultText(self))]
 pub enum AskFault {
     /// The question is missing, or its name is that of none.
-    #[error("unknown question")]
     Question,
     /// The word of this number, counted from 0 after the question, is bad or missing.
-    #[error("bad word {0}")]
     Word(usize),
     /// The word of this number is no condition.
-    #[error("condition {0} is {1}")]
     Condition(usize, CondFault),
     /// The input is no record text, or the source broke.
-    #[error("{0}")]
     Read(ReadFault),
     /// The target broke.
-    #[error("device failed")]
     Device,
     /// An allocation failed.
-    #[error("out of memory")]
     Memory,
 }
 

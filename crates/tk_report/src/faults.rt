@@ -2,25 +2,23 @@
 ghost use Rattle.std.specs.Prelude.{◌≡◌};
 ghost use Rattle.tk_report.specs.Faults.{fault_of_plan, fault_of_run};
 
+use crate::fault_texts::ReportFaultText;
 use thiserror::Error;
 use tk_engine_execute::RunFault;
 use tk_plan::PlanFault;
 
 /// Why a report was not written. At `Device` a prefix of it was, at the others nothing.
 #[derive(Debug, Drop, Error)]
+#[error("{}", ReportFaultText(self))]
 pub enum ReportFault {
     /// The bytes are no plan. The fault is never `PlanFault::Memory`, which is `Memory` here.
-    #[error("{0}")]
     Plan(PlanFault),
     /// The plan was not run to its end. The fault is never `RunFault::Memory`, which is `Memory`
     /// here.
-    #[error("{0}")]
     Run(RunFault),
     /// The target broke.
-    #[error("device failed")]
     Device,
     /// A request for memory was refused.
-    #[error("out of memory")]
     Memory,
 }
 
