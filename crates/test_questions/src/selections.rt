@@ -134,6 +134,8 @@ worker:1 [1, 2]
 worker:15 []
 key:0 [0, 4]
 select:succeeded [4]
+select:any(succeeded,aborted) [4]
+select:all() [0, 1, 2, 3, 4]
 select:all(test,not(started)) [2, 3]
 "
 }
