@@ -17,3 +17,4 @@ pub use Rattle.tk_engine_execute.specs.Engines
 pub use Rattle.tk_engine_execute.specs.Grown
 pub use Rattle.tk_engine_events.specs.Events
 pub use Rattle.tk_engine_events.specs.Emitted
+pub use Rattle.tk_engine_hierarchical.specs.declared.tests.Outcome

@@ -1,19 +1,15 @@
-//! Engines as an author writes them: [`EvenEngine`] of one test, and [`CaseEngine`], which runs tables of cases of a function.
-//! Beside them stand engines with a defect.
+//! Engines as an author writes them.
 //!
-//! Proved of each run, beside what [`execute`] proves of any: which events each unit emitted, and in which order. So a test
-//! starts once and finishes once, and succeeds exactly where what it asks is so.
-//!
-//! [`execute`]: engine_testkit::execute
+//! [`even_numbers`] and [`case_engine`] make engines of tests alone: the author writes bodies, and
+//! the library emits the events. [`by_hand`] has engines that emit their events themselves, and
+//! engines with a defect.
 #![tactic(auto)]
 
-mod broken;
+pub mod by_hand;
+mod case_tests;
 mod cases;
-mod engines;
-mod even;
-mod running;
+mod evens;
 
-pub use broken::{BrokenEngine, Defect};
+pub use case_tests::{CaseTests, case_engine};
 pub use cases::{Case, CaseTable, Function};
-pub use engines::CaseEngine;
-pub use even::EvenEngine;
+pub use evens::{EvenNumbers, even_numbers};

@@ -1,11 +1,13 @@
-//! Tests of the example engine, and of engines with a defect, as an author writes them.
+//! Tests of the example engines, and of engines with a defect, as an author writes them.
 #![tactic(auto)]
 
 #[cfg(test)]
-mod broken;
+mod by_hand;
 #[cfg(test)]
-mod cases;
+mod case_tests;
 #[cfg(test)]
-mod even;
+mod evens;
+#[cfg(test)]
+mod halves;
 #[cfg(test)]
 mod questions;

@@ -1,5 +1,5 @@
 //! Questions about each event of a run of the three tables.
-use crate::cases::run;
+use crate::case_tests::run;
 use engine_testkit::questions::read_condition;
 use engine_testkit::{Condition, Events, InOrder, Loose, Results, match_in_order, match_loosely};
 use std::alloc::Global;

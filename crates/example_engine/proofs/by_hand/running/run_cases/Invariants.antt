@@ -1,7 +1,7 @@
 use Rattle.engine_testkit.specs.Emitted.{EmittedAs}
 use Rattle.engine_testkit.specs.Grown.{Grew}
 use Rattle.example_engine.specs.Running.{AreCaseRuns}
-use Rattle.example_engine.proofs.running.run_cases.Given as goal
+use Rattle.example_engine.proofs.by_hand.running.run_cases.Given as goal
 
 -- the cases so far were run
 abbrev pub invariant-loop-index : goal.invariant-loop-index

@@ -4,7 +4,7 @@ use engine_testkit::{
     Condition, Events, Exact, Expected, Mismatch, Results, Selection, execute, executions,
     match_exactly,
 };
-use example_engine::{BrokenEngine, Defect};
+use example_engine::by_hand::{BrokenEngine, Defect};
 use std::alloc::{AllocError, Global};
 use std::sync::Wait;
 use std::thread::Threads;

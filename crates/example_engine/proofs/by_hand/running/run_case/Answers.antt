@@ -1,7 +1,7 @@
 use Rattle.std.proofs.Common.{refl}
 use Rattle.std.proofs.lemmas.Result.{on_ok_weaker}
 use Rattle.engine_testkit.proofs.Emitting.{emitted_first}
-use Rattle.example_engine.proofs.running.run_case.Goals as goal
+use Rattle.example_engine.proofs.by_hand.running.run_case.Goals as goal
 
 pub returns-clause-ok : goal.returns-clause-ok
 returns-clause-ok g c =

@@ -2,7 +2,7 @@ use Rattle.std.proofs.Common.{refl, ap}
 use Rattle.std.proofs.lemmas.Result.{on_ok_weaker}
 use Rattle.std.specs.Option.{option_copied}
 use Rattle.engine_testkit.proofs.Emitting.{emitted_first, emitted_then}
-use Rattle.example_engine.proofs.running.run_table.Goals as goal
+use Rattle.example_engine.proofs.by_hand.running.run_table.Goals as goal
 
 pub returns-in_ok-run_cases-in-None-clause-ok : goal.returns-in_ok-run_cases-in-None-clause-ok
 returns-in_ok-run_cases-in-None-clause-ok g c =

@@ -1,23 +1,26 @@
-//! An engine of one test: is a number even?
+//! An engine of one test by hand: is a number even?
 #![tactic(auto, using(engine_testkit::proofs::Emitting::emissions))]
 
-ghost use Rattle.std.specs.Prelude.{◌≡◌, ◌%◌, ◌==◌, if◌then◌else◌, [], ◌∷◌, None, IfSome};
+ghost use Rattle.std.specs.Prelude.{◌≡◌, ◌<◌, ◌%◌, ◌==◌, if◌then◌else◌, [], ◌∷◌, None, IfSome, length};
 ghost use Rattle.std.specs.Arc.{arc_value};
 ghost use Rattle.engine_testkit.specs.Events.{finished, started};
 ghost use Rattle.engine_testkit.specs.Status.TheVariants.{Failed, Successful};
 
 use engine_testkit::{
-    BookSeat, DType, Engine, Event, Need, Segment, Sink, Status, Table, UnitFault, finish, start,
+    BookSeat, DType, Engine, Event, Need, Segment, Sink, Status, Table, UnitFault, finish,
+    finished, start, started,
 };
 use std::alloc::{AllocError, Global};
 use std::sync::{Arc, Wait};
 
-/// Its test `[engine:even]` succeeds where the number is even.
+/// Its test `[engine:even]/[test:number]` succeeds where the number is even.
 #[derive(Drop)]
 pub struct EvenEngine {
     number: u64,
     need: Need,
     table: Arc<Table>,
+    // The root is there: events of it stand before and after the unit.
+    ghost root: { 0 < length (arc_value table) },
 }
 
 impl EvenEngine {
@@ -25,9 +28,15 @@ impl EvenEngine {
     pub fn new(alloc: Global, number: u64) -> Option<EvenEngine>
         ensures { IfSome result (λ engine. engine.number ≡ number) }
     {
-        let segment = Segment::new(alloc, "engine", "even").ok()?;
+        let root = Segment::new(alloc, "engine", "even").ok()?;
+        let test = Segment::new(alloc, "test", "number").ok()?;
         let mut table = Table::new(alloc);
-        table.add(alloc, None, &segment, "even", DType::Test).ok()?;
+        let key = table
+            .add(alloc, None, &root, "even", DType::Container)
+            .ok()?;
+        table
+            .add(alloc, Some(key), &test, "number", DType::Test)
+            .ok()?;
         let (need, table) = (Need::of(0, 0), Arc::new(alloc, table).ok()?);
         Some(EvenEngine {
             number,
@@ -42,14 +51,14 @@ impl Engine for EvenEngine {
 
     ghost units = { λ e. 1 };
 
-    ghost before = { λ e. [] };
+    ghost before = { λ e. started 0 0 ∷ [] };
 
-    ghost after = { λ e. [] };
+    ghost after = { λ e. finished 0 0 Successful None ∷ [] };
 
     ghost need = { λ e u. e.need };
 
-    ghost may = { λ e u w k l. l ≡ started 0 0
-        ∷ finished 0 0 (if e.number % 2 == 0 then Successful else Failed) None ∷ [] };
+    ghost may = { λ e u w k l. l ≡ started 1 0
+        ∷ finished 1 0 (if e.number % 2 == 0 then Successful else Failed) None ∷ [] };
 
     fn table(&self) -> &Arc<Table> {
         &self.table
@@ -60,11 +69,15 @@ impl Engine for EvenEngine {
     }
 
     fn before(&self, alloc: Global) -> Result<Vec<Event>, AllocError> {
-        Ok(Vec::new(alloc))
+        // For the proof: the root is there.
+        let _table = &self.table;
+        Ok(vec![in alloc; started(0, 0)]?)
     }
 
     fn after(&self, alloc: Global) -> Result<Vec<Event>, AllocError> {
-        Ok(Vec::new(alloc))
+        // For the proof: the root is there.
+        let _table = &self.table;
+        Ok(vec![in alloc; finished(0, 0, Status::Successful, None)]?)
     }
 
     fn need(&self, _unit: u32) -> Need {
@@ -79,11 +92,11 @@ impl Engine for EvenEngine {
         _seat: &BookSeat,
         sink: &mut S,
     ) -> Result<(), UnitFault> {
-        start(rt, 0, 0, sink)?;
+        start(rt, 1, 0, sink)?;
         let status = match self.number % 2 {
             0 => Status::Successful,
             _ => Status::Failed,
         };
-        finish(rt, 0, 0, status, None, sink)
+        finish(rt, 1, 0, status, None, sink)
     }
 }

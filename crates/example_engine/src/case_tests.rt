@@ -1,0 +1,114 @@
+//! The engine of tables of cases: a test for each table, with a dynamic test for each case.
+ghost use Rattle.std.specs.Prelude.{◌≡◌, ◌↔◌, IfOk};
+ghost use Rattle.engine_testkit.specs.Outcome.TheVariants.{Successful};
+
+use crate::cases::{Case, CaseTable, Function};
+use engine_testkit::{
+    Body, ExecutionMode, Hierarchical, LockMode, Outcome, Pairs, PlanNode, Reporter, Segment, Sink,
+    Tests, Text, UnitFault, UnitRun, build_plan,
+};
+use std::alloc::{AllocError, Global};
+use std::sync::Wait;
+
+// A success exactly where the function has the value that the case expects.
+fn outcome_of<F: Function>(alloc: Global, function: &F, case: Case) -> Result<Outcome, AllocError>
+    ensures { IfOk result (λ outcome.
+        (outcome ≡ Successful) ↔ (F.value function.now case.argument ≡ case.expected)) }
+{
+    let expected = case.expected;
+    let actual = function.value(case.argument);
+    if actual == expected {
+        return Ok(Outcome::Successful);
+    }
+    let message = format!(in alloc; "expected: <{expected}> but was: <{actual}>")?;
+    Ok(Outcome::Failed(Some(Text::from(message))))
+}
+
+// A case as the body of a dynamic test.
+#[derive(Drop)]
+struct CaseBody<'a, F> {
+    function: &'a F,
+    case: Case,
+}
+
+impl<F: Function> Body for CaseBody<'_, F> {
+    fn run<R: Wait, S: Sink, K: UnitRun>(
+        &self,
+        _rt: &R,
+        alloc: Global,
+        _reporter: &mut Reporter<'_, S, K>,
+    ) -> Result<Outcome, UnitFault> {
+        Ok(outcome_of(alloc, self.function, self.case)?)
+    }
+}
+
+/// Tables of cases of a function.
+#[derive(Drop)]
+pub struct CaseTests<'a, F> {
+    function: &'a F,
+    tables: &'a [CaseTable<'a>],
+}
+
+impl<F: Function> Tests for CaseTests<'_, F> {
+    // Runs the cases of a table, and publishes how many there are and where its log lies.
+    fn run<R: Wait, S: Sink, K: UnitRun>(
+        &self,
+        rt: &R,
+        alloc: Global,
+        key: u32,
+        reporter: &mut Reporter<'_, S, K>,
+    ) -> Result<Outcome, UnitFault> {
+        // The root's key is 0, so table i has the key i + 1.
+        let Some(table) = self.tables.get((key as usize).saturating_sub(1)) else {
+            return Err(UnitFault::Own(key));
+        };
+        let (name, cases) = (table.name, table.cases.len());
+        for index in 0..cases {
+            let number = format!(in alloc; "{index}")?;
+            let segment = Segment::new(alloc, "case", number.as_str())?;
+            let (function, case) = (self.function, table.cases[index]);
+            let body = CaseBody { function, case };
+            reporter.dynamic_test(rt, alloc, &segment, number.as_str(), &body)?;
+        }
+        let number = Text::from(format!(in alloc; "{cases}")?);
+        reporter.report(
+            rt,
+            Pairs::shared_pair(alloc, Text::copy(alloc, "cases")?, number)?,
+        )?;
+        reporter.publish_file(rt, Text::from(format!(in alloc; "out/{name}.txt")?))?;
+        Ok(Outcome::Successful)
+    }
+}
+
+// A table as a node of the plan: beside other tables, save those that lock the same.
+fn node_of<'t>(
+    alloc: Global,
+    table: CaseTable<'t>,
+    lock: &'t str,
+) -> Result<PlanNode<'t>, AllocError> {
+    let node = PlanNode::container_and_test(alloc, ("table", table.name), table.name)
+        .mode(ExecutionMode::Concurrent)
+        .lock(lock, LockMode::ReadWrite)?;
+    match table.disabled {
+        Some(reason) => Ok(node.skip(reason)),
+        None => Ok(node),
+    }
+}
+
+/// Makes an engine that runs each table under the lock with this key.
+///
+/// It answers `None` where a table's name is empty, too long or that of another table, there are
+/// 65,536 tables, or memory is refused.
+pub fn case_engine<'a, F: Function>(
+    alloc: Global,
+    function: &'a F,
+    tables: &'a [CaseTable<'a>],
+    lock: &'a str,
+) -> Option<Hierarchical<CaseTests<'a, F>>> {
+    let mut root = PlanNode::container(alloc, ("engine", "cases"), "cases");
+    for table in tables {
+        root = root.child(node_of(alloc, *table, lock).ok()?).ok()?;
+    }
+    let plan = build_plan(alloc, &root).ok()?;
+    Hierarchical::new(alloc, plan, CaseTests { function, tables }).ok()
+}

@@ -1,0 +1,5 @@
+//! Engines by hand.
+
+mod broken;
+mod cases;
+mod even;
