@@ -42,6 +42,24 @@ impl<F: Function> Body for CaseBody<'_, F> {
     }
 }
 
+// Runs each case as a dynamic test.
+fn run_cases<F: Function, R: Wait, S: Sink, K: UnitRun>(
+    rt: &R,
+    alloc: Global,
+    function: &F,
+    cases: &[Case],
+    reporter: &mut Reporter<'_, S, K>,
+) -> Result<(), UnitFault> {
+    for (index, case) in cases.iter().enumerate() {
+        let number = format!(in alloc; "{index}")?;
+        let segment = Segment::new(alloc, "case", number.as_str())?;
+        let case = *case;
+        let body = CaseBody { function, case };
+        reporter.dynamic_test(rt, alloc, &segment, number.as_str(), &body)?;
+    }
+    Ok(())
+}
+
 /// Tables of cases of a function.
 #[derive(Drop)]
 pub struct CaseTests<'a, F> {
@@ -63,13 +81,7 @@ impl<F: Function> Tests for CaseTests<'_, F> {
             return Err(UnitFault::Own(key));
         };
         let (name, cases) = (table.name, table.cases.len());
-        for index in 0..cases {
-            let number = format!(in alloc; "{index}")?;
-            let segment = Segment::new(alloc, "case", number.as_str())?;
-            let (function, case) = (self.function, table.cases[index]);
-            let body = CaseBody { function, case };
-            reporter.dynamic_test(rt, alloc, &segment, number.as_str(), &body)?;
-        }
+        run_cases(rt, alloc, self.function, table.cases, reporter)?;
         let number = Text::from(format!(in alloc; "{cases}")?);
         reporter.report(
             rt,
