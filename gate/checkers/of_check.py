@@ -186,7 +186,7 @@ def all_pass(command: str) -> str:
     wanted = 3 * (1 + len(checkers_of_the_gate())) + 1
     counted = "" if came.passed == wanted else f"{came.passed} passed, and {wanted} are wanted"
     program = PROGRAM
-    crates = ("test_records", "test_questions", "test_sessions", "test_plans", "test_runs", "test_example_engine")
+    crates = ("test_records", "test_questions", "test_sessions", "test_plans", "test_runs", "test_hierarchical", "test_example_engine")
     refusals = f"refuse_requests {program} " + " ".join(f"crates/{it}/out/{it}_tests" for it in crates)
     lacking = {"rt ci", f"run_cases {program}", refusals, f"check_documents {program}", f"test_checkers {program}"} - calls
     uncalled = f"{sorted(missing)} isn't called" if missing else ""
