@@ -40,7 +40,7 @@ abbrev pub keys_in : ShapeView → ℕ → UnitKeys
 keys_in s unit =
     record { unit = unit; first = get_or s.firsts unit 0; end = get_or s.ends unit 0 }
 
--- the key is one of a unit's, of so many units
+-- the key is one of those of a unit, whose number is below `units`
 abbrev pub IsInUnit : ℕ → List ℕ → List ℕ → ℕ → Type 0
 IsInUnit units firsts ends key =
     (unit : ℕ) × (unit < units) × (get_or firsts unit 0 ≤ key) × (key < get_or ends unit 0)
