@@ -11,7 +11,7 @@ use Rattle.tk_plan_units.specs.Trees.{Tree, tree, Forest, no_trees, more, forest
 use Rattle.tk_plan_units.specs.Script.{move, opening, moves, moves_below}
 use Rattle.tk_plan_units.specs.Weights.{publications, weight, weights}
 use Rattle.tk_plan_units.specs.Cutting.{Part, Piece, spine_begins, whole_unit, spine_ends, parts, parts_below, moves_of, from_each, piece, begin_events, end_events, spine_numbers, all_static, all_concurrent, on_spine, is_free, is_leaf}
-use Rattle.tk_plan_units.specs.CuttingSteps.{AddsParts, Fits, HasStampAt, HasNode, pieces_of_units, piece_of_nodes, begin_events_of_spine, end_events_of_spine, begin_events_at, end_events_at}
+use Rattle.tk_plan_units.specs.CuttingSteps.{AddsParts, keyed, Fits, HasStampAt, HasNode, pieces_of_units, piece_of_nodes, begin_events_of_spine, end_events_of_spine, begin_events_at, end_events_at}
 use Rattle.tk_plan_units.specs.Events.{opening_events, finish_event}
 use Rattle.tk_plan_units.specs.LockNeeds.{IsNeed}
 use Rattle.tk_plan_units.specs.declared.cuttings.PlanUnit.{PlanUnit}
@@ -39,7 +39,7 @@ each_more : {A : Type 0} (f : ℕ → Part → List A) (old mid : Cutting) (xs y
 each_more f old mid xs ys at = from_each-append f old.first xs ys ∙ ap (λ n. from_each f old.first xs ++ from_each f n ys) (sym at)
 
 pub adds-append : (all : List NumberedNode) (keys : List (List ℕ)) (old mid new : Cutting) (xs ys : List Part)
-    → AddsParts all keys old mid xs → AddsParts all keys mid new ys → AddsParts all keys old new (xs ++ ys)
+    → AddsParts (keyed all keys) old mid xs → AddsParts (keyed all keys) mid new ys → AddsParts (keyed all keys) old new (xs ++ ys)
 adds-append all keys old mid new xs ys a b =
     let at : mid.first ≡ old.first + length (flat_map moves_of xs) = a.first in
     record {
@@ -54,7 +54,7 @@ adds-append all keys old mid new xs ys a b =
       first = b.first ∙ ap (λ n. n + length (flat_map moves_of ys)) at ∙ omega (arith, ap length (flat_map-append moves_of xs ys), length-append (flat_map moves_of xs) (flat_map moves_of ys));
     }
 
-pub adds-none : (all : List NumberedNode) (keys : List (List ℕ)) (old : Cutting) → AddsParts all keys old old []
+pub adds-none : (all : List NumberedNode) (keys : List (List ℕ)) (old : Cutting) → AddsParts (keyed all keys) old old []
 adds-none all keys old = record {
   spine = sym (append-nil _);
   units = sym (append-nil _);
@@ -99,18 +99,18 @@ drop_next : (at : ℕ) (all rest : List NumberedNode) (p : NumberedNode) → dro
 drop_next at all rest p e = sym (drop-drop 1 at all) ∙ ap (drop 1) e
 
 pub unit_adds : (all : List NumberedNode) (keys : List (List ℕ)) (old new : Cutting) (b : Bool) (n : Node) (k : ℕ) (f : Forest)
-    → on_spine b n f ≡ false → AddsParts all keys old new (whole_unit (tree n k f) ∷ []) → AddsParts all keys old new (parts b (tree n k f))
-unit_adds all keys old new b n k f e a = subst (AddsParts all keys old new) (sym (ap (λ s. cond s (spine_begins n k ∷ (parts_below false f ++ spine_ends n k ∷ [])) (whole_unit (tree n k f) ∷ [])) e)) a
+    → on_spine b n f ≡ false → AddsParts (keyed all keys) old new (whole_unit (tree n k f) ∷ []) → AddsParts (keyed all keys) old new (parts b (tree n k f))
+unit_adds all keys old new b n k f e a = subst (AddsParts (keyed all keys) old new) (sym (ap (λ s. cond s (spine_begins n k ∷ (parts_below false f ++ spine_ends n k ∷ [])) (whole_unit (tree n k f) ∷ [])) e)) a
 
 pub spine_adds : (keys : List (List ℕ)) (old one two new : Cutting) (b : Bool) (p : NumberedNode) (f : Forest) (position : ℕ) (below all rest : List NumberedNode)
     → on_spine b p.node f ≡ true
-    → AddsParts all keys old one (spine_begins p.node p.number ∷ [])
-    → ((every after : List NumberedNode) → drop (position + 1) every ≡ below ++ after → AddsParts every keys one two (parts_below false f))
-    → AddsParts all keys two new (spine_ends p.node p.number ∷ [])
-    → drop position all ≡ p ∷ (below ++ rest) → AddsParts all keys old new (parts b (tree p.node p.number f))
+    → AddsParts (keyed all keys) old one (spine_begins p.node p.number ∷ [])
+    → ((every after : List NumberedNode) → drop (position + 1) every ≡ below ++ after → AddsParts (keyed every keys) one two (parts_below false f))
+    → AddsParts (keyed all keys) two new (spine_ends p.node p.number ∷ [])
+    → drop position all ≡ p ∷ (below ++ rest) → AddsParts (keyed all keys) old new (parts b (tree p.node p.number f))
 spine_adds keys old one two new b p f position below all rest e x y z at =
     let whole = adds-append all keys old one new _ _ x (adds-append all keys one two new _ _ (y all rest (drop_next position all _ p at)) z) in
-    subst (AddsParts all keys old new) (sym (ap (λ s. cond s (spine_begins p.node p.number ∷ (parts_below false f ++ spine_ends p.node p.number ∷ [])) (whole_unit (tree p.node p.number f) ∷ [])) e)) whole
+    subst (AddsParts (keyed all keys) old new) (sym (ap (λ s. cond s (spine_begins p.node p.number ∷ (parts_below false f ++ spine_ends p.node p.number ∷ [])) (whole_unit (tree p.node p.number f) ∷ [])) e)) whole
 
 -- ---- one tree after another
 
@@ -123,14 +123,14 @@ pub record Goes (keys : List (List ℕ)) (is_root : Bool) (position at : ℕ) (n
   pub events : now.first + weights (forest left) ≡ old.first + weights (forest nodes)
   pub stands : (all rest : List NumberedNode) → drop position all ≡ nodes ++ rest → drop at all ≡ left ++ rest
   pub adds : (all rest : List NumberedNode) → drop position all ≡ nodes ++ rest → (new : Cutting)
-      → AddsParts all keys now new (parts_below is_root (forest left)) → AddsParts all keys old new (parts_below is_root (forest nodes))
+      → AddsParts (keyed all keys) now new (parts_below is_root (forest left)) → AddsParts (keyed all keys) old new (parts_below is_root (forest nodes))
 
 pub goes_end : (keys : List (List ℕ)) (is_root : Bool) (position at : ℕ) (nodes left : List NumberedNode) (old now : Cutting) → Goes keys is_root position at nodes left old now → length left < 1
     → (now.first ≡ old.first + weights (forest nodes))
-    × ((all rest : List NumberedNode) → drop position all ≡ nodes ++ rest → AddsParts all keys old now (parts_below is_root (forest nodes)))
+    × ((all rest : List NumberedNode) → drop position all ≡ nodes ++ rest → AddsParts (keyed all keys) old now (parts_below is_root (forest nodes)))
 goes_end keys is_root position at nodes [] old now g h = (
   omega (arith, g.events, ap weights forest_nil),
-  λ all rest e. g.adds all rest e now (subst (λ f. AddsParts all keys now now (parts_below is_root f)) (sym forest_nil) (adds-none all keys now)),
+  λ all rest e. g.adds all rest e now (subst (λ f. AddsParts (keyed all keys) now now (parts_below is_root f)) (sym forest_nil) (adds-none all keys now)),
 )
 goes_end keys is_root position at nodes (p ∷ ps) old now g h = absurd (omega arith)
 
@@ -143,7 +143,7 @@ static_tree p after below others s e =
 pub goes_next : (keys : List (List ℕ)) (is_root : Bool) (position at : ℕ) (nodes after below others : List NumberedNode) (p : NumberedNode) (old now new : Cutting)
     → Goes keys is_root position at nodes (p ∷ after) old now → IsSplit p after below others
     → new.first ≡ now.first + weight (tree p.node p.number (forest below))
-    → ((all rest : List NumberedNode) → drop at all ≡ p ∷ (below ++ rest) → AddsParts all keys now new (parts is_root (tree p.node p.number (forest below))))
+    → ((all rest : List NumberedNode) → drop at all ≡ p ∷ (below ++ rest) → AddsParts (keyed all keys) now new (parts is_root (tree p.node p.number (forest below))))
     → Goes keys is_root position (at + p.span) nodes others old new
 goes_next keys is_root position at nodes after below others p old now new g s first add =
     let one = static_tree p after below others s g.statics in
@@ -158,7 +158,7 @@ goes_next keys is_root position at nodes after below others p old now new g s fi
       events = omega (arith, g.events, one.0, first);
       stands = λ all rest e. sym (drop-drop p.span at all) ∙ ap (drop p.span) (here all rest e) ∙ drop_at (p ∷ below) (others ++ rest) p.span (sym s.span);
       adds = λ all rest e last. λ a. g.adds all rest e last (
-          subst (λ f. AddsParts all keys now last (parts_below is_root f)) (sym s.trees)
+          subst (λ f. AddsParts (keyed all keys) now last (parts_below is_root f)) (sym s.trees)
           (adds-append all keys now new last _ _ (add all (others ++ rest) (here all rest e)) a)
           );
     }
@@ -181,7 +181,7 @@ pub begin_adds : (all rest : List NumberedNode) (keys : List (List ℕ)) (old ne
     → new.starts.items ≡ old.starts.items ++ s ∷ []
     → new.units.items ≡ old.units.items → new.pieces.items ≡ old.pieces.items → new.finishes.items ≡ old.finishes.items
     → new.first ≡ old.first + (1 + publications p.node)
-    → AddsParts all keys old new (spine_begins p.node p.number ∷ [])
+    → AddsParts (keyed all keys) old new (spine_begins p.node p.number ∷ [])
 begin_adds all rest keys old new p s at same limit spine starts units pieces finishes first =
     let there : begin_events_at (drop s.position all) s.stamp ≡ opening_events p.number old.first p.node = ap₂ begin_events_at at same in
     let sits : HasStampAt all s = record { top = p; rest = rest; position = at; limit = omega (arith, same, limit) } in
@@ -202,7 +202,7 @@ pub end_adds : (all rest : List NumberedNode) (keys : List (List ℕ)) (old new 
     → new.finishes.items ≡ old.finishes.items ++ s ∷ []
     → new.spine.items ≡ old.spine.items → new.units.items ≡ old.units.items → new.pieces.items ≡ old.pieces.items → new.starts.items ≡ old.starts.items
     → new.first ≡ old.first + 1
-    → AddsParts all keys old new (spine_ends p.node p.number ∷ [])
+    → AddsParts (keyed all keys) old new (spine_ends p.node p.number ∷ [])
 end_adds all rest keys old new p s at same finishes spine units pieces starts first =
     let there : end_events_at (drop s.position all) s.stamp ≡ finish_event p.number old.first p.node ∷ [] = ap₂ end_events_at at same in
     let sits : HasNode all s = (p, rest, at) in
@@ -229,7 +229,7 @@ pub add_adds : (all : List NumberedNode) (keys : List (List ℕ)) (old new : Cut
     → new.spine.items ≡ old.spine.items → new.starts.items ≡ old.starts.items → new.finishes.items ≡ old.finishes.items
     → new.units.items ≡ old.units.items ++ p.number ∷ [] → new.pieces.items ≡ old.pieces.items ++ u ∷ []
     → new.first ≡ old.first + weight (tree p.node p.number (forest below))
-    → AddsParts all keys old new (whole_unit (tree p.node p.number (forest below)) ∷ [])
+    → AddsParts (keyed all keys) old new (whole_unit (tree p.node p.number (forest below)) ∷ [])
 add_adds all keys old new p below rest u at span trees need same limit spine starts finishes units pieces first =
     let t : Tree = tree p.node p.number (forest below) in
     let fit : Fits all keys u = record { top = p; below = below; rest = rest; position = at; span = span; trees = trees; need = need; limit = subst (λ i. i + weight (tree p.node p.number (forest below)) ≤ MAX_EVENTS) (sym same) limit } in

@@ -10,7 +10,7 @@ use Rattle.tk_plan_units.specs.Trees.{forest, IsForest, contents, number_of, tre
 use Rattle.tk_plan_units.specs.Weights.{weight, weights}
 use Rattle.tk_plan_units.specs.Script.{moves, stamped}
 use Rattle.tk_plan_units.specs.Cutting.{Piece, Part, spine_begins, whole_unit, spine_ends, moves_of, all_static, root_script, parts_below, from_each, piece, begin_events, end_events, spine_of, units_of, pieces_of, script_of, steps_of}
-use Rattle.tk_plan_units.specs.CuttingSteps.{AddsParts, Fits, HasStampAt, HasNode, pieces_of_units, begin_events_of_spine, end_events_of_spine}
+use Rattle.tk_plan_units.specs.CuttingSteps.{AddsParts, keyed, Fits, HasStampAt, HasNode, pieces_of_units, begin_events_of_spine, end_events_of_spine}
 use Rattle.tk_plan_units.specs.CutPlans.{IsCut}
 use Rattle.tk_plan_units.specs.Keys.{lock_keys}
 use Rattle.tk_plan_units.specs.Planned.{IsWithin, IsNeedOf, piece_asks}
@@ -26,10 +26,10 @@ of_none P xs e k d l = absurd (omega (arith, ap length e, l))
 pub planned : (nodes passed : List NumberedNode) (keys : List (List ℕ)) (old new : Cutting) → passed ≡ nodes → keys ≡ lock_keys (contents nodes) → IsForest nodes → weights (forest nodes) ≤ MAX_EVENTS → all_static (forest nodes) ≡ true
     → old.spine.items ≡ [] → old.units.items ≡ [] → old.pieces.items ≡ [] → old.starts.items ≡ [] → old.finishes.items ≡ [] → old.first ≡ 0
     → new.first ≡ old.first + weights (forest passed)
-    → ((all rest : List NumberedNode) → drop 0 all ≡ passed ++ rest → AddsParts all keys old new (parts_below true (forest passed)))
+    → ((all rest : List NumberedNode) → drop 0 all ≡ passed ++ rest → AddsParts (keyed all keys) old new (parts_below true (forest passed)))
     → IsCut nodes new
 planned nodes passed keys old new same known trees limit statics spine units pieces starts finishes first total adds =
-    let a : AddsParts nodes keys old new (parts_below true (forest nodes)) = subst (λ ps. AddsParts nodes keys old new (parts_below true (forest ps))) same (adds nodes [] (sym (append-nil passed ∙ same))) in
+    let a : AddsParts (keyed nodes keys) old new (parts_below true (forest nodes)) = subst (λ ps. AddsParts (keyed nodes keys) old new (parts_below true (forest ps))) same (adds nodes [] (sym (append-nil passed ∙ same))) in
     record {
       trees = trees;
       statics = statics;

@@ -15,7 +15,7 @@ use Rattle.tk_plan_units.specs.declared.nodes.Node.{Node}
 use Rattle.tk_plan_units.specs.declared.nodes.NumberedNode.{NumberedNode}
 use Rattle.tk_plan_units.specs.Trees.{Tree, tree, Forest, no_trees, more, flat, flats, forest, IsForest, contents}
 use Rattle.tk_plan_units.specs.Script.{moves, opening}
-use Rattle.tk_plan_units.specs.Events.{published, opening_events, finish_event, IsStatic, AreStatic}
+use Rattle.tk_plan_units.specs.Events.{event, published, entry_event, file_event, opening_events, finish_event, IsStatic, AreStatic}
 use Rattle.tk_plan_units.specs.Cutting.{Part, spine_begins, whole_unit, spine_ends, parts, parts_below, from_each, begin_events, end_events, piece, moves_of, on_spine, all_static, before_of, after_of, units_of, pieces_of}
 use Rattle.tk_plan_units.specs.Numbers.{IsNumbered, of_kind}
 use Rattle.tk_plan_units.specs.Ids.{ids_below}
@@ -70,18 +70,18 @@ module _ (table : List Descriptor) where
   -- ---- their events
 
   published_static : {A : Type 0} (kind : Kind) (payload : A → Payload) → kind ≢ Dynamic → (k i : ℕ) (xs : List A) → k < length table → list_all (λ x. is_lawful kind (payload x)) xs ≡ true
-      → All (IsStatic table) (published kind payload k i xs)
+      → All (IsStatic table) (published (λ j y. event kind k j (payload y)) i xs)
   published_static kind payload other k i [] l h = All-nil (IsStatic table)
   published_static kind payload other k i (x ∷ xs) l h =
       let both = if_both (is_lawful kind (payload x)) _ h in
-      All-cons (IsStatic table) _ (published kind payload k (i + 1) xs) (record { known = l; lawful = both.0; registers_none = other }) (published_static kind payload other k (i + 1) xs l both.1)
+      All-cons (IsStatic table) _ (published (λ j y. event kind k j (payload y)) (i + 1) xs) (record { known = l; lawful = both.0; registers_none = other }) (published_static kind payload other k (i + 1) xs l both.1)
 
   begun_static : (k i : ℕ) (n : Node) → Fit n k → All (IsStatic table) (opening_events k i n)
   begun_static k i n fit =
       let own = if_both (is_lawful Finished (Outcome n.status n.message)) _ fit.0 in
       let both = if_both (list_all (λ e. is_lawful Reporting (Report e)) n.entries) _ own.1 in
       All-cons (IsStatic table) _ _ (record { known = fit.1; lawful = refl; registers_none = λ same. cc })
-      (All-append (IsStatic table) (published Reporting Report k (i + 1) n.entries) (published File Path k (i + 1 + length n.entries) n.files)
+      (All-append (IsStatic table) (published (entry_event k) (i + 1) n.entries) (published (file_event k) (i + 1 + length n.entries) n.files)
       (published_static Reporting Report (λ same. cc) k (i + 1) n.entries fit.1 both.0)
       (published_static File Path (λ same. cc) k (i + 1 + length n.entries) n.files fit.1 both.1))
 
@@ -103,13 +103,13 @@ module _ (table : List Descriptor) where
 
 -- ---- how many there are
 
-length-published : {A : Type 0} (kind : Kind) (payload : A → Payload) (k i : ℕ) (xs : List A) → length (published kind payload k i xs) ≡ length xs
+length-published : {A : Type 0} (kind : Kind) (payload : A → Payload) (k i : ℕ) (xs : List A) → length (published (λ j y. event kind k j (payload y)) i xs) ≡ length xs
 length-published kind payload k i [] = refl
 length-published kind payload k i (x ∷ xs) = ap suc (length-published kind payload k (i + 1) xs)
 
 length-begun : (k i : ℕ) (n : Node) → length (opening_events k i n) ≡ length (opening n k)
 length-begun k i n =
-    omega (arith, length-append (published Reporting Report k (i + 1) n.entries) (published File Path k (i + 1 + length n.entries) n.files), length-published Reporting Report k (i + 1) n.entries, length-published File Path k (i + 1 + length n.entries) n.files, length-opening n k)
+    omega (arith, length-append (published (entry_event k) (i + 1) n.entries) (published (file_event k) (i + 1 + length n.entries) n.files), length-published Reporting Report k (i + 1) n.entries, length-published File Path k (i + 1 + length n.entries) n.files, length-opening n k)
 
 heads_few : (i : ℕ) (ps : List Part) → length (from_each begin_events i ps) ≤ length (flat_map moves_of ps)
 heads_few i [] = omega arith

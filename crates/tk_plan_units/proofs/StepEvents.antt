@@ -10,7 +10,7 @@ use Rattle.tk_plan_units.specs.declared.steps.Act.{Act}
 use Rattle.tk_plan_units.specs.declared.steps.Act.TheVariants.{Report, File, Finish}
 use Rattle.tk_plan_units.specs.Trees.{Forest}
 use Rattle.tk_plan_units.specs.Script.{move, each_act, opening, stamped}
-use Rattle.tk_plan_units.specs.Events.{event, published, opening_events, finish_event}
+use Rattle.tk_plan_units.specs.Events.{event, published, entry_event, file_event, opening_events, finish_event}
 use Rattle.tk_plan_units.specs.StepEvents.{kind_of, payload_of, event_of_step}
 use Rattle.tk_plan_units.specs.Cutting.{Part, parts_below, moves_of, from_each, all_static, root_script}
 use Rattle.tk_plan_units.proofs.Knowing.{seam_some}
@@ -22,18 +22,18 @@ use Rattle.tk_plan_units.proofs.Cuts.{parts_below-moves}
 acts_emitted : {A : Type 0} (kind : Kind) (payload : A → Payload) (act : ℕ → Act) (k : ℕ) (n : Node) → ((j : ℕ) → kind_of (act j) ≡ kind)
     → (all : List A) → ((j : ℕ) (x : A) → slice_get all j ≡ Some x → payload_of n (act j) ≡ payload x)
     → (prefix xs : List A) (i j : ℕ) → all ≡ prefix ++ xs → j ≡ length prefix
-    → published kind payload k i xs ≡ map (event_of_step n) (stamped i (each_act act k j xs))
+    → published (λ j y. event kind k j (payload y)) i xs ≡ map (event_of_step n) (stamped i (each_act act k j xs))
 acts_emitted kind payload act k n is all says prefix [] i j f g = refl
 acts_emitted kind payload act k n is all says prefix (x ∷ xs) i j f g =
     ap₂ (λ e l. e ∷ l)
     (ap₂ (λ d p. event d k i p) (sym (is j)) (sym (says j x (ap (λ l. slice_get l j) f ∙ seam_some prefix xs x j g))))
     (acts_emitted kind payload act k n is all says (prefix ++ x ∷ []) xs (i + 1) (j + 1) (f ∙ sym (append_assoc prefix (x ∷ []) xs)) (omega (arith, g, length-append prefix (x ∷ []))))
 
-entries_emitted : (n : Node) (k i : ℕ) → published kinds.Reporting payloads.Report k i n.entries ≡ map (event_of_step n) (stamped i (each_act Report k 0 n.entries))
+entries_emitted : (n : Node) (k i : ℕ) → published (entry_event k) i n.entries ≡ map (event_of_step n) (stamped i (each_act Report k 0 n.entries))
 entries_emitted n k i =
     acts_emitted kinds.Reporting payloads.Report Report k n (λ j. refl) n.entries (λ j x e. ap (λ o. payloads.Report (unwrap_or o [])) e) [] n.entries i 0 refl refl
 
-files_emitted : (n : Node) (k i : ℕ) → published kinds.File payloads.Path k i n.files ≡ map (event_of_step n) (stamped i (each_act File k 0 n.files))
+files_emitted : (n : Node) (k i : ℕ) → published (file_event k) i n.files ≡ map (event_of_step n) (stamped i (each_act File k 0 n.files))
 files_emitted n k i =
     acts_emitted kinds.File payloads.Path File k n (λ j. refl) n.files (λ j x e. ap (λ o. payloads.Path (unwrap_or o [])) e) [] n.files i 0 refl refl
 

@@ -64,26 +64,45 @@ pub record HasStampAt (all : List NumberedNode) (s : SpineStamp) : Type 0 where
   pub position : drop s.position all ≡ top ∷ rest
   pub limit : s.stamp + publications top.node ≤ MAX_EVENTS
 
+-- the nodes of a plan, and its lock keys
+pub record KeyedNodes : Type 0 where
+  pub nodes : List NumberedNode
+  pub keys : List (List ℕ)
+
+abbrev pub keyed : List NumberedNode → List (List ℕ) → KeyedNodes
+keyed nodes keys = record { nodes = nodes; keys = keys }
+
 -- these parts were added: to the spine's numbers, the units, and the stamps of starts and finishes
-pub record AddsParts (all : List NumberedNode) (keys : List (List ℕ)) (old new : Cutting)
-    (ps : List Part) : Type 0 where
+pub record AddsParts (plan : KeyedNodes) (old new : Cutting) (ps : List Part) : Type 0 where
   pub spine : new.spine.items ≡ old.spine.items ++ flat_map spine_numbers ps
   pub units : new.units.items ≡ old.units.items
       ++ map (λ u. number_of u.tree) (from_each piece old.first ps)
-  pub pieces : pieces_of_units all new.pieces.items ≡ pieces_of_units all old.pieces.items
+  pub pieces : pieces_of_units plan.nodes new.pieces.items
+      ≡ pieces_of_units plan.nodes old.pieces.items
       ++ from_each piece old.first ps
-  pub fits : All (Fits all keys) old.pieces.items → All (Fits all keys) new.pieces.items
-  pub begin_events_of_spine : begin_events_of_spine all new.starts.items
-      ≡ begin_events_of_spine all old.starts.items ++ from_each begin_events old.first ps
-  pub starts : All (HasStampAt all) old.starts.items → All (HasStampAt all) new.starts.items
-  pub end_events_of_spine : end_events_of_spine all new.finishes.items
-      ≡ end_events_of_spine all old.finishes.items ++ from_each end_events old.first ps
-  pub finishes : All (HasNode all) old.finishes.items → All (HasNode all) new.finishes.items
+  pub fits : All (Fits plan.nodes plan.keys) old.pieces.items
+      → All (Fits plan.nodes plan.keys) new.pieces.items
+  pub begin_events_of_spine : begin_events_of_spine plan.nodes new.starts.items
+      ≡ begin_events_of_spine plan.nodes old.starts.items ++ from_each begin_events old.first ps
+  pub starts : All (HasStampAt plan.nodes) old.starts.items
+      → All (HasStampAt plan.nodes) new.starts.items
+  pub end_events_of_spine : end_events_of_spine plan.nodes new.finishes.items
+      ≡ end_events_of_spine plan.nodes old.finishes.items ++ from_each end_events old.first ps
+  pub finishes : All (HasNode plan.nodes) old.finishes.items
+      → All (HasNode plan.nodes) new.finishes.items
   pub first : new.first ≡ old.first + length (flat_map moves_of ps)
 
--- cutting these nodes, which stand at the position, adds these parts
-abbrev pub AddsPartsAt :
-    ℕ → List NumberedNode → List (List ℕ) → Cutting → Cutting → List Part → Type 0
-AddsPartsAt position nodes keys old new ps =
-    (all rest : List NumberedNode) → drop position all ≡ nodes ++ rest
-    → AddsParts all keys old new ps
+-- nodes that stand at a position among those of a plan, and the plan's lock keys
+pub record PlacedNodes : Type 0 where
+  pub position : ℕ
+  pub nodes : List NumberedNode
+  pub keys : List (List ℕ)
+
+abbrev pub placed : ℕ → List NumberedNode → List (List ℕ) → PlacedNodes
+placed position nodes keys = record { position = position; nodes = nodes; keys = keys }
+
+-- cutting these nodes adds these parts
+abbrev pub AddsPartsAt : PlacedNodes → Cutting → Cutting → List Part → Type 0
+AddsPartsAt p old new ps =
+    (all rest : List NumberedNode) → drop p.position all ≡ p.nodes ++ rest
+    → AddsParts (keyed all p.keys) old new ps

@@ -14,18 +14,26 @@ use Rattle.tk_plan_units.specs.declared.nodes.Node.{Node}
 abbrev pub event : Kind → ℕ → ℕ → Payload → Event
 event kind key stamp payload = record { kind = kind; key = key; stamp = stamp; payload = payload }
 
--- an event for each of some payloads' contents, with the stamps from a first one on
-abbrev pub published : {A : Type 0} → Kind → (A → Payload) → ℕ → ℕ → List A → List Event
-published kind payload k i [] = []
-published kind payload k i (x ∷ xs) =
-    event kind k i (payload x) ∷ published kind payload k (i + 1) xs
+-- the event that publishes an entry of the node of that key, with that stamp
+abbrev pub entry_event : ℕ → ℕ → List (List ℕ × List ℕ) → Event
+entry_event key stamp pairs = event Reporting key stamp (Report pairs)
+
+-- the event that publishes a file of the node of that key, with that stamp
+abbrev pub file_event : ℕ → ℕ → List ℕ → Event
+file_event key stamp path = event File key stamp (Path path)
+
+-- an event for each of some contents, with the stamps from a first one on
+abbrev pub published : {A : Type 0} → (ℕ → A → Event) → ℕ → List A → List Event
+published event_with stamp [] = []
+published event_with stamp (x ∷ xs) =
+    event_with stamp x ∷ published event_with (stamp + 1) xs
 
 -- a node's start, then its entries in order, then its files in order
 abbrev pub opening_events : ℕ → ℕ → Node → List Event
 opening_events k i n =
     event Started k i Nothing
-    ∷ (published Reporting Report k (i + 1) n.entries
-    ++ published File Path k (i + 1 + length n.entries) n.files)
+    ∷ (published (entry_event k) (i + 1) n.entries
+    ++ published (file_event k) (i + 1 + length n.entries) n.files)
 
 -- a node's finish
 abbrev pub finish_event : ℕ → ℕ → Node → Event

@@ -3,7 +3,7 @@ ghost use Rattle.std.specs.Prelude.{◌≡◌, ◌≤◌, ◌+◌, ◌*◌, ◌^
 ghost use Rattle.tk_plan_units.specs.Trees.{IsForest, forest, tree_of, contents};
 ghost use Rattle.tk_plan_units.specs.Weights.{publications, weight, weights};
 ghost use Rattle.tk_plan_units.specs.Cutting.{spine_begins, whole_unit, spine_ends, parts, parts_below, all_static};
-ghost use Rattle.tk_plan_units.specs.CuttingSteps.{AddsPartsAt};
+ghost use Rattle.tk_plan_units.specs.CuttingSteps.{AddsPartsAt, placed};
 ghost use Rattle.tk_plan_units.specs.CutPlans.{IsCut};
 ghost use Rattle.tk_plan_units.specs.Keys.{lock_keys};
 ghost use Rattle.tk_ids.specs.declared.tables.TheConstants.{MAX_DESCRIPTORS};
@@ -70,13 +70,13 @@ impl Cutting {
         }
     }
 
-    /// AddsParts a start on the spine with its entries and its files.
+    /// Adds a start on the spine with its entries and its files.
     fn begin(&mut self, numbered_node: &NumberedNode, position: usize) -> Result<(), AllocError>
         requires { self.old.first + (1 + publications numbered_node.now.node) ≤ MAX_EVENTS }
         ensures first { OnOk result
             (self.new.first ≡ self.old.first + (1 + publications numbered_node.now.node)) }
         ensures adds { OnOk result ((keys : List (List ℕ))
-            → AddsPartsAt position (numbered_node.now ∷ []) keys self.old self.new
+            → AddsPartsAt (placed position (numbered_node.now ∷ []) keys) self.old self.new
             (spine_begins numbered_node.now.node numbered_node.now.number ∷ [])) }
     {
         self.spine.push(numbered_node.number)?;
@@ -88,12 +88,12 @@ impl Cutting {
         Ok(())
     }
 
-    /// AddsParts a finish on the spine.
+    /// Adds a finish on the spine.
     fn end(&mut self, numbered_node: &NumberedNode, position: usize) -> Result<(), AllocError>
         requires { self.old.first ≤ MAX_EVENTS }
         ensures first { OnOk result (self.new.first ≡ self.old.first + 1) }
         ensures adds { OnOk result ((keys : List (List ℕ))
-            → AddsPartsAt position (numbered_node.now ∷ []) keys self.old self.new
+            → AddsPartsAt (placed position (numbered_node.now ∷ []) keys) self.old self.new
             (spine_ends numbered_node.now.node numbered_node.now.number ∷ [])) }
     {
         self.finishes.push(SpineStamp {
@@ -104,7 +104,7 @@ impl Cutting {
         Ok(())
     }
 
-    /// AddsParts a unit.
+    /// Adds a unit.
     fn add(
         &mut self,
         keys: &[Text],
@@ -120,7 +120,8 @@ impl Cutting {
         ensures first { OnOk result
             (self.new.first ≡ self.old.first + weight (tree_of numbered_node.now below.now)) }
         ensures adds { OnOk result
-            (AddsPartsAt position (numbered_node.now ∷ below.now) keys.now self.old self.new
+            (AddsPartsAt (placed position (numbered_node.now ∷ below.now) keys.now)
+            self.old self.new
             (whole_unit (tree_of numbered_node.now below.now) ∷ [])) }
     {
         self.units.push(numbered_node.number)?;
@@ -151,8 +152,8 @@ fn cut_tree(
     ensures first { OnOk result
         (cutting.new.first ≡ cutting.old.first + weight (tree_of numbered_node.now below.now)) }
     ensures adds { OnOk result
-        (AddsPartsAt position (numbered_node.now ∷ below.now) keys.now cutting.old cutting.new
-        (parts is_root (tree_of numbered_node.now below.now))) }
+        (AddsPartsAt (placed position (numbered_node.now ∷ below.now) keys.now)
+        cutting.old cutting.new (parts is_root (tree_of numbered_node.now below.now))) }
 {
     if !is_on_spine(is_root, &numbered_node.node, below) {
         cutting.add(keys, numbered_node, below, position)?;
@@ -180,8 +181,8 @@ fn cut_all(
     requires limit { cutting.old.first + weights (forest nodes.now) ≤ MAX_EVENTS }
     ensures first { OnOk result
         (cutting.new.first ≡ cutting.old.first + weights (forest nodes.now)) }
-    ensures adds { OnOk result (AddsPartsAt position nodes.now keys.now cutting.old cutting.new
-        (parts_below is_root (forest nodes.now))) }
+    ensures adds { OnOk result (AddsPartsAt (placed position nodes.now keys.now)
+        cutting.old cutting.new (parts_below is_root (forest nodes.now))) }
 {
     let mut rest = nodes;
     let mut at = position;

@@ -49,7 +49,7 @@ pub(crate) fn payload(alloc: Global, node: &Node, act: Act) -> Result<Payload, A
     }
 }
 
-/// AddsParts a node's start, its entries and its files, with their stamps.
+/// Adds a node's start, its entries and its files, with their stamps.
 pub(crate) fn push_opening_events(
     alloc: Global,
     numbered_node: &NumberedNode,
@@ -87,7 +87,7 @@ pub(crate) fn push_opening_events(
     Ok(())
 }
 
-/// AddsParts a node's finish.
+/// Adds a node's finish.
 pub(crate) fn push_finish_event(
     numbered_node: &NumberedNode,
     stamp: u64,

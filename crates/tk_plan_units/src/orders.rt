@@ -5,7 +5,7 @@ ghost use Rattle.tk_plan_units.specs.Numbers.{at_positions, of_kind, ArePosition
 use crate::nodes::NumberedNode;
 use std::alloc::{AllocError, Global};
 
-/// AddsParts the positions of the static nodes, or of the others.
+/// Adds the positions of the static nodes, or of the others.
 fn push_positions(
     nodes: &[NumberedNode],
     is_static: bool,

@@ -63,7 +63,7 @@ pub(crate) fn push_tree(
     Ok(())
 }
 
-/// AddsParts what some trees do below a parent.
+/// Adds what some trees do below a parent.
 #[cycle(moving)]
 fn push_all(parent: u32, nodes: &[NumberedNode], moves: &mut Vec<Move>) -> Result<(), AllocError>
     requires nodes { IsForest nodes.now }

@@ -1,16 +1,16 @@
 use Rattle.std.proofs.Common.{◌≡◌, ◌++◌, ◌+◌, drop, length}
 use Rattle.tk_events.specs.declared.kinds.Kind.TheVariants.{Reporting, File}
 use Rattle.tk_events.specs.declared.payloads.Payload.TheVariants.{Report, Path}
-use Rattle.tk_plan_units.specs.Events.{opening_events, published}
+use Rattle.tk_plan_units.specs.Events.{opening_events, published, entry_event, file_event}
 use Rattle.tk_plan_units.proofs.events.push_opening_events.Given as goal
 
 abbrev pub invariant-entries : goal.invariant-entries
 invariant-entries l =
     let node = l.numbered_node.node in
     l.fn.events.items ++ opening_events l.numbered_node.number l.stamp node
-    ≡ l.events.items ++ (published Reporting Report l.numbered_node.number (l.stamp + 1 + l.index) (drop l.index l.entries) ++ published File Path l.numbered_node.number (l.stamp + 1 + length node.entries) node.files)
+    ≡ l.events.items ++ (published (entry_event l.numbered_node.number) (l.stamp + 1 + l.index) (drop l.index l.entries) ++ published (file_event l.numbered_node.number) (l.stamp + 1 + length node.entries) node.files)
 
 abbrev pub invariant-files : goal.invariant-files
 invariant-files l =
     l.fn.events.items ++ opening_events l.numbered_node.number l.stamp l.numbered_node.node
-    ≡ l.events.items ++ published File Path l.numbered_node.number (l.first + l.index) (drop l.index l.path-items)
+    ≡ l.events.items ++ published (file_event l.numbered_node.number) (l.first + l.index) (drop l.index l.path-items)
