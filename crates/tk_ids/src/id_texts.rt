@@ -29,6 +29,7 @@ impl Model for IdText {
 }
 
 impl IdText {
+    /// Makes the key of the id that keeps `path`. Its text is not copied.
     pub(crate) fn of(path: Arc<IdFields>) -> IdText
         ensures { result ≡ (arc_value path).text }
     {

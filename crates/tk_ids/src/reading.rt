@@ -168,6 +168,7 @@ impl Reader {
     ghost use Rattle.tk_ids.specs.Reader.{ContinuesAsText, IsSound};
     ghost use Rattle.tk_ids.specs.IdText.{SegmentView};
 
+    /// Makes a reader that has read no byte.
     pub(crate) fn new(alloc: Global) -> Reader
         ensures { result ≡ Before [] }
     {

@@ -44,6 +44,7 @@ impl Segment {
     ghost use Rattle.tk_ids.specs.IdText.{IsNonEmptyText};
     ghost use Rattle.tk_ids.specs.Answer.{IsSegmentOf};
 
+    /// Makes a segment of `tag` and `value`, which stand without escapes, and copies neither.
     pub(crate) fn from_parts(alloc: Global, tag: Text, value: Text) -> Result<Segment, AllocError>
         requires tag { IsNonEmptyText tag }
         requires value { IsNonEmptyText value }

@@ -16,6 +16,9 @@ byte_written text i start out new lt e f =
     ∙ ap (λ l. start ++ l) (sym (escaped-append (take i text) (b ∷ [])))
     ∙ ap (λ l. start ++ escaped l) (sym (take_more text i 0 lt))
 
+pub returns-then-is_plain : goal.returns-then-is_plain
+returns-then-is_plain c = c.in_ok-extend_from_slice.ensures.items ∙ ap (λ l. c.args.out.now.items ++ l) (c.as_bytes.ensures.value ∙ sym (c.is_plain.ensures c.if-is_plain.true))
+
 pub loop-byte-preserved : goal.loop-byte-preserved
 loop-byte-preserved c =
     let b = get_or c.as_bytes-byte-items.result.now c.loop-byte.byte-index 0 in
