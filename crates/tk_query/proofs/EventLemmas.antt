@@ -15,7 +15,7 @@ use Rattle.tk_record_columns.specs.Entries.{of_kind, with_entry}
 use Rattle.tk_record_columns.specs.Recorded.{Recorded}
 use Rattle.tk_query.specs.Lifecycle.{HasId, has_event, has_run, runs, rank, Breaks, BreaksFirst, BreaksNone, KnowsId, KnowsNoParent, HasNoRunningParent, RunsAgain, EndsNothing, LeavesChild}
 use Rattle.tk_query.specs.KeyStates.{idle, state_of, is_key, is_running, running_child, refusal, start_refusal, finish_refusal, IsFirstRunning}
-use Rattle.tk_query.specs.Progress.{AreStates, AreIds, IsProgress, IsChecked, IsFirstOfRuns, IsFound, IsKnownId, IsKnownParent, IsParent, IsParentOf, IsPhase, IsSought, is_at_rest, missing_parent}
+use Rattle.tk_query.specs.Progress.{AreStates, AreIds, IsProgress, IsChecked, IsFirstOfRuns, IsFound, IsKnownId, IsKnownParent, IsParent, IsParentOf, IsPhase, IsSought, is_at_rest, missing_parent, next_event}
 use Rattle.tk_query.specs.declared.lifecycle_rules.LifecycleRule.{LifecycleRule}
 use Rattle.tk_query.specs.declared.lifecycle_rules.LifecycleRule.TheVariants.{IdKnown, ParentUnknown, ParentNotRunning, RanAlready, NotRunning, ChildRunning}
 use Rattle.tk_query.specs.declared.key_states.KeyState.{KeyState}
@@ -394,7 +394,7 @@ module _ (past : Recorded) (e : Entry) (id : List SegmentView) (states : List Ke
     pub checked_own : (rest : Bool) → rest ≡ is_at_rest states parent → rest ≡ false → (refused : Option LifecycleRule) (rule : LifecycleRule) → refused ≡ refusal e.event.kind state → refused ≡ Some rule → BreaksFirst past e rule
     checked_own rest r t refused rule f g = breaks_own past e id states ids p its parent rule (checked_fresh is) parent_is (sym r ∙ t) (ap (refusal e.event.kind) (sym state_is) ∙ sym f ∙ g)
 
-    pub checked_none : (rest : Bool) → rest ≡ is_at_rest states parent → rest ≡ false → (refused : Option LifecycleRule) → refused ≡ refusal e.event.kind state → refused ≡ None → IsChecked past states e id (Ok parent)
+    pub checked_none : (rest : Bool) → rest ≡ is_at_rest states parent → rest ≡ false → (refused : Option LifecycleRule) → refused ≡ refusal e.event.kind state → refused ≡ None → IsChecked (next_event past e) states id (Ok parent)
     checked_none rest r t refused f g = (
       breaks_none past e id states ids p its parent (checked_fresh is) parent_is (sym r ∙ t) (ap (refusal e.event.kind) (sym state_is) ∙ sym f ∙ g),
       parent_is,

@@ -3,7 +3,7 @@ pub mod AskedLemmas
 pub mod InTurn
 pub mod MatchLemmas
 pub mod Paired
-pub mod ColumnTestLemmas
+pub mod RuleLemmas
 pub mod KeyLemmas
 pub mod MaskLemmas
 pub mod StateLemmas

@@ -10,7 +10,7 @@ use Rattle.tk_record_columns.specs.Record.{IsViewOf}
 use Rattle.tk_record_columns.specs.Recorded.{Recorded}
 use Rattle.tk_query.specs.Asked.{entry_of}
 use Rattle.tk_query.specs.Lifecycle.{BreaksFirst, BreaksNone, NoneBreaks, IsBrokenAt, IsLifecycle, first_entries}
-use Rattle.tk_query.specs.Progress.{IsFirstOfRuns, IsProgress, IsTaken}
+use Rattle.tk_query.specs.Progress.{IsFirstOfRuns, IsProgress, IsTaken, next_event}
 use Rattle.tk_query.specs.declared.lifecycle_rules.Lifecycle.{Lifecycle}
 use Rattle.tk_query.specs.declared.lifecycle_rules.Lifecycle.TheVariants.{Kept, Broken, Unfinished}
 use Rattle.tk_query.specs.declared.lifecycle_rules.LifecycleRule.{LifecycleRule}
@@ -39,7 +39,7 @@ stands_at r p v within h =
     let e = there r.entries p within in
     e.1 ∙ ap (λ x. Some x) (sym (view_is v e.0 (subst (λ o. IfSome o (IsViewOf v)) e.1 h)))
 
-pub followed_more : (r : Recorded) (p : ℕ) (e : Entry) (old new : List KeyState) (ids noted : List (List ℕ × ℕ)) → AreFollowed r p old ids → slice_get r.entries p ≡ Some e → IsTaken (first_entries p r) e new noted None → AreFollowed r (p + 1) new noted
+pub followed_more : (r : Recorded) (p : ℕ) (e : Entry) (old new : List KeyState) (ids noted : List (List ℕ × ℕ)) → AreFollowed r p old ids → slice_get r.entries p ≡ Some e → IsTaken (next_event (first_entries p r) e) new noted None → AreFollowed r (p + 1) new noted
 followed_more r p e old new ids noted h at t = record {
   known = subst (λ x. IsProgress x new noted) (first_more r p e at) t.1;
   none = λ q d lt is. ⊎_elim {C = BreaksNone (first_entries q r) d}

@@ -10,7 +10,8 @@ use Rattle.tk_events.specs.declared.events.Entry.{Entry}
 use Rattle.tk_record_columns.specs.Recorded.{Recorded}
 use Rattle.tk_query_conditions.specs.declared.conditions.Condition.{Condition}
 use Rattle.tk_query.specs.Holds.{holds}
-use Rattle.tk_query.specs.Keys.{AnswersAt}
+use Rattle.tk_query.specs.declared.rules.Rule.{Rule}
+use Rattle.tk_query.specs.Rules.{rule_holds}
 use Rattle.tk_query.proofs.AskedLemmas.{map_same}
 
 replicated : (b : Bool) (es : List Entry) → replicate (length es) b ≡ map (λ _. b) es
@@ -60,9 +61,13 @@ pub if_ok_same : {X E : Type 0} (o : Result X E) (a b : X) → a ≡ b → IfOk 
 if_ok_same (Ok x) a b e h = h ∙ e
 if_ok_same (Err x) a b e h = h
 
--- the mask of a condition is that of each equal one
-pub mask_same : {E : Type 0} (r : Recorded) (c d : Condition) (o : Result (List Bool) E) → c ≡ d → IfOk o (λ flags. flags ≡ map (holds r d) r.entries) → IfOk o (λ flags. flags ≡ map (holds r c) r.entries)
-mask_same r c d o e h = if_ok_same o (map (holds r d) r.entries) (map (holds r c) r.entries) (ap (λ (x : Condition). map (holds r x) r.entries) (sym e)) h
+-- the mask of a rule is that of each equal one
+pub rule_mask_same : {E : Type 0} (r : Recorded) (rule d : Rule) (o : Result (List Bool) E) → rule ≡ d → IfOk o (λ flags. flags ≡ map (rule_holds d r) r.entries) → IfOk o (λ flags. flags ≡ map (rule_holds rule r) r.entries)
+rule_mask_same r rule d o e h = if_ok_same o (map (rule_holds d r) r.entries) (map (rule_holds rule r) r.entries) (ap (λ (x : Rule). map (rule_holds x r) r.entries) (sym e)) h
+
+pub if_ok_from : {X E : Type 0} (o : Result X E) (P Q : X → Type 0) → ((x : X) → P x → Q x) → IfOk o P → IfOk o Q
+if_ok_from (Ok x) P Q f h = f x h
+if_ok_from (Err x) P Q f h = h
 
 pub same_length : {A : Type 0} (f g : A → Bool) (xs : List A) (a b : List Bool) → a ≡ map f xs → b ≡ map g xs → length a ≡ length b
 same_length f g xs a b e h = ap length e ∙ length-map xs f ∙ sym (ap length h ∙ length-map xs g)
@@ -80,19 +85,17 @@ there (e ∷ es) (suc i) lt = let r = there es i (omega arith) in (r.0, r.1, ap 
 abbrev pub byte : Bool → ℕ
 byte b = if b then 1 else 0
 
-pub column_more : (r : Recorded) (c : Condition) (i : ℕ) (b : Bool) (old new : List ℕ) → i < length r.entries → old ≡ map (λ e. byte (holds r c e)) (take i r.entries) → AnswersAt r c i b → new ≡ old ++ byte b ∷ [] → new ≡ map (λ e. byte (holds r c e)) (take (i + 1) r.entries)
-column_more r c i b old new lt e h f =
-    let x = there r.entries i lt in
-    let is : b ≡ holds r c x.0 = h.answers_at x.0 x.1 in
-    let next : suc i ≡ i + 1 = omega arith in
-    f ∙ ap (λ l. l ++ byte b ∷ []) e ∙ ap (λ z. map (λ y. byte (holds r c y)) (take i r.entries) ++ byte z ∷ []) is
-    ∙ sym (map-append (λ y. byte (holds r c y)) (take i r.entries) (x.0 ∷ [])) ∙ ap (map (λ y. byte (holds r c y))) (sym x.2 ∙ ap (λ n. take n r.entries) next)
+-- one more answer in a column of bytes
+pub column_more : {X : Type 0} (p : X → Bool) (xs : List X) (i : ℕ) (x : X) (b : Bool) (old new : List ℕ) → take (i + 1) xs ≡ take i xs ++ x ∷ [] → old ≡ map (λ y. byte (p y)) (take i xs) → b ≡ p x → new ≡ old ++ byte b ∷ [] → new ≡ map (λ y. byte (p y)) (take (i + 1) xs)
+column_more p xs i x b old new next e is f =
+    f ∙ ap (λ l. l ++ byte b ∷ []) e ∙ ap (λ z. map (λ y. byte (p y)) (take i xs) ++ byte z ∷ []) is
+    ∙ sym (map-append (λ y. byte (p y)) (take i xs) (x ∷ [])) ∙ ap (map (λ y. byte (p y))) (sym next)
 
 one_byte : (b : Bool) → (byte b == 1) ≡ b
 one_byte true = refl
 one_byte false = refl
 
-pub column_done : (r : Recorded) (c : Condition) (i : ℕ) (column : List ℕ) → length r.entries ≤ i → column ≡ map (λ e. byte (holds r c e)) (take i r.entries) → map (λ x. x == 1) column ≡ map (holds r c) r.entries
-column_done r c i column le e =
-    ap (map (λ x. x == 1)) (e ∙ ap (map (λ y. byte (holds r c y))) (take_all i r.entries le))
-    ∙ map-map (λ x. x == 1) (λ y. byte (holds r c y)) r.entries ∙ map_same (λ y. byte (holds r c y) == 1) (holds r c) r.entries (λ y. one_byte (holds r c y))
+pub column_done : {X : Type 0} (p : X → Bool) (xs : List X) (i : ℕ) (column : List ℕ) → length xs ≤ i → column ≡ map (λ y. byte (p y)) (take i xs) → map (λ x. x == 1) column ≡ map p xs
+column_done p xs i column le e =
+    ap (map (λ x. x == 1)) (e ∙ ap (map (λ y. byte (p y))) (take_all i xs le))
+    ∙ map-map (λ x. x == 1) (λ y. byte (p y)) xs ∙ map_same (λ y. byte (p y) == 1) p xs (λ y. one_byte (p y))

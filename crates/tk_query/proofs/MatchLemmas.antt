@@ -12,7 +12,8 @@ use Rattle.tk_query_conditions.specs.declared.conditions.Condition.{Condition}
 use Rattle.tk_query.specs.Holds.{holds}
 use Rattle.tk_lanes.specs.Flags.{IsNextSet, IsNoneSet}
 use Rattle.tk_query.specs.Asked.{fits, AreLeft, HoldsOfSome}
-use Rattle.tk_query.specs.Keys.{HoldsWithin}
+use Rattle.tk_query.specs.InOrder.{HasNoFit, IsNextFit}
+use Rattle.tk_query.specs.Rules.{HoldsWithin}
 use Rattle.tk_record_columns.specs.declared.selections.ColumnTest.{ColumnTest}
 use Rattle.tk_query.specs.Matches.{HoldsAt, IsFirstUnlike, IsFirstNowhere, HoldsSomewhere}
 use Rattle.tk_query.proofs.AskedLemmas.{AreFlags, asked_set, fits_clear, fits_set, map_get}
@@ -213,3 +214,12 @@ module _ (asked : Selected) (flags : List Bool) (are : AreFlags asked flags) (r 
     there = λ k set. asked_set asked flags are k (and_parts (get_or (map (passes column_test r) r.entries) k false) (get_or flags k false) (sym (left_at k) ∙ set)).1;
     others = λ k clear. others_fail k (get_or flags k false) refl clear;
   }
+
+-- all events asked are left where no test narrows them
+pub all_left : (asked : Selected) (flags : List Bool) → AreFlags asked flags → (c : Condition) → AreLeft asked c flags
+all_left asked flags are c = record { there = asked_set asked flags are; others = fits_clear asked flags are c }
+
+-- what the first fit tells of some event
+pub fit_tells : (asked : Selected) (c : Condition) (o : Option ℕ) (b : Bool) → MatchOption o (HasNoFit (fits asked) c 0) (IsNextFit (fits asked) c 0) → b ≡ is_some o → HoldsOfSome asked c b
+fit_tells asked c None b none is = subst (HoldsOfSome asked c) (sym is) (λ k. none k (omega arith))
+fit_tells asked c (Some at) b next is = subst (HoldsOfSome asked c) (sym is) (at, next.fit)

@@ -2,7 +2,7 @@ pub use Rattle.tk_query_conditions.specs.Answer
 pub use Rattle.tk_query_conditions.specs.Cond
 pub use Rattle.tk_query_conditions.specs.CondOf
 pub mod Holds
-pub mod Keys
+pub mod Rules
 pub mod Asked
 pub mod InOrder
 pub mod Matches

@@ -123,14 +123,23 @@ is_at_rest states _ = false
 abbrev pub missing_parent : Bool → LifecycleRule
 missing_parent registers = if registers then ParentUnknown else ParentNotRunning
 
+-- an event, and what was recorded before it
+pub record NextEvent : Type 0 where
+  pub past : Recorded
+  pub entry : Entry
+
+-- an entry after those of a record
+abbrev pub next_event : Recorded → Entry → NextEvent
+next_event past e = record { past = past; entry = e }
+
 -- what checking an event answers: the first rule that it breaks, or the parent of its key
 abbrev pub IsChecked :
-    Recorded → List KeyState → Entry → List SegmentView → Result Parent LifecycleRule → Type 0
-IsChecked past states e id (Err rule) = BreaksFirst past e rule
-IsChecked past states e id (Ok parent) =
-    BreaksNone past e × IsParent past id parent
-    × IsKnownParent past id (state_of states e.event.key).parent (Some parent)
-    × (refusal e.event.kind (state_of states e.event.key) ≡ None)
+    NextEvent → List KeyState → List SegmentView → Result Parent LifecycleRule → Type 0
+IsChecked next states id (Err rule) = BreaksFirst next.past next.entry rule
+IsChecked next states id (Ok parent) =
+    BreaksNone next.past next.entry × IsParent next.past id parent
+    × IsKnownParent next.past id (state_of states next.entry.event.key).parent (Some parent)
+    × (refusal next.entry.event.kind (state_of states next.entry.event.key) ≡ None)
 
 -- the id is noted as that of the event's key, where the event registers it
 abbrev pub AreNoted :
@@ -151,10 +160,10 @@ AreAdvanced old new e parent =
 
 -- what taking an event answers and leaves
 abbrev pub IsTaken :
-    Recorded → Entry → List KeyState → List (List ℕ × ℕ) → Option LifecycleRule → Type 0
-IsTaken past e states ids (Some rule) = BreaksFirst past e rule
-IsTaken past e states ids None =
-    BreaksNone past e × IsProgress (with_entry past e) states ids
+    NextEvent → List KeyState → List (List ℕ × ℕ) → Option LifecycleRule → Type 0
+IsTaken next states ids (Some rule) = BreaksFirst next.past next.entry rule
+IsTaken next states ids None =
+    BreaksNone next.past next.entry × IsProgress (with_entry next.past next.entry) states ids
 
 -- the least key that runs, or none
 abbrev pub IsFirstOfRuns : Recorded → Option ℕ → Type 0

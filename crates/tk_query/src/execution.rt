@@ -97,7 +97,7 @@ impl Executions {
         self.items.get(index).copied()
     }
 
-    // Those that ended so.
+    // Keeps the executions with an ending.
     fn ended(&self, alloc: Global, ending: Ending) -> Result<Executions, AllocError>
         ensures { IfOk result (λ kept. kept ≡ filter (has_ending ending) self.now) }
     {

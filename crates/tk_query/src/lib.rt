@@ -2,10 +2,9 @@
 #![tactic(auto)]
 
 mod answers;
-mod column_tests;
 mod execution;
 mod execution_steps;
-mod holding;
+mod judging;
 mod key_states;
 pub mod laws;
 mod lifecycle_check;
@@ -16,6 +15,7 @@ mod open_starts;
 mod pairing;
 mod progress;
 mod registered_ids;
+mod rules;
 
 pub use answers::{Exact, InOrder, Loose};
 pub use execution::{Ending, Execution, Executions};

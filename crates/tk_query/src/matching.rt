@@ -2,26 +2,32 @@
 ghost use Rattle.std.specs.Prelude.{◌<◌, ◌^◌, IfOk, OnOk, IfSome, MatchOption};
 ghost use Rattle.tk_query.specs.Asked.{AreLeft, fits, HoldsOfSome};
 ghost use Rattle.tk_query.specs.InOrder.{IsNextFit, HasNoFit};
-ghost use Rattle.tk_query.specs.Keys.{AreKeys};
 ghost use Rattle.tk_query.specs.Matches.{IsExact, IsLoose, IsInOrder};
 
 use crate::answers::{Exact, InOrder, Loose};
-use crate::column_tests::column_test_of;
-use crate::holding::holds_at;
-use crate::masks::{keys_of, mask};
+use crate::judging::holds_at;
+use crate::masks::mask;
+use crate::rules::column_test_of;
 use std::alloc::{AllocError, Global};
 use tk_lanes::Flags;
 use tk_query_conditions::Condition;
 use tk_record_columns::Events;
 
-/// The first position not below `from` of one of the events of which the condition holds.
-fn next_fit(events: &Events, condition: &Condition, from: usize) -> Option<usize>
+/// The first position not below `from` of one of the candidates of which the condition holds, where it
+/// holds of no other event.
+fn next_fit(
+    events: &Events,
+    candidates: &Flags,
+    condition: &Condition,
+    from: usize,
+) -> Option<usize>
+    requires { AreLeft events.now condition.now candidates.now }
     ensures within { IfSome result (λ position. position < 2 ^ 32) }
     ensures fit { MatchOption result (HasNoFit (fits events.now) condition.now from)
         (λ position. IsNextFit (fits events.now) condition.now from position) }
 {
     let mut low = from;
-    'events: while let Some(position) = events.flags().first_from(low) {
+    'candidates: while let Some(position) = candidates.first_from(low) {
         if holds_at(events.record(), condition, position) {
             return Some(position);
         }
@@ -78,21 +84,6 @@ fn try_first(events: &Events, condition: &Condition) -> Option<bool>
 /// How many candidates are asked one by one.
 const MAX_CANDIDATES: usize = 10_000;
 
-/// Whether the condition holds of some event, where it holds only of candidates.
-fn holds_among(events: &Events, candidates: &Flags, condition: &Condition) -> bool
-    requires { AreLeft events.now condition.now candidates.now }
-    ensures { HoldsOfSome events.now condition.now result }
-{
-    let mut low = 0;
-    'candidates: while let Some(position) = candidates.first_from(low) {
-        if holds_at(events.record(), condition, position) {
-            return true;
-        }
-        low = position + 1;
-    }
-    false
-}
-
 /// Whether the condition holds of some event, where it implies a test of a column that few events
 /// pass.
 fn try_column_test(
@@ -112,37 +103,23 @@ fn try_column_test(
     if MAX_CANDIDATES < candidates.count() {
         return Ok(None);
     }
-    Ok(Some(holds_among(events, &candidates, condition)))
+    Ok(Some(next_fit(events, &candidates, condition, 0).is_some()))
 }
 
 /// Whether the condition holds of some event, by its mask.
-fn try_mask(
-    alloc: Global,
-    events: &Events,
-    keys: &[u32],
-    condition: &Condition,
-) -> Result<bool, AllocError>
-    requires { AreKeys events.now.recorded keys.now }
+fn try_mask(alloc: Global, events: &Events, condition: &Condition) -> Result<bool, AllocError>
     ensures { IfOk result (HoldsOfSome events.now condition.now) }
 {
     let record = events.record();
     prove!(events.flags().len() == record.len());
-    let mut flags = mask(alloc, record, keys, condition)?;
+    let mut flags = mask(alloc, record, condition)?;
     flags.and(events.flags());
     Ok(flags.first_from(0).is_some())
 }
 
-/// Whether the condition holds of some event. `keys` has no key until the first mask is made, and
-/// then the keys of the entries.
-fn holds_of_some(
-    alloc: Global,
-    events: &Events,
-    keys: &mut Vec<u32>,
-    condition: &Condition,
-) -> Result<bool, AllocError>
-    requires { AreKeys events.now.recorded keys.old.items }
-    ensures answer { IfOk result (HoldsOfSome events.now condition.now) }
-    ensures keys { OnOk result (AreKeys events.now.recorded keys.new.items) }
+/// Whether the condition holds of some event.
+fn holds_of_some(alloc: Global, events: &Events, condition: &Condition) -> Result<bool, AllocError>
+    ensures { IfOk result (HoldsOfSome events.now condition.now) }
 {
     if let Some(answer) = try_first(events, condition) {
         return Ok(answer);
@@ -150,10 +127,7 @@ fn holds_of_some(
     if let Some(answer) = try_column_test(alloc, events, condition)? {
         return Ok(answer);
     }
-    if keys.is_empty() {
-        *keys = keys_of(alloc, events.record())?;
-    }
-    try_mask(alloc, events, keys, condition)
+    try_mask(alloc, events, condition)
 }
 
 /// Whether each condition holds of some event. One event may serve several conditions.
@@ -164,9 +138,8 @@ pub fn match_loosely(
 ) -> Result<Loose, AllocError>
     ensures { IfOk result (λ answer. IsLoose events.now conditions.now answer) }
 {
-    let mut keys = Vec::new(alloc);
     for (k, condition) in conditions.iter().enumerate() {
-        if !holds_of_some(alloc, events, &mut keys, condition)? {
+        if !holds_of_some(alloc, events, condition)? {
             return Ok(Loose::No(k));
         }
     }
@@ -186,7 +159,7 @@ pub fn match_in_order(
     let mut positions = Vec::new(alloc);
     let mut next = 0;
     for (k, condition) in conditions.iter().enumerate() {
-        let Some(position) = next_fit(events, condition, next) else {
+        let Some(position) = next_fit(events, events.flags(), condition, next) else {
             return Ok(InOrder::No(k));
         };
         positions.push(position)?;

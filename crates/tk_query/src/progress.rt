@@ -7,7 +7,7 @@ ghost use Rattle.tk_record_columns.specs.Entries.{of_kind, with_entry};
 ghost use Rattle.tk_record_columns.specs.Recorded.{Recorded};
 ghost use Rattle.tk_query.specs.Asked.{entry_of};
 ghost use Rattle.tk_query.specs.Lifecycle.{HasId, first_entries};
-ghost use Rattle.tk_query.specs.Progress.{AreAdvanced, AreIds, AreNoted, IsChecked, IsFirstOfRuns, IsFound, IsKnownId, IsKnownParent, IsProgress, IsSought, IsTaken, is_at_rest, missing_parent};
+ghost use Rattle.tk_query.specs.Progress.{AreAdvanced, AreIds, AreNoted, IsChecked, IsFirstOfRuns, IsFound, IsKnownId, IsKnownParent, IsProgress, IsSought, IsTaken, is_at_rest, missing_parent, next_event};
 ghost use Rattle.tk_query.specs.KeyStates.{state_of};
 
 use crate::key_states::{KeyStates, Parent};
@@ -137,7 +137,8 @@ impl Progress {
         ensures { IfOk result (λ found. (past : Recorded) → past.table ≡ «record».now.table
             → IsProgress past self.now.states self.now.ids
             → HasId (with_entry past (entry_of event.now)) event.now.key descriptor.now.id
-            → IsChecked past self.now.states (entry_of event.now) descriptor.now.id found) }
+            → IsChecked (next_event past (entry_of event.now))
+            self.now.states descriptor.now.id found) }
     {
         let registers = registers(event);
         if self.knows_id(record, registers, &descriptor.id) {
@@ -187,7 +188,8 @@ impl Progress {
         requires stands { slice_get «record».now.entries position ≡ Some (entry_of event.now) }
         requires progress { IsProgress (first_entries position «record».now)
             self.old.states self.old.ids }
-        ensures { IfOk result (IsTaken (first_entries position «record».now) (entry_of event.now)
+        ensures { IfOk result (IsTaken
+            (next_event (first_entries position «record».now) (entry_of event.now))
             self.new.states self.new.ids) }
     {
         record.shows_record();

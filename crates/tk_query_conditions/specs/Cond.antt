@@ -110,11 +110,11 @@ abbrev mutual
   list_text Nothing = []
   list_text (More cs c) = lead_text cs ++ cond_text c
 
-  -- what stands before one more condition: those before it, and a comma if there are any
+  -- what stands before a further condition: the conditions before it, and a comma if there are any
   pub lead_text : Conds → List ℕ
   lead_text Nothing = []
   lead_text (More cs c) = (lead_text cs ++ cond_text c) ++ comma ∷ []
 
--- it is the text of some condition
+-- a text is that of some condition
 abbrev pub IsCondText : List ℕ → Type 0
 IsCondText text = (c : Cond) × (text ≡ cond_text c)

@@ -1,7 +1,7 @@
 use Rattle.std.proofs.Common.{arith, length, refl, subst, None}
 use Rattle.tk_query.specs.Asked.{entry_of}
 use Rattle.tk_query.specs.Lifecycle.{first_entries}
-use Rattle.tk_query.specs.Progress.{IsTaken}
+use Rattle.tk_query.specs.Progress.{IsTaken, next_event}
 use Rattle.tk_query.proofs.LoopLemmas.{followed_first, followed_more, stands_at, broken_here, unfinished, kept, known_at_end, past_all}
 use Rattle.tk_query.proofs.lifecycle_check.lifecycle.Goals as goal
 
@@ -15,7 +15,7 @@ events-preserved c =
     let e = entry_of c.in-Some.event in
     let at = stands_at r p c.in-Some.event (c.in-Some.ensures.there.0 refl) c.in-Some.ensures.value in
     followed_more r p e c.events.progress.states c.take.new.self.states c.events.progress.ids c.take.new.self.ids c.events.invariant at
-    (subst (IsTaken (first_entries p r) e c.take.new.self.states c.take.new.self.ids) c.in_default-2.is c.in_ok-rule.ensures)
+    (subst (IsTaken (next_event (first_entries p r) e) c.take.new.self.states c.take.new.self.ids) c.in_default-2.is c.in_ok-rule.ensures)
 
 pub returns-in-Some-first_running : goal.returns-in-Some-first_running
 returns-in-Some-first_running c =

@@ -1,8 +1,10 @@
 use Rattle.std.proofs.Common.{◌≡◌, take, map}
 use Rattle.std.specs.Prelude.{if◌then◌else◌}
-use Rattle.tk_query.specs.Holds.{holds}
-use Rattle.tk_query.specs.Keys.{AreAnswers}
+use Rattle.tk_query.specs.Rules.{key_passes, AreAnswers}
 use Rattle.tk_query.proofs.masks.key_mask.Given as goal
 
-abbrev pub invariant-loop-position : goal.invariant-loop-position
-invariant-loop-position l = (l.column.items ≡ map (λ e. if holds l.«record» l.condition e then 1 else 0) (take l.position l.«record».entries)) × AreAnswers l.«record» l.condition l.answers.items
+abbrev pub invariant-loop-key : goal.invariant-loop-key
+invariant-loop-key l = record {
+  column_is : l.column.items ≡ map (λ key. if key_passes l.test l.«record» key then 1 else 0) (take l.key-index l.keys);
+  answers_are : AreAnswers l.«record» l.test l.answers.items;
+}

@@ -1,6 +1,8 @@
 use Rattle.std.proofs.Common.{arith, subst}
 use Rattle.tk_query.specs.Asked.{fits}
 use Rattle.tk_query.specs.InOrder.{HasNoFit, IsNextFit}
+use Rattle.tk_query.proofs.AskedLemmas.{AreFlags}
+use Rattle.tk_query.proofs.MatchLemmas.{all_left}
 use Rattle.tk_query.proofs.InTurn.{reached_more, reached_stuck, reached_end}
 use Rattle.tk_query.proofs.matching.match_in_order.Goals as goal
 
@@ -21,3 +23,8 @@ pub returns : goal.returns
 returns c =
     let reached = c.loop-k.invariant in
     reached_end (fits c.args.events.now) c.args.conditions.now c.loop-k.k c.loop-k.next c.loop-k.positions.items reached (omega (arith, reached.within))
+
+pub next_fit-requires : goal.next_fit-requires
+next_fit-requires c =
+    let are : AreFlags c.args.events.now c.flags.result.now = record { kept = c.flags.ensures.kept } in
+    all_left c.args.events.now c.flags.result.now are c.index-conditions-k.result

@@ -1,28 +1,22 @@
 use Rattle.std.proofs.Common.{◌∙◌}
-use Rattle.tk_query.proofs.AskedLemmas.{AreFlags, fits_clear, fits_set, none_more, next_is, none_left}
+use Rattle.tk_query.proofs.AskedLemmas.{fits_there, none_more, next_is, none_left}
 use Rattle.tk_query.proofs.matching.next_fit.Goals as goal
 
 pub returns-then-holds_at-clause-fit : goal.returns-then-holds_at-clause-fit
 returns-then-holds_at-clause-fit c =
     let asked = c.args.events.now in
-    let flags = c.flags.result.now in
-    let are : AreFlags asked flags = record { kept = c.flags.ensures.kept } in
+    let position = c.in-Some.position in
     let set = c.in-Some.ensures.value in
-    let here = fits_set asked flags are c.«record».result.now c.«record».ensures c.args.condition.now c.in-Some.position c.holds_at.result set.set c.holds_at.ensures in
-    next_is asked c.args.condition.now flags (fits_clear asked flags are c.args.condition.now) c.args.from c.events.low c.in-Some.position c.events.invariant set (here ∙ c.if-holds_at.true)
+    let here = fits_there asked c.«record».result.now c.«record».ensures c.args.condition.now position c.holds_at.result (c.requires.there position set.set) c.holds_at.ensures in
+    next_is asked c.args.condition.now c.args.candidates.now c.requires.others c.args.from c.candidates.low position c.candidates.invariant set (here ∙ c.if-holds_at.true)
 
-pub events-preserved : goal.events-preserved
-events-preserved c =
+pub candidates-preserved : goal.candidates-preserved
+candidates-preserved c =
     let asked = c.args.events.now in
-    let flags = c.flags.result.now in
-    let are : AreFlags asked flags = record { kept = c.flags.ensures.kept } in
+    let position = c.in-Some.position in
     let set = c.in-Some.ensures.value in
-    let here = fits_set asked flags are c.«record».result.now c.«record».ensures c.args.condition.now c.in-Some.position c.holds_at.result set.set c.holds_at.ensures in
-    none_more asked c.args.condition.now flags (fits_clear asked flags are c.args.condition.now) c.args.from c.events.low c.in-Some.position c.events.invariant set (here ∙ c.if-holds_at.false)
+    let here = fits_there asked c.«record».result.now c.«record».ensures c.args.condition.now position c.holds_at.result (c.requires.there position set.set) c.holds_at.ensures in
+    none_more asked c.args.condition.now c.args.candidates.now c.requires.others c.args.from c.candidates.low position c.candidates.invariant set (here ∙ c.if-holds_at.false)
 
 pub returns-clause-fit : goal.returns-clause-fit
-returns-clause-fit c =
-    let asked = c.args.events.now in
-    let flags = c.flags.result.now in
-    let are : AreFlags asked flags = record { kept = c.flags.ensures.kept } in
-    none_left asked c.args.condition.now flags (fits_clear asked flags are c.args.condition.now) c.args.from c.events.low c.events.invariant c.in_default.ensures.value
+returns-clause-fit c = none_left c.args.events.now c.args.condition.now c.args.candidates.now c.requires.others c.args.from c.candidates.low c.candidates.invariant c.in_default.ensures.value

@@ -2,7 +2,7 @@ use Rattle.std.proofs.Common.{◌≡◌, true, false, take}
 use Rattle.std.specs.List.{list_all, list_any}
 use Rattle.tk_query.specs.Asked.{entry_of}
 use Rattle.tk_query.specs.Holds.{holds}
-use Rattle.tk_query.proofs.holding.+holds.Given as goal
+use Rattle.tk_query.proofs.judging.+holds.Given as goal
 
 abbrev pub invariant-all_hold-loop-member : goal.invariant-all_hold-loop-member
 invariant-all_hold-loop-member l = list_all (λ member. holds l.«record» member (entry_of l.event)) (take l.member-index l.members) ≡ true

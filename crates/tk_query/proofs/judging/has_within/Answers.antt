@@ -1,6 +1,6 @@
 use Rattle.std.proofs.lemmas.Str.Pattern.{contains_text}
 use Rattle.tk_query.proofs.HoldsLemmas.{within_is}
-use Rattle.tk_query.proofs.holding.has_within.Goals as goal
+use Rattle.tk_query.proofs.judging.has_within.Goals as goal
 
 pub returns : goal.returns
 returns c = within_is c.args.part.now c.args.text.now c.contains.result (contains_text c.contains.result c.args.part.now c.args.text.now c.contains.ensures.cases)

@@ -1,6 +1,6 @@
 use Rattle.std.proofs.Common.{◌≡◌, true}
 use Rattle.tk_query.specs.Holds.{all_within}
-use Rattle.tk_query.proofs.holding.reports.Goals as goal
+use Rattle.tk_query.proofs.judging.reports.Goals as goal
 
 pub returns-then-all_within : goal.returns-then-all_within
 returns-then-all_within c =
