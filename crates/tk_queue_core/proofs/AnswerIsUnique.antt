@@ -23,7 +23,7 @@ use Rattle.tk_queue_core.specs.declared.replays.ReplayFault.TheVariants as fault
 use Rattle.tk_queue_core.specs.Limits.{most_workers}
 use Rattle.tk_queue_core.specs.Replay.{Moment, Stop, Faulty, Refuses, turn_step, after, plays, start, StopsAt}
 use Rattle.tk_queue_core.specs.Script.{IsCount, workers_line, workers_of, AreTurns, turns_line, turns_of}
-use Rattle.tk_queue_core.specs.ReplayText.{Scenario, header, AreOwn, scripts_by, NoCount, NoLineOf, IsBad, IsTextOf, IsPlayed}
+use Rattle.tk_queue_core.specs.ReplayText.{Scenario, header, TextHead, text_head, IsOwn, AreOwn, scripts_by, input_of, NoCount, NoLineOf, IsBad, IsTextOf, IsPlayed}
 use Rattle.tk_queue_core.specs.Laws.{IsSettled, AnswerIsUnique}
 use Rattle.tk_queue_core.proofs.ScriptForms.{workers_line_form, turns_line_form, workers_no_feed, turns_no_feed}
 use Rattle.tk_queue_core.proofs.TextSteps.{turns_begins, entry_begins, scripts_long}
@@ -45,24 +45,24 @@ same_turns n x y a b few p q e =
 
 -- ---- two ways to cut a list of lines and what blocks it are one
 
-abbrev EntryBlock : Version → ℕ → List ℕ → Type 0
-EntryBlock version n rest = (e : Entry) (more : List ℕ) → HasLineIn version e → IsWorkerOf n e.worker → rest ≢ with_line_feed (entry_line e) ++ more
+abbrev EntryBlock : TextHead → List ℕ → Type 0
+EntryBlock head rest = (e : Entry) (more : List ℕ) → IsOwn head e → rest ≢ with_line_feed (entry_line e) ++ more
 
-one_entries : (version : Version) (n : ℕ) (a c : List Entry) (x y : List ℕ) → AreOwn version n a → AreOwn version n c → EntryBlock version n x → EntryBlock version n y → entries_text a ++ x ≡ entries_text c ++ y → (a ≡ c) × (x ≡ y)
-one_entries version n [] [] x y f g lx ly e = (refl, e)
-one_entries version n [] (d ∷ c) x y f g lx ly e = absurd (lx d (entries_text c ++ y) g.0.0 g.0.1 (e ∙ append_assoc (with_line_feed (entry_line d)) (entries_text c) y))
-one_entries version n (d ∷ a) [] x y f g lx ly e = absurd (ly d (entries_text a ++ x) f.0.0 f.0.1 (sym e ∙ append_assoc (with_line_feed (entry_line d)) (entries_text a) x))
-one_entries version n (d ∷ a) (b ∷ c) x y f g lx ly e =
+one_entries : (head : TextHead) (a c : List Entry) (x y : List ℕ) → AreOwn head a → AreOwn head c → EntryBlock head x → EntryBlock head y → entries_text a ++ x ≡ entries_text c ++ y → (a ≡ c) × (x ≡ y)
+one_entries head [] [] x y f g lx ly e = (refl, e)
+one_entries head [] (d ∷ c) x y f g lx ly e = absurd (lx d (entries_text c ++ y) g.0 (e ∙ append_assoc (with_line_feed (entry_line d)) (entries_text c) y))
+one_entries head (d ∷ a) [] x y f g lx ly e = absurd (ly d (entries_text a ++ x) f.0 (sym e ∙ append_assoc (with_line_feed (entry_line d)) (entries_text a) x))
+one_entries head (d ∷ a) (b ∷ c) x y f g lx ly e =
     let s = same_entry d b (entries_text a ++ x) (entries_text c ++ y) f.0.0.line g.0.0.line (sym (append_assoc (with_line_feed (entry_line d)) (entries_text a) x) ∙ e ∙ append_assoc (with_line_feed (entry_line b)) (entries_text c) y) in
-    let more = one_entries version n a c x y f.1 g.1 lx ly s.1 in
+    let more = one_entries head a c x y f.1 g.1 lx ly s.1 in
     (cons_same d b a c s.0 more.0, more.1)
 
 -- ---- where reading stops after the number of workers
 
 -- what stands after the descriptors and the entries: nothing that may follow, or the line of the turns and what is after it
-data Tail (version : Version) (n : ℕ) (table : List Descriptor) (entries : List Entry) (rest : List ℕ) : Type 0 where
-  bad : NoLineOf version n table entries rest → Tail version n table entries rest
-  turned : (turns : List Turn) (last : List ℕ) → AreTurns n turns → rest ≡ with_line_feed (turns_line turns) ++ last → Tail version n table entries rest
+data Tail (head : TextHead) (table : List Descriptor) (entries : List Entry) (rest : List ℕ) : Type 0 where
+  bad : NoLineOf head table entries rest → Tail head table entries rest
+  turned : (turns : List Turn) (last : List ℕ) → AreTurns head.workers turns → rest ≡ with_line_feed (turns_line turns) ++ last → Tail head table entries rest
 
 heads : (x y : ℕ) (a b : List ℕ) → x ∷ a ≡ y ∷ b → x ≡ y
 heads x y a b e = cc
@@ -81,14 +81,14 @@ no_entry_at_turns : (turns : List Turn) (last : List ℕ) (x : Entry) (m : List 
 no_entry_at_turns turns last x m e =
     let s = turns_begins turns last in let b = entry_begins x m in not_entry 83 refl (heads 83 69 s.0 (124 ∷ b.0) (sym s.1 ∙ e ∙ b.1))
 
-tail_blocks_entries : (version : Version) (n : ℕ) (table : List Descriptor) (entries : List Entry) (rest : List ℕ) → Tail version n table entries rest → EntryBlock version n rest
-tail_blocks_entries version n table entries rest (bad none) = none.entry
-tail_blocks_entries version n table entries rest (turned turns last are is) = λ e m _ _ eq. no_entry_at_turns turns last e m (sym is ∙ eq)
+tail_blocks_entries : (head : TextHead) (table : List Descriptor) (entries : List Entry) (rest : List ℕ) → Tail head table entries rest → EntryBlock head rest
+tail_blocks_entries head table entries rest (bad none) = none.entry
+tail_blocks_entries head table entries rest (turned turns last are is) = λ e m _ eq. no_entry_at_turns turns last e m (sym is ∙ eq)
 
-tail_blocks_nodes : (version : Version) (n : ℕ) (table : List Descriptor) (entries : List Entry) (rest : List ℕ) → Tail version n table entries rest → (es : List Entry) → entries ≡ es → LacksNode table (entries_text es ++ rest)
-tail_blocks_nodes version n table entries rest (bad none) [] is = λ d m has takes. none.node d m is has takes
-tail_blocks_nodes version n table entries rest (turned turns last are at) [] is = λ d m _ _ eq. no_node_at_turns turns last d m (sym at ∙ eq)
-tail_blocks_nodes version n table entries rest t (e ∷ es) is = λ d m _ _ eq. no_node_at_entry e (entries_text es ++ rest) d m (sym (append_assoc (with_line_feed (entry_line e)) (entries_text es) rest) ∙ eq)
+tail_blocks_nodes : (head : TextHead) (table : List Descriptor) (entries : List Entry) (rest : List ℕ) → Tail head table entries rest → (es : List Entry) → entries ≡ es → LacksNode table (entries_text es ++ rest)
+tail_blocks_nodes head table entries rest (bad none) [] is = λ d m has takes. none.node d m is has takes
+tail_blocks_nodes head table entries rest (turned turns last are at) [] is = λ d m _ _ eq. no_node_at_turns turns last d m (sym at ∙ eq)
+tail_blocks_nodes head table entries rest t (e ∷ es) is = λ d m _ _ eq. no_node_at_entry e (entries_text es ++ rest) d m (sym (append_assoc (with_line_feed (entry_line e)) (entries_text es) rest) ∙ eq)
 
 -- ---- turns
 
@@ -128,54 +128,54 @@ run_stopped scripts (u ∷ turns) i (suc j) m x t why e at stops =
 -- ---- what an answer says of where reading stopped
 
 -- the answer at that tail
-abbrev Verdict : (version : Version) (n : ℕ) (table : List Descriptor) (entries : List Entry) (rest : List ℕ) → Tail version n table entries rest → Result Recorded ReplayFault → Type 0
-Verdict version n table entries rest (bad none) a = a ≡ Err (faults.BadLine (length table + length entries + 3))
-Verdict version n table entries rest (turned turns last are is) a =
-    ((last ≢ []) × (a ≡ Err (faults.BadLine (length table + length entries + 4)))) ⊎ ((last ≡ []) × (a ≡ run (scripts_by entries n) turns 0 (start table (length (scripts_by entries n)))))
+abbrev Verdict : (head : TextHead) (table : List Descriptor) (entries : List Entry) (rest : List ℕ) → Tail head table entries rest → Result Recorded ReplayFault → Type 0
+Verdict head table entries rest (bad none) a = a ≡ Err (faults.BadLine (length table + length entries + 3))
+Verdict head table entries rest (turned turns last are is) a =
+    ((last ≢ []) × (a ≡ Err (faults.BadLine (length table + length entries + 4)))) ⊎ ((last ≡ []) × (a ≡ run (scripts_by entries head.workers) turns 0 (start table (length (scripts_by entries head.workers)))))
 
 -- the answer to what stands after the number of workers
-record AnsweredAt (version : Version) (n : ℕ) (input : List ℕ) (a : Result Recorded ReplayFault) : Type 0 where
+record AnsweredAt (head : TextHead) (input : List ℕ) (a : Result Recorded ReplayFault) : Type 0 where
   table : List Descriptor
   entries : List Entry
   rest : List ℕ
   prefix : input ≡ nodes_text table ++ (entries_text entries ++ rest)
   nodes : AreNodes [] table
-  own : AreOwn version n entries
-  tail : Tail version n table entries rest
-  verdict : Verdict version n table entries rest tail a
+  own : AreOwn head entries
+  tail : Tail head table entries rest
+  verdict : Verdict head table entries rest tail a
 
 same_line_number : (n : ℕ) (t u : List Descriptor) (es fs : List Entry) → t ≡ u → es ≡ fs → length t + length es + n ≡ length u + length fs + n
 same_line_number n t u es fs p q = λ i. length (p i) + length (q i) + n
 
-agree : (version : Version) (n : ℕ) (t u : List Descriptor) (es fs : List Entry) (r s : List ℕ) (x : Tail version n t es r) (y : Tail version n u fs s) (a b : Result Recorded ReplayFault) → n ≤ most_workers → t ≡ u → es ≡ fs → r ≡ s → Verdict version n t es r x a → Verdict version n u fs s y b → a ≡ b
-agree version n t u es fs r s (bad none) (bad other) a b few p q e v w = v ∙ ap (λ k. Err (faults.BadLine k)) (same_line_number 3 t u es fs p q) ∙ sym w
-agree version n t u es fs r s (bad none) (turned ts last are is) a b few p q e v w = absurd (none.turns ts last are (e ∙ is))
-agree version n t u es fs r s (turned ts last are is) (bad none) a b few p q e v w = absurd (none.turns ts last are (sym e ∙ is))
-agree version n t u es fs r s (turned ts last are is) (turned others end those at) a b few p q e v w =
-    let same = same_turns n ts others last end few are those (sym is ∙ e ∙ at) in
+agree : (head : TextHead) (t u : List Descriptor) (es fs : List Entry) (r s : List ℕ) (x : Tail head t es r) (y : Tail head u fs s) (a b : Result Recorded ReplayFault) → head.workers ≤ most_workers → t ≡ u → es ≡ fs → r ≡ s → Verdict head t es r x a → Verdict head u fs s y b → a ≡ b
+agree head t u es fs r s (bad none) (bad other) a b few p q e v w = v ∙ ap (λ k. Err (faults.BadLine k)) (same_line_number 3 t u es fs p q) ∙ sym w
+agree head t u es fs r s (bad none) (turned ts last are is) a b few p q e v w = absurd (none.turns ts last are (e ∙ is))
+agree head t u es fs r s (turned ts last are is) (bad none) a b few p q e v w = absurd (none.turns ts last are (sym e ∙ is))
+agree head t u es fs r s (turned ts last are is) (turned others end those at) a b few p q e v w =
+    let same = same_turns head.workers ts others last end few are those (sym is ∙ e ∙ at) in
     ⊎_elim
     (λ (x : (last ≢ []) × (a ≡ Err (faults.BadLine (length t + length es + 4)))). ⊎_elim
     (λ (y : (end ≢ []) × (b ≡ Err (faults.BadLine (length u + length fs + 4)))). x.1 ∙ ap (λ k. Err (faults.BadLine k)) (same_line_number 4 t u es fs p q) ∙ sym y.1)
-    (λ (y : (end ≡ []) × (b ≡ run (scripts_by fs n) others 0 (start u (length (scripts_by fs n))))). absurd (x.0 (same.1 ∙ y.0))) w)
-    (λ (x : (last ≡ []) × (a ≡ run (scripts_by es n) ts 0 (start t (length (scripts_by es n))))). ⊎_elim
+    (λ (y : (end ≡ []) × (b ≡ run (scripts_by fs head.workers) others 0 (start u (length (scripts_by fs head.workers))))). absurd (x.0 (same.1 ∙ y.0))) w)
+    (λ (x : (last ≡ []) × (a ≡ run (scripts_by es head.workers) ts 0 (start t (length (scripts_by es head.workers))))). ⊎_elim
     (λ (y : (end ≢ []) × (b ≡ Err (faults.BadLine (length u + length fs + 4)))). absurd (y.0 (sym same.1 ∙ x.0)))
-    (λ (y : (end ≡ []) × (b ≡ run (scripts_by fs n) others 0 (start u (length (scripts_by fs n))))).
-    x.1 ∙ (λ i. run (scripts_by (q i) n) (same.0 i) 0 (start (p i) (length (scripts_by (q i) n)))) ∙ sym y.1) w)
+    (λ (y : (end ≡ []) × (b ≡ run (scripts_by fs head.workers) others 0 (start u (length (scripts_by fs head.workers))))).
+    x.1 ∙ (λ i. run (scripts_by (q i) head.workers) (same.0 i) 0 (start (p i) (length (scripts_by (q i) head.workers)))) ∙ sym y.1) w)
     v
 
-one_verdict : (version : Version) (n : ℕ) (input : List ℕ) (a b : Result Recorded ReplayFault) → n ≤ most_workers → AnsweredAt version n input a → AnsweredAt version n input b → a ≡ b
-one_verdict version n input a b few p q =
+one_verdict : (head : TextHead) (input : List ℕ) (a b : Result Recorded ReplayFault) → head.workers ≤ most_workers → AnsweredAt head input a → AnsweredAt head input b → a ≡ b
+one_verdict head input a b few p q =
     let s = one_nodes [] p.table q.table (entries_text p.entries ++ p.rest) (entries_text q.entries ++ q.rest) p.nodes q.nodes
-    (tail_blocks_nodes version n p.table p.entries p.rest p.tail p.entries refl) (tail_blocks_nodes version n q.table q.entries q.rest q.tail q.entries refl) (sym p.prefix ∙ q.prefix) in
-    let m = one_entries version n p.entries q.entries p.rest q.rest p.own q.own (tail_blocks_entries version n p.table p.entries p.rest p.tail) (tail_blocks_entries version n q.table q.entries q.rest q.tail) s.1 in
-    agree version n p.table q.table p.entries q.entries p.rest q.rest p.tail q.tail a b few s.0 m.0 m.1 p.verdict q.verdict
+    (tail_blocks_nodes head p.table p.entries p.rest p.tail p.entries refl) (tail_blocks_nodes head q.table q.entries q.rest q.tail q.entries refl) (sym p.prefix ∙ q.prefix) in
+    let m = one_entries head p.entries q.entries p.rest q.rest p.own q.own (tail_blocks_entries head p.table p.entries p.rest p.tail) (tail_blocks_entries head q.table q.entries q.rest q.tail) s.1 in
+    agree head p.table q.table p.entries q.entries p.rest q.rest p.tail q.tail a b few s.0 m.0 m.1 p.verdict q.verdict
 
 -- ---- what an answer says of the input
 
 data Answered (input : List ℕ) (a : Result Recorded ReplayFault) : Type 0 where
   headless : ((version : Version) (rest : List ℕ) → input ≢ header version ++ rest) → a ≡ Err faults.NoHeader → Answered input a
   uncounted : (version : Version) (body : List ℕ) → input ≡ header version ++ body → NoCount body → a ≡ Err (faults.BadLine 2) → Answered input a
-  counted : (version : Version) (body rest : List ℕ) (n : ℕ) → input ≡ header version ++ body → IsCount n → body ≡ with_line_feed (workers_line n) ++ rest → AnsweredAt version n rest a → Answered input a
+  counted : (version : Version) (body rest : List ℕ) (n : ℕ) → input ≡ header version ++ body → IsCount n → body ≡ with_line_feed (workers_line n) ++ rest → AnsweredAt (text_head version n) rest a → Answered input a
 
 -- a whole text, and what its turns come to
 whole_answered : (p : Scenario) (a : Result Recorded ReplayFault) (input : List ℕ) → IsTextOf input p → a ≡ run (scripts_by p.entries p.workers) p.turns 0 (start p.table (length (scripts_by p.entries p.workers))) → Answered input a
@@ -192,7 +192,7 @@ whole_answered p a input is outcome =
       verdict = inr (refl, outcome);
     })
 
-stopped_answered : (p : Scenario) (input : List ℕ) (i : ℕ) (why : Stop) → IsTextOf input p → StopsAt p.table (scripts_by p.entries p.workers) p.turns i why → Answered input (Err (fault_at i why))
+stopped_answered : (p : Scenario) (input : List ℕ) (i : ℕ) (why : Stop) → IsTextOf input p → StopsAt (input_of p) i why → Answered input (Err (fault_at i why))
 stopped_answered p input i why is stop =
     whole_answered p (Err (fault_at i why)) input is
     (sym (run_stopped (scripts_by p.entries p.workers) p.turns 0 i (start p.table (length (scripts_by p.entries p.workers))) stop.moment stop.turn why stop.before stop.at stop.stops ∙ ap (λ n. Err (fault_at n why)) (let z : 0 + i ≡ i = omega arith in z)))
@@ -251,7 +251,7 @@ both_answered input a b (counted v body rest n at count prefix t) (uncounted w o
 both_answered input a b (counted v body rest n is count prefix t) (counted w other end m at number begins u) =
     let version = same_version input v w body other is at in
     let s = same_count n m rest end count number (sym prefix ∙ same_body input v w body other is at ∙ begins) in
-    one_verdict v n rest a b count.1 t (subst (λ (y : Version × ℕ × List ℕ). AnsweredAt y.0 y.1 y.2 b) (λ i. (sym version i, sym s.0 i, sym s.1 i)) u)
+    one_verdict (text_head v n) rest a b count.1 t (subst (λ (y : Version × ℕ × List ℕ). AnsweredAt (text_head y.0 y.1) y.2 b) (λ i. (sym version i, sym s.0 i, sym s.1 i)) u)
 
 pub answer_is_unique : AnswerIsUnique
 answer_is_unique input a b sa sb p q = both_answered input a b (answered input a sa p) (answered input b sb q)

@@ -16,7 +16,7 @@ use Rattle.tk_queue_core.specs.declared.replays.ReplayFault.{ReplayFault}
 use Rattle.tk_queue_core.specs.declared.replays.ReplayFault.TheVariants as faults
 use Rattle.tk_record_columns.specs.Recorded.{Recorded}
 use Rattle.tk_queue_core.specs.CoreState.{CoreState, fresh}
-use Rattle.tk_queue_core.specs.Replay.{Moment, Stop, Faulty, Refuses, turn_step, take_item, append_to, after, plays, start, zeros, Suits, IsStop, StopsAt, IsReplayed}
+use Rattle.tk_queue_core.specs.Replay.{Moment, Stop, Faulty, Refuses, turn_step, take_item, append_to, after, plays, start, zeros, Suits, IsStop, replay_input, StopsAt, IsReplayed}
 
 pub plays_more : (scripts : List (List Event)) (turns : List Turn) (t : Turn) (m n o : Moment) → plays scripts turns m ≡ Some n → turn_step scripts n t ≡ Ok o → plays scripts (turns ++ t ∷ []) m ≡ Some o
 plays_more scripts [] t m n o e step = ap (λ x. after (turn_step scripts x t) (plays scripts [])) (same_Some m n e) ∙ ap (λ r. after r (plays scripts [])) step
@@ -54,8 +54,8 @@ zeros_long (suc n) = let h = zeros_long n in omega (arith, length-append (zeros 
 
 -- where a turn stops
 pub stopped : (table : List Descriptor) (scripts : List (List Event)) (turns : List Turn) (i : ℕ) (d : Turn) (m : Moment) (fault : ReplayFault) → i < length turns → plays scripts (take i turns) (start table (length scripts)) ≡ Some m → IsStop i (turn_step scripts m (get_or turns i d)) fault → IsReplayed table scripts turns (Err fault)
-stopped table scripts turns i d m (faults.AfterEnd k) lt before stop = subst (λ (j : ℕ). StopsAt table scripts turns j Faulty) (sym stop.0) (record { moment = m; turn = get_or turns i d; before = before; at = slice_get-get_or turns i d lt; stops = stop.1 })
-stopped table scripts turns i d m (faults.Append k f) lt before stop = subst (λ (j : ℕ). StopsAt table scripts turns j (Refuses f)) (sym stop.0) (record { moment = m; turn = get_or turns i d; before = before; at = slice_get-get_or turns i d lt; stops = stop.1 })
+stopped table scripts turns i d m (faults.AfterEnd k) lt before stop = subst (λ (j : ℕ). StopsAt (replay_input table scripts turns) j Faulty) (sym stop.0) (record { moment = m; turn = get_or turns i d; before = before; at = slice_get-get_or turns i d lt; stops = stop.1 })
+stopped table scripts turns i d m (faults.Append k f) lt before stop = subst (λ (j : ℕ). StopsAt (replay_input table scripts turns) j (Refuses f)) (sym stop.0) (record { moment = m; turn = get_or turns i d; before = before; at = slice_get-get_or turns i d lt; stops = stop.1 })
 stopped table scripts turns i d m faults.Memory lt before stop = tt
 stopped table scripts turns i d m faults.NoHeader lt before stop = absurd stop
 stopped table scripts turns i d m (faults.BadLine n) lt before stop = absurd stop

@@ -261,7 +261,7 @@ faulty_turn scripts done m c (Worker w) at is o h =
     (w, refl, slice_get_past (script w (script_of scripts w) true) (count_by (is_turn_of w) done) (omega arith))
 
 pub faulty_has_no_item : FaultyHasNoItem
-faulty_has_no_item table scripts turns i few all stops =
-    let p = played table scripts (take i turns) stops.moment few (first_of (length scripts) i turns all) stops.before in
-    let f = faulty_turn scripts (take i turns) stops.moment p.0 stops.turn (one_of (length scripts) i turns stops.turn all stops.at) p.1 p.2 stops.stops in
+faulty_has_no_item r i few all stops =
+    let p = played r.table r.scripts (take i r.turns) stops.moment few (first_of (length r.scripts) i r.turns all) stops.before in
+    let f = faulty_turn r.scripts (take i r.turns) stops.moment p.0 stops.turn (one_of (length r.scripts) i r.turns stops.turn all stops.at) p.1 p.2 stops.stops in
     (f.0, stops.at ∙ ap Some f.1, f.2)

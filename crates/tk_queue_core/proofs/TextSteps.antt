@@ -27,8 +27,8 @@ use Rattle.tk_queue_core.specs.declared.replays.ReplayFault.{ReplayFault}
 use Rattle.tk_queue_core.specs.declared.replays.ReplayFault.TheVariants as faults
 use Rattle.tk_queue_core.specs.Limits.{most_workers}
 use Rattle.tk_queue_core.specs.Script.{IsCount, workers_line, workers_of, AreTurns, turns_line, turns_of}
-use Rattle.tk_queue_core.specs.Replay.{IsReplayed, plays, start}
-use Rattle.tk_queue_core.specs.ReplayText.{Scenario, header, AreOwn, scripts_by, NoCount, IsTextOf, IsPlayed, IsPlayedAs, nodes_fault}
+use Rattle.tk_queue_core.specs.Replay.{ReplayInput, replay_input, IsReplayed, plays, start}
+use Rattle.tk_queue_core.specs.ReplayText.{Scenario, header, TextHead, text_head, IsOwn, AreOwn, scripts_by, input_of, NoCount, IsTextOf, IsPlayed, IsPlayedAs, nodes_fault}
 use Rattle.tk_queue_core.specs.Reading.{LacksEntryStart, IsEntriesPrefix, IsCountFault, IsListFault, IsFaultAfter, NoTurns, IsFollowed, IsEndFault}
 use Rattle.tk_queue_core.proofs.ScriptForms.{workers_line_form, turns_line_form, workers_no_feed, turns_no_feed}
 
@@ -92,26 +92,26 @@ no_entry_start rest lacks e m eq = let b = entry_begins e m in lacks b.0 (eq ∙
 
 -- ---- lines of entries
 
-pub AreOwn-push : (version : Version) (n : ℕ) (entries : List Entry) (e : Entry) → AreOwn version n entries → HasLineIn version e → IsWorkerOf n e.worker → AreOwn version n (entries ++ e ∷ [])
-AreOwn-push version n [] e own has is = ((has, is), tt)
-AreOwn-push version n (x ∷ xs) e own has is = (own.0, AreOwn-push version n xs e own.1 has is)
+pub AreOwn-push : (head : TextHead) (entries : List Entry) (e : Entry) → AreOwn head entries → IsOwn head e → AreOwn head (entries ++ e ∷ [])
+AreOwn-push head [] e own is = (is, tt)
+AreOwn-push head (x ∷ xs) e own is = (own.0, AreOwn-push head xs e own.1 is)
 
 -- what the loop over the entries keeps
-pub record SoFar (version : Version) (n : ℕ) (input : List ℕ) (entries : List Entry) (rest : List ℕ) : Type 0 where
+pub record SoFar (head : TextHead) (input : List ℕ) (entries : List Entry) (rest : List ℕ) : Type 0 where
   pub prefix : input ≡ entries_text entries ++ rest
-  pub own : AreOwn version n entries
+  pub own : AreOwn head entries
   pub no_node : entries ≡ [] → LacksNodeStart rest
 
-pub so_more : (version : Version) (n : ℕ) (input : List ℕ) (entries : List Entry) (rest line more : List ℕ) (e : Entry) → SoFar version n input entries rest → rest ≡ line ++ 10 ∷ more → HasLineIn version e × (line ≡ entry_line e) → IsWorkerOf n e.worker → SoFar version n input (entries ++ e ∷ []) more
-so_more version n input entries rest line more e so split found is = record {
+pub so_more : (head : TextHead) (input : List ℕ) (entries : List Entry) (rest line more : List ℕ) (e : Entry) → SoFar head input entries rest → rest ≡ line ++ 10 ∷ more → HasLineIn head.version e × (line ≡ entry_line e) → IsWorkerOf head.workers e.worker → SoFar head input (entries ++ e ∷ []) more
+so_more head input entries rest line more e so split found is = record {
   prefix = one_more entry_line entries e input line more (so.prefix ∙ ap (λ (t : List ℕ). entries_text entries ++ t) split) found.1;
-  own = AreOwn-push version n entries e so.own found.0 is;
+  own = AreOwn-push head entries e so.own (found.0, is);
   no_node = λ none. absurd (push_nonempty entries e none);
 }
 
-pub bad_entry : (version : Version) (n nodes : ℕ) (input : List ℕ) (entries : List Entry) (rest : List ℕ) (k : ℕ) → SoFar version n input entries rest → ((e : Entry) (m : List ℕ) → HasLineIn version e → IsWorkerOf n e.worker → rest ≢ with_line_feed (entry_line e) ++ m) → NoTurns n rest
-    → k ≡ nodes + length entries + 3 → IsFaultAfter version n nodes input (faults.BadLine k)
-bad_entry version n nodes input entries rest k so none no_turns number table fits long = inl (record {
+pub bad_entry : (head : TextHead) (nodes : ℕ) (input : List ℕ) (entries : List Entry) (rest : List ℕ) (k : ℕ) → SoFar head input entries rest → ((e : Entry) (m : List ℕ) → IsOwn head e → rest ≢ with_line_feed (entry_line e) ++ m) → NoTurns head.workers rest
+    → k ≡ nodes + length entries + 3 → IsFaultAfter head nodes input (faults.BadLine k)
+bad_entry head nodes input entries rest k so none no_turns number table fits long = inl (record {
   table = table;
   entries = entries;
   rest = rest;
@@ -122,26 +122,26 @@ bad_entry version n nodes input entries rest k so none no_turns number table fit
   number = omega arith;
 })
 
-pub bad_entry_unfed : (version : Version) (n nodes : ℕ) (input : List ℕ) (entries : List Entry) (rest : List ℕ) (k : ℕ) → SoFar version n input entries rest → LacksFeed rest → k ≡ nodes + length entries + 3 → IsFaultAfter version n nodes input (faults.BadLine k)
-bad_entry_unfed version n nodes input entries rest k so lacks number = bad_entry version n nodes input entries rest k so (λ e m _ _. unfed (entry_line e) m rest lacks) (turns_unfed n rest lacks) number
+pub bad_entry_unfed : (head : TextHead) (nodes : ℕ) (input : List ℕ) (entries : List Entry) (rest : List ℕ) (k : ℕ) → SoFar head input entries rest → LacksFeed rest → k ≡ nodes + length entries + 3 → IsFaultAfter head nodes input (faults.BadLine k)
+bad_entry_unfed head nodes input entries rest k so lacks number = bad_entry head nodes input entries rest k so (λ e m _. unfed (entry_line e) m rest lacks) (turns_unfed head.workers rest lacks) number
 
-pub bad_entry_line : (version : Version) (n nodes : ℕ) (input : List ℕ) (entries : List Entry) (rest line more t : List ℕ) (k : ℕ) → SoFar version n input entries rest → rest ≡ line ++ 10 ∷ more → LacksFeed line → rest ≡ 69 ∷ 124 ∷ t
-    → ((e : Entry) → HasLineIn version e → IsWorkerOf n e.worker → line ≢ entry_line e) → k ≡ nodes + length entries + 3 → IsFaultAfter version n nodes input (faults.BadLine k)
-bad_entry_line version n nodes input entries rest line more t k so is lacks start bad number =
-    bad_entry version n nodes input entries rest k so
-    (λ e m has own eq. bad e has own (same_line line (entry_line e) more m lacks (entry_no_feed e has.line) (sym is ∙ eq ∙ regroup (entry_line e) m)).0)
-    (no_turns_at 69 rest (124 ∷ t) (λ e. absurd (omega arith)) start n) number
+pub bad_entry_line : (head : TextHead) (nodes : ℕ) (input : List ℕ) (entries : List Entry) (rest line more t : List ℕ) (k : ℕ) → SoFar head input entries rest → rest ≡ line ++ 10 ∷ more → LacksFeed line → rest ≡ 69 ∷ 124 ∷ t
+    → ((e : Entry) → IsOwn head e → line ≢ entry_line e) → k ≡ nodes + length entries + 3 → IsFaultAfter head nodes input (faults.BadLine k)
+bad_entry_line head nodes input entries rest line more t k so is lacks start bad number =
+    bad_entry head nodes input entries rest k so
+    (λ e m own eq. bad e own (same_line line (entry_line e) more m lacks (entry_no_feed e own.0.line) (sym is ∙ eq ∙ regroup (entry_line e) m)).0)
+    (no_turns_at 69 rest (124 ∷ t) (λ e. absurd (omega arith)) start head.workers) number
 
 -- the line is that of an entry of no worker of the session
-pub foreign : (version : Version) (n : ℕ) (line : List ℕ) (e : Entry) → HasLineIn version e × (line ≡ entry_line e) → ¬ IsWorkerOf n e.worker → (x : Entry) → HasLineIn version x → IsWorkerOf n x.worker → line ≢ entry_line x
-foreign version n line e found none x has is same = none (subst (λ (y : Entry). IsWorkerOf n y.worker) (sym (one_value (in_line entry_of) HasEntryLine entry_line entry_line_form e x found.0.line has.line (sym found.1 ∙ same))) is)
+pub foreign : (head : TextHead) (line : List ℕ) (e : Entry) → HasLineIn head.version e × (line ≡ entry_line e) → ¬ IsWorkerOf head.workers e.worker → (x : Entry) → IsOwn head x → line ≢ entry_line x
+foreign head line e found none x own same = none (subst (λ (y : Entry). IsWorkerOf head.workers y.worker) (sym (one_value (in_line entry_of) HasEntryLine entry_line entry_line_form e x found.0.line own.0.line (sym found.1 ∙ same))) own.1)
 
 -- ---- the line of the turns
 
-pub end_fault : (version : Version) (n nodes number : ℕ) (input : List ℕ) (entries : List Entry) (rest : List ℕ) (fault : ReplayFault) → IsEntriesPrefix version n input entries rest → number ≡ nodes + length entries + 3 → IsEndFault n number rest fault → IsFaultAfter version n nodes input fault
-end_fault version n nodes number input entries rest (faults.BadLine k) f is fault = ⊎_elim
-    (λ (x : (k ≡ number) × NoTurns n rest). bad_entry version n nodes input entries rest k (record { prefix = f.prefix; own = f.own; no_node = f.no_node }) (λ e m _ _. no_entry_start rest f.no_entry e m) x.1 (x.0 ∙ is))
-    (λ (y : (k ≡ number + 1) × IsFollowed n rest). λ table fits long.
+pub end_fault : (head : TextHead) (nodes number : ℕ) (input : List ℕ) (entries : List Entry) (rest : List ℕ) (fault : ReplayFault) → IsEntriesPrefix head input entries rest → number ≡ nodes + length entries + 3 → IsEndFault head.workers number rest fault → IsFaultAfter head nodes input fault
+end_fault head nodes number input entries rest (faults.BadLine k) f is fault = ⊎_elim
+    (λ (x : (k ≡ number) × NoTurns head.workers rest). bad_entry head nodes input entries rest k (record { prefix = f.prefix; own = f.own; no_node = f.no_node }) (λ e m _. no_entry_start rest f.no_entry e m) x.1 (x.0 ∙ is))
+    (λ (y : (k ≡ number + 1) × IsFollowed head.workers rest). λ table fits long.
     let z = y.1 in inr (record {
       table = table;
       entries = entries;
@@ -155,12 +155,12 @@ end_fault version n nodes number input entries rest (faults.BadLine k) f is faul
       number = let p = y.0 in omega arith;
     }))
     fault
-end_fault version n nodes number input entries rest faults.Memory f is fault = λ table fits long. tt
-end_fault version n nodes number input entries rest faults.NoHeader f is fault = absurd fault
-end_fault version n nodes number input entries rest (faults.AfterEnd i) f is fault = absurd fault
-end_fault version n nodes number input entries rest (faults.Append i x) f is fault = absurd fault
-end_fault version n nodes number input entries rest faults.TooLarge f is fault = absurd fault
-end_fault version n nodes number input entries rest faults.Device f is fault = absurd fault
+end_fault head nodes number input entries rest faults.Memory f is fault = λ table fits long. tt
+end_fault head nodes number input entries rest faults.NoHeader f is fault = absurd fault
+end_fault head nodes number input entries rest (faults.AfterEnd i) f is fault = absurd fault
+end_fault head nodes number input entries rest (faults.Append i x) f is fault = absurd fault
+end_fault head nodes number input entries rest faults.TooLarge f is fault = absurd fault
+end_fault head nodes number input entries rest faults.Device f is fault = absurd fault
 
 -- ---- the whole
 
@@ -173,7 +173,7 @@ count_played version input body (faults.Append i x) is fault = absurd fault
 count_played version input body faults.TooLarge is fault = absurd fault
 count_played version input body faults.Device is fault = absurd fault
 
-pub list_played : (version : Version) (n : ℕ) (input body rest : List ℕ) (fault : ReplayFault) → input ≡ header version ++ body → IsCount n × (body ≡ with_line_feed (workers_line n) ++ rest) → IsListFault version n rest fault → IsPlayed input (Err fault)
+pub list_played : (version : Version) (n : ℕ) (input body rest : List ℕ) (fault : ReplayFault) → input ≡ header version ++ body → IsCount n × (body ≡ with_line_feed (workers_line n) ++ rest) → IsListFault (text_head version n) rest fault → IsPlayed input (Err fault)
 list_played version n input body rest (faults.BadLine k) is count fault = (version, body, is, inr (n, rest, count.0, count.1, fault))
 list_played version n input body rest faults.Memory is count fault = tt
 list_played version n input body rest faults.NoHeader is count fault = absurd fault
@@ -193,7 +193,7 @@ nodes_played version n input body rest (listing.BadLine k) is count bad = list_p
   own = tt;
   none = record {
     node = λ d m _ has takes. bad.none d m has takes;
-    entry = λ e m has _. no_entry_at_node version (78 ∷ 124 ∷ bad.more) bad.more refl e m has;
+    entry = λ e m own. no_entry_at_node version (78 ∷ 124 ∷ bad.more) bad.more refl e m own.0;
     turns = λ ts m are. no_turns_at 78 (78 ∷ 124 ∷ bad.more) (124 ∷ bad.more) (λ e. absurd (omega arith)) refl n ts m are;
   };
   number = omega (arith, bad.number);
@@ -201,12 +201,12 @@ nodes_played version n input body rest (listing.BadLine k) is count bad = list_p
 nodes_played version n input body rest listing.Memory is count bad = tt
 
 pub after_played : (version : Version) (n nodes : ℕ) (input body rest more : List ℕ) (table : List Descriptor) (fault : ReplayFault) → input ≡ header version ++ body → IsCount n × (body ≡ with_line_feed (workers_line n) ++ rest) → IsNodesPrefix rest table more → nodes ≡ length table
-    → IsFaultAfter version n nodes more fault → IsPlayed input (Err fault)
+    → IsFaultAfter (text_head version n) nodes more fault → IsPlayed input (Err fault)
 after_played version n nodes input body rest more table fault is count prefix long f =
-    list_played version n input body rest fault is count (subst (λ (t : List ℕ). IsListFault version n t fault) (sym prefix.prefix) (f table prefix.fitting (sym long)))
+    list_played version n input body rest fault is count (subst (λ (t : List ℕ). IsListFault (text_head version n) t fault) (sym prefix.prefix) (f table prefix.fitting (sym long)))
 
 pub says : (version : Version) (n : ℕ) (input body rest more last : List ℕ) (table : List Descriptor) (entries : List Entry) (turns : List Turn) → input ≡ header version ++ body → IsCount n × (body ≡ with_line_feed (workers_line n) ++ rest) → IsNodesPrefix rest table more
-    → IsEntriesPrefix version n more entries last → AreTurns n turns × (last ≡ with_line_feed (turns_line turns)) → IsTextOf input (record { version = version; workers = n; table = table; entries = entries; turns = turns })
+    → IsEntriesPrefix (text_head version n) more entries last → AreTurns n turns × (last ≡ with_line_feed (turns_line turns)) → IsTextOf input (record { version = version; workers = n; table = table; entries = entries; turns = turns })
 says version n input body rest more last table entries turns is count nodes own ends = (
   record { count = count.0; nodes = nodes.fitting; own = own.own; turns = ends.0 },
   is ∙ ap (λ (t : List ℕ). header version ++ t) (count.1 ∙ ap (λ (t : List ℕ). with_line_feed (workers_line n) ++ t) (nodes.prefix ∙ ap (λ (t : List ℕ). nodes_text table ++ t) (own.prefix ∙ ap (λ (t : List ℕ). entries_text entries ++ t) ends.1))),
@@ -225,24 +225,20 @@ scripts_here f scripts entries others n same is = is ∙ ap (λ (es : List Entry
 pub replay_here : (t u : List Descriptor) (s r : List (List Event)) (x y : List Turn) (a : Result Replayed ReplayFault) → t ≡ u → s ≡ r → x ≡ y → IsReplayed t s x a → IsReplayed u r y a
 replay_here t u s r x y a p q e is = subst (λ (z : List Descriptor × List (List Event) × List Turn). IsReplayed z.0 z.1 z.2 a) (λ i. (p i, q i, e i)) is
 
-pub replay_fault : (table : List Descriptor) (n : ℕ) (entries : List Entry) (turns : List Turn) (fault : ReplayFault) → IsReplayed table (scripts_by entries n) turns (Err fault) → IsPlayedAs table n entries turns (Err fault)
-replay_fault table n entries turns (faults.AfterEnd i) r = r
-replay_fault table n entries turns (faults.Append i x) r = r
-replay_fault table n entries turns faults.Memory r = tt
-replay_fault table n entries turns faults.NoHeader r = absurd r
-replay_fault table n entries turns (faults.BadLine k) r = absurd r
-replay_fault table n entries turns faults.TooLarge r = absurd r
-replay_fault table n entries turns faults.Device r = absurd r
+pub replay_fault : (table : List Descriptor) (scripts : List (List Event)) (turns : List Turn) (fault : ReplayFault) → IsReplayed table scripts turns (Err fault) → IsPlayedAs (replay_input table scripts turns) (Err fault)
+replay_fault table scripts turns (faults.AfterEnd i) r = r
+replay_fault table scripts turns (faults.Append i x) r = r
+replay_fault table scripts turns faults.Memory r = tt
+replay_fault table scripts turns faults.NoHeader r = absurd r
+replay_fault table scripts turns (faults.BadLine k) r = absurd r
+replay_fault table scripts turns faults.TooLarge r = absurd r
+replay_fault table scripts turns faults.Device r = absurd r
 
-pub replay_done : (table : List Descriptor) (n : ℕ) (entries : List Entry) (turns : List Turn) (done : Replayed) → IsReplayed table (scripts_by entries n) turns (Ok done) → IsPlayedAs table n entries turns (Ok done.taken)
-replay_done table n entries turns done r = (
-  r.0,
-  ap (λ k. plays (scripts_by entries n) turns (start table k)) (sym (scripts_long entries n)) ∙ r.1,
-  r.2.taken,
-)
+pub replay_done : (table : List Descriptor) (scripts : List (List Event)) (turns : List Turn) (done : Replayed) → IsReplayed table scripts turns (Ok done) → IsPlayedAs (replay_input table scripts turns) (Ok done.taken)
+replay_done table scripts turns done r = (r.0, r.1, r.2.taken)
 
-played : (input : List ℕ) (p : Scenario) (r : Result Recorded ReplayFault) → IsTextOf input p → IsPlayedAs p.table p.workers p.entries p.turns r → IsPlayed input r
-played input p (Ok r) is h = (p, h.0, is, h.1, h.2)
+played : (input : List ℕ) (p : Scenario) (r : Result Recorded ReplayFault) → IsTextOf input p → IsPlayedAs (input_of p) r → IsPlayed input r
+played input p (Ok r) is h = (p, h.0, is, ap (λ k. plays (scripts_by p.entries p.workers) p.turns (start p.table k)) (sym (scripts_long p.entries p.workers)) ∙ h.1, h.2)
 played input p (Err (faults.AfterEnd i)) is h = (p, is, h)
 played input p (Err (faults.Append i x)) is h = (p, is, h)
 played input p (Err faults.Memory) is h = tt
@@ -251,6 +247,6 @@ played input p (Err (faults.BadLine k)) is h = absurd h
 played input p (Err faults.TooLarge) is h = absurd h
 played input p (Err faults.Device) is h = absurd h
 
-pub text_played : (input : List ℕ) (p : Scenario) (entries : List Entry) (turns : List Turn) (r : Result Recorded ReplayFault) → IsTextOf input p → entries ≡ p.entries → turns ≡ p.turns → IsPlayedAs p.table p.workers entries turns r → IsPlayed input r
+pub text_played : (input : List ℕ) (p : Scenario) (entries : List Entry) (turns : List Turn) (r : Result Recorded ReplayFault) → IsTextOf input p → entries ≡ p.entries → turns ≡ p.turns → IsPlayedAs (replay_input p.table (scripts_by entries p.workers) turns) r → IsPlayed input r
 text_played input p entries turns r is e t h =
-    played input p r is (subst (λ (z : List Entry × List Turn). IsPlayedAs p.table p.workers z.0 z.1 r) (λ i. (e i, t i)) h)
+    played input p r is (subst (λ (z : List Entry × List Turn). IsPlayedAs (replay_input p.table (scripts_by z.0 p.workers) z.1) r) (λ i. (e i, t i)) h)

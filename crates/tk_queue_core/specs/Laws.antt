@@ -35,6 +35,7 @@ use Rattle.tk_queue_core.specs.Replay.{
   count_of,
   plays,
   start,
+  ReplayInput,
   StopsAt,
 }
 use Rattle.tk_queue_core.specs.TurnItems.{AreItemsOf, item_after}
@@ -66,11 +67,11 @@ ReplaysCore =
 -- a turn is faulty where the script and the mark of its worker have no item for it
 abbrev pub FaultyHasNoItem : Type 0
 FaultyHasNoItem =
-    (table : List Descriptor) (scripts : List (List Event)) (turns : List Turn) (i : ℕ)
-    → length scripts ≤ most_workers → AllByRecursion (IsTurn (length scripts)) turns
-    → StopsAt table scripts turns i Faulty
-    → (w : ℕ) × (slice_get turns i ≡ Some (Worker w))
-    × (item_after scripts (take i turns) w ≡ None)
+    (p : ReplayInput) (i : ℕ)
+    → length p.scripts ≤ most_workers → AllByRecursion (IsTurn (length p.scripts)) p.turns
+    → StopsAt p i Faulty
+    → (w : ℕ) × (slice_get p.turns i ≡ Some (Worker w))
+    × (item_after p.scripts (take i p.turns) w ≡ None)
 
 -- an answer that depends on the input alone, and not on memory
 abbrev pub IsSettled : Result Recorded ReplayFault → Type 0

@@ -4,22 +4,21 @@ use Rattle.tk_ids.specs.declared.descriptors.Descriptor.{Descriptor}
 use Rattle.tk_events.specs.declared.events.Entry.{Entry}
 use Rattle.tk_record.specs.Text.{with_line_feed, nodes_text, entries_text, AreNodes}
 use Rattle.tk_record.specs.NodeLines.{LacksNodeStart}
-use Rattle.tk_record.specs.declared.versions.Version.{Version}
 use Rattle.tk_queue_core.specs.declared.items.Turn.{Turn}
 use Rattle.tk_queue_core.specs.declared.replays.ReplayFault.{ReplayFault}
 use Rattle.tk_queue_core.specs.declared.replays.ReplayFault.TheVariants as faults
 use Rattle.tk_queue_core.specs.Script.{AreTurns, turns_line}
-use Rattle.tk_queue_core.specs.ReplayText.{AreOwn, IsBadAfter, NoCount}
+use Rattle.tk_queue_core.specs.ReplayText.{TextHead, AreOwn, IsBadAfter, NoCount}
 
 -- no line of an entry stands at the start
 abbrev pub LacksEntryStart : List ℕ → Type 0
 LacksEntryStart rest = (more : List ℕ) → rest ≢ codes "E|" ++ more
 
 -- the input begins with the lines of these entries, and no further such line
-pub record IsEntriesPrefix (version : Version) (n : ℕ) (input : List ℕ) (entries : List Entry)
+pub record IsEntriesPrefix (head : TextHead) (input : List ℕ) (entries : List Entry)
     (rest : List ℕ) : Type 0 where
   pub prefix : input ≡ entries_text entries ++ rest
-  pub own : AreOwn version n entries
+  pub own : AreOwn head entries
   pub no_node : entries ≡ [] → LacksNodeStart rest
   pub no_entry : LacksEntryStart rest
 
@@ -29,23 +28,23 @@ IsCountFault input (faults.BadLine k) = (k ≡ 2) × NoCount input
 IsCountFault input _ = ⊥
 
 -- the fault of a line after the number of workers
-abbrev pub IsListFault : Version → ℕ → List ℕ → ReplayFault → Type 0
-IsListFault version n input (faults.BadLine k) = IsBadAfter version n input k
-IsListFault version n input faults.Memory = Unit {0}
-IsListFault version n input _ = ⊥
+abbrev pub IsListFault : TextHead → List ℕ → ReplayFault → Type 0
+IsListFault head input (faults.BadLine k) = IsBadAfter head input k
+IsListFault head input faults.Memory = Unit {0}
+IsListFault head input _ = ⊥
 
--- the fault of a line after these descriptors
-abbrev pub IsFaultAfter : Version → ℕ → ℕ → List ℕ → ReplayFault → Type 0
-IsFaultAfter version n nodes input fault =
+-- the fault of a line after those of `nodes` descriptors
+abbrev pub IsFaultAfter : TextHead → ℕ → List ℕ → ReplayFault → Type 0
+IsFaultAfter head nodes input fault =
     (table : List Descriptor) → AreNodes [] table → length table ≡ nodes
-    → IsListFault version n (nodes_text table ++ input) fault
+    → IsListFault head (nodes_text table ++ input) fault
 
 -- the input is the lines of these entries, and then the line of these turns
-pub record IsRest (version : Version) (n : ℕ) (input : List ℕ) (entries : List Entry)
-    (turns : List Turn) : Type 0 where
+pub record IsRest (head : TextHead) (input : List ℕ) (entries : List Entry) (turns : List Turn)
+    : Type 0 where
   pub last : List ℕ
-  pub own : IsEntriesPrefix version n input entries last
-  pub ends : AreTurns n turns × (last ≡ with_line_feed (turns_line turns))
+  pub own : IsEntriesPrefix head input entries last
+  pub ends : AreTurns head.workers turns × (last ≡ with_line_feed (turns_line turns))
 
 -- no line of turns stands at the start
 abbrev pub NoTurns : ℕ → List ℕ → Type 0

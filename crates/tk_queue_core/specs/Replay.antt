@@ -114,14 +114,22 @@ abbrev pub start : List Descriptor → ℕ → Moment
 start table n =
     record { core = fresh n; emitted = zeros n; taken = record { table = table; entries = [] } }
 
+-- what a replay is given: the static descriptors, the script of each worker, and the turns
+pub record ReplayInput : Type 0 where
+  pub table : List Descriptor
+  pub scripts : List (List Event)
+  pub turns : List Turn
+
+abbrev pub replay_input : List Descriptor → List (List Event) → List Turn → ReplayInput
+replay_input table scripts turns = record { table = table; scripts = scripts; turns = turns }
+
 -- the turns before turn i go on, and turn i stops
-pub record StopsAt (table : List Descriptor) (scripts : List (List Event)) (turns : List Turn)
-    (i : ℕ) (why : Stop) : Type 0 where
+pub record StopsAt (p : ReplayInput) (i : ℕ) (why : Stop) : Type 0 where
   pub moment : Moment
   pub turn : Turn
-  pub before : plays scripts (take i turns) (start table (length scripts)) ≡ Some moment
-  pub at : slice_get turns i ≡ Some turn
-  pub stops : turn_step scripts moment turn ≡ Err why
+  pub before : plays p.scripts (take i p.turns) (start p.table (length p.scripts)) ≡ Some moment
+  pub at : slice_get p.turns i ≡ Some turn
+  pub stops : turn_step p.scripts moment turn ≡ Err why
 
 -- what the replay shows of its last moment
 pub record Shows (r : Replayed) (m : Moment) : Type 0 where
@@ -134,9 +142,10 @@ abbrev pub IsReplayed :
     List Descriptor → List (List Event) → List Turn → Result Replayed ReplayFault → Type 0
 IsReplayed table scripts turns (Ok r) =
     (m : Moment) × (plays scripts turns (start table (length scripts)) ≡ Some m) × Shows r m
-IsReplayed table scripts turns (Err (faults.AfterEnd i)) = StopsAt table scripts turns i Faulty
+IsReplayed table scripts turns (Err (faults.AfterEnd i)) =
+    StopsAt (replay_input table scripts turns) i Faulty
 IsReplayed table scripts turns (Err (faults.Append i fault)) =
-    StopsAt table scripts turns i (Refuses fault)
+    StopsAt (replay_input table scripts turns) i (Refuses fault)
 IsReplayed table scripts turns (Err faults.Memory) = Unit {0}
 IsReplayed table scripts turns (Err _) = ⊥
 

@@ -45,7 +45,15 @@ use Rattle.tk_queue_core.specs.declared.items.Turn.{Turn}
 use Rattle.tk_queue_core.specs.declared.replays.ReplayFault.{ReplayFault}
 use Rattle.tk_queue_core.specs.declared.replays.ReplayFault.TheVariants as faults
 use Rattle.tk_queue_core.specs.Script.{IsCount, workers_line, AreTurns, turns_line}
-use Rattle.tk_queue_core.specs.Replay.{Moment, Faulty, Refuses, plays, start, StopsAt}
+use Rattle.tk_queue_core.specs.Replay.{
+  Moment,
+  Faulty,
+  Refuses,
+  plays,
+  start,
+  ReplayInput,
+  StopsAt,
+}
 
 -- what a replay text says
 pub record Scenario : Type 0 where
@@ -69,15 +77,26 @@ replay_text p =
     ++ (entries_text p.entries
     ++ with_line_feed (turns_line p.turns))))
 
--- each entry has a line in the version, and is of one of the workers 1 to n
-abbrev pub AreOwn : Version → ℕ → List Entry → Type 0
-AreOwn version n entries = AllByRecursion (λ e. HasLineIn version e × IsWorkerOf n e.worker) entries
+-- what the first two lines of a replay text say: its version and the number of workers
+pub record TextHead : Type 0 where
+  pub version : Version
+  pub workers : ℕ
+
+abbrev pub text_head : Version → ℕ → TextHead
+text_head version workers = record { version = version; workers = workers }
+
+-- the entry has a line in the version, and is of one of the workers
+abbrev pub IsOwn : TextHead → Entry → Type 0
+IsOwn head e = HasLineIn head.version e × IsWorkerOf head.workers e.worker
+
+abbrev pub AreOwn : TextHead → List Entry → Type 0
+AreOwn head entries = AllByRecursion (λ e. IsOwn head e) entries
 
 -- the scenario has a text: each part has its lines
 pub record HasReplayText (p : Scenario) : Type 0 where
   pub count : IsCount p.workers
   pub nodes : AreNodes [] p.table
-  pub own : AreOwn p.version p.workers p.entries
+  pub own : AreOwn (text_head p.version p.workers) p.entries
   pub turns : AreTurns p.workers p.turns
 
 -- the scripts of the workers 1 to n: each worker's is its entries in order
@@ -92,32 +111,32 @@ abbrev pub NoCount : List ℕ → Type 0
 NoCount rest = (n : ℕ) (more : List ℕ) → IsCount n → rest ≢ with_line_feed (workers_line n) ++ more
 
 -- no line that may follow these descriptors and entries stands at the start
-pub record NoLineOf (version : Version) (n : ℕ) (table : List Descriptor) (entries : List Entry)
+pub record NoLineOf (head : TextHead) (table : List Descriptor) (entries : List Entry)
     (rest : List ℕ) : Type 0 where
   pub node :
       (d : Descriptor) (more : List ℕ) → entries ≡ [] → IsDescriptor d → TakesNext table d
       → rest ≢ with_line_feed (node_line d) ++ more
   pub entry :
-      (e : Entry) (more : List ℕ) → HasLineIn version e → IsWorkerOf n e.worker
+      (e : Entry) (more : List ℕ) → IsOwn head e
       → rest ≢ with_line_feed (entry_line e) ++ more
   pub turns :
-      (turns : List Turn) (more : List ℕ) → AreTurns n turns
+      (turns : List Turn) (more : List ℕ) → AreTurns head.workers turns
       → rest ≢ with_line_feed (turns_line turns) ++ more
 
 -- after the number of workers, line k is none that may follow the descriptors and entries before
 -- it, or is missing
-pub record IsBadLine (version : Version) (n : ℕ) (input : List ℕ) (k : ℕ) : Type 0 where
+pub record IsBadLine (head : TextHead) (input : List ℕ) (k : ℕ) : Type 0 where
   pub table : List Descriptor
   pub entries : List Entry
   pub rest : List ℕ
   pub prefix : input ≡ nodes_text table ++ (entries_text entries ++ rest)
   pub nodes : AreNodes [] table
-  pub own : AreOwn version n entries
-  pub none : NoLineOf version n table entries rest
+  pub own : AreOwn head entries
+  pub none : NoLineOf head table entries rest
   pub number : k ≡ length table + length entries + 3
 
 -- after the number of workers, line k stands after the turns
-pub record IsLineAfter (version : Version) (n : ℕ) (input : List ℕ) (k : ℕ) : Type 0 where
+pub record IsLineAfter (head : TextHead) (input : List ℕ) (k : ℕ) : Type 0 where
   pub table : List Descriptor
   pub entries : List Entry
   pub turns : List Turn
@@ -126,14 +145,14 @@ pub record IsLineAfter (version : Version) (n : ℕ) (input : List ℕ) (k : ℕ
       input ≡ nodes_text table
       ++ (entries_text entries ++ (with_line_feed (turns_line turns) ++ rest))
   pub nodes : AreNodes [] table
-  pub own : AreOwn version n entries
-  pub are : AreTurns n turns
+  pub own : AreOwn head entries
+  pub are : AreTurns head.workers turns
   pub more : rest ≢ []
   pub number : k ≡ length table + length entries + 4
 
 -- the first line after the number of workers that may not stand there is line k
-abbrev pub IsBadAfter : Version → ℕ → List ℕ → ℕ → Type 0
-IsBadAfter version n input k = IsBadLine version n input k ⊎ IsLineAfter version n input k
+abbrev pub IsBadAfter : TextHead → List ℕ → ℕ → Type 0
+IsBadAfter head input k = IsBadLine head input k ⊎ IsLineAfter head input k
 
 -- the first line after the header that may not stand there is line k: the one of the number of
 -- workers, or a later one
@@ -141,23 +160,26 @@ abbrev pub IsBad : Version → List ℕ → ℕ → Type 0
 IsBad version input k =
     ((k ≡ 2) × NoCount input)
     ⊎ ((n : ℕ) × (rest : List ℕ) × IsCount n
-    × (input ≡ with_line_feed (workers_line n) ++ rest) × IsBadAfter version n rest k)
+    × (input ≡ with_line_feed (workers_line n) ++ rest) × IsBadAfter (text_head version n) rest k)
 
 -- the input is the text of this replay
 abbrev pub IsTextOf : List ℕ → Scenario → Type 0
 IsTextOf input p = HasReplayText p × (input ≡ replay_text p)
 
--- what replaying these turns over these entries answers; `Memory` may come at any
-abbrev pub IsPlayedAs :
-    List Descriptor → ℕ → List Entry → List Turn → Result Recorded ReplayFault → Type 0
-IsPlayedAs table n entries turns (Ok r) =
-    (m : Moment) × (plays (scripts_by entries n) turns (start table n) ≡ Some m) × (r ≡ m.taken)
-IsPlayedAs table n entries turns (Err (faults.AfterEnd i)) =
-    StopsAt table (scripts_by entries n) turns i Faulty
-IsPlayedAs table n entries turns (Err (faults.Append i fault)) =
-    StopsAt table (scripts_by entries n) turns i (Refuses fault)
-IsPlayedAs table n entries turns (Err faults.Memory) = Unit {0}
-IsPlayedAs table n entries turns (Err _) = ⊥
+-- what the replay of a text is given
+abbrev pub input_of : Scenario → ReplayInput
+input_of p =
+    record { table = p.table; scripts = scripts_by p.entries p.workers; turns = p.turns }
+
+-- what a replay answers with the record of what is taken; `Memory` may come at any
+abbrev pub IsPlayedAs : ReplayInput → Result Recorded ReplayFault → Type 0
+IsPlayedAs p (Ok r) =
+    (m : Moment) × (plays p.scripts p.turns (start p.table (length p.scripts)) ≡ Some m)
+    × (r ≡ m.taken)
+IsPlayedAs p (Err (faults.AfterEnd i)) = StopsAt p i Faulty
+IsPlayedAs p (Err (faults.Append i fault)) = StopsAt p i (Refuses fault)
+IsPlayedAs p (Err faults.Memory) = Unit {0}
+IsPlayedAs p (Err _) = ⊥
 
 -- what playing an input within the limit answers, with the record of what is taken; `Memory`
 -- may come at any
@@ -171,11 +193,9 @@ IsPlayed input (Err faults.NoHeader) =
 IsPlayed input (Err (faults.BadLine k)) =
     (version : Version) × (rest : List ℕ) × (input ≡ header version ++ rest) × IsBad version rest k
 IsPlayed input (Err (faults.AfterEnd i)) =
-    (p : Scenario) × IsTextOf input p
-    × StopsAt p.table (scripts_by p.entries p.workers) p.turns i Faulty
+    (p : Scenario) × IsTextOf input p × StopsAt (input_of p) i Faulty
 IsPlayed input (Err (faults.Append i fault)) =
-    (p : Scenario) × IsTextOf input p
-    × StopsAt p.table (scripts_by p.entries p.workers) p.turns i (Refuses fault)
+    (p : Scenario) × IsTextOf input p × StopsAt (input_of p) i (Refuses fault)
 IsPlayed input (Err faults.TooLarge) = ⊥
 IsPlayed input (Err faults.Device) = ⊥
 IsPlayed input (Err faults.Memory) = Unit {0}
