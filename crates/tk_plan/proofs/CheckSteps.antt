@@ -18,8 +18,8 @@ use Rattle.tk_plan_units.specs.Trees.{contents}
 use Rattle.tk_plan.specs.Answers.{Refuses}
 use Rattle.tk_plan.specs.Refusals.{Faults, Meets}
 use Rattle.tk_plan.specs.Checks.{first}
-use Rattle.tk_plan.specs.Progress.{IsNoted, IsChecked, IsAdded, HasBelow, IsStarted, room_checks}
-use Rattle.tk_plan.specs.NodeInputs.{NodeInput, segment_of, node_of, repeats_key}
+use Rattle.tk_plan.specs.Progress.{Addition, state, addition_of, IsNoted, IsChecked, IsAdded, HasBelow, IsStarted, room_checks}
+use Rattle.tk_plan.specs.NodeInputs.{NodeInput, segment_of, repeats_key}
 use Rattle.tk_plan.specs.PlanOf.{checks, node_check, id_fault, same_segment, is_kind}
 use Rattle.tk_plan.specs.declared.plan_readers.Reader.{Reader}
 use Rattle.tk_plan.specs.declared.plan_readers.Checked.{Checked}
@@ -78,21 +78,21 @@ module _ (before : List Node) (s : NodeInput) where
   unfolding checks
   id_fault_here f h e r i = rw (le-ltb 60 s.level h, e, r, i) refl
 
-  pub room_verdict : (o : Option PlanFault) → Passes s → first (room_checks before s.earlier s.is_static (segment_of s) (lock_keys (before ++ node_of s ∷ []))) ≡ o → first (checks before s) ≡ o
+  pub room_verdict : (o : Option PlanFault) → Passes s → first (room_checks before s.earlier (addition_of before s)) ≡ o → first (checks before s) ≡ o
   unfolding checks
   room_verdict o p e = rw (le-ltb 60 s.level p.level, p.members, p.once, p.id) e
 
-module _ (before : List Node) (earlier : List SegmentView) (b : Bool) (s : SegmentView) (keys : List (List ℕ)) where
-  pub twice_fault : list_any (same_segment s) earlier ≡ true → first (room_checks before earlier b s keys) ≡ Some (Table Twice)
+module _ (before : List Node) (earlier : List SegmentView) (a : Addition) where
+  pub twice_fault : list_any (same_segment a.segment) earlier ≡ true → first (room_checks before earlier a) ≡ Some (Table Twice)
   twice_fault t = rw t refl
 
-  pub full_fault : list_any (same_segment s) earlier ≡ false → nat_le 65536 (count_by (is_kind b) before) ≡ true → first (room_checks before earlier b s keys) ≡ Some (Table Full)
+  pub full_fault : list_any (same_segment a.segment) earlier ≡ false → nat_le 65536 (count_by (is_kind a.is_static) before) ≡ true → first (room_checks before earlier a) ≡ Some (Table Full)
   full_fault t u = rw (t, u) refl
 
-  pub resource_fault : list_any (same_segment s) earlier ≡ false → nat_le 65536 (count_by (is_kind b) before) ≡ false → 15 < length keys → first (room_checks before earlier b s keys) ≡ Some TooManyResources
+  pub resource_fault : list_any (same_segment a.segment) earlier ≡ false → nat_le 65536 (count_by (is_kind a.is_static) before) ≡ false → 15 < length a.keys → first (room_checks before earlier a) ≡ Some TooManyResources
   resource_fault t u m = rw (t, u, lt-ltb 15 _ m) refl
 
-  pub no_fault : list_any (same_segment s) earlier ≡ false → nat_le 65536 (count_by (is_kind b) before) ≡ false → length keys ≤ 15 → first (room_checks before earlier b s keys) ≡ None
+  pub no_fault : list_any (same_segment a.segment) earlier ≡ false → nat_le 65536 (count_by (is_kind a.is_static) before) ≡ false → length a.keys ≤ 15 → first (room_checks before earlier a) ≡ None
   no_fault t u m = rw (t, u, le-ltb 15 _ m) refl
 
 note_locks-append : (keys : List (List ℕ)) (a b : List Lock) → note_locks keys (a ++ b) ≡ note_locks (note_locks keys a) b
@@ -133,21 +133,21 @@ few : (b : Bool) (ns : List Node) (s d : ℕ) → s ≡ count_by (is_kind true) 
 few true ns s d es ed hs hd room = (omega arith, omega arith)
 few false ns s d es ed hs hd room = (omega arith, omega arith)
 
-pub noted_added : (old mid new : Reader) (s : NodeInput) (later : List SegmentView) (c : Checked) → IsNoted old → IsChecked old mid s later c → IsAdded mid new c.node c.id → IsNoted new
+pub noted_added : (old mid new : Reader) (s : NodeInput) (later : List SegmentView) (c : Checked) → IsNoted old → IsChecked (state old s.earlier) (state mid later) s c → IsAdded mid new c.node c.id → IsNoted new
 noted_added old mid new s later c noted k a =
     let ns = contents old.nodes.items in
     let n = c.node in
     let kind : n.is_static ≡ s.is_static = ap (λ m. m.is_static) k.node in
     let nodes : contents new.nodes.items ≡ ns ++ n ∷ [] =
-    ap contents (a.nodes ∙ ap (λ l. l ++ record { node = n; number = 0; span = 1 } ∷ []) k.nodes) ∙ map-append _ old.nodes.items (record { node = n; number = 0; span = 1 } ∷ []) in
+    ap contents (a.nodes ∙ ap (λ l. l ++ record { node = n; number = 0; span = 1 } ∷ []) k.entered.nodes) ∙ map-append _ old.nodes.items (record { node = n; number = 0; span = 1 } ∷ []) in
     let ds : length new.descriptors.items ≡ length old.descriptors.items + cond n.is_static 1 0 =
-    ap length (a.descriptors ∙ ap (λ l. l ++ descriptor_in c.id n) k.descriptors) ∙ stated n.is_static old.descriptors.items (descriptor c.id n) in
-    let dyn : new.dynamics ≡ old.dynamics + cond n.is_static 0 1 = a.dynamics ∙ ap (λ d. d + cond n.is_static 0 1) k.dynamics in
-    let room : count_by (is_kind n.is_static) ns < 65536 = subst (λ b. count_by (is_kind b) ns < 65536) (sym kind) k.room in
+    ap length (a.descriptors ∙ ap (λ l. l ++ descriptor_in c.id n) k.entered.descriptors) ∙ stated n.is_static old.descriptors.items (descriptor c.id n) in
+    let dyn : new.dynamics ≡ old.dynamics + cond n.is_static 0 1 = a.dynamics ∙ ap (λ d. d + cond n.is_static 0 1) k.entered.dynamics in
+    let room : count_by (is_kind n.is_static) ns < 65536 = subst (λ b. count_by (is_kind b) ns < 65536) (sym kind) k.entered.room in
     let within = few n.is_static ns (length old.descriptors.items) old.dynamics noted.statics noted.dynamics noted.few_statics noted.few_dynamics room in
     record {
-      keys = a.keys ∙ k.keys ∙ ap (λ m. lock_keys (ns ++ m ∷ [])) (sym k.node) ∙ ap lock_keys (sym nodes);
-      few_keys = subst (λ l. length l ≤ 15) (sym a.keys) k.few_keys;
+      keys = a.keys ∙ k.entered.keys ∙ ap (λ m. lock_keys (ns ++ m ∷ [])) (sym k.node) ∙ ap lock_keys (sym nodes);
+      few_keys = subst (λ l. length l ≤ 15) (sym (a.keys ∙ k.entered.keys)) k.entered.few_keys;
       statics = ds ∙ ap (λ x. x + cond n.is_static 1 0) noted.statics ∙ sym (count-push (is_kind true) ns n) ∙ ap (count_by (is_kind true)) (sym nodes);
       few_statics = subst (λ x. x ≤ 65536) (sym ds) within.0;
       dynamics = dyn ∙ ap₂ (λ x y. x + y) noted.dynamics (turned n.is_static) ∙ sym (count-push (is_kind false) ns n) ∙ ap (count_by (is_kind false)) (sym nodes);
@@ -156,13 +156,13 @@ noted_added old mid new s later c noted k a =
     }
 
 -- a node that was checked and put at the end is started
-pub node_started : (old mid new : Reader) (s : NodeInput) (later : List SegmentView) (c : Checked) (id : Option (List SegmentView)) → IsNoted old → IsChecked old mid s later c → IsAdded mid new c.node c.id → HasBelow s id → IsStarted old new s later id
+pub node_started : (old mid new : Reader) (s : NodeInput) (later : List SegmentView) (c : Checked) (id : Option (List SegmentView)) → IsNoted old → IsChecked (state old s.earlier) (state mid later) s c → IsAdded mid new c.node c.id → HasBelow s id → IsStarted (state old s.earlier) (state new later) s id
 node_started old mid new s later c id noted k a below = record {
-  nodes = a.nodes ∙ ap₂ (λ l n. l ++ record { node = n; number = 0; span = 1 } ∷ []) k.nodes k.node;
-  descriptors = a.descriptors ∙ ap₂ (λ l d. l ++ d) k.descriptors (ap₂ descriptor_in k.id k.node);
+  nodes = a.nodes ∙ ap₂ (λ l n. l ++ record { node = n; number = 0; span = 1 } ∷ []) k.entered.nodes k.node;
+  descriptors = a.descriptors ∙ ap₂ (λ l d. l ++ d) k.entered.descriptors (ap₂ descriptor_in k.id k.node);
   noted = noted_added old mid new s later c noted k a;
   level = k.level;
-  siblings = k.siblings;
+  siblings = k.entered.siblings;
   below = below;
 }
 

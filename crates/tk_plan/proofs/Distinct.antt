@@ -10,7 +10,7 @@ use Rattle.tk_plan_units.specs.declared.nodes.Node.{Node}
 use Rattle.tk_plan_units.specs.Trees.{Tree, tree, Forest, no_trees, more}
 use Rattle.tk_plan_units.specs.Ids.{ids, ids_below, AreDistinct}
 use Rattle.tk_plan.specs.Checks.{first, or_else}
-use Rattle.tk_plan.specs.NodeInputs.{NodeInput, repeats_key, segment_in, segment_of, node_of, below, node_inputs, node_inputs_in, children_in, dynamic_in, children_of, dynamic_of, grown, forest_of}
+use Rattle.tk_plan.specs.NodeInputs.{NodeInput, NodeArray, repeats_key, segment_in, segment_of, node_of, below, node_inputs, node_inputs_in, children_in, dynamic_in, children_of, dynamic_of, grown, forest_of}
 use Rattle.tk_plan.specs.PlanOf.{checks, verdict, same_segment, node_check, id_fault, is_kind, when}
 use Rattle.tk_ids.specs.declared.tables.TheConstants.{MAX_DESCRIPTORS}
 use Rattle.tk_plan_units.specs.declared.needs.TheConstants.{MAX_KEYS}
@@ -43,13 +43,13 @@ abbrev pub IsRun : List SegmentView → List NodeInput → Type 0
 IsRun earlier [] = Unit {0}
 IsRun earlier (x ∷ xs) = (x.earlier ≡ earlier) × IsRun (earlier ++ segment_of x ∷ []) xs
 
-run_in : (array : List ℕ) (level : ℕ) (above : List SegmentView) (b fs : Bool) (i : ℕ) (earlier : List SegmentView) (ds : List Data) → IsRun earlier (node_inputs_in array level above b fs i earlier ds)
-run_in array level above b fs i earlier [] = tt
-run_in array level above b fs i earlier (d ∷ ds) = (refl, run_in array level above b fs (i + 1) (earlier ++ segment_in d ∷ []) ds)
+run_in : (array : NodeArray) (i : ℕ) (earlier : List SegmentView) (ds : List Data) → IsRun earlier (node_inputs_in array i earlier ds)
+run_in array i earlier [] = tt
+run_in array i earlier (d ∷ ds) = (refl, run_in array (i + 1) (earlier ++ segment_in d ∷ []) ds)
 
-segments_in : (array : List ℕ) (level : ℕ) (above : List SegmentView) (b fs : Bool) (i : ℕ) (earlier : List SegmentView) (ds : List Data) → map segment_of (node_inputs_in array level above b fs i earlier ds) ≡ map segment_in ds
-segments_in array level above b fs i earlier [] = refl
-segments_in array level above b fs i earlier (d ∷ ds) = ap (λ l. segment_in d ∷ l) (segments_in array level above b fs (i + 1) (earlier ++ segment_in d ∷ []) ds)
+segments_in : (array : NodeArray) (i : ℕ) (earlier : List SegmentView) (ds : List Data) → map segment_of (node_inputs_in array i earlier ds) ≡ map segment_in ds
+segments_in array i earlier [] = refl
+segments_in array i earlier (d ∷ ds) = ap (λ l. segment_in d ∷ l) (segments_in array (i + 1) (earlier ++ segment_in d ∷ []) ds)
 
 run_append : (earlier : List SegmentView) (xs ys : List NodeInput) → IsRun earlier xs → IsRun (earlier ++ map segment_of xs) ys → IsRun earlier (xs ++ ys)
 run_append earlier [] ys r q = subst (λ e. IsRun e ys) (append-nil earlier) q
@@ -59,9 +59,9 @@ run_append earlier (x ∷ xs) ys r q =
 run_below : (s : NodeInput) → IsRun [] (below s)
 run_below s =
     let cs = children_of s.is_static s.value in
-    let here : map segment_of (children_in s cs) ≡ map segment_in cs = segments_in _ _ _ _ _ _ _ cs in
-    run_append [] (children_in s cs) (dynamic_in s cs (dynamic_of s.value)) (run_in _ _ _ _ _ _ _ cs)
-    (subst (λ e. IsRun e (dynamic_in s cs (dynamic_of s.value))) (sym here) (run_in _ _ _ _ _ _ (map segment_in cs) (dynamic_of s.value)))
+    let here : map segment_of (children_in s cs) ≡ map segment_in cs = segments_in _ _ _ cs in
+    run_append [] (children_in s cs) (dynamic_in s cs (dynamic_of s.value)) (run_in _ _ _ cs)
+    (subst (λ e. IsRun e (dynamic_in s cs (dynamic_of s.value))) (sym here) (run_in _ _ (map segment_in cs) (dynamic_of s.value)))
 
 -- ---- from a verdict
 

@@ -14,12 +14,12 @@ use Rattle.tk_plan_units.specs.declared.nodes.Node.{Node}
 use Rattle.tk_plan_units.specs.declared.nodes.NumberedNode.{NumberedNode}
 use Rattle.tk_plan_units.specs.Trees.{flat, contents}
 use Rattle.tk_plan_units.specs.Ids.{descriptor_in, descriptors}
-use Rattle.tk_plan.specs.Checks.{first, or_else, item_at, member_at}
+use Rattle.tk_plan.specs.Checks.{first, or_else, member_at}
 use Rattle.tk_plan.specs.declared.faults.PlanFault.{PlanFault}
 use Rattle.tk_plan.specs.declared.plan_readers.Reader.{Reader}
-use Rattle.tk_plan.specs.NodeInputs.{NodeInput, segment_in, id_of, node_of, below, node_inputs, node_inputs_in, children_of, dynamic_of, children_in, dynamic_in, grown}
+use Rattle.tk_plan.specs.NodeInputs.{NodeInput, NodeArray, node_input, segment_in, id_of, node_of, below, node_inputs, node_inputs_in, children_of, dynamic_of, children_in, dynamic_in, grown}
 use Rattle.tk_plan.specs.PlanOf.{checks, verdict, joined}
-use Rattle.tk_plan.specs.Progress.{IsNoted, IsStarted, IsSpanned, AddsNodes}
+use Rattle.tk_plan.specs.Progress.{state, IsNoted, IsStarted, IsSpanned, AddsNodes}
 use Rattle.tk_plan.proofs.CheckSteps.{noted_same}
 use Rattle.tk_plan.proofs.Verdicts.{verdict-append, verdict-cons, nodes-grown, nodes-all, flats-forest, descriptors-forest}
 
@@ -51,12 +51,10 @@ contents_after : (old new : List NumberedNode) (k : ℕ) (x : NodeInput) → new
 contents_after old new k x e = ap contents e ∙ map-append _ old (flat (grown k x)) ∙ ap (λ l. contents old ++ l) (nodes-grown k x)
 
 -- the sites that are left, from the next on
-pub node_input_next : (array : List ℕ) (level : ℕ) (above : List SegmentView) (b fs : Bool) (i j : ℕ) (met new : List SegmentView) (left rest : List JsonValue) (v : JsonValue) → left ≡ v ∷ rest → j ≡ i + 1 → new ≡ met ++ segment_in (view v) ∷ []
-    → node_inputs_in array level above b fs i met (map view left)
-    ≡ record { path = item_at array i; level = level; is_static = b; takes_files = fs; above = above; earlier = met; value = view v } ∷ node_inputs_in array level above b fs j new (map view rest)
-node_input_next array level above b fs i j met new left rest v split up n =
-    ap (λ vs. node_inputs_in array level above b fs i met (map view vs)) split
-    ∙ ap₂ (λ k m. record { path = item_at array i; level = level; is_static = b; takes_files = fs; above = above; earlier = met; value = view v } ∷ node_inputs_in array level above b fs k m (map view rest)) (sym up) (sym n)
+pub node_input_next : (array : NodeArray) (i j : ℕ) (met new : List SegmentView) (left rest : List JsonValue) (v : JsonValue) → left ≡ v ∷ rest → j ≡ i + 1 → new ≡ met ++ segment_in (view v) ∷ []
+    → node_inputs_in array i met (map view left) ≡ node_input array i met (view v) ∷ node_inputs_in array j new (map view rest)
+node_input_next array i j met new left rest v split up n =
+    ap (λ vs. node_inputs_in array i met (map view vs)) split ∙ ap₂ (λ k m. node_input array i met (view v) ∷ node_inputs_in array k m (map view rest)) (sym up) (sym n)
 
 module _ (k m : ℕ) (above up : List SegmentView) (old now : Reader) (all rest left : List NodeInput) (x y : NodeInput) (levels : m ≡ k) (same : y ≡ x) (split : rest ≡ x ∷ left) (g : Goes k above old now all rest) where
   here : verdict (contents now.nodes.items) (node_inputs m y) ≡ verdict (contents now.nodes.items) (node_inputs k x)
@@ -90,15 +88,15 @@ unfolding joined
 goes_end k above old now all g = (g.verdict, record { nodes = sym (g.nodes ∙ append-nil now.nodes.items); descriptors = sym (g.described ∙ append-nil now.descriptors.items); noted = g.noted })
 
 -- where there is nothing to read
-pub goes_nowhere : (k : ℕ) (above : List SegmentView) (old : Reader) (array : List ℕ) (level : ℕ) (b fs : Bool) (earlier : List SegmentView) (ds : List Data) → ds ≡ [] → IsNoted old
-    → (verdict (contents old.nodes.items) (flat_map (node_inputs k) (node_inputs_in array level above b fs 0 earlier ds)) ≡ None)
-    × AddsNodes old old (flat_map flat (map (grown k) (node_inputs_in array level above b fs 0 earlier ds))) (flat_map (descriptors above) (map (grown k) (node_inputs_in array level above b fs 0 earlier ds)))
+pub goes_nowhere : (k : ℕ) (above : List SegmentView) (old : Reader) (array : NodeArray) (earlier : List SegmentView) (ds : List Data) → ds ≡ [] → IsNoted old
+    → (verdict (contents old.nodes.items) (flat_map (node_inputs k) (node_inputs_in array 0 earlier ds)) ≡ None)
+    × AddsNodes old old (flat_map flat (map (grown k) (node_inputs_in array 0 earlier ds))) (flat_map (descriptors above) (map (grown k) (node_inputs_in array 0 earlier ds)))
 unfolding joined
-goes_nowhere k above old array level b fs earlier ds none noted = (
-  ap (λ l. verdict (contents old.nodes.items) (flat_map (node_inputs k) (node_inputs_in array level above b fs 0 earlier l))) none,
+goes_nowhere k above old array earlier ds none noted = (
+  ap (λ l. verdict (contents old.nodes.items) (flat_map (node_inputs k) (node_inputs_in array 0 earlier l))) none,
   record {
-    nodes = sym (append-nil old.nodes.items) ∙ ap (λ l. old.nodes.items ++ flat_map flat (map (grown k) (node_inputs_in array level above b fs 0 earlier l))) (sym none);
-    descriptors = sym (append-nil old.descriptors.items) ∙ ap (λ l. old.descriptors.items ++ flat_map (descriptors above) (map (grown k) (node_inputs_in array level above b fs 0 earlier l))) (sym none);
+    nodes = sym (append-nil old.nodes.items) ∙ ap (λ l. old.nodes.items ++ flat_map flat (map (grown k) (node_inputs_in array 0 earlier l))) (sym none);
+    descriptors = sym (append-nil old.descriptors.items) ∙ ap (λ l. old.descriptors.items ++ flat_map (descriptors above) (map (grown k) (node_inputs_in array 0 earlier l))) (sym none);
     noted = noted;
   },
 )
@@ -131,14 +129,18 @@ unfolding node_inputs
 check_fault zero before s f e = verdict-cons before s [] ∙ ap (λ o. or_else o (verdict (before ++ node_of s ∷ []) [])) e
 check_fault (suc m) before s f e = verdict-cons before s (flat_map (node_inputs m) (below s)) ∙ ap (λ o. or_else o (verdict (before ++ node_of s ∷ []) (flat_map (node_inputs m) (below s)))) e
 
+-- the array that a node with this id has in the member of this name
+abbrev array_with : NodeInput → List SegmentView → List ℕ → Bool → NodeArray
+array_with s id name b = record { path = member_at s.path name; level = s.level + 1; is_static = b; takes_files = s.takes_files; above = id }
+
 -- the two arrays of a node
 pub parts_of : (s : NodeInput) (cs ds : List Data) (id e1 e2 : List SegmentView) → cs ≡ children_of s.is_static s.value → ds ≡ dynamic_of s.value → id ≡ id_of s → e1 ≡ [] → e2 ≡ e1 ++ map segment_in cs
-    → below s ≡ node_inputs_in (member_at s.path (codes "children")) (s.level + 1) id true s.takes_files 0 e1 cs ++ node_inputs_in (member_at s.path (codes "dynamic")) (s.level + 1) id false s.takes_files 0 e2 ds
+    → below s ≡ node_inputs_in (array_with s id (codes "children") true) 0 e1 cs ++ node_inputs_in (array_with s id (codes "dynamic") false) 0 e2 ds
 parts_of s cs ds id e1 e2 children dynamic is none met =
     let two : e2 ≡ map segment_in cs = met ∙ ap (λ e. e ++ map segment_in cs) none in
-    ap₂ (λ a b. node_inputs_in (member_at s.path (codes "children")) (s.level + 1) (id_of s) true s.takes_files 0 [] a ++ node_inputs_in (member_at s.path (codes "dynamic")) (s.level + 1) (id_of s) false s.takes_files 0 (map segment_in a) b) (sym children) (sym dynamic)
-    ∙ ap₂ (λ a b. node_inputs_in (member_at s.path (codes "children")) (s.level + 1) (id_of s) true s.takes_files 0 a cs ++ node_inputs_in (member_at s.path (codes "dynamic")) (s.level + 1) (id_of s) false s.takes_files 0 b ds) (sym none) (sym two)
-    ∙ ap (λ a. node_inputs_in (member_at s.path (codes "children")) (s.level + 1) a true s.takes_files 0 e1 cs ++ node_inputs_in (member_at s.path (codes "dynamic")) (s.level + 1) a false s.takes_files 0 e2 ds) (sym is)
+    ap₂ (λ a b. node_inputs_in (array_with s (id_of s) (codes "children") true) 0 [] a ++ node_inputs_in (array_with s (id_of s) (codes "dynamic") false) 0 (map segment_in a) b) (sym children) (sym dynamic)
+    ∙ ap₂ (λ a b. node_inputs_in (array_with s (id_of s) (codes "children") true) 0 a cs ++ node_inputs_in (array_with s (id_of s) (codes "dynamic") false) 0 b ds) (sym none) (sym two)
+    ∙ ap (λ a. node_inputs_in (array_with s a (codes "children") true) 0 e1 cs ++ node_inputs_in (array_with s a (codes "dynamic") false) 0 e2 ds) (sym is)
 
 contents_all : (old : List NumberedNode) (k : ℕ) (xs : List NodeInput) → contents (old ++ flat_map flat (map (grown k) xs)) ≡ contents old ++ map node_of (flat_map (node_inputs k) xs)
 contents_all old k xs = map-append _ old (flat_map flat (map (grown k) xs)) ∙ ap (λ l. contents old ++ l) (nodes-all (grown k) (node_inputs k) (nodes-grown k) xs)
@@ -173,7 +175,7 @@ module _ (k : ℕ) (old : Reader) (xs ys all : List NodeInput) (parts : all ≡ 
         }
 
 -- A node was checked and put at the end.
-module _ (k m : ℕ) (levels : m ≡ suc k) (old pushed : Reader) (s : NodeInput) (later : List SegmentView) (id : Option (List SegmentView)) (fine : first (checks (contents old.nodes.items) s) ≡ None) (started : IsStarted old pushed s later id) where
+module _ (k m : ℕ) (levels : m ≡ suc k) (old pushed : Reader) (s : NodeInput) (later : List SegmentView) (id : Option (List SegmentView)) (fine : first (checks (contents old.nodes.items) s) ≡ None) (started : IsStarted (state old s.earlier) (state pushed later) s id) where
   pub below_verdict : verdict (contents old.nodes.items) (node_inputs m s) ≡ verdict (contents pushed.nodes.items) (flat_map (node_inputs k) (below s))
   unfolding node_inputs
   below_verdict =

@@ -10,7 +10,7 @@ use Rattle.tk_ids.specs.declared.descriptors.Descriptor.{Descriptor}
 use Rattle.tk_plan_units.specs.Trees.{Tree, tree, Forest, no_trees, more}
 use Rattle.tk_plan_units.specs.Ids.{ids, ids_below, descriptor, descriptors, descriptors_below}
 use Rattle.tk_plan.specs.PlanOf.{same_segment, verdict}
-use Rattle.tk_plan.specs.NodeInputs.{NodeInput, segment_in, below, node_inputs, node_inputs_in, children_of, children_in, dynamic_of, dynamic_in, grown, forest_of}
+use Rattle.tk_plan.specs.NodeInputs.{NodeInput, NodeArray, segment_in, below, node_inputs, node_inputs_in, children_of, children_in, dynamic_of, dynamic_in, grown, forest_of}
 use Rattle.tk_plan.specs.Tables.{Follow}
 use Rattle.tk_plan.proofs.Distinct.{segment_at, IsApart, AreApart, apart_grown, Among, among_split, among_at, Begins, begins_below, begins_in, same_next, same_self, any_left, any_right, longer, true_false}
 
@@ -28,25 +28,25 @@ abbrev AllUnder : Bool → List NodeInput → Type 0
 AllUnder up [] = Unit {0}
 AllUnder up (x ∷ xs) = (x.is_static ≡ true → up ≡ true) × AllUnder up xs
 
-under_in : (array : List ℕ) (level : ℕ) (above : List SegmentView) (up b fs : Bool) (i : ℕ) (earlier : List SegmentView) (ds : List Data) → (b ≡ true → up ≡ true) → AllUnder up (node_inputs_in array level above b fs i earlier ds)
-under_in array level above up b fs i earlier [] h = tt
-under_in array level above up b fs i earlier (d ∷ ds) h = (h, under_in array level above up b fs (i + 1) (earlier ++ segment_in d ∷ []) ds h)
+under_in : (array : NodeArray) (up : Bool) (i : ℕ) (earlier : List SegmentView) (ds : List Data) → (array.is_static ≡ true → up ≡ true) → AllUnder up (node_inputs_in array i earlier ds)
+under_in array up i earlier [] h = tt
+under_in array up i earlier (d ∷ ds) h = (h, under_in array up (i + 1) (earlier ++ segment_in d ∷ []) ds h)
 
 under_append : (up : Bool) (xs ys : List NodeInput) → AllUnder up xs → AllUnder up ys → AllUnder up (xs ++ ys)
 under_append up [] ys a b = b
 under_append up (x ∷ xs) ys a b = (a.0, under_append up xs ys a.1 b)
 
-under_children : (array : List ℕ) (level : ℕ) (above earlier : List SegmentView) (b fs : Bool) (v : Data) → AllUnder b (node_inputs_in array level above true fs 0 earlier (children_of b v))
-under_children array level above earlier true fs v = under_in array level above true true fs 0 earlier (children_of true v) (λ e. e)
-under_children array level above earlier false fs v = tt
+under_children : (array : NodeArray) (earlier : List SegmentView) (b : Bool) (v : Data) → AllUnder b (node_inputs_in array 0 earlier (children_of b v))
+under_children array earlier true v = under_in array true 0 earlier (children_of true v) (λ e. refl)
+under_children array earlier false v = tt
 
 false_true : (b : Bool) → false ≡ true → b ≡ true
 false_true b e = cc
 
 under_below : (s : NodeInput) → AllUnder s.is_static (below s)
 under_below s =
-    under_append s.is_static (children_in s (children_of s.is_static s.value)) (dynamic_in s (children_of s.is_static s.value) (dynamic_of s.value)) (under_children _ _ _ [] s.is_static s.takes_files s.value)
-    (under_in _ _ _ s.is_static false s.takes_files 0 _ (dynamic_of s.value) (false_true s.is_static))
+    under_append s.is_static (children_in s (children_of s.is_static s.value)) (dynamic_in s (children_of s.is_static s.value) (dynamic_of s.value)) (under_children _ [] s.is_static s.value)
+    (under_in _ s.is_static 0 _ (dynamic_of s.value) (false_true s.is_static))
 
 under_all : (n : ℕ) → ((up : Bool) (s : NodeInput) → (s.is_static ≡ true → up ≡ true) → IsUnder up (grown n s)) → (up : Bool) (xs : List NodeInput) → AllUnder up xs → AreUnder up (forest_of (map (grown n) xs))
 under_all n each up [] h = tt

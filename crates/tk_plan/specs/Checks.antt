@@ -7,18 +7,21 @@ use Rattle.std.specs.Fmt.{decimal}
 use Rattle.serde_json.specs.Data.{Data, boolean, string, array, object, Items, no_items, item}
 use Rattle.serde_json.specs.Data.{Members, no_members, member}
 use Rattle.serde_json.specs.Find.{get}
+use Rattle.tk_plan.specs.Characters.{slash, digit_zero, digit_one, tilde}
 
--- `~` and `/` have escapes in a JSON Pointer
+-- how a byte is written in a JSON Pointer: `~` as `~0`, and `/` as `~1`
 abbrev pub escape : ℕ → List ℕ
-escape b = if b == 126 then 126 ∷ 48 ∷ [] else (if b == 47 then 126 ∷ 49 ∷ [] else b ∷ [])
+escape b =
+    if b == tilde then tilde ∷ digit_zero ∷ []
+    else (if b == slash then tilde ∷ digit_one ∷ [] else b ∷ [])
 
 -- the place of a member, from that of its object
 abbrev pub member_at : List ℕ → List ℕ → List ℕ
-member_at at name = at ++ 47 ∷ flat_map escape name
+member_at at name = at ++ slash ∷ flat_map escape name
 
 -- the place of an item, from that of its array
 abbrev pub item_at : List ℕ → ℕ → List ℕ
-item_at at i = at ++ 47 ∷ decimal i
+item_at at i = at ++ slash ∷ decimal i
 
 -- Where a value that lies at a place is wrong, if it is.
 abbrev pub Check : Type 0

@@ -1,11 +1,12 @@
 -- What the code's values stand for.
-use Rattle.std.specs.Prelude.{◌≡◌, ◌++◌, ◌∷◌, [], List, Option, None, Some}
+use Rattle.std.specs.Prelude.{◌≡◌, ◌++◌, ◌+◌, ◌∷◌, [], ℕ, Bool, List, Option, None, Some}
 use denote.Ref.{Bor}
 use Rattle.serde_json.specs.Data.{Data}
 use Rattle.tk_plan.specs.JsonValues.{view}
 use Rattle.tk_ids.specs.IdText.{SegmentView}
 use Rattle.tk_ids.specs.declared.id_faults.IdFault.{IdFault}
 use Rattle.tk_ids.specs.declared.id_faults.IdFault.TheVariants as id_faults
+use Rattle.tk_plan.specs.Checks.{member_at}
 use Rattle.tk_plan.specs.NodeInputs as spec
 use Rattle.tk_plan.specs.Pointers.{pointer}
 use Rattle.tk_plan.specs.declared.faults.PlanFault.{PlanFault}
@@ -36,6 +37,17 @@ node_at earlier p d =
 -- a value that stands for a node, after such siblings
 abbrev pub seen : List SegmentView → NodeInput → spec.NodeInput
 seen earlier s = node_at earlier s.place (view s.value.now)
+
+-- the array in the member of that name of the node at a place, whose id is given
+abbrev pub array_at : NodePlace → List ℕ → Bool → List SegmentView → spec.NodeArray
+array_at p name is_static id =
+    record {
+      path = member_at (pointer p.path) name;
+      level = p.level + 1;
+      is_static = is_static;
+      takes_files = p.takes_files;
+      above = id;
+    }
 
 abbrev pub json_segment_text : TwoTexts → SegmentView
 json_segment_text p = record { tag = p.first.now; value = p.second.now }

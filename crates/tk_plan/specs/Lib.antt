@@ -10,6 +10,7 @@ pub use Rattle.tk_plan_units.specs.Planned
 pub use Rattle.tk_plan_units.specs.Laws
 pub use Rattle.tk_plan_nodes.specs.NodeViews
 pub use Rattle.tk_plan_nodes.specs.NodeJson
+pub mod Characters
 pub mod Checks
 pub mod Rows
 pub mod Contents

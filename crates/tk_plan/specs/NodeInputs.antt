@@ -13,9 +13,9 @@ use Rattle.tk_plan.specs.Contents.{json_text, json_optional, json_truth, json_dt
 use Rattle.tk_plan.specs.Contents.{json_concurrent, json_locks, status_in, message_in, json_entries}
 use Rattle.tk_plan.specs.Contents.{json_files, repeats, listed}
 
--- A value that stands for a node: its place as a JSON Pointer, its level, whether the plan is of
--- version 2, in which a
--- node may have files, its parent's id, and the segments of the children before it.
+-- A value that stands for a node: its place as a JSON Pointer, its level, whether it is static,
+-- whether it may have files as in version 2, its parent's id, and the segments of the siblings
+-- before it.
 pub record NodeInput : Type 0 where
   pub path : List ℕ
   pub level : ℕ
@@ -81,34 +81,50 @@ node_of s = record {
   files = files_of s.takes_files s.value;
 }
 
--- the items of the array at that place from item i on, below that id, after children with the
--- earlier segments
-abbrev pub node_inputs_in : List ℕ → ℕ → List SegmentView → Bool → Bool → ℕ → List SegmentView
-    → List Data → List NodeInput
-node_inputs_in array level above is_static takes_files i earlier [] = []
-node_inputs_in array level above is_static takes_files i earlier (d ∷ ds) =
-    record {
-      path = item_at array i;
-      level = level;
-      is_static = is_static;
-      takes_files = takes_files;
-      above = above;
-      earlier = earlier;
-      value = d;
-    }
-    ∷ node_inputs_in array level above is_static takes_files (i + 1) (earlier ++ segment_in d
-    ∷ []) ds
+-- An array of nodes: its place as a JSON Pointer, the level of its nodes, whether they are static,
+-- whether they may have files, and their parent's id.
+pub record NodeArray : Type 0 where
+  pub path : List ℕ
+  pub level : ℕ
+  pub is_static : Bool
+  pub takes_files : Bool
+  pub above : List SegmentView
+
+-- the array that a node has in the member of that name
+abbrev pub array_in : NodeInput → List ℕ → Bool → NodeArray
+array_in s name is_static = record {
+  path = member_at s.path name;
+  level = s.level + 1;
+  is_static = is_static;
+  takes_files = s.takes_files;
+  above = id_of s;
+}
+
+-- the item of that index, after siblings with the earlier segments
+abbrev pub node_input : NodeArray → ℕ → List SegmentView → Data → NodeInput
+node_input array index earlier d = record {
+  path = item_at array.path index;
+  level = array.level;
+  is_static = array.is_static;
+  takes_files = array.takes_files;
+  above = array.above;
+  earlier = earlier;
+  value = d;
+}
+
+-- the items from that index on, the first of them after siblings with the earlier segments
+abbrev pub node_inputs_in : NodeArray → ℕ → List SegmentView → List Data → List NodeInput
+node_inputs_in array index earlier [] = []
+node_inputs_in array index earlier (d ∷ ds) =
+    node_input array index earlier d
+    ∷ node_inputs_in array (index + 1) (earlier ++ segment_in d ∷ []) ds
 
 abbrev pub children_in : NodeInput → List Data → List NodeInput
-children_in s cs =
-    node_inputs_in (member_at s.path (codes "children")) (s.level
-    + 1) (id_of s) true s.takes_files 0 [] cs
+children_in s cs = node_inputs_in (array_in s (codes "children") true) 0 [] cs
 
 -- the dynamic children follow the static ones
 abbrev pub dynamic_in : NodeInput → List Data → List Data → List NodeInput
-dynamic_in s cs ds =
-    node_inputs_in (member_at s.path (codes "dynamic")) (s.level
-    + 1) (id_of s) false s.takes_files 0 (map segment_in cs) ds
+dynamic_in s cs ds = node_inputs_in (array_in s (codes "dynamic") false) 0 (map segment_in cs) ds
 
 abbrev pub below : NodeInput → List NodeInput
 below s =

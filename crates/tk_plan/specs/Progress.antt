@@ -34,51 +34,63 @@ pub record IsNoted (r : Reader) : Type 0 where
   pub few_dynamics : r.dynamics ≤ MAX_DESCRIPTORS
   pub lawful : list_all is_lawful_node (contents r.nodes.items) ≡ true
 
--- the checks of a node of that segment, after those nodes and siblings, where these are the lock
--- keys with its own
-abbrev pub room_checks : List Node → List SegmentView → Bool → SegmentView → List (List ℕ)
-    → List (Option PlanFault)
-room_checks before earlier is_static segment keys =
-    when (list_any (same_segment segment) earlier) (Table Twice)
-    ∷ when (nat_le MAX_DESCRIPTORS (count_by (is_kind is_static) before)) (Table Full)
-    ∷ when (nat_lt MAX_KEYS (length keys)) TooManyResources
+-- what was read before a node: the reader, and the segments of the node's siblings
+pub record ReadState : Type 0 where
+  pub reader : Reader
+  pub siblings : List SegmentView
+
+abbrev pub state : Reader → List SegmentView → ReadState
+state reader siblings = record { reader = reader; siblings = siblings }
+
+-- What a node adds: one node of its kind, its segment among its siblings', and its lock keys among
+-- the plan's, which together are `keys`.
+pub record Addition : Type 0 where
+  pub is_static : Bool
+  pub segment : SegmentView
+  pub keys : List (List ℕ)
+
+abbrev pub addition : Bool → SegmentView → List (List ℕ) → Addition
+addition is_static segment keys =
+    record { is_static = is_static; segment = segment; keys = keys }
+
+-- what a node adds to the nodes before it
+abbrev pub addition_of : List Node → NodeInput → Addition
+addition_of before s =
+    addition s.is_static (segment_of s) (lock_keys (before ++ node_of s ∷ []))
+
+-- whether there is room for what a node adds, after these nodes and its siblings' segments
+abbrev pub room_checks : List Node → List SegmentView → Addition → List (Option PlanFault)
+room_checks before earlier a =
+    when (list_any (same_segment a.segment) earlier) (Table Twice)
+    ∷ when (nat_le MAX_DESCRIPTORS (count_by (is_kind a.is_static) before)) (Table Full)
+    ∷ when (nat_lt MAX_KEYS (length a.keys)) TooManyResources
     ∷ []
 
--- its segment and its keys were noted
-pub record IsEntered (old new : Reader) (earlier later : List SegmentView) (is_static : Bool)
-    (segment : SegmentView) (noted : List (List ℕ)) : Type 0 where
-  pub nodes : new.nodes.items ≡ old.nodes.items
-  pub descriptors : new.descriptors.items ≡ old.descriptors.items
-  pub dynamics : new.dynamics ≡ old.dynamics
-  pub keys : new.keys.keys ≡ noted
-  pub few_keys : length noted ≤ MAX_KEYS
-  pub room : count_by (is_kind is_static) (contents old.nodes.items) < MAX_DESCRIPTORS
-  pub siblings : later ≡ earlier ++ segment ∷ []
+-- a node's segment and its lock keys were noted, and there is room for the node
+pub record IsEntered (old new : ReadState) (a : Addition) : Type 0 where
+  pub nodes : new.reader.nodes.items ≡ old.reader.nodes.items
+  pub descriptors : new.reader.descriptors.items ≡ old.reader.descriptors.items
+  pub dynamics : new.reader.dynamics ≡ old.reader.dynamics
+  pub keys : new.reader.keys.keys ≡ a.keys
+  pub few_keys : length a.keys ≤ MAX_KEYS
+  pub room : count_by (is_kind a.is_static) (contents old.reader.nodes.items) < MAX_DESCRIPTORS
+  pub siblings : new.siblings ≡ old.siblings ++ a.segment ∷ []
 
--- a node's segment and its keys were noted, and this is its segment with its id
-pub record IsAdmitted (old new : Reader) (s : NodeInput) (later : List SegmentView)
-    (n : Named) : Type 0 where
+-- a node's segment and its lock keys were noted, and this is its segment with its id
+pub record IsAdmitted (old new : ReadState) (s : NodeInput) (n : Named) : Type 0 where
   pub segment : n.segment ≡ segment_of s
   pub id : n.id ≡ id_of s
-  pub entered : IsEntered old new s.earlier later s.is_static (segment_of s)
-      (lock_keys (contents old.nodes.items ++ node_of s ∷ []))
+  pub entered : IsEntered old new (addition_of (contents old.reader.nodes.items) s)
 
--- a node was checked, and its keys were noted
-pub record IsChecked (old new : Reader) (s : NodeInput) (later : List SegmentView)
-    (c : Checked) : Type 0 where
+-- a node was checked, and its segment and its lock keys were noted
+pub record IsChecked (old new : ReadState) (s : NodeInput) (c : Checked) : Type 0 where
   pub node : c.node ≡ node_of s
   pub id : c.id ≡ id_of s
   pub leaf : c.is_leaf ≡ (length (children_of s.is_static s.value) == 0
       && length (dynamic_of s.value) == 0)
   pub lawful : is_lawful_node c.node ≡ true
   pub level : s.level ≤ MAX_LEVELS
-  pub nodes : new.nodes.items ≡ old.nodes.items
-  pub descriptors : new.descriptors.items ≡ old.descriptors.items
-  pub dynamics : new.dynamics ≡ old.dynamics
-  pub keys : new.keys.keys ≡ lock_keys (contents old.nodes.items ++ node_of s ∷ [])
-  pub few_keys : length new.keys.keys ≤ MAX_KEYS
-  pub room : count_by (is_kind s.is_static) (contents old.nodes.items) < MAX_DESCRIPTORS
-  pub siblings : later ≡ s.earlier ++ segment_of s ∷ []
+  pub entered : IsEntered old new (addition_of (contents old.reader.nodes.items) s)
 
 -- a static node's descriptor was put at the end, or another node was counted
 pub record IsDescribed (old new : Reader) (n : Node) (id : List SegmentView) : Type 0 where
@@ -100,15 +112,15 @@ HasBelow s None = below s ≡ []
 HasBelow s (Some id) = id ≡ id_of s
 
 -- a node was checked and put at the end, and what is below it is still to be read
-pub record IsStarted (old new : Reader) (s : NodeInput) (later : List SegmentView)
+pub record IsStarted (old new : ReadState) (s : NodeInput)
     (id : Option (List SegmentView)) : Type 0 where
-  pub nodes : new.nodes.items ≡ old.nodes.items ++ record { node = node_of s; number = 0; span = 1 }
-      ∷ []
-  pub descriptors : new.descriptors.items ≡ old.descriptors.items
+  pub nodes : new.reader.nodes.items ≡ old.reader.nodes.items
+      ++ record { node = node_of s; number = 0; span = 1 } ∷ []
+  pub descriptors : new.reader.descriptors.items ≡ old.reader.descriptors.items
       ++ descriptor_in (id_of s) (node_of s)
-  pub noted : IsNoted new
+  pub noted : IsNoted new.reader
   pub level : s.level ≤ MAX_LEVELS
-  pub siblings : later ≡ s.earlier ++ segment_of s ∷ []
+  pub siblings : new.siblings ≡ old.siblings ++ segment_of s ∷ []
   pub below : HasBelow s id
 
 -- the node at a place spans all from there to the last
@@ -122,9 +134,9 @@ pub record IsSpanned (old new : Reader) (at : ℕ) : Type 0 where
   pub keys : new.keys.keys ≡ old.keys.keys
 
 -- nodes were read, with the descriptors of the static ones
-pub record AddsNodes (old new : Reader) (numbered_node : List NumberedNode)
+pub record AddsNodes (old new : Reader) (added : List NumberedNode)
     (ds : List Descriptor) : Type 0 where
-  pub nodes : new.nodes.items ≡ old.nodes.items ++ numbered_node
+  pub nodes : new.nodes.items ≡ old.nodes.items ++ added
   pub descriptors : new.descriptors.items ≡ old.descriptors.items ++ ds
   pub noted : IsNoted new
 

@@ -3,6 +3,7 @@ ghost use Rattle.std.specs.Prelude.{◌≡◌, ◌==◌, Some, IsTrue, false, op
 ghost use Rattle.json.specs.Value.{value_view, items_view, members_view};
 ghost use Rattle.serde_json.specs.Find.{as_number, as_u64};
 ghost use Rattle.serde_json.specs.Read.{number_of, number_from};
+ghost use Rattle.tk_plan.specs.Characters.{minus_sign};
 ghost use Rattle.tk_plan.specs.JsonValues.{view, AreItemsInRange, AreMembersInRange, IsInRange};
 
 use fast_float::Numeral;
@@ -10,7 +11,7 @@ use json::Value;
 
 /// Whether a number begins with a minus sign.
 fn is_signed(bytes: &[u8]) -> bool
-    ensures { result ≡ (slice_index bytes.now 0 == 45) }
+    ensures { result ≡ (slice_index bytes.now 0 == minus_sign) }
 {
     !bytes.is_empty() && bytes[0] == b'-'
 }

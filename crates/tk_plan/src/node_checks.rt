@@ -13,7 +13,7 @@ ghost use Rattle.tk_plan.specs.PlanOf.{id_fault, node_check, is_kind, checks};
 ghost use Rattle.tk_plan.specs.Refusals.{Meets};
 ghost use Rattle.tk_plan.specs.declared.limits.TheConstants.{MAX_LEVELS};
 ghost use Rattle.tk_plan.specs.CodeValues.{seen, above_of, json_segment_text, as_plan_fault, IsNamed};
-ghost use Rattle.tk_plan.specs.Progress.{IsNoted, IsEntered, IsAdmitted, IsChecked, room_checks};
+ghost use Rattle.tk_plan.specs.Progress.{state, addition, IsNoted, IsEntered, IsAdmitted, IsChecked, room_checks};
 
 use crate::faults::PlanFault;
 use crate::limits::MAX_LEVELS;
@@ -140,11 +140,10 @@ fn note_node<'t>(
     locks: &[Lock],
 ) -> Result<(), PlanFault>
     requires { IsNoted reader.old }
-    ensures { let keys = note_locks reader.old.keys.keys locks.now in
-        let pair = json_segment_text segment.entry in
-        Meets (first
-        (room_checks (contents reader.old.nodes.items) siblings.old is_static pair keys))
-        (λ _. IsEntered reader.old reader.new siblings.old siblings.new is_static pair keys)
+    ensures { let added = addition is_static (json_segment_text segment.entry)
+        (note_locks reader.old.keys.keys locks.now) in
+        Meets (first (room_checks (contents reader.old.nodes.items) siblings.old added))
+        (λ _. IsEntered (state reader.old siblings.old) (state reader.new siblings.new) added)
         result }
 {
     if !siblings.insert(segment)? {
@@ -176,7 +175,7 @@ fn check_fields<'v, 't>(
         (view node_input.value.now) fields.now }
     ensures { let s = seen siblings.old node_input.entry in
         Meets (first (checks (contents reader.old.nodes.items) s))
-        (IsAdmitted reader.old reader.new s siblings.new) result }
+        (IsAdmitted (state reader.old siblings.old) (state reader.new siblings.new) s) result }
 {
     if fields.content.reports.repeats {
         return Err(PlanFault::EntryKeyTwice);
@@ -203,7 +202,7 @@ pub(crate) fn check_node<'t>(
     requires { IsNoted reader.old }
     ensures { let s = seen siblings.old node_input.entry in
         Meets (first (checks (contents reader.old.nodes.items) s))
-        (IsChecked reader.old reader.new s siblings.new) result }
+        (IsChecked (state reader.old siblings.old) (state reader.new siblings.new) s) result }
 {
     if node_input.place.level > MAX_LEVELS {
         return Err(PlanFault::Deep);

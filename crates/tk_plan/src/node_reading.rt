@@ -3,15 +3,14 @@ ghost use Rattle.std.specs.Prelude.{◌≡◌, ◌≤◌, ◌<◌, ◌+◌, ◌-
 ghost use Rattle.tk_plan.specs.JsonValues.{view};
 ghost use Rattle.tk_plan_units.specs.Trees.{flat, contents};
 ghost use Rattle.tk_plan_units.specs.Ids.{descriptors};
-ghost use Rattle.tk_plan.specs.Checks.{escape, member_at, first};
-ghost use Rattle.tk_plan.specs.Pointers.{pointer};
+ghost use Rattle.tk_plan.specs.Checks.{escape, first};
 ghost use Rattle.tk_plan.specs.PlanOf.{checks, verdict, root_at};
 ghost use Rattle.tk_ids.specs.declared.tables.TheConstants.{MAX_DESCRIPTORS};
 ghost use Rattle.tk_plan.specs.declared.limits.TheConstants.{MAX_LEVELS};
 ghost use Rattle.tk_plan.specs.Progress.{AddsGroup, AddsTree, NodeGroup, verdict_of_group, verdict_of_node, levels_below, levels_from};
-ghost use Rattle.tk_plan.specs.Progress.{IsNoted, IsDescribed, IsAdded, IsStarted, IsSpanned, HasRead};
+ghost use Rattle.tk_plan.specs.Progress.{state, IsNoted, IsDescribed, IsAdded, IsStarted, IsSpanned, HasRead};
 ghost use Rattle.tk_plan.specs.Refusals.{Meets};
-ghost use Rattle.tk_plan.specs.CodeValues.{seen, node_at};
+ghost use Rattle.tk_plan.specs.CodeValues.{seen, node_at, array_at};
 ghost use Rattle.tk_plan.specs.NodeInputs.{node_inputs, node_inputs_in, below, grown, id_of, segment_in, segment_of};
 
 use crate::faults::PlanFault;
@@ -78,7 +77,7 @@ fn start_node<'t>(
     requires { IsNoted reader.old }
     ensures { let s = seen siblings.old node_input.entry in
         Meets (first (checks (contents reader.old.nodes.items) s))
-        (IsStarted reader.old reader.new s siblings.new) result }
+        (IsStarted (state reader.old siblings.old) (state reader.new siblings.new) s) result }
 {
     let checked = check_node(alloc, reader, siblings, node_input)?;
     // Most nodes are leaves, and only nodes below one need its id once more.
@@ -189,9 +188,8 @@ fn read_all<'t>(
     requires noted { IsNoted reader.old }
     requires level { parent.level ≤ MAX_LEVELS }
     requires plain { flat_map escape name.now ≡ name.now }
-    ensures { let ss = node_inputs_in (member_at (pointer parent.entry.path) name.now)
-        (parent.entry.level + 1) id.now is_static parent.entry.takes_files 0 siblings.old
-        (map view values.entry.items) in
+    ensures { let array = array_at parent.entry name.now is_static id.now in
+        let ss = node_inputs_in array 0 siblings.old (map view values.entry.items) in
         let levels = levels_below parent.entry.level in
         let group : NodeGroup = record { above = id.now; levels = levels; nodes = ss } in
         Meets (verdict_of_group reader.old group) (λ _. AddsGroup reader.old reader.new group

@@ -4,7 +4,7 @@ use Rattle.tk_plan_units.specs.Keys.{note_locks}
 use Rattle.tk_plan_units.specs.Trees.{contents}
 use Rattle.tk_plan.specs.Checks.{first}
 use Rattle.tk_plan.specs.PlanOf.{id_fault}
-use Rattle.tk_plan.specs.Progress.{room_checks}
+use Rattle.tk_plan.specs.Progress.{addition, room_checks}
 use Rattle.tk_plan.specs.CodeValues.{seen, json_segment_text}
 use Rattle.tk_plan.specs.NodeInputs as spec
 use Rattle.tk_plan.specs.NodeInputs.{node_of, segment_of}
@@ -39,7 +39,7 @@ returns-in_err-note_node c =
     } in
     let before = contents c.args.reader.now.nodes.items in
     let keys = keys_as before (node_of s) _ (note_locks c.args.reader.now.keys.keys c.as_slice.result.now) _ refl q.noted.keys (c.as_slice.ensures ∙ q.read.concurrency.locks) in
-    rw (p.1, p.2) (faults_also _ _ _ (λ e w. room_verdict before s (Some e) passes (sym (ap₂ (λ x k. first (room_checks before s.earlier s.is_static x k)) seg keys) ∙ w)) c.in_err-note_node.ensures)
+    rw (p.1, p.2) (faults_also _ _ _ (λ e w. room_verdict before s (Some e) passes (sym (ap₂ (λ x k. first (room_checks before s.earlier (addition s.is_static x k))) seg keys) ∙ w)) c.in_err-note_node.ensures)
 
 pub returns : goal.returns
 returns c =
@@ -56,7 +56,7 @@ returns c =
     } in
     let before = contents c.args.reader.now.nodes.items in
     let keys = keys_as before (node_of s) _ (note_locks c.args.reader.now.keys.keys c.as_slice.result.now) _ refl q.noted.keys (c.as_slice.ensures ∙ q.read.concurrency.locks) in (
-      room_verdict before s None passes (sym (ap₂ (λ x k. first (room_checks before s.earlier s.is_static x k)) seg keys) ∙ e.0),
+      room_verdict before s None passes (sym (ap₂ (λ x k. first (room_checks before s.earlier (addition s.is_static x k))) seg keys) ∙ e.0),
       record {
         segment = n.1.segment ∙ seg;
         id = n.1.id ∙ ap (λ x. s.above ++ x ∷ []) seg;

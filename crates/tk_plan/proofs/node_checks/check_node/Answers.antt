@@ -1,4 +1,4 @@
-use Rattle.std.proofs.Common.{◌≤◌, ◌==◌, ◌&&◌, length, sym, ap, ap₂, ◌∙◌, subst}
+use Rattle.std.proofs.Common.{◌==◌, ◌&&◌, length, sym, ap, ap₂, ◌∙◌}
 use Rattle.std.proofs.lemmas.Result.{err_from_is_err_and}
 use Rattle.std.proofs.lemmas.List.{length-map}
 use Rattle.tk_plan.specs.JsonValues.{view}
@@ -24,7 +24,6 @@ pub returns : goal.returns
 returns c =
     let f = c.in_ok-fields.ensures in
     let n = c.in_ok-named.ensures in
-    let e = n.1.entered in
     let s : spec.NodeInput = seen c.args.siblings.now c.args.node_input in
     rw c.into_checked.ensures (
       n.0,
@@ -47,12 +46,6 @@ returns c =
         leaf = ap₂ (λ m n. m == 0 && n == 0) (sym (length-map _ view) ∙ ap length f.1.children) (sym (length-map _ view) ∙ ap length f.1.dynamic);
         lawful = both _ _ f.1.content.ending.lawful (both _ _ f.1.content.reports.increasing f.1.content.files.lawful);
         level = c.if-node_input-gt-MAX_LEVELS.false;
-        nodes = e.nodes;
-        descriptors = e.descriptors;
-        dynamics = e.dynamics;
-        keys = e.keys;
-        few_keys = subst (λ l. length l ≤ 15) (sym e.keys) e.few_keys;
-        room = e.room;
-        siblings = e.siblings;
+        entered = n.1.entered;
       },
     )

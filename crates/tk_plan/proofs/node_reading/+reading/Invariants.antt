@@ -1,7 +1,6 @@
 use Rattle.std.proofs.Common.{◌-◌, ◌+◌, ◌*◌, map}
 use Rattle.tk_plan.specs.JsonValues.{view}
-use Rattle.tk_plan.specs.Checks.{member_at}
-use Rattle.tk_plan.specs.Pointers.{pointer}
+use Rattle.tk_plan.specs.CodeValues.{array_at}
 use Rattle.tk_plan.specs.NodeInputs.{node_inputs_in}
 use Rattle.tk_plan.proofs.Going.{Goes, Met}
 use Rattle.tk_plan.proofs.node_reading.+reading.Given as goal
@@ -18,6 +17,6 @@ decreases-read_below l = 3 * (60 - l.place.level) + 2
 abbrev pub invariant-read_all-loop-index : goal.invariant-read_all-loop-index
 invariant-read_all-loop-index l =
     Goes (60 - l.parent.level) l.id l.initial.reader l.reader
-    (node_inputs_in (member_at (pointer l.parent.path) l.name) (l.parent.level + 1) l.id l.is_static l.parent.takes_files 0 l.initial.siblings (map view l.fn.values.items))
-    (node_inputs_in (member_at (pointer l.parent.path) l.name) (l.parent.level + 1) l.id l.is_static l.parent.takes_files l.index-iterator.count l.siblings (map view l.index-iterator.iter.rest.items))
+    (node_inputs_in (array_at l.parent l.name l.is_static l.id) 0 l.initial.siblings (map view l.fn.values.items))
+    (node_inputs_in (array_at l.parent l.name l.is_static l.id) l.index-iterator.count l.siblings (map view l.index-iterator.iter.rest.items))
     × Met l.initial.siblings l.siblings (map view l.fn.values.items) (map view l.index-iterator.iter.rest.items)
