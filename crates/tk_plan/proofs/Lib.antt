@@ -6,6 +6,7 @@ pub mod UnknownMembers
 pub mod Locking
 pub mod Passing
 pub mod Groups
+pub mod Plain
 pub mod Pairing
 pub mod Results
 pub mod Meeting

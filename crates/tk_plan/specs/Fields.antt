@@ -1,10 +1,10 @@
 -- What readers of a node's members hand on.
-use Rattle.std.specs.Prelude.{◌≡◌, ◌==◌, ◌&&◌, ℕ, Bool, true, List, [], ◌∷◌, length, map, codes}
+use Rattle.std.specs.Prelude.{◌≡◌, ◌==◌, ◌&&◌, ℕ, Bool, true, List, [], ◌∷◌, length, map, codes, None}
 use Rattle.std.specs.List.{list_all}
 use Rattle.serde_json.specs.Data.{Data}
 use Rattle.serde_json.specs.Find.{get}
 use Rattle.tk_plan.specs.JsonValues.{view}
-use Rattle.tk_plan.specs.Checks.{Row}
+use Rattle.tk_plan.specs.Checks.{Row, unknown}
 use Rattle.tk_plan.specs.Contents.{json_text, json_optional, json_dtype, listed}
 use Rattle.tk_plan.specs.Rows.{dtype_row, segment_row, name_row, mode_row, isolated_row, locks_row}
 use Rattle.tk_plan.specs.Rows.{skip_row, result_row, entries_row, files_rows, children_row}
@@ -36,6 +36,14 @@ content_rows takes_files = skip_row ∷ result_row ∷ entries_row ∷ files_row
 -- a dynamic node has no `children`
 abbrev pub below_rows : List Row
 below_rows = children_row ∷ dynamic_row ∷ []
+
+-- the names of all members that most nodes have
+abbrev pub plain_names : List (List ℕ)
+plain_names = map (λ r. r.name) (dtype_row ∷ segment_row ∷ name_row ∷ mode_row ∷ [])
+
+-- an object with no members but `type`, `segment`, `name` and `mode`
+abbrev pub IsPlain : Data → Type 0
+IsPlain d = (at : List ℕ) → unknown plain_names at d ≡ None
 
 pub record IsHeading (d : Data) (h : Heading) : Type 0 where
   pub dtype : h.dtype ≡ json_dtype (get (codes "type") d)

@@ -215,7 +215,7 @@ fn is_among(names: &[&str], name: &str) -> bool
 }
 
 /// Whether each member has one of `names`.
-fn are_known(members: &[(&str, Value<'_>)], names: &[&str]) -> bool
+pub(crate) fn are_known(members: &[(&str, Value<'_>)], names: &[&str]) -> bool
     ensures { IsTrue result → AreKnown (map (λ n. n.now) names.now) (members_view members.now) }
 {
     for member in members {

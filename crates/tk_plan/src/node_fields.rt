@@ -1,28 +1,30 @@
 //! The members of a node.
-ghost use Rattle.std.specs.Prelude.{◌≡◌, true, false, map};
+ghost use Rattle.std.specs.Prelude.{◌≡◌, [], true, false, map, IsTrue, None};
+ghost use Rattle.tk_events.specs.declared.statuses.Status.TheVariants.{Successful};
 ghost use Rattle.tk_plan.specs.JsonValues.{view};
 ghost use Rattle.tk_plan.specs.Checks.{members_wrong, unknown};
 ghost use Rattle.tk_plan.specs.Rows.{static_rows, dynamic_rows, static_node, dynamic_node};
 ghost use Rattle.tk_plan.specs.NodeInputs.{children_of, dynamic_of};
 ghost use Rattle.tk_plan.specs.Pointers.{pointer};
 ghost use Rattle.tk_plan.specs.Answers.{Reads};
-ghost use Rattle.tk_plan.specs.Fields.{heading_rows, concurrency_rows, content_rows, below_rows, IsHeading, IsConcurrency, IsContent, HasFields};
+ghost use Rattle.tk_plan.specs.Fields.{heading_rows, concurrency_rows, content_rows, below_rows, IsPlain, IsHeading, IsConcurrency, IsContent, HasFields};
 
 use crate::faults::PlanFault;
 use crate::file_members::files_member;
 use crate::json_members::{
-    array_member, dtype_member, isolated_member, known_members, mode_member, optional_member,
-    segment_member, text_member,
+    are_known, array_member, dtype_member, isolated_member, known_members, mode_member,
+    optional_member, segment_member, text_member,
 };
 use crate::json_paths::JsonPath;
-use crate::json_values::{Items, into_items, into_members};
+use crate::json_values::{Items, into_items, into_members, members_in};
 use crate::lock_members::locks_member;
 use crate::member_values::{Ending, Reports, TwoTexts};
 use crate::result_members::{entries_member, result_member};
 use json::Value;
 use std::alloc::Global;
+use tk_events::Status;
 use tk_ids::{DType, Text};
-use tk_plan_units::{Files, Locks};
+use tk_plan_units::{Entries, Files, Locks};
 
 /// What the members `type`, `segment` and `name` of a node say.
 #[derive(Drop)]
@@ -184,6 +186,79 @@ fn below_members<'v, 't>(
     Ok((children, dynamic))
 }
 
+/// Whether a value is an object with no members but `type`, `segment`, `name` and `mode`. A wrong
+/// no costs time alone.
+fn is_plain(value: &Value<'_>) -> bool
+    ensures { IsTrue result → IsPlain (view value.now) }
+{
+    match members_in(value) {
+        Some(members) => are_known(members, &["type", "segment", "name", "mode"]),
+        None => false,
+    }
+}
+
+impl Concurrency {
+    /// What a node says that has neither `isolated` nor `locks`.
+    fn of_mode(alloc: Global, is_concurrent: bool) -> Concurrency
+        ensures mode { result.is_concurrent ≡ is_concurrent }
+        ensures isolated { result.is_isolated ≡ false }
+        ensures locks { result.locks ≡ [] }
+    {
+        Concurrency {
+            is_concurrent,
+            is_isolated: false,
+            locks: Locks::new(Vec::new(alloc)),
+        }
+    }
+}
+
+impl Content {
+    /// What a node says that has none of these members.
+    fn empty(alloc: Global) -> Content
+        ensures skip { result.skip ≡ None }
+        ensures status { result.ending.status ≡ Successful }
+        ensures message { result.ending.message ≡ None }
+        ensures entries { result.reports.entries ≡ [] }
+        ensures repeats { result.reports.repeats ≡ false }
+        ensures files { result.files ≡ [] }
+    {
+        Content {
+            skip: None,
+            ending: Ending {
+                status: Status::Successful,
+                message: None,
+            },
+            reports: Reports {
+                entries: Entries::new(Vec::new(alloc)),
+                repeats: false,
+            },
+            files: Files::new(Vec::new(alloc)),
+        }
+    }
+}
+
+/// Reads the members of a static node that has none but `type`, `segment`, `name` and `mode`.
+fn plain_fields<'v, 't>(
+    alloc: Global,
+    at: JsonPath<'_>,
+    value: &'v Value<'t>,
+    takes_files: bool,
+) -> Result<Fields<'v, 't>, PlanFault>
+    requires { IsPlain (view value.now) }
+    ensures { Reads (static_node takes_files (pointer at.entry) (view value.now))
+        (HasFields true takes_files (view value.now)) result }
+{
+    let heading = heading_members(alloc, at, value)?;
+    let is_concurrent = mode_member(alloc, at, value)?;
+    Ok(Fields {
+        heading,
+        concurrency: Concurrency::of_mode(alloc, is_concurrent),
+        content: Content::empty(alloc),
+        children: Items::none(),
+        dynamic: Items::none(),
+    })
+}
+
 /// Reads the members of a static node.
 pub(crate) fn static_fields<'v, 't>(
     alloc: Global,
@@ -194,6 +269,9 @@ pub(crate) fn static_fields<'v, 't>(
     ensures { Reads (static_node takes_files (pointer at.entry) (view value.now))
         (HasFields true takes_files (view value.now)) result }
 {
+    if is_plain(value) {
+        return plain_fields(alloc, at, value, takes_files);
+    }
     known_in_static(alloc, at, value, takes_files)?;
     let heading = heading_members(alloc, at, value)?;
     let concurrency = concurrency_members(alloc, at, value)?;
@@ -224,11 +302,7 @@ pub(crate) fn dynamic_fields<'v, 't>(
     let dynamic = array_member(alloc, at, value, "dynamic")?;
     Ok(Fields {
         heading,
-        concurrency: Concurrency {
-            is_concurrent: false,
-            is_isolated: false,
-            locks: Locks::new(Vec::new(alloc)),
-        },
+        concurrency: Concurrency::of_mode(alloc, false),
         content,
         children: Items::none(),
         dynamic,

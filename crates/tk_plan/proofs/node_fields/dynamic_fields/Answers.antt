@@ -1,4 +1,4 @@
-use Rattle.std.proofs.Common.{◌∙◌, refl, ap, map, rules}
+use Rattle.std.proofs.Common.{◌∙◌, refl, ap, map}
 use Rattle.std.proofs.lemmas.Result.{err_from_is_err_and}
 use Rattle.tk_plan.specs.JsonValues.{view}
 use Rattle.tk_plan.specs.Pointers.{pointer}
@@ -29,5 +29,5 @@ returns-in_err-dynamic c =
 pub returns : goal.returns
 returns c = (
   dynamic_groups c.args.takes_files (pointer c.args.at) (view c.args.value.now) ∙ passes _ _ _ c.in_ok-known_in_dynamic.ensures.0 (passes _ _ _ c.in_ok-heading.ensures.0 (passes _ _ _ c.in_ok-content.ensures.0 (passes _ _ _ c.in_ok-dynamic.ensures.0 refl))),
-  record { heading = c.in_ok-heading.ensures.1; concurrency = search rules; content = c.in_ok-content.ensures.1; children = ap (map view) c.none.ensures; dynamic = c.in_ok-dynamic.ensures.1 },
+  record { heading = c.in_ok-heading.ensures.1; concurrency = record { is_concurrent = c.of_mode.ensures.mode; is_isolated = c.of_mode.ensures.isolated; locks = c.of_mode.ensures.locks }; content = c.in_ok-content.ensures.1; children = ap (map view) c.none.ensures; dynamic = c.in_ok-dynamic.ensures.1 },
 )
