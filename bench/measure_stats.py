@@ -1,15 +1,16 @@
 #!/usr/bin/env -S python3 -B
-"""Times `ask stats` beside a plain Rust reader of the same record text: `bench/measure_stats.py PROGRAM [MIB]`.
+"""Times answers beside a plain Rust reader of the same record text: `bench/measure_stats.py PROGRAM [MIB]`.
 
-It wants rustc, and leaves nothing behind. A line for a record whose ids have one segment, and one for a record whose ids have two: whether
-the answers agree; seconds of processor time and by the clock, medians of five runs in turn; the ratios plain / ours (above 1 we are
-faster); the most memory of each over the size of the record.
+It wants rustc, and leaves nothing behind. A line for `ask stats` of a record whose ids have one segment, one of a record whose ids have two,
+and a line for each other answer about the record of `measure_matches.py`: whether the answers agree; seconds of processor time and by the
+clock, medians of five runs in turn; the ratios plain / ours (above 1 we are faster); the most memory of each over the size of the record.
 """
 
 import os
 from typing import List
 
 import building
+import measure_matches
 import timing
 
 USAGE = "bench/measure_stats.py PROGRAM [MIB]"
@@ -18,6 +19,14 @@ MIB = 15.9
 TESTS = 2_000
 WORKERS = 8
 ENDINGS = ["finish|ok", "finish|ok", "finish|fail|expected: <1> but was: <2>", "finish|abort|no host"]
+
+OTHERS = [
+    ["executions"],
+    ["list", "all"],
+    ["match", "in-order", *measure_matches.EACH_STEP],
+    ["match", "loosely", "failed(the last event)"],
+]
+"""The questions besides `stats`."""
 
 
 def record(mebibytes: float, segments: int) -> str:
@@ -34,20 +43,28 @@ def record(mebibytes: float, segments: int) -> str:
     return "".join(lines)
 
 
+def compare(title: str, commands: List[List[str]], path: str, folder: str) -> str:
+    """What the program and the plain reader take for one question."""
+    size = os.path.getsize(path) / 2**20
+    ours, theirs = timing.take(commands, path, folder)
+    ratios = [plain / mine for mine, plain in zip(ours.processors, theirs.processors)]
+    return (
+        f"{title}, {size:.1f} MiB, {timing.load()}: answers {'agree' if ours.text() == theirs.text() else 'DIFFER'};"
+        f" {timing.beside(ours, theirs)} (goal: at least 4; {min(ratios):.1f} to {max(ratios):.1f});"
+        f" memory over input {ours.memory / size:.1f} (goal: at most 2), plain {theirs.memory / size:.1f}"
+    )
+
+
 def measure(folder: str, words: List[str]) -> None:
     program, mebibytes = os.path.realpath(words[0]), float(words[1]) if len(words) == 2 else MIB
     plain, path = building.compile_plain(f"{HERE}/plain.rs", f"{folder}/plain"), f"{folder}/record"
-    for segments, title in ((1, "ids of one segment"), (2, "ids of two segments")):
+    for segments, title in ((1, "stats, ids of one segment"), (2, "stats, ids of two segments")):
         with open(path, "w", encoding="utf-8") as file:
             file.write(record(mebibytes, segments))
-        size = os.path.getsize(path) / 2**20
-        ours, theirs = timing.take([[program, "ask", "stats"], [plain]], path, folder)
-        print(
-            f"{title}, {size:.1f} MiB, {timing.load()}: answers {'agree' if ours.text() == theirs.text() else 'DIFFER'};"
-            f" {timing.beside(ours, theirs)} (goal: at least 4);"
-            f" memory over input {ours.memory / size:.1f} (goal: at most 2), plain {theirs.memory / size:.1f}",
-            flush=True,
-        )
+        print(compare(title, [[program, "ask", "stats"], [plain, "stats"]], path, folder), flush=True)
+    measure_matches.write_records(folder)
+    for question in OTHERS:
+        print(compare(" ".join(question[:2]), [[program, "ask", *question], [plain, *question]], f"{folder}/large", folder), flush=True)
 
 
 if __name__ == "__main__":

@@ -1,9 +1,7 @@
 -- An answer, from what reading and writing gave.
-use Rattle.std.proofs.Common.{◌≡◌, ℕ, Bool, List, Option, Some, None, Ok, Err, subst, inl, inr}
-use Rattle.std.specs.Prelude.{IfSome, IsErrOf}
-use Rattle.std.specs.Io.KnownBytes.{Appends}
+use Rattle.std.proofs.Common.{◌≡◌, ◌⊎◌, ℕ, Bool, List, Option, Some, None, Result, Ok, Err, refl, subst, inl, inr}
+use Rattle.std.specs.Prelude.{IfErr, IfOk, IfSome, IsErrOf, OnOk}
 use Rattle.tk_record_columns.specs.Recorded.{Recorded}
-use Rattle.tk_streams.specs.Stream.{AppendsPrefix}
 use Rattle.tk_record.specs.Text.{IsAnswer}
 use Rattle.testkit_questions.specs.declared.questions.Question.{Question}
 use Rattle.testkit_questions.specs.declared.faults.AskFault.{AskFault}
@@ -11,22 +9,74 @@ use Rattle.testkit_questions.specs.declared.faults.AskFault.TheVariants as fault
 use Rattle.tk_record.specs.declared.reading.ReadFault.{ReadFault}
 use Rattle.tk_record.specs.declared.reading.ReadFault.TheVariants as read
 use Rattle.testkit_questions.specs.Questions.{Asks, IsAskedAs}
-use Rattle.testkit_questions.specs.Answers.{IsAnswerTo}
-use Rattle.testkit_questions.specs.Asked.{AddsAnswer, AddsPrefix, IsAnswerAbout, IsOfWords, IsReadRefusal, IsRefusal}
+use Rattle.testkit_questions.specs.Asked.{AddsAnswer, AddsPrefix, IsOfWords, IsReadRefusal, IsRefusal, IsReply, Written}
 
-pub about : (input : Option (List ℕ)) (q : Question) (r : Recorded) (is_yes : Bool) (output : List ℕ) → IfSome input (λ b. IsAnswer b (Ok r)) → IsAnswerTo q r is_yes output → IfSome input (λ b. IsAnswerAbout q b is_yes output)
-about None q r is_yes output read answer = tt
-about (Some b) q r is_yes output read answer = (r, read, answer)
+-- the fault that a result has
+pub same_fault : {T : Type 0} (a b : AskFault) → IsErrOf {T = T} (Err a) b → a ≡ b
+same_fault a b e = cc
 
-pub answered : (words : List (List ℕ)) (input : Option (List ℕ)) (q : Question) (is_yes : Bool) (output bytes : List ℕ) (old new : Option (List ℕ)) →
-    Asks words q → IfSome input (λ b. IsAnswerAbout q b is_yes output) → bytes ≡ output → Appends old new bytes → IfSome input (λ b. AddsAnswer words b is_yes old new)
-answered words None q is_yes output bytes old new asks answer same added = tt
-answered words (Some b) q is_yes output bytes old new asks answer same added = (output, (q, asks, answer), subst (λ (t : List ℕ). Appends old new t) same added)
+pub no_fault : {T : Type 0} (x : T) (fault : AskFault) → ¬ (IsErrOf (Ok x) fault)
+no_fault x fault e = cc
 
-pub partly : (words : List (List ℕ)) (input : Option (List ℕ)) (q : Question) (is_yes : Bool) (output bytes : List ℕ) (old new : Option (List ℕ)) →
-    Asks words q → IfSome input (λ b. IsAnswerAbout q b is_yes output) → bytes ≡ output → AppendsPrefix old new bytes → IfSome input (λ b. AddsPrefix words b old new)
-partly words None q is_yes output bytes old new asks answer same added = tt
-partly words (Some b) q is_yes output bytes old new asks answer same added = (is_yes, output, (q, asks, answer), subst (λ (t : List ℕ). AppendsPrefix old new t) same added)
+if_known : (input : Option (List ℕ)) (P Q : List ℕ → Type 0) → ((b : List ℕ) → P b → Q b) → IfSome input P → IfSome input Q
+if_known None P Q f h = tt
+if_known (Some b) P Q f h = f b h
+
+-- ---- what a reply says of the whole question
+
+pub replied : (words : List (List ℕ)) (input : Option (List ℕ)) (q : Question) (r : Recorded) (w : Written) (result : Result Bool AskFault) → Asks words q → IfSome input (λ b. IsAnswer b (Ok r)) → IsReply q r w result
+    → IfOk result (λ is_yes. IfSome input (λ b. AddsAnswer words b is_yes w.old w.new))
+replied words input q r w (Ok is_yes) asks had reply =
+    if_known input (λ b. IsAnswer b (Ok r)) (λ b. AddsAnswer words b is_yes w.old w.new) (λ b h. (reply.0, (q, asks, (r, h, reply.1)), reply.2)) had
+replied words input q r w (Err fault) asks had reply = tt
+
+pub replied_partly : (words : List (List ℕ)) (input : Option (List ℕ)) (q : Question) (r : Recorded) (w : Written) (result : Result Bool AskFault) → Asks words q → IfSome input (λ b. IsAnswer b (Ok r)) → IsReply q r w result
+    → IsErrOf result faults.Device → IfSome input (λ b. AddsPrefix words b w.old w.new)
+replied_partly words input q r w (Ok is_yes) asks had reply e = absurd (no_fault _ _ e)
+replied_partly words input q r w (Err fault) asks had reply e = if_known input (λ b. IsAnswer b (Ok r)) (λ b. AddsPrefix words b w.old w.new) (λ b h. (part.0, part.1, (q, asks, (r, h, part.2)), part.3)) had
+  where
+    part : IsReply q r w (Err faults.Device)
+    part = subst (λ (f : AskFault). IsReply q r w (Err f)) (same_fault fault faults.Device e) reply
+
+pub replied_unwritten : (q : Question) (r : Recorded) (w : Written) (result : Result Bool AskFault) → IsReply q r w result → IfErr result (λ fault. (fault ≡ faults.Device) ⊎ (w.new ≡ w.old))
+replied_unwritten q r w (Ok is_yes) reply = tt
+replied_unwritten q r w (Err faults.Question) reply = absurd reply
+replied_unwritten q r w (Err (faults.Word i)) reply = absurd reply
+replied_unwritten q r w (Err (faults.Condition i fault)) reply = absurd reply
+replied_unwritten q r w (Err (faults.Read fault)) reply = absurd reply
+replied_unwritten q r w (Err faults.Device) reply = inl refl
+replied_unwritten q r w (Err faults.Memory) reply = inr reply
+
+pub replied_refusal : (words : List (List ℕ)) (input : Option (List ℕ)) (q : Question) (r : Recorded) (w : Written) (result : Result Bool AskFault) → Asks words q → IsReply q r w result → IfErr result (λ fault. IsRefusal words input fault)
+replied_refusal words input q r w (Ok is_yes) asks reply = tt
+replied_refusal words input q r w (Err faults.Question) asks reply = absurd reply
+replied_refusal words input q r w (Err (faults.Word i)) asks reply = absurd reply
+replied_refusal words input q r w (Err (faults.Condition i fault)) asks reply = absurd reply
+replied_refusal words input q r w (Err (faults.Read fault)) asks reply = absurd reply
+replied_refusal words input q r w (Err faults.Device) asks reply = (q, asks)
+replied_refusal words input q r w (Err faults.Memory) asks reply = tt
+
+pub replied_unread : (q : Question) (r : Recorded) (w : Written) (result : Result Bool AskFault) (P : Type 0) → IsReply q r w result → IfErr result (λ fault. IsOfWords fault → P)
+replied_unread q r w (Ok is_yes) P reply = tt
+replied_unread q r w (Err faults.Question) P reply = absurd reply
+replied_unread q r w (Err (faults.Word i)) P reply = absurd reply
+replied_unread q r w (Err (faults.Condition i fault)) P reply = absurd reply
+replied_unread q r w (Err (faults.Read fault)) P reply = absurd reply
+replied_unread q r w (Err faults.Device) P reply = λ h. absurd h
+replied_unread q r w (Err faults.Memory) P reply = λ h. absurd h
+
+pub replied_no_source : (q : Question) (r : Recorded) (w : Written) (result : Result Bool AskFault) → IsReply q r w result → ¬ (result ≡ Err (faults.Read read.Device))
+replied_no_source q r w result reply e = subst (λ (x : Result Bool AskFault). IsReply q r w x) e reply
+
+pub always_ok : {X E : Type 0} (r : Result X E) (P : Type 0) → P → OnOk r P
+always_ok (Ok x) P p = p
+always_ok (Err e) P p = tt
+
+memory_no_device : faults.Memory ≡ faults.Device → ⊥
+memory_no_device e = cc
+
+pub memory_not_device : ¬ (IsErrOf {T = Bool} (Err faults.Memory) faults.Device)
+memory_not_device e = memory_no_device (same_fault _ _ e)
 
 -- the faults of the words
 pub refused_words : (words : List (List ℕ)) (input : Option (List ℕ)) (fault : AskFault) → IsAskedAs words (Err fault) → IsRefusal words input fault
@@ -60,13 +110,6 @@ not_of_words input (faults.Read fault) h of_words = of_words
 not_of_words input faults.Device h of_words = h
 not_of_words input faults.Memory h of_words = of_words
 
--- the fault that a result has
-pub same_fault : {T : Type 0} (a b : AskFault) → IsErrOf {T = T} (Err a) b → a ≡ b
-same_fault a b e = cc
-
-pub no_fault : {T : Type 0} (x : T) (fault : AskFault) → ¬ (IsErrOf (Ok x) fault)
-no_fault x fault e = cc
-
 pub same_read : (a b : ReadFault) → IsErrOf {T = Recorded} (Err a) b → a ≡ b
 same_read a b e = cc
 
@@ -84,12 +127,6 @@ same_source fault e = cc
 
 pub source_fault : {T : Type 0} (fault : ReadFault) → IsErrOf {T = T} (Err (faults.Read fault)) (faults.Read read.Device) → fault ≡ read.Device
 source_fault fault e = same_source fault (same_fault _ _ e)
-
-device_no_source : faults.Device ≡ faults.Read read.Device → ⊥
-device_no_source e = cc
-
-pub device_fault : ¬ (IsErrOf {T = Bool} (Err faults.Device) (faults.Read read.Device))
-device_fault e = device_no_source (same_fault _ _ e)
 
 -- the faults of the words are of no device, and those of reading of no target
 pub no_device : (words : List (List ℕ)) (fault : AskFault) → IsAskedAs words (Err fault) → ¬ (IsErrOf {T = Bool} (Err fault) faults.Device)

@@ -1,6 +1,8 @@
 pub mod Characters
 pub mod Questions
 pub mod Answers
+pub mod Pieces
+pub mod Replies
 pub mod Asked
 pub mod Laws
 pub mod FaultTexts

@@ -1,41 +1,55 @@
 //! Asking a question about a record text.
-ghost use Rattle.std.specs.Prelude.{◌≡◌, ◌⊎◌, true, Err, IfErr, IfOk, IfSome, IsErrOf, OnOk, map, string_bytes};
+ghost use Rattle.std.specs.Prelude.{◌≡◌, ◌⊎◌, true, Ok, Err, IfErr, IfOk, IfSome, IsErrOf, OnOk, map, string_bytes};
 ghost use Rattle.std.specs.Io.KnownBytes.{IsAtEnd};
+ghost use Rattle.tk_record.specs.Text.{IsAnswer};
 ghost use Rattle.tk_record.specs.declared.reading.ReadFault.TheVariants as read_faults;
-ghost use Rattle.testkit_questions.specs.Asked.{AddsAnswer, AddsPrefix, IsAnswerAbout, IsOfWords, IsReadRefusal, IsRefusal};
+ghost use Rattle.testkit_questions.specs.Asked.{AddsAnswer, AddsPrefix, IsOfWords, IsReadRefusal, IsRefusal, IsReply, written};
 
-use crate::answers::{Answer, answer_to};
+use crate::answers::reply_to;
 use crate::faults::AskFault;
 use crate::questions::{Question, read_question};
 use std::alloc::Global;
-use tk_record::{ReadFault, Source, Target, read_record, write_all};
+use tk_record::{ReadFault, Record, Source, Target, read_record};
 
-// Reads a record from the source, and answers the question about it.
-fn answer_about<S: Source>(
-    alloc: Global,
-    source: &mut S,
-    question: &Question,
-) -> Result<Answer, AskFault>
-    ensures answer { IfOk result (λ answer. IfSome (S.remaining source.old) (λ input.
-        IsAnswerAbout question.now input answer.is_yes (answer.text.items))) }
+// Reads the record of the source's text.
+fn read_input<S: Source>(alloc: Global, source: &mut S) -> Result<Record, AskFault>
+    ensures answer { IfOk result (λ read. IfSome (S.remaining source.old) (λ input.
+        IsAnswer input (Ok read))) }
     ensures end { OnOk result (IsAtEnd (S.remaining source.new)) }
     ensures refusal { IfErr result (λ fault. IsReadRefusal (S.remaining source.old) fault) }
     ensures device { IsErrOf result (AskFault.Read read_faults.Device)
         → S.broken source.new ≡ true }
 {
-    let record = match read_record(alloc, source) {
-        Ok(record) => record,
-        Err(ReadFault::Memory) => return Err(AskFault::Memory),
-        Err(fault) => return Err(AskFault::Read(fault)),
-    };
-    Ok(answer_to(alloc, &record, question)?)
+    match read_record(alloc, source) {
+        Ok(record) => Ok(record),
+        Err(ReadFault::Memory) => Err(AskFault::Memory),
+        Err(fault) => Err(AskFault::Read(fault)),
+    }
+}
+
+// Writes the answer to a question about a record. All memory is had before the first byte goes out.
+fn write_answer<T: Target>(
+    alloc: Global,
+    record: &Record,
+    question: &Question,
+    target: &mut T,
+) -> Result<bool, AskFault>
+    ensures answer { IsReply question.now «record».now
+        (written (T.contents target.old) (T.contents target.new)) result }
+    ensures device { IsErrOf result AskFault.Device → T.broken target.new ≡ true }
+{
+    let reply = reply_to(alloc, record, question)?;
+    match reply.write(target) {
+        Ok(()) => Ok(reply.is_yes()),
+        Err(_) => Err(AskFault::Device),
+    }
 }
 
 /// Answers the question that the words ask about the record whose text the source gives, and says
 /// whether the answer is a yes: false where a match says no, or an expectation fails.
 ///
-/// The words are judged before the input is read, and nothing is written before the answer is
-/// whole.
+/// The words are judged before the input is read. A long answer is written in pieces of 64 KiB, once
+/// all memory for it was had.
 ///
 /// # Errors
 /// `Question`, `Word` or `Condition` for bad words, `Read` for an input that is no record text or a
@@ -64,9 +78,6 @@ pub fn ask<S: Source, T: Target>(
         → S.broken source.new ≡ true }
 {
     let question = read_question(alloc, words)?;
-    let answer = answer_about(alloc, source, &question)?;
-    match write_all(target, answer.text.as_slice()) {
-        Ok(()) => Ok(answer.is_yes),
-        Err(_) => Err(AskFault::Device),
-    }
+    let recorded = read_input(alloc, source)?;
+    write_answer(alloc, &recorded, &question, target)
 }

@@ -3,11 +3,14 @@
 
 mod answers;
 mod asking;
+mod execution_lines;
 mod expectations;
 mod fault_texts;
 mod faults;
 pub mod laws;
+mod pieces;
 mod questions;
+mod replies;
 
 pub use asking::ask;
 pub use fault_texts::AskFaultText;

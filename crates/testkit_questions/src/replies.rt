@@ -1,0 +1,48 @@
+//! Answers whose text is made while it is written.
+ghost use Rattle.std.specs.Prelude.{◌≡◌, true, OnErr, OnOk};
+ghost use Rattle.std.specs.Io.KnownBytes.{Appends};
+ghost use Rattle.tk_streams.specs.Stream.{AppendsPrefix};
+ghost use Rattle.testkit_questions.specs.Replies.{reply_is_yes, reply_text};
+
+use crate::answers::Answer;
+use crate::execution_lines::write_executions;
+use tk_query::Executions;
+use tk_streams::{Broken, Target, write_all};
+
+/// An answer for which no more memory is needed.
+#[derive(Drop)]
+pub(crate) enum Reply {
+    /// A text that is whole.
+    Whole(Answer),
+    /// A line for each of the executions, which are a yes.
+    Executions(Executions),
+}
+
+impl Reply {
+    /// Whether the answer is a yes.
+    pub(crate) fn is_yes(&self) -> bool
+        ensures { result ≡ reply_is_yes self.now }
+    {
+        match self {
+            Reply::Whole(answer) => answer.is_yes,
+            Reply::Executions(_) => true,
+        }
+    }
+
+    /// Writes the text of the answer.
+    ///
+    /// # Errors
+    /// `Broken` where the target broke. A prefix of the text was then written.
+    pub(crate) fn write<T: Target>(&self, target: &mut T) -> Result<(), Broken>
+        ensures ok { OnOk result (Appends (T.contents target.old) (T.contents target.new)
+            (reply_text self.now)) }
+        ensures err { OnErr result (AppendsPrefix (T.contents target.old) (T.contents target.new)
+            (reply_text self.now)) }
+        ensures broken { OnErr result (T.broken target.new ≡ true) }
+    {
+        match self {
+            Reply::Whole(answer) => write_all(target, answer.text.as_slice()),
+            Reply::Executions(list) => write_executions(list, target),
+        }
+    }
+}
