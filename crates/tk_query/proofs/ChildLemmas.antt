@@ -1,10 +1,8 @@
 -- What one more event does to the states of keys.
-use Rattle.std.proofs.Common.{◌≡◌, ◌≢◌, ℕ, zero, suc, ◌+◌, ◌-◌, ◌<◌, ◌≤◌, ◌⊎◌, inl, inr, ⊎_elim, Bool, true, false, ◌&&◌, ◌||◌, not, List, [], ◌∷◌, ◌++◌, length, get_or, Option, Some, None, refl, sym, ap, ◌∙◌, subst, arith, eqb, eq-eqb, eqb-true}
+use Rattle.std.proofs.Common.{◌≡◌, ℕ, ◌+◌, Bool, true, false, ◌&&◌, List, [], ◌∷◌, ◌++◌, Some, None, refl, sym, ap, ◌∙◌, subst, arith, eqb-true}
 use Rattle.std.specs.Prelude.{◌==◌, if◌then◌else◌}
 use Rattle.std.specs.List.{sum_by}
 use Rattle.std.proofs.lemmas.Bool.{true≢false}
-use Rattle.std.proofs.lemmas.List.{get_or_past}
-use Rattle.std.proofs.lemmas.List.Sums.{sum_by-cons, get_or-le-sum_by}
 use Rattle.std.proofs.lemmas.Option.{same_Some}
 use Rattle.tk_ids.specs.IdText.{SegmentView, parent_of}
 use Rattle.tk_events.specs.declared.kinds.Kind.{Kind}
@@ -12,8 +10,8 @@ use Rattle.tk_events.specs.declared.kinds.Kind.TheVariants.{Dynamic, Skipped, St
 use Rattle.tk_events.specs.declared.events.Entry.{Entry}
 use Rattle.tk_record_columns.specs.Entries.{with_entry}
 use Rattle.tk_record_columns.specs.Recorded.{Recorded}
-use Rattle.tk_query.specs.Lifecycle.{HasId, has_event, has_run, runs}
-use Rattle.tk_query.specs.KeyStates.{idle, state_of, is_key, is_running, running_child, phase_after, advanced, refusal, children_after, counted, ArePut, IsCounted}
+use Rattle.tk_query.specs.Lifecycle.{HasId, has_run}
+use Rattle.tk_query.specs.KeyStates.{state_of, is_key, is_running, running_child, phase_after, advanced, refusal, children_after, counted, ArePut, IsCounted}
 use Rattle.tk_query.specs.Progress.{AreAdvanced, AreStates, IsKnownParent, IsParent, IsParentOf, IsPhase}
 use Rattle.tk_query.specs.declared.key_states.KeyState.{KeyState}
 use Rattle.tk_query.specs.declared.key_states.Phase.{Phase}

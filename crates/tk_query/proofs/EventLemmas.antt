@@ -1,8 +1,8 @@
 -- Which rule one more event breaks.
-use Rattle.std.proofs.Common.{◌≡◌, ◌≢◌, ℕ, zero, suc, ◌+◌, ◌<◌, ◌≤◌, ◌⊎◌, inl, inr, ⊎_elim, Bool, true, false, ◌&&◌, ◌||◌, not, List, [], ◌∷◌, ◌++◌, length, get_or, slice_index_or, Option, Some, None, MatchOption, Result, Ok, Err, refl, sym, ap, ◌∙◌, subst, arith, eqb, eq-eqb, eqb-true}
+use Rattle.std.proofs.Common.{◌≡◌, ◌≢◌, ℕ, suc, ◌<◌, ◌≤◌, ◌⊎◌, ⊎_elim, Bool, true, false, ◌&&◌, ◌||◌, not, List, [], ◌∷◌, length, slice_index_or, Option, Some, None, MatchOption, Ok, refl, sym, ap, ◌∙◌, subst, arith, eq-eqb, eqb-true}
 use Rattle.std.specs.Prelude.{◌==◌, if◌then◌else◌}
 use Rattle.std.specs.List.{sum_by}
-use Rattle.std.proofs.lemmas.Bool.{true≢false, ne_eqb}
+use Rattle.std.proofs.lemmas.Bool.{true≢false}
 use Rattle.std.proofs.lemmas.List.{get_or_past}
 use Rattle.std.proofs.lemmas.List.Sums.{sum_by-cons, get_or-le-sum_by, sum_by-le}
 use Rattle.std.proofs.lemmas.Option.{same_Some, none-some}
@@ -15,7 +15,7 @@ use Rattle.tk_record_columns.specs.Entries.{of_kind, with_entry}
 use Rattle.tk_record_columns.specs.Recorded.{Recorded}
 use Rattle.tk_query.specs.Lifecycle.{HasId, has_event, has_run, runs, rank, Breaks, BreaksFirst, BreaksNone, KnowsId, KnowsNoParent, HasNoRunningParent, RunsAgain, EndsNothing, LeavesChild}
 use Rattle.tk_query.specs.KeyStates.{idle, state_of, is_key, is_running, running_child, refusal, start_refusal, finish_refusal, IsFirstRunning}
-use Rattle.tk_query.specs.Progress.{AreStates, AreIds, IsProgress, IsChecked, IsFirstOfRuns, IsFound, IsKnownId, IsKnownParent, IsParent, IsParentOf, IsPhase, IsSought, is_at_rest, missing_parent, next_event}
+use Rattle.tk_query.specs.Progress.{AreStates, IsProgress, IsChecked, IsFirstOfRuns, IsKnownId, IsKnownParent, IsParent, IsParentOf, IsPhase, IsSought, is_at_rest, missing_parent, next_event}
 use Rattle.tk_query.specs.declared.lifecycle_rules.LifecycleRule.{LifecycleRule}
 use Rattle.tk_query.specs.declared.lifecycle_rules.LifecycleRule.TheVariants.{IdKnown, ParentUnknown, ParentNotRunning, RanAlready, NotRunning, ChildRunning}
 use Rattle.tk_query.specs.declared.key_states.KeyState.{KeyState}

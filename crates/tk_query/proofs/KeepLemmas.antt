@@ -1,5 +1,5 @@
 -- A record breaks no rule and nothing runs at its end exactly where it keeps the lifecycle.
-use Rattle.std.proofs.Common.{◌≡◌, ◌≢◌, ℕ, zero, suc, ◌+◌, ◌-◌, ◌<◌, ◌≤◌, ◌↔◌, ◌⊎◌, ⊎_elim, inl, inr, Bool, true, false, ◌&&◌, ◌||◌, not, List, [], ◌∷◌, ◌++◌, length, take, drop, Option, Some, None, refl, sym, ap, ◌∙◌, subst, arith, eqb, eq-eqb, eqb-true, append-nil}
+use Rattle.std.proofs.Common.{◌≡◌, ℕ, zero, suc, ◌+◌, ◌-◌, ◌<◌, ◌≤◌, ◌⊎◌, ⊎_elim, inl, inr, Bool, true, false, ◌&&◌, ◌||◌, not, List, [], ◌∷◌, ◌++◌, length, take, drop, Option, Some, None, refl, sym, ap, ◌∙◌, subst, arith, eq-eqb, eqb-true, append-nil}
 use Rattle.std.specs.Prelude.{◌==◌, if◌then◌else◌, slice_get, bytes_eq}
 use Rattle.std.specs.List.{list_any}
 use Rattle.std.proofs.lemmas.Bool.{true≢false, or_cases, and_parts}
@@ -15,16 +15,15 @@ use Rattle.tk_events.specs.declared.events.Entry.{Entry}
 use Rattle.tk_events.specs.Event.{kind_code}
 use Rattle.tk_record_columns.specs.Entries.{of_kind, desc, with_entry}
 use Rattle.tk_record_columns.specs.Recorded.{Recorded}
-use Rattle.tk_query.specs.Lifecycle.{is_event, has_event, has_run, runs, HasId, Breaks, BreaksNone, NoneBreaks, IsLifecycle, KnowsId, KnowsNoParent, HasNoRunningParent, RunsAgain, EndsNothing, LeavesChild, first_entries}
-use Rattle.tk_query.specs.KeepsLifecycle.{is_step, steps_of, IsWhole, IsBelowRunning, KeepsLifecycle}
+use Rattle.tk_query.specs.Lifecycle.{is_event, has_event, has_run, runs, HasId, BreaksNone, NoneBreaks, IsLifecycle, HasNoRunningParent, RunsAgain, EndsNothing, LeavesChild, first_entries}
+use Rattle.tk_query.specs.KeepsLifecycle.{is_step, steps_of, IsBelowRunning, KeepsLifecycle}
 use Rattle.tk_query.specs.LifecycleLaws.{KeptByItsEvents}
 use Rattle.tk_query.specs.declared.lifecycle_rules.Lifecycle.TheVariants.{Kept}
-use Rattle.tk_query.specs.declared.lifecycle_rules.LifecycleRule.{LifecycleRule}
 use Rattle.tk_query.specs.declared.lifecycle_rules.LifecycleRule.TheVariants.{IdKnown, ParentUnknown, ParentNotRunning, RanAlready, NotRunning, ChildRunning}
 use Rattle.tk_query.proofs.FirstEntries.{first_more, desc_first, has_id_more, one_id}
 use Rattle.tk_query.proofs.IdMapLemmas.{ids_first, known_or_new}
 use Rattle.tk_query.proofs.MaskLemmas.{there}
-use Rattle.tk_query.proofs.StepLemmas.{has, has_steps, has_run_steps, runs_steps, steps_append, steps_at, SoFar, nothing, begin_more, end_more, whole_at_end, Whole, to_whole, whole_rests, no_begin_before, end_runs, later_finish}
+use Rattle.tk_query.proofs.StepLemmas.{has_steps, has_run_steps, runs_steps, steps_append, steps_at, SoFar, nothing, begin_more, end_more, whole_at_end, to_whole, whole_rests, no_begin_before, end_runs, later_finish}
 
 -- whether two ids are the same
 same_segment : (s t : SegmentView) → s.tag ≡ t.tag → s.value ≡ t.value → s ≡ t

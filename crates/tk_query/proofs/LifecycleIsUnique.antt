@@ -1,13 +1,12 @@
 -- A record has one answer about its lifecycle, and an event that breaks a rule spoils each record that begins so.
-use Rattle.std.proofs.Common.{◌≡◌, ℕ, zero, suc, ◌+◌, ◌<◌, ◌≤◌, ◌⊎◌, ⊎_elim, inl, inr, List, [], ◌∷◌, length, take, Option, Some, None, true, false, refl, sym, ap, ◌∙◌, subst, arith}
+use Rattle.std.proofs.Common.{◌≡◌, ℕ, zero, suc, ◌+◌, ◌<◌, ◌≤◌, ◌⊎◌, ⊎_elim, List, [], ◌∷◌, length, take, Some, refl, sym, ap, ◌∙◌, subst, arith}
 use Rattle.std.specs.Prelude.{slice_get}
 use Rattle.std.proofs.lemmas.Bool.{true≢false}
 use Rattle.std.proofs.lemmas.Option.{same_Some, slice_get_within}
 use Rattle.tk_events.specs.declared.events.Entry.{Entry}
 use Rattle.tk_record_columns.specs.Recorded.{Recorded}
-use Rattle.tk_query.specs.Lifecycle.{Breaks, BreaksFirst, BreaksNone, NoneBreaks, IsBrokenAt, IsLifecycle, first_entries, rank, runs}
+use Rattle.tk_query.specs.Lifecycle.{Breaks, BreaksFirst, NoneBreaks, IsBrokenAt, first_entries, rank}
 use Rattle.tk_query.specs.LifecycleLaws.{LifecycleIsUnique, BreakIsFinal}
-use Rattle.tk_query.specs.declared.lifecycle_rules.Lifecycle.{Lifecycle}
 use Rattle.tk_query.specs.declared.lifecycle_rules.Lifecycle.TheVariants.{Kept, Broken, Unfinished}
 use Rattle.tk_query.specs.declared.lifecycle_rules.LifecycleRule.{LifecycleRule}
 use Rattle.tk_query.specs.declared.lifecycle_rules.LifecycleRule.TheVariants.{IdKnown, ParentUnknown, ParentNotRunning, RanAlready, NotRunning, ChildRunning}

@@ -1,17 +1,16 @@
 -- The events of a record, one after the other.
-use Rattle.std.proofs.Common.{◌≡◌, ℕ, zero, suc, ◌+◌, ◌<◌, ◌≤◌, ◌⊎◌, ⊎_elim, List, [], ◌∷◌, length, take, Option, Some, None, is_some, true, refl, sym, ap, ◌∙◌, subst, arith}
+use Rattle.std.proofs.Common.{◌≡◌, ℕ, ◌+◌, ◌<◌, ◌≤◌, ◌⊎◌, ⊎_elim, List, length, Option, Some, None, is_some, true, sym, ap, ◌∙◌, subst, arith}
 use Rattle.std.specs.Prelude.{slice_get, IfSome}
 use Rattle.std.proofs.lemmas.Bool.{true≢false}
 use Rattle.std.proofs.lemmas.List.{take_all}
-use Rattle.std.proofs.lemmas.Option.{same_Some, none-some}
+use Rattle.std.proofs.lemmas.Option.{same_Some}
 use Rattle.tk_events.specs.declared.events.Entry.{Entry}
 use Rattle.tk_record_columns.specs.declared.records.EntryView.{EntryView}
 use Rattle.tk_record_columns.specs.Record.{IsViewOf}
 use Rattle.tk_record_columns.specs.Recorded.{Recorded}
 use Rattle.tk_query.specs.Asked.{entry_of}
-use Rattle.tk_query.specs.Lifecycle.{BreaksFirst, BreaksNone, NoneBreaks, IsBrokenAt, IsLifecycle, first_entries}
+use Rattle.tk_query.specs.Lifecycle.{BreaksFirst, BreaksNone, NoneBreaks, IsLifecycle, first_entries}
 use Rattle.tk_query.specs.Progress.{IsFirstOfRuns, IsProgress, IsTaken, next_event}
-use Rattle.tk_query.specs.declared.lifecycle_rules.Lifecycle.{Lifecycle}
 use Rattle.tk_query.specs.declared.lifecycle_rules.Lifecycle.TheVariants.{Kept, Broken, Unfinished}
 use Rattle.tk_query.specs.declared.lifecycle_rules.LifecycleRule.{LifecycleRule}
 use Rattle.tk_query.specs.declared.key_states.KeyState.{KeyState}

@@ -1,12 +1,11 @@
 -- The states of keys as a list.
-use Rattle.std.proofs.Common.{◌≡◌, ◌≢◌, ℕ, zero, suc, ◌+◌, ◌-◌, ◌<◌, ◌≤◌, ◌^◌, Bool, true, false, ◌&&◌, List, [], ◌∷◌, ◌++◌, length, get_or, set, Option, Some, None, All, refl, sym, ap, ◌∙◌, subst, arith, eqb, eqb-true, ⊎_elim, ◌⊎◌, inl, inr}
+use Rattle.std.proofs.Common.{◌≡◌, ℕ, ◌+◌, ◌<◌, ◌≤◌, ◌^◌, Bool, true, false, List, [], ◌∷◌, ◌++◌, length, get_or, set, Some, None, refl, ap, ◌∙◌, subst, arith, ⊎_elim, ◌⊎◌, inl, inr}
 use Rattle.std.specs.Prelude.{◌==◌, if◌then◌else◌}
 use Rattle.std.specs.List.{sum_by}
 use Rattle.std.proofs.lemmas.List.{get_or_default, get_or_past}
-use Rattle.std.proofs.lemmas.List.Sums.{sum_by_push, sum_by-set, get_or-le-sum_by, sum_by-le}
+use Rattle.std.proofs.lemmas.List.Sums.{sum_by_push, sum_by-set}
 use Rattle.tk_query.specs.KeyStates.{idle, is_running, state_of, ArePut, IsFirstRunning}
 use Rattle.tk_query.specs.declared.key_states.KeyState.{KeyState}
-use Rattle.tk_query.specs.declared.key_states.Phase.TheVariants.{Idle, Running, Ended}
 use Rattle.tk_query.proofs.KeyLemmas.{get_or_more, get_or_put}
 
 -- idle states were added at the end

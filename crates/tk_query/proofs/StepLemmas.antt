@@ -1,5 +1,5 @@
 -- The starts, skips and finishes of a key as a list of kinds.
-use Rattle.std.proofs.Common.{◌≡◌, ◌≢◌, ℕ, zero, suc, ◌+◌, ◌<◌, ◌≤◌, ◌⊎◌, ⊎_elim, inl, inr, Bool, true, false, ◌&&◌, ◌||◌, not, List, [], ◌∷◌, ◌++◌, length, take, drop, Option, Some, None, refl, sym, ap, ◌∙◌, subst, arith, eqb, eq-eqb, eqb-true}
+use Rattle.std.proofs.Common.{◌≡◌, ℕ, zero, suc, ◌⊎◌, ⊎_elim, inl, inr, Bool, true, false, ◌&&◌, ◌||◌, not, List, [], ◌∷◌, ◌++◌, take, drop, Some, refl, sym, ap, ◌∙◌, subst, eq-eqb}
 use Rattle.std.specs.Prelude.{◌==◌, if◌then◌else◌, slice_get}
 use Rattle.std.specs.List.{list_any}
 use Rattle.std.proofs.lemmas.Bool.{true≢false}
@@ -8,7 +8,7 @@ use Rattle.tk_events.specs.declared.kinds.Kind.{Kind}
 use Rattle.tk_events.specs.declared.kinds.Kind.TheVariants.{Dynamic, Skipped, Started, Finished, Reporting, File}
 use Rattle.tk_events.specs.declared.events.Entry.{Entry}
 use Rattle.tk_events.specs.Event.{kind_code}
-use Rattle.tk_query.specs.Lifecycle.{is_event, has_event, has_run, runs}
+use Rattle.tk_query.specs.Lifecycle.{has_event, has_run, runs}
 use Rattle.tk_query.specs.KeepsLifecycle.{is_step, steps_of, IsWhole}
 
 -- whether a kind is among these

@@ -1,7 +1,6 @@
 -- What is kept of each key while the events of a record are gone through.
 use Rattle.std.specs.Prelude.{
   ◌≡◌,
-  ◌≢◌,
   ℕ,
   ◌+◌,
   ◌-◌,

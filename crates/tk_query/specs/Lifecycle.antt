@@ -14,7 +14,6 @@ use Rattle.std.specs.Prelude.{
   List,
   length,
   take,
-  Option,
   Some,
   slice_get,
 }

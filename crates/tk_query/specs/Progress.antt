@@ -1,7 +1,6 @@
 -- What is known after the first events of a record, and what one more event makes of it.
 use Rattle.std.specs.Prelude.{
   ◌≡◌,
-  ◌≢◌,
   ℕ,
   ◌<◌,
   Bool,

@@ -3,10 +3,12 @@ ghost use Rattle.std.specs.Prelude.{◌≡◌, IfSome};
 ghost use Rattle.tk_record_columns.specs.Recorded.{Recorded};
 ghost use Rattle.tk_query.specs.Rules.{AcceptsWithin, AllHoldWithin, HoldsWithin, IsRuleOf};
 
+use crate::rules::PayloadTest::{Message, Path, Reason, Report};
 use tk_events::{Kind, Pairs, Status};
 use tk_ids::Text;
 use tk_query_conditions::Condition;
 use tk_record_columns::ColumnTest;
+use tk_record_columns::ColumnTest::{OfKind, OfStatus};
 
 /// What a condition asks of the payload of an event.
 #[derive(Clone, Copy)]
@@ -55,38 +57,16 @@ pub(crate) fn rule_of(condition: &Condition) -> Rule<'_>
         Condition::Engine => Rule::Descriptor(DescriptorTest::Engine),
         Condition::Id(text) => Rule::Descriptor(DescriptorTest::Id(text)),
         Condition::Name(name) => Rule::Descriptor(DescriptorTest::Name(name)),
-        Condition::Kind(kind) => Rule::Column(ColumnTest::OfKind(*kind)),
-        Condition::Skipped(reason) => {
-            Rule::Payload(
-                ColumnTest::OfKind(Kind::Skipped),
-                PayloadTest::Reason(reason),
-            )
-        }
-        Condition::Started => Rule::Column(ColumnTest::OfKind(Kind::Started)),
-        Condition::Succeeded => Rule::Column(ColumnTest::OfStatus(Status::Successful)),
-        Condition::Failed(None) => Rule::Column(ColumnTest::OfStatus(Status::Failed)),
-        Condition::Failed(Some(message)) => {
-            Rule::Payload(
-                ColumnTest::OfStatus(Status::Failed),
-                PayloadTest::Message(message),
-            )
-        }
-        Condition::Aborted(None) => Rule::Column(ColumnTest::OfStatus(Status::Aborted)),
-        Condition::Aborted(Some(message)) => {
-            Rule::Payload(
-                ColumnTest::OfStatus(Status::Aborted),
-                PayloadTest::Message(message),
-            )
-        }
-        Condition::File(path) => {
-            Rule::Payload(ColumnTest::OfKind(Kind::File), PayloadTest::Path(path))
-        }
-        Condition::Entry(pairs) => {
-            Rule::Payload(
-                ColumnTest::OfKind(Kind::Reporting),
-                PayloadTest::Report(pairs),
-            )
-        }
+        Condition::Kind(kind) => Rule::Column(OfKind(*kind)),
+        Condition::Skipped(text) => Rule::Payload(OfKind(Kind::Skipped), Reason(text)),
+        Condition::Started => Rule::Column(OfKind(Kind::Started)),
+        Condition::Succeeded => Rule::Column(OfStatus(Status::Successful)),
+        Condition::Failed(None) => Rule::Column(OfStatus(Status::Failed)),
+        Condition::Failed(Some(text)) => Rule::Payload(OfStatus(Status::Failed), Message(text)),
+        Condition::Aborted(None) => Rule::Column(OfStatus(Status::Aborted)),
+        Condition::Aborted(Some(text)) => Rule::Payload(OfStatus(Status::Aborted), Message(text)),
+        Condition::File(text) => Rule::Payload(OfKind(Kind::File), Path(text)),
+        Condition::Entry(pairs) => Rule::Payload(OfKind(Kind::Reporting), Report(pairs)),
         Condition::All(_) | Condition::Any(_) | Condition::Not(_) => Rule::Members,
     }
 }
@@ -96,7 +76,7 @@ fn of_event(test: ColumnTest) -> Option<ColumnTest>
     ensures { IfSome result (λ same. same ≡ test) }
 {
     match test {
-        ColumnTest::OfKind(_) | ColumnTest::OfStatus(_) => Some(test),
+        OfKind(_) | OfStatus(_) => Some(test),
         _ => None,
     }
 }

@@ -1,8 +1,8 @@
-use Rattle.std.proofs.Common.{arith, length, refl, subst, None}
+use Rattle.std.proofs.Common.{arith, length, refl, subst}
 use Rattle.tk_query.specs.Asked.{entry_of}
 use Rattle.tk_query.specs.Lifecycle.{first_entries}
 use Rattle.tk_query.specs.Progress.{IsTaken, next_event}
-use Rattle.tk_query.proofs.LoopLemmas.{followed_first, followed_more, stands_at, broken_here, unfinished, kept, known_at_end, past_all}
+use Rattle.tk_query.proofs.LoopLemmas.{followed_more, stands_at, unfinished, kept, known_at_end, past_all}
 use Rattle.tk_query.proofs.lifecycle_check.lifecycle.Goals as goal
 
 pub overflow_add-position : goal.overflow_add-position

@@ -1,4 +1,4 @@
-use Rattle.std.proofs.Common.{refl, ap, ◌&&◌}
+use Rattle.std.proofs.Common.{ap, ◌&&◌}
 use Rattle.tk_events.specs.declared.kinds.Kind.TheVariants as kind
 use Rattle.tk_record_columns.specs.Entries.{of_kind}
 use Rattle.tk_query_conditions.specs.declared.conditions.Condition as condition

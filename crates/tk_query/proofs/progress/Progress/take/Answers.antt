@@ -2,7 +2,7 @@ use Rattle.std.proofs.Common.{refl, sym, ap, ◌∙◌}
 use Rattle.std.specs.Option.{option_copied}
 use Rattle.tk_query.specs.Asked.{entry_of}
 use Rattle.tk_query.specs.Lifecycle.{first_entries}
-use Rattle.tk_query.proofs.FirstEntries.{its_id, not_unknown}
+use Rattle.tk_query.proofs.FirstEntries.{its_id}
 use Rattle.tk_query.proofs.EventLemmas.{few_children}
 use Rattle.tk_query.proofs.TakeLemmas.{taken, taken_broken}
 use Rattle.tk_query.proofs.progress.Progress.take.Goals as goal
