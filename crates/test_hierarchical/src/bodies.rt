@@ -3,8 +3,11 @@ use std::alloc::Global;
 use std::sync::Wait;
 use std::sync::atomic::{AtomicU64, Ordering};
 use std::thread::Threads;
+use test_support::is_shown_as;
 use tk_engine::{Results, RunFault, Sink, UnitFault, execute};
-use tk_engine_hierarchical::{Body, Hierarchical, Outcome, Reporter, Tests, UnitRun};
+use tk_engine_hierarchical::{
+    Body, Hierarchical, HierarchicalFault, Outcome, Reporter, TWICE, Tests, UnitRun,
+};
 use tk_events::Pairs;
 use tk_ids::{Segment, Text};
 use tk_plan::{ExecutionMode, LockMode, Plan, PlanNode, build_plan};
@@ -53,11 +56,12 @@ fn segment(alloc: Global, value: &str) -> Result<Segment, UnitFault> {
     }
 }
 
-// What the second test does after its dynamic test.
+// What the second test does after its dynamic test, or the third, which is a container too.
 #[derive(Clone, Copy)]
 enum Then {
     Aborts,
     RegistersTwice,
+    RegistersStatic,
     Faults,
 }
 
@@ -80,6 +84,20 @@ fn first_test<R: Wait, S: Sink, K: UnitRun>(
     Ok(Outcome::Successful)
 }
 
+// Registers what has the id of the static test below it, where it is to.
+fn third_test<R: Wait, S: Sink, K: UnitRun>(
+    rt: &R,
+    alloc: Global,
+    then: Then,
+    reporter: &mut Reporter<'_, S, K>,
+) -> Result<Outcome, UnitFault> {
+    if matches!(then, Then::RegistersStatic) {
+        let four = Segment::new(alloc, "t", "4")?;
+        reporter.dynamic_test(rt, alloc, &four, "y", &Failing)?;
+    }
+    Ok(Outcome::Successful)
+}
+
 impl Tests for Sample {
     fn run<R: Wait, S: Sink, K: UnitRun>(
         &self,
@@ -92,12 +110,12 @@ impl Tests for Sample {
             return first_test(rt, alloc, reporter);
         }
         if key != 2 {
-            return Ok(Outcome::Successful);
+            return third_test(rt, alloc, self.then, reporter);
         }
         let one = segment(alloc, "x")?;
         reporter.dynamic_test(rt, alloc, &one, "x", &Failing)?;
         match self.then {
-            Then::Aborts => Ok(Outcome::Aborted(None)),
+            Then::Aborts | Then::RegistersStatic => Ok(Outcome::Aborted(None)),
             Then::RegistersTwice => {
                 reporter.skip_test(rt, alloc, &one, "y", Text::copy(alloc, "off")?)?;
                 Ok(Outcome::Successful)
@@ -111,10 +129,10 @@ fn concurrent<'t>(node: PlanNode<'t>) -> PlanNode<'t> {
     node.mode(ExecutionMode::Concurrent)
 }
 
-// A root with two tests, a container with a test, and one that is skipped; all four may run beside
-// one another.
+// A root with two tests, a node of both types with a test, and a container that is skipped; all four
+// may run beside one another.
 fn plan(alloc: Global) -> Option<Plan> {
-    let group = PlanNode::container(alloc, ("c", "3"), "three");
+    let group = PlanNode::container_and_test(alloc, ("c", "3"), "three");
     let group = group.child(PlanNode::test(alloc, ("t", "4"), "four")).ok()?;
     let later = PlanNode::container(alloc, ("c", "5"), "five").skip("later");
     let later = later.child(PlanNode::test(alloc, ("t", "6"), "six")).ok()?;
@@ -144,7 +162,7 @@ fn record() -> &'static [u8] {
 N|C|[engine:e]|e
 N|T|[engine:e]/[t:1]|one
 N|T|[engine:e]/[t:2]|two
-N|C|[engine:e]/[c:3]|three
+N|B|[engine:e]/[c:3]|three
 N|T|[engine:e]/[c:3]/[t:4]|four
 N|C|[engine:e]/[c:5]|five
 N|T|[engine:e]/[c:5]/[t:6]|six
@@ -240,25 +258,41 @@ fn bodies_run_and_keep_the_lifecycle(rt: HostRuntime) {
     }
 }
 
-// With which number the second unit fails, where it does.
-fn own_fault<R: Threads + Wait + Sync>(rt: &R, alloc: Global, then: Then) -> Option<u32> {
+// Which unit fails, and with which number.
+fn own_fault<R: Threads + Wait + Sync>(rt: &R, alloc: Global, then: Then) -> Option<(u32, u32)> {
     let engine = engine(alloc, then)?;
     let ran = execute(rt, alloc, &engine, 1, 4);
-    let number = match &ran {
-        Err(RunFault::Engine(1, UnitFault::Own(number))) => Some(*number),
+    let found = match &ran {
+        Err(RunFault::Engine(unit, UnitFault::Own(number))) => Some((*unit, *number)),
         _ => None,
     };
     drop(ran);
-    number
+    found
 }
 
 #[test]
 fn faults_of_a_unit(rt: HostRuntime) {
-    // `TWICE`: a sibling has the id already.
+    // A dynamic sibling has the id already, or a static one.
     let twice = own_fault(&rt, rt.alloc(), Then::RegistersTwice);
-    assert!(rt; twice == Some(4_294_967_294));
+    assert!(rt; twice == Some((1, TWICE)));
+    let beside_static = own_fault(&rt, rt.alloc(), Then::RegistersStatic);
+    assert!(rt; beside_static == Some((2, TWICE)));
     let own = own_fault(&rt, rt.alloc(), Then::Faults);
-    assert!(rt; own == Some(7));
+    assert!(rt; own == Some((1, 7)));
+}
+
+// Whether the faults of making an engine have their texts.
+fn show_faults(alloc: Global) -> bool {
+    is_shown_as(
+        alloc,
+        &HierarchicalFault::Lifecycle,
+        "plan breaks the lifecycle",
+    ) && is_shown_as(alloc, &HierarchicalFault::Memory, "out of memory")
+}
+
+#[test]
+fn texts_of_faults(rt: HostRuntime) {
+    assert!(rt; show_faults(rt.alloc()));
 }
 
 // Tests that count who is inside: none may find another there.

@@ -4,6 +4,7 @@ pub mod RegisteredIds
 pub mod Shapes
 pub mod Events
 pub mod Endings
+pub mod FaultTexts
 pub mod Covered
 pub mod Units
 pub mod Reporting

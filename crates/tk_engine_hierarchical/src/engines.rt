@@ -1,8 +1,9 @@
 //! The engine of a plan whose tests have bodies, as `execute` takes it.
-ghost use Rattle.std.specs.Prelude.{◌≡◌, length, IfOk};
+ghost use Rattle.std.specs.Prelude.{◌≡◌, length, IfOk, Some};
 ghost use Rattle.tk_plan_units.specs.Trees.{forest};
 ghost use Rattle.tk_plan_units.specs.Cutting.{before_of, after_of, units_of};
 ghost use Rattle.tk_engine_lifecycle.specs.Units.{KeepsAround};
+ghost use Rattle.tk_engine_hierarchical.specs.FaultTexts.{hierarchical_fault_text};
 ghost use Rattle.tk_engine_hierarchical.specs.Shapes.{frame, HavePlaces};
 
 use crate::hierarchical::run_unit;
@@ -10,6 +11,8 @@ use crate::leases::Lease;
 use crate::shapes::{KeysOfUnits, Shape};
 use crate::tests::Tests;
 use std::alloc::{AllocError, Global};
+use std::error::Error;
+use std::fmt;
 use std::marker::Brand;
 use std::sync::{Arc, Wait};
 use tk_book::{BookSeat, Need};
@@ -26,6 +29,19 @@ pub enum HierarchicalFault {
     /// A request for memory was refused.
     Memory,
 }
+
+impl fmt::Display for HierarchicalFault {
+    ghost output = { λ fault. Some (hierarchical_fault_text fault) };
+
+    fn fmt<W: fmt::Write>(&self, f: &mut fmt::Formatter<W>) -> fmt::Result {
+        match self {
+            HierarchicalFault::Lifecycle => f.write_str("plan breaks the lifecycle"),
+            HierarchicalFault::Memory => f.write_str("out of memory"),
+        }
+    }
+}
+
+impl Error for HierarchicalFault {}
 
 impl From<AllocError> for HierarchicalFault {
     fn from(_: AllocError) -> HierarchicalFault {

@@ -16,4 +16,5 @@ mod unit_runs;
 pub use engines::{Hierarchical, HierarchicalFault};
 pub use reporters::Reporter;
 pub use tests::{Body, Outcome, Tests};
+pub use unit_events::{OUT_OF_ORDER, TWICE};
 pub use unit_runs::UnitRun;

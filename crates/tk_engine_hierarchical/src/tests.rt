@@ -38,7 +38,8 @@ pub trait Tests {
     /// The keys of a plan's static nodes are their numbers in preorder. `execute` calls this from
     /// the thread of the worker that drew the test's unit, between the test's start and its finish,
     /// which has the outcome. What the test publishes goes through `reporter`.
-    /// A node of both types that stands above all units isn't run: it finishes as the plan says.
+    /// It is called for each node that is a test and isn't skipped, save for a node of both types on
+    /// the spine, whose children are units of their own: that finishes as the plan says.
     ///
     /// # Errors
     /// What `reporter` answered, or `Own(n)` where the engine can't go on. A test that fails is no

@@ -24,11 +24,13 @@ use tk_events::{Event, Kind, Payload};
 use tk_ids::{DType, IdFault, Segment, Table, UniqueId};
 use tk_queue::RegisterFault;
 
-/// The number of the fault of a unit whose events are out of order.
-pub(crate) const OUT_OF_ORDER: u32 = 4_294_967_295;
+/// The number of the fault [`Own`](UnitFault::Own) of a unit whose events would break the lifecycle,
+/// as where a key finishes that isn't the innermost running one. No plan leads to it.
+pub const OUT_OF_ORDER: u32 = 4_294_967_295;
 
-/// The number of the fault of a unit that registers an id that is known.
-pub(crate) const TWICE: u32 = 4_294_967_294;
+/// The number of the fault [`Own`](UnitFault::Own) of a unit that registers a dynamic descriptor whose
+/// id is that of a static one, or of one that the unit registered.
+pub const TWICE: u32 = 4_294_967_294;
 
 /// What is registered below a running key.
 #[derive(Clone, Copy, Drop)]
