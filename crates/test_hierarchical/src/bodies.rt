@@ -65,7 +65,8 @@ enum Then {
     Faults,
 }
 
-// The tests of the plan: the first has a dynamic container, the second a dynamic test.
+// The tests of the plan: the first has a dynamic container, the second a dynamic test and a stamp of
+// its own.
 #[derive(Drop)]
 pub(crate) struct Sample {
     then: Then,
@@ -112,6 +113,7 @@ impl Tests for Sample {
         if key != 2 {
             return third_test(rt, alloc, self.then, reporter);
         }
+        reporter.set_stamp(1_000_000);
         let one = segment(alloc, "x")?;
         reporter.dynamic_test(rt, alloc, &one, "x", &Failing)?;
         match self.then {
@@ -156,7 +158,8 @@ pub(crate) fn sample_engine(alloc: Global) -> Option<Hierarchical<Sample>> {
     engine(alloc, Then::Aborts)
 }
 
-// The record of a run by one worker. A body's events have the stamp of its test's start.
+// The record of a run by one worker. A body's events have the stamp of its test's start, but for the
+// second test, which sets its own.
 fn record() -> &'static [u8] {
     b"testkit-record|2
 N|C|[engine:e]|e
@@ -180,11 +183,11 @@ E|1|65538|1|skip|off
 E|1|65536|1|finish|ok
 E|1|1|2|finish|ok
 E|1|2|3|start
-E|1|65539|3|dynamic|T|[engine:e]/[t:2]/[d:x]|x
-E|1|65539|3|start
-E|1|65539|3|file|out.txt
-E|1|65539|3|finish|fail|boom
-E|1|2|4|finish|abort
+E|1|65539|1000000|dynamic|T|[engine:e]/[t:2]/[d:x]|x
+E|1|65539|1000000|start
+E|1|65539|1000000|file|out.txt
+E|1|65539|1000000|finish|fail|boom
+E|1|2|1000000|finish|abort
 E|1|3|5|start
 E|1|4|6|start
 E|1|4|7|finish|ok

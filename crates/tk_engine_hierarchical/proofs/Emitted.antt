@@ -20,7 +20,7 @@ use Rattle.tk_ids.specs.Table.{HasId as TableHasId}
 use Rattle.tk_engine_lifecycle.specs.Units.{Frame, KeepsAlone, KeepsAround}
 use Rattle.tk_engine_lifecycle.proofs.States.{state}
 use Rattle.tk_engine_lifecycle.specs.UnderWay.{IsOneOf, IsUnderWay, MayBegin, MayBeRegistered, so_far}
-use Rattle.tk_engine_hierarchical.specs.Emitting.{IsEmitting, Progress}
+use Rattle.tk_engine_hierarchical.specs.Emitting.{IsEmitting, Progress, since}
 use Rattle.tk_engine_lifecycle.proofs.ByKey.{desc_in-append, later_id, one_id, from_table}
 use Rattle.tk_engine_lifecycle.proofs.Going.{other_steps, so_far_more}
 use Rattle.tk_engine_lifecycle.proofs.Steps.{begins, begins_registered, dynamic_key_fresh, dynamic_no_step, finishes, its_own, law_closes, no_step_added, or_none, or_or, registers_below, reports, running_id, skips, starts}
@@ -29,7 +29,7 @@ use Rattle.tk_engine_lifecycle.proofs.Steps.{begins, begins_registered, dynamic_
 pub emitting_none : (f : Frame) (unit : ℕ) (start : SenderView) (none : List ℕ → Bool) (next : ℕ) → KeepsAround f → unit < f.units → start.table ≡ f.table
     → ((key : ℕ) (id : List SegmentView) → HasId (so_far f start.worker []) key id → TableHasId f.table id)
     → ((key : ℕ) (id : List SegmentView) → HasId (so_far f start.worker []) key id → HasId (record_of_sender start) key id)
-    → IsEmitting f unit start start (record { running = []; registered = none; next = next })
+    → IsEmitting f unit (since start start) (record { running = []; registered = none; next = next })
 emitting_none f unit start none next around low table ids known = record {
   same = record { session = refl; table = refl; worker = refl };
   table = table;
@@ -76,10 +76,10 @@ sender_later s e key id h = subst (λ r. HasId r key id) (sym (sender_more s e))
 sent_more : (a b l : List Event) (e : Event) → a ≡ b ++ l → a ++ e ∷ [] ≡ b ++ (l ++ e ∷ [])
 sent_more a b l e is = ap (λ x. x ++ e ∷ []) is ∙ append_assoc b l (e ∷ [])
 
-emitted_plain : (f : Frame) (unit : ℕ) (start now : SenderView) (p : Progress) (e : Event) (running : List ℕ) (next : ℕ) (i : IsEmitting f unit start now p)
+emitted_plain : (f : Frame) (unit : ℕ) (start now : SenderView) (p : Progress) (e : Event) (running : List ℕ) (next : ℕ) (i : IsEmitting f unit (since start now) p)
     → (kind_code e.kind == kind_code Dynamic) ≡ false → IsUnderWay (state f unit start.worker (i.events ++ e ∷ []) running)
     → ((key : ℕ) → next ≤ key → key < length f.table → steps_of key (entries_by start.worker (i.events ++ e ∷ [])) ≡ [])
-    → IsEmitting f unit start (sends now e) (record { running = running; registered = p.registered; next = next })
+    → IsEmitting f unit (since start (sends now e)) (record { running = running; registered = p.registered; next = next })
 emitted_plain f unit start now p e running next i plain u fresh = record {
   same = record { session = i.same.session; table = i.same.table; worker = i.same.worker };
   table = i.table;
@@ -104,18 +104,18 @@ differs : (key other next : ℕ) → key < next → next ≤ other → key ≢ o
 differs key other next a b same = absurd (omega (arith, a, b, same))
 
 -- a static key from the next one on starts
-pub emitted_start : (f : Frame) (unit : ℕ) (start now : SenderView) (p : Progress) (e : Event) (i : IsEmitting f unit start now p)
+pub emitted_start : (f : Frame) (unit : ℕ) (start now : SenderView) (p : Progress) (e : Event) (i : IsEmitting f unit (since start now) p)
     → e.kind ≡ Started → p.next ≤ e.key → e.key < length f.table → MayBegin (state f unit start.worker i.events p.running) e.key
-    → IsEmitting f unit start (sends now e) (record { running = e.key ∷ p.running; registered = p.registered; next = e.key + 1 })
+    → IsEmitting f unit (since start (sends now e)) (record { running = e.key ∷ p.running; registered = p.registered; next = e.key + 1 })
 emitted_start f unit start now p e i kind low static b =
     emitted_plain f unit start now p e (e.key ∷ p.running) (e.key + 1) i (plain_start e.kind kind)
     (starts f unit start.worker i.events p.running e i.going.around i.going.is_unit i.going.under_way kind (i.fresh e.key low static) b)
     (λ key a c. other_steps key start.worker i.events e (differs e.key key (e.key + 1) (omega arith) a) ∙ i.fresh key (omega (arith, low, a)) c)
 
 -- or is skipped
-pub emitted_skip : (f : Frame) (unit : ℕ) (start now : SenderView) (p : Progress) (e : Event) (i : IsEmitting f unit start now p)
+pub emitted_skip : (f : Frame) (unit : ℕ) (start now : SenderView) (p : Progress) (e : Event) (i : IsEmitting f unit (since start now) p)
     → e.kind ≡ Skipped → p.next ≤ e.key → e.key < length f.table → MayBegin (state f unit start.worker i.events p.running) e.key
-    → IsEmitting f unit start (sends now e) (record { running = p.running; registered = p.registered; next = e.key + 1 })
+    → IsEmitting f unit (since start (sends now e)) (record { running = p.running; registered = p.registered; next = e.key + 1 })
 emitted_skip f unit start now p e i kind low static b =
     emitted_plain f unit start now p e p.running (e.key + 1) i (plain_skip e.kind kind)
     (skips f unit start.worker i.events p.running e i.going.around i.going.is_unit i.going.under_way kind (i.fresh e.key low static) b)
@@ -126,9 +126,9 @@ not_both true a c = cc
 not_both false a c = cc
 
 -- a running key reports an entry or publishes a file
-pub emitted_report : (f : Frame) (unit : ℕ) (start now : SenderView) (p : Progress) (e : Event) (i : IsEmitting f unit start now p)
+pub emitted_report : (f : Frame) (unit : ℕ) (start now : SenderView) (p : Progress) (e : Event) (i : IsEmitting f unit (since start now) p)
     → is_step e.kind ≡ false → (kind_code e.kind == kind_code Dynamic) ≡ false → IsOneOf e.key p.running
-    → IsEmitting f unit start (sends now e) p
+    → IsEmitting f unit (since start (sends now e)) p
 emitted_report f unit start now p e i none plain o =
     emitted_plain f unit start now p e p.running p.next i plain
     (reports f unit start.worker i.events p.running e i.going.around i.going.is_unit i.going.under_way none (λ d. not_both (kind_code e.kind == kind_code Dynamic) (ap (λ k. kind_code k == kind_code Dynamic) d) plain) o)
@@ -139,8 +139,8 @@ nothing_started e = cc
 
 -- the innermost running key finishes
 pub emitted_finish : (f : Frame) (unit : ℕ) (start now : SenderView) (running : List ℕ) (registered : List ℕ → Bool) (next : ℕ) (e : Event)
-    (i : IsEmitting f unit start now (record { running = e.key ∷ running; registered = registered; next = next }))
-    → e.kind ≡ Finished → IsEmitting f unit start (sends now e) (record { running = running; registered = registered; next = next })
+    (i : IsEmitting f unit (since start now) (record { running = e.key ∷ running; registered = registered; next = next }))
+    → e.kind ≡ Finished → IsEmitting f unit (since start (sends now e)) (record { running = running; registered = registered; next = next })
 emitted_finish f unit start now running registered next e i kind =
     emitted_plain f unit start now (record { running = e.key ∷ running; registered = registered; next = next }) e running next i (plain_finish e.kind kind)
     (finishes f unit start.worker i.events running e i.going.around i.going.is_unit i.going.under_way kind)
@@ -157,7 +157,7 @@ none_is_some None x e h = cc
 none_is_some (Some y) x e h = cc
 
 -- what a unit is asked to register, and why it may
-pub record Registering (f : Frame) (unit : ℕ) (start now : SenderView) (p : Progress) (i : IsEmitting f unit start now p) (e : Event) (d : Descriptor) : Type 0 where
+pub record Registering (f : Frame) (unit : ℕ) (start now : SenderView) (p : Progress) (i : IsEmitting f unit (since start now) p) (e : Event) (d : Descriptor) : Type 0 where
   pub kind : e.kind ≡ Dynamic
   pub payload : e.payload ≡ Described d
   pub free : desc (record_of_sender now) e.key ≡ None
@@ -171,7 +171,7 @@ pub record Registering (f : Frame) (unit : ℕ) (start now : SenderView) (p : Pr
   pub not_registered : p.registered (id_text d.id) ≡ false
   pub owner : f.owner d.id ≡ f.owner id
 
-free_there : (f : Frame) (unit : ℕ) (start now : SenderView) (p : Progress) (i : IsEmitting f unit start now p) (key : ℕ) → desc (record_of_sender now) key ≡ None
+free_there : (f : Frame) (unit : ℕ) (start now : SenderView) (p : Progress) (i : IsEmitting f unit (since start now) p) (key : ℕ) → desc (record_of_sender now) key ≡ None
     → desc (so_far f start.worker i.events) key ≡ None
 free_there f unit start now p i key free =
     ⊎_elim (λ n. n)
@@ -180,7 +180,7 @@ free_there f unit start now p i key free =
     absurd (none_is_some (desc (record_of_sender now) key) there.descriptor free there.described))
     (none_or_some (desc (so_far f start.worker i.events) key))
 
-pub may_register : (f : Frame) (unit : ℕ) (start now : SenderView) (p : Progress) (i : IsEmitting f unit start now p) (e : Event) (d : Descriptor)
+pub may_register : (f : Frame) (unit : ℕ) (start now : SenderView) (p : Progress) (i : IsEmitting f unit (since start now) p) (e : Event) (d : Descriptor)
     → Registering f unit start now p i e d → MayBeRegistered (state f unit start.worker i.events p.running) e.key d
 may_register f unit start now p i e d r =
     let its = running_id f unit start.worker i.events p.running i.going.under_way r.above r.runs in
@@ -256,12 +256,12 @@ free_is_dynamic r key free =
 
 -- what a unit is after a registration, and what it may do with the key
 pub record Registered (f : Frame) (unit : ℕ) (start now : SenderView) (p : Progress) (key : ℕ) : Type 0 where
-  pub emitting : IsEmitting f unit start now p
+  pub emitting : IsEmitting f unit (since start now) p
   pub may_begin : MayBegin (state f unit start.worker emitting.events p.running) key
   pub no_step : steps_of key (entries_by start.worker emitting.events) ≡ []
   pub dynamic : length f.table ≤ key
 
-pub emitted_registration : (f : Frame) (unit : ℕ) (start now : SenderView) (p : Progress) (e : Event) (d : Descriptor) (i : IsEmitting f unit start now p)
+pub emitted_registration : (f : Frame) (unit : ℕ) (start now : SenderView) (p : Progress) (e : Event) (d : Descriptor) (i : IsEmitting f unit (since start now) p)
     → Registering f unit start now p i e d → (noted : List ℕ → Bool) → ((text : List ℕ) → p.registered text ≡ true → noted text ≡ true) → noted (id_text d.id) ≡ true
     → Registered f unit start (sends now e) (record { running = p.running; registered = noted; next = p.next }) e.key
 emitted_registration f unit start now p e d i r noted more its =
@@ -297,7 +297,7 @@ dynamic_differs key other n a b same = absurd (omega (arith, a, b, same))
 
 -- what was registered starts
 pub registered_start : (f : Frame) (unit : ℕ) (start now : SenderView) (p : Progress) (e : Event) → Registered f unit start now p e.key → e.kind ≡ Started
-    → IsEmitting f unit start (sends now e) (record { running = e.key ∷ p.running; registered = p.registered; next = p.next })
+    → IsEmitting f unit (since start (sends now e)) (record { running = e.key ∷ p.running; registered = p.registered; next = p.next })
 registered_start f unit start now p e r kind =
     let i = r.emitting in
     emitted_plain f unit start now p e (e.key ∷ p.running) p.next i (plain_start e.kind kind)
@@ -306,7 +306,7 @@ registered_start f unit start now p e r kind =
 
 -- or is skipped
 pub registered_skip : (f : Frame) (unit : ℕ) (start now : SenderView) (p : Progress) (e : Event) → Registered f unit start now p e.key → e.kind ≡ Skipped
-    → IsEmitting f unit start (sends now e) p
+    → IsEmitting f unit (since start (sends now e)) p
 registered_skip f unit start now p e r kind =
     let i = r.emitting in
     emitted_plain f unit start now p e p.running p.next i (plain_skip e.kind kind)
@@ -314,12 +314,12 @@ registered_skip f unit start now p e r kind =
     (λ key a c. other_steps key start.worker i.events e (dynamic_differs e.key key (length f.table) r.dynamic c) ∙ i.fresh key a c)
 
 -- a unit of which no key runs has kept the lifecycle
-pub emitted_all : (f : Frame) (unit : ℕ) (start now : SenderView) (p : Progress) (i : IsEmitting f unit start now p) → p.running ≡ [] → KeepsAlone f unit start.worker i.events
+pub emitted_all : (f : Frame) (unit : ℕ) (start now : SenderView) (p : Progress) (i : IsEmitting f unit (since start now) p) → p.running ≡ [] → KeepsAlone f unit start.worker i.events
 emitted_all f unit start now p i none = law_closes (state f unit start.worker i.events p.running) i.going none
 
 -- more ids may be noted than were registered
-pub emitting_noted : (f : Frame) (unit : ℕ) (start now : SenderView) (p : Progress) (i : IsEmitting f unit start now p) (noted : List ℕ → Bool)
-    → ((text : List ℕ) → p.registered text ≡ true → noted text ≡ true) → IsEmitting f unit start now (record { running = p.running; registered = noted; next = p.next })
+pub emitting_noted : (f : Frame) (unit : ℕ) (start now : SenderView) (p : Progress) (i : IsEmitting f unit (since start now) p) (noted : List ℕ → Bool)
+    → ((text : List ℕ) → p.registered text ≡ true → noted text ≡ true) → IsEmitting f unit (since start now) (record { running = p.running; registered = noted; next = p.next })
 emitting_noted f unit start now p i noted more = record {
   same = i.same;
   table = i.table;
@@ -332,8 +332,8 @@ emitting_noted f unit start now p i noted more = record {
 }
 
 -- a later key may be the next one
-pub emitting_later : (f : Frame) (unit : ℕ) (start now : SenderView) (p : Progress) (i : IsEmitting f unit start now p) (next : ℕ)
-    → p.next ≤ next → IsEmitting f unit start now (record { running = p.running; registered = p.registered; next = next })
+pub emitting_later : (f : Frame) (unit : ℕ) (start now : SenderView) (p : Progress) (i : IsEmitting f unit (since start now) p) (next : ℕ)
+    → p.next ≤ next → IsEmitting f unit (since start now) (record { running = p.running; registered = p.registered; next = next })
 emitting_later f unit start now p i next more = record {
   same = i.same;
   table = i.table;

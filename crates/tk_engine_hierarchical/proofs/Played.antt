@@ -11,14 +11,15 @@ use Rattle.tk_events.specs.Event.{kind_code}
 use Rattle.tk_events.specs.declared.events.Event.{Event}
 use Rattle.tk_events.specs.declared.events.Entry.{Entry}
 use Rattle.tk_events.specs.declared.kinds.Kind.{Kind}
-use Rattle.tk_events.specs.declared.kinds.Kind.TheVariants.{Dynamic, File, Finished, Reporting, Skipped, Started}
+use Rattle.tk_events.specs.declared.kinds.Kind.TheVariants.{Dynamic, Finished, Skipped, Started}
 use Rattle.tk_queue.specs.Emission.{entries_by, entry_by}
 use Rattle.tk_queue.specs.Registering.{IsRegisteredAs, RegisterRequest, child_of, registration}
 use Rattle.tk_queue.specs.Senders.{SenderView, sends}
-use Rattle.tk_query.specs.Lifecycle.{has_event, has_run, is_event}
-use Rattle.tk_engine_hierarchical.specs.Covered.{AreCovered, IsBelow, IsBelowSkipped, IsCovered, IsKeyBelow}
-use Rattle.tk_engine_hierarchical.specs.Endings.{EndsAsItMay, MayFinish}
-use Rattle.tk_engine_hierarchical.specs.Units.{HasPlayed, HasTaken}
+use Rattle.tk_query.specs.Lifecycle.{has_event, is_event}
+use Rattle.tk_engine_hierarchical.specs.Covered.{IsBelow, IsCovered, IsKeyBelow}
+use Rattle.tk_engine_hierarchical.specs.Endings.{EndsAsItMay}
+use Rattle.tk_engine_hierarchical.specs.Reporting.{publishes}
+use Rattle.tk_engine_hierarchical.specs.Units.{HasPlayed}
 use Rattle.tk_engine_hierarchical.specs.declared.tests.Outcome.{Outcome}
 
 or_assoc : (a b c : Bool) → (a || (b || c)) ≡ ((a || b) || c)
@@ -80,11 +81,8 @@ started_is_not e = cc
 pub skipped_is_not : Skipped ≡ Finished → ⊥
 skipped_is_not e = cc
 
-pub reporting_is_not : Reporting ≡ Finished → ⊥
-reporting_is_not e = cc
-
-pub file_is_not : File ≡ Finished → ⊥
-file_is_not e = cc
+pub published_is_not : (k : Kind) → publishes k ≡ true → k ≡ Finished → ⊥
+published_is_not k p e = let bad : true ≡ false = sym p ∙ ap publishes e in cc
 
 below_or_here : (key next : ℕ) → key < next + 1 → (key < next) ⊎ (key ≡ next)
 below_or_here key next h = grind (arith, tests, h)

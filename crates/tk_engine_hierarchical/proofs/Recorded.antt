@@ -1,5 +1,5 @@
 -- What the record of a run says, by what its units emit.
-use Rattle.std.proofs.Common.{◌≡◌, ◌<◌, ◌≤◌, ◌+◌, ◌==◌, ◌&&◌, ◌||◌, not, nat_eq, nat_lt, ℕ, zero, suc, ◌⊎◌, inl, inr, ⊎_elim, Bool, true, false, cond, if◌then◌else◌, List, [], ◌∷◌, ◌++◌, length, map, filter, Some, slice_get, All, refl, sym, ap, ap₂, ◌∙◌, subst, arith, tests}
+use Rattle.std.proofs.Common.{◌≡◌, ◌<◌, ◌+◌, ◌==◌, ◌&&◌, ◌||◌, not, nat_eq, nat_lt, ℕ, zero, suc, ◌⊎◌, inl, inr, ⊎_elim, Bool, true, false, cond, if◌then◌else◌, List, [], ◌∷◌, ◌++◌, length, filter, Some, slice_get, All, refl, sym, ap, ap₂, ◌∙◌, subst, arith, tests}
 use Rattle.std.specs.List.{list_any}
 use Rattle.std.proofs.lemmas.List.{map-append}
 use Rattle.std.proofs.lemmas.List.Elements.{All-nil, All-cons, All-head, All-tail, All-append, All-weaker}
@@ -14,16 +14,15 @@ use Rattle.tk_events.specs.declared.kinds.Kind.TheVariants.{Dynamic, File, Finis
 use Rattle.tk_record_columns.specs.Recorded.{Recorded}
 use Rattle.tk_record_columns.specs.Mixing.{IsWorkerOf, of_worker}
 use Rattle.tk_queue.specs.Emission.{entries_by, entry_by, registrations}
-use Rattle.tk_query.specs.Lifecycle.{has_event, has_run, is_event, runs}
+use Rattle.tk_query.specs.Lifecycle.{has_event, is_event}
 use Rattle.tk_query.specs.KeepsLifecycle.{IsWhole, KeepsLifecycle, is_step, steps_of}
 use Rattle.tk_engine_claim.specs.Claims.{once_below, times}
 use Rattle.tk_engine_runs.specs.Run.{Emits, IsRun, IsShared}
 use Rattle.tk_engine_lifecycle.proofs.Apart.{other_first, own_first}
-use Rattle.tk_engine_hierarchical.specs.Covered.{IsBelowSkipped, IsCovered}
+use Rattle.tk_engine_hierarchical.specs.Covered.{IsCovered}
 use Rattle.tk_engine_hierarchical.specs.Endings.{EndsAsItMay}
 use Rattle.tk_engine_hierarchical.specs.Laws.{HasOutcomes, HasTurn, HaveTurns}
-use Rattle.tk_engine_hierarchical.specs.Shapes.{HavePlaces, IsInUnit, ShapeView, frame, keys_in}
-use Rattle.tk_engine_hierarchical.specs.Units.{RunsUnit}
+use Rattle.tk_engine_hierarchical.specs.Shapes.{HavePlaces, IsInUnit, ShapeView, may_emit}
 use Rattle.tk_engine_hierarchical.specs.declared.tests.Outcome.{Outcome}
 use Rattle.tk_engine_hierarchical.proofs.Played.{any-append, any_kept, covered_by, or_cases, or_left, or_right}
 
@@ -186,11 +185,11 @@ around_none Q [] = All-nil (λ (x : Entry). 0 < x.worker → Q x.event)
 around_none Q (e ∷ es) = All-cons (λ (x : Entry). 0 < x.worker → Q x.event) (entry_by 0 e) (entries_by 0 es) (λ h. absurd (omega (arith, h))) (around_none Q es)
 
 pub has_outcomes : (s : ShapeView) (may_end : ℕ → Outcome → Type 0) (before after : List Event) (units workers : ℕ) (r : Recorded)
-    → IsRun (λ unit worker earlier events. RunsUnit (frame s) may_end (keys_in s unit) worker events) s.table before after units workers r → HasOutcomes may_end r
+    → IsRun (may_emit s may_end) s.table before after units workers r → HasOutcomes may_end r
 has_outcomes s may_end before after units workers r run =
     let Q : Event → Type 0 = EndsAsItMay s.table may_end in
     let P : Entry → Type 0 = λ x. 0 < x.worker → Q x.event in
-    let mid = all_emitted (λ unit worker earlier events. RunsUnit (frame s) may_end (keys_in s unit) worker events) Q (λ u w k l m. m.ended) units workers run.mid run.shared in
+    let mid = all_emitted (may_emit s may_end) Q (λ u w k l m. m.ended) units workers run.mid run.shared in
     subst (λ t. All (λ (x : Entry). 0 < x.worker → EndsAsItMay t may_end x.event) r.entries) (sym run.over)
     (subst (All P) (sym run.whole)
     (All-append P (entries_by 0 before ++ run.mid) (entries_by 0 after)
@@ -267,10 +266,10 @@ first_part true b e = refl
 first_part false b e = cc
 
 pub have_turns : (s : ShapeView) (may_end : ℕ → Outcome → Type 0) (after : List Event) (workers : ℕ) (r : Recorded) → HavePlaces s
-    → IsRun (λ unit worker earlier events. RunsUnit (frame s) may_end (keys_in s unit) worker events) s.table s.before after s.units workers r
+    → IsRun (may_emit s may_end) s.table s.before after s.units workers r
     → KeepsLifecycle r → HaveTurns r
 have_turns s may_end after workers r places run keeps key low =
-    let M : ℕ → ℕ → ℕ → List Event → Type 0 = λ unit worker earlier events. RunsUnit (frame s) may_end (keys_in s unit) worker events in
+    let M : ℕ → ℕ → ℕ → List Event → Type 0 = may_emit s may_end in
     let e0 = entries_by 0 s.before in
     let e1 = entries_by 0 after in
     let covered : IsCovered s.table r.entries key = ⊎_elim

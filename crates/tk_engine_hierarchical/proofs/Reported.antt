@@ -1,18 +1,18 @@
 -- What a reporter's calls promise.
-use Rattle.std.proofs.Common.{◌≡◌, ◌<◌, ◌≤◌, ℕ, zero, suc, List, [], ◌∷◌, ◌++◌, length, Option, Some, None, slice_get, true, false, refl, sym, ap, ◌∙◌, subst, append-nil, arith}
+use Rattle.std.proofs.Common.{◌≡◌, ◌≤◌, ℕ, zero, suc, List, [], ◌∷◌, length, Option, Some, None, slice_get, true, false, refl, sym, ap, ◌∙◌, subst, append-nil, arith}
 use Rattle.std.specs.Prelude.{Result, Ok, Err, OnOk, OnErr}
 use Rattle.tk_ids.specs.DTypes.{is_test}
 use Rattle.tk_ids.specs.declared.descriptors.Descriptor.{Descriptor}
-use Rattle.tk_events.specs.declared.events.Event.{Event}
 use Rattle.tk_events.specs.declared.kinds.Kind.{Kind}
-use Rattle.tk_events.specs.declared.kinds.Kind.TheVariants.{Skipped}
+use Rattle.tk_events.specs.declared.kinds.Kind.TheVariants.{Finished, Skipped}
 use Rattle.tk_events.specs.declared.payloads.Payload.{Payload}
 use Rattle.tk_queue.specs.Registering.{IsRegisteredAs, RegisterRequest, child_of, registration}
 use Rattle.tk_queue.specs.Senders.{SenderView, sends}
 use Rattle.tk_engine_execute.specs.Engines.{Extends}
-use Rattle.tk_engine_hierarchical.specs.Endings.{IsStaticTest}
+use Rattle.tk_engine_hierarchical.specs.Endings.{IsStaticTest, payload_of}
 use Rattle.tk_engine_hierarchical.specs.Events.{keys_of}
-use Rattle.tk_engine_hierarchical.specs.Reporting.{HasSkipped, Published, UnitView, event}
+use Rattle.tk_engine_hierarchical.specs.Reporting.{EndsChild, HasFinished, HasSkipped, Published, UnitView, event}
+use Rattle.tk_engine_hierarchical.specs.declared.tests.Outcome.{Outcome}
 use Rattle.tk_engine_hierarchical.specs.declared.running_keys.RunningKey.{RunningKey}
 
 -- what follows from what holds at `Ok`
@@ -45,20 +45,23 @@ grew_registered old new sink registered outer running ask key was r now same =
     (subst (λ s. Extends s new) (sym was) (extends_registered sink registered new ask key r now), same)
 
 pub published : (old new : UnitView) (sink : SenderView) (running rest : List RunningKey) (first : RunningKey) (kind : Kind) (stamp : ℕ) (payload : Payload)
-    → old.sink ≡ sink → old.running ≡ keys_of running → running ≡ first ∷ rest → new.sink ≡ sends sink (event kind first.key stamp payload) → new.running ≡ old.running
-    → Published old new kind stamp payload
-published old new sink running rest first kind stamp payload was view is took same = record {
-  key = first.key;
-  outer = keys_of rest;
-  innermost = view ∙ ap keys_of is;
-  took = took ∙ ap (λ s. sends s (event kind first.key stamp payload)) (sym was);
-  running = same;
-}
+    → old.sink ≡ sink → old.running ≡ keys_of running → running ≡ first ∷ rest → new.sink ≡ sends sink (event kind first.key stamp payload) → new.running ≡ old.running → new.stamp ≡ old.stamp
+    → (key : ℕ) × Published old new (event kind key stamp payload)
+published old new sink running rest first kind stamp payload was view is took same kept = (
+  first.key,
+  record {
+    outer = keys_of rest;
+    innermost = view ∙ ap keys_of is;
+    took = took ∙ ap (λ s. sends s (event kind first.key stamp payload)) (sym was);
+    running = same;
+    stamp = kept;
+  },
+)
 
 pub skipped_child : (old new : UnitView) (sink registered : SenderView) (running rest : List RunningKey) (first : RunningKey) (ask : RegisterRequest) (key : ℕ) (reason : Payload)
     → old.sink ≡ sink → old.running ≡ keys_of running → running ≡ first ∷ rest → ask.parent ≡ first.key → IsRegisteredAs sink registered ask (Ok key)
-    → new.sink ≡ sends registered (event Skipped key ask.stamp reason) → new.running ≡ old.running → HasSkipped old new ask reason
-skipped_child old new sink registered running rest first ask key reason was view is parent r took same = record {
+    → new.sink ≡ sends registered (event Skipped key ask.stamp reason) → new.running ≡ old.running → new.stamp ≡ old.stamp → HasSkipped old new ask reason
+skipped_child old new sink registered running rest first ask key reason was view is parent r took same kept = record {
   outer = keys_of rest;
   innermost = view ∙ ap keys_of is ∙ ap (λ k. k ∷ keys_of rest) (sym parent);
   key = key;
@@ -66,6 +69,23 @@ skipped_child old new sink registered running rest first ask key reason was view
   registration = subst (λ s. IsRegisteredAs s registered ask (Ok key)) (sym was) r;
   took = took;
   running = same;
+  stamp = kept;
+}
+
+pub finished_as : (old new : UnitView) (key given stamp : ℕ) (payload outcome : Payload) → given ≡ stamp → payload ≡ outcome
+    → HasFinished old new (event Finished key given payload) → HasFinished old new (event Finished key stamp outcome)
+finished_as old new key given stamp payload outcome a b f =
+    subst (λ n. HasFinished old new (event Finished key n outcome)) a (subst (λ p. HasFinished old new (event Finished key given p)) b f)
+
+pub ends_child : (statics : ℕ) (may_end : Outcome → Type 0) (old new : UnitView) (key : ℕ) (outcome : Outcome) → statics ≤ key → may_end outcome
+    → HasFinished old new (event Finished key old.stamp (payload_of outcome)) → EndsChild statics may_end new
+ends_child statics may_end old new key outcome dynamic its f = record {
+  key = key;
+  dynamic = dynamic;
+  before = old.sink;
+  outcome = outcome;
+  its = its;
+  took = f.took ∙ ap (λ n. sends old.sink (event Finished key n (payload_of outcome))) (sym f.stamp);
 }
 
 -- ---- static tests

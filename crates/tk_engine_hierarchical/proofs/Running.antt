@@ -7,6 +7,7 @@ use Rattle.tk_ids.specs.IdText.{SegmentView, id_text, parent_of}
 use Rattle.tk_ids.specs.declared.descriptors.Descriptor.{Descriptor}
 use Rattle.tk_ids.specs.Table.{AreDifferent, HasId as TableHasId, ids_of}
 use Rattle.tk_events.specs.declared.events.Event.{Event}
+use Rattle.tk_events.specs.declared.kinds.Kind.{Kind}
 use Rattle.tk_events.specs.declared.kinds.Kind.TheVariants.{Dynamic, File, Finished, Reporting, Skipped, Started}
 use Rattle.tk_events.specs.Event.{kind_code}
 use Rattle.tk_record_columns.specs.Recorded.{Recorded}
@@ -22,13 +23,14 @@ use Rattle.tk_engine_lifecycle.specs.UnderWay.{IsOneOf, MayBegin, so_far}
 use Rattle.tk_engine_lifecycle.proofs.ByKey.{events_by, from_table, one_id, registration_of, table_or_entry}
 use Rattle.tk_engine_lifecycle.proofs.Apart.{plain}
 use Rattle.tk_engine_execute.specs.Engines.{Extends, IsSameSender}
-use Rattle.tk_engine_hierarchical.specs.Emitting.{IsEmitting}
+use Rattle.tk_engine_hierarchical.specs.Emitting.{IsEmitting, since}
 use Rattle.tk_engine_hierarchical.specs.Covered.{AreCovered}
 use Rattle.tk_engine_hierarchical.specs.Endings.{EndsAsItMay}
-use Rattle.tk_engine_hierarchical.specs.Units.{HasPlayed, RunsUnit, UnitKeys}
+use Rattle.tk_engine_hierarchical.specs.Units.{HasPlayed, UnitKeys}
 use Rattle.tk_engine_hierarchical.specs.declared.tests.Outcome.{Outcome}
 use Rattle.tk_engine_hierarchical.specs.Events.{HasRun, HasParentAmong, HaveIds, IsRunning, MayStart, keys_of, progress}
 use Rattle.tk_engine_hierarchical.specs.RegisteredIds.{is_registered}
+use Rattle.tk_engine_hierarchical.specs.Reporting.{publishes}
 use Rattle.tk_engine_hierarchical.specs.declared.running_keys.RunningKey.{RunningKey}
 use Rattle.tk_engine_hierarchical.specs.Shapes.{ShapeView, frame}
 use Rattle.tk_engine_hierarchical.proofs.Owned.{owner_child, owner_static}
@@ -40,17 +42,21 @@ pub after_emit : {F : Type 0} (old now new : SenderView) (r : Result (Unit {0}) 
 after_emit old now new (Ok _) P ok err before after = subst P (sym ok) after
 after_emit old now new (Err _) P ok err before after = subst P (sym err) before
 
-no_step_reporting : (e : Event) → e.kind ≡ Reporting → is_step e.kind ≡ false
-no_step_reporting e k = ap is_step k
+no_step : (k : Kind) → publishes k ≡ true → is_step k ≡ false
+no_step Reporting e = refl
+no_step File e = refl
+no_step Dynamic e = cc
+no_step Skipped e = cc
+no_step Started e = cc
+no_step Finished e = cc
 
-plain_reporting : (e : Event) → e.kind ≡ Reporting → (kind_code e.kind == kind_code Dynamic) ≡ false
-plain_reporting e k = ap (λ x. kind_code x == kind_code Dynamic) k
-
-no_step_file : (e : Event) → e.kind ≡ File → is_step e.kind ≡ false
-no_step_file e k = ap is_step k
-
-plain_file : (e : Event) → e.kind ≡ File → (kind_code e.kind == kind_code Dynamic) ≡ false
-plain_file e k = ap (λ x. kind_code x == kind_code Dynamic) k
+plain_kind : (k : Kind) → publishes k ≡ true → (kind_code k == kind_code Dynamic) ≡ false
+plain_kind Reporting e = refl
+plain_kind File e = refl
+plain_kind Dynamic e = cc
+plain_kind Skipped e = cc
+plain_kind Started e = cc
+plain_kind Finished e = cc
 
 some_same : {A : Type 0} {x y : A} → Some x ≡ Some y → x ≡ y
 some_same e = cc
@@ -61,24 +67,13 @@ later_ids s e running h = All-weaker (λ k. HasId (record_of_sender s) k.key k.i
 innermost_is : (running rest : List RunningKey) (first : RunningKey) → running ≡ first ∷ rest → IsOneOf first.key (keys_of running)
 innermost_is running rest first is = subst (λ l. IsOneOf first.key (keys_of l)) (sym is) (inl refl)
 
--- a report entry of the innermost running key
-pub ran_report : (f : Frame) (unit : ℕ) (start now : SenderView) (running : List RunningKey) (registered : List (List ℕ × ℕ)) (next : ℕ)
+-- what the innermost running key publishes
+pub ran_published : (f : Frame) (unit : ℕ) (start now : SenderView) (running : List RunningKey) (registered : List (List ℕ × ℕ)) (next : ℕ)
     (first : RunningKey) (e : Event) → IsRunning f unit start now running registered next
-    → (rest : List RunningKey) × (running ≡ first ∷ rest) → e.kind ≡ Reporting → e.key ≡ first.key
+    → (rest : List RunningKey) × (running ≡ first ∷ rest) → publishes e.kind ≡ true → e.key ≡ first.key
     → IsRunning f unit start (sends now e) running registered next
-ran_report f unit start now running registered next first e r is kind key = record {
-  emitting = emitted_report f unit start now (progress running registered next) e r.emitting (no_step_reporting e kind) (plain_reporting e kind)
-      (subst (λ k. IsOneOf k (keys_of running)) (sym key) (innermost_is running is.0 first is.1));
-  ids = later_ids now e running r.ids;
-}
-
--- a file of the innermost running key
-pub ran_file : (f : Frame) (unit : ℕ) (start now : SenderView) (running : List RunningKey) (registered : List (List ℕ × ℕ)) (next : ℕ)
-    (first : RunningKey) (e : Event) → IsRunning f unit start now running registered next
-    → (rest : List RunningKey) × (running ≡ first ∷ rest) → e.kind ≡ File → e.key ≡ first.key
-    → IsRunning f unit start (sends now e) running registered next
-ran_file f unit start now running registered next first e r is kind key = record {
-  emitting = emitted_report f unit start now (progress running registered next) e r.emitting (no_step_file e kind) (plain_file e kind)
+ran_published f unit start now running registered next first e r is kind key = record {
+  emitting = emitted_report f unit start now (progress running registered next) e r.emitting (no_step e.kind kind) (plain_kind e.kind kind)
       (subst (λ k. IsOneOf k (keys_of running)) (sym key) (innermost_is running is.0 first is.1));
   ids = later_ids now e running r.ids;
 }
@@ -89,8 +84,8 @@ pub ran_finish : (f : Frame) (unit : ℕ) (start now : SenderView) (running rest
     → running ≡ first ∷ rest → e.kind ≡ Finished → e.key ≡ first.key
     → IsRunning f unit start (sends now e) rest registered next
 ran_finish f unit start now running rest registered next first e r is kind key =
-    let i : IsEmitting f unit start now (record { running = e.key ∷ keys_of rest; registered = is_registered registered; next = next })
-    = subst (λ l. IsEmitting f unit start now (record { running = l; registered = is_registered registered; next = next })) (ap keys_of is ∙ ap (λ k. k ∷ keys_of rest) (sym key)) r.emitting in
+    let i : IsEmitting f unit (since start now) (record { running = e.key ∷ keys_of rest; registered = is_registered registered; next = next })
+    = subst (λ l. IsEmitting f unit (since start now) (record { running = l; registered = is_registered registered; next = next })) (ap keys_of is ∙ ap (λ k. k ∷ keys_of rest) (sym key)) r.emitting in
     record {
       emitting = emitted_finish f unit start now (keys_of rest) (is_registered registered) next e i kind;
       ids = All-tail (λ k. HasId (record_of_sender (sends now e)) k.key k.id) first rest (later_ids now e (first ∷ rest) (subst (HaveIds now) is r.ids));
@@ -142,7 +137,7 @@ ran_start f unit start now running registered next key id e r m low at kind same
     let static = static_below f.table key m.descriptor m.described in
     let table : now.table ≡ f.table = i.same.table ∙ i.table in
     record {
-      emitting = subst (λ k. IsEmitting f unit start (sends now e) (record { running = k ∷ keys_of running; registered = is_registered registered; next = k + 1 })) same
+      emitting = subst (λ k. IsEmitting f unit (since start (sends now e)) (record { running = k ∷ keys_of running; registered = is_registered registered; next = k + 1 })) same
           (emitted_start f unit start now (progress running registered next) e i kind (subst (λ k. next ≤ k) (sym same) low) (subst (λ k. k < length f.table) (sym same) static)
           (subst (MayBegin (state f unit start.worker i.events (keys_of running))) (sym same) b));
       ids = All-cons (λ k. HasId (record_of_sender (sends now e)) k.key k.id) (record { key = key; id = id }) running
@@ -159,7 +154,7 @@ ran_skip f unit start now running registered next key e r m low kind same =
     let b = may_begin f unit start.worker i.events (keys_of running) key m in
     let static = static_below f.table key m.descriptor m.described in
     record {
-      emitting = subst (λ k. IsEmitting f unit start (sends now e) (record { running = keys_of running; registered = is_registered registered; next = k + 1 })) same
+      emitting = subst (λ k. IsEmitting f unit (since start (sends now e)) (record { running = keys_of running; registered = is_registered registered; next = k + 1 })) same
           (emitted_skip f unit start now (progress running registered next) e i kind (subst (λ k. next ≤ k) (sym same) low) (subst (λ k. k < length f.table) (sym same) static)
           (subst (MayBegin (state f unit start.worker i.events (keys_of running))) (sym same) b));
       ids = later_ids now e running r.ids;
@@ -323,7 +318,7 @@ ran_child f unit start old now running pushed registered next key id e sent push
     subst (λ s. IsRunning f unit start s pushed registered next) (sym sent)
     (subst (λ l. IsRunning f unit start (sends old e) l registered next) (sym push)
     (record {
-      emitting = subst (λ k. IsEmitting f unit start (sends old e) (record { running = k ∷ keys_of running; registered = is_registered registered; next = next })) own
+      emitting = subst (λ k. IsEmitting f unit (since start (sends old e)) (record { running = k ∷ keys_of running; registered = is_registered registered; next = next })) own
           (registered_start f unit start old (progress running registered next) e (subst (Registered f unit start old (progress running registered next)) (sym own) h.registration) kind);
       ids = All-cons (λ k. HasId (record_of_sender (sends old e)) k.key k.id) (record { key = key; id = id }) running (sender_later old e key id h.own) (later_ids old e running h.ids);
     }))

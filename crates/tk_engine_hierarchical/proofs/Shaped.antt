@@ -14,10 +14,8 @@ use Rattle.tk_queue.specs.Emission.{entries_by, entry_by}
 use Rattle.tk_query.specs.Lifecycle.{HasId, has_event, is_event}
 use Rattle.tk_query.specs.KeepsLifecycle.{KeepsLifecycle}
 use Rattle.tk_engine_execute.specs.Engines.{IsStaticEvent}
-use Rattle.tk_engine_lifecycle.specs.Units.{KeepsAlone, KeepsAround, UnitsKeepLifecycle, run_alone}
-use Rattle.tk_engine_hierarchical.specs.Shapes.{AreRunning, HavePlaces, IsInUnit, ShapeView, frame}
-use Rattle.tk_engine_hierarchical.specs.Units.{RunsUnit}
-use Rattle.tk_engine_hierarchical.specs.Shapes.{keys_in}
+use Rattle.tk_engine_lifecycle.specs.Units.{KeepsAround, UnitsKeepLifecycle, run_alone}
+use Rattle.tk_engine_hierarchical.specs.Shapes.{AreRunning, HavePlaces, IsInUnit, ShapeView, frame, may_emit}
 use Rattle.tk_engine_hierarchical.specs.declared.tests.Outcome.{Outcome}
 use Rattle.tk_engine_hierarchical.proofs.Owned.{owner_static}
 use Rattle.tk_engine_hierarchical.proofs.Played.{any-append, or_left}
@@ -151,5 +149,5 @@ same_frame s table before after units a b c d =
     ∙ ap₂ (λ x u. record { table = table; before = before; after = x; units = u; owner = (frame s).owner }) c d
 
 pub kept_units : (s : ShapeView) (may_end : ℕ → Outcome → Type 0) → KeepsAround (frame s)
-    → UnitsKeepLifecycle (frame s) (λ unit worker earlier events. RunsUnit (frame s) may_end (keys_in s unit) worker events)
+    → UnitsKeepLifecycle (frame s) (may_emit s may_end)
 kept_units s may_end around = record { around = around; each = λ unit worker earlier events low runs. runs.keeps }

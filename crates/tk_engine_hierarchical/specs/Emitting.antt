@@ -19,27 +19,35 @@ pub record Progress : Type 0 where
   pub registered : List ℕ → Bool
   pub next : ℕ
 
+-- a sink when a unit began, and as it is now
+pub record SinkChange : Type 0 where
+  pub start : SenderView
+  pub now : SenderView
+
+abbrev pub since : SenderView → SenderView → SinkChange
+since start now = record { start = start; now = now }
+
 -- The sink took some events since the unit began; with them the unit is under way. What has an id
 -- in the record has it in the sink too, and is static or was registered by the unit; the static
 -- keys from the next one on had no step.
-pub record IsEmitting (f : Frame) (unit : ℕ) (start now : SenderView) (p : Progress) : Type 0 where
-  pub same : IsSameSender start now
-  pub table : start.table ≡ f.table
+pub record IsEmitting (f : Frame) (unit : ℕ) (sink : SinkChange) (p : Progress) : Type 0 where
+  pub same : IsSameSender sink.start sink.now
+  pub table : sink.start.table ≡ f.table
   pub events : List Event
-  pub sent : now.sent ≡ start.sent ++ events
+  pub sent : sink.now.sent ≡ sink.start.sent ++ events
   pub going :
       IsGoing
       (record {
         frame = f;
         unit = unit;
-        worker = start.worker;
+        worker = sink.start.worker;
         events = events;
         running = p.running;
       })
   pub known : (key : ℕ) (id : List SegmentView)
-      → HasId (so_far f start.worker events) key id → HasId (record_of_sender now) key id
+      → HasId (so_far f sink.start.worker events) key id → HasId (record_of_sender sink.now) key id
   pub ids : (key : ℕ) (id : List SegmentView)
-      → HasId (so_far f start.worker events) key id
+      → HasId (so_far f sink.start.worker events) key id
       → TableHasId f.table id ⊎ (p.registered (id_text id) ≡ true)
   pub fresh : (key : ℕ) → p.next ≤ key → key < length f.table
-      → steps_of key (entries_by start.worker events) ≡ []
+      → steps_of key (entries_by sink.start.worker events) ≡ []

@@ -9,7 +9,7 @@ use Rattle.tk_query.specs.Lifecycle.{HasId, runs}
 use Rattle.tk_events.specs.declared.events.Event.{Event}
 use Rattle.tk_engine_lifecycle.specs.Units.{Frame}
 use Rattle.tk_engine_lifecycle.specs.UnderWay.{IsOneOf}
-use Rattle.tk_engine_hierarchical.specs.Emitting.{IsEmitting, Progress}
+use Rattle.tk_engine_hierarchical.specs.Emitting.{IsEmitting, Progress, since}
 use Rattle.tk_engine_hierarchical.specs.RegisteredIds.{is_registered}
 use Rattle.tk_engine_hierarchical.specs.Units.{RunsUnit, UnitKeys}
 use Rattle.tk_engine_hierarchical.specs.declared.running_keys.RunningKey.{RunningKey}
@@ -33,7 +33,7 @@ HaveIds s running = All (λ k. HasId (record_of_sender s) k.key k.id) running
 -- what the sink took since the unit began is that of a unit under way
 pub record IsRunning (f : Frame) (unit : ℕ) (start now : SenderView) (running : List RunningKey)
     (registered : List (List ℕ × ℕ)) (next : ℕ) : Type 0 where
-  pub emitting : IsEmitting f unit start now (progress running registered next)
+  pub emitting : IsEmitting f unit (since start now) (progress running registered next)
   pub ids : HaveIds now running
 
 -- Where the id has a parent's id, a static key has it that is one of the running keys, or that runs
@@ -56,4 +56,4 @@ abbrev pub HasRun :
     Frame → (ℕ → Outcome → Type 0) → UnitKeys → SenderView → SenderView → Type 0
 HasRun f may_end keys start now =
     (events : List Event) × (now.sent ≡ start.sent ++ events)
-    × RunsUnit f may_end keys start.worker events
+    × RunsUnit f may_end keys (record { worker = start.worker; events = events })

@@ -1,11 +1,24 @@
 -- What the record of a run of a hierarchical engine says.
 use Rattle.std.specs.Prelude.{◌≡◌, ◌⊎◌, ℕ, ◌<◌, [], ◌∷◌, All, length}
+use Rattle.tk_plan_units.specs.Cutting.{after_of, before_of, units_of}
+use Rattle.tk_plan_units.specs.Planned.{Outline}
+use Rattle.tk_plan_units.specs.Trees.{forest}
+use Rattle.tk_engine_runs.specs.Run.{IsRun}
 use Rattle.tk_events.specs.declared.kinds.Kind.TheVariants.{Finished, Skipped, Started}
 use Rattle.tk_record_columns.specs.Recorded.{Recorded}
 use Rattle.tk_query.specs.KeepsLifecycle.{steps_of}
 use Rattle.tk_engine_hierarchical.specs.Covered.{IsBelowSkipped}
 use Rattle.tk_engine_hierarchical.specs.Endings.{EndsAsItMay}
+use Rattle.tk_engine_hierarchical.specs.Shapes.{ShapeView, may_emit}
 use Rattle.tk_engine_hierarchical.specs.declared.tests.Outcome.{Outcome}
+
+-- The record is that of a run of the engine of a plan by some workers, in which each unit emits
+-- what it may by the engine's shape and by which outcomes each test may have.
+abbrev pub IsRunOf : Outline → ShapeView → (ℕ → Outcome → Type 0) → Recorded → Type 0
+IsRunOf plan shape may_end r =
+    (workers : ℕ)
+    × IsRun (may_emit shape may_end) plan.table (before_of (forest plan.nodes))
+    (after_of (forest plan.nodes)) (length (units_of (forest plan.nodes))) workers r
 
 -- each finish of a static test has an outcome that the test may have, where a unit emitted it;
 -- worker 0 emits the events around the units, which are the plan's

@@ -16,13 +16,18 @@ pub record UnitKeys : Type 0 where
   pub first : ℕ
   pub end : ℕ
 
+-- the worker that runs a unit, and the events that it emits there
+pub record UnitOutput : Type 0 where
+  pub worker : ℕ
+  pub events : List Event
+
 -- Of what a unit emits: it keeps the lifecycle where the unit runs alone, each finish of a static
 -- test has an outcome that the test may have, and each of the unit's static keys had its turn.
 pub record RunsUnit (f : Frame) (may_end : ℕ → Outcome → Type 0) (keys : UnitKeys)
-    (worker : ℕ) (events : List Event) : Type 0 where
-  pub keeps : KeepsAlone f keys.unit worker events
-  pub ended : All (EndsAsItMay f.table may_end) events
-  pub covered : AreCovered f.table (entries_by worker events) keys.first keys.end
+    (out : UnitOutput) : Type 0 where
+  pub keeps : KeepsAlone f keys.unit out.worker out.events
+  pub ended : All (EndsAsItMay f.table may_end) out.events
+  pub covered : AreCovered f.table (entries_by out.worker out.events) keys.first keys.end
 
 -- the sink took events since the unit began: this holds of each, and that of all
 pub record HasTaken (each : Event → Type 0) (all : List Entry → Type 0)

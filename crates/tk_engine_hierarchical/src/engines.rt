@@ -44,6 +44,10 @@ impl fmt::Display for HierarchicalFault {
 impl Error for HierarchicalFault {}
 
 impl From<AllocError> for HierarchicalFault {
+    ghost use Rattle.tk_engine_hierarchical.specs.declared.engines.HierarchicalFault.TheVariants.{Memory};
+
+    ghost from_gives = { λ _ e. e ≡ Memory };
+
     fn from(_: AllocError) -> HierarchicalFault {
         HierarchicalFault::Memory
     }
@@ -147,8 +151,7 @@ impl<T: Tests + Sync> Engine for Hierarchical<T> {
     ghost use Rattle.tk_plan_units.specs.Trees.{forest};
     ghost use Rattle.tk_plan_units.specs.Cutting.{before_of, after_of, units_of};
     ghost use Rattle.tk_engine.specs.Masks.{need_of};
-    ghost use Rattle.tk_engine_hierarchical.specs.Shapes.{frame, keys_in};
-    ghost use Rattle.tk_engine_hierarchical.specs.Units.{RunsUnit};
+    ghost use Rattle.tk_engine_hierarchical.specs.Shapes.{may_emit};
 
     ghost table = { λ e. e.scripted.table };
 
@@ -160,8 +163,7 @@ impl<T: Tests + Sync> Engine for Hierarchical<T> {
 
     ghost need = { λ e unit. need_of e.scripted.nodes unit };
 
-    ghost may = { λ e unit worker earlier events.
-        RunsUnit (frame e.shape) (T.may_end e.tests) (keys_in e.shape unit) worker events };
+    ghost may = { λ e. may_emit e.shape (T.may_end e.tests) };
 
     fn table(&self) -> &Arc<Table> {
         self.scripted.table()

@@ -11,20 +11,21 @@ ghost use Rattle.tk_engine_hierarchical.specs.declared.tests.Outcome.{Outcome};
 use crate::leases::Lease;
 use crate::reporters::Reporter;
 use crate::shapes::Shape;
-use crate::tests::{Outcome, Tests};
-use crate::unit_events::{Child, OUT_OF_ORDER, UnitEvents};
+use crate::tests::{OUT_OF_ORDER, Outcome, Tests};
+use crate::unit_events::{Child, UnitEvents};
 use crate::unit_runs::UnitRun;
 use std::alloc::Global;
 use std::sync::Wait;
 use tk_engine_execute::{Sink, UnitFault};
-use tk_events::Payload;
+use tk_events::{Kind, Payload};
 use tk_plan_units::{Act, Plan, Step};
 
-// The outcome of a test that runs.
+// The outcome of a test that runs, and the stamp that it set, where it did.
 #[derive(Drop)]
 struct Ended {
     key: u32,
     outcome: Outcome,
+    stamp: Option<u64>,
 }
 
 // Takes the last test off, where it is that node.
@@ -88,10 +89,12 @@ fn start_node<R: Wait, S: Sink, K: UnitRun, T: Tests>(
     }
     reporter.events.start(rt, alloc, step.node, step.stamp)?;
     if plan.dtype(step.node).is_test() {
+        reporter.own_stamp = None;
         let outcome = tests.run(rt, alloc, step.node, reporter)?;
         let last = Ended {
             key: step.node,
             outcome,
+            stamp: reporter.own_stamp,
         };
         if ended.push(last).is_err() {
             // No allocation failed here: the list's did.
@@ -138,15 +141,17 @@ fn do_step<R: Wait, S: Sink, K: UnitRun, T: Tests>(
         }
         Act::Report(_) => {
             let pairs = plan.payload(alloc, step)?;
-            reporter.events.report(rt, step.stamp, pairs)
+            reporter
+                .events
+                .publish(rt, Kind::Reporting, step.stamp, pairs)
         }
         Act::File(_) => {
             let path = plan.payload(alloc, step)?;
-            reporter.events.publish_file(rt, step.stamp, path)
+            reporter.events.publish(rt, Kind::File, step.stamp, path)
         }
         Act::Finish => {
-            reporter.events.set_stamp(step.stamp);
             if let Some(last) = take_ended(tests, ended, step.node) {
+                reporter.events.set_stamp(last.stamp.unwrap_or(step.stamp));
                 return reporter.finish(rt, last.key, last.outcome);
             }
             let outcome = plan.payload(alloc, step)?;
@@ -209,9 +214,10 @@ pub(crate) fn run_unit<'a, R: Wait, S: Sink, K: UnitRun, T: Tests>(
     };
     let mut reporter: Reporter<'a, S, K> = Reporter {
         events: UnitEvents::begin(alloc, lease, shape, unit),
+        own_stamp: None,
     };
     let played = do_steps(rt, alloc, plan, tests, steps.as_slice(), &mut reporter);
-    let Reporter { events } = reporter;
+    let Reporter { events, .. } = reporter;
     let (lease, rests, had_turns) = events.end();
     *ran = match played {
         Ok(()) if rests && had_turns => Ok(()),

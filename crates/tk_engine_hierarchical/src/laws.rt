@@ -1,22 +1,16 @@
 //! The laws of engines whose tests have bodies.
-ghost use Rattle.std.specs.Prelude.{ℕ};
 ghost use Rattle.tk_query.specs.KeepsLifecycle.{KeepsLifecycle};
-ghost use Rattle.tk_engine_runs.specs.Run.{IsRun};
-ghost use Rattle.tk_engine_hierarchical.specs.Laws.{HasOutcomes, HaveTurns};
+ghost use Rattle.tk_engine_hierarchical.specs.Laws.{HasOutcomes, HaveTurns, IsRunOf};
 
 use crate::engines::Hierarchical;
 use crate::tests::Tests;
-use tk_engine::{Engine, Results};
+use tk_engine::Results;
 use tk_engine_lifecycle::laws::runs_keep_lifecycle;
 
 /// The record of each run of the engine keeps the lifecycle, whatever its tests do.
 pub fn lifecycle<T: Tests + Sync>(engine: &Hierarchical<T>, results: &Results)
-    requires { (workers : ℕ)
-        × IsRun (⟦<Hierarchical<T> as Engine>⟧.may engine.now)
-        (⟦<Hierarchical<T> as Engine>⟧.table engine.now)
-        (⟦<Hierarchical<T> as Engine>⟧.before engine.now)
-        (⟦<Hierarchical<T> as Engine>⟧.after engine.now)
-        (⟦<Hierarchical<T> as Engine>⟧.units engine.now) workers results.now.recorded }
+    requires { IsRunOf engine.now.scripted engine.now.shape (T.may_end engine.now.tests)
+        results.now.recorded }
     ensures { KeepsLifecycle results.now.recorded }
 {
     engine.shows_shape();
@@ -26,12 +20,8 @@ pub fn lifecycle<T: Tests + Sync>(engine: &Hierarchical<T>, results: &Results)
 /// Each static test that a unit finishes has an outcome that its `run` answered there: one that
 /// `may_end` allows.
 pub fn outcomes<T: Tests + Sync>(engine: &Hierarchical<T>, results: &Results)
-    requires { (workers : ℕ)
-        × IsRun (⟦<Hierarchical<T> as Engine>⟧.may engine.now)
-        (⟦<Hierarchical<T> as Engine>⟧.table engine.now)
-        (⟦<Hierarchical<T> as Engine>⟧.before engine.now)
-        (⟦<Hierarchical<T> as Engine>⟧.after engine.now)
-        (⟦<Hierarchical<T> as Engine>⟧.units engine.now) workers results.now.recorded }
+    requires { IsRunOf engine.now.scripted engine.now.shape (T.may_end engine.now.tests)
+        results.now.recorded }
     ensures { HasOutcomes (T.may_end engine.now.tests) results.now.recorded }
 {
     engine.shows_shape();
@@ -41,12 +31,8 @@ pub fn outcomes<T: Tests + Sync>(engine: &Hierarchical<T>, results: &Results)
 /// Each static descriptor starts once and then finishes once, or is skipped once, or stands below
 /// one that was skipped.
 pub fn turns<T: Tests + Sync>(engine: &Hierarchical<T>, results: &Results)
-    requires { (workers : ℕ)
-        × IsRun (⟦<Hierarchical<T> as Engine>⟧.may engine.now)
-        (⟦<Hierarchical<T> as Engine>⟧.table engine.now)
-        (⟦<Hierarchical<T> as Engine>⟧.before engine.now)
-        (⟦<Hierarchical<T> as Engine>⟧.after engine.now)
-        (⟦<Hierarchical<T> as Engine>⟧.units engine.now) workers results.now.recorded }
+    requires { IsRunOf engine.now.scripted engine.now.shape (T.may_end engine.now.tests)
+        results.now.recorded }
     ensures { HaveTurns results.now.recorded }
 {
     engine.shows_shape();

@@ -11,10 +11,10 @@ mod running_keys;
 mod shapes;
 mod tests;
 mod unit_events;
+mod unit_ids;
 mod unit_runs;
 
 pub use engines::{Hierarchical, HierarchicalFault};
 pub use reporters::Reporter;
-pub use tests::{Body, Outcome, Tests};
-pub use unit_events::{OUT_OF_ORDER, TWICE};
+pub use tests::{Body, OUT_OF_ORDER, Outcome, TWICE, Tests};
 pub use unit_runs::UnitRun;

@@ -1,11 +1,11 @@
 //! What a test publishes while it runs.
-ghost use Rattle.std.specs.Prelude.{◌≡◌, ◌≤◌, ℕ, OnErr, OnOk, length};
+ghost use Rattle.std.specs.Prelude.{◌≡◌, ℕ, OnErr, OnOk, length};
 ghost use Rattle.tk_ids.specs.declared.descriptors.DType.TheVariants.{Test};
 ghost use Rattle.tk_events.specs.declared.kinds.Kind.TheVariants as kinds;
 ghost use Rattle.tk_events.specs.declared.payloads.Payload.TheVariants as payloads;
 ghost use Rattle.tk_engine_execute.specs.Engines.{Extends, IsSameSender};
-ghost use Rattle.tk_engine_hierarchical.specs.Endings.{IsStaticTest};
-ghost use Rattle.tk_engine_hierarchical.specs.Reporting.{EndsChild, Grew, HasSkipped, Published};
+ghost use Rattle.tk_engine_hierarchical.specs.Endings.{IsStaticTest, payload_of};
+ghost use Rattle.tk_engine_hierarchical.specs.Reporting.{EndsChild, Grew, HasFinished, HasSkipped, Published, event};
 
 use crate::tests::{Body, Outcome, payload_of};
 use crate::unit_events::{Child, UnitEvents};
@@ -13,7 +13,7 @@ use crate::unit_runs::UnitRun;
 use std::alloc::Global;
 use std::sync::Wait;
 use tk_engine_execute::{Sink, UnitFault};
-use tk_events::{Pairs, Payload};
+use tk_events::{Kind, Pairs, Payload};
 use tk_ids::{DType, Segment, Text};
 
 /// Publishes what belongs to the test or container that runs.
@@ -22,6 +22,8 @@ use tk_ids::{DType, Segment, Text};
 #[derive(Drop)]
 pub struct Reporter<'a, S: Sink, K: UnitRun> {
     pub(crate) events: UnitEvents<'a, S, K>,
+    // The stamp that the static test that runs has set.
+    pub(crate) own_stamp: Option<u64>,
 }
 
 impl<'a, S: Sink, K: UnitRun> Reporter<'a, S, K> {
@@ -33,8 +35,8 @@ impl<'a, S: Sink, K: UnitRun> Reporter<'a, S, K> {
         outcome: Outcome,
     ) -> Result<(), UnitFault>
         requires { IsStaticTest K.frame.table key → K.may_end key outcome }
-        ensures { OnOk result (length K.frame.table ≤ key
-            → EndsChild K.frame.table self.new.events) }
+        ensures { OnOk result (HasFinished self.old.events self.new.events
+            (event kinds.Finished key self.old.events.stamp (payload_of outcome))) }
     {
         let stamp = self.events.stamp();
         self.events.finish(rt, key, stamp, payload_of(outcome))
@@ -48,12 +50,24 @@ impl<'a, S: Sink, K: UnitRun> Reporter<'a, S, K> {
         child: &Child<'_>,
         body: &B,
     ) -> Result<(), UnitFault>
-        ensures { OnOk result (EndsChild K.frame.table self.new.events) }
+        ensures { OnOk result
+            (EndsChild (length K.frame.table) (B.may_end body.now) self.new.events) }
     {
         let stamp = self.events.stamp();
         let key = self.events.start_child(rt, alloc, child, stamp)?;
         let outcome = body.run(rt, alloc, self)?;
         self.finish(rt, key, outcome)
+    }
+
+    /// Sets the stamp of what is published from now on, by the bodies below too, and of the finish of
+    /// the test that runs, as the microseconds since the run began.
+    ///
+    /// Until then each event has the stamp of the plan.
+    pub fn set_stamp(&mut self, stamp: u64)
+        ensures { self.new.events ≡ record self.old.events { stamp = stamp } }
+    {
+        self.own_stamp = Some(stamp);
+        self.events.set_stamp(stamp);
     }
 
     /// Publishes a report entry. The keys of the pairs have to increase strictly.
@@ -63,12 +77,13 @@ impl<'a, S: Sink, K: UnitRun> Reporter<'a, S, K> {
     /// # Errors
     /// The fault of the sink.
     pub fn report<R: Wait>(&mut self, rt: &R, pairs: Pairs) -> Result<(), UnitFault>
-        ensures ok { OnOk result (Published self.old.events self.new.events kinds.Reporting
-            self.old.events.stamp (payloads.Report pairs)) }
+        ensures ok { OnOk result ((key : ℕ) × Published self.old.events self.new.events
+            (event kinds.Reporting key self.old.events.stamp (payloads.Report pairs))) }
         ensures err { OnErr result (self.new.events ≡ self.old.events) }
     {
         let stamp = self.events.stamp();
-        self.events.report(rt, stamp, Payload::Report(pairs))
+        self.events
+            .publish(rt, Kind::Reporting, stamp, Payload::Report(pairs))
     }
 
     /// Publishes a file, whose path isn't empty.
@@ -76,12 +91,13 @@ impl<'a, S: Sink, K: UnitRun> Reporter<'a, S, K> {
     /// # Errors
     /// The fault of the sink.
     pub fn publish_file<R: Wait>(&mut self, rt: &R, path: Text) -> Result<(), UnitFault>
-        ensures ok { OnOk result (Published self.old.events self.new.events kinds.File
-            self.old.events.stamp (payloads.Path path)) }
+        ensures ok { OnOk result ((key : ℕ) × Published self.old.events self.new.events
+            (event kinds.File key self.old.events.stamp (payloads.Path path))) }
         ensures err { OnErr result (self.new.events ≡ self.old.events) }
     {
         let stamp = self.events.stamp();
-        self.events.publish_file(rt, stamp, Payload::Path(path))
+        self.events
+            .publish(rt, Kind::File, stamp, Payload::Path(path))
     }
 
     /// Registers a dynamic test below the test or container that runs, starts it, runs its body,
@@ -99,7 +115,8 @@ impl<'a, S: Sink, K: UnitRun> Reporter<'a, S, K> {
         name: &str,
         body: &B,
     ) -> Result<(), UnitFault>
-        ensures ok { OnOk result (EndsChild K.frame.table self.new.events) }
+        ensures ok { OnOk result
+            (EndsChild (length K.frame.table) (B.may_end body.now) self.new.events) }
         // Whatever the body does.
         ensures same { IsSameSender K.start self.new.events.sink }
         ensures some { Extends K.start self.new.events.sink }
@@ -126,7 +143,8 @@ impl<'a, S: Sink, K: UnitRun> Reporter<'a, S, K> {
         name: &str,
         body: &B,
     ) -> Result<(), UnitFault>
-        ensures ok { OnOk result (EndsChild K.frame.table self.new.events) }
+        ensures ok { OnOk result
+            (EndsChild (length K.frame.table) (B.may_end body.now) self.new.events) }
         // Whatever the body does.
         ensures same { IsSameSender K.start self.new.events.sink }
         ensures some { Extends K.start self.new.events.sink }

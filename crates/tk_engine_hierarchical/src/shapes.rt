@@ -43,6 +43,7 @@ pub(crate) struct Shape {
 
 impl Model for Shape {
     ghost use Rattle.std.specs.Arc.{arc_value};
+    ghost use Rattle.tk_ids.specs.Table.{AreDifferent};
     ghost use Rattle.tk_engine_lifecycle.specs.Units.{KeepsAround};
     ghost use Rattle.tk_engine_hierarchical.specs.Shapes.{ShapeView, frame, AreRunning, HavePlaces};
 
@@ -74,7 +75,7 @@ impl Model for Shape {
       owners = s.keys.owners.items;
       firsts = s.keys.firsts.items;
       ends = s.keys.ends.items;
-    }) };
+    }) × AreDifferent (arc_value s.table) };
 }
 
 // Whether an event is of a static descriptor that belongs to no unit, and registers nothing.
@@ -347,6 +348,7 @@ impl Shape {
     pub(crate) fn shows_shape(&self)
         ensures around { KeepsAround (frame self.now) }
         ensures places { HavePlaces self.now }
+        ensures different { AreDifferent self.now.table }
     {
         let _table = &self.table;
     }

@@ -10,6 +10,14 @@ use tk_engine_execute::{Sink, UnitFault};
 use tk_events::{Payload, Status};
 use tk_ids::Text;
 
+/// The number of the fault [`Own`](UnitFault::Own) of a unit whose events would break the lifecycle,
+/// as where a key finishes that isn't the innermost running one. No plan leads to it.
+pub const OUT_OF_ORDER: u32 = 4_294_967_295;
+
+/// The number of the fault [`Own`](UnitFault::Own) of a unit that registers a dynamic descriptor whose
+/// id is that of a static one, or of one that the unit registered.
+pub const TWICE: u32 = 4_294_967_294;
+
 /// How a test ended.
 ///
 /// JUnit: `TestExecutionResult`.
@@ -55,7 +63,14 @@ pub trait Tests {
 }
 
 /// The body of a dynamic test or container.
+///
+/// `may_end` says which outcomes it may have, as that of [`Tests`].
 pub trait Body {
+    ghost use Rattle.std.specs.Prelude.{IfOk};
+    ghost use Rattle.tk_engine_hierarchical.specs.declared.tests.Outcome.{Outcome};
+
+    ghost may_end: { Self → Outcome → Type 0 } = { λ body outcome. Unit {0} };
+
     /// Runs the body, and says how it ended.
     ///
     /// # Errors
@@ -65,7 +80,8 @@ pub trait Body {
         rt: &R,
         alloc: Global,
         reporter: &mut Reporter<'_, S, K>,
-    ) -> Result<Outcome, UnitFault>;
+    ) -> Result<Outcome, UnitFault>
+        ensures { IfOk result (λ outcome. may_end self.now outcome) };
 }
 
 /// The payload of a finish with this outcome.

@@ -1,36 +1,25 @@
 //! What a unit emits.
-ghost use Rattle.std.specs.Prelude.{◌≡◌, ◌<◌, ◌≤◌, ◌++◌, ◌∷◌, ℕ, [], IfOk, IfSome, IsTrue, OnErr, OnOk, Some, false, length, slice_get};
-ghost use Rattle.tk_ids.specs.IdText.{id_text};
-ghost use Rattle.tk_ids.specs.Table.{HasId as TableHasId, ids_of};
+ghost use Rattle.std.specs.Prelude.{◌≡◌, ◌<◌, ◌≤◌, ℕ, IfOk, IsTrue, OnErr, OnOk, false, length, true};
 ghost use Rattle.tk_engine_execute.specs.Engines.{Extends, IsSameSender};
-ghost use Rattle.tk_events.specs.declared.kinds.Kind.TheVariants.{File, Reporting};
-ghost use Rattle.tk_engine_hierarchical.specs.Covered.{IsBelow, IsKeyBelow};
+ghost use Rattle.tk_events.specs.declared.kinds.Kind.TheVariants.{Finished};
 ghost use Rattle.tk_engine_hierarchical.specs.Endings.{IsStaticTest, MayFinish};
-ghost use Rattle.tk_engine_hierarchical.specs.Events.{HasParentAmong, HasRun, MayStart, keys_of};
-ghost use Rattle.tk_engine_hierarchical.specs.Reporting.{Grew, HasFinished, HasSkipped, Published};
-ghost use Rattle.tk_engine_hierarchical.specs.RegisteredIds.{is_registered};
+ghost use Rattle.tk_engine_hierarchical.specs.Events.{HasRun};
+ghost use Rattle.tk_engine_hierarchical.specs.Reporting.{Grew, HasFinished, HasSkipped, Published, event, publishes};
 ghost use Rattle.tk_engine_hierarchical.specs.Shapes.{frame, keys_in};
 
 use crate::leases::Lease;
 use crate::registered_ids::RegisteredIds;
 use crate::running_keys::{RunningKey, RunningKeys};
 use crate::shapes::Shape;
+use crate::tests::OUT_OF_ORDER;
+use crate::unit_ids::{end_below, id_to_start, new_child};
 use crate::unit_runs::UnitRun;
-use std::alloc::{AllocError, Global};
+use std::alloc::Global;
 use std::marker::{Model, PhantomData};
 use std::sync::Wait;
-use tk_engine_execute::{Sink, SinkFault, UnitFault};
+use tk_engine_execute::{Sink, UnitFault};
 use tk_events::{Event, Kind, Payload};
-use tk_ids::{DType, IdFault, Segment, Table, UniqueId};
-use tk_queue::RegisterFault;
-
-/// The number of the fault [`Own`](UnitFault::Own) of a unit whose events would break the lifecycle,
-/// as where a key finishes that isn't the innermost running one. No plan leads to it.
-pub const OUT_OF_ORDER: u32 = 4_294_967_295;
-
-/// The number of the fault [`Own`](UnitFault::Own) of a unit that registers a dynamic descriptor whose
-/// id is that of a static one, or of one that the unit registered.
-pub const TWICE: u32 = 4_294_967_294;
+use tk_ids::{DType, Segment};
 
 /// What is registered below a running key.
 #[derive(Clone, Copy, Drop)]
@@ -77,123 +66,6 @@ impl<'a, S: Sink, K: UnitRun> Model for UnitEvents<'a, S, K> {
         e.next
         × HasPlayed K.frame.table K.may_end K.keys.first e.next K.start
         (S.view e.lease.sink.now) };
-}
-
-// Whether the parent of an id runs; it does where the id has none.
-fn has_running_parent(
-    alloc: Global,
-    shape: &Shape,
-    running: &RunningKeys,
-    id: &UniqueId,
-) -> Result<bool, AllocError>
-    ensures { IfOk result (λ has. IsTrue has
-        → HasParentAmong (frame shape.now) (keys_of running.now) id.now) }
-{
-    let Some(parent) = id.parent(alloc)? else {
-        return Ok(true);
-    };
-    let Some(above) = shape.table().find(&parent) else {
-        return Ok(false);
-    };
-    match running.innermost() {
-        Some(innermost) => Ok(innermost.key == above),
-        None => Ok(shape.runs_before(above)),
-    }
-}
-
-// The id of a static key, where the key may start or be skipped.
-fn id_to_start(
-    alloc: Global,
-    shape: &Shape,
-    unit: u32,
-    running: &RunningKeys,
-    key: u32,
-) -> Result<Option<UniqueId>, AllocError>
-    ensures { IfOk result (λ found. IfSome found (λ id.
-        MayStart (frame shape.now) unit (keys_of running.now) key
-        × (slice_get (ids_of shape.now.table) key ≡ Some id))) }
-{
-    let Some(descriptor) = shape.table().get(key) else {
-        return Ok(None);
-    };
-    // For the proof: no two descriptors have one id.
-    let _found = shape.table().find(&descriptor.id);
-    if shape.owner(key) != unit || !has_running_parent(alloc, shape, running, &descriptor.id)? {
-        return Ok(None);
-    }
-    Ok(Some(descriptor.id.try_clone()?))
-}
-
-// The id of a new child of a running key.
-fn new_child(
-    alloc: Global,
-    shape: &Shape,
-    registered: &RegisteredIds,
-    parent: &RunningKey,
-    segment: &Segment,
-) -> Result<UniqueId, UnitFault>
-    ensures id { IfOk result (λ id. id ≡ parent.now.id ++ segment.now ∷ []) }
-    ensures not_static { IfOk result (λ id. ¬ TableHasId shape.now.table id) }
-    ensures not_registered { IfOk result (λ id.
-        is_registered registered.now (id_text id) ≡ false) }
-{
-    let id = match parent.id.append(alloc, segment) {
-        Ok(id) => id,
-        Err(IdFault::Memory) => return Err(UnitFault::Memory),
-        Err(fault) => {
-            return Err(UnitFault::Sink(SinkFault::Register(RegisterFault::Id(fault))));
-        }
-    };
-    if shape.table().find(&id).is_some() {
-        return Err(UnitFault::Own(TWICE));
-    }
-    if registered.has(&id) {
-        return Err(UnitFault::Own(TWICE));
-    }
-    Ok(id)
-}
-
-// Whether two segments have the same tag and the same value.
-fn is_same(a: &Segment, b: &Segment) -> bool
-    ensures { IsTrue result → a.now ≡ b.now }
-{
-    a.tag() == b.tag() && a.value() == b.value()
-}
-
-// Whether an id stands below another.
-fn is_below(above: &UniqueId, id: &UniqueId) -> bool
-    ensures { IsTrue result → IsBelow above.now id.now }
-{
-    let outer = above.segments();
-    let inner = id.segments();
-    if inner.len() <= outer.len() {
-        return false;
-    }
-    for index in 0..outer.len() {
-        if !is_same(&outer[index], &inner[index]) {
-            return false;
-        }
-    }
-    true
-}
-
-// The first key after this one whose descriptor doesn't stand below the id, or the table's end.
-fn end_below(table: &Table, id: &UniqueId, key: u32) -> u32
-    requires { key < length table.now }
-    ensures more { key < result }
-    ensures below { (other : ℕ) → key < other → other < result
-        → IsKeyBelow table.now id.now other }
-{
-    let count = table.len() as u32;
-    for other in key + 1..count {
-        let Some(descriptor) = table.get(other) else {
-            return other;
-        };
-        if !is_below(id, &descriptor.id) {
-            return other;
-        }
-    }
-    count
 }
 
 impl<'a, S: Sink, K: UnitRun> UnitEvents<'a, S, K> {
@@ -340,46 +212,27 @@ impl<'a, S: Sink, K: UnitRun> UnitEvents<'a, S, K> {
         Ok(())
     }
 
-    /// Publishes a report entry of the innermost running key.
-    pub(crate) fn report<R: Wait>(
+    /// Publishes a report entry or a file of the innermost running key.
+    pub(crate) fn publish<R: Wait>(
         &mut self,
         rt: &R,
+        kind: Kind,
         stamp: u64,
-        pairs: Payload,
+        payload: Payload,
     ) -> Result<(), UnitFault>
-        ensures ok { OnOk result (Published self.old self.new Reporting stamp pairs) }
+        requires { publishes kind ≡ true }
+        ensures ok { OnOk result ((key : ℕ)
+            × Published self.old self.new (event kind key stamp payload)) }
         ensures err { OnErr result (self.new ≡ self.old) }
     {
         let Some(innermost) = self.running.innermost() else {
             return Err(UnitFault::Own(OUT_OF_ORDER));
         };
         let event = Event {
-            kind: Kind::Reporting,
+            kind,
             key: innermost.key,
             stamp,
-            payload: pairs,
-        };
-        self.lease.emit(rt, event)
-    }
-
-    /// Publishes a file of the innermost running key.
-    pub(crate) fn publish_file<R: Wait>(
-        &mut self,
-        rt: &R,
-        stamp: u64,
-        path: Payload,
-    ) -> Result<(), UnitFault>
-        ensures ok { OnOk result (Published self.old self.new File stamp path) }
-        ensures err { OnErr result (self.new ≡ self.old) }
-    {
-        let Some(innermost) = self.running.innermost() else {
-            return Err(UnitFault::Own(OUT_OF_ORDER));
-        };
-        let event = Event {
-            kind: Kind::File,
-            key: innermost.key,
-            stamp,
-            payload: path,
+            payload,
         };
         self.lease.emit(rt, event)
     }
@@ -393,9 +246,9 @@ impl<'a, S: Sink, K: UnitRun> UnitEvents<'a, S, K> {
         outcome: Payload,
     ) -> Result<(), UnitFault>
         requires { MayFinish K.frame.table K.may_end key outcome }
-        ensures ok { OnOk result (HasFinished self.old self.new key stamp outcome) }
+        ensures ok { OnOk result
+            (HasFinished self.old self.new (event Finished key stamp outcome)) }
         ensures err { OnErr result (self.new ≡ self.old) }
-        ensures stamp { self.new.stamp ≡ self.old.stamp }
     {
         let Some(innermost) = self.running.innermost() else {
             return Err(UnitFault::Own(OUT_OF_ORDER));

@@ -1,7 +1,6 @@
 use Rattle.std.proofs.Common.{subst}
 use Rattle.tk_engine_lifecycle.specs.Units.{UnitsKeepLifecycle}
-use Rattle.tk_engine_hierarchical.specs.Shapes.{frame, keys_in}
-use Rattle.tk_engine_hierarchical.specs.Units.{RunsUnit}
+use Rattle.tk_engine_hierarchical.specs.Shapes.{frame, may_emit}
 use Rattle.tk_engine_hierarchical.proofs.Shaped.{kept_units, same_frame}
 use Rattle.tk_engine_hierarchical.proofs.laws.lifecycle.Goals as goal
 
@@ -11,5 +10,5 @@ returns g c =
     let shown = c.shows_shape.ensures in
     let may_end = g.T.Tests.may_end c.args.engine.now.tests in
     c.runs_keep_lifecycle.ensures (frame s).owner
-    (subst (λ f. UnitsKeepLifecycle f (λ unit worker earlier events. RunsUnit (frame s) may_end (keys_in s unit) worker events))
+    (subst (λ f. UnitsKeepLifecycle f (may_emit s may_end))
     (same_frame s _ _ _ _ shown.table shown.before shown.after shown.units) (kept_units s may_end shown.around))

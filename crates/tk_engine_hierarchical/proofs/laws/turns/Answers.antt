@@ -1,11 +1,10 @@
-use Rattle.std.proofs.Common.{sym, subst, length, ℕ, List}
+use Rattle.std.proofs.Common.{sym, subst, ℕ, List}
 use Rattle.tk_ids.specs.declared.descriptors.Descriptor.{Descriptor}
 use Rattle.tk_events.specs.declared.events.Event.{Event}
-use Rattle.tk_plan_units.specs.Cutting.{after_of, before_of, units_of}
+use Rattle.tk_plan_units.specs.Cutting.{after_of, before_of}
 use Rattle.tk_plan_units.specs.Trees.{forest}
 use Rattle.tk_engine_runs.specs.Run.{IsRun}
-use Rattle.tk_engine_hierarchical.specs.Shapes.{frame, keys_in}
-use Rattle.tk_engine_hierarchical.specs.Units.{RunsUnit}
+use Rattle.tk_engine_hierarchical.specs.Shapes.{may_emit}
 use Rattle.tk_engine_hierarchical.proofs.Recorded.{have_turns}
 use Rattle.tk_engine_hierarchical.proofs.laws.turns.Goals as goal
 
@@ -14,7 +13,7 @@ returns g c =
     let s = c.args.engine.now.shape in
     let root = forest c.args.engine.now.scripted.nodes in
     let may_end = g.T.Tests.may_end c.args.engine.now.tests in
-    let may : ℕ → ℕ → ℕ → List Event → Type 0 = λ unit worker earlier events. RunsUnit (frame s) may_end (keys_in s unit) worker events in
+    let may : ℕ → ℕ → ℕ → List Event → Type 0 = may_emit s may_end in
     let shown = c.shows_shape.ensures in
     let r = c.args.results.now.recorded in
     have_turns s may_end (after_of root) c.requires.0 r shown.places

@@ -1,6 +1,8 @@
-use Rattle.std.proofs.Common.{sym, ap, subst, ◌∙◌, ◌≡◌}
-use Rattle.tk_engine_hierarchical.proofs.Reported.{on_ok}
+use Rattle.tk_engine_hierarchical.proofs.Reported.{finished_as, on_ok}
 use Rattle.tk_engine_hierarchical.proofs.reporters.Reporter.finish.Goals as goal
 
 pub finish-requires : goal.finish-requires
 finish-requires g c = λ t. (c.args.outcome, c.requires t, c.payload_of.ensures)
+
+pub returns : goal.returns
+returns g c = on_ok c.finish.result c.finish.ensures.ok (λ f. finished_as _ _ c.args.key _ _ _ _ c.stamp-stamp.ensures c.payload_of.ensures f)

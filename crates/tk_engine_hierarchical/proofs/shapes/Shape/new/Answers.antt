@@ -21,4 +21,5 @@ invariant_of-result c =
       running,
       places_of (record { table = arc_value c.args.table; before = c.args.before.items; after = c.args.after.items; units = c.args.units; owners = c.args.keys.owners.items; firsts = c.args.keys.firsts.items; ends = c.args.keys.ends.items }) c.in-Some.run_before.items _ _ c.as_slice-8.ensures.value (c.len-count.ensures.len ∙ ap length c.deref-5.ensures) running
           (c.have_places.ensures c.if-not-have_places.false),
+      subst AreDifferent c.deref-3.ensures c.shows_different_ids.ensures,
     )

@@ -1,10 +1,9 @@
-use Rattle.std.proofs.Common.{List, refl, sym, subst, ap, ◌∙◌, ◌<◌, arith, length}
+use Rattle.std.proofs.Common.{List, refl, subst, ap, ◌∙◌, arith}
 use Rattle.tk_ids.specs.declared.descriptors.Descriptor.{Descriptor}
 use Rattle.tk_engine_lifecycle.specs.Units.{Frame}
 use Rattle.tk_engine_hierarchical.specs.Covered.{IsKeyBelow}
-use Rattle.tk_engine_hierarchical.specs.Shapes.{frame}
 use Rattle.tk_engine_hierarchical.proofs.Played.{played_skip}
-use Rattle.tk_engine_hierarchical.proofs.Running.{below_table, found_id, id_here, may_here, skipped}
+use Rattle.tk_engine_hierarchical.proofs.Running.{found_id, id_here, may_here, skipped}
 use Rattle.tk_engine_hierarchical.proofs.unit_events.UnitEvents.skip.Goals as goal
 
 pub invariant_of-self-2 : goal.invariant_of-self-2

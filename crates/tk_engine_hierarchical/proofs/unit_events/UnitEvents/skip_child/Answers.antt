@@ -50,7 +50,7 @@ returns-clause-ok g c =
     let sink = ap (λ (v : UnitView). v.sink) c.self.view_is in
     let runs = ap (λ (v : UnitView). v.running) c.self.view_is in
     on_ok c.emit.result c.emit.ensures.ok
-    (λ e. (c.in-Some.innermost.now.key, skipped_child _ _ _ _ c.self.inside.running c.in-Some.ensures.some.0 c.in-Some.innermost.now _ c.in_ok-key.key c.args.reason (sym sink) (sym runs) c.in-Some.ensures.some.1 refl c.in_ok-key.ensures.ok e runs))
+    (λ e. (c.in-Some.innermost.now.key, skipped_child _ _ _ _ c.self.inside.running c.in-Some.ensures.some.0 c.in-Some.innermost.now _ c.in_ok-key.key c.args.reason (sym sink) (sym runs) c.in-Some.ensures.some.1 refl c.in_ok-key.ensures.ok e runs (ap (λ (v : UnitView). v.stamp) c.self.view_is)))
 
 pub returns-clause-err : goal.returns-clause-err
 returns-clause-err g c =

@@ -1,12 +1,11 @@
 use Rattle.std.proofs.Common.{ap, refl, sym, ◌∙◌}
 use Rattle.tk_engine_hierarchical.specs.Reporting.{UnitView}
 use Rattle.tk_engine_hierarchical.proofs.Reported.{on_ok, published}
-use Rattle.tk_events.specs.declared.kinds.Kind.TheVariants.{File}
 use Rattle.tk_engine_hierarchical.specs.Events.{IsRunning}
 use Rattle.tk_engine_hierarchical.specs.Units.{HasPlayed}
-use Rattle.tk_engine_hierarchical.proofs.Played.{played_plain, file_is_not}
-use Rattle.tk_engine_hierarchical.proofs.Running.{after_emit, ran_file}
-use Rattle.tk_engine_hierarchical.proofs.unit_events.UnitEvents.publish_file.Goals as goal
+use Rattle.tk_engine_hierarchical.proofs.Played.{played_plain, published_is_not}
+use Rattle.tk_engine_hierarchical.proofs.Running.{after_emit, ran_published}
+use Rattle.tk_engine_hierarchical.proofs.unit_events.UnitEvents.publish.Goals as goal
 
 pub invariant_of-self : goal.invariant_of-self
 invariant_of-self g c =
@@ -16,9 +15,9 @@ invariant_of-self g c =
       i.2,
       i.3,
       after_emit _ _ _ c.emit.result (λ s. IsRunning g.K.UnitRun.frame g.K.UnitRun.keys.unit g.K.UnitRun.start s c.self.inside.running c.self.inside.registered c.self.inside.next) c.emit.ensures.ok c.emit.ensures.err i.4
-          (ran_file _ _ _ _ _ _ _ c.in-Some.innermost.now _ i.4 c.in-Some.ensures.some refl refl),
+          (ran_published _ _ _ _ _ _ _ c.in-Some.innermost.now _ i.4 c.in-Some.ensures.some c.requires refl),
       after_emit _ _ _ c.emit.result (λ s. HasPlayed g.K.UnitRun.frame.table g.K.UnitRun.may_end g.K.UnitRun.keys.first c.self.inside.next g.K.UnitRun.start s) c.emit.ensures.ok c.emit.ensures.err i.5
-          (played_plain g.K.UnitRun.frame.table g.K.UnitRun.may_end g.K.UnitRun.keys.first g.K.UnitRun.start _ c.self.inside.next _ File refl file_is_not i.5),
+          (played_plain g.K.UnitRun.frame.table g.K.UnitRun.may_end g.K.UnitRun.keys.first g.K.UnitRun.start _ c.self.inside.next _ c.args.kind refl (published_is_not c.args.kind c.requires) i.5),
     )
 
 pub returns-clause-ok : goal.returns-clause-ok
@@ -26,4 +25,4 @@ returns-clause-ok g c =
     let sink = ap (λ (v : UnitView). v.sink) c.self.view_is in
     let runs = ap (λ (v : UnitView). v.running) c.self.view_is in
     on_ok c.emit.result c.emit.ensures.ok
-    (λ e. published _ _ _ c.self.inside.running c.in-Some.ensures.some.0 c.in-Some.innermost.now File c.args.stamp c.args.path (sym sink) (sym runs) c.in-Some.ensures.some.1 e runs)
+    (λ e. published _ _ _ c.self.inside.running c.in-Some.ensures.some.0 c.in-Some.innermost.now c.args.kind c.args.stamp c.args.payload (sym sink) (sym runs) c.in-Some.ensures.some.1 e runs (ap (λ (v : UnitView). v.stamp) c.self.view_is))

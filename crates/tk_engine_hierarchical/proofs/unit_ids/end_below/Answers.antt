@@ -1,6 +1,6 @@
 use Rattle.std.proofs.Common.{sym}
 use Rattle.tk_engine_hierarchical.proofs.Played.{keys_below_more}
-use Rattle.tk_engine_hierarchical.proofs.unit_events.end_below.Goals as goal
+use Rattle.tk_engine_hierarchical.proofs.unit_ids.end_below.Goals as goal
 
 pub loop-other-preserved : goal.loop-other-preserved
 loop-other-preserved c =

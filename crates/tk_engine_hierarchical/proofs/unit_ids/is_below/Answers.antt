@@ -1,6 +1,6 @@
 use Rattle.std.proofs.Common.{◌≡◌, ap, arith, length, subst, take}
 use Rattle.tk_engine_hierarchical.proofs.Played.{below_at_end}
-use Rattle.tk_engine_hierarchical.proofs.unit_events.is_below.Goals as goal
+use Rattle.tk_engine_hierarchical.proofs.unit_ids.is_below.Goals as goal
 
 pub returns : goal.returns
 returns c = λ _.
