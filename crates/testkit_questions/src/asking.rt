@@ -48,8 +48,8 @@ fn write_answer<T: Target>(
 /// Answers the question that the words ask about the record whose text the source gives, and says
 /// whether the answer is a yes: false where a match says no, or an expectation fails.
 ///
-/// The words are judged before the input is read. A long answer is written in pieces of 64 KiB, once
-/// all memory for it was had.
+/// The words are judged before the input is read. Nothing is written before all memory was had:
+/// executions then go out in pieces of 64 KiB, and every other answer as a whole.
 ///
 /// # Errors
 /// `Question`, `Word` or `Condition` for bad words, `Read` for an input that is no record text or a
