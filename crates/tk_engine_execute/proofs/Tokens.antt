@@ -11,7 +11,7 @@ use Rattle.tk_events.specs.declared.events.Event.{Event}
 use Rattle.tk_events.specs.declared.events.Entry.{Entry}
 use Rattle.tk_record_columns.specs.Mixing.{IsWorkerOf, of_worker, Mix}
 use Rattle.tk_queue_core.specs.Core.{entries}
-use Rattle.tk_engine_claim.specs.Claims.{ClaimView, ClaimSeatView, Claims}
+use Rattle.tk_engine_claim.specs.Claims.{ClaimSeatView, Claims}
 use Rattle.tk_queue.specs.declared.receivers.CloseReason.{CloseReason}
 use Rattle.tk_queue.specs.declared.receivers.CloseReason.TheVariants.{Missing, Twice, NotDrained}
 use Rattle.tk_queue.specs.Senders.{SenderView as Sent}
@@ -29,8 +29,8 @@ use Rattle.tk_queue.specs.Emission.{entries_by}
 use Rattle.tk_engine_runs.proofs.Workers.{in_the_middle}
 use Rattle.tk_engine_execute.specs.declared.run_faults.RunFault.{RunFault}
 use Rattle.tk_engine_execute.specs.declared.run_faults.RunFault.TheVariants as fault
-use Rattle.tk_engine_execute.specs.Outcomes.{AllCompleted, CanClose, IsFirstFailure, IsFaultOfWorkers, NoneFailed, HasEnded, WorkersLeft, IsFaultOfRunning, IsFaultOfExecute}
-use Rattle.tk_engine_execute.specs.Workers.{AllDone, AreDone, IsDone}
+use Rattle.tk_engine_execute.specs.Outcomes.{AllCompleted, CanClose, IsFirstFailure, IsFaultOfWorkers, IsFirstFault, HasEnded, IsFaultOfRunning, IsFaultOfExecute}
+use Rattle.tk_engine_execute.specs.Workers.{RunUnits, AllDone, AreDone, IsDone}
 use Rattle.tk_engine_execute.proofs.Positions.{map_at, all_from}
 use Rattle.tk_engine_execute.proofs.Emitted.{emits_along}
 
@@ -145,9 +145,9 @@ all_marked a collector none_is_awaited going i within =
     let gone : get_or a.awaited.items i true ≡ false = none_is_awaited i (get_or a.awaited.items i true) here in
     collector.marked going i (here ∙ ap Some gone)
 
-module _ (may : ℕ → ℕ → ℕ → List Event → Type 0) (fails : ℕ → UnitFault → Type 0) (units workers : ℕ) (claim : ClaimView) (os : List Outcome) (ts : List Sent) (ss : List ClaimSeatView) (whole : AllCompleted os ts ss) (count : length os ≡ workers) where
+module _ (units : RunUnits) (many workers : ℕ) (os : List Outcome) (ts : List Sent) (ss : List ClaimSeatView) (whole : AllCompleted os ts ss) (count : length os ≡ workers) where
   pub can_close : (a : EventCollector) → CanCollect a → NoneIsAwaited a → a.lacks_thread ≡ false → length a.awaited.items ≡ workers → a.receiver.workers ≡ workers
-      → AllDone may fails a.receiver.session claim os → CanClose a.receiver ts
+      → AllDone units a.receiver.session os → CanClose a.receiver ts
   can_close a collector none_is_awaited going width is_workers done = record {
     session = λ i t e. let h = token_at os ts ss whole i t e in ap (λ (x : Sent). x.session) (h.3) ∙ (done i (h.0) (h.1)).session_is;
     count = length-tokens os ts ss whole ∙ count ∙ sym is_workers;
@@ -155,19 +155,19 @@ module _ (may : ℕ → ℕ → ℕ → List Event → Type 0) (fails : ℕ → 
     marks = λ i within. all_marked a collector none_is_awaited going i (omega arith);
   }
 
-  pub of_claim : (session : TableId) → AllDone may fails session claim os → All (λ s. s.claim ≡ claim) ss
-  of_claim session done = all_from (λ s. s.claim ≡ claim) ss (λ i s e. let h = seat_at os ts ss whole i s e in ap (λ (x : ClaimSeatView). x.claim) (h.3) ∙ (done i (h.0) (h.1)).claim_is)
+  pub of_claim : (session : TableId) → AllDone units session os → All (λ s. s.claim ≡ units.claim) ss
+  of_claim session done = all_from (λ s. s.claim ≡ units.claim) ss (λ i s e. let h = seat_at os ts ss whole i s e in ap (λ (x : ClaimSeatView). x.claim) (h.3) ∙ (done i (h.0) (h.1)).claim_is)
 
   -- what the workers of a run share
-  pub shared : (r : ReceiverView) (drew : ℕ) → 0 < workers → r.workers ≡ workers → CanClose r ts → Mix r.workers (entries r.taken) (sent_by ts) → AllDone may fails r.session claim os
-      → Claims (map (λ (s : ClaimSeatView). s.numbers) ss) drew → ((i : ℕ) (s : ClaimSeatView) → slice_get ss i ≡ Some s → s.spent ≡ true → drew ≡ units)
-      → IsShared may units workers (entries r.taken)
+  pub shared : (r : ReceiverView) (drew : ℕ) → 0 < workers → r.workers ≡ workers → CanClose r ts → Mix r.workers (entries r.taken) (sent_by ts) → AllDone units r.session os
+      → Claims (map (λ (s : ClaimSeatView). s.numbers) ss) drew → ((i : ℕ) (s : ClaimSeatView) → slice_get ss i ≡ Some s → s.spent ≡ true → drew ≡ many)
+      → IsShared units.may many workers (entries r.taken)
   shared r drew some is_workers can mix done claims spent =
       let seats : length ss ≡ workers = length-seats os ts ss whole ∙ count in
       let first : (s : ClaimSeatView) × (slice_get ss 0 ≡ Some s) = first_of ss (omega arith) in
       let h = seat_at os ts ss whole 0 (first.0) (first.1) in
       let stated : first.0.spent ≡ true = ap (λ (x : ClaimSeatView). x.spent) (h.3) ∙ (done 0 (h.0) (h.1)).all (h.2) in
-      let all : drew ≡ units = spent 0 (first.0) (first.1) stated in
+      let all : drew ≡ many = spent 0 (first.0) (first.1) stated in
       record {
         drawn = map (λ (s : ClaimSeatView). s.numbers) ss;
         lists = sent_by ts;
@@ -181,7 +181,7 @@ module _ (may : ℕ → ℕ → ℕ → List Event → Type 0) (fails : ℕ → 
             let us_is : us ≡ o.0.claim_seat.numbers = s.2 ∙ ap (λ (x : ClaimSeatView). x.numbers) (o.3) in
             let l_is : sent_by ts (0 + i + 1) ≡ o.0.ended.sent = list_at 0 i ts o.0.ended (numbered r ts can) (o.4) in
             let n : 0 + i + 1 ≡ i + 1 = omega arith in
-            emits_along may (i + 1) (i + 1) us o.0.claim_seat.numbers (sent_by ts (i + 1)) o.0.ended.sent refl us_is (rw n at l_is) (one.emits (o.2));
+            emits_along units.may (i + 1) (i + 1) us o.0.claim_seat.numbers (sent_by ts (i + 1)) o.0.ended.sent refl us_is (rw n at l_is) (one.emits (o.2));
       }
     where
       first_of : (xs : List ClaimSeatView) → 0 < length xs → (s : ClaimSeatView) × (slice_get xs 0 ≡ Some s)
@@ -198,31 +198,33 @@ tallied n closed es ls mix each others = record {
 
 -- ---- why a run has no record
 
-module _ (may : ℕ → ℕ → ℕ → List Event → Type 0) (fails : ℕ → UnitFault → Type 0) where
-  has_ended : (session : TableId) (claim : ClaimView) (o : Outcome) → IsDone may fails session claim o.ended.worker o → HasEnded may fails o
-  has_ended session claim o done = record { emits = done.emits; failed = done.failed; stopped = done.stopped }
+module _ (units : RunUnits) where
+  has_ended : (session : TableId) (o : Outcome) → IsDone units session o.ended.worker o → HasEnded units.may units.fails o
+  has_ended session o done = record { emits = done.emits; failed = done.failed; stopped = done.stopped }
 
   -- what the workers left that had a thread
-  left : (session : TableId) (claim : ClaimView) (workers : ℕ) (os : List Outcome) (P : List Outcome → Type 0) → AreDone may fails session claim workers os → P os → WorkersLeft may fails workers P
-  left session claim workers os P done holds = record {
+  left : (session : TableId) (workers : ℕ) (os : List Outcome) (is_out_of_memory : Bool) (f : RunFault) → AreDone units session workers os → IsFirstFault workers os is_out_of_memory f → IsFaultOfRunning units.may units.fails workers f
+  left session workers os is_out_of_memory f done first = record {
     outcomes = os;
-    each = All-weaker (λ o. IsDone may fails session claim o.ended.worker o) (HasEnded may fails) (has_ended session claim) os done.each;
+    is_out_of_memory = is_out_of_memory;
+    each = All-weaker (λ o. IsDone units session o.ended.worker o) (HasEnded units.may units.fails) (has_ended session) os done.each;
     few = done.few;
     rising = done.rising;
-    holds = holds;
+    first = first;
   }
 
-  pub is_running : (session : TableId) (claim : ClaimView) (workers : ℕ) (a : EventCollector) (os : List Outcome) (f : RunFault) → AreDone may fails session claim workers os → (a.lacks_thread ≡ true → length os < workers)
-      → IsFaultOfWorkers a os f → IsFaultOfRunning may fails workers f
-  is_running session claim workers a os fault.Workers done fewer why = why
-  is_running session claim workers a os fault.Capacity done fewer why = why
-  is_running session claim workers a os (fault.Engine unit cause) done fewer why = left session claim workers os (λ os. IsFirstFailure os unit cause) done why
-  is_running session claim workers a os fault.Memory done fewer why = left session claim workers os NoneFailed done why
-  is_running session claim workers a os fault.Threads done fewer why = left session claim workers os (λ os. NoneFailed os × (length os < workers)) done (why.0, fewer (why.2))
+  pub is_running : (session : TableId) (workers : ℕ) (a : EventCollector) (os : List Outcome) (f : RunFault) → AreDone units session workers os → (a.lacks_thread ≡ true → length os < workers)
+      → IsFaultOfWorkers a os f → IsFaultOfRunning units.may units.fails workers f
+  is_running session workers a os fault.Workers done fewer why = absurd why
+  is_running session workers a os fault.Capacity done fewer why = absurd why
+  is_running session workers a os (fault.Engine unit cause) done fewer why = left session workers os a.is_out_of_memory (fault.Engine unit cause) done why
+  is_running session workers a os fault.Memory done fewer why = left session workers os true fault.Memory done (why, refl)
+  is_running session workers a os fault.Threads done fewer why = left session workers os a.is_out_of_memory fault.Threads done (why.0, why.1, fewer (why.2))
 
+module _ (may : ℕ → ℕ → ℕ → List Event → Type 0) (fails : ℕ → UnitFault → Type 0) where
   -- memory was refused before a thread was started or after all were joined
   pub out_of_memory : (workers : ℕ) (f : RunFault) → f ≡ fault.Memory → IsFaultOfRunning may fails workers f
-  out_of_memory workers f is = rw is (record { outcomes = []; each = All-nil _; few = All-nil _; rising = search rules; holds = tt })
+  out_of_memory workers f is = rw is (record { outcomes = []; is_out_of_memory = true; each = All-nil _; few = All-nil _; rising = search rules; first = (tt, refl) })
 
   first_may_fail : (os : List Outcome) (u : ℕ) (why : UnitFault) → All (HasEnded may fails) os → IsFirstFailure os u why → fails u why
   first_may_fail [] u why all h = absurd h
@@ -231,15 +233,7 @@ module _ (may : ℕ → ℕ → ℕ → List Event → Type 0) (fails : ℕ → 
 
   -- the unit of the answer may fail so
   pub unit_may_fail : (workers : ℕ) (f : RunFault) → IsFaultOfRunning may fails workers f → (u : ℕ) (why : UnitFault) → f ≡ fault.Engine u why → fails u why
-  unit_may_fail workers fault.Workers h u why is = absurd h
-  unit_may_fail workers fault.Capacity h u why is = absurd h
-  unit_may_fail workers (fault.Engine unit cause) h u why is =
-      let may_fail : fails unit cause = first_may_fail h.outcomes unit cause h.each h.holds in
-      let units : unit ≡ u = cc in
-      let causes : cause ≡ why = cc in
-      rw (sym units, sym causes) may_fail
-  unit_may_fail workers fault.Memory h u why is = cc
-  unit_may_fail workers fault.Threads h u why is = cc
+  unit_may_fail workers f h u why is = first_may_fail h.outcomes u why h.each (subst (λ (r : RunFault). IsFirstFault workers h.outcomes h.is_out_of_memory r) is h.first)
 
   -- `execute` hands on the fault of a run
   pub of_execute : (workers : ℕ) (f : RunFault) → IsFaultOfRunning may fails workers f → IsFaultOfExecute may fails workers f

@@ -3,12 +3,12 @@ use Rattle.std.proofs.Common.{◌≡◌, ℕ, zero, suc, ◌+◌, List, [], ◌�
 use Rattle.std.specs.Prelude.{vec_len}
 use Rattle.atomic_table.specs.Seated.{TableId}
 use Rattle.tk_ids.specs.declared.descriptors.Descriptor.{Descriptor}
-use Rattle.tk_book.specs.Books.{BookView, BookSeatView, empty}
-use Rattle.tk_engine_claim.specs.Claims.{ClaimView, ClaimSeatView, fresh}
+use Rattle.tk_book.specs.Books.{BookSeatView, empty}
+use Rattle.tk_engine_claim.specs.Claims.{ClaimSeatView, fresh}
 use Rattle.tk_queue.specs.Senders.{SenderView, fresh_senders}
 use Rattle.tk_engine_execute.specs.declared.unstarted_workers.UnstartedWorkers.{UnstartedWorkers}
 use Rattle.tk_engine_execute.specs.declared.workers.WorkerHandles.{WorkerHandles}
-use Rattle.tk_engine_execute.specs.Workers.{IsReady, AreUnstarted, IsLastWorker}
+use Rattle.tk_engine_execute.specs.Workers.{SharedParts, IsReady, AreUnstarted, IsLastWorker}
 use Rattle.tk_engine_execute.proofs.Positions.{all_prefix, all_last, same_last}
 
 -- two lists are as long without their last
@@ -27,23 +27,23 @@ senders_cut session table all rest s cut fresh =
     let one : suc (length rest) ≡ length rest + 1 = omega arith in
     (h.0, h.1 ∙ ap (λ w. record { session = session; table = table; worker = w; sent = [] }) one)
 
-module _ (session : TableId) (claim : ClaimView) (book : BookView) (table : List Descriptor) (all rest : UnstartedWorkers) (h : WorkerHandles) (cut : IsLastWorker all rest h) (c : AreUnstarted session claim book table all) where
-  pub unstarted_rest : AreUnstarted session claim book table rest
+module _ (session : TableId) (shared : SharedParts) (all rest : UnstartedWorkers) (h : WorkerHandles) (cut : IsLastWorker all rest h) (c : AreUnstarted session shared all) where
+  pub unstarted_rest : AreUnstarted session shared rest
   unstarted_rest = record {
-    senders = (senders_cut session table all.senders.items rest.senders.items h.sender cut.sender c.senders).0;
+    senders = (senders_cut session shared.table all.senders.items rest.senders.items h.sender cut.sender c.senders).0;
     as_many_claim_seats = shorter _ _ _ _ _ _ cut.sender cut.claim_seat c.as_many_claim_seats;
     as_many_book_seats = shorter _ _ _ _ _ _ cut.sender cut.book_seat c.as_many_book_seats;
-    claim_seats = all_prefix (λ s. s ≡ fresh claim) rest.claim_seats.items h.claim_seat (rw cut.claim_seat at c.claim_seats);
-    book_seats = all_prefix (λ s. s ≡ empty book) rest.book_seats.items h.book_seat (rw cut.book_seat at c.book_seats);
+    claim_seats = all_prefix (λ s. s ≡ fresh shared.claim) rest.claim_seats.items h.claim_seat (rw cut.claim_seat at c.claim_seats);
+    book_seats = all_prefix (λ s. s ≡ empty shared.book) rest.book_seats.items h.book_seat (rw cut.book_seat at c.book_seats);
   }
 
-  pub unstarted_sender : h.sender ≡ record { session = session; table = table; worker = length rest.senders.items + 1; sent = [] }
-  unstarted_sender = (senders_cut session table all.senders.items rest.senders.items h.sender cut.sender c.senders).1
+  pub unstarted_sender : h.sender ≡ record { session = session; table = shared.table; worker = length rest.senders.items + 1; sent = [] }
+  unstarted_sender = (senders_cut session shared.table all.senders.items rest.senders.items h.sender cut.sender c.senders).1
 
-  pub unstarted_ready : IsReady claim book table h
+  pub unstarted_ready : IsReady shared h
   unstarted_ready =
-      let k : h.claim_seat ≡ fresh claim = all_last (λ s. s ≡ fresh claim) rest.claim_seats.items h.claim_seat (rw cut.claim_seat at c.claim_seats) in
-      let b : h.book_seat ≡ empty book = all_last (λ s. s ≡ empty book) rest.book_seats.items h.book_seat (rw cut.book_seat at c.book_seats) in
+      let k : h.claim_seat ≡ fresh shared.claim = all_last (λ s. s ≡ fresh shared.claim) rest.claim_seats.items h.claim_seat (rw cut.claim_seat at c.claim_seats) in
+      let b : h.book_seat ≡ empty shared.book = all_last (λ s. s ≡ empty shared.book) rest.book_seats.items h.book_seat (rw cut.book_seat at c.book_seats) in
       record {
         table_is = ap (λ (x : SenderView). x.table) unstarted_sender;
         sent = ap (λ (x : SenderView). x.sent) unstarted_sender;

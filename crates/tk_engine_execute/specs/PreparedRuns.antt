@@ -24,7 +24,7 @@ use Rattle.tk_queue.specs.Limits.{capacity_of}
 use Rattle.tk_engine_execute.specs.declared.event_collectors.EventCollector.{EventCollector}
 use Rattle.tk_engine_execute.specs.declared.prepared_runs.PreparedRun.{PreparedRun}
 use Rattle.tk_engine_execute.specs.Engines.{AreOfWorkerZero}
-use Rattle.tk_engine_execute.specs.Workers.{AreUnstarted}
+use Rattle.tk_engine_execute.specs.Workers.{shared_parts, AreUnstarted}
 
 -- a number of workers that a run may have
 pub record IsWorkerCount (workers : ℕ) : Type 0 where
@@ -36,28 +36,36 @@ pub record IsCapacity (capacity : ℕ) : Type 0 where
   pub some : 0 < capacity
   pub few : capacity ≤ MAX_CAPACITY
 
+-- what a run is prepared from: the engine's table, its events before the units, how many units it
+-- has, and the numbers of workers and of items in the queue that were asked for
+pub record RunRequest : Type 0 where
+  pub table : List Descriptor
+  pub before : List Event
+  pub units : ℕ
+  pub workers : ℕ
+  pub capacity : ℕ
+
 -- nothing was taken, the queue has the capacity, the record has what comes before, and each worker
 -- is awaited
-pub record IsFreshCollector (table : List Descriptor) (before : List Event) (workers capacity : ℕ)
-    (a : EventCollector) : Type 0 where
-  pub receiver : a.receiver ≡ fresh_receiver a.receiver.session table workers
-  pub of_capacity : capacity_of a.receiver.session ≡ capacity
-  pub table_is : a.«record».table ≡ table
-  pub entries : a.«record».entries ≡ entries_by 0 before
-  pub static_events : AreOfWorkerZero (length table) before
-  pub width : length a.awaited.items ≡ workers
+pub record IsFreshCollector (asked : RunRequest) (a : EventCollector) : Type 0 where
+  pub receiver : a.receiver ≡ fresh_receiver a.receiver.session asked.table asked.workers
+  pub of_capacity : capacity_of a.receiver.session ≡ asked.capacity
+  pub table_is : a.«record».table ≡ asked.table
+  pub entries : a.«record».entries ≡ entries_by 0 asked.before
+  pub static_events : AreOfWorkerZero (length asked.table) asked.before
+  pub width : length a.awaited.items ≡ asked.workers
   pub awaited : (i : ℕ) (b : Bool) → slice_get a.awaited.items i ≡ Some b → b ≡ true
   pub room : a.is_out_of_memory ≡ false
   pub started : a.lacks_thread ≡ false
 
 -- a claim on the units, a book, workers who have done nothing, and room for the outcome of each
-pub record IsPreparedRun (table : List Descriptor) (before : List Event)
-    (units workers capacity : ℕ) (s : PreparedRun) : Type 0 where
-  pub limit : s.claim.limit ≡ units
-  pub seats : s.claim.seats ≡ workers
+pub record IsPreparedRun (asked : RunRequest) (s : PreparedRun) : Type 0 where
+  pub limit : s.claim.limit ≡ asked.units
+  pub seats : s.claim.seats ≡ asked.workers
   pub unstarted :
-      AreUnstarted s.collected.collector.receiver.session s.claim s.book table s.unstarted
-  pub many : vec_len s.unstarted.senders ≡ workers
-  pub collector : IsFreshCollector table before workers capacity s.collected.collector
+      AreUnstarted s.collected.collector.receiver.session
+      (shared_parts s.claim s.book asked.table) s.unstarted
+  pub many : vec_len s.unstarted.senders ≡ asked.workers
+  pub collector : IsFreshCollector asked s.collected.collector
   pub empty : vec_len s.collected.outcomes ≡ 0
-  pub room : workers ≤ vec_capacity s.collected.outcomes
+  pub room : asked.workers ≤ vec_capacity s.collected.outcomes

@@ -3,11 +3,12 @@ use Rattle.std.specs.Prelude.{◌≡◌, ℕ, List, length, slice_index}
 use Rattle.tk_events.specs.declared.events.Entry.{Entry}
 use Rattle.tk_record_columns.specs.Recorded.{Recorded}
 use Rattle.tk_record_columns.specs.Mixing.{IsWorkerOf, of_worker}
+use Rattle.tk_queue.specs.Closing.{ClosedView}
 
--- a record, and how many events each worker emitted, by the workers' numbers
+-- a record, and what closing the session of its run returned
 pub record RunResults : Type 0 where
   pub recorded : Recorded
-  pub closed : List ℕ
+  pub closed : ClosedView
 
 -- the number of each of the workers 1 to n is how many of the entries are its own, and that of any
 -- other is 0

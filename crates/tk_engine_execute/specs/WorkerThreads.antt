@@ -1,19 +1,20 @@
 -- The workers of a run, before their threads start and after all threads were joined.
-use Rattle.std.specs.Prelude.{◌≡◌, ℕ, ◌<◌, ◌≤◌, true, false, List, vec_len, vec_capacity}
-use Rattle.tk_ids.specs.declared.descriptors.Descriptor.{Descriptor}
-use Rattle.tk_events.specs.declared.events.Event.{Event}
-use Rattle.tk_book.specs.Books.{BookView}
-use Rattle.tk_engine_claim.specs.Claims.{ClaimView}
-use Rattle.tk_engine_execute.specs.declared.engines.UnitFault.{UnitFault}
+use Rattle.std.specs.Prelude.{◌≡◌, ℕ, ◌<◌, ◌≤◌, true, false, vec_len, vec_capacity}
 use Rattle.tk_engine_execute.specs.declared.unstarted_workers.UnstartedWorkers.{UnstartedWorkers}
 use Rattle.tk_engine_execute.specs.declared.worker_threads.Collected.{Collected}
 use Rattle.tk_engine_execute.specs.EventCollectors.{TookMore, CanCollect, NoneIsAwaited}
-use Rattle.tk_engine_execute.specs.Workers.{AreUnstarted, AllDone, AreDone}
+use Rattle.tk_engine_execute.specs.Workers.{
+  SharedParts,
+  RunUnits,
+  AreUnstarted,
+  AllDone,
+  AreDone,
+}
 
 -- no worker was joined yet, and there is room for the outcome of each
-pub record CanRunWorkers (claim : ClaimView) (book : BookView) (table : List Descriptor)
-    (c : UnstartedWorkers) (t : Collected) : Type 0 where
-  pub unstarted : AreUnstarted t.collector.receiver.session claim book table c
+pub record CanRunWorkers (shared : SharedParts) (c : UnstartedWorkers) (t : Collected)
+    : Type 0 where
+  pub unstarted : AreUnstarted t.collector.receiver.session shared c
   pub collector : CanCollect t.collector
   pub empty : vec_len t.outcomes ≡ 0
   pub room : vec_len c.senders ≤ vec_capacity t.outcomes
@@ -21,17 +22,15 @@ pub record CanRunWorkers (claim : ClaimView) (book : BookView) (table : List Des
 -- After the threads of n workers were joined: no worker is awaited any more, and the outcomes are
 -- what the workers have left. Where a thread was not started, an outcome is missing; else there is
 -- one of each worker.
-pub record WorkersWereRun (may : ℕ → ℕ → ℕ → List Event → Type 0)
-    (fails : ℕ → UnitFault → Type 0) (claim : ClaimView) (n : ℕ) (old new : Collected) :
-    Type 0 where
+pub record WorkersWereRun (units : RunUnits) (n : ℕ) (old new : Collected) : Type 0 where
   pub took_more : TookMore old.collector new.collector
   pub collector : CanCollect new.collector
   pub none_is_awaited : NoneIsAwaited new.collector
-  pub each : AreDone may fails old.collector.receiver.session claim n new.outcomes.items
+  pub each : AreDone units old.collector.receiver.session n new.outcomes.items
   pub lacks_thread :
       old.collector.lacks_thread ≡ false → new.collector.lacks_thread ≡ true
       → vec_len new.outcomes < n
   pub count : new.collector.lacks_thread ≡ false → vec_len new.outcomes ≡ n
   pub done :
       new.collector.lacks_thread ≡ false
-      → AllDone may fails old.collector.receiver.session claim new.outcomes.items
+      → AllDone units old.collector.receiver.session new.outcomes.items

@@ -24,55 +24,75 @@ use Rattle.tk_ids.specs.declared.descriptors.Descriptor.{Descriptor}
 use Rattle.tk_events.specs.declared.events.Event.{Event}
 use Rattle.tk_book.specs.Books.{BookView, empty}
 use Rattle.tk_engine_claim.specs.Claims.{ClaimView, ClaimSeatView, fresh}
-use Rattle.tk_queue.specs.Senders.{fresh_senders}
+use Rattle.tk_queue.specs.Senders.{SenderView, fresh_senders}
 use Rattle.tk_engine_runs.specs.Run.{Emits}
+use Rattle.tk_engine_execute.specs.Engines.{MayFail}
 use Rattle.tk_engine_execute.specs.declared.engines.UnitFault.{UnitFault}
 use Rattle.tk_engine_execute.specs.declared.workers.WorkerHandles.{WorkerHandles}
 use Rattle.tk_engine_execute.specs.declared.workers.Outcome.{Outcome}
 use Rattle.tk_engine_execute.specs.declared.unstarted_workers.UnstartedWorkers.{UnstartedWorkers}
 
--- nothing was done with the handles, which are of this claim, book and table
-pub record IsReady (claim : ClaimView) (book : BookView) (table : List Descriptor)
-    (h : WorkerHandles) : Type 0 where
-  pub table_is : h.sender.table ≡ table
+-- what all workers of a run share: the claim on its units, its book, and the table of its engine
+pub record SharedParts : Type 0 where
+  pub claim : ClaimView
+  pub book : BookView
+  pub table : List Descriptor
+
+abbrev pub shared_parts : ClaimView → BookView → List Descriptor → SharedParts
+shared_parts claim book table = record { claim = claim; book = book; table = table }
+
+-- the units of a run: the claim on them, which events each may emit, and with what each may fail
+pub record RunUnits : Type 1 where
+  pub claim : ClaimView
+  pub may : ℕ → ℕ → ℕ → List Event → Type 0
+  pub fails : ℕ → UnitFault → Type 0
+
+-- the units of an engine that has so many
+abbrev pub run_units :
+    ClaimView → (ℕ → ℕ → ℕ → List Event → Type 0) → ℕ → (ℕ → UnitFault → Type 0) → RunUnits
+run_units claim may many fails =
+    record { claim = claim; may = may; fails = MayFail many fails }
+
+-- nothing was done with the handles, which are of these shared parts
+pub record IsReady (shared : SharedParts) (h : WorkerHandles) : Type 0 where
+  pub table_is : h.sender.table ≡ shared.table
   pub sent : h.sender.sent ≡ []
-  pub claim_is : h.claim_seat.claim ≡ claim
+  pub claim_is : h.claim_seat.claim ≡ shared.claim
   pub numbers : h.claim_seat.numbers ≡ []
-  pub book_is : h.book_seat.book ≡ book
+  pub book_is : h.book_seat.book ≡ shared.book
   pub holds : h.book_seat.holds ≡ None
 
--- A unit is the last that worker w drew, and the worker has not found that there are no more. The
+-- A unit is the last that a worker drew, and the worker has not found that there are no more. The
 -- units before it emitted a prefix of what the worker emitted.
-pub record IsStopped (may : ℕ → ℕ → ℕ → List Event → Type 0) (w : ℕ) (seat : ClaimSeatView)
-    (sent : List Event) (unit : ℕ) : Type 0 where
+pub record IsStopped (may : ℕ → ℕ → ℕ → List Event → Type 0) (sender : SenderView)
+    (seat : ClaimSeatView) (unit : ℕ) : Type 0 where
   pub earlier : List ℕ
   pub prefix : List Event
   pub more : List Event
   pub drawn : seat.numbers ≡ earlier ++ unit ∷ []
   pub unspent : seat.spent ≡ false
-  pub emitted : sent ≡ prefix ++ more
-  pub emits : Emits may w 0 earlier prefix
+  pub emitted : sender.sent ≡ prefix ++ more
+  pub emits : Emits may sender.worker 0 earlier prefix
 
 -- What worker w has left: its token, its seat, and where no unit failed, the list that the units
 -- that it drew may emit. A unit that failed is one that may fail so, and the worker stopped at it.
-pub record IsDone (may : ℕ → ℕ → ℕ → List Event → Type 0) (fails : ℕ → UnitFault → Type 0)
-    (session : TableId) (claim : ClaimView) (w : ℕ) (o : Outcome) : Type 0 where
+pub record IsDone (units : RunUnits) (session : TableId) (w : ℕ) (o : Outcome) : Type 0 where
   pub session_is : o.ended.session ≡ session
   pub worker : o.ended.worker ≡ w
-  pub claim_is : o.claim_seat.claim ≡ claim
+  pub claim_is : o.claim_seat.claim ≡ units.claim
   pub all : o.failure ≡ None → o.claim_seat.spent ≡ true
-  pub emits : o.failure ≡ None → Emits may w 0 o.claim_seat.numbers o.ended.sent
-  pub failed : IfSome o.failure (λ f. fails f.unit f.why)
-  pub stopped : IfSome o.failure (λ f. IsStopped may w o.claim_seat o.ended.sent f.unit)
+  pub emits : o.failure ≡ None → Emits units.may w 0 o.claim_seat.numbers o.ended.sent
+  pub failed : IfSome o.failure (λ f. units.fails f.unit f.why)
+  pub stopped : IfSome o.failure (λ f. IsStopped units.may o.ended o.claim_seat f.unit)
 
 -- the senders and seats of the workers 1, 2, .., who have done nothing
-pub record AreUnstarted (session : TableId) (claim : ClaimView) (book : BookView)
-    (table : List Descriptor) (c : UnstartedWorkers) : Type 0 where
-  pub senders : c.senders.items ≡ fresh_senders session table (length c.senders.items)
+pub record AreUnstarted (session : TableId) (shared : SharedParts) (c : UnstartedWorkers)
+    : Type 0 where
+  pub senders : c.senders.items ≡ fresh_senders session shared.table (length c.senders.items)
   pub as_many_claim_seats : length c.claim_seats.items ≡ length c.senders.items
   pub as_many_book_seats : length c.book_seats.items ≡ length c.senders.items
-  pub claim_seats : All (λ s. s ≡ fresh claim) c.claim_seats.items
-  pub book_seats : All (λ s. s ≡ empty book) c.book_seats.items
+  pub claim_seats : All (λ s. s ≡ fresh shared.claim) c.claim_seats.items
+  pub book_seats : All (λ s. s ≡ empty shared.book) c.book_seats.items
 
 -- the handles are those of the last worker, and the rest is left
 pub record IsLastWorker (all rest : UnstartedWorkers) (h : WorkerHandles) : Type 0 where
@@ -81,16 +101,14 @@ pub record IsLastWorker (all rest : UnstartedWorkers) (h : WorkerHandles) : Type
   pub book_seat : all.book_seats.items ≡ rest.book_seats.items ++ h.book_seat ∷ []
 
 -- worker i + 1 left outcome i
-abbrev pub AllDone :
-    (ℕ → ℕ → ℕ → List Event → Type 0) → (ℕ → UnitFault → Type 0) → TableId → ClaimView
-    → List Outcome → Type 0
-AllDone may fails session claim outcomes =
-    (i : ℕ) (o : Outcome) → slice_get outcomes i ≡ Some o → IsDone may fails session claim (i + 1) o
+abbrev pub AllDone : RunUnits → TableId → List Outcome → Type 0
+AllDone units session outcomes =
+    (i : ℕ) (o : Outcome) → slice_get outcomes i ≡ Some o → IsDone units session (i + 1) o
 
 -- Each outcome is what its worker has left, which is one of the workers 1 to n, and they stand in
 -- the order of the workers. A worker without a thread has none.
-pub record AreDone (may : ℕ → ℕ → ℕ → List Event → Type 0) (fails : ℕ → UnitFault → Type 0)
-    (session : TableId) (claim : ClaimView) (n : ℕ) (outcomes : List Outcome) : Type 0 where
-  pub each : All (λ o. IsDone may fails session claim o.ended.worker o) outcomes
+pub record AreDone (units : RunUnits) (session : TableId) (n : ℕ) (outcomes : List Outcome)
+    : Type 0 where
+  pub each : All (λ o. IsDone units session o.ended.worker o) outcomes
   pub few : All (λ o. o.ended.worker ≤ n) outcomes
   pub rising : AllPairs (λ a b. a.ended.worker < b.ended.worker) outcomes

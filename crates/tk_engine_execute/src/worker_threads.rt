@@ -1,8 +1,7 @@
 //! The threads of a run's workers.
 ghost use Rattle.std.specs.Prelude.{◌≡◌, ◌≤◌, vec_len, vec_capacity};
-ghost use Rattle.tk_engine_execute.specs.Engines.{MayFail};
 ghost use Rattle.tk_engine_execute.specs.WorkerThreads.{CanRunWorkers, WorkersWereRun};
-ghost use Rattle.tk_engine_execute.specs.Workers.{IsReady, IsDone};
+ghost use Rattle.tk_engine_execute.specs.Workers.{shared_parts, run_units, IsReady, IsDone};
 
 use crate::engines::Engine;
 use crate::event_collectors::EventCollector;
@@ -25,9 +24,9 @@ pub(crate) struct WorkerPromise<'e, E> {
 }
 
 impl<'e, E: Engine> Promise<Outcome> for WorkerPromise<'e, E> {
-    ghost kept_by = { λ p r. IsDone (E.may p.engine.now)
-        (MayFail (E.units p.engine.now) (E.fails p.engine.now)) p.handles.value.sender.session
-        p.claim.now p.handles.value.sender.worker r };
+    ghost kept_by = { λ p r. IsDone
+        (run_units p.claim.now (E.may p.engine.now) (E.units p.engine.now) (E.fails p.engine.now))
+        p.handles.value.sender.session p.handles.value.sender.worker r };
 }
 
 /// The receiver's side of a run, and the outcome of each worker that was joined.
@@ -53,10 +52,10 @@ fn spawn_workers<'s, 'e, R: Threads + Wait + Sync, E: Engine>(
     collected: &mut Collected,
 )
     requires limit { claim.now.limit ≡ E.units engine.now }
-    requires ready { CanRunWorkers claim.now book.now (E.table engine.now) unstarted.old
-        collected.old }
-    ensures run_to_the_end { WorkersWereRun (E.may engine.now)
-        (MayFail (E.units engine.now) (E.fails engine.now)) claim.now
+    requires ready { CanRunWorkers (shared_parts claim.now book.now (E.table engine.now))
+        unstarted.old collected.old }
+    ensures run_to_the_end { WorkersWereRun
+        (run_units claim.now (E.may engine.now) (E.units engine.now) (E.fails engine.now))
         (vec_len unstarted.old.senders) collected.old collected.new }
     ensures capacity { vec_capacity collected.old.outcomes ≤ vec_capacity collected.new.outcomes }
     ensures at_most { vec_len collected.new.outcomes ≤ vec_len unstarted.old.senders }
@@ -73,10 +72,10 @@ fn spawn_workers<'s, 'e, R: Threads + Wait + Sync, E: Engine>(
     };
     let run = move || -> Outcome
         requires { (claim.now.limit ≡ E.units engine.now)
-            × IsReady claim.now book.now (E.table engine.now) handles }
-        ensures { IsDone (E.may engine.entry.now)
-            (MayFail (E.units engine.entry.now) (E.fails engine.entry.now)) handles.sender.session
-            claim.entry.now handles.sender.worker result }
+            × IsReady (shared_parts claim.now book.now (E.table engine.now)) handles }
+        ensures { IsDone
+            (run_units claim.entry.now (E.may engine.entry.now) (E.units engine.entry.now)
+            (E.fails engine.entry.now)) handles.sender.session handles.sender.worker result }
     { work(rt, alloc, engine, claim, book, handles) };
     match scope.spawn_with(promise, run) {
         Ok(thread) => {
@@ -102,18 +101,22 @@ pub(crate) fn run_workers<R: Threads + Wait + Sync, E: Engine>(
     collected: Collected,
 ) -> Collected
     requires limit { claim.now.limit ≡ E.units engine.now }
-    requires ready { CanRunWorkers claim.now book.now (E.table engine.now) unstarted collected }
-    ensures { WorkersWereRun (E.may engine.now) (MayFail (E.units engine.now) (E.fails engine.now))
-        claim.now (vec_len unstarted.senders) collected result }
+    requires ready { CanRunWorkers (shared_parts claim.now book.now (E.table engine.now)) unstarted
+        collected }
+    ensures { WorkersWereRun
+        (run_units claim.now (E.may engine.now) (E.units engine.now) (E.fails engine.now))
+        (vec_len unstarted.senders) collected result }
 {
     thread::scope(
         thread::scope_env(),
         rt,
         move |scope| -> Collected
             requires { (claim.now.limit ≡ E.units engine.now)
-                × CanRunWorkers claim.now book.now (E.table engine.now) unstarted collected }
-            ensures { WorkersWereRun (E.may engine.entry.now)
-                (MayFail (E.units engine.entry.now) (E.fails engine.entry.now)) claim.entry.now (vec_len unstarted.senders) collected result }
+                × CanRunWorkers (shared_parts claim.now book.now (E.table engine.now)) unstarted
+                collected }
+            ensures { WorkersWereRun
+                (run_units claim.entry.now (E.may engine.entry.now) (E.units engine.entry.now)
+                (E.fails engine.entry.now)) (vec_len unstarted.senders) collected result }
         {
             let mut unstarted = unstarted;
             let mut collected = collected;

@@ -4,7 +4,7 @@ ghost use Rattle.tk_events.specs.declared.events.Event.{Event};
 ghost use Rattle.tk_queue.specs.Emission.{registrations};
 ghost use Rattle.tk_engine_runs.specs.Run.{Emits};
 ghost use Rattle.tk_engine_execute.specs.Engines.{IsSameSender, MayFail};
-ghost use Rattle.tk_engine_execute.specs.Workers.{IsReady, IsDone, IsStopped};
+ghost use Rattle.tk_engine_execute.specs.Workers.{shared_parts, run_units, IsReady, IsDone, IsStopped};
 
 use crate::engines::{Engine, UnitFault};
 use std::alloc::Global;
@@ -108,8 +108,7 @@ fn run_units<R: Wait, E: Engine>(
     ensures failed { IfSome result (λ failure.
         MayFail (E.units engine.now) (E.fails engine.now) failure.unit failure.why) }
     ensures stopped { IfSome result (λ failure.
-        IsStopped (E.may engine.now) sender.old.worker claim_seat.new sender.new.sent
-        failure.unit) }
+        IsStopped (E.may engine.now) sender.new claim_seat.new failure.unit) }
 {
     for _ in rt.forever() {
         let Some(unit) = claim.draw(claim_seat) else {
@@ -132,9 +131,10 @@ pub(crate) fn work<R: Wait, E: Engine>(
     handles: WorkerHandles,
 ) -> Outcome
     requires limit { claim.now.limit ≡ E.units engine.now }
-    requires ready { IsReady claim.now book.now (E.table engine.now) handles }
-    ensures { IsDone (E.may engine.now) (MayFail (E.units engine.now) (E.fails engine.now))
-        handles.sender.session claim.now handles.sender.worker result }
+    requires ready { IsReady (shared_parts claim.now book.now (E.table engine.now)) handles }
+    ensures { IsDone
+        (run_units claim.now (E.may engine.now) (E.units engine.now) (E.fails engine.now))
+        handles.sender.session handles.sender.worker result }
 {
     let WorkerHandles {
         mut sender,

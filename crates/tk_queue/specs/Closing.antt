@@ -1,5 +1,6 @@
--- When a session closes, and the first reason why it does not.
+-- When a session closes, what is known then, and the first reason why it does not.
 use Rattle.std.specs.Prelude.{◌≡◌, ℕ, ◌<◌, true, false, List}
+use Rattle.atomic_table.specs.Seated.{TableId}
 use Rattle.tk_record_columns.specs.Mixing.{IsWorkerOf}
 use Rattle.tk_queue.specs.declared.receivers.CloseReason.{CloseReason}
 use Rattle.tk_queue.specs.declared.receivers.CloseReason.TheVariants.{Missing, Twice, NotDrained}
@@ -7,6 +8,11 @@ use Rattle.tk_queue.specs.Senders.{SenderView}
 use Rattle.tk_queue.specs.Receivers.{ReceiverView, is_marked}
 use Rattle.tk_queue.specs.Tokens.{tokens_of, sent_by}
 use Rattle.tk_queue_core.specs.Core.{items_of, script}
+
+-- a session that was closed, and how many events each worker emitted, by the workers' numbers
+pub record ClosedView : Type 0 where
+  pub session : TableId
+  pub emitted : List ℕ
 
 -- w is the least worker at which P holds
 pub record Least (n : ℕ) (P : ℕ → Type 0) (w : ℕ) : Type 0 where

@@ -35,7 +35,7 @@ entry_by w e = record { worker = w; event = e }
 abbrev pub entries_by : ℕ → List Event → List Entry
 entries_by w es = map (entry_by w) es
 
--- it registers a descriptor
+-- whether the event registers a descriptor
 abbrev pub is_dynamic : Event → Bool
 is_dynamic e = kind_code e.kind == kind_code Dynamic
 
@@ -43,7 +43,7 @@ is_dynamic e = kind_code e.kind == kind_code Dynamic
 abbrev pub registrations : List Event → ℕ
 registrations es = count_by is_dynamic es
 
--- what may be sent at all: what is lawful and no registration
+-- whether a worker may emit the event by `send`: it is lawful and registers no descriptor
 abbrev pub is_plain : Event → Bool
 is_plain e = is_lawful e.kind e.payload && not (is_dynamic e)
 

@@ -53,20 +53,23 @@ impl Model for Receiver {
         × IsReceiver (seen r.pass) (arc_value r.table) r.workers r.marked };
 }
 
-/// How many events each worker of a closed session emitted. Contracts see the list of these
-/// numbers, by the workers' numbers.
+/// How many events each worker of a closed session emitted. Contracts see the session, and the list
+/// of these numbers by the workers' numbers.
 #[derive(Drop)]
 pub struct Closed {
+    // It names the session, and no step is made with it.
+    pass: QueuePass,
     emitted: [u64; WORKER_SLOTS],
 }
 
 impl Model for Closed {
-    ghost use Rattle.std.specs.Prelude.{◌≡◌, List, ℕ, length};
+    ghost use Rattle.std.specs.Prelude.{◌≡◌, length};
     ghost use Rattle.tk_queue_core.specs.Limits.{worker_slots};
+    ghost use Rattle.tk_queue.specs.Closing.{ClosedView};
 
-    ghost Value = { List ℕ };
+    ghost Value = { ClosedView };
 
-    ghost view = { λ c. c.emitted };
+    ghost view = { λ c. record { session = c.pass.table_id; emitted = c.emitted } };
 
     ghost invariant = { λ c. length c.emitted ≡ worker_slots };
 }
@@ -96,7 +99,7 @@ pub struct CloseFault {
 impl Closed {
     /// Returns how many events the worker emitted, or 0 for a number that is no worker's.
     pub fn emitted(&self, worker: u8) -> u64
-        ensures { result ≡ slice_index self.now worker }
+        ensures { result ≡ slice_index self.now.emitted worker }
     {
         if (worker as usize) < WORKER_SLOTS {
             self.emitted[worker as usize]
@@ -172,9 +175,10 @@ impl Receiver {
         requires complete { IsComplete self ended.items }
         ensures mix { Mix self.workers (entries self.taken) (sent_by ended.items) }
         ensures marks { EndWithMarks self ended.items }
+        ensures session { result.session ≡ self.session }
         ensures each { (w : ℕ) → IsWorkerOf self.workers w
-            → slice_index result w ≡ length (sent_by ended.items w) }
-        ensures others { (w : ℕ) → ¬ IsWorkerOf self.workers w → slice_index result w ≡ 0 }
+            → slice_index result.emitted w ≡ length (sent_by ended.items w) }
+        ensures others { (w : ℕ) → ¬ IsWorkerOf self.workers w → slice_index result.emitted w ≡ 0 }
     {
         let emitted = emitted_by_worker(&ended, self.workers);
         let Receiver {
@@ -188,7 +192,7 @@ impl Receiver {
             queue.absorb::<JoinSender>(&mut pass, token.into_pass());
         }
         queue.learn_as::<AllSent>(&mut pass);
-        Closed { emitted }
+        Closed { pass, emitted }
     }
 
     /// Closes the session, where each worker's token is there once and each end mark was taken.
@@ -204,10 +208,11 @@ impl Receiver {
         ensures complete { OnOk result (IsComplete self ended.items) }
         ensures mix { OnOk result (Mix self.workers (entries self.taken) (sent_by ended.items)) }
         ensures marks { OnOk result (EndWithMarks self ended.items) }
+        ensures session { IfOk result (λ closed. closed.session ≡ self.session) }
         ensures each { IfOk result (λ closed. (w : ℕ) → IsWorkerOf self.workers w
-            → slice_index closed w ≡ length (sent_by ended.items w)) }
+            → slice_index closed.emitted w ≡ length (sent_by ended.items w)) }
         ensures others { IfOk result (λ closed.
-            (w : ℕ) → ¬ IsWorkerOf self.workers w → slice_index closed w ≡ 0) }
+            (w : ℕ) → ¬ IsWorkerOf self.workers w → slice_index closed.emitted w ≡ 0) }
         ensures fault { IfErr result (λ fault. IsCloseFault fault.why self ended.items) }
         ensures back { IfErr result (λ fault.
             (fault.receiver ≡ self) × (fault.ended.items ≡ ended.items)) }

@@ -11,6 +11,7 @@ use Rattle.tk_plan_units.specs.Trees.{Tree, forest}
 use Rattle.tk_plan.specs.declared.faults.PlanFault.{PlanFault}
 use Rattle.tk_plan.specs.declared.faults.PlanFault.TheVariants as plans
 use Rattle.tk_plan.specs.PlanAnswers.{plan_in, outline, Answered}
+use Rattle.tk_queue.specs.Limits.{capacity_of}
 use Rattle.tk_engine_execute.specs.declared.run_faults.RunFault.{RunFault}
 use Rattle.tk_engine_execute.specs.declared.run_faults.RunFault.TheVariants as runs
 use Rattle.tk_engine_execute.specs.declared.engines.UnitFault.{UnitFault}
@@ -23,6 +24,7 @@ use Rattle.tk_engine_laws.specs.Reports.{report_of_plan}
 use Rattle.tk_engine_laws.specs.Scripts.{IsRunOf, may}
 use Rattle.tk_engine.specs.Plays.{IsPlayFault}
 use Rattle.tk_report.specs.declared.plan_runs.PlanRun.{PlanRun}
+use Rattle.tk_report.specs.declared.plan_runs.TheConstants.{DEFAULT_CAPACITY}
 use Rattle.tk_report.specs.declared.faults.ReportFault.{ReportFault}
 use Rattle.tk_report.specs.declared.faults.ReportFault.TheVariants.{Plan, Run, Device, Memory}
 
@@ -85,7 +87,8 @@ pub record IsRunOfPlan (bytes : List ℕ) (workers : ℕ) (run : PlanRun) : Type
   pub plan : Answered (plan_in bytes) (Ok run.engine)
   pub may_work : MayWork workers
   pub is_run : IsRunOf run.engine.nodes run.engine.table workers run.results.recorded
-  pub tally : IsTallied workers run.results.closed run.results.recorded.entries
+  pub tally : IsTallied workers run.results.closed.emitted run.results.recorded.entries
+  pub of_capacity : capacity_of run.results.closed.session ≡ DEFAULT_CAPACITY
   pub report : OfPlan bytes (λ text. report_of_record run.results.recorded ≡ text)
   pub keeps : KeepsLifecycle run.results.recorded
   pub kept : IsKept run.results.recorded

@@ -7,13 +7,14 @@ use Rattle.tk_events.specs.declared.events.Entry.{Entry}
 use Rattle.tk_record_columns.specs.Recorded.{Recorded}
 use Rattle.tk_queue_core.specs.Core.{entries}
 use Rattle.tk_queue.specs.Receivers.{ReceiverView}
-use Rattle.tk_queue.specs.Limits.{most_events}
+use Rattle.tk_queue.specs.Closing.{ClosedView}
+use Rattle.tk_queue.specs.Limits.{most_events, capacity_of}
 use Rattle.tk_queue.specs.Emission.{entries_by}
 use Rattle.tk_engine_runs.specs.Run.{IsRun, IsShared}
 use Rattle.tk_engine_execute.specs.declared.event_collectors.EventCollector.{EventCollector}
 use Rattle.tk_engine_execute.specs.EventCollectors.{TookMore}
 use Rattle.tk_engine_execute.specs.Results.{RunResults, IsTallied}
-use Rattle.tk_engine_execute.specs.PreparedRuns.{IsFreshCollector}
+use Rattle.tk_engine_execute.specs.PreparedRuns.{RunRequest, IsFreshCollector}
 use Rattle.tk_engine_execute.proofs.Collecting.{fresh_collector, room_left}
 use Rattle.tk_engine_execute.specs.Engines.{MayFail}
 use Rattle.tk_engine_execute.specs.Outcomes.{IsFaultOfRunning}
@@ -22,12 +23,12 @@ use Rattle.tk_engine_execute.proofs.Tokens.{out_of_memory, tallied_whole}
 use Rattle.tk_engine_execute.proofs.runs.run.Goals as goal
 
 -- the record of a new collector that took some items
-prefix_is : (table : List Descriptor) (before : List Event) (workers capacity : ℕ) (a b : EventCollector) → IsFreshCollector table before workers capacity a → TookMore a b → b.is_out_of_memory ≡ false
-    → b.«record».entries ≡ entries_by 0 before ++ entries b.receiver.taken
-prefix_is table before workers capacity a b fresh took_more room =
+prefix_is : (asked : RunRequest) (a b : EventCollector) → IsFreshCollector asked a → TookMore a b → b.is_out_of_memory ≡ false
+    → b.«record».entries ≡ entries_by 0 asked.before ++ entries b.receiver.taken
+prefix_is asked a b fresh took_more room =
     let none : a.receiver.taken ≡ [] = ap (λ (r : ReceiverView). r.taken) fresh.receiver in
     let taken : entries b.receiver.taken ≡ entries took_more.items = ap entries (took_more.taken ∙ ap (λ l. l ++ took_more.items) none) in
-    (took_more.kept room).1 ∙ ap (λ l. l ++ entries took_more.items) fresh.entries ∙ ap (λ l. entries_by 0 before ++ l) (sym taken)
+    (took_more.kept room).1 ∙ ap (λ l. l ++ entries took_more.items) fresh.entries ∙ ap (λ l. entries_by 0 asked.before ++ l) (sym taken)
 
 both : {X Y : Type 0} (r : Result X Y) (P Q : X → Type 0) → IfOk r P → IfOk r Q → IfOk r (λ x. P x × Q x)
 both (Ok x) P Q p q = (p, q)
@@ -36,9 +37,9 @@ both (Err e) P Q p q = p
 whole_is : (before after : List Event) (mid prefix whole : List Entry) → prefix ≡ entries_by 0 before ++ mid → whole ≡ prefix ++ entries_by 0 after → whole ≡ entries_by 0 before ++ mid ++ entries_by 0 after
 whole_is before after mid prefix whole first is = is ∙ ap (λ l. l ++ entries_by 0 after) first
 
-is_tallied : (n : ℕ) (closed : List ℕ) (before after : List Event) (mid prefix : List Entry) → prefix ≡ entries_by 0 before ++ mid → IsTallied n closed mid
-    → (r : RunResults) → (r.recorded.entries ≡ prefix ++ entries_by 0 after) × (r.closed ≡ closed) → IsTallied n r.closed r.recorded.entries
-is_tallied n closed before after mid prefix first tally r stated = rw (stated.1) (tallied_whole n closed before after mid r.recorded.entries (whole_is before after mid prefix r.recorded.entries first (stated.0)) tally)
+is_tallied : (n : ℕ) (closed : ClosedView) (before after : List Event) (mid prefix : List Entry) → prefix ≡ entries_by 0 before ++ mid → IsTallied n closed.emitted mid
+    → (r : RunResults) → (r.recorded.entries ≡ prefix ++ entries_by 0 after) × (r.closed ≡ closed) → IsTallied n r.closed.emitted r.recorded.entries
+is_tallied n closed before after mid prefix first tally r stated = rw (stated.1) (tallied_whole n closed.emitted before after mid r.recorded.entries (whole_is before after mid prefix r.recorded.entries first (stated.0)) tally)
 
 is_run : (may : ℕ → ℕ → ℕ → List Event → Type 0) (table : List Descriptor) (before after : List Event) (units workers : ℕ) (mid prefix : List Entry) (over : List Descriptor)
     → over ≡ table → prefix ≡ entries_by 0 before ++ mid → IsShared may units workers mid
@@ -56,7 +57,7 @@ run_workers-collected-requires-clause-ready g c κs within =
     let many = start.many in
     let room = start.room in record {
       unstarted = start.unstarted;
-      collector = fresh_collector _ _ _ _ _ c.requires.workers.few start.collector;
+      collector = fresh_collector _ _ c.requires.workers.few start.collector;
       empty = start.empty;
       room = omega (arith, many, room);
     }
@@ -83,7 +84,7 @@ returns-clause-run g c =
     let took_more = c.run_workers-collected.ensures.took_more in
     let stated = c.in_ok-record.ensures.recorded in
     let mid = entries c.run_workers-collected.result.collector.receiver.taken in
-    let prefix : c.in_ok-record.«record».entries ≡ entries_by 0 before ++ mid = ap (λ (r : Recorded). r.entries) (stated.0) ∙ prefix_is table before c.args.workers c.args.capacity _ c.run_workers-collected.result.collector start.collector took_more (stated.1) in
+    let prefix : c.in_ok-record.«record».entries ≡ entries_by 0 before ++ mid = ap (λ (r : Recorded). r.entries) (stated.0) ∙ prefix_is _ _ c.run_workers-collected.result.collector start.collector took_more (stated.1) in
     let over : c.in_ok-record.«record».table ≡ table = ap (λ (r : Recorded). r.table) (stated.0) ∙ took_more.table ∙ start.collector.table_is in
     IfOk-weaker c.finish.result _ _ (is_run (g.E.Engine.may c.args.engine.now) table before after (g.E.Engine.units c.args.engine.now) c.args.workers mid c.in_ok-record.«record».entries c.in_ok-record.«record».table over prefix c.in_ok-record.ensures.shared)
     (both c.finish.result _ _ c.finish.ensures.table c.finish.ensures.entries)
@@ -95,7 +96,7 @@ returns-clause-tally g c =
     let start = c.in_ok-start.ensures.start in
     let stated = c.in_ok-record.ensures.recorded in
     let mid = entries c.run_workers-collected.result.collector.receiver.taken in
-    let prefix : c.in_ok-record.«record».entries ≡ entries_by 0 before ++ mid = ap (λ (r : Recorded). r.entries) (stated.0) ∙ prefix_is _ before c.args.workers c.args.capacity _ c.run_workers-collected.result.collector start.collector c.run_workers-collected.ensures.took_more (stated.1) in
+    let prefix : c.in_ok-record.«record».entries ≡ entries_by 0 before ++ mid = ap (λ (r : Recorded). r.entries) (stated.0) ∙ prefix_is _ _ c.run_workers-collected.result.collector start.collector c.run_workers-collected.ensures.took_more (stated.1) in
     IfOk-weaker c.finish.result _ _ (is_tallied c.args.workers c.in_ok-record.closed before after mid c.in_ok-record.«record».entries prefix c.in_ok-record.ensures.tally)
     (both c.finish.result _ _ c.finish.ensures.entries c.finish.ensures.closed)
 
@@ -112,10 +113,16 @@ returns-in_err-start g c =
     let p = err_from_is_err_and c.from_residual.result c.from_residual.ensures.1 in
     let may = g.E.Engine.may c.args.engine.now in
     let fails = MayFail (g.E.Engine.units c.args.engine.now) (g.E.Engine.fails c.args.engine.now) in
-    rw (p.1, p.2) (record { run = tt; tally = tt; running = out_of_memory may fails c.args.workers c.in_err-start.field-0.0 c.in_err-start.ensures.memory })
+    rw (p.1, p.2) (record { run = tt; tally = tt; of_capacity = tt; running = out_of_memory may fails c.args.workers c.in_err-start.field-0.0 c.in_err-start.ensures.memory })
 
 pub returns-clause-running : goal.returns-clause-running
 returns-clause-running g c =
     let may = g.E.Engine.may c.args.engine.now in
     let fails = MayFail (g.E.Engine.units c.args.engine.now) (g.E.Engine.fails c.args.engine.now) in
     IfErr-weaker c.finish.result (λ f. f ≡ Memory) (IsFaultOfRunning may fails c.args.workers) (out_of_memory may fails c.args.workers) c.finish.ensures.memory
+
+pub returns-clause-of_capacity : goal.returns-clause-of_capacity
+returns-clause-of_capacity g c =
+    let asked = c.in_ok-start.ensures.start.collector.of_capacity in
+    let session = c.in_ok-record.ensures.session ∙ c.run_workers-collected.ensures.took_more.session in
+    IfOk-weaker c.finish.result _ (λ (r : RunResults). capacity_of r.closed.session ≡ c.args.capacity) (λ r same. ap (λ (x : ClosedView). capacity_of x.session) same ∙ ap (λ s. capacity_of s) session ∙ asked) c.finish.ensures.closed

@@ -1,22 +1,21 @@
 use Rattle.std.proofs.Common.{rules, arith, ◌≡◌, ◌+◌, refl, ap, sym, ◌∙◌}
 use Rattle.std.specs.Prelude.{vec_len}
 use Rattle.tk_queue.specs.Senders.{SenderView}
-use Rattle.tk_engine_execute.specs.Engines.{MayFail}
-use Rattle.tk_engine_execute.specs.Workers.{IsReady, IsDone}
+use Rattle.tk_engine_execute.specs.Workers.{shared_parts, run_units, IsReady, IsDone}
 use Rattle.tk_engine_execute.proofs.UnstartedWorkers.{unstarted_ready, unstarted_sender, unstarted_rest, one_fewer}
 use Rattle.tk_engine_execute.proofs.Outcomes.{nobody_joined, one_joined, one_lacks_thread}
 use Rattle.tk_engine_execute.proofs.worker_threads.+spawn_workers.Goals as goal
 
 pub spawn_with-requires-clause-runs : goal.spawn_with-requires-clause-runs
 spawn_with-requires-clause-runs g t c κs within =
-    let ready : IsReady c.args.claim.now c.args.book.now (g.E.Engine.table c.args.engine.now) c.in-Some.handles = unstarted_ready _ _ _ _ _ _ _ c.in-Some.ensures.some c.requires.ready.unstarted in
+    let ready : IsReady (shared_parts c.args.claim.now c.args.book.now (g.E.Engine.table c.args.engine.now)) c.in-Some.handles = unstarted_ready _ _ _ _ _ c.in-Some.ensures.some c.requires.ready.unstarted in
     search rules
 
 pub spawn_workers-requires-clause-ready : goal.spawn_workers-requires-clause-ready
 spawn_workers-requires-clause-ready g t c κs within =
     let fewer = one_fewer _ _ _ c.in-Some.ensures.some in
     let room = c.requires.ready.room in record {
-      unstarted = unstarted_rest _ _ _ _ _ _ _ c.in-Some.ensures.some c.requires.ready.unstarted;
+      unstarted = unstarted_rest _ _ _ _ _ c.in-Some.ensures.some c.requires.ready.unstarted;
       collector = c.requires.ready.collector;
       empty = c.requires.ready.empty;
       room = omega (arith, fewer, room);
@@ -26,7 +25,7 @@ pub spawn_workers-requires-in-Err-clause-ready : goal.spawn_workers-requires-in-
 spawn_workers-requires-in-Err-clause-ready g t c κs within =
     let fewer = one_fewer _ _ _ c.in-Some.ensures.some in
     let room = c.requires.ready.room in record {
-      unstarted = rw c.stop_waiting_for.ensures.took_more.session (unstarted_rest _ _ _ _ _ _ _ c.in-Some.ensures.some c.requires.ready.unstarted);
+      unstarted = rw c.stop_waiting_for.ensures.took_more.session (unstarted_rest _ _ _ _ _ c.in-Some.ensures.some c.requires.ready.unstarted);
       collector = c.stop_waiting_for.ensures.collector;
       empty = c.requires.ready.empty;
       room = omega (arith, fewer, room);
@@ -34,28 +33,26 @@ spawn_workers-requires-in-Err-clause-ready g t c κs within =
 
 pub returns-in-Ok-clause-run_to_the_end : goal.returns-in-Ok-clause-run_to_the_end
 returns-in-Ok-clause-run_to_the_end g t c =
-    let may = g.E.Engine.may c.args.engine.now in
-    let fails = MayFail (g.E.Engine.units c.args.engine.now) (g.E.Engine.fails c.args.engine.now) in
+    let units = run_units c.args.claim.now (g.E.Engine.may c.args.engine.now) (g.E.Engine.units c.args.engine.now) (g.E.Engine.fails c.args.engine.now) in
     let session = c.args.collected.now.collector.receiver.session in
-    let claim = c.args.claim.now in
     let rest = c.take.new.self.senders in
     let o = c.join.result in
-    let last = unstarted_sender _ _ _ _ _ _ _ c.in-Some.ensures.some c.requires.ready.unstarted in
+    let last = unstarted_sender _ _ _ _ _ c.in-Some.ensures.some c.requires.ready.unstarted in
     let handles = c.in-Some.handles in
-    let own : IsDone may fails handles.sender.session claim handles.sender.worker o = search rules in
+    let own : IsDone units handles.sender.session handles.sender.worker o = search rules in
     let index : handles.sender.worker ≡ vec_len rest + 1 = ap (λ (s : SenderView). s.worker) last ∙ ap (λ n. n + 1) (sym (rest.ok.0)) in
-    let done : IsDone may fails session claim (vec_len rest + 1) o = rw (ap (λ (s : SenderView). s.session) last, index) at own in
-    one_joined may fails claim (vec_len rest) (vec_len c.args.unstarted.now.senders) c.args.collected.now c.spawn_workers.new.collected (record { collector = c.spawn_workers.new.collected.collector; outcomes = c.push_reserved.new.self }) o (one_fewer _ _ _ c.in-Some.ensures.some) c.spawn_workers.ensures.run_to_the_end refl c.push_reserved.ensures.items done
+    let done : IsDone units session (vec_len rest + 1) o = rw (ap (λ (s : SenderView). s.session) last, index) at own in
+    one_joined units (vec_len rest) (vec_len c.args.unstarted.now.senders) c.args.collected.now c.spawn_workers.new.collected (record { collector = c.spawn_workers.new.collected.collector; outcomes = c.push_reserved.new.self }) o (one_fewer _ _ _ c.in-Some.ensures.some) c.spawn_workers.ensures.run_to_the_end refl c.push_reserved.ensures.items done
 
 pub returns-in-Err-clause-run_to_the_end : goal.returns-in-Err-clause-run_to_the_end
 returns-in-Err-clause-run_to_the_end g t c =
-    one_lacks_thread (g.E.Engine.may c.args.engine.now) (MayFail (g.E.Engine.units c.args.engine.now) (g.E.Engine.fails c.args.engine.now)) c.args.claim.now (vec_len c.take.new.self.senders) (vec_len c.args.unstarted.now.senders) c.args.collected.now _ c.spawn_workers-in-Err.new.collected
+    one_lacks_thread (run_units c.args.claim.now (g.E.Engine.may c.args.engine.now) (g.E.Engine.units c.args.engine.now) (g.E.Engine.fails c.args.engine.now)) (vec_len c.take.new.self.senders) (vec_len c.args.unstarted.now.senders) c.args.collected.now _ c.spawn_workers-in-Err.new.collected
     (one_fewer _ _ _ c.in-Some.ensures.some) c.stop_waiting_for.ensures.took_more c.stop_waiting_for.ensures.lacks_thread c.spawn_workers-in-Err.ensures.at_most c.spawn_workers-in-Err.ensures.run_to_the_end
 
 pub returns-in_default : goal.returns-in_default
 returns-in_default g t c =
     let last = c.collect_all.ensures in record {
-      run_to_the_end = nobody_joined (g.E.Engine.may c.args.engine.now) (MayFail (g.E.Engine.units c.args.engine.now) (g.E.Engine.fails c.args.engine.now)) c.args.claim.now (vec_len c.args.unstarted.now.senders) c.args.collected.now c.collect_all.new.self c.in_default.ensures.none c.requires.ready.empty
+      run_to_the_end = nobody_joined (run_units c.args.claim.now (g.E.Engine.may c.args.engine.now) (g.E.Engine.units c.args.engine.now) (g.E.Engine.fails c.args.engine.now)) (vec_len c.args.unstarted.now.senders) c.args.collected.now c.collect_all.new.self c.in_default.ensures.none c.requires.ready.empty
           last.took_more last.collector last.none_is_awaited last.lacks_thread;
       capacity = omega arith;
       at_most = let empty = c.requires.ready.empty in omega (arith, empty);

@@ -14,7 +14,7 @@ returns-in-Err-clause-stopped g c =
       drawn = c.in-Some-draw.ensures.drawn;
       unspent = c.in-Some-draw.ensures.more;
       emitted = ran.1;
-      emits = was.emits;
+      emits = rw (c.run_unit.ensures.same.worker ∙ was.same.worker) was.emits;
     }
 
 pub loop-preserved : goal.loop-preserved

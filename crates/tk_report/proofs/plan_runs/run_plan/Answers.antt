@@ -34,6 +34,7 @@ returns g c =
       may_work = may_work c.args.workers (λ out. let bad = c.in_ok-results.ensures.workers.1 out in cc);
       is_run = c.in_ok-results.ensures.run;
       tally = c.in_ok-results.ensures.tally;
+      of_capacity = c.in_ok-results.ensures.of_capacity;
       report = has_report c.args.bytes.now engine run.recorded plan same;
       keeps = c.lifecycle.ensures.keeps engine.nodes engine.table c.args.workers run.recorded planned numbered c.in_ok-results.ensures.run;
       kept = c.lifecycle.ensures.kept engine.nodes engine.table c.args.workers run.recorded planned numbered c.in_ok-results.ensures.run;
