@@ -1,5 +1,6 @@
 //! The engine of a plan whose tests have bodies.
-ghost use Rattle.std.specs.Prelude.{◌≡◌, ◌<◌, ℕ, All, IfSome, OnOk, length};
+ghost use Rattle.std.specs.Prelude.{◌≡◌, ◌<◌, ℕ, All, Err, IfSome, IsTrue, OnOk, length};
+ghost use Rattle.tk_engine_execute.specs.declared.engines.UnitFault.{UnitFault};
 ghost use Rattle.tk_plan_units.specs.Known.{IsKnown};
 ghost use Rattle.tk_plan_units.specs.Cutting.{units_of};
 ghost use Rattle.tk_plan_units.specs.Trees.{forest};
@@ -179,6 +180,21 @@ fn do_steps<R: Wait, S: Sink, K: UnitRun, T: Tests>(
     Ok(())
 }
 
+// How a unit ended, of which the script was played: well only where no key runs, and each static one
+// had its turn.
+fn ending(played: Result<(), UnitFault>, rests: bool, had_turns: bool) -> Result<(), UnitFault>
+    ensures rests { OnOk result (IsTrue rests) }
+    ensures had_turns { OnOk result (IsTrue had_turns) }
+    ensures fault { (why : UnitFault) → played ≡ Err why → result ≡ Err why }
+{
+    played?;
+    if rests && had_turns {
+        Ok(())
+    } else {
+        Err(UnitFault::Own(OUT_OF_ORDER))
+    }
+}
+
 // Runs a unit into a sink that is lent, and gives the sink back. How the unit ended is left in `ran`.
 pub(crate) fn run_unit<'a, R: Wait, S: Sink, K: UnitRun, T: Tests>(
     rt: &R,
@@ -219,10 +235,6 @@ pub(crate) fn run_unit<'a, R: Wait, S: Sink, K: UnitRun, T: Tests>(
     let played = do_steps(rt, alloc, plan, tests, steps.as_slice(), &mut reporter);
     let Reporter { events, .. } = reporter;
     let (lease, rests, had_turns) = events.end();
-    *ran = match played {
-        Ok(()) if rests && had_turns => Ok(()),
-        Ok(()) => Err(UnitFault::Own(OUT_OF_ORDER)),
-        Err(fault) => Err(fault),
-    };
+    *ran = ending(played, rests, had_turns);
     lease
 }
