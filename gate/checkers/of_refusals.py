@@ -1,13 +1,58 @@
-"""Tests of the refusals: a `refuse.c` that lacks a function, and sweeps that are wrong in one way."""
+"""Tests of the refusals: a `refuse.c` that lacks a function, and sweeps and answers that are wrong in one way."""
 
 import importlib.machinery
 import importlib.util
 import subprocess
 import sys
 import tempfile
+from dataclasses import replace
 from typing import Callable, List, Sequence, Set, Tuple
 
 from outcomes import TOP, Test
+
+def tests_of_answers(module) -> List[Test]:
+    """Sweeps of which these runs came: the ordinary one, one with each request refused, and one in which none was left."""
+    ordinary = module.Ended(0, b"an answer\n", b"", "", 0)
+    refused = module.Ended(3, b"an ", b"testkit: out of memory\n", "first", 0)
+    survived = replace(ordinary, refused_of="first")
+    of_unit = replace(refused, error=b"testkit: unit 1 failed\n", refused_of="worker")
+    fault = replace(ordinary, status=2, output=b"", error=b"testkit: bad word 0\n")
+    silent = replace(fault, error=b"", refused_of="first")
+    memory, of_run = module.refused_with(module.OUT_OF_MEMORY), module.refused_memory_of_a_run
+
+    def come(rule: Callable, runs: Sequence, is_passed: bool, **how) -> str:
+        run = module.run
+        module.run = lambda library, sweep, number: runs[number]
+        try:
+            _, failed = module.failures_of("", module.Sweep("prepared", "memory", [], b"", rule, **how))
+        finally:
+            module.run = run
+        return "" if is_passed == (not failed) else f"{failed}"
+
+    def refusal(name: str, rule: Callable, ended, is_passed: bool = False, first=ordinary, **how) -> Test:
+        return Test(f"a refusal with {name}", lambda: come(rule, [first, ended, first], is_passed, **how))
+
+    return [
+        refusal("its answer", memory, refused, True),
+        refusal("another status", memory, replace(refused, status=2)),
+        refusal("no end", memory, replace(refused, status=None, kept=None)),
+        refusal("the line of another fault", memory, replace(refused, error=b"testkit: no thread\n")),
+        refusal("its line twice", memory, replace(refused, error=2 * refused.error)),
+        refusal("output that is no prefix", memory, replace(refused, output=b"answer")),
+        refusal("a block that it keeps", memory, replace(refused, kept=1)),
+        refusal("the ordinary answer", memory, survived),
+        refusal("the ordinary answer, once", memory, survived, True, survived=1),
+        refusal("an ordinary run that fails", memory, refused, first=fault),
+        refusal("the unit of a worker", of_run, of_unit, True, units=frozenset({1})),
+        refusal("a unit where no worker was refused", of_run, replace(of_unit, refused_of="first")),
+        refusal("no unit where a worker was refused", of_run, replace(refused, refused_of="worker")),
+        refusal("no line where none can be written", module.keeps_status, silent, True, first=fault),
+        refusal("another status where no line can be written", module.keeps_status, replace(silent, status=3), first=fault),
+        Test("the ordinary answer twice, and may be once", lambda: come(memory, [ordinary, survived, survived, ordinary], False, survived=1)),
+        Test("a run of which no request is left and that answers otherwise", lambda: come(memory, [ordinary, refused, fault], False)),
+        Test("a program of no test", lambda: "" if module.test_sweeps("/bin/true")[1] else "nothing is missing"),
+    ]
+
 
 def tests_of_sweeps(room: str) -> List[Test]:
     """Sweeps over a program that makes one request, each of which is wrong in one way."""
@@ -67,6 +112,7 @@ def tests_of_sweeps(room: str) -> List[Test]:
         found.append(Test(f"refuse.c without {start}", lambda edits=edits, functions=functions: unserved(edits, functions)))
     for new in ("!= 2) return 0", "> 1) return 0", "< 1) return 0"):
         found.append(Test(f"refuse.c with {new}", lambda new=new: unserved([("!= 1) return 0", new)], all_of_them)))
+    found += tests_of_answers(module)
     return found + [
         Test("a sweep that is right", lambda: differs(refused, False)),
         Test("a sweep with a wrong answer", lambda: differs(lambda ended, ordinary: ended.status == 0, True)),
