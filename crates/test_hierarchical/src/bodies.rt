@@ -6,7 +6,7 @@ use std::thread::Threads;
 use test_support::is_shown_as;
 use tk_engine::{Results, RunFault, Sink, UnitFault, execute};
 use tk_engine_hierarchical::{
-    Body, Hierarchical, HierarchicalFault, Outcome, Reporter, TWICE, Tests, UnitRun,
+    Body, Hierarchical, HierarchicalFault, OUT_OF_ORDER, Outcome, Reporter, TWICE, Tests, UnitRun,
 };
 use tk_events::Pairs;
 use tk_ids::{Segment, Text};
@@ -282,6 +282,12 @@ fn faults_of_a_unit(rt: HostRuntime) {
     assert!(rt; beside_static == Some((2, TWICE)));
     let own = own_fault(&rt, rt.alloc(), Then::Faults);
     assert!(rt; own == Some((1, 7)));
+}
+
+#[test]
+fn numbers_of_faults(rt: HostRuntime) {
+    assert!(rt; OUT_OF_ORDER == 4_294_967_295);
+    assert!(rt; TWICE == 4_294_967_294);
 }
 
 // Whether the faults of making an engine have their texts.

@@ -4,14 +4,15 @@ use Rattle.std.specs.Prelude.{Result, Ok, Err, OnOk, OnErr}
 use Rattle.tk_ids.specs.DTypes.{is_test}
 use Rattle.tk_ids.specs.declared.descriptors.Descriptor.{Descriptor}
 use Rattle.tk_events.specs.declared.kinds.Kind.{Kind}
-use Rattle.tk_events.specs.declared.kinds.Kind.TheVariants.{Finished, Skipped}
+use Rattle.tk_events.specs.declared.kinds.Kind.TheVariants.{Finished, Skipped, Started}
 use Rattle.tk_events.specs.declared.payloads.Payload.{Payload}
+use Rattle.tk_events.specs.declared.payloads.Payload.TheVariants.{Nothing}
 use Rattle.tk_queue.specs.Registering.{IsRegisteredAs, RegisterRequest, child_of, registration}
 use Rattle.tk_queue.specs.Senders.{SenderView, sends}
 use Rattle.tk_engine_execute.specs.Engines.{Extends}
 use Rattle.tk_engine_hierarchical.specs.Endings.{IsStaticTest, payload_of}
 use Rattle.tk_engine_hierarchical.specs.Events.{keys_of}
-use Rattle.tk_engine_hierarchical.specs.Reporting.{EndsChild, HasFinished, HasSkipped, Published, UnitView, event}
+use Rattle.tk_engine_hierarchical.specs.Reporting.{EndsChild, HasFinished, HasRunChild, HasSkipped, HasStarted, Published, UnitView, event}
 use Rattle.tk_engine_hierarchical.specs.declared.tests.Outcome.{Outcome}
 use Rattle.tk_engine_hierarchical.specs.declared.running_keys.RunningKey.{RunningKey}
 
@@ -71,6 +72,24 @@ skipped_child old new sink registered running rest first ask key reason was view
   running = same;
   stamp = kept;
 }
+
+pub started_child : (old new : UnitView) (sink registered : SenderView) (running rest : List RunningKey) (first : RunningKey) (ask : RegisterRequest) (key : ℕ)
+    → old.sink ≡ sink → old.running ≡ keys_of running → running ≡ first ∷ rest → ask.parent ≡ first.key → IsRegisteredAs sink registered ask (Ok key)
+    → new.sink ≡ sends registered (event Started key ask.stamp Nothing) → new.running ≡ key ∷ keys_of running → new.stamp ≡ old.stamp → HasStarted old new ask key
+started_child old new sink registered running rest first ask key was view is parent r took more kept = record {
+  outer = keys_of rest;
+  innermost = view ∙ ap keys_of is ∙ ap (λ k. k ∷ keys_of rest) (sym parent);
+  registered = registered;
+  registration = subst (λ s. IsRegisteredAs s registered ask (Ok key)) (sym was) r;
+  took = took;
+  running = more ∙ ap (λ l. key ∷ l) (sym view);
+  stamp = kept;
+}
+
+pub has_run_child : (old started before new : UnitView) (ask : ℕ → RegisterRequest) (key given stamp : ℕ) (outcome : Payload) → given ≡ stamp
+    → HasStarted old started (ask given) key → HasFinished before new (event Finished key before.stamp outcome) → HasRunChild old new (ask stamp)
+has_run_child old started before new ask key given stamp outcome same s f =
+    record { key = key; started = started; start = subst (λ n. HasStarted old started (ask n) key) same s; before = before; outcome = outcome; finish = f }
 
 pub finished_as : (old new : UnitView) (key given stamp : ℕ) (payload outcome : Payload) → given ≡ stamp → payload ≡ outcome
     → HasFinished old new (event Finished key given payload) → HasFinished old new (event Finished key stamp outcome)

@@ -5,6 +5,7 @@ use Rattle.tk_events.specs.declared.kinds.Kind.{Kind}
 use Rattle.tk_events.specs.declared.kinds.Kind.TheVariants.{Dynamic, File, Finished}
 use Rattle.tk_events.specs.declared.kinds.Kind.TheVariants.{Reporting, Skipped, Started}
 use Rattle.tk_events.specs.declared.payloads.Payload.{Payload}
+use Rattle.tk_events.specs.declared.payloads.Payload.TheVariants.{Nothing}
 use Rattle.tk_queue.specs.Registering.{IsRegisteredAs, RegisterRequest}
 use Rattle.tk_queue.specs.Senders.{SenderView, sends}
 use Rattle.tk_engine_execute.specs.Engines.{Extends}
@@ -44,6 +45,27 @@ pub record HasFinished (old new : UnitView) (e : Event) : Type 0 where
   pub running : old.running ≡ e.key ∷ new.running
   pub took : new.sink ≡ sends old.sink e
   pub stamp : new.stamp ≡ old.stamp
+
+-- what was asked for was registered under this key, below the innermost running one, then started,
+-- and nothing else happened
+pub record HasStarted (old new : UnitView) (ask : RegisterRequest) (key : ℕ) : Type 0 where
+  pub outer : List ℕ
+  pub innermost : old.running ≡ ask.parent ∷ outer
+  pub registered : SenderView
+  pub registration : IsRegisteredAs old.sink registered ask (Ok key)
+  pub took : new.sink ≡ sends registered (event Started key ask.stamp Nothing)
+  pub running : new.running ≡ key ∷ old.running
+  pub stamp : new.stamp ≡ old.stamp
+
+-- what was asked for was registered below the innermost running key and started; its finish is the
+-- last that happened
+pub record HasRunChild (old new : UnitView) (ask : RegisterRequest) : Type 0 where
+  pub key : ℕ
+  pub started : UnitView
+  pub start : HasStarted old started ask key
+  pub before : UnitView
+  pub outcome : Payload
+  pub finish : HasFinished before new (event Finished key before.stamp outcome)
 
 -- a descriptor was registered below the innermost running key, then skipped, and nothing else
 -- happened

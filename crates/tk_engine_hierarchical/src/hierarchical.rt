@@ -1,18 +1,22 @@
 //! The engine of a plan whose tests have bodies.
-ghost use Rattle.std.specs.Prelude.{◌≡◌, ◌<◌, ℕ, All, Err, IfSome, IsTrue, OnOk, length};
+ghost use Rattle.std.specs.Prelude.{◌≡◌, ◌⊎◌, ◌<◌, ℕ, All, Err, IfOk, IfSome, IsTrue, OnOk, length, unwrap_or};
 ghost use Rattle.tk_engine_execute.specs.declared.engines.UnitFault.{UnitFault};
+ghost use Rattle.tk_engine_execute.specs.declared.engines.UnitFault.TheVariants.{Own};
 ghost use Rattle.tk_plan_units.specs.Known.{IsKnown};
 ghost use Rattle.tk_plan_units.specs.Cutting.{units_of};
 ghost use Rattle.tk_plan_units.specs.Trees.{forest};
 ghost use Rattle.tk_engine_execute.specs.Engines.{Extends, IsSameSender};
+ghost use Rattle.tk_events.specs.declared.kinds.Kind.TheVariants.{Finished};
+ghost use Rattle.tk_engine_hierarchical.specs.Endings.{IsStaticTest, payload_of};
 ghost use Rattle.tk_engine_hierarchical.specs.Events.{HasRun};
+ghost use Rattle.tk_engine_hierarchical.specs.Reporting.{HasFinished, event};
 ghost use Rattle.tk_engine_hierarchical.specs.Shapes.{frame, keys_in};
 ghost use Rattle.tk_engine_hierarchical.specs.declared.tests.Outcome.{Outcome};
 
 use crate::leases::Lease;
 use crate::reporters::Reporter;
 use crate::shapes::Shape;
-use crate::tests::{OUT_OF_ORDER, Outcome, Tests};
+use crate::tests::{OUT_OF_ORDER, Outcome, Tests, payload_of};
 use crate::unit_events::{Child, UnitEvents};
 use crate::unit_runs::UnitRun;
 use std::alloc::Global;
@@ -44,6 +48,43 @@ fn take_ended<T: Tests>(tests: &T, ended: &mut Vec<Ended>, node: u32) -> Option<
         return None;
     }
     ended.pop()
+}
+
+// Runs the body of a test. The stamp is the one that the test set, where it did.
+fn run_test<R: Wait, S: Sink, K: UnitRun, T: Tests>(
+    rt: &R,
+    alloc: Global,
+    tests: &T,
+    key: u32,
+    reporter: &mut Reporter<'_, S, K>,
+) -> Result<Ended, UnitFault>
+    ensures key { IfOk result (λ e. e.key ≡ key) }
+    ensures may { IfOk result (λ e. T.may_end tests.now e.key e.outcome) }
+    ensures stamp { IfOk result (λ e. e.stamp ≡ reporter.new.own_stamp) }
+{
+    reporter.own_stamp = None;
+    let outcome = tests.run(rt, alloc, key, reporter)?;
+    Ok(Ended {
+        key,
+        outcome,
+        stamp: reporter.own_stamp,
+    })
+}
+
+// Finishes a test with its outcome, at the stamp that it set, or else at the plan's.
+fn finish_test<R: Wait, S: Sink, K: UnitRun>(
+    rt: &R,
+    test: Ended,
+    planned: u64,
+    reporter: &mut Reporter<'_, S, K>,
+) -> Result<(), UnitFault>
+    requires { IsStaticTest K.frame.table test.key → K.may_end test.key test.outcome }
+    ensures { OnOk result (HasFinished reporter.old.events reporter.new.events
+        (event Finished test.key (unwrap_or test.stamp planned) (payload_of test.outcome))) }
+{
+    let stamp = test.stamp.unwrap_or(planned);
+    let outcome = payload_of(test.outcome);
+    reporter.events.finish(rt, test.key, stamp, outcome)
 }
 
 // Finishes the innermost running key with the outcome that the plan has for it, which is none that a
@@ -90,13 +131,7 @@ fn start_node<R: Wait, S: Sink, K: UnitRun, T: Tests>(
     }
     reporter.events.start(rt, alloc, step.node, step.stamp)?;
     if plan.dtype(step.node).is_test() {
-        reporter.own_stamp = None;
-        let outcome = tests.run(rt, alloc, step.node, reporter)?;
-        let last = Ended {
-            key: step.node,
-            outcome,
-            stamp: reporter.own_stamp,
-        };
+        let last = run_test(rt, alloc, tests, step.node, reporter)?;
         if ended.push(last).is_err() {
             // No allocation failed here: the list's did.
             return Err(UnitFault::Memory);
@@ -152,8 +187,7 @@ fn do_step<R: Wait, S: Sink, K: UnitRun, T: Tests>(
         }
         Act::Finish => {
             if let Some(last) = take_ended(tests, ended, step.node) {
-                reporter.events.set_stamp(last.stamp.unwrap_or(step.stamp));
-                return reporter.finish(rt, last.key, last.outcome);
+                return finish_test(rt, last, step.stamp, reporter);
             }
             let outcome = plan.payload(alloc, step)?;
             finish_without_body(rt, step.stamp, outcome, reporter)
@@ -186,6 +220,8 @@ fn ending(played: Result<(), UnitFault>, rests: bool, had_turns: bool) -> Result
     ensures rests { OnOk result (IsTrue rests) }
     ensures had_turns { OnOk result (IsTrue had_turns) }
     ensures fault { (why : UnitFault) → played ≡ Err why → result ≡ Err why }
+    ensures own { (why : UnitFault) → result ≡ Err why
+        → (played ≡ Err why) ⊎ (why ≡ Own OUT_OF_ORDER) }
 {
     played?;
     if rests && had_turns {

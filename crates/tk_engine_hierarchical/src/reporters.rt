@@ -1,11 +1,11 @@
 //! What a test publishes while it runs.
-ghost use Rattle.std.specs.Prelude.{◌≡◌, ℕ, OnErr, OnOk, length};
-ghost use Rattle.tk_ids.specs.declared.descriptors.DType.TheVariants.{Test};
+ghost use Rattle.std.specs.Prelude.{◌≡◌, ℕ, OnErr, OnOk, Some, length};
+ghost use Rattle.tk_ids.specs.declared.descriptors.DType.TheVariants.{Container, Test};
 ghost use Rattle.tk_events.specs.declared.kinds.Kind.TheVariants as kinds;
 ghost use Rattle.tk_events.specs.declared.payloads.Payload.TheVariants as payloads;
 ghost use Rattle.tk_engine_execute.specs.Engines.{Extends, IsSameSender};
 ghost use Rattle.tk_engine_hierarchical.specs.Endings.{IsStaticTest, payload_of};
-ghost use Rattle.tk_engine_hierarchical.specs.Reporting.{EndsChild, Grew, HasFinished, HasSkipped, Published, event};
+ghost use Rattle.tk_engine_hierarchical.specs.Reporting.{EndsChild, Grew, HasFinished, HasRunChild, HasSkipped, Published, event};
 
 use crate::tests::{Body, Outcome, payload_of};
 use crate::unit_events::{Child, UnitEvents};
@@ -50,8 +50,16 @@ impl<'a, S: Sink, K: UnitRun> Reporter<'a, S, K> {
         child: &Child<'_>,
         body: &B,
     ) -> Result<(), UnitFault>
-        ensures { OnOk result
+        ensures ok { OnOk result
             (EndsChild (length K.frame.table) (B.may_end body.now) self.new.events) }
+        ensures child { OnOk result ((above : ℕ) × HasRunChild self.old.events self.new.events
+            (record {
+              parent = above;
+              segment = child.now.segment.now;
+              name = child.now.name.now;
+              dtype = child.now.dtype;
+              stamp = self.old.events.stamp;
+            })) }
     {
         let stamp = self.events.stamp();
         let key = self.events.start_child(rt, alloc, child, stamp)?;
@@ -64,7 +72,8 @@ impl<'a, S: Sink, K: UnitRun> Reporter<'a, S, K> {
     ///
     /// Until then each event has the stamp of the plan.
     pub fn set_stamp(&mut self, stamp: u64)
-        ensures { self.new.events ≡ record self.old.events { stamp = stamp } }
+        ensures events { self.new.events ≡ record self.old.events { stamp = stamp } }
+        ensures finish { self.new.own_stamp ≡ Some stamp }
     {
         self.own_stamp = Some(stamp);
         self.events.set_stamp(stamp);
@@ -80,6 +89,7 @@ impl<'a, S: Sink, K: UnitRun> Reporter<'a, S, K> {
         ensures ok { OnOk result ((key : ℕ) × Published self.old.events self.new.events
             (event kinds.Reporting key self.old.events.stamp (payloads.Report pairs))) }
         ensures err { OnErr result (self.new.events ≡ self.old.events) }
+        ensures finish { self.new.own_stamp ≡ self.old.own_stamp }
     {
         let stamp = self.events.stamp();
         self.events
@@ -94,6 +104,7 @@ impl<'a, S: Sink, K: UnitRun> Reporter<'a, S, K> {
         ensures ok { OnOk result ((key : ℕ) × Published self.old.events self.new.events
             (event kinds.File key self.old.events.stamp (payloads.Path path))) }
         ensures err { OnErr result (self.new.events ≡ self.old.events) }
+        ensures finish { self.new.own_stamp ≡ self.old.own_stamp }
     {
         let stamp = self.events.stamp();
         self.events
@@ -117,6 +128,14 @@ impl<'a, S: Sink, K: UnitRun> Reporter<'a, S, K> {
     ) -> Result<(), UnitFault>
         ensures ok { OnOk result
             (EndsChild (length K.frame.table) (B.may_end body.now) self.new.events) }
+        ensures child { OnOk result ((above : ℕ) × HasRunChild self.old.events self.new.events
+            (record {
+              parent = above;
+              segment = segment.now;
+              name = name.now;
+              dtype = Test;
+              stamp = self.old.events.stamp;
+            })) }
         // Whatever the body does.
         ensures same { IsSameSender K.start self.new.events.sink }
         ensures some { Extends K.start self.new.events.sink }
@@ -145,6 +164,14 @@ impl<'a, S: Sink, K: UnitRun> Reporter<'a, S, K> {
     ) -> Result<(), UnitFault>
         ensures ok { OnOk result
             (EndsChild (length K.frame.table) (B.may_end body.now) self.new.events) }
+        ensures child { OnOk result ((above : ℕ) × HasRunChild self.old.events self.new.events
+            (record {
+              parent = above;
+              segment = segment.now;
+              name = name.now;
+              dtype = Container;
+              stamp = self.old.events.stamp;
+            })) }
         // Whatever the body does.
         ensures same { IsSameSender K.start self.new.events.sink }
         ensures some { Extends K.start self.new.events.sink }
@@ -180,6 +207,7 @@ impl<'a, S: Sink, K: UnitRun> Reporter<'a, S, K> {
               stamp = self.old.events.stamp;
             }) (payloads.Reason reason)) }
         ensures err { OnErr result (Grew self.old.events self.new.events) }
+        ensures finish { self.new.own_stamp ≡ self.old.own_stamp }
     {
         let child = Child {
             segment,

@@ -4,7 +4,7 @@ ghost use Rattle.tk_engine_execute.specs.Engines.{Extends, IsSameSender};
 ghost use Rattle.tk_events.specs.declared.kinds.Kind.TheVariants.{Finished};
 ghost use Rattle.tk_engine_hierarchical.specs.Endings.{IsStaticTest, MayFinish};
 ghost use Rattle.tk_engine_hierarchical.specs.Events.{HasRun};
-ghost use Rattle.tk_engine_hierarchical.specs.Reporting.{Grew, HasFinished, HasSkipped, Published, event, publishes};
+ghost use Rattle.tk_engine_hierarchical.specs.Reporting.{Grew, HasFinished, HasSkipped, HasStarted, Published, event, publishes};
 ghost use Rattle.tk_engine_hierarchical.specs.Shapes.{frame, keys_in};
 
 use crate::leases::Lease;
@@ -275,7 +275,15 @@ impl<'a, S: Sink, K: UnitRun> UnitEvents<'a, S, K> {
         child: &Child<'_>,
         stamp: u64,
     ) -> Result<u32, UnitFault>
-        ensures { IfOk result (λ key. length K.frame.table ≤ key) }
+        ensures dynamic { IfOk result (λ key. length K.frame.table ≤ key) }
+        ensures started { IfOk result (λ key. (above : ℕ) × HasStarted self.old self.new
+            (record {
+              parent = above;
+              segment = child.now.segment.now;
+              name = child.now.name.now;
+              dtype = child.now.dtype;
+              stamp = stamp;
+            }) key) }
     {
         let Some(innermost) = self.running.innermost() else {
             return Err(UnitFault::Own(OUT_OF_ORDER));

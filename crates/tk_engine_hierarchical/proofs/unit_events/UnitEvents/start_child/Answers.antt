@@ -1,8 +1,10 @@
-use Rattle.std.proofs.Common.{refl, sym, subst, ◌∙◌}
+use Rattle.std.proofs.Common.{ap, refl, sym, subst, ◌∙◌}
 use Rattle.tk_events.specs.declared.kinds.Kind.TheVariants.{Started}
-use Rattle.tk_engine_hierarchical.specs.Events.{IsRunning}
+use Rattle.tk_engine_hierarchical.specs.Events.{IsRunning, keys_of}
+use Rattle.tk_engine_hierarchical.specs.Reporting.{UnitView}
 use Rattle.tk_engine_hierarchical.specs.Units.{HasPlayed}
 use Rattle.tk_engine_hierarchical.proofs.Played.{played_plain, played_registration, started_is_not}
+use Rattle.tk_engine_hierarchical.proofs.Reported.{started_child}
 use Rattle.tk_engine_hierarchical.proofs.Running.{child_off, ran_child, ran_noted, ran_registered, registered_child}
 use Rattle.tk_engine_hierarchical.proofs.unit_events.UnitEvents.start_child.Goals as goal
 
@@ -61,4 +63,13 @@ invariant_of-self-in-Err g c =
           c.in-Some.ensures.some.1 c.in_ok-key.ensures.ok refl c.in_ok-id.ensures.id c.in_ok-id.ensures.not_static c.in_ok-id.ensures.not_registered c.in_ok-add.ensures.ok),
       subst (λ s. HasPlayed g.K.UnitRun.frame.table g.K.UnitRun.may_end g.K.UnitRun.keys.first c.self.inside.next g.K.UnitRun.start s) (sym c.in-Err.ensures.err)
           (played_registration g.K.UnitRun.frame.table g.K.UnitRun.may_end g.K.UnitRun.keys.first g.K.UnitRun.start _ _ c.self.inside.next c.in_ok-key.key _ c.in_ok-key.ensures.ok i.5),
+    )
+
+pub returns-in-Ok-clause-started : goal.returns-in-Ok-clause-started
+returns-in-Ok-clause-started g c =
+    let sink = ap (λ (v : UnitView). v.sink) c.self.view_is in
+    let runs = ap (λ (v : UnitView). v.running) c.self.view_is in (
+      c.in-Some.innermost.now.key,
+      started_child _ _ _ _ c.self.inside.running c.in-Some.ensures.some.0 c.in-Some.innermost.now _ c.in_ok-key.key (sym sink) (sym runs) c.in-Some.ensures.some.1 refl c.in_ok-key.ensures.ok c.in-Ok.ensures.ok
+          (ap keys_of c.in_ok-push.ensures.ok) (ap (λ (v : UnitView). v.stamp) c.self.view_is),
     )
