@@ -1,4 +1,6 @@
 pub mod Emitted
+pub mod Nested
+pub mod Nesting
 pub mod Owned
 pub mod Played
 pub mod Recorded

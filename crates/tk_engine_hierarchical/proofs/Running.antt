@@ -17,22 +17,24 @@ use Rattle.tk_queue.specs.Registering.{IsRegisteredAs, RegisterRequest, child_of
 use Rattle.tk_queue.specs.Senders.{SenderView, record_of_sender, sends}
 use Rattle.tk_query.specs.Lifecycle.{HasId}
 use Rattle.tk_query.specs.KeepsLifecycle.{is_step}
-use Rattle.tk_engine_lifecycle.specs.Units.{Frame, KeepsAround}
+use Rattle.tk_engine_lifecycle.specs.Units.{Frame, KeepsAround, run_alone}
 use Rattle.tk_engine_lifecycle.proofs.States.{state}
 use Rattle.tk_engine_lifecycle.specs.UnderWay.{IsOneOf, MayBegin, so_far}
-use Rattle.tk_engine_lifecycle.proofs.ByKey.{events_by, from_table, one_id, registration_of, table_or_entry}
+use Rattle.tk_engine_lifecycle.proofs.ByKey.{events_by, from_table, later_id, one_id, registration_of, table_or_entry}
 use Rattle.tk_engine_lifecycle.proofs.Apart.{plain}
+use Rattle.tk_engine_lifecycle.proofs.Going.{kept_id}
 use Rattle.tk_engine_execute.specs.Engines.{Extends, IsSameSender}
-use Rattle.tk_engine_hierarchical.specs.Emitting.{IsEmitting, since}
-use Rattle.tk_engine_hierarchical.specs.Covered.{AreCovered}
+use Rattle.tk_engine_hierarchical.specs.Emitting.{IsEmitting, Progress, since}
+use Rattle.tk_engine_hierarchical.specs.Covered.{AreCovered, IsBelow}
 use Rattle.tk_engine_hierarchical.specs.Endings.{EndsAsItMay}
 use Rattle.tk_engine_hierarchical.specs.Units.{HasPlayed, UnitKeys}
 use Rattle.tk_engine_hierarchical.specs.declared.tests.Outcome.{Outcome}
-use Rattle.tk_engine_hierarchical.specs.Events.{HasRun, HasParentAmong, HaveIds, IsRunning, MayStart, keys_of, progress}
+use Rattle.tk_engine_hierarchical.specs.Events.{HasInnermostParent, HasRun, HasParentAmong, HaveIds, IsNesting, IsRunning, MayStart, keys_of, progress}
 use Rattle.tk_engine_hierarchical.specs.RegisteredIds.{is_registered}
 use Rattle.tk_engine_hierarchical.specs.Reporting.{publishes}
 use Rattle.tk_engine_hierarchical.specs.declared.running_keys.RunningKey.{RunningKey}
 use Rattle.tk_engine_hierarchical.specs.Shapes.{ShapeView, frame}
+use Rattle.tk_engine_hierarchical.proofs.Nesting.{Adds, IsNext, IsWithin, below_parent, each_finishes, nest_later, nesting_finish, nesting_none, nesting_plain, nesting_start, within_all, within_first}
 use Rattle.tk_engine_hierarchical.proofs.Owned.{owner_child, owner_static}
 use Rattle.tk_engine_hierarchical.proofs.Emitted.{Registered, Registering, emitted_finish, emitted_all, emitted_registration, emitted_report, emitted_skip, emitted_start, emitting_later, emitting_none, emitting_noted, registered_skip, registered_start, sender_later, sender_now}
 
@@ -67,16 +69,79 @@ later_ids s e running h = All-weaker (λ k. HasId (record_of_sender s) k.key k.i
 innermost_is : (running rest : List RunningKey) (first : RunningKey) → running ≡ first ∷ rest → IsOneOf first.key (keys_of running)
 innermost_is running rest first is = subst (λ l. IsOneOf first.key (keys_of l)) (sym is) (inl refl)
 
+cancel : (a x y : List Event) → a ++ x ≡ a ++ y → x ≡ y
+cancel [] x y e = e
+cancel (v ∷ a) x y e = let rest : a ++ x ≡ a ++ y = cc in cancel a x y rest
+
+-- ---- the events that a unit has emitted
+
+-- where a sink took one event more, so did the list of the unit's events
+same_more : (f : Frame) (unit : ℕ) (start now : SenderView) (p q : Progress) (e : Event) (i : IsEmitting f unit (since start now) p) (j : IsEmitting f unit (since start (sends now e)) q)
+    → i.events ++ e ∷ [] ≡ j.events
+same_more f unit start now p q e i j =
+    cancel start.sent (i.events ++ e ∷ []) j.events (sym (append_assoc start.sent i.events (e ∷ [])) ∙ ap (λ l. l ++ e ∷ []) (sym i.sent) ∙ j.sent)
+
+same_events : (f : Frame) (unit : ℕ) (start now : SenderView) (p q : Progress) (i : IsEmitting f unit (since start now) p) (j : IsEmitting f unit (since start now) q) → i.events ≡ j.events
+same_events f unit start now p q i j = cancel start.sent i.events j.events (sym i.sent ∙ j.sent)
+
+-- of these events the keys have their own until they finish
+abbrev Nests : Frame → ℕ → List RunningKey → List Event → Type 0
+Nests f w running l = IsNesting (so_far f w l) l running
+
+nests_more : (f : Frame) (unit : ℕ) (start now : SenderView) (p q : Progress) (e : Event) (running : List RunningKey) (i : IsEmitting f unit (since start now) p) (j : IsEmitting f unit (since start (sends now e)) q)
+    → Nests f start.worker running (i.events ++ e ∷ []) → Nests f start.worker running j.events
+nests_more f unit start now p q e running i j n = subst (Nests f start.worker running) (same_more f unit start now p q e i j) n
+
+nests_same : (f : Frame) (unit : ℕ) (start now : SenderView) (p q : Progress) (running : List RunningKey) (i : IsEmitting f unit (since start now) p) (j : IsEmitting f unit (since start now) q)
+    → Nests f start.worker running i.events → Nests f start.worker running j.events
+nests_same f unit start now p q running i j n = subst (Nests f start.worker running) (same_events f unit start now p q i j) n
+
+-- an event of a key that has this id already
+adds : (f : Frame) (w : ℕ) (l : List Event) (e : Event) (running : List RunningKey) (key : ℕ) (id : List SegmentView) → HasId (so_far f w l) key id → e.key ≡ key → All (IsWithin id) running
+    → Adds (so_far f w l) (so_far f w (l ++ e ∷ [])) running e id
+adds f w l e running key id its same within = record {
+  later = kept_id f w l e;
+  named = subst (λ k. HasId (so_far f w (l ++ e ∷ [])) k id) (sym same) (kept_id f w l e key id its);
+  within = within;
+}
+
+-- an event of the innermost running key
+adds_first : (f : Frame) (w : ℕ) (l : List Event) (e : Event) (first : RunningKey) (rest : List RunningKey) → Nests f w (first ∷ rest) l → e.key ≡ first.key
+    → Adds (so_far f w l) (so_far f w (l ++ e ∷ [])) (first ∷ rest) e first.id
+adds_first f w l e first rest n same =
+    adds f w l e (first ∷ rest) first.key first.id (All-head (λ k. HasId (so_far f w l) k.key k.id) first rest n.ids) same (within_first first rest n.chain)
+
+not_started : (k : Kind) → publishes k ≡ true → k ≡ Started → ⊥
+not_started k p e = let bad : true ≡ false = sym p ∙ ap publishes e in cc
+
+finish_is_not : (k : Kind) → k ≡ Finished → k ≡ Started → ⊥
+finish_is_not k a b = let bad : Finished ≡ Started = sym a ∙ b in cc
+
+skip_is_not : (k : Kind) → k ≡ Skipped → k ≡ Started → ⊥
+skip_is_not k a b = let bad : Skipped ≡ Started = sym a ∙ b in cc
+
+dynamic_is_not : (k : Kind) → k ≡ Dynamic → k ≡ Started → ⊥
+dynamic_is_not k a b = let bad : Dynamic ≡ Started = sym a ∙ b in cc
+
 -- what the innermost running key publishes
 pub ran_published : (f : Frame) (unit : ℕ) (start now : SenderView) (running : List RunningKey) (registered : List (List ℕ × ℕ)) (next : ℕ)
     (first : RunningKey) (e : Event) → IsRunning f unit start now running registered next
     → (rest : List RunningKey) × (running ≡ first ∷ rest) → publishes e.kind ≡ true → e.key ≡ first.key
     → IsRunning f unit start (sends now e) running registered next
-ran_published f unit start now running registered next first e r is kind key = record {
-  emitting = emitted_report f unit start now (progress running registered next) e r.emitting (no_step e.kind kind) (plain_kind e.kind kind)
-      (subst (λ k. IsOneOf k (keys_of running)) (sym key) (innermost_is running is.0 first is.1));
-  ids = later_ids now e running r.ids;
-}
+ran_published f unit start now running registered next first e r is kind key =
+    let i = r.emitting in
+    let l = i.events in
+    let w = start.worker in
+    let j = emitted_report f unit start now (progress running registered next) e i (no_step e.kind kind) (plain_kind e.kind kind)
+    (subst (λ k. IsOneOf k (keys_of running)) (sym key) (innermost_is running is.0 first is.1)) in
+    let n : Nests f w (first ∷ is.0) l = subst (λ m. Nests f w m l) is.1 r.nesting in
+    let more : Nests f w (first ∷ is.0) (l ++ e ∷ [])
+    = nesting_plain (so_far f w l) (so_far f w (l ++ e ∷ [])) l e (first ∷ is.0) first.id n (adds_first f w l e first is.0 n key) (not_started e.kind kind) in
+    record {
+      emitting = j;
+      ids = later_ids now e running r.ids;
+      nesting = nests_more f unit start now (progress running registered next) (progress running registered next) e running i j (subst (λ m. Nests f w m (l ++ e ∷ [])) (sym is.1) more);
+    }
 
 -- the innermost running key finishes
 pub ran_finish : (f : Frame) (unit : ℕ) (start now : SenderView) (running rest : List RunningKey) (registered : List (List ℕ × ℕ)) (next : ℕ)
@@ -86,9 +151,15 @@ pub ran_finish : (f : Frame) (unit : ℕ) (start now : SenderView) (running rest
 ran_finish f unit start now running rest registered next first e r is kind key =
     let i : IsEmitting f unit (since start now) (record { running = e.key ∷ keys_of rest; registered = is_registered registered; next = next })
     = subst (λ l. IsEmitting f unit (since start now) (record { running = l; registered = is_registered registered; next = next })) (ap keys_of is ∙ ap (λ k. k ∷ keys_of rest) (sym key)) r.emitting in
+    let j = emitted_finish f unit start now (keys_of rest) (is_registered registered) next e i kind in
+    let l = r.emitting.events in
+    let w = start.worker in
+    let n : Nests f w (first ∷ rest) l = subst (λ m. Nests f w m l) is r.nesting in
     record {
-      emitting = emitted_finish f unit start now (keys_of rest) (is_registered registered) next e i kind;
+      emitting = j;
       ids = All-tail (λ k. HasId (record_of_sender (sends now e)) k.key k.id) first rest (later_ids now e (first ∷ rest) (subst (HaveIds now) is r.ids));
+      nesting = nests_more f unit start now (progress running registered next) (progress rest registered next) e rest r.emitting j
+          (nesting_finish (so_far f w l) (so_far f w (l ++ e ∷ [])) l e first rest first.id n (adds_first f w l e first rest n key) kind key (finish_is_not e.kind kind));
     }
 
 -- ---- static keys
@@ -101,8 +172,22 @@ table_id (d ∷ ds) (suc k) id e = table_id ds k id e
 static_id : (r : Recorded) (k : ℕ) (id : List SegmentView) → slice_get (ids_of r.table) k ≡ Some id → HasId r k id
 static_id r k id e = let d = table_id r.table k id e in record { descriptor = d.0; described = from_table r k d.0 d.1; id_is = d.2 }
 
+-- a static id whose parent's id the innermost running key has stands below that key
+next_static : (f : Frame) (w : ℕ) (l : List Event) (running : List RunningKey) (id : List SegmentView) → All (λ k. HasId (so_far f w l) k.key k.id) running
+    → HasInnermostParent f (keys_of running) id → IsNext running id
+next_static f w l [] id ids h = tt
+next_static f w l (k ∷ ks) id ids h =
+    let r = so_far f w l in
+    let same : k.id ≡ parent_of id = one_id r k.key k.id (parent_of id) (All-head (λ x. HasId r x.key x.id) k ks ids) (static_id r k.key (parent_of id) h.1) in
+    subst (λ x. IsBelow x id) (sym same) (below_parent id h.0)
+
 pub described_id : (r : Recorded) (k : ℕ) (d : Descriptor) → slice_get r.table k ≡ Some d → HasId r k d.id
 described_id r k d e = record { descriptor = d; described = from_table r k d e; id_is = refl }
+
+pub described_here : (table : List Descriptor) (k : ℕ) (d : Descriptor) → slice_get table k ≡ Some d → slice_get (ids_of table) k ≡ Some d.id
+described_here [] k d e = cc
+described_here (x ∷ xs) zero d e = ap (λ (y : Descriptor). Some y.id) (some_same e)
+described_here (x ∷ xs) (suc k) d e = described_here xs k d e
 
 -- a static key that may start may have its first event
 may_begin : (f : Frame) (unit w : ℕ) (l : List Event) (running : List ℕ) (key : ℕ) → MayStart f unit running key → MayBegin (state f unit w l running) key
@@ -136,10 +221,19 @@ ran_start f unit start now running registered next key id e r m low at kind same
     let b = may_begin f unit start.worker i.events (keys_of running) key m in
     let static = static_below f.table key m.descriptor m.described in
     let table : now.table ≡ f.table = i.same.table ∙ i.table in
+    let l = i.events in
+    let w = start.worker in
+    let j : IsEmitting f unit (since start (sends now e)) (record { running = key ∷ keys_of running; registered = is_registered registered; next = key + 1 })
+    = subst (λ k. IsEmitting f unit (since start (sends now e)) (record { running = k ∷ keys_of running; registered = is_registered registered; next = k + 1 })) same
+    (emitted_start f unit start now (progress running registered next) e i kind (subst (λ k. next ≤ k) (sym same) low) (subst (λ k. k < length f.table) (sym same) static)
+    (subst (MayBegin (state f unit start.worker i.events (keys_of running))) (sym same) b)) in
+    let its : HasId (so_far f w l) key id = static_id (so_far f w l) key id at in
+    let own : m.descriptor.id ≡ id = some_same (sym (described_here f.table key m.descriptor m.described) ∙ at) in
+    let next_is : IsNext running id = next_static f w l running id r.nesting.ids (subst (HasInnermostParent f (keys_of running)) own m.innermost) in
     record {
-      emitting = subst (λ k. IsEmitting f unit (since start (sends now e)) (record { running = k ∷ keys_of running; registered = is_registered registered; next = k + 1 })) same
-          (emitted_start f unit start now (progress running registered next) e i kind (subst (λ k. next ≤ k) (sym same) low) (subst (λ k. k < length f.table) (sym same) static)
-          (subst (MayBegin (state f unit start.worker i.events (keys_of running))) (sym same) b));
+      emitting = j;
+      nesting = nests_more f unit start now (progress running registered next) (record { running = key ∷ keys_of running; registered = is_registered registered; next = key + 1 }) e (record { key = key; id = id } ∷ running) i j
+          (nesting_start (so_far f w l) (so_far f w (l ++ e ∷ [])) l e running key id r.nesting (adds f w l e running key id its same (within_all running id r.nesting.chain next_is)) same next_is);
       ids = All-cons (λ k. HasId (record_of_sender (sends now e)) k.key k.id) (record { key = key; id = id }) running
           (static_id (record_of_sender (sends now e)) key id (ap (λ t. slice_get (ids_of t) key) table ∙ at)) (later_ids now e running r.ids);
     }
@@ -153,11 +247,20 @@ ran_skip f unit start now running registered next key e r m low kind same =
     let i = r.emitting in
     let b = may_begin f unit start.worker i.events (keys_of running) key m in
     let static = static_below f.table key m.descriptor m.described in
+    let l = i.events in
+    let w = start.worker in
+    let id = m.descriptor.id in
+    let j : IsEmitting f unit (since start (sends now e)) (record { running = keys_of running; registered = is_registered registered; next = key + 1 })
+    = subst (λ k. IsEmitting f unit (since start (sends now e)) (record { running = keys_of running; registered = is_registered registered; next = k + 1 })) same
+    (emitted_skip f unit start now (progress running registered next) e i kind (subst (λ k. next ≤ k) (sym same) low) (subst (λ k. k < length f.table) (sym same) static)
+    (subst (MayBegin (state f unit start.worker i.events (keys_of running))) (sym same) b)) in
+    let next_is : IsNext running id = next_static f w l running id r.nesting.ids m.innermost in
     record {
-      emitting = subst (λ k. IsEmitting f unit (since start (sends now e)) (record { running = keys_of running; registered = is_registered registered; next = k + 1 })) same
-          (emitted_skip f unit start now (progress running registered next) e i kind (subst (λ k. next ≤ k) (sym same) low) (subst (λ k. k < length f.table) (sym same) static)
-          (subst (MayBegin (state f unit start.worker i.events (keys_of running))) (sym same) b));
+      emitting = j;
       ids = later_ids now e running r.ids;
+      nesting = nests_more f unit start now (progress running registered next) (record { running = keys_of running; registered = is_registered registered; next = key + 1 }) e running i j
+          (nesting_plain (so_far f w l) (so_far f w (l ++ e ∷ [])) l e running id r.nesting
+          (adds f w l e running key id (described_id (so_far f w l) key m.descriptor m.described) same (within_all running id r.nesting.chain next_is)) (skip_is_not e.kind kind));
     }
 
 no_key : (first : RunningKey) (rest : List RunningKey) → [] ≡ first ∷ rest → ⊥
@@ -174,19 +277,15 @@ popped old new rest first (Some k) is some none =
     let same : k ≡ first = first_same (sym some ∙ is) in
     some ∙ ap (λ x. x ∷ new) same
 
-pub described_here : (table : List Descriptor) (k : ℕ) (d : Descriptor) → slice_get table k ≡ Some d → slice_get (ids_of table) k ≡ Some d.id
-described_here [] k d e = cc
-described_here (x ∷ xs) zero d e = ap (λ (y : Descriptor). Some y.id) (some_same e)
-described_here (x ∷ xs) (suc k) d e = described_here xs k d e
-
 -- a static key whose owner is the unit, and whose parent runs, may start
 pub may_start : (s : ShapeView) (unit key : ℕ) (running : List RunningKey) (d : Descriptor) → AreDifferent s.table → slice_get s.table key ≡ Some d
-    → get_or s.owners key s.units ≡ unit → HasParentAmong (frame s) (keys_of running) d.id → MayStart (frame s) unit (keys_of running) key
-may_start s unit key running d different is owner parent = record {
+    → get_or s.owners key s.units ≡ unit → HasParentAmong (frame s) (keys_of running) d.id → HasInnermostParent (frame s) (keys_of running) d.id → MayStart (frame s) unit (keys_of running) key
+may_start s unit key running d different is owner parent innermost = record {
   descriptor = d;
   described = is;
   belongs = owner_static s.table s.owners s.units key d.id different (described_here s.table key d is) ∙ owner;
   parent = parent;
+  innermost = innermost;
 }
 
 -- what holds of an id that was found
@@ -208,7 +307,8 @@ started f unit start old now running pushed registered next after key id e sent 
 ran_later : (f : Frame) (unit : ℕ) (start now : SenderView) (running : List RunningKey) (registered : List (List ℕ × ℕ)) (next after : ℕ)
     → next ≤ after → IsRunning f unit start now running registered next → IsRunning f unit start now running registered after
 ran_later f unit start now running registered next after more r =
-    record { emitting = emitting_later f unit start now (progress running registered next) r.emitting after more; ids = r.ids }
+    let j = emitting_later f unit start now (progress running registered next) r.emitting after more in
+    record { emitting = j; ids = r.ids; nesting = nests_same f unit start now (progress running registered next) (progress running registered after) running r.emitting j r.nesting }
 
 -- a unit after the skip of a static key
 pub skipped : (f : Frame) (unit : ℕ) (start old now : SenderView) (running : List RunningKey) (registered : List (List ℕ × ℕ)) (next after key : ℕ) (e : Event)
@@ -234,6 +334,9 @@ pub record HasRegistered (f : Frame) (unit : ℕ) (start now : SenderView) (runn
   pub registration : Registered f unit start now (progress running registered next) key
   pub ids : HaveIds now running
   pub own : HasId (record_of_sender now) key id
+  pub nesting : IsNesting (so_far f start.worker registration.emitting.events) registration.emitting.events running
+  pub there : HasId (so_far f start.worker registration.emitting.events) key id
+  pub next_is : IsNext running id
 
 first_id : (s : SenderView) (first : RunningKey) (rest running : List RunningKey) → running ≡ first ∷ rest → HaveIds s running → HasId (record_of_sender s) first.key first.id
 first_id s first rest running is h = All-head (λ k. HasId (record_of_sender s) k.key k.id) first rest (subst (HaveIds s) is h)
@@ -258,10 +361,9 @@ noted_own registered noted own all = all own ∙ true_or (bytes_eq own own) (is_
 pub ran_noted : (f : Frame) (unit : ℕ) (start now : SenderView) (running : List RunningKey) (registered noted : List (List ℕ × ℕ)) (next : ℕ) (own : List ℕ)
     → ((text : List ℕ) → is_registered noted text ≡ (bytes_eq text own || is_registered registered text))
     → IsRunning f unit start now running registered next → IsRunning f unit start now running noted next
-ran_noted f unit start now running registered noted next own all r = record {
-  emitting = emitting_noted f unit start now (progress running registered next) r.emitting (is_registered noted) (noted_more registered noted own all);
-  ids = r.ids;
-}
+ran_noted f unit start now running registered noted next own all r =
+    let j = emitting_noted f unit start now (progress running registered next) r.emitting (is_registered noted) (noted_more registered noted own all) in
+    record { emitting = j; ids = r.ids; nesting = nests_same f unit start now (progress running registered next) (progress running noted next) running r.emitting j r.nesting }
 
 pub ran_registration : (s : ShapeView) (unit : ℕ) (start old now : SenderView) (running rest : List RunningKey) (registered noted : List (List ℕ × ℕ)) (next key : ℕ)
     (first : RunningKey) (id : List SegmentView) (ask : RegisterRequest)
@@ -298,40 +400,75 @@ ran_registration s unit start old now running rest registered noted next key fir
     } in
     let done = emitted_registration f unit start old (progress running registered next) e d i g (is_registered noted) (noted_more registered noted (id_text id) all)
     (subst (λ x. is_registered noted (id_text x) ≡ true) (sym id_is) (noted_own registered noted (id_text id) all)) in
-    record {
-      registration = subst (λ k. Registered f unit start now (progress running noted next) k) (sym key_is) (subst (λ v. Registered f unit start v (progress running noted next) e.key) (sym now_is) done);
-      ids = subst (λ v. HaveIds v running) (sym now_is) (later_ids old e running r.ids);
-      own = subst (λ k. HasId (record_of_sender now) k id) (sym key_is) (subst (λ v. HasId (record_of_sender v) e.key id) (sym now_is)
-          (subst (HasId (record_of_sender (sends old e)) e.key) id_is (sender_now old e d refl refl (subst (λ k. desc (record_of_sender old) k ≡ None) key_is a.6))));
-    }
+    let l = i.events in
+    let w = start.worker in
+    let own : HasId (record_of_sender (sends old e)) e.key d.id = sender_now old e d refl refl (subst (λ k. desc (record_of_sender old) k ≡ None) key_is a.6) in
+    let b = done.may_begin in
+    let here : HasId (so_far f w done.emitting.events) e.key d.id
+    = subst (HasId (so_far f w done.emitting.events) e.key) (one_id (record_of_sender (sends old e)) e.key b.id d.id (done.emitting.known e.key b.id b.its) own) b.its in
+    let below : IsBelow first.id d.id = (ask.segment, [], ap (λ x. x ++ ask.segment ∷ []) same) in
+    let next_is : IsNext running d.id = subst (λ m. IsNext m d.id) (sym is) below in
+    let more : Adds (so_far f w l) (so_far f w (l ++ e ∷ [])) running e d.id = record {
+      later = kept_id f w l e;
+      named = subst (λ m. HasId (so_far f w m) e.key d.id) (sym (same_more f unit start old (progress running registered next) (progress running noted next) e i done.emitting)) here;
+      within = within_all running d.id r.nesting.chain next_is;
+    } in
+    let at : HasRegistered f unit start (sends old e) running noted next e.key d.id = record {
+      registration = done;
+      ids = later_ids old e running r.ids;
+      own = own;
+      nesting = nests_more f unit start old (progress running registered next) (progress running noted next) e running i done.emitting
+          (nesting_plain (so_far f w l) (so_far f w (l ++ e ∷ [])) l e running d.id r.nesting more (dynamic_is_not e.kind refl));
+      there = here;
+      next_is = next_is;
+    } in
+    subst (λ x. HasRegistered f unit start now running noted next key x) id_is
+    (subst (λ k. HasRegistered f unit start now running noted next k d.id) (sym key_is)
+    (subst (λ v. HasRegistered f unit start v running noted next e.key d.id) (sym now_is) at))
 
 -- what was registered and didn't begin
 pub ran_registered : (f : Frame) (unit : ℕ) (start now : SenderView) (running : List RunningKey) (registered : List (List ℕ × ℕ)) (next key : ℕ) (id : List SegmentView)
     → HasRegistered f unit start now running registered next key id → IsRunning f unit start now running registered next
-ran_registered f unit start now running registered next key id h = record { emitting = h.registration.emitting; ids = h.ids }
+ran_registered f unit start now running registered next key id h = record { emitting = h.registration.emitting; ids = h.ids; nesting = h.nesting }
 
 -- what was registered starts
 pub ran_child : (f : Frame) (unit : ℕ) (start old now : SenderView) (running pushed : List RunningKey) (registered : List (List ℕ × ℕ)) (next key : ℕ) (id : List SegmentView) (e : Event)
     → now ≡ sends old e → pushed ≡ record { key = key; id = id } ∷ running → e.kind ≡ Started → e.key ≡ key
     → HasRegistered f unit start old running registered next key id → IsRunning f unit start now pushed registered next
 ran_child f unit start old now running pushed registered next key id e sent push kind own h =
-    subst (λ s. IsRunning f unit start s pushed registered next) (sym sent)
-    (subst (λ l. IsRunning f unit start (sends old e) l registered next) (sym push)
-    (record {
-      emitting = subst (λ k. IsEmitting f unit (since start (sends old e)) (record { running = k ∷ keys_of running; registered = is_registered registered; next = next })) own
-          (registered_start f unit start old (progress running registered next) e (subst (Registered f unit start old (progress running registered next)) (sym own) h.registration) kind);
+    let i = h.registration.emitting in
+    let l = i.events in
+    let w = start.worker in
+    let p = progress running registered next in
+    let j : IsEmitting f unit (since start (sends old e)) (progress (record { key = key; id = id } ∷ running) registered next)
+    = subst (λ k. IsEmitting f unit (since start (sends old e)) (record { running = k ∷ keys_of running; registered = is_registered registered; next = next })) own
+    (registered_start f unit start old p e (subst (Registered f unit start old p) (sym own) h.registration) kind) in
+    let started : IsRunning f unit start (sends old e) (record { key = key; id = id } ∷ running) registered next = record {
+      emitting = j;
       ids = All-cons (λ k. HasId (record_of_sender (sends old e)) k.key k.id) (record { key = key; id = id }) running (sender_later old e key id h.own) (later_ids old e running h.ids);
-    }))
+      nesting = nests_more f unit start old p (progress (record { key = key; id = id } ∷ running) registered next) e (record { key = key; id = id } ∷ running) i j
+          (nesting_start (so_far f w l) (so_far f w (l ++ e ∷ [])) l e running key id h.nesting (adds f w l e running key id h.there own (within_all running id h.nesting.chain h.next_is)) own h.next_is);
+    } in
+    subst (λ s. IsRunning f unit start s pushed registered next) (sym sent)
+    (subst (λ m. IsRunning f unit start (sends old e) m registered next) (sym push) started)
 
 -- what was registered is skipped
 pub ran_child_skip : (f : Frame) (unit : ℕ) (start old now : SenderView) (running : List RunningKey) (registered : List (List ℕ × ℕ)) (next key : ℕ) (id : List SegmentView) (e : Event)
     → now ≡ sends old e → e.kind ≡ Skipped → e.key ≡ key
     → HasRegistered f unit start old running registered next key id → IsRunning f unit start now running registered next
 ran_child_skip f unit start old now running registered next key id e sent kind own h =
-    subst (λ s. IsRunning f unit start s running registered next) (sym sent) (record {
-      emitting = registered_skip f unit start old (progress running registered next) e (subst (Registered f unit start old (progress running registered next)) (sym own) h.registration) kind;
+    let i = h.registration.emitting in
+    let l = i.events in
+    let w = start.worker in
+    let p = progress running registered next in
+    let j = registered_skip f unit start old p e (subst (Registered f unit start old p) (sym own) h.registration) kind in
+    let skips : IsRunning f unit start (sends old e) running registered next = record {
+      emitting = j;
       ids = later_ids old e running h.ids;
-    })
+      nesting = nests_more f unit start old p p e running i j
+          (nesting_plain (so_far f w l) (so_far f w (l ++ e ∷ [])) l e running id h.nesting (adds f w l e running key id h.there own (within_all running id h.nesting.chain h.next_is)) (skip_is_not e.kind kind));
+    } in
+    subst (λ s. IsRunning f unit start s running registered next) (sym sent) skips
 
 -- a unit after the registration of a child
 pub registered_child : (s : ShapeView) (f : Frame) (unit : ℕ) (start old now : SenderView) (running rest : List RunningKey) (registered noted : List (List ℕ × ℕ)) (next key : ℕ)
@@ -376,13 +513,17 @@ static_first f w around key id h =
 pub ran_nothing : (f : Frame) (unit : ℕ) (start : SenderView) (running : List RunningKey) (registered : List (List ℕ × ℕ)) (next : ℕ) → running ≡ [] → KeepsAround f → unit < f.units → start.table ≡ f.table
     → IsRunning f unit start start running registered next
 ran_nothing f unit start running registered next none around low table =
-    subst (λ l. IsRunning f unit start start l registered next) (sym none) (record {
-      emitting = emitting_none f unit start (is_registered registered) next around low table
-          (λ key id h. let d = static_first f start.worker around key id h in (key, described_here f.table key d.0 d.1 ∙ ap (λ i. Some i) d.2))
-          (λ key id h. let d = static_first f start.worker around key id h in
-          record { descriptor = d.0; described = from_table (record_of_sender start) key d.0 (ap (λ t. slice_get t key) table ∙ d.1); id_is = d.2 });
+    let j = emitting_none f unit start (is_registered registered) next around low table
+    (λ key id h. let d = static_first f start.worker around key id h in (key, described_here f.table key d.0 d.1 ∙ ap (λ i. Some i) d.2))
+    (λ key id h. let d = static_first f start.worker around key id h in
+    record { descriptor = d.0; described = from_table (record_of_sender start) key d.0 (ap (λ t. slice_get t key) table ∙ d.1); id_is = d.2 }) in
+    let nothing : [] ≡ j.events = cancel start.sent [] j.events (append-nil start.sent ∙ j.sent) in
+    let begins : IsRunning f unit start start [] registered next = record {
+      emitting = j;
       ids = All-nil (λ k. HasId (record_of_sender start) k.key k.id);
-    })
+      nesting = subst (Nests f start.worker []) nothing (nesting_none (so_far f start.worker []));
+    } in
+    subst (λ l. IsRunning f unit start start l registered next) (sym none) begins
 
 pub ran_same : (f : Frame) (unit : ℕ) (start now : SenderView) (running : List RunningKey) (registered : List (List ℕ × ℕ)) (next : ℕ)
     → IsRunning f unit start now running registered next → IsSameSender start now
@@ -392,23 +533,23 @@ pub ran_some : (f : Frame) (unit : ℕ) (start now : SenderView) (running : List
     → IsRunning f unit start now running registered next → Extends start now
 ran_some f unit start now running registered next r = (r.emitting.events, r.emitting.sent)
 
-cancel : (a x y : List Event) → a ++ x ≡ a ++ y → x ≡ y
-cancel [] x y e = e
-cancel (v ∷ a) x y e = let rest : a ++ x ≡ a ++ y = cc in cancel a x y rest
-
 -- a unit of which no key runs, and each of whose static keys had its turn
 pub ran_all : (f : Frame) (may_end : ℕ → Outcome → Type 0) (keys : UnitKeys) (start now : SenderView) (running : List RunningKey) (registered : List (List ℕ × ℕ)) (next : ℕ)
     → IsRunning f keys.unit start now running registered next → HasPlayed f.table may_end keys.first next start now → running ≡ [] → keys.end ≤ next
     → HasRun f may_end keys start now
 ran_all f may_end keys start now running registered next r d none past =
     let i = r.emitting in
-    let same : d.events ≡ i.events = cancel start.sent d.events i.events (sym d.sent ∙ i.sent) in (
+    let same : d.events ≡ i.events = cancel start.sent d.events i.events (sym d.sent ∙ i.sent) in
+    let w = start.worker in
+    let n : Nests f w [] i.events = subst (λ m. Nests f w m i.events) none r.nesting in (
       i.events,
       i.sent,
       record {
         keeps = emitted_all f keys.unit start now (progress running registered next) i (ap keys_of none);
         ended = subst (All (EndsAsItMay f.table may_end)) same d.each_holds;
         covered = λ key a b. subst (λ l. AreCovered f.table (entries_by start.worker l) keys.first next) same d.all_hold key a (omega (arith, b, past));
+        nest = nest_later (so_far f w i.events) (run_alone f w i.events) i.events (later_id f.table (so_far f w i.events).entries (entries_by 0 f.after)) n.nest;
+        finish = each_finishes (so_far f w i.events) i.events n;
       },
     )
 

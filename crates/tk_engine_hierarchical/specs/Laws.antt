@@ -5,10 +5,12 @@ use Rattle.tk_plan_units.specs.Planned.{Outline}
 use Rattle.tk_plan_units.specs.Trees.{forest}
 use Rattle.tk_engine_runs.specs.Run.{IsRun}
 use Rattle.tk_events.specs.declared.kinds.Kind.TheVariants.{Finished, Skipped, Started}
+use Rattle.tk_record_columns.specs.Mixing.{of_worker}
 use Rattle.tk_record_columns.specs.Recorded.{Recorded}
 use Rattle.tk_query.specs.KeepsLifecycle.{steps_of}
 use Rattle.tk_engine_hierarchical.specs.Covered.{IsBelowSkipped}
 use Rattle.tk_engine_hierarchical.specs.Endings.{EndsAsItMay}
+use Rattle.tk_engine_hierarchical.specs.Nesting.{EventsNest}
 use Rattle.tk_engine_hierarchical.specs.Shapes.{ShapeView, may_emit}
 use Rattle.tk_engine_hierarchical.specs.declared.tests.Outcome.{Outcome}
 
@@ -35,3 +37,7 @@ HasTurn r key =
 -- so has each static key
 abbrev pub HaveTurns : Recorded → Type 0
 HaveTurns r = (key : ℕ) → key < length r.table → HasTurn r key
+
+-- each key that a unit starts has its own events until it finishes
+abbrev pub UnitsNest : Recorded → Type 0
+UnitsNest r = (worker : ℕ) → 0 < worker → EventsNest r (of_worker worker r.entries)

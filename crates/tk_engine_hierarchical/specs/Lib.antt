@@ -6,6 +6,7 @@ pub mod Events
 pub mod Endings
 pub mod FaultTexts
 pub mod Covered
+pub mod Nesting
 pub mod Units
 pub mod Reporting
 pub mod Laws

@@ -5,9 +5,10 @@ use Rattle.tk_events.specs.declared.events.Event.{Event}
 use Rattle.tk_events.specs.declared.events.Entry.{Entry}
 use Rattle.tk_queue.specs.Emission.{entries_by}
 use Rattle.tk_queue.specs.Senders.{SenderView}
-use Rattle.tk_engine_lifecycle.specs.Units.{Frame, KeepsAlone}
+use Rattle.tk_engine_lifecycle.specs.Units.{Frame, KeepsAlone, run_alone}
 use Rattle.tk_engine_hierarchical.specs.Covered.{AreCovered}
 use Rattle.tk_engine_hierarchical.specs.Endings.{EndsAsItMay}
+use Rattle.tk_engine_hierarchical.specs.Nesting.{EachFinishes, EventsNest}
 use Rattle.tk_engine_hierarchical.specs.declared.tests.Outcome.{Outcome}
 
 -- the number of a unit, and its static keys: from the first one on, and below the end
@@ -22,12 +23,15 @@ pub record UnitOutput : Type 0 where
   pub events : List Event
 
 -- Of what a unit emits: it keeps the lifecycle where the unit runs alone, each finish of a static
--- test has an outcome that the test may have, and each of the unit's static keys had its turn.
+-- test has an outcome that the test may have, each of the unit's static keys had its turn, and each
+-- key that starts has its own events until it finishes.
 pub record RunsUnit (f : Frame) (may_end : ℕ → Outcome → Type 0) (keys : UnitKeys)
     (out : UnitOutput) : Type 0 where
   pub keeps : KeepsAlone f keys.unit out.worker out.events
   pub ended : All (EndsAsItMay f.table may_end) out.events
   pub covered : AreCovered f.table (entries_by out.worker out.events) keys.first keys.end
+  pub nest : EventsNest (run_alone f out.worker out.events) out.events
+  pub finish : EachFinishes out.events
 
 -- the sink took events since the unit began: this holds of each, and that of all
 pub record HasTaken (each : Event → Type 0) (all : List Entry → Type 0)

@@ -1,6 +1,6 @@
 //! The laws of engines whose tests have bodies.
 ghost use Rattle.tk_query.specs.KeepsLifecycle.{KeepsLifecycle};
-ghost use Rattle.tk_engine_hierarchical.specs.Laws.{HasOutcomes, HaveTurns, IsRunOf};
+ghost use Rattle.tk_engine_hierarchical.specs.Laws.{HasOutcomes, HaveTurns, IsRunOf, UnitsNest};
 
 use crate::engines::Hierarchical;
 use crate::tests::Tests;
@@ -37,4 +37,16 @@ pub fn turns<T: Tests + Sync>(engine: &Hierarchical<T>, results: &Results)
 {
     engine.shows_shape();
     lifecycle(engine, results);
+}
+
+/// What a worker emits after the start of a key, and before the key finishes, is of that key or of
+/// one below it. So it is with each test, and what its body runs.
+pub fn nesting<T: Tests + Sync>(engine: &Hierarchical<T>, results: &Results)
+    requires { IsRunOf engine.now.scripted engine.now.shape (T.may_end engine.now.tests)
+        results.now.recorded }
+    ensures { UnitsNest results.now.recorded }
+{
+    engine.shows_shape();
+    // For the proof: what holds of each record.
+    results.recorded().shows_record();
 }

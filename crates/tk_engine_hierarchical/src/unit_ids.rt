@@ -3,7 +3,7 @@ ghost use Rattle.std.specs.Prelude.{◌≡◌, ◌<◌, ◌++◌, ◌∷◌, ℕ
 ghost use Rattle.tk_ids.specs.IdText.{id_text};
 ghost use Rattle.tk_ids.specs.Table.{HasId as TableHasId, ids_of};
 ghost use Rattle.tk_engine_hierarchical.specs.Covered.{IsBelow, IsKeyBelow};
-ghost use Rattle.tk_engine_hierarchical.specs.Events.{HasParentAmong, MayStart, keys_of};
+ghost use Rattle.tk_engine_hierarchical.specs.Events.{HasInnermostParent, HasParentAmong, MayStart, keys_of};
 ghost use Rattle.tk_engine_hierarchical.specs.RegisteredIds.{is_registered};
 ghost use Rattle.tk_engine_hierarchical.specs.Shapes.{frame};
 
@@ -16,18 +16,21 @@ use tk_engine_execute::{SinkFault, UnitFault};
 use tk_ids::{IdFault, Segment, Table, UniqueId};
 use tk_queue::RegisterFault;
 
-// Whether the parent of an id runs; it does where the id has none.
+// Whether the parent of an id is the innermost key that runs, or no key runs and it runs before the
+// units, or the id has none.
 fn has_running_parent(
     alloc: Global,
     shape: &Shape,
     running: &RunningKeys,
     id: &UniqueId,
 ) -> Result<bool, AllocError>
-    ensures { IfOk result (λ has. IsTrue has
+    ensures among { IfOk result (λ has. IsTrue has
         → HasParentAmong (frame shape.now) (keys_of running.now) id.now) }
+    ensures innermost { IfOk result (λ has. IsTrue has
+        → HasInnermostParent (frame shape.now) (keys_of running.now) id.now) }
 {
     let Some(parent) = id.parent(alloc)? else {
-        return Ok(true);
+        return Ok(running.innermost().is_none());
     };
     let Some(above) = shape.table().find(&parent) else {
         return Ok(false);

@@ -44,7 +44,7 @@ worker_list test p t q passes =
     ∙ emitted-append (filter test p) (t ∷ filter test q)
 
 -- a key of a turn has the events of the turn in the middle
-turn_whole : (f : Frame) (entries : List Entry) (c : KeptRun f entries) (p : List Turn) (t : Turn) (q : List Turn) (key : ℕ) → c.ts ≡ p ++ t ∷ q → Hit key t.list
+pub turn_whole : (f : Frame) (entries : List Entry) (c : KeptRun f entries) (p : List Turn) (t : Turn) (q : List Turn) (key : ℕ) → c.ts ≡ p ++ t ∷ q → Hit key t.list
     → hits key (events entries) ≡ hits key (events (run_alone f t.worker t.list).entries)
 turn_whole f entries c p t q key is h =
     let test = is_by t.worker in
@@ -280,13 +280,13 @@ kept f entries c = record {
   whole = steps_whole f entries c;
 }
 
--- the law
-pub runs_keep : (f : Frame) (may : ℕ → ℕ → ℕ → List Event → Type 0) (workers : ℕ) (r : Recorded) → UnitsKeepLifecycle f may
-    → IsRun may f.table f.before f.after f.units workers r → IsRecord r → KeepsLifecycle r
-runs_keep f may workers r units run lawful =
+-- a run of an engine whose units keep the lifecycle
+abbrev pub kept_run : (f : Frame) (may : ℕ → ℕ → ℕ → List Event → Type 0) (workers : ℕ) (r : Recorded) → UnitsKeepLifecycle f may
+    → IsRun may f.table f.before f.after f.units workers r → IsRecord r → KeptRun f r.entries
+kept_run f may workers r units run lawful =
     let t = turned may f.units workers run.mid run.shared in
     let same : record { table = f.table; entries = r.entries } ≡ r = ap (λ table. record { table = table; entries = r.entries }) (sym run.over) in
-    let c : KeptRun f r.entries = record {
+    record {
       lawful = subst IsRecord (sym same) lawful;
       around = units.around;
       mid = run.mid;
@@ -295,5 +295,11 @@ runs_keep f may workers r units run lawful =
       each = λ p x q is. let e = t.each p x q is in (e.0, units.each x.unit x.worker e.1.0 x.list e.0 e.1.1);
       apart = t.apart;
       emits = t.emits;
-    } in
-    subst KeepsLifecycle same (kept f r.entries c)
+    }
+
+-- the law
+pub runs_keep : (f : Frame) (may : ℕ → ℕ → ℕ → List Event → Type 0) (workers : ℕ) (r : Recorded) → UnitsKeepLifecycle f may
+    → IsRun may f.table f.before f.after f.units workers r → IsRecord r → KeepsLifecycle r
+runs_keep f may workers r units run lawful =
+    let same : record { table = f.table; entries = r.entries } ≡ r = ap (λ table. record { table = table; entries = r.entries }) (sym run.over) in
+    subst KeepsLifecycle same (kept f r.entries (kept_run f may workers r units run lawful))

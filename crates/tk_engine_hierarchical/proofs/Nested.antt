@@ -1,0 +1,86 @@
+-- In the record of a run each key that a unit starts has its own events until it finishes.
+use Rattle.std.proofs.Common.{◌≡◌, ◌<◌, ◌==◌, ℕ, false, List, [], ◌∷◌, ◌++◌, filter, All, refl, sym, ap, ap₂, ◌∙◌, subst, append_assoc, append-nil, arith, tests}
+use Rattle.std.proofs.lemmas.List.Elements.{All-nil, All-cons, All-weaker}
+use Rattle.tk_ids.specs.IdText.{SegmentView}
+use Rattle.tk_events.specs.declared.events.Event.{Event}
+use Rattle.tk_events.specs.declared.events.Entry.{Entry}
+use Rattle.tk_record_columns.specs.Mixing.{of_worker}
+use Rattle.tk_record_columns.specs.Record.{IsRecord}
+use Rattle.tk_record_columns.specs.Recorded.{Recorded}
+use Rattle.tk_queue.specs.Emission.{entries_by, entry_by}
+use Rattle.tk_query.specs.Lifecycle.{HasId}
+use Rattle.tk_engine_runs.specs.Run.{IsRun}
+use Rattle.tk_engine_lifecycle.specs.Units.{Frame, UnitsKeepLifecycle, run_alone}
+use Rattle.tk_engine_lifecycle.proofs.Apart.{Hit, KeptRun, other_first}
+use Rattle.tk_engine_lifecycle.proofs.ByKey.{same_id}
+use Rattle.tk_engine_lifecycle.proofs.Prefixes.{of_worker-append}
+use Rattle.tk_engine_lifecycle.proofs.Splits.{unfiltered}
+use Rattle.tk_engine_lifecycle.proofs.Turns.{Each, Turn, emitted, is_by, turned}
+use Rattle.tk_engine_lifecycle.proofs.Whole.{kept_run, turn_whole}
+use Rattle.tk_engine_hierarchical.specs.Laws.{UnitsNest}
+use Rattle.tk_engine_hierarchical.specs.Nesting.{BelongsTo, EachFinishes, EventsNest}
+use Rattle.tk_engine_hierarchical.specs.Shapes.{ShapeView, frame, may_emit}
+use Rattle.tk_engine_hierarchical.specs.declared.tests.Outcome.{Outcome}
+use Rattle.tk_engine_hierarchical.proofs.Nesting.{all_both, nest-append, nesting_none}
+
+-- the key of each event in the middle has an event in the list
+all_hit : (l pre during post : List Event) → l ≡ pre ++ (during ++ post) → All (λ e. Hit e.key l) during
+all_hit l pre [] post is = All-nil (λ (e : Event). Hit e.key l)
+all_hit l pre (e ∷ during) post is =
+    All-cons (λ x. Hit x.key l) e during (record { prefix = pre; event = e; suffix = during ++ post; is = is; key_is = refl })
+    (all_hit l (pre ++ e ∷ []) during post (is ∙ sym (append_assoc pre (e ∷ []) (during ++ post))))
+
+-- a key of a turn has the same id in the whole record
+id_there : (f : Frame) (entries : List Entry) (c : KeptRun f entries) (p : List Turn) (t : Turn) (q : List Turn) → c.ts ≡ p ++ t ∷ q → (key : ℕ) (id : List SegmentView) → Hit key t.list
+    → HasId (run_alone f t.worker t.list) key id → HasId (record { table = f.table; entries = entries }) key id
+id_there f entries c p t q is key id hit h =
+    same_id (run_alone f t.worker t.list) (record { table = f.table; entries = entries }) key id refl (sym (turn_whole f entries c p t q key is hit)) h
+
+nest_there : (f : Frame) (entries : List Entry) (c : KeptRun f entries) (p : List Turn) (t : Turn) (q : List Turn) → c.ts ≡ p ++ t ∷ q
+    → EventsNest (run_alone f t.worker t.list) t.list → EventsNest (record { table = f.table; entries = entries }) t.list
+nest_there f entries c p t q is n before start during after at kind none =
+    let alone = run_alone f t.worker t.list in
+    let whole : Recorded = record { table = f.table; entries = entries } in
+    let hits = all_hit t.list (before ++ start ∷ []) during after (at ∙ sym (append_assoc before (start ∷ []) (during ++ after))) in
+    let first : Hit start.key t.list = record { prefix = before; event = start; suffix = during ++ after; is = at; key_is = refl } in
+    All-weaker (λ e. Hit e.key t.list × BelongsTo alone start.key e) (BelongsTo whole start.key)
+    (λ e h. record {
+      id = h.1.id;
+      its = id_there f entries c p t q is start.key h.1.id first h.1.its;
+      own = h.1.own;
+      named = id_there f entries c p t q is e.key h.1.own h.0 h.1.named;
+      within = h.1.within;
+    })
+    during (all_both (λ e. Hit e.key t.list) (BelongsTo alone start.key) during hits (n before start during after at kind none))
+
+turns_nest : (r : Recorded) (ts : List Turn) → Each (λ t. EventsNest r t.list × EachFinishes t.list) ts → EventsNest r (emitted ts)
+turns_nest r [] each = (nesting_none r).nest
+turns_nest r (t ∷ ts) each =
+    let here = each [] t ts refl in
+    nest-append r t.list (emitted ts) here.0 here.1 (turns_nest r ts (λ p x q is. each (t ∷ p) x q (ap (λ l. t ∷ l) is)))
+
+none_of_zero : (w : ℕ) (es : List Event) → 0 < w → of_worker w (entries_by 0 es) ≡ []
+none_of_zero w [] low = refl
+none_of_zero w (e ∷ es) low =
+    let fails : (0 == w) ≡ false = grind (arith, tests, low) in
+    other_first w (entry_by 0 e) (entries_by 0 es) fails ∙ none_of_zero w es low
+
+pub units_nest : (s : ShapeView) (may_end : ℕ → Outcome → Type 0) (workers : ℕ) (r : Recorded) → UnitsKeepLifecycle (frame s) (may_emit s may_end)
+    → IsRun (may_emit s may_end) s.table s.before s.after s.units workers r → IsRecord r → UnitsNest r
+units_nest s may_end workers r units run lawful w low =
+    let M : ℕ → ℕ → ℕ → List Event → Type 0 = may_emit s may_end in
+    let c = kept_run (frame s) M workers r units run lawful in
+    let t = turned M s.units workers run.mid run.shared in
+    let whole : Recorded = record { table = s.table; entries = r.entries } in
+    let same : whole ≡ r = ap (λ table. record { table = table; entries = r.entries }) (sym run.over) in
+    let each : Each (λ x. EventsNest whole x.list × EachFinishes x.list) (filter (is_by w) c.ts) = λ p x q is.
+    let u = unfiltered (is_by w) c.ts p x q is in
+    let m = t.each u.prefix x u.suffix u.is in
+    (nest_there (frame s) r.entries c u.prefix x u.suffix u.is m.1.1.nest, m.1.1.finish) in
+    let e0 = entries_by 0 s.before in
+    let list : of_worker w r.entries ≡ of_worker w run.mid
+    = ap (of_worker w) run.whole ∙ of_worker-append w (e0 ++ run.mid) (entries_by 0 s.after)
+    ∙ ap₂ (λ a b. a ++ b) (of_worker-append w e0 run.mid ∙ ap (λ l. l ++ of_worker w run.mid) (none_of_zero w s.before low)) (none_of_zero w s.after low)
+    ∙ append-nil (of_worker w run.mid) in
+    subst (λ v. EventsNest v (of_worker w r.entries)) same
+    (subst (EventsNest whole) (c.emits w ∙ sym list) (turns_nest whole (filter (is_by w) c.ts) each))
