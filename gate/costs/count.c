@@ -1,6 +1,6 @@
-// Put before the C library by LD_PRELOAD. Counts what the program asks for, and at its end writes a line "PEAK REQUESTS READS" to the file
-// descriptor that the variable COUNTED_TO has: how many bytes of memory it had at most at one time, how many requests for memory it made,
-// and how many reads of standard input.
+// Put before the C library by LD_PRELOAD. Counts what the program asks for, and at its end writes a line "PEAK REQUESTS READS WRITES" to the
+// file descriptor that the variable COUNTED_TO has: how many bytes of memory it had at most at one time, how many requests for memory it
+// made, how many reads of standard input, and how many writes to standard output.
 #define _GNU_SOURCE
 #include <malloc.h>
 #include <stdatomic.h>
@@ -16,7 +16,7 @@ extern void *__libc_realloc(void *, size_t);
 extern void *__libc_memalign(size_t, size_t);
 extern void __libc_free(void *);
 
-static atomic_long bytes, peak, requests, reads;
+static atomic_long bytes, peak, requests, reads, writes;
 
 static void *taken(void *block) {
     atomic_fetch_add(&requests, 1);
@@ -61,12 +61,23 @@ ssize_t readv(int from, const struct iovec *parts, int count) {
     return syscall(SYS_readv, from, parts, count);
 }
 
+ssize_t write(int to, const void *from, size_t count) {
+    if (to == 1) atomic_fetch_add(&writes, 1);
+    return syscall(SYS_write, to, from, count);
+}
+
+ssize_t writev(int to, const struct iovec *parts, int count) {
+    if (to == 1) atomic_fetch_add(&writes, 1);
+    return syscall(SYS_writev, to, parts, count);
+}
+
 __attribute__((destructor)) static void end(void) {
     static atomic_flag is_said = ATOMIC_FLAG_INIT;
     const char *to = getenv("COUNTED_TO");
-    char line[80];
+    char line[100];
     if (!to || atomic_flag_test_and_set(&is_said)) return;
-    int size = snprintf(line, sizeof line, "%ld %ld %ld\n", atomic_load(&peak), atomic_load(&requests), atomic_load(&reads));
+    long asked = atomic_load(&requests), read = atomic_load(&reads), written = atomic_load(&writes);
+    int size = snprintf(line, sizeof line, "%ld %ld %ld %ld\n", atomic_load(&peak), asked, read, written);
     if (syscall(SYS_write, atoi(to), line, size) != size) abort();
 }
 
