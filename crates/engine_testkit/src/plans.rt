@@ -4,6 +4,6 @@ pub use tk_plan::{
     NumberedNode, Plan, PlanFault, PlanLock, PlanNode, Step, build_plan, count_events, read_plan,
 };
 pub use tk_report::{
-    DEFAULT_CAPACITY, PlanRun, ReportFault, ReportFaultText, Scripted, plan_report, report_of,
+    DEFAULT_CAPACITY, PlanRun, Report, ReportFault, ReportFaultText, Scripted, plan_report,
     run_plan, write_report, write_report_of,
 };

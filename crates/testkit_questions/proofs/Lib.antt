@@ -1,6 +1,5 @@
 pub mod AnswerLemmas
 pub mod AskLemmas
-pub mod PieceLemmas
 pub mod WordLemmas
 pub mod OneReading
 pub mod OneReply

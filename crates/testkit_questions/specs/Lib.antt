@@ -1,7 +1,6 @@
 pub mod Characters
 pub mod Questions
 pub mod Answers
-pub mod Pieces
 pub mod Replies
 pub mod Asked
 pub mod Laws

@@ -49,7 +49,7 @@ fn write_answer<T: Target>(
 /// whether the answer is a yes: false where a match says no, or an expectation fails.
 ///
 /// The words are judged before the input is read. Nothing is written before all memory was had:
-/// executions then go out in pieces of 64 KiB, and every other answer as a whole.
+/// executions, lists and reports then go out in pieces of 64 KiB, and other answers as a whole.
 ///
 /// # Errors
 /// `Question`, `Word` or `Condition` for bad words, `Read` for an input that is no record text or a

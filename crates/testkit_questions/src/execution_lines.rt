@@ -5,11 +5,10 @@ ghost use Rattle.std.specs.List.{flat_map};
 ghost use Rattle.tk_streams.specs.Stream.{AppendsPrefix};
 ghost use Rattle.testkit_questions.specs.Answers.{ending_name, execution_line};
 ghost use Rattle.testkit_questions.specs.Characters.{blank};
-ghost use Rattle.testkit_questions.specs.Pieces.{Adds, outgoing};
+ghost use Rattle.tk_streams.specs.Pieces.{Adds, outgoing};
 
-use crate::pieces::Piece;
 use tk_query::{Ending, Execution, Executions};
-use tk_streams::{Broken, Target};
+use tk_streams::{Broken, Piece, Target};
 
 // The name of an ending, and a blank.
 fn ending_field(ending: Ending) -> &'static str

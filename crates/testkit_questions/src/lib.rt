@@ -8,7 +8,6 @@ mod expectations;
 mod fault_texts;
 mod faults;
 pub mod laws;
-mod pieces;
 mod questions;
 mod replies;
 

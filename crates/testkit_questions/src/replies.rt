@@ -7,25 +7,30 @@ ghost use Rattle.testkit_questions.specs.Replies.{reply_is_yes, reply_text};
 use crate::answers::Answer;
 use crate::execution_lines::write_executions;
 use tk_query::Executions;
-use tk_streams::{Broken, Target, write_all};
+use tk_record::{Broken, Events, Target, write_all, write_event_list};
+use tk_report_text::Report;
 
 /// An answer for which no more memory is needed.
 #[derive(Drop)]
-pub(crate) enum Reply {
+pub(crate) enum Reply<'r> {
     /// A text that is whole.
     Whole(Answer),
     /// A line for each of the executions, which are a yes.
     Executions(Executions),
+    /// A line for each of the events, which are a yes.
+    Events(Events<'r>),
+    /// A report, which is a yes.
+    Report(Report<'r>),
 }
 
-impl Reply {
+impl<'r> Reply<'r> {
     /// Whether the answer is a yes.
     pub(crate) fn is_yes(&self) -> bool
         ensures { result ≡ reply_is_yes self.now }
     {
         match self {
             Reply::Whole(answer) => answer.is_yes,
-            Reply::Executions(_) => true,
+            Reply::Executions(_) | Reply::Events(_) | Reply::Report(_) => true,
         }
     }
 
@@ -43,6 +48,8 @@ impl Reply {
         match self {
             Reply::Whole(answer) => write_all(target, answer.text.as_slice()),
             Reply::Executions(list) => write_executions(list, target),
+            Reply::Events(events) => write_event_list(events, target),
+            Reply::Report(report) => report.write(target),
         }
     }
 }

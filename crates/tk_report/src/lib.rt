@@ -12,4 +12,4 @@ pub use faults::ReportFault;
 pub use plan_runs::{DEFAULT_CAPACITY, PlanRun, run_plan};
 pub use reporting::{plan_report, write_report};
 pub use tk_engine::{Results, RunFault, Scripted, execute};
-pub use tk_report_text::{report_of, write_report_of};
+pub use tk_report_text::{Report, write_report_of};

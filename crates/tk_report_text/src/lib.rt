@@ -6,4 +6,4 @@ mod grouping;
 mod lines;
 mod writing;
 
-pub use writing::{report_of, write_report_of};
+pub use writing::{Report, write_report_of};

@@ -1,2 +1,3 @@
 pub mod Stream
 pub mod FaultTexts
+pub mod Pieces

@@ -3,10 +3,12 @@
 
 mod device_streams;
 mod memory_streams;
+mod pieces;
 mod streams;
 mod transfers;
 
 pub use device_streams::{StdSource, StdTarget};
 pub use memory_streams::{ByteSource, ByteTarget};
+pub use pieces::Piece;
 pub use streams::{Broken, Source, Target};
 pub use transfers::{CHUNK, LoadFault, load, write_all};

@@ -1,7 +1,7 @@
 use Rattle.std.proofs.Common.{◌≡◌, ℕ, List, [], ◌∷◌, ◌++◌, append_assoc, ◌∙◌}
 use Rattle.std.specs.Fmt.{decimal}
 use Rattle.testkit_questions.specs.Answers.{ending_name}
-use Rattle.testkit_questions.proofs.PieceLemmas.{adds_as, adds_both}
+use Rattle.tk_streams.proofs.PieceLemmas.{adds_as, adds_both}
 use Rattle.testkit_questions.proofs.execution_lines.put_execution.Goals as goal
 
 four : (a b c d : List ℕ) (after last : ℕ) → (((a ++ after ∷ []) ++ (b ++ after ∷ [])) ++ (c ++ after ∷ [])) ++ (d ++ last ∷ []) ≡ a ++ after ∷ b ++ after ∷ c ++ after ∷ d ++ last ∷ []

@@ -1,7 +1,7 @@
 use Rattle.std.proofs.Common.{ap, sym}
 use Rattle.std.specs.List.{flat_map}
 use Rattle.testkit_questions.specs.Answers.{execution_line}
-use Rattle.testkit_questions.proofs.PieceLemmas.{adds_as, adds_both}
+use Rattle.tk_streams.proofs.PieceLemmas.{adds_as, adds_both}
 use Rattle.testkit_questions.proofs.execution_lines.put_executions.Goals as goal
 
 pub executions-preserved : goal.executions-preserved

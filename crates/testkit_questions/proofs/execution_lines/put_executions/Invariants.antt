@@ -1,7 +1,7 @@
 use Rattle.std.specs.List.{flat_map}
 use Rattle.std.specs.Slice.Iter.{iter_rest}
 use Rattle.testkit_questions.specs.Answers.{execution_line}
-use Rattle.testkit_questions.specs.Pieces.{Adds, Outgoing, outgoing}
+use Rattle.tk_streams.specs.Pieces.{Adds, Outgoing, outgoing}
 use Rattle.testkit_questions.proofs.execution_lines.put_executions.Given as goal
 
 abbrev pub invariant-executions : goal.invariant-executions

@@ -1,4 +1,4 @@
-use Rattle.testkit_questions.proofs.PieceLemmas.{none_sent, on_ok, on_err}
+use Rattle.tk_streams.proofs.PieceLemmas.{none_sent, on_ok, on_err}
 use Rattle.testkit_questions.proofs.execution_lines.write_executions.Goals as goal
 
 pub returns-clause-ok : goal.returns-clause-ok
