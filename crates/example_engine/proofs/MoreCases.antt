@@ -1,5 +1,5 @@
 -- The runs of cases, one case more.
-use Rattle.std.proofs.Common.{◌≡◌, ℕ, ◌+◌, ◌<◌, List, ◌++◌, length, get_or, refl, sym, subst, add-one}
+use Rattle.std.proofs.Common.{ℕ, ◌+◌, ◌<◌, List, ◌++◌, length, get_or, refl, sym, subst, add-one}
 use Rattle.std.proofs.lemmas.Option.{slice_get-get_or}
 use Rattle.std.specs.Prelude.{Option, IfSome}
 use Rattle.engine_testkit.specs.Event.{Event}
