@@ -1,10 +1,11 @@
 -- What a unit has played after one event more.
-use Rattle.std.proofs.Common.{◌≡◌, ◌<◌, ◌≤◌, ◌+◌, ◌==◌, ◌&&◌, ◌||◌, ℕ, zero, suc, ◌⊎◌, inl, inr, ⊎_elim, Bool, true, false, List, [], ◌∷◌, ◌++◌, length, take, Some, slice_get, All, refl, sym, ap, ap₂, ◌∙◌, subst, append_assoc, append-nil, arith, tests}
+use Rattle.std.proofs.Common.{◌≡◌, ◌<◌, ◌≤◌, ◌+◌, ◌-◌, ◌==◌, ◌&&◌, ◌||◌, ℕ, zero, suc, ◌⊎◌, inl, inr, ⊎_elim, Bool, true, false, List, [], ◌∷◌, ◌++◌, length, take, Some, slice_get, All, refl, sym, ap, ap₂, ◌∙◌, subst, append_assoc, append-nil, arith, tests}
 use Rattle.std.specs.List.{list_any}
 use Rattle.std.specs.Prelude.{Ok}
+use Rattle.std.proofs.Math.Seq.{take-length}
 use Rattle.std.proofs.lemmas.List.{map-append}
 use Rattle.std.proofs.lemmas.List.Elements.{All-nil, All-cons, All-append}
-use Rattle.tk_ids.specs.IdText.{SegmentView}
+use Rattle.tk_ids.specs.IdText.{SegmentView, parent_of}
 use Rattle.tk_ids.specs.Table.{ids_of}
 use Rattle.tk_ids.specs.declared.descriptors.Descriptor.{Descriptor}
 use Rattle.tk_events.specs.Event.{kind_code}
@@ -184,10 +185,19 @@ below_by_front (x ∷ a) (y ∷ id) h e =
     let head : x ≡ y = cc in
     let r = below_by_front a id (omega (arith, h)) tail in (r.0, r.1, ap₂ (λ s l. s ∷ l) (sym head) r.2)
 
-pub below_at_end : (a id : List SegmentView) (n : ℕ) → length a ≤ n → length a < length id → take n a ≡ take n id → n ≤ length a → IsBelow a id
-below_at_end a id n low more e high =
+-- an id of which as many segments are those of another as that has
+pub front_at_end : (a id : List SegmentView) (n : ℕ) → length a ≤ n → take n a ≡ take n id → n ≤ length a → take (length a) id ≡ a
+front_at_end a id n low e high =
     let same : n ≡ length a = omega (arith, low, high) in
-    below_by_front a id more (subst (λ m. take m a ≡ take m id) same e)
+    sym (subst (λ m. take m a ≡ take m id) same e) ∙ take-length a
+
+pub below_longer : (a id : List SegmentView) → length a < length id → take (length a) id ≡ a → IsBelow a id
+below_longer a id more e = below_by_front a id more (take-length a ∙ sym e)
+
+pub parent_by_front : (a id : List SegmentView) → length id ≡ length a + 1 → take (length a) id ≡ a → a ≡ parent_of id
+parent_by_front a id one_more e =
+    let n : length a ≡ length id - 1 = omega (arith, one_more) in
+    sym (subst (λ m. take m id ≡ a) n e)
 
 id_of : (table : List Descriptor) (k : ℕ) (d : Descriptor) → slice_get table k ≡ Some d → slice_get (ids_of table) k ≡ Some d.id
 id_of [] k d e = cc

@@ -277,6 +277,12 @@ popped old new rest first (Some k) is some none =
     let same : k ≡ first = first_same (sym some ∙ is) in
     some ∙ ap (λ x. x ∷ new) same
 
+-- the innermost key that runs is that of an id's parent
+pub innermost_parent : (s : ShapeView) (running rest : List RunningKey) (k : RunningKey) (d : Descriptor) (id : List SegmentView) → running ≡ k ∷ rest
+    → slice_get s.table k.key ≡ Some d → d.id ≡ parent_of id → 1 < length id → HasInnermostParent (frame s) (keys_of running) id
+innermost_parent s running rest k d id is its parent more =
+    subst (λ (ks : List RunningKey). HasInnermostParent (frame s) (keys_of ks) id) (sym is) (more, described_here s.table k.key d its ∙ ap (λ i. Some i) parent)
+
 -- a static key whose owner is the unit, and whose parent runs, may start
 pub may_start : (s : ShapeView) (unit key : ℕ) (running : List RunningKey) (d : Descriptor) → AreDifferent s.table → slice_get s.table key ≡ Some d
     → get_or s.owners key s.units ≡ unit → HasParentAmong (frame s) (keys_of running) d.id → HasInnermostParent (frame s) (keys_of running) d.id → MayStart (frame s) unit (keys_of running) key

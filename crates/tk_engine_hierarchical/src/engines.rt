@@ -67,20 +67,31 @@ pub struct Hierarchical<T> {
     ghost units: { shape.units ≡ length (units_of (forest scripted.nodes)) },
 }
 
+// A static key, and the unit to which it belongs.
+#[derive(Clone, Copy, Drop)]
+struct OwnedKey {
+    key: u32,
+    owner: u32,
+}
+
 // Which static keys belong to which unit; those of the spine to none, by the number of the units.
 fn keys_of_units(alloc: Global, plan: &Plan) -> Result<KeysOfUnits, AllocError> {
-    let none = plan.units().len() as u32;
+    let none = OwnedKey {
+        key: 0,
+        owner: plan.units().len() as u32,
+    };
     let mut owners: Vec<u32> = Vec::new(alloc);
+    let mut keys_above: Vec<u32> = Vec::new(alloc);
     let mut firsts: Vec<u32> = Vec::new(alloc);
     let mut ends: Vec<u32> = Vec::new(alloc);
-    let mut path: Vec<u32> = Vec::new(alloc);
+    let mut path: Vec<OwnedKey> = Vec::new(alloc);
     let mut key: u32 = 0;
     for descriptor in plan.table().iter() {
         let next = key.saturating_add(1);
         let depth = descriptor.id.segments().len();
         path.truncate(depth.saturating_sub(1));
         let above = match path.as_slice().last() {
-            Some(owner) => *owner,
+            Some(parent) => *parent,
             None => none,
         };
         let unit = ends.len();
@@ -88,7 +99,7 @@ fn keys_of_units(alloc: Global, plan: &Plan) -> Result<KeysOfUnits, AllocError> 
             Some(root) => *root == key,
             None => false,
         };
-        let owner = if begins { unit as u32 } else { above };
+        let owner = if begins { unit as u32 } else { above.owner };
         if begins {
             firsts.push(key)?;
             ends.push(next)?;
@@ -96,11 +107,13 @@ fn keys_of_units(alloc: Global, plan: &Plan) -> Result<KeysOfUnits, AllocError> 
             ends[owner as usize] = next;
         }
         owners.push(owner)?;
-        path.push(owner)?;
+        keys_above.push(above.key)?;
+        path.push(OwnedKey { key, owner })?;
         key = next;
     }
     Ok(KeysOfUnits {
         owners,
+        above: keys_above,
         firsts,
         ends,
     })

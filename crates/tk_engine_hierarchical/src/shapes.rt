@@ -20,10 +20,11 @@ use tk_query::{Lifecycle, lifecycle};
 use tk_record_columns::Record;
 
 /// Which static keys belong to which unit: for each key its unit, and for each unit its first key
-/// and the end of its keys.
+/// and the end of its keys. Beside them the key above each key; who uses it compares the ids.
 #[derive(Drop)]
 pub(crate) struct KeysOfUnits {
     pub(crate) owners: Vec<u32>,
+    pub(crate) above: Vec<u32>,
     pub(crate) firsts: Vec<u32>,
     pub(crate) ends: Vec<u32>,
 }
@@ -323,6 +324,11 @@ impl Shape {
             Some(owner) => *owner,
             None => self.units,
         }
+    }
+
+    /// The static key that is likely above another.
+    pub(crate) fn key_above(&self, key: u32) -> u32 {
+        number_at(self.keys.above.as_slice(), key)
     }
 
     /// The first static key of a unit, and the end of its keys.

@@ -163,7 +163,7 @@ impl<'a, S: Sink, K: UnitRun> UnitEvents<'a, S, K> {
         if key != self.next {
             return Err(UnitFault::Own(OUT_OF_ORDER));
         }
-        let Some(id) = id_to_start(alloc, self.shape, self.unit, &self.running, key)? else {
+        let Some(id) = id_to_start(self.shape, self.unit, &self.running, key)? else {
             return Err(UnitFault::Own(OUT_OF_ORDER));
         };
         self.running.push(RunningKey { key, id })?;
@@ -197,7 +197,7 @@ impl<'a, S: Sink, K: UnitRun> UnitEvents<'a, S, K> {
         if key != self.next {
             return Err(UnitFault::Own(OUT_OF_ORDER));
         }
-        let Some(id) = id_to_start(alloc, self.shape, self.unit, &self.running, key)? else {
+        let Some(id) = id_to_start(self.shape, self.unit, &self.running, key)? else {
             return Err(UnitFault::Own(OUT_OF_ORDER));
         };
         let next = end_below(self.shape.table(), &id, key);

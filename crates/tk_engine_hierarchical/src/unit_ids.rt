@@ -1,6 +1,6 @@
 //! The ids of what a unit may start or skip.
-ghost use Rattle.std.specs.Prelude.{◌≡◌, ◌<◌, ◌++◌, ◌∷◌, ℕ, [], IfOk, IfSome, IsTrue, Some, false, length, slice_get};
-ghost use Rattle.tk_ids.specs.IdText.{id_text};
+ghost use Rattle.std.specs.Prelude.{◌≡◌, ◌<◌, ◌++◌, ◌∷◌, ℕ, [], IfOk, IfSome, IsTrue, Some, false, length, slice_get, take};
+ghost use Rattle.tk_ids.specs.IdText.{id_text, parent_of};
 ghost use Rattle.tk_ids.specs.Table.{HasId as TableHasId, ids_of};
 ghost use Rattle.tk_engine_hierarchical.specs.Covered.{IsBelow, IsKeyBelow};
 ghost use Rattle.tk_engine_hierarchical.specs.Events.{HasInnermostParent, HasParentAmong, MayStart, keys_of};
@@ -16,34 +16,70 @@ use tk_engine_execute::{SinkFault, UnitFault};
 use tk_ids::{IdFault, Segment, Table, UniqueId};
 use tk_queue::RegisterFault;
 
-// Whether the parent of an id is the innermost key that runs, or no key runs and it runs before the
-// units, or the id has none.
-fn has_running_parent(
-    alloc: Global,
-    shape: &Shape,
-    running: &RunningKeys,
-    id: &UniqueId,
-) -> Result<bool, AllocError>
-    ensures among { IfOk result (λ has. IsTrue has
-        → HasParentAmong (frame shape.now) (keys_of running.now) id.now) }
-    ensures innermost { IfOk result (λ has. IsTrue has
-        → HasInnermostParent (frame shape.now) (keys_of running.now) id.now) }
+// Whether two segments have the same tag and the same value.
+fn is_same(a: &Segment, b: &Segment) -> bool
+    ensures { IsTrue result → a.now ≡ b.now }
 {
-    let Some(parent) = id.parent(alloc)? else {
-        return Ok(running.innermost().is_none());
+    a.tag() == b.tag() && a.value() == b.value()
+}
+
+// Whether an id begins with the segments of another.
+fn begins_with(id: &UniqueId, above: &UniqueId) -> bool
+    ensures { IsTrue result → take (length above.now) id.now ≡ above.now }
+{
+    let outer = above.segments();
+    let inner = id.segments();
+    if inner.len() < outer.len() {
+        return false;
+    }
+    for index in 0..outer.len() {
+        if !is_same(&outer[index], &inner[index]) {
+            return false;
+        }
+    }
+    true
+}
+
+// Whether an id is another without its last segment.
+fn is_parent(above: &UniqueId, id: &UniqueId) -> bool
+    ensures { IsTrue result → above.now ≡ parent_of id.now }
+{
+    id.segments().len() == above.segments().len() + 1 && begins_with(id, above)
+}
+
+// Whether an id stands below another.
+fn is_below(above: &UniqueId, id: &UniqueId) -> bool
+    ensures { IsTrue result → IsBelow above.now id.now }
+{
+    above.segments().len() < id.segments().len() && begins_with(id, above)
+}
+
+// Whether the parent of a static key, which has this id, is the innermost key that runs, or no key
+// runs and it runs before the units, or the id has none.
+fn has_running_parent(shape: &Shape, running: &RunningKeys, key: u32, id: &UniqueId) -> bool
+    ensures among { IsTrue result
+        → HasParentAmong (frame shape.now) (keys_of running.now) id.now }
+    ensures innermost { IsTrue result
+        → HasInnermostParent (frame shape.now) (keys_of running.now) id.now }
+{
+    if id.segments().len() <= 1 {
+        return running.innermost().is_none();
+    }
+    let above = shape.key_above(key);
+    let Some(parent) = shape.table().get(above) else {
+        return false;
     };
-    let Some(above) = shape.table().find(&parent) else {
-        return Ok(false);
-    };
+    if !is_parent(&parent.id, id) {
+        return false;
+    }
     match running.innermost() {
-        Some(innermost) => Ok(innermost.key == above),
-        None => Ok(shape.runs_before(above)),
+        Some(innermost) => innermost.key == above,
+        None => shape.runs_before(above),
     }
 }
 
 /// The id of a static key, where the key may start or be skipped.
 pub(crate) fn id_to_start(
-    alloc: Global,
     shape: &Shape,
     unit: u32,
     running: &RunningKeys,
@@ -58,7 +94,7 @@ pub(crate) fn id_to_start(
     };
     // For the proof: no two descriptors have one id.
     shape.shows_shape();
-    if shape.owner(key) != unit || !has_running_parent(alloc, shape, running, &descriptor.id)? {
+    if shape.owner(key) != unit || !has_running_parent(shape, running, key, &descriptor.id) {
         return Ok(None);
     }
     Ok(Some(descriptor.id.try_clone()?))
@@ -91,30 +127,6 @@ pub(crate) fn new_child(
         return Err(UnitFault::Own(TWICE));
     }
     Ok(id)
-}
-
-// Whether two segments have the same tag and the same value.
-fn is_same(a: &Segment, b: &Segment) -> bool
-    ensures { IsTrue result → a.now ≡ b.now }
-{
-    a.tag() == b.tag() && a.value() == b.value()
-}
-
-// Whether an id stands below another.
-fn is_below(above: &UniqueId, id: &UniqueId) -> bool
-    ensures { IsTrue result → IsBelow above.now id.now }
-{
-    let outer = above.segments();
-    let inner = id.segments();
-    if inner.len() <= outer.len() {
-        return false;
-    }
-    for index in 0..outer.len() {
-        if !is_same(&outer[index], &inner[index]) {
-            return false;
-        }
-    }
-    true
 }
 
 /// The first key after this one whose descriptor doesn't stand below the id, or the table's end.

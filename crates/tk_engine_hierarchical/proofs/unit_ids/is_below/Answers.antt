@@ -1,13 +1,8 @@
-use Rattle.std.proofs.Common.{◌≡◌, ap, arith, length, subst, take}
-use Rattle.tk_engine_hierarchical.proofs.Played.{below_at_end}
+use Rattle.std.proofs.Common.{ap, arith, length}
+use Rattle.tk_engine_hierarchical.proofs.Played.{below_longer}
 use Rattle.tk_engine_hierarchical.proofs.unit_ids.is_below.Goals as goal
 
-pub returns : goal.returns
-returns c = λ _.
-    let a = c.args.above.now in
-    let id = c.args.id.now in
-    let n = c.loop-index.index in
-    let outer : length c.segments-outer.result.now ≡ length a = ap length c.segments-outer.ensures in
-    let inner : length c.segments-inner.result.now ≡ length id = ap length c.segments-inner.ensures in
-    let same : take n a ≡ take n id = subst (λ x. take n a ≡ take n x) c.segments-inner.ensures (subst (λ x. take n x ≡ take n c.segments-inner.result.now) c.segments-outer.ensures c.loop-index.invariant) in
-    below_at_end a id n (omega (arith, c.loop-index-test.false, outer)) (omega (arith, c.if-inner-outer.false, outer, inner)) same (omega (arith, c.loop-index.auto.index-end, outer))
+pub returns-then-segments : goal.returns-then-segments
+returns-then-segments c = λ same.
+    let more = c.if-segments.true in
+    below_longer c.args.above.now c.args.id.now (omega (arith, more, ap length c.segments.ensures, ap length c.segments-2.ensures)) (c.begins_with.ensures same)
