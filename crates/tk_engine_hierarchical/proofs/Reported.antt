@@ -1,8 +1,9 @@
 -- What a reporter's calls promise.
-use Rattle.std.proofs.Common.{◌≡◌, ◌≤◌, ℕ, zero, suc, List, [], ◌∷◌, length, Option, Some, None, slice_get, true, false, refl, sym, ap, ◌∙◌, subst, append-nil, arith}
+use Rattle.std.proofs.Common.{◌≡◌, ◌≤◌, ℕ, zero, suc, List, [], ◌∷◌, ◌++◌, length, Option, Some, None, slice_get, true, false, refl, sym, ap, ◌∙◌, subst, append_assoc, append-nil, arith}
 use Rattle.std.specs.Prelude.{Result, Ok, Err, OnOk, OnErr}
 use Rattle.tk_ids.specs.DTypes.{is_test}
 use Rattle.tk_ids.specs.declared.descriptors.Descriptor.{Descriptor}
+use Rattle.tk_events.specs.declared.events.Event.{Event}
 use Rattle.tk_events.specs.declared.kinds.Kind.{Kind}
 use Rattle.tk_events.specs.declared.kinds.Kind.TheVariants.{Finished, Skipped, Started}
 use Rattle.tk_events.specs.declared.payloads.Payload.{Payload}
@@ -31,6 +32,19 @@ extends_same a b e = ([], ap (λ (s : SenderView). s.sent) e ∙ sym (append-nil
 pub extends_registered : (a b c : SenderView) (ask : RegisterRequest) (key : ℕ) → IsRegisteredAs a b ask (Ok key) → c ≡ b → Extends a c
 extends_registered a b c ask key r e =
     (registration a ask.stamp (child_of ask r.0) ∷ [], ap (λ (s : SenderView). s.sent) (e ∙ r.5))
+
+-- b is a, and events after it
+abbrev pub IsLonger : List Event → List Event → Type 0
+IsLonger a b = (l : List Event) × (b ≡ a ++ l)
+
+pub extends_more : (a b : List Event) (e : Event) → IsLonger a b → IsLonger a (b ++ e ∷ [])
+extends_more a b e x = (x.0 ++ e ∷ [], ap (λ l. l ++ e ∷ []) x.1 ∙ append_assoc a x.0 (e ∷ []))
+
+pub extends_extends : (a b c : List Event) → IsLonger a b → IsLonger b c → IsLonger a c
+extends_extends a b c x y = (x.0 ++ y.0, y.1 ∙ ap (λ l. l ++ y.0) x.1 ∙ append_assoc a x.0 y.0)
+
+pub extends_child : (a : List Event) (b c : SenderView) (ask : RegisterRequest) (key : ℕ) → IsRegisteredAs b c ask (Ok key) → IsLonger a b.sent → IsLonger a c.sent
+extends_child a b c ask key r x = subst (λ (s : SenderView). IsLonger a s.sent) (sym r.5) (extends_more a b.sent (registration b ask.stamp (child_of ask r.0)) x)
 
 -- what holds holds at `Err`
 pub err_of : {F A : Type 0} (r : Result (Unit {0}) F) → A → OnErr r A
@@ -73,6 +87,9 @@ skipped_child old new sink registered running rest first ask key reason was view
   stamp = kept;
 }
 
+pub skipped_at : (old new : UnitView) (ask : ℕ → RegisterRequest) (given stamp : ℕ) (reason : Payload) → given ≡ stamp → HasSkipped old new (ask given) reason → HasSkipped old new (ask stamp) reason
+skipped_at old new ask given stamp reason same s = subst (λ n. HasSkipped old new (ask n) reason) same s
+
 pub started_child : (old new : UnitView) (sink registered : SenderView) (running rest : List RunningKey) (first : RunningKey) (ask : RegisterRequest) (key : ℕ)
     → old.sink ≡ sink → old.running ≡ keys_of running → running ≡ first ∷ rest → ask.parent ≡ first.key → IsRegisteredAs sink registered ask (Ok key)
     → new.sink ≡ sends registered (event Started key ask.stamp Nothing) → new.running ≡ key ∷ keys_of running → new.stamp ≡ old.stamp → HasStarted old new ask key
@@ -87,9 +104,9 @@ started_child old new sink registered running rest first ask key was view is par
 }
 
 pub has_run_child : (old started before new : UnitView) (ask : ℕ → RegisterRequest) (key given stamp : ℕ) (outcome : Payload) → given ≡ stamp
-    → HasStarted old started (ask given) key → HasFinished before new (event Finished key before.stamp outcome) → HasRunChild old new (ask stamp)
-has_run_child old started before new ask key given stamp outcome same s f =
-    record { key = key; started = started; start = subst (λ n. HasStarted old started (ask n) key) same s; before = before; outcome = outcome; finish = f }
+    → HasStarted old started (ask given) key → Extends started.sink before.sink → HasFinished before new (event Finished key before.stamp outcome) → HasRunChild old new (ask stamp)
+has_run_child old started before new ask key given stamp outcome same s x f =
+    record { key = key; started = started; start = subst (λ n. HasStarted old started (ask n) key) same s; before = before; later = x; outcome = outcome; finish = f }
 
 pub finished_as : (old new : UnitView) (key given stamp : ℕ) (payload outcome : Payload) → given ≡ stamp → payload ≡ outcome
     → HasFinished old new (event Finished key given payload) → HasFinished old new (event Finished key stamp outcome)

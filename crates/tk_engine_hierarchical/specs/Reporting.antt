@@ -57,13 +57,14 @@ pub record HasStarted (old new : UnitView) (ask : RegisterRequest) (key : ℕ) :
   pub running : new.running ≡ key ∷ old.running
   pub stamp : new.stamp ≡ old.stamp
 
--- what was asked for was registered below the innermost running key and started; its finish is the
--- last that happened
+-- what was asked for was registered below the innermost running key and started; then events may
+-- have been emitted, and its finish is the last one
 pub record HasRunChild (old new : UnitView) (ask : RegisterRequest) : Type 0 where
   pub key : ℕ
   pub started : UnitView
   pub start : HasStarted old started ask key
   pub before : UnitView
+  pub later : Extends started.sink before.sink
   pub outcome : Payload
   pub finish : HasFinished before new (event Finished key before.stamp outcome)
 

@@ -245,6 +245,7 @@ pub(crate) fn run_unit<'a, R: Wait, S: Sink, K: UnitRun, T: Tests>(
     requires script { unit < length (units_of (forest plan.now.nodes)) }
     requires name { lease.sink.ghost_name ≡ K.name }
     requires start { S.view lease.sink.now ≡ K.start }
+    requires since { K.since ≡ K.start }
     requires frame { frame shape.now ≡ K.frame }
     requires keys { keys_in shape.now unit ≡ K.keys }
     requires may { (key : ℕ) (o : Outcome) → T.may_end tests.now key o → K.may_end key o }

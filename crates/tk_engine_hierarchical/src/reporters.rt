@@ -63,7 +63,7 @@ impl<'a, S: Sink, K: UnitRun> Reporter<'a, S, K> {
     {
         let stamp = self.events.stamp();
         let key = self.events.start_child(rt, alloc, child, stamp)?;
-        let outcome = body.run(rt, alloc, self)?;
+        let outcome = self.events.run_body(rt, alloc, body, &mut self.own_stamp)?;
         self.finish(rt, key, outcome)
     }
 

@@ -3,19 +3,21 @@ ghost use Rattle.std.specs.Prelude.{◌≡◌, ◌<◌, ◌≤◌, ℕ, IfOk, Is
 ghost use Rattle.tk_engine_execute.specs.Engines.{Extends, IsSameSender};
 ghost use Rattle.tk_events.specs.declared.kinds.Kind.TheVariants.{Finished};
 ghost use Rattle.tk_engine_hierarchical.specs.Endings.{IsStaticTest, MayFinish};
-ghost use Rattle.tk_engine_hierarchical.specs.Events.{HasRun};
+ghost use Rattle.tk_engine_hierarchical.specs.Events.{HasRun, IsRunning};
 ghost use Rattle.tk_engine_hierarchical.specs.Reporting.{Grew, HasFinished, HasSkipped, HasStarted, Published, event, publishes};
 ghost use Rattle.tk_engine_hierarchical.specs.Shapes.{frame, keys_in};
+ghost use Rattle.tk_engine_hierarchical.specs.Units.{HasPlayed};
 
 use crate::leases::Lease;
 use crate::registered_ids::RegisteredIds;
 use crate::running_keys::{RunningKey, RunningKeys};
 use crate::shapes::Shape;
-use crate::tests::OUT_OF_ORDER;
+use crate::tests::{Body, OUT_OF_ORDER, Outcome};
 use crate::unit_ids::{end_below, id_to_start, new_child};
 use crate::unit_runs::UnitRun;
 use std::alloc::Global;
 use std::marker::{Model, PhantomData};
+use std::mem;
 use std::sync::Wait;
 use tk_engine_execute::{Sink, UnitFault};
 use tk_events::{Event, Kind, Payload};
@@ -27,6 +29,32 @@ pub(crate) struct Child<'a> {
     pub(crate) segment: &'a Segment,
     pub(crate) name: &'a str,
     pub(crate) dtype: DType,
+}
+
+/// Where a unit stands: its number, the end of its static keys, which keys run, which ids it has
+/// registered, the next static key, and the stamp of what a body publishes.
+#[derive(Drop)]
+pub(crate) struct UnitProgress {
+    pub(crate) unit: u32,
+    pub(crate) end: u32,
+    pub(crate) running: RunningKeys,
+    pub(crate) registered: RegisteredIds,
+    pub(crate) next: u32,
+    pub(crate) stamp: u64,
+}
+
+impl UnitProgress {
+    /// A unit of which no key runs.
+    pub(crate) fn nothing(alloc: Global) -> UnitProgress {
+        UnitProgress {
+            unit: 0,
+            end: 0,
+            running: RunningKeys::new(alloc),
+            registered: RegisteredIds::new(alloc),
+            next: 0,
+            stamp: 0,
+        }
+    }
 }
 
 /// What a unit has emitted, which keeps the lifecycle. Contracts see the sink, and which keys run.
@@ -45,6 +73,7 @@ pub(crate) struct UnitEvents<'a, S: Sink, K: UnitRun> {
 
 impl<'a, S: Sink, K: UnitRun> Model for UnitEvents<'a, S, K> {
     ghost use Rattle.std.specs.Prelude.{◌≡◌};
+    ghost use Rattle.tk_engine_execute.specs.Engines.{Extends};
     ghost use Rattle.tk_engine_hierarchical.specs.Events.{IsRunning, keys_of};
     ghost use Rattle.tk_engine_hierarchical.specs.Reporting.{UnitView};
     ghost use Rattle.tk_engine_hierarchical.specs.Shapes.{frame};
@@ -65,7 +94,8 @@ impl<'a, S: Sink, K: UnitRun> Model for UnitEvents<'a, S, K> {
         × IsRunning K.frame K.keys.unit K.start (S.view e.lease.sink.now) e.running e.registered
         e.next
         × HasPlayed K.frame.table K.may_end K.keys.first e.next K.start
-        (S.view e.lease.sink.now) };
+        (S.view e.lease.sink.now)
+        × Extends K.since (S.view e.lease.sink.now) };
 }
 
 impl<'a, S: Sink, K: UnitRun> UnitEvents<'a, S, K> {
@@ -78,6 +108,7 @@ impl<'a, S: Sink, K: UnitRun> UnitEvents<'a, S, K> {
     ) -> UnitEvents<'a, S, K>
         requires name { lease.sink.ghost_name ≡ K.name }
         requires start { S.view lease.sink.now ≡ K.start }
+        requires since { K.since ≡ K.start }
         requires frame { frame shape.now ≡ K.frame }
         requires keys { keys_in shape.now unit ≡ K.keys }
         requires is_unit { unit < shape.now.units }
@@ -96,6 +127,116 @@ impl<'a, S: Sink, K: UnitRun> UnitEvents<'a, S, K> {
             stamp: 0,
             of: PhantomData,
         }
+    }
+
+    /// A unit that stands there already.
+    pub(crate) fn resume(
+        lease: Lease<'a, S>,
+        shape: &'a Shape,
+        progress: UnitProgress,
+    ) -> UnitEvents<'a, S, K>
+        requires name { lease.sink.ghost_name ≡ K.name }
+        requires frame { frame shape.now ≡ K.frame }
+        requires unit { progress.unit ≡ K.keys.unit }
+        requires end { progress.end ≡ K.keys.end }
+        requires running { IsRunning K.frame K.keys.unit K.start (S.view lease.sink.now)
+            progress.running progress.registered progress.next }
+        requires played { HasPlayed K.frame.table K.may_end K.keys.first progress.next K.start
+            (S.view lease.sink.now) }
+        requires since { K.since ≡ S.view lease.sink.now }
+    {
+        let UnitProgress {
+            unit,
+            end,
+            running,
+            registered,
+            next,
+            stamp,
+        } = progress;
+        UnitEvents {
+            lease,
+            shape,
+            unit,
+            end,
+            running,
+            registered,
+            next,
+            stamp,
+            of: PhantomData,
+        }
+    }
+
+    /// Gives the sink back, and where the unit stands.
+    pub(crate) fn suspend(self) -> (Lease<'a, S>, UnitProgress)
+        ensures name { result.0.sink.ghost_name ≡ K.name }
+        ensures running { IsRunning K.frame K.keys.unit K.start (S.view result.0.sink.now)
+            result.1.running result.1.registered result.1.next }
+        ensures played { HasPlayed K.frame.table K.may_end K.keys.first result.1.next K.start
+            (S.view result.0.sink.now) }
+        ensures since { Extends K.since (S.view result.0.sink.now) }
+    {
+        let UnitEvents {
+            lease,
+            unit,
+            end,
+            running,
+            registered,
+            next,
+            stamp,
+            ..
+        } = self;
+        let progress = UnitProgress {
+            unit,
+            end,
+            running,
+            registered,
+            next,
+            stamp,
+        };
+        (lease, progress)
+    }
+
+    /// Runs a body, which emits into the same sink.
+    pub(crate) fn run_body<R: Wait, B: Body>(
+        &mut self,
+        rt: &R,
+        alloc: Global,
+        body: &B,
+        own_stamp: &mut Option<u64>,
+    ) -> Result<Outcome, UnitFault>
+        ensures may { IfOk result (λ outcome. B.may_end body.now outcome) }
+        ensures more { Extends self.old.sink self.new.sink }
+    {
+        let mut progress = UnitProgress {
+            unit: self.unit,
+            end: self.end,
+            running: mem::replace(&mut self.running, RunningKeys::new(alloc)),
+            registered: mem::replace(&mut self.registered, RegisteredIds::new(alloc)),
+            next: self.next,
+            stamp: self.stamp,
+        };
+        let mut ran = Ok(Outcome::Successful);
+        self.lease.run_body::<R, K, B>(
+            rt,
+            alloc,
+            body,
+            self.shape,
+            &mut progress,
+            own_stamp,
+            &mut ran,
+        );
+        let UnitProgress {
+            running,
+            registered,
+            next,
+            stamp,
+            ..
+        } = progress;
+        self.running = running;
+        self.registered = registered;
+        self.next = next;
+        self.stamp = stamp;
+        ran
     }
 
     /// Gives the sink back, and says whether no key runs, and whether each static one had its turn.

@@ -3,8 +3,8 @@
 use std::marker::Brand;
 
 /// Which run of a unit a proof speaks of: the engine's frame, the unit and its static keys, which
-/// outcomes a static test may have, the sink as it was when the unit began, and the name of the
-/// reference to it. Each call of a unit picks it.
+/// outcomes a static test may have, the sink as it was when the unit began, as it was when the body
+/// that runs began, and the name of the reference to it. Each call of a unit or of a body picks it.
 pub trait UnitRun {
     ghost use Rattle.std.specs.Prelude.{ℕ};
     ghost use Rattle.tk_engine_lifecycle.specs.Units.{Frame};
@@ -20,6 +20,8 @@ pub trait UnitRun {
 
     ghost start: { SenderView };
 
+    ghost since: { SenderView };
+
     ghost name: { ℕ };
 }
 
@@ -34,6 +36,21 @@ impl UnitRun for Brand {
     ghost may_end = { λ key outcome. Unit {0} };
 
     ghost start = { record {
+      session = record {
+        words = 0;
+        slots = 0;
+        views_name = 0;
+        atom = 0;
+        block = 0;
+        offset = 0;
+        slot_names = [];
+      };
+      table = [];
+      worker = 0;
+      sent = [];
+    } };
+
+    ghost since = { record {
       session = record {
         words = 0;
         slots = 0;

@@ -7,5 +7,6 @@ ghosts-run_unit g a = record {
   keys = keys_in a.shape.now a.unit;
   may_end = λ key outcome. g.T.Tests.may_end a.tests.now key outcome;
   start = g.S.Sink.view a.lease.sink.now;
+  since = g.S.Sink.view a.lease.sink.now;
   name = a.lease.sink.ghost_name;
 }

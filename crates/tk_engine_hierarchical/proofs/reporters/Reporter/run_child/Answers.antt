@@ -5,7 +5,7 @@ pub finish-requires : goal.finish-requires
 finish-requires g c = λ t. absurd (dynamic_is_no_test g.K.UnitRun.frame.table c.in_ok-key.key c.in_ok-key.ensures.dynamic t)
 
 pub returns-clause-ok : goal.returns-clause-ok
-returns-clause-ok g c = on_ok c.finish.result c.finish.ensures (λ f. ends_child _ _ _ _ c.in_ok-key.key c.in_ok-outcome.outcome c.in_ok-key.ensures.dynamic c.in_ok-outcome.ensures f)
+returns-clause-ok g c = on_ok c.finish.result c.finish.ensures (λ f. ends_child _ _ _ _ c.in_ok-key.key c.in_ok-outcome.outcome c.in_ok-key.ensures.dynamic c.in_ok-outcome.ensures.may f)
 
 pub returns-clause-child : goal.returns-clause-child
 returns-clause-child g c =
@@ -15,5 +15,5 @@ returns-clause-child g c =
       s.0,
       has_run_child _ _ _ _
           (λ n. record { parent = s.0; segment = c.args.child.now.segment.now; name = c.args.child.now.name.now; dtype = c.args.child.now.dtype; stamp = n })
-          c.in_ok-key.key _ _ _ c.stamp-stamp.ensures s.1 f,
+          c.in_ok-key.key _ _ _ c.stamp-stamp.ensures s.1 c.in_ok-outcome.ensures.more f,
     ))

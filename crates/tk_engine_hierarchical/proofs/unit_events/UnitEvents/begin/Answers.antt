@@ -1,7 +1,8 @@
-use Rattle.std.proofs.Common.{ap, ◌∙◌}
+use Rattle.std.proofs.Common.{ap, sym, ◌∙◌}
 use Rattle.tk_engine_hierarchical.specs.Units.{UnitKeys}
 use Rattle.tk_engine_hierarchical.proofs.Played.{played_none}
 use Rattle.tk_engine_hierarchical.proofs.Running.{began}
+use Rattle.tk_engine_hierarchical.proofs.Reported.{extends_same}
 use Rattle.tk_engine_hierarchical.proofs.unit_events.UnitEvents.begin.Goals as goal
 
 pub invariant_of-result : goal.invariant_of-result
@@ -15,4 +16,5 @@ invariant_of-result g c =
       began c.args.shape.now g.K.UnitRun.frame c.args.unit g.K.UnitRun.keys.unit g.K.UnitRun.start _ c.new.result c.new-2.result c.keys_of-next.result.0 c.requires.frame unit c.requires.start c.new.ensures
           c.shows_shape.ensures.around c.requires.is_unit c.requires.table,
       played_none g.K.UnitRun.frame.table g.K.UnitRun.may_end g.K.UnitRun.keys.first g.K.UnitRun.start _ c.keys_of-next.result.0 c.requires.start (ap (λ (k : UnitKeys). k.first) keys),
+      extends_same _ _ (c.requires.start ∙ sym c.requires.since),
     )

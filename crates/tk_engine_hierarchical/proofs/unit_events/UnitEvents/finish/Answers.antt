@@ -3,6 +3,8 @@ use Rattle.tk_engine_hierarchical.specs.Events.{IsRunning}
 use Rattle.tk_engine_hierarchical.specs.Units.{HasPlayed}
 use Rattle.tk_engine_hierarchical.proofs.Played.{played_more}
 use Rattle.tk_engine_hierarchical.proofs.Running.{popped, ran_finish}
+use Rattle.tk_engine_execute.specs.Engines.{Extends}
+use Rattle.tk_engine_hierarchical.proofs.Reported.{extends_more}
 use Rattle.tk_engine_hierarchical.proofs.unit_events.UnitEvents.finish.Goals as goal
 
 pub invariant_of-self-2 : goal.invariant_of-self-2
@@ -19,4 +21,5 @@ invariant_of-self-2 g c =
           (ran_finish _ _ _ _ _ _ _ _ first _ i.4 left refl (sym c.if-innermost-key.false)),
       subst (λ s. HasPlayed g.K.UnitRun.frame.table g.K.UnitRun.may_end g.K.UnitRun.keys.first c.self.inside.next g.K.UnitRun.start s) (sym c.in_ok-emit.ensures.ok)
           (played_more g.K.UnitRun.frame.table g.K.UnitRun.may_end g.K.UnitRun.keys.first g.K.UnitRun.start _ c.self.inside.next _ i.5 (λ f. c.requires)),
+      subst (λ s. Extends g.K.UnitRun.since s) (sym c.in_ok-emit.ensures.ok) (extends_more _ _ _ i.6),
     )

@@ -1,10 +1,11 @@
 use Rattle.std.proofs.Common.{ap, refl, sym, ◌∙◌}
 use Rattle.tk_engine_hierarchical.specs.Reporting.{UnitView}
-use Rattle.tk_engine_hierarchical.proofs.Reported.{on_ok, published}
+use Rattle.tk_engine_hierarchical.proofs.Reported.{extends_more, on_ok, published}
 use Rattle.tk_engine_hierarchical.specs.Events.{IsRunning}
 use Rattle.tk_engine_hierarchical.specs.Units.{HasPlayed}
 use Rattle.tk_engine_hierarchical.proofs.Played.{played_plain, published_is_not}
 use Rattle.tk_engine_hierarchical.proofs.Running.{after_emit, ran_published}
+use Rattle.tk_engine_execute.specs.Engines.{Extends}
 use Rattle.tk_engine_hierarchical.proofs.unit_events.UnitEvents.publish.Goals as goal
 
 pub invariant_of-self : goal.invariant_of-self
@@ -18,6 +19,7 @@ invariant_of-self g c =
           (ran_published _ _ _ _ _ _ _ c.in-Some.innermost.now _ i.4 c.in-Some.ensures.some c.requires refl),
       after_emit _ _ _ c.emit.result (λ s. HasPlayed g.K.UnitRun.frame.table g.K.UnitRun.may_end g.K.UnitRun.keys.first c.self.inside.next g.K.UnitRun.start s) c.emit.ensures.ok c.emit.ensures.err i.5
           (played_plain g.K.UnitRun.frame.table g.K.UnitRun.may_end g.K.UnitRun.keys.first g.K.UnitRun.start _ c.self.inside.next _ c.args.kind refl (published_is_not c.args.kind c.requires) i.5),
+      after_emit _ _ _ c.emit.result (λ s. Extends g.K.UnitRun.since s) c.emit.ensures.ok c.emit.ensures.err i.6 (extends_more _ _ _ i.6),
     )
 
 pub returns-clause-ok : goal.returns-clause-ok

@@ -1,11 +1,12 @@
 use Rattle.std.proofs.Common.{ap, refl, sym, subst, ◌∙◌}
 use Rattle.tk_engine_hierarchical.specs.Reporting.{UnitView}
-use Rattle.tk_engine_hierarchical.proofs.Reported.{err_of, grew_registered, grew_same, on_err, on_ok, skipped_child}
+use Rattle.tk_engine_hierarchical.proofs.Reported.{err_of, extends_child, extends_more, grew_registered, grew_same, on_err, on_ok, skipped_child}
 use Rattle.tk_events.specs.declared.kinds.Kind.TheVariants.{Skipped}
 use Rattle.tk_engine_hierarchical.specs.Events.{IsRunning}
 use Rattle.tk_engine_hierarchical.specs.Units.{HasPlayed}
 use Rattle.tk_engine_hierarchical.proofs.Played.{played_plain, played_registration, skipped_is_not}
 use Rattle.tk_engine_hierarchical.proofs.Running.{after_emit, ran_child_skip, ran_noted, ran_registered, registered_child}
+use Rattle.tk_engine_execute.specs.Engines.{Extends}
 use Rattle.tk_engine_hierarchical.proofs.unit_events.UnitEvents.skip_child.Goals as goal
 
 pub invariant_of-self-in_err-key : goal.invariant_of-self-in_err-key
@@ -18,6 +19,7 @@ invariant_of-self-in_err-key g c =
       subst (λ s. IsRunning g.K.UnitRun.frame g.K.UnitRun.keys.unit g.K.UnitRun.start s c.self.inside.running c.add.new.self c.self.inside.next) (sym c.in_err-key.ensures.err)
           (ran_noted g.K.UnitRun.frame g.K.UnitRun.keys.unit g.K.UnitRun.start _ c.self.inside.running c.self.inside.registered c.add.new.self c.self.inside.next _ c.in_ok-add.ensures.ok i.4),
       subst (λ s. HasPlayed g.K.UnitRun.frame.table g.K.UnitRun.may_end g.K.UnitRun.keys.first c.self.inside.next g.K.UnitRun.start s) (sym c.in_err-key.ensures.err) i.5,
+      subst (λ s. Extends g.K.UnitRun.since s) (sym c.in_err-key.ensures.err) i.6,
     )
 
 pub invariant_of-self-2 : goal.invariant_of-self-2
@@ -35,6 +37,7 @@ invariant_of-self-2 g c =
           (ran_child_skip g.K.UnitRun.frame g.K.UnitRun.keys.unit g.K.UnitRun.start _ _ c.self.inside.running c.add.new.self c.self.inside.next c.in_ok-key.key _ _ refl refl refl h),
       after_emit _ _ _ c.emit.result (λ s. HasPlayed g.K.UnitRun.frame.table g.K.UnitRun.may_end g.K.UnitRun.keys.first c.self.inside.next g.K.UnitRun.start s) c.emit.ensures.ok c.emit.ensures.err p
           (played_plain g.K.UnitRun.frame.table g.K.UnitRun.may_end g.K.UnitRun.keys.first g.K.UnitRun.start _ c.self.inside.next _ Skipped refl skipped_is_not p),
+      after_emit _ _ _ c.emit.result (λ s. Extends g.K.UnitRun.since s) c.emit.ensures.ok c.emit.ensures.err (extends_child _ (g.S.Sink.view c.self.inside.lease.sink.now) (g.S.Sink.view c.register.new.self.sink.now) _ c.in_ok-key.key c.in_ok-key.ensures.ok i.6) (extends_more _ _ _ (extends_child _ (g.S.Sink.view c.self.inside.lease.sink.now) (g.S.Sink.view c.register.new.self.sink.now) _ c.in_ok-key.key c.in_ok-key.ensures.ok i.6)),
     )
 
 pub returns-in_err-add-clause-err : goal.returns-in_err-add-clause-err

@@ -4,8 +4,9 @@ use Rattle.tk_engine_hierarchical.specs.Events.{IsRunning, keys_of}
 use Rattle.tk_engine_hierarchical.specs.Reporting.{UnitView}
 use Rattle.tk_engine_hierarchical.specs.Units.{HasPlayed}
 use Rattle.tk_engine_hierarchical.proofs.Played.{played_plain, played_registration, started_is_not}
-use Rattle.tk_engine_hierarchical.proofs.Reported.{started_child}
+use Rattle.tk_engine_hierarchical.proofs.Reported.{extends_child, extends_more, started_child}
 use Rattle.tk_engine_hierarchical.proofs.Running.{child_off, ran_child, ran_noted, ran_registered, registered_child}
+use Rattle.tk_engine_execute.specs.Engines.{Extends}
 use Rattle.tk_engine_hierarchical.proofs.unit_events.UnitEvents.start_child.Goals as goal
 
 pub invariant_of-self-in_err-key : goal.invariant_of-self-in_err-key
@@ -18,6 +19,7 @@ invariant_of-self-in_err-key g c =
       subst (λ s. IsRunning g.K.UnitRun.frame g.K.UnitRun.keys.unit g.K.UnitRun.start s c.self.inside.running c.add.new.self c.self.inside.next) (sym c.in_err-key.ensures.err)
           (ran_noted g.K.UnitRun.frame g.K.UnitRun.keys.unit g.K.UnitRun.start _ c.self.inside.running c.self.inside.registered c.add.new.self c.self.inside.next _ c.in_ok-add.ensures.ok i.4),
       subst (λ s. HasPlayed g.K.UnitRun.frame.table g.K.UnitRun.may_end g.K.UnitRun.keys.first c.self.inside.next g.K.UnitRun.start s) (sym c.in_err-key.ensures.err) i.5,
+      subst (λ s. Extends g.K.UnitRun.since s) (sym c.in_err-key.ensures.err) i.6,
     )
 
 pub invariant_of-self-in_err-push : goal.invariant_of-self-in_err-push
@@ -32,6 +34,7 @@ invariant_of-self-in_err-push g c =
           (registered_child c.self.inside.shape.now g.K.UnitRun.frame g.K.UnitRun.keys.unit g.K.UnitRun.start _ _ c.self.inside.running _ c.self.inside.registered c.add.new.self c.self.inside.next c.in_ok-key.key c.in-Some.innermost.now _ _ i.1 i.4
           c.in-Some.ensures.some.1 c.in_ok-key.ensures.ok refl c.in_ok-id.ensures.id c.in_ok-id.ensures.not_static c.in_ok-id.ensures.not_registered c.in_ok-add.ensures.ok)),
       played_registration g.K.UnitRun.frame.table g.K.UnitRun.may_end g.K.UnitRun.keys.first g.K.UnitRun.start _ _ c.self.inside.next c.in_ok-key.key _ c.in_ok-key.ensures.ok i.5,
+      extends_child _ (g.S.Sink.view c.self.inside.lease.sink.now) (g.S.Sink.view c.register.new.self.sink.now) _ c.in_ok-key.key c.in_ok-key.ensures.ok i.6,
     )
 
 pub invariant_of-self-in-Ok : goal.invariant_of-self-in-Ok
@@ -48,6 +51,7 @@ invariant_of-self-in-Ok g c =
       subst (λ s. HasPlayed g.K.UnitRun.frame.table g.K.UnitRun.may_end g.K.UnitRun.keys.first c.self.inside.next g.K.UnitRun.start s) (sym c.in-Ok.ensures.ok)
           (played_plain g.K.UnitRun.frame.table g.K.UnitRun.may_end g.K.UnitRun.keys.first g.K.UnitRun.start _ c.self.inside.next _ Started refl started_is_not
           (played_registration g.K.UnitRun.frame.table g.K.UnitRun.may_end g.K.UnitRun.keys.first g.K.UnitRun.start _ _ c.self.inside.next c.in_ok-key.key _ c.in_ok-key.ensures.ok i.5)),
+      subst (λ s. Extends g.K.UnitRun.since s) (sym c.in-Ok.ensures.ok) (extends_more _ _ _ (extends_child _ (g.S.Sink.view c.self.inside.lease.sink.now) (g.S.Sink.view c.register.new.self.sink.now) _ c.in_ok-key.key c.in_ok-key.ensures.ok i.6)),
     )
 
 pub invariant_of-self-in-Err : goal.invariant_of-self-in-Err
@@ -63,6 +67,7 @@ invariant_of-self-in-Err g c =
           c.in-Some.ensures.some.1 c.in_ok-key.ensures.ok refl c.in_ok-id.ensures.id c.in_ok-id.ensures.not_static c.in_ok-id.ensures.not_registered c.in_ok-add.ensures.ok),
       subst (λ s. HasPlayed g.K.UnitRun.frame.table g.K.UnitRun.may_end g.K.UnitRun.keys.first c.self.inside.next g.K.UnitRun.start s) (sym c.in-Err.ensures.err)
           (played_registration g.K.UnitRun.frame.table g.K.UnitRun.may_end g.K.UnitRun.keys.first g.K.UnitRun.start _ _ c.self.inside.next c.in_ok-key.key _ c.in_ok-key.ensures.ok i.5),
+      subst (λ s. Extends g.K.UnitRun.since s) (sym c.in-Err.ensures.err) (extends_child _ (g.S.Sink.view c.self.inside.lease.sink.now) (g.S.Sink.view c.register.new.self.sink.now) _ c.in_ok-key.key c.in_ok-key.ensures.ok i.6),
     )
 
 pub returns-in-Ok-clause-started : goal.returns-in-Ok-clause-started
@@ -73,3 +78,9 @@ returns-in-Ok-clause-started g c =
       started_child _ _ _ _ c.self.inside.running c.in-Some.ensures.some.0 c.in-Some.innermost.now _ c.in_ok-key.key (sym sink) (sym runs) c.in-Some.ensures.some.1 refl c.in_ok-key.ensures.ok c.in-Ok.ensures.ok
           (ap keys_of c.in_ok-push.ensures.ok) (ap (λ (v : UnitView). v.stamp) c.self.view_is),
     )
+
+pub returns-in-Ok-clause-dynamic : goal.returns-in-Ok-clause-dynamic
+returns-in-Ok-clause-dynamic g c =
+    let i = c.self.invariant in
+    (registered_child c.self.inside.shape.now g.K.UnitRun.frame g.K.UnitRun.keys.unit g.K.UnitRun.start _ _ c.self.inside.running _ c.self.inside.registered c.add.new.self c.self.inside.next c.in_ok-key.key c.in-Some.innermost.now _ _ i.1 i.4
+    c.in-Some.ensures.some.1 c.in_ok-key.ensures.ok refl c.in_ok-id.ensures.id c.in_ok-id.ensures.not_static c.in_ok-id.ensures.not_registered c.in_ok-add.ensures.ok).registration.dynamic
