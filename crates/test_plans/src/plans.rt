@@ -50,6 +50,20 @@ fn is_plan_of(alloc: Global, root: &PlanNode<'_>, text: &[u8]) -> Result<bool, P
     Ok(shown(alloc, &built)? == shown(alloc, &read)?)
 }
 
+// How many static nodes a plan has whose text stands after more than 16 MiB of spaces.
+fn nodes_of_long_text(alloc: Global) -> Result<usize, PlanFault> {
+    let mut text = Vec::from_elem(alloc, b' ', 17_000_000)?;
+    text.extend_from_slice(demo_in_json())?;
+    let plan = read_plan(alloc, text.as_slice())?;
+    Ok(plan.table().len())
+}
+
+/// The limit of 16 MiB is the program's: a text may be longer here.
+#[test]
+fn more_than_16_mib(rt: HostRuntime) {
+    assert!(rt; matches!(nodes_of_long_text(rt.alloc()), Ok(7)));
+}
+
 #[test]
 fn the_demo_plan(rt: HostRuntime) {
     let root = demo(rt.alloc());
