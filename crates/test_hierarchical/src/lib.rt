@@ -4,4 +4,6 @@
 #[cfg(test)]
 mod bodies;
 #[cfg(test)]
+mod limits;
+#[cfg(test)]
 mod refusals;
