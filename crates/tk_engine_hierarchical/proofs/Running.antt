@@ -66,7 +66,7 @@ some_same e = cc
 later_ids : (s : SenderView) (e : Event) (running : List RunningKey) → HaveIds s running → HaveIds (sends s e) running
 later_ids s e running h = All-weaker (λ k. HasId (record_of_sender s) k.key k.id) (λ k. HasId (record_of_sender (sends s e)) k.key k.id) (λ k i. sender_later s e k.key k.id i) running h
 
-innermost_is : (running rest : List RunningKey) (first : RunningKey) → running ≡ first ∷ rest → IsOneOf first.key (keys_of running)
+pub innermost_is : (running rest : List RunningKey) (first : RunningKey) → running ≡ first ∷ rest → IsOneOf first.key (keys_of running)
 innermost_is running rest first is = subst (λ l. IsOneOf first.key (keys_of l)) (sym is) (inl refl)
 
 cancel : (a x y : List Event) → a ++ x ≡ a ++ y → x ≡ y
