@@ -1,7 +1,9 @@
 """Tests of the refusals: a `refuse.c` that lacks a function, and sweeps and answers that are wrong in one way."""
 
+import contextlib
 import importlib.machinery
 import importlib.util
+import io
 import subprocess
 import sys
 import tempfile
@@ -9,6 +11,21 @@ from dataclasses import replace
 from typing import Callable, List, Sequence, Set, Tuple
 
 from outcomes import TOP, Test
+
+def few_sweeps(module) -> str:
+    """Runs the whole check with one sweep too few, which has to fail for that alone."""
+    program_sweeps, words, said = module.program_sweeps, sys.argv, io.StringIO()
+    few = [module.Sweep("prepared", "memory", [], b"", module.keeps_status)] * (module.LEAST_SWEEPS - 1)
+    failures_of, module.failures_of = module.failures_of, lambda library, sweep: (1, [])
+    module.program_sweeps, sys.argv = lambda program: few, ["refuse_requests", "/bin/true"]
+    try:
+        with contextlib.redirect_stdout(said):
+            status = module.main()
+    finally:
+        module.program_sweeps, module.failures_of, sys.argv = program_sweeps, failures_of, words
+    found = said.getvalue()
+    return "" if status == 1 and found.startswith(f"the program has {len(few)} sweeps") and found.endswith(" 1 failed\n") else found
+
 
 def tests_of_answers(module) -> List[Test]:
     """Sweeps of which these runs came: the ordinary one, one with each request refused, and one in which none was left."""
@@ -50,6 +67,7 @@ def tests_of_answers(module) -> List[Test]:
         refusal("another status where no line can be written", module.keeps_status, replace(silent, status=3), first=fault),
         Test("the ordinary answer twice, and may be once", lambda: come(memory, [ordinary, survived, survived, ordinary], False, survived=1)),
         Test("a run of which no request is left and that answers otherwise", lambda: come(memory, [ordinary, refused, fault], False)),
+        Test("one sweep too few", lambda: few_sweeps(module)),
         Test("a program of no test", lambda: "" if module.test_sweeps("/bin/true")[1] else "nothing is missing"),
     ]
 
