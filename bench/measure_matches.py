@@ -39,10 +39,11 @@ def line(position: int) -> str:
 
 def write_records(folder: str) -> None:
     """Writes the records `large` and `small`."""
-    small = [f"E|1|{it // 2 % TESTS}|{it}|{'finish|ok' if it % 2 else 'start'}\n" for it in range(EXACT_EVENTS)]
-    for name, lines in (("large", [line(it) for it in range(EVENTS)]), ("small", small)):
+    small = (f"E|1|{it // 2 % TESTS}|{it}|{'finish|ok' if it % 2 else 'start'}\n" for it in range(EXACT_EVENTS))
+    for name, lines in (("large", map(line, range(EVENTS))), ("small", small)):
         with open(f"{folder}/{name}", "w", encoding="utf-8") as file:
-            file.write("".join(static(TESTS) + lines))
+            file.writelines(static(TESTS))
+            file.writelines(lines)
 
 
 def conditions(count: int, text: str) -> List[str]:

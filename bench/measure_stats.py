@@ -6,8 +6,9 @@ and a line for each other answer about the record of `measure_matches.py`: wheth
 clock, medians of five runs in turn; the ratios plain / ours (above 1 we are faster); the most memory of each over the size of the record.
 """
 
+import filecmp
 import os
-from typing import List
+from typing import Iterator, List
 
 import building
 import measure_matches
@@ -29,18 +30,19 @@ OTHERS = [
 """The questions besides `stats`."""
 
 
-def record(mebibytes: float, segments: int) -> str:
-    """A record text of about this size, with ids of one or two segments."""
+def record(mebibytes: float, segments: int) -> Iterator[str]:
+    """The lines of a record text of about this size, with ids of one or two segments."""
     above = 1 if segments == 2 else 0
     lines = ["testkit-record|2\n"] + ["N|C|[engine:e]|engine\n"] * above
     lines += [f"N|T|[engine:e]/[method:test{it}()]|test {it}\n" if above else f"N|T|[m:test{it}]|test {it}\n" for it in range(TESTS)]
+    yield from lines
     size, number = sum(map(len, lines)), 0
     while size < mebibytes * 2**20 - 200:
         key, worker = number % TESTS + above, 1 + number % WORKERS
         ending = ENDINGS[number % 4] if number % 9 else ENDINGS[0]
-        lines.append(f"E|{worker}|{key}|{10 * number}|start\nE|{worker}|{key}|{10 * number + 7}|{ending}\n")
-        size, number = size + len(lines[-1]), number + 1
-    return "".join(lines)
+        lines_of_test = f"E|{worker}|{key}|{10 * number}|start\nE|{worker}|{key}|{10 * number + 7}|{ending}\n"
+        yield lines_of_test
+        size, number = size + len(lines_of_test), number + 1
 
 
 def compare(title: str, commands: List[List[str]], path: str, folder: str) -> str:
@@ -48,8 +50,9 @@ def compare(title: str, commands: List[List[str]], path: str, folder: str) -> st
     size = os.path.getsize(path) / 2**20
     ours, theirs = timing.take(commands, path, folder)
     ratios = [plain / mine for mine, plain in zip(ours.processors, theirs.processors)]
+    agree = filecmp.cmp(ours.output, theirs.output, shallow=False)
     return (
-        f"{title}, {size:.1f} MiB, {timing.load()}: answers {'agree' if ours.text() == theirs.text() else 'DIFFER'};"
+        f"{title}, {size:.1f} MiB, {timing.load()}: answers {'agree' if agree else 'DIFFER'};"
         f" {timing.beside(ours, theirs)} (goal: at least 4; {min(ratios):.1f} to {max(ratios):.1f});"
         f" memory over input {ours.memory / size:.1f} (goal: at most 2), plain {theirs.memory / size:.1f}"
     )
@@ -60,7 +63,7 @@ def measure(folder: str, words: List[str]) -> None:
     plain, path = building.compile_plain(f"{HERE}/plain.rs", f"{folder}/plain"), f"{folder}/record"
     for segments, title in ((1, "stats, ids of one segment"), (2, "stats, ids of two segments")):
         with open(path, "w", encoding="utf-8") as file:
-            file.write(record(mebibytes, segments))
+            file.writelines(record(mebibytes, segments))
         print(compare(title, [[program, "ask", "stats"], [plain, "stats"]], path, folder), flush=True)
     measure_matches.write_records(folder)
     for question in OTHERS:
