@@ -49,6 +49,12 @@ def call(command: Sequence[str], folder: str = ".", **how) -> bytes:
     return ran.stdout
 
 
+def run_crate(crate: str, input_path: str) -> None:
+    """Proves and builds the program of a crate, and runs it once on an input."""
+    with open(input_path, "rb") as file:
+        call(["rt", "run"], crate, stdin=file)
+
+
 def listed() -> Dict[str, str]:
     """The line of crates.txt of each crate, by its name."""
     with open(f"{ROOT}/crates.txt", encoding="utf-8") as file:

@@ -35,8 +35,7 @@ def measure(folder: str, _words: List[str]) -> None:
         path = f"{folder}/plan{number}.json"
         write_plan(path, mode)
         if number == 0:
-            with open(path, "rb") as file:
-                building.call(["rt", "run"], crate, stdin=file)
+            building.run_crate(crate, path)
         command = building.priority() + [program]
         bodies, scripted = timing.take([command + ["bodies"], command], path, folder)
         assert bodies.text() == scripted.text(), "the runs have different numbers of events"

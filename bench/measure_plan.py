@@ -87,8 +87,7 @@ def measure(folder: str, _words: List[str]) -> None:
         path = f"{folder}/{shape}.json"
         nodes = write_plan(path, members)
         if not os.path.exists(program):
-            with open(path, "rb") as file:
-                building.call(["rt", "run"], crate, stdin=file)
+            building.run_crate(crate, path)
         rounds = [(microseconds([program, "json"], path), microseconds([program], path)) for _ in range(ROUNDS)]
         alone, both = (statistics.median(theirs[it] for theirs, _ in rounds) / 1e6 for it in (0, 1))
         plan = statistics.median(ours[0] for _, ours in rounds) / 1e6
