@@ -65,8 +65,8 @@ replied_unread q r w (Err (faults.Read fault)) P reply = absurd reply
 replied_unread q r w (Err faults.Device) P reply = λ h. absurd h
 replied_unread q r w (Err faults.Memory) P reply = λ h. absurd h
 
-pub replied_no_source : (q : Question) (r : Recorded) (w : Written) (result : Result Bool AskFault) → IsReply q r w result → ¬ (result ≡ Err (faults.Read read.Device))
-replied_no_source q r w result reply e = subst (λ (x : Result Bool AskFault). IsReply q r w x) e reply
+pub replied_no_source : (q : Question) (r : Recorded) (w : Written) (result : Result Bool AskFault) (fault : ReadFault) → IsReply q r w result → ¬ (result ≡ Err (faults.Read fault))
+replied_no_source q r w result fault reply e = subst (λ (x : Result Bool AskFault). IsReply q r w x) e reply
 
 pub always_ok : {X E : Type 0} (r : Result X E) (P : Type 0) → P → OnOk r P
 always_ok (Ok x) P p = p
@@ -132,8 +132,8 @@ source_fault fault e = same_source fault (same_fault _ _ e)
 pub no_device : (words : List (List ℕ)) (fault : AskFault) → IsAskedAs words (Err fault) → ¬ (IsErrOf {T = Bool} (Err fault) faults.Device)
 no_device words fault asked e = subst (λ (f : AskFault). IsAskedAs words (Err f)) (same_fault fault faults.Device e) asked
 
-pub no_source : (words : List (List ℕ)) (fault : AskFault) → IsAskedAs words (Err fault) → ¬ (IsErrOf {T = Bool} (Err fault) (faults.Read read.Device))
-no_source words fault asked e = subst (λ (f : AskFault). IsAskedAs words (Err f)) (same_fault fault (faults.Read read.Device) e) asked
+pub no_source : (words : List (List ℕ)) (fault : AskFault) (source : ReadFault) → IsAskedAs words (Err fault) → ¬ (IsErrOf {T = Bool} (Err fault) (faults.Read source))
+no_source words fault source asked e = subst (λ (f : AskFault). IsAskedAs words (Err f)) (same_fault fault (faults.Read source) e) asked
 
 pub no_target : (input : Option (List ℕ)) (fault : AskFault) → IsReadRefusal input fault → ¬ (IsErrOf {T = Bool} (Err fault) faults.Device)
 no_target input fault h e = subst (λ (f : AskFault). IsReadRefusal input f) (same_fault fault faults.Device e) h

@@ -72,7 +72,8 @@ parent_of s key = desc (record_of_sender s) key
 abbrev pub child_of : RegisterRequest → Descriptor → Descriptor
 child_of ask above = child above ask.segment ask.name ask.dtype
 
--- What registering a descriptor answers, and the sender after it. `Memory` may come at any.
+-- What registering a descriptor answers, and the sender after it. `Memory` may come where the
+-- parent is known and there is room.
 abbrev pub IsRegisteredAs :
     SenderView → SenderView → RegisterRequest → Result ℕ RegisterFault → Type 0
 IsRegisteredAs old new ask (Ok key) =
@@ -89,7 +90,8 @@ IsRegisteredAs old new ask (Err (unregistered.Id id_faults.TooLong)) =
     (above : Descriptor) × (parent_of old ask.parent ≡ Some above) × HasRoom old
     × ¬ FitsLimits (child_of ask above).id × (new ≡ old)
 IsRegisteredAs old new ask (Err (unregistered.Id _)) = ⊥
-IsRegisteredAs old new ask (Err unregistered.Memory) = new ≡ old
+IsRegisteredAs old new ask (Err unregistered.Memory) =
+    (is_some (parent_of old ask.parent) ≡ true) × HasRoom old × (new ≡ old)
 
 -- What making the descriptor below a parent answers, with its id once more. `below` is the
 -- descriptor that is asked for, below each parent.
@@ -106,4 +108,5 @@ IsChildMade s parent below (Err (unregistered.Id id_faults.TooLong)) =
     (above : Descriptor) × (parent_of s parent ≡ Some above) × HasRoom s
     × ¬ FitsLimits (below above).id
 IsChildMade s parent below (Err (unregistered.Id _)) = ⊥
-IsChildMade s parent below (Err unregistered.Memory) = Unit {0}
+IsChildMade s parent below (Err unregistered.Memory) =
+    (is_some (parent_of s parent) ≡ true) × HasRoom s

@@ -1,4 +1,4 @@
-use Rattle.std.proofs.Common.{◌≡◌, ◌≤◌, ◌<◌, ◌++◌, ℕ, Bool, true, false, List, length, Option, Some, None, Ok, Err, sym, ap, subst, refl, inl, inr, ◌∙◌, append-nil}
+use Rattle.std.proofs.Common.{◌≡◌, ◌≤◌, ◌<◌, ◌++◌, ◌+◌, ℕ, Bool, true, false, List, length, Option, Some, None, Ok, Err, sym, ap, subst, refl, inl, inr, ◌∙◌, append-nil, arith}
 use Rattle.std.specs.Prelude.{IfSome, IsErrOf}
 use Rattle.std.specs.Io.KnownBytes.{Appends}
 use Rattle.std.proofs.lemmas.Result.{err_from_is_err_and}
@@ -7,7 +7,8 @@ use Rattle.tk_record.specs.Text.{text}
 use Rattle.tk_record.specs.declared.reading.TheConstants.{MAX_TEXT}
 use Rattle.tk_record.specs.declared.writing.WriteFault.{WriteFault}
 use Rattle.tk_record.specs.declared.writing.WriteFault.TheVariants as writing
-use Rattle.tk_streams.specs.Stream.{IsLoaded, AppendsPrefix}
+use Rattle.tk_streams.specs.Stream.{IsLoaded, AppendsPrefix, ConsumesUpTo}
+use Rattle.tk_streams.specs.declared.transfers.TheConstants.{CHUNK}
 use Rattle.tk_streams.specs.declared.transfers.LoadFault.{LoadFault}
 use Rattle.tk_streams.specs.declared.transfers.LoadFault.TheVariants as loading
 use Rattle.tk_queue_core.specs.ReplayText.{IsAnswer, IsOfInput, IsPlayed, IsWritten, Plays, IsPartlyWritten, load_fault, write_fault}
@@ -18,6 +19,10 @@ use Rattle.tk_queue_core.proofs.texts.replay_text.Goals as goal
 -- an input that was loaded is what was loaded
 whole : (input bytes rest : List ℕ) → IsLoaded (Some input) (Some rest) bytes → bytes ≡ input
 whole input bytes rest all = sym (all.0 ∙ ap (λ (t : List ℕ). bytes ++ t) all.1 ∙ append-nil bytes)
+
+-- it was taken within the limit
+stops_of : (old new : Option (List ℕ)) (bytes : List ℕ) → IsLoaded old new bytes → length bytes ≤ MAX_TEXT → ConsumesUpTo (MAX_TEXT + CHUNK) old new
+stops_of old new bytes all few = (bytes, all.0, omega (arith, few))
 
 -- it plays as what was loaded does
 plays : (old new : Option (List ℕ)) (bytes played : List ℕ) (r : Recorded) → IsLoaded old new bytes → length bytes ≤ MAX_TEXT → played ≡ bytes → IsPlayed played (Ok r)
@@ -112,6 +117,7 @@ returns-in_err-input g c =
       unread = λ _. refl;
       last = λ e ready. absurd {A = IfSome _ Plays} (not_both _ (c.in_err-input.ensures.device (ap (λ f. Err f) (load_device fault (same_fault _ _ e)))) ready);
       device = λ e. inl (c.in_err-input.ensures.device (ap (λ f. Err f) (load_device fault (same_fault _ _ e))));
+      stops = c.in_err-input.ensures.stops;
     })
 
 pub returns-in_err-taken : goal.returns-in_err-taken
@@ -127,6 +133,7 @@ returns-in_err-taken g c =
       unread = λ _. refl;
       last = λ e _. absurd {A = IfSome _ Plays} (no_device c.as_slice.result.now fault c.in_err-taken.ensures (same_fault _ _ e));
       device = λ e. absurd (no_device c.as_slice.result.now fault c.in_err-taken.ensures (same_fault _ _ e));
+      stops = stops_of _ _ c.in_ok-input.input.items c.in_ok-input.ensures.ok c.in_ok-input.ensures.within;
     })
 
 pub returns-in_err-write_record : goal.returns-in_err-write_record
@@ -144,6 +151,7 @@ returns-in_err-write_record g c =
       unread = λ broken. absurd (not_both _ broken c.in_ok-input.ensures.ready);
       last = λ _ _. some_plays _ taken played;
       device = λ e. inr (c.in_err-write_record.ensures.device (ap (λ f. Err f) (write_device fault (same_fault _ _ e))));
+      stops = stops_of _ _ c.in_ok-input.input.items c.in_ok-input.ensures.ok c.in_ok-input.ensures.within;
     })
 
 pub returns : goal.returns
@@ -159,4 +167,5 @@ returns g c =
       unread = λ broken. absurd (not_both _ broken c.in_ok-input.ensures.ready);
       last = λ e. absurd (no_fault _ _ e);
       device = λ e. absurd (no_fault _ _ e);
+      stops = stops_of _ _ c.in_ok-input.input.items c.in_ok-input.ensures.ok c.in_ok-input.ensures.within;
     }
