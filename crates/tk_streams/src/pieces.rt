@@ -1,8 +1,9 @@
 //! Bytes on their way to a target, in pieces.
-ghost use Rattle.std.specs.Prelude.{◌≡◌, ◌++◌, ◌∷◌, ℕ, List, [], Option, true, false, if◌then◌else◌, OnErr, OnOk};
+ghost use Rattle.std.specs.Prelude.{◌≡◌, ◌<◌, length, ◌++◌, ◌∷◌, ℕ, List, [], Option, true, false, if◌then◌else◌, OnErr, OnOk};
 ghost use Rattle.std.specs.Fmt.{decimal};
 ghost use Rattle.std.specs.Io.KnownBytes.{Appends};
 ghost use Rattle.tk_streams.specs.Stream.{AppendsPrefix};
+ghost use Rattle.tk_streams.specs.declared.pieces.TheConstants.{PIECE};
 ghost use Rattle.tk_streams.specs.Pieces.{Adds, IsSent, IsWrittenTo, outgoing};
 
 use crate::streams::{Broken, Target};
@@ -95,15 +96,33 @@ impl Piece {
         write_on(target, bytes);
     }
 
-    /// Adds a number.
-    pub fn put_decimal<T: Target>(&mut self, target: &mut T, number: u64)
-        ensures { Adds (outgoing (T.contents target.old) (T.broken target.old) self.old)
-            (outgoing (T.contents target.new) (T.broken target.new) self.new)
-            (decimal number) }
+    // Takes a byte, for which there is room.
+    fn push(&mut self, byte: u8)
+        requires { length self.old < PIECE }
+        ensures { self.new ≡ self.old ++ byte ∷ [] }
     {
-        let mut text = [0u8; DIGITS];
-        let start = write_digits(number, &mut text, DIGITS);
-        self.put(target, &text[start..]);
+        self.bytes[self.count] = byte;
+        self.count += 1;
+    }
+
+    // Writes what waits where there is no room for a byte.
+    fn make_room<T: Target>(&mut self, target: &mut T)
+        ensures sent { Adds (outgoing (T.contents target.old) (T.broken target.old) self.old)
+            (outgoing (T.contents target.new) (T.broken target.new) self.new) [] }
+        ensures room { length self.new < PIECE }
+    {
+        if self.count == PIECE {
+            self.send(target);
+        }
+    }
+
+    /// Adds a byte, and writes what waits before it where there is no room for it.
+    pub fn put_byte<T: Target>(&mut self, target: &mut T, byte: u8)
+        ensures { Adds (outgoing (T.contents target.old) (T.broken target.old) self.old)
+            (outgoing (T.contents target.new) (T.broken target.new) self.new) (byte ∷ []) }
+    {
+        self.make_room(target);
+        self.push(byte);
     }
 
     /// Adds a number, and the character after it.
