@@ -1,6 +1,6 @@
 //! Laws of plans, which hold of the definitions alone.
 ghost use Rattle.std.specs.Prelude.{◌≡◌};
-ghost use Rattle.tk_plan.specs.declared.limits.TheConstants.{MAX_LEVELS};
+ghost use Rattle.tk_plan_json.specs.declared.limits.TheConstants.{MAX_LEVELS};
 ghost use Rattle.tk_plan.specs.PlanLaws.{IdsDiffer, AnswerIsUnique};
 
 pub use tk_plan_units::laws::{

@@ -3,9 +3,9 @@ ghost use Rattle.tk_plan.specs.BuiltPlans.{plan_data};
 ghost use Rattle.tk_plan.specs.PlanAnswers.{Answered};
 ghost use Rattle.tk_plan.specs.PlanOf.{PlanOf};
 
-use crate::faults::PlanFault;
 use crate::plan_reading::{nodes_of, plan_from};
 use std::alloc::Global;
+use tk_plan_json::PlanFault;
 use tk_plan_nodes::PlanNode;
 use tk_plan_nodes::node_values::plan_value;
 use tk_plan_units::Plan;

@@ -1,12 +1,12 @@
 //! Reading a plan.
 ghost use Rattle.std.specs.Prelude.{◌≡◌, ◌≤◌, ◌<◌, ◌++◌, ◌∷◌, [], Some, codes, length, IfOk, OnOk, option_map};
 ghost use Rattle.serde_json.specs.Find.{get};
-ghost use Rattle.tk_plan.specs.JsonValues.{view};
-ghost use Rattle.tk_plan.specs.Answers.{Reads};
-ghost use Rattle.tk_plan.specs.Checks.{member_at, member_wrong, must};
+ghost use Rattle.tk_plan_json.specs.JsonValues.{view};
+ghost use Rattle.tk_plan_json.specs.Answers.{Reads};
+ghost use Rattle.tk_plan_json.specs.Checks.{member_at, member_wrong, must};
 ghost use Rattle.tk_plan.specs.PlanOf.{PlanOf, one_or_two, is_two, takes_files_in, anything, top};
 ghost use Rattle.tk_plan.specs.PlanAnswers.{plan_in, Answered};
-ghost use Rattle.tk_plan.specs.Progress.{IsNoted};
+ghost use Rattle.tk_plan_json.specs.Progress.{IsNoted};
 ghost use Rattle.tk_plan.specs.ReadNodes.{IsReadFrom};
 ghost use Rattle.tk_plan.specs.Tables.{Follow};
 ghost use Rattle.tk_plan_units.specs.Numbers.{numbered};
@@ -14,20 +14,20 @@ ghost use Rattle.tk_plan_units.specs.Planned.{IsPlanned};
 ghost use Rattle.std.specs.Arc.{arc_value};
 ghost use Rattle.tk_ids.specs.declared.tables.TheConstants.{MAX_DESCRIPTORS};
 
-use crate::faults::PlanFault;
-use crate::json_members::known_members;
-use crate::json_numbers::whole_number_in;
-use crate::json_paths::JsonPath;
-use crate::json_texts::read_json;
-use crate::json_values::into_members;
-use crate::lock_keys::key_list;
-use crate::node_reading::read_nodes;
-use crate::path_texts::wrong_member;
-use crate::plan_readers::Reader;
+use indexmap::IndexSet;
 use json::{Scratch, Value};
 use std::alloc::{AllocError, Global};
 use std::sync::Arc;
-use tk_ids::{Descriptor, Table};
+use tk_ids::{Descriptor, Table, Text};
+use tk_plan_json::PlanFault;
+use tk_plan_json::json_members::known_members;
+use tk_plan_json::json_numbers::whole_number_in;
+use tk_plan_json::json_paths::JsonPath;
+use tk_plan_json::json_texts::read_json;
+use tk_plan_json::json_values::into_members;
+use tk_plan_json::node_reading::read_nodes;
+use tk_plan_json::path_texts::wrong_member;
+use tk_plan_json::plan_readers::Reader;
 use tk_plan_units::{Plan, count_events};
 
 /// Reads the member `version`, which is 1 or 2: whether it is 2, so that nodes may have files.
@@ -66,6 +66,17 @@ fn top_members<'t>(alloc: Global, value: Value<'t>) -> Result<(bool, Value<'t>),
     let takes_files = version_member(alloc, version)?;
     let root = root_member(alloc, root)?;
     Ok((takes_files, root))
+}
+
+/// The lock keys, in their order.
+fn key_list(alloc: Global, keys: IndexSet<Text>) -> Result<Vec<Text>, AllocError>
+    ensures { IfOk result (λ list. list.items ≡ keys.keys) }
+{
+    let mut list = Vec::new(alloc);
+    for key in keys {
+        list.push(key)?;
+    }
+    Ok(list)
 }
 
 /// Makes the table of descriptors that were read.

@@ -1,10 +1,11 @@
 use Rattle.std.proofs.Common.{◌≡◌, ◌≤◌, ◌^◌, [], length, Some, Err, refl, sym, ap, ◌∙◌, subst}
 use Rattle.std.proofs.lemmas.Result.{err_from_is_err_and}
-use Rattle.tk_plan.specs.JsonValues.{view}
+use Rattle.tk_plan_json.specs.JsonValues.{view}
 use Rattle.tk_plan_units.specs.Trees.{forest}
 use Rattle.tk_plan_units.specs.Script.{moves_below}
-use Rattle.tk_plan.specs.PlanOf.{PlanOf, root_at, ok_unless, verdict}
-use Rattle.tk_plan.specs.NodeInputs.{node_inputs, grown}
+use Rattle.tk_plan_json.specs.Verdicts.{verdict}
+use Rattle.tk_plan.specs.PlanOf.{PlanOf, ok_unless}
+use Rattle.tk_plan_json.specs.NodeInputs.{root_at, node_inputs, grown}
 use Rattle.tk_plan.specs.Tables.{Follow}
 use Rattle.tk_plan.proofs.Tabling.{plan_follows}
 use Rattle.tk_plan.proofs.Planning.{refuses_as, fault_as, top_fault, node_fault, no_node_fault, trees, too_many, not_many, planned}

@@ -1,0 +1,74 @@
+-- The rows of a node in groups.
+use Rattle.std.proofs.Common.{◌≡◌, ℕ, List, map, Bool, true, false, Option, Some, None, refl, ap, ◌∙◌}
+use Rattle.serde_json.specs.Data.{Data}
+use Rattle.tk_plan_json.specs.Checks.{or_else, first, row, unknown}
+use Rattle.tk_plan_json.specs.Rows.{dtype_row, segment_row, name_row, mode_row, isolated_row, locks_row, skip_row, result_row, entries_row, files_row, children_row, dynamic_row, static_rows, dynamic_rows, static_node, dynamic_node}
+use Rattle.tk_plan_json.specs.Fields.{heading_rows, concurrency_rows, content_rows}
+
+-- nothing is wrong with the first of two
+pub passes : {A : Type 0} (x later o : Option A) → x ≡ None → later ≡ o → or_else x later ≡ o
+passes x later o e l = ap (λ y. or_else y later) e ∙ l
+
+-- the first of two is wrong
+pub stops : {A : Type 0} (x later : Option A) (v : A) → x ≡ Some v → or_else x later ≡ Some v
+stops x later v e = ap (λ y. or_else y later) e
+
+three : {A : Type 0} (a b c later : Option A) → or_else a (or_else b (or_else c later)) ≡ or_else (or_else a (or_else b (or_else c None))) later
+three (Some x) b c later = refl
+three None (Some x) c later = refl
+three None None (Some x) later = refl
+three None None None later = refl
+
+four : {A : Type 0} (a b c d later : Option A) → or_else a (or_else b (or_else c (or_else d later))) ≡ or_else (or_else a (or_else b (or_else c (or_else d None)))) later
+four (Some x) b c d later = refl
+four None b c d later = three b c d later
+
+three_groups : {A : Type 0} (u a b c d e f g h i later : Option A)
+    → or_else u (or_else a (or_else b (or_else c (or_else d (or_else e (or_else f (or_else g (or_else h (or_else i later)))))))))
+    ≡ or_else u (or_else (or_else a (or_else b (or_else c None))) (or_else (or_else d (or_else e (or_else f None))) (or_else (or_else g (or_else h (or_else i None))) later)))
+three_groups u a b c d e f g h i later =
+    ap (or_else u) (three a b c (or_else d (or_else e (or_else f (or_else g (or_else h (or_else i later))))))
+    ∙ ap (or_else (or_else a (or_else b (or_else c None)))) (three d e f (or_else g (or_else h (or_else i later)))
+    ∙ ap (or_else (or_else d (or_else e (or_else f None)))) (three g h i later)))
+
+two_groups : {A : Type 0} (u a b c g h i later : Option A)
+    → or_else u (or_else a (or_else b (or_else c (or_else g (or_else h (or_else i later))))))
+    ≡ or_else u (or_else (or_else a (or_else b (or_else c None))) (or_else (or_else g (or_else h (or_else i None))) later))
+two_groups u a b c g h i later =
+    ap (or_else u) (three a b c (or_else g (or_else h (or_else i later)))
+    ∙ ap (or_else (or_else a (or_else b (or_else c None)))) (three g h i later))
+
+-- with a fourth row in the last group
+three_groups_more : {A : Type 0} (u a b c d e f g h i j later : Option A)
+    → or_else u (or_else a (or_else b (or_else c (or_else d (or_else e (or_else f (or_else g (or_else h (or_else i (or_else j later))))))))))
+    ≡ or_else u (or_else (or_else a (or_else b (or_else c None))) (or_else (or_else d (or_else e (or_else f None))) (or_else (or_else g (or_else h (or_else i (or_else j None)))) later)))
+three_groups_more u a b c d e f g h i j later =
+    ap (or_else u) (three a b c (or_else d (or_else e (or_else f (or_else g (or_else h (or_else i (or_else j later)))))))
+    ∙ ap (or_else (or_else a (or_else b (or_else c None)))) (three d e f (or_else g (or_else h (or_else i (or_else j later))))
+    ∙ ap (or_else (or_else d (or_else e (or_else f None)))) (four g h i j later)))
+
+two_groups_more : {A : Type 0} (u a b c g h i j later : Option A)
+    → or_else u (or_else a (or_else b (or_else c (or_else g (or_else h (or_else i (or_else j later)))))))
+    ≡ or_else u (or_else (or_else a (or_else b (or_else c None))) (or_else (or_else g (or_else h (or_else i (or_else j None)))) later))
+two_groups_more u a b c g h i j later =
+    ap (or_else u) (three a b c (or_else g (or_else h (or_else i (or_else j later))))
+    ∙ ap (or_else (or_else a (or_else b (or_else c None)))) (four g h i j later))
+
+pub static_groups : (fs : Bool) (at : List ℕ) (d : Data) → static_node fs at d
+    ≡ or_else (unknown (map (λ r. r.name) (static_rows fs)) at d) (or_else (first (map (row at d) heading_rows)) (or_else (first (map (row at d) concurrency_rows))
+    (or_else (first (map (row at d) (content_rows fs))) (or_else (row at d children_row) (or_else (row at d dynamic_row) None)))))
+static_groups false at d =
+    three_groups (unknown (map (λ r. r.name) (static_rows false)) at d) (row at d dtype_row) (row at d segment_row) (row at d name_row) (row at d mode_row) (row at d isolated_row) (row at d locks_row)
+    (row at d skip_row) (row at d result_row) (row at d entries_row) (or_else (row at d children_row) (or_else (row at d dynamic_row) None))
+static_groups true at d =
+    three_groups_more (unknown (map (λ r. r.name) (static_rows true)) at d) (row at d dtype_row) (row at d segment_row) (row at d name_row) (row at d mode_row) (row at d isolated_row) (row at d locks_row)
+    (row at d skip_row) (row at d result_row) (row at d entries_row) (row at d files_row) (or_else (row at d children_row) (or_else (row at d dynamic_row) None))
+
+pub dynamic_groups : (fs : Bool) (at : List ℕ) (d : Data) → dynamic_node fs at d
+    ≡ or_else (unknown (map (λ r. r.name) (dynamic_rows fs)) at d) (or_else (first (map (row at d) heading_rows)) (or_else (first (map (row at d) (content_rows fs))) (or_else (row at d dynamic_row) None)))
+dynamic_groups false at d =
+    two_groups (unknown (map (λ r. r.name) (dynamic_rows false)) at d) (row at d dtype_row) (row at d segment_row) (row at d name_row)
+    (row at d skip_row) (row at d result_row) (row at d entries_row) (or_else (row at d dynamic_row) None)
+dynamic_groups true at d =
+    two_groups_more (unknown (map (λ r. r.name) (dynamic_rows true)) at d) (row at d dtype_row) (row at d segment_row) (row at d name_row)
+    (row at d skip_row) (row at d result_row) (row at d entries_row) (row at d files_row) (or_else (row at d dynamic_row) None)

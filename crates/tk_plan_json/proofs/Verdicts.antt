@@ -1,0 +1,53 @@
+-- Verdicts of some nodes after others.
+use Rattle.std.proofs.Common.{◌≡◌, ℕ, zero, suc, List, [], ◌∷◌, ◌++◌, map, flat_map, Option, Some, None, refl, sym, ap, ap₂, ◌∙◌, append_assoc, append-nil}
+use Rattle.std.proofs.lemmas.List.{map-append}
+use Rattle.tk_ids.specs.IdText.{SegmentView}
+use Rattle.tk_plan_units.specs.declared.nodes.Node.{Node}
+use Rattle.tk_plan_units.specs.Trees.{Tree, flat, flats, contents}
+use Rattle.tk_plan_units.specs.Ids.{descriptors, descriptors_below}
+use Rattle.tk_plan_json.specs.Checks.{first, or_else}
+use Rattle.tk_plan_json.specs.NodeInputs.{NodeInput, node_of, below, node_inputs, forest_of, grown}
+use Rattle.tk_plan_json.specs.Verdicts.{checks, joined, verdict}
+
+or_else_assoc : {A : Type 0} (a b c : Option A) → or_else (or_else a b) c ≡ or_else a (or_else b c)
+or_else_assoc None b c = refl
+or_else_assoc (Some x) b c = refl
+
+first-append : {A : Type 0} (xs ys : List (Option A)) → first (xs ++ ys) ≡ or_else (first xs) (first ys)
+first-append [] ys = refl
+first-append (x ∷ xs) ys = ap (or_else x) (first-append xs ys) ∙ sym (or_else_assoc x (first xs) (first ys))
+
+joined-append : (before : List Node) (xs ys : List NodeInput) → joined before (xs ++ ys) ≡ joined before xs ++ joined (before ++ map node_of xs) ys
+unfolding joined
+joined-append before [] ys = ap (λ b. joined b ys) (sym (append-nil before))
+joined-append before (x ∷ xs) ys =
+    ap (λ l. checks before x ++ l) (joined-append (before ++ node_of x ∷ []) xs ys ∙ ap (λ b. joined (before ++ node_of x ∷ []) xs ++ joined b ys) (append_assoc before (node_of x ∷ []) (map node_of xs)))
+    ∙ sym (append_assoc (checks before x) _ _)
+
+pub verdict-append : (before : List Node) (xs ys : List NodeInput) → verdict before (xs ++ ys) ≡ or_else (verdict before xs) (verdict (before ++ map node_of xs) ys)
+verdict-append before xs ys = ap first (joined-append before xs ys) ∙ first-append (joined before xs) _
+
+-- the first node, and those after it
+pub verdict-cons : (before : List Node) (x : NodeInput) (ys : List NodeInput) → verdict before (x ∷ ys) ≡ or_else (first (checks before x)) (verdict (before ++ node_of x ∷ []) ys)
+unfolding joined
+verdict-cons before x ys = first-append (checks before x) _
+
+-- ---- what the nodes are
+
+pub flats-forest : (ts : List Tree) → flats (forest_of ts) ≡ flat_map flat ts
+flats-forest [] = refl
+flats-forest (t ∷ ts) = ap (λ l. flat t ++ l) (flats-forest ts)
+
+pub descriptors-forest : (above : List SegmentView) (ts : List Tree) → descriptors_below above (forest_of ts) ≡ flat_map (descriptors above) ts
+descriptors-forest above [] = refl
+descriptors-forest above (t ∷ ts) = ap (λ l. descriptors above t ++ l) (descriptors-forest above ts)
+
+pub nodes-all : (g : NodeInput → Tree) (h : NodeInput → List NodeInput) → ((s : NodeInput) → contents (flat (g s)) ≡ map node_of (h s))
+    → (ss : List NodeInput) → contents (flat_map flat (map g ss)) ≡ map node_of (flat_map h ss)
+nodes-all g h each [] = refl
+nodes-all g h each (s ∷ ss) = map-append _ (flat (g s)) _ ∙ ap₂ (λ a b. a ++ b) (each s) (nodes-all g h each ss) ∙ sym (map-append node_of (h s) _)
+
+pub nodes-grown : (n : ℕ) (s : NodeInput) → contents (flat (grown n s)) ≡ map node_of (node_inputs n s)
+unfolding grown node_inputs
+nodes-grown zero s = refl
+nodes-grown (suc n) s = ap (λ l. node_of s ∷ l) (ap contents (flats-forest (map (grown n) (below s))) ∙ nodes-all (grown n) (node_inputs n) (nodes-grown n) (below s))

@@ -1,0 +1,22 @@
+use Rattle.std.proofs.Common.{◌-◌, ◌+◌, ◌*◌, map}
+use Rattle.tk_plan_json.specs.JsonValues.{view}
+use Rattle.tk_plan_json.specs.CodeValues.{array_at}
+use Rattle.tk_plan_json.specs.NodeInputs.{node_inputs_in}
+use Rattle.tk_plan_json.proofs.Going.{Goes, Met}
+use Rattle.tk_plan_json.proofs.node_reading.+reading.Given as goal
+
+abbrev pub decreases-read_all : goal.decreases-read_all
+decreases-read_all l = 3 * (60 - l.parent.level) + 1
+
+abbrev pub decreases-read_node : goal.decreases-read_node
+decreases-read_node l = 3 * (61 - l.place.level)
+
+abbrev pub decreases-read_below : goal.decreases-read_below
+decreases-read_below l = 3 * (60 - l.place.level) + 2
+
+abbrev pub invariant-read_all-loop-index : goal.invariant-read_all-loop-index
+invariant-read_all-loop-index l =
+    Goes (60 - l.parent.level) l.id l.initial.reader l.reader
+    (node_inputs_in (array_at l.parent l.name l.is_static l.id) 0 l.initial.siblings (map view l.fn.values.items))
+    (node_inputs_in (array_at l.parent l.name l.is_static l.id) l.index-iterator.count l.siblings (map view l.index-iterator.iter.rest.items))
+    × Met l.initial.siblings l.siblings (map view l.fn.values.items) (map view l.index-iterator.iter.rest.items)

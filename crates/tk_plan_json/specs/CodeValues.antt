@@ -1,0 +1,64 @@
+-- What the code's values stand for.
+use Rattle.std.specs.Prelude.{◌≡◌, ◌++◌, ◌+◌, ◌∷◌, [], ℕ, Bool, List, Option, None, Some}
+use denote.Ref.{Bor}
+use Rattle.serde_json.specs.Data.{Data}
+use Rattle.tk_plan_json.specs.JsonValues.{view}
+use Rattle.tk_ids.specs.IdText.{SegmentView}
+use Rattle.tk_ids.specs.declared.id_faults.IdFault.{IdFault}
+use Rattle.tk_ids.specs.declared.id_faults.IdFault.TheVariants as id_faults
+use Rattle.tk_plan_json.specs.Checks.{member_at}
+use Rattle.tk_plan_json.specs.NodeInputs as spec
+use Rattle.tk_plan_json.specs.Pointers.{pointer}
+use Rattle.tk_plan_json.specs.declared.faults.PlanFault.{PlanFault}
+use Rattle.tk_plan_json.specs.declared.faults.PlanFault.TheVariants.{Id, Memory}
+use Rattle.tk_plan_json.specs.declared.member_values.TwoTexts.{TwoTexts}
+use Rattle.tk_plan_json.specs.declared.plan_readers.Named.{Named}
+use Rattle.tk_plan_json.specs.declared.node_inputs.NodePlace.{NodePlace}
+use Rattle.tk_plan_json.specs.declared.node_inputs.NodeInput.{NodeInput}
+
+-- the root has no id above it
+abbrev pub above_of : Option (Bor (List SegmentView)) → List SegmentView
+above_of None = []
+above_of (Some id) = id.now
+
+-- data at a place, after siblings with the earlier segments
+abbrev pub node_at : List SegmentView → NodePlace → Data → spec.NodeInput
+node_at earlier p d =
+    record {
+      path = pointer p.path;
+      level = p.level;
+      is_static = p.is_static;
+      takes_files = p.takes_files;
+      above = above_of p.above;
+      earlier = earlier;
+      value = d;
+    }
+
+-- a value that stands for a node, after such siblings
+abbrev pub seen : List SegmentView → NodeInput → spec.NodeInput
+seen earlier s = node_at earlier s.place (view s.value.now)
+
+-- the array in the member of that name of the node at a place, whose id is given
+abbrev pub array_at : NodePlace → List ℕ → Bool → List SegmentView → spec.NodeArray
+array_at p name is_static id =
+    record {
+      path = member_at (pointer p.path) name;
+      level = p.level + 1;
+      is_static = is_static;
+      takes_files = p.takes_files;
+      above = id;
+    }
+
+abbrev pub json_segment_text : TwoTexts → SegmentView
+json_segment_text p = record { tag = p.first.now; value = p.second.now }
+
+abbrev pub as_plan_fault : IdFault → PlanFault
+as_plan_fault id_faults.Empty = Id id_faults.Empty
+as_plan_fault (id_faults.BadSegment at) = Id (id_faults.BadSegment at)
+as_plan_fault (id_faults.BadEscape at) = Id (id_faults.BadEscape at)
+as_plan_fault id_faults.TooLong = Id id_faults.TooLong
+as_plan_fault id_faults.Memory = Memory
+
+pub record IsNamed (above : List SegmentView) (s : SegmentView) (n : Named) : Type 0 where
+  pub segment : n.segment ≡ s
+  pub id : n.id ≡ above ++ s ∷ []

@@ -1,0 +1,108 @@
+-- What readers of a node's members hand on.
+use Rattle.std.specs.Prelude.{
+  ◌≡◌,
+  ◌==◌,
+  ◌&&◌,
+  ℕ,
+  Bool,
+  true,
+  List,
+  [],
+  ◌∷◌,
+  length,
+  map,
+  codes,
+  None,
+}
+use Rattle.std.specs.List.{list_all}
+use Rattle.serde_json.specs.Data.{Data}
+use Rattle.serde_json.specs.Find.{get}
+use Rattle.tk_plan_json.specs.JsonValues.{view}
+use Rattle.tk_plan_json.specs.Checks.{Row, unknown}
+use Rattle.tk_plan_json.specs.Contents.{json_text, json_optional, json_dtype, listed}
+use Rattle.tk_plan_json.specs.Rows.{dtype_row, segment_row, name_row, mode_row, isolated_row}
+use Rattle.tk_plan_json.specs.Rows.{locks_row, skip_row, result_row, entries_row, files_rows}
+use Rattle.tk_plan_json.specs.Rows.{children_row, dynamic_row}
+use Rattle.tk_events.specs.Event.{is_lawful}
+use Rattle.tk_events.specs.declared.kinds.Kind.TheVariants.{File}
+use Rattle.tk_events.specs.declared.payloads.Payload.TheVariants.{Path}
+use Rattle.tk_plan_json.specs.NodeInputs.{concurrent_of, isolated_of, locks_of, files_of}
+use Rattle.tk_plan_json.specs.NodeInputs.{children_of, dynamic_of}
+use Rattle.tk_plan_json.specs.Pointers.{IsPairOf}
+use Rattle.tk_plan_json.specs.Endings.{IsEnding, AreReports}
+use Rattle.tk_plan_json.specs.declared.node_fields.Heading.{Heading}
+use Rattle.tk_plan_json.specs.declared.node_fields.Concurrency.{Concurrency}
+use Rattle.tk_plan_json.specs.declared.node_fields.Content.{Content}
+use Rattle.tk_plan_json.specs.declared.node_fields.Fields.{Fields}
+use Rattle.tk_plan_json.specs.declared.plan_readers.Checked.{Checked}
+use Rattle.tk_plan_json.specs.declared.plan_readers.Named.{Named}
+
+abbrev pub heading_rows : List Row
+heading_rows = dtype_row ∷ segment_row ∷ name_row ∷ []
+
+-- a dynamic node has none of these
+abbrev pub concurrency_rows : List Row
+concurrency_rows = mode_row ∷ isolated_row ∷ locks_row ∷ []
+
+abbrev pub content_rows : Bool → List Row
+content_rows takes_files = skip_row ∷ result_row ∷ entries_row ∷ files_rows takes_files
+
+-- a dynamic node has no `children`
+abbrev pub below_rows : List Row
+below_rows = children_row ∷ dynamic_row ∷ []
+
+-- the names of all members that most nodes have
+abbrev pub plain_names : List (List ℕ)
+plain_names = map (λ r. r.name) (dtype_row ∷ segment_row ∷ name_row ∷ mode_row ∷ [])
+
+-- an object with no members but `type`, `segment`, `name` and `mode`
+abbrev pub IsPlain : Data → Type 0
+IsPlain d = (at : List ℕ) → unknown plain_names at d ≡ None
+
+pub record IsHeading (d : Data) (h : Heading) : Type 0 where
+  pub dtype : h.dtype ≡ json_dtype (get (codes "type") d)
+  pub segment : IsPairOf (get (codes "segment") d) h.segment
+  pub name : h.name ≡ json_text (get (codes "name") d)
+
+pub record IsConcurrency (is_static : Bool) (d : Data) (m : Concurrency) : Type 0 where
+  pub is_concurrent : m.is_concurrent ≡ concurrent_of is_static d
+  pub is_isolated : m.is_isolated ≡ isolated_of is_static d
+  pub locks : m.locks ≡ locks_of is_static d
+
+pub record AreFiles (takes_files : Bool) (d : Data) (files : List (List ℕ)) : Type 0 where
+  pub paths : files ≡ files_of takes_files d
+  pub lawful : list_all (λ p. is_lawful File (Path p)) files ≡ true
+
+pub record IsContent (takes_files : Bool) (d : Data) (c : Content) : Type 0 where
+  pub skip : c.skip ≡ json_optional (get (codes "skip") d)
+  pub ending : IsEnding (get (codes "result") d) c.ending
+  pub reports : AreReports (listed (get (codes "entries") d)) c.reports
+  pub files : AreFiles takes_files d c.files
+
+pub record HasFields (is_static takes_files : Bool) (d : Data) (f : Fields) : Type 0 where
+  pub heading : IsHeading d f.heading
+  pub concurrency : IsConcurrency is_static d f.concurrency
+  pub content : IsContent takes_files d f.content
+  pub children : map view f.children.values.now ≡ children_of is_static d
+  pub dynamic : map view f.dynamic.values.now ≡ dynamic_of d
+
+-- a node with its id, as its members say
+abbrev pub checked_of : Bool → Named → Fields → Checked
+checked_of is_static n f = record {
+  node = record {
+    is_static = is_static;
+    dtype = f.heading.dtype;
+    segment = n.segment;
+    name = f.heading.name;
+    is_concurrent = f.concurrency.is_concurrent;
+    is_isolated = f.concurrency.is_isolated;
+    locks = f.concurrency.locks;
+    skip = f.content.skip;
+    status = f.content.ending.status;
+    message = f.content.ending.message;
+    entries = f.content.reports.entries;
+    files = f.content.files;
+  };
+  id = n.id;
+  is_leaf = length f.children.values.now == 0 && length f.dynamic.values.now == 0;
+}

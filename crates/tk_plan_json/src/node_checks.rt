@@ -1,0 +1,213 @@
+//! The checks of a node.
+ghost use Rattle.std.specs.Prelude.{◌≡◌, ◌≤◌, ◌++◌, ◌∷◌, [], None, option_map, nat_le};
+ghost use Rattle.std.specs.List.{count_by};
+ghost use Rattle.tk_plan_json.specs.JsonValues.{view};
+ghost use Rattle.tk_ids.specs.Answer.{IsMadeOf};
+ghost use Rattle.tk_ids.specs.declared.tables.TheConstants.{MAX_DESCRIPTORS};
+ghost use Rattle.tk_plan_units.specs.Keys.{note_locks};
+ghost use Rattle.tk_plan_units.specs.Trees.{contents};
+ghost use Rattle.tk_plan_json.specs.Answers.{Reads};
+ghost use Rattle.tk_plan_json.specs.Checks.{first};
+ghost use Rattle.tk_plan_json.specs.Fields.{HasFields, checked_of};
+ghost use Rattle.tk_plan_json.specs.Verdicts.{id_fault, node_check, is_kind, checks};
+ghost use Rattle.tk_plan_json.specs.Refusals.{Meets};
+ghost use Rattle.tk_plan_json.specs.declared.limits.TheConstants.{MAX_LEVELS};
+ghost use Rattle.tk_plan_json.specs.CodeValues.{seen, above_of, json_segment_text, as_plan_fault, IsNamed};
+ghost use Rattle.tk_plan_json.specs.Progress.{state, addition, IsNoted, IsEntered, IsAdmitted, IsChecked, room_checks};
+
+use crate::faults::PlanFault;
+use crate::limits::MAX_LEVELS;
+use crate::lock_keys::note_all;
+use crate::member_values::TwoTexts;
+use crate::node_fields::{Fields, dynamic_fields, static_fields};
+use crate::node_inputs::NodeInput;
+use crate::plan_readers::{Checked, Named, Reader};
+use crate::siblings::Siblings;
+use std::alloc::Global;
+use tk_ids::{IdFault, MAX_DESCRIPTORS, Segment, TableFault, UniqueId};
+use tk_plan_units::{Lock, MAX_KEYS, Node};
+
+/// Reads the members of a node by its kind.
+fn fields_of<'v, 't>(
+    alloc: Global,
+    node_input: NodeInput<'_, 'v, 't>,
+) -> Result<Fields<'v, 't>, PlanFault>
+    ensures { Reads (node_check (seen [] node_input.entry))
+        (HasFields node_input.entry.place.is_static node_input.entry.place.takes_files
+        (view node_input.entry.value.now)) result }
+{
+    let NodeInput { place, value } = node_input;
+    if place.is_static {
+        static_fields(alloc, place.path, value, place.takes_files)
+    } else {
+        dynamic_fields(alloc, place.path, value, place.takes_files)
+    }
+}
+
+/// The fault of a plan in which an id is refused for this fault.
+fn refused(fault: IdFault) -> PlanFault
+    ensures { result ≡ as_plan_fault fault }
+{
+    match fault {
+        IdFault::Empty => PlanFault::Id(IdFault::Empty),
+        IdFault::BadSegment(at) => PlanFault::Id(IdFault::BadSegment(at)),
+        IdFault::BadEscape(at) => PlanFault::Id(IdFault::BadEscape(at)),
+        IdFault::TooLong => PlanFault::Id(IdFault::TooLong),
+        IdFault::Memory => PlanFault::Memory,
+    }
+}
+
+/// The id of a child of the node with the id `above`, or of the root.
+fn id_below(alloc: Global, above: Option<&UniqueId>, segment: &Segment) -> Result<UniqueId, IdFault>
+    ensures { IsMadeOf (above_of above.entry ++ segment.now ∷ []) result }
+{
+    match above {
+        Some(id) => id.append(alloc, segment),
+        None => UniqueId::of(alloc, segment),
+    }
+}
+
+/// The segment of these texts, and the id that ends in it.
+fn named(alloc: Global, above: Option<&UniqueId>, texts: TwoTexts<'_>) -> Result<Named, PlanFault>
+    ensures { Meets (option_map PlanFault.Id
+        (id_fault (above_of above.entry) (json_segment_text texts.entry)))
+        (IsNamed (above_of above.entry) (json_segment_text texts.entry)) result }
+{
+    let segment = match Segment::new(alloc, texts.first, texts.second) {
+        Ok(segment) => segment,
+        Err(fault) => return Err(refused(fault)),
+    };
+    match id_below(alloc, above, &segment) {
+        Ok(id) => Ok(Named { segment, id }),
+        Err(fault) => Err(refused(fault)),
+    }
+}
+
+/// Whether `MAX_DESCRIPTORS` nodes of the kind were read.
+fn is_full(reader: &Reader, is_static: bool) -> bool
+    requires { IsNoted reader.now }
+    ensures { result
+        ≡ nat_le MAX_DESCRIPTORS (count_by (is_kind is_static) (contents reader.now.nodes.items)) }
+{
+    let count = if is_static {
+        reader.descriptors.len()
+    } else {
+        reader.dynamics
+    };
+    count >= MAX_DESCRIPTORS
+}
+
+/// Makes the node that these fields describe, with its id.
+fn into_checked(is_static: bool, named: Named, fields: Fields<'_, '_>) -> Checked
+    ensures { result ≡ checked_of is_static named fields.entry }
+{
+    let Fields {
+        heading,
+        concurrency,
+        content,
+        children,
+        dynamic,
+    } = fields;
+    let node = Node {
+        is_static,
+        dtype: heading.dtype,
+        segment: named.segment,
+        name: heading.name,
+        is_concurrent: concurrency.is_concurrent,
+        is_isolated: concurrency.is_isolated,
+        locks: concurrency.locks,
+        skip: content.skip,
+        status: content.ending.status,
+        message: content.ending.message,
+        entries: content.reports.entries,
+        files: content.files,
+    };
+    Checked {
+        node,
+        id: named.id,
+        is_leaf: children.values.is_empty() && dynamic.values.is_empty(),
+    }
+}
+
+/// Notes a node's segment among its siblings' and its lock keys among the plan's, where there is
+/// room for them.
+fn note_node<'t>(
+    alloc: Global,
+    reader: &mut Reader,
+    siblings: &mut Siblings<'t>,
+    is_static: bool,
+    segment: TwoTexts<'t>,
+    locks: &[Lock],
+) -> Result<(), PlanFault>
+    requires { IsNoted reader.old }
+    ensures { let added = addition is_static (json_segment_text segment.entry)
+        (note_locks reader.old.keys.keys locks.now) in
+        Meets (first (room_checks (contents reader.old.nodes.items) siblings.old added))
+        (λ _. IsEntered (state reader.old siblings.old) (state reader.new siblings.new) added)
+        result }
+{
+    if !siblings.insert(segment)? {
+        return Err(PlanFault::Table(TableFault::Twice));
+    }
+    if is_full(reader, is_static) {
+        return Err(PlanFault::Table(TableFault::Full));
+    }
+    note_all(alloc, &mut reader.keys, locks)?;
+    if reader.keys.len() > MAX_KEYS {
+        return Err(PlanFault::TooManyResources);
+    }
+    Ok(())
+}
+
+/// Checks what a node's members say, given the nodes before it, and notes its segment and its lock
+/// keys. Answers its segment and its id.
+fn check_fields<'v, 't>(
+    alloc: Global,
+    reader: &mut Reader,
+    siblings: &mut Siblings<'t>,
+    node_input: NodeInput<'_, 'v, 't>,
+    fields: &Fields<'v, 't>,
+) -> Result<Named, PlanFault>
+    requires noted { IsNoted reader.old }
+    requires level { node_input.place.level ≤ MAX_LEVELS }
+    requires members { node_check (seen siblings.old node_input) ≡ None }
+    requires read { HasFields node_input.place.is_static node_input.place.takes_files
+        (view node_input.value.now) fields.now }
+    ensures { let s = seen siblings.old node_input.entry in
+        Meets (first (checks (contents reader.old.nodes.items) s))
+        (IsAdmitted (state reader.old siblings.old) (state reader.new siblings.new) s) result }
+{
+    if fields.content.reports.repeats {
+        return Err(PlanFault::EntryKeyTwice);
+    }
+    let named = named(alloc, node_input.place.above, fields.heading.segment)?;
+    note_node(
+        alloc,
+        reader,
+        siblings,
+        node_input.place.is_static,
+        fields.heading.segment,
+        fields.concurrency.locks.as_slice(),
+    )?;
+    Ok(named)
+}
+
+/// Checks one node, given the nodes before it, and notes its segment and its lock keys.
+pub(crate) fn check_node<'t>(
+    alloc: Global,
+    reader: &mut Reader,
+    siblings: &mut Siblings<'t>,
+    node_input: NodeInput<'_, '_, 't>,
+) -> Result<Checked, PlanFault>
+    requires { IsNoted reader.old }
+    ensures { let s = seen siblings.old node_input.entry in
+        Meets (first (checks (contents reader.old.nodes.items) s))
+        (IsChecked (state reader.old siblings.old) (state reader.new siblings.new) s) result }
+{
+    if node_input.place.level > MAX_LEVELS {
+        return Err(PlanFault::Deep);
+    }
+    let fields = fields_of(alloc, node_input)?;
+    let named = check_fields(alloc, reader, siblings, node_input, &fields)?;
+    Ok(into_checked(node_input.place.is_static, named, fields))
+}

@@ -1,0 +1,247 @@
+//! Reading a plan's nodes.
+ghost use Rattle.std.specs.Prelude.{◌≡◌, ◌≤◌, ◌<◌, ◌+◌, ◌-◌, ◌++◌, ◌∷◌, [], length, map, flat_map, IfOk, OnOk};
+ghost use Rattle.tk_plan_json.specs.JsonValues.{view};
+ghost use Rattle.tk_plan_units.specs.Trees.{flat, contents};
+ghost use Rattle.tk_plan_units.specs.Ids.{descriptors};
+ghost use Rattle.tk_plan_json.specs.Checks.{escape, first};
+ghost use Rattle.tk_plan_json.specs.Verdicts.{checks, verdict};
+ghost use Rattle.tk_ids.specs.declared.tables.TheConstants.{MAX_DESCRIPTORS};
+ghost use Rattle.tk_plan_json.specs.declared.limits.TheConstants.{MAX_LEVELS};
+ghost use Rattle.tk_plan_json.specs.Progress.{AddsGroup, AddsTree, NodeGroup, verdict_of_group, verdict_of_node, levels_below, levels_from};
+ghost use Rattle.tk_plan_json.specs.Progress.{state, IsNoted, IsDescribed, IsAdded, IsStarted, IsSpanned, HasRead};
+ghost use Rattle.tk_plan_json.specs.Refusals.{Meets};
+ghost use Rattle.tk_plan_json.specs.CodeValues.{seen, node_at, array_at};
+ghost use Rattle.tk_plan_json.specs.NodeInputs.{node_inputs, node_inputs_in, root_at, below, grown, id_of, segment_in, segment_of};
+
+use crate::faults::PlanFault;
+use crate::json_paths::JsonPath;
+use crate::node_checks::check_node;
+use crate::node_fields::into_below;
+use crate::node_inputs::{NodeInput, NodePlace};
+use crate::path_texts::member_path;
+use crate::plan_readers::Reader;
+use crate::siblings::Siblings;
+use json::Value;
+use std::alloc::{AllocError, Global};
+use tk_ids::{Descriptor, UniqueId};
+use tk_plan_units::{Node, NumberedNode};
+
+/// Puts the descriptor of a static node at the end, or counts a dynamic node.
+fn add_descriptor(reader: &mut Reader, node: &Node, id: UniqueId) -> Result<(), AllocError>
+    requires { reader.old.dynamics ≤ MAX_DESCRIPTORS }
+    ensures { OnOk result (IsDescribed reader.old reader.new node.now id) }
+{
+    if node.is_static {
+        let name = node.name.try_clone()?;
+        let dtype = node.dtype;
+        reader.descriptors.push(Descriptor { id, name, dtype })?;
+    } else {
+        reader.dynamics += 1;
+    }
+    Ok(())
+}
+
+/// Puts a node at the end.
+fn add_node(reader: &mut Reader, node: Node, id: UniqueId) -> Result<(), AllocError>
+    requires { reader.old.dynamics ≤ MAX_DESCRIPTORS }
+    ensures { OnOk result (IsAdded reader.old reader.new node id) }
+{
+    let described = add_descriptor(reader, &node, id);
+    // A reader without the descriptor is given up, so the node may follow it in any case.
+    reader.nodes.push(NumberedNode {
+        node,
+        number: 0,
+        span: 1,
+    })?;
+    described
+}
+
+/// Puts a node that other nodes stand below at the end. Answers its id.
+fn add_parent(reader: &mut Reader, node: Node, id: UniqueId) -> Result<UniqueId, AllocError>
+    requires { reader.old.dynamics ≤ MAX_DESCRIPTORS }
+    ensures added { OnOk result (IsAdded reader.old reader.new node id) }
+    ensures id { IfOk result (λ i. i ≡ id) }
+{
+    let copied = id.try_clone();
+    add_node(reader, node, id)?;
+    copied
+}
+
+/// Checks a node and puts it at the end. Answers its id where nodes stand below it.
+fn start_node<'t>(
+    alloc: Global,
+    reader: &mut Reader,
+    siblings: &mut Siblings<'t>,
+    node_input: NodeInput<'_, '_, 't>,
+) -> Result<Option<UniqueId>, PlanFault>
+    requires { IsNoted reader.old }
+    ensures { let s = seen siblings.old node_input.entry in
+        Meets (first (checks (contents reader.old.nodes.items) s))
+        (IsStarted (state reader.old siblings.old) (state reader.new siblings.new) s) result }
+{
+    let checked = check_node(alloc, reader, siblings, node_input)?;
+    // Most nodes are leaves, and only nodes below one need its id once more.
+    if checked.is_leaf {
+        add_node(reader, checked.node, checked.id)?;
+        return Ok(None);
+    }
+    Ok(Some(add_parent(reader, checked.node, checked.id)?))
+}
+
+/// Lets the node at `at` span all nodes from there to the last one.
+fn end_node(reader: &mut Reader, at: usize)
+    requires { at < length reader.old.nodes.items }
+    ensures { IsSpanned reader.old reader.new at }
+{
+    let span = reader.nodes.len() - at;
+    reader.nodes[at].span = span;
+}
+
+/// Reads a node and all below it. As soon as the node itself was read its value is dropped, save
+/// the values of the nodes below it, which are read next.
+#[cycle(reading)]
+fn read_node<'t>(
+    alloc: Global,
+    reader: &mut Reader,
+    siblings: &mut Siblings<'t>,
+    place: NodePlace<'_>,
+    value: Value<'t>,
+) -> Result<(), PlanFault>
+    requires noted { IsNoted reader.old }
+    requires level { place.level ≤ MAX_LEVELS + 1 }
+    ensures { let s = node_at siblings.old place.entry (view value.entry) in
+        let levels = levels_from place.entry.level in
+        Meets (verdict_of_node reader.old levels s)
+        (λ _. AddsTree reader.old reader.new levels s
+        × (siblings.new ≡ siblings.old ++ segment_of s ∷ [])) result }
+{
+    let at = reader.nodes.len();
+    let node_input = NodeInput {
+        place,
+        value: &value,
+    };
+    match start_node(alloc, reader, siblings, node_input)? {
+        Some(id) => {
+            read_below(alloc, reader, place, &id, value)?;
+            end_node(reader, at);
+            Ok(())
+        }
+        None => Ok(()),
+    }
+}
+
+/// Reads all nodes below the node at `place`, whose id is `id`.
+#[cycle(reading)]
+fn read_below(
+    alloc: Global,
+    reader: &mut Reader,
+    place: NodePlace<'_>,
+    id: &UniqueId,
+    value: Value<'_>,
+) -> Result<(), PlanFault>
+    requires noted { IsNoted reader.old }
+    requires level { place.level ≤ MAX_LEVELS }
+    requires id { id.now ≡ id_of (node_at [] place (view value)) }
+    ensures { let s = node_at [] place.entry (view value.entry) in
+        let levels = levels_below place.entry.level in
+        let group : NodeGroup = record { above = id_of s; levels = levels; nodes = below s } in
+        Meets (verdict_of_group reader.old group) (λ _. AddsGroup reader.old reader.new group)
+        result }
+{
+    let (children, dynamic) = into_below(alloc, place.is_static, value);
+    let count = children.len().saturating_add(dynamic.len());
+    let mut siblings = Siblings::with_capacity(alloc, count)?;
+    read_all(
+        alloc,
+        reader,
+        &mut siblings,
+        place,
+        "children",
+        true,
+        id,
+        children,
+    )?;
+    read_all(
+        alloc,
+        reader,
+        &mut siblings,
+        place,
+        "dynamic",
+        false,
+        id,
+        dynamic,
+    )
+}
+
+/// Reads the nodes in the member `name` of the node at `parent`, whose id is `id`.
+#[cycle(reading)]
+fn read_all<'t>(
+    alloc: Global,
+    reader: &mut Reader,
+    siblings: &mut Siblings<'t>,
+    parent: NodePlace<'_>,
+    name: &str,
+    is_static: bool,
+    id: &UniqueId,
+    values: Vec<Value<'t>>,
+) -> Result<(), PlanFault>
+    requires noted { IsNoted reader.old }
+    requires level { parent.level ≤ MAX_LEVELS }
+    requires plain { flat_map escape name.now ≡ name.now }
+    ensures { let array = array_at parent.entry name.now is_static id.now in
+        let ss = node_inputs_in array 0 siblings.old (map view values.entry.items) in
+        let levels = levels_below parent.entry.level in
+        let group : NodeGroup = record { above = id.now; levels = levels; nodes = ss } in
+        Meets (verdict_of_group reader.old group) (λ _. AddsGroup reader.old reader.new group
+        × (siblings.new ≡ siblings.old ++ map segment_in (map view values.entry.items))) result }
+{
+    if values.is_empty() {
+        return Ok(());
+    }
+    let array = member_path(alloc, parent.path, name)?;
+    for (index, value) in values.into_iter().enumerate() {
+        let place = NodePlace {
+            path: JsonPath::Item(&array, index),
+            level: parent.level + 1,
+            is_static,
+            takes_files: parent.takes_files,
+            above: Some(id),
+        };
+        read_node(alloc, reader, siblings, place, value)?;
+    }
+    Ok(())
+}
+
+/// Reads the root and all below it, given a reader that has read no node.
+fn read_root(
+    alloc: Global,
+    reader: &mut Reader,
+    takes_files: bool,
+    root: Value<'_>,
+) -> Result<(), PlanFault>
+    requires nodes { reader.old.nodes.items ≡ [] }
+    requires descriptors { reader.old.descriptors.items ≡ [] }
+    requires noted { IsNoted reader.old }
+    ensures { let s = root_at takes_files (view root.entry) in
+        Meets (verdict [] (node_inputs MAX_LEVELS s)) (λ _. HasRead s reader.new) result }
+{
+    let mut siblings = Siblings::with_capacity(alloc, 1)?;
+    let place = NodePlace {
+        path: JsonPath::Whole("/root"),
+        level: 1,
+        is_static: true,
+        takes_files,
+        above: None,
+    };
+    read_node(alloc, reader, &mut siblings, place, root)
+}
+
+/// Reads the nodes of a plan: the root and all below it.
+pub fn read_nodes(alloc: Global, takes_files: bool, root: Value<'_>) -> Result<Reader, PlanFault>
+    ensures { let s = root_at takes_files (view root.entry) in
+        Meets (verdict [] (node_inputs MAX_LEVELS s)) (HasRead s) result }
+{
+    let mut reader = Reader::new(alloc);
+    read_root(alloc, &mut reader, takes_files, root)?;
+    Ok(reader)
+}

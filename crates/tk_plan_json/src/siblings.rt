@@ -1,0 +1,48 @@
+//! The children of one parent.
+ghost use Rattle.std.specs.Prelude.{◌≡◌, ◌++◌, ◌∷◌, [], not, IfOk, if◌then◌else◌};
+ghost use Rattle.std.specs.List.{list_any};
+ghost use Rattle.tk_plan_json.specs.Verdicts.{same_segment};
+ghost use Rattle.tk_plan_json.specs.CodeValues.{json_segment_text};
+
+use crate::member_values::TwoTexts;
+use indexmap::IndexSet;
+use std::alloc::{AllocError, Global};
+use std::marker::Model;
+
+/// The segments of a parent's children, as far as they were read.
+#[derive(Drop)]
+pub(crate) struct Siblings<'t> {
+    keys: IndexSet<(&'t str, &'t str)>,
+}
+
+impl<'t> Model for Siblings<'t> {
+    ghost use Rattle.std.specs.Prelude.{List, map, ℕ};
+    ghost use Rattle.tk_ids.specs.IdText.{SegmentView};
+    ghost use Rattle.tk_plan_json.specs.SegmentSets.{segments_of};
+
+    ghost Value = { List SegmentView };
+
+    ghost view = { λ s. segments_of s.keys.keys };
+}
+
+impl<'t> Siblings<'t> {
+    /// No segments, with room for as many as `capacity`.
+    pub fn with_capacity(alloc: Global, capacity: usize) -> Result<Siblings<'t>, AllocError>
+        ensures { IfOk result (λ siblings. siblings ≡ []) }
+    {
+        Ok(Siblings {
+            keys: IndexSet::with_capacity(alloc, capacity)?,
+        })
+    }
+
+    /// Puts a segment at the end unless it is there; answers whether it was put.
+    pub fn insert(&mut self, segment: TwoTexts<'t>) -> Result<bool, AllocError>
+        ensures answer { IfOk result (λ is_new.
+            is_new ≡ not (list_any (same_segment (json_segment_text segment.entry)) self.old)) }
+        ensures segments { IfOk result (λ is_new.
+            self.new ≡ (if is_new then self.old ++ json_segment_text segment.entry ∷ []
+            else self.old)) }
+    {
+        Ok(self.keys.insert((segment.first, segment.second))?)
+    }
+}
