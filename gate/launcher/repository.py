@@ -16,7 +16,8 @@ CRATES = "tk_low:\ntk_high: tk_low\ntestkit: tk_high\ntest_high: tk_high\n"
 
 RT = r"""#!/bin/sh
 # Stands for rt. As rt does, it refuses a crates.txt in a crate. Where a file 'slow' is there the proof takes a second, where 'endless' is
-# there it doesn't end, and it fails where 'broken', 'killed' or 'unlinked' is there. Where 'linking' is there the link doesn't end.
+# there it doesn't end, and it fails where 'broken', 'killed' or 'unlinked' is there. Where 'linking' is there the link doesn't end. Where
+# 'slow_to_end' is there it works until an interrupt, and then takes half a second to write 'ended'.
 echo "$*" >>"$REPOSITORY/calls"
 [ ! -e "$REPOSITORY/killed" ] || kill -KILL $$
 cat >>"$REPOSITORY/read_by_rt"
@@ -28,6 +29,11 @@ if [ "$1" = all ]; then
     for name in tk_low tk_high testkit; do echo "== $name"; done
     [ ! -e "$REPOSITORY/slow" ] || sleep 1
     if [ -e "$REPOSITORY/endless" ]; then echo $$ >"$REPOSITORY/endless"; exec sleep 600; fi
+    if [ -e "$REPOSITORY/slow_to_end" ]; then
+        trap 'sleep 0.5; echo >"$REPOSITORY/ended"; exit 130' INT
+        echo $$ >"$REPOSITORY/slow_to_end"
+        while :; do sleep 0.1; done
+    fi
     [ ! -e "$REPOSITORY/broken" ] || { echo "logic=not-proved"; exit 1; }
 elif [ -e "$REPOSITORY/unlinked" ]; then
     echo "ld: no room"
