@@ -27,9 +27,9 @@ pub struct Execution {
     /// The key of the descriptor that was executed or skipped.
     pub key: u32,
     /// The position of the start in the record, or of the skip.
-    pub first: u32,
+    pub first: usize,
     /// The position of the finish in the record, or of the skip.
-    pub last: u32,
+    pub last: usize,
     /// The stamp at the first position.
     pub start: u64,
     /// The stamp at the last position.

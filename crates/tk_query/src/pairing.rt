@@ -22,8 +22,8 @@ fn ended_by(step: ExecutionStep, position: u32, started: Option<(u32, u64)>) -> 
     };
     Some(Execution {
         key: step.key,
-        first,
-        last: position,
+        first: first as usize,
+        last: position as usize,
         start,
         stop: step.stamp,
         ending,
