@@ -3,7 +3,7 @@ use tk_events::Entry;
 use tk_record_columns::{AppendFault, Record};
 
 /// What appending an entry answered.
-#[derive(Clone, Copy, PartialEq, Eq)]
+#[derive(Clone, Copy)]
 pub(crate) enum Answer {
     Appended,
     UnknownKey,

@@ -1,6 +1,6 @@
 //! Faults as texts.
 use std::alloc::{AllocError, Global};
-use test_support::{are_shown, is_debugged_as, is_shown, is_shown_as, start};
+use test_support::{are_shown, are_shown_as, is_debugged_as, is_shown, start};
 use tk_events::{Entry, Kind, Pairs, Status};
 use tk_ids::{IdFault, Segment, TableFault, Text, UniqueId};
 use tk_record::{LineFault, NodesFault, ReadFault, WriteFault};
@@ -36,23 +36,25 @@ fn entry() -> Entry {
 }
 
 fn show_append_faults(alloc: Global) -> bool {
-    is_shown_as(
-        alloc,
-        &AppendFault::UnknownKey(entry()),
-        "has an unknown key",
-    ) && is_shown_as(alloc, &AppendFault::Unlawful(entry()), "is unlawful")
-        && is_shown_as(alloc, &AppendFault::Full(entry()), "is one too many")
-        && is_shown(alloc, &AppendFault::Memory(entry()))
+    let rows = [
+        (AppendFault::UnknownKey(entry()), "has an unknown key"),
+        (AppendFault::Unlawful(entry()), "is unlawful"),
+        (AppendFault::Full(entry()), "is one too many"),
+    ];
+    are_shown_as(alloc, &rows) && are_shown(alloc, &[AppendFault::Memory(entry())])
 }
 
 // Whether the faults of a record's text have their texts.
 fn show_read_faults(alloc: Global) -> bool {
-    let unlawful = ReadFault::Append(9, AppendFault::Unlawful(entry()));
-    is_shown_as(alloc, &ReadFault::BadLine(9), "line 9 is bad")
-        && is_shown_as(alloc, &unlawful, "line 9 is unlawful")
-        && is_shown_as(alloc, &ReadFault::TooLarge, "input too large")
-        && is_shown_as(alloc, &ReadFault::Device, "device failed")
-        && is_shown_as(alloc, &ReadFault::Memory, "out of memory")
+    let unlawful = AppendFault::Unlawful(entry());
+    let rows = [
+        (ReadFault::BadLine(9), "line 9 is bad"),
+        (ReadFault::Append(9, unlawful), "line 9 is unlawful"),
+        (ReadFault::TooLarge, "input too large"),
+        (ReadFault::Device, "device failed"),
+        (ReadFault::Memory, "out of memory"),
+    ];
+    are_shown_as(alloc, &rows)
 }
 
 fn show_line_faults(alloc: Global) -> bool {

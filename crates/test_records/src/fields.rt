@@ -1,13 +1,20 @@
 //! Fields of a line, numbers, and long tails.
 use std::alloc::{AllocError, Global};
 use test_support::record_of;
-use tk_record::{read_u32, write_field, write_tail};
+use tk_record::{Record, read_u32, write_field, write_tail};
 
-// How many bytes the tail of the one entry of a record's text has.
-fn bytes_of_tail(alloc: Global, text: &[u8]) -> Option<usize> {
-    let record = record_of(alloc, text)?;
+// How many bytes the tail of the first entry has.
+fn bytes_of_first_tail(alloc: Global, record: &Record) -> Option<usize> {
     let tail = write_tail(alloc, &record.entry(0)?).ok()?;
     Some(tail.len())
+}
+
+// How many bytes the tail of the first entry of a record's text has.
+fn bytes_of_tail(alloc: Global, text: &[u8]) -> Option<usize> {
+    match record_of(alloc, text) {
+        Some(record) => bytes_of_first_tail(alloc, &record),
+        None => None,
+    }
 }
 
 // A record's text with a skip whose reason has this number of letters.

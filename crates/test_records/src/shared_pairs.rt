@@ -3,10 +3,14 @@ use std::alloc::{AllocError, Global};
 use tk_events::Pairs;
 use tk_ids::Text;
 
+fn push_pair(alloc: Global, list: &mut Pairs) -> Result<(), AllocError> {
+    list.push(Text::copy(alloc, "b")?, Text::copy(alloc, "2")?)
+}
+
 // How many pairs a list and its clone have once a pair was pushed to the clone.
 fn lengths_after_a_push(alloc: Global, list: &Pairs) -> Result<(usize, usize), AllocError> {
     let mut clone = list.try_clone(alloc)?;
-    clone.push(Text::copy(alloc, "b")?, Text::copy(alloc, "2")?)?;
+    push_pair(alloc, &mut clone)?;
     Ok((list.len(), clone.len()))
 }
 

@@ -24,10 +24,13 @@ fn added(alloc: Global, table: &mut Table, segment: &Segment) -> Ending {
     }
 }
 
+fn segment(alloc: Global, value: &str) -> Option<Segment> {
+    Segment::new(alloc, "t", value).ok()
+}
+
 // The segment of this number; none for want of memory.
 fn numbered(alloc: Global, number: u32) -> Option<Segment> {
-    let value = number.to_string(alloc).ok()?;
-    Segment::new(alloc, "t", value.as_str()).ok()
+    segment(alloc, number.to_string(alloc).ok()?.as_str())
 }
 
 #[test]

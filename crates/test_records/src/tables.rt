@@ -2,32 +2,31 @@
 use std::alloc::{AllocError, Global};
 use tk_ids::{DType, Descriptor, IdFault, Segment, Table, TableFault, Text, UniqueId};
 
+type Answer = Result<u32, TableFault>;
+
+fn add_test(alloc: Global, table: &mut Table, parent: Option<u32>, segment: &Segment) -> Answer {
+    table.add(alloc, parent, segment, "one", DType::Test)
+}
+
 // Adds a test with this value in its segment.
-fn add(
-    alloc: Global,
-    table: &mut Table,
-    parent: Option<u32>,
-    value: &str,
-) -> Result<u32, TableFault> {
+fn add(alloc: Global, table: &mut Table, parent: Option<u32>, value: &str) -> Answer {
     match Segment::new(alloc, "t", value) {
-        Ok(segment) => table.add(alloc, parent, &segment, "one", DType::Test),
+        Ok(segment) => add_test(alloc, table, parent, &segment),
         Err(fault) => Err(TableFault::Id(fault)),
     }
 }
 
 #[test]
 fn additions(rt: HostRuntime) {
-    let alloc = rt.alloc();
-    let mut table = Table::new(alloc);
-    assert!(rt;
-        matches!(
-            add(alloc, &mut table, Some(3), "a"),
-            Err(TableFault::NoParent)
-        )
-    );
-    assert!(rt; matches!(add(alloc, &mut table, None, "a"), Ok(0)));
-    assert!(rt; matches!(add(alloc, &mut table, None, "a"), Err(TableFault::Twice)));
-    assert!(rt; matches!(add(alloc, &mut table, Some(0), "a"), Ok(1)));
+    let mut table = Table::new(rt.alloc());
+    for (parent, answer) in [
+        (Some(3), Err(TableFault::NoParent)),
+        (None, Ok(0)),
+        (None, Err(TableFault::Twice)),
+        (Some(0), Ok(1)),
+    ] {
+        assert_eq!(rt; add(rt.alloc(), &mut table, parent, "a"), answer);
+    }
 }
 
 // A container with this id.
@@ -45,7 +44,7 @@ fn container_of(alloc: Global, text: &str) -> Result<Descriptor, IdFault> {
 }
 
 // Inserts a copy of a container with the id of this text.
-fn insert(alloc: Global, table: &mut Table, text: &str) -> Result<u32, TableFault> {
+fn insert(alloc: Global, table: &mut Table, text: &str) -> Answer {
     match container_of(alloc, text) {
         Ok(descriptor) => table.insert(alloc, descriptor.try_clone()?),
         Err(fault) => Err(TableFault::Id(fault)),
@@ -54,17 +53,15 @@ fn insert(alloc: Global, table: &mut Table, text: &str) -> Result<u32, TableFaul
 
 #[test]
 fn insertions(rt: HostRuntime) {
-    let alloc = rt.alloc();
-    let mut table = Table::new(alloc);
-    assert!(rt;
-        matches!(
-            insert(alloc, &mut table, "[t:a]/[t:b]"),
-            Err(TableFault::NoParent)
-        )
-    );
-    assert!(rt; matches!(insert(alloc, &mut table, "[t:a]"), Ok(0)));
-    assert!(rt; matches!(insert(alloc, &mut table, "[t:a]/[t:b]"), Ok(1)));
-    assert!(rt; matches!(insert(alloc, &mut table, "[t:a]"), Err(TableFault::Twice)));
+    let mut table = Table::new(rt.alloc());
+    for (text, answer) in [
+        ("[t:a]/[t:b]", Err(TableFault::NoParent)),
+        ("[t:a]", Ok(0)),
+        ("[t:a]/[t:b]", Ok(1)),
+        ("[t:a]", Err(TableFault::Twice)),
+    ] {
+        assert_eq!(rt; insert(rt.alloc(), &mut table, text), answer);
+    }
 }
 
 // Adds the root whose value is this number.

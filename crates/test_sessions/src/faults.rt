@@ -1,6 +1,6 @@
 //! Faults of books, claims, replays and sessions as texts.
 use std::alloc::Global;
-use test_support::{are_shown, is_shown, is_shown_as, start};
+use test_support::{are_shown, are_shown_as, start};
 use tk_book::BookFault;
 use tk_engine_claim::ClaimFault;
 use tk_ids::IdFault;
@@ -19,10 +19,13 @@ fn show_core_faults(alloc: Global) -> bool {
 }
 
 fn show_send_faults(alloc: Global) -> bool {
-    is_shown(alloc, &SendFault::UnknownNode(start(0, 0)))
-        && is_shown(alloc, &SendFault::Unlawful(start(0, 0)))
-        && is_shown(alloc, &SendFault::Limit(start(0, 0)))
-        && is_shown(alloc, &SendFault::Full(start(0, 0)))
+    let faults = [
+        SendFault::UnknownNode(start(0, 0)),
+        SendFault::Unlawful(start(0, 0)),
+        SendFault::Limit(start(0, 0)),
+        SendFault::Full(start(0, 0)),
+    ];
+    are_shown(alloc, &faults)
 }
 
 fn show_register_faults(alloc: Global) -> bool {
@@ -37,16 +40,15 @@ fn show_register_faults(alloc: Global) -> bool {
 
 // Whether the faults of a replay have the texts of their lines.
 fn show_replay_faults(alloc: Global) -> bool {
-    is_shown_as(alloc, &ReplayFault::NoHeader, "no header")
-        && is_shown_as(alloc, &ReplayFault::BadLine(2), "line 2 is bad")
-        && is_shown_as(
-            alloc,
-            &ReplayFault::AfterEnd(2),
-            "step 2 comes after the end mark",
-        )
-        && is_shown_as(alloc, &ReplayFault::TooLarge, "input too large")
-        && is_shown_as(alloc, &ReplayFault::Device, "device failed")
-        && is_shown_as(alloc, &ReplayFault::Memory, "out of memory")
+    let rows = [
+        (ReplayFault::NoHeader, "no header"),
+        (ReplayFault::BadLine(2), "line 2 is bad"),
+        (ReplayFault::AfterEnd(2), "step 2 comes after the end mark"),
+        (ReplayFault::TooLarge, "input too large"),
+        (ReplayFault::Device, "device failed"),
+        (ReplayFault::Memory, "out of memory"),
+    ];
+    are_shown_as(alloc, &rows)
 }
 
 #[test]

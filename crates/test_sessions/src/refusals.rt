@@ -23,16 +23,27 @@ enum Ending {
     Wrong,
 }
 
+fn done_if(is_done: bool) -> Ending {
+    if is_done { Ending::Done } else { Ending::Wrong }
+}
+
+fn refused_if(is_refused: bool) -> Ending {
+    if is_refused {
+        Ending::Refused
+    } else {
+        Ending::Wrong
+    }
+}
+
 // A refused growth of the target breaks it, and what it took is a prefix of the record.
 fn ending_of(answer: &Result<(), ReplayFault>, target: &ByteTarget) -> Ending {
-    let broken = target.is_broken();
-    let is_whole = target.bytes() == small_replay_taken();
+    let is_broken = target.is_broken();
     let is_prefix = small_replay_taken().starts_with(target.bytes());
     match answer {
-        Ok(()) if is_whole => Ending::Done,
-        Err(ReplayFault::Memory) if is_prefix && !broken => Ending::Refused,
-        Err(ReplayFault::Device) if is_prefix && broken => Ending::Refused,
-        _ => Ending::Wrong,
+        Ok(()) => done_if(target.bytes() == small_replay_taken()),
+        Err(ReplayFault::Memory) => refused_if(is_prefix && !is_broken),
+        Err(ReplayFault::Device) => refused_if(is_prefix && is_broken),
+        Err(_) => Ending::Wrong,
     }
 }
 
@@ -149,10 +160,6 @@ fn registers<R: Wait>(rt: &R, alloc: Global) -> Option<bool> {
 #[test]
 fn a_registration(rt: HostRuntime) {
     assert!(rt; registers(&rt, rt.alloc()) == Some(true));
-}
-
-fn done_if(is_done: bool) -> Ending {
-    if is_done { Ending::Done } else { Ending::Wrong }
 }
 
 // Opens a claim from which nothing is drawn.

@@ -10,7 +10,7 @@ mod written;
 
 pub use devices::{OneByteSource, OneByteTarget};
 pub use samples::{one_node, read_again, record_of, start, starts};
-pub use shown::{are_shown, is_debugged_as, is_shown, is_shown_as};
+pub use shown::{are_shown, are_shown_as, is_debugged_as, is_shown, is_shown_as};
 pub use texts::{
     demo_plan, demo_report, small_replay, small_replay_taken, two_tests, two_tests_report,
 };

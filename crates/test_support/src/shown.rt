@@ -18,6 +18,16 @@ pub fn is_shown<D: fmt::Display>(alloc: Global, value: &D) -> bool {
     }
 }
 
+/// Returns whether each of the values is shown as the text beside it.
+pub fn are_shown_as<D: fmt::Display>(alloc: Global, rows: &[(D, &str)]) -> bool {
+    for (value, text) in rows {
+        if !is_shown_as(alloc, value, text) {
+            return false;
+        }
+    }
+    true
+}
+
 /// Returns whether each of the values is shown as some text.
 pub fn are_shown<D: fmt::Display>(alloc: Global, values: &[D]) -> bool {
     for value in values {
