@@ -31,7 +31,7 @@ impl Body for Failing {
     }
 }
 
-// A body with a dynamic test below it, and one that is skipped.
+// A body with a dynamic test below it, and one that is skipped, at a stamp of the body's own.
 struct Group;
 
 impl Body for Group {
@@ -44,6 +44,7 @@ impl Body for Group {
         let first = segment(alloc, "1")?;
         let second = segment(alloc, "2")?;
         reporter.dynamic_test(rt, alloc, &first, "one", &Failing)?;
+        reporter.set_stamp(500_000);
         reporter.skip_test(rt, alloc, &second, "two", Text::copy(alloc, "off")?)?;
         Ok(Outcome::Successful)
     }
@@ -65,8 +66,8 @@ enum Then {
     Faults,
 }
 
-// The tests of the plan: the first has a dynamic container, the second a dynamic test and a stamp of
-// its own.
+// The tests of the plan: the first has a dynamic container, which sets a stamp, the second a dynamic
+// test and a stamp of its own.
 #[derive(Drop)]
 pub(crate) struct Sample {
     then: Then,
@@ -158,8 +159,8 @@ pub(crate) fn sample_engine(alloc: Global) -> Option<Hierarchical<Sample>> {
     engine(alloc, Then::Aborts)
 }
 
-// The record of a run by one worker. A body's events have the stamp of its test's start, but for the
-// second test, which sets its own.
+// The record of a run by one worker. A body's events have the stamp of its test's start until a body
+// sets another, which is that of the test's finish too.
 fn record() -> &'static [u8] {
     b"testkit-record|2
 N|C|[engine:e]|e
@@ -178,10 +179,10 @@ E|1|65537|1|dynamic|T|[engine:e]/[t:1]/[d:g]/[d:1]|one
 E|1|65537|1|start
 E|1|65537|1|file|out.txt
 E|1|65537|1|finish|fail|boom
-E|1|65538|1|dynamic|T|[engine:e]/[t:1]/[d:g]/[d:2]|two
-E|1|65538|1|skip|off
-E|1|65536|1|finish|ok
-E|1|1|2|finish|ok
+E|1|65538|500000|dynamic|T|[engine:e]/[t:1]/[d:g]/[d:2]|two
+E|1|65538|500000|skip|off
+E|1|65536|500000|finish|ok
+E|1|1|500000|finish|ok
 E|1|2|3|start
 E|1|65539|1000000|dynamic|T|[engine:e]/[t:2]/[d:x]|x
 E|1|65539|1000000|start

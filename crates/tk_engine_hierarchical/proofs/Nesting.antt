@@ -10,9 +10,9 @@ use Rattle.tk_engine_lifecycle.specs.UnderWay.{IsOneOf}
 use Rattle.tk_engine_lifecycle.proofs.Splits.{InFirst, InSecond, head_is, in_parts, left_nil, tail_is}
 use Rattle.tk_engine_lifecycle.proofs.Apart.{all_at}
 use Rattle.tk_engine_hierarchical.specs.Covered.{IsBelow}
-use Rattle.tk_engine_hierarchical.specs.Events.{AreChained, IsNesting, keys_of}
+use Rattle.tk_engine_hierarchical.specs.Events.{AreChained, IsNesting}
 use Rattle.tk_engine_hierarchical.specs.Nesting.{BelongsTo, EachFinishes, EventsNest, LacksFinish}
-use Rattle.tk_engine_hierarchical.specs.declared.running_keys.RunningKey.{RunningKey}
+use Rattle.tk_engine_hierarchical.specs.Running.{RunningId, keys_of}
 
 -- ---- lists in parts
 
@@ -73,25 +73,25 @@ pub below_parent : (id : List SegmentView) → 1 < length id → IsBelow (parent
 below_parent id long = take_split id (length id - 1) (omega (arith, long))
 
 -- the innermost of the running keys, where there is one, has an id above this one
-abbrev pub IsNext : List RunningKey → List SegmentView → Type 0
+abbrev pub IsNext : List RunningId → List SegmentView → Type 0
 IsNext [] id = Unit {0}
 IsNext (key ∷ outer) id = IsBelow key.id id
 
 -- the id is the key's, or stands below it
-abbrev pub IsWithin : List SegmentView → RunningKey → Type 0
+abbrev pub IsWithin : List SegmentView → RunningId → Type 0
 IsWithin id key = (id ≡ key.id) ⊎ IsBelow key.id id
 
-pub within_first : (key : RunningKey) (outer : List RunningKey) → AreChained (key ∷ outer) → All (IsWithin key.id) (key ∷ outer)
+pub within_first : (key : RunningId) (outer : List RunningId) → AreChained (key ∷ outer) → All (IsWithin key.id) (key ∷ outer)
 within_first key outer c =
     All-cons (IsWithin key.id) key outer (inl refl) (All-weaker (λ a. IsBelow a.id key.id) (IsWithin key.id) (λ a b. inr b) outer c.0)
 
-pub below_all : (running : List RunningKey) (id : List SegmentView) → AreChained running → IsNext running id → All (λ a. IsBelow a.id id) running
-below_all [] id c next = All-nil (λ (a : RunningKey). IsBelow a.id id)
+pub below_all : (running : List RunningId) (id : List SegmentView) → AreChained running → IsNext running id → All (λ a. IsBelow a.id id) running
+below_all [] id c next = All-nil (λ (a : RunningId). IsBelow a.id id)
 below_all (key ∷ outer) id c next =
-    All-cons (λ (a : RunningKey). IsBelow a.id id) key outer next
+    All-cons (λ (a : RunningId). IsBelow a.id id) key outer next
     (All-weaker (λ a. IsBelow a.id key.id) (λ a. IsBelow a.id id) (λ a b. below_below a.id key.id id b next) outer c.0)
 
-pub within_all : (running : List RunningKey) (id : List SegmentView) → AreChained running → IsNext running id → All (IsWithin id) running
+pub within_all : (running : List RunningId) (id : List SegmentView) → AreChained running → IsNext running id → All (IsWithin id) running
 within_all running id c next = All-weaker (λ a. IsBelow a.id id) (IsWithin id) (λ a b. inr b) running (below_all running id c next)
 
 -- ---- one event more
@@ -99,18 +99,18 @@ within_all running id c next = All-weaker (λ a. IsBelow a.id id) (IsWithin id) 
 pub belongs_later : (r s : Recorded) → ((k : ℕ) (id : List SegmentView) → HasId r k id → HasId s k id) → (key : ℕ) (e : Event) → BelongsTo r key e → BelongsTo s key e
 belongs_later r s later key e b = record { id = b.id; its = later key b.id b.its; own = b.own; named = later e.key b.own b.named; within = b.within }
 
-one_of : (P : RunningKey → Type 0) (running : List RunningKey) (n : ℕ) → All P running → IsOneOf n (keys_of running) → (k : RunningKey) × (k.key ≡ n) × P k
+one_of : (P : RunningId → Type 0) (running : List RunningId) (n : ℕ) → All P running → IsOneOf n (keys_of running) → (k : RunningId) × (k.key ≡ n) × P k
 one_of P [] n h o = absurd o
 one_of P (k ∷ ks) n h (inl same) = (k, sym same, All-head P k ks h)
 one_of P (k ∷ ks) n h (inr o) = one_of P ks n (All-tail P k ks h) o
 
 -- an event with this id, which stands within each of the running keys
-pub record Adds (r s : Recorded) (running : List RunningKey) (e : Event) (id : List SegmentView) : Type 0 where
+pub record Adds (r s : Recorded) (running : List RunningId) (e : Event) (id : List SegmentView) : Type 0 where
   pub later : (k : ℕ) (i : List SegmentView) → HasId r k i → HasId s k i
   pub named : HasId s e.key id
   pub within : All (IsWithin id) running
 
-nest_end : (r s : Recorded) (l : List Event) (e : Event) (running : List RunningKey) (id : List SegmentView) → IsNesting r l running → Adds r s running e id
+nest_end : (r s : Recorded) (l : List Event) (e : Event) (running : List RunningId) (id : List SegmentView) → IsNesting r l running → Adds r s running e id
     → (before : List Event) (start : Event) (rest : List Event) → l ≡ before ++ start ∷ rest → start.kind ≡ Started → LacksFinish start.key rest
     → All (BelongsTo s start.key) (rest ++ e ∷ [])
 nest_end r s l e running id n a before start rest is kind none =
@@ -120,7 +120,7 @@ nest_end r s l e running id n a before start rest is kind none =
     (All-weaker (BelongsTo r start.key) (BelongsTo s start.key) (belongs_later r s a.later start.key) rest own)
     (record { id = k.0.id; its = subst (λ m. HasId s m k.0.id) k.1 (a.later k.0.key k.0.id k.2.0); own = id; named = a.named; within = k.2.1 })
 
-nest_more : (r s : Recorded) (l : List Event) (e : Event) (running : List RunningKey) (id : List SegmentView) → IsNesting r l running → Adds r s running e id → EventsNest s (l ++ e ∷ [])
+nest_more : (r s : Recorded) (l : List Event) (e : Event) (running : List RunningId) (id : List SegmentView) → IsNesting r l running → Adds r s running e id → EventsNest s (l ++ e ∷ [])
 nest_more r s l e running id n a before start during after is kind none =
     let P : Event → Type 0 = BelongsTo s start.key in
     ⊎_elim
@@ -137,7 +137,7 @@ nest_more r s l e running id n a before start during after is kind none =
     (λ (x : InSecond before start (during ++ after) l (e ∷ [])). subst (All P) (sym (none_after e x.start start during after x.more)) (All-nil P))
     (in_parts before start (during ++ after) l (e ∷ []) is)
 
-unfinished_more : (r : Recorded) (l : List Event) (e : Event) (old new : List RunningKey) → IsNesting r l old
+unfinished_more : (r : Recorded) (l : List Event) (e : Event) (old new : List RunningId) → IsNesting r l old
     → ((n : ℕ) → IsOneOf n (keys_of old) → (e.kind ≡ Finished → e.key ≢ n) → IsOneOf n (keys_of new)) → (e.kind ≡ Started → IsOneOf e.key (keys_of new))
     → (before : List Event) (start : Event) (after : List Event) → l ++ e ∷ [] ≡ before ++ start ∷ after → start.kind ≡ Started → LacksFinish start.key after
     → IsOneOf start.key (keys_of new)
@@ -152,7 +152,7 @@ unfinished_more r l e old new n keeps own before start after is kind none =
     subst (λ (y : Event). IsOneOf y.key (keys_of new)) same (own (ap (λ (y : Event). y.kind) same ∙ kind)))
     (in_parts before start after l (e ∷ []) is)
 
-nesting_more : (r s : Recorded) (l : List Event) (e : Event) (old new : List RunningKey) (id : List SegmentView) → IsNesting r l old → Adds r s old e id
+nesting_more : (r s : Recorded) (l : List Event) (e : Event) (old new : List RunningId) (id : List SegmentView) → IsNesting r l old → Adds r s old e id
     → ((n : ℕ) → IsOneOf n (keys_of old) → (e.kind ≡ Finished → e.key ≢ n) → IsOneOf n (keys_of new)) → (e.kind ≡ Started → IsOneOf e.key (keys_of new))
     → All (λ k. HasId s k.key k.id) new → AreChained new → IsNesting s (l ++ e ∷ []) new
 nesting_more r s l e old new id n a keeps own ids chain = record {
@@ -162,17 +162,17 @@ nesting_more r s l e old new id n a keeps own ids chain = record {
   chain = chain;
 }
 
-ids_later : (r s : Recorded) → ((k : ℕ) (i : List SegmentView) → HasId r k i → HasId s k i) → (running : List RunningKey) → All (λ k. HasId r k.key k.id) running → All (λ k. HasId s k.key k.id) running
+ids_later : (r s : Recorded) → ((k : ℕ) (i : List SegmentView) → HasId r k i → HasId s k i) → (running : List RunningId) → All (λ k. HasId r k.key k.id) running → All (λ k. HasId s k.key k.id) running
 ids_later r s later running h = All-weaker (λ k. HasId r k.key k.id) (λ k. HasId s k.key k.id) (λ k i. later k.key k.id i) running h
 
 -- an event that starts no key and finishes none
-pub nesting_plain : (r s : Recorded) (l : List Event) (e : Event) (running : List RunningKey) (id : List SegmentView) → IsNesting r l running → Adds r s running e id
+pub nesting_plain : (r s : Recorded) (l : List Event) (e : Event) (running : List RunningId) (id : List SegmentView) → IsNesting r l running → Adds r s running e id
     → (e.kind ≡ Started → ⊥) → IsNesting s (l ++ e ∷ []) running
 nesting_plain r s l e running id n a plain =
     nesting_more r s l e running running id n a (λ m o f. o) (λ k. absurd (plain k)) (ids_later r s a.later running n.ids) n.chain
 
 -- a key starts, which stands below the innermost running one
-pub nesting_start : (r s : Recorded) (l : List Event) (e : Event) (running : List RunningKey) (key : ℕ) (id : List SegmentView) → IsNesting r l running → Adds r s running e id
+pub nesting_start : (r s : Recorded) (l : List Event) (e : Event) (running : List RunningId) (key : ℕ) (id : List SegmentView) → IsNesting r l running → Adds r s running e id
     → e.key ≡ key → IsNext running id → IsNesting s (l ++ e ∷ []) (record { key = key; id = id } ∷ running)
 nesting_start r s l e running key id n a same next =
     nesting_more r s l e running (record { key = key; id = id } ∷ running) id n a (λ m o f. inr o) (λ k. inl same)
@@ -180,7 +180,7 @@ nesting_start r s l e running key id n a same next =
     (below_all running id n.chain next, n.chain)
 
 -- the innermost running key finishes
-pub nesting_finish : (r s : Recorded) (l : List Event) (e : Event) (first : RunningKey) (rest : List RunningKey) (id : List SegmentView) → IsNesting r l (first ∷ rest) → Adds r s (first ∷ rest) e id
+pub nesting_finish : (r s : Recorded) (l : List Event) (e : Event) (first : RunningId) (rest : List RunningId) (id : List SegmentView) → IsNesting r l (first ∷ rest) → Adds r s (first ∷ rest) e id
     → e.kind ≡ Finished → e.key ≡ first.key → (e.kind ≡ Started → ⊥) → IsNesting s (l ++ e ∷ []) rest
 nesting_finish r s l e first rest id n a kind same plain =
     nesting_more r s l e (first ∷ rest) rest id n a
@@ -193,7 +193,7 @@ pub nesting_none : (r : Recorded) → IsNesting r [] []
 nesting_none r = record {
   nest = λ before start during after is kind none. absurd (no_split before start (during ++ after) is);
   unfinished = λ before start after is kind none. absurd (no_split before start after is);
-  ids = All-nil (λ (k : RunningKey). HasId r k.key k.id);
+  ids = All-nil (λ (k : RunningId). HasId r k.key k.id);
   chain = tt;
 }
 

@@ -12,10 +12,9 @@ use Rattle.tk_queue.specs.Registering.{IsRegisteredAs, RegisterRequest, child_of
 use Rattle.tk_queue.specs.Senders.{SenderView, sends}
 use Rattle.tk_engine_execute.specs.Engines.{Extends}
 use Rattle.tk_engine_hierarchical.specs.Endings.{IsStaticTest, payload_of}
-use Rattle.tk_engine_hierarchical.specs.Events.{keys_of}
 use Rattle.tk_engine_hierarchical.specs.Reporting.{EndsChild, HasFinished, HasRunChild, HasSkipped, HasStarted, Published, UnitView, event}
 use Rattle.tk_engine_hierarchical.specs.declared.tests.Outcome.{Outcome}
-use Rattle.tk_engine_hierarchical.specs.declared.running_keys.RunningKey.{RunningKey}
+use Rattle.tk_engine_hierarchical.specs.Running.{RunningId, keys_of}
 
 -- what follows from what holds at `Ok`
 pub on_ok : {F A B : Type 0} (r : Result (Unit {0}) F) → OnOk r A → (A → B) → OnOk r B
@@ -59,7 +58,7 @@ pub grew_registered : (old new sink registered : SenderView) (outer running : Li
 grew_registered old new sink registered outer running ask key was r now same =
     (subst (λ s. Extends s new) (sym was) (extends_registered sink registered new ask key r now), same)
 
-pub published : (old new : UnitView) (sink : SenderView) (running rest : List RunningKey) (first : RunningKey) (kind : Kind) (stamp : ℕ) (payload : Payload)
+pub published : (old new : UnitView) (sink : SenderView) (running rest : List RunningId) (first : RunningId) (kind : Kind) (stamp : ℕ) (payload : Payload)
     → old.sink ≡ sink → old.running ≡ keys_of running → running ≡ first ∷ rest → new.sink ≡ sends sink (event kind first.key stamp payload) → new.running ≡ old.running → new.stamp ≡ old.stamp
     → (key : ℕ) × Published old new (event kind key stamp payload)
 published old new sink running rest first kind stamp payload was view is took same kept = (
@@ -73,7 +72,7 @@ published old new sink running rest first kind stamp payload was view is took sa
   },
 )
 
-pub skipped_child : (old new : UnitView) (sink registered : SenderView) (running rest : List RunningKey) (first : RunningKey) (ask : RegisterRequest) (key : ℕ) (reason : Payload)
+pub skipped_child : (old new : UnitView) (sink registered : SenderView) (running rest : List RunningId) (first : RunningId) (ask : RegisterRequest) (key : ℕ) (reason : Payload)
     → old.sink ≡ sink → old.running ≡ keys_of running → running ≡ first ∷ rest → ask.parent ≡ first.key → IsRegisteredAs sink registered ask (Ok key)
     → new.sink ≡ sends registered (event Skipped key ask.stamp reason) → new.running ≡ old.running → new.stamp ≡ old.stamp → HasSkipped old new ask reason
 skipped_child old new sink registered running rest first ask key reason was view is parent r took same kept = record {
@@ -90,7 +89,7 @@ skipped_child old new sink registered running rest first ask key reason was view
 pub skipped_at : (old new : UnitView) (ask : ℕ → RegisterRequest) (given stamp : ℕ) (reason : Payload) → given ≡ stamp → HasSkipped old new (ask given) reason → HasSkipped old new (ask stamp) reason
 skipped_at old new ask given stamp reason same s = subst (λ n. HasSkipped old new (ask n) reason) same s
 
-pub started_child : (old new : UnitView) (sink registered : SenderView) (running rest : List RunningKey) (first : RunningKey) (ask : RegisterRequest) (key : ℕ)
+pub started_child : (old new : UnitView) (sink registered : SenderView) (running rest : List RunningId) (first : RunningId) (ask : RegisterRequest) (key : ℕ)
     → old.sink ≡ sink → old.running ≡ keys_of running → running ≡ first ∷ rest → ask.parent ≡ first.key → IsRegisteredAs sink registered ask (Ok key)
     → new.sink ≡ sends registered (event Started key ask.stamp Nothing) → new.running ≡ key ∷ keys_of running → new.stamp ≡ old.stamp → HasStarted old new ask key
 started_child old new sink registered running rest first ask key was view is parent r took more kept = record {

@@ -1,6 +1,6 @@
 -- A unit of a hierarchical engine after each thing that it may do.
 use Rattle.std.proofs.Common.{◌≡◌, ◌<◌, ◌≤◌, ◌+◌, ◌==◌, ◌||◌, ℕ, zero, suc, inl, ⊎_elim, Bool, true, false, List, [], ◌∷◌, ◌++◌, length, Option, Some, None, slice_get, refl, sym, ap, ◌∙◌, subst, append_assoc, append-nil, arith}
-use Rattle.std.specs.Prelude.{All, Result, Ok, Err, OnOk, OnErr, IfSome, IfNone, bytes_eq, get_or, is_some, not}
+use Rattle.std.specs.Prelude.{All, Result, Ok, Err, OnOk, OnErr, IfSome, IfNone, bytes_eq, get_or, is_some, not, unwrap_or}
 use Rattle.std.proofs.lemmas.List.Elements.{All-cons, All-nil, All-head, All-tail, All-weaker}
 use Rattle.std.proofs.lemmas.Slice.Eq.{bytes_eq-Decides}
 use Rattle.tk_ids.specs.IdText.{SegmentView, id_text, parent_of}
@@ -29,11 +29,12 @@ use Rattle.tk_engine_hierarchical.specs.Covered.{AreCovered, IsBelow}
 use Rattle.tk_engine_hierarchical.specs.Endings.{EndsAsItMay}
 use Rattle.tk_engine_hierarchical.specs.Units.{HasPlayed, UnitKeys}
 use Rattle.tk_engine_hierarchical.specs.declared.tests.Outcome.{Outcome}
-use Rattle.tk_engine_hierarchical.specs.Events.{HasInnermostParent, HasRun, HasParentAmong, HaveIds, IsNesting, IsRunning, MayStart, keys_of, progress}
+use Rattle.tk_engine_hierarchical.specs.Events.{HasInnermostParent, HasRun, HasParentAmong, HaveIds, IsNesting, IsRunning, MayStart, progress}
 use Rattle.tk_engine_hierarchical.specs.RegisteredIds.{is_registered}
 use Rattle.tk_engine_hierarchical.specs.Reporting.{publishes}
 use Rattle.tk_engine_hierarchical.specs.declared.running_keys.RunningKey.{RunningKey}
-use Rattle.tk_engine_hierarchical.specs.Shapes.{ShapeView, frame}
+use Rattle.tk_engine_hierarchical.specs.Running.{RunningId, id_at, keys_of, with_id, with_ids}
+use Rattle.tk_engine_hierarchical.specs.Shapes.{HasParentAt, ShapeView, frame}
 use Rattle.tk_engine_hierarchical.proofs.Nesting.{Adds, IsNext, IsWithin, below_parent, each_finishes, nest_later, nesting_finish, nesting_none, nesting_plain, nesting_start, within_all, within_first}
 use Rattle.tk_engine_hierarchical.proofs.Owned.{owner_child, owner_static}
 use Rattle.tk_engine_hierarchical.proofs.Emitted.{Registered, Registering, emitted_finish, emitted_all, emitted_registration, emitted_report, emitted_skip, emitted_start, emitting_later, emitting_none, emitting_noted, registered_skip, registered_start, sender_later, sender_now}
@@ -63,10 +64,10 @@ plain_kind Finished e = cc
 some_same : {A : Type 0} {x y : A} → Some x ≡ Some y → x ≡ y
 some_same e = cc
 
-later_ids : (s : SenderView) (e : Event) (running : List RunningKey) → HaveIds s running → HaveIds (sends s e) running
+later_ids : (s : SenderView) (e : Event) (running : List RunningId) → HaveIds s running → HaveIds (sends s e) running
 later_ids s e running h = All-weaker (λ k. HasId (record_of_sender s) k.key k.id) (λ k. HasId (record_of_sender (sends s e)) k.key k.id) (λ k i. sender_later s e k.key k.id i) running h
 
-pub innermost_is : (running rest : List RunningKey) (first : RunningKey) → running ≡ first ∷ rest → IsOneOf first.key (keys_of running)
+pub innermost_is : (running rest : List RunningId) (first : RunningId) → running ≡ first ∷ rest → IsOneOf first.key (keys_of running)
 innermost_is running rest first is = subst (λ l. IsOneOf first.key (keys_of l)) (sym is) (inl refl)
 
 cancel : (a x y : List Event) → a ++ x ≡ a ++ y → x ≡ y
@@ -85,19 +86,19 @@ same_events : (f : Frame) (unit : ℕ) (start now : SenderView) (p q : Progress)
 same_events f unit start now p q i j = cancel start.sent i.events j.events (sym i.sent ∙ j.sent)
 
 -- of these events the keys have their own until they finish
-abbrev Nests : Frame → ℕ → List RunningKey → List Event → Type 0
+abbrev Nests : Frame → ℕ → List RunningId → List Event → Type 0
 Nests f w running l = IsNesting (so_far f w l) l running
 
-nests_more : (f : Frame) (unit : ℕ) (start now : SenderView) (p q : Progress) (e : Event) (running : List RunningKey) (i : IsEmitting f unit (since start now) p) (j : IsEmitting f unit (since start (sends now e)) q)
+nests_more : (f : Frame) (unit : ℕ) (start now : SenderView) (p q : Progress) (e : Event) (running : List RunningId) (i : IsEmitting f unit (since start now) p) (j : IsEmitting f unit (since start (sends now e)) q)
     → Nests f start.worker running (i.events ++ e ∷ []) → Nests f start.worker running j.events
 nests_more f unit start now p q e running i j n = subst (Nests f start.worker running) (same_more f unit start now p q e i j) n
 
-nests_same : (f : Frame) (unit : ℕ) (start now : SenderView) (p q : Progress) (running : List RunningKey) (i : IsEmitting f unit (since start now) p) (j : IsEmitting f unit (since start now) q)
+nests_same : (f : Frame) (unit : ℕ) (start now : SenderView) (p q : Progress) (running : List RunningId) (i : IsEmitting f unit (since start now) p) (j : IsEmitting f unit (since start now) q)
     → Nests f start.worker running i.events → Nests f start.worker running j.events
 nests_same f unit start now p q running i j n = subst (Nests f start.worker running) (same_events f unit start now p q i j) n
 
 -- an event of a key that has this id already
-adds : (f : Frame) (w : ℕ) (l : List Event) (e : Event) (running : List RunningKey) (key : ℕ) (id : List SegmentView) → HasId (so_far f w l) key id → e.key ≡ key → All (IsWithin id) running
+adds : (f : Frame) (w : ℕ) (l : List Event) (e : Event) (running : List RunningId) (key : ℕ) (id : List SegmentView) → HasId (so_far f w l) key id → e.key ≡ key → All (IsWithin id) running
     → Adds (so_far f w l) (so_far f w (l ++ e ∷ [])) running e id
 adds f w l e running key id its same within = record {
   later = kept_id f w l e;
@@ -106,7 +107,7 @@ adds f w l e running key id its same within = record {
 }
 
 -- an event of the innermost running key
-adds_first : (f : Frame) (w : ℕ) (l : List Event) (e : Event) (first : RunningKey) (rest : List RunningKey) → Nests f w (first ∷ rest) l → e.key ≡ first.key
+adds_first : (f : Frame) (w : ℕ) (l : List Event) (e : Event) (first : RunningId) (rest : List RunningId) → Nests f w (first ∷ rest) l → e.key ≡ first.key
     → Adds (so_far f w l) (so_far f w (l ++ e ∷ [])) (first ∷ rest) e first.id
 adds_first f w l e first rest n same =
     adds f w l e (first ∷ rest) first.key first.id (All-head (λ k. HasId (so_far f w l) k.key k.id) first rest n.ids) same (within_first first rest n.chain)
@@ -124,9 +125,9 @@ dynamic_is_not : (k : Kind) → k ≡ Dynamic → k ≡ Started → ⊥
 dynamic_is_not k a b = let bad : Dynamic ≡ Started = sym a ∙ b in cc
 
 -- what the innermost running key publishes
-pub ran_published : (f : Frame) (unit : ℕ) (start now : SenderView) (running : List RunningKey) (registered : List (List ℕ × ℕ)) (next : ℕ)
-    (first : RunningKey) (e : Event) → IsRunning f unit start now running registered next
-    → (rest : List RunningKey) × (running ≡ first ∷ rest) → publishes e.kind ≡ true → e.key ≡ first.key
+pub ran_published : (f : Frame) (unit : ℕ) (start now : SenderView) (running : List RunningId) (registered : List (List ℕ × ℕ)) (next : ℕ)
+    (first : RunningId) (e : Event) → IsRunning f unit start now running registered next
+    → (rest : List RunningId) × (running ≡ first ∷ rest) → publishes e.kind ≡ true → e.key ≡ first.key
     → IsRunning f unit start (sends now e) running registered next
 ran_published f unit start now running registered next first e r is kind key =
     let i = r.emitting in
@@ -144,8 +145,8 @@ ran_published f unit start now running registered next first e r is kind key =
     }
 
 -- the innermost running key finishes
-pub ran_finish : (f : Frame) (unit : ℕ) (start now : SenderView) (running rest : List RunningKey) (registered : List (List ℕ × ℕ)) (next : ℕ)
-    (first : RunningKey) (e : Event) → IsRunning f unit start now running registered next
+pub ran_finish : (f : Frame) (unit : ℕ) (start now : SenderView) (running rest : List RunningId) (registered : List (List ℕ × ℕ)) (next : ℕ)
+    (first : RunningId) (e : Event) → IsRunning f unit start now running registered next
     → running ≡ first ∷ rest → e.kind ≡ Finished → e.key ≡ first.key
     → IsRunning f unit start (sends now e) rest registered next
 ran_finish f unit start now running rest registered next first e r is kind key =
@@ -173,7 +174,7 @@ static_id : (r : Recorded) (k : ℕ) (id : List SegmentView) → slice_get (ids_
 static_id r k id e = let d = table_id r.table k id e in record { descriptor = d.0; described = from_table r k d.0 d.1; id_is = d.2 }
 
 -- a static id whose parent's id the innermost running key has stands below that key
-next_static : (f : Frame) (w : ℕ) (l : List Event) (running : List RunningKey) (id : List SegmentView) → All (λ k. HasId (so_far f w l) k.key k.id) running
+next_static : (f : Frame) (w : ℕ) (l : List Event) (running : List RunningId) (id : List SegmentView) → All (λ k. HasId (so_far f w l) k.key k.id) running
     → HasInnermostParent f (keys_of running) id → IsNext running id
 next_static f w l [] id ids h = tt
 next_static f w l (k ∷ ks) id ids h =
@@ -212,7 +213,7 @@ pub below_table : (table : List Descriptor) (k : ℕ) (id : List SegmentView) �
 below_table table k id e = let d = table_id table k id e in static_below table k d.0 d.1
 
 -- a static key starts
-pub ran_start : (f : Frame) (unit : ℕ) (start now : SenderView) (running : List RunningKey) (registered : List (List ℕ × ℕ)) (next key : ℕ)
+pub ran_start : (f : Frame) (unit : ℕ) (start now : SenderView) (running : List RunningId) (registered : List (List ℕ × ℕ)) (next key : ℕ)
     (id : List SegmentView) (e : Event) → IsRunning f unit start now running registered next
     → MayStart f unit (keys_of running) key → next ≤ key → slice_get (ids_of f.table) key ≡ Some id → e.kind ≡ Started → e.key ≡ key
     → IsRunning f unit start (sends now e) (record { key = key; id = id } ∷ running) registered (key + 1)
@@ -239,7 +240,7 @@ ran_start f unit start now running registered next key id e r m low at kind same
     }
 
 -- or is skipped
-pub ran_skip : (f : Frame) (unit : ℕ) (start now : SenderView) (running : List RunningKey) (registered : List (List ℕ × ℕ)) (next key : ℕ)
+pub ran_skip : (f : Frame) (unit : ℕ) (start now : SenderView) (running : List RunningId) (registered : List (List ℕ × ℕ)) (next key : ℕ)
     (e : Event) → IsRunning f unit start now running registered next
     → MayStart f unit (keys_of running) key → next ≤ key → e.kind ≡ Skipped → e.key ≡ key
     → IsRunning f unit start (sends now e) running registered (key + 1)
@@ -277,14 +278,34 @@ popped old new rest first (Some k) is some none =
     let same : k ≡ first = first_same (sym some ∙ is) in
     some ∙ ap (λ x. x ∷ new) same
 
+-- the parent of a static key is the key above it
+pub parent_above : (table : List Descriptor) (key above : ℕ) (id : List SegmentView) → slice_get (ids_of table) key ≡ Some id → HasParentAt table key above
+    → (1 < length id) × (slice_get (ids_of table) above ≡ Some (parent_of id))
+parent_above table key above id is p =
+    let same : p.id ≡ id = some_same (sym p.its ∙ is) in
+    (subst (λ i. 1 < length i) same p.long, subst (λ i. slice_get (ids_of table) above ≡ Some (parent_of i)) same p.parent)
+
 -- the innermost key that runs is that of an id's parent
-pub innermost_parent : (s : ShapeView) (running rest : List RunningKey) (k : RunningKey) (d : Descriptor) (id : List SegmentView) → running ≡ k ∷ rest
-    → slice_get s.table k.key ≡ Some d → d.id ≡ parent_of id → 1 < length id → HasInnermostParent (frame s) (keys_of running) id
-innermost_parent s running rest k d id is its parent more =
-    subst (λ (ks : List RunningKey). HasInnermostParent (frame s) (keys_of ks) id) (sym is) (more, described_here s.table k.key d its ∙ ap (λ i. Some i) parent)
+pub innermost_parent : (s : ShapeView) (running rest : List RunningKey) (k : RunningKey) (above : ℕ) (id : List SegmentView) → running ≡ k ∷ rest
+    → k.key ≡ above → (1 < length id) × (slice_get (ids_of s.table) above ≡ Some (parent_of id)) → HasInnermostParent (frame s) (keys_of (with_ids s.table running)) id
+innermost_parent s running rest k above id is same p =
+    subst (λ (ks : List RunningKey). HasInnermostParent (frame s) (keys_of (with_ids s.table ks)) id) (sym is)
+    (p.0, subst (λ n. slice_get (ids_of s.table) n ≡ Some (parent_of id)) (sym same) p.1)
+
+pub innermost_among : (s : ShapeView) (running rest : List RunningKey) (k : RunningKey) (above : ℕ) (id : List SegmentView) → running ≡ k ∷ rest
+    → k.key ≡ above → (1 < length id) × (slice_get (ids_of s.table) above ≡ Some (parent_of id)) → HasParentAmong (frame s) (keys_of (with_ids s.table running)) id
+innermost_among s running rest k above id is same p = λ more. (
+  k.key,
+  subst (λ n. slice_get (ids_of s.table) n ≡ Some (parent_of id)) (sym same) p.1,
+  inl (innermost_is (with_ids s.table running) (with_ids s.table rest) (with_id s.table k) (ap (with_ids s.table) is)),
+)
+
+-- no key runs
+pub none_innermost : (s : ShapeView) (running : List RunningKey) (id : List SegmentView) → running ≡ [] → HasInnermostParent (frame s) (keys_of (with_ids s.table running)) id
+none_innermost s running id is = subst (λ (ks : List RunningKey). HasInnermostParent (frame s) (keys_of (with_ids s.table ks)) id) (sym is) tt
 
 -- a static key whose owner is the unit, and whose parent runs, may start
-pub may_start : (s : ShapeView) (unit key : ℕ) (running : List RunningKey) (d : Descriptor) → AreDifferent s.table → slice_get s.table key ≡ Some d
+pub may_start : (s : ShapeView) (unit key : ℕ) (running : List RunningId) (d : Descriptor) → AreDifferent s.table → slice_get s.table key ≡ Some d
     → get_or s.owners key s.units ≡ unit → HasParentAmong (frame s) (keys_of running) d.id → HasInnermostParent (frame s) (keys_of running) d.id → MayStart (frame s) unit (keys_of running) key
 may_start s unit key running d different is owner parent innermost = record {
   descriptor = d;
@@ -299,7 +320,7 @@ pub found_id : {A : Type 0} (found : Option A) (id : A) (P : A → Type 0) → f
 found_id found id P is h = subst (λ o. IfSome o P) is h
 
 -- a unit after the start of a static key
-pub started : (f : Frame) (unit : ℕ) (start old now : SenderView) (running pushed : List RunningKey) (registered : List (List ℕ × ℕ)) (next after key : ℕ) (id : List SegmentView) (e : Event)
+pub started : (f : Frame) (unit : ℕ) (start old now : SenderView) (running pushed : List RunningId) (registered : List (List ℕ × ℕ)) (next after key : ℕ) (id : List SegmentView) (e : Event)
     → now ≡ sends old e → pushed ≡ record { key = key; id = id } ∷ running → after ≡ key + 1 → e.kind ≡ Started → e.key ≡ key
     → IsRunning f unit start old running registered next → MayStart f unit (keys_of running) key → next ≤ key → slice_get (ids_of f.table) key ≡ Some id
     → IsRunning f unit start now pushed registered after
@@ -310,14 +331,14 @@ started f unit start old now running pushed registered next after key id e sent 
     (ran_start f unit start old running registered next key id e r may low at kind own)))
 
 -- a later key may be the next one
-ran_later : (f : Frame) (unit : ℕ) (start now : SenderView) (running : List RunningKey) (registered : List (List ℕ × ℕ)) (next after : ℕ)
+ran_later : (f : Frame) (unit : ℕ) (start now : SenderView) (running : List RunningId) (registered : List (List ℕ × ℕ)) (next after : ℕ)
     → next ≤ after → IsRunning f unit start now running registered next → IsRunning f unit start now running registered after
 ran_later f unit start now running registered next after more r =
     let j = emitting_later f unit start now (progress running registered next) r.emitting after more in
     record { emitting = j; ids = r.ids; nesting = nests_same f unit start now (progress running registered next) (progress running registered after) running r.emitting j r.nesting }
 
 -- a unit after the skip of a static key
-pub skipped : (f : Frame) (unit : ℕ) (start old now : SenderView) (running : List RunningKey) (registered : List (List ℕ × ℕ)) (next after key : ℕ) (e : Event)
+pub skipped : (f : Frame) (unit : ℕ) (start old now : SenderView) (running : List RunningId) (registered : List (List ℕ × ℕ)) (next after key : ℕ) (e : Event)
     → now ≡ sends old e → key < after → e.kind ≡ Skipped → e.key ≡ key
     → IsRunning f unit start old running registered next → MayStart f unit (keys_of running) key → next ≤ key
     → IsRunning f unit start now running registered after
@@ -327,8 +348,16 @@ skipped f unit start old now running registered next after key e sent more kind 
     (ran_skip f unit start old running registered next key e r may low kind own))
 
 -- what may start in a shape of the engine may start in its frame
-pub may_here : (s : ShapeView) (f : Frame) (u unit key : ℕ) (running : List RunningKey) → frame s ≡ f → u ≡ unit → MayStart (frame s) u (keys_of running) key → MayStart f unit (keys_of running) key
-may_here s f u unit key running a b m = subst (λ g. MayStart g unit (keys_of running) key) a (subst (λ v. MayStart (frame s) v (keys_of running) key) b m)
+pub may_here : (s : ShapeView) (f : Frame) (u unit key : ℕ) (running : List RunningKey) → frame s ≡ f → u ≡ unit
+    → MayStart (frame s) u (keys_of (with_ids s.table running)) key → MayStart f unit (keys_of (with_ids f.table running)) key
+may_here s f u unit key running a b m =
+    subst (λ (g : Frame). MayStart g unit (keys_of (with_ids g.table running)) key) a (subst (λ v. MayStart (frame s) v (keys_of (with_ids s.table running)) key) b m)
+
+-- a static key has its id in the table
+pub static_is : (f : Frame) (unit key : ℕ) (running : List ℕ) → MayStart f unit running key → slice_get (ids_of f.table) key ≡ Some (id_at f.table key)
+static_is f unit key running m =
+    let is = described_here f.table key m.descriptor m.described in
+    is ∙ ap (λ i. Some i) (sym (ap (λ o. unwrap_or o []) is))
 
 pub id_here : (s : ShapeView) (f : Frame) (key : ℕ) (id : List SegmentView) → frame s ≡ f → slice_get (ids_of s.table) key ≡ Some id → slice_get (ids_of f.table) key ≡ Some id
 id_here s f key id a e = ap (λ (g : Frame). slice_get (ids_of g.table) key) (sym a) ∙ e
@@ -336,7 +365,7 @@ id_here s f key id a e = ap (λ (g : Frame). slice_get (ids_of g.table) key) (sy
 -- ---- registrations
 
 -- a unit after it registered a descriptor below the innermost running key
-pub record HasRegistered (f : Frame) (unit : ℕ) (start now : SenderView) (running : List RunningKey) (registered : List (List ℕ × ℕ)) (next key : ℕ) (id : List SegmentView) : Type 0 where
+pub record HasRegistered (f : Frame) (unit : ℕ) (start now : SenderView) (running : List RunningId) (registered : List (List ℕ × ℕ)) (next key : ℕ) (id : List SegmentView) : Type 0 where
   pub registration : Registered f unit start now (progress running registered next) key
   pub ids : HaveIds now running
   pub own : HasId (record_of_sender now) key id
@@ -344,7 +373,7 @@ pub record HasRegistered (f : Frame) (unit : ℕ) (start now : SenderView) (runn
   pub there : HasId (so_far f start.worker registration.emitting.events) key id
   pub next_is : IsNext running id
 
-first_id : (s : SenderView) (first : RunningKey) (rest running : List RunningKey) → running ≡ first ∷ rest → HaveIds s running → HasId (record_of_sender s) first.key first.id
+first_id : (s : SenderView) (first : RunningId) (rest running : List RunningId) → running ≡ first ∷ rest → HaveIds s running → HasId (record_of_sender s) first.key first.id
 first_id s first rest running is h = All-head (λ k. HasId (record_of_sender s) k.key k.id) first rest (subst (HaveIds s) is h)
 
 or_true : (b : Bool) → (b || true) ≡ true
@@ -364,15 +393,15 @@ noted_own : (registered noted : List (List ℕ × ℕ)) (own : List ℕ) → ((t
 noted_own registered noted own all = all own ∙ true_or (bytes_eq own own) (is_registered registered own) ((bytes_eq-Decides own own).1 refl)
 
 -- the ids were noted, and nothing was emitted
-pub ran_noted : (f : Frame) (unit : ℕ) (start now : SenderView) (running : List RunningKey) (registered noted : List (List ℕ × ℕ)) (next : ℕ) (own : List ℕ)
+pub ran_noted : (f : Frame) (unit : ℕ) (start now : SenderView) (running : List RunningId) (registered noted : List (List ℕ × ℕ)) (next : ℕ) (own : List ℕ)
     → ((text : List ℕ) → is_registered noted text ≡ (bytes_eq text own || is_registered registered text))
     → IsRunning f unit start now running registered next → IsRunning f unit start now running noted next
 ran_noted f unit start now running registered noted next own all r =
     let j = emitting_noted f unit start now (progress running registered next) r.emitting (is_registered noted) (noted_more registered noted own all) in
     record { emitting = j; ids = r.ids; nesting = nests_same f unit start now (progress running registered next) (progress running noted next) running r.emitting j r.nesting }
 
-pub ran_registration : (s : ShapeView) (unit : ℕ) (start old now : SenderView) (running rest : List RunningKey) (registered noted : List (List ℕ × ℕ)) (next key : ℕ)
-    (first : RunningKey) (id : List SegmentView) (ask : RegisterRequest)
+pub ran_registration : (s : ShapeView) (unit : ℕ) (start old now : SenderView) (running rest : List RunningId) (registered noted : List (List ℕ × ℕ)) (next key : ℕ)
+    (first : RunningId) (id : List SegmentView) (ask : RegisterRequest)
     → IsRunning (frame s) unit start old running registered next → running ≡ first ∷ rest → IsRegisteredAs old now ask (Ok key)
     → ask.parent ≡ first.key → id ≡ first.id ++ ask.segment ∷ []
     → ¬ TableHasId s.table id → is_registered registered (id_text id) ≡ false
@@ -433,12 +462,12 @@ ran_registration s unit start old now running rest registered noted next key fir
     (subst (λ v. HasRegistered f unit start v running noted next e.key d.id) (sym now_is) at))
 
 -- what was registered and didn't begin
-pub ran_registered : (f : Frame) (unit : ℕ) (start now : SenderView) (running : List RunningKey) (registered : List (List ℕ × ℕ)) (next key : ℕ) (id : List SegmentView)
+pub ran_registered : (f : Frame) (unit : ℕ) (start now : SenderView) (running : List RunningId) (registered : List (List ℕ × ℕ)) (next key : ℕ) (id : List SegmentView)
     → HasRegistered f unit start now running registered next key id → IsRunning f unit start now running registered next
 ran_registered f unit start now running registered next key id h = record { emitting = h.registration.emitting; ids = h.ids; nesting = h.nesting }
 
 -- what was registered starts
-pub ran_child : (f : Frame) (unit : ℕ) (start old now : SenderView) (running pushed : List RunningKey) (registered : List (List ℕ × ℕ)) (next key : ℕ) (id : List SegmentView) (e : Event)
+pub ran_child : (f : Frame) (unit : ℕ) (start old now : SenderView) (running pushed : List RunningId) (registered : List (List ℕ × ℕ)) (next key : ℕ) (id : List SegmentView) (e : Event)
     → now ≡ sends old e → pushed ≡ record { key = key; id = id } ∷ running → e.kind ≡ Started → e.key ≡ key
     → HasRegistered f unit start old running registered next key id → IsRunning f unit start now pushed registered next
 ran_child f unit start old now running pushed registered next key id e sent push kind own h =
@@ -459,7 +488,7 @@ ran_child f unit start old now running pushed registered next key id e sent push
     (subst (λ m. IsRunning f unit start (sends old e) m registered next) (sym push) started)
 
 -- what was registered is skipped
-pub ran_child_skip : (f : Frame) (unit : ℕ) (start old now : SenderView) (running : List RunningKey) (registered : List (List ℕ × ℕ)) (next key : ℕ) (id : List SegmentView) (e : Event)
+pub ran_child_skip : (f : Frame) (unit : ℕ) (start old now : SenderView) (running : List RunningId) (registered : List (List ℕ × ℕ)) (next key : ℕ) (id : List SegmentView) (e : Event)
     → now ≡ sends old e → e.kind ≡ Skipped → e.key ≡ key
     → HasRegistered f unit start old running registered next key id → IsRunning f unit start now running registered next
 ran_child_skip f unit start old now running registered next key id e sent kind own h =
@@ -477,8 +506,8 @@ ran_child_skip f unit start old now running registered next key id e sent kind o
     subst (λ s. IsRunning f unit start s running registered next) (sym sent) skips
 
 -- a unit after the registration of a child
-pub registered_child : (s : ShapeView) (f : Frame) (unit : ℕ) (start old now : SenderView) (running rest : List RunningKey) (registered noted : List (List ℕ × ℕ)) (next key : ℕ)
-    (first : RunningKey) (id : List SegmentView) (ask : RegisterRequest) → frame s ≡ f
+pub registered_child : (s : ShapeView) (f : Frame) (unit : ℕ) (start old now : SenderView) (running rest : List RunningId) (registered noted : List (List ℕ × ℕ)) (next key : ℕ)
+    (first : RunningId) (id : List SegmentView) (ask : RegisterRequest) → frame s ≡ f
     → IsRunning f unit start old running registered next → running ≡ first ∷ rest → IsRegisteredAs old now ask (Ok key)
     → ask.parent ≡ first.key → id ≡ first.id ++ ask.segment ∷ []
     → ¬ TableHasId s.table id → is_registered registered (id_text id) ≡ false
@@ -488,18 +517,31 @@ registered_child s f unit start old now running rest registered noted next key f
     subst (λ g. HasRegistered g unit start now running noted next key id) same
     (ran_registration s unit start old now running rest registered noted next key first id ask (subst (λ g. IsRunning g unit start old running registered next) (sym same) r) is a parent made static fresh all)
 
+-- where the innermost running key is this one
+pub registered_below : (s : ShapeView) (f : Frame) (unit : ℕ) (start old now : SenderView) (running rest : List RunningKey) (registered noted : List (List ℕ × ℕ)) (next key : ℕ)
+    (first : RunningKey) (id : List SegmentView) (ask : RegisterRequest) → frame s ≡ f
+    → IsRunning f unit start old (with_ids f.table running) registered next → running ≡ first ∷ rest → IsRegisteredAs old now ask (Ok key)
+    → ask.parent ≡ first.key → id ≡ (with_id s.table first).id ++ ask.segment ∷ []
+    → ¬ TableHasId s.table id → is_registered registered (id_text id) ≡ false
+    → ((text : List ℕ) → is_registered noted text ≡ (bytes_eq text (id_text id) || is_registered registered text))
+    → HasRegistered f unit start now (with_ids f.table running) noted next key id
+registered_below s f unit start old now running rest registered noted next key first id ask same r is a parent made static fresh all =
+    registered_child s f unit start old now (with_ids f.table running) (with_ids f.table rest) registered noted next key (with_id f.table first) id ask same r (ap (with_ids f.table) is) a parent
+    (subst (λ (g : Frame). id ≡ (with_id g.table first).id ++ ask.segment ∷ []) same made) static fresh all
+
 rest_same : {x y : RunningKey} {xs ys : List RunningKey} → x ∷ xs ≡ y ∷ ys → xs ≡ ys
 rest_same e = cc
 
 -- a unit whose child was registered, and which took the child off again that didn't start
-pub child_off : (f : Frame) (unit : ℕ) (start old now : SenderView) (running pushed left : List RunningKey) (registered : List (List ℕ × ℕ)) (next key : ℕ) (id : List SegmentView) (r : Option RunningKey)
-    → now ≡ old → pushed ≡ record { key = key; id = id } ∷ running
+pub child_off : (f : Frame) (unit : ℕ) (start old now : SenderView) (running pushed left : List RunningKey) (first : RunningKey) (registered : List (List ℕ × ℕ)) (next key : ℕ) (id : List SegmentView) (r : Option RunningKey)
+    → now ≡ old → pushed ≡ first ∷ running
     → IfSome r (λ k. pushed ≡ k ∷ left) → IfNone r ((pushed ≡ []) × (left ≡ []))
-    → HasRegistered f unit start old running registered next key id → IsRunning f unit start now left registered next
-child_off f unit start old now running pushed left registered next key id r sent push some none h =
-    let off = popped pushed left running (record { key = key; id = id }) r push some none in
+    → HasRegistered f unit start old (with_ids f.table running) registered next key id → IsRunning f unit start now (with_ids f.table left) registered next
+child_off f unit start old now running pushed left first registered next key id r sent push some none h =
+    let off = popped pushed left running first r push some none in
     let same : left ≡ running = rest_same (sym off ∙ push) in
-    subst (λ s. IsRunning f unit start s left registered next) (sym sent) (subst (λ l. IsRunning f unit start old l registered next) (sym same) (ran_registered f unit start old running registered next key id h))
+    subst (λ s. IsRunning f unit start s (with_ids f.table left) registered next) (sym sent)
+    (subst (λ (l : List RunningKey). IsRunning f unit start old (with_ids f.table l) registered next) (sym same) (ran_registered f unit start old (with_ids f.table running) registered next key id h))
 
 -- ---- a unit that begins, and that ends
 
@@ -516,7 +558,7 @@ static_first f w around key id h =
     (λ b. absurd (plain_before f around key h.descriptor (ap (λ l. desc_in l key) (sym (append-nil (entries_by 0 f.before))) ∙ b.1)))
     (table_or_entry (so_far f w []) key h.descriptor h.described)
 
-pub ran_nothing : (f : Frame) (unit : ℕ) (start : SenderView) (running : List RunningKey) (registered : List (List ℕ × ℕ)) (next : ℕ) → running ≡ [] → KeepsAround f → unit < f.units → start.table ≡ f.table
+pub ran_nothing : (f : Frame) (unit : ℕ) (start : SenderView) (running : List RunningId) (registered : List (List ℕ × ℕ)) (next : ℕ) → running ≡ [] → KeepsAround f → unit < f.units → start.table ≡ f.table
     → IsRunning f unit start start running registered next
 ran_nothing f unit start running registered next none around low table =
     let j = emitting_none f unit start (is_registered registered) next around low table
@@ -531,16 +573,16 @@ ran_nothing f unit start running registered next none around low table =
     } in
     subst (λ l. IsRunning f unit start start l registered next) (sym none) begins
 
-pub ran_same : (f : Frame) (unit : ℕ) (start now : SenderView) (running : List RunningKey) (registered : List (List ℕ × ℕ)) (next : ℕ)
+pub ran_same : (f : Frame) (unit : ℕ) (start now : SenderView) (running : List RunningId) (registered : List (List ℕ × ℕ)) (next : ℕ)
     → IsRunning f unit start now running registered next → IsSameSender start now
 ran_same f unit start now running registered next r = r.emitting.same
 
-pub ran_some : (f : Frame) (unit : ℕ) (start now : SenderView) (running : List RunningKey) (registered : List (List ℕ × ℕ)) (next : ℕ)
+pub ran_some : (f : Frame) (unit : ℕ) (start now : SenderView) (running : List RunningId) (registered : List (List ℕ × ℕ)) (next : ℕ)
     → IsRunning f unit start now running registered next → Extends start now
 ran_some f unit start now running registered next r = (r.emitting.events, r.emitting.sent)
 
 -- a unit of which no key runs, and each of whose static keys had its turn
-pub ran_all : (f : Frame) (may_end : ℕ → Outcome → Type 0) (keys : UnitKeys) (start now : SenderView) (running : List RunningKey) (registered : List (List ℕ × ℕ)) (next : ℕ)
+pub ran_all : (f : Frame) (may_end : ℕ → Outcome → Type 0) (keys : UnitKeys) (start now : SenderView) (running : List RunningId) (registered : List (List ℕ × ℕ)) (next : ℕ)
     → IsRunning f keys.unit start now running registered next → HasPlayed f.table may_end keys.first next start now → running ≡ [] → keys.end ≤ next
     → HasRun f may_end keys start now
 ran_all f may_end keys start now running registered next r d none past =
@@ -559,7 +601,7 @@ ran_all f may_end keys start now running registered next r d none past =
       },
     )
 
-pub began : (s : ShapeView) (f : Frame) (u unit : ℕ) (start now : SenderView) (running : List RunningKey) (registered : List (List ℕ × ℕ)) (next : ℕ) → frame s ≡ f → u ≡ unit → now ≡ start → running ≡ []
+pub began : (s : ShapeView) (f : Frame) (u unit : ℕ) (start now : SenderView) (running : List RunningId) (registered : List (List ℕ × ℕ)) (next : ℕ) → frame s ≡ f → u ≡ unit → now ≡ start → running ≡ []
     → KeepsAround (frame s) → u < s.units → start.table ≡ f.table → IsRunning f unit start now running registered next
 began s f u unit start now running registered next a b c none around low table =
     subst (λ v. IsRunning f unit start v running registered next) (sym c)

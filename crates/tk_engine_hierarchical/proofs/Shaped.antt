@@ -2,6 +2,7 @@
 use Rattle.std.proofs.Common.{◌≡◌, ◌≢◌, ◌<◌, ◌≤◌, ◌+◌, ◌==◌, ◌&&◌, ◌||◌, not, ℕ, zero, suc, ◌⊎◌, inl, inr, ⊎_elim, Bool, true, false, List, [], ◌∷◌, ◌++◌, length, take, set, get_or, All, Some, slice_get, refl, sym, ap, ap₂, ◌∙◌, subst, append-nil, arith, tests}
 use Rattle.std.specs.List.{list_any}
 use Rattle.std.proofs.lemmas.List.{take_all, map-append}
+use Rattle.std.proofs.lemmas.List.{take_more}
 use Rattle.std.proofs.lemmas.List.Elements.{All-more, All-append, All-weaker}
 use Rattle.tk_ids.specs.IdText.{SegmentView}
 use Rattle.tk_ids.specs.Table.{AreDifferent}
@@ -74,6 +75,16 @@ running_more es e old new are none kind flags key h =
     (λ s. runs_now (has_event Started key (entries_by 0 (es ++ e ∷ []))) (has_event Finished key (entries_by 0 (es ++ e ∷ [])))
     (event_more Started key es e ∙ or_right (has_event Started key (entries_by 0 es)) (is_event Started key (entry_by 0 e)) (started_now e key s.0 s.1)) finished)
     (flags key h)
+
+pub running_taken : (es : List Event) (i : ℕ) (e : Event) (old new : List Bool) → i < length es → e ≡ get_or es i e
+    → AreRunning (take i es) old × ((key : ℕ) → has_event Finished key (entries_by 0 (take i es)) ≡ false) → e.kind ≢ Finished
+    → ((key : ℕ) → slice_get new key ≡ Some true → (slice_get old key ≡ Some true) ⊎ ((e.kind ≡ Started) × (e.key ≡ key)))
+    → AreRunning (take (i + 1) es) new × ((key : ℕ) → has_event Finished key (entries_by 0 (take (i + 1) es)) ≡ false)
+running_taken es i e old new low is both kind flags =
+    let more : take (i + 1) es ≡ take i es ++ e ∷ [] = take_more es i e low ∙ ap (λ x. take i es ++ x ∷ []) (sym is) in (
+      subst (λ l. AreRunning l new) (sym more) (running_more (take i es) e old new both.0 both.1 kind flags),
+      λ key. subst (λ l. has_event Finished key (entries_by 0 l) ≡ false) (sym more) (none_finished_more (take i es) e both.1 kind key),
+    )
 
 -- ---- the shape
 

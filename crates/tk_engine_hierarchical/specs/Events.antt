@@ -1,6 +1,6 @@
 -- A unit of a hierarchical engine, as contracts see it.
 use Rattle.std.specs.Prelude.{◌≡◌, ◌⊎◌, ℕ, ◌<◌, ◌++◌, true, All, List, [], ◌∷◌}
-use Rattle.std.specs.Prelude.{map, length, Some, slice_get}
+use Rattle.std.specs.Prelude.{length, Some, slice_get}
 use Rattle.tk_ids.specs.IdText.{SegmentView, parent_of}
 use Rattle.tk_ids.specs.Table.{ids_of}
 use Rattle.tk_ids.specs.declared.descriptors.Descriptor.{Descriptor}
@@ -16,15 +16,12 @@ use Rattle.tk_engine_hierarchical.specs.Covered.{IsBelow}
 use Rattle.tk_engine_hierarchical.specs.Emitting.{IsEmitting, Progress, since}
 use Rattle.tk_engine_hierarchical.specs.Nesting.{EventsNest, LacksFinish}
 use Rattle.tk_engine_hierarchical.specs.RegisteredIds.{is_registered}
+use Rattle.tk_engine_hierarchical.specs.Running.{RunningId, keys_of}
 use Rattle.tk_engine_hierarchical.specs.Units.{RunsUnit, UnitKeys}
-use Rattle.tk_engine_hierarchical.specs.declared.running_keys.RunningKey.{RunningKey}
 use Rattle.tk_engine_hierarchical.specs.declared.tests.Outcome.{Outcome}
 
-abbrev pub keys_of : List RunningKey → List ℕ
-keys_of running = map (λ k. k.key) running
-
 -- where a unit stands whose keys run, innermost first, and that has registered these ids
-abbrev pub progress : List RunningKey → List (List ℕ × ℕ) → ℕ → Progress
+abbrev pub progress : List RunningId → List (List ℕ × ℕ) → ℕ → Progress
 progress running registered next = record {
   running = keys_of running;
   registered = is_registered registered;
@@ -32,17 +29,17 @@ progress running registered next = record {
 }
 
 -- each of the running keys has its id in the sink
-abbrev pub HaveIds : SenderView → List RunningKey → Type 0
+abbrev pub HaveIds : SenderView → List RunningId → Type 0
 HaveIds s running = All (λ k. HasId (record_of_sender s) k.key k.id) running
 
 -- each running key stands below those that started before it
-abbrev pub AreChained : List RunningKey → Type 0
+abbrev pub AreChained : List RunningId → Type 0
 AreChained [] = Unit {0}
 AreChained (key ∷ outer) = All (λ above. IsBelow above.id key.id) outer × AreChained outer
 
 -- Of the events of a unit under way: until it finishes, a key that started has its own events, and
 -- is one of the running keys. These have their ids in the record, and each stands below the next.
-pub record IsNesting (r : Recorded) (events : List Event) (running : List RunningKey) :
+pub record IsNesting (r : Recorded) (events : List Event) (running : List RunningId) :
     Type 0 where
   pub nest : EventsNest r events
   pub unfinished :
@@ -53,7 +50,7 @@ pub record IsNesting (r : Recorded) (events : List Event) (running : List Runnin
   pub chain : AreChained running
 
 -- what the sink took since the unit began is that of a unit under way
-pub record IsRunning (f : Frame) (unit : ℕ) (start now : SenderView) (running : List RunningKey)
+pub record IsRunning (f : Frame) (unit : ℕ) (start now : SenderView) (running : List RunningId)
     (registered : List (List ℕ × ℕ)) (next : ℕ) : Type 0 where
   pub emitting : IsEmitting f unit (since start now) (progress running registered next)
   pub ids : HaveIds now running

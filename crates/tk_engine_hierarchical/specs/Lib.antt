@@ -2,6 +2,7 @@ pub mod Emitting
 pub mod Owners
 pub mod RegisteredIds
 pub mod Shapes
+pub mod Running
 pub mod Events
 pub mod Endings
 pub mod FaultTexts

@@ -1,5 +1,5 @@
 -- What a reporter emits.
-use Rattle.std.specs.Prelude.{◌≡◌, ℕ, ◌≤◌, Bool, true, false, List, ◌∷◌, Ok}
+use Rattle.std.specs.Prelude.{◌≡◌, ℕ, ◌≤◌, Bool, true, false, List, ◌∷◌, Ok, Option}
 use Rattle.tk_events.specs.declared.events.Event.{Event}
 use Rattle.tk_events.specs.declared.kinds.Kind.{Kind}
 use Rattle.tk_events.specs.declared.kinds.Kind.TheVariants.{Dynamic, File, Finished}
@@ -12,12 +12,13 @@ use Rattle.tk_engine_execute.specs.Engines.{Extends}
 use Rattle.tk_engine_hierarchical.specs.Endings.{payload_of}
 use Rattle.tk_engine_hierarchical.specs.declared.tests.Outcome.{Outcome}
 
--- what contracts see of a unit that runs: its sink, the keys that run, innermost first, and the
--- stamp of what a body publishes
+-- what contracts see of a unit that runs: its sink, the keys that run, innermost first, the stamp
+-- of what a body publishes, and the one that the static test that runs has set
 pub record UnitView : Type 0 where
   pub sink : SenderView
   pub running : List ℕ
   pub stamp : ℕ
+  pub own_stamp : Option ℕ
 
 abbrev pub event : Kind → ℕ → ℕ → Payload → Event
 event kind key stamp payload =

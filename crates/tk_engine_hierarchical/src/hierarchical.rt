@@ -16,6 +16,7 @@ ghost use Rattle.tk_engine_hierarchical.specs.declared.tests.Outcome.{Outcome};
 use crate::leases::Lease;
 use crate::reporters::Reporter;
 use crate::shapes::Shape;
+use crate::stacks::Stack;
 use crate::tests::{OUT_OF_ORDER, Outcome, Tests, payload_of};
 use crate::unit_events::{Child, UnitEvents};
 use crate::unit_runs::UnitRun;
@@ -34,13 +35,13 @@ struct Ended {
 }
 
 // Takes the last test off, where it is that node.
-fn take_ended<T: Tests>(tests: &T, ended: &mut Vec<Ended>, node: u32) -> Option<Ended>
-    requires { All (λ e. T.may_end tests.now e.key e.outcome) ended.old.items }
-    ensures others { All (λ e. T.may_end tests.now e.key e.outcome) ended.new.items }
+fn take_ended<T: Tests>(tests: &T, ended: &mut Stack<Ended>, node: u32) -> Option<Ended>
+    requires { All (λ e. T.may_end tests.now e.key e.outcome) ended.old }
+    ensures others { All (λ e. T.may_end tests.now e.key e.outcome) ended.new }
     ensures last { IfSome result (λ e. T.may_end tests.now e.key e.outcome) }
 {
     let _ = tests;
-    let has_body = match ended.as_slice().last() {
+    let has_body = match ended.top() {
         Some(last) => last.key == node,
         None => false,
     };
@@ -60,14 +61,13 @@ fn run_test<R: Wait, S: Sink, K: UnitRun, T: Tests>(
 ) -> Result<Ended, UnitFault>
     ensures key { IfOk result (λ e. e.key ≡ key) }
     ensures may { IfOk result (λ e. T.may_end tests.now e.key e.outcome) }
-    ensures stamp { IfOk result (λ e. e.stamp ≡ reporter.new.own_stamp) }
+    ensures stamp { IfOk result (λ e. e.stamp ≡ reporter.new.events.own_stamp) }
 {
-    reporter.own_stamp = None;
     let outcome = tests.run(rt, alloc, key, reporter)?;
     Ok(Ended {
         key,
         outcome,
-        stamp: reporter.own_stamp,
+        stamp: reporter.events.own_stamp(),
     })
 }
 
@@ -111,15 +111,15 @@ fn start_node<R: Wait, S: Sink, K: UnitRun, T: Tests>(
     plan: &Plan,
     tests: &T,
     step: Step,
-    ended: &mut Vec<Ended>,
+    ended: &mut Stack<Ended>,
     reporter: &mut Reporter<'_, S, K>,
 ) -> Result<(), UnitFault>
     requires known { IsKnown plan.now.nodes step.node step.act }
     requires may { (key : ℕ) (o : Outcome) → T.may_end tests.now key o → K.may_end key o }
-    requires ended { All (λ e. T.may_end tests.now e.key e.outcome) ended.old.items }
-    ensures { OnOk result (All (λ e. T.may_end tests.now e.key e.outcome) ended.new.items) }
+    requires ended { All (λ e. T.may_end tests.now e.key e.outcome) ended.old }
+    ensures { OnOk result (All (λ e. T.may_end tests.now e.key e.outcome) ended.new) }
 {
-    reporter.events.set_stamp(step.stamp);
+    reporter.events.set_planned_stamp(step.stamp);
     if (step.node as usize) >= plan.table().len() {
         let child = Child {
             segment: plan.segment(step.node),
@@ -132,10 +132,7 @@ fn start_node<R: Wait, S: Sink, K: UnitRun, T: Tests>(
     reporter.events.start(rt, alloc, step.node, step.stamp)?;
     if plan.dtype(step.node).is_test() {
         let last = run_test(rt, alloc, tests, step.node, reporter)?;
-        if ended.push(last).is_err() {
-            // No allocation failed here: the list's did.
-            return Err(UnitFault::Memory);
-        }
+        ended.push(last)?;
     }
     Ok(())
 }
@@ -147,13 +144,13 @@ fn do_step<R: Wait, S: Sink, K: UnitRun, T: Tests>(
     plan: &Plan,
     tests: &T,
     step: Step,
-    ended: &mut Vec<Ended>,
+    ended: &mut Stack<Ended>,
     reporter: &mut Reporter<'_, S, K>,
 ) -> Result<(), UnitFault>
     requires known { IsKnown plan.now.nodes step.node step.act }
     requires may { (key : ℕ) (o : Outcome) → T.may_end tests.now key o → K.may_end key o }
-    requires ended { All (λ e. T.may_end tests.now e.key e.outcome) ended.old.items }
-    ensures { OnOk result (All (λ e. T.may_end tests.now e.key e.outcome) ended.new.items) }
+    requires ended { All (λ e. T.may_end tests.now e.key e.outcome) ended.old }
+    ensures { OnOk result (All (λ e. T.may_end tests.now e.key e.outcome) ended.new) }
 {
     match step.act {
         // What is registered is so when it starts or is skipped.
@@ -207,7 +204,7 @@ fn do_steps<R: Wait, S: Sink, K: UnitRun, T: Tests>(
     requires known { All (λ s. IsKnown plan.now.nodes s.node s.act) steps.now }
     requires may { (key : ℕ) (o : Outcome) → T.may_end tests.now key o → K.may_end key o }
 {
-    let mut ended = Vec::new(alloc);
+    let mut ended = Stack::new(alloc);
     for step in steps {
         do_step(rt, alloc, plan, tests, *step, &mut ended, reporter)?;
     }
@@ -267,10 +264,9 @@ pub(crate) fn run_unit<'a, R: Wait, S: Sink, K: UnitRun, T: Tests>(
     };
     let mut reporter: Reporter<'a, S, K> = Reporter {
         events: UnitEvents::begin(alloc, lease, shape, unit),
-        own_stamp: None,
     };
     let played = do_steps(rt, alloc, plan, tests, steps.as_slice(), &mut reporter);
-    let Reporter { events, .. } = reporter;
+    let Reporter { events } = reporter;
     let (lease, rests, had_turns) = events.end();
     *ran = ending(played, rests, had_turns);
     lease

@@ -4,13 +4,14 @@ ghost use Rattle.tk_queue.specs.Senders.{SenderView, sends};
 ghost use Rattle.tk_queue.specs.Registering.{IsRegisteredAs};
 ghost use Rattle.tk_engine_execute.specs.Engines.{Extends};
 ghost use Rattle.tk_engine_hierarchical.specs.Events.{IsRunning};
+ghost use Rattle.tk_engine_hierarchical.specs.Running.{with_ids};
 ghost use Rattle.tk_engine_hierarchical.specs.Shapes.{frame};
 ghost use Rattle.tk_engine_hierarchical.specs.Units.{HasPlayed};
 
 use crate::reporters::Reporter;
 use crate::shapes::Shape;
-use crate::tests::{Body, Outcome};
-use crate::unit_events::{UnitEvents, UnitProgress};
+use crate::tests::Body;
+use crate::unit_events::{BodyRun, UnitEvents, UnitProgress};
 use crate::unit_runs::UnitRun;
 use std::alloc::Global;
 use std::marker::Brand;
@@ -68,34 +69,36 @@ impl<'a, S: Sink> Lease<'a, S> {
         }
     }
 
-    /// Runs a body, which emits into this sink. Where the unit stands then is left in `progress`, how
-    /// the body ended in `ran`.
+    /// Runs a body, which emits into this sink. Where the unit stands then, and how the body ended, is
+    /// left in `run`.
     pub(crate) fn run_body<R: Wait, K: UnitRun, B: Body>(
         &mut self,
         rt: &R,
         alloc: Global,
         body: &B,
         shape: &Shape,
-        progress: &mut UnitProgress,
-        own_stamp: &mut Option<u64>,
-        ran: &mut Result<Outcome, UnitFault>,
+        run: &mut BodyRun,
     )
         requires frame { frame shape.now ≡ K.frame }
-        requires unit { progress.old.unit ≡ K.keys.unit }
-        requires end { progress.old.end ≡ K.keys.end }
+        requires unit { run.old.progress.unit ≡ K.keys.unit }
+        requires end { run.old.progress.end ≡ K.keys.end }
         requires running { IsRunning K.frame K.keys.unit K.start (S.view self.old.sink.now)
-            progress.old.running progress.old.registered progress.old.next }
-        requires played { HasPlayed K.frame.table K.may_end K.keys.first progress.old.next K.start
-            (S.view self.old.sink.now) }
+            (with_ids K.frame.table run.old.progress.running) run.old.progress.registered
+            run.old.progress.next }
+        requires played { HasPlayed K.frame.table K.may_end K.keys.first run.old.progress.next
+            K.start (S.view self.old.sink.now) }
         ensures same { self.new.sink.ghost_name ≡ self.old.sink.ghost_name }
+        ensures unit { run.new.progress.unit ≡ K.keys.unit }
+        ensures end { run.new.progress.end ≡ K.keys.end }
         ensures running { IsRunning K.frame K.keys.unit K.start (S.view self.new.sink.now)
-            progress.new.running progress.new.registered progress.new.next }
-        ensures played { HasPlayed K.frame.table K.may_end K.keys.first progress.new.next K.start
-            (S.view self.new.sink.now) }
+            (with_ids K.frame.table run.new.progress.running) run.new.progress.registered
+            run.new.progress.next }
+        ensures played { HasPlayed K.frame.table K.may_end K.keys.first run.new.progress.next
+            K.start (S.view self.new.sink.now) }
         ensures since { Extends (S.view self.old.sink.now) (S.view self.new.sink.now) }
-        ensures may { IfOk ran.new (λ outcome. B.may_end body.now outcome) }
+        ensures may { IfOk run.new.outcome (λ outcome. B.may_end body.now outcome) }
     {
-        run_into::<R, S, K, B>(rt, alloc, body, shape, self.sink, progress, own_stamp, ran);
+        run_into::<R, S, K, B>(rt, alloc, body, shape, self.sink, run);
     }
 }
 
@@ -106,28 +109,28 @@ fn run_into<R: Wait, S: Sink, K: UnitRun, B: Body>(
     body: &B,
     shape: &Shape,
     sink: &mut S,
-    progress: &mut UnitProgress,
-    own_stamp: &mut Option<u64>,
-    ran: &mut Result<Outcome, UnitFault>,
+    run: &mut BodyRun,
 )
     requires frame { frame shape.now ≡ K.frame }
-    requires unit { progress.old.unit ≡ K.keys.unit }
-    requires end { progress.old.end ≡ K.keys.end }
+    requires unit { run.old.progress.unit ≡ K.keys.unit }
+    requires end { run.old.progress.end ≡ K.keys.end }
     requires running { IsRunning K.frame K.keys.unit K.start (S.view sink.old)
-        progress.old.running progress.old.registered progress.old.next }
-    requires played { HasPlayed K.frame.table K.may_end K.keys.first progress.old.next K.start
+        (with_ids K.frame.table run.old.progress.running) run.old.progress.registered
+        run.old.progress.next }
+    requires played { HasPlayed K.frame.table K.may_end K.keys.first run.old.progress.next K.start
         (S.view sink.old) }
+    ensures unit { run.new.progress.unit ≡ K.keys.unit }
+    ensures end { run.new.progress.end ≡ K.keys.end }
     ensures running { IsRunning K.frame K.keys.unit K.start (S.view sink.new)
-        progress.new.running progress.new.registered progress.new.next }
-    ensures played { HasPlayed K.frame.table K.may_end K.keys.first progress.new.next K.start
+        (with_ids K.frame.table run.new.progress.running) run.new.progress.registered
+        run.new.progress.next }
+    ensures played { HasPlayed K.frame.table K.may_end K.keys.first run.new.progress.next K.start
         (S.view sink.new) }
     ensures since { Extends (S.view sink.old) (S.view sink.new) }
-    ensures may { IfOk ran.new (λ outcome. B.may_end body.now outcome) }
+    ensures may { IfOk run.new.outcome (λ outcome. B.may_end body.now outcome) }
 {
     let lease = Lease { sink };
-    let _lease = run_lent::<R, S, Brand, B>(
-        rt, alloc, body, shape, lease, progress, own_stamp, ran,
-    );
+    let _lease = run_lent::<R, S, Brand, B>(rt, alloc, body, shape, lease, run);
 }
 
 // Runs a body into a sink that is lent, and gives the sink back.
@@ -137,36 +140,36 @@ fn run_lent<'a, R: Wait, S: Sink, K: UnitRun, B: Body>(
     body: &B,
     shape: &'a Shape,
     lease: Lease<'a, S>,
-    progress: &mut UnitProgress,
-    own_stamp: &mut Option<u64>,
-    ran: &mut Result<Outcome, UnitFault>,
+    run: &mut BodyRun,
 ) -> Lease<'a, S>
     requires name { lease.sink.ghost_name ≡ K.name }
     requires frame { frame shape.now ≡ K.frame }
-    requires unit { progress.old.unit ≡ K.keys.unit }
-    requires end { progress.old.end ≡ K.keys.end }
+    requires unit { run.old.progress.unit ≡ K.keys.unit }
+    requires end { run.old.progress.end ≡ K.keys.end }
     requires running { IsRunning K.frame K.keys.unit K.start (S.view lease.sink.now)
-        progress.old.running progress.old.registered progress.old.next }
-    requires played { HasPlayed K.frame.table K.may_end K.keys.first progress.old.next K.start
+        (with_ids K.frame.table run.old.progress.running) run.old.progress.registered
+        run.old.progress.next }
+    requires played { HasPlayed K.frame.table K.may_end K.keys.first run.old.progress.next K.start
         (S.view lease.sink.now) }
     requires since { K.since ≡ S.view lease.sink.now }
     ensures name { result.sink.ghost_name ≡ K.name }
+    ensures unit { run.new.progress.unit ≡ K.keys.unit }
+    ensures end { run.new.progress.end ≡ K.keys.end }
     ensures running { IsRunning K.frame K.keys.unit K.start (S.view result.sink.now)
-        progress.new.running progress.new.registered progress.new.next }
-    ensures played { HasPlayed K.frame.table K.may_end K.keys.first progress.new.next K.start
+        (with_ids K.frame.table run.new.progress.running) run.new.progress.registered
+        run.new.progress.next }
+    ensures played { HasPlayed K.frame.table K.may_end K.keys.first run.new.progress.next K.start
         (S.view result.sink.now) }
     ensures since { Extends K.since (S.view result.sink.now) }
-    ensures may { IfOk ran.new (λ outcome. B.may_end body.now outcome) }
+    ensures may { IfOk run.new.outcome (λ outcome. B.may_end body.now outcome) }
 {
-    let begun = mem::replace(progress, UnitProgress::nothing(alloc));
+    let begun = mem::replace(&mut run.progress, UnitProgress::nothing(alloc));
     let mut reporter: Reporter<'a, S, K> = Reporter {
         events: UnitEvents::resume(lease, shape, begun),
-        own_stamp: *own_stamp,
     };
-    *ran = body.run(rt, alloc, &mut reporter);
-    *own_stamp = reporter.own_stamp;
-    let Reporter { events, .. } = reporter;
+    run.outcome = body.run(rt, alloc, &mut reporter);
+    let Reporter { events } = reporter;
     let (lease, left) = events.suspend();
-    *progress = left;
+    run.progress = left;
     lease
 }

@@ -1,6 +1,7 @@
 //! The engine of a plan whose tests have bodies in Rust.
 #![tactic(auto)]
 
+mod ancestors;
 mod engines;
 mod hierarchical;
 pub mod laws;
@@ -9,6 +10,7 @@ mod registered_ids;
 mod reporters;
 mod running_keys;
 mod shapes;
+mod stacks;
 mod tests;
 mod unit_events;
 mod unit_ids;

@@ -22,8 +22,6 @@ use tk_ids::{DType, Segment, Text};
 #[derive(Drop)]
 pub struct Reporter<'a, S: Sink, K: UnitRun> {
     pub(crate) events: UnitEvents<'a, S, K>,
-    // The stamp that the static test that runs has set.
-    pub(crate) own_stamp: Option<u64>,
 }
 
 impl<'a, S: Sink, K: UnitRun> Reporter<'a, S, K> {
@@ -63,7 +61,7 @@ impl<'a, S: Sink, K: UnitRun> Reporter<'a, S, K> {
     {
         let stamp = self.events.stamp();
         let key = self.events.start_child(rt, alloc, child, stamp)?;
-        let outcome = self.events.run_body(rt, alloc, body, &mut self.own_stamp)?;
+        let outcome = self.events.run_body(rt, alloc, body)?;
         self.finish(rt, key, outcome)
     }
 
@@ -72,10 +70,9 @@ impl<'a, S: Sink, K: UnitRun> Reporter<'a, S, K> {
     ///
     /// Until then each event has the stamp of the plan.
     pub fn set_stamp(&mut self, stamp: u64)
-        ensures events { self.new.events ≡ record self.old.events { stamp = stamp } }
-        ensures finish { self.new.own_stamp ≡ Some stamp }
+        ensures { self.new.events
+            ≡ record self.old.events { stamp = stamp; own_stamp = Some stamp } }
     {
-        self.own_stamp = Some(stamp);
         self.events.set_stamp(stamp);
     }
 
@@ -89,7 +86,7 @@ impl<'a, S: Sink, K: UnitRun> Reporter<'a, S, K> {
         ensures ok { OnOk result ((key : ℕ) × Published self.old.events self.new.events
             (event kinds.Reporting key self.old.events.stamp (payloads.Report pairs))) }
         ensures err { OnErr result (self.new.events ≡ self.old.events) }
-        ensures finish { self.new.own_stamp ≡ self.old.own_stamp }
+        ensures finish { self.new.events.own_stamp ≡ self.old.events.own_stamp }
     {
         let stamp = self.events.stamp();
         self.events
@@ -104,7 +101,7 @@ impl<'a, S: Sink, K: UnitRun> Reporter<'a, S, K> {
         ensures ok { OnOk result ((key : ℕ) × Published self.old.events self.new.events
             (event kinds.File key self.old.events.stamp (payloads.Path path))) }
         ensures err { OnErr result (self.new.events ≡ self.old.events) }
-        ensures finish { self.new.own_stamp ≡ self.old.own_stamp }
+        ensures finish { self.new.events.own_stamp ≡ self.old.events.own_stamp }
     {
         let stamp = self.events.stamp();
         self.events
@@ -207,7 +204,7 @@ impl<'a, S: Sink, K: UnitRun> Reporter<'a, S, K> {
               stamp = self.old.events.stamp;
             }) (payloads.Reason reason)) }
         ensures err { OnErr result (Grew self.old.events self.new.events) }
-        ensures finish { self.new.own_stamp ≡ self.old.own_stamp }
+        ensures finish { self.new.events.own_stamp ≡ self.old.events.own_stamp }
     {
         let child = Child {
             segment,

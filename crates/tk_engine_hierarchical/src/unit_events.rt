@@ -1,19 +1,21 @@
 //! What a unit emits.
-ghost use Rattle.std.specs.Prelude.{◌≡◌, ◌<◌, ◌≤◌, ℕ, IfOk, IsTrue, OnErr, OnOk, false, length, true};
+ghost use Rattle.std.specs.Prelude.{◌≡◌, ◌<◌, ◌≤◌, ℕ, IfOk, IsTrue, None, OnErr, OnOk, Some, false, length, true};
 ghost use Rattle.tk_engine_execute.specs.Engines.{Extends, IsSameSender};
 ghost use Rattle.tk_events.specs.declared.kinds.Kind.TheVariants.{Finished};
 ghost use Rattle.tk_engine_hierarchical.specs.Endings.{IsStaticTest, MayFinish};
 ghost use Rattle.tk_engine_hierarchical.specs.Events.{HasRun, IsRunning};
 ghost use Rattle.tk_engine_hierarchical.specs.Reporting.{Grew, HasFinished, HasSkipped, HasStarted, Published, event, publishes};
+ghost use Rattle.tk_engine_hierarchical.specs.Running.{with_ids};
 ghost use Rattle.tk_engine_hierarchical.specs.Shapes.{frame, keys_in};
 ghost use Rattle.tk_engine_hierarchical.specs.Units.{HasPlayed};
 
 use crate::leases::Lease;
 use crate::registered_ids::RegisteredIds;
-use crate::running_keys::{RunningKey, RunningKeys};
+use crate::running_keys::RunningKey;
 use crate::shapes::Shape;
+use crate::stacks::Stack;
 use crate::tests::{Body, OUT_OF_ORDER, Outcome};
-use crate::unit_ids::{end_below, id_to_start, new_child};
+use crate::unit_ids::{end_below, may_start, new_child};
 use crate::unit_runs::UnitRun;
 use std::alloc::Global;
 use std::marker::{Model, PhantomData};
@@ -32,15 +34,17 @@ pub(crate) struct Child<'a> {
 }
 
 /// Where a unit stands: its number, the end of its static keys, which keys run, which ids it has
-/// registered, the next static key, and the stamp of what a body publishes.
+/// registered, the next static key, the stamp of what a body publishes, and the one that the static
+/// test that runs has set.
 #[derive(Drop)]
 pub(crate) struct UnitProgress {
     pub(crate) unit: u32,
     pub(crate) end: u32,
-    pub(crate) running: RunningKeys,
+    pub(crate) running: Stack<RunningKey>,
     pub(crate) registered: RegisteredIds,
     pub(crate) next: u32,
     pub(crate) stamp: u64,
+    pub(crate) own_stamp: Option<u64>,
 }
 
 impl UnitProgress {
@@ -49,12 +53,20 @@ impl UnitProgress {
         UnitProgress {
             unit: 0,
             end: 0,
-            running: RunningKeys::new(alloc),
+            running: Stack::new(alloc),
             registered: RegisteredIds::new(alloc),
             next: 0,
             stamp: 0,
+            own_stamp: None,
         }
     }
+}
+
+/// The run of a body: where the unit stands, and how the body ended.
+#[derive(Drop)]
+pub(crate) struct BodyRun {
+    pub(crate) progress: UnitProgress,
+    pub(crate) outcome: Result<Outcome, UnitFault>,
 }
 
 /// What a unit has emitted, which keeps the lifecycle. Contracts see the sink, and which keys run.
@@ -62,20 +74,16 @@ impl UnitProgress {
 pub(crate) struct UnitEvents<'a, S: Sink, K: UnitRun> {
     lease: Lease<'a, S>,
     shape: &'a Shape,
-    unit: u32,
-    end: u32,
-    running: RunningKeys,
-    registered: RegisteredIds,
-    next: u32,
-    stamp: u64,
+    progress: UnitProgress,
     of: PhantomData<K>,
 }
 
 impl<'a, S: Sink, K: UnitRun> Model for UnitEvents<'a, S, K> {
     ghost use Rattle.std.specs.Prelude.{◌≡◌};
     ghost use Rattle.tk_engine_execute.specs.Engines.{Extends};
-    ghost use Rattle.tk_engine_hierarchical.specs.Events.{IsRunning, keys_of};
+    ghost use Rattle.tk_engine_hierarchical.specs.Events.{IsRunning};
     ghost use Rattle.tk_engine_hierarchical.specs.Reporting.{UnitView};
+    ghost use Rattle.tk_engine_hierarchical.specs.Running.{keys_of, with_ids};
     ghost use Rattle.tk_engine_hierarchical.specs.Shapes.{frame};
     ghost use Rattle.tk_engine_hierarchical.specs.Units.{HasPlayed};
 
@@ -83,17 +91,18 @@ impl<'a, S: Sink, K: UnitRun> Model for UnitEvents<'a, S, K> {
 
     ghost view = { λ e. record {
       sink = S.view e.lease.sink.now;
-      running = keys_of e.running;
-      stamp = e.stamp;
+      running = keys_of (with_ids K.frame.table e.progress.running);
+      stamp = e.progress.stamp;
+      own_stamp = e.progress.own_stamp;
     } };
 
     ghost invariant = { λ e. (e.lease.sink.ghost_name ≡ K.name)
         × (frame e.shape.now ≡ K.frame)
-        × (e.unit ≡ K.keys.unit)
-        × (e.end ≡ K.keys.end)
-        × IsRunning K.frame K.keys.unit K.start (S.view e.lease.sink.now) e.running e.registered
-        e.next
-        × HasPlayed K.frame.table K.may_end K.keys.first e.next K.start
+        × (e.progress.unit ≡ K.keys.unit)
+        × (e.progress.end ≡ K.keys.end)
+        × IsRunning K.frame K.keys.unit K.start (S.view e.lease.sink.now)
+        (with_ids K.frame.table e.progress.running) e.progress.registered e.progress.next
+        × HasPlayed K.frame.table K.may_end K.keys.first e.progress.next K.start
         (S.view e.lease.sink.now)
         × Extends K.since (S.view e.lease.sink.now) };
 }
@@ -116,15 +125,19 @@ impl<'a, S: Sink, K: UnitRun> UnitEvents<'a, S, K> {
     {
         shape.shows_shape();
         let (next, end) = shape.keys_of(unit);
-        UnitEvents {
-            lease,
-            shape,
+        let progress = UnitProgress {
             unit,
             end,
-            running: RunningKeys::new(alloc),
+            running: Stack::new(alloc),
             registered: RegisteredIds::new(alloc),
             next,
             stamp: 0,
+            own_stamp: None,
+        };
+        UnitEvents {
+            lease,
+            shape,
+            progress,
             of: PhantomData,
         }
     }
@@ -140,28 +153,15 @@ impl<'a, S: Sink, K: UnitRun> UnitEvents<'a, S, K> {
         requires unit { progress.unit ≡ K.keys.unit }
         requires end { progress.end ≡ K.keys.end }
         requires running { IsRunning K.frame K.keys.unit K.start (S.view lease.sink.now)
-            progress.running progress.registered progress.next }
+            (with_ids K.frame.table progress.running) progress.registered progress.next }
         requires played { HasPlayed K.frame.table K.may_end K.keys.first progress.next K.start
             (S.view lease.sink.now) }
         requires since { K.since ≡ S.view lease.sink.now }
     {
-        let UnitProgress {
-            unit,
-            end,
-            running,
-            registered,
-            next,
-            stamp,
-        } = progress;
         UnitEvents {
             lease,
             shape,
-            unit,
-            end,
-            running,
-            registered,
-            next,
-            stamp,
+            progress,
             of: PhantomData,
         }
     }
@@ -169,30 +169,19 @@ impl<'a, S: Sink, K: UnitRun> UnitEvents<'a, S, K> {
     /// Gives the sink back, and where the unit stands.
     pub(crate) fn suspend(self) -> (Lease<'a, S>, UnitProgress)
         ensures name { result.0.sink.ghost_name ≡ K.name }
+        ensures unit { result.1.unit ≡ K.keys.unit }
+        ensures end { result.1.end ≡ K.keys.end }
         ensures running { IsRunning K.frame K.keys.unit K.start (S.view result.0.sink.now)
-            result.1.running result.1.registered result.1.next }
+            (with_ids K.frame.table result.1.running) result.1.registered result.1.next }
         ensures played { HasPlayed K.frame.table K.may_end K.keys.first result.1.next K.start
             (S.view result.0.sink.now) }
         ensures since { Extends K.since (S.view result.0.sink.now) }
     {
         let UnitEvents {
             lease,
-            unit,
-            end,
-            running,
-            registered,
-            next,
-            stamp,
+            progress,
             ..
         } = self;
-        let progress = UnitProgress {
-            unit,
-            end,
-            running,
-            registered,
-            next,
-            stamp,
-        };
         (lease, progress)
     }
 
@@ -202,41 +191,19 @@ impl<'a, S: Sink, K: UnitRun> UnitEvents<'a, S, K> {
         rt: &R,
         alloc: Global,
         body: &B,
-        own_stamp: &mut Option<u64>,
     ) -> Result<Outcome, UnitFault>
         ensures may { IfOk result (λ outcome. B.may_end body.now outcome) }
         ensures more { Extends self.old.sink self.new.sink }
     {
-        let mut progress = UnitProgress {
-            unit: self.unit,
-            end: self.end,
-            running: mem::replace(&mut self.running, RunningKeys::new(alloc)),
-            registered: mem::replace(&mut self.registered, RegisteredIds::new(alloc)),
-            next: self.next,
-            stamp: self.stamp,
+        let mut run = BodyRun {
+            progress: mem::replace(&mut self.progress, UnitProgress::nothing(alloc)),
+            outcome: Ok(Outcome::Successful),
         };
-        let mut ran = Ok(Outcome::Successful);
-        self.lease.run_body::<R, K, B>(
-            rt,
-            alloc,
-            body,
-            self.shape,
-            &mut progress,
-            own_stamp,
-            &mut ran,
-        );
-        let UnitProgress {
-            running,
-            registered,
-            next,
-            stamp,
-            ..
-        } = progress;
-        self.running = running;
-        self.registered = registered;
-        self.next = next;
-        self.stamp = stamp;
-        ran
+        self.lease
+            .run_body::<R, K, B>(rt, alloc, body, self.shape, &mut run);
+        let BodyRun { progress, outcome } = run;
+        self.progress = progress;
+        outcome
     }
 
     /// Gives the sink back, and says whether no key runs, and whether each static one had its turn.
@@ -247,8 +214,8 @@ impl<'a, S: Sink, K: UnitRun> UnitEvents<'a, S, K> {
         ensures run { IsTrue result.1 → IsTrue result.2
             → HasRun K.frame K.may_end K.keys K.start (S.view result.0.sink.now) }
     {
-        let rests = self.running.innermost().is_none();
-        let had_turns = self.end <= self.next;
+        let rests = self.progress.running.top().is_none();
+        let had_turns = self.progress.end <= self.progress.next;
         let UnitEvents { lease, .. } = self;
         (lease, rests, had_turns)
     }
@@ -263,7 +230,7 @@ impl<'a, S: Sink, K: UnitRun> UnitEvents<'a, S, K> {
 
     /// The innermost running key.
     pub(crate) fn innermost(&self) -> Option<u32> {
-        Some(self.running.innermost()?.key)
+        Some(self.progress.running.top()?.key)
     }
 
     /// Whether the key is that of a static test.
@@ -276,18 +243,35 @@ impl<'a, S: Sink, K: UnitRun> UnitEvents<'a, S, K> {
         }
     }
 
-    /// Sets the stamp of the events that a body publishes.
-    pub(crate) fn set_stamp(&mut self, stamp: u64)
-        ensures { self.new ≡ record self.old { stamp = stamp } }
+    /// Sets the stamp of the events that a body publishes, until it sets its own.
+    pub(crate) fn set_planned_stamp(&mut self, stamp: u64)
+        ensures { self.new ≡ record self.old { stamp = stamp; own_stamp = None } }
     {
-        self.stamp = stamp;
+        self.progress.stamp = stamp;
+        self.progress.own_stamp = None;
+    }
+
+    /// Sets the stamp of the events that bodies publish from now on, as the one of the static test
+    /// that runs.
+    pub(crate) fn set_stamp(&mut self, stamp: u64)
+        ensures { self.new ≡ record self.old { stamp = stamp; own_stamp = Some stamp } }
+    {
+        self.progress.stamp = stamp;
+        self.progress.own_stamp = Some(stamp);
     }
 
     /// The stamp of the events that a body publishes.
     pub(crate) fn stamp(&self) -> u64
         ensures { result ≡ self.now.stamp }
     {
-        self.stamp
+        self.progress.stamp
+    }
+
+    /// The stamp that the static test that runs has set.
+    pub(crate) fn own_stamp(&self) -> Option<u64>
+        ensures { result ≡ self.now.own_stamp }
+    {
+        self.progress.own_stamp
     }
 
     /// Starts the next static descriptor, below the innermost running key.
@@ -301,13 +285,16 @@ impl<'a, S: Sink, K: UnitRun> UnitEvents<'a, S, K> {
         let Some(next) = key.checked_add(1) else {
             return Err(UnitFault::Own(OUT_OF_ORDER));
         };
-        if key != self.next {
+        if key != self.progress.next {
             return Err(UnitFault::Own(OUT_OF_ORDER));
         }
-        let Some(id) = id_to_start(self.shape, self.unit, &self.running, key)? else {
+        if !may_start(self.shape, self.progress.unit, &self.progress.running, key) {
             return Err(UnitFault::Own(OUT_OF_ORDER));
-        };
-        self.running.push(RunningKey { key, id })?;
+        }
+        self.progress.running.push(RunningKey {
+            key,
+            dynamic_id: None,
+        })?;
         let event = Event {
             kind: Kind::Started,
             key,
@@ -316,11 +303,11 @@ impl<'a, S: Sink, K: UnitRun> UnitEvents<'a, S, K> {
         };
         match self.lease.emit(rt, event) {
             Ok(()) => {
-                self.next = next;
+                self.progress.next = next;
                 Ok(())
             }
             Err(fault) => {
-                let _started = self.running.pop();
+                let _started = self.progress.running.pop();
                 Err(fault)
             }
         }
@@ -335,13 +322,17 @@ impl<'a, S: Sink, K: UnitRun> UnitEvents<'a, S, K> {
         stamp: u64,
         reason: Payload,
     ) -> Result<(), UnitFault> {
-        if key != self.next {
+        if key != self.progress.next {
             return Err(UnitFault::Own(OUT_OF_ORDER));
         }
-        let Some(id) = id_to_start(self.shape, self.unit, &self.running, key)? else {
+        let shape = self.shape;
+        let Some(descriptor) = shape.table().get(key) else {
             return Err(UnitFault::Own(OUT_OF_ORDER));
         };
-        let next = end_below(self.shape.table(), &id, key);
+        if !may_start(shape, self.progress.unit, &self.progress.running, key) {
+            return Err(UnitFault::Own(OUT_OF_ORDER));
+        }
+        let next = end_below(shape.table(), &descriptor.id, key);
         let event = Event {
             kind: Kind::Skipped,
             key,
@@ -349,7 +340,7 @@ impl<'a, S: Sink, K: UnitRun> UnitEvents<'a, S, K> {
             payload: reason,
         };
         self.lease.emit(rt, event)?;
-        self.next = next;
+        self.progress.next = next;
         Ok(())
     }
 
@@ -365,8 +356,9 @@ impl<'a, S: Sink, K: UnitRun> UnitEvents<'a, S, K> {
         ensures ok { OnOk result ((key : ℕ)
             × Published self.old self.new (event kind key stamp payload)) }
         ensures err { OnErr result (self.new ≡ self.old) }
+        ensures own_stamp { self.new.own_stamp ≡ self.old.own_stamp }
     {
-        let Some(innermost) = self.running.innermost() else {
+        let Some(innermost) = self.progress.running.top() else {
             return Err(UnitFault::Own(OUT_OF_ORDER));
         };
         let event = Event {
@@ -391,7 +383,7 @@ impl<'a, S: Sink, K: UnitRun> UnitEvents<'a, S, K> {
             (HasFinished self.old self.new (event Finished key stamp outcome)) }
         ensures err { OnErr result (self.new ≡ self.old) }
     {
-        let Some(innermost) = self.running.innermost() else {
+        let Some(innermost) = self.progress.running.top() else {
             return Err(UnitFault::Own(OUT_OF_ORDER));
         };
         if innermost.key != key {
@@ -404,7 +396,7 @@ impl<'a, S: Sink, K: UnitRun> UnitEvents<'a, S, K> {
             payload: outcome,
         };
         self.lease.emit(rt, event)?;
-        let _finished = self.running.pop();
+        let _finished = self.progress.running.pop();
         Ok(())
     }
 
@@ -426,22 +418,25 @@ impl<'a, S: Sink, K: UnitRun> UnitEvents<'a, S, K> {
               stamp = stamp;
             }) key) }
     {
-        let Some(innermost) = self.running.innermost() else {
+        let Some(innermost) = self.progress.running.top() else {
             return Err(UnitFault::Own(OUT_OF_ORDER));
         };
         let above = innermost.key;
         let id = new_child(
             alloc,
             self.shape,
-            &self.registered,
+            &self.progress.registered,
             innermost,
             child.segment,
         )?;
-        self.registered.add(&id)?;
+        self.progress.registered.add(&id)?;
         let key = self
             .lease
             .register(rt, above, child.segment, child.name, child.dtype, stamp)?;
-        self.running.push(RunningKey { key, id })?;
+        self.progress.running.push(RunningKey {
+            key,
+            dynamic_id: Some(id),
+        })?;
         let event = Event {
             kind: Kind::Started,
             key,
@@ -451,7 +446,7 @@ impl<'a, S: Sink, K: UnitRun> UnitEvents<'a, S, K> {
         match self.lease.emit(rt, event) {
             Ok(()) => Ok(key),
             Err(fault) => {
-                let _started = self.running.pop();
+                let _started = self.progress.running.pop();
                 Err(fault)
             }
         }
@@ -475,19 +470,20 @@ impl<'a, S: Sink, K: UnitRun> UnitEvents<'a, S, K> {
               stamp = stamp;
             }) reason) }
         ensures err { OnErr result (Grew self.old self.new) }
+        ensures own_stamp { self.new.own_stamp ≡ self.old.own_stamp }
     {
-        let Some(innermost) = self.running.innermost() else {
+        let Some(innermost) = self.progress.running.top() else {
             return Err(UnitFault::Own(OUT_OF_ORDER));
         };
         let above = innermost.key;
         let id = new_child(
             alloc,
             self.shape,
-            &self.registered,
+            &self.progress.registered,
             innermost,
             child.segment,
         )?;
-        self.registered.add(&id)?;
+        self.progress.registered.add(&id)?;
         let key = self
             .lease
             .register(rt, above, child.segment, child.name, child.dtype, stamp)?;

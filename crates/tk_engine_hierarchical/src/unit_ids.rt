@@ -1,103 +1,62 @@
-//! The ids of what a unit may start or skip.
-ghost use Rattle.std.specs.Prelude.{◌≡◌, ◌<◌, ◌++◌, ◌∷◌, ℕ, [], IfOk, IfSome, IsTrue, Some, false, length, slice_get, take};
-ghost use Rattle.tk_ids.specs.IdText.{id_text, parent_of};
+//! What a unit may start or skip, by ids.
+ghost use Rattle.std.specs.Prelude.{◌≡◌, ◌<◌, ◌≤◌, ◌++◌, ◌∷◌, ℕ, [], IfOk, IfSome, IsTrue, Some, false, length, slice_get};
+ghost use Rattle.tk_ids.specs.IdText.{id_text};
 ghost use Rattle.tk_ids.specs.Table.{HasId as TableHasId, ids_of};
-ghost use Rattle.tk_engine_hierarchical.specs.Covered.{IsBelow, IsKeyBelow};
-ghost use Rattle.tk_engine_hierarchical.specs.Events.{HasInnermostParent, HasParentAmong, MayStart, keys_of};
+ghost use Rattle.tk_engine_hierarchical.specs.Covered.{IsKeyBelow};
+ghost use Rattle.tk_engine_hierarchical.specs.Events.{HasInnermostParent, HasParentAmong, MayStart};
 ghost use Rattle.tk_engine_hierarchical.specs.RegisteredIds.{is_registered};
+ghost use Rattle.tk_engine_hierarchical.specs.Running.{keys_of, with_id, with_ids};
 ghost use Rattle.tk_engine_hierarchical.specs.Shapes.{frame};
 
+use crate::ancestors::is_below;
 use crate::registered_ids::RegisteredIds;
-use crate::running_keys::{RunningKey, RunningKeys};
+use crate::running_keys::{RunningKey, running_id};
 use crate::shapes::Shape;
-use crate::tests::TWICE;
-use std::alloc::{AllocError, Global};
+use crate::stacks::Stack;
+use crate::tests::{OUT_OF_ORDER, TWICE};
+use std::alloc::Global;
 use tk_engine_execute::{SinkFault, UnitFault};
 use tk_ids::{IdFault, Segment, Table, UniqueId};
 use tk_queue::RegisterFault;
 
-// Whether two segments have the same tag and the same value.
-fn is_same(a: &Segment, b: &Segment) -> bool
-    ensures { IsTrue result → a.now ≡ b.now }
+// Whether an id is a root's, while no key runs.
+fn starts_root(running: &Stack<RunningKey>, id: &UniqueId) -> bool
+    ensures root { IsTrue result → length id.now ≤ 1 }
+    ensures rests { IsTrue result → running.now ≡ [] }
 {
-    a.tag() == b.tag() && a.value() == b.value()
-}
-
-// Whether an id begins with the segments of another.
-fn begins_with(id: &UniqueId, above: &UniqueId) -> bool
-    ensures { IsTrue result → take (length above.now) id.now ≡ above.now }
-{
-    let outer = above.segments();
-    let inner = id.segments();
-    if inner.len() < outer.len() {
-        return false;
-    }
-    for index in 0..outer.len() {
-        if !is_same(&outer[index], &inner[index]) {
-            return false;
-        }
-    }
-    true
-}
-
-// Whether an id is another without its last segment.
-fn is_parent(above: &UniqueId, id: &UniqueId) -> bool
-    ensures { IsTrue result → above.now ≡ parent_of id.now }
-{
-    id.segments().len() == above.segments().len() + 1 && begins_with(id, above)
-}
-
-// Whether an id stands below another.
-fn is_below(above: &UniqueId, id: &UniqueId) -> bool
-    ensures { IsTrue result → IsBelow above.now id.now }
-{
-    above.segments().len() < id.segments().len() && begins_with(id, above)
+    running.top().is_none() && id.segments().len() <= 1
 }
 
 // Whether the parent of a static key, which has this id, is the innermost key that runs, or no key
-// runs and it runs before the units, or the id has none.
-fn has_running_parent(shape: &Shape, running: &RunningKeys, key: u32, id: &UniqueId) -> bool
-    ensures among { IsTrue result
-        → HasParentAmong (frame shape.now) (keys_of running.now) id.now }
-    ensures innermost { IsTrue result
-        → HasInnermostParent (frame shape.now) (keys_of running.now) id.now }
+// runs and it runs before the units. The first key has none.
+fn has_running_parent(shape: &Shape, running: &Stack<RunningKey>, key: u32, id: &UniqueId) -> bool
+    requires { slice_get (ids_of shape.now.table) key ≡ Some id.now }
+    ensures among { IsTrue result → HasParentAmong (frame shape.now)
+        (keys_of (with_ids shape.now.table running.now)) id.now }
+    ensures innermost { IsTrue result → HasInnermostParent (frame shape.now)
+        (keys_of (with_ids shape.now.table running.now)) id.now }
 {
-    if id.segments().len() <= 1 {
-        return running.innermost().is_none();
+    if key == 0 {
+        return starts_root(running, id);
     }
     let above = shape.key_above(key);
-    let Some(parent) = shape.table().get(above) else {
-        return false;
-    };
-    if !is_parent(&parent.id, id) {
-        return false;
-    }
-    match running.innermost() {
+    match running.top() {
         Some(innermost) => innermost.key == above,
         None => shape.runs_before(above),
     }
 }
 
-/// The id of a static key, where the key may start or be skipped.
-pub(crate) fn id_to_start(
-    shape: &Shape,
-    unit: u32,
-    running: &RunningKeys,
-    key: u32,
-) -> Result<Option<UniqueId>, AllocError>
-    ensures { IfOk result (λ found. IfSome found (λ id.
-        MayStart (frame shape.now) unit (keys_of running.now) key
-        × (slice_get (ids_of shape.now.table) key ≡ Some id))) }
+/// Whether a static key may start or be skipped.
+pub(crate) fn may_start(shape: &Shape, unit: u32, running: &Stack<RunningKey>, key: u32) -> bool
+    ensures { IsTrue result → MayStart (frame shape.now) unit
+        (keys_of (with_ids shape.now.table running.now)) key }
 {
     let Some(descriptor) = shape.table().get(key) else {
-        return Ok(None);
+        return false;
     };
     // For the proof: no two descriptors have one id.
     shape.shows_shape();
-    if shape.owner(key) != unit || !has_running_parent(shape, running, key, &descriptor.id) {
-        return Ok(None);
-    }
-    Ok(Some(descriptor.id.try_clone()?))
+    shape.owner(key) == unit && has_running_parent(shape, running, key, &descriptor.id)
 }
 
 /// The id of a new child of a running key.
@@ -108,12 +67,16 @@ pub(crate) fn new_child(
     parent: &RunningKey,
     segment: &Segment,
 ) -> Result<UniqueId, UnitFault>
-    ensures id { IfOk result (λ id. id ≡ parent.now.id ++ segment.now ∷ []) }
+    ensures id { IfOk result (λ id.
+        id ≡ (with_id shape.now.table parent.now).id ++ segment.now ∷ []) }
     ensures not_static { IfOk result (λ id. ¬ TableHasId shape.now.table id) }
     ensures not_registered { IfOk result (λ id.
         is_registered registered.now (id_text id) ≡ false) }
 {
-    let id = match parent.id.append(alloc, segment) {
+    let Some(above) = running_id(shape, parent) else {
+        return Err(UnitFault::Own(OUT_OF_ORDER));
+    };
+    let id = match above.append(alloc, segment) {
         Ok(id) => id,
         Err(IdFault::Memory) => return Err(UnitFault::Memory),
         Err(fault) => {

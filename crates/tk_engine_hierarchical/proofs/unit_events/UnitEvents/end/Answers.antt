@@ -1,10 +1,12 @@
-use Rattle.std.proofs.Common.{◌≤◌, subst, arith, tests}
+use Rattle.std.proofs.Common.{◌≤◌, ap, subst, arith, tests}
+use Rattle.tk_engine_hierarchical.specs.Running.{with_ids}
 use Rattle.tk_engine_hierarchical.proofs.Running.{at_none, ran_all}
 use Rattle.tk_engine_hierarchical.proofs.unit_events.UnitEvents.end.Goals as goal
 
 pub returns-clause-run : goal.returns-clause-run
 returns-clause-run g c = λ rests over.
-    let past : c.self.inside.end ≤ c.self.inside.next = grind (arith, tests, over) in
-    ran_all g.K.UnitRun.frame g.K.UnitRun.may_end g.K.UnitRun.keys g.K.UnitRun.start _ c.self.inside.running c.self.inside.registered c.self.inside.next c.self.invariant.4 c.self.invariant.5
-    (at_none c.innermost.result c.is_none-rests.result _ c.is_none-rests.ensures c.innermost.ensures.none rests)
-    (subst (λ n. n ≤ c.self.inside.next) c.self.invariant.3 past)
+    let t = g.K.UnitRun.frame.table in
+    let past : c.self.inside.progress.end ≤ c.self.inside.progress.next = grind (arith, tests, over) in
+    ran_all g.K.UnitRun.frame g.K.UnitRun.may_end g.K.UnitRun.keys g.K.UnitRun.start _ (with_ids t c.self.inside.progress.running) c.self.inside.progress.registered c.self.inside.progress.next c.self.invariant.4 c.self.invariant.5
+    (ap (with_ids t) (at_none c.top.result c.is_none-rests.result _ c.is_none-rests.ensures c.top.ensures.none rests))
+    (subst (λ n. n ≤ c.self.inside.progress.next) c.self.invariant.3 past)

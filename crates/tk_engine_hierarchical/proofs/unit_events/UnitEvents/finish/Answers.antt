@@ -1,5 +1,6 @@
-use Rattle.std.proofs.Common.{refl, sym, subst, ◌∙◌}
+use Rattle.std.proofs.Common.{ap, refl, sym, subst, ◌∙◌}
 use Rattle.tk_engine_hierarchical.specs.Events.{IsRunning}
+use Rattle.tk_engine_hierarchical.specs.Running.{with_id, with_ids}
 use Rattle.tk_engine_hierarchical.specs.Units.{HasPlayed}
 use Rattle.tk_engine_hierarchical.proofs.Played.{played_more}
 use Rattle.tk_engine_hierarchical.proofs.Running.{popped, ran_finish}
@@ -12,14 +13,15 @@ invariant_of-self-2 g c =
     let i = c.self.invariant in
     let first = c.in-Some.innermost.now in
     let rest = c.in-Some.ensures.some.0 in
-    let left = popped c.self.inside.running c.pop-finished.new.self rest first c.pop-finished.result c.in-Some.ensures.some.1 c.pop-finished.ensures.some c.pop-finished.ensures.none in (
+    let t = g.K.UnitRun.frame.table in
+    let left = popped c.self.inside.progress.running c.pop-finished.new.self rest first c.pop-finished.result c.in-Some.ensures.some.1 c.pop-finished.ensures.some c.pop-finished.ensures.none in (
       c.emit.ensures.same ∙ i.0,
       i.1,
       i.2,
       i.3,
-      subst (λ s. IsRunning g.K.UnitRun.frame g.K.UnitRun.keys.unit g.K.UnitRun.start s c.pop-finished.new.self c.self.inside.registered c.self.inside.next) (sym c.in_ok-emit.ensures.ok)
-          (ran_finish _ _ _ _ _ _ _ _ first _ i.4 left refl (sym c.if-innermost-key.false)),
-      subst (λ s. HasPlayed g.K.UnitRun.frame.table g.K.UnitRun.may_end g.K.UnitRun.keys.first c.self.inside.next g.K.UnitRun.start s) (sym c.in_ok-emit.ensures.ok)
-          (played_more g.K.UnitRun.frame.table g.K.UnitRun.may_end g.K.UnitRun.keys.first g.K.UnitRun.start _ c.self.inside.next _ i.5 (λ f. c.requires)),
+      subst (λ s. IsRunning g.K.UnitRun.frame g.K.UnitRun.keys.unit g.K.UnitRun.start s (with_ids t c.pop-finished.new.self) c.self.inside.progress.registered c.self.inside.progress.next) (sym c.in_ok-emit.ensures.ok)
+          (ran_finish _ _ _ _ _ (with_ids t c.pop-finished.new.self) _ _ (with_id t first) _ i.4 (ap (with_ids t) left) refl (sym c.if-innermost-key.false)),
+      subst (λ s. HasPlayed g.K.UnitRun.frame.table g.K.UnitRun.may_end g.K.UnitRun.keys.first c.self.inside.progress.next g.K.UnitRun.start s) (sym c.in_ok-emit.ensures.ok)
+          (played_more g.K.UnitRun.frame.table g.K.UnitRun.may_end g.K.UnitRun.keys.first g.K.UnitRun.start _ c.self.inside.progress.next _ i.5 (λ f. c.requires)),
       subst (λ s. Extends g.K.UnitRun.since s) (sym c.in_ok-emit.ensures.ok) (extends_more _ _ _ i.6),
     )

@@ -1,6 +1,7 @@
-use Rattle.std.proofs.Common.{refl, sym, subst, ◌∙◌, arith}
+use Rattle.std.proofs.Common.{ap, refl, sym, subst, ◌∙◌, arith}
+use Rattle.tk_engine_hierarchical.specs.Running.{keys_of, id_at, with_ids}
 use Rattle.tk_engine_hierarchical.proofs.Played.{played_start}
-use Rattle.tk_engine_hierarchical.proofs.Running.{found_id, id_here, may_here, started}
+use Rattle.tk_engine_hierarchical.proofs.Running.{may_here, started, static_is}
 use Rattle.tk_engine_execute.specs.Engines.{Extends}
 use Rattle.tk_engine_hierarchical.proofs.Reported.{extends_more}
 use Rattle.tk_engine_hierarchical.proofs.unit_events.UnitEvents.start.Goals as goal
@@ -8,15 +9,18 @@ use Rattle.tk_engine_hierarchical.proofs.unit_events.UnitEvents.start.Goals as g
 pub invariant_of-self-in-Ok : goal.invariant_of-self-in-Ok
 invariant_of-self-in-Ok g c =
     let i = c.self.invariant in
-    let m = found_id _ c.in-Some-2.id _ c.in-Some-2.is c.in_ok-id.ensures in (
+    let f = g.K.UnitRun.frame in
+    let t = f.table in
+    let p = c.self.inside.progress in
+    let may = may_here c.self.inside.shape.now f p.unit g.K.UnitRun.keys.unit c.args.key p.running i.1 i.2 (c.may_start.ensures c.if-not-may_start.false) in (
       c.emit.ensures.same ∙ i.0,
       i.1,
       i.2,
       i.3,
-      started g.K.UnitRun.frame g.K.UnitRun.keys.unit g.K.UnitRun.start _ _ c.self.inside.running c.push.new.self c.self.inside.registered c.self.inside.next c.in-Some.next c.args.key c.in-Some-2.id _
-          c.in-Ok.ensures.ok c.in_ok-push.ensures.ok c.in-Some.ensures.1 refl refl i.4
-          (may_here c.self.inside.shape.now g.K.UnitRun.frame c.self.inside.unit g.K.UnitRun.keys.unit c.args.key c.self.inside.running i.1 i.2 m.0) (omega (arith, c.if-key-self.false))
-          (id_here c.self.inside.shape.now g.K.UnitRun.frame c.args.key c.in-Some-2.id i.1 m.1),
-      played_start g.K.UnitRun.frame.table g.K.UnitRun.may_end g.K.UnitRun.keys.first g.K.UnitRun.start _ _ c.self.inside.next c.in-Some.next c.args.key _ c.in-Ok.ensures.ok c.in-Some.ensures.1 c.if-key-self.false refl refl i.5,
+      started f g.K.UnitRun.keys.unit g.K.UnitRun.start _ _ (with_ids t p.running) (with_ids t c.push.new.self) p.registered p.next c.in-Some.next c.args.key (id_at t c.args.key) _
+          c.in-Ok.ensures.ok (ap (with_ids t) c.in_ok-push.ensures.ok) c.in-Some.ensures.1 refl refl i.4
+          may (omega (arith, c.if-key-self.false))
+          (static_is f g.K.UnitRun.keys.unit c.args.key (keys_of (with_ids t p.running)) may),
+      played_start t g.K.UnitRun.may_end g.K.UnitRun.keys.first g.K.UnitRun.start _ _ p.next c.in-Some.next c.args.key _ c.in-Ok.ensures.ok c.in-Some.ensures.1 c.if-key-self.false refl refl i.5,
       subst (λ s. Extends g.K.UnitRun.since s) (sym c.in-Ok.ensures.ok) (extends_more _ _ _ i.6),
     )

@@ -1,11 +1,13 @@
-use Rattle.std.proofs.Common.{ap, refl, sym, subst, ◌∙◌}
+use Rattle.std.proofs.Common.{List, ap, refl, sym, subst, ◌∙◌}
 use Rattle.tk_events.specs.declared.kinds.Kind.TheVariants.{Started}
-use Rattle.tk_engine_hierarchical.specs.Events.{IsRunning, keys_of}
+use Rattle.tk_engine_hierarchical.specs.Events.{IsRunning}
 use Rattle.tk_engine_hierarchical.specs.Reporting.{UnitView}
+use Rattle.tk_engine_hierarchical.specs.Running.{keys_of, with_id, with_ids}
+use Rattle.tk_engine_hierarchical.specs.declared.running_keys.RunningKey.{RunningKey}
 use Rattle.tk_engine_hierarchical.specs.Units.{HasPlayed}
 use Rattle.tk_engine_hierarchical.proofs.Played.{played_plain, played_registration, started_is_not}
 use Rattle.tk_engine_hierarchical.proofs.Reported.{extends_child, extends_more, started_child}
-use Rattle.tk_engine_hierarchical.proofs.Running.{child_off, ran_child, ran_noted, ran_registered, registered_child}
+use Rattle.tk_engine_hierarchical.proofs.Running.{child_off, ran_child, ran_noted, ran_registered, registered_below}
 use Rattle.tk_engine_execute.specs.Engines.{Extends}
 use Rattle.tk_engine_hierarchical.proofs.unit_events.UnitEvents.start_child.Goals as goal
 
@@ -16,9 +18,9 @@ invariant_of-self-in_err-key g c =
       i.1,
       i.2,
       i.3,
-      subst (λ s. IsRunning g.K.UnitRun.frame g.K.UnitRun.keys.unit g.K.UnitRun.start s c.self.inside.running c.add.new.self c.self.inside.next) (sym c.in_err-key.ensures.err)
-          (ran_noted g.K.UnitRun.frame g.K.UnitRun.keys.unit g.K.UnitRun.start _ c.self.inside.running c.self.inside.registered c.add.new.self c.self.inside.next _ c.in_ok-add.ensures.ok i.4),
-      subst (λ s. HasPlayed g.K.UnitRun.frame.table g.K.UnitRun.may_end g.K.UnitRun.keys.first c.self.inside.next g.K.UnitRun.start s) (sym c.in_err-key.ensures.err) i.5,
+      subst (λ s. IsRunning g.K.UnitRun.frame g.K.UnitRun.keys.unit g.K.UnitRun.start s (with_ids g.K.UnitRun.frame.table c.self.inside.progress.running) c.add.new.self c.self.inside.progress.next) (sym c.in_err-key.ensures.err)
+          (ran_noted g.K.UnitRun.frame g.K.UnitRun.keys.unit g.K.UnitRun.start _ (with_ids g.K.UnitRun.frame.table c.self.inside.progress.running) c.self.inside.progress.registered c.add.new.self c.self.inside.progress.next _ c.in_ok-add.ensures.ok i.4),
+      subst (λ s. HasPlayed g.K.UnitRun.frame.table g.K.UnitRun.may_end g.K.UnitRun.keys.first c.self.inside.progress.next g.K.UnitRun.start s) (sym c.in_err-key.ensures.err) i.5,
       subst (λ s. Extends g.K.UnitRun.since s) (sym c.in_err-key.ensures.err) i.6,
     )
 
@@ -29,11 +31,11 @@ invariant_of-self-in_err-push g c =
       i.1,
       i.2,
       i.3,
-      subst (λ l. IsRunning g.K.UnitRun.frame g.K.UnitRun.keys.unit g.K.UnitRun.start (g.S.Sink.view c.register.new.self.sink.now) l c.add.new.self c.self.inside.next) (sym c.in_err-push.ensures.err)
-          (ran_registered g.K.UnitRun.frame g.K.UnitRun.keys.unit g.K.UnitRun.start _ c.self.inside.running c.add.new.self c.self.inside.next c.in_ok-key.key _
-          (registered_child c.self.inside.shape.now g.K.UnitRun.frame g.K.UnitRun.keys.unit g.K.UnitRun.start _ _ c.self.inside.running _ c.self.inside.registered c.add.new.self c.self.inside.next c.in_ok-key.key c.in-Some.innermost.now _ _ i.1 i.4
+      subst (λ (l : List RunningKey). IsRunning g.K.UnitRun.frame g.K.UnitRun.keys.unit g.K.UnitRun.start (g.S.Sink.view c.register.new.self.sink.now) (with_ids g.K.UnitRun.frame.table l) c.add.new.self c.self.inside.progress.next) (sym c.in_err-push.ensures.err)
+          (ran_registered g.K.UnitRun.frame g.K.UnitRun.keys.unit g.K.UnitRun.start _ (with_ids g.K.UnitRun.frame.table c.self.inside.progress.running) c.add.new.self c.self.inside.progress.next c.in_ok-key.key _
+          (registered_below c.self.inside.shape.now g.K.UnitRun.frame g.K.UnitRun.keys.unit g.K.UnitRun.start _ _ c.self.inside.progress.running _ c.self.inside.progress.registered c.add.new.self c.self.inside.progress.next c.in_ok-key.key c.in-Some.innermost.now _ _ i.1 i.4
           c.in-Some.ensures.some.1 c.in_ok-key.ensures.ok refl c.in_ok-id.ensures.id c.in_ok-id.ensures.not_static c.in_ok-id.ensures.not_registered c.in_ok-add.ensures.ok)),
-      played_registration g.K.UnitRun.frame.table g.K.UnitRun.may_end g.K.UnitRun.keys.first g.K.UnitRun.start _ _ c.self.inside.next c.in_ok-key.key _ c.in_ok-key.ensures.ok i.5,
+      played_registration g.K.UnitRun.frame.table g.K.UnitRun.may_end g.K.UnitRun.keys.first g.K.UnitRun.start _ _ c.self.inside.progress.next c.in_ok-key.key _ c.in_ok-key.ensures.ok i.5,
       extends_child _ (g.S.Sink.view c.self.inside.lease.sink.now) (g.S.Sink.view c.register.new.self.sink.now) _ c.in_ok-key.key c.in_ok-key.ensures.ok i.6,
     )
 
@@ -44,13 +46,13 @@ invariant_of-self-in-Ok g c =
       i.1,
       i.2,
       i.3,
-      ran_child g.K.UnitRun.frame g.K.UnitRun.keys.unit g.K.UnitRun.start _ _ c.self.inside.running c.push.new.self c.add.new.self c.self.inside.next c.in_ok-key.key _ _
-          c.in-Ok.ensures.ok c.in_ok-push.ensures.ok refl refl
-          (registered_child c.self.inside.shape.now g.K.UnitRun.frame g.K.UnitRun.keys.unit g.K.UnitRun.start _ _ c.self.inside.running _ c.self.inside.registered c.add.new.self c.self.inside.next c.in_ok-key.key c.in-Some.innermost.now _ _ i.1 i.4
+      ran_child g.K.UnitRun.frame g.K.UnitRun.keys.unit g.K.UnitRun.start _ _ (with_ids g.K.UnitRun.frame.table c.self.inside.progress.running) (with_ids g.K.UnitRun.frame.table c.push.new.self) c.add.new.self c.self.inside.progress.next c.in_ok-key.key _ _
+          c.in-Ok.ensures.ok (ap (with_ids g.K.UnitRun.frame.table) c.in_ok-push.ensures.ok) refl refl
+          (registered_below c.self.inside.shape.now g.K.UnitRun.frame g.K.UnitRun.keys.unit g.K.UnitRun.start _ _ c.self.inside.progress.running _ c.self.inside.progress.registered c.add.new.self c.self.inside.progress.next c.in_ok-key.key c.in-Some.innermost.now _ _ i.1 i.4
           c.in-Some.ensures.some.1 c.in_ok-key.ensures.ok refl c.in_ok-id.ensures.id c.in_ok-id.ensures.not_static c.in_ok-id.ensures.not_registered c.in_ok-add.ensures.ok),
-      subst (λ s. HasPlayed g.K.UnitRun.frame.table g.K.UnitRun.may_end g.K.UnitRun.keys.first c.self.inside.next g.K.UnitRun.start s) (sym c.in-Ok.ensures.ok)
-          (played_plain g.K.UnitRun.frame.table g.K.UnitRun.may_end g.K.UnitRun.keys.first g.K.UnitRun.start _ c.self.inside.next _ Started refl started_is_not
-          (played_registration g.K.UnitRun.frame.table g.K.UnitRun.may_end g.K.UnitRun.keys.first g.K.UnitRun.start _ _ c.self.inside.next c.in_ok-key.key _ c.in_ok-key.ensures.ok i.5)),
+      subst (λ s. HasPlayed g.K.UnitRun.frame.table g.K.UnitRun.may_end g.K.UnitRun.keys.first c.self.inside.progress.next g.K.UnitRun.start s) (sym c.in-Ok.ensures.ok)
+          (played_plain g.K.UnitRun.frame.table g.K.UnitRun.may_end g.K.UnitRun.keys.first g.K.UnitRun.start _ c.self.inside.progress.next _ Started refl started_is_not
+          (played_registration g.K.UnitRun.frame.table g.K.UnitRun.may_end g.K.UnitRun.keys.first g.K.UnitRun.start _ _ c.self.inside.progress.next c.in_ok-key.key _ c.in_ok-key.ensures.ok i.5)),
       subst (λ s. Extends g.K.UnitRun.since s) (sym c.in-Ok.ensures.ok) (extends_more _ _ _ (extends_child _ (g.S.Sink.view c.self.inside.lease.sink.now) (g.S.Sink.view c.register.new.self.sink.now) _ c.in_ok-key.key c.in_ok-key.ensures.ok i.6)),
     )
 
@@ -61,12 +63,12 @@ invariant_of-self-in-Err g c =
       i.1,
       i.2,
       i.3,
-      child_off g.K.UnitRun.frame g.K.UnitRun.keys.unit g.K.UnitRun.start _ _ c.self.inside.running c.push.new.self c.pop-started.new.self c.add.new.self c.self.inside.next c.in_ok-key.key _ c.pop-started.result
+      child_off g.K.UnitRun.frame g.K.UnitRun.keys.unit g.K.UnitRun.start _ _ c.self.inside.progress.running c.push.new.self c.pop-started.new.self _ c.add.new.self c.self.inside.progress.next c.in_ok-key.key _ c.pop-started.result
           c.in-Err.ensures.err c.in_ok-push.ensures.ok c.pop-started.ensures.some c.pop-started.ensures.none
-          (registered_child c.self.inside.shape.now g.K.UnitRun.frame g.K.UnitRun.keys.unit g.K.UnitRun.start _ _ c.self.inside.running _ c.self.inside.registered c.add.new.self c.self.inside.next c.in_ok-key.key c.in-Some.innermost.now _ _ i.1 i.4
+          (registered_below c.self.inside.shape.now g.K.UnitRun.frame g.K.UnitRun.keys.unit g.K.UnitRun.start _ _ c.self.inside.progress.running _ c.self.inside.progress.registered c.add.new.self c.self.inside.progress.next c.in_ok-key.key c.in-Some.innermost.now _ _ i.1 i.4
           c.in-Some.ensures.some.1 c.in_ok-key.ensures.ok refl c.in_ok-id.ensures.id c.in_ok-id.ensures.not_static c.in_ok-id.ensures.not_registered c.in_ok-add.ensures.ok),
-      subst (λ s. HasPlayed g.K.UnitRun.frame.table g.K.UnitRun.may_end g.K.UnitRun.keys.first c.self.inside.next g.K.UnitRun.start s) (sym c.in-Err.ensures.err)
-          (played_registration g.K.UnitRun.frame.table g.K.UnitRun.may_end g.K.UnitRun.keys.first g.K.UnitRun.start _ _ c.self.inside.next c.in_ok-key.key _ c.in_ok-key.ensures.ok i.5),
+      subst (λ s. HasPlayed g.K.UnitRun.frame.table g.K.UnitRun.may_end g.K.UnitRun.keys.first c.self.inside.progress.next g.K.UnitRun.start s) (sym c.in-Err.ensures.err)
+          (played_registration g.K.UnitRun.frame.table g.K.UnitRun.may_end g.K.UnitRun.keys.first g.K.UnitRun.start _ _ c.self.inside.progress.next c.in_ok-key.key _ c.in_ok-key.ensures.ok i.5),
       subst (λ s. Extends g.K.UnitRun.since s) (sym c.in-Err.ensures.err) (extends_child _ (g.S.Sink.view c.self.inside.lease.sink.now) (g.S.Sink.view c.register.new.self.sink.now) _ c.in_ok-key.key c.in_ok-key.ensures.ok i.6),
     )
 
@@ -75,12 +77,12 @@ returns-in-Ok-clause-started g c =
     let sink = ap (λ (v : UnitView). v.sink) c.self.view_is in
     let runs = ap (λ (v : UnitView). v.running) c.self.view_is in (
       c.in-Some.innermost.now.key,
-      started_child _ _ _ _ c.self.inside.running c.in-Some.ensures.some.0 c.in-Some.innermost.now _ c.in_ok-key.key (sym sink) (sym runs) c.in-Some.ensures.some.1 refl c.in_ok-key.ensures.ok c.in-Ok.ensures.ok
-          (ap keys_of c.in_ok-push.ensures.ok) (ap (λ (v : UnitView). v.stamp) c.self.view_is),
+      started_child _ _ _ _ (with_ids g.K.UnitRun.frame.table c.self.inside.progress.running) (with_ids g.K.UnitRun.frame.table c.in-Some.ensures.some.0) (with_id g.K.UnitRun.frame.table c.in-Some.innermost.now) _ c.in_ok-key.key (sym sink) (sym runs) (ap (with_ids g.K.UnitRun.frame.table) c.in-Some.ensures.some.1) refl c.in_ok-key.ensures.ok c.in-Ok.ensures.ok
+          (ap (λ (l : List RunningKey). keys_of (with_ids g.K.UnitRun.frame.table l)) c.in_ok-push.ensures.ok) (ap (λ (v : UnitView). v.stamp) c.self.view_is),
     )
 
 pub returns-in-Ok-clause-dynamic : goal.returns-in-Ok-clause-dynamic
 returns-in-Ok-clause-dynamic g c =
     let i = c.self.invariant in
-    (registered_child c.self.inside.shape.now g.K.UnitRun.frame g.K.UnitRun.keys.unit g.K.UnitRun.start _ _ c.self.inside.running _ c.self.inside.registered c.add.new.self c.self.inside.next c.in_ok-key.key c.in-Some.innermost.now _ _ i.1 i.4
+    (registered_below c.self.inside.shape.now g.K.UnitRun.frame g.K.UnitRun.keys.unit g.K.UnitRun.start _ _ c.self.inside.progress.running _ c.self.inside.progress.registered c.add.new.self c.self.inside.progress.next c.in_ok-key.key c.in-Some.innermost.now _ _ i.1 i.4
     c.in-Some.ensures.some.1 c.in_ok-key.ensures.ok refl c.in_ok-id.ensures.id c.in_ok-id.ensures.not_static c.in_ok-id.ensures.not_registered c.in_ok-add.ensures.ok).registration.dynamic

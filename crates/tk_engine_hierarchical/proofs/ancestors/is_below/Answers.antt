@@ -1,6 +1,6 @@
 use Rattle.std.proofs.Common.{ap, arith, length}
 use Rattle.tk_engine_hierarchical.proofs.Played.{below_longer}
-use Rattle.tk_engine_hierarchical.proofs.unit_ids.is_below.Goals as goal
+use Rattle.tk_engine_hierarchical.proofs.ancestors.is_below.Goals as goal
 
 pub returns-then-segments : goal.returns-then-segments
 returns-then-segments c = λ same.

@@ -1,6 +1,6 @@
 use Rattle.std.proofs.Common.{◌≡◌, ap, arith, length, subst, take}
 use Rattle.tk_engine_hierarchical.proofs.Played.{front_at_end}
-use Rattle.tk_engine_hierarchical.proofs.unit_ids.begins_with.Goals as goal
+use Rattle.tk_engine_hierarchical.proofs.ancestors.begins_with.Goals as goal
 
 pub returns : goal.returns
 returns c = λ _.

@@ -1,0 +1,7 @@
+use Rattle.tk_engine_hierarchical.proofs.Shaped.{running_taken}
+use Rattle.tk_engine_hierarchical.proofs.shapes.running_after.Goals as goal
+
+pub loop-event-preserved : goal.loop-event-preserved
+loop-event-preserved c =
+    running_taken c.args.before.now c.loop-event.event-index c.event-item.result c.loop-event.flags.items c.note_start.new.flags.items c.loop-event-test.true c.event-item.is c.loop-event.invariant
+    (c.note_start.ensures.kind c.if-not-note_start.false) (c.note_start.ensures.flags c.if-not-note_start.false)
