@@ -41,12 +41,12 @@ fn are_of_keys(alloc: Global, record: &Record) -> bool {
         alloc,
         record,
         0,
-        "Executions { items: [Execution { key: 0, first: 0, last: 4, start: 0, stop: 9, ending: Successful }] }",
+        "Executions { items: [Execution { key: 0, ending: Successful, first: 0, last: 4, start: 0, stop: 9 }] }",
     ) && is_of_key(
         alloc,
         record,
         2,
-        "Executions { items: [Execution { key: 2, first: 3, last: 3, start: 1, stop: 1, ending: Skipped }] }",
+        "Executions { items: [Execution { key: 2, ending: Skipped, first: 3, last: 3, start: 1, stop: 1 }] }",
     )
 }
 

@@ -26,6 +26,8 @@ pub enum Ending {
 pub struct Execution {
     /// The key of the descriptor that was executed or skipped.
     pub key: u32,
+    /// How it ended.
+    pub ending: Ending,
     /// The position of the start in the record, or of the skip.
     pub first: usize,
     /// The position of the finish in the record, or of the skip.
@@ -34,8 +36,6 @@ pub struct Execution {
     pub start: u64,
     /// The stamp at the last position.
     pub stop: u64,
-    /// How it ended.
-    pub ending: Ending,
 }
 
 impl Execution {

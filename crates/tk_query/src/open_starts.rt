@@ -12,7 +12,7 @@ pub(crate) const KEYS_IN_ROW: usize = 65_536;
 /// The open starts of the keys of one row, each with its position and its stamp.
 #[derive(Drop)]
 struct Row {
-    slots: Vec<Option<(u32, u64)>>,
+    slots: Vec<Option<(usize, u64)>>,
 }
 
 impl Model for Row {
@@ -36,8 +36,8 @@ impl Row {
     fn replace(
         &mut self,
         index: usize,
-        start: Option<(u32, u64)>,
-    ) -> Result<Option<(u32, u64)>, AllocError>
+        start: Option<(usize, u64)>,
+    ) -> Result<Option<(usize, u64)>, AllocError>
         ensures before { IfOk result (λ before. before ≡ get_or self.old index None) }
         ensures after { OnOk result ((i : ℕ) → get_or self.new i None
             ≡ (if index == i then start else get_or self.old i None)) }
@@ -78,8 +78,8 @@ impl OpenStarts {
         &mut self,
         alloc: Global,
         key: u32,
-        start: Option<(u32, u64)>,
-    ) -> Result<Option<(u32, u64)>, AllocError>
+        start: Option<(usize, u64)>,
+    ) -> Result<Option<(usize, u64)>, AllocError>
         ensures before { IfOk result (λ before. before ≡ open_of self.old key) }
         ensures after { OnOk result ((q : ℕ) → open_of self.new q
             ≡ (if key == q then start else open_of self.old q)) }

@@ -1,5 +1,5 @@
 //! Starts and finishes that belong together.
-ghost use Rattle.std.specs.Prelude.{◌≡◌, ◌<◌, ◌^◌, ℕ, ◌==◌, if◌then◌else◌, IfOk, IfSome, OnOk, slice_get};
+ghost use Rattle.std.specs.Prelude.{◌≡◌, ℕ, ◌==◌, if◌then◌else◌, IfOk, OnOk, slice_get};
 ghost use Rattle.std.specs.Option.{option_and_then};
 ghost use Rattle.tk_query.specs.ExecutionSteps.{step_at, step_of};
 ghost use Rattle.tk_query.specs.Executions.{AreExecutions};
@@ -12,7 +12,11 @@ use std::alloc::{AllocError, Global};
 use tk_record_columns::{Events, Record};
 
 /// The execution that a step ends, where `started` is the open start of its key.
-fn ended_by(step: ExecutionStep, position: u32, started: Option<(u32, u64)>) -> Option<Execution>
+fn ended_by(
+    step: ExecutionStep,
+    position: usize,
+    started: Option<(usize, u64)>,
+) -> Option<Execution>
     ensures { result ≡ ended_by step position started }
 {
     let (first, start, ending) = match (step.transition, started) {
@@ -22,8 +26,8 @@ fn ended_by(step: ExecutionStep, position: u32, started: Option<(u32, u64)>) -> 
     };
     Some(Execution {
         key: step.key,
-        first: first as usize,
-        last: position as usize,
+        first,
+        last: position,
         start,
         stop: step.stamp,
         ending,
@@ -31,7 +35,7 @@ fn ended_by(step: ExecutionStep, position: u32, started: Option<(u32, u64)>) -> 
 }
 
 /// The start that a step leaves open, with its position and its stamp.
-fn opened_by(step: ExecutionStep, position: u32) -> Option<(u32, u64)>
+fn opened_by(step: ExecutionStep, position: usize) -> Option<(usize, u64)>
     ensures { result ≡ opened_by step position }
 {
     match step.transition {
@@ -45,7 +49,7 @@ fn take_step(
     alloc: Global,
     starts: &mut OpenStarts,
     step: ExecutionStep,
-    position: u32,
+    position: usize,
 ) -> Result<Option<Execution>, AllocError>
     ensures ended { IfOk result (λ execution.
         execution ≡ ended_by step position (open_of starts.old step.key)) }
@@ -56,12 +60,10 @@ fn take_step(
     Ok(ended_by(step, position, started))
 }
 
-/// What the entry at a position does to executions. The positions of a record fit into 32 bits.
+/// What the entry at a position does to executions.
 fn step_at(record: &Record, position: usize) -> Option<ExecutionStep>
-    ensures step { result ≡ option_and_then step_of (slice_get «record».now.entries position) }
-    ensures fits { IfSome result (λ _. position < 2 ^ 32) }
+    ensures { result ≡ option_and_then step_of (slice_get «record».now.entries position) }
 {
-    let _count = record.len();
     match record.entry(position) {
         Some(event) => step_of(&event),
         None => None,
@@ -86,7 +88,7 @@ pub fn executions(alloc: Global, events: &Events) -> Result<Executions, AllocErr
         let Some(step) = step_at(events.record(), position) else {
             continue;
         };
-        match take_step(alloc, &mut starts, step, position as u32)? {
+        match take_step(alloc, &mut starts, step, position)? {
             Some(execution) => items.push(execution)?,
             None => {}
         }

@@ -14,7 +14,7 @@ events-preserved-in_default-step_at c =
     let set = c.in-Some.ensures.value in
     let here = paired_up_to (step_at asked) c.events.next c.in-Some.position (open_of c.events.starts) c.events.items.items set.from c.events.invariant (λ i low high. step_clear asked flags are i (set.least i low high)) in
     paired_past (step_at asked) c.in-Some.position (open_of c.events.starts) c.events.items.items here
-    (step_set asked flags are c.«record».result.now c.«record».ensures c.in-Some.position c.step_at.result set.set c.step_at.ensures.step ∙ c.in_default-step_at.is)
+    (step_set asked flags are c.«record».result.now c.«record».ensures c.in-Some.position c.step_at.result set.set c.step_at.ensures ∙ c.in_default-step_at.is)
 
 pub events-preserved-in-Continue-branch-4 : goal.events-preserved-in-Continue-branch-4
 events-preserved-in-Continue-branch-4 c =
@@ -24,7 +24,7 @@ events-preserved-in-Continue-branch-4 c =
     let set = c.in-Some.ensures.value in
     let items = c.events.items.items in
     let here = paired_up_to (step_at asked) c.events.next c.in-Some.position (open_of c.events.starts) items set.from c.events.invariant (λ i low high. step_clear asked flags are i (set.least i low high)) in
-    let steps = step_set asked flags are c.«record».result.now c.«record».ensures c.in-Some.position c.step_at.result set.set c.step_at.ensures.step ∙ c.in-Some-step_at.is in
+    let steps = step_set asked flags are c.«record».result.now c.«record».ensures c.in-Some.position c.step_at.result set.set c.step_at.ensures ∙ c.in-Some-step_at.is in
     let paired = paired_step (step_at asked) c.in-Some.position (open_of c.events.starts) (open_of c.take_step.new.starts) items c.in-Some-step_at.step here steps c.in_ok-execution.ensures.starts in
     subst (IsPaired (step_at asked) (c.in-Some.position + 1) (open_of c.take_step.new.starts))
     (sym (c.in_ok-push-in-Some-2.ensures.items ∙ ap (λ o. items ++ to_list o) (sym c.in-Some-2.is ∙ c.in_ok-execution.ensures.ended))) paired
@@ -37,7 +37,7 @@ events-preserved c =
     let set = c.in-Some.ensures.value in
     let items = c.events.items.items in
     let here = paired_up_to (step_at asked) c.events.next c.in-Some.position (open_of c.events.starts) items set.from c.events.invariant (λ i low high. step_clear asked flags are i (set.least i low high)) in
-    let steps = step_set asked flags are c.«record».result.now c.«record».ensures c.in-Some.position c.step_at.result set.set c.step_at.ensures.step ∙ c.in-Some-step_at.is in
+    let steps = step_set asked flags are c.«record».result.now c.«record».ensures c.in-Some.position c.step_at.result set.set c.step_at.ensures ∙ c.in-Some-step_at.is in
     let paired = paired_step (step_at asked) c.in-Some.position (open_of c.events.starts) (open_of c.take_step.new.starts) items c.in-Some-step_at.step here steps c.in_ok-execution.ensures.starts in
     subst (IsPaired (step_at asked) (c.in-Some.position + 1) (open_of c.take_step.new.starts))
     (sym (sym (append-nil items) ∙ ap (λ o. items ++ to_list o) (sym c.in-None.is ∙ c.in_ok-execution.ensures.ended))) paired
