@@ -129,7 +129,7 @@ fn start_node<R: Wait, S: Sink, K: UnitRun, T: Tests>(
         reporter.events.start_child(rt, alloc, &child, step.stamp)?;
         return Ok(());
     }
-    reporter.events.start(rt, alloc, step.node, step.stamp)?;
+    reporter.events.start(rt, step.node, step.stamp)?;
     if plan.dtype(step.node).is_test() {
         let last = run_test(rt, alloc, tests, step.node, reporter)?;
         ended.push(last)?;
@@ -159,9 +159,7 @@ fn do_step<R: Wait, S: Sink, K: UnitRun, T: Tests>(
         Act::Skip => {
             let reason = plan.payload(alloc, step)?;
             if (step.node as usize) < plan.table().len() {
-                return reporter
-                    .events
-                    .skip(rt, alloc, step.node, step.stamp, reason);
+                return reporter.events.skip(rt, step.node, step.stamp, reason);
             }
             let child = Child {
                 segment: plan.segment(step.node),

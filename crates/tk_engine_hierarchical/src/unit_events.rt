@@ -275,13 +275,7 @@ impl<'a, S: Sink, K: UnitRun> UnitEvents<'a, S, K> {
     }
 
     /// Starts the next static descriptor, below the innermost running key.
-    pub(crate) fn start<R: Wait>(
-        &mut self,
-        rt: &R,
-        alloc: Global,
-        key: u32,
-        stamp: u64,
-    ) -> Result<(), UnitFault> {
+    pub(crate) fn start<R: Wait>(&mut self, rt: &R, key: u32, stamp: u64) -> Result<(), UnitFault> {
         let Some(next) = key.checked_add(1) else {
             return Err(UnitFault::Own(OUT_OF_ORDER));
         };
@@ -317,7 +311,6 @@ impl<'a, S: Sink, K: UnitRun> UnitEvents<'a, S, K> {
     pub(crate) fn skip<R: Wait>(
         &mut self,
         rt: &R,
-        alloc: Global,
         key: u32,
         stamp: u64,
         reason: Payload,
