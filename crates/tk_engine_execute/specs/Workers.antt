@@ -47,7 +47,7 @@ pub record RunUnits : Type 1 where
   pub may : ℕ → ℕ → ℕ → List Event → Type 0
   pub fails : ℕ → UnitFault → Type 0
 
--- the units of an engine that has so many
+-- the units of an engine that has `many` of them
 abbrev pub run_units :
     ClaimView → (ℕ → ℕ → ℕ → List Event → Type 0) → ℕ → (ℕ → UnitFault → Type 0) → RunUnits
 run_units claim may many fails =

@@ -1,4 +1,4 @@
-use Rattle.std.proofs.Common.{◌≡◌, ◌+◌, ◌∷◌, [], ◌++◌, sym, ◌∙◌, zero-add}
+use Rattle.std.proofs.Common.{◌≡◌, ◌+◌, ◌<◌, ◌∷◌, [], ◌++◌, sym, subst, ◌∙◌, zero-add}
 use Rattle.tk_queue.specs.Emission.{registrations}
 use Rattle.tk_engine_runs.specs.Run.{Emits}
 use Rattle.tk_engine_execute.proofs.Emitted.{emits_more}
@@ -36,3 +36,30 @@ loop-preserved g c =
       empty = c.run_unit.ensures.released;
       emits = rw (sym drawn, sym emitted) longer;
     }
+
+pub draw-requires : goal.draw-requires
+draw-requires g c = c.loop.invariant.claim ∙ c.requires.claim
+
+pub run_unit-requires-clause-unit : goal.run_unit-requires-clause-unit
+run_unit-requires-clause-unit g c κs within = subst (λ n. c.in-Some-draw.unit < n) c.requires.limit c.in-Some-draw.ensures.below
+
+pub run_unit-requires-clause-of_this : goal.run_unit-requires-clause-of_this
+run_unit-requires-clause-of_this g c κs within = c.loop.invariant.book ∙ c.requires.book
+
+pub run_unit-requires-clause-empty : goal.run_unit-requires-clause-empty
+run_unit-requires-clause-empty g c κs within = c.loop.invariant.empty
+
+pub run_unit-requires-clause-table : goal.run_unit-requires-clause-table
+run_unit-requires-clause-table g c κs within = c.loop.invariant.same.table ∙ c.requires.table
+
+pub returns-in-Err-clause-same : goal.returns-in-Err-clause-same
+returns-in-Err-clause-same g c =
+    let was = c.loop.invariant.same in
+    let now = c.run_unit.ensures.same in
+    record { session = now.session ∙ was.session; table = now.table ∙ was.table; worker = now.worker ∙ was.worker }
+
+pub returns-in-Err-clause-claim : goal.returns-in-Err-clause-claim
+returns-in-Err-clause-claim g c = c.draw.ensures.claim ∙ c.loop.invariant.claim
+
+pub returns-in-Err-clause-failed : goal.returns-in-Err-clause-failed
+returns-in-Err-clause-failed g c = (subst (λ n. c.in-Some-draw.unit < n) c.requires.limit c.in-Some-draw.ensures.below, c.in-Err.ensures.fails)
