@@ -1,6 +1,6 @@
 //! Faults of plans, runs and reports as texts.
 use std::alloc::Global;
-use test_support::{are_shown, is_shown_as, start};
+use test_support::{are_shown, are_shown_as, start};
 use tk_engine_execute::{RunFault, SinkFault, UnitFault};
 use tk_ids::{IdFault, TableFault, Text};
 use tk_plan::PlanFault;
@@ -9,30 +9,28 @@ use tk_report::{DEFAULT_CAPACITY, ReportFault};
 
 // Whether the faults of a plan have the texts of their lines.
 fn show_plan_faults(alloc: Global) -> bool {
-    is_shown_as(alloc, &PlanFault::Json, "plan is not JSON")
-        && is_shown_as(alloc, &PlanFault::Id(IdFault::Empty), "plan id is bad")
-        && is_shown_as(
-            alloc,
-            &PlanFault::Table(TableFault::Twice),
-            "plan table is refused",
-        )
-        && is_shown_as(alloc, &PlanFault::TooManyResources, "too many resources")
-        && is_shown_as(alloc, &PlanFault::EntryKeyTwice, "entry key twice")
-}
-
-fn show_other_plan_faults(alloc: Global) -> bool {
-    is_shown_as(alloc, &PlanFault::TooManyEvents, "too many events")
-        && is_shown_as(alloc, &PlanFault::Deep, "plan too deep")
-        && is_shown_as(alloc, &PlanFault::Memory, "out of memory")
+    let rows = [
+        (PlanFault::Json, "plan is not JSON"),
+        (PlanFault::Id(IdFault::Empty), "plan id is bad"),
+        (PlanFault::Table(TableFault::Twice), "plan table is refused"),
+        (PlanFault::TooManyResources, "too many resources"),
+        (PlanFault::EntryKeyTwice, "entry key twice"),
+        (PlanFault::TooManyEvents, "too many events"),
+        (PlanFault::Deep, "plan too deep"),
+        (PlanFault::Memory, "out of memory"),
+    ];
+    are_shown_as(alloc, &rows)
 }
 
 // Whether the path of a member is shown with the escapes of a text field.
 fn show_field_fault(alloc: Global) -> bool {
     match Text::copy(alloc, "/root/a|b\\c\nd\re") {
-        Ok(path) => is_shown_as(
+        Ok(path) => are_shown_as(
             alloc,
-            &PlanFault::Field(path),
-            "plan member /root/a\\pb\\\\c\\nd\re is bad",
+            &[(
+                PlanFault::Field(path),
+                "plan member /root/a\\pb\\\\c\\nd\re is bad",
+            )],
         ),
         Err(_) => false,
     }
@@ -60,38 +58,32 @@ fn show_run_faults(alloc: Global) -> bool {
 
 // Whether a unit's failure is shown with its cause.
 fn show_causes(alloc: Global) -> bool {
-    let unknown = SinkFault::Send(SendFault::UnknownNode(start(3, 0)));
-    is_shown_as(
-        alloc,
-        &RunFault::Engine(0, UnitFault::Sink(unknown)),
-        "unit 0 failed: unknown key 3",
-    ) && is_shown_as(
-        alloc,
-        &RunFault::Engine(12, UnitFault::Memory),
-        "unit 12 failed: out of memory",
-    )
+    let unknown = SendFault::UnknownNode(start(3, 0));
+    let sent = RunFault::Engine(0, UnitFault::Sink(SinkFault::Send(unknown)));
+    let memory = RunFault::Engine(12, UnitFault::Memory);
+    let rows = [
+        (sent, "unit 0 failed: unknown key 3"),
+        (memory, "unit 12 failed: out of memory"),
+    ];
+    are_shown_as(alloc, &rows)
 }
 
 // Whether the faults of a report have the texts of the faults that they wrap.
 fn show_report_faults(alloc: Global) -> bool {
     let failed = RunFault::Engine(3, UnitFault::Own(7));
-    is_shown_as(
-        alloc,
-        &ReportFault::Plan(PlanFault::Json),
-        "plan is not JSON",
-    ) && is_shown_as(
-        alloc,
-        &ReportFault::Run(failed),
-        "unit 3 failed: engine fault 7",
-    ) && is_shown_as(alloc, &ReportFault::Run(RunFault::Threads), "no thread")
-        && is_shown_as(alloc, &ReportFault::Device, "device failed")
-        && is_shown_as(alloc, &ReportFault::Memory, "out of memory")
+    let rows = [
+        (ReportFault::Plan(PlanFault::Json), "plan is not JSON"),
+        (ReportFault::Run(failed), "unit 3 failed: engine fault 7"),
+        (ReportFault::Run(RunFault::Threads), "no thread"),
+        (ReportFault::Device, "device failed"),
+        (ReportFault::Memory, "out of memory"),
+    ];
+    are_shown_as(alloc, &rows)
 }
 
 #[test]
 fn each_fault_is_shown(rt: HostRuntime) {
     assert!(rt; show_plan_faults(rt.alloc()));
-    assert!(rt; show_other_plan_faults(rt.alloc()));
     assert!(rt; show_field_fault(rt.alloc()));
     assert!(rt; show_unit_faults(rt.alloc()));
     assert!(rt; show_run_faults(rt.alloc()));
