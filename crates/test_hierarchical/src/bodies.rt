@@ -1,9 +1,9 @@
 //! An engine whose tests have bodies: what it records, and what it refuses.
-use std::alloc::Global;
+use std::alloc::{AllocError, Global};
 use std::sync::Wait;
 use std::sync::atomic::{AtomicU64, Ordering};
 use std::thread::Threads;
-use test_support::is_shown_as;
+use test_support::are_shown_as;
 use tk_engine::{Results, RunFault, Sink, UnitFault, execute};
 use tk_engine_hierarchical::{
     Body, Hierarchical, HierarchicalFault, OUT_OF_ORDER, Outcome, Reporter, TWICE, Tests, UnitRun,
@@ -132,22 +132,33 @@ fn concurrent<'t>(node: PlanNode<'t>) -> PlanNode<'t> {
     node.mode(ExecutionMode::Concurrent)
 }
 
-// A root with two tests, a node of both types with a test, and a container that is skipped; all four
-// may run beside one another.
+// A node of both types with a test.
+fn third(alloc: Global) -> Result<PlanNode<'static>, AllocError> {
+    PlanNode::container_and_test(alloc, ("c", "3"), "three").child(PlanNode::test(
+        alloc,
+        ("t", "4"),
+        "four",
+    ))
+}
+
+// A container that is skipped.
+fn fifth(alloc: Global) -> Result<PlanNode<'static>, AllocError> {
+    PlanNode::container(alloc, ("c", "5"), "five")
+        .skip("later")
+        .child(PlanNode::test(alloc, ("t", "6"), "six"))
+}
+
+// A root with two tests and these; all four may run beside one another.
+fn root(alloc: Global) -> Result<PlanNode<'static>, AllocError> {
+    PlanNode::container(alloc, ("engine", "e"), "e")
+        .child(concurrent(PlanNode::test(alloc, ("t", "1"), "one")))?
+        .child(concurrent(PlanNode::test(alloc, ("t", "2"), "two")))?
+        .child(concurrent(third(alloc)?))?
+        .child(concurrent(fifth(alloc)?))
+}
+
 fn plan(alloc: Global) -> Option<Plan> {
-    let group = PlanNode::container_and_test(alloc, ("c", "3"), "three");
-    let group = group.child(PlanNode::test(alloc, ("t", "4"), "four")).ok()?;
-    let later = PlanNode::container(alloc, ("c", "5"), "five").skip("later");
-    let later = later.child(PlanNode::test(alloc, ("t", "6"), "six")).ok()?;
-    let root = PlanNode::container(alloc, ("engine", "e"), "e");
-    let root = root
-        .child(concurrent(PlanNode::test(alloc, ("t", "1"), "one")))
-        .ok()?;
-    let root = root
-        .child(concurrent(PlanNode::test(alloc, ("t", "2"), "two")))
-        .ok()?;
-    let root = root.child(concurrent(group)).ok()?;
-    build_plan(alloc, &root.child(concurrent(later)).ok()?).ok()
+    build_plan(alloc, &root(alloc).ok()?).ok()
 }
 
 fn engine(alloc: Global, then: Then) -> Option<Hierarchical<Sample>> {
@@ -293,11 +304,11 @@ fn numbers_of_faults(rt: HostRuntime) {
 
 // Whether the faults of making an engine have their texts.
 fn show_faults(alloc: Global) -> bool {
-    is_shown_as(
-        alloc,
-        &HierarchicalFault::Lifecycle,
-        "plan breaks the lifecycle",
-    ) && is_shown_as(alloc, &HierarchicalFault::Memory, "out of memory")
+    let rows = [
+        (HierarchicalFault::Lifecycle, "plan breaks the lifecycle"),
+        (HierarchicalFault::Memory, "out of memory"),
+    ];
+    are_shown_as(alloc, &rows)
 }
 
 #[test]
