@@ -1,26 +1,29 @@
 //! Faults of questions and conditions as texts.
 use std::alloc::Global;
-use test_support::{are_shown, is_debugged_as, is_shown_as};
+use test_support::{are_shown, are_shown_as, is_debugged_as};
 use testkit_questions::AskFault;
 use tk_query::{CondFault, Loose};
 use tk_record::ReadFault;
 
 // Whether the faults of a question's words have their texts.
 fn show_word_faults(alloc: Global) -> bool {
-    is_shown_as(alloc, &AskFault::Question, "unknown question")
-        && is_shown_as(alloc, &AskFault::Word(12), "bad word 12")
-        && is_shown_as(
-            alloc,
-            &AskFault::Condition(3, CondFault::Deep),
-            "condition 3 is too deep",
-        )
+    let deep = AskFault::Condition(3, CondFault::Deep);
+    let rows = [
+        (AskFault::Question, "unknown question"),
+        (AskFault::Word(12), "bad word 12"),
+        (deep, "condition 3 is too deep"),
+    ];
+    are_shown_as(alloc, &rows)
 }
 
 // Whether the other faults of a question have their texts.
 fn show_other_faults(alloc: Global) -> bool {
-    is_shown_as(alloc, &AskFault::Read(ReadFault::NoHeader), "no header")
-        && is_shown_as(alloc, &AskFault::Device, "device failed")
-        && is_shown_as(alloc, &AskFault::Memory, "out of memory")
+    let rows = [
+        (AskFault::Read(ReadFault::NoHeader), "no header"),
+        (AskFault::Device, "device failed"),
+        (AskFault::Memory, "out of memory"),
+    ];
+    are_shown_as(alloc, &rows)
 }
 
 #[test]
