@@ -4,13 +4,13 @@ import contextlib
 import importlib.machinery
 import importlib.util
 import io
-import subprocess
 import sys
 import tempfile
 from dataclasses import replace
 from typing import Callable, List, Sequence, Set, Tuple
 
 from outcomes import TOP, Test
+
 
 def few_sweeps(module) -> str:
     """Runs the whole check with one sweep too few, which has to fail for that alone."""
@@ -72,35 +72,72 @@ def tests_of_answers(module) -> List[Test]:
     ]
 
 
-def tests_of_sweeps(room: str) -> List[Test]:
-    """Sweeps over a program that makes one request, each of which is wrong in one way."""
+def loaded():
+    """The script `refuse_requests` as a module."""
     loader = importlib.machinery.SourceFileLoader("refuse_requests", f"{TOP}/gate/faults/refuse_requests")
     module = importlib.util.module_from_spec(importlib.util.spec_from_loader(loader.name, loader))
     sys.modules[loader.name] = module
     loader.exec_module(module)
-    library, requests = f"{room}/refuse.so", f"{room}/requests"
-    subprocess.run([module.compiler(), "-O", "-pthread", f"{TOP}/gate/faults/requests.c", "-o", requests], check=True)
+    return module
 
-    def compile_refusals(to: str, edits: Sequence[Tuple[str, str]]) -> None:
-        with open(f"{TOP}/gate/faults/refuse.c", encoding="utf-8") as file:
-            text = file.read()
-        for old, new in edits:
-            if text.count(old) != 1:
-                raise ValueError(f"refuse.c has {old!r} {text.count(old)} times")
-            text = text.replace(old, new)
-        with open(f"{to}.c", "w", encoding="utf-8") as file:
-            file.write(text)
-        subprocess.run([module.compiler(), "-shared", "-fPIC", "-O", f"{to}.c", "-o", to], check=True)
+
+def compile_edited(module, to: str, edits: Sequence[Tuple[str, str]]) -> None:
+    """Compiles `refuse.c` in which texts were replaced, each of which stands there once."""
+    with open(f"{TOP}/gate/faults/refuse.c", encoding="utf-8") as file:
+        text = file.read()
+    for old, new in edits:
+        if text.count(old) != 1:
+            raise ValueError(f"refuse.c has {old!r} {text.count(old)} times")
+        text = text.replace(old, new)
+    with open(f"{to}.c", "w", encoding="utf-8") as file:
+        file.write(text)
+    module.compile_library(f"{to}.c", to)
+
+
+BY_FUNCTION = {
+    "void *malloc": {"malloc"},
+    "void *calloc": {"calloc"},
+    "void *realloc": {"realloc"},
+    "void *aligned_alloc": {"aligned_alloc"},
+    "int posix_memalign": {"posix_memalign"},
+    "int pthread_create": {"pthread_create"},
+    "ssize_t read": {"read"},
+    "ssize_t readv": {"readv"},
+    "ssize_t write": {"write 1", "write 2"},
+    "ssize_t writev": {"writev 1", "writev 2"},
+}
+"""The requests that each function of `refuse.c` refuses."""
+
+WRONG_NUMBERS = ("!= 2) return 0", "> 1) return 0", "< 1) return 0")
+"""What refuses another request than that of the number asked for."""
+
+
+def tests_of_edits(module, requests: str) -> List[Test]:
+    """A `refuse.c` as it is, without each of its functions, and one that refuses requests of another number."""
 
     def unserved(edits: Sequence[Tuple[str, str]], wanted: Set[str]) -> str:
         """With this `refuse.c` the requests by these functions are not refused as they have to be, and no other."""
         with tempfile.TemporaryDirectory(prefix="checkers-") as at:
-            compile_refusals(f"{at}/refuse.so", edits)
+            compile_edited(module, f"{at}/refuse.so", edits)
             _, failed = module.failures_of_requests(f"{at}/refuse.so", requests)
         found = {by for by, _ in module.REQUESTS if any(line.startswith(f"refuse.c, {by}: ") for line in failed)}
         return "" if found == wanted and len(failed) == len(wanted) else f"{sorted(found)}, wanted {sorted(wanted)}"
 
-    compile_refusals(library, [])
+    found = [Test("refuse.c as it is", lambda: unserved([], set()))]
+    for start, functions in BY_FUNCTION.items():
+        edits = [(f"\n{start}(", f"\n{start}_of_another_name(")]
+        found.append(Test(f"refuse.c without {start}", lambda edits=edits, functions=functions: unserved(edits, functions)))
+    all_of_them = set().union(*BY_FUNCTION.values())
+    for new in WRONG_NUMBERS:
+        found.append(Test(f"refuse.c with {new}", lambda new=new: unserved([("!= 1) return 0", new)], all_of_them)))
+    return found
+
+
+def tests_of_sweeps(room: str) -> List[Test]:
+    """What `refuse.c` refuses, and sweeps over a program that makes one request, each of which is wrong in one way."""
+    module, library, requests = loaded(), f"{room}/refuse.so", f"{room}/requests"
+    module.compile_program(f"{TOP}/gate/faults/requests.c", requests)
+    compile_edited(module, library, [])
 
     def differs(is_right: Callable, has_to_fail: bool, kept: int = 1, **how) -> str:
         # (the program doesn't give back its only block)
@@ -111,27 +148,9 @@ def tests_of_sweeps(room: str) -> List[Test]:
     def refused(ended, ordinary) -> bool:
         return (ended.status, ordinary.status) == (1, 0)
 
-    of_functions = {
-        "void *malloc": {"malloc"},
-        "void *calloc": {"calloc"},
-        "void *realloc": {"realloc"},
-        "void *aligned_alloc": {"aligned_alloc"},
-        "int posix_memalign": {"posix_memalign"},
-        "int pthread_create": {"pthread_create"},
-        "ssize_t read": {"read"},
-        "ssize_t readv": {"readv"},
-        "ssize_t write": {"write 1", "write 2"},
-        "ssize_t writev": {"writev 1", "writev 2"},
-    }
-    all_of_them = {by for functions in of_functions.values() for by in functions}
-    found = [Test("refuse.c as it is", lambda: unserved([], set()))]
-    for start, functions in of_functions.items():
-        edits = [(f"\n{start}(", f"\n{start}_of_another_name(")]
-        found.append(Test(f"refuse.c without {start}", lambda edits=edits, functions=functions: unserved(edits, functions)))
-    for new in ("!= 2) return 0", "> 1) return 0", "< 1) return 0"):
-        found.append(Test(f"refuse.c with {new}", lambda new=new: unserved([("!= 1) return 0", new)], all_of_them)))
-    found += tests_of_answers(module)
-    return found + [
+    return [
+        *tests_of_edits(module, requests),
+        *tests_of_answers(module),
         Test("a sweep that is right", lambda: differs(refused, False)),
         Test("a sweep with a wrong answer", lambda: differs(lambda ended, ordinary: ended.status == 0, True)),
         Test("a sweep with too few requests", lambda: differs(refused, True, least=2)),
