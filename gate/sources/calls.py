@@ -10,16 +10,17 @@ from typing import List, Sequence, Set
 
 from sources import Source
 
-IMPL = re.compile(r"impl(?:<[^>]*>)? (?:[\w:<>, ]+ for )?(\w+)")
-FUNCTION = re.compile(r"( *)pub (?:const )?fn (\w+)")
+TYPE = r"^impl(?:<.*?>)? (\w+)"
+"""Where the functions of a type begin. (An impl of a trait has no public function.)"""
+FUNCTION = r"^( *)pub (?:const )?fn (\w+)[^(]*\(\s*(&?(?:mut )?self\b)?"
+ITEM = re.compile(f"{TYPE}|{FUNCTION}", re.MULTILINE)
 
 
 @dataclass(frozen=True)
 class Function:
-    """A public function: its file and line, its type if it has one, its name, and whether it is a method."""
+    """A public function: its file, its type if it has one, its name, and whether it is a method."""
 
     path: str
-    line: int
     type: str
     name: str
     is_method: bool
@@ -45,17 +46,11 @@ def calls_in(source: Source) -> Set[str]:
 def functions_of(source: Source) -> List[Function]:
     """The public functions of a file."""
     found, type_name = [], ""
-    for number, line in enumerate(source.code, 1):
-        named = IMPL.match(line)
-        if named:
-            type_name = named[1]
-        elif line and not line.startswith((" ", "}", ")", "#")):
-            type_name = ""
-        function = FUNCTION.match(line)
-        if function:
-            inputs = " ".join(source.code[number - 1 : number + 3]).partition(f"fn {function[2]}")[2].partition(")")[0]
-            is_method = re.search(r"\(\s*(&\s*)?(mut )?self\b", inputs) is not None
-            found.append(Function(source.path, number, type_name if function[1] else "", function[2], is_method))
+    for new_type, indent, name, receiver in ITEM.findall("\n".join(source.code)):
+        if new_type:
+            type_name = new_type
+        else:
+            found.append(Function(source.path, type_name if indent else "", name, receiver != ""))
     return found
 
 
