@@ -14,7 +14,7 @@ def tests_of(tree: Tree) -> Dict[str, int]:
     found: Dict[str, int] = {}
     for source in tree.sources:
         found[source.crate] = found.get(source.crate, 0) + sum(line.strip() == "#[test]" for line in source.code)
-    return {crate: count for crate, count in found.items() if count}
+    return found
 
 
 def edits_of(tree: Tree) -> List[str]:

@@ -18,10 +18,9 @@ def handle_faults(tree: Tree) -> List[str]:
 
 def crate_faults(tree: Tree) -> List[str]:
     """Folders of no crate, crates without a root, and crates that stand before a library that they name."""
-    faults: List[str] = []
     earlier: Set[str] = set()
     folders = {path.split(os.sep)[1] for path in tree.files if path.startswith("crates/")}
-    faults += [f"crates/{folder} is no crate of crates.txt" for folder in sorted(folders - set(tree.crates))]
+    faults = [f"crates/{folder} is no crate of crates.txt" for folder in sorted(folders - set(tree.crates))]
     for crate, libraries in tree.crates.items():
         faults += [f"crates.txt: {crate} stands before {it}" for it in libraries if it in tree.crates and it not in earlier]
         earlier.add(crate)
@@ -36,8 +35,8 @@ def place_faults(tree: Tree) -> List[str]:
     """Sources, definitions and proofs outside their folders, and code in C in a crate."""
     faults: List[str] = []
     for path in tree.files:
-        parts = path.split(os.sep)
-        folder = parts[2] if len(parts) > 3 and parts[0] == "crates" and parts[1] in tree.crates else ""
+        found = re.match(r"crates/\w+/(\w+)/", path)
+        folder = found[1] if found else ""
         if path.endswith(".rt") and folder != "src":
             faults.append(f"{path} stands outside src/ of a crate")
         if path.endswith(".antt") and folder not in ("specs", "proofs"):
@@ -79,7 +78,7 @@ def without_clause(tree: Tree) -> List[str]:
     for source in [it for it in tree.sources if not it.is_test]:
         for number, line in enumerate(source.code, 1):
             function = re.match(r"\s*pub (?:const )?fn (\w+)", line)
-            head = re.split(r"^\s*\{$|\{$|;$", "\n".join(source.code[number - 1 :]), maxsplit=1, flags=re.MULTILINE)[0] if function else ""
+            head = re.split(r"\{\}?$|;$", "\n".join(source.code[number - 1 :]), maxsplit=1, flags=re.MULTILINE)[0] if function else ""
             if function and not re.search(r"^\s*ensures\b", head, re.MULTILINE):
                 found.append(f"{source.path} {function[1]}")
     return found

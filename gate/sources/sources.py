@@ -30,8 +30,7 @@ class Source:
     @cached_property
     def body(self) -> str:
         """The code without `use` items."""
-        text = "\n".join(self.code)
-        return re.sub(r"^\s*(pub )?(ghost )?use [^;]*;", lambda found: "\n" * found[0].count("\n"), text, flags=re.MULTILINE)
+        return re.sub(r"^\s*(pub )?(ghost )?use [^;]*;", "", "\n".join(self.code), flags=re.MULTILINE)
 
 
 def code_of(line: str) -> str:
