@@ -1,9 +1,8 @@
 //! The events of an engine: a constructor for each kind, and calls that emit one into a sink.
 //!
-//! Each call says which event it emits, and nothing else. `specs/Emitted.antt` has the words for what a unit emitted so far:
-//! which events, in which order ([`Emitted`]), or some events of which each has a property (`GrewBy`).
-//!
-//! [`Emitted`]: the list of the events that were emitted, in order
+//! The clauses of a call say which event it emits, and nothing else. What a unit has emitted is said
+//! by `Emitted`, the list of its events in order (`specs/Emitted.antt`), or by `GrewBy`, some events
+//! of which each has a property (`specs/Grown.antt` of `tk_engine_execute`).
 #![tactic(auto)]
 
 mod calls;

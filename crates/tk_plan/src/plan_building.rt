@@ -18,7 +18,7 @@ use tk_plan_units::Plan;
 /// # Errors
 /// `Field` with the place in that JSON, where a dynamic node has what only a static one may have, a
 /// success has a message, or the path of a file is empty; else the faults of the nodes in preorder,
-/// then `TooManyEvents`. Want of memory is `Memory` at any of them.
+/// then `TooManyEvents`. Where an allocation fails, the fault is `Memory`.
 pub fn build_plan(alloc: Global, root: &PlanNode<'_>) -> Result<Plan, PlanFault>
     ensures { Answered (PlanOf (plan_data root.now)) result }
 {

@@ -139,7 +139,7 @@ fn read_text(alloc: Global, bytes: &[u8]) -> Result<Reader, PlanFault>
 ///
 /// # Errors
 /// `Json` where `bytes` are no JSON. Else the first fault of the value's own members, then of its
-/// nodes in preorder, then `TooManyEvents`. Want of memory is `Memory` at any of them.
+/// nodes in preorder, then `TooManyEvents`. Where an allocation fails, the fault is `Memory`.
 pub fn read_plan(alloc: Global, bytes: &[u8]) -> Result<Plan, PlanFault>
     ensures { Answered (plan_in bytes.now) result }
 {

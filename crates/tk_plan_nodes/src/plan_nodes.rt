@@ -11,29 +11,40 @@ use tk_ids::DType;
 /// A lock that a node asks for.
 #[derive(Clone, Copy, Debug)]
 pub struct PlanLock<'t> {
+    /// The resource: locks of one key are of one resource; `global` is that of isolated nodes.
     pub key: &'t str,
+    /// Whether others may read the resource meanwhile.
     pub mode: LockMode,
 }
 
-/// A node of a plan in code, with all nodes below it. It borrows its texts, which `build_plan` copies.
+/// A node of a plan in code, with all nodes below it. It borrows its texts, which `build_plan`
+/// copies.
 ///
-/// Each field is the member of that name of a node in JSON, and is checked as that member is:
-/// only a static node may have a mode, be isolated, have locks or children.
+/// Each field is a member of a node in JSON (docs/FORMATS.md, Plan JSON), and is checked as that
+/// member is: only a static node may have a mode, be isolated, have locks or children.
 #[derive(Debug, Drop)]
 pub struct PlanNode<'t> {
+    /// Whether the node is a test, a container, or both: the member `type`.
     pub dtype: DType,
-    /// The tag and the value of the last segment of the node's id.
+    /// The tag of the last segment of the node's id.
     pub tag: &'t str,
+    /// The value of that segment.
     pub value: &'t str,
+    /// The name under which the node is shown.
     pub name: &'t str,
+    /// Whether the node may run beside its siblings.
     pub mode: ExecutionMode,
+    /// Whether nothing else runs beside the node: the member `isolated`.
     pub is_isolated: bool,
+    /// What the node locks while it runs.
     pub locks: Vec<PlanLock<'t>>,
     /// Why the node is skipped, if it is.
     pub skip: Option<&'t str>,
-    /// How the node finishes where its script is played, and the message with it.
+    /// How the node finishes where its script is played: the `status` of the member `result`.
     pub status: Status,
+    /// The `message` of the member `result`.
     pub message: Option<&'t str>,
+    /// The entries that the node publishes, each a list of keys and values.
     pub entries: Vec<Vec<(&'t str, &'t str)>>,
     /// The paths of the files that it publishes.
     pub files: Vec<&'t str>,
