@@ -12,21 +12,21 @@ TOP = os.path.dirname(os.path.dirname(os.path.dirname(os.path.abspath(__file__))
 SECONDS = 120
 """How many seconds a call may take: far more than any needs."""
 
-CRATES = "tk_low:\ntk_high: tk_low\ntestkit: tk_high\ntest_high: tk_high\n"
+CRATES = "# Libraries first.\ntk_low:\ntk_high: tk_low indexmap # below testkit\ntk_side tests_may=Wait:\ntestkit: tk_high tk_low tk_side\ntest_high: tk_high\n"
 
 RT = r"""#!/bin/sh
 # Stands for rt. As rt does, it refuses a crates.txt in a crate. Where a file 'slow' is there the proof takes a second, where 'endless' is
-# there it doesn't end, and it fails where 'broken', 'killed' or 'unlinked' is there. Where 'linking' is there the link doesn't end. Where
-# 'slow_to_end' is there it works until an interrupt, and then takes half a second to write 'ended'.
+# there it doesn't end, and it fails where 'broken', 'killed' or 'unlinked' is there, and says first what stands in 'broken'. Where 'linking'
+# is there the link doesn't end. Where 'slow_to_end' is there it works until an interrupt, and then takes half a second to write 'ended'.
 echo "$*" >>"$REPOSITORY/calls"
 [ ! -e "$REPOSITORY/killed" ] || kill -KILL $$
 cat >>"$REPOSITORY/read_by_rt"
-echo "rt: what rt prints"
+printf 'rt: what rt prints, with a byte that is no text: \377\n'
 echo "rt: what rt complains of" >&2
 if [ "$1" = all ]; then
     found=$(find "$REPOSITORY/crates" -name crates.txt)
     [ -z "$found" ] || { echo "rt: $found is inside another crate's files"; exit 2; }
-    for name in tk_low tk_high testkit; do echo "== $name"; done
+    for name in tk_low tk_side tk_high testkit; do echo "== $name"; done
     [ ! -e "$REPOSITORY/slow" ] || sleep 1
     if [ -e "$REPOSITORY/endless" ]; then echo $$ >"$REPOSITORY/endless"; exec sleep 600; fi
     if [ -e "$REPOSITORY/slow_to_end" ]; then
@@ -34,7 +34,7 @@ if [ "$1" = all ]; then
         echo $$ >"$REPOSITORY/slow_to_end"
         while :; do sleep 0.1; done
     fi
-    [ ! -e "$REPOSITORY/broken" ] || { echo "logic=not-proved"; exit 1; }
+    [ ! -e "$REPOSITORY/broken" ] || { cat "$REPOSITORY/broken"; echo "logic=not-proved"; exit 1; }
 elif [ -e "$REPOSITORY/unlinked" ]; then
     echo "ld: no room"
     exit 1
@@ -68,7 +68,7 @@ class Came:
 
 
 class Repository:
-    """A repository of three libraries and programs and a crate of tests, all sources an hour old."""
+    """A repository of three libraries, a program and a crate of tests, all sources an hour old."""
 
     def __init__(self, at: str):
         self.at = os.path.join(at, "a folder")
@@ -78,7 +78,7 @@ class Repository:
         self.write("crates.txt", CRATES)
         self.write("bin/rt", RT)
         os.chmod(f"{self.at}/bin/rt", 0o755)
-        for name in ("tk_low", "tk_high", "testkit", "test_high"):
+        for name in ("tk_low", "tk_high", "tk_side", "testkit", "test_high"):
             self.write(f"crates/{name}/src/lib.rt", "old")
             self.write(f"crates/{name}/src/parts/part.rt", "part")
             self.write(f"crates/{name}/specs/Lib.antt", "pub mod A")
@@ -115,7 +115,7 @@ class Repository:
 
     def end(self, ran: "subprocess.Popen[bytes]", data: Optional[bytes] = None) -> Came:
         output, error = ran.communicate(data, timeout=SECONDS)
-        return Came(ran.returncode, (output or b"").decode(), (error or b"").decode(), self.read("calls").splitlines().count("run"))
+        return Came(ran.returncode, (output or b"").decode(errors="replace"), (error or b"").decode(errors="replace"), self.read("calls").splitlines().count("run"))
 
     def call(self, *given, data: Optional[bytes] = None, **how) -> Came:
         """Calls `./testkit` once."""
