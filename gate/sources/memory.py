@@ -6,23 +6,23 @@ memory.
 """
 
 import re
-from typing import List, Sequence
+from itertools import takewhile
+from typing import List, Sequence, Set
 
 from sources import Source
 
 COMMENT = "// No allocation failed here:"
-MADE = re.compile(r"(?:[(>]\s*|^\s*|\breturn )AllocError\b(?!::|,? *>)|\b\w+::Memory\b")
-HANDED = re.compile(r"\bMemory\b|\bOutOfMemory\b|\bAllocError\b")
-TEST = re.compile(r"\bif let\b.*(\bMemory\b|\bAllocError\b)|\bis_memory\(\)")
-FROM = re.compile(r"impl.*\bFrom<(AllocError|AllocFailed<\w+>|TryReserveError)> for\b")
-NO_VALUE = re.compile(r"^\s*(ghost|ensures|requires|pub enum|use|pub use|\|)\b|[λ≡⊎×≢]|\bmatches!|\bif let\b|\|\s*$|^\s*\|")
-"""Lines in which the words stand in a clause, a pattern or a type."""
+MADE = re.compile(r"(?:\(|^\s*|\breturn )AllocError\b(?!::)|::Memory\b")
+HANDED = re.compile(r"\b(Memory|OutOfMemory|AllocError)\b")
+TEST = re.compile(r"\bif let\b.*\b(Memory|AllocError)\b|\bis_memory\(\)")
+FROM = re.compile(r"\bFrom<(AllocError|AllocFailed<)")
+PATTERN = re.compile(r"\bmatches!|\bif let\b")
 
 
 def is_made(lines: Sequence[str], at: int) -> bool:
     """Whether this line makes one that it was not handed."""
     pattern, arrow, value = lines[at].rpartition("=>")
-    if NO_VALUE.search(lines[at]) or not MADE.search(value):
+    if PATTERN.search(lines[at]) or not MADE.search(value):
         return False
     return not (arrow and HANDED.search(pattern)) and not any(TEST.search(line) for line in lines[max(0, at - 2) : at])
 
@@ -38,12 +38,9 @@ def made_in(source: Source) -> List[int]:
     return found
 
 
-def comment_above(source: Source, line: int) -> List[int]:
+def comment_above(source: Source, line: int) -> Set[int]:
     """The numbers of the lines of the comment right above a line."""
-    first = line
-    while first > 1 and source.lines[first - 2].strip().startswith("//"):
-        first -= 1
-    return list(range(first, line))
+    return {*takewhile(lambda at: source.lines[at - 1].strip().startswith("//"), range(line - 1, 0, -1))}
 
 
 def unexplained(sources: Sequence[Source]) -> List[str]:
@@ -52,7 +49,7 @@ def unexplained(sources: Sequence[Source]) -> List[str]:
     for source in [it for it in sources if not it.is_test]:
         comments = {at for at, line in enumerate(source.lines, 1) if re.search(re.escape(COMMENT) + r".*\w", line)}
         for line in made_in(source):
-            reasons = comments & {*comment_above(source, line)}
+            reasons = comments & comment_above(source, line)
             comments -= reasons
             if not reasons:
                 faults.append(f"{source.path}:{line}: a fault of memory is made, and no comment above says '{COMMENT}' and why")
