@@ -12,7 +12,7 @@ reading, and to its reading and dropping the value (`read_plan` reads and drops 
 import json
 import os
 import statistics
-from typing import Dict, List
+from typing import Any, Dict, List
 
 import building
 import timing
@@ -20,34 +20,38 @@ import timing
 USAGE = "bench/measure_plan.py"
 HERE = building.folder_of("plan")
 MAX_TEXT = 16 * 2**20
-ROUNDS = 5
+
+Node = Dict[str, Any]
+"""A node as JSON has it."""
 
 
-def node(tag, value, name, **members):
+def node(tag: str, value: str, name: str, **members: Any) -> Node:
+    """A test."""
     return dict(type="test", segment=[tag, value], name=name, **members)
 
 
-def group(value, children):
+def group(value: str, children: List[Node]) -> Node:
+    """A class that may run beside others."""
     return dict(type="container", segment=["class", value], name=value, mode="concurrent", children=children)
 
 
-def chain(levels, children):
+def chain(levels: int, children: List[Node]) -> List[Node]:
     """One container below the other, and these children below the last."""
     for _ in range(levels):
         children = [dict(type="container", segment=["s", "x"], name="n", children=children)]
     return children
 
 
-def count(node, is_dynamic, kinds):
-    """Counts the static and the dynamic nodes."""
+def count(root: Node, is_dynamic: bool, kinds: List[int]) -> None:
+    """Adds a node and those below it to the numbers of the static and of the dynamic nodes."""
     kinds[is_dynamic] += 1
-    for child in node.get("children", []):
+    for child in root.get("children", []):
         count(child, False, kinds)
-    for child in node.get("dynamic", []):
+    for child in root.get("dynamic", []):
         count(child, True, kinds)
 
 
-def shapes() -> Dict[str, dict]:
+def shapes() -> Dict[str, Node]:
     """The members of the root of each plan."""
     methods = [node("method", f"method{m}()", "n" * 150, mode="concurrent", locks=[]) for m in range(99)]
     ten = [[["key", "value"], ["other", "value"]]] * 10
@@ -61,7 +65,7 @@ def shapes() -> Dict[str, dict]:
     }
 
 
-def write_plan(path: str, members: dict) -> str:
+def write_plan(path: str, members: Node) -> str:
     """Writes a plan; returns how many nodes it has."""
     root, kinds = dict(type="container", segment=["engine", "bench"], name="bench", **members), [0, 0]
     text = json.dumps(dict(version=1, root=root), separators=(",", ":"))
@@ -88,7 +92,7 @@ def measure(folder: str, _words: List[str]) -> None:
         nodes = write_plan(path, members)
         if not os.path.exists(program):
             building.run_crate(crate, path)
-        rounds = [(microseconds([program, "json"], path), microseconds([program], path)) for _ in range(ROUNDS)]
+        rounds = [(microseconds([program, "json"], path), microseconds([program], path)) for _ in range(timing.ROUNDS)]
         alone, both = (statistics.median(theirs[it] for theirs, _ in rounds) / 1e6 for it in (0, 1))
         plan = statistics.median(ours[0] for _, ours in rounds) / 1e6
         print(

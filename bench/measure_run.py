@@ -9,7 +9,7 @@ second by the clock.
 import filecmp
 import json
 import os
-from typing import List
+from typing import Any, Dict, List
 
 import building
 import timing
@@ -20,12 +20,16 @@ WORKERS = [1, 2, 4]
 STATISTICS = ["skipped", "started", "finished", "reporting", "dynamic", "files"]
 """The lines of a report whose numbers together are that of the events."""
 
+Node = Dict[str, Any]
+"""A node as JSON has it."""
 
-def node(kind, tag, value, **members):
+
+def node(kind: str, tag: str, value: str, **members: Any) -> Node:
+    """A node that may run beside others."""
     return dict(type=kind, segment=[tag, value], name=value, mode="concurrent", **members)
 
 
-def groups(tests, containers, **members):
+def groups(tests: int, containers: int, **members: Any) -> List[Node]:
     """Tests, in containers of the same size."""
     size = tests // containers
     return [
@@ -39,26 +43,26 @@ def groups(tests, containers, **members):
     ]
 
 
-def chain(levels, tests):
+def chain(levels: int, tests: int) -> List[Node]:
     """Tests below one chain of containers."""
     children = [node("test", "method", f"test{test}()") for test in range(tests)]
-    for level in range(levels):
+    for _ in range(levels):
         children = [node("container", "s", "x", children=children)]
     return children
 
 
-def entries(number):
+def entries(number: int) -> List[List[List[str]]]:
     """What a test reports."""
     return [[[f"k{entry}", "v"]] for entry in range(number)]
 
 
-def write_plan(path: str, children) -> None:
+def write_plan(path: str, children: List[Node]) -> None:
     root = node("container", "engine", "bench", children=children)
     with open(path, "w", encoding="utf-8") as file:
         json.dump(dict(version=1, root=root), file, separators=(",", ":"))
 
 
-def plans():
+def plans() -> Dict[str, List[Node]]:
     """The children of the root of each plan."""
     return {
         "groups": groups(19_800, 300),
