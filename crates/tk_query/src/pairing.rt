@@ -70,18 +70,12 @@ fn step_at(record: &Record, position: usize) -> Option<ExecutionStep>
     }
 }
 
-// How many executions the events show at most: no more than end.
-fn most_executions(events: &Events) -> usize {
-    let statistics = events.statistics();
-    statistics.skipped.saturating_add(statistics.finished) as usize
-}
-
 /// The executions that the events show.
 pub fn executions(alloc: Global, events: &Events) -> Result<Executions, AllocError>
     ensures { IfOk result (λ list. AreExecutions (step_at events.now) list) }
 {
     let mut starts = OpenStarts::new(alloc);
-    let mut items = Vec::with_capacity(alloc, most_executions(events))?;
+    let mut items = Vec::new(alloc);
     let mut next = 0;
     'events: while let Some(position) = events.flags().first_from(next) {
         next = position + 1;

@@ -16,8 +16,8 @@ events-preserved-in_default-step_at c =
     paired_past (step_at asked) c.in-Some.position (open_of c.events.starts) c.events.items.items here
     (step_set asked flags are c.«record».result.now c.«record».ensures c.in-Some.position c.step_at.result set.set c.step_at.ensures ∙ c.in_default-step_at.is)
 
-pub events-preserved-in-Continue-branch-4 : goal.events-preserved-in-Continue-branch-4
-events-preserved-in-Continue-branch-4 c =
+pub events-preserved-in-Continue-branch-3 : goal.events-preserved-in-Continue-branch-3
+events-preserved-in-Continue-branch-3 c =
     let asked = c.args.events.now in
     let flags = c.flags.result.now in
     let are : AreFlags asked flags = record { kept = c.flags.ensures.kept } in
