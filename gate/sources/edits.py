@@ -38,7 +38,7 @@ def edit_fault(tree: Tree, path: str) -> str:
     for line in tree.text(path).split("\n"):
         word, _, rest = line.partition(": ")
         if word == "file":
-            file = rest.strip()
+            file = rest
             if not re.fullmatch(r"src/[\w/]+\.rt", file):
                 return f"{file} is no source"
             texts.setdefault(file, (tree.text(f"{crate}/{file}"),) * 2)
