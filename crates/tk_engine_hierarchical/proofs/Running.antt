@@ -34,7 +34,8 @@ use Rattle.tk_engine_hierarchical.specs.RegisteredIds.{is_registered}
 use Rattle.tk_engine_hierarchical.specs.Reporting.{publishes}
 use Rattle.tk_engine_hierarchical.specs.declared.running_keys.RunningKey.{RunningKey}
 use Rattle.tk_engine_hierarchical.specs.Running.{RunningId, id_at, keys_of, with_id, with_ids}
-use Rattle.tk_engine_hierarchical.specs.Shapes.{HasParentAt, ShapeView, frame}
+use Rattle.tk_plan_units.specs.Parents.{HasParentAt}
+use Rattle.tk_engine_hierarchical.specs.Shapes.{ShapeView, frame}
 use Rattle.tk_engine_hierarchical.proofs.Nesting.{Adds, IsNext, IsWithin, below_parent, each_finishes, nest_later, nesting_finish, nesting_none, nesting_plain, nesting_start, within_all, within_first}
 use Rattle.tk_engine_hierarchical.proofs.Owned.{owner_child, owner_static}
 use Rattle.tk_engine_hierarchical.proofs.Emitted.{Registered, Registering, emitted_finish, emitted_all, emitted_registration, emitted_report, emitted_skip, emitted_start, emitting_later, emitting_none, emitting_noted, registered_skip, registered_start, sender_later, sender_now}

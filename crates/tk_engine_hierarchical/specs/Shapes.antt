@@ -1,8 +1,6 @@
 -- What stands around the units of an engine.
 use Rattle.std.specs.Prelude.{◌≡◌, ◌⊎◌, ◌<◌, ◌≤◌, ℕ, Bool, true, List, Some}
 use Rattle.std.specs.Prelude.{get_or, length, slice_get}
-use Rattle.tk_ids.specs.IdText.{SegmentView, parent_of}
-use Rattle.tk_ids.specs.Table.{ids_of}
 use Rattle.tk_ids.specs.declared.descriptors.Descriptor.{Descriptor}
 use Rattle.tk_events.specs.declared.events.Event.{Event}
 use Rattle.tk_queue.specs.Emission.{entries_by}
@@ -60,15 +58,3 @@ abbrev pub HavePlaces : ShapeView → Type 0
 HavePlaces s =
     (key : ℕ) → key < length s.table
     → IsInUnit s.units s.firsts s.ends key ⊎ (runs key (entries_by 0 s.before) ≡ true)
-
--- a static key has an id of more than one segment, and a second key the id above it
-pub record HasParentAt (table : List Descriptor) (key above : ℕ) : Type 0 where
-  pub id : List SegmentView
-  pub its : slice_get (ids_of table) key ≡ Some id
-  pub long : 1 < length id
-  pub parent : slice_get (ids_of table) above ≡ Some (parent_of id)
-
--- each static key but the first has its parent at the key above it
-abbrev pub HaveParents : List Descriptor → List ℕ → Type 0
-HaveParents table above =
-    (key : ℕ) → 0 < key → key < length table → HasParentAt table key (get_or above key 0)

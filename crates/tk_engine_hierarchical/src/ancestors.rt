@@ -1,6 +1,5 @@
 //! Which ids stand above which.
 ghost use Rattle.std.specs.Prelude.{◌≡◌, IsTrue, length, take};
-ghost use Rattle.tk_ids.specs.IdText.{parent_of};
 ghost use Rattle.tk_engine_hierarchical.specs.Covered.{IsBelow};
 
 use tk_ids::{Segment, UniqueId};
@@ -27,13 +26,6 @@ fn begins_with(id: &UniqueId, above: &UniqueId) -> bool
         }
     }
     true
-}
-
-/// Whether an id is another without its last segment.
-pub(crate) fn is_parent(above: &UniqueId, id: &UniqueId) -> bool
-    ensures { IsTrue result → above.now ≡ parent_of id.now }
-{
-    id.segments().len() == above.segments().len() + 1 && begins_with(id, above)
 }
 
 /// Whether an id stands below another.

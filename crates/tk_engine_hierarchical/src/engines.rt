@@ -2,6 +2,7 @@
 ghost use Rattle.std.specs.Prelude.{◌≡◌, length, IfOk, Some};
 ghost use Rattle.tk_plan_units.specs.Trees.{forest};
 ghost use Rattle.tk_plan_units.specs.Cutting.{before_of, after_of, units_of};
+ghost use Rattle.tk_plan_units.specs.Parents.{AreParents};
 ghost use Rattle.tk_engine_lifecycle.specs.Units.{KeepsAround};
 ghost use Rattle.tk_engine_hierarchical.specs.FaultTexts.{hierarchical_fault_text};
 ghost use Rattle.tk_engine_hierarchical.specs.Shapes.{frame, HavePlaces};
@@ -19,7 +20,7 @@ use tk_book::{BookSeat, Need};
 use tk_engine::{Engine, Scripted, Sink, UnitFault};
 use tk_events::Event;
 use tk_ids::Table;
-use tk_plan_units::Plan;
+use tk_plan_units::{Plan, UnitTree};
 
 /// Why there is no engine of a plan.
 #[derive(Debug, Drop)]
@@ -67,53 +68,45 @@ pub struct Hierarchical<T> {
     ghost units: { shape.units ≡ length (units_of (forest scripted.nodes)) },
 }
 
-// A static key, and the unit to which it belongs.
-#[derive(Clone, Copy, Drop)]
-struct OwnedKey {
-    key: u32,
-    owner: u32,
+// How many of a unit's nodes are static.
+fn count_statics(tree: UnitTree<'_>) -> u32 {
+    let mut count: u32 = 1;
+    for numbered_node in tree.below {
+        if numbered_node.node.is_static {
+            count = count.saturating_add(1);
+        }
+    }
+    count
+}
+
+// Adds an owner for each key below an end that has none.
+fn push_owners(owners: &mut Vec<u32>, owner: u32, end: u32) -> Result<(), AllocError> {
+    for _ in owners.len()..end as usize {
+        owners.push(owner)?;
+    }
+    Ok(())
 }
 
 // Which static keys belong to which unit; those of the spine to none, by the number of the units.
-fn keys_of_units(alloc: Global, plan: &Plan) -> Result<KeysOfUnits, AllocError> {
-    let none = OwnedKey {
-        key: 0,
-        owner: plan.units().len() as u32,
-    };
-    let mut owners: Vec<u32> = Vec::new(alloc);
-    let mut keys_above: Vec<u32> = Vec::new(alloc);
-    let mut firsts: Vec<u32> = Vec::new(alloc);
-    let mut ends: Vec<u32> = Vec::new(alloc);
-    let mut path: Vec<OwnedKey> = Vec::new(alloc);
-    let mut key: u32 = 0;
-    for descriptor in plan.table().iter() {
-        let next = key.saturating_add(1);
-        let depth = descriptor.id.segments().len();
-        path.truncate(depth.saturating_sub(1));
-        let above = match path.as_slice().last() {
-            Some(parent) => *parent,
-            None => none,
-        };
-        let unit = ends.len();
-        let begins = match plan.units().get(unit) {
-            Some(root) => *root == key,
-            None => false,
-        };
-        let owner = if begins { unit as u32 } else { above.owner };
-        if begins {
-            firsts.push(key)?;
-            ends.push(next)?;
-        } else if (owner as usize) < ends.len() {
-            ends[owner as usize] = next;
-        }
-        owners.push(owner)?;
-        keys_above.push(above.key)?;
-        path.push(OwnedKey { key, owner })?;
-        key = next;
+fn keys_of_units(alloc: Global, plan: &Plan) -> Result<KeysOfUnits, AllocError>
+    ensures { IfOk result (λ keys. AreParents plan.now.table keys.parents.items) }
+{
+    let none = plan.units().len() as u32;
+    let parents = plan.parents(alloc)?;
+    let mut owners = Vec::with_capacity(alloc, plan.table().len())?;
+    let mut firsts = Vec::with_capacity(alloc, plan.units().len())?;
+    let mut ends = Vec::with_capacity(alloc, plan.units().len())?;
+    for (unit, first) in plan.units().iter().enumerate() {
+        let end = first.saturating_add(count_statics(plan.unit_tree(unit as u32)));
+        firsts.push(*first)?;
+        ends.push(end)?;
+        push_owners(&mut owners, none, *first)?;
+        push_owners(&mut owners, unit as u32, end)?;
     }
+    push_owners(&mut owners, none, plan.table().len() as u32)?;
     Ok(KeysOfUnits {
         owners,
-        above: keys_above,
+        parents,
         firsts,
         ends,
     })

@@ -1,10 +1,9 @@
 //! The engine of a plan whose tests have bodies.
-ghost use Rattle.std.specs.Prelude.{◌≡◌, ◌⊎◌, ◌<◌, ℕ, All, Err, IfOk, IfSome, IsTrue, OnOk, length, unwrap_or};
+ghost use Rattle.std.specs.Prelude.{◌≡◌, ◌⊎◌, ◌<◌, ℕ, Err, IfOk, IfSome, IsTrue, OnOk, length, unwrap_or};
 ghost use Rattle.tk_engine_execute.specs.declared.engines.UnitFault.{UnitFault};
 ghost use Rattle.tk_engine_execute.specs.declared.engines.UnitFault.TheVariants.{Own};
-ghost use Rattle.tk_plan_units.specs.Known.{IsKnown};
 ghost use Rattle.tk_plan_units.specs.Cutting.{units_of};
-ghost use Rattle.tk_plan_units.specs.Trees.{forest};
+ghost use Rattle.tk_plan_units.specs.Trees.{IsForest, forest};
 ghost use Rattle.tk_engine_execute.specs.Engines.{Extends, IsSameSender};
 ghost use Rattle.tk_events.specs.declared.kinds.Kind.TheVariants.{Finished};
 ghost use Rattle.tk_engine_hierarchical.specs.Endings.{IsStaticTest, payload_of};
@@ -16,39 +15,36 @@ ghost use Rattle.tk_engine_hierarchical.specs.declared.tests.Outcome.{Outcome};
 use crate::leases::Lease;
 use crate::reporters::Reporter;
 use crate::shapes::Shape;
-use crate::stacks::Stack;
 use crate::tests::{OUT_OF_ORDER, Outcome, Tests, payload_of};
 use crate::unit_events::{Child, UnitEvents};
 use crate::unit_runs::UnitRun;
 use std::alloc::Global;
 use std::sync::Wait;
 use tk_engine_execute::{Sink, UnitFault};
-use tk_events::{Kind, Payload};
-use tk_plan_units::{Act, Plan, Step};
+use tk_events::{Kind, Payload, try_clone_message};
+use tk_ids::Text;
+use tk_plan_units::{Node, NumberedNode, Plan};
 
-// The outcome of a test that runs, and the stamp that it set, where it did.
+// The stamps that the plan has for the events of a unit: the positions in the root's script.
 #[derive(Drop)]
-struct Ended {
-    key: u32,
-    outcome: Outcome,
-    stamp: Option<u64>,
+struct PlannedStamps {
+    next: u64,
 }
 
-// Takes the last test off, where it is that node.
-fn take_ended<T: Tests>(tests: &T, ended: &mut Stack<Ended>, node: u32) -> Option<Ended>
-    requires { All (λ e. T.may_end tests.now e.key e.outcome) ended.old }
-    ensures others { All (λ e. T.may_end tests.now e.key e.outcome) ended.new }
-    ensures last { IfSome result (λ e. T.may_end tests.now e.key e.outcome) }
-{
-    let _ = tests;
-    let has_body = match ended.top() {
-        Some(last) => last.key == node,
-        None => false,
-    };
-    if !has_body {
-        return None;
+impl PlannedStamps {
+    // The stamp of the next event.
+    fn take(&mut self) -> u64 {
+        let stamp = self.next;
+        self.next = stamp.saturating_add(1);
+        stamp
     }
-    ended.pop()
+}
+
+// The outcome of a test that ran, and the stamp that it set, where it did.
+#[derive(Drop)]
+struct Ended {
+    outcome: Outcome,
+    stamp: Option<u64>,
 }
 
 // Runs the body of a test. The stamp is the one that the test set, where it did.
@@ -59,157 +55,217 @@ fn run_test<R: Wait, S: Sink, K: UnitRun, T: Tests>(
     key: u32,
     reporter: &mut Reporter<'_, S, K>,
 ) -> Result<Ended, UnitFault>
-    ensures key { IfOk result (λ e. e.key ≡ key) }
-    ensures may { IfOk result (λ e. T.may_end tests.now e.key e.outcome) }
+    ensures may { IfOk result (λ e. T.may_end tests.now key e.outcome) }
     ensures stamp { IfOk result (λ e. e.stamp ≡ reporter.new.events.own_stamp) }
 {
     let outcome = tests.run(rt, alloc, key, reporter)?;
     Ok(Ended {
-        key,
         outcome,
         stamp: reporter.events.own_stamp(),
     })
 }
 
+// Runs the body of a node that started with this key, where it is a static test.
+fn run_node<R: Wait, S: Sink, K: UnitRun, T: Tests>(
+    rt: &R,
+    alloc: Global,
+    tests: &T,
+    node: &Node,
+    key: u32,
+    reporter: &mut Reporter<'_, S, K>,
+) -> Result<Option<Ended>, UnitFault>
+    ensures { IfOk result (λ ended. IfSome ended (λ e. T.may_end tests.now key e.outcome)) }
+{
+    if !node.is_static || !node.dtype.is_test() {
+        return Ok(None);
+    }
+    let ended = run_test(rt, alloc, tests, key, reporter)?;
+    Ok(Some(ended))
+}
+
+// What is registered for a dynamic node.
+fn child_of(node: &Node) -> Child<'_> {
+    Child {
+        segment: &node.segment,
+        name: node.name.as_str(),
+        dtype: node.dtype,
+    }
+}
+
+// Starts a node, and answers its key: a static one has it already, any other is registered.
+fn start_node<R: Wait, S: Sink, K: UnitRun>(
+    rt: &R,
+    alloc: Global,
+    numbered_node: &NumberedNode,
+    stamp: u64,
+    reporter: &mut Reporter<'_, S, K>,
+) -> Result<u32, UnitFault> {
+    reporter.events.set_planned_stamp(stamp);
+    if numbered_node.node.is_static {
+        let key = numbered_node.number;
+        reporter.events.start(rt, key, stamp)?;
+        return Ok(key);
+    }
+    let child = child_of(&numbered_node.node);
+    reporter.events.start_child(rt, alloc, &child, stamp)
+}
+
+// Skips a node.
+fn skip_node<R: Wait, S: Sink, K: UnitRun>(
+    rt: &R,
+    alloc: Global,
+    numbered_node: &NumberedNode,
+    reason: &Text,
+    stamp: u64,
+    reporter: &mut Reporter<'_, S, K>,
+) -> Result<(), UnitFault> {
+    let reason = Payload::Reason(reason.try_clone()?);
+    if numbered_node.node.is_static {
+        return reporter
+            .events
+            .skip(rt, numbered_node.number, stamp, reason);
+    }
+    let child = child_of(&numbered_node.node);
+    reporter.events.skip_child(rt, alloc, &child, stamp, reason)
+}
+
+// Whether the plan has entries or files for a node.
+fn publishes(node: &Node) -> bool {
+    !node.entries.as_slice().is_empty() || !node.files.as_slice().is_empty()
+}
+
+// Publishes the entries and the files that the plan has for a node.
+fn publish_planned<R: Wait, S: Sink, K: UnitRun>(
+    rt: &R,
+    alloc: Global,
+    node: &Node,
+    stamps: &mut PlannedStamps,
+    reporter: &mut Reporter<'_, S, K>,
+) -> Result<(), UnitFault> {
+    for entry in node.entries.as_slice() {
+        let pairs = Payload::Report(entry.try_clone(alloc)?);
+        reporter
+            .events
+            .publish(rt, Kind::Reporting, stamps.take(), pairs)?;
+    }
+    for path in node.files.as_slice() {
+        let path = Payload::Path(path.try_clone()?);
+        reporter
+            .events
+            .publish(rt, Kind::File, stamps.take(), path)?;
+    }
+    Ok(())
+}
+
 // Finishes a test with its outcome, at the stamp that it set, or else at the plan's.
 fn finish_test<R: Wait, S: Sink, K: UnitRun>(
     rt: &R,
+    key: u32,
     test: Ended,
     planned: u64,
     reporter: &mut Reporter<'_, S, K>,
 ) -> Result<(), UnitFault>
-    requires { IsStaticTest K.frame.table test.key → K.may_end test.key test.outcome }
+    requires { IsStaticTest K.frame.table key → K.may_end key test.outcome }
     ensures { OnOk result (HasFinished reporter.old.events reporter.new.events
-        (event Finished test.key (unwrap_or test.stamp planned) (payload_of test.outcome))) }
+        (event Finished key (unwrap_or test.stamp planned) (payload_of test.outcome))) }
 {
     let stamp = test.stamp.unwrap_or(planned);
     let outcome = payload_of(test.outcome);
-    reporter.events.finish(rt, test.key, stamp, outcome)
-}
-
-// Finishes the innermost running key with the outcome that the plan has for it, which is none that a
-// test's body gave.
-fn finish_without_body<R: Wait, S: Sink, K: UnitRun>(
-    rt: &R,
-    stamp: u64,
-    outcome: Payload,
-    reporter: &mut Reporter<'_, S, K>,
-) -> Result<(), UnitFault> {
-    let Some(key) = reporter.events.innermost() else {
-        return Err(UnitFault::Own(OUT_OF_ORDER));
-    };
-    if reporter.events.is_static_test(key) {
-        return Err(UnitFault::Own(OUT_OF_ORDER));
-    }
     reporter.events.finish(rt, key, stamp, outcome)
 }
 
-// Starts a node: a static one by its key, any other by its registration; runs the body of a test.
-fn start_node<R: Wait, S: Sink, K: UnitRun, T: Tests>(
+// Finishes a node that has no body with the outcome that the plan has for it.
+fn finish_without_body<R: Wait, S: Sink, K: UnitRun>(
+    rt: &R,
+    key: u32,
+    node: &Node,
+    stamp: u64,
+    reporter: &mut Reporter<'_, S, K>,
+) -> Result<(), UnitFault> {
+    if reporter.events.is_static_test(key) {
+        return Err(UnitFault::Own(OUT_OF_ORDER));
+    }
+    let outcome = Payload::Outcome(node.status, try_clone_message(&node.message)?);
+    reporter.events.finish(rt, key, stamp, outcome)
+}
+
+// Runs a node that isn't skipped, and what stands below it, from its start to its finish.
+#[cycle(running)]
+fn run_started<R: Wait, S: Sink, K: UnitRun, T: Tests>(
     rt: &R,
     alloc: Global,
-    plan: &Plan,
     tests: &T,
-    step: Step,
-    ended: &mut Stack<Ended>,
+    numbered_node: &NumberedNode,
+    below: &[NumberedNode],
+    stamps: &mut PlannedStamps,
     reporter: &mut Reporter<'_, S, K>,
 ) -> Result<(), UnitFault>
-    requires known { IsKnown plan.now.nodes step.node step.act }
+    requires below { IsForest below.now }
     requires may { (key : ℕ) (o : Outcome) → T.may_end tests.now key o → K.may_end key o }
-    requires ended { All (λ e. T.may_end tests.now e.key e.outcome) ended.old }
-    ensures { OnOk result (All (λ e. T.may_end tests.now e.key e.outcome) ended.new) }
 {
-    reporter.events.set_planned_stamp(step.stamp);
-    if (step.node as usize) >= plan.table().len() {
-        let child = Child {
-            segment: plan.segment(step.node),
-            name: plan.name(step.node),
-            dtype: plan.dtype(step.node),
-        };
-        reporter.events.start_child(rt, alloc, &child, step.stamp)?;
-        return Ok(());
+    let node = &numbered_node.node;
+    let key = start_node(rt, alloc, numbered_node, stamps.take(), reporter)?;
+    let ended = run_node(rt, alloc, tests, node, key, reporter)?;
+    // Most tests have neither.
+    if publishes(node) {
+        publish_planned(rt, alloc, node, stamps, reporter)?;
     }
-    reporter.events.start(rt, step.node, step.stamp)?;
-    if plan.dtype(step.node).is_test() {
-        let last = run_test(rt, alloc, tests, step.node, reporter)?;
-        ended.push(last)?;
+    if !below.is_empty() {
+        run_all(rt, alloc, tests, below, stamps, reporter)?;
+    }
+    match ended {
+        Some(test) => finish_test(rt, key, test, stamps.take(), reporter),
+        None => finish_without_body(rt, key, node, stamps.take(), reporter),
+    }
+}
+
+// Runs the trees that some nodes in preorder are, one after another.
+#[cycle(running)]
+fn run_all<R: Wait, S: Sink, K: UnitRun, T: Tests>(
+    rt: &R,
+    alloc: Global,
+    tests: &T,
+    nodes: &[NumberedNode],
+    stamps: &mut PlannedStamps,
+    reporter: &mut Reporter<'_, S, K>,
+) -> Result<(), UnitFault>
+    requires nodes { IsForest nodes.now }
+    requires may { (key : ℕ) (o : Outcome) → T.may_end tests.now key o → K.may_end key o }
+{
+    let mut rest = nodes;
+    while let [numbered_node, after @ ..] = rest {
+        let (below, others) = numbered_node.split(after);
+        run_tree(rt, alloc, tests, numbered_node, below, stamps, reporter)?;
+        rest = others;
     }
     Ok(())
 }
 
-// Does a step of a unit's script.
-fn do_step<R: Wait, S: Sink, K: UnitRun, T: Tests>(
+// Runs or skips a node, and what stands below it.
+#[cycle(running)]
+fn run_tree<R: Wait, S: Sink, K: UnitRun, T: Tests>(
     rt: &R,
     alloc: Global,
-    plan: &Plan,
     tests: &T,
-    step: Step,
-    ended: &mut Stack<Ended>,
+    numbered_node: &NumberedNode,
+    below: &[NumberedNode],
+    stamps: &mut PlannedStamps,
     reporter: &mut Reporter<'_, S, K>,
 ) -> Result<(), UnitFault>
-    requires known { IsKnown plan.now.nodes step.node step.act }
+    requires below { IsForest below.now }
     requires may { (key : ℕ) (o : Outcome) → T.may_end tests.now key o → K.may_end key o }
-    requires ended { All (λ e. T.may_end tests.now e.key e.outcome) ended.old }
-    ensures { OnOk result (All (λ e. T.may_end tests.now e.key e.outcome) ended.new) }
 {
-    match step.act {
-        // What is registered is so when it starts or is skipped.
-        Act::Register { parent: _ } => Ok(()),
-        Act::Start => start_node(rt, alloc, plan, tests, step, ended, reporter),
-        Act::Skip => {
-            let reason = plan.payload(alloc, step)?;
-            if (step.node as usize) < plan.table().len() {
-                return reporter.events.skip(rt, step.node, step.stamp, reason);
-            }
-            let child = Child {
-                segment: plan.segment(step.node),
-                name: plan.name(step.node),
-                dtype: plan.dtype(step.node),
-            };
-            reporter
-                .events
-                .skip_child(rt, alloc, &child, step.stamp, reason)
-        }
-        Act::Report(_) => {
-            let pairs = plan.payload(alloc, step)?;
-            reporter
-                .events
-                .publish(rt, Kind::Reporting, step.stamp, pairs)
-        }
-        Act::File(_) => {
-            let path = plan.payload(alloc, step)?;
-            reporter.events.publish(rt, Kind::File, step.stamp, path)
-        }
-        Act::Finish => {
-            if let Some(last) = take_ended(tests, ended, step.node) {
-                return finish_test(rt, last, step.stamp, reporter);
-            }
-            let outcome = plan.payload(alloc, step)?;
-            finish_without_body(rt, step.stamp, outcome, reporter)
-        }
+    // The script registers a dynamic node by a step of its own.
+    if !numbered_node.node.is_static {
+        let _registered = stamps.take();
+    }
+    match &numbered_node.node.skip {
+        Some(reason) => skip_node(rt, alloc, numbered_node, reason, stamps.take(), reporter),
+        None => run_started(rt, alloc, tests, numbered_node, below, stamps, reporter),
     }
 }
 
-// Does all steps of a unit's script.
-fn do_steps<R: Wait, S: Sink, K: UnitRun, T: Tests>(
-    rt: &R,
-    alloc: Global,
-    plan: &Plan,
-    tests: &T,
-    steps: &[Step],
-    reporter: &mut Reporter<'_, S, K>,
-) -> Result<(), UnitFault>
-    requires known { All (λ s. IsKnown plan.now.nodes s.node s.act) steps.now }
-    requires may { (key : ℕ) (o : Outcome) → T.may_end tests.now key o → K.may_end key o }
-{
-    let mut ended = Stack::new(alloc);
-    for step in steps {
-        do_step(rt, alloc, plan, tests, *step, &mut ended, reporter)?;
-    }
-    Ok(())
-}
-
-// How a unit ended, of which the script was played: well only where no key runs, and each static one
+// How a unit ended that was run so: well only where no key runs, and each static one
 // had its turn.
 fn ending(played: Result<(), UnitFault>, rests: bool, had_turns: bool) -> Result<(), UnitFault>
     ensures rests { OnOk result (IsTrue rests) }
@@ -252,18 +308,20 @@ pub(crate) fn run_unit<'a, R: Wait, S: Sink, K: UnitRun, T: Tests>(
     ensures run { OnOk ran.new
         (HasRun K.frame K.may_end K.keys K.start (S.view result.sink.now)) }
 {
-    let steps = match plan.script(alloc, unit) {
-        Ok(steps) => steps,
-        Err(_) => {
-            // No allocation failed here: the script's did.
-            *ran = Err(UnitFault::Memory);
-            return lease;
-        }
-    };
+    let tree = plan.unit_tree(unit);
+    let mut stamps = PlannedStamps { next: tree.first };
     let mut reporter: Reporter<'a, S, K> = Reporter {
         events: UnitEvents::begin(alloc, lease, shape, unit),
     };
-    let played = do_steps(rt, alloc, plan, tests, steps.as_slice(), &mut reporter);
+    let played = run_tree(
+        rt,
+        alloc,
+        tests,
+        tree.top,
+        tree.below,
+        &mut stamps,
+        &mut reporter,
+    );
     let Reporter { events } = reporter;
     let (lease, rests, had_turns) = events.end();
     *ran = ending(played, rests, had_turns);

@@ -8,9 +8,9 @@ ghost use Rattle.tk_query.specs.KeepsLifecycle.{KeepsLifecycle};
 ghost use Rattle.tk_query.specs.Lifecycle.{runs};
 ghost use Rattle.tk_engine_execute.specs.Engines.{IsStaticEvent};
 ghost use Rattle.tk_engine_lifecycle.specs.Units.{KeepsAround};
-ghost use Rattle.tk_engine_hierarchical.specs.Shapes.{frame, keys_in, AreRunning, HasParentAt, HaveParents, HavePlaces, IsInUnit};
+ghost use Rattle.tk_plan_units.specs.Parents.{AreParents, HasParentAt};
+ghost use Rattle.tk_engine_hierarchical.specs.Shapes.{frame, keys_in, AreRunning, HavePlaces, IsInUnit};
 
-use crate::ancestors::is_parent;
 use std::alloc::{AllocError, Global};
 use std::marker::Model;
 use std::sync::Arc;
@@ -21,18 +21,18 @@ use tk_query::{Lifecycle, lifecycle};
 use tk_record_columns::Record;
 
 /// Which static keys belong to which unit: for each key its unit, and for each unit its first key
-/// and the end of its keys. Beside them the key above each key.
+/// and the end of its keys. Beside them the number of each key's parent.
 #[derive(Drop)]
 pub(crate) struct KeysOfUnits {
     pub(crate) owners: Vec<u32>,
-    pub(crate) above: Vec<u32>,
+    pub(crate) parents: Vec<u32>,
     pub(crate) firsts: Vec<u32>,
     pub(crate) ends: Vec<u32>,
 }
 
 /// The table of an engine, its events before and after its units, and which static key belongs to
 /// which unit. The record without a unit keeps the lifecycle. Each static key belongs to a unit or
-/// runs before the units, and each but the first stands below the key above it.
+/// runs before the units.
 #[derive(Drop)]
 pub(crate) struct Shape {
     table: Arc<Table>,
@@ -47,7 +47,8 @@ impl Model for Shape {
     ghost use Rattle.std.specs.Arc.{arc_value};
     ghost use Rattle.tk_ids.specs.Table.{AreDifferent};
     ghost use Rattle.tk_engine_lifecycle.specs.Units.{KeepsAround};
-    ghost use Rattle.tk_engine_hierarchical.specs.Shapes.{ShapeView, frame, AreRunning, HaveParents, HavePlaces};
+    ghost use Rattle.tk_plan_units.specs.Parents.{AreParents};
+    ghost use Rattle.tk_engine_hierarchical.specs.Shapes.{ShapeView, frame, AreRunning, HavePlaces};
 
     ghost Value = { ShapeView };
 
@@ -78,7 +79,7 @@ impl Model for Shape {
       firsts = s.keys.firsts.items;
       ends = s.keys.ends.items;
     }) × AreDifferent (arc_value s.table)
-        × HaveParents (arc_value s.table) s.keys.above.items };
+        × AreParents (arc_value s.table) s.keys.parents.items };
 }
 
 // Whether an event is of a static descriptor that belongs to no unit, and registers nothing.
@@ -257,43 +258,6 @@ fn have_places(keys: &KeysOfUnits, units: u32, flags: &[bool], count: u32) -> bo
     true
 }
 
-// Whether a static key has an id of more than one segment, and a second key the id above it.
-fn has_parent_at(table: &Table, key: u32, above: u32) -> bool
-    ensures { IsTrue result → HasParentAt table.now key above }
-{
-    let Some(descriptor) = table.get(key) else {
-        return false;
-    };
-    let Some(parent) = table.get(above) else {
-        return false;
-    };
-    descriptor.id.segments().len() > 1 && is_parent(&parent.id, &descriptor.id)
-}
-
-// Whether each of the first static keys but key 0 has its parent at the key above it.
-fn have_parents(table: &Table, above: &[u32], count: u32) -> bool
-    ensures { IsTrue result → (key : ℕ) → 0 < key → key < count
-        → HasParentAt table.now key (get_or above.now key 0) }
-{
-    for key in 1..count {
-        if !has_parent_at(table, key, number_at(above, key)) {
-            return false;
-        }
-    }
-    true
-}
-
-// Whether each static key has its place and its parent.
-fn are_placed(table: &Table, keys: &KeysOfUnits, units: u32, flags: &[bool]) -> bool
-    ensures places { IsTrue result → (key : ℕ) → key < length table.now
-        → IsInUnit units keys.now.firsts.items keys.now.ends.items key
-        ⊎ (slice_get flags.now key ≡ Some true) }
-    ensures parents { IsTrue result → HaveParents table.now keys.now.above.items }
-{
-    let count = table.len() as u32;
-    have_places(keys, units, flags, count) && have_parents(table, keys.above.as_slice(), count)
-}
-
 impl Shape {
     /// Makes the shape of an engine, where the record without a unit keeps the lifecycle.
     pub(crate) fn new(
@@ -304,6 +268,7 @@ impl Shape {
         units: u32,
         keys: KeysOfUnits,
     ) -> Result<Option<Shape>, AllocError>
+        requires { AreParents (arc_value table) keys.parents.items }
         ensures { IfOk result (λ found. IfSome found (λ s. s ≡ record {
           table = arc_value table;
           before = before.items;
@@ -327,7 +292,7 @@ impl Shape {
         let Some(run_before) = running_after(alloc, table.len(), before.as_slice())? else {
             return Ok(None);
         };
-        if !are_placed(&table, &keys, units, run_before.as_slice()) {
+        if !have_places(&keys, units, run_before.as_slice(), table.len() as u32) {
             return Ok(None);
         }
         Ok(Some(Shape {
@@ -364,11 +329,16 @@ impl Shape {
         }
     }
 
-    /// The static key above another.
-    pub(crate) fn key_above(&self, key: u32) -> u32
-        ensures { 0 < key → key < length self.now.table → HasParentAt self.now.table key result }
+    /// The static key of the parent of another.
+    pub(crate) fn parent_of(&self, key: u32) -> Option<u32>
+        ensures { IfSome result (λ parent. 0 < key → HasParentAt self.now.table key parent) }
     {
-        number_at(self.keys.above.as_slice(), key)
+        let parent = *self.keys.parents.as_slice().get(key as usize)?;
+        if (parent as usize) < self.table.len() {
+            Some(parent)
+        } else {
+            None
+        }
     }
 
     /// The first static key of a unit, and the end of its keys.

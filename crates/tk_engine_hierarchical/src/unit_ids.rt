@@ -39,10 +39,12 @@ fn has_running_parent(shape: &Shape, running: &Stack<RunningKey>, key: u32, id: 
     if key == 0 {
         return starts_root(running, id);
     }
-    let above = shape.key_above(key);
+    let Some(parent) = shape.parent_of(key) else {
+        return false;
+    };
     match running.top() {
-        Some(innermost) => innermost.key == above,
-        None => shape.runs_before(above),
+        Some(innermost) => innermost.key == parent,
+        None => shape.runs_before(parent),
     }
 }
 

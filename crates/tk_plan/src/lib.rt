@@ -15,5 +15,5 @@ pub use tk_plan_json::{MAX_LEVELS, PlanFault};
 pub use tk_plan_nodes::{ExecutionMode, LockMode, PlanLock, PlanNode};
 pub use tk_plan_units::{
     Act, Entries, Files, Lock, Locks, MAX_EVENTS, MAX_KEYS, Node, NumberedNode, Plan, Step,
-    count_events,
+    UnitTree, count_events,
 };

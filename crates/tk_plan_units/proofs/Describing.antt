@@ -24,10 +24,10 @@ one_more true d n ds ns e = ap suc e
 one_more false d n ds ns e = e
 
 mutual
-  descriptors-length : (above : List SegmentView) (t : Tree) → length (descriptors above t) ≡ length (of_kind true (flat t))
+  pub descriptors-length : (above : List SegmentView) (t : Tree) → length (descriptors above t) ≡ length (of_kind true (flat t))
   descriptors-length above (tree n k f) = one_more n.is_static _ n _ _ (descriptors_below-length (above ++ n.segment ∷ []) f)
 
-  descriptors_below-length : (above : List SegmentView) (f : Forest) → length (descriptors_below above f) ≡ length (of_kind true (flats f))
+  pub descriptors_below-length : (above : List SegmentView) (f : Forest) → length (descriptors_below above f) ≡ length (of_kind true (flats f))
   descriptors_below-length above no_trees = refl
   descriptors_below-length above (more t f) =
       length-append (descriptors above t) (descriptors_below above f)

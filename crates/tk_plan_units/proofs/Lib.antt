@@ -13,5 +13,6 @@ pub mod StepEvents
 pub mod Keying
 pub mod Founding
 pub mod Describing
+pub mod ParentIds
 pub mod Relabels
 pub mod Renumbering

@@ -16,6 +16,7 @@ pub mod Keys
 pub mod Numbers
 pub mod Known
 pub mod Ids
+pub mod Parents
 pub mod Planned
 pub mod CutPlans
 pub mod Laws

@@ -5,7 +5,6 @@ ghost use Rattle.tk_plan_units.specs.Script.{moves_below};
 ghost use Rattle.tk_plan_units.specs.Weights.{own, publications, weight, weights};
 
 use crate::nodes::{Node, NumberedNode};
-use crate::splits::split;
 use tk_limits::MAX_EVENTS;
 
 /// How many entries and files a node publishes.
@@ -39,7 +38,7 @@ fn count_all(nodes: &[NumberedNode]) -> u64
         if count > MAX_EVENTS {
             return count;
         }
-        let (_, others) = split(numbered_node, after);
+        let (_, others) = numbered_node.split(after);
         if numbered_node.node.skip.is_some() {
             rest = others;
         } else {

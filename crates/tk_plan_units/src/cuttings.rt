@@ -14,7 +14,6 @@ use crate::counts::{count_publications, count_tree};
 use crate::needs::need_of;
 use crate::nodes::NumberedNode;
 use crate::spines::is_on_spine;
-use crate::splits::split;
 use std::alloc::{AllocError, Global};
 use tk_book::Need;
 use tk_ids::Text;
@@ -187,7 +186,7 @@ fn cut_all(
     let mut rest = nodes;
     let mut at = position;
     while let [numbered_node, after @ ..] = rest {
-        let (below, others) = split(numbered_node, after);
+        let (below, others) = numbered_node.split(after);
         cut_tree(keys, numbered_node, below, at, is_root, cutting)?;
         at += numbered_node.span;
         rest = others;

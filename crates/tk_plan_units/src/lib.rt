@@ -9,11 +9,12 @@ mod needs;
 mod nodes;
 mod numbering;
 mod orders;
+mod parents;
 mod plans;
 mod scripts;
 mod spines;
-mod splits;
 mod steps;
+mod unit_trees;
 
 pub use counts::count_events;
 pub use needs::MAX_KEYS;
@@ -21,3 +22,4 @@ pub use nodes::{Entries, Files, Lock, Locks, Node, NumberedNode};
 pub use plans::Plan;
 pub use steps::{Act, Step};
 pub use tk_limits::MAX_EVENTS;
+pub use unit_trees::UnitTree;

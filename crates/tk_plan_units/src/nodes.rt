@@ -1,5 +1,5 @@
 //! What a plan says of its nodes.
-ghost use Rattle.std.specs.Prelude.{◌≡◌};
+ghost use Rattle.std.specs.Prelude.{◌≡◌, ◌∷◌};
 
 use std::marker::Model;
 use tk_events::{Pairs, Status};
@@ -135,4 +135,16 @@ pub struct NumberedNode {
     pub number: u32,
     /// How many nodes there are from this one down.
     pub span: usize,
+}
+
+impl NumberedNode {
+    ghost use Rattle.tk_plan_units.specs.Trees.{IsForest, IsSplit};
+
+    /// What comes after the node in preorder, split into the nodes below it and the others.
+    pub fn split<'p>(&self, after: &'p [NumberedNode]) -> (&'p [NumberedNode], &'p [NumberedNode])
+        requires { IsForest (self.now ∷ after.now) }
+        ensures { IsSplit self.now after.now result.0.now result.1.now }
+    {
+        after.split_at(self.span - 1)
+    }
 }

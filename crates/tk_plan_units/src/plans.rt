@@ -8,9 +8,10 @@ use crate::events::{payload, push_finish_event, push_opening_events};
 use crate::nodes::{Node, NumberedNode};
 use crate::numbering::set_numbers;
 use crate::orders::positions_of;
+use crate::parents::push_parents;
 use crate::scripts::{push_tree, stamp_all};
-use crate::splits::tree_at;
 use crate::steps::Step;
+use crate::unit_trees::{UnitTree, tree_at};
 use std::alloc::{AllocError, Global};
 use std::marker::Model;
 use std::sync::Arc;
@@ -41,10 +42,11 @@ impl Model for Plan {
 }
 
 impl Plan {
-    ghost use Rattle.tk_plan_units.specs.Trees.{forest, contents};
+    ghost use Rattle.tk_plan_units.specs.Trees.{IsForest, forest, tree_of, contents};
     ghost use Rattle.tk_plan_units.specs.Script.{moves_below};
-    ghost use Rattle.tk_plan_units.specs.Cutting.{spine_of, units_of, script_of, root_script, before_of, after_of};
+    ghost use Rattle.tk_plan_units.specs.Cutting.{spine_of, units_of, pieces_of, script_of, root_script, before_of, after_of};
     ghost use Rattle.tk_plan_units.specs.Keys.{lock_keys};
+    ghost use Rattle.tk_plan_units.specs.Parents.{AreParents, parents_below};
     ghost use Rattle.tk_book.specs.Needs.{word_of};
     ghost use Rattle.tk_plan_units.specs.Events.{AreStatic};
     ghost use Rattle.tk_plan_units.specs.Known.{IsKnown};
@@ -89,6 +91,18 @@ impl Plan {
         &self.table
     }
 
+    /// For each static node, in the order of the keys, the number of the node above it, and 0 for the
+    /// root.
+    pub fn parents(&self, alloc: Global) -> Result<Vec<u32>, AllocError>
+        ensures parents { IfOk result (λ parents.
+            parents.items ≡ parents_below 0 (forest self.now.nodes)) }
+        ensures related { IfOk result (λ parents. AreParents self.now.table parents.items) }
+    {
+        let mut parents = Vec::with_capacity(alloc, self.table.len())?;
+        push_parents(0, self.nodes.as_slice(), &mut parents)?;
+        Ok(parents)
+    }
+
     /// The keys of the spine's nodes, in preorder.
     pub fn spine(&self) -> &[u32]
         ensures { result.now ≡ spine_of (forest self.now.nodes) }
@@ -111,6 +125,24 @@ impl Plan {
         ensures word { word_of result ≡ need_word self.now.nodes unit }
     {
         self.cutting.pieces[unit as usize].need
+    }
+
+    /// The nodes of a unit, and how many events of the root's script come before it.
+    pub fn unit_tree(&self, unit: u32) -> UnitTree<'_>
+        requires { unit < length (units_of (forest self.now.nodes)) }
+        ensures below { IsForest result.below.now }
+        ensures piece { slice_get (pieces_of (forest self.now.nodes)) unit ≡ Some (record {
+          tree = tree_of result.top.now result.below.now;
+          first = result.first;
+        }) }
+    {
+        let piece = self.cutting.pieces[unit as usize];
+        let (top, below) = tree_at(self.nodes.as_slice(), piece.position);
+        UnitTree {
+            top,
+            below,
+            first: piece.first,
+        }
     }
 
     /// The steps of a unit, in their order.

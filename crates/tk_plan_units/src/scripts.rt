@@ -7,7 +7,6 @@ ghost use Rattle.tk_plan_units.specs.Weights.{publications, weight, weights};
 ghost use Rattle.tk_limits.specs.declared.limits.TheConstants.{MAX_EVENTS};
 
 use crate::nodes::{Node, NumberedNode};
-use crate::splits::split;
 use crate::steps::{Act, Move, Step};
 use std::alloc::{AllocError, Global};
 
@@ -73,7 +72,7 @@ fn push_all(parent: u32, nodes: &[NumberedNode], moves: &mut Vec<Move>) -> Resul
 {
     let mut rest = nodes;
     while let [numbered_node, after @ ..] = rest {
-        let (below, others) = split(numbered_node, after);
+        let (below, others) = numbered_node.split(after);
         if !numbered_node.node.is_static {
             moves.push(Move {
                 node: numbered_node.number,

@@ -5,7 +5,6 @@ ghost use Rattle.tk_plan_units.specs.Cutting.{all_concurrent, on_spine};
 ghost use Rattle.tk_plan_units.specs.Cutting as Cutting;
 
 use crate::nodes::{Node, NumberedNode};
-use crate::splits::split;
 
 fn is_concurrent_child(node: &Node) -> bool
     ensures { result ≡ (node.now.is_static && node.now.is_concurrent) }
@@ -19,7 +18,7 @@ fn are_concurrent(below: &[NumberedNode]) -> bool
 {
     let mut rest = below;
     while let [numbered_node, after @ ..] = rest {
-        let (_, others) = split(numbered_node, after);
+        let (_, others) = numbered_node.split(after);
         if !is_concurrent_child(&numbered_node.node) {
             return false;
         }

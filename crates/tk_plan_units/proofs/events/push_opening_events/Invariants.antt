@@ -1,6 +1,4 @@
 use Rattle.std.proofs.Common.{◌≡◌, ◌++◌, ◌+◌, drop, length}
-use Rattle.tk_events.specs.declared.kinds.Kind.TheVariants.{Reporting, File}
-use Rattle.tk_events.specs.declared.payloads.Payload.TheVariants.{Report, Path}
 use Rattle.tk_plan_units.specs.Events.{opening_events, published, entry_event, file_event}
 use Rattle.tk_plan_units.proofs.events.push_opening_events.Given as goal
 

@@ -1,18 +1,17 @@
-//! Nodes in preorder, taken apart.
+//! The trees of units, among the nodes of a plan.
 ghost use Rattle.std.specs.Prelude.{◌≡◌, ◌∷◌, ◌++◌, List, suc, length, drop};
-ghost use Rattle.tk_plan_units.specs.Trees.{IsForest, IsSplit, HasTreeAt};
+ghost use Rattle.tk_plan_units.specs.Trees.{HasTreeAt};
 
 use crate::nodes::NumberedNode;
 
-/// What comes after a node, split into the nodes below it and the others.
-pub(crate) fn split<'p>(
-    numbered_node: &NumberedNode,
-    after: &'p [NumberedNode],
-) -> (&'p [NumberedNode], &'p [NumberedNode])
-    requires { IsForest (numbered_node.now ∷ after.now) }
-    ensures { IsSplit numbered_node.now after.now result.0.now result.1.now }
-{
-    after.split_at(numbered_node.span - 1)
+/// A unit of a plan.
+#[derive(Clone, Copy)]
+pub struct UnitTree<'p> {
+    pub top: &'p NumberedNode,
+    /// The nodes below it, in preorder.
+    pub below: &'p [NumberedNode],
+    /// How many events of the root's script come before those of the unit.
+    pub first: u64,
 }
 
 /// The node at a position, and the nodes below it.
