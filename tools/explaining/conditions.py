@@ -43,7 +43,7 @@ class Part:
 
     def lacks_text_alone(self, event: bytes) -> bool:
         """Whether an event of which this doesn't hold has all that it asks but the text: a message, a reason, a path or entries."""
-        if b"(" not in self.text or self.word not in KINDS or not self.may_hold_of_kind(event):
+        if self.word not in KINDS or not self.may_hold_of_kind(event):
             return False
         return self.word not in STATUSES or event.split(b"|", 6)[5] == STATUSES[self.word]
 
@@ -78,7 +78,7 @@ def kinds_of(condition: bytes) -> Optional[FrozenSet[bytes]]:
 
 def parts_of(condition: bytes) -> List[Part]:
     """The conditions that a condition joins by `all`, also by an `all` within; the condition itself where it joins none."""
-    if not condition.startswith(b"all(") or condition == b"all()":
+    if not condition.startswith(b"all("):
         return [Part(condition)]
     return [part for member in members_of(condition) for part in parts_of(member)]
 
@@ -92,13 +92,13 @@ def atoms_of(condition: bytes) -> List[bytes]:
 
 def field_escapes_of(atom: bytes) -> List[bytes]:
     """The escapes of a record's field that stand in an atom, each once; none where it isn't wholly spelled as a field."""
-    pieces = re.findall(rb"\\.?", atom, re.DOTALL)
+    pieces = re.findall(rb"\\.?", atom)
     return list(dict.fromkeys(pieces)) if all(piece in FIELD_ESCAPES for piece in pieces) else []
 
 
 def without_field_escapes(atom: bytes) -> bytes:
     """The atom of the text that a record's field spells so."""
-    return re.sub(rb"\\.", lambda escape: FIELD_ESCAPES[escape[0]], atom, flags=re.DOTALL)
+    return re.sub(rb"\\.", lambda escape: FIELD_ESCAPES[escape[0]], atom)
 
 
 def distance(event: bytes, lacking: List[Part]) -> Tuple[int, int, int]:
