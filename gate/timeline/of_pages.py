@@ -74,6 +74,33 @@ def check_sample(program: str, sample: Sample) -> None:
             demand_equal(value, wanted, part)
 
 
+def check_details(program: str) -> None:
+    """What the page has of descriptors, workers and messages."""
+    record = records.HEADER + records.nodes("C c", "T c/1", "B 2", "T 3")
+    record += records.events("1 1 3 start", "1 65536 4 dynamic|T|[engine:e]/[x:9]|made", "1 65536 5 start", "2 65536 6 finish|fail|boom")
+    record += records.events("1 2 7 skip|off", "1 3 8 start", "1 3 9 finish|abort")
+    found = page_of(program, record).executions()
+    columns = ("id", "type", "name", "is_dynamic", "ending", "worker", "worker_of_end", "message")
+    wanted = [
+        ("[engine:e]/[x:9]", "T", "made", True, "failed", 1, 2, "boom"),
+        ("[engine:e]/[x:c]/[x:1]", "T", "c/1", False, "skipped", 1, 1, "off"),
+        ("[engine:e]/[x:2]", "B", "2", False, "aborted", 1, 1, None),
+        ("[engine:e]/[x:c]", "C", "c", False, "unfinished", 1, None, None),
+    ]
+    demand_equal([tuple(it[column] for column in columns) for it in found], wanted, "executions")
+
+
+def check_exact(program: str) -> None:
+    """Numbers of 53 bits are numbers, and greater ones texts."""
+    greatest, beyond = 2**53 - 1, 2**53
+    marks = records.events("1 1 5 start", f"1 1 {5 + greatest} finish|ok", f"1 2 {5 + beyond} start", f"1 2 {5 + 2 * beyond} finish|ok")
+    page = page_of(program, records.HEADER + records.nodes("T 1", "T 2", "T 3") + marks + records.events(f"1 3 {5 + 3 * beyond} skip|off"))
+    stamps = [(it["start"], it["stop"]) for it in page.executions()]
+    demand_equal(stamps, [(0, greatest), (str(beyond), str(2 * beyond)), (str(3 * beyond), str(3 * beyond))], "stamps")
+    demand_equal(page.data["slowest"], [[1, str(beyond)], [0, greatest]], "slowest")
+    demand_equal(page.data["gaps"], [[2, str(beyond)], [1, 1]], "gaps")
+
+
 def check_executions(program: str, record: str) -> None:
     """Holds the executions of a page against the answer of `ask executions`, line by line."""
     page, answer = page_of(program, record), ask(program, record).decode().splitlines()
@@ -228,26 +255,30 @@ CALLS = [
     Call("a fault of status 3", stand_in("echo 'testkit: out of memory' >&2", "exit 3"), status=3, error=b"testkit: out of memory\n"),
     Call("a program that was not built", stand_in("echo 'testkit: not built' >&2", "exit 70"), error=b"testkit: not built\n"),
     Call("a refusal after an answer", stand_in("echo 0 succeeded 0 1", "echo 'testkit: x' >&2", "exit 2"), status=2, error=b"testkit: x\n"),
+    Call("a fault that is no text", stand_in("printf 'testkit: \\377\\n' >&2", "exit 2"), status=2, error=b"testkit: \xff\n"),
+    Call("an interrupt", stand_in("kill -INT $PPID", "sleep 1"), status=130, error=b""),
     Call("words", command='exec "$@" run.html', status=2, error=b"Draws a run as a page: `tools/timeline < RECORD > run.html`.\n"),
     Call("no program", command='PROGRAM=/nowhere/testkit exec "$@"'),
     Call("a program that is a folder", command='PROGRAM=/ exec "$@"'),
     Call("a program that is stopped", stand_in("kill -9 $$"), says=b"was stopped by signal 9"),
-    Call("an answer that is none", stand_in("echo yes")),
+    Call("an answer that is none", stand_in("echo yes"), says=b" answers b'yes\\n' with status 0\n"),
+    Call("the first 80 bytes of an answer", stand_in("printf '%081d' 0"), says=b" answers b'" + 80 * b"0" + b"' with status 0\n"),
+    Call("an answer with a word before", stand_in("echo x 0 succeeded 0 1"), says=b" with status 0\n"),
     Call("an ending that is none", stand_in("echo 0 finished 0 1")),
     Call("an answer without its last line feed", stand_in("printf '0 succeeded 0 1'")),
     Call("an answer with the status of no", stand_in("echo 0 succeeded 0 1", "exit 1")),
-    Call("an execution that is left out", stand_in("exit 0")),
-    Call("an execution too many", stand_in("echo 0 succeeded 0 1", "echo 0 succeeded 0 1")),
+    Call("an execution that is left out", stand_in("exit 0"), says=b" answers no execution that ends at event 1\n"),
+    Call("an execution too many", stand_in("echo 0 succeeded 0 1", "echo 0 succeeded 0 1"), says=b" answers more executions than the record has\n"),
     Call("an execution of another key", stand_in("echo 1 succeeded 0 1")),
     Call("an execution of another ending", stand_in("echo 0 failed 0 1")),
     Call("an execution of another first stamp", stand_in("echo 0 succeeded 1 1")),
     Call("an execution of another last stamp", stand_in("echo 0 succeeded 0 2")),
-    Call("no Python", ANSWER, 'PATH=$ROOM exec /bin/sh "$@"'),
+    Call("no Python", ANSWER, 'PATH=$ROOM exec /bin/sh "$@"', error=b"tools/timeline: it needs Python 3\n"),
     Call("no page to fill", ANSWER, COPY + 'rm "$ROOM/top/tools/timeline.html" && exec "$ROOM/top/tools/timeline"'),
     Call("no script of the page", ANSWER, COPY + 'rm "$ROOM/top/tools/timeline.js" && exec "$ROOM/top/tools/timeline"'),
-    Call("input that is a folder", ANSWER, 'exec "$@" </'),
-    Call("closed input", ANSWER, 'exec "$@" <&-'),
-    Call("closed output", ANSWER, 'exec "$@" >&-'),
+    Call("input that is a folder", ANSWER, 'exec "$@" </', error=b"tools/timeline: standard input is a folder\n"),
+    Call("closed input", ANSWER, 'exec "$@" <&-', says=b": standard input or output is closed\n"),
+    Call("closed output", ANSWER, 'exec "$@" >&-', says=b": standard input or output is closed\n"),
     Call("a full device", ANSWER, 'exec "$@" >/dev/full'),
 ]
 
@@ -278,6 +309,8 @@ def tests(program: str) -> List[Test]:
     asked["jupiter"] = example("jupiter")
     found += [Test(f"rows: {name}", lambda it=it: check_rows(program, it)) for name, it in asked.items()]
     found += [
+        Test("descriptors, workers and messages", lambda: check_details(program)),
+        Test("numbers of 53 bits", lambda: check_exact(program)),
         Test("hostile texts", lambda: check_hostile(program)),
         Test("round the data", lambda: check_surroundings(program)),
         Test("nothing from outside", lambda: check_outside(program)),

@@ -213,6 +213,12 @@ SAMPLES: List[Sample] = [
         end=6,
     ),
     Sample(
+        "the places of three events of one stamp",
+        HEADER + nodes("T 1", "T 2") + events("1 1 4 skip|a", "1 2 4 start", "1 2 4 finish|ok", "1 2 5 report"),
+        drawn=[("[x:1]", "skipped", 4, 4, 0, 0, 0, 0, 0, 1), ("[x:2]", "successful", 4, 4, 1, 2, 0.333333, 0.666667, 0, 1)],
+        end=2,
+    ),
+    Sample(
         "stamps that are all equal are no times",
         HEADER + nodes("T 1", "T 2") + events("1 1 7 start", "1 1 7 finish|ok", "1 1 7 report", "1 2 7 skip|off"),
         times=False,
