@@ -1,4 +1,5 @@
-//! Writing a record to a device that takes one byte a call and breaks at some call, at each call in turn.
+//! Writing a record to a device that takes one byte a call and breaks at some call, at each call in
+//! turn.
 use std::alloc::Global;
 use test_support::{OneByteTarget, is_cut, record_of, two_tests};
 use tk_record::{Record, write_record};

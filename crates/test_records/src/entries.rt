@@ -26,15 +26,22 @@ fn append_event(record: &mut Record, worker: u8, event: Event) -> &'static str {
     word(append(record, Entry { worker, event }))
 }
 
+fn append_copy(alloc: Global, record: &mut Record, entry: &Entry) -> &'static str {
+    match entry.event.try_clone(alloc) {
+        Ok(event) => append_event(record, entry.worker, event),
+        Err(_) => "no copy",
+    }
+}
+
 // What appending a copy of a line's event answers.
 fn append_line(alloc: Global, record: &mut Record, line: &str) -> &'static str {
-    match read_event_line(alloc, line.as_bytes(), Version::Two) {
-        Ok(entry) => match entry.event.try_clone(alloc) {
-            Ok(event) => append_event(record, entry.worker, event),
-            Err(_) => "no copy",
-        },
+    let read = read_event_line(alloc, line.as_bytes(), Version::Two);
+    let answer = match &read {
+        Ok(entry) => append_copy(alloc, record, entry),
         Err(_) => "no line",
-    }
+    };
+    drop(read);
+    answer
 }
 
 // What is answered to lines that are appended in turn, with an event of each kind.
@@ -62,8 +69,8 @@ fn holds(alloc: Global, record: &mut Record, row: &str) -> bool {
     }
 }
 
-// The first row that does not hold of a record of one node, to which the rows are appended in turn.
-fn first_other(alloc: Global, record: &mut Record) -> Option<&'static str> {
+// The first row that does not hold of a record, to which the rows are appended in turn.
+fn first_other_of(alloc: Global, record: &mut Record) -> Option<&'static str> {
     for row in rows().lines() {
         if !holds(alloc, record, row) {
             return Some(row);
@@ -72,11 +79,15 @@ fn first_other(alloc: Global, record: &mut Record) -> Option<&'static str> {
     None
 }
 
+// The first row that does not hold of a record of one node.
+fn first_other(alloc: Global) -> Option<&'static str> {
+    match record_of(alloc, one_container()) {
+        Some(mut record) => first_other_of(alloc, &mut record),
+        None => Some("no record"),
+    }
+}
+
 #[test]
 fn entries_of_lines(rt: HostRuntime) {
-    let first = match record_of(rt.alloc(), one_container()) {
-        Some(mut record) => first_other(rt.alloc(), &mut record),
-        None => Some("no record"),
-    };
-    assert_eq!(rt; first, None);
+    assert_eq!(rt; first_other(rt.alloc()), None);
 }

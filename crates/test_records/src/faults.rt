@@ -80,28 +80,30 @@ fn each_fault_is_shown(rt: HostRuntime) {
 }
 
 // Whether a text, a segment and an id are shown with the characters that they have.
-fn ids_are_debugged(alloc: Global) -> Result<bool, IdFault> {
-    let text = Text::copy(alloc, "a\"b")?;
-    let segment = Segment::new(alloc, "t", "a/b")?;
-    let id = UniqueId::of(alloc, &segment)?;
-    Ok(
-        is_debugged_as(alloc, &text, "\"a\\\"b\"")
-            && is_debugged_as(alloc, &segment, "Segment(\"t\", \"a/b\")")
-            && is_debugged_as(alloc, &id, "\"[t:a%2Fb]\""),
-    )
+fn ids_are_debugged(alloc: Global) -> bool {
+    let text = Text::copy(alloc, "a\"b");
+    let is_text = is_debugged_as(alloc, &text, "Ok(\"a\\\"b\")");
+    let segment = Segment::new(alloc, "t", "a/b");
+    let is_segment = is_debugged_as(alloc, &segment, "Ok(Segment(\"t\", \"a/b\"))");
+    let id = UniqueId::read(alloc, "[t:a%2Fb]");
+    let is_id = is_debugged_as(alloc, &id, "Ok(\"[t:a%2Fb]\")");
+    is_text && is_segment && is_id
 }
 
-fn pairs_are_debugged(alloc: Global) -> Result<bool, AllocError> {
-    let pairs = Pairs::shared_pair(alloc, Text::copy(alloc, "k")?, Text::copy(alloc, "v")?)?;
-    Ok(is_debugged_as(alloc, &pairs, "[(\"k\", \"v\")]"))
+fn one_pair(alloc: Global) -> Result<Pairs, AllocError> {
+    Pairs::shared_pair(alloc, Text::copy(alloc, "k")?, Text::copy(alloc, "v")?)
+}
+
+// Whether pairs, a kind and a status are shown.
+fn events_are_debugged(alloc: Global) -> bool {
+    is_debugged_as(alloc, &one_pair(alloc), "Ok([(\"k\", \"v\")])")
+        && is_debugged_as(alloc, &Kind::Reporting, "Reporting")
+        && is_debugged_as(alloc, &Status::of_code(3), "Some(Failed)")
 }
 
 /// What a failed assertion prints.
 #[test]
 fn values_are_debugged(rt: HostRuntime) {
-    let alloc = rt.alloc();
-    assert!(rt; matches!(ids_are_debugged(alloc), Ok(true)));
-    assert!(rt; matches!(pairs_are_debugged(alloc), Ok(true)));
-    assert!(rt; is_debugged_as(alloc, &Kind::Reporting, "Reporting"));
-    assert!(rt; is_debugged_as(alloc, &Status::of_code(3), "Some(Failed)"));
+    assert!(rt; ids_are_debugged(rt.alloc()));
+    assert!(rt; events_are_debugged(rt.alloc()));
 }

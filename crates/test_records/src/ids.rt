@@ -71,14 +71,14 @@ fn fault_of_segments(alloc: Global, segments: usize) -> Option<IdFault> {
 
 #[test]
 fn limit_of_bytes(rt: HostRuntime) {
-    assert_eq!(rt; fault_of_bytes(rt.alloc(), 4092), None);
-    assert_eq!(rt; fault_of_bytes(rt.alloc(), 4093), Some(IdFault::TooLong));
+    assert!(rt; fault_of_bytes(rt.alloc(), 4092).is_none());
+    assert!(rt; matches!(fault_of_bytes(rt.alloc(), 4093), Some(IdFault::TooLong)));
 }
 
 #[test]
 fn limit_of_segments(rt: HostRuntime) {
-    assert_eq!(rt; fault_of_segments(rt.alloc(), 63), None);
-    assert_eq!(rt; fault_of_segments(rt.alloc(), 64), Some(IdFault::TooLong));
+    assert!(rt; fault_of_segments(rt.alloc(), 63).is_none());
+    assert!(rt; matches!(fault_of_segments(rt.alloc(), 64), Some(IdFault::TooLong)));
 }
 
 // The id of one segment.

@@ -4,6 +4,7 @@ use crate::appending::{Answer, append};
 use std::alloc::Global;
 use test_support::{is_written, read_again, start, two_tests};
 use tk_events::Entry;
+use tk_ids::Text;
 use tk_record::{write_record, write_tail};
 use tk_record_columns::Record;
 use tk_streams::ByteTarget;
@@ -18,10 +19,14 @@ fn is_record_written(alloc: Global, record: &Record) -> Option<bool> {
     )
 }
 
+// The tail of the failure.
+fn tail(alloc: Global, record: &Record) -> Option<Text> {
+    write_tail(alloc, &record.entry(2)?).ok()
+}
+
 // Whether the tail of the failure is written.
 fn is_tail_written(alloc: Global, record: &Record) -> Option<bool> {
-    let tail = write_tail(alloc, &record.entry(2)?).ok()?;
-    Some(tail.as_str() == "finish|fail|boom")
+    Some(tail(alloc, record)?.as_str() == "finish|fail|boom")
 }
 
 // Whether the texts of a record are written, also where one request for memory is refused.

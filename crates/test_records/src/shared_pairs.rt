@@ -26,6 +26,6 @@ fn after_no_pair(alloc: Global) -> Result<(usize, usize), AllocError> {
 
 #[test]
 fn a_push_to_a_clone(rt: HostRuntime) {
-    assert_eq!(rt; after_one_pair(rt.alloc()).ok(), Some((1, 2)));
-    assert_eq!(rt; after_no_pair(rt.alloc()).ok(), Some((0, 1)));
+    assert!(rt; matches!(after_one_pair(rt.alloc()), Ok((1, 2))));
+    assert!(rt; matches!(after_no_pair(rt.alloc()), Ok((0, 1))));
 }

@@ -4,7 +4,7 @@ use std::alloc::Global;
 use tk_ids::{DType, Segment, Table, TableFault};
 
 /// How a call ended.
-#[derive(Clone, Copy, Debug, PartialEq, Eq)]
+#[derive(Clone, Copy)]
 enum Ending {
     Done,
     /// For want of memory, and the table is as long as before.
@@ -33,24 +33,42 @@ fn numbered(alloc: Global, number: u32) -> Option<Segment> {
     segment(alloc, number.to_string(alloc).ok()?.as_str())
 }
 
-#[test]
-fn a_table(rt: HostRuntime) {
-    let alloc = rt.alloc();
-    let mut table = Table::new(alloc);
-    for number in 0..20u32 {
-        let segment = match numbered(alloc, number) {
-            None => numbered(alloc, number),
-            segment => segment,
-        };
-        let Some(segment) = segment else {
-            assert!(rt; false, "no segment");
-            return;
-        };
-        let first = added(alloc, &mut table, &segment);
-        assert_ne!(rt; first, Ending::Wrong);
-        if first == Ending::Refused {
-            assert_eq!(rt; added(alloc, &mut table, &segment), Ending::Done);
+// The segment of this number, also where one request for memory is refused.
+fn numbered_again(alloc: Global, number: u32) -> Option<Segment> {
+    match numbered(alloc, number) {
+        None => numbered(alloc, number),
+        segment => segment,
+    }
+}
+
+// Whether a root is added, also where one request for memory is refused.
+fn is_added(alloc: Global, table: &mut Table, segment: &Segment) -> bool {
+    match added(alloc, table, segment) {
+        Ending::Done => true,
+        Ending::Refused => matches!(added(alloc, table, segment), Ending::Done),
+        Ending::Wrong => false,
+    }
+}
+
+fn is_number_added(alloc: Global, table: &mut Table, number: u32) -> bool {
+    match numbered_again(alloc, number) {
+        Some(segment) => is_added(alloc, table, &segment),
+        None => false,
+    }
+}
+
+// Whether twenty roots are added.
+fn are_added(alloc: Global, table: &mut Table) -> bool {
+    for number in 0..20 {
+        if !is_number_added(alloc, table, number) {
+            return false;
         }
     }
-    assert_eq!(rt; table.len(), 20);
+    table.len() == 20
+}
+
+#[test]
+fn a_table(rt: HostRuntime) {
+    let mut table = Table::new(rt.alloc());
+    assert!(rt; are_added(rt.alloc(), &mut table));
 }

@@ -17,11 +17,16 @@ pub fn start(key: u32, stamp: u64) -> Event {
     }
 }
 
+// Adds the root `[engine:e]`; none for want of memory.
+fn add_root(alloc: Global, table: &mut Table, dtype: DType) -> Option<u32> {
+    let segment = Segment::new(alloc, "engine", "e").ok()?;
+    table.add(alloc, None, &segment, "e", dtype).ok()
+}
+
 /// A table of one node, the root `[engine:e]`; none for want of memory.
 pub fn one_node(alloc: Global, dtype: DType) -> Option<Arc<Table>> {
     let mut table = Table::new(alloc);
-    let segment = Segment::new(alloc, "engine", "e").ok()?;
-    table.add(alloc, None, &segment, "e", dtype).ok()?;
+    add_root(alloc, &mut table, dtype)?;
     Arc::new(alloc, table).ok()
 }
 
@@ -30,26 +35,18 @@ pub fn record_of(alloc: Global, text: &[u8]) -> Option<Record> {
     read_record(alloc, &mut ByteSource::new(text)).ok()
 }
 
-fn is_memory(fault: ReadFault) -> bool {
-    let is_memory = matches!(fault, ReadFault::Memory);
-    drop(fault);
-    is_memory
-}
-
-// The record of two tests, or whether memory was refused.
-fn two_tests_record(alloc: Global) -> Result<Record, bool> {
-    match read_record(alloc, &mut ByteSource::new(two_tests())) {
-        Ok(record) => Ok(record),
-        Err(fault) => Err(is_memory(fault)),
-    }
+fn is_refused(answer: &Result<Record, ReadFault>) -> bool {
+    matches!(answer, Err(ReadFault::Memory))
 }
 
 /// The record of two tests, also where one request for memory is refused.
 pub fn read_again(alloc: Global) -> Option<Record> {
-    match two_tests_record(alloc) {
-        Err(true) => two_tests_record(alloc).ok(),
-        answer => answer.ok(),
+    let answer = read_record(alloc, &mut ByteSource::new(two_tests()));
+    if is_refused(&answer) {
+        drop(answer);
+        return record_of(alloc, two_tests());
     }
+    answer.ok()
 }
 
 fn append_start(record: &mut Record, worker: u8, stamp: u64) -> bool {
