@@ -1,5 +1,5 @@
 //! Matching events with conditions.
-ghost use Rattle.std.specs.Prelude.{◌<◌, ◌^◌, IfOk, OnOk, IfSome, MatchOption};
+ghost use Rattle.std.specs.Prelude.{◌<◌, ◌^◌, IfOk, IsOk, OnOk, IfSome, MatchOption};
 ghost use Rattle.tk_query.specs.Asked.{AreLeft, fits, HoldsOfSome};
 ghost use Rattle.tk_query.specs.InOrder.{IsNextFit, HasNoFit};
 ghost use Rattle.tk_query.specs.Matches.{IsExact, IsLoose, IsInOrder};
@@ -42,7 +42,8 @@ pub fn match_exactly(
     events: &Events,
     conditions: &[Condition],
 ) -> Result<Exact, AllocError>
-    ensures { IfOk result (λ answer. IsExact events.now conditions.now answer) }
+    ensures answer { IfOk result (λ answer. IsExact events.now conditions.now answer) }
+    ensures succeeds { IsOk result }
 {
     if events.count() != conditions.len() {
         return Ok(Exact::WrongCount);

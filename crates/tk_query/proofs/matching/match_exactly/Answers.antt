@@ -18,8 +18,8 @@ overflow_add-k c =
     let asked = is_asked c.args.events.now c.flags-flags.result.now c.flags-flags.ensures.size c.args.conditions.now c.events.k c.events.low c.events.invariant c.in-Some.position c.in-Some.ensures.value in
     omega (arith, c.count.type_inv)
 
-pub returns-then-not-holds_at : goal.returns-then-not-holds_at
-returns-then-not-holds_at c =
+pub returns-then-not-holds_at-clause-answer : goal.returns-then-not-holds_at-clause-answer
+returns-then-not-holds_at-clause-answer c =
     let asked = is_asked c.args.events.now c.flags-flags.result.now c.flags-flags.ensures.size c.args.conditions.now c.events.k c.events.low c.events.invariant c.in-Some.position c.in-Some.ensures.value in (
       omega arith,
       matched_no c.args.events.now c.flags-flags.result.now c.flags-flags.ensures.size c.args.conditions.now c.events.k c.events.low c.events.invariant c.in-Some.position c.in-Some.ensures.value
@@ -32,8 +32,8 @@ events-preserved c =
     matched_more c.args.events.now c.flags-flags.result.now c.flags-flags.ensures.size c.args.conditions.now c.events.k c.events.low c.events.invariant c.in-Some.position c.in-Some.ensures.value
     c.«record».result.now c.«record».ensures c.index-conditions-k.result c.index-conditions-k.is (omega arith) c.holds_at.result c.holds_at.ensures c.if-not-holds_at.false
 
-pub returns : goal.returns
-returns c = (
+pub returns-clause-answer : goal.returns-clause-answer
+returns-clause-answer c = (
   omega arith,
   matched_all c.args.events.now c.flags-flags.result.now c.flags-flags.ensures.size c.args.conditions.now c.events.k c.events.low c.events.invariant (omega arith) c.in_default.ensures.value,
 )
