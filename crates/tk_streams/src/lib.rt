@@ -9,6 +9,6 @@ mod transfers;
 
 pub use device_streams::{StdSource, StdTarget};
 pub use memory_streams::{ByteSource, ByteTarget};
-pub use pieces::Piece;
+pub use pieces::{MAX_DIGITS, Piece};
 pub use streams::{Broken, Source, Target};
 pub use transfers::{CHUNK, LoadFault, load, write_all};

@@ -14,8 +14,8 @@ use std::marker::Model;
 // How many bytes a piece holds.
 const PIECE: usize = 65_536;
 
-// How many digits a number has at most.
-const DIGITS: usize = 20;
+/// How many decimal digits a `u64` has at most.
+pub const MAX_DIGITS: usize = 20;
 
 /// Bytes that wait to be written, at most 64 KiB. Contracts see those that wait.
 ///
@@ -131,9 +131,9 @@ impl Piece {
             (outgoing (T.contents target.new) (T.broken target.new) self.new)
             (decimal number ++ after ∷ []) }
     {
-        let mut text = [0u8; DIGITS + 1];
-        text[DIGITS] = after;
-        let start = write_digits(number, &mut text, DIGITS);
+        let mut text = [0u8; MAX_DIGITS + 1];
+        text[MAX_DIGITS] = after;
+        let start = write_digits(number, &mut text, MAX_DIGITS);
         self.put(target, &text[start..]);
     }
 
