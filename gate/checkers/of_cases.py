@@ -3,11 +3,12 @@
 import contextlib
 import io
 import re
+import signal
 from typing import Dict, List, Sequence, Set, Tuple
 
 import generated
 import harness
-from harness import Case, Group
+from harness import Case, Group, Input, Output
 from outcomes import Came, Test, in_a_copy, write_script
 from tables import command_lines, devices, open_inputs, questions, threads
 
@@ -81,6 +82,46 @@ def of_open_inputs(room: str, program: str) -> str:
         harness.SECONDS_WITH_OPEN_INPUT = before
 
 
+TEXT = b"one\ntwo\n"
+ZEROS = b"0" * 5_000
+SHOWN = {
+    "pieces": (dict(output=TEXT, standard_input=Input.PIECES), "exec cat", True),
+    "pieces, of which one is left": (dict(output=TEXT, standard_input=Input.PIECES), "exec head -c 7", False),
+    "a file": (dict(output=TEXT, standard_input=Input.FILE), "[ -f /dev/stdin ] && exec cat", True),
+    "a pipe": (dict(output=TEXT), "[ -p /dev/stdin ] && exec cat", True),
+    "a folder": (dict(standard_input=Input.FOLDER), "[ -d /dev/stdin ]", True),
+    "a closed input": (dict(standard_input=Input.CLOSED), "[ ! -e /proc/$$/fd/0 ]", True),
+    "a closed output": (dict(standard_output=Output.CLOSED), "[ ! -e /proc/$$/fd/1 ]", True),
+    "a closed error": (dict(standard_error=Output.CLOSED), "[ ! -e /proc/$$/fd/2 ]", True),
+    "open streams": (dict(), "[ -e /proc/$$/fd/0 ] && [ -e /proc/$$/fd/1 ] && [ -e /proc/$$/fd/2 ]", True),
+    "a full output": (dict(standard_output=Output.FULL), '[ "$(readlink /proc/$$/fd/1)" = /dev/full ]', True),
+    "a full error": (dict(standard_error=Output.FULL), '[ "$(readlink /proc/$$/fd/2)" = /dev/full ]', True),
+    "a broken pipe": (dict(standard_output=Output.BROKEN_PIPE, status=-signal.SIGPIPE), "echo", True),
+    "a pipe that is cut": (dict(output=ZEROS, standard_output=Output.CUT_PIPE), "printf %03000d 0; sleep 0.1; printf %02000d 0", True),
+    "a pipe that is cut, with another start": (dict(output=ZEROS, standard_output=Output.CUT_PIPE), "printf 1%05000d 0", False),
+    "a pipe that is cut, with less": (dict(output=ZEROS, standard_output=Output.CUT_PIPE), "printf %04000d 0", False),
+    "little memory": (dict(output=b"90000\n8192\n", memory=90_000), "ulimit -v; ulimit -s", True),
+}
+"""What a case says of its streams and its memory, a script that shows whether it has them, and whether it passes."""
+
+
+def of_what_it_has(room: str, how: Dict[str, object], line: str, is_right: bool) -> str:
+    """A script that has the streams and the memory of a case."""
+    write_script(f"{room}/shows", line)
+    return run_harness(f"{room}/shows", [Case("streams", [], TEXT, **how)])[0].fault(is_right)
+
+
+def of_no_end(room: str) -> str:
+    """A program that is killed where it takes more than its time."""
+    write_script(f"{room}/sleeps", "exec sleep 10")
+    before = harness.TIME_LIMIT
+    harness.TIME_LIMIT = 1
+    try:
+        return run_harness(f"{room}/sleeps", [Case("no end", [], b"", status=-signal.SIGKILL)])[0].fault(True)
+    finally:
+        harness.TIME_LIMIT = before
+
+
 def of_an_exception(program: str) -> str:
     broken = Case("an exception", [b"replay"], lambda: bytes(1 // NOTHING_FAILED))
     came, failed = run_harness(program, [broken, chosen()[0]])
@@ -110,6 +151,8 @@ def tests_of_harness(program: str, room: str) -> List[Test]:
     found.append(Test("a program with one worker", lambda: of_threads(room, program, "1", False)))
     found.append(Test("a program with a worker too many", lambda: of_threads(room, program, "4", False)))
     found.append(Test("a program that reads to the end", lambda: of_open_inputs(room, program)))
+    found += [Test(f"a case with {name}", lambda it=it: of_what_it_has(room, *it)) for name, it in SHOWN.items()]
+    found.append(Test("a program without an end", lambda: of_no_end(room)))
     found.append(Test("a program that isn't there", lambda: run_harness(f"{room}/nothing", chosen())[0].fault(False)))
     found.append(Test("an exception in a case", lambda: of_an_exception(program)))
     found.append(Test("no case", lambda: run_harness(program, [])[0].fault(False)))
