@@ -210,9 +210,6 @@ static_below [] k d e = cc
 static_below (x ∷ xs) zero d e = omega arith
 static_below (x ∷ xs) (suc k) d e = let h = static_below xs k d e in omega (arith, h)
 
-pub below_table : (table : List Descriptor) (k : ℕ) (id : List SegmentView) → slice_get (ids_of table) k ≡ Some id → k < length table
-below_table table k id e = let d = table_id table k id e in static_below table k d.0 d.1
-
 -- a static key starts
 pub ran_start : (f : Frame) (unit : ℕ) (start now : SenderView) (running : List RunningId) (registered : List (List ℕ × ℕ)) (next key : ℕ)
     (id : List SegmentView) (e : Event) → IsRunning f unit start now running registered next
