@@ -6,4 +6,6 @@ mod bodies;
 #[cfg(test)]
 mod limits;
 #[cfg(test)]
+mod planned;
+#[cfg(test)]
 mod refusals;

@@ -72,27 +72,32 @@ published old new sink running rest first kind stamp payload was view is took sa
   },
 )
 
-pub skipped_child : (old new : UnitView) (sink registered : SenderView) (running rest : List RunningId) (first : RunningId) (ask : RegisterRequest) (key : ℕ) (reason : Payload)
+pub skipped_child : (old new : UnitView) (sink registered : SenderView) (running rest : List RunningId) (first : RunningId) (ask : RegisterRequest) (key stamp : ℕ) (reason : Payload)
     → old.sink ≡ sink → old.running ≡ keys_of running → running ≡ first ∷ rest → ask.parent ≡ first.key → IsRegisteredAs sink registered ask (Ok key)
-    → new.sink ≡ sends registered (event Skipped key ask.stamp reason) → new.running ≡ old.running → new.stamp ≡ old.stamp → HasSkipped old new ask reason
-skipped_child old new sink registered running rest first ask key reason was view is parent r took same kept = record {
-  outer = keys_of rest;
-  innermost = view ∙ ap keys_of is ∙ ap (λ k. k ∷ keys_of rest) (sym parent);
-  key = key;
-  registered = registered;
-  registration = subst (λ s. IsRegisteredAs s registered ask (Ok key)) (sym was) r;
-  took = took;
-  running = same;
-  stamp = kept;
-}
+    → new.sink ≡ sends registered (event Skipped key stamp reason) → new.running ≡ old.running → new.stamp ≡ old.stamp
+    → (key : ℕ) × HasSkipped old new ask (event Skipped key stamp reason)
+skipped_child old new sink registered running rest first ask key stamp reason was view is parent r took same kept = (
+  key,
+  record {
+    outer = keys_of rest;
+    innermost = view ∙ ap keys_of is ∙ ap (λ k. k ∷ keys_of rest) (sym parent);
+    registered = registered;
+    registration = subst (λ s. IsRegisteredAs s registered ask (Ok key)) (sym was) r;
+    took = took;
+    running = same;
+    stamp = kept;
+  },
+)
 
-pub skipped_at : (old new : UnitView) (ask : ℕ → RegisterRequest) (given stamp : ℕ) (reason : Payload) → given ≡ stamp → HasSkipped old new (ask given) reason → HasSkipped old new (ask stamp) reason
-skipped_at old new ask given stamp reason same s = subst (λ n. HasSkipped old new (ask n) reason) same s
+pub skipped_at : (old new : UnitView) (ask : ℕ → RegisterRequest) (given stamp : ℕ) (reason : Payload) → given ≡ stamp
+    → (key : ℕ) × HasSkipped old new (ask given) (event Skipped key given reason) → (key : ℕ) × HasSkipped old new (ask stamp) (event Skipped key stamp reason)
+skipped_at old new ask given stamp reason same s = subst (λ n. (key : ℕ) × HasSkipped old new (ask n) (event Skipped key n reason)) same s
 
-pub started_child : (old new : UnitView) (sink registered : SenderView) (running rest : List RunningId) (first : RunningId) (ask : RegisterRequest) (key : ℕ)
+pub started_child : (old new : UnitView) (sink registered : SenderView) (running rest : List RunningId) (first : RunningId) (ask : RegisterRequest) (key stamp : ℕ)
     → old.sink ≡ sink → old.running ≡ keys_of running → running ≡ first ∷ rest → ask.parent ≡ first.key → IsRegisteredAs sink registered ask (Ok key)
-    → new.sink ≡ sends registered (event Started key ask.stamp Nothing) → new.running ≡ key ∷ keys_of running → new.stamp ≡ old.stamp → HasStarted old new ask key
-started_child old new sink registered running rest first ask key was view is parent r took more kept = record {
+    → new.sink ≡ sends registered (event Started key stamp Nothing) → new.running ≡ key ∷ keys_of running → new.stamp ≡ old.stamp
+    → HasStarted old new ask (event Started key stamp Nothing)
+started_child old new sink registered running rest first ask key stamp was view is parent r took more kept = record {
   outer = keys_of rest;
   innermost = view ∙ ap keys_of is ∙ ap (λ k. k ∷ keys_of rest) (sym parent);
   registered = registered;
@@ -103,9 +108,9 @@ started_child old new sink registered running rest first ask key was view is par
 }
 
 pub has_run_child : (old started before new : UnitView) (ask : ℕ → RegisterRequest) (key given stamp : ℕ) (outcome : Payload) → given ≡ stamp
-    → HasStarted old started (ask given) key → Extends started.sink before.sink → HasFinished before new (event Finished key before.stamp outcome) → HasRunChild old new (ask stamp)
+    → HasStarted old started (ask given) (event Started key (ask given).stamp Nothing) → Extends started.sink before.sink → HasFinished before new (event Finished key before.stamp outcome) → HasRunChild old new (ask stamp)
 has_run_child old started before new ask key given stamp outcome same s x f =
-    record { key = key; started = started; start = subst (λ n. HasStarted old started (ask n) key) same s; before = before; later = x; outcome = outcome; finish = f }
+    record { key = key; started = started; start = subst (λ n. HasStarted old started (ask n) (event Started key (ask n).stamp Nothing)) same s; before = before; later = x; outcome = outcome; finish = f }
 
 pub finished_as : (old new : UnitView) (key given stamp : ℕ) (payload outcome : Payload) → given ≡ stamp → payload ≡ outcome
     → HasFinished old new (event Finished key given payload) → HasFinished old new (event Finished key stamp outcome)

@@ -47,15 +47,15 @@ pub record HasFinished (old new : UnitView) (e : Event) : Type 0 where
   pub took : new.sink ≡ sends old.sink e
   pub stamp : new.stamp ≡ old.stamp
 
--- what was asked for was registered under this key, below the innermost running one, then started,
+-- what was asked for was registered below the innermost running key, then started with this event,
 -- and nothing else happened
-pub record HasStarted (old new : UnitView) (ask : RegisterRequest) (key : ℕ) : Type 0 where
+pub record HasStarted (old new : UnitView) (ask : RegisterRequest) (start : Event) : Type 0 where
   pub outer : List ℕ
   pub innermost : old.running ≡ ask.parent ∷ outer
   pub registered : SenderView
-  pub registration : IsRegisteredAs old.sink registered ask (Ok key)
-  pub took : new.sink ≡ sends registered (event Started key ask.stamp Nothing)
-  pub running : new.running ≡ key ∷ old.running
+  pub registration : IsRegisteredAs old.sink registered ask (Ok start.key)
+  pub took : new.sink ≡ sends registered start
+  pub running : new.running ≡ start.key ∷ old.running
   pub stamp : new.stamp ≡ old.stamp
 
 -- what was asked for was registered below the innermost running key and started; then events may
@@ -63,22 +63,20 @@ pub record HasStarted (old new : UnitView) (ask : RegisterRequest) (key : ℕ) :
 pub record HasRunChild (old new : UnitView) (ask : RegisterRequest) : Type 0 where
   pub key : ℕ
   pub started : UnitView
-  pub start : HasStarted old started ask key
+  pub start : HasStarted old started ask (event Started key ask.stamp Nothing)
   pub before : UnitView
   pub later : Extends started.sink before.sink
   pub outcome : Payload
   pub finish : HasFinished before new (event Finished key before.stamp outcome)
 
--- a descriptor was registered below the innermost running key, then skipped, and nothing else
--- happened
-pub record HasSkipped (old new : UnitView) (ask : RegisterRequest) (reason : Payload) :
-    Type 0 where
+-- what was asked for was registered below the innermost running key, then skipped with this event,
+-- and nothing else happened
+pub record HasSkipped (old new : UnitView) (ask : RegisterRequest) (skip : Event) : Type 0 where
   pub outer : List ℕ
   pub innermost : old.running ≡ ask.parent ∷ outer
-  pub key : ℕ
   pub registered : SenderView
-  pub registration : IsRegisteredAs old.sink registered ask (Ok key)
-  pub took : new.sink ≡ sends registered (event Skipped key ask.stamp reason)
+  pub registration : IsRegisteredAs old.sink registered ask (Ok skip.key)
+  pub took : new.sink ≡ sends registered skip
   pub running : new.running ≡ old.running
   pub stamp : new.stamp ≡ old.stamp
 

@@ -92,22 +92,29 @@ fn child_of(node: &Node) -> Child<'_> {
     }
 }
 
-// Starts a node, and answers its key: a static one has it already, any other is registered.
+// Starts a node, and answers its key: a static one has it already, any other is registered by a step
+// of its own.
 fn start_node<R: Wait, S: Sink, K: UnitRun>(
     rt: &R,
     alloc: Global,
     numbered_node: &NumberedNode,
-    stamp: u64,
+    stamps: &mut PlannedStamps,
     reporter: &mut Reporter<'_, S, K>,
 ) -> Result<u32, UnitFault> {
-    reporter.events.set_planned_stamp(stamp);
     if numbered_node.node.is_static {
         let key = numbered_node.number;
+        let stamp = stamps.take();
+        reporter.events.set_planned_stamp(stamp);
         reporter.events.start(rt, key, stamp)?;
         return Ok(key);
     }
+    let registered = stamps.take();
+    let stamp = stamps.take();
+    reporter.events.set_planned_stamp(stamp);
     let child = child_of(&numbered_node.node);
-    reporter.events.start_child(rt, alloc, &child, stamp)
+    reporter
+        .events
+        .start_child(rt, alloc, &child, registered, stamp)
 }
 
 // Skips a node.
@@ -116,17 +123,19 @@ fn skip_node<R: Wait, S: Sink, K: UnitRun>(
     alloc: Global,
     numbered_node: &NumberedNode,
     reason: &Text,
-    stamp: u64,
+    stamps: &mut PlannedStamps,
     reporter: &mut Reporter<'_, S, K>,
 ) -> Result<(), UnitFault> {
     let reason = Payload::Reason(reason.try_clone()?);
     if numbered_node.node.is_static {
-        return reporter
-            .events
-            .skip(rt, numbered_node.number, stamp, reason);
+        let key = numbered_node.number;
+        return reporter.events.skip(rt, key, stamps.take(), reason);
     }
+    let registered = stamps.take();
     let child = child_of(&numbered_node.node);
-    reporter.events.skip_child(rt, alloc, &child, stamp, reason)
+    reporter
+        .events
+        .skip_child(rt, alloc, &child, registered, stamps.take(), reason)
 }
 
 // Whether the plan has entries or files for a node.
@@ -204,7 +213,7 @@ fn run_started<R: Wait, S: Sink, K: UnitRun, T: Tests>(
     requires may { (key : ℕ) (o : Outcome) → T.may_end tests.now key o → K.may_end key o }
 {
     let node = &numbered_node.node;
-    let key = start_node(rt, alloc, numbered_node, stamps.take(), reporter)?;
+    let key = start_node(rt, alloc, numbered_node, stamps, reporter)?;
     let ended = run_node(rt, alloc, tests, node, key, reporter)?;
     // Most tests have neither.
     if publishes(node) {
@@ -255,12 +264,8 @@ fn run_tree<R: Wait, S: Sink, K: UnitRun, T: Tests>(
     requires below { IsForest below.now }
     requires may { (key : ℕ) (o : Outcome) → T.may_end tests.now key o → K.may_end key o }
 {
-    // The script registers a dynamic node by a step of its own.
-    if !numbered_node.node.is_static {
-        let _registered = stamps.take();
-    }
     match &numbered_node.node.skip {
-        Some(reason) => skip_node(rt, alloc, numbered_node, reason, stamps.take(), reporter),
+        Some(reason) => skip_node(rt, alloc, numbered_node, reason, stamps, reporter),
         None => run_started(rt, alloc, tests, numbered_node, below, stamps, reporter),
     }
 }

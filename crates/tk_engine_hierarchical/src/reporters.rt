@@ -60,7 +60,7 @@ impl<'a, S: Sink, K: UnitRun> Reporter<'a, S, K> {
             })) }
     {
         let stamp = self.events.stamp();
-        let key = self.events.start_child(rt, alloc, child, stamp)?;
+        let key = self.events.start_child(rt, alloc, child, stamp, stamp)?;
         let outcome = self.events.run_body(rt, alloc, body)?;
         self.finish(rt, key, outcome)
     }
@@ -195,14 +195,15 @@ impl<'a, S: Sink, K: UnitRun> Reporter<'a, S, K> {
         name: &str,
         reason: Text,
     ) -> Result<(), UnitFault>
-        ensures ok { OnOk result ((above : ℕ) × HasSkipped self.old.events self.new.events
+        ensures ok { OnOk result ((above : ℕ) × (key : ℕ)
+            × HasSkipped self.old.events self.new.events
             (record {
               parent = above;
               segment = segment.now;
               name = name.now;
               dtype = Test;
               stamp = self.old.events.stamp;
-            }) (payloads.Reason reason)) }
+            }) (event kinds.Skipped key self.old.events.stamp (payloads.Reason reason))) }
         ensures err { OnErr result (Grew self.old.events self.new.events) }
         ensures finish { self.new.events.own_stamp ≡ self.old.events.own_stamp }
     {
@@ -213,6 +214,6 @@ impl<'a, S: Sink, K: UnitRun> Reporter<'a, S, K> {
         };
         let stamp = self.events.stamp();
         self.events
-            .skip_child(rt, alloc, &child, stamp, Payload::Reason(reason))
+            .skip_child(rt, alloc, &child, stamp, stamp, Payload::Reason(reason))
     }
 }

@@ -1,7 +1,8 @@
 //! What a unit emits.
 ghost use Rattle.std.specs.Prelude.{◌≡◌, ◌<◌, ◌≤◌, ℕ, IfOk, IsTrue, None, OnErr, OnOk, Some, false, length, true};
 ghost use Rattle.tk_engine_execute.specs.Engines.{Extends, IsSameSender};
-ghost use Rattle.tk_events.specs.declared.kinds.Kind.TheVariants.{Finished};
+ghost use Rattle.tk_events.specs.declared.kinds.Kind.TheVariants.{Finished, Skipped, Started};
+ghost use Rattle.tk_events.specs.declared.payloads.Payload.TheVariants.{Nothing};
 ghost use Rattle.tk_engine_hierarchical.specs.Endings.{IsStaticTest, MayFinish};
 ghost use Rattle.tk_engine_hierarchical.specs.Events.{HasRun, IsRunning};
 ghost use Rattle.tk_engine_hierarchical.specs.Reporting.{Grew, HasFinished, HasSkipped, HasStarted, Published, event, publishes};
@@ -393,12 +394,14 @@ impl<'a, S: Sink, K: UnitRun> UnitEvents<'a, S, K> {
         Ok(())
     }
 
-    /// Registers a descriptor below the innermost running key, and starts it. Answers its key.
+    /// Registers a descriptor below the innermost running key at the stamp `registered`, and starts
+    /// it at `stamp`. Answers its key.
     pub(crate) fn start_child<R: Wait>(
         &mut self,
         rt: &R,
         alloc: Global,
         child: &Child<'_>,
+        registered: u64,
         stamp: u64,
     ) -> Result<u32, UnitFault>
         ensures dynamic { IfOk result (λ key. length K.frame.table ≤ key) }
@@ -408,8 +411,8 @@ impl<'a, S: Sink, K: UnitRun> UnitEvents<'a, S, K> {
               segment = child.now.segment.now;
               name = child.now.name.now;
               dtype = child.now.dtype;
-              stamp = stamp;
-            }) key) }
+              stamp = registered;
+            }) (event Started key stamp Nothing)) }
     {
         let Some(innermost) = self.progress.running.top() else {
             return Err(UnitFault::Own(OUT_OF_ORDER));
@@ -423,9 +426,14 @@ impl<'a, S: Sink, K: UnitRun> UnitEvents<'a, S, K> {
             child.segment,
         )?;
         self.progress.registered.add(&id)?;
-        let key = self
-            .lease
-            .register(rt, above, child.segment, child.name, child.dtype, stamp)?;
+        let key = self.lease.register(
+            rt,
+            above,
+            child.segment,
+            child.name,
+            child.dtype,
+            registered,
+        )?;
         self.progress.running.push(RunningKey {
             key,
             dynamic_id: Some(id),
@@ -445,23 +453,25 @@ impl<'a, S: Sink, K: UnitRun> UnitEvents<'a, S, K> {
         }
     }
 
-    /// Registers a descriptor below the innermost running key, and skips it.
+    /// Registers a descriptor below the innermost running key at the stamp `registered`, and skips
+    /// it at `stamp`.
     pub(crate) fn skip_child<R: Wait>(
         &mut self,
         rt: &R,
         alloc: Global,
         child: &Child<'_>,
+        registered: u64,
         stamp: u64,
         reason: Payload,
     ) -> Result<(), UnitFault>
-        ensures ok { OnOk result ((above : ℕ) × HasSkipped self.old self.new
+        ensures ok { OnOk result ((above : ℕ) × (key : ℕ) × HasSkipped self.old self.new
             (record {
               parent = above;
               segment = child.now.segment.now;
               name = child.now.name.now;
               dtype = child.now.dtype;
-              stamp = stamp;
-            }) reason) }
+              stamp = registered;
+            }) (event Skipped key stamp reason)) }
         ensures err { OnErr result (Grew self.old self.new) }
         ensures own_stamp { self.new.own_stamp ≡ self.old.own_stamp }
     {
@@ -477,9 +487,14 @@ impl<'a, S: Sink, K: UnitRun> UnitEvents<'a, S, K> {
             child.segment,
         )?;
         self.progress.registered.add(&id)?;
-        let key = self
-            .lease
-            .register(rt, above, child.segment, child.name, child.dtype, stamp)?;
+        let key = self.lease.register(
+            rt,
+            above,
+            child.segment,
+            child.name,
+            child.dtype,
+            registered,
+        )?;
         let event = Event {
             kind: Kind::Skipped,
             key,

@@ -54,7 +54,9 @@ returns-clause-ok g c =
     let sink = ap (λ (v : UnitView). v.sink) c.self.view_is in
     let runs = ap (λ (v : UnitView). v.running) c.self.view_is in
     on_ok c.emit.result c.emit.ensures.ok
-    (λ e. (c.in-Some.innermost.now.key, skipped_child _ _ _ _ (with_ids g.K.UnitRun.frame.table c.self.inside.progress.running) (with_ids g.K.UnitRun.frame.table c.in-Some.ensures.some.0) (with_id g.K.UnitRun.frame.table c.in-Some.innermost.now) _ c.in_ok-key.key c.args.reason (sym sink) (sym runs) (ap (with_ids g.K.UnitRun.frame.table) c.in-Some.ensures.some.1) refl c.in_ok-key.ensures.ok e runs (ap (λ (v : UnitView). v.stamp) c.self.view_is)))
+    (λ e.
+    let s = skipped_child _ _ _ _ (with_ids g.K.UnitRun.frame.table c.self.inside.progress.running) (with_ids g.K.UnitRun.frame.table c.in-Some.ensures.some.0) (with_id g.K.UnitRun.frame.table c.in-Some.innermost.now) _ c.in_ok-key.key c.args.stamp c.args.reason (sym sink) (sym runs) (ap (with_ids g.K.UnitRun.frame.table) c.in-Some.ensures.some.1) refl c.in_ok-key.ensures.ok e runs (ap (λ (v : UnitView). v.stamp) c.self.view_is) in
+    (c.in-Some.innermost.now.key, s.0, s.1))
 
 pub returns-clause-err : goal.returns-clause-err
 returns-clause-err g c =

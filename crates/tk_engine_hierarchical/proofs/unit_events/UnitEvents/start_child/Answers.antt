@@ -77,7 +77,7 @@ returns-in-Ok-clause-started g c =
     let sink = ap (λ (v : UnitView). v.sink) c.self.view_is in
     let runs = ap (λ (v : UnitView). v.running) c.self.view_is in (
       c.in-Some.innermost.now.key,
-      started_child _ _ _ _ (with_ids g.K.UnitRun.frame.table c.self.inside.progress.running) (with_ids g.K.UnitRun.frame.table c.in-Some.ensures.some.0) (with_id g.K.UnitRun.frame.table c.in-Some.innermost.now) _ c.in_ok-key.key (sym sink) (sym runs) (ap (with_ids g.K.UnitRun.frame.table) c.in-Some.ensures.some.1) refl c.in_ok-key.ensures.ok c.in-Ok.ensures.ok
+      started_child _ _ _ _ (with_ids g.K.UnitRun.frame.table c.self.inside.progress.running) (with_ids g.K.UnitRun.frame.table c.in-Some.ensures.some.0) (with_id g.K.UnitRun.frame.table c.in-Some.innermost.now) _ c.in_ok-key.key c.args.stamp (sym sink) (sym runs) (ap (with_ids g.K.UnitRun.frame.table) c.in-Some.ensures.some.1) refl c.in_ok-key.ensures.ok c.in-Ok.ensures.ok
           (ap (λ (l : List RunningKey). keys_of (with_ids g.K.UnitRun.frame.table l)) c.in_ok-push.ensures.ok) (ap (λ (v : UnitView). v.stamp) c.self.view_is),
     )
 
