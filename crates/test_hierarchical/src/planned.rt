@@ -26,26 +26,35 @@ impl Tests for Silent {
     }
 }
 
-// A node with an entry and a file.
-fn publishing<'t>(alloc: Global, node: PlanNode<'t>) -> Result<PlanNode<'t>, AllocError> {
+fn pairs(alloc: Global) -> Result<Vec<(&'static str, &'static str)>, AllocError> {
     let mut pairs = Vec::new(alloc);
     pairs.push(("k", "v"))?;
-    node.entry(pairs)?.file("out")
+    Ok(pairs)
 }
 
-// A dynamic test that fails.
+// A test with an entry and a file.
+fn publishing(alloc: Global) -> Result<PlanNode<'static>, AllocError> {
+    PlanNode::test(alloc, ("t", "2"), "two")
+        .entry(pairs(alloc)?)?
+        .file("out")
+}
+
+// A dynamic test with an entry and a file, which fails.
 fn failing(alloc: Global) -> Result<PlanNode<'static>, AllocError> {
-    let node = PlanNode::test(alloc, ("d", "3"), "three").outcome(Status::Failed, Some("boom"));
-    publishing(alloc, node)
+    PlanNode::test(alloc, ("d", "3"), "three")
+        .outcome(Status::Failed, Some("boom"))
+        .entry(pairs(alloc)?)?
+        .file("out")
 }
 
 // A container, which aborts, with a test, a dynamic test that fails, and one that is skipped.
 fn container(alloc: Global) -> Result<PlanNode<'static>, AllocError> {
-    let node = PlanNode::container(alloc, ("c", "1"), "one")
+    PlanNode::container(alloc, ("c", "1"), "one")
         .mode(ExecutionMode::Concurrent)
-        .outcome(Status::Aborted, Some("stop"));
-    publishing(alloc, node)?
-        .child(publishing(alloc, PlanNode::test(alloc, ("t", "2"), "two"))?)?
+        .outcome(Status::Aborted, Some("stop"))
+        .entry(pairs(alloc)?)?
+        .file("out")?
+        .child(publishing(alloc)?)?
         .dynamic(failing(alloc)?)?
         .dynamic(PlanNode::test(alloc, ("d", "4"), "four").skip("off"))
 }
