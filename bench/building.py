@@ -5,10 +5,14 @@ import shutil
 import subprocess
 import sys
 import tempfile
-from typing import Callable, Dict, List, Sequence
+from typing import Callable, List, Sequence
 
 BENCH = os.path.dirname(os.path.realpath(__file__))
 ROOT = os.path.dirname(BENCH)
+sys.path.insert(0, f"{ROOT}/tools")
+
+from crates import libraries_below, read_crates
+
 PARTS = ["src", "specs", "proofs", "out/rlib"]
 """What of a crate is copied: its sources and its built library."""
 
@@ -55,13 +59,6 @@ def run_crate(crate: str, input_path: str) -> None:
         call(["rt", "run"], crate, stdin=file)
 
 
-def listed() -> Dict[str, str]:
-    """The line of crates.txt of each crate, by its name."""
-    with open(f"{ROOT}/crates.txt", encoding="utf-8") as file:
-        lines = [line.partition("#")[0].strip() for line in file]
-    return {line.partition(":")[0].split()[0]: line for line in lines if line}
-
-
 def link_or_copy(path: str, to: str) -> None:
     """Copies a file, by a link where both are on one disk: libraries are large, and nobody writes into them."""
     try:
@@ -72,9 +69,8 @@ def link_or_copy(path: str, to: str) -> None:
 
 def copy_built(folder: str, crates: Sequence[str]) -> None:
     """Copies crates and those below them with their built libraries, so that `rt` proves and builds there only what is added."""
-    lines, wanted = listed(), list(crates)
-    for crate in wanted:
-        wanted += [it for it in lines[crate].partition(":")[2].split() if it in lines and it not in wanted]
+    listed = read_crates(ROOT)
+    wanted = {it for crate in crates for it in [*libraries_below(crate, listed), crate]}
     missing = [crate for crate in wanted if not os.path.isfile(f"{ROOT}/crates/{crate}/out/rlib/stamp")]
     if missing:
         raise NotMeasured(f"not built: {' '.join(sorted(missing))}. Call ./testkit first, which proves and builds them")
@@ -84,7 +80,7 @@ def copy_built(folder: str, crates: Sequence[str]) -> None:
             if os.path.isdir(path):
                 shutil.copytree(path, to, copy_function=link_or_copy if part == "out/rlib" else shutil.copy2)
     with open(f"{folder}/crates.txt", "w", encoding="utf-8") as file:
-        file.writelines(line + "\n" for name, line in lines.items() if name in wanted)
+        file.writelines(it.line + "\n" for name, it in listed.items() if name in wanted)
     shutil.copy2(f"{ROOT}/HANDLES", folder)
 
 

@@ -23,7 +23,6 @@ import heapq
 import json
 import os
 import re
-import subprocess
 import sys
 import tempfile
 from collections import Counter, defaultdict
@@ -31,7 +30,10 @@ from dataclasses import dataclass, field
 from typing import Dict, Iterator, List, Optional, Sequence, Tuple, Union
 
 HERE = os.path.dirname(os.path.realpath(__file__))
-PROGRAM = os.environ.get("PROGRAM", f"{os.path.dirname(HERE)}/testkit")
+sys.path.insert(0, HERE)
+sys.dont_write_bytecode = True
+
+from explaining.asking import PROGRAM, Failed, Refused, ask, not_an_answer
 
 MOST_LISTED = 50
 """How many executions and gaps the page lists."""
@@ -72,19 +74,6 @@ NOTHING_ELSE = "base-uri 'none'; form-action 'none'"
 
 ESCAPES = {ord("<"): "\\u003c", ord(">"): "\\u003e", ord("&"): "\\u0026"}
 """Letters that JSON may have in its texts and that a page could take for markup."""
-
-
-class Failed(Exception):
-    """The script can't draw the record."""
-
-
-class Refused(Exception):
-    """The program answered a fault, with this status and its line on standard error."""
-
-    def __init__(self, status: int, line: bytes):
-        super().__init__(line)
-        self.status = status
-        self.line = line
 
 
 @dataclass(frozen=True)
@@ -168,15 +157,10 @@ def ask_executions(text: bytes) -> List[Answered]:
     """Asks the program for the executions of a record text."""
     with tempfile.TemporaryFile() as file:
         file.write(text)
-        file.seek(0)
-        ran = subprocess.run([PROGRAM, "ask", "executions"], stdin=file, stdout=subprocess.PIPE, stderr=subprocess.PIPE)
-    if ran.returncode < 0:
-        raise Failed(f"{PROGRAM} was stopped by signal {-ran.returncode}")
-    if ran.returncode > 1:
-        raise Refused(ran.returncode, ran.stderr)
-    if ran.returncode or not re.fullmatch(rb"([0-9]+ (skipped|aborted|succeeded|failed) [0-9]+ [0-9]+\n)*", ran.stdout):
-        raise Failed(f"{PROGRAM} answers {ran.stdout[:80]!r} with status {ran.returncode}")
-    rows = (line.split() for line in ran.stdout.decode().splitlines())
+        status, output = ask(file, b"executions")
+    if status or not re.fullmatch(rb"([0-9]+ (skipped|aborted|succeeded|failed) [0-9]+ [0-9]+\n)*", output):
+        raise not_an_answer(status, output)
+    rows = (line.split() for line in output.decode().splitlines())
     return [Answered(int(key), ending, int(start), int(stop)) for key, ending, start, stop in rows]
 
 

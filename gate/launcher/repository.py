@@ -74,7 +74,8 @@ class Repository:
         self.at = os.path.join(at, "a folder")
         os.makedirs(f"{self.at}/tools")
         shutil.copy(f"{TOP}/testkit", self.at)
-        shutil.copy(f"{TOP}/tools/build_program", f"{self.at}/tools")
+        for name in ("build_program", "crates.py"):
+            shutil.copy(f"{TOP}/tools/{name}", f"{self.at}/tools")
         self.write("crates.txt", CRATES)
         self.write("bin/rt", RT)
         os.chmod(f"{self.at}/bin/rt", 0o755)
@@ -109,7 +110,7 @@ class Repository:
 
     def start(self, words: Sequence = ("0", "a word"), command: str = "", path: str = "", **streams) -> "subprocess.Popen[bytes]":
         """Starts `./testkit`, or this command, with the stand-in for `rt`, or with only this path for commands."""
-        environment = {**os.environ, "PATH": path or f"{self.path('bin')}:{os.environ['PATH']}", "REPOSITORY": self.at}
+        environment = {**os.environ, "PATH": path or f"{self.path('bin')}:{os.environ['PATH']}", "REPOSITORY": self.at, "PYTHONDONTWRITEBYTECODE": ""}
         how = {"stdin": subprocess.DEVNULL, "stdout": subprocess.PIPE, "stderr": subprocess.PIPE, **streams}
         return subprocess.Popen([command or self.path("testkit"), *words], env=environment, start_new_session=True, **how)
 

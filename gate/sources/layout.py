@@ -21,12 +21,12 @@ def crate_faults(tree: Tree) -> List[str]:
     earlier: Set[str] = set()
     folders = {path.split(os.sep)[1] for path in tree.files if path.startswith("crates/")}
     faults = [f"crates/{folder} is no crate of crates.txt" for folder in sorted(folders - set(tree.crates))]
-    for crate, libraries in tree.crates.items():
-        faults += [f"crates.txt: {crate} stands before {it}" for it in libraries if it in tree.crates and it not in earlier]
-        earlier.add(crate)
-        roots = [path for path in (f"crates/{crate}/src/lib.rt", f"crates/{crate}/src/main.rt") if path in tree.files]
+    for name, crate in tree.crates.items():
+        faults += [f"crates.txt: {name} stands before {it}" for it in crate.libraries if it not in earlier]
+        earlier.add(name)
+        roots = [path for path in (f"crates/{name}/src/lib.rt", f"crates/{name}/src/main.rt") if path in tree.files]
         if len(roots) != 1:
-            faults.append(f"crates/{crate}/src has {len(roots)} roots")
+            faults.append(f"crates/{name}/src has {len(roots)} roots")
         faults += [f"{root} has no #![tactic(auto)]" for root in roots if "#![tactic(auto)]" not in tree.text(root)]
     return faults
 

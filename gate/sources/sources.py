@@ -6,6 +6,8 @@ from dataclasses import dataclass
 from functools import cached_property
 from typing import Dict, List, Tuple
 
+from crates import Crate, read_crates
+
 TEST_CRATE = re.compile(r"test_\w+")
 """Crates of tests, and of what tests share."""
 
@@ -55,10 +57,9 @@ class Tree:
         return found
 
     @cached_property
-    def crates(self) -> Dict[str, List[str]]:
-        """The crates of crates.txt, each with the libraries that it names."""
-        lines = [line.partition("#")[0].partition(":") for line in self.text("crates.txt").split("\n")]
-        return {names.split()[0]: rest.split() for names, _, rest in lines if names.strip()}
+    def crates(self) -> Dict[str, Crate]:
+        """The crates of crates.txt."""
+        return read_crates(self.top)
 
     @cached_property
     def sources(self) -> List[Source]:

@@ -207,10 +207,14 @@ def stand_in(*lines: str) -> str:
 
 
 COPY = (
-    'mkdir -p "$ROOM/top/tools" "$ROOM/far" && cp "$1" "$1".* "$ROOM/top/tools" && cp "$ROOM/program" "$ROOM/top/testkit" && '
+    'mkdir -p "$ROOM/top/tools" "$ROOM/far" && cp -r "$1" "$1".* "${1%/*}/explaining" "$ROOM/top/tools" && '
+    'cp "$ROOM/program" "$ROOM/top/testkit" && '
     'unset PROGRAM && ln -s "$ROOM/top/tools/timeline" "$ROOM/far/draw" && cd / && shift && '
 )
 """Makes a copy that has a program beside it, to be called from another folder."""
+
+UNCACHED = 'PYTHONDONTWRITEBYTECODE="" "$ROOM/top/tools/timeline" && [ ! -e "$ROOM/top/tools/explaining/__pycache__" ]'
+"""Calls the copy, and fails where Python left something beside it."""
 
 OWN = re.compile(rb"tools/timeline: [^\n]+\n")
 ONE_START = records.HEADER + "N|T|[engine:e]|e\nE|1|0|0|start\nE|1|0|1|finish|ok\n"
@@ -252,6 +256,7 @@ ANSWER = stand_in('[ "$*" = "ask executions" ] && echo 0 succeeded 0 1')
 CALLS = [
     Call("the program of its own repository", ANSWER, COPY + 'exec "$ROOM/top/tools/timeline" "$@"', status=0, error=b"", has_page=True),
     Call("through a symbolic link", ANSWER, COPY + 'exec "$ROOM/far/draw" "$@"', status=0, error=b"", has_page=True),
+    Call("nothing is left beside the scripts", ANSWER, COPY + UNCACHED, status=0, error=b"", has_page=True),
     Call("a fault of status 3", stand_in("echo 'testkit: out of memory' >&2", "exit 3"), status=3, error=b"testkit: out of memory\n"),
     Call("a program that was not built", stand_in("echo 'testkit: not built' >&2", "exit 70"), error=b"testkit: not built\n"),
     Call("a refusal after an answer", stand_in("echo 0 succeeded 0 1", "echo 'testkit: x' >&2", "exit 2"), status=2, error=b"testkit: x\n"),

@@ -17,15 +17,27 @@ LISTED = re.compile(rb"(" + NUMBER + rb") (.*)", re.DOTALL)
 
 
 class Failed(Exception):
-    """The script can't explain the answer."""
+    """The script can't do its work."""
 
 
 class Refused(Exception):
     """The program answered a fault, with this status and its line on standard error."""
 
-    def __init__(self, status: int, line: str):
-        super().__init__(line)
+    def __init__(self, status: int, line: bytes):
+        super().__init__(line.decode(errors="replace"))
         self.status = status
+        self.line = line
+
+
+def ask(file: BinaryIO, *words: bytes) -> Tuple[int, bytes]:
+    """Asks a question about the record in a file; answers the status, 0 or 1, and what was written."""
+    file.seek(0)
+    ran = subprocess.run([PROGRAM, b"ask", *words], stdin=file, stdout=subprocess.PIPE, stderr=subprocess.PIPE)
+    if ran.returncode < 0:
+        raise Failed(f"{PROGRAM} was stopped by signal {-ran.returncode}")
+    if ran.returncode > 1:
+        raise Refused(ran.returncode, ran.stderr)
+    return ran.returncode, ran.stdout
 
 
 @dataclass(frozen=True)
@@ -47,15 +59,8 @@ class Record:
         return Record(file, *([line for line in lines if line.startswith(letter)] for letter in (b"N|", b"E|")))
 
     def ask(self, *words: bytes) -> Tuple[int, bytes]:
-        """Asks a question; answers the status, 0 or 1, and what was written."""
-        self.file.seek(0)
-        command = [os.fsencode(PROGRAM), b"ask", *words]
-        ran = subprocess.run(command, stdin=self.file, stdout=subprocess.PIPE, stderr=subprocess.PIPE)
-        if ran.returncode < 0:
-            raise Failed(f"{PROGRAM} was stopped by signal {-ran.returncode}")
-        if ran.returncode > 1:
-            raise Refused(ran.returncode, ran.stderr.decode(errors="replace"))
-        return ran.returncode, ran.stdout
+        """Asks a question about it, as `ask` does."""
+        return ask(self.file, *words)
 
     def positions(self, condition: bytes) -> List[int]:
         """The positions at which a condition holds. The program is asked once for each condition."""
