@@ -1,7 +1,7 @@
 //! Each fault of a plan in code, and which comes first.
 use std::alloc::{AllocError, Global};
 use tk_events::Status;
-use tk_plan::{LockMode, PlanNode, build_plan};
+use tk_plan::{ExecutionMode, LockMode, PlanNode, build_plan};
 
 type Node = Result<PlanNode<'static>, AllocError>;
 
@@ -106,6 +106,39 @@ fn members_of_static_nodes_alone(rt: HostRuntime) {
     assert!(rt;
         matches!(
             is_refused(alloc, locked, "Field(\"/root/dynamic/0/locks\")"),
+            Ok(true)
+        )
+    );
+}
+
+// A test that may run beside its siblings.
+fn concurrent(alloc: Global) -> PlanNode<'static> {
+    test(alloc, "1").mode(ExecutionMode::Concurrent)
+}
+
+// A root with a dynamic node, which has a mode and a child.
+fn dynamic_with_child(alloc: Global) -> Node {
+    root(alloc).dynamic(concurrent(alloc).child(test(alloc, "2"))?)
+}
+
+/// Of two such members the first in byte order is named.
+#[test]
+fn modes_and_children_of_static_nodes_alone(rt: HostRuntime) {
+    let alloc = rt.alloc();
+    let with_mode = root(alloc).dynamic(concurrent(alloc));
+    assert!(rt;
+        matches!(
+            is_refused(alloc, with_mode, "Field(\"/root/dynamic/0/mode\")"),
+            Ok(true)
+        )
+    );
+    assert!(rt;
+        matches!(
+            is_refused(
+                alloc,
+                dynamic_with_child(alloc),
+                "Field(\"/root/dynamic/0/children\")"
+            ),
             Ok(true)
         )
     );

@@ -154,6 +154,25 @@ fn a_segment_too_many(rt: HostRuntime) {
     assert!(rt; matches!(fault_at_the_limit(rt.alloc()), Ok(Some(IdFault::TooLong))));
 }
 
+// The id with one segment more, whose value has this number of letters.
+fn lengthened(alloc: Global, id: &UniqueId, letters: usize) -> Result<UniqueId, IdFault> {
+    let value = "v".repeat(alloc, letters)?;
+    id.append(alloc, &Segment::new(alloc, "a", value.as_str())?)
+}
+
+// How many bytes the text of the engine's id has then.
+fn bytes_of_text(alloc: Global, letters: usize) -> Result<usize, IdFault> {
+    let id = lengthened(alloc, &engine(alloc)?, letters)?;
+    Ok(id.write()?.len())
+}
+
+/// Beside the letters there are 15 bytes, `[engine:e]/[a:` and `]`.
+#[test]
+fn a_byte_too_many(rt: HostRuntime) {
+    assert!(rt; matches!(bytes_of_text(rt.alloc(), 4081), Ok(4096)));
+    assert!(rt; matches!(bytes_of_text(rt.alloc(), 4082), Err(IdFault::TooLong)));
+}
+
 #[test]
 fn an_empty_tag(rt: HostRuntime) {
     assert!(rt; matches!(Segment::new(rt.alloc(), "", "x"), Err(IdFault::Empty)));
