@@ -4,7 +4,7 @@ ghost use Rattle.tk_lanes.specs.Lanes.{lane_at};
 ghost use Rattle.tk_book.specs.Needs.{word_of};
 ghost use Rattle.tk_book.specs.Holdings.{AreCompatible, held_lane, held_word};
 ghost use Rattle.tk_book.specs.Books.{book_view, empty};
-ghost use Rattle.tk_book.specs.FaultTexts.{book_fault_text};
+ghost use Rattle.tk_book.specs.FaultTexts.{book_fault_text, busy_text};
 ghost use Rattle.tk_book.specs.LockWord.{seat_note};
 ghost use Rattle.tk_book.specs.Tries.{WasFree, WasBusy, WasFreeAtLast};
 ghost use Rattle.tk_limits.specs.declared.limits.TheConstants.{MAX_WORKERS};
@@ -62,13 +62,26 @@ impl Model for BookSeat {
 }
 
 /// Why a seat did not take a need.
-#[derive(Debug, Drop)]
+#[derive(Clone, Copy, Debug, PartialEq, Eq)]
 pub enum Busy {
     /// The word that was read doesn't admit the need.
     Held(u64),
     /// The first word was read and admits the need, but the second was found by the exchange.
     Moved(u64, u64),
 }
+
+impl fmt::Display for Busy {
+    ghost output = { λ busy. Some (busy_text busy) };
+
+    fn fmt<W: fmt::Write>(&self, f: &mut fmt::Formatter<W>) -> fmt::Result {
+        match self {
+            Busy::Held(_) => f.write_str("a resource is held"),
+            Busy::Moved(_, _) => f.write_str("the lock word was changed"),
+        }
+    }
+}
+
+impl Error for Busy {}
 
 /// Why a book was not opened.
 #[derive(Clone, Copy, Debug, PartialEq, Eq)]

@@ -12,8 +12,8 @@ use Rattle.tk_events.specs.declared.events.Entry.{Entry}
 use Rattle.tk_record_columns.specs.Mixing.{IsWorkerOf, of_worker, Mix}
 use Rattle.tk_queue_core.specs.Core.{entries}
 use Rattle.tk_engine_claim.specs.Claims.{ClaimSeatView, Claims}
-use Rattle.tk_queue.specs.declared.receivers.CloseReason.{CloseReason}
-use Rattle.tk_queue.specs.declared.receivers.CloseReason.TheVariants.{Missing, Twice, NotDrained}
+use Rattle.tk_queue.specs.declared.close_faults.CloseReason.{CloseReason}
+use Rattle.tk_queue.specs.declared.close_faults.CloseReason.TheVariants.{Missing, Twice, NotDrained}
 use Rattle.tk_queue.specs.Senders.{SenderView as Sent}
 use Rattle.tk_queue.specs.Receivers.{ReceiverView, is_marked}
 use Rattle.tk_queue.specs.Tokens.{tokens_of, sent_by}

@@ -9,6 +9,7 @@ use tk_plan_units::{Node, NumberedNode};
 /// The nodes that were read, in preorder, and what they have.
 #[derive(Drop)]
 pub struct Reader {
+    /// The nodes, with no number yet.
     pub nodes: Vec<NumberedNode>,
     /// The descriptors of the static nodes.
     pub descriptors: Vec<Descriptor>,

@@ -8,6 +8,7 @@ use tk_ids::{DType, Segment, Text};
 /// A lock that a node asks for.
 #[derive(Debug, Drop)]
 pub struct Lock {
+    /// The name of the resource.
     pub key: Text,
     /// Whether the lock is for reading and writing, and not for reading alone.
     pub writes: bool,
@@ -109,27 +110,34 @@ impl Files {
 pub struct Node {
     /// Whether the node stands in the table. Any other is registered as it runs.
     pub is_static: bool,
+    /// Whether the node is a container, a test, or both.
     pub dtype: DType,
     /// The last segment of the node's id.
     pub segment: Segment,
+    /// The display name.
     pub name: Text,
     /// Whether the node may run beside its siblings.
     pub is_concurrent: bool,
     /// Whether nothing else may run beside the node.
     pub is_isolated: bool,
+    /// The locks that the node asks for, in the plan's order.
     pub locks: Locks,
     /// Why the node is skipped, if it is.
     pub skip: Option<Text>,
-    /// How the node finishes, if it isn't skipped, and the message with it.
+    /// How the node finishes, if it isn't skipped.
     pub status: Status,
+    /// The message with which it finishes.
     pub message: Option<Text>,
+    /// The entries that it publishes after its start.
     pub entries: Entries,
+    /// The files that it publishes after its entries.
     pub files: Files,
 }
 
 /// A node in preorder.
 #[derive(Debug, Drop)]
 pub struct NumberedNode {
+    /// What the plan says of the node.
     pub node: Node,
     /// A static node's number is its key in the table. The dynamic nodes' numbers follow.
     pub number: u32,

@@ -8,12 +8,15 @@ use tk_events::Kind;
 pub enum Act {
     /// The node is registered below the node of that number.
     Register { parent: u32 },
+    /// The node is skipped.
     Skip,
+    /// The node starts.
     Start,
     /// The node publishes its entry of that number, from 0.
     Report(u32),
     /// The node publishes its file of that number, from 0.
     File(u32),
+    /// The node finishes.
     Finish,
 }
 
@@ -42,6 +45,7 @@ pub struct Step {
     pub node: u32,
     /// Its position in the root's script.
     pub stamp: u64,
+    /// What the node does.
     pub act: Act,
 }
 

@@ -7,6 +7,7 @@ use crate::nodes::NumberedNode;
 /// A unit of a plan.
 #[derive(Clone, Copy)]
 pub struct UnitTree<'p> {
+    /// The unit's first node, above all others of it.
     pub top: &'p NumberedNode,
     /// The nodes below it, in preorder.
     pub below: &'p [NumberedNode],

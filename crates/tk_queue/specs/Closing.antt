@@ -2,8 +2,8 @@
 use Rattle.std.specs.Prelude.{◌≡◌, ℕ, ◌<◌, true, false, List}
 use Rattle.atomic_table.specs.Seated.{TableId}
 use Rattle.tk_record_columns.specs.Mixing.{IsWorkerOf}
-use Rattle.tk_queue.specs.declared.receivers.CloseReason.{CloseReason}
-use Rattle.tk_queue.specs.declared.receivers.CloseReason.TheVariants.{Missing, Twice, NotDrained}
+use Rattle.tk_queue.specs.declared.close_faults.CloseReason.{CloseReason}
+use Rattle.tk_queue.specs.declared.close_faults.CloseReason.TheVariants.{Missing, Twice, NotDrained}
 use Rattle.tk_queue.specs.Senders.{SenderView}
 use Rattle.tk_queue.specs.Receivers.{ReceiverView, is_marked}
 use Rattle.tk_queue.specs.Tokens.{tokens_of, sent_by}

@@ -2,6 +2,8 @@
 use Rattle.std.specs.Prelude.{ℕ, List, ◌++◌, codes}
 use Rattle.std.specs.Fmt.{decimal}
 use Rattle.tk_ids.specs.FaultTexts.{id_fault_text}
+use Rattle.tk_queue.specs.declared.close_faults.CloseReason.{CloseReason}
+use Rattle.tk_queue.specs.declared.close_faults.CloseReason.TheVariants as closes
 use Rattle.tk_queue.specs.declared.sender_faults.SendFault.{SendFault}
 use Rattle.tk_queue.specs.declared.sender_faults.SendFault.TheVariants as sends
 use Rattle.tk_queue.specs.declared.sender_faults.RegisterFault.{RegisterFault}
@@ -25,3 +27,11 @@ abbrev pub open_fault_text : OpenFault → List ℕ
 open_fault_text opens.Workers = codes "workers must be 1 to 15"
 open_fault_text opens.Capacity = codes "capacity must be 1 to 1024"
 open_fault_text opens.Memory = codes "out of memory"
+
+abbrev pub close_reason_text : CloseReason → List ℕ
+close_reason_text (closes.Missing worker) =
+    codes "worker " ++ decimal worker ++ codes " has no token"
+close_reason_text (closes.Twice worker) =
+    codes "worker " ++ decimal worker ++ codes " has two tokens"
+close_reason_text (closes.NotDrained worker) =
+    codes "worker " ++ decimal worker ++ codes " has an end mark that was not taken"

@@ -1,6 +1,7 @@
 //! A session in which several workers send events to one receiver, through a queue under a rule.
 #![tactic(auto)]
 
+mod close_faults;
 pub mod laws;
 mod limits;
 mod pushes;
@@ -11,8 +12,9 @@ mod session_rules;
 mod sessions;
 mod tokens;
 
+pub use close_faults::{CloseFault, CloseReason};
 pub use limits::MAX_CAPACITY;
-pub use receivers::{CloseFault, CloseReason, Closed, Receiver};
+pub use receivers::{Closed, Receiver};
 pub use sender_faults::{RegisterFault, SendFault};
 pub use senders::{Ended, Sender};
 pub use sessions::{OpenFault, open};

@@ -9,6 +9,7 @@ ghost use Rattle.tk_queue.specs.Receivers.{fresh_receiver, takes, MayBeTaken, Is
 ghost use Rattle.tk_queue.specs.Tokens.{sent_by};
 ghost use Rattle.tk_queue.specs.Closing.{IsComplete, EndWithMarks};
 
+use crate::close_faults::{CloseFault, CloseReason};
 use crate::limits::WORKER_SLOTS;
 use crate::senders::Ended;
 use crate::session_rules::{AllSent, EventQueue, JoinSender, QueuePass, ReceiverPop};
@@ -72,28 +73,6 @@ impl Model for Closed {
     ghost view = { λ c. record { session = c.pass.table_id; emitted = c.emitted } };
 
     ghost invariant = { λ c. length c.emitted ≡ worker_slots };
-}
-
-/// Why a session was not closed.
-#[derive(Clone, Copy, Debug, PartialEq, Eq)]
-pub enum CloseReason {
-    /// The worker has no token.
-    Missing(u8),
-    /// The worker has more than one token.
-    Twice(u8),
-    /// The worker's end mark was not taken.
-    NotDrained(u8),
-}
-
-/// What [`Receiver::close`] answers where it closed nothing: the reason, and all that it was given.
-#[derive(Drop)]
-pub struct CloseFault {
-    /// Why the session was not closed.
-    pub why: CloseReason,
-    /// The receiver, unchanged.
-    pub receiver: Receiver,
-    /// The tokens, unchanged.
-    pub ended: Vec<Ended>,
 }
 
 impl Closed {

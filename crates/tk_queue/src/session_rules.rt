@@ -6,29 +6,37 @@ use std::collections::LinkedList;
 use tk_events::Event;
 use tk_queue_core::Item;
 
-/// What a sender's pass knows: the number of static descriptors, and its worker, what it sent and
-/// whether it ended. No value of it is made.
+/// What a sender's pass knows. No value of it is made.
 pub struct SenderPass {
+    /// How many static descriptors there are.
     pub statics: u32,
+    /// The number of the sender's worker.
     pub worker: u8,
+    /// The events that it sent, in their order.
     pub sent: LinkedList<Event>,
+    /// Whether it sent its end mark.
     pub ended: bool,
 }
 
-/// What the receiver's pass knows: the number of static descriptors, how many senders there are,
-/// the items that it took, and what the senders whose tokens it took in had sent. No value of it is
-/// made.
+/// What the receiver's pass knows. No value of it is made.
 pub struct ReceiverPass {
+    /// How many static descriptors there are.
     pub statics: u32,
+    /// How many senders there are.
     pub workers: u8,
+    /// The items that were taken, in their order.
     pub taken: LinkedList<Item>,
+    /// The passes of the senders whose tokens were taken in.
     pub tokens: LinkedList<SenderPass>,
 }
 
 /// What a pass knows. No value of it is made.
 pub enum PassView {
+    /// That of a sender.
     Sends(SenderPass),
+    /// That of the receiver.
     Takes(ReceiverPass),
+    /// Nothing any more: it was taken in.
     Spent,
 }
 

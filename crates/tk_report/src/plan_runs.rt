@@ -16,7 +16,9 @@ pub const DEFAULT_CAPACITY: usize = 64;
 /// A plan that was run: the engine that has the plan, and the run's results.
 #[derive(Drop)]
 pub struct PlanRun {
+    /// The engine, which has the plan.
     pub engine: Scripted,
+    /// What the run left: its record, and how many events each worker emitted.
     pub results: Results,
 }
 

@@ -2,6 +2,7 @@
 #![tactic(auto)]
 
 mod device_streams;
+pub mod laws;
 mod memory_streams;
 mod pieces;
 mod streams;

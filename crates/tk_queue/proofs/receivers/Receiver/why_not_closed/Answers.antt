@@ -1,7 +1,7 @@
 use Rattle.std.proofs.Common.{subst}
 use Rattle.tk_queue.specs.Closing.{IsCloseFault, IsComplete}
 use Rattle.tk_queue.specs.Receivers.{taken_of}
-use Rattle.tk_queue.specs.declared.receivers.CloseReason.TheVariants.{Missing, Twice, NotDrained}
+use Rattle.tk_queue.specs.declared.close_faults.CloseReason.TheVariants.{Missing, Twice, NotDrained}
 use Rattle.tk_queue.proofs.Closing.{some_token, one_token, marks_missing, marks_whole, if_none_from}
 use Rattle.crossbeam_queue.specs.Passes.{view}
 use Rattle.tk_queue.proofs.receivers.Receiver.why_not_closed.Goals as goal
