@@ -7,7 +7,7 @@ use std::alloc::{AllocError, Global};
 use std::marker::Model;
 use tk_record::{EntryView, push_tail};
 
-// How many bytes are reserved for the lines of an id: those of a start and a finish. Longer ones grow.
+// How many bytes are reserved for the lines of an id, as a start and a finish; longer ones grow.
 const LINES_CAPACITY: usize = 24;
 
 /// Lines of one id, which contracts see as their bytes.
