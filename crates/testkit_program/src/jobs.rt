@@ -16,8 +16,9 @@ use tk_report::{run_plan, write_report};
 
 /// Runs the plan of the source's bytes and writes its report.
 ///
-/// The run isn't freed: the program ends after its job, and the system then takes all memory at
-/// once. Freeing what a run keeps block by block takes up to a fifth of the program's time.
+/// The run's record isn't freed: the program ends after its job, and the system then takes all
+/// memory at once. Freeing what a record keeps block by block takes up to a fifth of the program's
+/// time.
 fn report_plan<R: Threads + Wait + Sync, S: Source, T: Target>(
     rt: &R,
     alloc: Global,
@@ -40,10 +41,11 @@ fn report_plan<R: Threads + Wait + Sync, S: Source, T: Target>(
         Ok(run) => run,
         Err(fault) => return Err(Fault::Report(fault)),
     };
-    // The report gets the memory of the plan's text.
+    // The report gets the memory of the plan and of its text.
     drop(bytes);
+    drop(run.engine);
     let written = write_report(alloc, &run.results, target);
-    mem::forget(run);
+    mem::forget(run.results);
     match written {
         Ok(()) => Ok(()),
         Err(fault) => Err(Fault::Report(fault)),
@@ -53,8 +55,8 @@ fn report_plan<R: Threads + Wait + Sync, S: Source, T: Target>(
 /// Does a job: answers a question, replays a script of the queue, or runs a plan with the job's
 /// number of workers and reports the run.
 ///
-/// The answer is `false` where a match says no or an expectation fails, and else `true`. The run of
-/// a plan isn't freed, since a program ends after its job.
+/// The answer is `false` where a match says no or an expectation fails, and else `true`. The record
+/// of a plan's run isn't freed, since a program ends after its job.
 ///
 /// # Errors
 /// A fault of the job's own kind. A fault of a device means that the source or the target is
