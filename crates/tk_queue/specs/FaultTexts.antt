@@ -32,6 +32,6 @@ abbrev pub close_reason_text : CloseReason → List ℕ
 close_reason_text (closes.Missing worker) =
     codes "worker " ++ decimal worker ++ codes " has no token"
 close_reason_text (closes.Twice worker) =
-    codes "worker " ++ decimal worker ++ codes " has two tokens"
+    codes "worker " ++ decimal worker ++ codes " has more than one token"
 close_reason_text (closes.NotDrained worker) =
     codes "worker " ++ decimal worker ++ codes " has an end mark that was not taken"

@@ -24,7 +24,7 @@ impl fmt::Display for CloseReason {
     fn fmt<W: fmt::Write>(&self, f: &mut fmt::Formatter<W>) -> fmt::Result {
         match self {
             CloseReason::Missing(worker) => write!(f, "worker {worker} has no token"),
-            CloseReason::Twice(worker) => write!(f, "worker {worker} has two tokens"),
+            CloseReason::Twice(worker) => write!(f, "worker {worker} has more than one token"),
             CloseReason::NotDrained(worker) => {
                 write!(f, "worker {worker} has an end mark that was not taken")
             }
