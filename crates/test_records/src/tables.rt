@@ -46,7 +46,7 @@ fn container_of(alloc: Global, text: &str) -> Result<Descriptor, IdFault> {
 // Inserts a copy of a container with the id of this text.
 fn insert(alloc: Global, table: &mut Table, text: &str) -> Answer {
     match container_of(alloc, text) {
-        Ok(descriptor) => table.insert(alloc, descriptor.try_clone()?),
+        Ok(descriptor) => table.insert(descriptor.try_clone()?),
         Err(fault) => Err(TableFault::Id(fault)),
     }
 }

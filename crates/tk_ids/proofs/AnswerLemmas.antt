@@ -76,16 +76,3 @@ answer_is_unique text (Err (BadEscape m)) (Err Empty) k h na nb = let some = k.0
 answer_is_unique text (Err (BadEscape m)) (Err (BadSegment n)) k h na nb = absurd (h.1 (subst (λ i. EndsInEscape (take i text)) (same_at text m n k.0 h.0) k.1))
 answer_is_unique text (Err (BadEscape m)) (Err (BadEscape n)) h k na nb = ap (λ i. Err (BadEscape i)) (same_at text m n h.0 k.0)
 answer_is_unique text (Err (BadEscape m)) (Err TooLong) k h na nb = absurd (k.0.no_id (h.0, h.1, h.2))
-
--- an id of one segment with this tag is an engine's
-pub engine_exact : (id : List SegmentView) (s : SegmentView) (tag : List ℕ) (r : Bool) → 1 ≤ length id → length id < 2 → s ≡ get_or id 0 s → tag ≡ s.tag → r ≡ bytes_eq tag (codes "engine") → (r ≡ true → IsEngine id) × (IsEngine id → r ≡ true)
-engine_exact [] s tag r some few is t e = absurd (omega arith)
-engine_exact (x ∷ y ∷ id) s tag r some few is t e = absurd (omega arith)
-engine_exact (x ∷ []) s tag r some few is t e =
-    let same : s.tag ≡ x.tag = ap (λ p. p.tag) is in
-    let decides = bytes_eq-Decides tag (codes "engine") in (
-      λ yes. let named : x.tag ≡ codes "engine" = sym same ∙ sym t ∙ decides.0 (sym e ∙ yes) in
-          (x.value, ap (λ l. record { tag = l; value = x.value } ∷ []) named),
-      λ engine. let named : x.tag ≡ codes "engine" = ap (λ l. (get_or l 0 x).tag) engine.1 in
-          e ∙ decides.1 (t ∙ same ∙ named),
-    )

@@ -77,3 +77,7 @@ EndsInEscape text =
 -- the id without its last segment
 abbrev pub parent_of : List SegmentView → List SegmentView
 parent_of id = take (length id - 1) id
+
+-- an id stands below another: it begins with the segments of the other, and has more
+abbrev pub IsBelow : List SegmentView → List SegmentView → Type 0
+IsBelow above id = (s : SegmentView) × (more : List SegmentView) × (id ≡ above ++ s ∷ more)

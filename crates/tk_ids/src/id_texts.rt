@@ -69,7 +69,7 @@ impl Hash for IdText {
 }
 
 /// A text finds the id that has it.
-impl Equivalent<IdText> for &Text {
+impl Equivalent<IdText> for &str {
     ghost equivalent = { λ q k. pointwise nat_eq q.now k };
 
     ghost respects_hash = { λ q k same. ap fed.str ((bytes_decides q.now k).0 same) };
@@ -77,6 +77,6 @@ impl Equivalent<IdText> for &Text {
     ghost respects_eq = { λ q x y. nat_list_eq_equiv.congr q.now x y };
 
     fn equivalent(&self, key: &IdText) -> bool {
-        **self == *key.as_text()
+        **self == *key.as_text().as_str()
     }
 }

@@ -1,11 +1,13 @@
 //! Unique ids.
 ghost use Rattle.std.specs.Prelude.{◌≡◌, ℕ, List, MatchOption, IfOk, IfErr, IsOk, OnOk, length, [], ◌∷◌, ◌++◌, ◌<◌, ◌≤◌, ◌⊎◌, IsTrue, ◌↔◌};
 ghost use Rattle.tk_ids.specs.IdText.{EndsInEscape};
+ghost use Rattle.tk_ids.specs.Kept.{IsLastSlash};
 ghost use Rattle.tk_ids.specs.Answer.{IsFaultAfter};
 
 use crate::id_faults::IdFault;
 use crate::id_texts::IdText;
 use crate::reading::Reader;
+use crate::scanning::count_segments;
 use crate::segments::Segment;
 use crate::texts::Text;
 use crate::writing::push_segment;
@@ -20,31 +22,30 @@ pub const MAX_BYTES: usize = 4096;
 /// The most segments that an id may have.
 pub const MAX_SEGMENTS: usize = 64;
 
-/// What an id keeps: its segments, and its text beside them.
+/// What an id keeps: its text, and how many segments it has.
 #[derive(Drop)]
 pub(crate) struct IdFields {
     pub(crate) text: Text,
-    segments: Vec<Segment>,
+    segment_count: usize,
 }
 
-/// The path of a descriptor from its root: one segment or more. Clones share all that it keeps.
+/// The path of a descriptor from its root: one segment or more. Clones share its text.
 #[derive(Drop)]
 pub struct UniqueId {
     path: Arc<IdFields>,
 }
 
 impl Model for UniqueId {
-    ghost use Rattle.std.specs.Prelude.{◌≡◌, List};
+    ghost use Rattle.std.specs.Prelude.{List};
     ghost use Rattle.std.specs.Arc.{arc_value};
-    ghost use Rattle.tk_ids.specs.IdText.{SegmentView, IsId, id_text, FitsLimits};
+    ghost use Rattle.tk_ids.specs.IdText.{SegmentView};
+    ghost use Rattle.tk_ids.specs.Kept.{segments_of, IsKeptId};
 
     ghost Value = { List SegmentView };
 
-    ghost view = { λ u. (arc_value u.path).segments.items };
+    ghost view = { λ u. segments_of (arc_value u.path).text };
 
-    ghost invariant = { λ u. IsId (arc_value u.path).segments.items
-        × ((arc_value u.path).text ≡ id_text (arc_value u.path).segments.items)
-        × FitsLimits (arc_value u.path).segments.items };
+    ghost invariant = { λ u. IsKeptId (arc_value u.path).text (arc_value u.path).segment_count };
 }
 
 /// Shows the id's text, in quotes.
@@ -52,18 +53,6 @@ impl fmt::Debug for UniqueId {
     fn fmt<W: fmt::Write>(&self, f: &mut fmt::Formatter<W>) -> fmt::Result {
         fmt::Debug::fmt(&self.path.text, f)
     }
-}
-
-// Clones the segments, with room for one after them.
-fn clone_segments(alloc: Global, segments: &[Segment]) -> Result<Vec<Segment>, AllocError>
-    requires few { length segments.now ≤ MAX_SEGMENTS }
-    ensures { IfOk result (λ v. v.items ≡ segments.now) }
-{
-    let mut copied = Vec::with_capacity(alloc, segments.len() + 1)?;
-    for segment in segments {
-        copied.push(segment.try_clone()?)?;
-    }
-    Ok(copied)
 }
 
 // Whether a text ends within an escape.
@@ -85,19 +74,38 @@ fn fault_after(prefix: &[u8]) -> IdFault
     }
 }
 
-impl UniqueId {
-    ghost use Rattle.tk_ids.specs.IdText.{IsId, id_text, IsEngine, FitsLimits, parent_of};
-    ghost use Rattle.tk_ids.specs.Answer.{IsReadAs, IsMadeOf};
+// Finds the last `/` of a text.
+fn last_slash(bytes: &[u8]) -> Option<usize>
+    ensures { IsLastSlash bytes.now result }
+{
+    let mut at = bytes.len();
+    'slashes: while at > 0 {
+        at -= 1;
+        if bytes[at] == b'/' {
+            return Some(at);
+        }
+    }
+    None
+}
 
-    // Makes the id of these segments, with its text.
-    fn from_parts(alloc: Global, text: Text, segments: Vec<Segment>) -> Result<UniqueId, AllocError>
-        requires id { IsId segments.items }
-        requires text { text ≡ id_text segments.items }
-        requires fits { FitsLimits segments.items }
-        ensures { IfOk result (λ id. id ≡ segments.items) }
+impl UniqueId {
+    ghost use Rattle.tk_ids.specs.IdText.{IsId, id_text, IsEngine, IsBelow, FitsLimits, parent_of};
+    ghost use Rattle.tk_ids.specs.Answer.{IsReadAs, IsMadeOf};
+    ghost use Rattle.tk_ids.specs.Kept.{segments_of, IsKeptId};
+
+    // Makes the id that has this text.
+    fn from_text(alloc: Global, text: Text, segment_count: usize) -> Result<UniqueId, AllocError>
+        requires { IsKeptId text segment_count }
+        ensures { IfOk result (λ id. id ≡ segments_of text) }
     {
         Ok(UniqueId {
-            path: Arc::new(alloc, IdFields { text, segments })?,
+            path: Arc::new(
+                alloc,
+                IdFields {
+                    text,
+                    segment_count,
+                },
+            )?,
         })
     }
 
@@ -112,24 +120,18 @@ impl UniqueId {
     pub fn read(alloc: Global, text: &str) -> Result<UniqueId, IdFault>
         ensures { IsReadAs text.now result }
     {
-        let bytes = text.as_bytes();
-        if bytes.is_empty() {
+        if text.is_empty() {
             return Err(IdFault::Empty);
         }
-        let mut reader = Reader::new(alloc);
-        for (at, byte) in bytes.iter().enumerate() {
-            if !reader.feed(alloc, *byte)? {
-                return Err(fault_after(&bytes[..at]));
-            }
-        }
-        let Some(segments) = reader.finish() else {
-            return Err(fault_after(bytes));
+        let segment_count = match count_segments(text) {
+            Ok(segment_count) => segment_count,
+            Err(at) => return Err(fault_after(&text.as_bytes()[..at])),
         };
-        if bytes.len() > MAX_BYTES || segments.len() > MAX_SEGMENTS {
+        if text.len() > MAX_BYTES || segment_count > MAX_SEGMENTS {
             return Err(IdFault::TooLong);
         }
         let text = Text::copy(alloc, text)?;
-        Ok(UniqueId::from_parts(alloc, text, segments)?)
+        Ok(UniqueId::from_text(alloc, text, segment_count)?)
     }
 
     /// Copies the id's text.
@@ -152,6 +154,14 @@ impl UniqueId {
         &self.path.text
     }
 
+    // Lends the bytes of the id's text.
+    fn as_bytes(&self) -> &[u8]
+        ensures text { result.now ≡ id_text self.now }
+        ensures id { IsId self.now }
+    {
+        self.as_text().as_str().as_bytes()
+    }
+
     /// Makes a key of maps of the id's text, which it shares.
     pub fn shared_text(&self) -> Result<IdText, AllocError>
         ensures text { IfOk result (λ t. t ≡ id_text self.now) }
@@ -162,24 +172,46 @@ impl UniqueId {
         Ok(IdText::of(Arc::try_clone(&self.path)?))
     }
 
-    /// Lends the segments, beginning with the root's.
-    pub fn segments(&self) -> &[Segment]
-        ensures { result.now ≡ self.now }
+    /// Counts the segments.
+    pub fn segment_count(&self) -> usize
+        ensures { result ≡ length self.now }
     {
-        self.path.segments.as_slice()
+        self.path.segment_count
+    }
+
+    /// Makes the segments, beginning with the root's, from the id's text.
+    pub fn segments(&self, alloc: Global) -> Result<Vec<Segment>, AllocError>
+        ensures { IfOk result (λ segments. segments.items ≡ self.now) }
+    {
+        let bytes = self.as_bytes();
+        let mut reader = Reader::new(alloc);
+        for byte in bytes {
+            if !reader.feed(alloc, *byte)? {
+                unreachable!()
+            }
+        }
+        match reader.finish() {
+            Some(segments) => Ok(segments),
+            None => unreachable!(),
+        }
     }
 
     /// Whether the id is one segment with the tag `engine`.
     pub fn is_engine(&self) -> bool
         ensures { IsTrue result ↔ IsEngine self.now }
     {
-        match self.segments() {
-            [segment] => segment.tag() == "engine",
-            _ => false,
-        }
+        self.segment_count() == 1 && self.as_bytes().starts_with(b"[engine:")
     }
 
-    /// Makes another id with the same segments, which shares them.
+    /// Whether the id has the segments of `above`, and more after them.
+    pub fn is_below(&self, above: &UniqueId) -> bool
+        ensures { IsTrue result ↔ IsBelow above.now self.now }
+    {
+        let (outer, inner) = (above.as_bytes(), self.as_bytes());
+        inner.len() > outer.len() && inner[outer.len()] == b'/' && inner.starts_with(outer)
+    }
+
+    /// Makes another id with the same segments, which shares its text.
     pub fn try_clone(&self) -> Result<UniqueId, AllocError>
         ensures { IfOk result (λ id. id ≡ self.now) }
     {
@@ -188,23 +220,15 @@ impl UniqueId {
         })
     }
 
-    /// Makes the text of the id without its last segment, where it has more than one.
-    pub(crate) fn parent_text(&self, alloc: Global) -> Result<Option<Text>, AllocError>
-        ensures { IfOk result (λ prefix. MatchOption prefix (length self.now ≡ 1)
+    /// Lends the text of the id without its last segment, where it has more than one.
+    pub(crate) fn parent_text(&self) -> Option<&str>
+        ensures { MatchOption result (length self.now ≡ 1)
             (λ text. (1 < length self.now) × IsId (parent_of self.now)
-            × FitsLimits (parent_of self.now) × (text ≡ id_text (parent_of self.now)))) }
+            × FitsLimits (parent_of self.now) × (text.now ≡ id_text (parent_of self.now))) }
     {
-        let text = self.as_text();
-        let segments = self.segments();
-        let count = segments.len() - 1;
-        if count == 0 {
-            return Ok(None);
-        }
-        let mut last = Vec::new(alloc);
-        push_segment(&mut last, &segments[count])?;
-        let bytes = text.as_str().as_bytes();
-        let prefix = Vec::from_slice(alloc, &bytes[..bytes.len() - last.len() - 1])?;
-        Ok(Some(Text::from_utf8(prefix)))
+        let text = self.as_text().as_str();
+        let at = last_slash(text.as_bytes())?;
+        Some(&text[..at])
     }
 
     /// Makes the id without its last segment, or `None` where it has only one.
@@ -212,12 +236,11 @@ impl UniqueId {
         ensures { IfOk result (λ parent. MatchOption parent (length self.now ≡ 1)
             (λ id. (1 < length self.now) × (id ≡ parent_of self.now))) }
     {
-        let Some(text) = self.parent_text(alloc)? else {
+        let Some(text) = self.parent_text() else {
             return Ok(None);
         };
-        let segments = self.segments();
-        let segments = clone_segments(alloc, &segments[..segments.len() - 1])?;
-        Ok(Some(UniqueId::from_parts(alloc, text, segments)?))
+        let text = Text::copy(alloc, text)?;
+        Ok(Some(UniqueId::from_text(alloc, text, self.segment_count() - 1)?))
     }
 
     /// Makes the id of a root: one segment.
@@ -232,9 +255,7 @@ impl UniqueId {
         if bytes.len() > MAX_BYTES {
             return Err(IdFault::TooLong);
         }
-        let mut segments = Vec::new(alloc);
-        segments.push(segment.try_clone()?)?;
-        Ok(UniqueId::from_parts(alloc, Text::from_utf8(bytes), segments)?)
+        Ok(UniqueId::from_text(alloc, Text::from_utf8(bytes), 1)?)
     }
 
     // Makes the text of the id with one segment more.
@@ -242,7 +263,7 @@ impl UniqueId {
         ensures text { IfOk result (λ t. t ≡ id_text (self.now ++ segment.now ∷ [])) }
         ensures id { OnOk result (IsId (self.now ++ segment.now ∷ [])) }
     {
-        let text = self.as_text().as_str().as_bytes();
+        let text = self.as_bytes();
         // Room for all of it where nothing in the segment is escaped; a longer text grows.
         let names = segment.tag().len().saturating_add(segment.value().len());
         let signs = b"/[:]".len();
@@ -261,12 +282,11 @@ impl UniqueId {
     pub fn append(&self, alloc: Global, segment: &Segment) -> Result<UniqueId, IdFault>
         ensures { IsMadeOf (self.now ++ segment.now ∷ []) result }
     {
+        let segment_count = self.segment_count();
         let text = self.text_with(alloc, segment)?;
-        if text.len() > MAX_BYTES || self.segments().len() >= MAX_SEGMENTS {
+        if text.len() > MAX_BYTES || segment_count >= MAX_SEGMENTS {
             return Err(IdFault::TooLong);
         }
-        let mut segments = clone_segments(alloc, self.segments())?;
-        segments.push(segment.try_clone()?)?;
-        Ok(UniqueId::from_parts(alloc, text, segments)?)
+        Ok(UniqueId::from_text(alloc, text, segment_count + 1)?)
     }
 }

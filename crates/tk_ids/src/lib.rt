@@ -7,6 +7,7 @@ mod id_texts;
 mod ids;
 pub mod laws;
 mod reading;
+mod scanning;
 mod segments;
 mod tables;
 mod texts;

@@ -34,7 +34,7 @@ impl Model for PartialText {
 }
 
 /// The byte that two digits stand for.
-fn byte_of_digits(first: u8, second: u8) -> Option<u8>
+pub(crate) fn byte_of_digits(first: u8, second: u8) -> Option<u8>
     ensures { result ≡ byte_of first second }
 {
     match (first, second) {
@@ -208,7 +208,7 @@ impl Reader {
                 }
                 let value = self.partial.take(alloc)?;
                 let tag = mem::replace(&mut self.tag, Text::from(String::new(alloc)));
-                self.segments.push(Segment::from_parts(alloc, tag, value)?)?;
+                self.segments.push(Segment::from_parts(tag, value))?;
                 self.position = SegmentPosition::Closed;
             }
             SegmentPosition::Closed => {

@@ -6,32 +6,22 @@ use crate::texts::Text;
 use std::alloc::{AllocError, Global};
 use std::fmt;
 use std::marker::Model;
-use std::sync::Arc;
 
-/// What a segment keeps.
+/// One step of an id: a tag and a value, neither of them empty.
 #[derive(Drop)]
-struct SegmentTexts {
+pub struct Segment {
     tag: Text,
     value: Text,
 }
 
-/// One step of an id: a tag and a value, neither of them empty. Clones share both texts.
-#[derive(Drop)]
-pub struct Segment {
-    parts: Arc<SegmentTexts>,
-}
-
 impl Model for Segment {
-    ghost use Rattle.std.specs.Arc.{arc_value};
     ghost use Rattle.tk_ids.specs.IdText.{SegmentView, IsNonEmptyText};
 
     ghost Value = { SegmentView };
 
-    ghost view = { λ s. record
-        { tag = (arc_value s.parts).tag; value = (arc_value s.parts).value } };
+    ghost view = { λ s. record { tag = s.tag; value = s.value } };
 
-    ghost invariant = { λ s. IsNonEmptyText (arc_value s.parts).tag
-        × IsNonEmptyText (arc_value s.parts).value };
+    ghost invariant = { λ s. IsNonEmptyText s.tag × IsNonEmptyText s.value };
 }
 
 impl fmt::Debug for Segment {
@@ -45,14 +35,12 @@ impl Segment {
     ghost use Rattle.tk_ids.specs.Answer.{IsSegmentOf};
 
     /// Makes a segment of `tag` and `value`, which stand without escapes, and copies neither.
-    pub(crate) fn from_parts(alloc: Global, tag: Text, value: Text) -> Result<Segment, AllocError>
+    pub(crate) fn from_parts(tag: Text, value: Text) -> Segment
         requires tag { IsNonEmptyText tag }
         requires value { IsNonEmptyText value }
-        ensures { IfOk result (λ s. s ≡ record { tag = tag; value = value }) }
+        ensures { result ≡ record { tag = tag; value = value } }
     {
-        Ok(Segment {
-            parts: Arc::new(alloc, SegmentTexts { tag, value })?,
-        })
+        Segment { tag, value }
     }
 
     /// Makes a segment of copies of `tag` and `value`, which stand without escapes.
@@ -66,15 +54,16 @@ impl Segment {
             return Err(IdFault::Empty);
         }
         let (tag, value) = (Text::copy(alloc, tag)?, Text::copy(alloc, value)?);
-        Ok(Segment::from_parts(alloc, tag, value)?)
+        Ok(Segment::from_parts(tag, value))
     }
 
-    /// Another segment that shares the tag and the value.
+    /// Makes another segment with copies of the tag and the value.
     pub fn try_clone(&self) -> Result<Segment, AllocError>
         ensures { IfOk result (λ s. s ≡ self.now) }
     {
         Ok(Segment {
-            parts: Arc::try_clone(&self.parts)?,
+            tag: self.tag.try_clone()?,
+            value: self.value.try_clone()?,
         })
     }
 
@@ -83,7 +72,7 @@ impl Segment {
         ensures value { result.now ≡ self.now.tag }
         ensures partial { IsNonEmptyText result.now }
     {
-        self.parts.tag.as_str()
+        self.tag.as_str()
     }
 
     /// The value, without escapes.
@@ -91,6 +80,6 @@ impl Segment {
         ensures value { result.now ≡ self.now.value }
         ensures partial { IsNonEmptyText result.now }
     {
-        self.parts.value.as_str()
+        self.value.as_str()
     }
 }

@@ -163,7 +163,7 @@ impl Table {
         ensures none { IfNone result (¬ HasId self.now id.now) }
         ensures different { AreDifferent self.now }
     {
-        let index = self.by_text.get_index_of(id.as_text())?;
+        let index = self.by_text.get_index_of(id.as_text().as_str())?;
         Some(index as u32)
     }
 
@@ -257,7 +257,7 @@ impl Table {
     }
 
     // Whether some descriptor has the id with this text.
-    fn has_text(&self, text: &Text) -> bool
+    fn has_text(&self, text: &str) -> bool
         ensures { (id : List SegmentView) → IsId id → text.now ≡ id_text id →
             IsTrue result ↔ HasId self.now id }
     {
@@ -265,20 +265,20 @@ impl Table {
     }
 
     // Whether the id is a root's, or the table has the id above it.
-    fn has_parent(&self, alloc: Global, id: &UniqueId) -> Result<bool, AllocError>
-        ensures { IfOk result (λ has. IsTrue has ↔ HasParent self.now id.now) }
+    fn has_parent(&self, id: &UniqueId) -> bool
+        ensures { IsTrue result ↔ HasParent self.now id.now }
     {
-        match id.parent_text(alloc)? {
-            None => Ok(true),
-            Some(text) => Ok(self.has_text(&text)),
+        match id.parent_text() {
+            None => true,
+            Some(text) => self.has_text(text),
         }
     }
 
     // Refuses an id under which no descriptor can be inserted.
-    fn check_insertion(&self, alloc: Global, id: &UniqueId) -> Result<(), TableFault>
+    fn check_insertion(&self, id: &UniqueId) -> Result<(), TableFault>
         ensures { IsInsertableAs self.now id.now result }
     {
-        if !self.has_parent(alloc, id)? {
+        if !self.has_parent(id) {
             return Err(TableFault::NoParent);
         }
         self.check_free(id)
@@ -289,12 +289,12 @@ impl Table {
     /// # Errors
     /// `NoParent` where the id has more than one segment and no descriptor has the id without the
     /// last; `Twice`, `Full` or `Memory`. The table is then unchanged.
-    pub fn insert(&mut self, alloc: Global, descriptor: Descriptor) -> Result<u32, TableFault>
+    pub fn insert(&mut self, descriptor: Descriptor) -> Result<u32, TableFault>
         ensures { IsInsertedAs self.old self.new descriptor result }
     {
         // For the proof: the table's invariant, as it was before the call.
         let _entries = &self.by_text;
-        self.check_insertion(alloc, &descriptor.id)?;
+        self.check_insertion(&descriptor.id)?;
         let key = self.len() as u32;
         self.push(descriptor)?;
         Ok(key)

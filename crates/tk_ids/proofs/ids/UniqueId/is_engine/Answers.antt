@@ -1,6 +1,8 @@
-use Rattle.tk_ids.proofs.AnswerLemmas.{engine_exact}
+use Rattle.std.proofs.Common.{sym, ◌∙◌}
+use Rattle.std.proofs.lemmas.Bool.{eqb-true}
+use Rattle.tk_ids.proofs.KeptLemmas.{engine_exact}
 use Rattle.tk_ids.proofs.ids.UniqueId.is_engine.Goals as goal
 
-pub returns-in-len1 : goal.returns-in-len1
-returns-in-len1 c =
-    rw (← c.segments.ensures) (engine_exact c.segments.result.now c.segment-item.result c.tag.result.now c.eq.result c.in-len1.len_at_least c.in-len1.len_below c.segment-item.is c.tag.ensures.value c.eq.ensures)
+pub returns-then-segment_count-eq1 : goal.returns-then-segment_count-eq1
+returns-then-segment_count-eq1 c =
+    engine_exact c.args.self.now c.as_bytes.result.now c.starts_with.result c.as_bytes.ensures.id c.as_bytes.ensures.text (sym c.segment_count.ensures ∙ c.if-segment_count-eq1.true) c.starts_with.ensures.value

@@ -8,8 +8,8 @@ use Rattle.tk_ids.proofs.ids.UniqueId.text_with.Goals.{In_ok-push_segment}
 written : (c : In_ok-push_segment) → IsAppended c.args.self.now c.args.segment.now c.push_segment.new.out.items
 written c =
     let copied = c.in_ok-extend_from_slice.ensures.items ∙ ap (λ l. l ++ c.as_bytes-text.result.now) c.in_ok-bytes.ensures.items in
-    let slash = c.in_ok-push.ensures.items ∙ ap (λ l. l ++ 47 ∷ []) (copied ∙ c.as_bytes-text.ensures.value ∙ c.as_str.ensures ∙ c.as_text.ensures.text) in
-    appended c.args.self.now c.args.segment.now c.push_segment.new.out.items c.as_text.ensures.id c.push_segment.ensures.segment
+    let slash = c.in_ok-push.ensures.items ∙ ap (λ l. l ++ 47 ∷ []) (copied ∙ c.as_bytes-text.ensures.text) in
+    appended c.args.self.now c.args.segment.now c.push_segment.new.out.items c.as_bytes-text.ensures.id c.push_segment.ensures.segment
     (c.in_ok-push_segment.ensures.ok ∙ ap (λ l. l ++ segment_text c.args.segment.now) slash)
 
 pub from_utf8-requires : goal.from_utf8-requires

@@ -9,3 +9,6 @@ returns-in_ok-descriptor-in-Some c =
       ap (λ parent. child_id c.args.self.now parent segment) c.in-Some.is ∙ sym (ap (option_map (λ d. d.id ++ segment ∷ [])) c.in_ok-descriptor-in-Some.ensures),
       c.append.ensures,
     )
+
+pub returns-in-None : goal.returns-in-None
+returns-in-None c = (c.args.segment.now ∷ [], ap (λ parent. child_id c.args.self.now parent c.args.segment.now) c.in-None.is, c.of.ensures)

@@ -1,0 +1,36 @@
+-- What an id keeps: its text alone, from which its segments are read.
+use Rattle.std.specs.Prelude.{◌≡◌, ◌≢◌, ℕ, ◌+◌, ◌<◌, ◌≤◌, List, []}
+use Rattle.std.specs.Prelude.{length, slice_index, Option, Some, None}
+use Rattle.tk_ids.specs.Characters.{slash}
+use Rattle.tk_ids.specs.IdText.{SegmentView, IsId, id_text, FitsLimits}
+use Rattle.tk_ids.specs.Machine.{run}
+use Rattle.tk_ids.specs.Reading.{State, Before, InTag, InValue, Closed, step}
+
+-- the segments that were read of a text, where it ends after one
+abbrev pub whole_segments : Option State → List SegmentView
+whole_segments None = []
+whole_segments (Some (Before done)) = []
+whole_segments (Some (InTag done p)) = []
+whole_segments (Some (InValue done tag p)) = []
+whole_segments (Some (Closed done)) = done
+
+-- the segments of an id's text
+unfoldable pub segments_of : List ℕ → List SegmentView
+segments_of text = whole_segments (run step (Before []) text)
+
+-- some id within the limits has the text, and so many segments
+pub record IsKeptId (text : List ℕ) (segment_count : ℕ) : Type 0 where
+  pub id : IsId (segments_of text)
+  pub spells : text ≡ id_text (segments_of text)
+  pub fits : FitsLimits (segments_of text)
+  pub counted : segment_count ≡ length (segments_of text)
+
+-- no slash stands at this position or after it
+abbrev pub HasNoSlashFrom : List ℕ → ℕ → Type 0
+HasNoSlashFrom text n = (k : ℕ) → n ≤ k → k < length text → slice_index text k ≢ slash
+
+-- where the last slash of a text stands, where there is one
+abbrev pub IsLastSlash : List ℕ → Option ℕ → Type 0
+IsLastSlash text None = HasNoSlashFrom text 0
+IsLastSlash text (Some at) =
+    (at < length text) × (slice_index text at ≡ slash) × HasNoSlashFrom text (at + 1)

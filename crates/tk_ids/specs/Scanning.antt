@@ -1,0 +1,53 @@
+-- The machine that reads an id's text without keeping its segments.
+use Rattle.std.specs.Prelude.{◌≡◌, ℕ, Bool, true, false, ◌==◌, ◌&&◌, nat_lt, List, length}
+use Rattle.std.specs.Prelude.{Option, Some, None, option_map, is_some, if◌then◌else◌}
+use Rattle.tk_ids.specs.declared.reading.Escape.{Escape}
+use Rattle.tk_ids.specs.declared.reading.Escape.TheVariants.{Plain, Percent, Digit}
+use Rattle.tk_ids.specs.declared.scanning.Part.{Part}
+use Rattle.tk_ids.specs.declared.scanning.Place.{Place}
+use Rattle.tk_ids.specs.declared.scanning.Place.TheVariants.{Start, Tag, Value, End}
+use Rattle.tk_ids.specs.Characters.{percent_sign, open_bracket, close_bracket, colon, slash}
+use Rattle.tk_ids.specs.IdText.{SegmentView, digits_of, id_text, IsId}
+use Rattle.tk_ids.specs.Reading.{State, Before, InTag, InValue, Closed, byte_of, is_first_digit}
+
+-- a tag or a value as far as it is read
+abbrev pub part : Bool → Escape → Part
+part has_bytes escape = record { has_bytes = has_bytes; escape = escape }
+
+-- one more byte inside a tag or a value, where it may stand there
+abbrev pub part_after : Bool → Escape → ℕ → Option Part
+part_after has_bytes Plain b =
+    if b == percent_sign then Some (part has_bytes Percent)
+    else (if is_some (digits_of b) then None else Some (part true Plain))
+part_after has_bytes Percent b =
+    if is_first_digit b then Some (part has_bytes (Digit b)) else None
+part_after has_bytes (Digit x) b = if is_some (byte_of x b) then Some (part true Plain) else None
+
+-- the tag or the value isn't empty, and the byte that ends it comes
+abbrev pub is_ended : ℕ → Bool → Escape → ℕ → Bool
+is_ended stop has_bytes Plain b = b == stop && has_bytes
+is_ended stop has_bytes Percent b = false
+is_ended stop has_bytes (Digit x) b = false
+
+-- one more byte, where it may stand there
+abbrev pub place_after : Place → ℕ → Option Place
+place_after Start b = if b == open_bracket then Some (Tag (part false Plain)) else None
+place_after (Tag p) b =
+    if is_ended colon p.has_bytes p.escape b then Some (Value (part false Plain))
+    else option_map Tag (part_after p.has_bytes p.escape b)
+place_after (Value p) b =
+    if is_ended close_bracket p.has_bytes p.escape b then Some End
+    else option_map Value (part_after p.has_bytes p.escape b)
+place_after End b = if b == slash then Some Start else None
+
+-- how many segments end at a place
+abbrev pub ended : Place → ℕ
+ended Start = 0
+ended (Tag p) = 0
+ended (Value p) = 0
+ended End = 1
+
+-- an id of so many segments has the text
+abbrev pub HasSegments : List ℕ → ℕ → Type 0
+HasSegments text count =
+    (id : List SegmentView) × IsId id × (text ≡ id_text id) × (count ≡ length id)

@@ -1,0 +1,135 @@
+//! Finding out whether a text is an id's, without memory.
+ghost use Rattle.std.specs.Prelude.{◌≡◌, ◌<◌, length, MatchResult, IsTrue, ◌↔◌, if◌then◌else◌};
+ghost use Rattle.tk_ids.specs.declared.scanning.Place.TheVariants.{End};
+ghost use Rattle.tk_ids.specs.Answer.{IsBadAt};
+ghost use Rattle.tk_ids.specs.Scanning.{part, part_after, is_ended, place_after, ended, HasSegments};
+
+use crate::reading::{Escape, byte_of_digits, digits_of_byte};
+
+/// What is known of a tag or a value as far as it is read.
+#[derive(Clone, Copy)]
+pub(crate) struct Part {
+    has_bytes: bool,
+    escape: Escape,
+}
+
+/// Where in a segment a text was read to.
+#[derive(Clone, Copy)]
+pub(crate) enum Place {
+    /// Before its `[`.
+    Start,
+    Tag(Part),
+    Value(Part),
+    /// After its `]`.
+    End,
+}
+
+impl Part {
+    const EMPTY: Part = Part {
+        has_bytes: false,
+        escape: Escape::Plain,
+    };
+
+    const WHOLE: Part = Part {
+        has_bytes: true,
+        escape: Escape::Plain,
+    };
+}
+
+// The tag or the value with one byte more, where it may stand there.
+fn next_part(part: Part, byte: u8) -> Option<Part>
+    ensures { result ≡ part_after part.has_bytes part.escape byte }
+{
+    let has_bytes = part.has_bytes;
+    match part.escape {
+        Escape::Plain => {
+            if byte == b'%' {
+                return Some(Part {
+                    has_bytes,
+                    escape: Escape::Percent,
+                });
+            }
+            match digits_of_byte(byte) {
+                None => Some(Part::WHOLE),
+                Some(_) => None,
+            }
+        }
+        Escape::Percent => {
+            if !matches!(byte, b'2' | b'3' | b'5') {
+                return None;
+            }
+            Some(Part {
+                has_bytes,
+                escape: Escape::Digit(byte),
+            })
+        }
+        Escape::Digit(first) => match byte_of_digits(first, byte) {
+            None => None,
+            Some(_) => Some(Part::WHOLE),
+        },
+    }
+}
+
+// Whether the tag or the value is whole, and this byte ends it.
+fn ends(part: Part, stop: u8, byte: u8) -> bool
+    ensures { result ≡ is_ended stop part.has_bytes part.escape byte }
+{
+    matches!(part.escape, Escape::Plain) && byte == stop && part.has_bytes
+}
+
+// The place after one byte more, where it may stand there.
+fn next_place(place: Place, byte: u8) -> Option<Place>
+    ensures { result ≡ place_after place byte }
+{
+    match place {
+        Place::Start => (byte == b'[').then_some(Place::Tag(Part::EMPTY)),
+        Place::Tag(tag) => {
+            if ends(tag, b':', byte) {
+                return Some(Place::Value(Part::EMPTY));
+            }
+            Some(Place::Tag(next_part(tag, byte)?))
+        }
+        Place::Value(value) => {
+            if ends(value, b']', byte) {
+                return Some(Place::End);
+            }
+            Some(Place::Value(next_part(value, byte)?))
+        }
+        Place::End => (byte == b'/').then_some(Place::Start),
+    }
+}
+
+impl Place {
+    // Whether a segment ends here.
+    fn is_end(self) -> bool
+        ensures end { IsTrue result ↔ (self ≡ End) }
+        ensures count { (if result then 1 else 0) ≡ ended self }
+    {
+        matches!(self, Place::End)
+    }
+}
+
+/// Counts the segments of the id that has this text, which isn't empty.
+///
+/// # Errors
+/// The length of the longest prefix with which some id's text begins, where the text is no id's.
+pub(crate) fn count_segments(text: &str) -> Result<usize, usize>
+    requires { 0 < length text.now }
+    ensures { MatchResult result (HasSegments text.now) (IsBadAt text.now) }
+{
+    let bytes = text.as_bytes();
+    let mut place = Place::Start;
+    let mut count = 0;
+    for (at, byte) in bytes.iter().enumerate() {
+        let Some(next) = next_place(place, *byte) else {
+            return Err(at);
+        };
+        count += if next.is_end() { 1 } else { 0 };
+        place = next;
+    }
+    if place.is_end() {
+        Ok(count)
+    } else {
+        Err(bytes.len())
+    }
+}
