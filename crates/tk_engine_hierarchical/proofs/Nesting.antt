@@ -9,7 +9,7 @@ use Rattle.tk_query.specs.Lifecycle.{HasId}
 use Rattle.tk_engine_lifecycle.specs.UnderWay.{IsOneOf}
 use Rattle.tk_engine_lifecycle.proofs.Splits.{InFirst, InSecond, head_is, in_parts, left_nil, tail_is}
 use Rattle.tk_engine_lifecycle.proofs.Apart.{all_at}
-use Rattle.tk_engine_hierarchical.specs.Covered.{IsBelow}
+use Rattle.tk_ids.specs.IdText.{IsBelow}
 use Rattle.tk_engine_hierarchical.specs.Events.{AreChained, IsNesting}
 use Rattle.tk_engine_hierarchical.specs.Nesting.{BelongsTo, EachFinishes, EventsNest, LacksFinish}
 use Rattle.tk_engine_hierarchical.specs.Running.{RunningId, keys_of}

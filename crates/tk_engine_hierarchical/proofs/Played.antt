@@ -17,7 +17,8 @@ use Rattle.tk_queue.specs.Emission.{entries_by, entry_by}
 use Rattle.tk_queue.specs.Registering.{IsRegisteredAs, RegisterRequest, child_of, registration}
 use Rattle.tk_queue.specs.Senders.{SenderView, sends}
 use Rattle.tk_query.specs.Lifecycle.{has_event, is_event}
-use Rattle.tk_engine_hierarchical.specs.Covered.{IsBelow, IsCovered, IsKeyBelow}
+use Rattle.tk_engine_hierarchical.specs.Covered.{IsCovered, IsKeyBelow}
+use Rattle.tk_ids.specs.IdText.{IsBelow}
 use Rattle.tk_engine_hierarchical.specs.Endings.{EndsAsItMay}
 use Rattle.tk_engine_hierarchical.specs.Reporting.{publishes}
 use Rattle.tk_engine_hierarchical.specs.Units.{HasPlayed}
@@ -175,24 +176,6 @@ module _ (table : List Descriptor) (may_end : ℕ → Outcome → Type 0) (first
       subst (λ s. HasPlayed table may_end first next start s) (sym a.5) (played_plain old next (registration old ask.stamp (child_of ask a.0)) Dynamic refl dynamic_is_not d)
 
 -- ---- ids below one another
-
-below_by_front : (a id : List SegmentView) → length a < length id → take (length a) a ≡ take (length a) id → IsBelow a id
-below_by_front [] [] h e = absurd (omega (arith, h))
-below_by_front [] (s ∷ more) h e = (s, more, refl)
-below_by_front (x ∷ a) [] h e = absurd (omega (arith, h))
-below_by_front (x ∷ a) (y ∷ id) h e =
-    let tail : take (length a) a ≡ take (length a) id = cc in
-    let head : x ≡ y = cc in
-    let r = below_by_front a id (omega (arith, h)) tail in (r.0, r.1, ap₂ (λ s l. s ∷ l) (sym head) r.2)
-
--- an id of which as many segments are those of another as that has
-pub front_at_end : (a id : List SegmentView) (n : ℕ) → length a ≤ n → take n a ≡ take n id → n ≤ length a → take (length a) id ≡ a
-front_at_end a id n low e high =
-    let same : n ≡ length a = omega (arith, low, high) in
-    sym (subst (λ m. take m a ≡ take m id) same e) ∙ take-length a
-
-pub below_longer : (a id : List SegmentView) → length a < length id → take (length a) id ≡ a → IsBelow a id
-below_longer a id more e = below_by_front a id more (take-length a ∙ sym e)
 
 pub parent_by_front : (a id : List SegmentView) → length id ≡ length a + 1 → take (length a) id ≡ a → a ≡ parent_of id
 parent_by_front a id one_more e =

@@ -25,7 +25,8 @@ use Rattle.tk_engine_lifecycle.proofs.Apart.{plain}
 use Rattle.tk_engine_lifecycle.proofs.Going.{kept_id}
 use Rattle.tk_engine_execute.specs.Engines.{Extends, IsSameSender}
 use Rattle.tk_engine_hierarchical.specs.Emitting.{IsEmitting, Progress, since}
-use Rattle.tk_engine_hierarchical.specs.Covered.{AreCovered, IsBelow}
+use Rattle.tk_engine_hierarchical.specs.Covered.{AreCovered}
+use Rattle.tk_ids.specs.IdText.{IsBelow}
 use Rattle.tk_engine_hierarchical.specs.Endings.{EndsAsItMay}
 use Rattle.tk_engine_hierarchical.specs.Units.{HasPlayed, UnitKeys}
 use Rattle.tk_engine_hierarchical.specs.declared.tests.Outcome.{Outcome}

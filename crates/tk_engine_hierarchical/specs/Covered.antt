@@ -1,15 +1,11 @@
 -- Which static keys had their turn.
 use Rattle.std.specs.Prelude.{◌≡◌, ◌⊎◌, ℕ, ◌<◌, ◌≤◌, true, List, ◌∷◌, ◌++◌, Some, slice_get}
-use Rattle.tk_ids.specs.IdText.{SegmentView}
+use Rattle.tk_ids.specs.IdText.{SegmentView, IsBelow}
 use Rattle.tk_ids.specs.Table.{ids_of}
 use Rattle.tk_ids.specs.declared.descriptors.Descriptor.{Descriptor}
 use Rattle.tk_events.specs.declared.events.Entry.{Entry}
 use Rattle.tk_events.specs.declared.kinds.Kind.TheVariants.{Skipped}
 use Rattle.tk_query.specs.Lifecycle.{has_event, has_run}
-
--- an id stands below another: it has more segments, and begins with those of the other
-abbrev pub IsBelow : List SegmentView → List SegmentView → Type 0
-IsBelow above id = (s : SegmentView) × (more : List SegmentView) × (id ≡ above ++ s ∷ more)
 
 -- the key has an id that stands below this one
 abbrev pub IsKeyBelow : List Descriptor → List SegmentView → ℕ → Type 0

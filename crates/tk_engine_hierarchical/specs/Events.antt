@@ -12,7 +12,7 @@ use Rattle.tk_events.specs.declared.kinds.Kind.TheVariants.{Started}
 use Rattle.tk_record_columns.specs.Recorded.{Recorded}
 use Rattle.tk_engine_lifecycle.specs.Units.{Frame}
 use Rattle.tk_engine_lifecycle.specs.UnderWay.{IsOneOf, so_far}
-use Rattle.tk_engine_hierarchical.specs.Covered.{IsBelow}
+use Rattle.tk_ids.specs.IdText.{IsBelow}
 use Rattle.tk_engine_hierarchical.specs.Emitting.{IsEmitting, Progress, since}
 use Rattle.tk_engine_hierarchical.specs.Nesting.{EventsNest, LacksFinish}
 use Rattle.tk_engine_hierarchical.specs.RegisteredIds.{is_registered}

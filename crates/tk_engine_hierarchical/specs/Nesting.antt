@@ -5,7 +5,7 @@ use Rattle.tk_events.specs.declared.events.Event.{Event}
 use Rattle.tk_events.specs.declared.kinds.Kind.TheVariants.{Finished, Started}
 use Rattle.tk_record_columns.specs.Recorded.{Recorded}
 use Rattle.tk_query.specs.Lifecycle.{HasId}
-use Rattle.tk_engine_hierarchical.specs.Covered.{IsBelow}
+use Rattle.tk_ids.specs.IdText.{IsBelow}
 
 -- none of the events finishes the key
 abbrev pub LacksFinish : ℕ → List Event → Type 0

@@ -1,7 +1,6 @@
 //! The engine of a plan whose tests have bodies in Rust.
 #![tactic(auto)]
 
-mod ancestors;
 mod engines;
 mod hierarchical;
 pub mod laws;

@@ -36,7 +36,7 @@ impl RegisteredIds {
     pub(crate) fn has(&self, id: &UniqueId) -> bool
         ensures { result ≡ is_registered self.now (id_text id.now) }
     {
-        self.by_text.get(id.as_text()).is_some()
+        self.by_text.get(id.as_text().as_str()).is_some()
     }
 
     /// Adds an id.

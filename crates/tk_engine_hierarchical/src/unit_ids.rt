@@ -8,7 +8,6 @@ ghost use Rattle.tk_engine_hierarchical.specs.RegisteredIds.{is_registered};
 ghost use Rattle.tk_engine_hierarchical.specs.Running.{keys_of, with_id, with_ids};
 ghost use Rattle.tk_engine_hierarchical.specs.Shapes.{frame};
 
-use crate::ancestors::is_below;
 use crate::registered_ids::RegisteredIds;
 use crate::running_keys::{RunningKey, running_id};
 use crate::shapes::Shape;
@@ -24,7 +23,7 @@ fn starts_root(running: &Stack<RunningKey>, id: &UniqueId) -> bool
     ensures root { IsTrue result → length id.now ≤ 1 }
     ensures rests { IsTrue result → running.now ≡ [] }
 {
-    running.top().is_none() && id.segments().len() <= 1
+    running.top().is_none() && id.segment_count() <= 1
 }
 
 // Whether the parent of a static key, which has this id, is the innermost key that runs, or no key
@@ -106,7 +105,7 @@ pub(crate) fn end_below(table: &Table, id: &UniqueId, key: u32) -> u32
         let Some(descriptor) = table.get(other) else {
             return other;
         };
-        if !is_below(id, &descriptor.id) {
+        if !descriptor.id.is_below(id) {
             return other;
         }
     }

@@ -38,7 +38,7 @@ impl RegisteredIds {
         // What every id is.
         ensures id { IsId id.now }
     {
-        self.keys.get(id.as_text()).copied()
+        self.keys.get(id.as_text().as_str()).copied()
     }
 
     /// Stores the key of an id that an event registers, where it registers one.
