@@ -7,7 +7,6 @@ use crate::segments::Segment;
 use crate::texts::Text;
 use std::alloc::{AllocError, Global};
 use std::marker::Model;
-use std::mem;
 
 /// What was read of an escape: nothing, its `%`, or its `%` and one digit.
 #[derive(Clone, Copy)]
@@ -207,8 +206,8 @@ impl Reader {
                     return self.partial.feed(byte);
                 }
                 let value = self.partial.take(alloc)?;
-                let tag = mem::replace(&mut self.tag, Text::from(String::new(alloc)));
-                self.segments.push(Segment::from_parts(tag, value))?;
+                let segment = Segment::of_texts(alloc, self.tag.as_str(), value.as_str())?;
+                self.segments.push(segment)?;
                 self.position = SegmentPosition::Closed;
             }
             SegmentPosition::Closed => {

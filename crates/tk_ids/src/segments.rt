@@ -10,18 +10,21 @@ use std::marker::Model;
 /// One step of an id: a tag and a value, neither of them empty.
 #[derive(Drop)]
 pub struct Segment {
-    tag: Text,
-    value: Text,
+    // The tag, and then the value.
+    text: Text,
+    tag_len: usize,
 }
 
 impl Model for Segment {
+    ghost use Rattle.std.specs.Prelude.{take, drop};
     ghost use Rattle.tk_ids.specs.IdText.{SegmentView, IsNonEmptyText};
 
     ghost Value = { SegmentView };
 
-    ghost view = { λ s. record { tag = s.tag; value = s.value } };
+    ghost view = { λ s. record { tag = take s.tag_len s.text; value = drop s.tag_len s.text } };
 
-    ghost invariant = { λ s. IsNonEmptyText s.tag × IsNonEmptyText s.value };
+    ghost invariant = { λ s. IsNonEmptyText (take s.tag_len s.text)
+        × IsNonEmptyText (drop s.tag_len s.text) };
 }
 
 impl fmt::Debug for Segment {
@@ -34,13 +37,20 @@ impl Segment {
     ghost use Rattle.tk_ids.specs.IdText.{IsNonEmptyText};
     ghost use Rattle.tk_ids.specs.Answer.{IsSegmentOf};
 
-    /// Makes a segment of `tag` and `value`, which stand without escapes, and copies neither.
-    pub(crate) fn from_parts(tag: Text, value: Text) -> Segment
-        requires tag { IsNonEmptyText tag }
-        requires value { IsNonEmptyText value }
-        ensures { result ≡ record { tag = tag; value = value } }
+    /// Makes a segment of copies of `tag` and `value`, which stand without escapes and aren't empty.
+    pub(crate) fn of_texts(alloc: Global, tag: &str, value: &str) -> Result<Segment, AllocError>
+        requires tag { IsNonEmptyText tag.now }
+        requires value { IsNonEmptyText value.now }
+        ensures { IfOk result (λ s. s ≡ record { tag = tag.now; value = value.now }) }
     {
-        Segment { tag, value }
+        let tag_len = tag.len();
+        let mut text = String::with_capacity(alloc, tag_len.saturating_add(value.len()))?;
+        text.push_str(tag)?;
+        text.push_str(value)?;
+        Ok(Segment {
+            text: Text::from(text),
+            tag_len,
+        })
     }
 
     /// Makes a segment of copies of `tag` and `value`, which stand without escapes.
@@ -53,8 +63,7 @@ impl Segment {
         if tag.is_empty() || value.is_empty() {
             return Err(IdFault::Empty);
         }
-        let (tag, value) = (Text::copy(alloc, tag)?, Text::copy(alloc, value)?);
-        Ok(Segment::from_parts(tag, value))
+        Ok(Segment::of_texts(alloc, tag, value)?)
     }
 
     /// Makes another segment with copies of the tag and the value.
@@ -62,8 +71,8 @@ impl Segment {
         ensures { IfOk result (λ s. s ≡ self.now) }
     {
         Ok(Segment {
-            tag: self.tag.try_clone()?,
-            value: self.value.try_clone()?,
+            text: self.text.try_clone()?,
+            tag_len: self.tag_len,
         })
     }
 
@@ -72,7 +81,7 @@ impl Segment {
         ensures value { result.now ≡ self.now.tag }
         ensures partial { IsNonEmptyText result.now }
     {
-        self.tag.as_str()
+        &self.text.as_str()[..self.tag_len]
     }
 
     /// The value, without escapes.
@@ -80,6 +89,6 @@ impl Segment {
         ensures value { result.now ≡ self.now.value }
         ensures partial { IsNonEmptyText result.now }
     {
-        self.value.as_str()
+        &self.text.as_str()[self.tag_len..]
     }
 }
