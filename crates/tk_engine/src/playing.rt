@@ -160,6 +160,9 @@ pub(crate) fn play_unit<R: Wait, S: Sink>(
 {
     // For the proof: the plan's invariant, which a call on the plan shows.
     let _table = plan.table();
+    if let Some(steps) = plan.short_script(unit) {
+        return play_each(rt, alloc, plan, &steps, sink);
+    }
     let steps = plan.script(alloc, unit)?;
     play_each(rt, alloc, plan, steps.as_slice(), sink)
 }

@@ -4,12 +4,12 @@ use Rattle.tk_plan_units.specs.Cutting.{is_leaf, all_concurrent}
 use Rattle.std.proofs.lemmas.List.{drop_more, drop_all, take_all}
 use Rattle.tk_plan_units.proofs.Grows.{forest_nil, forest-flats, is_forest, parted}
 use Rattle.tk_plan_units.specs.declared.steps.Act.{Act}
-use Rattle.tk_plan_units.specs.declared.steps.Act.TheVariants.{Report, File}
+use Rattle.tk_plan_units.specs.declared.steps.Act.TheVariants.{Report, File, Start, Finish}
 use Rattle.tk_plan_units.specs.declared.nodes.Node.{Node}
 use Rattle.tk_plan_units.specs.declared.nodes.NumberedNode.{NumberedNode}
 use Rattle.tk_plan_units.specs.declared.steps.Move.{Move}
 use Rattle.tk_plan_units.specs.Trees.{Tree, tree, Forest, no_trees, more, flat, flats, grow, forest, IsForest, IsSplit}
-use Rattle.tk_plan_units.specs.Script.{each_act, opening, registration, moves, moves_below, stamped}
+use Rattle.tk_plan_units.specs.Script.{IsShort, each_act, move, opening, registration, moves, moves_below, stamped}
 use Rattle.tk_plan_units.specs.Weights.{registered, publications, own, weight, weights}
 
 pub length-acts : {A : Type 0} (act : ℕ → Act) (k i : ℕ) (xs : List A) → length (each_act act k i xs) ≡ length xs
@@ -162,3 +162,8 @@ tree_within p after below others s = omega (arith, ap weights s.trees)
 
 pub open_is : (n : Node) (k : ℕ) (f : Forest) → is_some n.skip ≡ false → weight (tree n k f) ≡ 2 + publications n + weights f
 open_is n k f e = ap (λ b. cond b 1 (2 + publications n + weights f)) e
+
+-- a node that starts and finishes gives no other move
+pub short_moves : (n : Node) (k : ℕ) (below : List NumberedNode) → IsShort n below → moves (tree n k (forest below)) ≡ move k Start ∷ move k Finish ∷ []
+unfolding forest grow
+short_moves n k below h = rw (h.alone, h.runs, h.no_entries, h.no_files) refl

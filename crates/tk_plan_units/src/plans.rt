@@ -1,5 +1,5 @@
 //! Plans.
-ghost use Rattle.std.specs.Prelude.{◌≡◌, ◌≤◌, ◌<◌, ◌^◌, length, true, IfOk, Some, IsSome, All, slice_get, option_map};
+ghost use Rattle.std.specs.Prelude.{◌≡◌, ◌≤◌, ◌<◌, ◌^◌, length, true, IfOk, IfSome, Some, IsSome, All, slice_get, option_map};
 ghost use Rattle.std.specs.Arc.{arc_value};
 ghost use Rattle.tk_ids.specs.declared.tables.TheConstants.{MAX_DESCRIPTORS};
 
@@ -9,8 +9,8 @@ use crate::nodes::{Node, NumberedNode};
 use crate::numbering::set_numbers;
 use crate::orders::positions_of;
 use crate::parents::push_parents;
-use crate::scripts::{push_tree, stamp_all};
-use crate::steps::Step;
+use crate::scripts::{is_short, push_tree, stamp_all};
+use crate::steps::{Act, Step};
 use crate::unit_trees::{UnitTree, tree_at};
 use std::alloc::{AllocError, Global};
 use std::marker::Model;
@@ -161,6 +161,32 @@ impl Plan {
         let mut moves = Vec::new(alloc);
         push_tree(numbered_node, below, &mut moves)?;
         stamp_all(alloc, piece.first, moves.as_slice())
+    }
+
+    /// The steps of a unit that is one node, which only starts and finishes, or `None` of any other
+    /// unit. They are those of [`Plan::script`], and take no memory.
+    pub fn short_script(&self, unit: u32) -> Option<[Step; 2]>
+        requires { unit < length (units_of (forest self.now.nodes)) }
+        ensures steps { IfSome result (λ steps. steps ≡ script_of (forest self.now.nodes) unit) }
+        ensures known { IfSome result (λ steps.
+            All (λ s. IsKnown self.now.nodes s.node s.act) steps) }
+    {
+        let piece = self.cutting.pieces[unit as usize];
+        let (top, below) = tree_at(self.nodes.as_slice(), piece.position);
+        if !is_short(&top.node, below) {
+            return None;
+        }
+        let start = Step {
+            node: top.number,
+            stamp: piece.first,
+            act: Act::Start,
+        };
+        let finish = Step {
+            node: top.number,
+            stamp: piece.first + 1,
+            act: Act::Finish,
+        };
+        Some([start, finish])
     }
 
     /// The starts of the spine's nodes with their entries and their files, in preorder.

@@ -1,8 +1,8 @@
 //! What a tree of nodes does.
-ghost use Rattle.std.specs.Prelude.{◌≡◌, ◌++◌, ◌+◌, ◌≤◌, ◌<◌, ◌^◌, OnOk, IfOk, length};
+ghost use Rattle.std.specs.Prelude.{◌≡◌, ◌++◌, ◌+◌, ◌≤◌, ◌<◌, ◌^◌, OnOk, IfOk, IsTrue, length};
 ghost use Rattle.tk_plan_units.specs.Trees.{IsForest, forest, tree_of};
 ghost use Rattle.tk_plan_units.specs.Script as Script;
-ghost use Rattle.tk_plan_units.specs.Script.{moves_below, stamped};
+ghost use Rattle.tk_plan_units.specs.Script.{moves_below, stamped, IsShort};
 ghost use Rattle.tk_plan_units.specs.Weights.{publications, weight, weights};
 ghost use Rattle.tk_limits.specs.declared.limits.TheConstants.{MAX_EVENTS};
 
@@ -83,6 +83,17 @@ fn push_all(parent: u32, nodes: &[NumberedNode], moves: &mut Vec<Move>) -> Resul
         rest = others;
     }
     Ok(())
+}
+
+/// Whether a node starts, finishes and does nothing else: it isn't skipped, publishes nothing, and
+/// no node stands below it.
+pub(crate) fn is_short(node: &Node, below: &[NumberedNode]) -> bool
+    ensures { IsTrue result → IsShort node.now below.now }
+{
+    below.is_empty()
+        && node.skip.is_none()
+        && node.entries.as_slice().is_empty()
+        && node.files.as_slice().is_empty()
 }
 
 /// Gives moves their stamps.
