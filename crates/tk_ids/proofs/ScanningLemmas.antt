@@ -7,12 +7,12 @@ use Rattle.std.proofs.lemmas.Bool.{lt-ltb}
 use Rattle.tk_ids.specs.declared.reading.Escape.{Escape}
 use Rattle.tk_ids.specs.declared.reading.Escape.TheVariants.{Plain, Percent, Digit}
 use Rattle.tk_ids.specs.declared.scanning.Part.{Part}
-use Rattle.tk_ids.specs.declared.scanning.Place.{Place}
-use Rattle.tk_ids.specs.declared.scanning.Place.TheVariants.{Start, Tag, Value, End}
+use Rattle.tk_ids.specs.declared.scanning.ScanState.{ScanState}
+use Rattle.tk_ids.specs.declared.scanning.ScanState.TheVariants.{Start, Tag, Value, End}
 use Rattle.tk_ids.specs.IdText.{SegmentView, digits_of}
 use Rattle.tk_ids.specs.Reading.{State, Before, InTag, InValue, Closed, byte_of, is_first_digit, text_step, ends_at, step}
 use Rattle.tk_ids.specs.Answer.{IsBadAt}
-use Rattle.tk_ids.specs.Scanning.{part, part_after, is_ended, place_after, ended, HasSegments}
+use Rattle.tk_ids.specs.Scanning.{part, part_after, is_ended, state_after, ended_segments, HasSegments}
 use Rattle.tk_ids.proofs.ReadingLemmas.{HasRead, read_none, read_more, end_whole, cond_cases, option_map_some}
 use Rattle.tk_ids.proofs.AnswerLemmas.{bad_where_stuck, bad_at_end}
 
@@ -26,11 +26,11 @@ done_of (InTag done p) = done
 done_of (InValue done tag p) = done
 done_of (Closed done) = done
 
-abbrev pub place_of : State → Place
-place_of (Before done) = Start
-place_of (InTag done p) = Tag (part_of p)
-place_of (InValue done tag p) = Value (part_of p)
-place_of (Closed done) = End
+abbrev pub scanned : State → ScanState
+scanned (Before done) = Start
+scanned (InTag done p) = Tag (part_of p)
+scanned (InValue done tag p) = Value (part_of p)
+scanned (Closed done) = End
 
 has_bytes : (bytes : List ℕ) (b : ℕ) → ltb 0 (length (bytes ++ b ∷ [])) ≡ true
 has_bytes bytes b = lt-ltb 0 (length (bytes ++ b ∷ [])) (simp length-append (omega arith))
@@ -59,38 +59,38 @@ is_ended-part_of stop (bytes, Percent) b = refl
 is_ended-part_of stop (bytes, Digit x) b = refl
 
 -- a part goes on or ends alike
-part_goes_alike : (goes : Part → Place) (inside : List ℕ × Escape → State) (after : Place) (t : State) → ((p : List ℕ × Escape) → goes (part_of p) ≡ place_of (inside p)) → after ≡ place_of t → (x : Bool) (o : Option (List ℕ × Escape)) → cond x (Some after) (option_map goes (option_map part_of o)) ≡ option_map place_of (cond x (Some t) (option_map inside o))
+part_goes_alike : (goes : Part → ScanState) (inside : List ℕ × Escape → State) (after : ScanState) (t : State) → ((p : List ℕ × Escape) → goes (part_of p) ≡ scanned (inside p)) → after ≡ scanned t → (x : Bool) (o : Option (List ℕ × Escape)) → cond x (Some after) (option_map goes (option_map part_of o)) ≡ option_map scanned (cond x (Some t) (option_map inside o))
 part_goes_alike goes inside after t alike same true o = ap Some same
 part_goes_alike goes inside after t alike same false None = refl
 part_goes_alike goes inside after t alike same false (Some p) = ap Some (alike p)
 
-bracket_alike : (done : List SegmentView) (x : Bool) → cond x (Some (Tag (part false Plain))) None ≡ option_map place_of (cond x (Some (InTag done ([], Plain))) None)
+bracket_alike : (done : List SegmentView) (x : Bool) → cond x (Some (Tag (part false Plain))) None ≡ option_map scanned (cond x (Some (InTag done ([], Plain))) None)
 bracket_alike done true = refl
 bracket_alike done false = refl
 
-slash_alike : (done : List SegmentView) (x : Bool) → cond x (Some Start) None ≡ option_map place_of (cond x (Some (Before done)) None)
+slash_alike : (done : List SegmentView) (x : Bool) → cond x (Some Start) None ≡ option_map scanned (cond x (Some (Before done)) None)
 slash_alike done true = refl
 slash_alike done false = refl
 
-pub place_after-place_of : (s : State) (b : ℕ) → place_after (place_of s) b ≡ option_map place_of (step s b)
-place_after-place_of (Before done) b = bracket_alike done (eqb b 91)
-place_after-place_of (InTag done p) b =
+pub state_after-scanned : (s : State) (b : ℕ) → state_after (scanned s) b ≡ option_map scanned (step s b)
+state_after-scanned (Before done) b = bracket_alike done (eqb b 91)
+state_after-scanned (InTag done p) b =
     ap (λ t. cond t (Some (Value (part false Plain))) (option_map Tag (part_after (ltb 0 (length p.0)) p.1 b))) (is_ended-part_of 58 p b)
     ∙ ap (λ o. cond (ends_at 58 p b) (Some (Value (part false Plain))) (option_map Tag o)) (part_after-part_of p b)
     ∙ part_goes_alike Tag (InTag done) (Value (part false Plain)) (InValue done p.0 ([], Plain)) (λ q. refl) refl (ends_at 58 p b) (text_step p b)
-place_after-place_of (InValue done tag p) b =
+state_after-scanned (InValue done tag p) b =
     ap (λ t. cond t (Some End) (option_map Value (part_after (ltb 0 (length p.0)) p.1 b))) (is_ended-part_of 93 p b)
     ∙ ap (λ o. cond (ends_at 93 p b) (Some End) (option_map Value o)) (part_after-part_of p b)
     ∙ part_goes_alike Value (InValue done tag) End (Closed (done ++ record { tag = tag; value = p.0 } ∷ [])) (λ q. refl) refl (ends_at 93 p b) (text_step p b)
-place_after-place_of (Closed done) b = slash_alike done (eqb b 47)
+state_after-scanned (Closed done) b = slash_alike done (eqb b 47)
 
 -- A step keeps the whole segments, and may add one.
 pub record Adds (s t : State) : Type 0 where
   pub more : List SegmentView
   pub added : done_of t ≡ done_of s ++ more
-  pub count : length (done_of t) ≡ length (done_of s) + ended (place_of t)
+  pub count : length (done_of t) ≡ length (done_of s) + ended_segments (scanned t)
 
-adds_none : (s t : State) → done_of t ≡ done_of s → ended (place_of t) ≡ 0 → Adds s t
+adds_none : (s t : State) → done_of t ≡ done_of s → ended_segments (scanned t) ≡ 0 → Adds s t
 adds_none s t same none =
     record {
       more = [];
@@ -119,27 +119,27 @@ step_adds (Closed done) t b e =
     let h = cond_some (eqb b 47) (Before done) t e in
     subst (Adds (Closed done)) h.1 (adds_none (Closed done) (Before done) refl refl)
 
--- The prefix of a text of n bytes has been read, and led to this place, after so many segments.
-pub record IsScanned (text : List ℕ) (n : ℕ) (place : Place) (count : ℕ) : Type 0 where
+-- The prefix of a text of n bytes has been read, and led to this state, after so many segments.
+pub record IsScanned (text : List ℕ) (n : ℕ) (scan : ScanState) (count : ℕ) : Type 0 where
   pub state : State
   pub read : HasRead text n state
-  pub here : place_of state ≡ place
+  pub here : scanned state ≡ scan
   pub counted : count ≡ length (done_of state)
   pub few : count ≤ n
 
 pub scan_none : (text : List ℕ) → IsUtf8 text → IsScanned text 0 Start 0
 scan_none text u = record { state = Before []; read = read_none text u; here = refl; counted = refl; few = omega arith }
 
-ended_most : (place : Place) → ended place ≤ 1
+ended_most : (state : ScanState) → ended_segments state ≤ 1
 ended_most Start = omega arith
 ended_most (Tag p) = omega arith
 ended_most (Value p) = omega arith
 ended_most End = omega arith
 
-pub scan_more : (text : List ℕ) (n count : ℕ) (place next : Place) → IsScanned text n place count → n < length text → place_after place (get_or text n 0) ≡ Some next → IsScanned text (n + 1) next (count + ended next)
-scan_more text n count place next h lt e =
+pub scan_more : (text : List ℕ) (n count : ℕ) (state next : ScanState) → IsScanned text n state count → n < length text → state_after state (get_or text n 0) ≡ Some next → IsScanned text (n + 1) next (count + ended_segments next)
+scan_more text n count state next h lt e =
     let b = get_or text n 0 in
-    let m = option_map_some place_of (step h.state b) next (sym (place_after-place_of h.state b) ∙ ap (λ p. place_after p b) h.here ∙ e) in
+    let m = option_map_some scanned (step h.state b) next (sym (state_after-scanned h.state b) ∙ ap (λ p. state_after p b) h.here ∙ e) in
     let adds = step_adds h.state m.0 b m.1 in
     let most = ended_most next in
     let few = h.few in
@@ -147,31 +147,31 @@ scan_more text n count place next h lt e =
       state = m.0;
       read = read_more text n h.state m.0 h.read lt m.1;
       here = m.2;
-      counted = ap (λ k. k + ended next) h.counted ∙ ap (λ p. length (done_of h.state) + ended p) (sym m.2) ∙ sym adds.count;
+      counted = ap (λ k. k + ended_segments next) h.counted ∙ ap (λ p. length (done_of h.state) + ended_segments p) (sym m.2) ∙ sym adds.count;
       few = omega arith;
     }
 
-none_of : (o : Option State) → option_map place_of o ≡ None → o ≡ None
+none_of : (o : Option State) → option_map scanned o ≡ None → o ≡ None
 none_of None e = refl
 none_of (Some t) e = cc
 
-pub scan_stuck : (text : List ℕ) (n count : ℕ) (place : Place) → IsScanned text n place count → n < length text → place_after place (get_or text n 0) ≡ None → IsBadAt text n
-scan_stuck text n count place h lt e =
+pub scan_stuck : (text : List ℕ) (n count : ℕ) (state : ScanState) → IsScanned text n state count → n < length text → state_after state (get_or text n 0) ≡ None → IsBadAt text n
+scan_stuck text n count state h lt e =
     let b = get_or text n 0 in
-    bad_where_stuck text n h.state h.read lt (none_of (step h.state b) (sym (place_after-place_of h.state b) ∙ ap (λ p. place_after p b) h.here ∙ e))
+    bad_where_stuck text n h.state h.read lt (none_of (step h.state b) (sym (state_after-scanned h.state b) ∙ ap (λ p. state_after p b) h.here ∙ e))
 
-closed_at : (s : State) → place_of s ≡ End → s ≡ Closed (done_of s)
+closed_at : (s : State) → scanned s ≡ End → s ≡ Closed (done_of s)
 closed_at (Before done) e = cc
 closed_at (InTag done p) e = cc
 closed_at (InValue done tag p) e = cc
 closed_at (Closed done) e = refl
 
-pub scan_end : (text : List ℕ) (n count : ℕ) (place : Place) → IsScanned text n place count → length text ≤ n → place ≡ End → HasSegments text count
-scan_end text n count place h le e =
+pub scan_end : (text : List ℕ) (n count : ℕ) (state : ScanState) → IsScanned text n state count → length text ≤ n → state ≡ End → HasSegments text count
+scan_end text n count state h le e =
     let closed = closed_at h.state (h.here ∙ e) in
     let id = end_whole text n (done_of h.state) (subst (HasRead text n) closed h.read) le in
     (done_of h.state, id.0, id.1, h.counted)
 
-pub scan_open : (text : List ℕ) (n count : ℕ) (place : Place) → IsScanned text n place count → 0 < length text → length text ≤ n → (place ≡ End → ⊥) → IsBadAt text (length text)
-scan_open text n count place h some le open_at =
-    bad_at_end text n h.state h.read some le (λ done e. open_at (sym h.here ∙ ap place_of e))
+pub scan_open : (text : List ℕ) (n count : ℕ) (state : ScanState) → IsScanned text n state count → 0 < length text → length text ≤ n → (state ≡ End → ⊥) → IsBadAt text (length text)
+scan_open text n count state h some le open_at =
+    bad_at_end text n h.state h.read some le (λ done e. open_at (sym h.here ∙ ap scanned e))

@@ -4,8 +4,8 @@ use Rattle.std.specs.Prelude.{Option, Some, None, option_map, is_some, if◌then
 use Rattle.tk_ids.specs.declared.reading.Escape.{Escape}
 use Rattle.tk_ids.specs.declared.reading.Escape.TheVariants.{Plain, Percent, Digit}
 use Rattle.tk_ids.specs.declared.scanning.Part.{Part}
-use Rattle.tk_ids.specs.declared.scanning.Place.{Place}
-use Rattle.tk_ids.specs.declared.scanning.Place.TheVariants.{Start, Tag, Value, End}
+use Rattle.tk_ids.specs.declared.scanning.ScanState.{ScanState}
+use Rattle.tk_ids.specs.declared.scanning.ScanState.TheVariants.{Start, Tag, Value, End}
 use Rattle.tk_ids.specs.Characters.{percent_sign, open_bracket, close_bracket, colon, slash}
 use Rattle.tk_ids.specs.IdText.{SegmentView, digits_of, id_text, IsId}
 use Rattle.tk_ids.specs.Reading.{State, Before, InTag, InValue, Closed, byte_of, is_first_digit}
@@ -30,22 +30,22 @@ is_ended stop has_bytes Percent b = false
 is_ended stop has_bytes (Digit x) b = false
 
 -- one more byte, where it may stand there
-abbrev pub place_after : Place → ℕ → Option Place
-place_after Start b = if b == open_bracket then Some (Tag (part false Plain)) else None
-place_after (Tag p) b =
+abbrev pub state_after : ScanState → ℕ → Option ScanState
+state_after Start b = if b == open_bracket then Some (Tag (part false Plain)) else None
+state_after (Tag p) b =
     if is_ended colon p.has_bytes p.escape b then Some (Value (part false Plain))
     else option_map Tag (part_after p.has_bytes p.escape b)
-place_after (Value p) b =
+state_after (Value p) b =
     if is_ended close_bracket p.has_bytes p.escape b then Some End
     else option_map Value (part_after p.has_bytes p.escape b)
-place_after End b = if b == slash then Some Start else None
+state_after End b = if b == slash then Some Start else None
 
--- how many segments end at a place
-abbrev pub ended : Place → ℕ
-ended Start = 0
-ended (Tag p) = 0
-ended (Value p) = 0
-ended End = 1
+-- how many segments end at a state
+abbrev pub ended_segments : ScanState → ℕ
+ended_segments Start = 0
+ended_segments (Tag p) = 0
+ended_segments (Value p) = 0
+ended_segments End = 1
 
 -- an id of so many segments has the text
 abbrev pub HasSegments : List ℕ → ℕ → Type 0

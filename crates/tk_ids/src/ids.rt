@@ -1,7 +1,7 @@
 //! Unique ids.
 ghost use Rattle.std.specs.Prelude.{◌≡◌, ℕ, List, MatchOption, IfOk, IfErr, IsOk, OnOk, length, [], ◌∷◌, ◌++◌, ◌<◌, ◌≤◌, ◌⊎◌, IsTrue, ◌↔◌};
 ghost use Rattle.tk_ids.specs.IdText.{EndsInEscape};
-ghost use Rattle.tk_ids.specs.Kept.{IsLastSlash};
+ghost use Rattle.tk_ids.specs.IdSegments.{IsLastSlash};
 ghost use Rattle.tk_ids.specs.Answer.{IsFaultAfter};
 
 use crate::id_faults::IdFault;
@@ -39,13 +39,13 @@ impl Model for UniqueId {
     ghost use Rattle.std.specs.Prelude.{List};
     ghost use Rattle.std.specs.Arc.{arc_value};
     ghost use Rattle.tk_ids.specs.IdText.{SegmentView};
-    ghost use Rattle.tk_ids.specs.Kept.{segments_of, IsKeptId};
+    ghost use Rattle.tk_ids.specs.IdSegments.{segments_of, IsTextOfId};
 
     ghost Value = { List SegmentView };
 
     ghost view = { λ u. segments_of (arc_value u.path).text };
 
-    ghost invariant = { λ u. IsKeptId (arc_value u.path).text (arc_value u.path).segment_count };
+    ghost invariant = { λ u. IsTextOfId (arc_value u.path).text (arc_value u.path).segment_count };
 }
 
 /// Shows the id's text, in quotes.
@@ -91,11 +91,11 @@ fn last_slash(bytes: &[u8]) -> Option<usize>
 impl UniqueId {
     ghost use Rattle.tk_ids.specs.IdText.{IsId, id_text, IsEngine, IsBelow, FitsLimits, parent_of};
     ghost use Rattle.tk_ids.specs.Answer.{IsReadAs, IsMadeOf};
-    ghost use Rattle.tk_ids.specs.Kept.{segments_of, IsKeptId};
+    ghost use Rattle.tk_ids.specs.IdSegments.{segments_of, IsTextOfId};
 
     // Makes the id that has this text.
     fn from_text(alloc: Global, text: Text, segment_count: usize) -> Result<UniqueId, AllocError>
-        requires { IsKeptId text segment_count }
+        requires { IsTextOfId text segment_count }
         ensures { IfOk result (λ id. id ≡ segments_of text) }
     {
         Ok(UniqueId {

@@ -1,8 +1,8 @@
 //! Finding out whether a text is an id's, without memory.
 ghost use Rattle.std.specs.Prelude.{◌≡◌, ◌<◌, length, MatchResult, IsTrue, ◌↔◌, if◌then◌else◌};
-ghost use Rattle.tk_ids.specs.declared.scanning.Place.TheVariants.{End};
+ghost use Rattle.tk_ids.specs.declared.scanning.ScanState.TheVariants.{End};
 ghost use Rattle.tk_ids.specs.Answer.{IsBadAt};
-ghost use Rattle.tk_ids.specs.Scanning.{part, part_after, is_ended, place_after, ended, HasSegments};
+ghost use Rattle.tk_ids.specs.Scanning.{part, part_after, is_ended, state_after, ended_segments, HasSegments};
 
 use crate::reading::{Escape, byte_of_digits, digits_of_byte};
 
@@ -15,7 +15,7 @@ pub(crate) struct Part {
 
 /// Where in a segment a text was read to.
 #[derive(Clone, Copy)]
-pub(crate) enum Place {
+pub(crate) enum ScanState {
     /// Before its `[`.
     Start,
     Tag(Part),
@@ -77,35 +77,35 @@ fn ends(part: Part, stop: u8, byte: u8) -> bool
     matches!(part.escape, Escape::Plain) && byte == stop && part.has_bytes
 }
 
-// The place after one byte more, where it may stand there.
-fn next_place(place: Place, byte: u8) -> Option<Place>
-    ensures { result ≡ place_after place byte }
+// The state after one byte more, where it may stand there.
+fn next_state(state: ScanState, byte: u8) -> Option<ScanState>
+    ensures { result ≡ state_after state byte }
 {
-    match place {
-        Place::Start => (byte == b'[').then_some(Place::Tag(Part::EMPTY)),
-        Place::Tag(tag) => {
+    match state {
+        ScanState::Start => (byte == b'[').then_some(ScanState::Tag(Part::EMPTY)),
+        ScanState::Tag(tag) => {
             if ends(tag, b':', byte) {
-                return Some(Place::Value(Part::EMPTY));
+                return Some(ScanState::Value(Part::EMPTY));
             }
-            Some(Place::Tag(next_part(tag, byte)?))
+            Some(ScanState::Tag(next_part(tag, byte)?))
         }
-        Place::Value(value) => {
+        ScanState::Value(value) => {
             if ends(value, b']', byte) {
-                return Some(Place::End);
+                return Some(ScanState::End);
             }
-            Some(Place::Value(next_part(value, byte)?))
+            Some(ScanState::Value(next_part(value, byte)?))
         }
-        Place::End => (byte == b'/').then_some(Place::Start),
+        ScanState::End => (byte == b'/').then_some(ScanState::Start),
     }
 }
 
-impl Place {
+impl ScanState {
     // Whether a segment ends here.
     fn is_end(self) -> bool
         ensures end { IsTrue result ↔ (self ≡ End) }
-        ensures count { (if result then 1 else 0) ≡ ended self }
+        ensures count { (if result then 1 else 0) ≡ ended_segments self }
     {
-        matches!(self, Place::End)
+        matches!(self, ScanState::End)
     }
 }
 
@@ -118,16 +118,16 @@ pub(crate) fn count_segments(text: &str) -> Result<usize, usize>
     ensures { MatchResult result (HasSegments text.now) (IsBadAt text.now) }
 {
     let bytes = text.as_bytes();
-    let mut place = Place::Start;
+    let mut state = ScanState::Start;
     let mut count = 0;
     for (at, byte) in bytes.iter().enumerate() {
-        let Some(next) = next_place(place, *byte) else {
+        let Some(next) = next_state(state, *byte) else {
             return Err(at);
         };
         count += if next.is_end() { 1 } else { 0 };
-        place = next;
+        state = next;
     }
-    if place.is_end() {
+    if state.is_end() {
         Ok(count)
     } else {
         Err(bytes.len())

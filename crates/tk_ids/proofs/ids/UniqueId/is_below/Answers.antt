@@ -1,6 +1,6 @@
 use Rattle.std.proofs.Common.{◌<◌, length, sym, ◌∙◌, arith}
 use Rattle.std.proofs.lemmas.Bool.{eqb-true, eq-eqb, ltb-true, false≢true}
-use Rattle.tk_ids.proofs.KeptLemmas.{below_exact, goes_on}
+use Rattle.tk_ids.proofs.IdSegmentLemmas.{below_exact, goes_on}
 use Rattle.tk_ids.proofs.ids.UniqueId.is_below.Goals as goal
 use Rattle.tk_ids.proofs.ids.UniqueId.is_below.Goals.{then-inner-outer, else-inner-outer}
 

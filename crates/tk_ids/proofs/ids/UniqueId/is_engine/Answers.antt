@@ -1,6 +1,6 @@
 use Rattle.std.proofs.Common.{sym, ◌∙◌}
 use Rattle.std.proofs.lemmas.Bool.{eqb-true}
-use Rattle.tk_ids.proofs.KeptLemmas.{engine_exact}
+use Rattle.tk_ids.proofs.IdSegmentLemmas.{engine_exact}
 use Rattle.tk_ids.proofs.ids.UniqueId.is_engine.Goals as goal
 
 pub returns-then-segment_count-eq1 : goal.returns-then-segment_count-eq1

@@ -1,7 +1,7 @@
 use Rattle.std.proofs.Common.{◌≡◌, ◌≤◌, ◌∷◌, [], ◌++◌, List, ℕ, length, refl, ap, ◌∙◌, arith}
 use Rattle.tk_ids.specs.declared.ids.TheConstants.{MAX_BYTES}
 use Rattle.tk_ids.specs.IdText.{id_text, segment_text}
-use Rattle.tk_ids.proofs.KeptLemmas.{keeps, segments_of-id_text}
+use Rattle.tk_ids.proofs.IdSegmentLemmas.{text_of_id, segments_of-id_text}
 use Rattle.tk_ids.proofs.TextLemmas.{utf8_segment_text}
 use Rattle.tk_ids.proofs.ids.UniqueId.of.Goals as goal
 
@@ -19,7 +19,7 @@ from_text-requires c =
     let segment = c.args.segment.now in
     let bytes : c.push_segment.new.out.items ≡ id_text (segment ∷ []) = c.in_ok-push_segment.ensures.ok ∙ ap (λ (l : List ℕ). l ++ segment_text segment) c.new-bytes.ensures.items in
     let within : length (id_text (segment ∷ [])) ≤ MAX_BYTES = omega (arith, ap length bytes) in
-    keeps c.from_utf8.result 1 (segment ∷ []) (omega arith, (c.push_segment.ensures.segment, tt)) (c.from_utf8.ensures ∙ bytes) (within, omega arith) refl
+    text_of_id c.from_utf8.result 1 (segment ∷ []) (omega arith, (c.push_segment.ensures.segment, tt)) (c.from_utf8.ensures ∙ bytes) (within, omega arith) refl
 
 pub returns : goal.returns
 returns c =

@@ -19,7 +19,7 @@ unfoldable pub segments_of : List ℕ → List SegmentView
 segments_of text = whole_segments (run step (Before []) text)
 
 -- some id within the limits has the text, and so many segments
-pub record IsKeptId (text : List ℕ) (segment_count : ℕ) : Type 0 where
+pub record IsTextOfId (text : List ℕ) (segment_count : ℕ) : Type 0 where
   pub id : IsId (segments_of text)
   pub spells : text ≡ id_text (segments_of text)
   pub fits : FitsLimits (segments_of text)

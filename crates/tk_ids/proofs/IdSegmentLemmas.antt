@@ -11,7 +11,7 @@ use Rattle.tk_ids.specs.declared.reading.Escape.{Escape}
 use Rattle.tk_ids.specs.declared.reading.Escape.TheVariants.{Plain, Percent, Digit}
 use Rattle.tk_ids.specs.Machine.{run}
 use Rattle.tk_ids.specs.IdText.{SegmentView, IsId, IsBelow, IsEngine, id_text, segment_text, FitsLimits}
-use Rattle.tk_ids.specs.Kept.{segments_of, whole_segments, IsKeptId}
+use Rattle.tk_ids.specs.IdSegments.{segments_of, whole_segments, IsTextOfId}
 use Rattle.tk_ids.specs.Reading.{State, Before, InTag, InValue, Closed, text_step, ends_at, step}
 use Rattle.tk_ids.proofs.MachineLemmas.{run-append}
 use Rattle.tk_ids.proofs.ReadingLemmas.{run_whole, cond_cases, option_map_some}
@@ -21,8 +21,8 @@ pub segments_of-id_text : (text : List ℕ) (id : List SegmentView) → IsId id 
 unfolding segments_of
 segments_of-id_text text id ok e = ap whole_segments (run_whole text id ok e)
 
-pub keeps : (text : List ℕ) (count : ℕ) (id : List SegmentView) → IsId id → text ≡ id_text id → FitsLimits id → count ≡ length id → IsKeptId text count
-keeps text count id ok e fits counted =
+pub text_of_id : (text : List ℕ) (count : ℕ) (id : List SegmentView) → IsId id → text ≡ id_text id → FitsLimits id → count ≡ length id → IsTextOfId text count
+text_of_id text count id ok e fits counted =
     let same = sym (segments_of-id_text text id ok e) in
     record { id = subst IsId same ok; spells = e ∙ ap id_text same; fits = subst FitsLimits same fits; counted = counted ∙ ap length same }
 
