@@ -190,3 +190,15 @@ fn bytes_of_value(alloc: Global, bytes: usize) -> Option<usize> {
 fn a_long_segment(rt: HostRuntime) {
     assert_eq!(rt; bytes_of_value(rt.alloc(), 100_000), Some(100_001));
 }
+
+// How many segments an id of 64 has, which are read from its text.
+fn count_of_segments(alloc: Global) -> Option<usize> {
+    let text = repeated(alloc, "[a:b", "]/[a:b", 63).ok()?;
+    let id = UniqueId::read(alloc, text.as_str()).ok()?;
+    Some(id.segments(alloc).ok()?.len())
+}
+
+#[test]
+fn as_many_segments_as_may_be(rt: HostRuntime) {
+    assert_eq!(rt; count_of_segments(rt.alloc()), Some(64));
+}

@@ -12,6 +12,8 @@ mod faults;
 #[cfg(test)]
 mod fields;
 #[cfg(test)]
+mod id_refusals;
+#[cfg(test)]
 mod ids;
 #[cfg(test)]
 mod lanes;
