@@ -1,238 +1,361 @@
 -- The lines that are kept for each id, while events are added.
-use Rattle.std.proofs.Common.{◌≡◌, ◌≤◌, ◌<◌, ℕ, zero, suc, arith, Bool, true, false, cond, ◌||◌, List, [], ◌∷◌, ◌++◌, map, length, set, get_or, Option, Some, None, bytes_eq, nat_eq, refl, sym, ap, ap₂, subst, ◌∙◌, append-nil, append_assoc, Result, Ok, Err, length-append, length-set, get_or-set_same, inl, inr, Vec, Global, BuildHasherDefault, FoldHasher}
-use Rattle.std.specs.Prelude.{OnOk, All, is_some, if◌then◌else◌, ◌⊎◌}
-use Rattle.std.specs.List.{flat_map}
-use Rattle.std.specs.Option.{unwrap_or}
+use Rattle.std.proofs.Common.{◌≡◌, ◌<◌, ℕ, zero, suc, arith, Bool, true, false, cond, List, [], ◌∷◌, ◌++◌, map, length, set, get_or, Some, None, bytes_eq, nat_eq, refl, sym, ap, ap₂, subst, ◌∙◌, append-nil, append_assoc, Result, Ok, Err, get_or-set_same, inl, inr, Vec, Global, BuildHasherDefault, FoldHasher}
+use Rattle.std.specs.Prelude.{OnOk, All, is_some, ◌⊎◌, slice_get}
+use Rattle.std.specs.List.{flat_map, AllByRecursion}
+use Rattle.std.specs.Option.{unwrap_or, option_map, option_or}
 use Rattle.std.specs.Cmp.Lexicographic.{bytes_decides}
 use Rattle.std.specs.Map.{lookup}
 use Rattle.std.specs.HashMap.{HashMap}
 use Rattle.std.proofs.lemmas.Bool.{true≢false, eqb-true}
-use Rattle.std.proofs.lemmas.Option.{none-some, same_Some}
+use Rattle.std.proofs.lemmas.Option.{none-some, same_Some, slice_get-get_or, slice_get-map, slice_get_cases, slice_get_within}
+use Rattle.std.proofs.lemmas.List.{length-map}
 use Rattle.std.proofs.lemmas.List.Elements.{All-head, All-rest}
-use Rattle.std.proofs.lemmas.List.{get_or-set_other}
 use Rattle.tk_events.specs.declared.events.Entry.{Entry}
+use Rattle.tk_ids.specs.declared.descriptors.Descriptor.{Descriptor}
+use Rattle.tk_ids.specs.IdText.{SegmentView, IsId, id_text}
+use Rattle.tk_ids.specs.Table.{AreDifferent, HasId, ids_of}
+use Rattle.tk_ids.proofs.ReadingLemmas.{text_is_unique}
 use Rattle.tk_record_columns.specs.declared.records.EntryView.{EntryView}
 use Rattle.tk_record_columns.specs.Recorded.{Recorded}
-use Rattle.tk_record_columns.specs.Entries.{desc}
+use Rattle.tk_record_columns.specs.Entries.{desc, desc_in}
 use Rattle.tk_record_columns.specs.Record.{entry_of_view}
 use Rattle.tk_record.specs.Spelling.{joined, tail}
 use Rattle.tk_report_text.specs.declared.grouping.LinesById.{LinesById}
-use Rattle.tk_report_text.specs.Labels.{Label, events, label, labels, name}
+use Rattle.tk_report_text.specs.Labels.{Label, events, id_in, label, labels, name}
 use Rattle.tk_report_text.specs.Reports.{label_line, labels_of_id}
-use Rattle.tk_report_text.specs.GroupedLines.{BorrowedText, has_id, index_in, lines_at, lines_in, tail_line, text_of, IsGrouped, IndexesId, IndexesKey, AddsEvent, IsKept}
-
-abbrev pub Entries : Type 0
-Entries = List (List ℕ × List ℕ)
+use Rattle.tk_report_text.specs.GroupedLines.{BorrowedText, IdLines, texts, dynamic_index, lines_in, tail_line, text_of, AddsEvent, IndexesId, IsAt, IsGrouped, IsKept}
 
 pub on_ok : {T E A B : Type 0} (r : Result T E) → (A → B) → OnOk r A → OnOk r B
 on_ok (Ok x) f a = f a
 on_ok (Err e) f a = tt
 
-same_text : (x y : List ℕ) → bytes_eq x y ≡ true → x ≡ y
+pub same_text : (x y : List ℕ) → bytes_eq x y ≡ true → x ≡ y
 same_text x y at = (bytes_decides x y).0 at
 
 is_itself : (x : List ℕ) → bytes_eq x x ≡ true
 is_itself x = (bytes_decides x x).1 refl
 
--- ---- an index for an id
+-- ---- ids and their indexes
 
--- the filler at the end changes no element
-get_or_more : {X : Type 0} (xs : List X) (d : X) (k : ℕ) → get_or (xs ++ d ∷ []) k d ≡ get_or xs k d
-get_or_more [] d zero = refl
-get_or_more [] d (suc k) = refl
-get_or_more (x ∷ xs) d zero = refl
-get_or_more (x ∷ xs) d (suc k) = get_or_more xs d k
+is_at_end : (ids : List IdLines) (e : IdLines) → IsAt (ids ++ e ∷ []) e.0.now (length ids)
+is_at_end [] e = refl
+is_at_end (d ∷ ids) e = is_at_end ids e
 
-past_end : {X : Type 0} (xs : List X) (d : X) → get_or xs (length xs) d ≡ d
-past_end [] d = refl
-past_end (x ∷ xs) d = past_end xs d
+stays_at : (ids : List IdLines) (e : IdLines) (x : List ℕ) (i : ℕ) → IsAt ids x i → IsAt (ids ++ e ∷ []) x i
+stays_at [] e x i at = absurd (none-some x at)
+stays_at (d ∷ ids) e x zero at = at
+stays_at (d ∷ ids) e x (suc i) at = stays_at ids e x i at
 
-more_same : (xs : List (List ℕ)) (b : Bool) (k : ℕ) → get_or (if b then xs else xs ++ [] ∷ []) k [] ≡ get_or xs k []
-more_same xs true k = refl
-more_same xs false k = get_or_more xs [] k
+was_at : (ids : List IdLines) (e : IdLines) (x : List ℕ) (i : ℕ) → IsAt (ids ++ e ∷ []) x i → IsAt ids x i ⊎ ((i ≡ length ids) × (x ≡ e.0.now))
+was_at [] e x zero at = inr (refl, sym (same_Some e.0.now x at))
+was_at [] e x (suc i) at = absurd (none-some x at)
+was_at (d ∷ ids) e x zero at = inl at
+was_at (d ∷ ids) e x (suc i) at = elim (was_at ids e x i at) [ inl before ↦ inl before | inr end ↦ inr (ap suc end.0, end.1) ]
 
-more_longer : (xs : List (List ℕ)) (b : Bool) → length xs ≤ length (if b then xs else xs ++ [] ∷ [])
-more_longer xs true = omega arith
-more_longer xs false = omega (arith, length-append xs ([] ∷ []))
+within : (ids : List IdLines) (x : List ℕ) (i : ℕ) → IsAt ids x i → i < length ids
+within ids x i at = omega (arith, slice_get_within (texts ids) i x at, length-map ids (λ (e : IdLines). e.0.now))
 
--- a text, lent as another one is
-borrowed_as : BorrowedText → List ℕ → BorrowedText
-borrowed_as k x = record { ref_ptr = k.ref_ptr; now = x }
+-- an id without a line changes no lines
+lines_same : (ids : List IdLines) (id : BorrowedText) (x : List ℕ) → lines_in (ids ++ (id, []) ∷ []) x ≡ lines_in ids x
+lines_same [] id x = by (bytes_eq x id.now)
+  where
+    by : (b : Bool) → unwrap_or {T = List ℕ} (cond b (Some []) None) [] ≡ []
+    by true = refl
+    by false = refl
+lines_same (e ∷ ids) id x = by (bytes_eq x e.0.now) (lines_same ids id x)
+  where
+    by : (b : Bool) → lines_in (ids ++ (id, []) ∷ []) x ≡ lines_in ids x
+        → unwrap_or (cond b (Some e.1) (lookup (λ k. bytes_eq x k.now) (ids ++ (id, []) ∷ []))) [] ≡ unwrap_or (cond b (Some e.1) (lookup (λ k. bytes_eq x k.now) ids)) []
+    by true rest = refl
+    by false rest = rest
 
--- a new id got the next index, at which there is no line yet
-pub id_added : (old : LinesById) (ids : HashMap BorrowedText ℕ (BuildHasherDefault FoldHasher)) (lines : Vec (List ℕ) Global) (id : BorrowedText) (i : ℕ) → index_in old id.now ≡ None → i ≡ length old.lines.items
-    → ((q : BorrowedText) → lookup (λ k. bytes_eq q.now k.now) ids.entries ≡ cond (bytes_eq id.now q.now) (Some i) (index_in old q.now))
-    → lines.items ≡ old.lines.items ++ [] ∷ [] → IndexesId old (record { lines = lines; ids = ids; keys = old.keys }) id.now i
-unfolding borrowed_as
-id_added old ids lines id i none next found more = record {
-  index = next ∙ sym (ap (λ o. unwrap_or o (length old.lines.items)) none);
-  found = λ x. found (borrowed_as id x);
-  lines = more ∙ sym (ap (λ (o : Option ℕ). if is_some o then old.lines.items else old.lines.items ++ [] ∷ []) none);
-  keys = refl;
+-- ---- the ids of the table
+
+ids_at : (table : List Descriptor) (key : ℕ) (d : Descriptor) → AllByRecursion (λ d. IsId d.id) table → slice_get table key ≡ Some d → IsId d.id
+ids_at [] key d all at = absurd (none-some d at)
+ids_at (e ∷ table) zero d all at = subst (λ (d : Descriptor). IsId d.id) (same_Some e d at) all.0
+ids_at (e ∷ table) (suc key) d all at = ids_at table key d all.1 at
+
+-- the table has a descriptor at the key
+pub record HasKey (r : Recorded) (key : ℕ) (d : Descriptor) : Type 0 where
+  pub at : slice_get r.table key ≡ Some d
+  pub text : text_of r key ≡ id_text d.id
+
+has_key : (r : Recorded) (key : ℕ) (d : Descriptor) → slice_get r.table key ≡ Some d → HasKey r key d
+has_key r key d at = record { at = at; text = ap (λ o. id_text (id_in (option_or o (desc_in r.entries key)))) at }
+
+key_below : (r : Recorded) (key : ℕ) → key < length r.table → (d : Descriptor) × HasKey r key d
+key_below r key lt = elim (slice_get_cases r.table key).1 [ inl found ↦ (found.0, has_key r key found.0 found.2) | inr past ↦ absurd (omega (arith, lt, past.0)) ]
+
+id_at : (r : Recorded) (key : ℕ) (d : Descriptor) → HasKey r key d → slice_get (ids_of r.table) key ≡ Some d.id
+id_at r key d h = slice_get-map (λ (d : Descriptor). d.id) r.table key ∙ ap (option_map (λ (d : Descriptor). d.id)) h.at
+
+text_at : (r : Recorded) (key : ℕ) (d : Descriptor) → HasKey r key d → slice_get (map (λ d. id_text d.id) r.table) key ≡ Some (id_text d.id)
+text_at r key d h = slice_get-map (λ (d : Descriptor). id_text d.id) r.table key ∙ ap (option_map (λ (d : Descriptor). id_text d.id)) h.at
+
+-- the table's ids were made into the first ones, and others follow
+pub record Follows (table : List Descriptor) (ids : List IdLines) (left : List Descriptor) : Type 0 where
+  pub whole : texts ids ++ map (λ d. id_text d.id) left ≡ map (λ d. id_text d.id) table
+  pub empty : (x : List ℕ) → lines_in ids x ≡ []
+  pub lawful : AllByRecursion (λ d. IsId d.id) left → AllByRecursion (λ d. IsId d.id) table
+
+pub follows_none : (table left : List Descriptor) (ids : List IdLines) → ids ≡ [] → left ≡ table → Follows table ids left
+follows_none table left ids none whole = record {
+  whole = ap₂ (λ (is : List IdLines) (ds : List Descriptor). texts is ++ map (λ d. id_text d.id) ds) none whole;
+  empty = λ x. ap (λ (is : List IdLines). lines_in is x) none;
+  lawful = λ all. subst (AllByRecursion (λ (d : Descriptor). IsId d.id)) whole all;
 }
 
-module _ (old new : LinesById) (id : List ℕ) (i : ℕ) (h : IndexesId old new id i) where
-  -- the id had the index, or gets the next one
-  abbrev HadOrGets : Type 0
-  HadOrGets = (index_in old id ≡ Some i) ⊎ ((index_in old id ≡ None) × (i ≡ length old.lines.items))
+texts_push : (ids : List IdLines) (e : IdLines) (more : List (List ℕ)) → texts (ids ++ e ∷ []) ++ more ≡ texts ids ++ e.0.now ∷ more
+texts_push [] e more = refl
+texts_push (d ∷ ids) e more = ap (λ (t : List (List ℕ)). d.0.now ∷ t) (texts_push ids e more)
 
-  had_or_gets : HadOrGets
-  had_or_gets = by (index_in old id) refl
+pub follows_next : (table left rest : List Descriptor) (ids new : List IdLines) (d : Descriptor) (id : BorrowedText) → Follows table ids left → left ≡ d ∷ rest → id.now ≡ id_text d.id → IsId d.id
+    → new ≡ ids ++ (id, []) ∷ [] → Follows table new rest
+follows_next table left rest ids new d id f first is ok pushed = record {
+  whole = ap (λ (is : List IdLines). texts is ++ map (λ d. id_text d.id) rest) pushed ∙ texts_push ids (id, []) (map (λ d. id_text d.id) rest)
+      ∙ ap (λ (t : List ℕ). texts ids ++ t ∷ map (λ d. id_text d.id) rest) is ∙ ap (λ (ds : List Descriptor). texts ids ++ map (λ d. id_text d.id) ds) (sym first) ∙ f.whole;
+  empty = λ x. ap (λ (is : List IdLines). lines_in is x) pushed ∙ lines_same ids id x ∙ f.empty x;
+  lawful = λ all. f.lawful (subst (AllByRecursion (λ (d : Descriptor). IsId d.id)) (sym first) (ok, all));
+}
+
+-- at the start each id of the table is there, and no other one
+pub grouped_first : (r : Recorded) (kept : LinesById) (left : List Descriptor) → Follows r.table kept.ids.items left → left ≡ [] → AreDifferent r.table
+    → kept.dynamic_ids.entries ≡ [] → kept.dynamic_keys.entries ≡ [] → IsGrouped r kept
+grouped_first r kept left f done different ids keys = record {
+  ids = all;
+  apart = λ x i j at_i at_j.
+      let p = from i x at_i in
+      let q = from j x at_j in
+      let one = text_is_unique q.0.id p.0.id (ids_at r.table j q.0 all q.1.at) (ids_at r.table i p.0 all p.1.at) (q.2 ∙ sym p.2) in
+      different i j p.0.id (id_at r i p.0 p.1) (id_at r j q.0 q.1 ∙ ap Some one);
+  table = λ key lt. let p = key_below r key lt in ap (λ (ts : List (List ℕ)). slice_get ts key) whole ∙ text_at r key p.0 p.1 ∙ ap Some (sym p.1.text);
+  dynamic = λ x i at. absurd (none-some i (sym (ap (λ (es : List (BorrowedText × ℕ)). lookup (λ k. bytes_eq x k.now) es) ids) ∙ at));
+  all = λ x i at. let p = from i x at in inl (slice_get_within r.table i p.0 p.1.at);
+  keys = λ q i at. absurd (none-some i (sym (ap (lookup (nat_eq q)) keys) ∙ at));
+}
+  where
+    all : AllByRecursion (λ d. IsId d.id) r.table
+    all = f.lawful (subst (AllByRecursion (λ (d : Descriptor). IsId d.id)) (sym done) tt)
+
+    whole : texts kept.ids.items ≡ map (λ d. id_text d.id) r.table
+    whole = sym (append-nil (texts kept.ids.items)) ∙ ap (λ (ds : List Descriptor). texts kept.ids.items ++ map (λ d. id_text d.id) ds) (sym done) ∙ f.whole
+
+    from : (i : ℕ) (x : List ℕ) → IsAt kept.ids.items x i → (d : Descriptor) × HasKey r i d × (id_text d.id ≡ x)
+    from i x at =
+        let read = ap (λ (ts : List (List ℕ)). slice_get ts i) (sym whole) ∙ at in
+        let lt : i < length r.table = omega (arith, slice_get_within (map (λ d. id_text d.id) r.table) i x read, length-map r.table (λ (d : Descriptor). id_text d.id)) in
+        let p = key_below r i lt in
+        (p.0, p.1, same_Some (id_text p.0.id) x (sym (text_at r i p.0 p.1) ∙ read))
+
+-- ---- an index for an id
+
+-- an id that is there has its index already
+pub unchanged : (r : Recorded) (kept : LinesById) (x : List ℕ) (i : ℕ) → IsGrouped r kept → IsAt kept.ids.items x i → IndexesId r kept kept x i
+unchanged r kept x i g at = record { grouped = g; index = at; lines = λ y. refl }
+
+-- an id of the table is at its key
+pub table_id : (r : Recorded) (kept : LinesById) (key : ℕ) (id : List SegmentView) → IsGrouped r kept → slice_get (ids_of r.table) key ≡ Some id → IsAt kept.ids.items (id_text id) key
+table_id r kept key id g at =
+    let lt : key < length r.table = omega (arith, slice_get_within (ids_of r.table) key id at, length-map r.table (λ (d : Descriptor). d.id)) in
+    let p = key_below r key lt in
+    g.table key lt ∙ ap Some (p.1.text ∙ ap id_text (same_Some p.0.id id (sym (id_at r key p.0 p.1) ∙ at)))
+
+module _ (r : Recorded) (old : LinesById) (dynamic_ids : HashMap BorrowedText ℕ (BuildHasherDefault FoldHasher)) (ids : Vec IdLines Global) (id : BorrowedText) (i : ℕ) (segments : List SegmentView)
+    (g : IsGrouped r old) (absent : ¬ HasId r.table segments) (ok : IsId segments) (is : id.now ≡ id_text segments) (none : dynamic_index old id.now ≡ None) (next : i ≡ length old.ids.items)
+    (found : (q : BorrowedText) → lookup (λ k. bytes_eq q.now k.now) dynamic_ids.entries ≡ cond (bytes_eq id.now q.now) (Some i) (dynamic_index old q.now))
+    (more : ids.items ≡ old.ids.items ++ (id, []) ∷ []) where
+  abbrev after : LinesById
+  after = record { ids = ids; dynamic_ids = dynamic_ids; dynamic_keys = old.dynamic_keys }
+
+  abbrev Was : List ℕ → ℕ → Type 0
+  Was x j = IsAt old.ids.items x j ⊎ ((j ≡ i) × (x ≡ id.now))
+
+  -- no id with the text was there
+  is_new : (j : ℕ) → IsAt old.ids.items id.now j → ⊥
+  is_new j at = by (g.all id.now j at)
     where
-      by : (o : Option ℕ) → index_in old id ≡ o → HadOrGets
-      by None e = inr (e, h.index ∙ ap (λ o. unwrap_or o (length old.lines.items)) e)
-      by (Some k) e = inl (e ∙ ap Some (sym (h.index ∙ ap (λ o. unwrap_or o (length old.lines.items)) e)))
+      by : (j < length r.table) ⊎ (dynamic_index old id.now ≡ Some j) → ⊥
+      by (inl lt) =
+          let p = key_below r j lt in
+          let same : text_of r j ≡ id.now = same_Some (text_of r j) id.now (sym (g.table j lt) ∙ at) in
+          absent (j, id_at r j p.0 p.1 ∙ ap Some (text_is_unique p.0.id segments (ids_at r.table j p.0 g.ids p.1.at) ok (sym p.1.text ∙ same ∙ is)))
+      by (inr there) = none-some j (sym none ∙ there)
 
-  index_at : (x : List ℕ) (b : Bool) → bytes_eq id x ≡ b → index_in new x ≡ cond b (Some i) (index_in old x)
-  index_at x b e = h.found x ∙ ap (λ t. cond t (Some i) (index_in old x)) e
+  here : IsAt ids.items id.now i
+  here = subst (λ (es : List IdLines). IsAt es id.now i) (sym more) (subst (λ n. IsAt (old.ids.items ++ (id, []) ∷ []) id.now n) (sym next) (is_at_end old.ids.items (id, [])))
 
-  -- the id itself has the index
-  index_here : index_in new id ≡ Some i
-  index_here = index_at id true (is_itself id)
+  stays : (x : List ℕ) (j : ℕ) → IsAt old.ids.items x j → IsAt ids.items x j
+  stays x j at = subst (λ (es : List IdLines). IsAt es x j) (sym more) (stays_at old.ids.items (id, []) x j at)
 
-  -- an id that had an index keeps it
-  index_stays : (x : List ℕ) (j : ℕ) → index_in old x ≡ Some j → index_in new x ≡ Some j
-  index_stays x j at = by (bytes_eq id x) refl
+  was : (x : List ℕ) (j : ℕ) → IsAt ids.items x j → Was x j
+  was x j at = elim (was_at old.ids.items (id, []) x j (subst (λ (es : List IdLines). IsAt es x j) more at)) [ inl before ↦ inl before | inr end ↦ inr (end.0 ∙ sym next, end.1) ]
+
+  index_at : (x : List ℕ) (b : Bool) → bytes_eq id.now x ≡ b → dynamic_index after x ≡ cond b (Some i) (dynamic_index old x)
+  index_at x b e = found (record { ref_ptr = id.ref_ptr; now = x }) ∙ ap (λ t. cond t (Some i) (dynamic_index old x)) e
+
+  index_stays : (x : List ℕ) (j : ℕ) → dynamic_index old x ≡ Some j → dynamic_index after x ≡ Some j
+  index_stays x j at = by (bytes_eq id.now x) refl
     where
-      by : (b : Bool) → bytes_eq id x ≡ b → index_in new x ≡ Some j
-      by true e = index_at x true e ∙ ap Some (h.index ∙ ap (λ o. unwrap_or o (length old.lines.items)) (ap (index_in old) (same_text id x e) ∙ at))
+      by : (b : Bool) → bytes_eq id.now x ≡ b → dynamic_index after x ≡ Some j
+      by true e = absurd (none-some j (sym none ∙ ap (dynamic_index old) (same_text id.now x e) ∙ at))
       by false e = index_at x false e ∙ at
 
-  -- no id got a line
-  lines_stay : (x : List ℕ) → lines_in new x ≡ lines_in old x
-  lines_stay x = at_same (index_in new x) ∙ by (bytes_eq id x) refl had_or_gets
+  -- a new id that isn't in the table got the next index
+  pub id_added : IndexesId r old after (id_text segments) i
+  id_added = record {
+    grouped = record {
+      ids = g.ids;
+      apart = λ x j k at_j at_k. apart x j k (was x j at_j) (was x k at_k);
+      table = λ key lt. stays (text_of r key) key (g.table key lt);
+      dynamic = λ x j at. dynamic x j at (bytes_eq id.now x) refl;
+      all = λ x j at. all x j (was x j at);
+      keys = λ key j at. stays (text_of r key) j (g.keys key j at);
+    };
+    index = subst (λ x. IsAt ids.items x i) is here;
+    lines = λ x. ap (λ (es : List IdLines). lines_in es x) more ∙ lines_same old.ids.items id x;
+  }
     where
-      at_same : (o : Option ℕ) → lines_at new.lines.items o ≡ lines_at old.lines.items o
-      at_same None = refl
-      at_same (Some k) = ap (λ (ls : List (List ℕ)). get_or ls k []) h.lines ∙ more_same old.lines.items (is_some (index_in old id)) k
+      apart : (x : List ℕ) (j k : ℕ) → Was x j → Was x k → j ≡ k
+      apart x j k (inl a) (inl b) = g.apart x j k a b
+      apart x j k (inl a) (inr b) = absurd (is_new j (subst (λ y. IsAt old.ids.items y j) b.1 a))
+      apart x j k (inr a) (inl b) = absurd (is_new k (subst (λ y. IsAt old.ids.items y k) a.1 b))
+      apart x j k (inr a) (inr b) = a.0 ∙ sym b.0
 
-      by : (b : Bool) → bytes_eq id x ≡ b → HadOrGets → lines_at old.lines.items (index_in new x) ≡ lines_in old x
-      by true e (inl had) = ap (lines_at old.lines.items) (index_at x true e ∙ sym had ∙ ap (index_in old) (same_text id x e))
-      by true e (inr gets) =
-          ap (lines_at old.lines.items) (index_at x true e) ∙ ap (λ k. get_or old.lines.items k []) gets.1 ∙ past_end old.lines.items []
-          ∙ ap (lines_at old.lines.items) (sym gets.0 ∙ ap (index_in old) (same_text id x e))
-      by false e is = ap (lines_at old.lines.items) (index_at x false e)
+      dynamic : (x : List ℕ) (j : ℕ) → dynamic_index after x ≡ Some j → (b : Bool) → bytes_eq id.now x ≡ b → IsAt ids.items x j
+      dynamic x j at true e = subst (λ n. IsAt ids.items x n) (same_Some i j (sym (index_at x true e) ∙ at)) (subst (λ y. IsAt ids.items y i) (same_text id.now x e) here)
+      dynamic x j at false e = stays x j (g.dynamic x j (sym (index_at x false e) ∙ at))
 
-  module _ (r : Recorded) (g : IsGrouped r old) where
-    longer : length old.lines.items ≤ length new.lines.items
-    longer = subst (λ (ls : List (List ℕ)). length old.lines.items ≤ length ls) (sym h.lines) (more_longer old.lines.items (is_some (index_in old id)))
-
-    index_below : HadOrGets → i < length new.lines.items
-    index_below (inl had) = omega (arith, g.below id i had, longer)
-    index_below (inr gets) =
-        let is : new.lines.items ≡ old.lines.items ++ [] ∷ [] = h.lines ∙ ap (λ (o : Option ℕ). if is_some o then old.lines.items else old.lines.items ++ [] ∷ []) gets.0 in
-        omega (arith, gets.1, ap length is, length-append old.lines.items ([] ∷ []))
-
-    -- an id that had the index is the id
-    is_the_id : (y : List ℕ) → index_in old y ≡ Some i → id ≡ y
-    is_the_id y at = by had_or_gets
-      where
-        by : HadOrGets → id ≡ y
-        by (inl had) = g.apart id y i had at
-        by (inr gets) = absurd (omega (arith, gets.1, g.below y i at))
-
-    below_next : (x : List ℕ) (j : ℕ) → index_in new x ≡ Some j → j < length new.lines.items
-    below_next x j at = by (bytes_eq id x) refl
-      where
-        by : (b : Bool) → bytes_eq id x ≡ b → j < length new.lines.items
-        by true e = subst (λ k. k < length new.lines.items) (same_Some i j (sym (index_at x true e) ∙ at)) (index_below had_or_gets)
-        by false e = omega (arith, g.below x j (sym (index_at x false e) ∙ at), longer)
-
-    apart_next : (x y : List ℕ) (j : ℕ) → index_in new x ≡ Some j → index_in new y ≡ Some j → x ≡ y
-    apart_next x y j at_x at_y = by (bytes_eq id x) (bytes_eq id y) refl refl
-      where
-        the_id : (x y : List ℕ) → bytes_eq id x ≡ true → bytes_eq id y ≡ false → index_in new x ≡ Some j → index_in new y ≡ Some j → x ≡ y
-        the_id x y e f at_x at_y = sym (same_text id x e) ∙ is_the_id y (sym (index_at y false f) ∙ at_y ∙ sym at_x ∙ index_at x true e)
-
-        by : (a b : Bool) → bytes_eq id x ≡ a → bytes_eq id y ≡ b → x ≡ y
-        by true true e f = sym (same_text id x e) ∙ same_text id y f
-        by true false e f = the_id x y e f at_x at_y
-        by false true e f = sym (the_id y x f e at_y at_x)
-        by false false e f = g.apart x y j (sym (index_at x false e) ∙ at_x) (sym (index_at y false f) ∙ at_y)
+      all : (x : List ℕ) (j : ℕ) → Was x j → (j < length r.table) ⊎ (dynamic_index after x ≡ Some j)
+      all x j (inl before) = elim (g.all x j before) [ inl lt ↦ inl lt | inr there ↦ inr (index_stays x j there) ]
+      all x j (inr end) = inr (index_at x true (ap (bytes_eq id.now) end.1 ∙ is_itself id.now) ∙ ap Some (sym end.0))
 
 -- ---- an index for a key
 
 same_key : (x y : ℕ) → nat_eq x y ≡ true → x ≡ y
 same_key x y at = eqb-true x y at
 
--- the id of a key with an index is among those that have one
-has_itself : (kept : LinesById) (id x : List ℕ) (i : ℕ) → index_in kept id ≡ Some i → is_some (index_in kept x) ≡ bytes_eq id x || is_some (index_in kept x)
-has_itself kept id x i at = by (bytes_eq id x) refl
-  where
-    by : (b : Bool) → bytes_eq id x ≡ b → is_some (index_in kept x) ≡ b || is_some (index_in kept x)
-    by true e = ap is_some (ap (index_in kept) (sym (same_text id x e)) ∙ at)
-    by false e = refl
-
--- a key that has an event has its index already
-pub key_there : (r : Recorded) (kept : LinesById) (key i : ℕ) → IsGrouped r kept → lookup (nat_eq key) kept.keys.entries ≡ Some i → IndexesKey r kept kept key i
-key_there r kept key i g at = record {
-  grouped = g;
-  ids = λ x. has_itself kept (text_of r key) x i (g.keys key i at);
-  index = g.keys key i at;
-  lines = λ x. refl;
-}
-
-some_cond : (b : Bool) (i : ℕ) (o : Option ℕ) → is_some (cond b (Some i) o) ≡ b || is_some o
-some_cond true i o = refl
-some_cond false i o = refl
-
--- another key got the index of its id
-pub key_added : (r : Recorded) (old new : LinesById) (keys : HashMap ℕ ℕ (BuildHasherDefault FoldHasher)) (key i : ℕ) (id : List ℕ) → IsGrouped r old → IndexesId old new id i → id ≡ text_of r key
-    → ((q : ℕ) → lookup (nat_eq q) keys.entries ≡ cond (nat_eq key q) (Some i) (lookup (nat_eq q) new.keys.entries))
-    → IndexesKey r old (record { lines = new.lines; ids = new.ids; keys = keys }) key i
-key_added r old new keys key i id g h is found = record {
+-- another dynamic key got the index of its id
+pub key_added : (r : Recorded) (old new : LinesById) (keys : HashMap ℕ ℕ (BuildHasherDefault FoldHasher)) (key i : ℕ) (id : List ℕ) → IndexesId r old new id i → id ≡ text_of r key
+    → ((q : ℕ) → lookup (nat_eq q) keys.entries ≡ cond (nat_eq key q) (Some i) (lookup (nat_eq q) new.dynamic_keys.entries))
+    → IndexesId r old (record { ids = new.ids; dynamic_ids = new.dynamic_ids; dynamic_keys = keys }) (text_of r key) i
+key_added r old new keys key i id h is found = record {
   grouped = record {
-    below = below_next old new id i h r g;
-    apart = apart_next old new id i h r g;
+    ids = h.grouped.ids;
+    apart = h.grouped.apart;
+    table = h.grouped.table;
+    dynamic = h.grouped.dynamic;
+    all = h.grouped.all;
     keys = λ q j at. by q j at (nat_eq key q) refl;
   };
-  ids = λ x. ap is_some (h.found x) ∙ some_cond (bytes_eq id x) i (index_in old x) ∙ ap (λ (t : List ℕ). bytes_eq t x || is_some (index_in old x)) is;
   index = here;
-  lines = lines_stay old new id i h;
+  lines = h.lines;
 }
   where
-    here : index_in new (text_of r key) ≡ Some i
-    here = ap (index_in new) (sym is) ∙ index_here old new id i h
+    here : IsAt new.ids.items (text_of r key) i
+    here = subst (λ x. IsAt new.ids.items x i) is h.index
 
-    by : (q j : ℕ) → lookup (nat_eq q) keys.entries ≡ Some j → (b : Bool) → nat_eq key q ≡ b → index_in new (text_of r q) ≡ Some j
+    by : (q j : ℕ) → lookup (nat_eq q) keys.entries ≡ Some j → (b : Bool) → nat_eq key q ≡ b → IsAt new.ids.items (text_of r q) j
     by q j at true e =
-        let given : Some i ≡ Some j = sym (found q ∙ ap (λ (t : Bool). cond t (Some i) (lookup (nat_eq q) new.keys.entries)) e) ∙ at in
-        ap (λ k. index_in new (text_of r k)) (sym (same_key key q e)) ∙ here ∙ given
-    by q j at false e =
-        let given : lookup (nat_eq q) new.keys.entries ≡ Some j = sym (found q ∙ ap (λ (t : Bool). cond t (Some i) (lookup (nat_eq q) new.keys.entries)) e) ∙ at in
-        index_stays old new id i h (text_of r q) j (g.keys q j (ap (λ (es : List (ℕ × ℕ)). lookup (nat_eq q) es) (sym h.keys) ∙ given))
+        let same : i ≡ j = same_Some i j (sym (found q ∙ ap (λ (t : Bool). cond t (Some i) (lookup (nat_eq q) new.dynamic_keys.entries)) e) ∙ at) in
+        subst (λ n. IsAt new.ids.items (text_of r q) n) same (subst (λ k. IsAt new.ids.items (text_of r k) i) (same_key key q e) here)
+    by q j at false e = h.grouped.keys q j (sym (found q ∙ ap (λ (t : Bool). cond t (Some i) (lookup (nat_eq q) new.dynamic_keys.entries)) e) ∙ at)
 
 -- ---- a line for an event
 
+texts_set : (ids : List IdLines) (i : ℕ) (e : IdLines) → IsAt ids e.0.now i → texts (set ids i e) ≡ texts ids
+texts_set [] i e at = refl
+texts_set (d ∷ ids) zero e at = ap (λ (t : List ℕ). t ∷ texts ids) (sym (same_Some d.0.now e.0.now at))
+texts_set (d ∷ ids) (suc i) e at = ap (λ (ts : List (List ℕ)). d.0.now ∷ ts) (texts_set ids i e at)
+
+-- an id has the lines that stand beside it
+lines_at : (ids : List IdLines) (x : List ℕ) (i : ℕ) (d : IdLines) → IsAt ids x i → ((j : ℕ) → IsAt ids x j → j ≡ i) → lines_in ids x ≡ (get_or ids i d).1
+lines_at [] x i d at only = absurd (none-some x at)
+lines_at (e ∷ ids) x zero d at only = ap (λ b. unwrap_or (cond b (Some e.1) (lookup (λ k. bytes_eq x k.now) ids)) []) (ap (bytes_eq x) (same_Some e.0.now x at) ∙ is_itself x)
+lines_at (e ∷ ids) x (suc i) d at only = by (bytes_eq x e.0.now) refl (λ later. lines_at ids x i d at later)
+  where
+    by : (b : Bool) → bytes_eq x e.0.now ≡ b → (((j : ℕ) → IsAt ids x j → j ≡ i) → lines_in ids x ≡ (get_or ids i d).1) → unwrap_or (cond (bytes_eq x e.0.now) (Some e.1) (lookup (λ k. bytes_eq x k.now) ids)) [] ≡ (get_or ids i d).1
+    by true same rest = absurd (omega (arith, only 0 (ap Some (sym (same_text x e.0.now same)))))
+    by false other rest = ap (λ b. unwrap_or (cond b (Some e.1) (lookup (λ k. bytes_eq x k.now) ids)) []) other ∙ rest (λ j here. omega (arith, only (suc j) here))
+
+-- another id has the lines that it had
+lines_other : (ids : List IdLines) (x : List ℕ) (i : ℕ) (e : IdLines) → IsAt ids e.0.now i → bytes_eq x e.0.now ≡ false → lines_in (set ids i e) x ≡ lines_in ids x
+lines_other [] x i e at other = refl
+lines_other (d ∷ ids) x zero e at other =
+    ap (λ b. unwrap_or (cond b (Some e.1) (lookup (λ k. bytes_eq x k.now) ids)) []) other
+    ∙ sym (ap (λ b. unwrap_or (cond b (Some d.1) (lookup (λ k. bytes_eq x k.now) ids)) []) (ap (bytes_eq x) (same_Some d.0.now e.0.now at) ∙ other))
+lines_other (d ∷ ids) x (suc i) e at other = by (bytes_eq x d.0.now) (lines_other ids x i e at other)
+  where
+    by : (b : Bool) → lines_in (set ids i e) x ≡ lines_in ids x
+        → unwrap_or (cond b (Some d.1) (lookup (λ k. bytes_eq x k.now) (set ids i e))) [] ≡ unwrap_or (cond b (Some d.1) (lookup (λ k. bytes_eq x k.now) ids)) []
+    by true rest = refl
+    by false rest = rest
+
 -- the line of an event was added to those at the index of its key
-pub line_added : (r : Recorded) (old new : LinesById) (lines : Vec (List ℕ) Global) (v : EntryView) (i : ℕ) (t w : List ℕ) → IndexesKey r old new v.key i → t ≡ joined (tail v.kind v.payload.now)
-    → w ≡ get_or new.lines.items i [] ++ tail_line t → lines.items ≡ set new.lines.items i w → AddsEvent r old (record { lines = lines; ids = new.ids; keys = new.keys }) v
-line_added r old new lines v i t w h t_is w_is put = record {
+pub line_added : (r : Recorded) (old new : LinesById) (ids : Vec IdLines Global) (v : EntryView) (i : ℕ) (e : IdLines) → IndexesId r old new (text_of r v.key) i
+    → e ≡ get_or new.ids.items i e → ids.items ≡ set new.ids.items i (e.0, e.1 ++ tail_line (joined (tail v.kind v.payload.now)))
+    → AddsEvent r old (record { ids = ids; dynamic_ids = new.dynamic_ids; dynamic_keys = new.dynamic_keys }) v
+line_added r old new ids v i e h e_is put = record {
   grouped = record {
-    below = λ x j at. subst (λ n. j < n) (sym (ap length put ∙ length-set new.lines.items i w)) (h.grouped.below x j at);
-    apart = h.grouped.apart;
-    keys = h.grouped.keys;
+    ids = h.grouped.ids;
+    apart = λ x j k at_j at_k. h.grouped.apart x j k (before x j at_j) (before x k at_k);
+    table = λ key lt. after (text_of r key) key (h.grouped.table key lt);
+    dynamic = λ x j at. after x j (h.grouped.dynamic x j at);
+    all = λ x j at. h.grouped.all x j (before x j at);
+    keys = λ key j at. after (text_of r key) j (h.grouped.keys key j at);
   };
-  ids = h.ids;
   lines = λ x. by x (bytes_eq (text_of r v.key) x) refl;
 }
   where
+    text : List ℕ
+    text = text_of r v.key
+
     line : List ℕ
     line = tail_line (joined (tail v.kind v.payload.now))
 
-    others : (x : List ℕ) → bytes_eq (text_of r v.key) x ≡ false → (o : Option ℕ) → index_in new x ≡ o → lines_at lines.items o ≡ lines_at new.lines.items o
-    others x e None at = refl
-    others x e (Some j) at =
-        ap (λ (ls : List (List ℕ)). get_or ls j []) put
-        ∙ get_or-set_other new.lines.items i j w []
-        (λ same. true≢false (sym ((bytes_decides (text_of r v.key) x).1 (h.grouped.apart (text_of r v.key) x j (h.index ∙ ap Some (sym same)) at)) ∙ e))
+    next : IdLines
+    next = (e.0, e.1 ++ line)
 
-    by : (x : List ℕ) (b : Bool) → bytes_eq (text_of r v.key) x ≡ b → lines_at lines.items (index_in new x) ≡ cond b (lines_in old x ++ line) (lines_in old x)
-    by x true e =
-        let at : index_in new x ≡ Some i = ap (index_in new) (sym ((bytes_decides (text_of r v.key) x).0 e)) ∙ h.index in
-        ap (lines_at lines.items) at ∙ ap (λ (ls : List (List ℕ)). get_or ls i []) put ∙ get_or-set_same new.lines.items i w [] (h.grouped.below x i at) ∙ w_is
-        ∙ ap₂ (λ (a b : List ℕ). a ++ tail_line b) (sym (ap (lines_at new.lines.items) at) ∙ h.lines x) t_is
-    by x false e = others x e (index_in new x) refl ∙ h.lines x
+    lt : i < length new.ids.items
+    lt = within new.ids.items text i h.index
+
+    is_text : e.0.now ≡ text
+    is_text =
+        ap (λ (x : IdLines). x.0.now) e_is
+        ∙ same_Some (get_or new.ids.items i e).0.now text (sym (slice_get-map (λ (x : IdLines). x.0.now) new.ids.items i ∙ ap (option_map (λ (x : IdLines). x.0.now)) (slice_get-get_or new.ids.items i e lt)) ∙ h.index)
+
+    here : IsAt new.ids.items e.0.now i
+    here = subst (λ x. IsAt new.ids.items x i) (sym is_text) h.index
+
+    same : texts ids.items ≡ texts new.ids.items
+    same = ap texts put ∙ texts_set new.ids.items i next here
+
+    before : (x : List ℕ) (j : ℕ) → IsAt ids.items x j → IsAt new.ids.items x j
+    before x j at = ap (λ (ts : List (List ℕ)). slice_get ts j) (sym same) ∙ at
+
+    after : (x : List ℕ) (j : ℕ) → IsAt new.ids.items x j → IsAt ids.items x j
+    after x j at = ap (λ (ts : List (List ℕ)). slice_get ts j) same ∙ at
+
+    lines_there : lines_in ids.items text ≡ lines_in new.ids.items text ++ line
+    lines_there =
+        lines_at ids.items text i next (after text i h.index) (λ j at. h.grouped.apart text j i (before text j at) h.index)
+        ∙ ap (λ (is : List IdLines). (get_or is i next).1) put ∙ ap (λ (x : IdLines). x.1) (get_or-set_same new.ids.items i next next lt)
+        ∙ ap (λ (t : List ℕ). t ++ line) (ap (λ (x : IdLines). x.1) e_is ∙ sym (lines_at new.ids.items text i e h.index (λ j at. h.grouped.apart text j i at h.index)))
+
+    by : (x : List ℕ) (b : Bool) → bytes_eq text x ≡ b → lines_in ids.items x ≡ cond (bytes_eq text x) (lines_in old.ids.items x ++ line) (lines_in old.ids.items x)
+    by x true eq =
+        ap (lines_in ids.items) (sym (same_text text x eq)) ∙ lines_there ∙ ap (λ (t : List ℕ). t ++ line) (h.lines text)
+        ∙ ap (λ (y : List ℕ). lines_in old.ids.items y ++ line) (same_text text x eq) ∙ sym (ap (λ b. cond b (lines_in old.ids.items x ++ line) (lines_in old.ids.items x)) eq)
+    by x false eq =
+        ap (λ (is : List IdLines). lines_in is x) put ∙ lines_other new.ids.items x i next here (other x eq) ∙ h.lines x
+        ∙ sym (ap (λ b. cond b (lines_in old.ids.items x ++ line) (lines_in old.ids.items x)) eq)
+      where
+        other : (x : List ℕ) → bytes_eq text x ≡ false → bytes_eq x e.0.now ≡ false
+        other x eq = differs (bytes_eq x e.0.now) refl
+          where
+            differs : (b : Bool) → bytes_eq x e.0.now ≡ b → b ≡ false
+            differs false is = refl
+            differs true is = absurd (true≢false (sym ((bytes_decides text x).1 (sym is_text ∙ sym (same_text x e.0.now is))) ∙ eq))
 
 -- ---- event after event
 
@@ -243,64 +366,42 @@ labels_of r es = map (label (name r)) (events es)
 pub record Gathers (r : Recorded) (kept : LinesById) (left : List Entry) : Type 0 where
   pub grouped : IsGrouped r kept
   pub known : All (λ e. is_some (desc r e.event.key) ≡ true) left
-  pub ids : (x : List ℕ) → is_some (index_in kept x) || has_id (labels_of r left) x ≡ has_id (labels r) x
-  pub lines : (x : List ℕ) → lines_in kept x ++ flat_map label_line (labels_of_id x (labels_of r left)) ≡ flat_map label_line (labels_of_id x (labels r))
+  pub lines : (x : List ℕ) → lines_in kept.ids.items x ++ flat_map label_line (labels_of_id x (labels_of r left)) ≡ flat_map label_line (labels_of_id x (labels r))
 
--- nothing is kept before the first entry
-pub gathers_none : (r : Recorded) (kept : LinesById) (left : List Entry) → kept.ids.entries ≡ [] → kept.keys.entries ≡ [] → left ≡ r.entries
+-- no line is kept before the first entry
+pub gathers_none : (r : Recorded) (kept : LinesById) (left : List Entry) → IsGrouped r kept → ((x : List ℕ) → lines_in kept.ids.items x ≡ []) → left ≡ r.entries
     → All (λ e. is_some (desc r e.event.key) ≡ true) r.entries → Gathers r kept left
-gathers_none r kept left ids keys whole known = record {
-  grouped = record {
-    below = λ x j at. absurd (none-some j (sym (none x) ∙ at));
-    apart = λ x y j at _. absurd (none-some j (sym (none x) ∙ at));
-    keys = λ q j at. absurd (none-some j (sym (ap (lookup (nat_eq q)) keys) ∙ at));
-  };
+gathers_none r kept left g empty whole known = record {
+  grouped = g;
   known = subst (All (λ (e : Entry). is_some (desc r e.event.key) ≡ true)) (sym whole) known;
-  ids = λ x. ap₂ (λ o (es : List Entry). is_some o || has_id (labels_of r es) x) (none x) whole;
-  lines = λ x. ap₂ (λ o (es : List Entry). lines_at kept.lines.items o ++ flat_map label_line (labels_of_id x (labels_of r es))) (none x) whole;
+  lines = λ x. ap₂ (λ (t : List ℕ) (es : List Entry). t ++ flat_map label_line (labels_of_id x (labels_of r es))) (empty x) whole;
 }
-  where
-    none : (x : List ℕ) → index_in kept x ≡ None
-    none x = ap (λ (es : List (BorrowedText × ℕ)). lookup (λ k. bytes_eq x k.now) es) ids
-
-or_swap : (a b h : Bool) → (a || b) || h ≡ b || (a || h)
-or_swap true true h = refl
-or_swap true false h = refl
-or_swap false b h = refl
 
 -- the first entry to come was added
 pub gathers_next : (r : Recorded) (old new : LinesById) (left rest : List Entry) (v : EntryView) → Gathers r old left → left ≡ entry_of_view v ∷ rest → AddsEvent r old new v → Gathers r new rest
 gathers_next r old new left rest v g first h = record {
   grouped = h.grouped;
   known = All-rest (λ (e : Entry). is_some (desc r e.event.key) ≡ true) (entry_of_view v) rest left first g.known;
-  ids = λ x. ap (λ b. b || has_id (labels_of r rest) x) (h.ids x) ∙ or_swap (bytes_eq (text_of r v.key) x) (is_some (index_in old x)) (has_id (labels_of r rest) x)
-      ∙ ap (λ (es : List Entry). is_some (index_in old x) || has_id (labels_of r es) x) (sym first) ∙ g.ids x;
-  lines = λ x. ap (λ (t : List ℕ). t ++ flat_map label_line (labels_of_id x (labels_of r rest))) (h.lines x) ∙ by x (bytes_eq (text_of r v.key) x) refl
-      ∙ ap (λ (es : List Entry). lines_in old x ++ flat_map label_line (labels_of_id x (labels_of r es))) (sym first) ∙ g.lines x;
+  lines = λ x. ap (λ (t : List ℕ). t ++ flat_map label_line (labels_of_id x (labels_of r rest))) (h.lines x) ∙ by x (bytes_eq (text_of r v.key) x)
+      ∙ ap (λ (es : List Entry). lines_in old.ids.items x ++ flat_map label_line (labels_of_id x (labels_of r es))) (sym first) ∙ g.lines x;
 }
   where
     l : Label
     l = label (name r) (entry_of_view v).event
 
-    by : (x : List ℕ) (b : Bool) → bytes_eq (text_of r v.key) x ≡ b → cond b (lines_in old x ++ label_line l) (lines_in old x) ++ flat_map label_line (labels_of_id x (labels_of r rest))
-        ≡ lines_in old x ++ flat_map label_line (cond b (l ∷ labels_of_id x (labels_of r rest)) (labels_of_id x (labels_of r rest)))
-    by x true e = append_assoc (lines_in old x) (label_line l) (flat_map label_line (labels_of_id x (labels_of r rest)))
-    by x false e = refl
+    by : (x : List ℕ) (b : Bool) → cond b (lines_in old.ids.items x ++ label_line l) (lines_in old.ids.items x) ++ flat_map label_line (labels_of_id x (labels_of r rest))
+        ≡ lines_in old.ids.items x ++ flat_map label_line (cond b (l ∷ labels_of_id x (labels_of r rest)) (labels_of_id x (labels_of r rest)))
+    by x true = append_assoc (lines_in old.ids.items x) (label_line l) (flat_map label_line (labels_of_id x (labels_of r rest)))
+    by x false = refl
 
 -- the key of the first entry to come has a descriptor
 pub next_known : (r : Recorded) (kept : LinesById) (left rest : List Entry) (v : EntryView) → Gathers r kept left → left ≡ entry_of_view v ∷ rest → is_some (desc r v.key) ≡ true
 next_known r kept left rest v g first =
     All-head (λ (e : Entry). is_some (desc r e.event.key) ≡ true) (entry_of_view v) rest (subst (All (λ (e : Entry). is_some (desc r e.event.key) ≡ true)) first g.known)
 
-or_false : (b : Bool) → b || false ≡ b
-or_false true = refl
-or_false false = refl
-
 -- all that is kept
-pub gathers_all : (r : Recorded) (kept : LinesById) (left : List Entry) → Gathers r kept left → left ≡ [] → IsKept (labels r) kept
+pub gathers_all : (r : Recorded) (kept : LinesById) (left : List Entry) → Gathers r kept left → left ≡ [] → IsKept (labels r) kept.ids.items
 gathers_all r kept left g done = record {
-  ids = λ x. sym (or_false (is_some (index_in kept x))) ∙ ap (λ (es : List Entry). is_some (index_in kept x) || has_id (labels_of r es) x) (sym done) ∙ g.ids x;
-  below = g.grouped.below;
-  lines = λ x i at. sym (ap (lines_at kept.lines.items) at) ∙ sym (append-nil (lines_in kept x))
-      ∙ ap (λ (es : List Entry). lines_in kept x ++ flat_map label_line (labels_of_id x (labels_of r es))) (sym done) ∙ g.lines x;
+  apart = g.grouped.apart;
+  lines = λ x. sym (append-nil (lines_in kept.ids.items x)) ∙ ap (λ (es : List Entry). lines_in kept.ids.items x ++ flat_map label_line (labels_of_id x (labels_of r es))) (sym done) ∙ g.lines x;
 }

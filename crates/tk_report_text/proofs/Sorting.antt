@@ -1,9 +1,10 @@
--- The ids that are kept, sorted by their texts.
-use Rattle.std.proofs.Common.{◌≡◌, ◌<◌, ◌+◌, ℕ, arith, suc, Bool, true, false, ◌||◌, List, [], ◌∷◌, map, length, get_or, Some, Option, bytes_eq, cond, refl, sym, ap, ap₂, ◌∙◌, nat_cmp}
+-- The ids that have a line, sorted by their texts.
+use Rattle.std.proofs.Common.{◌≡◌, ◌<◌, ◌+◌, ℕ, arith, suc, zero, Bool, true, false, not, ◌||◌, List, [], ◌∷◌, ◌++◌, filter, length, get_or, Some, None, Option, bytes_eq, cond, refl, sym, ap, ap₂, subst, ◌∙◌, nat_cmp}
 use Rattle.std.specs.Prelude.{All, is_some}
 use Rattle.std.specs.List.{flat_map, fold, list_any, AllByRecursion, IsDistinct}
-use Rattle.std.specs.List.Sorted.{IsPermutation, IsSorted, IsStrictlySortedBy}
-use Rattle.std.specs.Ordering.{is_lt, match_ordering, ordering_reverse, ordering_then}
+use Rattle.std.specs.List.Sorted.{IsPermutation, IsSortedByKey, IsStrictlySortedBy}
+use Rattle.std.specs.Option.{unwrap_or}
+use Rattle.std.specs.Ordering.{is_lt, match_ordering, ordering_reverse}
 use Rattle.std.specs.declared.cmp.Ordering.{Ordering}
 use Rattle.std.specs.declared.cmp.Ordering.TheVariants.{Less, Equal, Greater}
 use Rattle.std.specs.Cmp.{IsEquivalence, on_equiv}
@@ -13,25 +14,22 @@ use Rattle.std.specs.BTreeMap.{is_at}
 use Rattle.std.specs.BTreeSet.{insert_key}
 use Rattle.std.proofs.lemmas.Bool.{true≢false}
 use Rattle.std.proofs.lemmas.Option.{slice_get-get_or}
-use Rattle.std.proofs.lemmas.Map.Entries.{lookup_from_place, length-keys_of}
-use Rattle.std.proofs.lemmas.Map.Keys.{IsDistinct-IsPermutation, apart_from_distinct, sorted_from_all_adjacent}
+use Rattle.std.proofs.lemmas.Map.Entries.{option_filter, lookup_from_place, lookup-filter-values, length-keys_of}
+use Rattle.std.proofs.lemmas.Map.Keys.{IsDistinct-from_apart, IsDistinct-IsPermutation, apart_from_distinct, sorted_from_all_adjacent}
+use Rattle.std.proofs.lemmas.Map.Made.{IsDistinct-keys_filter}
 use Rattle.std.proofs.lemmas.Map.Lookups.{exact_bytes, btree_set_from_contains}
 use Rattle.std.proofs.lemmas.List.{get_or-map, length-map}
+use Rattle.std.proofs.lemmas.List.Elements.{All-filter}
 use Rattle.std.proofs.lemmas.List.Sorted.{IsPermutation-map, All-permutation, list_any-IsPermutation}
 use Rattle.tk_ids.specs.IdText.{id_text}
-use Rattle.tk_report_text.specs.declared.grouping.LinesById.{LinesById}
+use Rattle.tk_events.specs.Fields.{field_text, line_feed}
 use Rattle.tk_report_text.specs.Labels.{Label}
-use Rattle.tk_report_text.specs.Reports.{id_texts, label_line, labels_of_id}
-use Rattle.tk_report_text.specs.GroupedLines.{BorrowedText, has_id, lines_of, with_lines, IsInOrder, IsKept}
+use Rattle.tk_report_text.specs.Reports.{id_lines, id_texts, label_line, labels_of_id}
+use Rattle.tk_report_text.specs.GroupedLines.{BorrowedText, IdLines, texts, has_lines, is_empty, id_with_lines, AreApart, IsAt, IsInOrder, IsKept}
+use Rattle.tk_report_text.proofs.Keeping.{same_text}
 
 abbrev order : List ℕ → List ℕ → Ordering
 order = slice_cmp nat_cmp
-
-abbrev pub Indexed : Type 0
-Indexed = BorrowedText × ℕ
-
-abbrev by_id : Indexed → Indexed → Ordering
-by_id x y = ordering_then (order x.0.now y.0.now) (nat_cmp x.1 y.1)
 
 abbrev is_same : BorrowedText → BorrowedText → Bool
 is_same x y = bytes_eq x.now y.now
@@ -39,40 +37,59 @@ is_same x y = bytes_eq x.now y.now
 is_same_equiv : IsEquivalence is_same
 is_same_equiv = on_equiv (λ x. x.now) nat_list_eq_equiv
 
-abbrev texts : List Indexed → List (List ℕ)
-texts es = map (λ (e : Indexed). e.0.now) es
+-- ---- different ids that are sorted rise
 
--- ---- different keys that are sorted rise
+key_at : (ids : List IdLines) (i : ℕ) (d : BorrowedText) → i < length (keys_of ids) → IsAt ids (get_or (keys_of ids) i d).now i
+key_at [] i d lt = absurd (omega (arith, lt))
+key_at (e ∷ ids) zero d lt = refl
+key_at (e ∷ ids) (suc i) d lt = key_at ids i d (omega (arith, lt))
 
-rises : (x y : Indexed) → is_lt (by_id y x) ≡ false → bytes_eq x.0.now y.0.now ≡ false → order x.0.now y.0.now ≡ Less
+distinct : (ids : List IdLines) → AreApart ids → IsDistinct is_same (keys_of ids)
+distinct ids apart = IsDistinct-from_apart is_same (keys_of ids) differ
+  where
+    differ : (i j : ℕ) (d : BorrowedText) → i < j → j < length (keys_of ids) → is_same (get_or (keys_of ids) i d) (get_or (keys_of ids) j d) ≡ false
+    differ i j d before below = by (is_same (get_or (keys_of ids) i d) (get_or (keys_of ids) j d)) refl
+      where
+        by : (b : Bool) → is_same (get_or (keys_of ids) i d) (get_or (keys_of ids) j d) ≡ b → b ≡ false
+        by false e = refl
+        by true e =
+            let one = same_text (get_or (keys_of ids) i d).now (get_or (keys_of ids) j d).now e in
+            let at = subst (λ x. IsAt ids x i) one (key_at ids i d (omega (arith, before, below))) in
+            absurd (omega (arith, before, apart (get_or (keys_of ids) j d).now i j at (key_at ids j d below)))
+
+rises : (x y : IdLines) → is_lt (order y.0.now x.0.now) ≡ false → bytes_eq x.0.now y.0.now ≡ false → order x.0.now y.0.now ≡ Less
 rises x y down apart = by (order y.0.now x.0.now) refl down
   where
-    by : (o : Ordering) → order y.0.now x.0.now ≡ o → is_lt (ordering_then o (nat_cmp y.1 x.1)) ≡ false → order x.0.now y.0.now ≡ Less
+    by : (o : Ordering) → order y.0.now x.0.now ≡ o → is_lt o ≡ false → order x.0.now y.0.now ≡ Less
     by Less e h = absurd (true≢false h)
     by Equal e h = absurd (true≢false (sym ((bytes_decides x.0.now y.0.now).1 (sym (exact_bytes y.0.now x.0.now e))) ∙ apart))
     by Greater e h = nat_list_cmp_total.antisymm x.0.now y.0.now ∙ ap ordering_reverse e
 
-module _ (sorted : List Indexed) (distinct : IsDistinct is_same (keys_of sorted)) (up : IsSorted by_id sorted) where
-  next_rises : (d : Indexed) (k : ℕ) → k + 1 < length sorted → order (get_or (texts sorted) k []) (get_or (texts sorted) (k + 1) []) ≡ Less
+module _ (sorted : List IdLines) (once : IsDistinct is_same (keys_of sorted)) (up : IsSortedByKey (λ (e : IdLines). e.0.now) order sorted) where
+  next_rises : (d : IdLines) (k : ℕ) → k + 1 < length sorted → order (get_or (texts sorted) k []) (get_or (texts sorted) (k + 1) []) ≡ Less
   next_rises d k lt =
       let n = length-keys_of sorted in
-      let apart = apart_from_distinct is_same (keys_of sorted) k (k + 1) d.0 distinct (omega arith) (omega (arith, lt, n)) in
-      let key = get_or-map (λ (e : Indexed). e.0) sorted k d d.0 (omega (arith, lt)) in
-      let next_key = get_or-map (λ (e : Indexed). e.0) sorted (k + 1) d d.0 lt in
-      let first = get_or-map (λ (e : Indexed). e.0.now) sorted k d [] (omega (arith, lt)) in
-      let second = get_or-map (λ (e : Indexed). e.0.now) sorted (k + 1) d [] lt in
+      let apart = apart_from_distinct is_same (keys_of sorted) k (k + 1) d.0 once (omega arith) (omega (arith, lt, n)) in
+      let key = get_or-map (λ (e : IdLines). e.0) sorted k d d.0 (omega (arith, lt)) in
+      let next_key = get_or-map (λ (e : IdLines). e.0) sorted (k + 1) d d.0 lt in
+      let first = get_or-map (λ (e : IdLines). e.0.now) sorted k d [] (omega (arith, lt)) in
+      let second = get_or-map (λ (e : IdLines). e.0.now) sorted (k + 1) d [] lt in
       ap₂ order first second ∙ rises (get_or sorted k d) (get_or sorted (k + 1) d) (up k d (omega arith) lt) (sym (ap₂ is_same key next_key) ∙ apart)
 
-each_rises : (sorted : List Indexed) → IsDistinct is_same (keys_of sorted) → IsSorted by_id sorted → (k : ℕ) → k + 1 < length (texts sorted) → order (get_or (texts sorted) k []) (get_or (texts sorted) (k + 1) []) ≡ Less
-each_rises [] distinct up k lt = absurd (omega (arith, lt))
-each_rises (e ∷ es) distinct up k lt = next_rises (e ∷ es) distinct up e k (omega (arith, lt, length-map (e ∷ es) (λ (x : Indexed). x.0.now)))
+each_rises : (sorted : List IdLines) → IsDistinct is_same (keys_of sorted) → IsSortedByKey (λ e. e.0.now) order sorted → (k : ℕ) → k + 1 < length (texts sorted) → order (get_or (texts sorted) k []) (get_or (texts sorted) (k + 1) []) ≡ Less
+each_rises [] once up k lt = absurd (omega (arith, lt))
+each_rises (e ∷ es) once up k lt = next_rises (e ∷ es) once up e k (omega (arith, lt, length-map (e ∷ es) (λ (x : IdLines). x.0.now)))
 
-pub sorted_rises : (es sorted : List Indexed) → IsDistinct is_same (keys_of es) → IsPermutation es sorted → IsSorted by_id sorted → IsStrictlySortedBy order (texts sorted)
-sorted_rises es sorted distinct same up =
+sorted_rises : (es sorted : List IdLines) → IsDistinct is_same (keys_of es) → IsPermutation es sorted → IsSortedByKey (λ e. e.0.now) order sorted → IsStrictlySortedBy order (texts sorted)
+sorted_rises es sorted once same up =
     sorted_from_all_adjacent nat_list_cmp_total (texts sorted) []
-    (each_rises sorted (IsDistinct-IsPermutation is_same is_same_equiv.symm (keys_of es) (keys_of sorted) (IsPermutation-map (λ (e : Indexed). e.0) es sorted same) distinct) up)
+    (each_rises sorted (IsDistinct-IsPermutation is_same is_same_equiv.symm (keys_of es) (keys_of sorted) (IsPermutation-map (λ (e : IdLines). e.0) es sorted same) once) up)
 
 -- ---- the ids of a list of labels, in order
+
+-- whether one of the labels has the id with this text
+abbrev has_id : List Label → List ℕ → Bool
+has_id ls x = list_any (λ l. bytes_eq (id_text l.id) x) ls
 
 abbrev put_id : List (List ℕ) → Label → List (List ℕ)
 put_id texts l = insert_key order texts (id_text l.id)
@@ -139,23 +156,23 @@ any_puts q [] ks = by (list_any (λ k. bytes_eq k q) ks)
     by false = refl
 any_puts q (l ∷ ls) ks = any_puts q ls (put_id ks l) ∙ ap (λ b. b || has_id ls q) (any_put q (id_text l.id) ks) ∙ or_assoc (bytes_eq (id_text l.id) q) (list_any (λ k. bytes_eq k q) ks) (has_id ls q)
 
--- ---- the ids that are kept are those
+-- ---- the ids that have a line are those
 
-abbrev has_text : List ℕ → Indexed → Bool
+abbrev has_text : List ℕ → IdLines → Bool
 has_text q e = bytes_eq e.0.now q
 
-abbrev index_at : List ℕ → List Indexed → Option ℕ
-index_at q es = lookup (λ k. bytes_eq q k.now) es
+abbrev found : List ℕ → List IdLines → Option (List ℕ)
+found q es = lookup (λ k. bytes_eq q k.now) es
 
-any_entry : (q : List ℕ) (es : List Indexed) → list_any (has_text q) es ≡ is_some (index_at q es)
+any_entry : (q : List ℕ) (es : List IdLines) → list_any (has_text q) es ≡ is_some (found q es)
 any_entry q [] = refl
 any_entry q (e ∷ es) = ap (λ b. b || list_any (has_text q) es) (nat_list_eq_equiv.symm e.0.now q) ∙ by (bytes_eq q e.0.now) (any_entry q es)
   where
-    by : (b : Bool) → list_any (has_text q) es ≡ is_some (index_at q es) → b || list_any (has_text q) es ≡ is_some (cond b (Some e.1) (index_at q es))
+    by : (b : Bool) → list_any (has_text q) es ≡ is_some (found q es) → b || list_any (has_text q) es ≡ is_some (cond b (Some e.1) (found q es))
     by true rest = refl
     by false rest = rest
 
-any_text : (q : List ℕ) (es : List Indexed) → list_any (λ k. bytes_eq k q) (texts es) ≡ list_any (has_text q) es
+any_text : (q : List ℕ) (es : List IdLines) → list_any (λ k. bytes_eq k q) (texts es) ≡ list_any (has_text q) es
 any_text q [] = refl
 any_text q (e ∷ es) = ap (λ b. bytes_eq e.0.now q || b) (any_text q es)
 
@@ -163,35 +180,59 @@ any_tied : (q : List ℕ) (ks : List (List ℕ)) → list_any (is_at (order q)) 
 any_tied q [] = refl
 any_tied q (k ∷ ks) = ap₂ (λ a b. a || b) (sym (texts_ties q k) ∙ nat_list_eq_equiv.symm q k) (any_tied q ks)
 
-module _ (ls : List Label) (kept : LinesById) (sorted : List Indexed) (h : IsKept ls kept) (s : IsInOrder kept.ids sorted) where
+some_filled : (o : Option (List ℕ)) → is_some (option_filter (λ l. not (is_empty l)) o) ≡ not (is_empty (unwrap_or o []))
+some_filled None = refl
+some_filled (Some []) = refl
+some_filled (Some (b ∷ bs)) = refl
+
+-- the lines of an id are empty where it has no event
+filled : (q : List ℕ) (ls : List Label) → not (is_empty (flat_map label_line (labels_of_id q ls))) ≡ has_id ls q
+filled q [] = refl
+filled q (l ∷ ls) = by (bytes_eq (id_text l.id) q) (filled q ls)
+  where
+    by : (b : Bool) → not (is_empty (flat_map label_line (labels_of_id q ls))) ≡ has_id ls q → not (is_empty (flat_map label_line (cond b (l ∷ labels_of_id q ls) (labels_of_id q ls)))) ≡ b || has_id ls q
+    by true rest = refl
+    by false rest = rest
+
+module _ (ls : List Label) (ids sorted : List IdLines) (h : IsKept ls ids) (s : IsInOrder ids sorted) where
+  abbrev with_lines : List IdLines
+  with_lines = filter has_lines ids
+
+  once : IsDistinct is_same (keys_of ids)
+  once = distinct ids h.apart
+
+  rise : IsStrictlySortedBy order (texts sorted)
+  rise = sorted_rises with_lines sorted (IsDistinct-keys_filter is_same has_lines ids once) s.same s.ordered
+
+  any_with_lines : (q : List ℕ) → list_any (has_text q) with_lines ≡ has_id ls q
+  any_with_lines q =
+      any_entry q with_lines ∙ ap is_some (lookup-filter-values is_same_equiv (λ (l : List ℕ). not (is_empty l)) (record { ref_ptr = (0, 0); now = q }) ids once)
+      ∙ some_filled (found q ids) ∙ ap (λ (l : List ℕ). not (is_empty l)) (h.lines q) ∙ filled q ls
+
   texts_are : texts sorted ≡ id_texts ls
-  texts_are = btree_set_from_contains nat_list_cmp_total (record { keys = texts sorted }) (record { keys = id_texts ls }) s.ordered (ids_rise ls)
-      (λ q. any_tied q (texts sorted) ∙ any_text q sorted ∙ sym (list_any-IsPermutation (has_text q) kept.ids.entries sorted s.same) ∙ any_entry q kept.ids.entries
-      ∙ h.ids q ∙ sym (any_puts q ls []) ∙ sym (any_tied q (id_texts ls)))
+  texts_are = btree_set_from_contains nat_list_cmp_total (record { keys = texts sorted }) (record { keys = id_texts ls }) rise (ids_rise ls)
+      (λ q. any_tied q (texts sorted) ∙ any_text q sorted ∙ sym (list_any-IsPermutation (has_text q) with_lines sorted s.same)
+      ∙ any_with_lines q ∙ sym (any_puts q ls []) ∙ sym (any_tied q (id_texts ls)))
       (λ x y e. exact_bytes x y e)
 
   abbrev said : List ℕ → List ℕ
   said x = flat_map label_line (labels_of_id x ls)
 
-  abbrev HasLines : Indexed → Type 0
-  HasLines e = (e.1 < length kept.lines.items) × (get_or kept.lines.items e.1 [] ≡ said e.0.now)
+  abbrev HasLines : IdLines → Type 0
+  HasLines e = e.1 ≡ said e.0.now
 
-  entries_have : All HasLines kept.ids.entries
-  entries_have k d lt =
-      let e = get_or kept.ids.entries k d in
-      let at = lookup_from_place is_same_equiv kept.ids.entries k e.0 e.1 s.unique (slice_get-get_or kept.ids.entries k d lt) in
-      (h.below e.0.now e.1 at, h.lines e.0.now e.1 at)
+  ids_have : All HasLines ids
+  ids_have k d lt =
+      let e = get_or ids k d in
+      let at = lookup_from_place is_same_equiv ids k e.0 e.1 once (slice_get-get_or ids k d lt) in
+      sym (ap (λ (o : Option (List ℕ)). unwrap_or o []) at) ∙ h.lines e.0.now
 
   sorted_have : All HasLines sorted
-  sorted_have = All-permutation HasLines kept.ids.entries sorted s.same entries_have
+  sorted_have = All-permutation HasLines with_lines sorted s.same (All-filter has_lines HasLines ids ids_have)
 
-  pub within : All (λ e. e.1 < length kept.lines.items) sorted
-  within k d lt = (sorted_have k d lt).0
+  own_lines : (es : List IdLines) → All HasLines es → flat_map id_with_lines es ≡ flat_map (id_lines ls) (texts es)
+  own_lines [] f = refl
+  own_lines (e ∷ es) f = ap₂ (λ (v rest : List ℕ). (field_text e.0.now ++ line_feed ∷ v) ++ rest) (f 0 e (omega arith)) (own_lines es (λ k d lt. f (suc k) d (omega arith)))
 
-  own_values : (es : List Indexed) → ((k : ℕ) (d : Indexed) → k < length es → get_or kept.lines.items (get_or es k d).1 [] ≡ said (get_or es k d).0.now)
-      → with_lines kept.lines.items es ≡ map {B = List ℕ × List ℕ} (λ x. (x, said x)) (texts es)
-  own_values [] f = refl
-  own_values (e ∷ es) f = ap₂ (λ (v : List ℕ) (l : List (List ℕ × List ℕ)). (e.0.now, v) ∷ l) (f 0 e (omega arith)) (own_values es (λ k d lt. f (suc k) d (omega arith)))
-
-  pub sorted_is : with_lines kept.lines.items sorted ≡ lines_of ls
-  sorted_is = own_values sorted (λ k d lt. (sorted_have k d lt).1) ∙ ap (map {B = List ℕ × List ℕ} (λ x. (x, said x))) texts_are
+  pub sorted_is : flat_map id_with_lines sorted ≡ flat_map (id_lines ls) (id_texts ls)
+  sorted_is = own_lines sorted sorted_have ∙ ap (flat_map (id_lines ls)) texts_are

@@ -1,7 +1,7 @@
 //! The lines that a report has below an id.
-ghost use Rattle.std.specs.Prelude.{◌≡◌, ◌++◌, [], IfOk, OnOk};
+ghost use Rattle.std.specs.Prelude.{◌≡◌, ◌++◌, [], OnOk};
 ghost use Rattle.tk_record.specs.Spelling.{joined, tail};
-ghost use Rattle.tk_report_text.specs.GroupedLines.{tail_line};
+ghost use Rattle.tk_report_text.specs.GroupedLines.{is_empty, tail_line};
 
 use std::alloc::{AllocError, Global};
 use std::marker::Model;
@@ -25,13 +25,20 @@ impl Model for Lines {
 }
 
 impl Lines {
-    /// Makes an empty list of lines.
-    pub(crate) fn new(alloc: Global) -> Result<Lines, AllocError>
-        ensures { IfOk result (λ lines. lines ≡ []) }
+    /// Makes an empty list of lines, which has no memory yet.
+    pub(crate) fn new(alloc: Global) -> Lines
+        ensures { result ≡ [] }
     {
-        Ok(Lines {
-            bytes: Vec::with_capacity(alloc, LINES_CAPACITY)?,
-        })
+        Lines {
+            bytes: Vec::new(alloc),
+        }
+    }
+
+    /// Says whether there is no line.
+    pub(crate) fn is_empty(&self) -> bool
+        ensures { result ≡ is_empty self.now }
+    {
+        self.bytes.is_empty()
     }
 
     /// Adds the line of an event.
@@ -39,6 +46,9 @@ impl Lines {
         ensures { OnOk result (self.new
             ≡ self.old ++ tail_line (joined (tail view.now.kind view.now.payload.now))) }
     {
+        if self.bytes.is_empty() {
+            self.bytes.reserve(LINES_CAPACITY)?;
+        }
         self.bytes.extend_from_slice(b"  ")?;
         push_tail(&mut self.bytes, view)?;
         self.bytes.push(b'\n')?;

@@ -1,12 +1,13 @@
-use Rattle.std.proofs.Common.{◌++◌, append-nil, sym, ap, subst, ◌∙◌}
+use Rattle.std.proofs.Common.{subst, rules}
 use Rattle.std.specs.List.Sorted.{IsPermutation}
-use Rattle.tk_report_text.proofs.Sorting.{sorted_rises}
+use Rattle.std.proofs.lemmas.Fn.{always_returns_same, filter_same}
+use Rattle.tk_report_text.specs.GroupedLines.{has_lines}
 use Rattle.tk_report_text.proofs.grouping.in_order.Goals as goal
 
 pub returns : goal.returns
 returns c =
-    let pushed = c.loop-entry.sorted.items in
-    let sorted = c.sort.new.self.items in
-    let all = sym (append-nil pushed) ∙ ap (λ rest. pushed ++ rest) (sym c.in-None.ensures.steps.0) ∙ c.loop-entry.invariant in
-    let same = subst (λ es. IsPermutation es sorted) all c.sort.ensures.permutation in
-    record { unique = c.len.ensures.unique; same = same; ordered = sorted_rises c.args.ids.entries sorted c.len.ensures.unique same c.in_ok-sort.ensures.sorted }
+    let kept = filter_same _ has_lines _ (λ e b f said. search rules) c.args.ids.items c.retain.new.self.items c.retain.ensures.filtered in
+    record {
+      same = subst (λ es. IsPermutation es c.sort_by_key.new.self.items) kept c.sort_by_key.ensures.permutation;
+      ordered = c.in_ok-sort_by_key.ensures.sorted (λ e. e.0) (always_returns_same _ _ _ (λ a r f said. search rules));
+    }

@@ -4,7 +4,7 @@ use Rattle.tk_report_text.proofs.grouping.lines_of.Goals as goal
 
 pub entries-init : goal.entries-init
 entries-init c =
-    gathers_none c.args.«record».now c.new-kept.result c.into_iter-view-iterator.result c.new-kept.ensures.ids c.new-kept.ensures.keys
+    gathers_none c.args.«record».now c.in_ok-kept.kept c.into_iter-view-iterator.result c.in_ok-kept.ensures.grouped c.in_ok-kept.ensures.empty
     (c.into_iter-view-iterator.ensures.into_iter_gives ∙ c.iter-view-items.ensures) c.shows_record.ensures.known
 
 pub add-requires-clause-known : goal.add-requires-clause-known
