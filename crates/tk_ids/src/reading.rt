@@ -48,6 +48,7 @@ pub(crate) fn byte_of_digits(first: u8, second: u8) -> Option<u8>
 }
 
 /// The two digits with which a byte is escaped, where it is.
+#[inline(always)]
 pub(crate) fn digits_of_byte(byte: u8) -> Option<(u8, u8)>
     ensures { result ≡ digits_of byte }
 {

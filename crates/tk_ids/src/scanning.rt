@@ -37,6 +37,7 @@ impl Part {
 }
 
 // The tag or the value with one byte more, where it may stand there.
+#[inline(always)]
 fn next_part(part: Part, byte: u8) -> Option<Part>
     ensures { result ≡ part_after part.has_bytes part.escape byte }
 {
@@ -71,6 +72,7 @@ fn next_part(part: Part, byte: u8) -> Option<Part>
 }
 
 // Whether the tag or the value is whole, and this byte ends it.
+#[inline(always)]
 fn ends(part: Part, stop: u8, byte: u8) -> bool
     ensures { result ≡ is_ended stop part.has_bytes part.escape byte }
 {
@@ -78,6 +80,7 @@ fn ends(part: Part, stop: u8, byte: u8) -> bool
 }
 
 // The state after one byte more, where it may stand there.
+#[inline(always)]
 fn next_state(state: ScanState, byte: u8) -> Option<ScanState>
     ensures { result ≡ state_after state byte }
 {
