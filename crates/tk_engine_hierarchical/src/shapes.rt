@@ -129,21 +129,12 @@ fn append_all(alloc: Global, entries: &mut Record, events: &[Event]) -> Result<b
     Ok(true)
 }
 
-// Shows that no two descriptors of a table have one id, which a look-up says.
-fn shows_different_ids(table: &Table)
-    ensures { AreDifferent table.now }
-{
-    if let Some(descriptor) = table.get(0) {
-        let _found = table.find(&descriptor.id);
-    }
-}
-
 // Whether a record keeps the lifecycle.
 fn record_keeps(alloc: Global, entries: &Record) -> Result<bool, AllocError>
     ensures { IfOk result (λ keeps. IsTrue keeps → KeepsLifecycle entries.now) }
 {
     kept_by_its_events();
-    shows_different_ids(entries.table());
+    entries.table().shows_different_ids();
     match lifecycle(alloc, entries)? {
         Lifecycle::Kept => Ok(true),
         _ => Ok(false),
@@ -288,7 +279,7 @@ impl Shape {
         if !keeps_lifecycle(alloc, &table, before.as_slice(), after.as_slice())? {
             return Ok(None);
         }
-        shows_different_ids(&table);
+        table.shows_different_ids();
         let Some(run_before) = running_after(alloc, table.len(), before.as_slice())? else {
             return Ok(None);
         };

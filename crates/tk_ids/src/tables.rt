@@ -167,6 +167,15 @@ impl Table {
         Some(index as u32)
     }
 
+    /// Shows what holds of each table: no two descriptors have one id.
+    pub fn shows_different_ids(&self)
+        ensures { AreDifferent self.now }
+    {
+        if let Some(descriptor) = self.get(0) {
+            let _found = self.find(&descriptor.id);
+        }
+    }
+
     // Makes the id of a child of this parent, or of a root; nothing where there is no such parent.
     fn child_descriptor(
         &self,

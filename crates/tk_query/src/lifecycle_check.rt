@@ -1,29 +1,18 @@
 //! Whether a record keeps the lifecycle that a listener of an engine may rely on.
 ghost use Rattle.std.specs.Prelude.{IfOk};
-ghost use Rattle.tk_ids.specs.Table.{AreDifferent};
 ghost use Rattle.tk_query.specs.Lifecycle.{IsLifecycle};
 
 use crate::lifecycle_rules::Lifecycle;
 use crate::progress::Progress;
 use std::alloc::{AllocError, Global};
-use tk_ids::Table;
 use tk_record_columns::Record;
-
-// Shows that no two descriptors of a table have one id, which a look-up says.
-fn shows_different_ids(table: &Table)
-    ensures { AreDifferent table.now }
-{
-    if let Some(descriptor) = table.get(0) {
-        let _found = table.find(&descriptor.id);
-    }
-}
 
 /// Says whether the record keeps the lifecycle, and where it first doesn't.
 pub fn lifecycle(alloc: Global, record: &Record) -> Result<Lifecycle, AllocError>
     ensures { IfOk result (IsLifecycle «record».now) }
 {
     record.shows_record();
-    shows_different_ids(record.table());
+    record.table().shows_different_ids();
     let mut progress = Progress::new(alloc, record);
     let mut position = 0;
     'events: while let Some(event) = record.entry(position) {

@@ -1,7 +1,6 @@
 //! The events of a record, gathered by the texts of their ids.
 ghost use Rattle.std.specs.Prelude.{◌≡◌, ℕ, List, [], true, is_some, IfOk, OnOk};
 ghost use Rattle.tk_ids.specs.IdText.{id_text};
-ghost use Rattle.tk_ids.specs.Table.{AreDifferent};
 ghost use Rattle.tk_record_columns.specs.Entries.{desc};
 ghost use Rattle.tk_report_text.specs.Labels.{labels};
 ghost use Rattle.tk_report_text.specs.GroupedLines.{lines_in, text_of, IsGrouped, IndexesId, AddsEvent, IsKept, IsInOrder};
@@ -9,17 +8,8 @@ ghost use Rattle.tk_report_text.specs.GroupedLines.{lines_in, text_of, IsGrouped
 use crate::lines::Lines;
 use std::alloc::{AllocError, Global};
 use std::collections::HashMap;
-use tk_ids::{Table, UniqueId};
+use tk_ids::UniqueId;
 use tk_record::{EntryView, Record};
-
-// Shows that no two descriptors of a table have one id, which a look-up says.
-fn shows_different_ids(table: &Table)
-    ensures { AreDifferent table.now }
-{
-    if let Some(descriptor) = table.get(0) {
-        let _found = table.find(&descriptor.id);
-    }
-}
 
 /// The lines of each id. Keys whose ids have one text share their lines.
 #[derive(Drop)]
@@ -40,7 +30,7 @@ impl<'r> LinesById<'r> {
         ensures empty { IfOk result (λ kept. (x : List ℕ) → lines_in kept.ids.items x ≡ []) }
     {
         let table = record.table();
-        shows_different_ids(table);
+        table.shows_different_ids();
         let mut ids = Vec::with_capacity(alloc, table.len())?;
         'descriptors: for descriptor in table.iter() {
             ids.push((descriptor.id.as_text().as_str(), Lines::new(alloc)))?;
