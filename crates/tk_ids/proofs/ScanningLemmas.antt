@@ -119,7 +119,7 @@ step_adds (Closed done) t b e =
     let h = cond_some (eqb b 47) (Before done) t e in
     subst (Adds (Closed done)) h.1 (adds_none (Closed done) (Before done) refl refl)
 
--- The prefix of a text of n bytes has been read, and led to this state, after so many segments.
+-- The prefix of a text of n bytes has been read, and led to this state, after `count` segments.
 pub record IsScanned (text : List ℕ) (n : ℕ) (scan : ScanState) (count : ℕ) : Type 0 where
   pub state : State
   pub read : HasRead text n state

@@ -18,7 +18,7 @@ whole_segments (Some (Closed done)) = done
 unfoldable pub segments_of : List ℕ → List SegmentView
 segments_of text = whole_segments (run step (Before []) text)
 
--- some id within the limits has the text, and so many segments
+-- the text is that of an id within the limits, which has `segment_count` segments
 pub record IsTextOfId (text : List ℕ) (segment_count : ℕ) : Type 0 where
   pub id : IsId (segments_of text)
   pub spells : text ≡ id_text (segments_of text)

@@ -47,7 +47,7 @@ ended_segments (Tag p) = 0
 ended_segments (Value p) = 0
 ended_segments End = 1
 
--- an id of so many segments has the text
+-- the text is that of an id of `count` segments
 abbrev pub HasSegments : List ℕ → ℕ → Type 0
 HasSegments text count =
     (id : List SegmentView) × IsId id × (text ≡ id_text id) × (count ≡ length id)

@@ -75,7 +75,8 @@ impl<'r> LinesById<'r> {
     ) -> Result<usize, AllocError>
         requires grouped { IsGrouped «record».now self.old }
         requires known { is_some (desc «record».now key) ≡ true }
-        ensures { IfOk result (IndexesId «record».now self.old self.new (text_of «record».now key)) }
+        ensures { IfOk result
+            (IndexesId «record».now self.old self.new (text_of «record».now key)) }
     {
         if let Some(index) = self.dynamic_keys.get(&key) {
             return Ok(*index);
@@ -97,7 +98,8 @@ impl<'r> LinesById<'r> {
     ) -> Result<usize, AllocError>
         requires grouped { IsGrouped «record».now self.old }
         requires known { is_some (desc «record».now key) ≡ true }
-        ensures { IfOk result (IndexesId «record».now self.old self.new (text_of «record».now key)) }
+        ensures { IfOk result
+            (IndexesId «record».now self.old self.new (text_of «record».now key)) }
     {
         let index = key as usize;
         if index < record.table().len() {
