@@ -2,7 +2,7 @@
 """Times answers beside a plain Rust reader of the same record text: `bench/measure_stats.py PROGRAM [MIB]`.
 
 It wants rustc, and leaves nothing behind. A line for `ask stats` of a record whose ids have one segment, one of a record whose ids have two,
-and a line for each other answer about the record of `measure_matches.py`: whether the answers agree; seconds of processor time and by the
+one of a record with two events a test, and a line for each other answer about the record of `measure_matches.py`: whether the answers agree; seconds of processor time and by the
 clock, medians of five runs in turn; the ratios plain / ours (above 1 we are faster); the most memory of each over the size of the record.
 """
 
@@ -45,6 +45,20 @@ def record(mebibytes: float, segments: int) -> Iterator[str]:
         size, number = size + len(lines_of_test), number + 1
 
 
+def many_tests() -> Iterator[str]:
+    """The lines of a record text of 650 classes of 99 tests, each of which starts and finishes."""
+    yield "testkit-record|2\n"
+    yield "N|C|[engine:e]|engine\n"
+    for group in range(650):
+        above = f"[engine:e]/[class:org.example.Class{group}Tests]"
+        yield f"N|C|{above}|Class{group}Tests\n"
+        yield from (f"N|T|{above}/[method:test{test}()]|test{test}()\n" for test in range(99))
+    tests = (key for key in range(1, 65_001) if key % 100 != 1)
+    for number, key in enumerate(tests):
+        yield f"E|1|{key}|{2 * number}|start\n"
+        yield f"E|1|{key}|{2 * number + 1}|finish|ok\n"
+
+
 def compare(title: str, commands: List[List[str]], path: str, folder: str) -> str:
     """What the program and the plain reader take for one question."""
     size = os.path.getsize(path) / 2**20
@@ -61,9 +75,14 @@ def compare(title: str, commands: List[List[str]], path: str, folder: str) -> st
 def measure(folder: str, words: List[str]) -> None:
     program, mebibytes = os.path.realpath(words[0]), float(words[1]) if len(words) == 2 else MIB
     plain, path = building.compile_plain(f"{HERE}/plain.rs", f"{folder}/plain"), f"{folder}/record"
-    for segments, title in ((1, "stats, ids of one segment"), (2, "stats, ids of two segments")):
+    records = {
+        "stats, ids of one segment": record(mebibytes, 1),
+        "stats, ids of two segments": record(mebibytes, 2),
+        "stats, two events a test": many_tests(),
+    }
+    for title, lines in records.items():
         with open(path, "w", encoding="utf-8") as file:
-            file.writelines(record(mebibytes, segments))
+            file.writelines(lines)
         print(compare(title, [[program, "ask", "stats"], [plain, "stats"]], path, folder), flush=True)
     measure_matches.write_records(folder)
     for question in OTHERS:
