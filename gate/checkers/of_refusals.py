@@ -46,6 +46,17 @@ def tests_of_answers(module) -> List[Test]:
             module.run = run
         return "" if is_passed == (not failed) else f"{failed}"
 
+    def late(rounds: int) -> List[str]:
+        """What fails where the unit of a worker fails in the last of these rounds, and another one before."""
+        other = replace(of_unit, error=b"testkit: unit 0 failed\n")
+        runs = iter([ordinary, *[other, ordinary] * (rounds - 1), of_unit, ordinary])
+        run = module.run
+        module.run = lambda library, sweep, number: next(runs)
+        try:
+            return module.failures_of("", module.Sweep("prepared", "memory", [], b"", of_run, units=frozenset({1})))[1]
+        finally:
+            module.run = run
+
     def refusal(name: str, rule: Callable, ended, is_passed: bool = False, first=ordinary, **how) -> Test:
         return Test(f"a refusal with {name}", lambda: come(rule, [first, ended, first], is_passed, **how))
 
@@ -81,6 +92,8 @@ def tests_of_answers(module) -> List[Test]:
         refusal("no line beside no line", module.keeps_status, silent, first=replace(fault, error=b"")),
         Test("the ordinary answer twice, and may be once", lambda: come(memory, [ordinary, survived, survived, ordinary], False, survived=1)),
         Test("a run of which no request is left and that answers otherwise", lambda: come(memory, [ordinary, refused, fault], False)),
+        Test("the unit of a worker in the last round", lambda: "".join(late(module.ROUNDS))),
+        Test("the unit of a worker after the last round", lambda: "" if late(module.ROUNDS + 1) else "nothing failed"),
         Test("one sweep too few", lambda: few_sweeps(module)),
         Test("a program of no test", lambda: "" if module.test_sweeps("/bin/true")[1] else "nothing is missing"),
     ]
