@@ -160,3 +160,19 @@ fn the_first_fault(rt: HostRuntime) {
         )
     );
 }
+
+fn is_built(alloc: Global, node: Node) -> bool {
+    match node {
+        Ok(node) => build_plan(alloc, &node).is_ok(),
+        Err(_) => false,
+    }
+}
+
+/// A node has this mode where none is given, so a dynamic node may have it too.
+#[test]
+fn a_dynamic_node_in_its_parents_thread(rt: HostRuntime) {
+    let alloc = rt.alloc();
+    let in_same_thread = test(alloc, "1").mode(ExecutionMode::SameThread);
+    assert!(rt; is_built(alloc, root(alloc).dynamic(in_same_thread)));
+    assert!(rt; !is_built(alloc, root(alloc).dynamic(concurrent(alloc))));
+}
