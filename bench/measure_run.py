@@ -8,8 +8,9 @@ second by the clock.
 
 import filecmp
 import json
+import multiprocessing
 import os
-from typing import Any, Dict, List
+from typing import Any, Callable, Dict, List
 
 import building
 import timing
@@ -56,19 +57,27 @@ def entries(number: int) -> List[List[List[str]]]:
     return [[[f"k{entry}", "v"]] for entry in range(number)]
 
 
-def write_plan(path: str, children: List[Node]) -> None:
-    root = node("container", "engine", "bench", children=children)
+PLANS: Dict[str, Callable[[], List[Node]]] = {
+    "groups": lambda: groups(19_800, 300),
+    "entries": lambda: groups(19_800, 300, entries=entries(40)),
+    "chain": lambda: chain(57, 65_000),
+}
+"""What makes the children of the root of each plan."""
+
+
+def write_plan(path: str, name: str) -> None:
+    root = node("container", "engine", "bench", children=PLANS[name]())
     with open(path, "w", encoding="utf-8") as file:
         json.dump(dict(version=1, root=root), file, separators=(",", ":"))
 
 
-def plans() -> Dict[str, List[Node]]:
-    """The children of the root of each plan."""
-    return {
-        "groups": groups(19_800, 300),
-        "entries": groups(19_800, 300, entries=entries(40)),
-        "chain": chain(57, 65_000),
-    }
+def write_plan_apart(path: str, name: str) -> None:
+    """Writes a plan in a process of its own: the system counts the memory of this one with that of each program that it starts."""
+    writer = multiprocessing.Process(target=write_plan, args=(path, name))
+    writer.start()
+    writer.join()
+    if writer.exitcode:
+        raise building.NotMeasured(f"{name}: no plan was written")
 
 
 def count_events(report: str) -> int:
@@ -81,9 +90,9 @@ def count_events(report: str) -> int:
 def measure(folder: str, words: List[str]) -> None:
     program, plain = os.path.realpath(words[0]), building.compile_plain(f"{HERE}/plain/main.rs", f"{folder}/plain")
     print(timing.load())
-    for name, children in plans().items():
+    for name in PLANS:
         plan = os.path.join(folder, f"{name}.json")
-        write_plan(plan, children)
+        write_plan_apart(plan, name)
         print(f"{name}: {os.path.getsize(plan) / 1e6:.1f} MB of JSON")
         for workers in WORKERS:
             of_run = ["run", "--workers", str(workers)]
