@@ -202,3 +202,15 @@ fn count_of_segments(alloc: Global) -> Option<usize> {
 fn as_many_segments_as_may_be(rt: HostRuntime) {
     assert_eq!(rt; count_of_segments(rt.alloc()), Some(64));
 }
+
+// How many bytes the last value of the longest id has, which is read from the id's text.
+fn bytes_of_last_value(alloc: Global) -> Option<usize> {
+    let id = lengthened(alloc, &engine(alloc).ok()?, 4081).ok()?;
+    let segments = id.segments(alloc).ok()?;
+    Some(segments.last()?.value().len())
+}
+
+#[test]
+fn segments_of_the_longest_id(rt: HostRuntime) {
+    assert_eq!(rt; bytes_of_last_value(rt.alloc()), Some(4081));
+}
