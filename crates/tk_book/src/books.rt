@@ -13,7 +13,6 @@ ghost use Rattle.tk_book.specs.declared.books.BookFault.TheVariants.{Seats};
 use crate::needs::Need;
 use crate::rules::{AcquireStep, LoadStep, LockRule, ReleaseStep, SeatNote};
 use atomic_table::{Seat, Table};
-use crossbeam_utils::Backoff;
 use std::alloc::{AllocError, Global};
 use std::error::Error;
 use std::fmt;
@@ -21,6 +20,7 @@ use std::marker::Model;
 use std::sync::Wait;
 use tk_lanes::admits;
 use tk_limits::MAX_WORKERS;
+use tk_waiting::RetryDelay;
 
 /// A book of locks: one word by which several threads take resources and give them back.
 ///
@@ -191,8 +191,8 @@ impl Book {
         }
     }
 
-    /// Takes the need: tries again as long as a try is refused. It yields the processor between
-    /// tries, and reads no word but theirs.
+    /// Takes the need: tries again as long as a try is refused. Between tries it yields the
+    /// processor, and sleeps where others hold what it needs for long; it reads no word but theirs.
     ///
     /// `seat` must be a seat of this book that holds nothing.
     pub fn acquire<R: Wait>(&self, rt: &R, seat: &mut BookSeat, need: Need)
@@ -202,11 +202,11 @@ impl Book {
         ensures held { seat.new.holds ≡ Some need }
         ensures free { WasFreeAtLast seat.old.read seat.new.read (word_of need) }
     {
-        let backoff = Backoff::new();
+        let mut delay = RetryDelay::new();
         for _ in rt.forever() {
             match self.try_acquire(seat, need) {
                 Ok(()) => return,
-                Err(_) => backoff.snooze(),
+                Err(_) => delay.wait(rt),
             }
         }
         unreachable!()

@@ -1,21 +1,19 @@
 -- The segments of an id are read back from its text.
-use Rattle.std.proofs.Common.{◌≡◌, ◌≢◌, ℕ, ◌+◌, ◌-◌, ◌<◌, ◌≤◌, Bool, true, false, List, [], ◌∷◌, ◌++◌, length, take, drop, get_or, Option, Some, None, refl, sym, ap, ◌∙◌, subst, arith, inl, inr, ◌⊎◌, ⊎_elim, option_map, option_and_then, eqb}
+use Rattle.std.proofs.Common.{◌≡◌, ℕ, ◌+◌, ◌<◌, Bool, true, List, [], ◌∷◌, ◌++◌, length, take, drop, get_or, Some, None, refl, sym, ap, ◌∙◌, subst, arith, inl, inr, ◌⊎◌, ⊎_elim, option_map, option_and_then, eqb}
 use Rattle.std.specs.Prelude.{codes}
-use Rattle.std.specs.List.{AllByRecursion}
 use Rattle.std.proofs.lemmas.Option.{same_Some, none-some}
 use Rattle.std.specs.List.{starts_with}
 use Rattle.std.specs.Cmp.Lexicographic.{bytes_decides}
 use Rattle.std.proofs.lemmas.List.{append_assoc, append-nil, drop_more, take_at, take-append-drop, get_or_at, length-append}
-use Rattle.std.proofs.lemmas.Bool.{cases_lt}
 use Rattle.tk_ids.specs.declared.reading.Escape.{Escape}
-use Rattle.tk_ids.specs.declared.reading.Escape.TheVariants.{Plain, Percent, Digit}
+use Rattle.tk_ids.specs.declared.reading.Escape.TheVariants.{Plain}
 use Rattle.tk_ids.specs.Machine.{run}
 use Rattle.tk_ids.specs.IdText.{SegmentView, IsId, IsBelow, IsEngine, id_text, segment_text, FitsLimits}
 use Rattle.tk_ids.specs.IdSegments.{segments_of, whole_segments, IsTextOfId}
-use Rattle.tk_ids.specs.Reading.{State, Before, InTag, InValue, Closed, text_step, ends_at, step}
+use Rattle.tk_ids.specs.Reading.{State, Before, InValue, Closed, text_step, ends_at, step}
 use Rattle.tk_ids.proofs.MachineLemmas.{run-append}
 use Rattle.tk_ids.proofs.ReadingLemmas.{run_whole, cond_cases, option_map_some}
-use Rattle.tk_ids.proofs.ScanningLemmas.{done_of, Adds, step_adds}
+use Rattle.tk_ids.proofs.ScanningLemmas.{done_of, step_adds}
 
 pub segments_of-id_text : (text : List ℕ) (id : List SegmentView) → IsId id → text ≡ id_text id → segments_of text ≡ id
 unfolding segments_of

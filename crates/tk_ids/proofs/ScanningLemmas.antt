@@ -1,7 +1,7 @@
 -- The machine that keeps no segments goes where the machine with segments goes.
-use Rattle.std.proofs.Common.{◌≡◌, ◌≢◌, ℕ, ◌+◌, ◌<◌, ◌≤◌, Bool, true, false, cond, eqb, ltb, List, [], ◌∷◌, ◌++◌, length, get_or, Option, Some, None, option_map, is_some, refl, sym, ap, ◌∙◌, subst, arith, ⊎_elim, add-zero}
+use Rattle.std.proofs.Common.{◌≡◌, ℕ, zero, suc, ◌+◌, ◌-◌, ◌<◌, ◌≤◌, Bool, true, false, cond, eqb, ltb, List, [], ◌∷◌, ◌++◌, length, get_or, Option, Some, None, option_map, is_some, refl, sym, ap, ◌∙◌, subst, arith, ⊎_elim, add-zero}
 use Rattle.std.specs.Str.{IsUtf8}
-use Rattle.std.proofs.lemmas.Option.{same_Some, none-some, cond_some}
+use Rattle.std.proofs.lemmas.Option.{same_Some, cond_some}
 use Rattle.std.proofs.lemmas.List.{append-nil, length-append}
 use Rattle.std.proofs.lemmas.Bool.{lt-ltb}
 use Rattle.tk_ids.specs.declared.reading.Escape.{Escape}
@@ -12,7 +12,7 @@ use Rattle.tk_ids.specs.declared.scanning.ScanState.TheVariants.{Start, Tag, Val
 use Rattle.tk_ids.specs.IdText.{SegmentView, digits_of}
 use Rattle.tk_ids.specs.Reading.{State, Before, InTag, InValue, Closed, byte_of, is_first_digit, text_step, ends_at, step}
 use Rattle.tk_ids.specs.Answer.{IsBadAt}
-use Rattle.tk_ids.specs.Scanning.{part, part_after, is_ended, state_after, ended_segments, HasSegments}
+use Rattle.tk_ids.specs.Scanning.{part, part_after, is_ended, state_after, ended_segments, KeepsPlainBytes, ArePlain, HasSegments}
 use Rattle.tk_ids.proofs.ReadingLemmas.{HasRead, read_none, read_more, end_whole, cond_cases, option_map_some}
 use Rattle.tk_ids.proofs.AnswerLemmas.{bad_where_stuck, bad_at_end}
 
@@ -150,6 +150,30 @@ scan_more text n count state next h lt e =
       counted = ap (λ k. k + ended_segments next) h.counted ∙ ap (λ p. length (done_of h.state) + ended_segments p) (sym m.2) ∙ sym adds.count;
       few = omega arith;
     }
+
+-- a state that a byte leaves as it is has ended no segment
+ended_none : (state : ScanState) (b : ℕ) → state_after state b ≡ Some state → ended_segments state ≡ 0
+ended_none Start b e = refl
+ended_none (Tag p) b e = refl
+ended_none (Value p) b e = refl
+ended_none End b e = let h = (cond_some (eqb b 47) Start End e).1 in cc
+
+scan_plain_bytes : (text : List ℕ) (n count k : ℕ) (state : ScanState) → IsScanned text n state count → KeepsPlainBytes state → ArePlain text n (n + k) → IsScanned text (n + k) state count
+scan_plain_bytes text n count zero state h keeps plain = subst (λ m. IsScanned text m state count) (sym (add-zero n)) h
+scan_plain_bytes text n count (suc k) state h keeps plain =
+    let within = plain.within in
+    let e = keeps (get_or text n 0) (plain.plain n (omega arith) (omega arith)) in
+    let one = scan_more text n count state state h (omega arith) e in
+    let same = subst (IsScanned text (n + 1) state) (ap (λ m. count + m) (ended_none state (get_or text n 0) e) ∙ add-zero count) one in
+    let rest : ArePlain text (n + 1) ((n + 1) + k) = record { after = omega arith; within = omega arith; plain = λ i le lt. plain.plain i (omega arith) (omega arith) } in
+    subst (λ m. IsScanned text m state count) (omega arith) (scan_plain_bytes text (n + 1) count k state same keeps rest)
+
+-- bytes that need no escape leave such a state as it is
+pub scan_plain : (text : List ℕ) (n end count : ℕ) (state : ScanState) → IsScanned text n state count → KeepsPlainBytes state → ArePlain text n end → IsScanned text end state count
+scan_plain text n end count state h keeps plain =
+    let after = plain.after in
+    let m : n + (end - n) ≡ end = omega arith in
+    subst (λ m. IsScanned text m state count) m (scan_plain_bytes text n count (end - n) state h keeps (subst (ArePlain text n) (sym m) plain))
 
 none_of : (o : Option State) → option_map scanned o ≡ None → o ≡ None
 none_of None e = refl

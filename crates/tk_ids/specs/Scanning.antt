@@ -1,5 +1,6 @@
 -- The machine that reads an id's text without keeping its segments.
-use Rattle.std.specs.Prelude.{◌≡◌, ℕ, Bool, true, false, ◌==◌, ◌&&◌, nat_lt, List, length}
+use Rattle.std.specs.Prelude.{◌≡◌, ◌≤◌, ◌<◌, ℕ, Bool, true, false, ◌==◌, ◌&&◌}
+use Rattle.std.specs.Prelude.{List, length, slice_index}
 use Rattle.std.specs.Prelude.{Option, Some, None, option_map, is_some, if◌then◌else◌}
 use Rattle.tk_ids.specs.declared.reading.Escape.{Escape}
 use Rattle.tk_ids.specs.declared.reading.Escape.TheVariants.{Plain, Percent, Digit}
@@ -8,7 +9,7 @@ use Rattle.tk_ids.specs.declared.scanning.ScanState.{ScanState}
 use Rattle.tk_ids.specs.declared.scanning.ScanState.TheVariants.{Start, Tag, Value, End}
 use Rattle.tk_ids.specs.Characters.{percent_sign, open_bracket, close_bracket, colon, slash}
 use Rattle.tk_ids.specs.IdText.{SegmentView, digits_of, id_text, IsId}
-use Rattle.tk_ids.specs.Reading.{State, Before, InTag, InValue, Closed, byte_of, is_first_digit}
+use Rattle.tk_ids.specs.Reading.{byte_of, is_first_digit}
 
 -- a tag or a value as far as it is read
 abbrev pub part : Bool → Escape → Part
@@ -39,6 +40,16 @@ state_after (Value p) b =
     if is_ended close_bracket p.has_bytes p.escape b then Some End
     else option_map Value (part_after p.has_bytes p.escape b)
 state_after End b = if b == slash then Some Start else None
+
+-- a byte that needs no escape leaves the state as it is
+abbrev pub KeepsPlainBytes : ScanState → Type 0
+KeepsPlainBytes state = (b : ℕ) → digits_of b ≡ None → state_after state b ≡ Some state
+
+-- no byte from `from` on and before `end` needs an escape
+pub record ArePlain (bytes : List ℕ) (from end : ℕ) : Type 0 where
+  pub after : from ≤ end
+  pub within : end ≤ length bytes
+  pub plain : (i : ℕ) → from ≤ i → i < end → digits_of (slice_index bytes i) ≡ None
 
 -- how many segments end at a state
 abbrev pub ended_segments : ScanState → ℕ

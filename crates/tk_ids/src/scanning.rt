@@ -1,8 +1,8 @@
 //! Finding out whether a text is an id's, without memory.
-ghost use Rattle.std.specs.Prelude.{◌≡◌, ◌<◌, length, MatchResult, IsTrue, ◌↔◌, if◌then◌else◌};
+ghost use Rattle.std.specs.Prelude.{◌≡◌, ◌<◌, ◌≤◌, length, MatchResult, IsTrue, ◌↔◌};
 ghost use Rattle.tk_ids.specs.declared.scanning.ScanState.TheVariants.{End};
 ghost use Rattle.tk_ids.specs.Answer.{IsBadAt};
-ghost use Rattle.tk_ids.specs.Scanning.{part, part_after, is_ended, state_after, ended_segments, HasSegments};
+ghost use Rattle.tk_ids.specs.Scanning.{part, part_after, is_ended, state_after, ended_segments, KeepsPlainBytes, ArePlain, HasSegments};
 
 use crate::reading::{Escape, byte_of_digits, digits_of_byte};
 
@@ -105,11 +105,47 @@ fn next_state(state: ScanState, byte: u8) -> Option<ScanState>
 impl ScanState {
     // Whether a segment ends here.
     fn is_end(self) -> bool
-        ensures end { IsTrue result ↔ (self ≡ End) }
-        ensures count { (if result then 1 else 0) ≡ ended_segments self }
+        ensures { IsTrue result ↔ (self ≡ End) }
     {
         matches!(self, ScanState::End)
     }
+
+    // Counts the segments that end here: one or none.
+    fn ended_segments(self) -> usize
+        ensures { result ≡ ended_segments self }
+    {
+        match self {
+            ScanState::End => 1,
+            ScanState::Start | ScanState::Tag(_) | ScanState::Value(_) => 0,
+        }
+    }
+
+    // Whether bytes that need no escape leave the state as it is.
+    fn keeps_plain_bytes(self) -> bool
+        ensures { IsTrue result → KeepsPlainBytes self }
+    {
+        match self {
+            ScanState::Tag(part) | ScanState::Value(part) => {
+                part.has_bytes && matches!(part.escape, Escape::Plain)
+            }
+            ScanState::Start | ScanState::End => false,
+        }
+    }
+}
+
+// Finds where the bytes from `from` on end that need no escape.
+fn end_of_plain_bytes(bytes: &[u8], from: usize) -> usize
+    requires { from ≤ length bytes.now }
+    ensures { ArePlain bytes.now from result }
+{
+    let mut end = from;
+    'plain: while end < bytes.len() {
+        if digits_of_byte(bytes[end]).is_some() {
+            return end;
+        }
+        end += 1;
+    }
+    end
 }
 
 /// Counts the segments of the id that has this text, which isn't empty.
@@ -123,12 +159,17 @@ pub(crate) fn count_segments(text: &str) -> Result<usize, usize>
     let bytes = text.as_bytes();
     let mut state = ScanState::Start;
     let mut count = 0;
-    for (at, byte) in bytes.iter().enumerate() {
-        let Some(next) = next_state(state, *byte) else {
+    let mut at = 0;
+    'bytes: while at < bytes.len() {
+        let Some(next) = next_state(state, bytes[at]) else {
             return Err(at);
         };
-        count += if next.is_end() { 1 } else { 0 };
+        count += next.ended_segments();
         state = next;
+        at += 1;
+        if state.keeps_plain_bytes() {
+            at = end_of_plain_bytes(bytes, at);
+        }
     }
     if state.is_end() {
         Ok(count)

@@ -1,5 +1,5 @@
 -- What trees do, one tree after another.
-use Rattle.std.proofs.Common.{◌≡◌, ℕ, suc, ◌+◌, ◌-◌, ◌≤◌, List, [], ◌∷◌, ◌++◌, length, true, false, Bool, cond, is_some, refl, sym, ap, ap₂, ◌∙◌, arith, length-append, append_assoc, drop, take, get_or, ◌<◌, ◌==◌, ◌&&◌}
+use Rattle.std.proofs.Common.{◌≡◌, ℕ, suc, ◌+◌, ◌-◌, ◌≤◌, List, [], ◌∷◌, ◌++◌, length, true, false, Bool, cond, is_some, Option, Some, None, refl, sym, ap, ap₂, ◌∙◌, arith, length-append, append_assoc, drop, take, get_or, ◌<◌, ◌==◌, ◌&&◌}
 use Rattle.tk_plan_units.specs.Cutting.{is_leaf, all_concurrent}
 use Rattle.std.proofs.lemmas.List.{drop_more, drop_all, take_all}
 use Rattle.tk_plan_units.proofs.Grows.{forest_nil, forest-flats, is_forest, parted}
@@ -167,3 +167,45 @@ open_is n k f e = ap (λ b. cond b 1 (2 + publications n + weights f)) e
 pub short_moves : (n : Node) (k : ℕ) (below : List NumberedNode) → IsShort n below → moves (tree n k (forest below)) ≡ move k Start ∷ move k Finish ∷ []
 unfolding forest grow
 short_moves n k below h = rw (h.alone, h.runs, h.no_entries, h.no_files) refl
+
+any_weight : (b : Bool) (n m : ℕ) → 1 ≤ cond b 1 (2 + n + m)
+any_weight true n m = omega arith
+any_weight false n m = omega arith
+
+weight_some : (t : Tree) → 1 ≤ weight t
+weight_some (tree n k f) = any_weight (is_some n.skip) (publications n) (weights f)
+
+no_weight : (ps : List NumberedNode) → weights (forest ps) ≡ 0 → ps ≡ []
+unfolding forest grow
+no_weight [] e = refl
+no_weight (p ∷ ps) e =
+    let top = tree p.node p.number (grow (length ps) (take (p.span - 1) ps)) in
+    let some = weight_some top in
+    absurd (omega (arith, e))
+
+nothing : {A : Type 0} (xs : List A) → length xs ≡ 0 → xs ≡ []
+nothing [] e = refl
+nothing (x ∷ xs) e = absurd (omega (arith, e))
+
+none_of : {A : Type 0} (o : Option A) → is_some o ≡ false → o ≡ None
+none_of None e = refl
+none_of (Some x) e = cc
+
+weighs_two : (b : Bool) (n m : ℕ) → cond b 1 (2 + n + m) ≡ 2 → (b ≡ false) × (n + m ≡ 0)
+weighs_two true n m e = absurd (omega (arith, e))
+weighs_two false n m e = (refl, omega (arith, e))
+
+length-stamped : (i : ℕ) (ms : List Move) → length (stamped i ms) ≡ length ms
+length-stamped i [] = refl
+length-stamped i (m ∷ ms) = ap suc (length-stamped (i + 1) ms)
+
+-- only a node that starts and finishes gives two steps
+pub two_steps : (n : Node) (k : ℕ) (below : List NumberedNode) (i : ℕ) → length (stamped i (moves (tree n k (forest below)))) ≡ 2 → IsShort n below
+two_steps n k below i e =
+    let two = weighs_two (is_some n.skip) (publications n) (weights (forest below)) (sym (moves-length (tree n k (forest below))) ∙ sym (length-stamped i (moves (tree n k (forest below)))) ∙ e) in
+    record {
+      alone = no_weight below (omega (arith, two.1));
+      runs = none_of n.skip two.0;
+      no_entries = nothing n.entries (omega (arith, two.1));
+      no_files = nothing n.files (omega (arith, two.1));
+    }

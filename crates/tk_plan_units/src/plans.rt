@@ -1,5 +1,5 @@
 //! Plans.
-ghost use Rattle.std.specs.Prelude.{◌≡◌, ◌≤◌, ◌<◌, ◌^◌, length, true, IfOk, IfSome, Some, IsSome, All, slice_get, option_map};
+ghost use Rattle.std.specs.Prelude.{◌≡◌, ◌≢◌, ◌≤◌, ◌<◌, ◌^◌, length, true, IfOk, IfSome, IfNone, Some, IsSome, All, slice_get, option_map};
 ghost use Rattle.std.specs.Arc.{arc_value};
 ghost use Rattle.tk_ids.specs.declared.tables.TheConstants.{MAX_DESCRIPTORS};
 
@@ -163,13 +163,14 @@ impl Plan {
         stamp_all(alloc, piece.first, moves.as_slice())
     }
 
-    /// The steps of a unit that is one node, which only starts and finishes, or `None` of any other
-    /// unit. They are those of [`Plan::script`], and take no memory.
+    /// The two steps of a unit that is one node, which only starts and finishes, or `None` of any
+    /// other unit. They are those of [`Plan::script`], and take no memory.
     pub fn short_script(&self, unit: u32) -> Option<[Step; 2]>
         requires { unit < length (units_of (forest self.now.nodes)) }
         ensures steps { IfSome result (λ steps. steps ≡ script_of (forest self.now.nodes) unit) }
         ensures known { IfSome result (λ steps.
             All (λ s. IsKnown self.now.nodes s.node s.act) steps) }
+        ensures other { IfNone result (length (script_of (forest self.now.nodes) unit) ≢ 2) }
     {
         let piece = self.cutting.pieces[unit as usize];
         let (top, below) = tree_at(self.nodes.as_slice(), piece.position);

@@ -1,5 +1,5 @@
 //! What a tree of nodes does.
-ghost use Rattle.std.specs.Prelude.{◌≡◌, ◌++◌, ◌+◌, ◌≤◌, ◌<◌, ◌^◌, OnOk, IfOk, IsTrue, length};
+ghost use Rattle.std.specs.Prelude.{◌≡◌, ◌++◌, ◌+◌, ◌≤◌, ◌<◌, ◌^◌, OnOk, IfOk, IsTrue, ◌↔◌, length};
 ghost use Rattle.tk_plan_units.specs.Trees.{IsForest, forest, tree_of};
 ghost use Rattle.tk_plan_units.specs.Script as Script;
 ghost use Rattle.tk_plan_units.specs.Script.{moves_below, stamped, IsShort};
@@ -88,7 +88,7 @@ fn push_all(parent: u32, nodes: &[NumberedNode], moves: &mut Vec<Move>) -> Resul
 /// Whether a node starts, finishes and does nothing else: it isn't skipped, publishes nothing, and
 /// no node stands below it.
 pub(crate) fn is_short(node: &Node, below: &[NumberedNode]) -> bool
-    ensures { IsTrue result → IsShort node.now below.now }
+    ensures { IsTrue result ↔ IsShort node.now below.now }
 {
     below.is_empty()
         && node.skip.is_none()

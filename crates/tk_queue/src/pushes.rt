@@ -4,9 +4,9 @@ ghost use Rattle.crossbeam_queue.specs.Passes.{view, IsPassOf, IsSamePass};
 ghost use Rattle.tk_queue.specs.PassViews.{MayPush, pushed};
 
 use crate::session_rules::{EventQueue, QueuePass, SenderPush};
-use crossbeam_utils::Backoff;
 use std::sync::Wait;
 use tk_queue_core::Item;
+use tk_waiting::RetryDelay;
 
 /// Pushes the item. It comes back only where the queue was full at one moment of the call.
 pub fn try_push<R: Wait>(
@@ -25,21 +25,22 @@ pub fn try_push<R: Wait>(
     queue.push_as::<SenderPush, R>(rt, pass, item)
 }
 
-/// Pushes the item, waiting until the queue has room. It yields the processor between tries.
+/// Pushes the item, waiting until the queue has room. Between tries it yields the processor, and
+/// sleeps where the queue is full for long.
 pub fn push<R: Wait>(rt: &R, queue: &EventQueue, pass: &mut QueuePass, item: Item)
     requires queue { IsPassOf queue.now pass.old }
     requires may { MayPush (view pass.old) item }
     ensures queue { IsSamePass pass.old pass.new }
     ensures pushed { view pass.new ≡ pushed (view pass.old) item }
 {
-    let backoff = Backoff::new();
+    let mut delay = RetryDelay::new();
     let mut left = item;
     for _ in rt.forever() {
         match try_push(rt, queue, pass, left) {
             Ok(()) => return,
             Err(back) => left = back,
         }
-        backoff.snooze();
+        delay.wait(rt);
     }
     unreachable!()
 }

@@ -1,4 +1,4 @@
-use Rattle.std.proofs.Common.{◌<◌, length, sym, ◌∙◌, arith}
+use Rattle.std.proofs.Common.{sym, ◌∙◌, arith}
 use Rattle.std.proofs.lemmas.Bool.{eqb-true, eq-eqb, ltb-true, false≢true}
 use Rattle.tk_ids.proofs.IdSegmentLemmas.{below_exact, goes_on}
 use Rattle.tk_ids.proofs.ids.UniqueId.is_below.Goals as goal

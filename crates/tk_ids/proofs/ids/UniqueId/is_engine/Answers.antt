@@ -1,5 +1,4 @@
 use Rattle.std.proofs.Common.{sym, ◌∙◌}
-use Rattle.std.proofs.lemmas.Bool.{eqb-true}
 use Rattle.tk_ids.proofs.IdSegmentLemmas.{engine_exact}
 use Rattle.tk_ids.proofs.ids.UniqueId.is_engine.Goals as goal
 

@@ -1,5 +1,4 @@
-use Rattle.std.proofs.Common.{◌≡◌, ◌∙◌, sym, ap, length, arith, subst, Ok, Err}
-use Rattle.tk_ids.specs.IdText.{id_text, FitsLimits}
+use Rattle.std.proofs.Common.{◌∙◌, sym, ap, length, arith, subst, Ok}
 use Rattle.tk_ids.specs.Answer.{IsReadAs}
 use Rattle.tk_ids.proofs.IdSegmentLemmas.{text_of_id, segments_of-id_text}
 use Rattle.tk_ids.proofs.ids.UniqueId.read.Goals as goal
