@@ -1,7 +1,7 @@
 //! Unique ids.
 ghost use Rattle.std.specs.Prelude.{◌≡◌, ℕ, List, MatchOption, IfOk, IfErr, IsOk, OnOk, length, [], ◌∷◌, ◌++◌, ◌<◌, ◌≤◌, ◌⊎◌, IsTrue, ◌↔◌};
 ghost use Rattle.tk_ids.specs.IdText.{EndsInEscape};
-ghost use Rattle.tk_ids.specs.IdSegments.{IsLastSlash};
+ghost use Rattle.tk_ids.specs.IdSegments.{IsLastSlash, IsCheckedAs};
 ghost use Rattle.tk_ids.specs.Answer.{IsFaultAfter};
 
 use crate::id_faults::IdFault;
@@ -88,13 +88,30 @@ fn last_slash(bytes: &[u8]) -> Option<usize>
     None
 }
 
+// Counts the segments of the id within the limits that has this text.
+fn count_segments_of_id(text: &str) -> Result<usize, IdFault>
+    ensures { IsCheckedAs text.now result }
+{
+    if text.is_empty() {
+        return Err(IdFault::Empty);
+    }
+    let segment_count = match count_segments(text) {
+        Ok(segment_count) => segment_count,
+        Err(at) => return Err(fault_after(&text.as_bytes()[..at])),
+    };
+    if text.len() > MAX_BYTES || segment_count > MAX_SEGMENTS {
+        return Err(IdFault::TooLong);
+    }
+    Ok(segment_count)
+}
+
 impl UniqueId {
     ghost use Rattle.tk_ids.specs.IdText.{IsId, id_text, IsEngine, IsBelow, FitsLimits, parent_of};
     ghost use Rattle.tk_ids.specs.Answer.{IsReadAs, IsMadeOf};
     ghost use Rattle.tk_ids.specs.IdSegments.{segments_of, IsTextOfId};
 
     // Makes the id that has this text.
-    fn from_text(alloc: Global, text: Text, segment_count: usize) -> Result<UniqueId, AllocError>
+    fn with_text(alloc: Global, text: Text, segment_count: usize) -> Result<UniqueId, AllocError>
         requires { IsTextOfId text segment_count }
         ensures { IfOk result (λ id. id ≡ segments_of text) }
     {
@@ -120,18 +137,20 @@ impl UniqueId {
     pub fn read(alloc: Global, text: &str) -> Result<UniqueId, IdFault>
         ensures { IsReadAs text.now result }
     {
-        if text.is_empty() {
-            return Err(IdFault::Empty);
-        }
-        let segment_count = match count_segments(text) {
-            Ok(segment_count) => segment_count,
-            Err(at) => return Err(fault_after(&text.as_bytes()[..at])),
-        };
-        if text.len() > MAX_BYTES || segment_count > MAX_SEGMENTS {
-            return Err(IdFault::TooLong);
-        }
+        let segment_count = count_segments_of_id(text)?;
         let text = Text::copy(alloc, text)?;
-        Ok(UniqueId::from_text(alloc, text, segment_count)?)
+        Ok(UniqueId::with_text(alloc, text, segment_count)?)
+    }
+
+    /// Makes the id that has this text, which it keeps: as [`UniqueId::read`], without a copy.
+    ///
+    /// # Errors
+    /// Those of [`UniqueId::read`]. The text is then dropped.
+    pub fn from_text(alloc: Global, text: Text) -> Result<UniqueId, IdFault>
+        ensures { IsReadAs text result }
+    {
+        let segment_count = count_segments_of_id(text.as_str())?;
+        Ok(UniqueId::with_text(alloc, text, segment_count)?)
     }
 
     /// Copies the id's text.
@@ -240,7 +259,7 @@ impl UniqueId {
             return Ok(None);
         };
         let text = Text::copy(alloc, text)?;
-        Ok(Some(UniqueId::from_text(alloc, text, self.segment_count() - 1)?))
+        Ok(Some(UniqueId::with_text(alloc, text, self.segment_count() - 1)?))
     }
 
     /// Makes the id of a root: one segment.
@@ -255,7 +274,7 @@ impl UniqueId {
         if bytes.len() > MAX_BYTES {
             return Err(IdFault::TooLong);
         }
-        Ok(UniqueId::from_text(alloc, Text::from_utf8(bytes), 1)?)
+        Ok(UniqueId::with_text(alloc, Text::from_utf8(bytes), 1)?)
     }
 
     // Makes the text of the id with one segment more.
@@ -287,6 +306,6 @@ impl UniqueId {
         if text.len() > MAX_BYTES || segment_count >= MAX_SEGMENTS {
             return Err(IdFault::TooLong);
         }
-        Ok(UniqueId::from_text(alloc, text, segment_count + 1)?)
+        Ok(UniqueId::with_text(alloc, text, segment_count + 1)?)
     }
 }

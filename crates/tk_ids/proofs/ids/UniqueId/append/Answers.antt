@@ -4,8 +4,8 @@ use Rattle.tk_ids.specs.declared.ids.TheConstants.{MAX_SEGMENTS}
 use Rattle.tk_ids.proofs.IdSegmentLemmas.{text_of_id, segments_of-id_text}
 use Rattle.tk_ids.proofs.ids.UniqueId.append.Goals as goal
 
-pub from_text-requires : goal.from_text-requires
-from_text-requires c =
+pub with_text-requires : goal.with_text-requires
+with_text-requires c =
     let id = c.args.self.now ++ c.args.segment.now ∷ [] in
     let size : length id ≡ length c.args.self.now + 1 = length-append c.args.self.now (c.args.segment.now ∷ []) in
     let few : length id ≤ MAX_SEGMENTS = omega (arith, c.segment_count-segment_count.ensures) in
@@ -16,4 +16,4 @@ returns c =
     let id = c.args.self.now ++ c.args.segment.now ∷ [] in
     let size : length id ≡ length c.args.self.now + 1 = length-append c.args.self.now (c.args.segment.now ∷ []) in
     let few : length id ≤ MAX_SEGMENTS = omega (arith, c.segment_count-segment_count.ensures) in
-    (c.in_ok-from_text.ensures ∙ segments_of-id_text c.in_ok-text.text id c.in_ok-text.ensures.id c.in_ok-text.ensures.text, (omega (arith, ap length c.in_ok-text.ensures.text), few))
+    (c.in_ok-with_text.ensures ∙ segments_of-id_text c.in_ok-text.text id c.in_ok-text.ensures.id c.in_ok-text.ensures.text, (omega (arith, ap length c.in_ok-text.ensures.text), few))

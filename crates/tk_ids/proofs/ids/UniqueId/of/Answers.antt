@@ -14,8 +14,8 @@ returns-then-len-gt-MAX_BYTES c = λ fits.
     let bytes : c.push_segment.new.out.items ≡ id_text (segment ∷ []) = c.in_ok-push_segment.ensures.ok ∙ ap (λ (l : List ℕ). l ++ segment_text segment) c.new-bytes.ensures.items in
     omega (arith, fits.0, ap length bytes)
 
-pub from_text-requires : goal.from_text-requires
-from_text-requires c =
+pub with_text-requires : goal.with_text-requires
+with_text-requires c =
     let segment = c.args.segment.now in
     let bytes : c.push_segment.new.out.items ≡ id_text (segment ∷ []) = c.in_ok-push_segment.ensures.ok ∙ ap (λ (l : List ℕ). l ++ segment_text segment) c.new-bytes.ensures.items in
     let within : length (id_text (segment ∷ [])) ≤ MAX_BYTES = omega (arith, ap length bytes) in
@@ -26,4 +26,4 @@ returns c =
     let segment = c.args.segment.now in
     let bytes : c.push_segment.new.out.items ≡ id_text (segment ∷ []) = c.in_ok-push_segment.ensures.ok ∙ ap (λ (l : List ℕ). l ++ segment_text segment) c.new-bytes.ensures.items in
     let within : length (id_text (segment ∷ [])) ≤ MAX_BYTES = omega (arith, ap length bytes) in
-    (c.in_ok-from_text.ensures ∙ segments_of-id_text c.from_utf8.result (segment ∷ []) (omega arith, (c.push_segment.ensures.segment, tt)) (c.from_utf8.ensures ∙ bytes), (within, omega arith))
+    (c.in_ok-with_text.ensures ∙ segments_of-id_text c.from_utf8.result (segment ∷ []) (omega arith, (c.push_segment.ensures.segment, tt)) (c.from_utf8.ensures ∙ bytes), (within, omega arith))

@@ -4,8 +4,8 @@ use Rattle.tk_ids.specs.IdText.{parent_of}
 use Rattle.tk_ids.proofs.IdSegmentLemmas.{text_of_id, segments_of-id_text}
 use Rattle.tk_ids.proofs.ids.UniqueId.parent.Goals as goal
 
-pub from_text-requires : goal.from_text-requires
-from_text-requires c =
+pub with_text-requires : goal.with_text-requires
+with_text-requires c =
     let id = c.args.self.now in
     let above = rw c.in-Some.is at c.parent_text.ensures in
     let more = above.0 in
@@ -15,4 +15,4 @@ from_text-requires c =
 pub returns : goal.returns
 returns c =
     let above = rw c.in-Some.is at c.parent_text.ensures in
-    (above.0, c.in_ok-from_text.ensures ∙ segments_of-id_text c.in_ok-text.text (parent_of c.args.self.now) above.1 (c.in_ok-text.ensures ∙ above.3))
+    (above.0, c.in_ok-with_text.ensures ∙ segments_of-id_text c.in_ok-text.text (parent_of c.args.self.now) above.1 (c.in_ok-text.ensures ∙ above.3))
