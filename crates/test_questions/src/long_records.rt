@@ -45,15 +45,15 @@ fn conditions(alloc: Global, count: usize) -> Result<Vec<Condition>, AllocError>
 }
 
 // Whether there are `count` positions, from the first to the last of as many.
-fn are_first(positions: &[usize], count: usize) -> bool {
+fn are_first_positions(positions: &[usize], count: usize) -> bool {
     positions.len() == count
         && positions.first().copied() == Some(0)
         && positions.last().copied() == count.checked_sub(1)
 }
 
 // Whether the events are the first `count` of their record.
-fn are_at_first(alloc: Global, events: &Events<'_>, count: usize) -> bool {
-    matches!(events.positions(alloc), Ok(at) if are_first(at.as_slice(), count))
+fn are_first_events(alloc: Global, events: &Events<'_>, count: usize) -> bool {
+    matches!(events.positions(alloc), Ok(at) if are_first_positions(at.as_slice(), count))
 }
 
 // Whether as many conditions as there are starts hold of them, one of each.
@@ -61,17 +61,17 @@ fn match_each(alloc: Global, events: &Events<'_>, list: &[Condition]) -> bool {
     let in_order = match_in_order(alloc, events, list);
     match_exactly(alloc, events, list) == Ok(Exact::Yes)
         && match_loosely(alloc, events, list) == Ok(Loose::Yes)
-        && matches!(in_order, Ok(InOrder::Yes(at)) if are_first(at.as_slice(), list.len()))
+        && matches!(in_order, Ok(InOrder::Yes(at)) if are_first_positions(at.as_slice(), list.len()))
 }
 
 // Whether there are as many starts as conditions, the first of their record, and they match.
-fn answer_each(alloc: Global, events: &Events<'_>, list: &[Condition]) -> bool {
-    are_at_first(alloc, events, list.len()) && match_each(alloc, events, list)
+fn are_first_and_matched(alloc: Global, events: &Events<'_>, list: &[Condition]) -> bool {
+    are_first_events(alloc, events, list.len()) && match_each(alloc, events, list)
 }
 
 fn each_start_is_matched(alloc: Global, record: &Record, count: usize) -> Result<bool, AllocError> {
     let list = conditions(alloc, count)?;
-    Ok(answer_each(alloc, &Events::all(alloc, record)?, list.as_slice()))
+    Ok(are_first_and_matched(alloc, &Events::all(alloc, record)?, list.as_slice()))
 }
 
 // Whether a record of this number of starts matches as many conditions.

@@ -1,6 +1,6 @@
 //! Unique ids, their texts and their limits.
 use std::alloc::{AllocError, Global};
-use tk_ids::{IdFault, Segment, UniqueId};
+use tk_ids::{IdFault, Segment, Text, UniqueId};
 
 // Texts of ids, each with the fault of reading it, None where it is read. Positions count bytes.
 fn rows() -> &'static str {
@@ -22,9 +22,16 @@ fn fault_of(alloc: Global, text: &str) -> Option<IdFault> {
     UniqueId::read(alloc, text).err()
 }
 
-// Whether reading a text has this fault.
+fn fault_of_copy(alloc: Global, text: &str) -> Option<IdFault> {
+    UniqueId::from_text(alloc, Text::copy(alloc, text).ok()?).err()
+}
+
+// Whether reading a text has this fault, and so has the id that would keep a copy of it.
 fn has_fault(alloc: Global, text: &str, want: &str) -> bool {
     let fault = fault_of(alloc, text);
+    if fault_of_copy(alloc, text) != fault {
+        return false;
+    }
     match format!(in alloc; "{fault:?}") {
         Ok(stated) => stated.as_str() == want,
         Err(_) => false,
@@ -194,7 +201,7 @@ fn a_long_segment(rt: HostRuntime) {
 // How many segments an id of 64 has, which are read from its text.
 fn count_of_segments(alloc: Global) -> Option<usize> {
     let text = repeated(alloc, "[a:b", "]/[a:b", 63).ok()?;
-    let id = UniqueId::read(alloc, text.as_str()).ok()?;
+    let id = UniqueId::from_text(alloc, Text::from(text)).ok()?;
     Some(id.segments(alloc).ok()?.len())
 }
 

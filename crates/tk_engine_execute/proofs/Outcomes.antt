@@ -1,6 +1,6 @@
 -- What the workers of a run have left, worker by worker.
 use Rattle.std.proofs.Common.{◌≡◌, ℕ, ◌+◌, ◌<◌, ◌≤◌, true, false, List, [], ◌∷◌, ◌++◌, length, length-append, ap, subst, sym, ◌∙◌, arith, rules}
-use Rattle.std.specs.Prelude.{All, IfSome, vec_len}
+use Rattle.std.specs.Prelude.{vec_len}
 use Rattle.std.proofs.lemmas.List.Elements.{All-nil, All-push, All-weaker}
 use Rattle.std.proofs.lemmas.List.Quantifiers.{all_pairs_push}
 use Rattle.atomic_table.specs.Seated.{TableId}

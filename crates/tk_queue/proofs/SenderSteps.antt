@@ -20,7 +20,7 @@ use Rattle.tk_events.specs.Registration.{registered_key}
 use Rattle.tk_record_columns.specs.Entries.{described, registers, registered, desc, desc_in}
 use Rattle.tk_record_columns.specs.Record.{is_next}
 use Rattle.tk_queue_core.specs.Limits.{most_workers}
-use Rattle.tk_queue_core.specs.Core.{entry, entries}
+use Rattle.tk_queue_core.specs.Core.{entry}
 use Rattle.tk_queue.specs.declared.sender_faults.SendFault.TheVariants as unsent
 use Rattle.tk_queue.specs.declared.session_rules.PassView.{PassView}
 use Rattle.tk_queue.specs.Limits.{most_events}

@@ -7,7 +7,7 @@ use Rattle.tk_events.specs.declared.events.Entry.{Entry}
 use Rattle.tk_record_columns.specs.Mixing.{IsWorkerOf, of_worker}
 use Rattle.tk_queue_core.specs.declared.items.Item.{Item}
 use Rattle.tk_queue_core.specs.declared.items.Item.TheVariants.{Entry as Emitted, End}
-use Rattle.tk_queue_core.specs.Core.{Core, IsCore, worker_of, items_of, entry, script, push, entries}
+use Rattle.tk_queue_core.specs.Core.{Core, IsCore, worker_of, items_of, entry, script, entries}
 use Rattle.tk_queue.specs.Marks.{is_mark_of, is_marked}
 use Rattle.tk_queue_core.proofs.CoreSteps.{filter-append}
 

@@ -6,10 +6,8 @@ use Rattle.tk_ids.specs.declared.descriptors.Descriptor.{Descriptor}
 use Rattle.tk_events.specs.declared.events.Event.{Event}
 use Rattle.tk_events.specs.declared.events.Entry.{Entry}
 use Rattle.tk_record_columns.specs.Recorded.{Recorded}
-use Rattle.tk_record_columns.specs.Mixing.{IsWorkerOf}
 use Rattle.tk_record.specs.Spelling.{node_line, entry_line}
 use Rattle.tk_record.specs.declared.versions.Version.{Version}
-use Rattle.tk_record.specs.Versions.{HasLineIn}
 use Rattle.tk_record.specs.Reading.{in_line}
 use Rattle.tk_record.specs.Text.{with_line_feed, nodes_text, entries_text, AreNodes}
 use Rattle.tk_record.specs.NodeLines.{LacksNode}

@@ -27,7 +27,7 @@ use Rattle.tk_queue_core.specs.declared.replays.ReplayFault.{ReplayFault}
 use Rattle.tk_queue_core.specs.declared.replays.ReplayFault.TheVariants as faults
 use Rattle.tk_queue_core.specs.Limits.{most_workers}
 use Rattle.tk_queue_core.specs.Script.{IsCount, workers_line, workers_of, AreTurns, turns_line, turns_of}
-use Rattle.tk_queue_core.specs.Replay.{ReplayInput, replay_input, IsReplayed, plays, start}
+use Rattle.tk_queue_core.specs.Replay.{replay_input, IsReplayed, plays, start}
 use Rattle.tk_queue_core.specs.ReplayText.{Scenario, header, TextHead, text_head, IsOwn, AreOwn, scripts_by, input_of, NoCount, IsTextOf, IsPlayed, IsPlayedAs, nodes_fault}
 use Rattle.tk_queue_core.specs.Reading.{LacksEntryStart, IsEntriesPrefix, IsCountFault, IsListFault, IsFaultAfter, NoTurns, IsFollowed, IsEndFault}
 use Rattle.tk_queue_core.proofs.ScriptForms.{workers_line_form, turns_line_form, workers_no_feed, turns_no_feed}

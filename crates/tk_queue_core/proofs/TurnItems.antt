@@ -1,5 +1,5 @@
 -- One turn more gives its item, after those of the turns before it.
-use Rattle.std.proofs.Common.{◌≡◌, ◌≢◌, ◌⊎◌, ◌==◌, ◌<◌, ◌+◌, ℕ, zero, suc, Bool, true, false, if◌then◌else◌, cond, List, [], ◌∷◌, ◌++◌, length, map, slice_get, Option, Some, None, refl, sym, ap, subst, ◌∙◌, inl, inr, ⊎_elim, append-nil, length-append, eq-eqb, ne_eqb, arith}
+use Rattle.std.proofs.Common.{◌≡◌, ◌≢◌, ◌⊎◌, ◌==◌, ◌<◌, ◌+◌, ℕ, zero, suc, Bool, true, false, if◌then◌else◌, cond, List, [], ◌∷◌, ◌++◌, length, map, slice_get, Some, refl, sym, ap, subst, ◌∙◌, inl, inr, ⊎_elim, append-nil, length-append, eq-eqb, ne_eqb, arith}
 use Rattle.std.specs.Prelude.{count_by}
 use Rattle.std.proofs.lemmas.Bool.{cases_eq}
 use Rattle.std.proofs.lemmas.List.{length-map}
@@ -8,7 +8,7 @@ use Rattle.std.proofs.lemmas.Option.{same_Some, none-some}
 use Rattle.tk_record_columns.proofs.Registrations.{slice_get_prefix, slice_get_last}
 use Rattle.tk_events.specs.declared.events.Event.{Event}
 use Rattle.tk_queue_core.specs.declared.items.Item.{Item}
-use Rattle.tk_queue_core.specs.declared.items.Item.TheVariants.{Entry as Emitted, End}
+use Rattle.tk_queue_core.specs.declared.items.Item.TheVariants.{End}
 use Rattle.tk_queue_core.specs.declared.items.Turn.{Turn}
 use Rattle.tk_queue_core.specs.declared.items.Turn.TheVariants.{Worker, Take}
 use Rattle.tk_queue_core.specs.Core.{worker_of, items_of, entry, script}

@@ -1,5 +1,5 @@
 use Rattle.std.proofs.Common.{◌∙◌}
-use Rattle.tk_book.proofs.Trying.{none_busy, busy_again}
+use Rattle.tk_book.proofs.Trying.{busy_again}
 use Rattle.tk_book.proofs.books.Book.acquire.Goals as goal
 
 pub loop-preserved : goal.loop-preserved
