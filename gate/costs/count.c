@@ -1,8 +1,11 @@
 // Put before the C library by LD_PRELOAD. Counts what the program asks for, and at its end writes a line "PEAK REQUESTS READS WRITES" to the
 // file descriptor that the variable COUNTED_TO has: how many bytes of memory it had at most at one time, how many requests for memory it
-// made, how many reads of standard input, and how many writes to standard output.
+// made, how many reads of standard input, and how many writes to standard output. Each thread that it starts begins as many milliseconds late
+// as the variable THREADS_BEGIN_LATE has, if it is set.
 #define _GNU_SOURCE
+#include <dlfcn.h>
 #include <malloc.h>
+#include <pthread.h>
 #include <stdatomic.h>
 #include <stdio.h>
 #include <stdlib.h>
@@ -69,6 +72,29 @@ ssize_t write(int to, const void *from, size_t count) {
 ssize_t writev(int to, const struct iovec *parts, int count) {
     if (to == 1) atomic_fetch_add(&writes, 1);
     return syscall(SYS_writev, to, parts, count);
+}
+
+struct thread {
+    void *(*run)(void *);
+    void *with;
+    long late;
+};
+
+static void *begin_late(void *given) {
+    struct thread thread = *(struct thread *)given;
+    __libc_free(given);
+    usleep(thread.late * 1000);
+    return thread.run(thread.with);
+}
+
+int pthread_create(pthread_t *thread, const pthread_attr_t *how, void *(*run)(void *), void *with) {
+    int (*next)(pthread_t *, const pthread_attr_t *, void *(*)(void *), void *) = dlsym(RTLD_NEXT, "pthread_create");
+    const char *late = getenv("THREADS_BEGIN_LATE");
+    if (!late) return next(thread, how, run, with);
+    struct thread *begun = __libc_malloc(sizeof *begun);
+    if (!begun) abort();
+    *begun = (struct thread){run, with, atol(late)};
+    return next(thread, how, begin_late, begun);
 }
 
 __attribute__((destructor)) static void end(void) {

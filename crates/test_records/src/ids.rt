@@ -18,20 +18,24 @@ fn rows() -> &'static str {
 "
 }
 
-fn fault_of(alloc: Global, text: &str) -> Option<IdFault> {
-    UniqueId::read(alloc, text).err()
-}
-
+// The fault of an id that would keep a copy of the text.
 fn fault_of_copy(alloc: Global, text: &str) -> Option<IdFault> {
     UniqueId::from_text(alloc, Text::copy(alloc, text).ok()?).err()
 }
 
-// Whether reading a text has this fault, and so has the id that would keep a copy of it.
+// The fault of reading a text, where a copy has the same; else `Memory`.
+fn fault_of(alloc: Global, text: &str) -> Option<IdFault> {
+    let fault = UniqueId::read(alloc, text).err();
+    if fault_of_copy(alloc, text) == fault {
+        fault
+    } else {
+        Some(IdFault::Memory)
+    }
+}
+
+// Whether reading a text has this fault.
 fn has_fault(alloc: Global, text: &str, want: &str) -> bool {
     let fault = fault_of(alloc, text);
-    if fault_of_copy(alloc, text) != fault {
-        return false;
-    }
     match format!(in alloc; "{fault:?}") {
         Ok(stated) => stated.as_str() == want,
         Err(_) => false,
