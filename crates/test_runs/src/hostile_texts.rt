@@ -7,7 +7,7 @@ use std::alloc::{AllocError, Global};
 use tk_ids::{IdFault, UniqueId};
 use tk_plan::{Plan, PlanFault, read_plan};
 use tk_query_conditions::{CondFault, Condition, read_condition, write_condition};
-use tk_queue_core::{ReplayFault, replay_text};
+use tk_queue_replay::{ReplayFault, replay_text};
 use tk_record::{ReadFault, Record, read_record, write_record};
 use tk_streams::{ByteSource, ByteTarget};
 

@@ -3,10 +3,10 @@ use Rattle.std.proofs.Common.{◌≡◌, ◌⊎◌, ℕ, Bool, true, List, Optio
 use Rattle.std.specs.Prelude.{IfSome, IsErrOf}
 use Rattle.testkit_program.specs.declared.faults.Fault.TheVariants as faults
 use Rattle.testkit_program.specs.Jobs.{IsBroken, IsPartlyReplayed, IsReplayFault, transfer}
-use Rattle.tk_queue_core.specs.declared.replays.ReplayFault.{ReplayFault}
-use Rattle.tk_queue_core.specs.declared.replays.ReplayFault.TheVariants as replays
-use Rattle.tk_queue_core.specs.ReplayText.{IsOfInput, IsPartlyWritten}
-use Rattle.tk_queue_core.specs.ReplayText.{IsAnswer as IsPlayedAs}
+use Rattle.tk_queue_replay.specs.declared.replays.ReplayFault.{ReplayFault}
+use Rattle.tk_queue_replay.specs.declared.replays.ReplayFault.TheVariants as replays
+use Rattle.tk_queue_replay.specs.ReplayText.{IsOfInput, IsPartlyWritten}
+use Rattle.tk_queue_replay.specs.ReplayText.{IsAnswer as IsPlayedAs}
 
 -- of the bytes that a target holds
 pub partly_replayed : {A : Type 0} (contents : A → Option (List ℕ)) (input : Option (List ℕ)) (old new : A)

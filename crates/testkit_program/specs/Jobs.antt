@@ -24,15 +24,15 @@ use Rattle.testkit_program.specs.declared.faults.Fault.TheVariants as faults
 use Rattle.tk_record.specs.declared.reading.ReadFault.TheVariants as reads
 use Rattle.testkit_questions.specs.declared.faults.AskFault.{AskFault}
 use Rattle.testkit_questions.specs.declared.faults.AskFault.TheVariants as asks
-use Rattle.tk_queue_core.specs.declared.replays.ReplayFault.{ReplayFault}
-use Rattle.tk_queue_core.specs.declared.replays.ReplayFault.TheVariants as replays
+use Rattle.tk_queue_replay.specs.declared.replays.ReplayFault.{ReplayFault}
+use Rattle.tk_queue_replay.specs.declared.replays.ReplayFault.TheVariants as replays
 use Rattle.tk_streams.specs.declared.transfers.LoadFault.TheVariants as loads
 use Rattle.tk_report.specs.declared.faults.ReportFault.{ReportFault}
 use Rattle.tk_report.specs.declared.faults.ReportFault.TheVariants as reports
 use Rattle.tk_record.specs.declared.reading.TheConstants.{MAX_TEXT}
 use Rattle.tk_streams.specs.Stream.{AppendsPrefix}
-use Rattle.tk_queue_core.specs.ReplayText.{IsWritten, IsPartlyWritten, IsOfInput}
-use Rattle.tk_queue_core.specs.ReplayText.{IsAnswer as IsPlayedAs}
+use Rattle.tk_queue_replay.specs.ReplayText.{IsWritten, IsPartlyWritten, IsOfInput}
+use Rattle.tk_queue_replay.specs.ReplayText.{IsAnswer as IsPlayedAs}
 use Rattle.tk_report.specs.Answers.{OfPlan, MayWork, IsNoPlan, IsNotRun}
 use Rattle.testkit_questions.specs.Asked.{AddsAnswer, AddsPrefix, IsRefusal}
 use Rattle.testkit_questions.specs.Asked as asked

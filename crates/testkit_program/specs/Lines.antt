@@ -3,7 +3,7 @@ use Rattle.std.specs.Prelude.{ℕ, List, ◌∷◌, ◌++◌, [], codes}
 use Rattle.std.specs.Fmt.{decimal}
 use Rattle.testkit_questions.specs.Characters.{line_feed}
 use Rattle.tk_streams.specs.FaultTexts.{load_fault_text}
-use Rattle.tk_queue_core.specs.FaultTexts.{replay_fault_text}
+use Rattle.tk_queue_replay.specs.FaultTexts.{replay_fault_text}
 use Rattle.tk_report.specs.FaultTexts.{report_fault_text}
 use Rattle.testkit_questions.specs.FaultTexts.{ask_fault_text}
 use Rattle.tk_engine_execute.specs.declared.run_faults.RunFault.TheVariants as runs

@@ -8,7 +8,7 @@ use testkit_questions::AskFault;
 use tk_engine_execute::RunFault;
 use tk_plan::PlanFault;
 use tk_query_conditions::CondFault;
-use tk_queue_core::ReplayFault;
+use tk_queue_replay::ReplayFault;
 use tk_record::{LoadFault, ReadFault};
 use tk_report::ReportFault;
 

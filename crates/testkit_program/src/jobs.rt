@@ -10,7 +10,7 @@ use std::sync::Wait;
 use std::thread::Threads;
 use testkit_command_line::{Job, job_of};
 use testkit_questions::ask;
-use tk_queue_core::replay_text;
+use tk_queue_replay::replay_text;
 use tk_record::{MAX_TEXT, Source, Target, load};
 use tk_report::{run_plan, write_report};
 

@@ -33,8 +33,8 @@ use Rattle.testkit_questions.specs.declared.questions.Question.{Question}
 use Rattle.testkit_questions.specs.declared.questions.Question.TheVariants.{Stats, Count, Match, List as Listed, Overview as OfRecord}
 use Rattle.testkit_questions.specs.declared.questions.Overview.{Overview}
 use Rattle.testkit_questions.specs.declared.questions.Overview.TheVariants as overviews
-use Rattle.tk_query.specs.declared.lifecycle_rules.Lifecycle.{Lifecycle}
-use Rattle.tk_query.proofs.LifecycleIsUnique.{lifecycle_is_unique}
+use Rattle.tk_query_lifecycle.specs.declared.lifecycle_rules.Lifecycle.{Lifecycle}
+use Rattle.tk_query_lifecycle.proofs.LifecycleIsUnique.{lifecycle_is_unique}
 use Rattle.testkit_questions.specs.Answers.{IsMatchAnswer, events_where, IsAnswerTo, exact_line, exact_yes, loose_line, loose_yes, position_text, in_order_line, in_order_yes, execution_line, IsOverviewOf, lifecycle_line, lifecycle_yes}
 use Rattle.testkit_questions.proofs.OneReading.{AreAlike, AreSame}
 

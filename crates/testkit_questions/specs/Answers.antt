@@ -56,10 +56,10 @@ use Rattle.testkit_questions.specs.declared.questions.Mode.TheVariants.{
   Loosely,
   InOrder as InTheirOrder,
 }
-use Rattle.tk_query.specs.declared.lifecycle_rules.Lifecycle.{Lifecycle}
-use Rattle.tk_query.specs.declared.lifecycle_rules.Lifecycle.TheVariants as lifecycles
-use Rattle.tk_query.specs.Lifecycle.{IsLifecycle}
-use Rattle.tk_query.specs.LifecycleTexts.{rule_text}
+use Rattle.tk_query_lifecycle.specs.declared.lifecycle_rules.Lifecycle.{Lifecycle}
+use Rattle.tk_query_lifecycle.specs.declared.lifecycle_rules.Lifecycle.TheVariants as lifecycles
+use Rattle.tk_query_lifecycle.specs.Lifecycle.{IsLifecycle}
+use Rattle.tk_query_lifecycle.specs.LifecycleTexts.{rule_text}
 use Rattle.tk_report_text.specs.Reports.{report_of_record}
 use Rattle.testkit_questions.specs.declared.questions.Overview.{Overview}
 use Rattle.testkit_questions.specs.declared.questions.Overview.TheVariants as overviews

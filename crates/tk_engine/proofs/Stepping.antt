@@ -14,9 +14,9 @@ use Rattle.tk_events.specs.declared.events.Event.{Event}
 use Rattle.tk_events.specs.declared.events.Entry.{Entry}
 use Rattle.tk_events.specs.Registration.{registered_key}
 use Rattle.tk_record_columns.specs.Entries.{desc, desc_in}
-use Rattle.tk_queue.specs.Emission.{registrations, is_dynamic, entries_by, entry_by}
-use Rattle.tk_queue.specs.Senders.{SenderView, record_of_sender}
-use Rattle.tk_queue.specs.Registering.{registration, child}
+use Rattle.tk_queue_session.specs.Emission.{registrations, is_dynamic, entries_by, entry_by}
+use Rattle.tk_queue_session.specs.Senders.{SenderView, record_of_sender}
+use Rattle.tk_queue_session.specs.Registering.{registration, child}
 use Rattle.tk_plan_units.specs.declared.nodes.Node.{Node}
 use Rattle.tk_plan_units.specs.declared.nodes.NumberedNode.{NumberedNode}
 use Rattle.tk_plan_units.specs.declared.steps.Act.{Act}

@@ -1,6 +1,6 @@
 //! What holds of each run of a plan's engine.
 ghost use Rattle.std.specs.Prelude.{ℕ, length};
-ghost use Rattle.tk_query.specs.KeepsLifecycle.{KeepsLifecycle};
+ghost use Rattle.tk_query_lifecycle.specs.KeepsLifecycle.{KeepsLifecycle};
 ghost use Rattle.tk_report_text.specs.Labels.{events, labels, name};
 ghost use Rattle.tk_engine_laws.specs.Laws.{IsKept};
 ghost use Rattle.tk_engine_laws.specs.Listening.{Listens, ListensByKey};

@@ -4,8 +4,8 @@ use Rattle.std.proofs.lemmas.List.Elements.{All-nil, All-cons}
 use Rattle.std.specs.Prelude.{All}
 use Rattle.tk_ids.specs.declared.descriptors.Descriptor.{Descriptor}
 use Rattle.tk_events.specs.declared.events.Event.{Event}
-use Rattle.tk_queue.specs.Senders.{SenderView, sends}
-use Rattle.tk_queue.specs.Registering.{IsRegisteredAs, RegisterRequest, child_of, registration}
+use Rattle.tk_queue_session.specs.Senders.{SenderView, sends}
+use Rattle.tk_queue_session.specs.Registering.{IsRegisteredAs, RegisterRequest, child_of, registration}
 use Rattle.tk_engine_execute.specs.Engines.{IsSameSender}
 use Rattle.tk_engine_execute.specs.Grown.{AnyEvent, Grew, GrewBy}
 use Rattle.tk_engine_execute.proofs.Growing.{grew_refl, grew_registered, grew_same, grew_trans}

@@ -3,9 +3,9 @@ use Rattle.std.specs.Prelude.{◌≡◌, ℕ, List, [], ◌∷◌, ◌++◌, Som
 use Rattle.tk_ids.specs.declared.descriptors.Descriptor.{Descriptor}
 use Rattle.tk_events.specs.declared.events.Event.{Event}
 use Rattle.tk_events.specs.Registration.{registered_key}
-use Rattle.tk_queue.specs.Emission.{registrations}
-use Rattle.tk_queue.specs.Registering.{RegisterRequest, child_of, parent_of}
-use Rattle.tk_queue.specs.Senders.{SenderView}
+use Rattle.tk_queue_session.specs.Emission.{registrations}
+use Rattle.tk_queue_session.specs.Registering.{RegisterRequest, child_of, parent_of}
+use Rattle.tk_queue_session.specs.Senders.{SenderView}
 use Rattle.tk_engine_execute.specs.Engines.{IsSameSender}
 use Rattle.tk_engine_events.specs.Events.{registered}
 

@@ -3,7 +3,7 @@ use Rattle.std.proofs.Common.{◌≡◌, ℕ, ◌+◌, List, [], ◌∷◌, ◌+
 use Rattle.std.proofs.lemmas.List.Sums.{sum_by-append}
 use Rattle.std.specs.Prelude.{cond}
 use Rattle.tk_events.specs.declared.events.Event.{Event}
-use Rattle.tk_queue.specs.Emission.{is_dynamic, registrations}
+use Rattle.tk_queue_session.specs.Emission.{is_dynamic, registrations}
 use Rattle.tk_engine_runs.specs.Run.{Emits}
 
 pub registrations-append : (xs ys : List Event) → registrations (xs ++ ys) ≡ registrations xs + registrations ys

@@ -5,8 +5,8 @@ use Rattle.tk_ids.specs.IdText.{SegmentView}
 use Rattle.tk_ids.specs.declared.descriptors.DType.{DType}
 use Rattle.tk_ids.specs.declared.descriptors.Descriptor.{Descriptor}
 use Rattle.tk_events.specs.declared.events.Event.{Event}
-use Rattle.tk_queue.specs.Senders.{SenderView, sends}
-use Rattle.tk_queue.specs.Registering.{IsRegisteredAs, child, registration}
+use Rattle.tk_queue_session.specs.Senders.{SenderView, sends}
+use Rattle.tk_queue_session.specs.Registering.{IsRegisteredAs, child, registration}
 use Rattle.tk_engine_execute.specs.Grown.{GrewBy}
 
 -- the preorder, for any P

@@ -12,12 +12,12 @@ use Rattle.tk_events.specs.declared.events.Entry.{Entry}
 use Rattle.tk_record_columns.specs.Mixing.{IsWorkerOf, of_worker, Mix}
 use Rattle.tk_queue_core.specs.Core.{entries}
 use Rattle.tk_engine_claim.specs.Claims.{ClaimSeatView, Claims}
-use Rattle.tk_queue.specs.declared.close_faults.CloseReason.{CloseReason}
-use Rattle.tk_queue.specs.declared.close_faults.CloseReason.TheVariants.{Missing, Twice, NotDrained}
-use Rattle.tk_queue.specs.Senders.{SenderView as Sent}
-use Rattle.tk_queue.specs.Receivers.{ReceiverView, is_marked}
-use Rattle.tk_queue.specs.Tokens.{tokens_of, sent_by}
-use Rattle.tk_queue.specs.Closing.{IsCloseFault}
+use Rattle.tk_queue_session.specs.declared.close_faults.CloseReason.{CloseReason}
+use Rattle.tk_queue_session.specs.declared.close_faults.CloseReason.TheVariants.{Missing, Twice, NotDrained}
+use Rattle.tk_queue_session.specs.Senders.{SenderView as Sent}
+use Rattle.tk_queue_session.specs.Receivers.{ReceiverView, is_marked}
+use Rattle.tk_queue_session.specs.Tokens.{tokens_of, sent_by}
+use Rattle.tk_queue_session.specs.Closing.{IsCloseFault}
 use Rattle.tk_engine_runs.specs.Run.{IsShared}
 use Rattle.tk_engine_execute.specs.declared.engines.UnitFault.{UnitFault}
 use Rattle.tk_engine_execute.specs.declared.workers.Outcome.{Outcome}
@@ -25,7 +25,7 @@ use Rattle.tk_engine_execute.specs.declared.workers.FailedUnit.{FailedUnit}
 use Rattle.tk_engine_execute.specs.declared.event_collectors.EventCollector.{EventCollector}
 use Rattle.tk_engine_execute.specs.EventCollectors.{CanCollect, NoneIsAwaited}
 use Rattle.tk_engine_execute.specs.Results.{IsTallied}
-use Rattle.tk_queue.specs.Emission.{entries_by}
+use Rattle.tk_queue_session.specs.Emission.{entries_by}
 use Rattle.tk_engine_runs.proofs.Workers.{in_the_middle}
 use Rattle.tk_engine_execute.specs.declared.run_faults.RunFault.{RunFault}
 use Rattle.tk_engine_execute.specs.declared.run_faults.RunFault.TheVariants as fault

@@ -1,12 +1,12 @@
 -- What an engine emits into a sink, and its events before and after the units.
 use Rattle.std.specs.Prelude.{◌≡◌, ℕ, ◌<◌, ◌≤◌, ◌++◌, true, List, length, All}
 use Rattle.tk_events.specs.declared.events.Event.{Event}
-use Rattle.tk_queue.specs.Emission.{is_plain, registrations}
-use Rattle.tk_queue.specs.Limits.{most_events}
-use Rattle.tk_queue.specs.Senders.{SenderView}
+use Rattle.tk_queue_session.specs.Emission.{is_plain, registrations}
+use Rattle.tk_queue_session.specs.Limits.{most_events}
+use Rattle.tk_queue_session.specs.Senders.{SenderView}
 use Rattle.tk_ids.specs.declared.id_faults.IdFault.{IdFault}
 use Rattle.tk_ids.specs.declared.id_faults.IdFault.TheVariants as ids
-use Rattle.tk_queue.specs.declared.sender_faults.RegisterFault.TheVariants as registers
+use Rattle.tk_queue_session.specs.declared.sender_faults.RegisterFault.TheVariants as registers
 use Rattle.tk_engine_execute.specs.declared.sinks.SinkFault.TheVariants as sinks
 use Rattle.tk_engine_execute.specs.declared.engines.UnitFault.{UnitFault}
 use Rattle.tk_engine_execute.specs.declared.engines.UnitFault.TheVariants as units

@@ -1,7 +1,7 @@
 -- The texts of the faults.
 use Rattle.std.specs.Prelude.{ℕ, List, ◌++◌, codes}
 use Rattle.std.specs.Fmt.{decimal}
-use Rattle.tk_queue.specs.FaultTexts.{register_fault_text, send_fault_text}
+use Rattle.tk_queue_session.specs.FaultTexts.{register_fault_text, send_fault_text}
 use Rattle.tk_engine_execute.specs.declared.sinks.SinkFault.{SinkFault}
 use Rattle.tk_engine_execute.specs.declared.sinks.SinkFault.TheVariants as sinks
 use Rattle.tk_engine_execute.specs.declared.engines.UnitFault.{UnitFault}

@@ -1,7 +1,7 @@
 -- What a unit has done to its sink so far, for engines whose units emit one event after another.
 use Rattle.std.specs.Prelude.{◌≡◌, List, ◌++◌, All}
 use Rattle.tk_events.specs.declared.events.Event.{Event}
-use Rattle.tk_queue.specs.Senders.{SenderView}
+use Rattle.tk_queue_session.specs.Senders.{SenderView}
 use Rattle.tk_engine_execute.specs.Engines.{IsSameSender}
 
 -- some events were emitted, and P holds of each

@@ -17,10 +17,10 @@ use Rattle.std.specs.Prelude.{
 use Rattle.tk_ids.specs.declared.descriptors.Descriptor.{Descriptor}
 use Rattle.tk_limits.specs.declared.limits.TheConstants.{MAX_WORKERS}
 use Rattle.tk_events.specs.declared.events.Event.{Event}
-use Rattle.tk_queue.specs.declared.limits.TheConstants.{MAX_CAPACITY}
-use Rattle.tk_queue.specs.Emission.{entries_by}
-use Rattle.tk_queue.specs.Receivers.{fresh_receiver}
-use Rattle.tk_queue.specs.Limits.{capacity_of}
+use Rattle.tk_queue_session.specs.declared.limits.TheConstants.{MAX_CAPACITY}
+use Rattle.tk_queue_session.specs.Emission.{entries_by}
+use Rattle.tk_queue_session.specs.Receivers.{fresh_receiver}
+use Rattle.tk_queue_session.specs.Limits.{capacity_of}
 use Rattle.tk_engine_execute.specs.declared.event_collectors.EventCollector.{EventCollector}
 use Rattle.tk_engine_execute.specs.declared.prepared_runs.PreparedRun.{PreparedRun}
 use Rattle.tk_engine_execute.specs.Engines.{AreOfWorkerZero}

@@ -3,7 +3,7 @@ use Rattle.std.specs.Prelude.{◌≡◌, ℕ, List, length, slice_index}
 use Rattle.tk_events.specs.declared.events.Entry.{Entry}
 use Rattle.tk_record_columns.specs.Recorded.{Recorded}
 use Rattle.tk_record_columns.specs.Mixing.{IsWorkerOf, of_worker}
-use Rattle.tk_queue.specs.Closing.{ClosedView}
+use Rattle.tk_queue_session.specs.Closing.{ClosedView}
 
 -- a record, and what closing the session of its run returned
 pub record RunResults : Type 0 where

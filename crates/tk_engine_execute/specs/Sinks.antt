@@ -1,8 +1,8 @@
 -- Why a sender, as a sink, took no event.
 use Rattle.std.specs.Prelude.{◌≡◌, Some, Err}
 use Rattle.tk_events.specs.declared.events.Event.{Event}
-use Rattle.tk_queue.specs.Senders.{SenderView, refusal_of}
-use Rattle.tk_queue.specs.Registering.{RegisterRequest, IsRegisteredAs}
+use Rattle.tk_queue_session.specs.Senders.{SenderView, refusal_of}
+use Rattle.tk_queue_session.specs.Registering.{RegisterRequest, IsRegisteredAs}
 use Rattle.tk_engine_execute.specs.declared.sinks.SinkFault.{SinkFault}
 use Rattle.tk_engine_execute.specs.declared.sinks.SinkFault.TheVariants.{Send, Register}
 

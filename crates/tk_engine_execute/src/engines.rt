@@ -15,7 +15,7 @@ use std::sync::{Arc, Wait};
 use tk_book::{BookSeat, Need};
 use tk_events::Event;
 use tk_ids::{IdFault, Table};
-use tk_queue::RegisterFault;
+use tk_queue_session::RegisterFault;
 
 /// The most units that an engine may have.
 pub const MAX_UNITS: u32 = 65_536;

@@ -2,15 +2,15 @@
 ghost use Rattle.std.specs.Prelude.{◌≡◌, None, Some, Ok, IfOk, IfErr, OnOk, OnErr};
 ghost use Rattle.tk_engine_execute.specs.FaultTexts.{sink_fault_text};
 ghost use Rattle.tk_engine_execute.specs.Sinks.{IsSendCause, IsRegisterCause};
-ghost use Rattle.tk_queue.specs.Senders.{SenderView, sends, refusal_of};
-ghost use Rattle.tk_queue.specs.Registering.{IsRegisteredAs};
+ghost use Rattle.tk_queue_session.specs.Senders.{SenderView, sends, refusal_of};
+ghost use Rattle.tk_queue_session.specs.Registering.{IsRegisteredAs};
 
 use std::error::Error;
 use std::fmt;
 use std::sync::Wait;
 use tk_events::Event;
 use tk_ids::{DType, Segment};
-use tk_queue::{RegisterFault, SendFault, Sender};
+use tk_queue_session::{RegisterFault, SendFault, Sender};
 
 /// Why a sink took no event.
 #[derive(Debug, Drop)]

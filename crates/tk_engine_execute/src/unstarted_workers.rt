@@ -5,7 +5,7 @@ ghost use Rattle.tk_engine_execute.specs.Workers.{IsLastWorker};
 use crate::workers::WorkerHandles;
 use tk_book::BookSeat;
 use tk_engine_claim::ClaimSeat;
-use tk_queue::Sender;
+use tk_queue_session::Sender;
 
 /// The workers whose threads are not started yet: the sender and the seats of each, in the order of
 /// their numbers.

@@ -1,7 +1,7 @@
 //! A worker: it draws units and runs them until none is left, or one fails.
 ghost use Rattle.std.specs.Prelude.{◌≡◌, ◌<◌, List, [], ◌++◌, None, Some, true, IfNone, IfSome, IfOk, IfErr, OnOk, OnErr};
 ghost use Rattle.tk_events.specs.declared.events.Event.{Event};
-ghost use Rattle.tk_queue.specs.Emission.{registrations};
+ghost use Rattle.tk_queue_session.specs.Emission.{registrations};
 ghost use Rattle.tk_engine_runs.specs.Run.{Emits};
 ghost use Rattle.tk_engine_execute.specs.Engines.{IsSameSender, MayFail};
 ghost use Rattle.tk_engine_execute.specs.Workers.{shared_parts, run_units, IsReady, IsDone, IsStopped};
@@ -11,7 +11,7 @@ use std::alloc::Global;
 use std::sync::Wait;
 use tk_book::{Book, BookSeat};
 use tk_engine_claim::{Claim, ClaimSeat};
-use tk_queue::{Ended, Sender};
+use tk_queue_session::{Ended, Sender};
 
 /// What one worker's thread owns: its sender and its seats of the claim and the book.
 #[derive(Drop)]

@@ -12,10 +12,10 @@ use Rattle.tk_events.specs.Event.{kind_code}
 use Rattle.tk_events.specs.declared.payloads.Payload.TheVariants.{Described}
 use Rattle.tk_record_columns.specs.Recorded.{Recorded}
 use Rattle.tk_record_columns.specs.Entries.{desc, desc_in, described, registered, with_entry}
-use Rattle.tk_queue.specs.Emission.{entries_by, entry_by}
-use Rattle.tk_query.specs.Lifecycle.{HasId}
-use Rattle.tk_query.specs.KeepsLifecycle.{is_step, steps_of}
-use Rattle.tk_queue.specs.Senders.{SenderView, record_of_sender, sends}
+use Rattle.tk_queue_session.specs.Emission.{entries_by, entry_by}
+use Rattle.tk_query_lifecycle.specs.Lifecycle.{HasId}
+use Rattle.tk_query_lifecycle.specs.KeepsLifecycle.{is_step, steps_of}
+use Rattle.tk_queue_session.specs.Senders.{SenderView, record_of_sender, sends}
 use Rattle.tk_ids.specs.Table.{HasId as TableHasId}
 use Rattle.tk_engine_lifecycle.specs.Units.{Frame, KeepsAlone, KeepsAround}
 use Rattle.tk_engine_lifecycle.proofs.States.{state}

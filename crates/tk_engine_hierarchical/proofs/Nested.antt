@@ -7,8 +7,8 @@ use Rattle.tk_events.specs.declared.events.Entry.{Entry}
 use Rattle.tk_record_columns.specs.Mixing.{of_worker}
 use Rattle.tk_record_columns.specs.Record.{IsRecord}
 use Rattle.tk_record_columns.specs.Recorded.{Recorded}
-use Rattle.tk_queue.specs.Emission.{entries_by, entry_by}
-use Rattle.tk_query.specs.Lifecycle.{HasId}
+use Rattle.tk_queue_session.specs.Emission.{entries_by, entry_by}
+use Rattle.tk_query_lifecycle.specs.Lifecycle.{HasId}
 use Rattle.tk_engine_runs.specs.Run.{IsRun}
 use Rattle.tk_engine_lifecycle.specs.Units.{Frame, UnitsKeepLifecycle, run_alone}
 use Rattle.tk_engine_lifecycle.proofs.Apart.{Hit, KeptRun, other_first}

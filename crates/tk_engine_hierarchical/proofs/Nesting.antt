@@ -5,7 +5,7 @@ use Rattle.tk_ids.specs.IdText.{SegmentView, parent_of}
 use Rattle.tk_events.specs.declared.events.Event.{Event}
 use Rattle.tk_events.specs.declared.kinds.Kind.TheVariants.{Finished, Started}
 use Rattle.tk_record_columns.specs.Recorded.{Recorded}
-use Rattle.tk_query.specs.Lifecycle.{HasId}
+use Rattle.tk_query_lifecycle.specs.Lifecycle.{HasId}
 use Rattle.tk_engine_lifecycle.specs.UnderWay.{IsOneOf}
 use Rattle.tk_engine_lifecycle.proofs.Splits.{InFirst, InSecond, head_is, in_parts, left_nil, tail_is}
 use Rattle.tk_engine_lifecycle.proofs.Apart.{all_at}

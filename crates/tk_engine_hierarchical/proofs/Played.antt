@@ -13,10 +13,10 @@ use Rattle.tk_events.specs.declared.events.Event.{Event}
 use Rattle.tk_events.specs.declared.events.Entry.{Entry}
 use Rattle.tk_events.specs.declared.kinds.Kind.{Kind}
 use Rattle.tk_events.specs.declared.kinds.Kind.TheVariants.{Dynamic, Finished, Skipped, Started}
-use Rattle.tk_queue.specs.Emission.{entries_by, entry_by}
-use Rattle.tk_queue.specs.Registering.{IsRegisteredAs, RegisterRequest, child_of, registration}
-use Rattle.tk_queue.specs.Senders.{SenderView, sends}
-use Rattle.tk_query.specs.Lifecycle.{has_event, is_event}
+use Rattle.tk_queue_session.specs.Emission.{entries_by, entry_by}
+use Rattle.tk_queue_session.specs.Registering.{IsRegisteredAs, RegisterRequest, child_of, registration}
+use Rattle.tk_queue_session.specs.Senders.{SenderView, sends}
+use Rattle.tk_query_lifecycle.specs.Lifecycle.{has_event, is_event}
 use Rattle.tk_engine_hierarchical.specs.Covered.{IsCovered, IsKeyBelow}
 use Rattle.tk_ids.specs.IdText.{IsBelow}
 use Rattle.tk_engine_hierarchical.specs.Endings.{EndsAsItMay}

@@ -11,12 +11,12 @@ use Rattle.tk_events.specs.declared.kinds.Kind.{Kind}
 use Rattle.tk_events.specs.declared.kinds.Kind.TheVariants.{Dynamic, File, Finished, Reporting, Skipped, Started}
 use Rattle.tk_events.specs.Event.{kind_code}
 use Rattle.tk_record_columns.specs.Recorded.{Recorded}
-use Rattle.tk_queue.specs.Emission.{entries_by}
+use Rattle.tk_queue_session.specs.Emission.{entries_by}
 use Rattle.tk_record_columns.specs.Entries.{desc, desc_in}
-use Rattle.tk_queue.specs.Registering.{IsRegisteredAs, RegisterRequest, child_of, registration}
-use Rattle.tk_queue.specs.Senders.{SenderView, record_of_sender, sends}
-use Rattle.tk_query.specs.Lifecycle.{HasId}
-use Rattle.tk_query.specs.KeepsLifecycle.{is_step}
+use Rattle.tk_queue_session.specs.Registering.{IsRegisteredAs, RegisterRequest, child_of, registration}
+use Rattle.tk_queue_session.specs.Senders.{SenderView, record_of_sender, sends}
+use Rattle.tk_query_lifecycle.specs.Lifecycle.{HasId}
+use Rattle.tk_query_lifecycle.specs.KeepsLifecycle.{is_step}
 use Rattle.tk_engine_lifecycle.specs.Units.{Frame, KeepsAround, run_alone}
 use Rattle.tk_engine_lifecycle.proofs.States.{state}
 use Rattle.tk_engine_lifecycle.specs.UnderWay.{IsOneOf, MayBegin, so_far}

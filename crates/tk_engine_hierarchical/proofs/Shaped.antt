@@ -11,9 +11,9 @@ use Rattle.tk_events.specs.Event.{kind_code}
 use Rattle.tk_events.specs.declared.events.Event.{Event}
 use Rattle.tk_events.specs.declared.kinds.Kind.{Kind}
 use Rattle.tk_events.specs.declared.kinds.Kind.TheVariants.{Dynamic, File, Finished, Reporting, Skipped, Started}
-use Rattle.tk_queue.specs.Emission.{entries_by, entry_by}
-use Rattle.tk_query.specs.Lifecycle.{HasId, has_event, is_event}
-use Rattle.tk_query.specs.KeepsLifecycle.{KeepsLifecycle}
+use Rattle.tk_queue_session.specs.Emission.{entries_by, entry_by}
+use Rattle.tk_query_lifecycle.specs.Lifecycle.{HasId, has_event, is_event}
+use Rattle.tk_query_lifecycle.specs.KeepsLifecycle.{KeepsLifecycle}
 use Rattle.tk_engine_execute.specs.Engines.{IsStaticEvent}
 use Rattle.tk_engine_lifecycle.specs.Units.{KeepsAround, UnitsKeepLifecycle, run_alone}
 use Rattle.tk_engine_hierarchical.specs.Shapes.{AreRunning, HavePlaces, IsInUnit, ShapeView, frame, may_emit}

@@ -5,7 +5,7 @@ use Rattle.tk_ids.specs.Table.{ids_of}
 use Rattle.tk_ids.specs.declared.descriptors.Descriptor.{Descriptor}
 use Rattle.tk_events.specs.declared.events.Entry.{Entry}
 use Rattle.tk_events.specs.declared.kinds.Kind.TheVariants.{Skipped}
-use Rattle.tk_query.specs.Lifecycle.{has_event, has_run}
+use Rattle.tk_query_lifecycle.specs.Lifecycle.{has_event, has_run}
 
 -- the key has an id that stands below this one
 abbrev pub IsKeyBelow : List Descriptor → List SegmentView → ℕ → Type 0

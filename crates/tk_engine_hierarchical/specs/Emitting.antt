@@ -2,12 +2,12 @@
 use Rattle.std.specs.Prelude.{◌≡◌, ◌⊎◌, ℕ, ◌<◌, ◌≤◌, Bool, true, List, [], ◌++◌, length}
 use Rattle.tk_ids.specs.IdText.{SegmentView, id_text}
 use Rattle.tk_events.specs.declared.events.Event.{Event}
-use Rattle.tk_queue.specs.Senders.{SenderView, record_of_sender}
+use Rattle.tk_queue_session.specs.Senders.{SenderView, record_of_sender}
 use Rattle.tk_engine_execute.specs.Engines.{IsSameSender}
 use Rattle.tk_ids.specs.Table.{HasId as TableHasId}
-use Rattle.tk_query.specs.Lifecycle.{HasId}
-use Rattle.tk_queue.specs.Emission.{entries_by}
-use Rattle.tk_query.specs.KeepsLifecycle.{steps_of}
+use Rattle.tk_query_lifecycle.specs.Lifecycle.{HasId}
+use Rattle.tk_queue_session.specs.Emission.{entries_by}
+use Rattle.tk_query_lifecycle.specs.KeepsLifecycle.{steps_of}
 use Rattle.tk_engine_lifecycle.specs.Units.{Frame}
 use Rattle.tk_engine_lifecycle.specs.UnderWay.{so_far}
 use Rattle.tk_engine_lifecycle.specs.Laws.{IsGoing}

@@ -4,9 +4,9 @@ use Rattle.std.specs.Prelude.{length, Some, slice_get}
 use Rattle.tk_ids.specs.IdText.{SegmentView, parent_of}
 use Rattle.tk_ids.specs.Table.{ids_of}
 use Rattle.tk_ids.specs.declared.descriptors.Descriptor.{Descriptor}
-use Rattle.tk_queue.specs.Emission.{entries_by}
-use Rattle.tk_queue.specs.Senders.{SenderView, record_of_sender}
-use Rattle.tk_query.specs.Lifecycle.{HasId, runs}
+use Rattle.tk_queue_session.specs.Emission.{entries_by}
+use Rattle.tk_queue_session.specs.Senders.{SenderView, record_of_sender}
+use Rattle.tk_query_lifecycle.specs.Lifecycle.{HasId, runs}
 use Rattle.tk_events.specs.declared.events.Event.{Event}
 use Rattle.tk_events.specs.declared.kinds.Kind.TheVariants.{Started}
 use Rattle.tk_record_columns.specs.Recorded.{Recorded}

@@ -7,7 +7,7 @@ use Rattle.tk_engine_runs.specs.Run.{IsRun}
 use Rattle.tk_events.specs.declared.kinds.Kind.TheVariants.{Finished, Skipped, Started}
 use Rattle.tk_record_columns.specs.Mixing.{of_worker}
 use Rattle.tk_record_columns.specs.Recorded.{Recorded}
-use Rattle.tk_query.specs.KeepsLifecycle.{steps_of}
+use Rattle.tk_query_lifecycle.specs.KeepsLifecycle.{steps_of}
 use Rattle.tk_engine_hierarchical.specs.Covered.{IsBelowSkipped}
 use Rattle.tk_engine_hierarchical.specs.Endings.{EndsAsItMay}
 use Rattle.tk_engine_hierarchical.specs.Nesting.{EventsNest}

@@ -6,8 +6,8 @@ use Rattle.tk_events.specs.declared.kinds.Kind.TheVariants.{Dynamic, File, Finis
 use Rattle.tk_events.specs.declared.kinds.Kind.TheVariants.{Reporting, Skipped, Started}
 use Rattle.tk_events.specs.declared.payloads.Payload.{Payload}
 use Rattle.tk_events.specs.declared.payloads.Payload.TheVariants.{Nothing}
-use Rattle.tk_queue.specs.Registering.{IsRegisteredAs, RegisterRequest}
-use Rattle.tk_queue.specs.Senders.{SenderView, sends}
+use Rattle.tk_queue_session.specs.Registering.{IsRegisteredAs, RegisterRequest}
+use Rattle.tk_queue_session.specs.Senders.{SenderView, sends}
 use Rattle.tk_engine_execute.specs.Engines.{Extends}
 use Rattle.tk_engine_hierarchical.specs.Endings.{payload_of}
 use Rattle.tk_engine_hierarchical.specs.declared.tests.Outcome.{Outcome}

@@ -3,8 +3,8 @@ use Rattle.std.specs.Prelude.{◌≡◌, ◌⊎◌, ◌<◌, ◌≤◌, ℕ, Boo
 use Rattle.std.specs.Prelude.{get_or, length, slice_get}
 use Rattle.tk_ids.specs.declared.descriptors.Descriptor.{Descriptor}
 use Rattle.tk_events.specs.declared.events.Event.{Event}
-use Rattle.tk_queue.specs.Emission.{entries_by}
-use Rattle.tk_query.specs.Lifecycle.{runs}
+use Rattle.tk_queue_session.specs.Emission.{entries_by}
+use Rattle.tk_query_lifecycle.specs.Lifecycle.{runs}
 use Rattle.tk_engine_lifecycle.specs.Units.{Frame}
 use Rattle.tk_engine_hierarchical.specs.Owners.{owner_of}
 use Rattle.tk_engine_hierarchical.specs.Units.{RunsUnit, UnitKeys}

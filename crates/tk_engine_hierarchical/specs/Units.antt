@@ -3,8 +3,8 @@ use Rattle.std.specs.Prelude.{◌≡◌, ℕ, List, ◌++◌, All}
 use Rattle.tk_ids.specs.declared.descriptors.Descriptor.{Descriptor}
 use Rattle.tk_events.specs.declared.events.Event.{Event}
 use Rattle.tk_events.specs.declared.events.Entry.{Entry}
-use Rattle.tk_queue.specs.Emission.{entries_by}
-use Rattle.tk_queue.specs.Senders.{SenderView}
+use Rattle.tk_queue_session.specs.Emission.{entries_by}
+use Rattle.tk_queue_session.specs.Senders.{SenderView}
 use Rattle.tk_engine_lifecycle.specs.Units.{Frame, KeepsAlone, run_alone}
 use Rattle.tk_engine_hierarchical.specs.Covered.{AreCovered}
 use Rattle.tk_engine_hierarchical.specs.Endings.{EndsAsItMay}

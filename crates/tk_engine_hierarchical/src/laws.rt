@@ -1,5 +1,5 @@
 //! The laws of engines whose tests have bodies.
-ghost use Rattle.tk_query.specs.KeepsLifecycle.{KeepsLifecycle};
+ghost use Rattle.tk_query_lifecycle.specs.KeepsLifecycle.{KeepsLifecycle};
 ghost use Rattle.tk_engine_hierarchical.specs.Laws.{HasOutcomes, HaveTurns, IsRunOf, UnitsNest};
 
 use crate::engines::Hierarchical;

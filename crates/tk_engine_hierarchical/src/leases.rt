@@ -1,7 +1,7 @@
 //! A sink that is lent to a unit.
 ghost use Rattle.std.specs.Prelude.{◌≡◌, Ok, IfOk, OnOk, OnErr};
-ghost use Rattle.tk_queue.specs.Senders.{SenderView, sends};
-ghost use Rattle.tk_queue.specs.Registering.{IsRegisteredAs};
+ghost use Rattle.tk_queue_session.specs.Senders.{SenderView, sends};
+ghost use Rattle.tk_queue_session.specs.Registering.{IsRegisteredAs};
 ghost use Rattle.tk_engine_execute.specs.Engines.{Extends};
 ghost use Rattle.tk_engine_hierarchical.specs.Events.{IsRunning};
 ghost use Rattle.tk_engine_hierarchical.specs.Running.{with_ids};

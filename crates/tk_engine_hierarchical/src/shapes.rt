@@ -3,9 +3,9 @@ ghost use Rattle.std.specs.Prelude.{◌≡◌, ◌≢◌, ◌⊎◌, ◌<◌, �
 ghost use Rattle.tk_events.specs.declared.kinds.Kind.TheVariants.{Finished, Started};
 ghost use Rattle.std.specs.Arc.{arc_value};
 ghost use Rattle.tk_ids.specs.Table.{AreDifferent};
-ghost use Rattle.tk_queue.specs.Emission.{entries_by};
-ghost use Rattle.tk_query.specs.KeepsLifecycle.{KeepsLifecycle};
-ghost use Rattle.tk_query.specs.Lifecycle.{runs};
+ghost use Rattle.tk_queue_session.specs.Emission.{entries_by};
+ghost use Rattle.tk_query_lifecycle.specs.KeepsLifecycle.{KeepsLifecycle};
+ghost use Rattle.tk_query_lifecycle.specs.Lifecycle.{runs};
 ghost use Rattle.tk_engine_execute.specs.Engines.{IsStaticEvent};
 ghost use Rattle.tk_engine_lifecycle.specs.Units.{KeepsAround};
 ghost use Rattle.tk_plan_units.specs.Parents.{AreParents, HasParentAt};
@@ -16,8 +16,8 @@ use std::marker::Model;
 use std::sync::Arc;
 use tk_events::{Entry, Event, Kind};
 use tk_ids::Table;
-use tk_query::laws::kept_by_its_events;
-use tk_query::{Lifecycle, lifecycle};
+use tk_query_lifecycle::laws::kept_by_its_events;
+use tk_query_lifecycle::{Lifecycle, lifecycle};
 use tk_record_columns::Record;
 
 /// Which static keys belong to which unit: for each key its unit, and for each unit its first key

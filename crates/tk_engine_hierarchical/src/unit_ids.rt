@@ -16,7 +16,7 @@ use crate::tests::{OUT_OF_ORDER, TWICE};
 use std::alloc::Global;
 use tk_engine_execute::{SinkFault, UnitFault};
 use tk_ids::{IdFault, Segment, Table, UniqueId};
-use tk_queue::RegisterFault;
+use tk_queue_session::RegisterFault;
 
 // Whether an id is a root's, while no key runs.
 fn starts_root(running: &Stack<RunningKey>, id: &UniqueId) -> bool

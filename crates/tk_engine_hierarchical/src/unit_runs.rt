@@ -8,7 +8,7 @@ use std::marker::Brand;
 pub trait UnitRun {
     ghost use Rattle.std.specs.Prelude.{ℕ};
     ghost use Rattle.tk_engine_lifecycle.specs.Units.{Frame};
-    ghost use Rattle.tk_queue.specs.Senders.{SenderView};
+    ghost use Rattle.tk_queue_session.specs.Senders.{SenderView};
     ghost use Rattle.tk_engine_hierarchical.specs.Units.{UnitKeys};
     ghost use Rattle.tk_engine_hierarchical.specs.declared.tests.Outcome.{Outcome};
 

@@ -23,7 +23,7 @@ use Rattle.tk_engine_laws.proofs.Orders.{precedes_none}
 use Rattle.tk_engine_laws.proofs.Through.{below_length}
 use Rattle.tk_report_text.specs.Labels.{Label, events, id_in, label, labels, name, same_id, same_kind}
 use Rattle.tk_engine_laws.specs.Listening.{IsBelow, IsChild, IsOnce, ListensByKey, finishes, is_followed, is_of, is_ran, precedes, registers, skips, starts}
-use Rattle.tk_queue.specs.Emission.{is_dynamic}
+use Rattle.tk_queue_session.specs.Emission.{is_dynamic}
 use Rattle.tk_engine_laws.specs.Scripts.{IsRunOf}
 
 filter_each : (p q : Event → Bool) (es : List Event) → Each (λ e. p e ≡ q e) es → filter p es ≡ filter q es

@@ -23,7 +23,7 @@ use Rattle.tk_engine_laws.proofs.Model.{Named, Step, hits, id_emitted, ids_emitt
 use Rattle.tk_engine_laws.proofs.Naming.{emitted_played}
 use Rattle.tk_report_text.specs.Labels.{events}
 use Rattle.tk_engine_laws.specs.Scripts.{HasKey, id_at, is_registration, key_of, known_in, position, played, record_played}
-use Rattle.tk_queue.specs.Emission.{entries_by, entry_by, is_dynamic, registrations}
+use Rattle.tk_queue_session.specs.Emission.{entries_by, entry_by, is_dynamic, registrations}
 
 abbrev first : {A : Type 0} → List A → Option A
 first [] = None

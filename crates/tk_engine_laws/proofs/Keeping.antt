@@ -13,8 +13,8 @@ use Rattle.tk_events.specs.declared.events.Event.{Event}
 use Rattle.tk_events.specs.declared.events.Entry.{Entry}
 use Rattle.tk_record_columns.specs.Recorded.{Recorded}
 use Rattle.tk_record_columns.specs.Entries.{of_kind, described, registered, desc_in, desc, with_entry}
-use Rattle.tk_query.specs.Lifecycle.{is_event, has_event, runs, HasId, KnowsId, first_entries}
-use Rattle.tk_query.specs.KeepsLifecycle.{is_step, steps_of, IsWhole, IsBelowRunning, KeepsLifecycle}
+use Rattle.tk_query_lifecycle.specs.Lifecycle.{is_event, has_event, runs, HasId, KnowsId, first_entries}
+use Rattle.tk_query_lifecycle.specs.KeepsLifecycle.{is_step, steps_of, IsWhole, IsBelowRunning, KeepsLifecycle}
 use Rattle.tk_report_text.specs.Labels.{Label, events, id_in, label, labels, name, same_id, same_kind}
 use Rattle.tk_engine_laws.specs.Listening.{IsOnce, Listens, finishes, is_of, is_ran, registers, starts}
 use Rattle.tk_engine_laws.specs.Scripts.{IsRunOf}

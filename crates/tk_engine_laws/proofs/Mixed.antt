@@ -7,7 +7,7 @@ use Rattle.tk_events.specs.declared.events.Entry.{Entry}
 use Rattle.tk_events.specs.declared.events.Event.{Event}
 use Rattle.tk_engine_laws.proofs.Lists.{left_nil, right_nil}
 use Rattle.tk_report_text.specs.Labels.{events}
-use Rattle.tk_queue.specs.Emission.{entries_by}
+use Rattle.tk_queue_session.specs.Emission.{entries_by}
 
 nil_of_cond : {B : Type 0} (b : Bool) (f : Event → List B) (x : Entry) (xs : List Entry) → flat_map f (events (cond b (x ∷ xs) xs)) ≡ [] → flat_map f (events xs) ≡ []
 nil_of_cond true f x xs h = right_nil (f x.event) _ h

@@ -17,7 +17,7 @@ use Rattle.tk_ids.specs.IdText.{SegmentView}
 use Rattle.tk_ids.specs.Table.{ids_of}
 use Rattle.tk_ids.specs.declared.descriptors.Descriptor.{Descriptor}
 use Rattle.tk_report_text.specs.Labels.{Label, same_id}
-use Rattle.tk_queue.specs.Emission.{is_dynamic}
+use Rattle.tk_queue_session.specs.Emission.{is_dynamic}
 use Rattle.tk_engine_laws.specs.Scripts.{id_at, is_registration, position, payload_for}
 
 -- a node with its number, its parent's, and its id; whether it may be cut open

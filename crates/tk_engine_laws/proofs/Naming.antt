@@ -18,7 +18,7 @@ use Rattle.tk_ids.specs.declared.descriptors.Descriptor.{Descriptor}
 use Rattle.tk_engine_laws.proofs.Keyed.{named}
 use Rattle.tk_engine_laws.proofs.Model.{Forest, Item, Named, Step, drawn_ids, first_or_nil, hits, id_emitted, ids_emitted, part_steps, plain, registered, registered_under, event_of_step, emitted_after}
 use Rattle.tk_engine_runs.specs.Run.{Emits}
-use Rattle.tk_queue.specs.Emission.{is_dynamic, registrations}
+use Rattle.tk_queue_session.specs.Emission.{is_dynamic, registrations}
 use Rattle.tk_engine_laws.specs.Scripts.{id_at, is_registration, may, played, payload_of_node, step_event}
 
 pub hits-append : (k b : ℕ) (xs ys : List ℕ) → hits k b (xs ++ ys) ≡ hits k b xs ++ hits k (b + length xs) ys

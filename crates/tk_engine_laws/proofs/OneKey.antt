@@ -30,7 +30,7 @@ use Rattle.tk_report_text.specs.Labels.{Label, events, label, labels, name, same
 use Rattle.tk_events.specs.declared.kinds.Kind.TheVariants.{Dynamic}
 use Rattle.tk_engine_laws.specs.Listening.{is_of, registers}
 use Rattle.tk_engine_runs.specs.Run.{Emits}
-use Rattle.tk_queue.specs.Emission.{is_dynamic, registrations}
+use Rattle.tk_queue_session.specs.Emission.{is_dynamic, registrations}
 use Rattle.tk_engine_laws.specs.Scripts.{IsRunOf, id_at, may, played}
 
 -- ---- what holds of the table's keys and of the keys that were drawn holds of each event's key

@@ -10,7 +10,7 @@ use Rattle.tk_events.specs.declared.statuses.Status.TheVariants.{Successful}
 use Rattle.tk_events.specs.declared.payloads.Payload.TheVariants.{Nothing, Outcome, Described}
 use Rattle.tk_record_columns.specs.Recorded.{Recorded}
 use Rattle.tk_record_columns.specs.Mixing.{IsWorkerOf, of_worker}
-use Rattle.tk_queue.specs.Emission.{entries_by}
+use Rattle.tk_queue_session.specs.Emission.{entries_by}
 use Rattle.tk_engine_claim.specs.Claims.{IsStrictlyIncreasing, once_below, times}
 use Rattle.tk_engine_runs.specs.Run.{Emits}
 use Rattle.tk_plan_units.specs.Trees.{forest, grow, IsForest}

@@ -38,7 +38,7 @@ use Rattle.tk_engine_laws.proofs.Naming.{hits_at, emitted_played}
 use Rattle.tk_engine_laws.proofs.Through.{chain_law, id_table, name_in, names, none_above}
 use Rattle.tk_report_text.specs.Labels.{Label, events, id_in, label, labels, name, same_id}
 use Rattle.tk_report_text.specs.Reports.{id_lines, id_texts, label_line, report_of_record}
-use Rattle.tk_queue.specs.Emission.{entries_by}
+use Rattle.tk_queue_session.specs.Emission.{entries_by}
 use Rattle.tk_engine_laws.specs.Scripts.{IsRunOf, id_at, played, script_record}
 
 turned : (x y : List ℕ) → bytes_eq x y ≡ bytes_eq y x

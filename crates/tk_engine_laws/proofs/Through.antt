@@ -30,7 +30,7 @@ use Rattle.tk_engine_laws.proofs.Naming.{dynamic_kind, hits_above, hits_at, hits
 use Rattle.tk_report_text.specs.Labels.{Label, events, id_in, label, labels, name}
 use Rattle.tk_engine_claim.specs.Claims.{Claims}
 use Rattle.tk_engine_runs.specs.Run.{Emits}
-use Rattle.tk_queue.specs.Emission.{entries_by, is_dynamic, registrations}
+use Rattle.tk_queue_session.specs.Emission.{entries_by, is_dynamic, registrations}
 use Rattle.tk_engine_laws.specs.Scripts.{IsRunOf, id_at, may, played}
 
 -- ---- at most one unit has nodes of a chain

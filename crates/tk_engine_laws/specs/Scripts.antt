@@ -50,7 +50,7 @@ use Rattle.tk_plan_units.specs.Numbers.{in_order}
 use Rattle.tk_plan_units.specs.Ids.{ids_below, descriptor}
 use Rattle.tk_plan_units.specs.Events.{event}
 use Rattle.tk_plan_units.specs.StepEvents.{kind_of, payload_of}
-use Rattle.tk_queue.specs.Emission.{entries_by, registrations}
+use Rattle.tk_queue_session.specs.Emission.{entries_by, registrations}
 use Rattle.tk_engine_runs.specs.Run.{IsRun}
 
 abbrev pub is_registration : Act → Bool

@@ -1,7 +1,7 @@
 //! Laws of runs of plans, which hold of the definitions alone.
 ghost use Rattle.tk_engine_laws.specs.Laws.{StampsArePositions, ScriptsArePlayable, NodesAreFound, ReportIsUnique, Listener, ListenerByKey, RunsKeepLifecycle, RunsAreKept};
 
-use tk_query::laws::{kept_by_its_events, lifecycle_is_unique};
+use tk_query_lifecycle::laws::{kept_by_its_events, lifecycle_is_unique};
 
 /// The stamp of a step is its position in the root's script.
 pub fn stamps_are_positions()

@@ -9,8 +9,8 @@ use Rattle.tk_events.specs.declared.events.Entry.{Entry}
 use Rattle.tk_record_columns.specs.Recorded.{Recorded}
 use Rattle.tk_record_columns.specs.Record.{IsRecord}
 use Rattle.tk_record_columns.specs.Mixing.{of_worker}
-use Rattle.tk_queue.specs.Emission.{entry_by, entries_by}
-use Rattle.tk_query.specs.Lifecycle.{HasId}
+use Rattle.tk_queue_session.specs.Emission.{entry_by, entries_by}
+use Rattle.tk_query_lifecycle.specs.Lifecycle.{HasId}
 use Rattle.tk_engine_execute.specs.Engines.{IsStaticEvent}
 use Rattle.tk_engine_lifecycle.specs.Units.{Frame, run_alone, KeepsAlone, KeepsAround}
 use Rattle.tk_engine_lifecycle.proofs.Splits.{InFirst, InSecond, in_parts, nil_or_cons}

@@ -14,9 +14,9 @@ use Rattle.tk_events.specs.declared.events.Entry.{Entry}
 use Rattle.tk_events.specs.Event.{kind_code}
 use Rattle.tk_record_columns.specs.Recorded.{Recorded}
 use Rattle.tk_record_columns.specs.Entries.{of_kind, desc, desc_in, described, registered}
-use Rattle.tk_queue.specs.Emission.{entries_by}
-use Rattle.tk_query.specs.Lifecycle.{HasId, has_event, is_event, runs}
-use Rattle.tk_query.specs.KeepsLifecycle.{is_step, steps_of}
+use Rattle.tk_queue_session.specs.Emission.{entries_by}
+use Rattle.tk_query_lifecycle.specs.Lifecycle.{HasId, has_event, is_event, runs}
+use Rattle.tk_query_lifecycle.specs.KeepsLifecycle.{is_step, steps_of}
 
 abbrev pub events : List Entry → List Event
 events es = map (λ (e : Entry). e.event) es

@@ -4,9 +4,9 @@ use Rattle.std.proofs.lemmas.List.Elements.{All-weaker}
 use Rattle.tk_ids.specs.IdText.{SegmentView, parent_of}
 use Rattle.tk_events.specs.declared.events.Event.{Event}
 use Rattle.tk_events.specs.declared.events.Entry.{Entry}
-use Rattle.tk_queue.specs.Emission.{entries_by, entry_by}
-use Rattle.tk_query.specs.Lifecycle.{HasId}
-use Rattle.tk_query.specs.KeepsLifecycle.{IsWhole, steps_of}
+use Rattle.tk_queue_session.specs.Emission.{entries_by, entry_by}
+use Rattle.tk_query_lifecycle.specs.Lifecycle.{HasId}
+use Rattle.tk_query_lifecycle.specs.KeepsLifecycle.{IsWhole, steps_of}
 use Rattle.tk_engine_lifecycle.specs.Units.{Frame, AreOf, KeepsAlone, KeepsAround, run_alone}
 use Rattle.tk_engine_lifecycle.proofs.States.{state}
 use Rattle.tk_engine_lifecycle.specs.UnderWay.{IsUnderWay, so_far}

@@ -5,10 +5,10 @@ use Rattle.std.proofs.lemmas.List.Elements.{All-push, All-weaker}
 use Rattle.tk_ids.specs.IdText.{SegmentView, parent_of}
 use Rattle.tk_events.specs.declared.events.Event.{Event}
 use Rattle.tk_events.specs.declared.kinds.Kind.{Kind}
-use Rattle.tk_queue.specs.Emission.{entries_by, entry_by}
-use Rattle.tk_query.specs.Lifecycle.{HasId}
+use Rattle.tk_queue_session.specs.Emission.{entries_by, entry_by}
+use Rattle.tk_query_lifecycle.specs.Lifecycle.{HasId}
 use Rattle.tk_record_columns.specs.Entries.{with_entry}
-use Rattle.tk_query.specs.KeepsLifecycle.{is_step, steps_of}
+use Rattle.tk_query_lifecycle.specs.KeepsLifecycle.{is_step, steps_of}
 use Rattle.tk_engine_lifecycle.specs.Units.{Frame, AreOf}
 use Rattle.tk_engine_lifecycle.specs.UnderWay.{AreNested, IsOneOf, MayFollow, so_far}
 use Rattle.tk_engine_lifecycle.proofs.Splits.{InFirst, InSecond, in_parts}

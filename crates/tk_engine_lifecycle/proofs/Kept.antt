@@ -7,9 +7,9 @@ use Rattle.tk_events.specs.declared.events.Event.{Event}
 use Rattle.tk_events.specs.declared.events.Entry.{Entry}
 use Rattle.tk_record_columns.specs.Recorded.{Recorded}
 use Rattle.tk_record_columns.specs.Mixing.{of_worker}
-use Rattle.tk_queue.specs.Emission.{entries_by, entry_by}
-use Rattle.tk_query.specs.Lifecycle.{HasId, KnowsId, runs}
-use Rattle.tk_query.specs.KeepsLifecycle.{KeepsLifecycle}
+use Rattle.tk_queue_session.specs.Emission.{entries_by, entry_by}
+use Rattle.tk_query_lifecycle.specs.Lifecycle.{HasId, KnowsId, runs}
+use Rattle.tk_query_lifecycle.specs.KeepsLifecycle.{KeepsLifecycle}
 use Rattle.tk_engine_lifecycle.specs.Units.{Frame, run_alone}
 use Rattle.tk_engine_lifecycle.proofs.Splits.{Joined, joined, left_nil, right_nil, split_get, split_take, unfiltered}
 use Rattle.tk_engine_lifecycle.proofs.ByKey.{events, events-append, events_by, has_run, hits, hits-append, same_id, same_runs}

@@ -6,7 +6,7 @@ use Rattle.tk_ids.specs.declared.descriptors.Descriptor.{Descriptor}
 use Rattle.tk_events.specs.declared.events.Event.{Event}
 use Rattle.tk_events.specs.declared.events.Entry.{Entry}
 use Rattle.tk_record_columns.specs.Mixing.{of_worker}
-use Rattle.tk_queue.specs.Emission.{entry_by, entries_by}
+use Rattle.tk_queue_session.specs.Emission.{entry_by, entries_by}
 use Rattle.tk_engine_lifecycle.specs.Units.{Frame}
 use Rattle.tk_engine_lifecycle.proofs.Splits.{Gives, none_or_one}
 use Rattle.tk_engine_lifecycle.proofs.ByKey.{Registration, hit_in, hits, is_dynamic}

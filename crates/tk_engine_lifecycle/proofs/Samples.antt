@@ -10,9 +10,9 @@ use Rattle.tk_events.specs.Event.{is_lawful, kind_code}
 use Rattle.tk_events.specs.declared.kinds.Kind.{Kind}
 use Rattle.tk_events.specs.declared.kinds.Kind.TheVariants.{Dynamic, Started, Finished}
 use Rattle.tk_record_columns.specs.Recorded.{Recorded}
-use Rattle.tk_queue.specs.Emission.{entry_by}
-use Rattle.tk_query.specs.Lifecycle.{HasId, KnowsId, first_entries}
-use Rattle.tk_query.specs.KeepsLifecycle.{IsWhole, steps_of}
+use Rattle.tk_queue_session.specs.Emission.{entry_by}
+use Rattle.tk_query_lifecycle.specs.Lifecycle.{HasId, KnowsId, first_entries}
+use Rattle.tk_query_lifecycle.specs.KeepsLifecycle.{IsWhole, steps_of}
 use Rattle.tk_record_columns.specs.Entries.{with_entry}
 use Rattle.tk_engine_execute.specs.Engines.{IsStaticEvent}
 use Rattle.tk_engine_lifecycle.specs.Units.{Frame, KeepsAlone, KeepsAround, UnitsKeepLifecycle, run_alone}

@@ -12,9 +12,9 @@ use Rattle.tk_events.specs.Event.{kind_code}
 use Rattle.tk_events.specs.declared.payloads.Payload.TheVariants.{Described}
 use Rattle.tk_record_columns.specs.Recorded.{Recorded}
 use Rattle.tk_record_columns.specs.Entries.{desc, desc_in, described, registered, with_entry}
-use Rattle.tk_queue.specs.Emission.{entries_by, entry_by}
-use Rattle.tk_query.specs.Lifecycle.{HasId, runs}
-use Rattle.tk_query.specs.KeepsLifecycle.{IsWhole, is_step, steps_of}
+use Rattle.tk_queue_session.specs.Emission.{entries_by, entry_by}
+use Rattle.tk_query_lifecycle.specs.Lifecycle.{HasId, runs}
+use Rattle.tk_query_lifecycle.specs.KeepsLifecycle.{IsWhole, is_step, steps_of}
 use Rattle.tk_engine_lifecycle.specs.Units.{Frame, AreOf, KeepsAround}
 use Rattle.tk_engine_lifecycle.proofs.States.{begins_again, registered_again, state, under_way_again}
 use Rattle.tk_engine_lifecycle.specs.UnderWay.{AreNested, HasRunningParentIn, IsOneOf, IsUnderWay, MayBegin, MayBeRegistered, MayFollow, so_far}

@@ -6,9 +6,9 @@ use Rattle.tk_events.specs.declared.events.Event.{Event}
 use Rattle.tk_events.specs.declared.events.Entry.{Entry}
 use Rattle.tk_record_columns.specs.Recorded.{Recorded}
 use Rattle.tk_record_columns.specs.Record.{IsRecord}
-use Rattle.tk_queue.specs.Emission.{entries_by}
-use Rattle.tk_query.specs.Lifecycle.{HasId, runs}
-use Rattle.tk_query.specs.KeepsLifecycle.{IsWhole, KeepsLifecycle, steps_of}
+use Rattle.tk_queue_session.specs.Emission.{entries_by}
+use Rattle.tk_query_lifecycle.specs.Lifecycle.{HasId, runs}
+use Rattle.tk_query_lifecycle.specs.KeepsLifecycle.{IsWhole, KeepsLifecycle, steps_of}
 use Rattle.tk_engine_runs.specs.Run.{IsRun}
 use Rattle.tk_engine_lifecycle.specs.Units.{Frame, KeepsAround, UnitsKeepLifecycle, run_alone}
 use Rattle.tk_engine_lifecycle.proofs.Splits.{Gives, InFirst, InSecond, get_split, in_parts, left_nil, none_or_one}

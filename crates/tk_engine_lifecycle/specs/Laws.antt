@@ -4,7 +4,7 @@ use Rattle.tk_ids.specs.declared.descriptors.Descriptor.{Descriptor}
 use Rattle.tk_events.specs.declared.events.Event.{Event}
 use Rattle.tk_events.specs.declared.kinds.Kind.TheVariants.{Dynamic, Started, Skipped, Finished}
 use Rattle.tk_events.specs.declared.payloads.Payload.TheVariants.{Described}
-use Rattle.tk_query.specs.KeepsLifecycle.{is_step}
+use Rattle.tk_query_lifecycle.specs.KeepsLifecycle.{is_step}
 use Rattle.tk_engine_lifecycle.specs.Units.{Frame, KeepsAlone, KeepsAround}
 use Rattle.tk_engine_lifecycle.specs.UnderWay.{
   IsOneOf,

@@ -1,5 +1,5 @@
 pub use Rattle.tk_engine_runs.specs.Run
-pub use Rattle.tk_query.specs.KeepsLifecycle
+pub use Rattle.tk_query_lifecycle.specs.KeepsLifecycle
 pub mod Units
 pub mod UnderWay
 pub mod Laws

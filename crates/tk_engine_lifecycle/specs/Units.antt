@@ -4,9 +4,9 @@ use Rattle.tk_ids.specs.IdText.{SegmentView}
 use Rattle.tk_ids.specs.declared.descriptors.Descriptor.{Descriptor}
 use Rattle.tk_events.specs.declared.events.Event.{Event}
 use Rattle.tk_record_columns.specs.Recorded.{Recorded}
-use Rattle.tk_queue.specs.Emission.{entries_by}
-use Rattle.tk_query.specs.Lifecycle.{HasId}
-use Rattle.tk_query.specs.KeepsLifecycle.{KeepsLifecycle}
+use Rattle.tk_queue_session.specs.Emission.{entries_by}
+use Rattle.tk_query_lifecycle.specs.Lifecycle.{HasId}
+use Rattle.tk_query_lifecycle.specs.KeepsLifecycle.{KeepsLifecycle}
 use Rattle.tk_engine_execute.specs.Engines.{IsStaticEvent}
 
 -- An engine's table, its events before and after the units, how many units it has, and to which of

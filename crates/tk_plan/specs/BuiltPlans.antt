@@ -2,7 +2,7 @@
 use Rattle.serde_json.specs.Data.{Data}
 use Rattle.tk_plan_nodes.specs.NodeJson.{plan_json}
 use Rattle.tk_plan_nodes.specs.declared.plan_nodes.PlanNode.{PlanNode}
-use Rattle.tk_plan_json.specs.JsonValues.{data_of}
+use Rattle.tk_plan_members.specs.JsonValues.{data_of}
 
 -- that of the JSON that says the same
 abbrev pub plan_data : PlanNode → Data

@@ -8,9 +8,9 @@ use Rattle.tk_plan_units.specs.Numbers.{numbered}
 use Rattle.tk_plan_units.specs.Ids.{descriptors}
 use Rattle.tk_plan_units.specs.Planned.{Outline}
 use Rattle.tk_plan.specs.PlanOf.{PlanOf}
-use Rattle.tk_plan_json.specs.Refusals.{IsFault}
-use Rattle.tk_plan_json.specs.declared.faults.PlanFault.{PlanFault}
-use Rattle.tk_plan_json.specs.declared.faults.PlanFault.TheVariants.{Json}
+use Rattle.tk_plan_members.specs.Refusals.{IsFault}
+use Rattle.tk_plan_members.specs.declared.faults.PlanFault.{PlanFault}
+use Rattle.tk_plan_members.specs.declared.faults.PlanFault.TheVariants.{Json}
 
 -- a tree's nodes in preorder with their numbers, and the descriptors of the static ones
 abbrev pub outline : Tree → Outline

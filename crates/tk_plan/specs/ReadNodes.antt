@@ -4,9 +4,9 @@ use Rattle.tk_plan_units.specs.Ids.{descriptors}
 use Rattle.tk_plan_units.specs.Planned.{IsPlanned}
 use Rattle.tk_plan_units.specs.Trees.{Tree, flat}
 use Rattle.tk_plan_json.specs.Progress.{IsNoted}
-use Rattle.tk_plan_json.specs.Refusals.{IsFault}
+use Rattle.tk_plan_members.specs.Refusals.{IsFault}
 use Rattle.tk_plan.specs.Tables.{Follow}
-use Rattle.tk_plan_json.specs.declared.faults.PlanFault.{PlanFault}
+use Rattle.tk_plan_members.specs.declared.faults.PlanFault.{PlanFault}
 use Rattle.tk_plan_json.specs.declared.plan_readers.Reader.{Reader}
 
 -- the reader has the nodes of the tree and the descriptors of the static ones, and they are a plan

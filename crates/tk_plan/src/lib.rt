@@ -11,7 +11,8 @@ mod plan_reading;
 
 pub use plan_building::build_plan;
 pub use plan_reading::read_plan;
-pub use tk_plan_json::{MAX_LEVELS, PlanFault};
+pub use tk_plan_json::MAX_LEVELS;
+pub use tk_plan_members::PlanFault;
 pub use tk_plan_nodes::{ExecutionMode, LockMode, PlanLock, PlanNode};
 pub use tk_plan_units::{
     Act, Entries, Files, Lock, Locks, MAX_EVENTS, MAX_KEYS, Node, NumberedNode, Plan, Step,

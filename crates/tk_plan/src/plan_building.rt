@@ -5,7 +5,7 @@ ghost use Rattle.tk_plan.specs.PlanOf.{PlanOf};
 
 use crate::plan_reading::{nodes_of, plan_from};
 use std::alloc::Global;
-use tk_plan_json::PlanFault;
+use tk_plan_members::PlanFault;
 use tk_plan_nodes::PlanNode;
 use tk_plan_nodes::node_values::plan_value;
 use tk_plan_units::Plan;

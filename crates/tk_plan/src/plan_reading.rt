@@ -1,9 +1,9 @@
 //! Reading a plan.
 ghost use Rattle.std.specs.Prelude.{◌≡◌, ◌≤◌, ◌<◌, ◌++◌, ◌∷◌, [], Some, codes, length, IfOk, OnOk, option_map};
 ghost use Rattle.serde_json.specs.Find.{get};
-ghost use Rattle.tk_plan_json.specs.JsonValues.{view};
-ghost use Rattle.tk_plan_json.specs.Answers.{Reads};
-ghost use Rattle.tk_plan_json.specs.Checks.{member_at, member_wrong, must};
+ghost use Rattle.tk_plan_members.specs.JsonValues.{view};
+ghost use Rattle.tk_plan_members.specs.Answers.{Reads};
+ghost use Rattle.tk_plan_members.specs.Checks.{member_at, member_wrong, must};
 ghost use Rattle.tk_plan.specs.PlanOf.{PlanOf, one_or_two, is_two, takes_files_in, anything, top};
 ghost use Rattle.tk_plan.specs.PlanAnswers.{plan_in, Answered};
 ghost use Rattle.tk_plan_json.specs.Progress.{IsNoted};
@@ -19,15 +19,15 @@ use json::{Scratch, Value};
 use std::alloc::{AllocError, Global};
 use std::sync::Arc;
 use tk_ids::{Descriptor, Table, Text};
-use tk_plan_json::PlanFault;
-use tk_plan_json::json_members::known_members;
-use tk_plan_json::json_numbers::whole_number_in;
-use tk_plan_json::json_paths::JsonPath;
-use tk_plan_json::json_texts::read_json;
-use tk_plan_json::json_values::into_members;
 use tk_plan_json::node_reading::read_nodes;
-use tk_plan_json::path_texts::wrong_member;
 use tk_plan_json::plan_readers::Reader;
+use tk_plan_members::PlanFault;
+use tk_plan_members::json_members::known_members;
+use tk_plan_members::json_numbers::whole_number_in;
+use tk_plan_members::json_paths::JsonPath;
+use tk_plan_members::json_texts::read_json;
+use tk_plan_members::json_values::into_members;
+use tk_plan_members::path_texts::wrong_member;
 use tk_plan_units::{Plan, count_events};
 
 /// Reads the member `version`, which is 1 or 2: whether it is 2, so that nodes may have files.

@@ -15,16 +15,16 @@ use Rattle.tk_plan_units.specs.Ids.{descriptor, descriptor_in}
 use Rattle.tk_plan_units.specs.Keys.{note_key, note_locks, lock_keys}
 use Rattle.tk_plan_units.specs.Planned.{is_lawful_node}
 use Rattle.tk_plan_units.specs.Trees.{contents}
-use Rattle.tk_plan_json.specs.Answers.{Refuses}
-use Rattle.tk_plan_json.specs.Refusals.{Faults, Meets}
-use Rattle.tk_plan_json.specs.Checks.{first}
+use Rattle.tk_plan_members.specs.Answers.{Refuses}
+use Rattle.tk_plan_members.specs.Refusals.{Faults, Meets}
+use Rattle.tk_plan_members.specs.Checks.{first}
 use Rattle.tk_plan_json.specs.Progress.{Addition, state, addition_of, IsNoted, IsChecked, IsAdded, HasBelow, IsStarted, room_checks}
 use Rattle.tk_plan_json.specs.NodeInputs.{NodeInput, segment_of, repeats_key}
 use Rattle.tk_plan_json.specs.Verdicts.{checks, node_check, id_fault, same_segment, is_kind}
 use Rattle.tk_plan_json.specs.declared.plan_readers.Reader.{Reader}
 use Rattle.tk_plan_json.specs.declared.plan_readers.Checked.{Checked}
-use Rattle.tk_plan_json.specs.declared.faults.PlanFault.{PlanFault}
-use Rattle.tk_plan_json.specs.declared.faults.PlanFault.TheVariants.{Json, Field, Id, Table, TooManyResources, EntryKeyTwice, TooManyEvents, Deep, Memory}
+use Rattle.tk_plan_members.specs.declared.faults.PlanFault.{PlanFault}
+use Rattle.tk_plan_members.specs.declared.faults.PlanFault.TheVariants.{Json, Field, Id, Table, TooManyResources, EntryKeyTwice, TooManyEvents, Deep, Memory}
 
 pub faults_also : (v w : Option PlanFault) (e : PlanFault) → ((f : PlanFault) → v ≡ Some f → w ≡ Some f) → Faults v e → Faults w e
 faults_also v w Json f r = f Json r
@@ -181,9 +181,6 @@ noted_same old new nodes keys ds dyn n = record {
 
 pub below_limit : (n m : ℕ) → nat_le n m ≡ false → m < n
 below_limit n m h = grind (arith, nat_tests)
-
-pub both : (a b : Bool) → a ≡ true → b ≡ true → a && b ≡ true
-both a b h k = rw (h, k) refl
 
 pub not_false : (a b : Bool) → a ≡ not b → a ≡ false → b ≡ true
 not_false a true e h = refl

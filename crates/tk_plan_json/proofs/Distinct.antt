@@ -9,15 +9,16 @@ use Rattle.tk_ids.specs.declared.tables.TableFault.TheVariants.{Twice, Full}
 use Rattle.tk_plan_units.specs.declared.nodes.Node.{Node}
 use Rattle.tk_plan_units.specs.Trees.{Tree, tree, Forest, no_trees, more}
 use Rattle.tk_plan_units.specs.Ids.{ids, ids_below, AreDistinct}
-use Rattle.tk_plan_json.specs.Checks.{first, or_else}
+use Rattle.tk_plan_members.specs.Checks.{first}
 use Rattle.tk_plan_json.specs.NodeInputs.{NodeInput, NodeArray, repeats_key, segment_in, segment_of, node_of, below, node_inputs, node_inputs_in, children_in, dynamic_in, children_of, dynamic_of, grown, forest_of}
 use Rattle.tk_plan_json.specs.Verdicts.{checks, verdict, same_segment, node_check, id_fault, is_kind, when}
 use Rattle.tk_ids.specs.declared.tables.TheConstants.{MAX_DESCRIPTORS}
 use Rattle.tk_plan_units.specs.declared.needs.TheConstants.{MAX_KEYS}
 use Rattle.tk_plan_json.specs.declared.limits.TheConstants.{MAX_LEVELS}
 use Rattle.tk_plan_units.specs.Keys.{lock_keys}
-use Rattle.tk_plan_json.specs.declared.faults.PlanFault.{PlanFault}
-use Rattle.tk_plan_json.specs.declared.faults.PlanFault.TheVariants.{Field, Id, Table, TooManyResources, EntryKeyTwice, Deep}
+use Rattle.tk_plan_members.specs.declared.faults.PlanFault.{PlanFault}
+use Rattle.tk_plan_members.specs.declared.faults.PlanFault.TheVariants.{Field, Id, Table, TooManyResources, EntryKeyTwice, Deep}
+use Rattle.tk_plan_members.proofs.ChecksInTurn.{none_first, none_second}
 use Rattle.tk_plan_json.proofs.Verdicts.{verdict-append, verdict-cons}
 
 -- ---- trees whose siblings have different segments
@@ -64,14 +65,6 @@ run_below s =
     (subst (λ e. IsRun e (dynamic_in s cs (dynamic_of s.value))) (sym here) (run_in _ _ (map segment_in cs) (dynamic_of s.value)))
 
 -- ---- from a verdict
-
-pub none_first : {A : Type 0} (a b : Option A) → or_else a b ≡ None → a ≡ None
-none_first None b e = refl
-none_first (Some x) b e = e
-
-pub none_second : {A : Type 0} (a b : Option A) → or_else a b ≡ None → b ≡ None
-none_second None b e = e
-none_second (Some x) b e = cc
 
 when_none : (b : Bool) (f : PlanFault) → when b f ≡ None → b ≡ false
 when_none true f e = cc

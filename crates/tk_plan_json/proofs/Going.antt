@@ -6,16 +6,16 @@ use Rattle.std.proofs.Common.{length-append}
 use Rattle.std.proofs.Math.ListN.{set}
 use Rattle.std.proofs.Math.Seq.{set-append_seam}
 use Rattle.serde_json.specs.Data.{Data}
-use Rattle.tk_plan_json.specs.JsonValues.{view}
-use Rattle.tk_plan_json.specs.JsonValues.{JsonValue}
+use Rattle.tk_plan_members.specs.JsonValues.{view}
+use Rattle.tk_plan_members.specs.JsonValues.{JsonValue}
 use Rattle.std.proofs.lemmas.Grind.{flat_map-append}
 use Rattle.tk_ids.specs.IdText.{SegmentView}
 use Rattle.tk_plan_units.specs.declared.nodes.Node.{Node}
 use Rattle.tk_plan_units.specs.declared.nodes.NumberedNode.{NumberedNode}
 use Rattle.tk_plan_units.specs.Trees.{flat, contents}
 use Rattle.tk_plan_units.specs.Ids.{descriptor_in, descriptors}
-use Rattle.tk_plan_json.specs.Checks.{first, or_else, member_at}
-use Rattle.tk_plan_json.specs.declared.faults.PlanFault.{PlanFault}
+use Rattle.tk_plan_members.specs.Checks.{first, or_else, member_at}
+use Rattle.tk_plan_members.specs.declared.faults.PlanFault.{PlanFault}
 use Rattle.tk_plan_json.specs.declared.plan_readers.Reader.{Reader}
 use Rattle.tk_plan_json.specs.NodeInputs.{NodeInput, NodeArray, node_input, segment_in, id_of, node_of, below, node_inputs, node_inputs_in, children_of, dynamic_of, children_in, dynamic_in, grown}
 use Rattle.tk_plan_json.specs.Verdicts.{checks, verdict, joined}

@@ -1,8 +1,8 @@
 -- The rows of a node in groups.
 use Rattle.std.proofs.Common.{◌≡◌, ℕ, List, map, Bool, true, false, Option, Some, None, refl, ap, ◌∙◌}
 use Rattle.serde_json.specs.Data.{Data}
-use Rattle.tk_plan_json.specs.Checks.{or_else, first, row, unknown}
-use Rattle.tk_plan_json.specs.Rows.{dtype_row, segment_row, name_row, mode_row, isolated_row, locks_row, skip_row, result_row, entries_row, files_row, children_row, dynamic_row, static_rows, dynamic_rows, static_node, dynamic_node}
+use Rattle.tk_plan_members.specs.Checks.{or_else, first, row, unknown}
+use Rattle.tk_plan_members.specs.Rows.{dtype_row, segment_row, name_row, mode_row, isolated_row, locks_row, skip_row, result_row, entries_row, files_row, children_row, dynamic_row, static_rows, dynamic_rows, static_node, dynamic_node}
 use Rattle.tk_plan_json.specs.Fields.{heading_rows, concurrency_rows, content_rows}
 
 -- nothing is wrong with the first of two

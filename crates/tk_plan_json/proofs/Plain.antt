@@ -8,17 +8,17 @@ use Rattle.std.specs.declared.cmp.Ordering.TheVariants.{Less, Equal, Greater}
 use Rattle.std.specs.Cmp.Lexicographic.{slice_cmp, texts_ties, bytes_decides}
 use Rattle.serde_json.specs.Data.{Data, null, boolean, number, string, array, object, Members, no_members, member}
 use Rattle.serde_json.specs.Find.{get, get_member}
-use Rattle.tk_plan_json.specs.Checks.{Row, or_else, first, row, member_at, member_wrong, unknown, unknown_in}
-use Rattle.tk_plan_json.specs.Rows.{mode_row, isolated_row, locks_row, skip_row, result_row, entries_row, files_row, children_row, dynamic_row, static_rows, static_node}
+use Rattle.tk_plan_members.specs.Checks.{Row, or_else, first, row, member_at, member_wrong, unknown, unknown_in}
+use Rattle.tk_plan_members.specs.Rows.{mode_row, isolated_row, locks_row, skip_row, result_row, entries_row, files_row, children_row, dynamic_row, static_rows, static_node}
 use Rattle.tk_events.specs.declared.statuses.Status.TheVariants.{Successful}
-use Rattle.tk_plan_json.specs.Contents.{json_concurrent, json_truth, json_locks, json_optional, json_entry, json_files, status_in, message_in, listed}
-use Rattle.tk_plan_json.specs.Contents.{repeats as repeats_in}
-use Rattle.tk_plan_json.specs.NodeInputs.{files_of}
+use Rattle.tk_plan_members.specs.Contents.{json_concurrent, json_truth, json_locks, json_optional, json_entry, json_files, status_in, message_in, listed}
+use Rattle.tk_plan_members.specs.Contents.{repeats as repeats_in}
+use Rattle.tk_plan_members.specs.Contents.{files_of}
 use Rattle.tk_plan_json.specs.Fields.{heading_rows, concurrency_rows, content_rows, plain_names, IsPlain, IsConcurrency, IsContent}
 use Rattle.tk_plan_json.specs.declared.node_fields.Concurrency.{Concurrency}
 use Rattle.tk_plan_json.specs.declared.node_fields.Content.{Content}
 use Rattle.tk_plan_json.proofs.Groups.{passes, static_groups}
-use Rattle.tk_plan_json.proofs.UnknownMembers.{is_known}
+use Rattle.tk_plan_members.proofs.UnknownMembers.{is_known}
 
 rest_known : (b : Bool) (rest : Option (List ℕ)) (here : List ℕ) → cond b rest (Some here) ≡ None → (b ≡ true) × (rest ≡ None)
 rest_known true rest here e = (refl, e)

@@ -5,7 +5,7 @@ use Rattle.tk_ids.specs.IdText.{SegmentView}
 use Rattle.tk_plan_units.specs.declared.nodes.Node.{Node}
 use Rattle.tk_plan_units.specs.Trees.{Tree, flat, flats, contents}
 use Rattle.tk_plan_units.specs.Ids.{descriptors, descriptors_below}
-use Rattle.tk_plan_json.specs.Checks.{first, or_else}
+use Rattle.tk_plan_members.specs.Checks.{first, or_else}
 use Rattle.tk_plan_json.specs.NodeInputs.{NodeInput, node_of, below, node_inputs, forest_of, grown}
 use Rattle.tk_plan_json.specs.Verdicts.{checks, joined, verdict}
 

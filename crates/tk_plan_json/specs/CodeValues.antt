@@ -2,16 +2,16 @@
 use Rattle.std.specs.Prelude.{◌≡◌, ◌++◌, ◌+◌, ◌∷◌, [], ℕ, Bool, List, Option, None, Some}
 use denote.Ref.{Bor}
 use Rattle.serde_json.specs.Data.{Data}
-use Rattle.tk_plan_json.specs.JsonValues.{view}
+use Rattle.tk_plan_members.specs.JsonValues.{view}
 use Rattle.tk_ids.specs.IdText.{SegmentView}
 use Rattle.tk_ids.specs.declared.id_faults.IdFault.{IdFault}
 use Rattle.tk_ids.specs.declared.id_faults.IdFault.TheVariants as id_faults
-use Rattle.tk_plan_json.specs.Checks.{member_at}
+use Rattle.tk_plan_members.specs.Checks.{member_at}
 use Rattle.tk_plan_json.specs.NodeInputs as spec
-use Rattle.tk_plan_json.specs.Pointers.{pointer}
-use Rattle.tk_plan_json.specs.declared.faults.PlanFault.{PlanFault}
-use Rattle.tk_plan_json.specs.declared.faults.PlanFault.TheVariants.{Id, Memory}
-use Rattle.tk_plan_json.specs.declared.member_values.TwoTexts.{TwoTexts}
+use Rattle.tk_plan_members.specs.Pointers.{pointer}
+use Rattle.tk_plan_members.specs.declared.faults.PlanFault.{PlanFault}
+use Rattle.tk_plan_members.specs.declared.faults.PlanFault.TheVariants.{Id, Memory}
+use Rattle.tk_plan_members.specs.declared.member_values.TwoTexts.{TwoTexts}
 use Rattle.tk_plan_json.specs.declared.plan_readers.Named.{Named}
 use Rattle.tk_plan_json.specs.declared.node_inputs.NodePlace.{NodePlace}
 use Rattle.tk_plan_json.specs.declared.node_inputs.NodeInput.{NodeInput}

@@ -1,35 +1,17 @@
 -- What readers of a node's members hand on.
-use Rattle.std.specs.Prelude.{
-  ◌≡◌,
-  ◌==◌,
-  ◌&&◌,
-  ℕ,
-  Bool,
-  true,
-  List,
-  [],
-  ◌∷◌,
-  length,
-  map,
-  codes,
-  None,
-}
-use Rattle.std.specs.List.{list_all}
+use Rattle.std.specs.Prelude.{◌≡◌, ◌==◌, ◌&&◌, ℕ, Bool, List, [], ◌∷◌, length, map, codes, None}
 use Rattle.serde_json.specs.Data.{Data}
 use Rattle.serde_json.specs.Find.{get}
-use Rattle.tk_plan_json.specs.JsonValues.{view}
-use Rattle.tk_plan_json.specs.Checks.{Row, unknown}
-use Rattle.tk_plan_json.specs.Contents.{json_text, json_optional, json_dtype, listed}
-use Rattle.tk_plan_json.specs.Rows.{dtype_row, segment_row, name_row, mode_row, isolated_row}
-use Rattle.tk_plan_json.specs.Rows.{locks_row, skip_row, result_row, entries_row, files_rows}
-use Rattle.tk_plan_json.specs.Rows.{children_row, dynamic_row}
-use Rattle.tk_events.specs.Event.{is_lawful}
-use Rattle.tk_events.specs.declared.kinds.Kind.TheVariants.{File}
-use Rattle.tk_events.specs.declared.payloads.Payload.TheVariants.{Path}
-use Rattle.tk_plan_json.specs.NodeInputs.{concurrent_of, isolated_of, locks_of, files_of}
+use Rattle.tk_plan_members.specs.JsonValues.{view}
+use Rattle.tk_plan_members.specs.Checks.{Row, unknown}
+use Rattle.tk_plan_members.specs.Contents.{json_text, json_optional, json_dtype, listed}
+use Rattle.tk_plan_members.specs.Rows.{dtype_row, segment_row, name_row, mode_row, isolated_row}
+use Rattle.tk_plan_members.specs.Rows.{locks_row, skip_row, result_row, entries_row, files_rows}
+use Rattle.tk_plan_members.specs.Rows.{children_row, dynamic_row}
+use Rattle.tk_plan_json.specs.NodeInputs.{concurrent_of, isolated_of, locks_of}
 use Rattle.tk_plan_json.specs.NodeInputs.{children_of, dynamic_of}
-use Rattle.tk_plan_json.specs.Pointers.{IsPairOf}
-use Rattle.tk_plan_json.specs.Endings.{IsEnding, AreReports}
+use Rattle.tk_plan_members.specs.Pointers.{IsPairOf}
+use Rattle.tk_plan_members.specs.Endings.{IsEnding, AreReports, AreFiles}
 use Rattle.tk_plan_json.specs.declared.node_fields.Heading.{Heading}
 use Rattle.tk_plan_json.specs.declared.node_fields.Concurrency.{Concurrency}
 use Rattle.tk_plan_json.specs.declared.node_fields.Content.{Content}
@@ -68,10 +50,6 @@ pub record IsConcurrency (is_static : Bool) (d : Data) (m : Concurrency) : Type 
   pub is_concurrent : m.is_concurrent ≡ concurrent_of is_static d
   pub is_isolated : m.is_isolated ≡ isolated_of is_static d
   pub locks : m.locks ≡ locks_of is_static d
-
-pub record AreFiles (takes_files : Bool) (d : Data) (files : List (List ℕ)) : Type 0 where
-  pub paths : files ≡ files_of takes_files d
-  pub lawful : list_all (λ p. is_lawful File (Path p)) files ≡ true
 
 pub record IsContent (takes_files : Bool) (d : Data) (c : Content) : Type 0 where
   pub skip : c.skip ≡ json_optional (get (codes "skip") d)

@@ -1,16 +1,6 @@
-pub mod Characters
-pub mod Checks
-pub mod Rows
-pub mod Contents
 pub mod NodeInputs
 pub mod Verdicts
-pub mod Refusals
-pub mod JsonValues
-pub mod Answers
-pub mod Pointers
-pub mod Endings
 pub mod Fields
 pub mod SegmentSets
 pub mod CodeValues
 pub mod Progress
-pub mod FaultTexts

@@ -8,10 +8,10 @@ use Rattle.tk_ids.specs.IdText.{SegmentView}
 use Rattle.tk_plan_units.specs.declared.nodes.Node.{Node}
 use Rattle.tk_plan_units.specs.declared.nodes.Lock.{Lock}
 use Rattle.tk_plan_units.specs.Trees.{Tree, tree, Forest, no_trees, more}
-use Rattle.tk_plan_json.specs.Checks.{member_at, item_at}
-use Rattle.tk_plan_json.specs.Contents.{json_text, json_optional, json_truth, json_dtype}
-use Rattle.tk_plan_json.specs.Contents.{json_segment, json_concurrent, json_locks, status_in}
-use Rattle.tk_plan_json.specs.Contents.{message_in, json_entries, json_files, repeats, listed}
+use Rattle.tk_plan_members.specs.Checks.{member_at, item_at}
+use Rattle.tk_plan_members.specs.Contents.{json_text, json_optional, json_truth, json_dtype}
+use Rattle.tk_plan_members.specs.Contents.{json_segment, json_concurrent, json_locks, status_in}
+use Rattle.tk_plan_members.specs.Contents.{message_in, json_entries, files_of, repeats, listed}
 
 -- A value that stands for a node: its place as a JSON Pointer, its level, whether it is static,
 -- whether it may have files as in version 2, its parent's id, and the segments of the siblings
@@ -66,11 +66,6 @@ children_of false d = []
 
 abbrev pub dynamic_of : Data → List Data
 dynamic_of d = listed (get (codes "dynamic") d)
-
--- in version 1 a node has no files
-abbrev pub files_of : Bool → Data → List (List ℕ)
-files_of true d = json_files (get (codes "files") d)
-files_of false d = []
 
 -- some entry has a key twice
 abbrev pub repeats_key : Data → Bool

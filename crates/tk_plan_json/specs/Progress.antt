@@ -18,8 +18,8 @@ use Rattle.tk_plan_json.specs.declared.limits.TheConstants.{MAX_LEVELS}
 use Rattle.tk_plan_json.specs.Verdicts.{is_kind, same_segment, verdict, when}
 use Rattle.tk_plan_json.specs.NodeInputs.{NodeInput, segment_of, id_of, node_of, children_of}
 use Rattle.tk_plan_json.specs.NodeInputs.{dynamic_of, below, grown, node_inputs}
-use Rattle.tk_plan_json.specs.declared.faults.PlanFault.{PlanFault}
-use Rattle.tk_plan_json.specs.declared.faults.PlanFault.TheVariants.{Table, TooManyResources}
+use Rattle.tk_plan_members.specs.declared.faults.PlanFault.{PlanFault}
+use Rattle.tk_plan_members.specs.declared.faults.PlanFault.TheVariants.{Table, TooManyResources}
 use Rattle.tk_plan_json.specs.declared.plan_readers.Reader.{Reader}
 use Rattle.tk_plan_json.specs.declared.plan_readers.Checked.{Checked}
 use Rattle.tk_plan_json.specs.declared.plan_readers.Named.{Named}

@@ -12,13 +12,13 @@ use Rattle.tk_ids.specs.declared.tables.TableFault.TheVariants.{Twice, Full}
 use Rattle.tk_plan_units.specs.declared.nodes.Node.{Node}
 use Rattle.tk_plan_units.specs.declared.needs.TheConstants.{MAX_KEYS}
 use Rattle.tk_plan_units.specs.Keys.{lock_keys}
-use Rattle.tk_plan_json.specs.Checks.{first}
-use Rattle.tk_plan_json.specs.Rows.{static_node, dynamic_node}
+use Rattle.tk_plan_members.specs.Checks.{first}
+use Rattle.tk_plan_members.specs.Rows.{static_node, dynamic_node}
 use Rattle.tk_plan_json.specs.NodeInputs.{NodeInput, segment_of, node_of, repeats_key}
-use Rattle.tk_plan_json.specs.declared.faults.PlanFault.{PlanFault}
-use Rattle.tk_plan_json.specs.declared.faults.PlanFault.TheVariants.{Field, Id, Table, Deep}
-use Rattle.tk_plan_json.specs.declared.faults.PlanFault.TheVariants.{TooManyResources}
-use Rattle.tk_plan_json.specs.declared.faults.PlanFault.TheVariants.{EntryKeyTwice}
+use Rattle.tk_plan_members.specs.declared.faults.PlanFault.{PlanFault}
+use Rattle.tk_plan_members.specs.declared.faults.PlanFault.TheVariants.{Field, Id, Table, Deep}
+use Rattle.tk_plan_members.specs.declared.faults.PlanFault.TheVariants.{TooManyResources}
+use Rattle.tk_plan_members.specs.declared.faults.PlanFault.TheVariants.{EntryKeyTwice}
 use Rattle.tk_plan_json.specs.declared.limits.TheConstants.{MAX_LEVELS}
 
 abbrev pub when : {A : Type 0} → Bool → A → Option A

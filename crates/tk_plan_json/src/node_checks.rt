@@ -1,30 +1,30 @@
 //! The checks of a node.
 ghost use Rattle.std.specs.Prelude.{◌≡◌, ◌≤◌, ◌++◌, ◌∷◌, [], None, option_map, nat_le};
 ghost use Rattle.std.specs.List.{count_by};
-ghost use Rattle.tk_plan_json.specs.JsonValues.{view};
+ghost use Rattle.tk_plan_members.specs.JsonValues.{view};
 ghost use Rattle.tk_ids.specs.Answer.{IsMadeOf};
 ghost use Rattle.tk_ids.specs.declared.tables.TheConstants.{MAX_DESCRIPTORS};
 ghost use Rattle.tk_plan_units.specs.Keys.{note_locks};
 ghost use Rattle.tk_plan_units.specs.Trees.{contents};
-ghost use Rattle.tk_plan_json.specs.Answers.{Reads};
-ghost use Rattle.tk_plan_json.specs.Checks.{first};
+ghost use Rattle.tk_plan_members.specs.Answers.{Reads};
+ghost use Rattle.tk_plan_members.specs.Checks.{first};
 ghost use Rattle.tk_plan_json.specs.Fields.{HasFields, checked_of};
 ghost use Rattle.tk_plan_json.specs.Verdicts.{id_fault, node_check, is_kind, checks};
-ghost use Rattle.tk_plan_json.specs.Refusals.{Meets};
+ghost use Rattle.tk_plan_members.specs.Refusals.{Meets};
 ghost use Rattle.tk_plan_json.specs.declared.limits.TheConstants.{MAX_LEVELS};
 ghost use Rattle.tk_plan_json.specs.CodeValues.{seen, above_of, json_segment_text, as_plan_fault, IsNamed};
 ghost use Rattle.tk_plan_json.specs.Progress.{state, addition, IsNoted, IsEntered, IsAdmitted, IsChecked, room_checks};
 
-use crate::faults::PlanFault;
 use crate::limits::MAX_LEVELS;
 use crate::lock_keys::note_all;
-use crate::member_values::TwoTexts;
 use crate::node_fields::{Fields, dynamic_fields, static_fields};
 use crate::node_inputs::NodeInput;
 use crate::plan_readers::{Checked, Named, Reader};
 use crate::siblings::Siblings;
 use std::alloc::Global;
 use tk_ids::{IdFault, MAX_DESCRIPTORS, Segment, TableFault, UniqueId};
+use tk_plan_members::PlanFault;
+use tk_plan_members::member_values::TwoTexts;
 use tk_plan_units::{Lock, MAX_KEYS, Node};
 
 /// Reads the members of a node by its kind.

@@ -1,29 +1,29 @@
 //! The members of a node.
 ghost use Rattle.std.specs.Prelude.{◌≡◌, [], true, false, map, IsTrue, None};
 ghost use Rattle.tk_events.specs.declared.statuses.Status.TheVariants.{Successful};
-ghost use Rattle.tk_plan_json.specs.JsonValues.{view};
-ghost use Rattle.tk_plan_json.specs.Checks.{members_wrong, unknown};
-ghost use Rattle.tk_plan_json.specs.Rows.{static_rows, dynamic_rows, static_node, dynamic_node};
+ghost use Rattle.tk_plan_members.specs.JsonValues.{view};
+ghost use Rattle.tk_plan_members.specs.Checks.{members_wrong, unknown};
+ghost use Rattle.tk_plan_members.specs.Rows.{static_rows, dynamic_rows, static_node, dynamic_node};
 ghost use Rattle.tk_plan_json.specs.NodeInputs.{children_of, dynamic_of};
-ghost use Rattle.tk_plan_json.specs.Pointers.{pointer};
-ghost use Rattle.tk_plan_json.specs.Answers.{Reads};
+ghost use Rattle.tk_plan_members.specs.Pointers.{pointer};
+ghost use Rattle.tk_plan_members.specs.Answers.{Reads};
 ghost use Rattle.tk_plan_json.specs.Fields.{heading_rows, concurrency_rows, content_rows, below_rows, IsPlain, IsHeading, IsConcurrency, IsContent, HasFields};
 
-use crate::faults::PlanFault;
-use crate::file_members::files_member;
-use crate::json_members::{
-    are_known, array_member, dtype_member, isolated_member, known_members, mode_member,
-    optional_member, segment_member, text_member,
-};
-use crate::json_paths::JsonPath;
-use crate::json_values::{Items, into_items, into_members, members_in};
-use crate::lock_members::locks_member;
-use crate::member_values::{Ending, Reports, TwoTexts};
-use crate::result_members::{entries_member, result_member};
 use json::Value;
 use std::alloc::Global;
 use tk_events::Status;
 use tk_ids::{DType, Text};
+use tk_plan_members::PlanFault;
+use tk_plan_members::file_members::files_member;
+use tk_plan_members::json_members::{
+    are_known, array_member, dtype_member, isolated_member, known_members, mode_member,
+    optional_member, segment_member, text_member,
+};
+use tk_plan_members::json_paths::JsonPath;
+use tk_plan_members::json_values::{Items, into_items, into_members, members_in};
+use tk_plan_members::lock_members::locks_member;
+use tk_plan_members::member_values::{Ending, Reports, TwoTexts};
+use tk_plan_members::result_members::{entries_member, result_member};
 use tk_plan_units::{Entries, Files, Locks};
 
 /// What the members `type`, `segment` and `name` of a node say.

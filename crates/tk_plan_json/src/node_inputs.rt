@@ -1,8 +1,8 @@
 //! Values that stand for nodes, and where they stand.
 
-use crate::json_paths::JsonPath;
 use json::Value;
 use tk_ids::UniqueId;
+use tk_plan_members::json_paths::JsonPath;
 
 /// Where a node stands.
 #[derive(Clone, Copy, Drop)]

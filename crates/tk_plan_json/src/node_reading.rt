@@ -1,29 +1,29 @@
 //! Reading a plan's nodes.
 ghost use Rattle.std.specs.Prelude.{◌≡◌, ◌≤◌, ◌<◌, ◌+◌, ◌-◌, ◌++◌, ◌∷◌, [], length, map, flat_map, IfOk, OnOk};
-ghost use Rattle.tk_plan_json.specs.JsonValues.{view};
+ghost use Rattle.tk_plan_members.specs.JsonValues.{view};
 ghost use Rattle.tk_plan_units.specs.Trees.{flat, contents};
 ghost use Rattle.tk_plan_units.specs.Ids.{descriptors};
-ghost use Rattle.tk_plan_json.specs.Checks.{escape, first};
+ghost use Rattle.tk_plan_members.specs.Checks.{escape, first};
 ghost use Rattle.tk_plan_json.specs.Verdicts.{checks, verdict};
 ghost use Rattle.tk_ids.specs.declared.tables.TheConstants.{MAX_DESCRIPTORS};
 ghost use Rattle.tk_plan_json.specs.declared.limits.TheConstants.{MAX_LEVELS};
 ghost use Rattle.tk_plan_json.specs.Progress.{AddsGroup, AddsTree, NodeGroup, verdict_of_group, verdict_of_node, levels_below, levels_from};
 ghost use Rattle.tk_plan_json.specs.Progress.{state, IsNoted, IsDescribed, IsAdded, IsStarted, IsSpanned, HasRead};
-ghost use Rattle.tk_plan_json.specs.Refusals.{Meets};
+ghost use Rattle.tk_plan_members.specs.Refusals.{Meets};
 ghost use Rattle.tk_plan_json.specs.CodeValues.{seen, node_at, array_at};
 ghost use Rattle.tk_plan_json.specs.NodeInputs.{node_inputs, node_inputs_in, root_at, below, grown, id_of, segment_in, segment_of};
 
-use crate::faults::PlanFault;
-use crate::json_paths::JsonPath;
 use crate::node_checks::check_node;
 use crate::node_fields::into_below;
 use crate::node_inputs::{NodeInput, NodePlace};
-use crate::path_texts::member_path;
 use crate::plan_readers::Reader;
 use crate::siblings::Siblings;
 use json::Value;
 use std::alloc::{AllocError, Global};
 use tk_ids::{Descriptor, UniqueId};
+use tk_plan_members::PlanFault;
+use tk_plan_members::json_paths::JsonPath;
+use tk_plan_members::path_texts::member_path;
 use tk_plan_units::{Node, NumberedNode};
 
 /// Puts the descriptor of a static node at the end, or counts a dynamic node.

@@ -4,10 +4,10 @@ ghost use Rattle.std.specs.List.{list_any};
 ghost use Rattle.tk_plan_json.specs.Verdicts.{same_segment};
 ghost use Rattle.tk_plan_json.specs.CodeValues.{json_segment_text};
 
-use crate::member_values::TwoTexts;
 use indexmap::IndexSet;
 use std::alloc::{AllocError, Global};
 use std::marker::Model;
+use tk_plan_members::member_values::TwoTexts;
 
 /// The segments of a parent's children, as far as they were read.
 #[derive(Drop)]

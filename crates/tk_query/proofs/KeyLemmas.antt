@@ -1,28 +1,13 @@
 -- Answers by keys, and open starts by keys.
-use Rattle.std.proofs.Common.{◌≡◌, ◌≢◌, ℕ, zero, suc, ◌<◌, Bool, true, false, List, [], ◌∷◌, ◌++◌, length, get_or, set, Option, Some, None, Result, Ok, Err, OnOk, refl, sym, ap, ◌∙◌, arith, eqb, eqb-true, eq-eqb}
+use Rattle.std.proofs.Common.{◌≡◌, ◌≢◌, ℕ, ◌<◌, Bool, true, false, List, [], ◌∷◌, ◌++◌, length, get_or, set, Option, Some, None, Result, Ok, Err, OnOk, refl, sym, ap, ◌∙◌, arith, eqb, eqb-true, eq-eqb}
 use Rattle.std.specs.Prelude.{◌/◌, ◌%◌, ◌==◌, if◌then◌else◌}
 use Rattle.std.proofs.lemmas.Bool.{ne_eqb, true≢false}
-use Rattle.std.proofs.lemmas.List.{get_or-set_other}
-use Rattle.std.proofs.lemmas.Grind.{get_or-set_at}
 use Rattle.std.proofs.lemmas.Option.{same_Some}
 use Rattle.tk_record_columns.specs.Recorded.{Recorded}
 use Rattle.tk_query.specs.declared.rules.DescriptorTest.{DescriptorTest}
 use Rattle.tk_query.specs.Rules.{key_passes, AreAnswers}
 use Rattle.tk_query.specs.Pairing.{open_of}
-
--- the filler at the end changes no element
-pub get_or_more : {X : Type 0} (xs : List X) (d : X) (k : ℕ) → get_or (xs ++ d ∷ []) k d ≡ get_or xs k d
-get_or_more [] d zero = refl
-get_or_more [] d (suc k) = refl
-get_or_more (x ∷ xs) d zero = refl
-get_or_more (x ∷ xs) d (suc k) = get_or_more xs d k
-
-pub get_or_put : {X : Type 0} (xs : List X) (i k : ℕ) (y d : X) → i < length xs → get_or (set xs i y) k d ≡ (if i == k then y else get_or xs k d)
-get_or_put xs i k y d lt = by (eqb i k) refl
-  where
-    by : (same : Bool) → eqb i k ≡ same → get_or (set xs i y) k d ≡ (if same then y else get_or xs k d)
-    by true e = get_or-set_at xs i k y d (sym (eqb-true i k e)) lt
-    by false e = get_or-set_other xs i k y d (λ same. true≢false (sym (eq-eqb i k (sym same)) ∙ e))
+use Rattle.tk_query_lifecycle.proofs.ListLemmas.{get_or_more, get_or_put}
 
 pub answers_more : (r : Recorded) (test : DescriptorTest) (answers new : List (Option Bool)) → AreAnswers r test answers → new ≡ answers ++ None ∷ [] → AreAnswers r test new
 answers_more r test answers new are is = record {

@@ -6,15 +6,4 @@ pub mod Paired
 pub mod RuleLemmas
 pub mod KeyLemmas
 pub mod MaskLemmas
-pub mod StateLemmas
-pub mod FirstEntries
-pub mod PhaseLemmas
-pub mod ChildLemmas
-pub mod IdMapLemmas
-pub mod EventLemmas
-pub mod TakeLemmas
-pub mod LoopLemmas
-pub mod LifecycleIsUnique
-pub mod StepLemmas
-pub mod KeepLemmas
 pub mod AnswerIsUnique

@@ -1,7 +1,7 @@
 -- The masks of conditions.
-use Rattle.std.proofs.Common.{◌≡◌, ℕ, zero, suc, Some, ◌+◌, ◌<◌, ◌≤◌, Bool, true, false, ◌&&◌, ◌||◌, List, [], ◌∷◌, ◌++◌, length, take, get_or, map, replicate, Result, Ok, Err, IfOk, refl, sym, ap, ◌∙◌, arith}
+use Rattle.std.proofs.Common.{◌≡◌, ℕ, ◌+◌, ◌<◌, ◌≤◌, Bool, true, false, ◌&&◌, ◌||◌, List, [], ◌∷◌, ◌++◌, length, take, get_or, map, replicate, Result, Ok, Err, IfOk, refl, sym, ap, ◌∙◌}
 use Rattle.std.specs.Prelude.{if◌then◌else◌, ◌==◌}
-use Rattle.std.specs.List.{list_all, list_any, slice_get}
+use Rattle.std.specs.List.{list_all, list_any}
 use Rattle.std.specs.Simd.Lanes.{zip2}
 use Rattle.std.proofs.lemmas.Simd.{zip2-map}
 use Rattle.std.proofs.lemmas.List.{length-map, take_more, take_all, map-append}
@@ -75,12 +75,6 @@ same_length f g xs a b e h = ap length e ∙ length-map xs f ∙ sym (ap length 
 pub map-map : {A B C : Type 0} (g : B → C) (f : A → B) (xs : List A) → map g (map f xs) ≡ map (λ x. g (f x)) xs
 map-map g f [] = refl
 map-map g f (x ∷ xs) = ap (λ l. g (f x) ∷ l) (map-map g f xs)
-
--- the element at a place, and the list up to it
-pub there : (es : List Entry) (i : ℕ) → i < length es → (e : Entry) × (slice_get es i ≡ Some e) × (take (suc i) es ≡ take i es ++ e ∷ [])
-there [] i lt = absurd (omega arith)
-there (e ∷ es) zero lt = (e, refl, refl)
-there (e ∷ es) (suc i) lt = let r = there es i (omega arith) in (r.0, r.1, ap (λ l. e ∷ l) r.2)
 
 abbrev pub byte : Bool → ℕ
 byte b = if b then 1 else 0

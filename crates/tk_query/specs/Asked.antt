@@ -17,7 +17,6 @@ use Rattle.std.specs.Prelude.{
   slice_get,
 }
 use Rattle.tk_events.specs.declared.events.Entry.{Entry}
-use Rattle.tk_record_columns.specs.declared.records.EntryView.{EntryView}
 use Rattle.tk_record_columns.specs.Selections.{PositionedEntry, Selected}
 use Rattle.tk_query_conditions.specs.declared.conditions.Condition.{Condition}
 use Rattle.tk_query.specs.Holds.{holds}
@@ -49,11 +48,3 @@ pub record AreLeft (asked : Selected) (c : Condition) (flags : List Bool) : Type
       event_at asked.kept position ≡ slice_get asked.recorded.entries position
   pub others :
       (position : ℕ) → get_or flags position false ≡ false → fits asked c position ≡ false
-
--- the entry that a view shows
-abbrev pub entry_of : EntryView → Entry
-entry_of v =
-    record {
-      worker = v.worker;
-      event = record { kind = v.kind; key = v.key; stamp = v.stamp; payload = v.payload.now };
-    }

@@ -9,10 +9,4 @@ pub mod Matches
 pub mod ExecutionSteps
 pub mod Executions
 pub mod Pairing
-pub mod Lifecycle
-pub mod KeepsLifecycle
-pub mod LifecycleTexts
-pub mod LifecycleLaws
-pub mod KeyStates
-pub mod Progress
 pub mod Laws

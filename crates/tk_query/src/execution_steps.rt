@@ -1,7 +1,7 @@
 //! What events do to executions.
 ghost use Rattle.std.specs.Prelude.{◌≡◌};
 ghost use Rattle.tk_query.specs.ExecutionSteps.{ending_of, transition_of, step_of};
-ghost use Rattle.tk_query.specs.Asked.{entry_of};
+ghost use Rattle.tk_record_columns.specs.Record.{entry_of_view};
 
 use crate::execution::Ending;
 use tk_events::{Kind, Payload, Status};
@@ -46,7 +46,7 @@ fn transition_of(kind: Kind, payload: &Payload) -> Option<Transition>
 
 /// What an event does to executions.
 pub(crate) fn step_of(event: &EntryView) -> Option<ExecutionStep>
-    ensures { result ≡ step_of (entry_of event.now) }
+    ensures { result ≡ step_of (entry_of_view event.now) }
 {
     let transition = transition_of(event.kind, event.payload)?;
     Some(ExecutionStep {

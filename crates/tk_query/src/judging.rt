@@ -6,7 +6,7 @@ ghost use Rattle.tk_record_columns.specs.Entries.{of_kind, of_status, desc};
 ghost use Rattle.tk_record_columns.specs.Selections.{has_type, passes};
 ghost use Rattle.tk_query.specs.Holds.{holds, has_within, has_reason, has_path, has_message, is_engine, same_pair, all_within, reports};
 ghost use Rattle.tk_query.specs.Rules.{descriptor_passes, key_passes, payload_passes, rule_holds};
-ghost use Rattle.tk_query.specs.Asked.{entry_of};
+ghost use Rattle.tk_record_columns.specs.Record.{entry_of_view};
 
 use crate::rules::{DescriptorTest, PayloadTest, Rule, rule_of};
 use tk_events::{Kind, Pairs, Payload, Status};
@@ -33,7 +33,7 @@ fn is_container(record: &Record, key: u32) -> bool
 }
 
 fn finished_so(event: &EntryView, status: Status) -> bool
-    ensures { result ≡ of_status status (entry_of event.now) }
+    ensures { result ≡ of_status status (entry_of_view event.now) }
 {
     match (event.kind, event.payload) {
         (Kind::Finished, Payload::Outcome(given, _)) => *given == status,
@@ -43,7 +43,7 @@ fn finished_so(event: &EntryView, status: Status) -> bool
 
 /// Whether an event passes a test of a column.
 fn passes(record: &Record, test: ColumnTest, event: &EntryView) -> bool
-    ensures { result ≡ passes test «record».now (entry_of event.now) }
+    ensures { result ≡ passes test «record».now (entry_of_view event.now) }
 {
     match test {
         ColumnTest::Every => true,
@@ -165,7 +165,7 @@ pub(crate) fn payload_passes(test: PayloadTest, payload: &Payload) -> bool
 
 /// Whether a rule accepts an event. That by members accepts none.
 pub(crate) fn rule_holds(record: &Record, rule: Rule, event: &EntryView) -> bool
-    ensures { result ≡ rule_holds rule.entry «record».now (entry_of event.now) }
+    ensures { result ≡ rule_holds rule.entry «record».now (entry_of_view event.now) }
 {
     match rule {
         Rule::Column(test) => passes(record, test, event),
@@ -180,7 +180,7 @@ pub(crate) fn rule_holds(record: &Record, rule: Rule, event: &EntryView) -> bool
 /// Whether a condition holds of an event of a record.
 #[cycle(holds)]
 fn holds(record: &Record, condition: &Condition, event: &EntryView) -> bool
-    ensures { result ≡ holds «record».now condition.now (entry_of event.now) }
+    ensures { result ≡ holds «record».now condition.now (entry_of_view event.now) }
 {
     match condition {
         Condition::All(members) => all_hold(record, members, event),
@@ -193,7 +193,7 @@ fn holds(record: &Record, condition: &Condition, event: &EntryView) -> bool
 #[cycle(holds)]
 fn all_hold(record: &Record, members: &[Condition], event: &EntryView) -> bool
     ensures { result ≡ list_all (λ member.
-        holds «record».now member (entry_of event.now)) members.now }
+        holds «record».now member (entry_of_view event.now)) members.now }
 {
     for member in members {
         if !holds(record, member, event) {
@@ -206,7 +206,7 @@ fn all_hold(record: &Record, members: &[Condition], event: &EntryView) -> bool
 #[cycle(holds)]
 fn any_holds(record: &Record, members: &[Condition], event: &EntryView) -> bool
     ensures { result ≡ list_any (λ member.
-        holds «record».now member (entry_of event.now)) members.now }
+        holds «record».now member (entry_of_view event.now)) members.now }
 {
     for member in members {
         if holds(record, member, event) {

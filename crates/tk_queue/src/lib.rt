@@ -1,22 +1,10 @@
-//! A session in which several workers send events to one receiver, through a queue under a rule.
+//! The queue between workers and receiver: sessions, the queue as a pure machine, and its replay.
 #![tactic(auto)]
 
-mod close_faults;
-pub mod laws;
-mod limits;
-mod pushes;
-mod receivers;
-mod sender_faults;
-mod senders;
-mod session_rules;
-mod sessions;
-mod tokens;
-
-pub use close_faults::{CloseFault, CloseReason};
-pub use limits::MAX_CAPACITY;
-pub use receivers::{Closed, Receiver};
-pub use sender_faults::{RegisterFault, SendFault};
-pub use senders::{Ended, Sender};
-pub use sessions::{OpenFault, open};
 pub use tk_limits::MAX_EVENTS;
-pub use tk_queue_core::{Core, CoreFault, Item, ReplayFault, Replayed, Turn, replay, replay_text};
+pub use tk_queue_core::{Core, CoreFault, Item};
+pub use tk_queue_replay::{ReplayFault, Replayed, Turn, replay, replay_text};
+pub use tk_queue_session::{
+    CloseFault, CloseReason, Closed, Ended, MAX_CAPACITY, OpenFault, Receiver, RegisterFault,
+    SendFault, Sender, open,
+};

@@ -1,8 +1,2 @@
-pub mod Plays
 pub mod CoreSteps
-pub mod TurnItems
-pub mod ReplaySteps
-pub mod ScriptForms
-pub mod TurnSteps
-pub mod TextSteps
-pub mod AnswerIsUnique
+pub mod ListCuts

@@ -1,24 +1,9 @@
 -- The texts of the faults.
-use Rattle.std.specs.Prelude.{ℕ, List, ◌++◌, codes}
-use Rattle.std.specs.Fmt.{decimal}
-use Rattle.tk_record_columns.specs.FaultTexts.{append_fault_text}
+use Rattle.std.specs.Prelude.{ℕ, List, codes}
 use Rattle.tk_queue_core.specs.declared.cores.CoreFault.{CoreFault}
 use Rattle.tk_queue_core.specs.declared.cores.CoreFault.TheVariants as cores
-use Rattle.tk_queue_core.specs.declared.replays.ReplayFault.{ReplayFault}
-use Rattle.tk_queue_core.specs.declared.replays.ReplayFault.TheVariants as replays
 
 abbrev pub core_fault_text : CoreFault → List ℕ
 core_fault_text cores.Worker = codes "no such worker"
 core_fault_text cores.AfterEnd = codes "worker has ended"
 core_fault_text cores.Memory = codes "out of memory"
-
-abbrev pub replay_fault_text : ReplayFault → List ℕ
-replay_fault_text replays.NoHeader = codes "no header"
-replay_fault_text (replays.BadLine line) = codes "line " ++ decimal line ++ codes " is bad"
-replay_fault_text (replays.AfterEnd step) =
-    codes "step " ++ decimal step ++ codes " comes after the end mark"
-replay_fault_text (replays.Append step fault) =
-    codes "step " ++ decimal step ++ codes " " ++ append_fault_text fault
-replay_fault_text replays.TooLarge = codes "input too large"
-replay_fault_text replays.Device = codes "device failed"
-replay_fault_text replays.Memory = codes "out of memory"

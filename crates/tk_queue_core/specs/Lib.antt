@@ -1,10 +1,4 @@
 pub mod Limits
 pub mod Core
 pub mod CoreState
-pub mod Replay
-pub mod Script
-pub mod TurnItems
-pub mod ReplayText
-pub mod Reading
-pub mod Laws
 pub mod FaultTexts

@@ -168,7 +168,7 @@ impl Core {
     }
 
     /// Gives the items that wait, in their order.
-    pub(crate) fn into_waiting(self, alloc: Global) -> Result<Vec<Item>, AllocError>
+    pub fn into_waiting(self, alloc: Global) -> Result<Vec<Item>, AllocError>
         ensures { IfOk result (λ items. items.items ≡ self.waiting) }
     {
         self.waiting.into_iter().collect(alloc)

@@ -9,12 +9,3 @@ pub enum Item {
     /// The end mark of the worker of this number, which emits nothing after it.
     End(u8),
 }
-
-/// A step of a replay.
-#[derive(Clone, Copy, PartialEq, Eq)]
-pub enum Turn {
-    /// The worker emits its next event, or its end mark after the last.
-    Worker(u8),
-    /// The first waiting item is taken.
-    Take,
-}

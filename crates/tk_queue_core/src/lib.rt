@@ -1,14 +1,8 @@
-//! The queue's core as a pure machine, and replays of it.
+//! The queue of a session as a pure machine.
 #![tactic(auto)]
 
 mod cores;
 mod items;
-pub mod laws;
-mod lines;
-mod replays;
-mod texts;
 
 pub use cores::{Core, CoreFault};
-pub use items::{Item, Turn};
-pub use replays::{ReplayFault, Replayed, replay};
-pub use texts::replay_text;
+pub use items::Item;

@@ -4,14 +4,14 @@ use Rattle.std.specs.Io.KnownBytes.{Appends}
 use Rattle.tk_limits.specs.declared.limits.TheConstants.{MAX_WORKERS}
 use Rattle.tk_record_columns.specs.Recorded.{Recorded}
 use Rattle.tk_streams.specs.Stream.{AppendsPrefix}
-use Rattle.tk_query.specs.KeepsLifecycle.{KeepsLifecycle}
+use Rattle.tk_query_lifecycle.specs.KeepsLifecycle.{KeepsLifecycle}
 use Rattle.tk_plan_units.specs.Cutting.{units_of}
 use Rattle.tk_plan_units.specs.Planned.{Outline}
 use Rattle.tk_plan_units.specs.Trees.{Tree, forest}
-use Rattle.tk_plan_json.specs.declared.faults.PlanFault.{PlanFault}
-use Rattle.tk_plan_json.specs.declared.faults.PlanFault.TheVariants as plans
+use Rattle.tk_plan_members.specs.declared.faults.PlanFault.{PlanFault}
+use Rattle.tk_plan_members.specs.declared.faults.PlanFault.TheVariants as plans
 use Rattle.tk_plan.specs.PlanAnswers.{plan_in, outline, Answered}
-use Rattle.tk_queue.specs.Limits.{capacity_of}
+use Rattle.tk_queue_session.specs.Limits.{capacity_of}
 use Rattle.tk_engine_execute.specs.declared.run_faults.RunFault.{RunFault}
 use Rattle.tk_engine_execute.specs.declared.run_faults.RunFault.TheVariants as runs
 use Rattle.tk_engine_execute.specs.declared.engines.UnitFault.{UnitFault}

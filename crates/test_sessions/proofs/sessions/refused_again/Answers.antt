@@ -1,7 +1,7 @@
 use Rattle.std.proofs.Common.{rules, ◌≡◌, ◌++◌, ◌∷◌, [], sym, subst}
 use Rattle.std.specs.List.{All}
 use Rattle.std.proofs.lemmas.List.Elements.{All-nil, All-cons, All-append}
-use Rattle.tk_queue.specs.declared.senders.Ended.{Ended}
+use Rattle.tk_queue_session.specs.declared.senders.Ended.{Ended}
 use Rattle.test_sessions.proofs.sessions.refused_again.Goals as goal
 
 pub refusal-requires : goal.refusal-requires

@@ -6,10 +6,10 @@ use Rattle.tk_events.specs.declared.events.Event.{Event}
 use Rattle.tk_events.specs.declared.events.Entry.{Entry}
 use Rattle.tk_record_columns.specs.Recorded.{Recorded}
 use Rattle.tk_queue_core.specs.Core.{entries}
-use Rattle.tk_queue.specs.Receivers.{ReceiverView}
-use Rattle.tk_queue.specs.Closing.{ClosedView}
-use Rattle.tk_queue.specs.Limits.{most_events, capacity_of}
-use Rattle.tk_queue.specs.Emission.{entries_by}
+use Rattle.tk_queue_session.specs.Receivers.{ReceiverView}
+use Rattle.tk_queue_session.specs.Closing.{ClosedView}
+use Rattle.tk_queue_session.specs.Limits.{most_events, capacity_of}
+use Rattle.tk_queue_session.specs.Emission.{entries_by}
 use Rattle.tk_engine_runs.specs.Run.{IsRun, IsShared}
 use Rattle.tk_engine_execute.specs.declared.event_collectors.EventCollector.{EventCollector}
 use Rattle.tk_engine_execute.specs.EventCollectors.{TookMore}

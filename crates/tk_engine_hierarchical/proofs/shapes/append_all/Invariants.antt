@@ -1,5 +1,5 @@
 use Rattle.std.proofs.Common.{◌≡◌, ◌++◌, take}
-use Rattle.tk_queue.specs.Emission.{entries_by}
+use Rattle.tk_queue_session.specs.Emission.{entries_by}
 use Rattle.tk_engine_hierarchical.proofs.shapes.append_all.Given as goal
 
 abbrev pub invariant-loop-event : goal.invariant-loop-event

@@ -1,6 +1,6 @@
 use Rattle.std.proofs.Common.{subst}
 use Rattle.tk_ids.specs.Table.{AreDifferent}
-use Rattle.tk_query.specs.Lifecycle.{IsLifecycle}
+use Rattle.tk_query_lifecycle.specs.Lifecycle.{IsLifecycle}
 use Rattle.tk_engine_hierarchical.proofs.shapes.record_keeps.Goals as goal
 
 pub returns-in-Kept : goal.returns-in-Kept

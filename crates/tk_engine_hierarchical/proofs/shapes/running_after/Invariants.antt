@@ -1,7 +1,7 @@
 use Rattle.std.proofs.Common.{◌≡◌, ℕ, [], false, take}
 use Rattle.tk_events.specs.declared.kinds.Kind.TheVariants.{Finished}
-use Rattle.tk_queue.specs.Emission.{entries_by}
-use Rattle.tk_query.specs.Lifecycle.{has_event}
+use Rattle.tk_queue_session.specs.Emission.{entries_by}
+use Rattle.tk_query_lifecycle.specs.Lifecycle.{has_event}
 use Rattle.tk_engine_hierarchical.specs.Shapes.{AreRunning}
 use Rattle.tk_engine_hierarchical.proofs.shapes.running_after.Given as goal
 

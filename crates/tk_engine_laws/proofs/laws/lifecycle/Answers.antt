@@ -1,6 +1,6 @@
 use Rattle.std.proofs.Common.{sym, subst}
-use Rattle.tk_query.specs.Lifecycle.{IsLifecycle}
-use Rattle.tk_query.specs.declared.lifecycle_rules.Lifecycle.TheVariants.{Kept}
+use Rattle.tk_query_lifecycle.specs.Lifecycle.{IsLifecycle}
+use Rattle.tk_query_lifecycle.specs.declared.lifecycle_rules.Lifecycle.TheVariants.{Kept}
 use Rattle.tk_engine_laws.proofs.Grounds.{models, trees_of}
 use Rattle.tk_engine_laws.proofs.Keeping.{run_ids_differ, run_keeps}
 use Rattle.tk_engine_laws.specs.Laws.{RunsKeepLifecycle}

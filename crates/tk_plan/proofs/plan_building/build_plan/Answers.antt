@@ -2,7 +2,7 @@ use Rattle.std.proofs.Common.{◌≡◌, Err, sym, ap, ◌∙◌}
 use Rattle.std.proofs.lemmas.Result.{err_from_is_err_and}
 use Rattle.tk_plan_units.specs.Numbers.{numbered}
 use Rattle.tk_plan.specs.BuiltPlans.{plan_data}
-use Rattle.tk_plan_json.specs.JsonValues.{view, data_of}
+use Rattle.tk_plan_members.specs.JsonValues.{view, data_of}
 use Rattle.tk_plan.specs.PlanOf.{PlanOf}
 use Rattle.tk_plan.proofs.Planning.{fault_as}
 use Rattle.tk_plan.proofs.plan_building.build_plan.Goals as goal

@@ -3,9 +3,9 @@ use Rattle.std.proofs.lemmas.Result.{err_from_is_err_and}
 use Rattle.std.specs.Str.{IsUtf8}
 use Rattle.serde_json.specs.Read.{read}
 use Rattle.tk_plan.specs.PlanAnswers.{plan_in}
-use Rattle.tk_plan_json.specs.JsonValues.{view}
+use Rattle.tk_plan_members.specs.JsonValues.{view}
 use Rattle.tk_plan.specs.ReadNodes.{IsReadFrom}
-use Rattle.tk_plan_json.specs.declared.faults.PlanFault.TheVariants.{Json}
+use Rattle.tk_plan_members.specs.declared.faults.PlanFault.TheVariants.{Json}
 use Rattle.tk_plan.proofs.Planning.{fault_as}
 use Rattle.tk_plan.proofs.Values.{value_here, no_value}
 use Rattle.tk_plan.proofs.plan_reading.read_text.Goals as goal

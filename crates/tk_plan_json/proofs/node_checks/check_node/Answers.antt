@@ -1,10 +1,11 @@
 use Rattle.std.proofs.Common.{◌==◌, ◌&&◌, length, sym, ap, ap₂, ◌∙◌}
 use Rattle.std.proofs.lemmas.Result.{err_from_is_err_and}
 use Rattle.std.proofs.lemmas.List.{length-map}
-use Rattle.tk_plan_json.specs.JsonValues.{view}
+use Rattle.tk_plan_members.specs.JsonValues.{view}
 use Rattle.tk_plan_json.specs.CodeValues.{seen}
 use Rattle.tk_plan_json.specs.NodeInputs as spec
-use Rattle.tk_plan_json.proofs.CheckSteps.{faults_also, faults_from_path, deep_fault, field_fault, both}
+use Rattle.tk_plan_json.proofs.CheckSteps.{faults_also, faults_from_path, deep_fault, field_fault}
+use Rattle.tk_plan_members.proofs.ChecksInTurn.{both}
 use Rattle.tk_plan_json.proofs.node_checks.check_node.Goals as goal
 
 pub returns-then-node_input-gt-MAX_LEVELS : goal.returns-then-node_input-gt-MAX_LEVELS

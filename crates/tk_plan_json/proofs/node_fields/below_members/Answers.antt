@@ -1,6 +1,6 @@
 use Rattle.std.proofs.Common.{refl}
 use Rattle.std.proofs.lemmas.Result.{err_from_is_err_and}
-use Rattle.tk_plan_json.proofs.Passing.{refuses_whole}
+use Rattle.tk_plan_members.proofs.Passing.{refuses_whole}
 use Rattle.tk_plan_json.proofs.Groups.{passes, stops}
 use Rattle.tk_plan_json.proofs.node_fields.below_members.Goals as goal
 

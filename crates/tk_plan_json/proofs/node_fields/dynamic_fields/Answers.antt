@@ -1,8 +1,8 @@
 use Rattle.std.proofs.Common.{◌∙◌, refl, ap, map}
 use Rattle.std.proofs.lemmas.Result.{err_from_is_err_and}
-use Rattle.tk_plan_json.specs.JsonValues.{view}
-use Rattle.tk_plan_json.specs.Pointers.{pointer}
-use Rattle.tk_plan_json.proofs.Passing.{refuses_whole}
+use Rattle.tk_plan_members.specs.JsonValues.{view}
+use Rattle.tk_plan_members.specs.Pointers.{pointer}
+use Rattle.tk_plan_members.proofs.Passing.{refuses_whole}
 use Rattle.tk_plan_json.proofs.Groups.{passes, stops, dynamic_groups}
 use Rattle.tk_plan_json.proofs.node_fields.dynamic_fields.Goals as goal
 

@@ -1,11 +1,11 @@
 use Rattle.std.proofs.Common.{◌≡◌, ◌++◌, ◌-◌, ◌+◌, map, ℕ, suc, List, [], ◌∷◌, length, refl, sym, ap, ◌∙◌, subst, arith, rules, append-nil}
 use Rattle.std.proofs.lemmas.Bool.Decides.{nat_tests}
 use Rattle.std.proofs.lemmas.Result.{err_from_is_err_and}
-use Rattle.tk_plan_json.specs.JsonValues.{view}
-use Rattle.tk_plan_json.specs.JsonValues.{JsonValue}
+use Rattle.tk_plan_members.specs.JsonValues.{view}
+use Rattle.tk_plan_members.specs.JsonValues.{JsonValue}
 use Rattle.tk_plan_units.specs.declared.nodes.NumberedNode.{NumberedNode}
 use Rattle.tk_plan_units.specs.Trees.{contents}
-use Rattle.tk_plan_json.specs.Checks.{item_at, first}
+use Rattle.tk_plan_members.specs.Checks.{item_at, first}
 use Rattle.tk_plan_json.specs.Verdicts.{checks}
 use Rattle.tk_plan_json.specs.Progress.{IsNoted, HasBelow}
 use Rattle.tk_plan_json.specs.NodeInputs as spec

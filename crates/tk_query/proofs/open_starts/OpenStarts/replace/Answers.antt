@@ -3,7 +3,8 @@ use Rattle.std.specs.Prelude.{◌/◌, ◌%◌, ◌==◌, if◌then◌else◌}
 use Rattle.std.proofs.lemmas.List.{get_or_default}
 use Rattle.tk_query.specs.Pairing.{open_of}
 use Rattle.tk_query.proofs.MaskLemmas.{if_ok_same}
-use Rattle.tk_query.proofs.KeyLemmas.{get_or_more, on_ok_from, replaced}
+use Rattle.tk_query_lifecycle.proofs.ListLemmas.{get_or_more}
+use Rattle.tk_query.proofs.KeyLemmas.{on_ok_from, replaced}
 use Rattle.tk_query.proofs.open_starts.OpenStarts.replace.Goals as goal
 
 pub loop-alloc-preserved : goal.loop-alloc-preserved

@@ -1,7 +1,7 @@
 use Rattle.std.proofs.Common.{rules, ◌<◌, length, get_or, None, ap, ◌∙◌}
 use Rattle.std.specs.Prelude.{◌==◌, if◌then◌else◌}
 use Rattle.std.proofs.lemmas.List.{get_or_default}
-use Rattle.tk_query.proofs.KeyLemmas.{get_or_more, get_or_put}
+use Rattle.tk_query_lifecycle.proofs.ListLemmas.{get_or_more, get_or_put}
 use Rattle.tk_query.proofs.open_starts.Row.replace.Goals as goal
 
 pub loop-self-preserved : goal.loop-self-preserved

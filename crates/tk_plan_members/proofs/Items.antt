@@ -1,0 +1,58 @@
+-- An array, as the list of its items.
+use Rattle.std.proofs.Common.{◌≡◌, ◌≢◌, ◌==◌, ℕ, ◌+◌, ◌<◌, List, [], ◌∷◌, length, drop, get_or, map, Some, None, cond, refl, sym, ap, ◌∙◌, arith}
+use Rattle.std.proofs.lemmas.List.{drop_more}
+use Rattle.serde_json.specs.Data.{Data, null, boolean, number, string, array, object, Items}
+use Rattle.serde_json.specs.Find.{as_array}
+use Rattle.tk_plan_members.specs.JsonValues.{view, items_view}
+use Rattle.tk_plan_members.specs.JsonValues.{JsonValue}
+use Rattle.tk_plan_members.specs.Checks.{Check, list_of, items_wrong, pair_of, any_array, array_of, item_at}
+use Rattle.tk_plan_members.specs.Contents.{listed}
+
+pub list_of-items_view : (vs : List JsonValue) → list_of (items_view vs) ≡ map view vs
+list_of-items_view [] = refl
+list_of-items_view (v ∷ vs) = ap (λ ds. view v ∷ ds) (list_of-items_view vs)
+
+pub is_array : (d : Data) (ds : Items) → Some ds ≡ as_array d → d ≡ array ds
+is_array null ds e = cc
+is_array (boolean b) ds e = cc
+is_array (number n) ds e = cc
+is_array (string s) ds e = cc
+is_array (array es) ds e = cc
+is_array (object ms) ds e = cc
+
+pub listed_items : (d : Data) (vs : List JsonValue) → Some (items_view vs) ≡ as_array d → listed (Some d) ≡ map view vs
+listed_items d vs e = ap (λ x. listed (Some x)) (is_array d (items_view vs) e) ∙ list_of-items_view vs
+
+pub is_any_array : (d : Data) (vs : List JsonValue) (at : List ℕ) → Some (items_view vs) ≡ as_array d → any_array at d ≡ None
+is_any_array d vs at e = ap (any_array at) (is_array d (items_view vs) e)
+
+pair_of_list : (check : Check) (at : List ℕ) (d : Data) (vs : List JsonValue) → Some (items_view vs) ≡ as_array d
+    → pair_of check at d ≡ cond (length (map view vs) == 2) (items_wrong check at 0 (map view vs)) (Some at)
+pair_of_list check at d vs e = ap (pair_of check at) (is_array d (items_view vs) e) ∙ ap (λ ds. cond (length ds == 2) (items_wrong check at 0 ds) (Some at)) (list_of-items_view vs)
+
+pub not_a_pair : (check : Check) (at : List ℕ) (d : Data) (vs : List JsonValue) → Some (items_view vs) ≡ as_array d → length vs ≢ 2 → pair_of check at d ≡ Some at
+not_a_pair check at d [] e h = pair_of_list check at d [] e
+not_a_pair check at d (a ∷ []) e h = pair_of_list check at d (a ∷ []) e
+not_a_pair check at d (a ∷ b ∷ []) e h = absurd (h refl)
+not_a_pair check at d (a ∷ b ∷ x ∷ vs) e h = pair_of_list check at d (a ∷ b ∷ x ∷ vs) e ∙ grind arith
+
+pub wrong_first : (check : Check) (at path : List ℕ) (d : Data) (vs : List JsonValue) (v : JsonValue) → Some (items_view vs) ≡ as_array d → length vs ≡ 2
+    → check (item_at at 0) (view (get_or vs 0 v)) ≡ Some path → pair_of check at d ≡ Some path
+wrong_first check at path d [] v e h w = absurd (omega arith)
+wrong_first check at path d (a ∷ []) v e h w = absurd (omega arith)
+wrong_first check at path d (a ∷ b ∷ []) v e h w = pair_of_list check at d (a ∷ b ∷ []) e ∙ rw w refl
+wrong_first check at path d (a ∷ b ∷ x ∷ vs) v e h w = absurd (omega arith)
+
+pub wrong_second : (check : Check) (at path : List ℕ) (d : Data) (vs : List JsonValue) (v w : JsonValue) → Some (items_view vs) ≡ as_array d → length vs ≡ 2
+    → check (item_at at 0) (view (get_or vs 0 v)) ≡ None → check (item_at at 1) (view (get_or vs 1 w)) ≡ Some path → pair_of check at d ≡ Some path
+wrong_second check at path d [] v w e h fine wrong = absurd (omega arith)
+wrong_second check at path d (a ∷ []) v w e h fine wrong = absurd (omega arith)
+wrong_second check at path d (a ∷ b ∷ []) v w e h fine wrong = pair_of_list check at d (a ∷ b ∷ []) e ∙ rw (fine, wrong) refl
+wrong_second check at path d (a ∷ b ∷ x ∷ vs) v w e h fine wrong = absurd (omega arith)
+
+pub array_items : (check : Check) (at : List ℕ) (d : Data) (vs : List JsonValue) → Some (items_view vs) ≡ as_array d → array_of check at d ≡ items_wrong check at 0 (map view vs)
+array_items check at d vs e = ap (array_of check at) (is_array d (items_view vs) e) ∙ ap (items_wrong check at 0) (list_of-items_view vs)
+
+-- the values that are left, from the next on
+pub values_next : (vs : List JsonValue) (i : ℕ) (v : JsonValue) → i < length vs → v ≡ get_or vs i v → map view (drop i vs) ≡ view v ∷ map view (drop (i + 1) vs)
+values_next vs i v h e = ap (map view) (drop_more vs i v h ∙ ap (λ y. y ∷ drop (i + 1) vs) (sym e))

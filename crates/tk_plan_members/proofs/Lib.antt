@@ -1,0 +1,11 @@
+pub mod ChecksInTurn
+pub mod Escapes
+pub mod Items
+pub mod JsonData
+pub mod JsonNumbers
+pub mod UnknownMembers
+pub mod Locking
+pub mod Passing
+pub mod Pairing
+pub mod Results
+pub mod Filing

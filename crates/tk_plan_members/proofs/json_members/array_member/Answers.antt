@@ -1,0 +1,14 @@
+use Rattle.std.proofs.Common.{sym, ap, ◌∙◌}
+use Rattle.tk_plan_members.specs.Checks.{member_wrong, may, any_array, member_at}
+use Rattle.tk_plan_members.specs.Pointers.{pointer}
+use Rattle.tk_plan_members.specs.Contents.{listed}
+use Rattle.tk_plan_members.proofs.Items.{listed_items, is_any_array}
+use Rattle.tk_plan_members.proofs.json_members.array_member.Goals as goal
+
+pub returns-in-Some-items_in : goal.returns-in-Some-items_in
+returns-in-Some-items_in c =
+    let e = c.in-Some-items_in.ensures in
+    let found = c.in-Some.ensures in (
+      ap (member_wrong (may c.args.name.now any_array) (member_at (pointer c.args.at) c.args.name.now)) (sym found) ∙ is_any_array _ _ _ e,
+      sym (listed_items _ _ e) ∙ ap listed found,
+    )

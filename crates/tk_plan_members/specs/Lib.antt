@@ -1,0 +1,10 @@
+pub mod Characters
+pub mod Checks
+pub mod Rows
+pub mod Contents
+pub mod Refusals
+pub mod JsonValues
+pub mod Answers
+pub mod Pointers
+pub mod Endings
+pub mod FaultTexts

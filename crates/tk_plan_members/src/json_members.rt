@@ -1,0 +1,261 @@
+//! Readers of single members.
+ghost use Rattle.std.specs.Prelude.{◌≡◌, ℕ, List, Some, None, IfSome, IfOk, IsTrue, codes, flat_map, map};
+ghost use Rattle.std.specs.List.{list_any};
+ghost use Rattle.std.specs.Str.{bytes_eq};
+ghost use Rattle.serde_json.specs.Find.{get};
+ghost use Rattle.tk_plan_members.specs.JsonValues.{view, members_view, AreKnown, IsFirstUnknown};
+ghost use Rattle.tk_plan_members.specs.Checks.{escape, item_at, text as is_text, any_array, pair_of, row, must, may, unknown};
+ghost use Rattle.tk_plan_members.specs.Rows.{dtype_row, segment_row, mode_row, isolated_row};
+ghost use Rattle.tk_plan_members.specs.Pointers.{pointer, IsPairOf};
+ghost use Rattle.tk_plan_members.specs.Answers.{Reads};
+ghost use Rattle.tk_plan_members.specs.Contents.{json_text, json_optional, json_truth, json_dtype, json_concurrent, listed};
+
+use crate::faults::PlanFault;
+use crate::json_paths::JsonPath;
+use crate::json_values::{Items, items_in, member, members_in, text_in, truth_in};
+use crate::member_values::TwoTexts;
+use crate::path_texts::{escaped_path, field, member_path, wrong_item, wrong_member, wrong_value};
+use json::Value;
+use std::alloc::{AllocError, Global};
+use std::collections::BTreeMap;
+use tk_ids::{DType, Text};
+
+/// Reads a member that has to be there and to be a text.
+pub fn text_member(
+    alloc: Global,
+    at: JsonPath<'_>,
+    object: &Value<'_>,
+    name: &str,
+) -> Result<Text, PlanFault>
+    requires { flat_map escape name.now ≡ name.now }
+    ensures { Reads (row (pointer at.entry) (view object.now) (must name.now is_text))
+        (λ t. t ≡ json_text (get name.now (view object.now))) result }
+{
+    match member(object, name).and_then(text_in) {
+        Some(text) => Ok(Text::copy(alloc, text)?),
+        None => Err(wrong_member(alloc, at, name)),
+    }
+}
+
+/// Reads a member that may be missing, and else is a text.
+pub fn optional_member(
+    alloc: Global,
+    at: JsonPath<'_>,
+    object: &Value<'_>,
+    name: &str,
+) -> Result<Option<Text>, PlanFault>
+    requires { flat_map escape name.now ≡ name.now }
+    ensures { Reads (row (pointer at.entry) (view object.now) (may name.now is_text))
+        (λ t. t ≡ json_optional (get name.now (view object.now))) result }
+{
+    let Some(value) = member(object, name) else {
+        return Ok(None);
+    };
+    match text_in(value) {
+        Some(text) => Ok(Some(Text::copy(alloc, text)?)),
+        None => Err(wrong_member(alloc, at, name)),
+    }
+}
+
+/// Reads the member `type`.
+pub fn dtype_member(alloc: Global, at: JsonPath<'_>, object: &Value<'_>) -> Result<DType, PlanFault>
+    ensures { Reads (row (pointer at.entry) (view object.now) dtype_row)
+        (λ t. t ≡ json_dtype (get (codes "type") (view object.now))) result }
+{
+    match member(object, "type").and_then(text_in) {
+        Some("container") => Ok(DType::Container),
+        Some("test") => Ok(DType::Test),
+        Some("both") => Ok(DType::Both),
+        _ => Err(wrong_member(alloc, at, "type")),
+    }
+}
+
+/// Reads the member `mode`: whether it is `concurrent`.
+pub fn mode_member(alloc: Global, at: JsonPath<'_>, object: &Value<'_>) -> Result<bool, PlanFault>
+    ensures { Reads (row (pointer at.entry) (view object.now) mode_row)
+        (λ b. b ≡ json_concurrent (get (codes "mode") (view object.now))) result }
+{
+    let Some(value) = member(object, "mode") else {
+        return Ok(false);
+    };
+    match text_in(value) {
+        Some("same_thread") => Ok(false),
+        Some("concurrent") => Ok(true),
+        _ => Err(wrong_member(alloc, at, "mode")),
+    }
+}
+
+/// Reads the member `isolated`, which is false where it is missing.
+pub fn isolated_member(
+    alloc: Global,
+    at: JsonPath<'_>,
+    object: &Value<'_>,
+) -> Result<bool, PlanFault>
+    ensures { Reads (row (pointer at.entry) (view object.now) isolated_row)
+        (λ b. b ≡ json_truth (get (codes "isolated") (view object.now))) result }
+{
+    let Some(value) = member(object, "isolated") else {
+        return Ok(false);
+    };
+    match truth_in(value) {
+        Some(is_isolated) => Ok(is_isolated),
+        None => Err(wrong_member(alloc, at, "isolated")),
+    }
+}
+
+/// Reads the item of this index of the array at `at`, which has to be a text.
+fn item_text<'t>(
+    alloc: Global,
+    at: JsonPath<'_>,
+    index: usize,
+    item: &Value<'t>,
+) -> Result<&'t str, PlanFault>
+    ensures { Reads (is_text (item_at (pointer at.entry) index) (view item.now))
+        (λ t. t.now ≡ json_text (Some (view item.now))) result }
+{
+    match text_in(item) {
+        Some(text) => Ok(text),
+        None => Err(wrong_item(alloc, at, index)),
+    }
+}
+
+/// Reads an array of two texts.
+pub(crate) fn two_texts<'t>(
+    alloc: Global,
+    at: JsonPath<'_>,
+    value: &Value<'t>,
+) -> Result<TwoTexts<'t>, PlanFault>
+    ensures { Reads (pair_of is_text (pointer at.entry) (view value.now))
+        (IsPairOf (Some (view value.now))) result }
+{
+    let Some(items) = items_in(value) else {
+        return Err(wrong_value(alloc, at));
+    };
+    if items.len() != 2 {
+        return Err(wrong_value(alloc, at));
+    }
+    let first = item_text(alloc, at, 0, &items[0])?;
+    let second = item_text(alloc, at, 1, &items[1])?;
+    Ok(TwoTexts { first, second })
+}
+
+/// The two texts of an array, or `None` where the value is anything else.
+fn pair_in<'t>(value: &Value<'t>) -> Option<TwoTexts<'t>>
+    ensures pair { IfSome result (IsPairOf (Some (view value.now))) }
+    ensures fine { IfSome result (λ _. (at : List ℕ) → pair_of is_text at (view value.now) ≡ None) }
+{
+    match items_in(value)? {
+        [first, second] => Some(TwoTexts {
+            first: text_in(first)?,
+            second: text_in(second)?,
+        }),
+        _ => None,
+    }
+}
+
+/// Reads the member `segment`. The place of its value is written out only where it is wrong.
+pub fn segment_member<'t>(
+    alloc: Global,
+    at: JsonPath<'_>,
+    object: &Value<'t>,
+) -> Result<TwoTexts<'t>, PlanFault>
+    ensures { Reads (row (pointer at.entry) (view object.now) segment_row)
+        (IsPairOf (get (codes "segment") (view object.now))) result }
+{
+    let Some(value) = member(object, "segment") else {
+        return Err(wrong_member(alloc, at, "segment"));
+    };
+    match pair_in(value) {
+        Some(pair) => Ok(pair),
+        None => {
+            let path = member_path(alloc, at, "segment")?;
+            two_texts(alloc, JsonPath::Whole(&path), value)
+        }
+    }
+}
+
+/// Reads a member that may be missing, and else is an array: its items.
+pub fn array_member<'v, 't>(
+    alloc: Global,
+    at: JsonPath<'_>,
+    object: &'v Value<'t>,
+    name: &str,
+) -> Result<Items<'v, 't>, PlanFault>
+    requires { flat_map escape name.now ≡ name.now }
+    ensures { Reads (row (pointer at.entry) (view object.now) (may name.now any_array))
+        (λ l. map view l.values.now ≡ listed (get name.now (view object.now))) result }
+{
+    match member(object, name) {
+        Some(value) => match items_in(value) {
+            Some(values) => Ok(Items { values }),
+            None => Err(wrong_member(alloc, at, name)),
+        },
+        None => Ok(Items::none()),
+    }
+}
+
+/// Whether `name` is one of `names`.
+fn is_among(names: &[&str], name: &str) -> bool
+    ensures { result ≡ list_any (λ n. bytes_eq n name.now) (map (λ n. n.now) names.now) }
+{
+    for known in names {
+        if *known == name {
+            return true;
+        }
+    }
+    false
+}
+
+/// Whether each member has one of `names`.
+pub fn are_known(members: &[(&str, Value<'_>)], names: &[&str]) -> bool
+    ensures { IsTrue result → AreKnown (map (λ n. n.now) names.now) (members_view members.now) }
+{
+    for member in members {
+        if !is_among(names, member.0) {
+            return false;
+        }
+    }
+    true
+}
+
+/// The first name, in byte order, of a member that has none of `names`.
+fn first_unknown<'t>(
+    alloc: Global,
+    members: &[(&'t str, Value<'t>)],
+    names: &[&str],
+) -> Result<Option<&'t str>, AllocError>
+    ensures { IfOk result (IsFirstUnknown (map (λ n. n.now) names.now) (members_view members.now)) }
+{
+    let mut sorted = BTreeMap::new(alloc);
+    for member in members {
+        sorted.insert(member.0, ())?;
+    }
+    for (name, _) in sorted {
+        if !is_among(names, name) {
+            return Ok(Some(name));
+        }
+    }
+    Ok(None)
+}
+
+/// Refuses a value that is no object, and an object with a member that is not one of `names`.
+pub fn known_members(
+    alloc: Global,
+    at: JsonPath<'_>,
+    value: &Value<'_>,
+    names: &[&str],
+) -> Result<(), PlanFault>
+    ensures { Reads (unknown (map (λ n. n.now) names.now) (pointer at.entry) (view value.now))
+        (λ _. Unit {0}) result }
+{
+    let Some(members) = members_in(value) else {
+        return Err(wrong_value(alloc, at));
+    };
+    if are_known(members, names) {
+        return Ok(());
+    }
+    match first_unknown(alloc, members, names)? {
+        Some(name) => Err(field(escaped_path(alloc, at, name)?)),
+        None => Ok(()),
+    }
+}

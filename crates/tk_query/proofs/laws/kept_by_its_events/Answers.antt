@@ -1,5 +1,0 @@
-use Rattle.tk_query.proofs.KeepLemmas.{kept_by_its_events}
-use Rattle.tk_query.proofs.laws.kept_by_its_events.Goals as goal
-
-pub returns : goal.returns
-returns c = kept_by_its_events

@@ -1,5 +1,0 @@
-use Rattle.tk_query.proofs.EventLemmas.{first_of_runs}
-use Rattle.tk_query.proofs.progress.Progress.first_running.Goals as goal
-
-pub returns : goal.returns
-returns c r p = first_of_runs r c.args.self.now.states c.args.self.now.ids c.first_running.result p c.first_running.ensures

@@ -1,0 +1,12 @@
+pub mod ListLemmas
+pub mod StateLemmas
+pub mod FirstEntries
+pub mod PhaseLemmas
+pub mod ChildLemmas
+pub mod IdMapLemmas
+pub mod EventLemmas
+pub mod TakeLemmas
+pub mod LoopLemmas
+pub mod LifecycleIsUnique
+pub mod StepLemmas
+pub mod KeepLemmas

@@ -1,0 +1,6 @@
+pub mod Lifecycle
+pub mod KeepsLifecycle
+pub mod LifecycleTexts
+pub mod LifecycleLaws
+pub mod KeyStates
+pub mod Progress

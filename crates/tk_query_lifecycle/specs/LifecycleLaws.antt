@@ -1,0 +1,26 @@
+-- What follows from the definition of a record's lifecycle.
+use Rattle.std.specs.Prelude.{◌≡◌, ◌↔◌, ℕ, ◌+◌, take}
+use Rattle.tk_record_columns.specs.Recorded.{Recorded}
+use Rattle.tk_ids.specs.Table.{AreDifferent}
+use Rattle.tk_query_lifecycle.specs.KeepsLifecycle.{KeepsLifecycle}
+use Rattle.tk_query_lifecycle.specs.Lifecycle.{IsBrokenAt, IsLifecycle}
+use Rattle.tk_query_lifecycle.specs.declared.lifecycle_rules.Lifecycle.{Lifecycle}
+use Rattle.tk_query_lifecycle.specs.declared.lifecycle_rules.Lifecycle.TheVariants.{Kept}
+use Rattle.tk_query_lifecycle.specs.declared.lifecycle_rules.LifecycleRule.{LifecycleRule}
+
+-- one record has one answer
+abbrev pub LifecycleIsUnique : Type 0
+LifecycleIsUnique = (r : Recorded) (a b : Lifecycle) → IsLifecycle r a → IsLifecycle r b → a ≡ b
+
+-- Where event p of a record breaks a rule, no record over the same table that begins with the same
+-- p + 1 events keeps the lifecycle.
+abbrev pub BreakIsFinal : Type 0
+BreakIsFinal =
+    (r s : Recorded) (p : ℕ) (rule : LifecycleRule) →
+    IsBrokenAt r p rule → s.table ≡ r.table →
+    take (p + 1) s.entries ≡ take (p + 1) r.entries → ¬ IsLifecycle s Kept
+
+-- `Kept` is the answer exactly where the record keeps the lifecycle. No two descriptors of a table
+-- have one id.
+abbrev pub KeptByItsEvents : Type 0
+KeptByItsEvents = (r : Recorded) → AreDifferent r.table → IsLifecycle r Kept ↔ KeepsLifecycle r

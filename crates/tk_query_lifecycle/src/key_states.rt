@@ -1,0 +1,188 @@
+//! What is kept of each key while the events of a record are gone through.
+ghost use Rattle.std.specs.Prelude.{◌≡◌, ℕ, ◌≤◌, ◌^◌, [], length, OnOk};
+ghost use Rattle.tk_query_lifecycle.specs.KeyStates.{idle, is_running, state_of, advanced, refusal, ArePut, IsCounted, IsFirstRunning};
+
+use crate::lifecycle_rules::LifecycleRule;
+use std::alloc::{AllocError, Global};
+use std::marker::Model;
+use tk_events::Kind;
+
+/// Where a key is in its execution.
+#[derive(Clone, Copy)]
+pub(crate) enum Phase {
+    /// It was neither started nor skipped.
+    Idle,
+    /// It was started, and hasn't finished.
+    Running,
+    /// It finished or was skipped.
+    Ended,
+}
+
+/// The parent of a key.
+#[derive(Clone, Copy)]
+pub(crate) enum Parent {
+    /// It wasn't looked up.
+    Unsought,
+    /// The key's id has one segment.
+    Root,
+    /// The key of the parent.
+    Key(u32),
+}
+
+/// What is kept of a key.
+#[derive(Clone, Copy)]
+pub(crate) struct KeyState {
+    pub(crate) phase: Phase,
+    pub(crate) parent: Parent,
+    pub(crate) running_children: usize,
+}
+
+impl KeyState {
+    // Makes the state of a key without an event.
+    fn idle() -> KeyState
+        ensures { result ≡ idle }
+    {
+        KeyState {
+            phase: Phase::Idle,
+            parent: Parent::Unsought,
+            running_children: 0,
+        }
+    }
+
+    /// Whether the key runs.
+    pub(crate) fn runs(&self) -> bool
+        ensures { result ≡ is_running self.now.phase }
+    {
+        matches!(self.phase, Phase::Running)
+    }
+
+    /// Answers which rule an event of this kind breaks, by the state of its key alone.
+    pub(crate) fn refuse(&self, kind: Kind) -> Option<LifecycleRule>
+        ensures { result ≡ refusal kind self.now }
+    {
+        match (kind, self.phase) {
+            (Kind::Started | Kind::Skipped, Phase::Running | Phase::Ended) => {
+                Some(LifecycleRule::RanAlready)
+            }
+            (Kind::Finished, Phase::Idle | Phase::Ended) => Some(LifecycleRule::NotRunning),
+            (Kind::Finished, Phase::Running) if self.running_children != 0 => {
+                Some(LifecycleRule::ChildRunning)
+            }
+            _ => None,
+        }
+    }
+
+    // Makes the state after an event of this kind, where the parent was looked up.
+    fn advance(self, kind: Kind, parent: Parent) -> KeyState
+        ensures { result ≡ advanced kind parent self }
+    {
+        let phase = match kind {
+            Kind::Started => Phase::Running,
+            Kind::Skipped | Kind::Finished => Phase::Ended,
+            _ => self.phase,
+        };
+        KeyState {
+            phase,
+            parent,
+            running_children: self.running_children,
+        }
+    }
+}
+
+/// The states of keys; a key without one is idle.
+#[derive(Drop)]
+pub(crate) struct KeyStates {
+    items: Vec<KeyState>,
+}
+
+impl Model for KeyStates {
+    ghost use Rattle.std.specs.Prelude.{List};
+    ghost use Rattle.tk_query_lifecycle.specs.declared.key_states.KeyState.{KeyState};
+
+    ghost Value = { List KeyState };
+
+    ghost view = { λ s. s.items.items };
+
+    // Keys are u32.
+    ghost use Rattle.std.specs.Prelude.{◌≤◌, ◌^◌, length};
+
+    ghost invariant = { λ s. length s.items.items ≤ 2 ^ 32 };
+}
+
+impl KeyStates {
+    /// Makes states of no key.
+    pub(crate) fn new(alloc: Global) -> KeyStates
+        ensures { result ≡ [] }
+    {
+        KeyStates {
+            items: Vec::new(alloc),
+        }
+    }
+
+    /// The state of a key.
+    pub(crate) fn at(&self, key: u32) -> KeyState
+        ensures state { result ≡ state_of self.now key }
+        ensures short { length self.now ≤ 2 ^ 32 }
+    {
+        match self.items.get(key as usize) {
+            Some(state) => *state,
+            None => KeyState::idle(),
+        }
+    }
+
+    // Stores the state of a key.
+    fn put(&mut self, key: u32, state: KeyState) -> Result<(), AllocError>
+        ensures put { OnOk result (ArePut self.old self.new key state) }
+        ensures short { length self.new ≤ 2 ^ 32 }
+        ensures grows { OnOk result (length self.old ≤ length self.new) }
+    {
+        let index = key as usize;
+        while self.items.len() <= index {
+            self.items.push(KeyState::idle())?;
+        }
+        self.items[index] = state;
+        Ok(())
+    }
+
+    /// Takes an event of this kind of a key whose parent was looked up.
+    pub(crate) fn advance(&mut self, key: u32, kind: Kind, parent: Parent) -> Result<(), AllocError>
+        ensures put { OnOk result (ArePut self.old self.new key
+            (advanced kind parent (state_of self.old key))) }
+        ensures short { length self.new ≤ 2 ^ 32 }
+        ensures grows { OnOk result (length self.old ≤ length self.new) }
+    {
+        let state = self.at(key).advance(kind, parent);
+        self.put(key, state)
+    }
+
+    /// Counts a child of `parent` that starts, and no longer one that finishes.
+    pub(crate) fn count_child(&mut self, parent: Parent, kind: Kind) -> Result<(), AllocError>
+        requires { (key : ℕ) → (state_of self.old key).running_children ≤ length self.old }
+        ensures { OnOk result (IsCounted kind parent self.old self.new) }
+    {
+        let Parent::Key(key) = parent else {
+            return Ok(());
+        };
+        let mut state = self.at(key);
+        match kind {
+            Kind::Started => state.running_children += 1,
+            Kind::Finished => {
+                state.running_children = state.running_children.saturating_sub(1);
+            }
+            _ => {}
+        }
+        self.put(key, state)
+    }
+
+    /// The least key that runs.
+    pub(crate) fn first_running(&self) -> Option<u32>
+        ensures { IsFirstRunning self.now result }
+    {
+        for (key, state) in self.items.iter().enumerate() {
+            if state.runs() {
+                return Some(key as u32);
+            }
+        }
+        None
+    }
+}

@@ -1,0 +1,28 @@
+//! Whether a record keeps the lifecycle that a listener of an engine may rely on.
+ghost use Rattle.std.specs.Prelude.{IfOk};
+ghost use Rattle.tk_query_lifecycle.specs.Lifecycle.{IsLifecycle};
+
+use crate::lifecycle_rules::Lifecycle;
+use crate::progress::Progress;
+use std::alloc::{AllocError, Global};
+use tk_record_columns::Record;
+
+/// Says whether the record keeps the lifecycle, and where it first doesn't.
+pub fn lifecycle(alloc: Global, record: &Record) -> Result<Lifecycle, AllocError>
+    ensures { IfOk result (IsLifecycle «record».now) }
+{
+    record.shows_record();
+    record.table().shows_different_ids();
+    let mut progress = Progress::new(alloc, record);
+    let mut position = 0;
+    'events: while let Some(event) = record.entry(position) {
+        if let Some(rule) = progress.take(alloc, record, position, &event)? {
+            return Ok(Lifecycle::Broken(position, rule));
+        }
+        position += 1;
+    }
+    match progress.first_running() {
+        Some(key) => Ok(Lifecycle::Unfinished(key)),
+        None => Ok(Lifecycle::Kept),
+    }
+}

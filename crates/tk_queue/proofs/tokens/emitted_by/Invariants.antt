@@ -1,6 +1,0 @@
-use Rattle.std.proofs.Common.{◌≡◌, drop}
-use Rattle.tk_queue.specs.Tokens.{sent_by}
-use Rattle.tk_queue.proofs.tokens.emitted_by.Given as goal
-
-abbrev pub invariant-loop-token : goal.invariant-loop-token
-invariant-loop-token l = sent_by (drop l.token-index l.ended) l.worker ≡ sent_by l.ended l.worker

@@ -1,7 +1,0 @@
-use Rattle.std.proofs.Common.{◌≡◌, ◌∙◌}
-use Rattle.tk_queue.specs.Tokens.{tokens_of}
-use Rattle.tk_queue.proofs.Closing.{none_more}
-use Rattle.tk_queue.proofs.tokens.first_without_token.Goals as goal
-
-pub loop-before-preserved : goal.loop-before-preserved
-loop-before-preserved c = none_more (λ w. tokens_of w c.args.ended.now ≡ 0) _ c.loop-before.invariant (λ none. c.if-tokens_of-eq0.false (c.tokens_of.ensures ∙ none))

@@ -1,6 +1,0 @@
-use Rattle.std.proofs.Common.{◌≡◌, map}
-use Rattle.tk_queue_core.specs.ReplayText.{scripts_by}
-use Rattle.tk_queue_core.proofs.texts.scripts_of.Given as goal
-
-abbrev pub invariant-loop-before : goal.invariant-loop-before
-invariant-loop-before l = map (λ s. s.items) l.scripts.items ≡ scripts_by l.entries l.before

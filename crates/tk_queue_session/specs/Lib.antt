@@ -1,0 +1,13 @@
+pub mod Limits
+pub mod Emission
+pub mod Marks
+pub mod PassViews
+pub mod SessionRule
+pub mod Senders
+pub mod Registering
+pub mod Tokens
+pub mod Receivers
+pub mod Closing
+pub mod Steps
+pub mod Recordable
+pub mod FaultTexts
