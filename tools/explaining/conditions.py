@@ -71,8 +71,8 @@ def kinds_of(condition: bytes) -> Optional[FrozenSet[bytes]]:
         return frozenset([KINDS[word]])
     members = [kinds_of(member) for member in members_of(condition)] if word in (b"all", b"any") else [None]
     known = [kinds for kinds in members if kinds is not None]
-    if word == b"all" and known:
-        return frozenset.intersection(*known)
+    if word == b"all":
+        return frozenset.intersection(*known) if known else None
     return frozenset().union(*known) if len(known) == len(members) else None
 
 
