@@ -37,9 +37,10 @@ USAGE = "usage: tools/explain exactly|loosely|in-order CONDITION .., or lifecycl
 
 
 def say(text: str) -> None:
-    """Writes on standard error, where it is open."""
+    """Writes on standard error, where that is open and takes it; the status stays what it is."""
     if sys.stderr:
-        sys.stderr.write(text)
+        with contextlib.suppress(OSError):
+            os.write(sys.stderr.fileno(), text.encode(errors="backslashreplace"))
 
 
 def main(words: Sequence[str]) -> int:

@@ -433,10 +433,10 @@ def page_of(data: Dict[str, object]) -> str:
 
 
 def say(text: bytes) -> None:
-    """Writes on standard error, where it is open."""
+    """Writes on standard error, where that is open and takes it; the status stays what it is."""
     if sys.stderr:
-        sys.stderr.buffer.write(text)
-        sys.stderr.flush()
+        with contextlib.suppress(OSError):
+            os.write(sys.stderr.fileno(), text)
 
 
 def main(words: Sequence[str]) -> int:

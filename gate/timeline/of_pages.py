@@ -285,6 +285,13 @@ CALLS = [
     Call("closed input", ANSWER, 'exec "$@" <&-', says=b": standard input or output is closed\n"),
     Call("closed output", ANSWER, 'exec "$@" >&-', says=b": standard input or output is closed\n"),
     Call("a full device", ANSWER, 'exec "$@" >/dev/full'),
+    Call("a device that is full within the page, and Python told not to buffer", ANSWER, 'ulimit -f 1; PYTHONUNBUFFERED=1 exec "$@" >"$ROOM/page"'),
+    Call("output that nobody reads any more", ANSWER, 'mkfifo "$ROOM/pipe"; : <"$ROOM/pipe" & exec 8>"$ROOM/pipe"; wait; exec "$@" >&8'),
+    Call("Python told of other letters", ANSWER, 'PYTHONIOENCODING=utf-16 exec "$@"', status=0, error=b"", has_page=True),
+    Call("a refusal, and a full device for the line", stand_in("echo 'testkit: x' >&2", "exit 2"), 'exec "$@" 2>/dev/full', status=2, error=b""),
+    Call("no program, and a full device for the line", command='PROGRAM=/nowhere/testkit exec "$@" 2>/dev/full', error=b""),
+    Call("words, and closed standard error", command='exec "$@" run.html 2>&-', status=2, error=b""),
+    Call("no program, and closed standard error", command='PROGRAM=/nowhere/testkit exec "$@" 2>&-', error=b""),
 ]
 
 BAD_RECORDS: List[Tuple[str, bytes, bytes]] = [
