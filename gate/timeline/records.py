@@ -169,6 +169,22 @@ SAMPLES: List[Sample] = [
         ],
     ),
     Sample(
+        "a frame that needs three rows stands below a test that runs in the third",
+        HEADER
+        + nodes("T 1", "T 2", "T 3", "C c", "C c/d", "T c/d/4")
+        + events("1 1 0 start", "1 2 1 start", "1 3 2 start", "1 1 3 finish|ok", "1 2 4 finish|ok", "1 4 5 start", "1 5 6 start")
+        + events("1 6 7 start", "1 6 8 finish|ok", "1 5 9 finish|ok", "1 4 10 finish|ok", "1 3 11 finish|ok"),
+        lanes=[(1, 0, 6)],
+        drawn=[
+            ("[x:1]", "successful", 0, 3, 0, 3, 0, 3, 0, 1),
+            ("[x:2]", "successful", 1, 4, 1, 4, 1, 4, 1, 1),
+            ("[x:4]", "successful", 7, 8, 7, 8, 7, 8, 5, 1),
+            ("[x:d]", "successful", 6, 9, 6, 9, 6, 9, 4, 2),
+            ("[x:c]", "successful", 5, 10, 5, 10, 5, 10, 3, 3),
+            ("[x:3]", "successful", 2, 11, 2, 11, 2, 11, 2, 1),
+        ],
+    ),
+    Sample(
         "a container that is a test too",
         HEADER + nodes("B b", "T b/1") + events("1 1 0 start", "1 2 2 start", "1 2 5 finish|ok", "1 1 9 finish|ok"),
         lanes=[(1, 0, 2)],
