@@ -216,6 +216,9 @@ COPY = (
 UNCACHED = 'PYTHONDONTWRITEBYTECODE="" "$ROOM/top/tools/timeline" && [ ! -e "$ROOM/top/tools/explaining/__pycache__" ]'
 """Calls the copy, and fails where Python left something beside it."""
 
+OLD_PYTHON = 'printf "#!/bin/sh\\necho old >&2; exit 1\\n" >python3 && chmod +x python3 && PATH=$ROOM:$PATH exec "$@"'
+"""Calls it where Python can't import what it needs."""
+
 OWN = re.compile(rb"tools/timeline: [^\n]+\n")
 ONE_START = records.HEADER + "N|T|[engine:e]|e\nE|1|0|0|start\nE|1|0|1|finish|ok\n"
 
@@ -279,7 +282,8 @@ CALLS = [
     Call("an execution of another ending", stand_in("echo 0 failed 0 1")),
     Call("an execution of another first stamp", stand_in("echo 0 succeeded 1 1")),
     Call("an execution of another last stamp", stand_in("echo 0 succeeded 0 2")),
-    Call("no Python", ANSWER, 'PATH=$ROOM exec /bin/sh "$@"', error=b"tools/timeline: it needs Python 3\n"),
+    Call("no Python", ANSWER, 'PATH=$ROOM exec /bin/sh "$@"', error=b"tools/timeline: it needs Python 3.7 or later\n"),
+    Call("a Python that can't run it", ANSWER, OLD_PYTHON, error=b"tools/timeline: it needs Python 3.7 or later\n"),
     Call("no page to fill", ANSWER, COPY + 'rm "$ROOM/top/tools/timeline.html" && exec "$ROOM/top/tools/timeline"'),
     Call("no script of the page", ANSWER, COPY + 'rm "$ROOM/top/tools/timeline.js" && exec "$ROOM/top/tools/timeline"'),
     Call("input that is a folder", ANSWER, 'exec "$@" </', error=b"tools/timeline: standard input is a folder\n"),
