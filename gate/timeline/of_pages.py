@@ -216,6 +216,12 @@ COPY = (
 UNCACHED = 'PYTHONDONTWRITEBYTECODE="" "$ROOM/top/tools/timeline" && [ ! -e "$ROOM/top/tools/explaining/__pycache__" ]'
 """Calls the copy, and fails where Python left something beside it."""
 
+FULL_AT_LAST = (
+    'cat >record; "$@" <record >page; at=$(wc -c <page); head -c $((513 - at % 512)) /dev/zero >out; '
+    'ulimit -f $((at / 512 + 1)); exec "$@" <record >>out'
+)
+"""Calls it where the page's last byte has no room: a file may have so many blocks of 512 bytes."""
+
 OLD_PYTHON = 'printf "#!/bin/sh\\necho old >&2; exit 1\\n" >python3 && chmod +x python3 && PATH=$ROOM:$PATH exec "$@"'
 """Calls it where Python can't import what it needs."""
 
@@ -291,6 +297,7 @@ CALLS = [
     Call("closed output", ANSWER, 'exec "$@" >&-', says=b": standard input or output is closed\n"),
     Call("a full device", ANSWER, 'exec "$@" >/dev/full'),
     Call("a device that is full within the page, and Python told not to buffer", ANSWER, 'ulimit -f 1; PYTHONUNBUFFERED=1 exec "$@" >"$ROOM/page"'),
+    Call("a device that is full within the last bytes of the page", ANSWER, FULL_AT_LAST),
     Call("output that nobody reads any more", ANSWER, 'mkfifo "$ROOM/pipe"; : <"$ROOM/pipe" & exec 8>"$ROOM/pipe"; wait; exec "$@" >&8'),
     Call("Python told of other letters", ANSWER, 'PYTHONIOENCODING=utf-16 exec "$@"', status=0, error=b"", has_page=True),
     Call("a refusal, and a full device for the line", stand_in("echo 'testkit: x' >&2", "exit 2"), 'exec "$@" 2>/dev/full', status=2, error=b""),

@@ -193,14 +193,18 @@ SAMPLES: List[Sample] = [
         gaps=[],
     ),
     Sample(
-        "a registered test below an unknown parent stands in the frame above it",
+        "a registered test below an unknown parent stands in the frame above it, beside a container",
         HEADER
-        + nodes()
-        + events("3 0 0 start", "3 196608 1 dynamic|T|[engine:e]/[x:a%2Fb]/[x:1]|d", "3 196608 2 start", "3 196608 4 finish|ok")
-        + events("3 0 5 finish|ok"),
-        lanes=[(3, 0, 2)],
-        drawn=[("[x:1]", "successful", 2, 4, 2, 3, 2, 4, 1, 1), ("[engine:e]", "successful", 0, 5, 0, 4, 0, 5, 0, 2)],
-        gaps=[(0, 1)],
+        + nodes("C c")
+        + events("3 0 0 start", "3 1 1 start", "3 196608 2 dynamic|T|[engine:e]/[x:a%2Fb]/[x:1]|d", "3 196608 3 start")
+        + events("3 196608 5 finish|ok", "3 1 6 finish|ok", "3 0 7 finish|ok"),
+        lanes=[(3, 0, 3)],
+        drawn=[
+            ("[x:1]", "successful", 3, 5, 3, 4, 3, 5, 2, 1),
+            ("[x:c]", "successful", 1, 6, 1, 5, 1, 6, 1, 1),
+            ("[engine:e]", "successful", 0, 7, 0, 6, 0, 7, 0, 3),
+        ],
+        gaps=[(0, 1), (1, 1)],
     ),
     Sample(
         "a second start of a key ends the first bar, and a finish without a start has none",
@@ -265,11 +269,11 @@ SAMPLES: List[Sample] = [
         drawn=[("[x:2]", "successful", 3, 4, 1, 2, 0, 1, 1, 1), ("[x:1]", "successful", 5, 6, 0, 3, 2, 3, 0, 1)],
     ),
     Sample(
-        "stamps of an execution that fall from one worker to the other are no times",
-        HEADER + nodes("T 1") + events("1 1 5 start", "2 1 4 finish|ok"),
+        "stamps of one execution of two that fall from one worker to the other are no times",
+        HEADER + nodes("T 1", "T 2") + events("1 2 1 start", "1 2 2 finish|ok", "1 1 5 start", "2 1 4 finish|ok"),
         times=False,
         lanes=[(1, 0, 1)],
-        drawn=[("[x:1]", "successful", 5, 4, 0, 1, 0, 1, 0, 1)],
+        drawn=[("[x:2]", "successful", 1, 2, 0, 1, 0, 1, 0, 1), ("[x:1]", "successful", 5, 4, 2, 3, 2, 3, 0, 1)],
     ),
     Sample(
         "the greatest stamps are exact",
