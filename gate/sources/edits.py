@@ -1,4 +1,4 @@
-"""Tests and wrong bodies: how many there are, and whether each wrong body can be applied and changes code.
+"""Tests and wrong bodies: how many there are, and whether each wrong body can be applied and changes code, and no clause.
 
 A wrong body that can't be applied counts for nothing in `rt ci`, and fails nothing there.
 """
@@ -7,6 +7,9 @@ import re
 from typing import Dict, List, Tuple
 
 from sources import Source, Tree
+
+CLAUSE = re.compile(r"\s*(requires|ensures)\b")
+"""How a clause begins. It ends with the brace that closes it."""
 
 
 def tests_of(tree: Tree) -> Dict[str, int]:
@@ -23,7 +26,7 @@ def edits_of(tree: Tree) -> List[str]:
 
 
 def edit_faults(tree: Tree) -> List[str]:
-    """Wrong bodies that can't be applied, or change no code; and files beside them that are none."""
+    """Wrong bodies that can't be applied, or don't change code alone; and files beside them that are none."""
     edits = edits_of(tree)
     others = [path for path in tree.files if "/must-fail/" in path and path not in edits]
     faults = [f"{path}: {fault}" for path in edits for fault in [edit_fault(tree, path)] if fault]
@@ -31,7 +34,7 @@ def edit_faults(tree: Tree) -> List[str]:
 
 
 def edit_fault(tree: Tree, path: str) -> str:
-    """Why a wrong body can't be applied, or changes no code; nothing where it can and does."""
+    """Why a wrong body can't be applied, or doesn't change code alone; nothing where it can and does."""
     crate = path.partition("/must-fail/")[0]
     texts: Dict[str, Tuple[str, str]] = {}
     file = old = ""
@@ -51,11 +54,20 @@ def edit_fault(tree: Tree, path: str) -> str:
             texts[file], old = (before, now.replace(old, rest)), ""
         elif line.strip():
             return f"{line!r} is no line of a wrong body"
-    changed = [it for it in texts.values() if code_and_texts(it[0]) != code_and_texts(it[1])]
-    return "an 'old:' has no 'new:'" if old else "" if changed else "it changes no code"
+    if old:
+        return "an 'old:' has no 'new:'"
+    before, now = ([code_and_clauses(it[at]) for it in texts.values()] for at in (0, 1))
+    if [clauses for _, clauses in before] != [clauses for _, clauses in now]:
+        return "it changes a clause"
+    return "" if before != now else "it changes no code"
 
 
-def code_and_texts(text: str) -> Tuple[Tuple[str, ...], List[str]]:
-    """The code of a text, and the texts in quotes that stand in it, without comments."""
+def code_and_clauses(text: str) -> Tuple[List[str], List[str]]:
+    """The code of a text with what stands in it in quotes, and the lines of its clauses."""
     source = Source("", "", tuple(text.split("\n")))
-    return source.code, [found for line in source.lines if not line.strip().startswith("//") for found in re.findall(r'"[^"]*"', line)]
+    code, clauses, depth = list(source.quoted), [], 0
+    for line in source.code:
+        is_clause = depth > 0 or CLAUSE.match(line) is not None
+        (clauses if is_clause else code).append(line)
+        depth += line.count("{") - line.count("}") if is_clause else 0
+    return code, clauses

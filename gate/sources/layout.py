@@ -7,6 +7,9 @@ from typing import List, Set
 from sources import Tree
 
 HANDLES = "Handles allowed: Threads, Wait.\n"
+FUNCTION = re.compile(r"^\s*pub (?:const )?fn (\w+)", re.MULTILINE)
+HEAD_END = re.compile(r"\{\}?$|;$|^\s*(?:pub(?:\(\w+\))? )?(?:const )?fn ", re.MULTILINE)
+"""How the head of a function ends: with its body, or at the latest with another function."""
 MOST_COLUMNS = 100
 """How many columns a clause and a line of specs/ may have."""
 
@@ -47,15 +50,15 @@ def place_faults(tree: Tree) -> List[str]:
 
 
 def module_faults(tree: Tree) -> List[str]:
-    """Files that no root names: nothing reads them."""
+    """Files that no root names, and files in a folder of src that its module doesn't name: nothing reads them."""
     faults = []
     for path in tree.files:
-        found = re.fullmatch(r"crates/(\w+)/(src|specs|proofs)/(\w+)\.(rt|antt)", path)
-        if not found or (found[2] == "src") != (found[4] == "rt") or found[3] in ("lib", "main", "Lib"):
+        found = re.fullmatch(r"crates/\w+/(?:(src)((?:/\w+)*)|specs|proofs)/(\w+)\.(rt|antt)", path)
+        if not found or bool(found[1]) != (found[4] == "rt") or not found[2] and found[3] in ("lib", "main", "Lib"):
             continue
-        folder = f"crates/{found[1]}/{found[2]}"
-        roots = ("lib.rt", "main.rt") if found[2] == "src" else ("Lib.antt",)
-        root = "\n".join(tree.text(f"{folder}/{it}") for it in roots)
+        folder = os.path.dirname(path)
+        roots = [f"{folder}.rt"] if found[2] else [f"{folder}/{it}" for it in (("lib.rt", "main.rt") if found[1] else ("Lib.antt",))]
+        root = "\n".join(tree.text(it) for it in roots)
         if not re.search(rf"^(pub )?mod {found[3]};?\s*$", root, re.MULTILINE):
             faults.append(f"{path} is named by no root")
     return faults
@@ -76,10 +79,11 @@ def without_clause(tree: Tree) -> List[str]:
     """The public functions of libraries that have no clause, each with its file."""
     found = []
     for source in [it for it in tree.sources if not it.is_test]:
-        for number, line in enumerate(source.code, 1):
-            function = re.match(r"\s*pub (?:const )?fn (\w+)", line)
-            head = re.split(r"\{\}?$|;$", "\n".join(source.code[number - 1 :]), maxsplit=1, flags=re.MULTILINE)[0] if function else ""
-            if function and not re.search(r"^\s*ensures\b", head, re.MULTILINE):
+        code = "\n".join(source.code)
+        for function in FUNCTION.finditer(code):
+            end = HEAD_END.search(code, function.end())
+            head = code[function.end() : end.start() if end else None]
+            if not re.search(r"^\s*ensures\b", head, re.MULTILINE):
                 found.append(f"{source.path} {function[1]}")
     return found
 
@@ -96,6 +100,6 @@ def column_faults(tree: Tree) -> List[str]:
 def gate_faults(tree: Tree) -> List[str]:
     """Scripts of the gate that `check` doesn't call."""
     check = tree.text("check")
-    scripts = [path for path in tree.files if re.fullmatch(r"gate/\w+/\w+", path) and tree.is_script(path)]
-    faults = [f"check doesn't call {path}" for path in scripts if not re.search(rf"^[^#\n]*{path}(?![\w.])", check, re.MULTILINE)]
+    scripts = [path for path in tree.files if path.startswith("gate/") and tree.is_script(path)]
+    faults = [f"check doesn't call {path}" for path in scripts if not re.search(rf"^[^#\n]*{re.escape(path)}(?![\w.])", check, re.MULTILINE)]
     return faults if scripts else ["there is no script of the gate"]

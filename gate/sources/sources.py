@@ -11,6 +11,9 @@ from crates import Crate, read_crates
 TEST_CRATE = re.compile(r"test_\w+")
 """Crates of tests, and of what tests share."""
 
+NO_CODE = re.compile(r"""//[^\n]*|'(?:\\.|[^'\\\n])'|"(?:\\.|[^"\\])*\"""", re.DOTALL)
+"""A comment, a letter in quotes, or a text in quotes, which may have several lines."""
+
 
 @dataclass(frozen=True)
 class Source:
@@ -26,8 +29,14 @@ class Source:
 
     @cached_property
     def code(self) -> Tuple[str, ...]:
-        """The lines without comments and without what stands in texts."""
-        return tuple(code_of(line) for line in self.lines)
+        """The lines without comments and without what stands in quotes."""
+        code = NO_CODE.sub(lambda found: blank(found[0]), "\n".join(self.lines))
+        return tuple(line.rstrip() for line in code.split("\n"))
+
+    @property
+    def quoted(self) -> List[str]:
+        """The letters and texts in quotes of the code, in their order."""
+        return [found for found in NO_CODE.findall("\n".join(self.lines)) if not found.startswith("//")]
 
     @cached_property
     def body(self) -> str:
@@ -35,10 +44,9 @@ class Source:
         return re.sub(r"^\s*(pub )?(ghost )?use [^;]*;", "", "\n".join(self.code), flags=re.MULTILINE)
 
 
-def code_of(line: str) -> str:
-    """A line without its comment and without what stands in texts."""
-    texts_gone = re.sub(r'"(\\.|[^"\\])*"', '""', re.sub(r"'(\\.|[^'\\])'", "' '", line))
-    return texts_gone.partition("//")[0].rstrip()
+def blank(found: str) -> str:
+    """What stands in the code for a comment, or for what is in quotes, in as many lines."""
+    return "" if found.startswith("//") else found[0] + "\n" * found.count("\n") + found[-1]
 
 
 class Tree:
