@@ -8,9 +8,10 @@ command says its status, which is 0 elsewhere.
 import os
 import re
 import shlex
+import signal
 import subprocess
 from dataclasses import dataclass, field
-from typing import List, Sequence
+from typing import Dict, List, Optional, Sequence, Tuple
 
 from documents import Document
 
@@ -34,22 +35,28 @@ class Example:
     def fault(self, top: str, program: str) -> str:
         """What the command does that the document does not show; nothing where they agree."""
         command = re.sub(r"(?<!\S)\./testkit(?!\S)", lambda _: shlex.quote(program), self.command)
-        try:
-            ran = subprocess.run(
-                ["sh", "-c", command],
-                cwd=top,
-                env={**os.environ, "PROGRAM": program},
-                stdin=subprocess.DEVNULL,
-                stdout=subprocess.PIPE,
-                stderr=subprocess.STDOUT,
-                timeout=SECONDS,
-            )
-        except subprocess.TimeoutExpired:
+        status, output = ran(command, top, {**os.environ, "PROGRAM": program})
+        printed = output.decode(errors="replace").splitlines()
+        if status is None:
             return f"it does not end within {SECONDS} seconds"
-        printed = ran.stdout.decode(errors="replace").splitlines()
-        if ran.returncode != self.status:
-            return f"its status is {ran.returncode}, and not {self.status}"
+        if status != self.status:
+            return f"its status is {status}, and not {self.status}"
         return "" if is_shown(printed, self.lines) else f"it prints {printed}, and not {self.lines}"
+
+
+def ran(command: str, folder: str, environment: Dict[str, str]) -> Tuple[Optional[int], bytes]:
+    """Runs a command in a folder; returns its status, or None where it took too long, and what it printed."""
+    how = {"stdin": subprocess.DEVNULL, "stdout": subprocess.PIPE, "stderr": subprocess.STDOUT}
+    with subprocess.Popen(["sh", "-c", command], cwd=folder, env=environment, start_new_session=True, **how) as started:
+        try:
+            output, _ = started.communicate(timeout=SECONDS)
+            return started.returncode, output
+        except BaseException as fault:
+            # (with all that it started, which may hold the pipe)
+            os.killpg(started.pid, signal.SIGKILL)
+            if isinstance(fault, subprocess.TimeoutExpired):
+                return None, b""
+            raise
 
 
 def is_shown(printed: Sequence[str], shown: Sequence[str]) -> bool:

@@ -8,6 +8,8 @@ from typing import List, Sequence
 from documents import Document
 
 FROM = re.compile(r"From `?(crates/[^`\s]+)`?.*:")
+CODE = "```rust"
+"""How a block begins that has to be a quote."""
 
 
 def plain(lines: Sequence[str]) -> List[str]:
@@ -36,17 +38,19 @@ def fault_of(top: str, path: str, lines: Sequence[str], crates: Sequence[str]) -
 
 
 def faults_of(top: str, document: Document, crates: Sequence[str]) -> List[str]:
-    """What is wrong with each quote of a document, or nothing, in their order."""
+    """What is wrong with each quote of a document, or nothing, in their order, and with code that is no quote."""
     blocks = {block.number - (not block.is_indented): block for block in document.blocks()}
+    unquoted = {number for number, line in enumerate(document.lines, 1) if line.startswith(CODE)}
     found = []
     for number, line, is_code in document.parts():
         named = None if is_code else FROM.fullmatch(line.strip())
         if named:
             after = next((at for at in range(number, len(document.lines)) if document.lines[at].strip()), -1) + 1
             block = blocks.get(after)
+            unquoted.discard(after)
             fault = fault_of(top, named[1], block.lines, crates) if block else "no block of code follows"
             found.append(f"{document.path}:{number}: {fault}" if fault else "")
-    return found
+    return found + [f"{document.path}:{number}: no line 'From crates/..:' says whose code this is" for number in sorted(unquoted)]
 
 
 def is_quoting(document: Document) -> bool:
