@@ -7,7 +7,7 @@ import hashlib
 import os
 import subprocess
 from dataclasses import asdict, dataclass, fields
-from typing import Optional
+from typing import List, Optional
 
 PROGRAM = "crates/testkit/out/testkit"
 RUN = "crates/testkit/out/checked"
@@ -60,8 +60,18 @@ def state_of(top: str) -> State:
     if os.path.realpath(git(top, "rev-parse", "--show-toplevel").decode().rstrip("\n")) != os.path.realpath(top):
         raise Unknown(f"{top} is not the top of a repository")
     commit, tree = git(top, "rev-parse", "HEAD", "HEAD^{tree}").decode().split()
-    changes = git(top, "-c", "core.excludesFile=/dev/null", "-c", "core.fileMode=true", "status", "--porcelain", "--untracked-files=all")
-    return State(commit, tree, (changes.decode(errors="replace").splitlines() or [""])[0][3:])
+    return State(commit, tree, (changes_of(top) or [""])[0])
+
+
+def changes_of(top: str) -> List[str]:
+    """Lists the files that differ from the commit, and those of which `git status` may not say it.
+
+    These are the files that are marked in the index, and those that .git/info/exclude names.
+    """
+    status = git(top, "-c", "core.excludesFile=/dev/null", "-c", "core.fileMode=true", "status", "--porcelain", "--untracked-files=all")
+    marked = [line[2:] for line in git(top, "ls-files", "-v").decode(errors="replace").splitlines() if not line.startswith("H ")]
+    others = git(top, "ls-files", "--others", "--exclude-per-directory=.gitignore").decode(errors="replace").splitlines()
+    return [line[3:] for line in status.decode(errors="replace").splitlines()] + marked + others
 
 
 def hash_of(path: str) -> str:

@@ -25,6 +25,7 @@ WRONG_CHECKERS: Dict[str, List[str]] = {
     "has none, and status 1": [*GOOD, "exit 1"],
     "has none, and status 137": [*GOOD, "exit 137"],
     "is killed after its line": [*GOOD, "kill -KILL $$"],
+    "is killed by a signal without a name": [*GOOD, "kill -40 $$"],
     "is killed before its line": ['echo "a line"', "kill -TERM $$"],
     "counts twice": ['echo "1 passed, 0 failed"', *GOOD],
     "writes after its line": [*GOOD, 'echo "a line"'],
@@ -44,6 +45,7 @@ WRONG_LAUNCHERS: Dict[str, List[str]] = {
     "proves again": ["echo 'testkit: proving the program' >&2", *ANSWERS],
     "has status 1": [*ANSWERS, "exit 1"],
     "is killed": [*ANSWERS, "kill -KILL $$"],
+    "complains": ["echo 'testkit: a line' >&2", *ANSWERS],
 }
 
 
@@ -154,6 +156,17 @@ TESTS_OF_RUNS: Dict[str, Callable[[], str]] = {
     "a file changed": lambda: leaves_nothing(lambda at: write(f"{at}/.gitignore", "out/\n\n"), True, ": .gitignore is not as it was"),
     "a file added": lambda: leaves_nothing(lambda at: write(f"{at}/new", ""), True, ": new is not as it was"),
     "a file staged": lambda: leaves_nothing(lambda at: (write(f"{at}/new", ""), git(at, "add", "-A")), True, ": new is not as it was"),
+    "a file marked as unchanged": lambda: leaves_nothing(
+        lambda at: (git(at, "update-index", "--assume-unchanged", ".gitignore"), write(f"{at}/.gitignore", "out/\n\n")),
+        True,
+        ": .gitignore is not as it was",
+    ),
+    "a file that isn't checked out": lambda: leaves_nothing(
+        lambda at: (git(at, "update-index", "--skip-worktree", ".gitignore"), os.remove(f"{at}/.gitignore")), True, ": .gitignore is not as it was"
+    ),
+    "a file added that the repository alone ignores": lambda: leaves_nothing(
+        lambda at: (write(f"{at}/.git/info/exclude", "new\n"), write(f"{at}/new", "")), True, ": new is not as it was"
+    ),
     "a checker that adds a file": lambda: leaves_nothing(
         lambda at: (write_script(f"{at}/gate/cases/run_cases", f"touch {at}/new", *GOOD), commit(at)), True, ": new is not as it was"
     ),
@@ -202,6 +215,19 @@ def without(path: str) -> str:
     return check(lambda at: os.remove(f"{at}/{path}")).came.fault(False)
 
 
+def without_end() -> str:
+    """Where `./testkit` doesn't end in time it is a failure, and is stopped with what it started."""
+    with tempfile.TemporaryDirectory(prefix="checkers-") as room:
+
+        def change(at: str) -> None:
+            write(f"{at}/check", text_of(f"{at}/check").replace("\nSECONDS = 60\n", "\nSECONDS = 1\n"))
+            write_script(f"{at}/testkit", f"sleep 60 & echo $! >{room}/started; wait")
+
+        fault = check(change).came.fault(False)
+        is_there = "sleep" in text_of(f"/proc/{text_of(f'{room}/started').strip()}/cmdline")
+    return fault or ("what it started is still there" if is_there else "")
+
+
 def nothing_done(lines: Sequence[str]) -> str:
     def change(at: str) -> None:
         for path in ["bin/rt", *checkers_of_the_gate()]:
@@ -227,6 +253,7 @@ def tests_of_check() -> List[Test]:
     for name, lines in [("do nothing", []), ("count nothing", WRONG_CHECKERS["ran nothing"])]:
         found.append(Test(f"all checkers {name}", lambda lines=lines: nothing_done(lines)))
     found += [Test(f"what a run leaves: {name}", fault) for name, fault in TESTS_OF_RUNS.items()]
+    found.append(Test("./testkit doesn't end", without_end))
     found.append(Test("./testkit is missing", lambda: without("testkit")))
     found.append(Test("the program is missing", lambda: without("crates/testkit/out/testkit")))
     return found
