@@ -8,9 +8,6 @@ from typing import Dict, List, Tuple
 
 from sources import Source, Tree
 
-CLAUSE = re.compile(r"\s*(requires|ensures)\b")
-"""How a clause begins. It ends with the brace that closes it."""
-
 
 def tests_of(tree: Tree) -> Dict[str, int]:
     """How many tests each crate has."""
@@ -65,9 +62,5 @@ def edit_fault(tree: Tree, path: str) -> str:
 def code_and_clauses(text: str) -> Tuple[List[str], List[str]]:
     """The code of a text with what stands in it in quotes, and the lines of its clauses."""
     source = Source("", "", tuple(text.split("\n")))
-    code, clauses, depth = list(source.quoted), [], 0
-    for line in source.code:
-        is_clause = depth > 0 or CLAUSE.match(line) is not None
-        (clauses if is_clause else code).append(line)
-        depth += line.count("{") - line.count("}") if is_clause else 0
-    return code, clauses
+    code, clauses = source.parts
+    return code + source.quoted, clauses

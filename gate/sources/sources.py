@@ -14,6 +14,9 @@ TEST_CRATE = re.compile(r"test_\w+")
 NO_CODE = re.compile(r"""//[^\n]*|'(?:\\.|[^'\\\n])'|"(?:\\.|[^"\\])*\"""", re.DOTALL)
 """A comment, a letter in quotes, or a text in quotes, which may have several lines."""
 
+CLAUSE = re.compile(r"\s*(requires|ensures)\b")
+"""How a clause begins. It ends with the brace that closes it."""
+
 
 @dataclass(frozen=True)
 class Source:
@@ -39,9 +42,21 @@ class Source:
         return [found for found in NO_CODE.findall("\n".join(self.lines)) if not found.startswith("//")]
 
     @cached_property
+    def parts(self) -> Tuple[List[str], List[str]]:
+        """The lines of the code that are in no clause, and those of clauses."""
+        others: List[str] = []
+        clauses: List[str] = []
+        depth = 0
+        for line in self.code:
+            is_clause = depth > 0 or CLAUSE.match(line) is not None
+            (clauses if is_clause else others).append(line)
+            depth += line.count("{") - line.count("}") if is_clause else 0
+        return others, clauses
+
+    @cached_property
     def body(self) -> str:
-        """The code without `use` items."""
-        return re.sub(r"^\s*(pub )?(ghost )?use [^;]*;", "", "\n".join(self.code), flags=re.MULTILINE)
+        """The code without clauses, `use` items and names of modules."""
+        return re.sub(r"^\s*(pub )?(ghost )?(use [^;]*|mod \w+);", "", "\n".join(self.parts[0]), flags=re.MULTILINE)
 
 
 def blank(found: str) -> str:
