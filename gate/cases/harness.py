@@ -190,6 +190,10 @@ def start(case: Case, program: str, watcher: Optional[Watcher] = None) -> Ended:
         return end(case, process)
     finally:
         limit.cancel()
+        if process.returncode is None:
+            # (what could not be given its input is left by an exception)
+            process.kill()
+            process.wait()
         if looking:
             looking.join()
 

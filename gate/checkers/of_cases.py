@@ -8,8 +8,8 @@ from typing import Dict, List, Sequence, Set, Tuple
 
 import generated
 import harness
-from harness import Case, Group, Input, Output
-from outcomes import Came, Test, in_a_copy, write_script
+from harness import Case, Group, Input, Output, ThreadCount
+from outcomes import TOP, Came, Test, called, in_a_copy, write_script
 from tables import command_lines, devices, open_inputs, questions, threads
 
 NOTHING_FAILED = 0
@@ -128,6 +128,12 @@ def of_an_exception(program: str) -> str:
     return came.fault(False) or ("" if failed == {broken.name} and came.passed == 1 else came.said)
 
 
+def of_an_exception_beside_threads(program: str) -> str:
+    """It ends, though the threads of its program are looked at."""
+    broken = Case("an exception", [b"replay"], lambda: bytes(1 // NOTHING_FAILED))
+    return run_harness(program, [ThreadCount(broken, 3)])[0].fault(False)
+
+
 def of_lists() -> str:
     """Each fault of the lists is named, and one of them is a failure where all cases pass."""
     case = chosen()[0]
@@ -155,6 +161,7 @@ def tests_of_harness(program: str, room: str) -> List[Test]:
     found.append(Test("a program without an end", lambda: of_no_end(room)))
     found.append(Test("a program that isn't there", lambda: run_harness(f"{room}/nothing", chosen())[0].fault(False)))
     found.append(Test("an exception in a case", lambda: of_an_exception(program)))
+    found.append(Test("an exception in a case that counts threads", lambda: of_an_exception_beside_threads(program)))
     found.append(Test("no case", lambda: run_harness(program, [])[0].fault(False)))
     found.append(Test("a fault of the lists", lambda: run_harness(program, chosen(), ["too few"])[0].fault(False)))
     found.append(Test("faults of the lists", of_lists))
@@ -185,6 +192,11 @@ def tests_of_copies(program: str) -> List[Test]:
     requests = ["faults/refuse_requests", "/bin/true"]
     edits = [("faults/refuse_requests", "program_sweeps(os.fsencode(os.path.abspath(sys.argv[1])))", "[]")]
     found.append(Test("refuse_requests without a sweep", lambda: in_a_copy(["cases", "faults"], edits, requests)))
+    for name, words in {"a program": [], "a program that isn't there": ["/none"]}.items():
+        found.append(Test(f"cases without {name}", lambda words=words: called(f"{TOP}/gate/cases/run_cases", *words).fault(None)))
+        found.append(Test(f"refuse_requests without {name}", lambda words=words: called(f"{TOP}/gate/faults/refuse_requests", *words).fault(None)))
+    unmade = [("cases/run_cases", both, "1 // 0")]
+    found.append(Test("cases that can't be made", lambda: in_a_copy(["cases"], unmade, cases, None)))
     none = [("launcher/test_launcher", "    TESTS.append(function)\n", "")]
     found.append(Test("test_launcher without a test", lambda: in_a_copy(["launcher"], none, ["launcher/test_launcher"])))
     return found

@@ -6,7 +6,7 @@ import shutil
 import subprocess
 import tempfile
 from dataclasses import dataclass
-from typing import Callable, Sequence, Tuple
+from typing import Callable, Optional, Sequence, Tuple
 
 TOP = os.path.dirname(os.path.dirname(os.path.dirname(os.path.abspath(__file__))))
 
@@ -23,11 +23,13 @@ class Came:
     failed: int
     said: str
 
-    def fault(self, is_right: bool) -> str:
-        """What is wrong where the checker has to pass, or has to fail and count it; nothing where it does."""
+    def fault(self, is_right: Optional[bool]) -> str:
+        """What is wrong where the checker has to pass, to fail and count it, or, where that is None, to say that it can't work."""
         is_passed = self.status == 0 and self.passed > 0 and self.failed == 0
         is_failed = self.status == 1 and self.failed > 0
-        return "" if (is_passed if is_right else is_failed) else f"status {self.status}, last lines {self.said[-300:]!r}"
+        is_broken = self.status == 70 and self.passed < 0 and self.said.count("\n") == 1
+        is_wanted = {True: is_passed, False: is_failed, None: is_broken}[is_right]
+        return "" if is_wanted else f"status {self.status}, last lines {self.said[-300:]!r}"
 
 
 @dataclass(frozen=True)
@@ -53,8 +55,8 @@ def write_script(path: str, *lines: str) -> None:
     os.chmod(path, 0o755)
 
 
-def in_a_copy(folders: Sequence[str], edits: Sequence[Tuple[str, str, str]], command: Sequence[str], is_right: bool = False) -> str:
-    """Runs a checker of a copy of folders of gate/ in which texts were replaced; it has to fail."""
+def in_a_copy(folders: Sequence[str], edits: Sequence[Tuple[str, str, str]], command: Sequence[str], is_right: Optional[bool] = False) -> str:
+    """Runs a checker of a copy of folders of gate/ in which texts were replaced; it has to fail, or what else is wanted of it."""
     with tempfile.TemporaryDirectory(prefix="checkers-") as at:
         for folder in folders:
             shutil.copytree(f"{TOP}/gate/{folder}", f"{at}/gate/{folder}")
