@@ -221,19 +221,24 @@ def without_end() -> str:
 
         def change(at: str) -> None:
             write(f"{at}/check", text_of(f"{at}/check").replace("\nSECONDS = 60\n", "\nSECONDS = 1\n"))
-            write_script(f"{at}/testkit", f"sleep 60 & echo $! >{room}/started; wait")
+            write_script(f"{at}/testkit", f"{shutil.which('sleep')} 60 & echo $! >{room}/started; wait")
 
-        fault = check(change).came.fault(False)
+        came = check(change).came
+        fault = came.fault(False) or ("" if "timed out" in came.said else came.said[-300:])
         is_there = "sleep" in text_of(f"/proc/{text_of(f'{room}/started').strip()}/cmdline")
     return fault or ("what it started is still there" if is_there else "")
 
 
 def nothing_done(lines: Sequence[str]) -> str:
+    """Each checker is a failure."""
+    paths = ["bin/rt", *checkers_of_the_gate()]
+
     def change(at: str) -> None:
-        for path in ["bin/rt", *checkers_of_the_gate()]:
+        for path in paths:
             write_script(f"{at}/{path}", *lines)
 
-    return check(change).came.fault(False)
+    came = check(change).came
+    return came.fault(False) or ("" if came.failed == len(paths) else f"{came.failed} failed, and {len(paths)} do nothing")
 
 
 def fails_in_ci() -> str:

@@ -1,7 +1,7 @@
 """Public functions that nothing calls: no test, and no other function.
 
 A method counts as called where `.name(` or `Type::name` stands in code, another function of a type where `Type::name` does (`Self::name`
-in the file of the type), a function of no type where its name does.
+in the file of the type), a function of no type where its name does. Clauses, `use` items and names of modules call nothing.
 """
 
 import re
