@@ -87,6 +87,8 @@ ZEROS = b"0" * 5_000
 SHOWN = {
     "pieces": (dict(output=TEXT, standard_input=Input.PIECES), "exec cat", True),
     "pieces, of which one is left": (dict(output=TEXT, standard_input=Input.PIECES), "exec head -c 7", False),
+    "an input that stays open": (dict(output=TEXT, standard_input=Input.OPEN), "exec head -n 2", True),
+    "an input that stays open, of which one is left": (dict(output=TEXT, standard_input=Input.OPEN), "exec head -n 1", False),
     "a file": (dict(output=TEXT, standard_input=Input.FILE), "[ -f /dev/stdin ] && exec cat", True),
     "a pipe": (dict(output=TEXT), "[ -p /dev/stdin ] && exec cat", True),
     "a folder": (dict(standard_input=Input.FOLDER), "[ -d /dev/stdin ]", True),
