@@ -9,7 +9,7 @@ import tempfile
 from dataclasses import replace
 from typing import Callable, List, Sequence, Set, Tuple
 
-from outcomes import TOP, Test
+from outcomes import TOP, Test, write_script
 
 
 def few_sweeps(module) -> str:
@@ -160,6 +160,28 @@ def tests_of_edits(module, requests: str) -> List[Test]:
     return found
 
 
+def tests_of_lists(module, room: str) -> List[Test]:
+    """Built test crates that list these tests."""
+
+    def listed(name: str, *names: str) -> str:
+        """What is run of them: name, kind of the requests and how many there are at least, and how much is missing."""
+        write_script(f"{room}/{name}", '[ "$*" = --list ] || exit 1', *(f"echo '{it}: test'" for it in names))
+        sweeps, missing = module.test_sweeps(f"{room}/{name}")
+        return " ".join([*(f"{it.command[1].decode()}/{it.kind}/{it.least}" for it in sweeps), f"{len(missing)} missing"])
+
+    def differs(came: str, wanted: str) -> str:
+        return "" if came == wanted else f"{came!r}, wanted {wanted!r}"
+
+    swept = "a::refused/memory/1 a::refused/thread/0 refusals::b/memory/1 refusals::b/thread/0"
+    return [
+        Test("tests of refusals", lambda: differs(listed("new_tests", "a::refused", "refusals::b", "c::d"), f"{swept} c::d//0 0 missing")),
+        Test("a crate without a test of refusals", lambda: differs(listed("new_tests", "c::d"), "c::d//0 1 missing")),
+        Test("a crate with too few tests of refusals", lambda: differs(listed("test_runs_tests", "a::refused", "refusals::b"), f"{swept} 1 missing")),
+        Test("a crate that needs no test of refusals", lambda: differs(listed("test_example_engine_tests", "c::d"), "c::d//0 0 missing")),
+        Test("a crate that needs no test of refusals, and has none at all", lambda: differs(listed("test_example_engine_tests"), "1 missing")),
+    ]
+
+
 def tests_of_sweeps(room: str) -> List[Test]:
     """What `refuse.c` refuses, and sweeps over a program that makes one request, each of which is wrong in one way."""
     module, library, requests = loaded(), f"{room}/refuse.so", f"{room}/requests"
@@ -175,8 +197,16 @@ def tests_of_sweeps(room: str) -> List[Test]:
     def refused(ended, ordinary) -> bool:
         return (ended.status, ordinary.status) == (1, 0)
 
+    def once(command: Sequence[bytes], has_to_fail: bool, kept: int = 1) -> str:
+        _, failed = module.failures_of(library, module.Sweep("once", "", command, b"", module.passes, kept=kept))
+        return "" if bool(failed) == has_to_fail else f"{failed}"
+
     return [
         *tests_of_edits(module, requests),
+        *tests_of_lists(module, room),
+        Test("a test that runs once", lambda: once([requests.encode(), b"malloc"], False)),
+        Test("a test that runs once and keeps a block", lambda: once([requests.encode(), b"malloc"], True, 0)),
+        Test("a test that runs once and fails", lambda: once([b"/bin/false"], True, 0)),
         *tests_of_answers(module),
         Test("a sweep that is right", lambda: differs(refused, False)),
         Test("a sweep with a wrong answer", lambda: differs(lambda ended, ordinary: ended.status == 0, True)),
