@@ -160,8 +160,18 @@ def tests_of_edits(module, requests: str) -> List[Test]:
     return found
 
 
+def rules_of_sweeps(module) -> str:
+    """What is wrong with what the sweeps of the program let pass: an answer once where memory is refused, and what a run keeps."""
+    sweeps = module.program_sweeps(b"/bin/true")
+    found = {(it.name.split()[0], it.kind, it.survived, it.kept, len(it.units)) for it in sweeps}
+    wanted = {(of, kind, int(kind == "memory"), 0, 0) for of in ("ask", "replay") for kind in ("memory", "read", "write")}
+    wanted |= {("run", kind, int(kind == "memory"), module.KEPT_BY_RUN, 0) for kind in ("memory", "read", "write", "thread")}
+    wanted |= {("run", "memory", 1, module.KEPT_BY_RUN, 4), ("fault", "message", 0, 0, 0)}
+    return "" if found == wanted else f"{sorted(found ^ wanted)}"
+
+
 def tests_of_lists(module, room: str) -> List[Test]:
-    """Built test crates that list these tests."""
+    """What is run of the program, and of built test crates that list these tests."""
 
     def listed(name: str, *names: str) -> str:
         """What is run of them: name, kind of the requests and how many there are at least, and how much is missing."""
@@ -174,6 +184,7 @@ def tests_of_lists(module, room: str) -> List[Test]:
 
     swept = "a::refused/memory/1 a::refused/thread/0 refusals::b/memory/1 refusals::b/thread/0"
     return [
+        Test("the sweeps of the program", lambda: rules_of_sweeps(module)),
         Test("tests of refusals", lambda: differs(listed("new_tests", "a::refused", "refusals::b", "c::d"), f"{swept} c::d//0 0 missing")),
         Test("a crate without a test of refusals", lambda: differs(listed("new_tests", "c::d"), "c::d//0 1 missing")),
         Test("a crate with too few tests of refusals", lambda: differs(listed("test_runs_tests", "a::refused", "refusals::b"), f"{swept} 1 missing")),
