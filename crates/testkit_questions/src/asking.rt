@@ -45,8 +45,9 @@ fn write_answer<T: Target>(
     ensures device { IsErrOf result AskFault.Device → T.broken target.new ≡ true }
 {
     let reply = reply_to(alloc, record, question)?;
+    let is_yes = reply.is_yes();
     match reply.write(target) {
-        Ok(()) => Ok(reply.is_yes()),
+        Ok(()) => Ok(is_yes),
         Err(_) => Err(AskFault::Device),
     }
 }

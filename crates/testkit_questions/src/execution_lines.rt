@@ -7,7 +7,7 @@ ghost use Rattle.testkit_questions.specs.Answers.{ending_name, execution_line};
 ghost use Rattle.testkit_questions.specs.Characters.{blank};
 ghost use Rattle.tk_streams.specs.Pieces.{Adds, outgoing};
 
-use tk_query::{Ending, Execution, Executions};
+use tk_query::{Ending, Execution, ExecutionIter};
 use tk_streams::{Broken, Piece, Target};
 
 // The name of an ending, and a blank.
@@ -33,13 +33,13 @@ fn put_execution<T: Target>(piece: &mut Piece, target: &mut T, execution: Execut
     piece.put_number(target, execution.stop, b'\n');
 }
 
-fn put_executions<T: Target>(piece: &mut Piece, target: &mut T, list: &Executions)
+fn put_executions<T: Target>(piece: &mut Piece, target: &mut T, executions: ExecutionIter<'_>)
     ensures { Adds (outgoing (T.contents target.old) (T.broken target.old) piece.old)
         (outgoing (T.contents target.new) (T.broken target.new) piece.new)
-        (flat_map execution_line list.now) }
+        (flat_map execution_line executions.entry) }
 {
-    'executions: for execution in list.iter() {
-        put_execution(piece, target, *execution);
+    'executions: for execution in executions {
+        put_execution(piece, target, execution);
     }
 }
 
@@ -47,14 +47,17 @@ fn put_executions<T: Target>(piece: &mut Piece, target: &mut T, list: &Execution
 ///
 /// # Errors
 /// `Broken` where the target broke. A prefix of the lines was then written.
-pub(crate) fn write_executions<T: Target>(list: &Executions, target: &mut T) -> Result<(), Broken>
+pub(crate) fn write_executions<T: Target>(
+    executions: ExecutionIter<'_>,
+    target: &mut T,
+) -> Result<(), Broken>
     ensures ok { OnOk result (Appends (T.contents target.old) (T.contents target.new)
-        (flat_map execution_line list.now)) }
+        (flat_map execution_line executions.entry)) }
     ensures err { OnErr result (AppendsPrefix (T.contents target.old) (T.contents target.new)
-        (flat_map execution_line list.now)) }
+        (flat_map execution_line executions.entry)) }
     ensures broken { OnErr result (T.broken target.new ≡ true) }
 {
     let mut piece = Piece::new();
-    put_executions(&mut piece, target, list);
+    put_executions(&mut piece, target, executions);
     piece.finish(target)
 }

@@ -6,7 +6,7 @@ ghost use Rattle.testkit_questions.specs.Replies.{reply_is_yes, reply_text};
 
 use crate::answers::Answer;
 use crate::execution_lines::write_executions;
-use tk_query::Executions;
+use tk_query::ExecutionIter;
 use tk_record::{Broken, Events, Target, write_all, write_event_list};
 use tk_report_text::Report;
 
@@ -16,7 +16,7 @@ pub(crate) enum Reply<'r> {
     /// A text that is whole.
     Whole(Answer),
     /// A line for each of the executions, which are a yes.
-    Executions(Executions),
+    Executions(ExecutionIter<'r>),
     /// A line for each of the events, which are a yes.
     Events(Events<'r>),
     /// A report, which is a yes.
@@ -38,17 +38,17 @@ impl<'r> Reply<'r> {
     ///
     /// # Errors
     /// `Broken` where the target broke. A prefix of the text was then written.
-    pub(crate) fn write<T: Target>(&self, target: &mut T) -> Result<(), Broken>
+    pub(crate) fn write<T: Target>(self, target: &mut T) -> Result<(), Broken>
         ensures ok { OnOk result (Appends (T.contents target.old) (T.contents target.new)
-            (reply_text self.now)) }
+            (reply_text self.entry)) }
         ensures err { OnErr result (AppendsPrefix (T.contents target.old) (T.contents target.new)
-            (reply_text self.now)) }
+            (reply_text self.entry)) }
         ensures broken { OnErr result (T.broken target.new ≡ true) }
     {
         match self {
             Reply::Whole(answer) => write_all(target, answer.text.as_slice()),
-            Reply::Executions(list) => write_executions(list, target),
-            Reply::Events(events) => write_event_list(events, target),
+            Reply::Executions(executions) => write_executions(executions, target),
+            Reply::Events(events) => write_event_list(&events, target),
             Reply::Report(report) => report.write(target),
         }
     }

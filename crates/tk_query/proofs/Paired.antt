@@ -1,11 +1,15 @@
 -- The open starts before each place, and the executions that end before it.
-use Rattle.std.proofs.Common.{◌≡◌, ◌≢◌, ℕ, zero, suc, ◌+◌, ◌-◌, ◌<◌, ◌≤◌, true, false, cond, nat_eq, eqb-true, eq-eqb, List, [], ◌∷◌, ◌++◌, length, get_or, Option, Some, None, refl, sym, ap, ◌∙◌, subst, arith, inl, inr, ⊎_elim, length-append}
+use Rattle.std.proofs.Common.{◌≡◌, ◌≢◌, ℕ, zero, suc, ◌+◌, ◌-◌, ◌<◌, ◌≤◌, Bool, true, false, cond, nat_eq, eqb-true, eq-eqb, List, [], ◌∷◌, ◌++◌, length, get_or, Option, Some, None, is_some, MatchOption, refl, sym, ap, ◌∙◌, subst, arith, inl, inr, ⊎_elim, length-append, zero-add, add-zero}
 use Rattle.std.specs.List.{Contains, AllPairs}
 use Rattle.std.proofs.lemmas.Option.{same_Some, none-some}
-use Rattle.std.proofs.lemmas.List.{append-nil, get_or_append_left, get_or_push, get_or_default}
+use Rattle.std.proofs.lemmas.List.{append-nil, append_assoc, get_or_append_left, get_or_push, get_or_default}
 use Rattle.std.proofs.lemmas.List.Elements.{Contains-append_left, Contains-append_right, Contains-append_cases}
-use Rattle.std.proofs.lemmas.Bool.{cases_lt, eqb-false, ne_eqb}
-use Rattle.tk_query.specs.Pairing.{opened, opened_by, ended, ended_by}
+use Rattle.std.proofs.lemmas.Bool.{cases_lt, eqb-false, ne_eqb, true≢false}
+use Rattle.tk_record_columns.specs.Selections.{Selected}
+use Rattle.tk_query.specs.declared.pairing.Pairing.{Pairing}
+use Rattle.tk_query.specs.ExecutionSteps.{step_at}
+use Rattle.tk_query.proofs.AskedLemmas.{AreFlags, step_clear}
+use Rattle.tk_query.specs.Pairing.{HaveSlots, open_of, rest_of, opened, opened_by, ended, ended_by, open_step, to_list, end_step, ended_from}
 use Rattle.tk_query.specs.Executions.{IsSpan, IsSkip, IsExecution, AreExecutions}
 use Rattle.tk_query.specs.declared.execution.Ending.{Ending}
 use Rattle.tk_query.specs.declared.execution.Ending.TheVariants.{Skipped}
@@ -13,18 +17,6 @@ use Rattle.tk_query.specs.declared.execution_steps.Transition.{Transition}
 use Rattle.tk_query.specs.declared.execution_steps.Transition.TheVariants.{Starts, Skips, Ends}
 use Rattle.tk_query.specs.declared.execution_steps.ExecutionStep.{ExecutionStep}
 use Rattle.tk_query.specs.declared.execution.Execution.{Execution}
-
-abbrev pub open_step : Option ExecutionStep → ℕ → ℕ → Option (ℕ × ℕ) → Option (ℕ × ℕ)
-open_step None n key started = started
-open_step (Some a) n key started = cond (nat_eq a.key key) (opened_by a n) started
-
-abbrev pub to_list : Option Execution → List Execution
-to_list None = []
-to_list (Some x) = x ∷ []
-
-abbrev pub end_step : Option ExecutionStep → ℕ → (ℕ → Option (ℕ × ℕ)) → List Execution
-end_step None n started = []
-end_step (Some a) n started = to_list (ended_by a n (started a.key))
 
 contains_it : (y x : Execution) → y ≡ x → Contains (y ∷ []) x
 contains_it y x e = (0, omega arith, e)
@@ -50,11 +42,11 @@ same_step a key stamp transition e f g =
     ∙ ap (λ (m : Transition). let b : ExecutionStep = record { key = key; stamp = stamp; transition = m } in b) g
 
 module _ (steps : ℕ → Option ExecutionStep) where
-  abbrev pub open_before : ℕ → ℕ → Option (ℕ × ℕ)
+  abbrev open_before : ℕ → ℕ → Option (ℕ × ℕ)
   open_before zero key = None
   open_before (suc n) key = open_step (steps n) n key (open_before n key)
 
-  abbrev pub ended_before : ℕ → List Execution
+  abbrev ended_before : ℕ → List Execution
   ended_before zero = []
   ended_before (suc n) = ended_before n ++ end_step (steps n) n (open_before n)
 
@@ -212,7 +204,7 @@ module _ (steps : ℕ → Option ExecutionStep) where
       omega arith))
 
   -- after the last act, all executions are there
-  pub all_ended : (n : ℕ) → ((m : ℕ) → n ≤ m → steps m ≡ None) → AreExecutions steps (ended_before n)
+  all_ended : (n : ℕ) → ((m : ℕ) → n ≤ m → steps m ≡ None) → AreExecutions steps (ended_before n)
   all_ended n none =
       record {
         each = λ x. (λ has. (below_sound n x has).0, λ is. below_complete n x is (last_below n none x is));
@@ -228,42 +220,96 @@ module _ (steps : ℕ → Option ExecutionStep) where
           h)
           (cases_lt x.last n)
 
-  -- what a body has at place n: the open starts and the executions that ended before it
-  pub record IsPaired (n : ℕ) (starts : ℕ → Option (ℕ × ℕ)) (xs : List Execution) : Type 0 where
-    pub open_starts : (key : ℕ) → starts key ≡ open_before n key
-    pub ended_so_far : xs ≡ ended_before n
+  -- starts that are the same for each key end the same executions
+  end_same : (o : Option ExecutionStep) (n : ℕ) (f g : ℕ → Option (ℕ × ℕ)) → ((key : ℕ) → f key ≡ g key) → end_step o n f ≡ end_step o n g
+  end_same None n f g same = refl
+  end_same (Some a) n f g same = ap (λ started. to_list (ended_by a n started)) (same a.key)
 
-  pub paired_none : (starts : ℕ → Option (ℕ × ℕ)) → ((key : ℕ) → starts key ≡ None) → IsPaired 0 starts []
-  paired_none starts h = record { open_starts = h; ended_so_far = refl }
+  from_same : (k n : ℕ) (f g : ℕ → Option (ℕ × ℕ)) → ((key : ℕ) → f key ≡ g key) → ended_from steps f n k ≡ ended_from steps g n k
+  from_same zero n f g same = refl
+  from_same (suc k) n f g same =
+      let after : (ℕ → Option (ℕ × ℕ)) → ℕ → Option (ℕ × ℕ) = λ h key. open_step (steps n) n key (h key) in
+      ap (λ list. list ++ ended_from steps (after f) (suc n) k) (end_same (steps n) n f g same)
+      ∙ ap (λ list. end_step (steps n) n g ++ list) (from_same k (suc n) (after f) (after g) (λ key. ap (open_step (steps n) n key) (same key)))
 
-  -- nothing happens at n
-  pub paired_past : (n : ℕ) (starts : ℕ → Option (ℕ × ℕ)) (xs : List Execution) → IsPaired n starts xs → steps n ≡ None → IsPaired (n + 1) starts xs
-  paired_past n starts xs h e =
-      let next : n + 1 ≡ suc n = omega arith in
-      subst (λ k. IsPaired k starts xs) (sym next)
-      (record {
-        open_starts = λ key. h.open_starts key ∙ ap (λ o. open_step o n key (open_before n key)) (sym e);
-        ended_so_far = h.ended_so_far ∙ sym (append-nil (ended_before n)) ∙ ap (λ o. ended_before n ++ end_step o n (open_before n)) (sym e);
-      })
+  -- all executions that end below a position, and those that end from it on
+  all_from : (k n : ℕ) → ended_before n ++ ended_from steps (open_before n) n k ≡ ended_before (n + k)
+  all_from zero n = append-nil (ended_before n) ∙ ap ended_before (sym (add-zero n))
+  all_from (suc k) n =
+      let here = end_step (steps n) n (open_before n) in
+      let more = ended_from steps (open_before (suc n)) (suc n) k in
+      let same : suc n + k ≡ n + suc k = omega arith in
+      sym (append_assoc (ended_before n) here more) ∙ all_from k (suc n) ∙ ap ended_before same
 
-  pub paired_step : (n : ℕ) (starts more : ℕ → Option (ℕ × ℕ)) (xs : List Execution) (a : ExecutionStep) → IsPaired n starts xs → steps n ≡ Some a → ((key : ℕ) → more key ≡ cond (nat_eq a.key key) (opened_by a n) (starts key)) → IsPaired (n + 1) more (xs ++ to_list (ended_by a n (starts a.key)))
-  paired_step n starts more xs a h e step =
-      let next : n + 1 ≡ suc n = omega arith in
-      subst (λ k. IsPaired k more (xs ++ to_list (ended_by a n (starts a.key)))) (sym next)
-      (record {
-        open_starts = λ key. step key ∙ ap (λ o. cond (nat_eq a.key key) (opened_by a n) o) (h.open_starts key) ∙ ap (λ o. open_step o n key (open_before n key)) (sym e);
-        ended_so_far = ap (λ list. list ++ to_list (ended_by a n (starts a.key))) h.ended_so_far ∙ ap (λ o. ended_before n ++ to_list (ended_by a n o)) (h.open_starts a.key) ∙ ap (λ o. ended_before n ++ end_step o n (open_before n)) (sym e);
-      })
+  -- where nothing happens from a position on, up to another
+  from_none : (k n : ℕ) (f : ℕ → Option (ℕ × ℕ)) → steps n ≡ None → ended_from steps f n (suc k) ≡ ended_from steps f (suc n) k
+  from_none k n f e = ap (λ o. end_step o n f ++ ended_from steps (λ key. open_step o n key (f key)) (suc n) k) e
 
-  -- nothing happens from n on, up to m
-  pub paired_skip : (n k : ℕ) (starts : ℕ → Option (ℕ × ℕ)) (xs : List Execution) → IsPaired n starts xs → ((i : ℕ) → n ≤ i → i < n + k → steps i ≡ None) → IsPaired (n + k) starts xs
-  paired_skip n zero starts xs h none = let same : n ≡ n + zero = omega arith in subst (λ m. IsPaired m starts xs) same h
-  paired_skip n (suc k) starts xs h none =
-      let same : (n + k) + 1 ≡ n + suc k = omega arith in
-      subst (λ m. IsPaired m starts xs) same
-      (paired_past (n + k) starts xs (paired_skip n k starts xs h (λ i le lt. none i le (omega arith))) (none (n + k) (omega arith) (omega arith)))
+  from_skip : (d n k : ℕ) (f : ℕ → Option (ℕ × ℕ)) → ((i : ℕ) → n ≤ i → i < n + d → steps i ≡ None) → ended_from steps f n (d + k) ≡ ended_from steps f (n + d) k
+  from_skip zero n k f none = let same : n ≡ n + zero = omega arith in ap (ended_from steps f n) (zero-add k) ∙ ap (λ m. ended_from steps f m k) same
+  from_skip (suc d) n k f none =
+      let same : suc n + d ≡ n + suc d = omega arith in
+      let far : suc d + k ≡ suc (d + k) = omega arith in
+      ap (ended_from steps f n) far
+      ∙ from_none (d + k) n f (none n (omega arith) (omega arith))
+      ∙ from_skip d (suc n) k f (λ i low high. none i (omega arith) (omega arith))
+      ∙ ap (λ m. ended_from steps f m k) same
 
-  pub paired_up_to : (n m : ℕ) (starts : ℕ → Option (ℕ × ℕ)) (xs : List Execution) → n ≤ m → IsPaired n starts xs → ((i : ℕ) → n ≤ i → i < m → steps i ≡ None) → IsPaired m starts xs
-  paired_up_to n m starts xs le h none =
-      let same : n + (m - n) ≡ m = omega arith in
-      subst (λ k. IsPaired k starts xs) same (paired_skip n (m - n) starts xs h (λ i low high. none i low (omega arith)))
+  -- up to a position at which something may happen
+  up_to : (len n p : ℕ) (f : ℕ → Option (ℕ × ℕ)) → n ≤ p → p < len → ((i : ℕ) → n ≤ i → i < p → steps i ≡ None) → ended_from steps f n (len - n) ≡ ended_from steps f p (suc (len - (p + 1)))
+  up_to len n p f low high none =
+      let far : len - n ≡ (p - n) + suc (len - (p + 1)) = omega arith in
+      let there : n + (p - n) ≡ p = omega arith in
+      ap (ended_from steps f n) far
+      ∙ from_skip (p - n) n (suc (len - (p + 1))) f (λ i from below. none i from (omega arith))
+      ∙ ap (λ m. ended_from steps f m (suc (len - (p + 1)))) there
+
+  pub rest_none : (len n p : ℕ) (f : ℕ → Option (ℕ × ℕ)) → n ≤ p → p < len → ((i : ℕ) → n ≤ i → i < p → steps i ≡ None) → steps p ≡ None → ended_from steps f n (len - n) ≡ ended_from steps f (p + 1) (len - (p + 1))
+  rest_none len n p f low high none here =
+      let next : suc p ≡ p + 1 = omega arith in
+      up_to len n p f low high none ∙ from_none (len - (p + 1)) p f here ∙ ap (λ m. ended_from steps f m (len - (p + 1))) next
+
+  pub rest_step : (len n p : ℕ) (f g : ℕ → Option (ℕ × ℕ)) (a : ExecutionStep) → n ≤ p → p < len → ((i : ℕ) → n ≤ i → i < p → steps i ≡ None) → steps p ≡ Some a → ((key : ℕ) → g key ≡ cond (nat_eq a.key key) (opened_by a p) (f key))
+      → ended_from steps f n (len - n) ≡ to_list (ended_by a p (f a.key)) ++ ended_from steps g (p + 1) (len - (p + 1))
+  rest_step len n p f g a low high none here step =
+      let k : ℕ = len - (p + 1) in
+      let next : suc p ≡ p + 1 = omega arith in
+      up_to len n p f low high none
+      ∙ ap (λ o. end_step o p f ++ ended_from steps (λ key. open_step o p key (f key)) (suc p) k) here
+      ∙ ap (λ list. to_list (ended_by a p (f a.key)) ++ list) (from_same k (suc p) (λ key. open_step (Some a) p key (f key)) g (λ key. sym (step key)) ∙ ap (λ m. ended_from steps g m k) next)
+
+  pub rest_past : (len n : ℕ) (f : ℕ → Option (ℕ × ℕ)) → ((i : ℕ) → n ≤ i → steps i ≡ None) → ended_from steps f n (len - n) ≡ []
+  rest_past len n f none =
+      let far : len - n ≡ (len - n) + zero = omega arith in
+      ap (ended_from steps f n) far ∙ from_skip (len - n) n zero f (λ i low high. none i low)
+
+  pub all_from_start : (len : ℕ) (f : ℕ → Option (ℕ × ℕ)) → ((key : ℕ) → f key ≡ None) → ((m : ℕ) → len ≤ m → steps m ≡ None) → AreExecutions steps (ended_from steps f 0 (len - 0))
+  all_from_start len f closed none =
+      let far : len - 0 ≡ len = omega arith in
+      subst (AreExecutions steps) (sym (ap (ended_from steps f 0) far ∙ from_same len 0 f (open_before 0) closed ∙ all_from len 0 ∙ ap ended_before (zero-add len))) (all_ended len none)
+
+-- a pairing of these events that has slots for their keys, and from which the same executions are still to come
+pub record IsOnWay (asked : Selected) (first now : Pairing) : Type 0 where
+  pub slots : HaveSlots asked.recorded now.starts
+  pub rest : rest_of asked first ≡ rest_of asked now
+
+-- an execution that ended is the first of those that were to come
+pub yields : (old new : List Execution) (o : Option Execution) → is_some o ≡ true → old ≡ to_list o ++ new → MatchOption o ((old ≡ []) × (new ≡ [])) (λ x. old ≡ x ∷ new)
+yields old new None there left = absurd (true≢false (sym there))
+yields old new (Some x) there left = left
+
+pub none_ends : (old new : List Execution) (o : Option Execution) → is_some o ≡ false → old ≡ to_list o ++ new → old ≡ new
+none_ends old new None there left = left
+none_ends old new (Some x) there left = absurd (true≢false there)
+
+-- before the first event all executions of the events are still to come
+pub all_to_come : (asked : Selected) (flags : List Bool) → AreFlags asked flags → length flags ≡ length asked.recorded.entries → (p : Pairing) → ((key : ℕ) → open_of p.starts key ≡ None) → p.next ≡ 0 → AreExecutions (step_at asked) (rest_of asked p)
+unfolding rest_of
+all_to_come asked flags are long p closed first =
+    subst (λ n. AreExecutions (step_at asked) (ended_from (step_at asked) (open_of p.starts) n (length asked.recorded.entries - n))) (sym first)
+    (all_from_start (step_at asked) (length asked.recorded.entries) (open_of p.starts) closed (λ m past. step_clear asked flags are m (none_past flags m (omega (arith, past, long)))))
+  where
+    none_past : (flags : List Bool) (m : ℕ) → length flags ≤ m → get_or flags m false ≡ false
+    none_past [] m past = refl
+    none_past (f ∷ flags) zero past = absurd (omega arith)
+    none_past (f ∷ flags) (suc m) past = none_past flags m (omega arith)

@@ -16,6 +16,6 @@ pub use answers::{Exact, InOrder, Loose};
 pub use execution::{Ending, Execution, Executions};
 pub use masks::select;
 pub use matching::{match_exactly, match_in_order, match_loosely};
-pub use pairing::executions;
+pub use pairing::{ExecutionIter, executions};
 pub use tk_query_conditions::{CondFault, Condition, MAX_DEPTH, read_condition, write_condition};
 pub use tk_query_lifecycle::{Lifecycle, LifecycleRule, lifecycle};

@@ -14,12 +14,12 @@ pub returns-in-Ok : goal.returns-in-Ok
 returns-in-Ok g c =
     let reply = c.in_ok-reply.reply in
     record {
-      answer = (reply_text reply, subst (λ (b : Bool). IsAnswerTo c.args.question.now c.args.«record».now b (reply_text reply)) (sym c.is_yes.ensures) c.in_ok-reply.ensures, c.in-Ok.ensures.ok);
+      answer = (reply_text reply, subst (λ (b : Bool). IsAnswerTo c.args.question.now c.args.«record».now b (reply_text reply)) (sym c.is_yes-is_yes.ensures) c.in_ok-reply.ensures, c.in-Ok.ensures.ok);
       device = λ e. absurd (no_fault _ _ e);
     }
 
-pub returns : goal.returns
-returns g c =
+pub returns-in-Err : goal.returns-in-Err
+returns-in-Err g c =
     let reply = c.in_ok-reply.reply in
     record {
       answer = (reply_is_yes reply, reply_text reply, c.in_ok-reply.ensures, c.in-Err.ensures.err);

@@ -1,5 +1,4 @@
 use Rattle.std.specs.List.{flat_map}
-use Rattle.std.specs.Slice.Iter.{iter_rest}
 use Rattle.testkit_questions.specs.Answers.{execution_line}
 use Rattle.tk_streams.specs.Pieces.{Adds, Outgoing, outgoing}
 use Rattle.testkit_questions.proofs.execution_lines.put_executions.Given as goal
@@ -8,5 +7,5 @@ abbrev pub invariant-executions : goal.invariant-executions
 invariant-executions g l =
     let contents = g.T.Target.contents in
     let broken = g.T.Target.broken in
-    (last : Outgoing) → Adds (outgoing (contents l.target) (broken l.target) l.piece) last (flat_map execution_line (iter_rest l.execution-iterator))
-    → Adds (outgoing (contents l.initial.target) (broken l.initial.target) l.initial.piece) last (flat_map execution_line l.list)
+    (last : Outgoing) → Adds (outgoing (contents l.target) (broken l.target) l.piece) last (flat_map execution_line l.execution-iterator)
+    → Adds (outgoing (contents l.initial.target) (broken l.initial.target) l.initial.piece) last (flat_map execution_line l.fn.executions)

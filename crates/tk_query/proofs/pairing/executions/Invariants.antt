@@ -1,11 +1,11 @@
-use Rattle.std.proofs.Common.{◌-◌, length}
-use Rattle.tk_query.specs.Pairing.{open_of}
+use Rattle.std.proofs.Common.{◌++◌, length}
 use Rattle.tk_query.specs.ExecutionSteps.{step_at}
-use Rattle.tk_query.proofs.Paired.{IsPaired}
+use Rattle.tk_query.specs.Executions.{AreExecutions}
+use Rattle.tk_query.specs.Pairing.{rest_of, HaveSlots}
 use Rattle.tk_query.proofs.pairing.executions.Given as goal
 
-abbrev pub invariant-events : goal.invariant-events
-invariant-events l = IsPaired (step_at l.events) l.next (λ key. open_of l.starts key) l.items.items
+abbrev pub invariant-executions : goal.invariant-executions
+invariant-executions l = HaveSlots l.events.recorded l.pairing.starts × AreExecutions (step_at l.events) (l.items.items ++ rest_of l.events l.pairing)
 
-abbrev pub decreases-events : goal.decreases-events
-decreases-events l = length l.events.recorded.entries - l.next
+abbrev pub decreases-executions : goal.decreases-executions
+decreases-executions l = length (rest_of l.events l.pairing)
