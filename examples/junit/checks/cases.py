@@ -372,6 +372,7 @@ def cases_of_runs() -> List[Expected]:
     whole, not_whole = ("whole", "true"), ("whole", "false")
     unknown = "testkit: testkit.stamps is neither missing nor positions: position"
     twice = [not_whole, ("lines", "4"), whole]
+    starts = ["E|1|0|~|start", "E|1|1|~|start"]
     return [
         Expected("parameters", ONE_TEST_BY_POSITIONS),
         Expected("unknown-stamps", ONE_TEST_PLAYED, [], [unknown]),
@@ -382,6 +383,8 @@ def cases_of_runs() -> List[Expected]:
         Expected("bad-paths", [], [not_whole] * 4, NOT_RECORDED),
         Expected("times", ONE_TEST_PLAYED, [("second-run", "..")]),
         Expected("falling-clock", FALLING_CLOCK, []),
+        Expected("failing-clock", [*ONE_TEST, *starts], [("played", "true"), *NOT_WHOLE], [ends("java.lang.OutOfMemoryError: no memory")]),
+        Expected("refused-messages", [*ONE_TEST, "E|1|0|~|start", "E|1|1|~|finish|fail"], NOT_WHOLE),
         Expected("two-runs", TWO_RUNS, [not_whole, whole], [ends("nobody registered [engine:e]/[t:3]")]),
         Expected("run-in-run", ONE_TEST_PLAYED, [("inner-whole", "false")] * 3 + [whole, ("after", "4")], [ANOTHER_RUN] * 3),
         Expected("same-listener-in-run", ONE_TEST_PLAYED, twice, [SAME_LISTENER] * 2),

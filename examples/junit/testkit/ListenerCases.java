@@ -2,6 +2,7 @@ package testkit;
 
 import java.io.File;
 import java.io.IOException;
+import java.io.OutputStream;
 import java.io.PrintStream;
 import java.nio.file.Files;
 import java.nio.file.Path;
@@ -97,6 +98,34 @@ public class ListenerCases {
         }
     }
 
+    /** A listener that fails at its third event, as where no memory is left. */
+    private static class FailingClock extends RecordListener {
+
+        /** The first is that of the run's beginning. */
+        private int calls;
+
+        FailingClock(String path) {
+            super(path);
+        }
+
+        @Override
+        long nanoTime() {
+            if (calls++ == 3) {
+                throw new OutOfMemoryError("no memory");
+            }
+            return super.nanoTime();
+        }
+    }
+
+    /** A standard error that refuses what is written, as a test may have put it there. */
+    private static class Refusing extends OutputStream {
+
+        @Override
+        public void write(int letter) {
+            throw new AssertionError("refused");
+        }
+    }
+
     private static final Map<String, Case> CASES = new LinkedHashMap<>();
 
     static {
@@ -118,6 +147,8 @@ public class ListenerCases {
         CASES.put("bad-paths", ListenerCases::badPaths);
         CASES.put("times", ListenerCases::times);
         CASES.put("falling-clock", ListenerCases::fallingClock);
+        CASES.put("failing-clock", ListenerCases::failingClock);
+        CASES.put("refused-messages", ListenerCases::refusedMessages);
         CASES.put("two-runs", ListenerCases::twoRuns);
         CASES.put("run-in-run", ListenerCases::runInRun);
         CASES.put("same-listener-in-run", ListenerCases::sameListenerInRun);
@@ -438,10 +469,17 @@ public class ListenerCases {
         room.fact("other", Files.exists(Paths.get(room.path() + ".other")));
     }
 
+    /** Two runs that nobody records, of whose odd texts nothing is said. */
     private static void noPath(Room room) {
         RecordListener listener = new RecordListener();
         launch(listener, Collections.emptyMap(), oneTestEngine());
-        launch(listener, Collections.emptyMap(), oneTestEngine());
+        launch(listener, ListenerCases::oneTest, (calls, root) -> {
+            calls.start(root);
+            calls.report(root, "\uD83D", "first", "\uDE00", "second");
+            calls.register(root, "\uD83D", "dynamic", Type.TEST);
+            calls.fail(root.child(0), new Unreadable());
+            calls.succeed(root);
+        });
         room.fact("whole", listener.isWhole());
     }
 
@@ -491,6 +529,32 @@ public class ListenerCases {
             calls.onThread(() -> calls.play(root.child(0)));
             calls.play(calls.register(root, "1", "late", Type.TEST));
         });
+    }
+
+    /** A recording that ends as the listener fails, while JUnit's run goes on. */
+    private static void failingClock(Room room) {
+        RecordListener listener = new FailingClock(room.path());
+        launch(listener, ListenerCases::oneTest, (calls, root) -> {
+            playOneTest(calls, root);
+            room.fact("played", true);
+        });
+        room.fact("whole", listener.isWhole());
+    }
+
+    /** A message that can't be had, and the end of a recording, while standard error refuses each line. */
+    private static void refusedMessages(Room room) {
+        PrintStream errors = System.err;
+        System.setErr(new PrintStream(new Refusing()));
+        try {
+            record(room, ListenerCases::oneTest, (calls, root) -> {
+                calls.start(root);
+                calls.fail(root.child(0), new Unreadable());
+                calls.report(root, "k", letters(MAX_TEXT_BYTES));
+                calls.succeed(root);
+            });
+        } finally {
+            System.setErr(errors);
+        }
     }
 
     /** Two runs of one listener, of which the first is the longer one and ends in a stop. */
