@@ -323,13 +323,21 @@ function drawGap(top) {
 
 // What is pointed at: the bar at this place of the canvas, or else the innermost frame.
 
+// How far in front a bar is drawn: wide ones stand behind all narrow ones, and these in the order of their weights.
+const layerOf = (it, width) => (width <= LEAST_WIDTH ? 1 + weightOf(it) : 0);
+
+// The nearest bar of a row, and where several are as near the one in front.
 function barAt(row, x) {
-  const first = firstFrom(row.items, placeOf(x - NEAR));
+  const last = placeOf(x + NEAR);
   let best = null;
-  for (let place = first; place < Math.min(first + 50, row.items.length); place += 1) {
-    const [left, width] = edges(row.items[place]);
+  for (let place = firstFrom(row.items, placeOf(x - NEAR)); place < row.items.length; place += 1) {
+    const it = row.items[place];
+    if (it.begin > last) break;
+    const [left, width] = edges(it);
     const distance = Math.max(left - x, x - left - width, 0);
-    if (distance <= NEAR && (!best || distance < best.distance)) best = { it: row.items[place], distance };
+    const layer = layerOf(it, width);
+    if (distance > NEAR) continue;
+    if (!best || distance < best.distance || (distance === best.distance && layer > best.layer)) best = { it, distance, layer };
   }
   return best && best.it;
 }

@@ -173,10 +173,10 @@ class Browser:
         """Types a text into what has the focus."""
         self.call("Input.insertText", text=text)
 
-    def press(self, key: str) -> None:
+    def press(self, key: str, modifiers: int = 0) -> None:
         """Presses a key."""
         for kind in ("keyDown", "keyUp"):
-            self.call("Input.dispatchKeyEvent", type=kind, key=key)
+            self.call("Input.dispatchKeyEvent", type=kind, key=key, modifiers=modifiers)
 
     def picture(self) -> bytes:
         """A picture of the page, as a PNG file."""

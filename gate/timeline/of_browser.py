@@ -78,6 +78,35 @@ DRAWS = """(() => {
 """The milliseconds of pictures of twenty parts of the run: of each the least of five, since other programs run beside the browser."""
 
 
+TEXTS = """(() => {
+  const found = [];
+  context.fillText = (text, x, y, most) => { found.push({ text, x, y, most: most === undefined ? null : most }); };
+  draw();
+  delete context.fillText;
+  draw();
+  return found;
+})()"""
+"""The texts on the canvas, each with its place there, and how wide a name may be at most."""
+
+AXIS = 26
+"""Texts above this place are those of the axis."""
+
+LABELS = 84
+"""Texts before this place are those of the lanes."""
+
+ACCENTED = """(() => {
+  const { width, height } = canvas;
+  const [red, green, blue] = state.colors.accent.match(/[0-9a-f]{2}/g).map((it) => parseInt(it, 16));
+  const color = (0xff000000 | blue << 16 | green << 8 | red) >>> 0;
+  const pixels = new Uint32Array(canvas.getContext("2d").getImageData(0, 0, width, height).data.buffer);
+  return pixels.filter((pixel) => pixel === color).length;
+})()"""
+"""How many pixels of the canvas have the color of what is selected."""
+
+SHIFT, CONTROL = 8, 2
+"""How the browser is told of keys that are held."""
+
+
 class Opened:
     """A page that is open in the browser."""
 
@@ -110,6 +139,25 @@ class Opened:
             ".filter((it) => it.getClientRects().length).map((it) => [it.textContent, it.nextSibling.textContent]))"
         )
 
+    def texts(self) -> List[Dict[str, Any]]:
+        self.settle()
+        return self.browser.ask(TEXTS)
+
+    def ticks(self) -> List[Tuple[str, float]]:
+        """The texts of the axis, and where their lines stand."""
+        return [(it["text"], it["x"] - 4) for it in self.texts() if it["y"] < AXIS]
+
+    def seen_part(self) -> Tuple[float, float]:
+        """The part of the run that is seen: its first and its last place."""
+        self.settle()
+        left, right = self.browser.ask("[state.left, state.right]")
+        return round(left, 3), round(right, 3)
+
+    def listed(self, name: str) -> Sequence[str]:
+        """The rows of a list."""
+        rows = self.browser.ask(f"[...document.querySelectorAll('#{name} li')].map((it) => it.innerText)")
+        return [" ".join(row.split()) for row in rows]
+
     def legend(self) -> Dict[str, int]:
         words = self.browser.ask("[...document.querySelectorAll('#legend button')].map((it) => it.innerText)")
         pairs = (word.split() for word in words)
@@ -123,8 +171,8 @@ class Opened:
         self.browser.click(box["x"] + box["width"] / 2, box["y"] + box["height"] / 2)
         self.settle()
 
-    def press(self, key: str) -> None:
-        self.browser.press(key)
+    def press(self, key: str, held: int = 0) -> None:
+        self.browser.press(key, held)
         self.settle()
 
     def select(self, value: str) -> None:
@@ -270,6 +318,9 @@ def check_search(browser: Browser, program: str) -> None:
         demand_equal(it.described("#details")["name"], "left out", "the one before")
         it.click("#next")
         demand_equal(it.described("#details")["name"], "c", "the next one")
+        browser.ask("document.getElementById('search').focus()")
+        it.press("Enter", SHIFT)
+        demand_equal(it.described("#details")["name"], "left out", "the one before by Shift and Enter")
         for text, count in (("mad", 1), ("nowhere", 0), ("", 7)):
             browser.ask("document.getElementById('search').select()")
             it.click("#search")
@@ -287,6 +338,13 @@ def check_legend(browser: Browser, program: str) -> None:
         alone = Counter(bar["ending"] for bar in it.bars())
         demand_equal(alone, Counter({"failed": every["failed"]}), "bars of one ending alone")
         demand_equal(it.text("#found"), f"{every['failed']} found", "found")
+        pressed = "[...document.querySelectorAll('#legend [aria-pressed=true]')].map((it) => it.innerText.split(' ')[0])"
+        demand_equal(browser.ask(pressed), ["failed"], "endings that are said to be shown alone")
+        it.click("#legend button", 2)
+        demand_equal(Counter(bar["ending"] for bar in it.bars()), Counter({"aborted": every["aborted"]}), "bars of another ending alone")
+        it.click("#legend button", 2)
+        demand_equal((browser.ask(pressed), it.text("#found")), ([], ""), "endings alone, and what is found, after the second click")
+        it.click("#legend button", 1)
         it.click("#legend button", 1)
         demand_equal(Counter(bar["ending"] for bar in it.bars()), every, "bars after the second click")
 
@@ -333,17 +391,172 @@ def check_moving(browser: Browser, program: str) -> None:
         demand(failed()[1] > 1.3 * width, "the key + does not zoom")
         it.press("0")
         demand_equal(failed(), (x, width), "the key 0")
+        it.press("=")
+        demand(failed()[1] > 1.3 * width, "the key = does not zoom")
+        it.press("-")
+        demand_equal(failed(), (x, width), "the key -")
+        show = "show(20, 40)"
+        for key, wanted in (("Home", (0, 20)), ("End", (61, 81)), ("+", (23.333, 36.667)), ("-", (15, 45))):
+            browser.ask(show)
+            it.press(key)
+            left, right = it.seen_part()
+            demand(abs(left - wanted[0]) < 0.1 and abs(right - wanted[1]) < 0.1, f"the key {key} shows {left} to {right}, wanted {wanted}")
+        browser.ask(show)
+        browser.wheel(x, 200, 100, SHIFT)
+        left, right = it.seen_part()
+        demand(22 < left < 23 and abs(right - left - 20) < 0.01, f"Shift and the wheel show {left} to {right}")
+        browser.call("Input.dispatchMouseEvent", type="mouseWheel", x=x, y=200, deltaX=-100, deltaY=0)
+        demand_equal(it.seen_part(), (20, 40), "the wheel turned back sideways")
+        for begin, end, wanted in ((-10, 10, (0, 20)), (75, 95, (61, 81)), (-10, 95, (0, 81)), (30.0005, 30.0005, (30, 30.001))):
+            browser.ask(f"show({begin}, {end})")
+            demand_equal(it.seen_part(), wanted, f"what is seen of {begin} to {end}")
+
+
+def check_axis(browser: Browser, program: str) -> None:
+    """The ticks of the axis are round numbers at equal distances, at their places in the run, and have a unit where one is chosen."""
+    units = {"": "", "1": " ns", "1000": " \u00b5s", "1000000": " ms", "1000000000": " s"}
+    with opened(browser, page_of(program, records.without_names(MIXED.record)).text) as it:
+        for value, unit in units.items():
+            it.select(value)
+            wanted = [f"{number}{unit}" for number in (0, 20, 40, 60, 80)]
+            demand_equal([text for text, _ in it.ticks()], wanted, f"ticks in {unit or 'stamps'}")
+        it.select("")
+        places = [place for _, place in it.ticks()]
+        steps = [after - before for before, after in zip(places, places[1:])]
+        demand(max(steps) - min(steps) <= 1 and min(steps) >= 100, f"ticks at {places}")
+        edge = browser.ask("canvas.getBoundingClientRect().left")
+        failed = next(bar for bar in it.bars() if bar["ending"] == "failed")
+        begin = (failed["x"] - edge - places[0]) * 20 / (places[1] - places[0])
+        length = failed["width"] * 20 / (places[1] - places[0])
+        demand(abs(begin - 12) < 0.3 and abs(length - 18) < 0.3, f"the failed test, at 12 and 18 long, is seen at {begin}, {length} long")
+        browser.ask("show(40, 41)")
+        demand_equal([text for text, _ in it.ticks()], ["40", "40.2", "40.4", "40.6", "40.8", "41"], "ticks between two stamps")
+        it.select("1000")
+        wanted = [f"{tenths / 10:.1f} \u00b5s" for tenths in (400, 402, 404, 406, 408, 410)]
+        demand_equal([text for text, _ in it.ticks()], wanted, "ticks between two microseconds")
+
+
+def check_units(browser: Browser, program: str) -> None:
+    """Lengths and ticks have the greatest unit of which they have one or more."""
+    lengths = {"": "1,500 stamps", "1": "1.5 \u00b5s", "1000": "1.5 ms", "1000000": "1.5 s", "1000000000": "1,500 s"}
+    with opened(browser, page_of(program, records.LONGER_THAN_A_UNIT).text) as it:
+        demand_equal(it.text("#summary"), "2 executions, 1 worker, 3 events; 1 descriptor without an execution", "summary")
+        for value, length in lengths.items():
+            it.select(value)
+            unit = f" {length.split()[1]}" if value else ""
+            ticks = ["0", "500", "1,000", "1,500"] if length.startswith("1,500") else ["0.0", "0.5", "1.0", "1.5"]
+            demand_equal((it.listed("slowest"), it.listed("gaps")), ([f"{length} 1"], ["none"]), f"lists where the length is {length}")
+            demand_equal([text for text, _ in it.ticks()], [f"{tick}{unit}" for tick in ticks], f"ticks where the length is {length}")
+        it.select("1")
+        skipped = next(bar for bar in it.bars() if bar["ending"] == "skipped")
+        browser.move(skipped["x"], skipped["y"])
+        demand_equal(it.described("#tip")["duration"], "0 ns", "duration of a skip")
+        it.select("")
+    with opened(browser, page_of(program, example("two_tests")).text) as it:
+        demand_equal(it.text("#summary"), "3 executions, 3 workers, 5 events; 0 descriptors without an execution", "summary of two tests")
+
+
+def check_labels(browser: Browser, program: str) -> None:
+    """Bars have as much of their names as has room, within the bar and what is seen of it; lanes have their workers."""
+    with opened(browser, page_of(program, MIXED.record).text) as it:
+        lanes = [text["text"] for text in it.texts() if text["x"] < LABELS and text["y"] > AXIS]
+        demand_equal(lanes, ["worker 0", "worker 1", "worker 2"], "texts of the lanes")
+
+        def names() -> List[str]:
+            found = [text for text in it.texts() if text["most"] is not None]
+            demand(all(text["x"] >= LABELS for text in found), f"names before the bars: {found}")
+            return sorted(text["text"] for text in found)
+
+        demand_equal(names(), ["3", "c", "c/1", "e", "made"], "names on bars")
+        browser.ask("show(20, 28)")
+        demand_equal(names(), ["3", "c", "c/1", "e"], "names on bars that begin out of view")
+        browser.ask("show(64.5, 70)")
+        demand("made" in names(), "a bar that begins out of view has no name")
+    for name, shown in (("x" * 5_000, "x"), ("\U0001f600" * 3_000, "\U0001f600")):
+        with opened(browser, page_of(program, records.LONGER_THAN_A_UNIT.replace("]|1\n", f"]|{name}\n")).text) as it:
+            label = next(text for text in it.texts() if text["most"] is not None)
+            demand(label["text"].endswith("\u2026") and set(label["text"][:-1]) == {shown}, f"the name of the bar is {label['text'][:200]}")
+            bar = next(bar for bar in it.bars() if bar["ending"] == "successful")
+            demand(bar["width"] - 20 < label["most"] < bar["width"], f"a name has {label['most']} pixels of a bar of {bar['width']}")
+            demand(50 < len(label["text"]) < bar["width"] / 4, f"{len(label['text'])} letters of a name on a bar of {bar['width']} pixels")
+            browser.move(bar["x"] + 3, bar["y"])
+            tip = it.described("#tip")["name"]
+            demand(tip.endswith(f"\u2026 ({len(name.encode('utf-16-le')) // 2:,} letters)") and len(tip) < 700, f"the tip has {tip[-40:]}")
+
+
+def check_selecting(browser: Browser, program: str) -> None:
+    """A click on a bar selects and outlines it, one where no bar is selects none. The tip stays in the window, beside the pointer."""
+    with opened(browser, page_of(program, MIXED.record).text) as it:
+        failed = next(bar for bar in it.bars() if bar["ending"] == "failed")
+        unfinished = next(bar for bar in it.bars() if bar["ending"] == "unfinished")
+        demand_equal(browser.ask(ACCENTED), 0, "pixels of an outline before anything is selected")
+        browser.click(failed["x"] + 2, failed["y"])
+        browser.move(failed["x"] + 2, unfinished["y"] + 200)
+        it.settle()
+        demand_equal(it.described("#details")["name"], "c/1", "what is selected by a click")
+        demand(browser.ask(ACCENTED) > failed["width"], f"an outline of {browser.ask(ACCENTED)} pixels round a bar of {failed['width']}")
+        browser.click(failed["x"] + 2, unfinished["y"] + 200)
+        it.settle()
+        demand_equal((it.described("#details"), browser.ask(ACCENTED)), ({}, 0), "details and outline after a click where no bar is")
+        demand("Point at a bar" in it.text("#details"), f"the help is gone: {it.text('#details')!r}")
+        root = min(it.bars(), key=lambda bar: bar["y"])
+        for bar, x in ((root, root["x"] + root["width"] - 3), (unfinished, unfinished["x"] + 300), (root, root["x"])):
+            browser.move(x, bar["y"])
+            it.settle()
+            box = browser.ask("JSON.parse(JSON.stringify(element('tip').getBoundingClientRect()))")
+            width, height = browser.ask("[innerWidth, innerHeight]")
+            within = 0 <= box["left"] and box["right"] <= width and 0 <= box["top"] and box["bottom"] <= height
+            beside = not (box["left"] <= x <= box["right"] and box["top"] <= bar["y"] <= box["bottom"])
+            demand(within and beside and box["width"] > 50, f"the tip of {x}, {bar['y']} stands at {box}")
+        browser.move(x, 5)
+        it.settle()
+        demand_equal(it.described("#tip"), {}, "tip after the pointer left the picture")
+
+
+def check_bringing(browser: Browser, program: str) -> None:
+    """What is chosen in a list comes into view: in the middle where it was out of view, and closer or farther where it has to be."""
+    with opened(browser, page_of(program, MIXED.record).text) as it:
+        steps = (
+            ("slowest", 1, (50, 81), (5.5, 36.5), "a test before what is seen"),
+            ("slowest", 2, (0, 30), (47.5, 77.5), "a test after what is seen"),
+            ("slowest", 1, (70, 81), (11.1, 30.9), "a test that is longer than what is seen"),
+            ("slowest", 2, (50, 81), (50, 81), "a test that is seen"),
+            ("gaps", 0, (60, 81), (26, 60), "a gap before what is seen"),
+            ("gaps", 1, (40, 70), (40, 70), "a gap that is seen"),
+        )
+        for name, number, before, wanted, what in steps:
+            browser.ask(f"show({before[0]}, {before[1]})")
+            it.click(f"#{name} button", number)
+            demand_equal(it.seen_part(), wanted, f"what is seen of {what}")
+    with opened(browser, page_of(program, records.LONG_AND_SHORT).text) as it:
+        it.click("#slowest button", 3)
+        left, right = it.seen_part()
+        shown = it.described("#details")
+        demand_equal((shown["ending"], shown["duration"]), ("failed", "1 stamp"), "the shortest test")
+        demand(left <= 1_000_000_000 <= 1_000_000_001 <= right and right - left < 100_000_000, f"the shortest test is seen from {left} to {right}")
+
+
+def check_sizes(browser: Browser, program: str) -> None:
+    """The picture fills the window after its size has changed, and has a pixel for each of the screen's."""
+    with opened(browser, page_of(program, MIXED.record).text) as it:
+        for width, height, ratio in ((1_000, 500, 1), (1_100, 600, 2)):
+            browser.call("Emulation.setDeviceMetricsOverride", width=width, height=height, deviceScaleFactor=ratio, mobile=False)
+            try:
+                sizes = "[canvas.width, canvas.height, canvas.getBoundingClientRect().width, canvas.getBoundingClientRect().height]"
+                chart = f"[{ratio} * chart.clientWidth, {ratio} * chart.clientHeight, chart.clientWidth, chart.clientHeight]"
+                came = browser.wait_for(f"chart.clientWidth === {width - 340} && String({sizes}) === String({chart})", SECONDS_TO_OPEN)
+                demand(came, f"sizes {browser.ask(sizes)} of a picture with room for {browser.ask(chart)}")
+                last = max(text["x"] for text in it.texts() if text["y"] < AXIS)
+                demand(width - 460 < last < width - 340, f"the last tick of a picture of {width - 340} pixels stands at {last}")
+            finally:
+                browser.call("Emulation.clearDeviceMetricsOverride")
 
 
 def check_lists(browser: Browser, program: str) -> None:
     """The lists have the slowest tests and the longest gaps, and lead to them; a unit gives durations."""
     with opened(browser, page_of(program, MIXED.record).text) as it:
-        def listed(name: str) -> Sequence[str]:
-            rows = browser.ask(f"[...document.querySelectorAll('#{name} li')].map((it) => it.innerText)")
-            return [" ".join(row.split()) for row in rows]
-
-        demand_equal(listed("slowest"), ["65 stamps 3", "18 stamps c/1", "5 stamps made", "1 stamp c/2"], "slowest")
-        demand_equal(listed("gaps"), ["20 stamps c/2", "9 stamps made", "2 stamps c/1", "1 stamp left out"], "gaps")
+        demand_equal(it.listed("slowest"), ["65 stamps 3", "18 stamps c/1", "5 stamps made", "1 stamp c/2"], "slowest")
+        demand_equal(it.listed("gaps"), ["20 stamps c/2", "9 stamps made", "2 stamps c/1", "1 stamp left out"], "gaps")
         it.click("#slowest button", 1)
         demand_equal(it.described("#details")["id"], "[engine:e]/[x:c]/[x:1]", "the slowest but one")
         made = next(bar for bar in it.bars() if bar["width"] < 80 and bar["ending"] == "successful")
@@ -353,7 +566,7 @@ def check_lists(browser: Browser, program: str) -> None:
         demand(it.color(made["x"] - 20, made["y"]) != ground, "the gap is not marked")
         for value, unit in (("1000", "\u00b5s"), ("1000000000", "s"), ("", "stamps")):
             it.select(value)
-            found = (listed("slowest")[0], it.described("#details")["duration"])
+            found = (it.listed("slowest")[0], it.described("#details")["duration"])
             demand_equal(found, (f"65 {unit} 3", f"5 {unit}"), f"the slowest and a duration in {unit}")
 
 
@@ -427,6 +640,10 @@ def check_many(browser: Browser, program: str) -> None:
         lanes = Counter(round(bar["y"]) for bar in failed)
         demand(len(lanes) == 10 and min(lanes.values()) >= 30, f"failed tests that are seen: {lanes}")
         demand(min(bar["width"] for bar in failed) >= 2, "a failed test is narrower than two pixels")
+        for bar in failed[::40]:
+            browser.move(bar["x"], bar["y"])
+            it.settle()
+            demand_equal(it.described("#tip").get("ending"), "failed", f"ending of the failed test that is seen at {bar['x']}, {bar['y']}")
         slowest = max(browser.ask(DRAWS))
         demand(slowest <= MOST_MILLISECONDS, f"a picture takes {slowest:.0f} milliseconds, and may take {MOST_MILLISECONDS}")
         it.click("#search")
@@ -448,6 +665,10 @@ def check_rows_out_of_view(browser: Browser, program: str) -> None:
     with opened(browser, page_of(program, records.without_names(records.overlapping())).text) as it:
         bars = it.bars()
         demand(20 < len(bars) < 45, f"{len(bars)} bars are seen")
+        browser.wheel(bars[0]["x"] + 100, bars[0]["y"] + 100, -300, CONTROL)
+        left, right = it.seen_part()
+        demand(right - left < 30_000 and browser.ask("chart.scrollTop") == 0, f"Ctrl and the wheel show {left} to {right} of 40,000")
+        it.click("#whole")
         browser.wheel(bars[0]["x"] + 100, bars[0]["y"] + 100, 2_000)
         it.browser.wait_for("chart.scrollTop >= 1900", SECONDS_TO_OPEN)
         browser.move(bars[0]["x"] + 300, bars[0]["y"] + 101)
@@ -498,6 +719,12 @@ def tests(browser: Browser, program: str) -> List[Test]:
         ("legend", lambda: check_legend(browser, program)),
         ("keyboard", lambda: check_keyboard(browser, program)),
         ("moving", lambda: check_moving(browser, program)),
+        ("axis", lambda: check_axis(browser, program)),
+        ("units", lambda: check_units(browser, program)),
+        ("labels", lambda: check_labels(browser, program)),
+        ("selecting", lambda: check_selecting(browser, program)),
+        ("bringing into view", lambda: check_bringing(browser, program)),
+        ("sizes of the window", lambda: check_sizes(browser, program)),
         ("lists", lambda: check_lists(browser, program)),
         ("note", lambda: check_note(browser, program)),
         ("hostile texts", lambda: check_hostile(browser, program, hostile)),

@@ -363,6 +363,9 @@ LONG_AND_SHORT = (
 )
 """A record of tests that take a third of the run, and of others between them and at the end that take nothing of it."""
 
+LONGER_THAN_A_UNIT = HEADER + nodes("T 1", "T 2") + events("1 1 0 start", "1 1 1500 finish|ok", "1 2 1500 skip|off")
+"""A record of a test that takes 1,500 stamps."""
+
 RUN = "globalThis.ran=1"
 HOSTILE = (
     f"<script>{RUN}</script>",
