@@ -304,7 +304,7 @@ def check_positions(browser: Browser, program: str) -> None:
 
 def check_search(browser: Browser, program: str) -> None:
     """The search finds by a part of an id or a name, in capitals or not, and goes from one to the next in the order of their begins."""
-    with opened(browser, page_of(program, MIXED.record).text) as it:
+    with opened(browser, page_of(program, MIXED.record.replace("[x:5]|made", "[Y:5]|MADE")).text) as it:
         it.click("#search")
         browser.type("[X:c]")
         demand_equal(it.text("#found"), "5 found", "found")
@@ -313,7 +313,7 @@ def check_search(browser: Browser, program: str) -> None:
         for _ in range(6):
             it.press("Enter")
             names.append(it.described("#details")["name"])
-        demand_equal(names, ["c", "c/1", "c/2", "made", "left out", "c"], "order of what was found")
+        demand_equal(names, ["c", "c/1", "c/2", "MADE", "left out", "c"], "order of what was found")
         it.click("#previous")
         demand_equal(it.described("#details")["name"], "left out", "the one before")
         it.click("#next")
@@ -321,7 +321,7 @@ def check_search(browser: Browser, program: str) -> None:
         browser.ask("document.getElementById('search').focus()")
         it.press("Enter", SHIFT)
         demand_equal(it.described("#details")["name"], "left out", "the one before by Shift and Enter")
-        for text, count in (("mad", 1), ("nowhere", 0), ("", 7)):
+        for text, count in (("mad", 1), ("y:5", 1), ("nowhere", 0), ("", 7)):
             browser.ask("document.getElementById('search').select()")
             it.click("#search")
             browser.ask("document.getElementById('search').select()")
@@ -375,10 +375,7 @@ def check_moving(browser: Browser, program: str) -> None:
         it.settle()
         after, wide = failed()
         demand(wide > 1.5 * width and abs(after - x) < 4, f"the wheel at {x} makes a bar of {width} pixels {wide} wide, at {after}")
-        browser.move(600, 400)
-        browser.call("Input.dispatchMouseEvent", type="mousePressed", x=600, y=400, button="left", clickCount=1)
-        browser.call("Input.dispatchMouseEvent", type="mouseMoved", x=550, y=400, button="left", buttons=1)
-        browser.call("Input.dispatchMouseEvent", type="mouseReleased", x=550, y=400, button="left", clickCount=1)
+        browser.drag(600, 400, 550, 400)
         demand(abs(failed()[0] - after + 50) < 4, f"a drag of 50 pixels moves a bar from {after} to {failed()[0]}")
         it.click("#whole")
         demand_equal(failed(), (x, width), "the whole run")
@@ -508,6 +505,9 @@ def check_selecting(browser: Browser, program: str) -> None:
             within = 0 <= box["left"] and box["right"] <= width and 0 <= box["top"] and box["bottom"] <= height
             beside = not (box["left"] <= x <= box["right"] and box["top"] <= bar["y"] <= box["bottom"])
             demand(within and beside and box["width"] > 50, f"the tip of {x}, {bar['y']} stands at {box}")
+        browser.drag(failed["x"] + 70, failed["y"], failed["x"] + 10, failed["y"])
+        it.settle()
+        demand_equal(it.described("#details"), {}, "details after a drag that ends at a bar")
         browser.move(x, 5)
         it.settle()
         demand_equal(it.described("#tip"), {}, "tip after the pointer left the picture")
@@ -533,7 +533,8 @@ def check_bringing(browser: Browser, program: str) -> None:
         left, right = it.seen_part()
         shown = it.described("#details")
         demand_equal((shown["ending"], shown["duration"]), ("failed", "1 stamp"), "the shortest test")
-        demand(left <= 1_000_000_000 <= 1_000_000_001 <= right and right - left < 100_000_000, f"the shortest test is seen from {left} to {right}")
+        is_close = left <= 1_000_000_000 and 1_000_000_001 <= right and right - left < 100_000_000
+        demand(is_close, f"the shortest test is seen from {left} to {right}")
 
 
 def check_sizes(browser: Browser, program: str) -> None:
@@ -643,7 +644,8 @@ def check_many(browser: Browser, program: str) -> None:
         for bar in failed[::40]:
             browser.move(bar["x"], bar["y"])
             it.settle()
-            demand_equal(it.described("#tip").get("ending"), "failed", f"ending of the failed test that is seen at {bar['x']}, {bar['y']}")
+            ending = it.described("#tip").get("ending")
+            demand_equal(ending, "failed", f"ending of the failed test that is seen at {bar['x']}, {bar['y']}")
         slowest = max(browser.ask(DRAWS))
         demand(slowest <= MOST_MILLISECONDS, f"a picture takes {slowest:.0f} milliseconds, and may take {MOST_MILLISECONDS}")
         it.click("#search")
@@ -679,6 +681,18 @@ def check_rows_out_of_view(browser: Browser, program: str) -> None:
         browser.type("[t:19999]")
         it.press("Enter")
         demand_equal(len(it.bars()), 1, "bars of the last test")
+        browser.ask("state.text = ''; find()")
+        it.click("#next")
+        demand_equal(it.described("#details")["id"], "[engine:e]/[t:0]", "the test after the last")
+        demand_equal(browser.ask("chart.scrollTop"), 0, "where the rows stand after the first test was chosen")
+        browser.drag(600, 600, 600, 400)
+        it.settle()
+        demand_equal(browser.ask("chart.scrollTop"), 200, "how far a drag of 200 pixels moves the rows")
+        browser.click(300, 400)
+        number = int(it.described("#details")["id"].rpartition(":")[2][:-1])
+        it.press("ArrowDown")
+        demand_equal(it.described("#details")["id"], f"[engine:e]/[t:{number + 1}]", "the test of the next row")
+        demand_equal(browser.ask("chart.scrollTop"), 200, "where the rows stand after one that is seen was chosen")
 
 
 def check_dark(browser: Browser, program: str) -> None:
