@@ -43,11 +43,11 @@ class Run:
     date: str
 
 
-def git(top: str, *words: str) -> bytes:
-    """Answers what git prints of the tree at `top`."""
+def git(top: str, *words: str, given: bytes = b"") -> bytes:
+    """Answers what git prints of the tree at `top`, where it is given this to read."""
     environment = {name: value for name, value in os.environ.items() if name not in ELSEWHERE}
     try:
-        ran = subprocess.run(["git", "-C", top, *words], env=environment, stdin=subprocess.DEVNULL, capture_output=True, check=False)
+        ran = subprocess.run(["git", "-C", top, *words], env=environment, input=given, capture_output=True, check=False)
     except OSError as fault:
         raise Unknown(f"git can't be run: {fault}") from fault
     if ran.returncode:
