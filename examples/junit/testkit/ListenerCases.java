@@ -585,7 +585,6 @@ public class ListenerCases {
     /** Runs at the path that a run writes: they aren't recorded, and don't change its record. One after it is. */
     private static void runInRun(Room room) throws IOException {
         Path link = Paths.get(room.path() + ".link");
-        Files.deleteIfExists(link);
         RecordListener outer = new RecordListener(room.path());
         launch(outer, ListenerCases::oneTest, (calls, root) -> {
             calls.start(root);
@@ -596,6 +595,7 @@ public class ListenerCases {
                 launch(inner, ListenerCases::oneTest, ListenerCases::playOneTest);
                 room.fact("inner-whole", inner.isWhole());
             }
+            Files.delete(link);
             calls.play(root.child(0));
             calls.succeed(root);
         });
@@ -725,6 +725,7 @@ public class ListenerCases {
             Path link = Files.createSymbolicLink(Paths.get(room.path() + ".link"), Paths.get(room.path()).toAbsolutePath());
             launch(new RecordListener(room.path()), ListenerCases::oneTest, ListenerCases::playOneTest);
             launch(new RecordListener(link.toString()), ListenerCases::oneTest, ListenerCases::playOneTest);
+            Files.delete(link);
             room.fact("waits", true);
             if (System.in.read() < 0) {
                 throw new IOException("no line");
