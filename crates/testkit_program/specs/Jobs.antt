@@ -31,17 +31,11 @@ use Rattle.tk_report.specs.declared.faults.ReportFault.{ReportFault}
 use Rattle.tk_report.specs.declared.faults.ReportFault.TheVariants as reports
 use Rattle.tk_record.specs.declared.reading.TheConstants.{MAX_TEXT}
 use Rattle.tk_streams.specs.Stream.{AppendsPrefix}
-use Rattle.tk_queue_replay.specs.ReplayText.{IsWritten, IsPartlyWritten, IsOfInput}
+use Rattle.tk_queue_replay.specs.ReplayText.{IsWritten, IsPartlyWritten, Plays}
 use Rattle.tk_queue_replay.specs.ReplayText.{IsAnswer as IsPlayedAs}
 use Rattle.tk_report.specs.Answers.{OfPlan, MayWork, IsNoPlan, IsNotRun}
 use Rattle.testkit_questions.specs.Asked.{AddsAnswer, AddsPrefix, IsRefusal}
 use Rattle.testkit_questions.specs.Asked as asked
-
--- the bytes are a plan within the limit, it may be run by `workers` workers, and its report was
--- written
-abbrev pub IsPlanReported : ℕ → List ℕ → Option (List ℕ) → Option (List ℕ) → Type 0
-IsPlanReported workers input old new =
-    OfPlan input (Appends old new) × MayWork workers × (length input ≤ MAX_TEXT)
 
 -- what a job may read, and what was written before it and after it, where these bytes are known
 pub record Transfer : Type 0 where
@@ -52,50 +46,48 @@ pub record Transfer : Type 0 where
 abbrev pub transfer : Option (List ℕ) → Option (List ℕ) → Option (List ℕ) → Transfer
 transfer input old new = record { input = input; old = old; new = new }
 
--- nothing was written
-abbrev pub WritesNothing : Transfer → Type 0
-WritesNothing t = t.new ≡ t.old
+-- the input is within the limit, and `Holds` says so of it
+abbrev pub IfLoaded : Transfer → (List ℕ → Type 0) → Type 0
+IfLoaded t Holds = IfSome t.input (λ bytes. (length bytes ≤ MAX_TEXT) × Holds bytes)
+
+-- the input is a plan that may be run by `workers` workers, and its report was written
+abbrev pub IsPlanReported : ℕ → Transfer → Type 0
+IsPlanReported workers t =
+    IfLoaded t (λ bytes. OfPlan bytes (Appends t.old t.new)) × MayWork workers
 
 -- what doing a job writes, and whether it is a yes
 abbrev pub IsDone : Job → Transfer → Bool → Type 0
 IsDone (jobs.Ask question) t is_yes =
     IfSome t.input (λ bytes. AddsAnswer (map string_bytes question.now) bytes is_yes t.old t.new)
 IsDone jobs.Replay t is_yes =
-    IfSome t.input (λ bytes. (is_yes ≡ true) × IsWritten bytes t.old t.new)
-IsDone (jobs.Run workers) t is_yes =
-    IfSome t.input (λ bytes. (is_yes ≡ true) × IsPlanReported workers bytes t.old t.new)
+    (is_yes ≡ true) × IfLoaded t (λ bytes. IsWritten bytes t.old t.new)
+IsDone (jobs.Run workers) t is_yes = (is_yes ≡ true) × IsPlanReported workers t
 
--- why a question is not answered; nothing was written then, but at a broken device a prefix of the
--- answer
+-- why a question is not answered; at a broken device a prefix of the answer was written
 abbrev pub IsAskFault : List (List ℕ) → Transfer → AskFault → Type 0
 IsAskFault question t fault =
     IsRefusal question t.input fault
-    × ((fault ≡ asks.Device) ⊎ WritesNothing t)
     × (fault ≡ asks.Device → IfSome t.input (λ bytes. AddsPrefix question bytes t.old t.new))
 
 -- nothing was written, or the input plays and a prefix of the record text was
 abbrev pub IsPartlyReplayed : Transfer → Type 0
 IsPartlyReplayed t =
-    WritesNothing t ⊎ IfSome t.input (λ bytes. IsPartlyWritten bytes t.old t.new)
+    (t.new ≡ t.old) ⊎ IfSome t.input (λ bytes. IsPartlyWritten bytes t.old t.new)
 
--- why a script is not replayed, and what was written then; where that is for the input, nothing was
+-- why a script is not replayed, and what was written then
 abbrev pub IsReplayFault : Transfer → ReplayFault → Type 0
 IsReplayFault t replays.Device = IsPartlyReplayed t
 IsReplayFault t fault =
-    IfSome t.input (λ bytes. IsPlayedAs bytes (Err fault))
-    × (IsOfInput fault → WritesNothing t)
-    × IsPartlyReplayed t
+    IfSome t.input (λ bytes. IsPlayedAs bytes (Err fault)) × IsPartlyReplayed t
 
 -- Why a plan that is run by this number of workers is not reported. The number of workers is judged
 -- after the plan.
 abbrev pub IsReportFault : ℕ → Transfer → ReportFault → Type 0
-IsReportFault workers t (reports.Plan fault) =
-    IfSome t.input (λ bytes. IsNoPlan bytes fault) × WritesNothing t
-IsReportFault workers t (reports.Run fault) =
-    IfSome t.input (λ bytes. IsNotRun bytes workers fault) × WritesNothing t
+IsReportFault workers t (reports.Plan fault) = IfLoaded t (λ bytes. IsNoPlan bytes fault)
+IsReportFault workers t (reports.Run fault) = IfLoaded t (λ bytes. IsNotRun bytes workers fault)
 IsReportFault workers t reports.Device =
-    IfSome t.input (λ bytes. OfPlan bytes (AppendsPrefix t.old t.new)) × MayWork workers
-IsReportFault workers t reports.Memory = WritesNothing t
+    IfLoaded t (λ bytes. OfPlan bytes (AppendsPrefix t.old t.new)) × MayWork workers
+IsReportFault workers t reports.Memory = Unit {0}
 
 -- the fault is of the words alone
 abbrev pub IsOfWords : Fault → Type 0
@@ -103,27 +95,45 @@ IsOfWords faults.CommandLine = Unit {0}
 IsOfWords (faults.Ask fault) = asked.IsOfWords fault
 IsOfWords _ = ⊥
 
--- Why a job is not done, and what was written then. A fault is of the job's own kind.
+-- The fault may come in writing, after a part of the text went out: a broken target, or memory that
+-- a replay was refused. At any other fault nothing was written.
+abbrev pub IsInWriting : Fault → Type 0
+IsInWriting (faults.Ask asks.Device) = Unit {0}
+IsInWriting (faults.Replay replays.Device) = Unit {0}
+IsInWriting (faults.Replay replays.Memory) = Unit {0}
+IsInWriting (faults.Report reports.Device) = Unit {0}
+IsInWriting _ = ⊥
+
+-- Why a job is not done. A fault is of the job's own kind.
 abbrev pub IsRefused : Job → Transfer → Fault → Type 0
 IsRefused (jobs.Ask question) t (faults.Ask fault) =
     IsAskFault (map string_bytes question.now) t fault
 IsRefused jobs.Replay t (faults.Replay fault) = IsReplayFault t fault
 IsRefused (jobs.Run workers) t (faults.Load loads.TooLarge) =
-    IfSome t.input (λ bytes. MAX_TEXT < length bytes) × WritesNothing t
-IsRefused (jobs.Run workers) t (faults.Load fault) = WritesNothing t
+    IfSome t.input (λ bytes. MAX_TEXT < length bytes)
+IsRefused (jobs.Run workers) t (faults.Load fault) = Unit {0}
 IsRefused (jobs.Run workers) t (faults.Report fault) = IsReportFault workers t fault
 IsRefused job t _ = ⊥
 
+-- which of a job's devices are broken
+pub record Devices : Type 0 where
+  pub source : Bool
+  pub target : Bool
+
+abbrev pub devices : Bool → Bool → Devices
+devices source target = record { source = source; target = target }
+
 -- Only a broken device is given as one: a question says so of the source in what it reads and of
--- the target in what it writes, a replay of either, and a run of the source before and of the
--- target after its plan.
-abbrev pub IsBroken : Bool → Bool → Fault → Type 0
-IsBroken source target (faults.Ask (asks.Read reads.Device)) = source ≡ true
-IsBroken source target (faults.Ask asks.Device) = target ≡ true
-IsBroken source target (faults.Replay replays.Device) = (source ≡ true) ⊎ (target ≡ true)
-IsBroken source target (faults.Load loads.Device) = source ≡ true
-IsBroken source target (faults.Report reports.Device) = target ≡ true
-IsBroken source target _ = Unit {0}
+-- the target in what it writes, a replay of the source, or of the target once the script was
+-- played, and a run of the source before and of the target after its plan.
+abbrev pub IsBroken : Devices → Transfer → Fault → Type 0
+IsBroken d t (faults.Ask (asks.Read reads.Device)) = d.source ≡ true
+IsBroken d t (faults.Ask asks.Device) = d.target ≡ true
+IsBroken d t (faults.Replay replays.Device) =
+    (d.source ≡ true) ⊎ ((d.target ≡ true) × IfSome t.input Plays)
+IsBroken d t (faults.Load loads.Device) = d.source ≡ true
+IsBroken d t (faults.Report reports.Device) = d.target ≡ true
+IsBroken d t _ = Unit {0}
 
 -- the fault is of the command line, or memory was refused
 abbrev pub IsOfLine : Fault → Type 0
@@ -135,8 +145,8 @@ IsOfLine _ = ⊥
 abbrev pub IsPerformed : List (List ℕ) → Transfer → Bool → Type 0
 IsPerformed words t is_yes = (job : Job) × IsJobOf words job × IsDone job t is_yes
 
--- the words ask for no job, and nothing was written, or they ask for a job that was refused
+-- the words ask for no job, or they ask for a job that was refused
 abbrev pub IsNotPerformed : List (List ℕ) → Transfer → Fault → Type 0
 IsNotPerformed words t fault =
-    (IsNoAskLine words × IsOfLine fault × WritesNothing t)
+    (IsNoAskLine words × IsOfLine fault)
     ⊎ ((job : Job) × IsJobOf words job × IsRefused job t fault)

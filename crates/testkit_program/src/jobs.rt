@@ -1,6 +1,6 @@
 //! The jobs of the program.
-ghost use Rattle.std.specs.Prelude.{◌≡◌, map, string_bytes, IfErr, IfOk, IfSome, OnOk};
-ghost use Rattle.testkit_program.specs.Jobs.{IsBroken, IsDone, IsNotPerformed, IsOfWords, IsPerformed, IsPlanReported, IsRefused, transfer};
+ghost use Rattle.std.specs.Prelude.{◌≡◌, ◌⊎◌, map, string_bytes, IfErr, IfOk, OnOk};
+ghost use Rattle.testkit_program.specs.Jobs.{IsBroken, IsDone, IsInWriting, IsNotPerformed, IsOfWords, IsPerformed, IsPlanReported, IsRefused, devices, transfer};
 ghost use Rattle.testkit_command_line.specs.declared.jobs.Job.TheVariants as jobs;
 
 use crate::faults::Fault;
@@ -26,12 +26,15 @@ fn report_plan<R: Threads + Wait + Sync, S: Source, T: Target>(
     source: &mut S,
     target: &mut T,
 ) -> Result<(), Fault>
-    ensures reported { OnOk result (IfSome (S.remaining source.old) (λ input.
-        IsPlanReported workers input (T.contents target.old) (T.contents target.new))) }
+    ensures reported { OnOk result (IsPlanReported workers
+        (transfer (S.remaining source.old) (T.contents target.old) (T.contents target.new))) }
     ensures unread { IfErr result (λ fault. IsOfWords fault → source.new ≡ source.old) }
     ensures refused { IfErr result (IsRefused (jobs.Run workers)
         (transfer (S.remaining source.old) (T.contents target.old) (T.contents target.new))) }
-    ensures device { IfErr result (IsBroken (S.broken source.new) (T.broken target.new)) }
+    ensures unwritten { IfErr result (λ fault.
+        IsInWriting fault ⊎ (target.new ≡ target.old)) }
+    ensures device { IfErr result (IsBroken (devices (S.broken source.new) (T.broken target.new))
+        (transfer (S.remaining source.old) (T.contents target.old) (T.contents target.new))) }
 {
     let bytes = match load(alloc, source, MAX_TEXT) {
         Ok(bytes) => bytes,
@@ -73,7 +76,10 @@ pub fn do_job<R: Threads + Wait + Sync, S: Source, T: Target>(
     ensures unread { IfErr result (λ fault. IsOfWords fault → source.new ≡ source.old) }
     ensures refused { IfErr result (IsRefused job.entry
         (transfer (S.remaining source.old) (T.contents target.old) (T.contents target.new))) }
-    ensures device { IfErr result (IsBroken (S.broken source.new) (T.broken target.new)) }
+    ensures unwritten { IfErr result (λ fault.
+        IsInWriting fault ⊎ (target.new ≡ target.old)) }
+    ensures device { IfErr result (IsBroken (devices (S.broken source.new) (T.broken target.new))
+        (transfer (S.remaining source.old) (T.contents target.old) (T.contents target.new))) }
 {
     match job {
         Job::Ask(question) => match ask(alloc, question, source, target) {
@@ -108,7 +114,10 @@ pub fn perform<R: Threads + Wait + Sync, S: Source, T: Target>(
     ensures unread { IfErr result (λ fault. IsOfWords fault → source.new ≡ source.old) }
     ensures refused { IfErr result (IsNotPerformed (map string_bytes words.now)
         (transfer (S.remaining source.old) (T.contents target.old) (T.contents target.new))) }
-    ensures device { IfErr result (IsBroken (S.broken source.new) (T.broken target.new)) }
+    ensures unwritten { IfErr result (λ fault.
+        IsInWriting fault ⊎ (target.new ≡ target.old)) }
+    ensures device { IfErr result (IsBroken (devices (S.broken source.new) (T.broken target.new))
+        (transfer (S.remaining source.old) (T.contents target.old) (T.contents target.new))) }
 {
     let job = job_of(alloc, words)?;
     do_job(rt, alloc, job, source, target)

@@ -1,5 +1,5 @@
 -- An answer, from what reading and writing gave.
-use Rattle.std.proofs.Common.{◌≡◌, ◌⊎◌, ℕ, Bool, List, Option, Some, None, Result, Ok, Err, refl, subst, inl, inr}
+use Rattle.std.proofs.Common.{sym, ◌≡◌, ◌⊎◌, ℕ, Bool, List, Option, Some, None, Result, Ok, Err, refl, subst, inl, inr}
 use Rattle.std.specs.Prelude.{IfErr, IfOk, IfSome, IsErrOf, OnOk}
 use Rattle.tk_record_columns.specs.Recorded.{Recorded}
 use Rattle.tk_record.specs.Text.{IsAnswer}
@@ -38,14 +38,15 @@ replied_partly words input q r w (Err fault) asks had reply e = if_known input (
     part : IsReply q r w (Err faults.Device)
     part = subst (λ (f : AskFault). IsReply q r w (Err f)) (same_fault fault faults.Device e) reply
 
-pub replied_unwritten : (q : Question) (r : Recorded) (w : Written) (result : Result Bool AskFault) → IsReply q r w result → IfErr result (λ fault. (fault ≡ faults.Device) ⊎ (w.new ≡ w.old))
-replied_unwritten q r w (Ok is_yes) reply = tt
-replied_unwritten q r w (Err faults.Question) reply = absurd reply
-replied_unwritten q r w (Err (faults.Word i)) reply = absurd reply
-replied_unwritten q r w (Err (faults.Condition i fault)) reply = absurd reply
-replied_unwritten q r w (Err (faults.Read fault)) reply = absurd reply
-replied_unwritten q r w (Err faults.Device) reply = inl refl
-replied_unwritten q r w (Err faults.Memory) reply = inr reply
+pub replied_unwritten : (q : Question) (r : Recorded) (w : Written) (result : Result Bool AskFault) (Same : Type 0) → IsReply q r w result
+    → (IsErrOf result faults.Memory → Same) → IfErr result (λ fault. (fault ≡ faults.Device) ⊎ Same)
+replied_unwritten q r w (Ok is_yes) Same reply same = tt
+replied_unwritten q r w (Err faults.Question) Same reply same = absurd reply
+replied_unwritten q r w (Err (faults.Word i)) Same reply same = absurd reply
+replied_unwritten q r w (Err (faults.Condition i fault)) Same reply same = absurd reply
+replied_unwritten q r w (Err (faults.Read fault)) Same reply same = absurd reply
+replied_unwritten q r w (Err faults.Device) Same reply same = inl refl
+replied_unwritten q r w (Err faults.Memory) Same reply same = inr (same refl)
 
 pub replied_refusal : (words : List (List ℕ)) (input : Option (List ℕ)) (q : Question) (r : Recorded) (w : Written) (result : Result Bool AskFault) → Asks words q → IsReply q r w result → IfErr result (λ fault. IsRefusal words input fault)
 replied_refusal words input q r w (Ok is_yes) asks reply = tt
@@ -77,6 +78,9 @@ memory_no_device e = cc
 
 pub memory_not_device : ¬ (IsErrOf {T = Bool} (Err faults.Memory) faults.Device)
 memory_not_device e = memory_no_device (same_fault _ _ e)
+
+pub device_not_memory : ¬ (IsErrOf {T = Bool} (Err faults.Device) faults.Memory)
+device_not_memory e = memory_no_device (sym (same_fault _ _ e))
 
 -- the faults of the words
 pub refused_words : (words : List (List ℕ)) (input : Option (List ℕ)) (fault : AskFault) → IsAskedAs words (Err fault) → IsRefusal words input fault

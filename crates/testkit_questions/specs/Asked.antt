@@ -1,5 +1,5 @@
 -- What asking a question does: it reads a record text to its end, and writes the answer.
-use Rattle.std.specs.Prelude.{◌≡◌, ◌≢◌, ℕ, Bool, List, Option, Result, Ok, Err, IfSome}
+use Rattle.std.specs.Prelude.{◌≢◌, ℕ, Bool, List, Option, Result, Ok, Err, IfSome}
 use Rattle.std.specs.Io.KnownBytes.{Appends}
 use Rattle.tk_record_columns.specs.Recorded.{Recorded}
 use Rattle.tk_streams.specs.Stream.{AppendsPrefix}
@@ -43,14 +43,14 @@ abbrev pub written : Option (List ℕ) → Option (List ℕ) → Written
 written old new = record { old = old; new = new }
 
 -- What answering a question about a record gives: the answer was added; or a prefix of it, and the
--- target broke; or nothing, since an allocation failed.
+-- target broke; or an allocation failed.
 abbrev pub IsReply : Question → Recorded → Written → Result Bool AskFault → Type 0
 IsReply question r w (Ok is_yes) =
     (output : List ℕ) × IsAnswerTo question r is_yes output × Appends w.old w.new output
 IsReply question r w (Err faults.Device) =
     (is_yes : Bool) × (output : List ℕ)
     × IsAnswerTo question r is_yes output × AppendsPrefix w.old w.new output
-IsReply question r w (Err faults.Memory) = w.new ≡ w.old
+IsReply question r w (Err faults.Memory) = Unit {0}
 IsReply question r w (Err _) = ⊥
 
 -- the fault is of the words alone

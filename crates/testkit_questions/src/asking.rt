@@ -42,6 +42,7 @@ fn write_answer<T: Target>(
 ) -> Result<bool, AskFault>
     ensures answer { IsReply question.now «record».now
         (written (T.contents target.old) (T.contents target.new)) result }
+    ensures unwritten { IsErrOf result AskFault.Memory → target.new ≡ target.old }
     ensures device { IsErrOf result AskFault.Device → T.broken target.new ≡ true }
 {
     let reply = reply_to(alloc, record, question)?;
@@ -76,7 +77,7 @@ pub fn ask<S: Source, T: Target>(
     ensures refusal { IfErr result (λ fault.
         IsRefusal (map string_bytes words.now) (S.remaining source.old) fault) }
     ensures unwritten { IfErr result (λ fault.
-        (fault ≡ AskFault.Device) ⊎ (T.contents target.new ≡ T.contents target.old)) }
+        (fault ≡ AskFault.Device) ⊎ (target.new ≡ target.old)) }
     ensures device { IsErrOf result AskFault.Device → T.broken target.new ≡ true }
     ensures prefix { IsErrOf result AskFault.Device → IfSome (S.remaining source.old) (λ input.
         AddsPrefix (map string_bytes words.now) input

@@ -15,7 +15,7 @@ use Rattle.tk_ids.specs.IdText.{SegmentView}
 use Rattle.tk_ids.specs.Table.{ids_of}
 use Rattle.tk_ids.specs.declared.descriptors.Descriptor.{Descriptor}
 use Rattle.tk_engine_laws.proofs.ListenerSteps.{listener_law, once, ran_of, registered}
-use Rattle.tk_engine_laws.proofs.Ids.{same_decides}
+use Rattle.tk_report_text.proofs.Ids.{same_decides}
 use Rattle.tk_engine_laws.proofs.Lists.{each_at}
 use Rattle.tk_engine_laws.proofs.Model.{Each, Forest, Models, id_emitted, event_of_step}
 use Rattle.tk_engine_laws.proofs.OneKey.{Comes, HasKey, all_keys, from_table, same_key, emitted_some}

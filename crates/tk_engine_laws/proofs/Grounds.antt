@@ -21,7 +21,7 @@ use Rattle.tk_ids.specs.IdText.{SegmentView}
 use Rattle.tk_ids.specs.Table.{ids_of}
 use Rattle.tk_ids.specs.declared.descriptors.Descriptor.{Descriptor}
 use Rattle.tk_engine_laws.proofs.Bridge.{cuts_below, modelled, modelled_below, plain_below, run_of, run_piece}
-use Rattle.tk_engine_laws.proofs.Ids.{same_decides}
+use Rattle.tk_report_text.proofs.Ids.{same_decides}
 use Rattle.tk_engine_laws.proofs.Lists.{at, each_from}
 use Rattle.tk_engine_laws.proofs.Model.{AreBuilt, Forest, IsBuilt, IsKeyed, Item, Models, Part, count, nodes, nodes_below, plain, steps_of, units}
 use Rattle.tk_report_text.specs.Labels.{same_id}

@@ -20,7 +20,7 @@ use Rattle.tk_engine_laws.specs.Listening.{IsOnce, Listens, finishes, is_of, is_
 use Rattle.tk_engine_laws.specs.Scripts.{IsRunOf}
 use Rattle.tk_plan_units.specs.declared.nodes.NumberedNode.{NumberedNode}
 use Rattle.tk_engine_laws.proofs.ByKey.{by_key, map_get}
-use Rattle.tk_engine_laws.proofs.Ids.{same_decides}
+use Rattle.tk_report_text.proofs.Ids.{same_decides}
 use Rattle.tk_engine_laws.proofs.ListenerSteps.{listener_law, ran_of}
 use Rattle.tk_engine_laws.proofs.Model.{Forest, Models, count}
 use Rattle.tk_engine_laws.proofs.OneKey.{count_kept, counted, not_emitted}

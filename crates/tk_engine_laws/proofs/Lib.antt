@@ -2,14 +2,12 @@ pub mod Model
 pub mod Cut
 pub mod Lists
 pub mod Few
-pub mod Ids
 pub mod Mixed
 pub mod Naming
 pub mod Keyed
 pub mod Through
 pub mod Bridge
 pub mod Grounds
-pub mod Ordered
 pub mod SameReports
 pub mod Orders
 pub mod Positions

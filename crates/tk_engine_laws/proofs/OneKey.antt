@@ -17,7 +17,7 @@ use Rattle.tk_ids.specs.IdText.{SegmentView}
 use Rattle.tk_ids.specs.Table.{ids_of}
 use Rattle.tk_ids.specs.declared.descriptors.Descriptor.{Descriptor}
 use Rattle.tk_engine_laws.proofs.ListenerSteps.{no_register, same_one}
-use Rattle.tk_engine_laws.proofs.Ids.{same_decides}
+use Rattle.tk_report_text.proofs.Ids.{same_decides}
 use Rattle.tk_engine_laws.proofs.Keyed.{get_prefix, key_for_known, named, static_after_below, static_before_below}
 use Rattle.tk_engine_laws.proofs.Lists.{each-append, each_at}
 use Rattle.tk_engine_laws.proofs.Mixed.{no_events}

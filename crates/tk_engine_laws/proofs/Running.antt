@@ -22,7 +22,7 @@ use Rattle.tk_plan_units.specs.Planned.{IsPlanned}
 use Rattle.tk_report_text.specs.Labels.{same_id}
 use Rattle.tk_report_text.specs.Reports.{report_of_record}
 use Rattle.tk_engine_laws.specs.Scripts.{played, may, IsRunOf}
-use Rattle.tk_engine_laws.proofs.Ids.{same_decides}
+use Rattle.tk_report_text.proofs.Ids.{same_decides}
 use Rattle.tk_engine_laws.proofs.Grounds.{some_same, models, trees_of}
 use Rattle.tk_engine_laws.proofs.SameReports.{report_law}
 use Rattle.tk_engine_laws.proofs.Samples.{demo, demo_table, demo_counts, demo_lines, demo_report, line, pair}

@@ -6,7 +6,7 @@ use Rattle.std.proofs.lemmas.List.{map-append}
 use Rattle.tk_plan_units.specs.declared.steps.Act.TheVariants.{Finish, Register, Skip, Start}
 use Rattle.tk_ids.specs.IdText.{SegmentView}
 use Rattle.tk_engine_laws.proofs.Cut.{count-append, shown-append, shown_none, shown_none_below}
-use Rattle.tk_engine_laws.proofs.Ids.{same_decides}
+use Rattle.tk_report_text.proofs.Ids.{same_decides}
 use Rattle.tk_engine_laws.proofs.Lists.{each_split}
 use Rattle.tk_engine_laws.proofs.Model.{AreBuilt, Each, Forest, HasNone, IsBuilt, IsChain, IsChainBelow, Item, Publication, Step, Tree, act_of, count, finish, item_label, more, no_trees, nodes, nodes_below, opening, performed, publications, published, shown, step, step_label, steps, steps_below, tree}
 use Rattle.tk_engine_laws.proofs.Orders.{followed-append, followed_end, followed_none, precedes-append, precedes_here, precedes_none}

@@ -1,29 +1,13 @@
 -- What holds of each run of a plan.
-use Rattle.std.specs.Prelude.{
-  ◌≡◌,
-  ◌↔◌,
-  ◌+◌,
-  ◌<◌,
-  ℕ,
-  List,
-  [],
-  ◌++◌,
-  Some,
-  None,
-  slice_get,
-  length,
-  option_map,
-}
+use Rattle.std.specs.Prelude.{◌≡◌, ◌↔◌, ℕ, List, [], ◌++◌, Some, slice_get, length, option_map}
 use Rattle.tk_ids.specs.declared.descriptors.Descriptor.{Descriptor}
 use Rattle.tk_events.specs.declared.events.Event.{Event}
-use Rattle.tk_events.specs.Registration.{registered_key}
 use Rattle.tk_record_columns.specs.Recorded.{Recorded}
 use Rattle.tk_record_columns.specs.Entries.{desc}
 use Rattle.tk_query_lifecycle.specs.KeepsLifecycle.{KeepsLifecycle}
 use Rattle.tk_query_lifecycle.specs.Lifecycle.{IsLifecycle}
 use Rattle.tk_query_lifecycle.specs.declared.lifecycle_rules.Lifecycle.{Lifecycle}
 use Rattle.tk_query_lifecycle.specs.declared.lifecycle_rules.Lifecycle.TheVariants.{Kept}
-use Rattle.tk_queue_session.specs.Emission.{registrations, entries_by}
 use Rattle.tk_plan_units.specs.declared.nodes.NumberedNode.{NumberedNode}
 use Rattle.tk_plan_units.specs.declared.steps.Step.{Step}
 use Rattle.tk_plan_units.specs.Trees.{Forest, forest}

@@ -3,7 +3,7 @@ use Rattle.std.proofs.Common.{◌≡◌, ◌≢◌, ◌<◌, ◌≤◌, ◌⊎�
 use Rattle.std.proofs.lemmas.Bool.{cases_lt}
 use Rattle.std.specs.Io.KnownBytes.{Appends}
 use Rattle.tk_limits.specs.declared.limits.TheConstants.{MAX_WORKERS}
-use Rattle.std.specs.Prelude.{IsErrOf}
+use Rattle.std.specs.Prelude.{IfErr, IsErrOf}
 use Rattle.tk_record_columns.specs.Recorded.{Recorded}
 use Rattle.tk_streams.specs.Stream.{AppendsPrefix}
 use Rattle.tk_plan_units.specs.Cutting.{units_of}
@@ -48,14 +48,23 @@ reported bytes workers old new run result of h =
       by_result (Err (Plan f)) h = absurd h
       by_result (Err (Run f)) h = absurd h
       by_result (Err Device) h = ((of.report.0, of.report.1, subst (AppendsPrefix old new) text h), of.may_work)
-      by_result (Err Memory) h = h
+      by_result (Err Memory) h = tt
 
 -- a plan that is not run is not reported
-pub not_reported : (bytes : List ℕ) (workers : ℕ) (old new : Option (List ℕ)) (fault : ReportFault) → IsPlanRun bytes workers (Err fault) → new ≡ old → IsReported bytes workers old new (Err fault)
-not_reported bytes workers old new (Plan f) why kept = (why, kept)
-not_reported bytes workers old new (Run f) why kept = (why, kept)
-not_reported bytes workers old new Device why kept = absurd why
-not_reported bytes workers old new Memory why kept = kept
+pub not_reported : (bytes : List ℕ) (workers : ℕ) (old new : Option (List ℕ)) (fault : ReportFault) → IsPlanRun bytes workers (Err fault) → IsReported bytes workers old new (Err fault)
+not_reported bytes workers old new (Plan f) why = why
+not_reported bytes workers old new (Run f) why = why
+not_reported bytes workers old new Device why = absurd why
+not_reported bytes workers old new Memory why = tt
+
+-- a report that is not written is so for a broken target, or for memory
+pub untouched : (r : Recorded) (old new : Option (List ℕ)) (result : Result (Unit {0}) ReportFault) (Same : Type 0) → IsRunReport r old new result
+    → (IsErrOf result Memory → Same) → IfErr result (λ fault. (fault ≡ Device) ⊎ Same)
+untouched r old new (Ok u) Same h same = tt
+untouched r old new (Err (Plan f)) Same h same = absurd h
+untouched r old new (Err (Run f)) Same h same = absurd h
+untouched r old new (Err Device) Same h same = inl refl
+untouched r old new (Err Memory) Same h same = inr (same refl)
 
 pub no_device : (bytes : List ℕ) (workers : ℕ) (fault : ReportFault) → IsPlanRun bytes workers (Err fault) → ¬ (IsErrOf {T = Unit {0}} (Err fault) Device)
 no_device bytes workers (Plan f) why e = cc

@@ -29,14 +29,14 @@ use Rattle.tk_report.specs.declared.faults.ReportFault.{ReportFault}
 use Rattle.tk_report.specs.declared.faults.ReportFault.TheVariants.{Plan, Run, Device, Memory}
 
 -- What writing the report of a record answers: it was written, or a prefix of it to a broken
--- target, or nothing where memory was refused.
+-- target, or memory was refused.
 abbrev pub IsRunReport :
     Recorded → Option (List ℕ) → Option (List ℕ) → Result (Unit {0}) ReportFault → Type 0
 IsRunReport r old new (Ok _) = Appends old new (report_of_record r)
 IsRunReport r old new (Err (Plan f)) = ⊥
 IsRunReport r old new (Err (Run f)) = ⊥
 IsRunReport r old new (Err Device) = AppendsPrefix old new (report_of_record r)
-IsRunReport r old new (Err Memory) = new ≡ old
+IsRunReport r old new (Err Memory) = Unit {0}
 
 -- the report of a plan that was read
 abbrev pub plan_text : Tree → List ℕ
@@ -101,12 +101,13 @@ IsPlanRun bytes workers (Err (Run f)) = IsNotRun bytes workers f
 IsPlanRun bytes workers (Err Device) = ⊥
 IsPlanRun bytes workers (Err Memory) = Unit {0}
 
--- What reporting a plan that is run by `workers` workers answers, and what was written then.
+-- What reporting a plan that is run by `workers` workers answers, and what was written at an Ok
+-- and at a broken target.
 abbrev pub IsReported :
     List ℕ → ℕ → Option (List ℕ) → Option (List ℕ) → Result (Unit {0}) ReportFault → Type 0
 IsReported bytes workers old new (Ok _) = OfPlan bytes (Appends old new) × MayWork workers
-IsReported bytes workers old new (Err (Plan f)) = IsNoPlan bytes f × (new ≡ old)
-IsReported bytes workers old new (Err (Run f)) = IsNotRun bytes workers f × (new ≡ old)
+IsReported bytes workers old new (Err (Plan f)) = IsNoPlan bytes f
+IsReported bytes workers old new (Err (Run f)) = IsNotRun bytes workers f
 IsReported bytes workers old new (Err Device) =
     OfPlan bytes (AppendsPrefix old new) × MayWork workers
-IsReported bytes workers old new (Err Memory) = new ≡ old
+IsReported bytes workers old new (Err Memory) = Unit {0}

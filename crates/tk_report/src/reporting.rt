@@ -1,5 +1,5 @@
 //! Writing the report of a run, and running a plan for its report.
-ghost use Rattle.std.specs.Prelude.{◌≡◌, true, OnOk, OnErr, IsErrOf};
+ghost use Rattle.std.specs.Prelude.{◌≡◌, ◌⊎◌, true, IfErr, OnOk, OnErr, IsErrOf};
 ghost use Rattle.std.specs.Io.KnownBytes.{Appends};
 ghost use Rattle.tk_streams.specs.Stream.{AppendsPrefix};
 ghost use Rattle.tk_report_text.specs.Reports.{report_of_record};
@@ -27,6 +27,7 @@ pub fn write_report<T: Target>(
 ) -> Result<(), ReportFault>
     ensures answer { IsRunReport results.now.recorded (T.contents target.old)
         (T.contents target.new) result }
+    ensures unwritten { IsErrOf result ReportFault.Memory → target.new ≡ target.old }
     ensures device { IsErrOf result ReportFault.Device → T.broken target.new ≡ true }
 {
     match write_report_of(alloc, results.recorded(), target) {
@@ -55,6 +56,8 @@ pub fn plan_report<R: Threads + Wait + Sync, T: Target>(
 ) -> Result<(), ReportFault>
     ensures answer { IsReported bytes.now workers (T.contents target.old) (T.contents target.new)
         result }
+    ensures unwritten { IfErr result (λ fault.
+        (fault ≡ ReportFault.Device) ⊎ (target.new ≡ target.old)) }
     ensures device { IsErrOf result ReportFault.Device → T.broken target.new ≡ true }
 {
     let run = run_plan(rt, alloc, bytes, workers)?;

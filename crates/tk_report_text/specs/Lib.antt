@@ -3,3 +3,4 @@ pub use Rattle.tk_record_columns.specs.Recorded
 pub mod Labels
 pub mod Reports
 pub mod GroupedLines
+pub mod Laws

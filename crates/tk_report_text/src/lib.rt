@@ -3,6 +3,7 @@
 #![tactic(auto)]
 
 mod grouping;
+pub mod laws;
 mod lines;
 mod writing;
 

@@ -1,0 +1,64 @@
+-- Records whose ids have the same tails say the same of each id.
+use Rattle.std.proofs.Common.{◌≡◌, ℕ, true, false, List, [], ◌∷◌, map, bytes_eq, refl, sym, ap₂, ◌∙◌, if◌then◌else◌}
+use Rattle.std.specs.List.{AllByRecursion}
+use Rattle.std.specs.Cmp.Lexicographic.{bytes_decides}
+use Rattle.tk_ids.specs.IdText.{SegmentView, id_text}
+use Rattle.tk_events.specs.declared.kinds.Kind.{Kind}
+use Rattle.tk_events.specs.declared.payloads.Payload.{Payload}
+use Rattle.tk_events.specs.declared.events.Entry.{Entry}
+use Rattle.tk_record_columns.specs.Recorded.{Recorded}
+use Rattle.tk_record_columns.specs.Entries.{with_entry}
+use Rattle.tk_record.specs.Spelling.{HasTail, joined, tail}
+use Rattle.tk_record.specs.declared.versions.Version.{Version}
+use Rattle.tk_record.specs.declared.versions.Version.TheVariants.{Two}
+use Rattle.tk_record.specs.Text.{AreEntries}
+use Rattle.tk_record.proofs.TailLines.{one_tail}
+use Rattle.tk_report_text.specs.Labels.{Label, events, label, labels, name}
+use Rattle.tk_report_text.specs.Reports.{labels_of_id}
+use Rattle.tk_report_text.specs.Laws.{ReportIsOfTails}
+use Rattle.tk_report_text.proofs.Ids.{text_is_unique}
+use Rattle.tk_report_text.proofs.SameReports.{report_same}
+
+abbrev HasOne : Label → Type 0
+HasOne l = HasTail l.kind l.payload
+
+abbrev line : Label → List ℕ
+line l = joined (tail l.kind l.payload)
+
+-- the label's event has a tail, and its id has the text
+record IsOf (x : List ℕ) (l : Label) : Type 0 where
+  has : HasTail l.kind l.payload
+  is : bytes_eq (id_text l.id) x ≡ true
+
+have : (version : Version) (names : ℕ → List SegmentView) (r : Recorded) (es : List Entry) → AreEntries version r es → AllByRecursion HasOne (map (label names) (events es))
+unfolding AreEntries
+have version names r [] h = tt
+have version names r (e ∷ es) h = (h.0.line.tail, have version names (with_entry r e) es h.2)
+
+own : (x : List ℕ) (ls : List Label) → AllByRecursion HasOne ls → AllByRecursion (IsOf x) (labels_of_id x ls)
+own x [] h = tt
+own x (l ∷ ls) h =
+    elim (bytes_eq (id_text l.id) x) as (λ b. bytes_eq (id_text l.id) x ≡ b → AllByRecursion (IsOf x) (if b then l ∷ labels_of_id x ls else labels_of_id x ls)) [
+      | true ↦ (λ e. (record { has = h.0; is = e }, own x ls h.1))
+      | false ↦ (λ e. own x ls h.1)
+    ] refl
+
+one : (x : List ℕ) (a b : Label) → IsOf x a → IsOf x b → line a ≡ line b → a ≡ b
+one x a b p q e =
+    let same = one_tail (a.kind, a.payload) (b.kind, b.payload) p.has q.has e in
+    let id = text_is_unique a.id b.id ((bytes_decides (id_text a.id) x).0 p.is ∙ sym ((bytes_decides (id_text b.id) x).0 q.is)) in
+    ap₂ (λ (i : List SegmentView) (k : Kind × Payload). (let l : Label = record { id = i; kind = k.0; payload = k.1 } in l)) id same
+
+all : (x : List ℕ) (ls ks : List Label) → AllByRecursion (IsOf x) ls → AllByRecursion (IsOf x) ks → map line ls ≡ map line ks → ls ≡ ks
+all x [] [] h i e = refl
+all x [] (b ∷ ks) h i e = cc
+all x (a ∷ ls) [] h i e = cc
+all x (a ∷ ls) (b ∷ ks) h i e =
+    let first : line a ≡ line b = cc in
+    let rest : map line ls ≡ map line ks = cc in
+    ap₂ (λ l rest. l ∷ rest) (one x a b h.0 i.0 first) (all x ls ks h.1 i.1 rest)
+
+pub report_is_of_tails : ReportIsOfTails
+report_is_of_tails r s p q same = report_same r s (λ x.
+    all x (labels_of_id x (labels r)) (labels_of_id x (labels s))
+    (own x (labels r) (have Two (name r) _ r.entries p.1)) (own x (labels s) (have Two (name s) _ s.entries q.1)) (same x))

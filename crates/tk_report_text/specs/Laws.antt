@@ -1,0 +1,18 @@
+-- What holds of reports alone.
+use Rattle.std.specs.Prelude.{◌≡◌, ℕ, List, map}
+use Rattle.tk_record_columns.specs.Recorded.{Recorded}
+use Rattle.tk_record.specs.Spelling.{tail, joined}
+use Rattle.tk_record.specs.Text.{HasText}
+use Rattle.tk_report_text.specs.Labels.{Label, labels}
+use Rattle.tk_report_text.specs.Reports.{labels_of_id, report_of_record}
+
+-- the tails of the events of the id that has this text, in the record's order
+abbrev pub tails_of_id : List ℕ → Recorded → List (List ℕ)
+tails_of_id x r = map (λ (l : Label). joined (tail l.kind l.payload)) (labels_of_id x (labels r))
+
+-- two records with the same tails for each id, each in its order, have one report, whatever their
+-- workers, keys, stamps and the order of their ids
+abbrev pub ReportIsOfTails : Type 0
+ReportIsOfTails = (r s : Recorded) → HasText r → HasText s
+    → ((x : List ℕ) → tails_of_id x r ≡ tails_of_id x s)
+    → report_of_record r ≡ report_of_record s
