@@ -32,7 +32,7 @@ impl Model for Flags {
 }
 
 impl Flags {
-    /// Sets the flags of the bytes of a column that equal the value.
+    /// Makes the flags of a column of bytes: set where the byte equals the value.
     pub fn of_byte(alloc: Global, column: &[u8], value: u8) -> Result<Flags, AllocError>
         requires { length column.now ≤ 2 ^ 32 }
         ensures { IfOk result (λ flags. flags ≡ map (λ x. x == value) column.now) }
@@ -43,7 +43,7 @@ impl Flags {
         Ok(Flags { words, len })
     }
 
-    /// Sets the flags of the bytes of a column that have a common one bit with the value.
+    /// Makes the flags of a column of bytes: set where the byte shares a one bit with the value.
     pub fn of_flag(alloc: Global, column: &[u8], value: u8) -> Result<Flags, AllocError>
         requires { length column.now ≤ 2 ^ 32 }
         ensures { IfOk result (λ flags. flags ≡ map (λ x. shares_bit x value) column.now) }
@@ -54,7 +54,7 @@ impl Flags {
         Ok(Flags { words, len })
     }
 
-    /// Sets the flags of the numbers of a column that equal the value.
+    /// Makes the flags of a column of numbers: set where the number equals the value.
     pub fn of_number(alloc: Global, column: &[u32], value: u32) -> Result<Flags, AllocError>
         requires { length column.now ≤ 2 ^ 32 }
         ensures { IfOk result (λ flags. flags ≡ map (λ x. x == value) column.now) }
