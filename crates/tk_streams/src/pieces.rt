@@ -28,12 +28,13 @@ pub struct Piece {
 
 impl Model for Piece {
     ghost use Rattle.std.specs.Prelude.{ℕ, ◌≤◌, List, take};
+    ghost use Rattle.tk_streams.specs.declared.pieces.TheConstants.{PIECE};
 
     ghost Value = { List ℕ };
 
     ghost view = { λ p. take p.count p.bytes };
 
-    ghost invariant = { λ p. p.count ≤ 65536 };
+    ghost invariant = { λ p. p.count ≤ PIECE };
 }
 
 // Writes the bytes to a target that is whole.

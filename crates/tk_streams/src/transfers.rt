@@ -18,7 +18,7 @@ pub enum LoadFault {
     TooLarge,
     /// The source is broken.
     Device,
-    /// An allocation failed.
+    /// A request for memory was refused.
     Memory,
 }
 
