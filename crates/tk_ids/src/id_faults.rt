@@ -17,7 +17,7 @@ pub enum IdFault {
     BadEscape(usize),
     /// The id's text is longer than `MAX_BYTES`, or it has more segments than `MAX_SEGMENTS`.
     TooLong,
-    /// An allocation failed.
+    /// A request for memory was refused.
     Memory,
 }
 

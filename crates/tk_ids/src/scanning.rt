@@ -64,10 +64,7 @@ fn next_part(part: Part, byte: u8) -> Option<Part>
                 escape: Escape::Digit(byte),
             })
         }
-        Escape::Digit(first) => match byte_of_digits(first, byte) {
-            None => None,
-            Some(_) => Some(Part::WHOLE),
-        },
+        Escape::Digit(first) => byte_of_digits(first, byte).map(|_| Part::WHOLE),
     }
 }
 

@@ -28,7 +28,7 @@ pub enum TableFault {
     Full,
     /// The parent's id can't have this segment appended.
     Id(IdFault),
-    /// An allocation failed.
+    /// A request for memory was refused.
     Memory,
 }
 
@@ -69,7 +69,7 @@ impl From<AllocError> for TableFault {
 }
 
 /// The most descriptors that a table may have.
-pub const MAX_DESCRIPTORS: usize = 65536;
+pub const MAX_DESCRIPTORS: usize = 65_536;
 
 /// Descriptors, no two with one id, in the order in which they were added.
 ///
@@ -177,7 +177,7 @@ impl Table {
     }
 
     // Makes the id of a child of this parent, or of a root; nothing where there is no such parent.
-    fn child_descriptor(
+    fn id_below(
         &self,
         alloc: Global,
         parent: Option<u32>,
@@ -205,7 +205,7 @@ impl Table {
     ) -> Result<UniqueId, TableFault>
         ensures { IsChildId self.now parent segment.now result }
     {
-        match self.child_descriptor(alloc, parent, segment) {
+        match self.id_below(alloc, parent, segment) {
             None => Err(TableFault::NoParent),
             Some(Ok(id)) => Ok(id),
             Some(Err(IdFault::Memory)) => Err(TableFault::Memory),
@@ -309,8 +309,8 @@ impl Table {
         Ok(key)
     }
 
-    /// Puts a descriptor at the end without looking up its parent and its id, as [`Table::insert`]
-    /// does: the caller knows them.
+    /// Puts a descriptor at the end. Unlike [`Table::insert`], it doesn't look up the parent and the
+    /// id: the caller knows them.
     ///
     /// # Errors
     /// `AllocError`. The table is then unchanged.

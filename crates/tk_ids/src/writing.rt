@@ -11,9 +11,8 @@ fn is_plain(text: &str) -> bool
     ensures { IsTrue result → escaped text.now ≡ text.now }
 {
     for byte in text.as_bytes() {
-        match digits_of_byte(*byte) {
-            None => {}
-            Some(_) => return false,
+        if digits_of_byte(*byte).is_some() {
+            return false;
         }
     }
     true

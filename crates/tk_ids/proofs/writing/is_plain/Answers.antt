@@ -2,6 +2,7 @@ use Rattle.std.proofs.Common.{◌≡◌, ◌+◌, ◌<◌, ◌∷◌, [], ◌++�
 use Rattle.std.proofs.lemmas.List.{take_more}
 use Rattle.tk_ids.specs.IdText.{digits_of, spelled_by, escaped}
 use Rattle.tk_ids.proofs.IdLemmas.{escaped-append}
+use Rattle.tk_ids.proofs.ReadingLemmas.{is_none_of}
 use Rattle.tk_ids.proofs.writing.is_plain.Goals as goal
 
 -- one more byte has no escape
@@ -12,4 +13,4 @@ byte_plain text i lt d e =
 
 pub loop-byte-preserved : goal.loop-byte-preserved
 loop-byte-preserved c =
-    byte_plain c.as_bytes-byte-items.result.now c.loop-byte.byte-index c.loop-byte-test.true (sym c.digits_of_byte.ensures ∙ c.in-None.is) c.loop-byte.invariant
+    byte_plain c.as_bytes-byte-items.result.now c.loop-byte.byte-index c.loop-byte-test.true (sym c.digits_of_byte.ensures ∙ is_none_of c.digits_of_byte.result (sym c.is_some.ensures ∙ c.if-is_some.false)) c.loop-byte.invariant

@@ -1,6 +1,6 @@
 use Rattle.std.proofs.Common.{◌∷◌, ◌++◌, [], option_map, ap, sym, ◌∙◌}
 use Rattle.tk_ids.specs.Table.{child_id}
-use Rattle.tk_ids.proofs.tables.Table.child_descriptor.Goals as goal
+use Rattle.tk_ids.proofs.tables.Table.id_below.Goals as goal
 
 pub returns-in_ok-descriptor-in-Some : goal.returns-in_ok-descriptor-in-Some
 returns-in_ok-descriptor-in-Some c =
