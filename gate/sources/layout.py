@@ -11,7 +11,7 @@ FUNCTION = re.compile(r"^\s*pub (?:const )?fn (\w+)", re.MULTILINE)
 HEAD_END = re.compile(r"\{\}?$|;$|^\s*(?:pub(?:\(\w+\))? )?(?:const )?fn ", re.MULTILINE)
 """How the head of a function ends: with its body, or at the latest with another function."""
 MOST_COLUMNS = 100
-"""How many columns a clause and a line of specs/ may have."""
+"""How many columns a line of a clause and of specs/ may have."""
 
 
 def handle_faults(tree: Tree) -> List[str]:
@@ -89,8 +89,8 @@ def without_clause(tree: Tree) -> List[str]:
 
 
 def column_faults(tree: Tree) -> List[str]:
-    """Clauses, and lines of specs/, that are too long to read."""
-    lines = [(f"{it.path}:{at}", line) for it in tree.sources for at, line in enumerate(it.lines, 1) if re.match(r"\s*(requires|ensures)\b", line)]
+    """Lines of clauses and of specs/ that are too long to read."""
+    lines = [(f"{it.path}:{at}", it.lines[at - 1]) for it in tree.sources for at in sorted(it.clause_lines)]
     for path in tree.files:
         if re.fullmatch(r"crates/\w+/specs/.*\.antt", path):
             lines += [(f"{path}:{at}", line) for at, line in enumerate(tree.text(path).split("\n"), 1)]

@@ -4,7 +4,7 @@ import os
 import re
 from dataclasses import dataclass
 from functools import cached_property
-from typing import Dict, List, Tuple
+from typing import Dict, List, Set, Tuple
 
 from crates import Crate, read_crates
 
@@ -42,15 +42,23 @@ class Source:
         return [found for found in NO_CODE.findall("\n".join(self.lines)) if not found.startswith("//")]
 
     @cached_property
+    def clause_lines(self) -> Set[int]:
+        """The numbers of the lines that clauses have, counted from 1."""
+        found: Set[int] = set()
+        depth = 0
+        for number, line in enumerate(self.code, 1):
+            if depth > 0 or CLAUSE.match(line):
+                found.add(number)
+                depth += line.count("{") - line.count("}")
+        return found
+
+    @cached_property
     def parts(self) -> Tuple[List[str], List[str]]:
         """The lines of the code that are in no clause, and those of clauses."""
         others: List[str] = []
         clauses: List[str] = []
-        depth = 0
-        for line in self.code:
-            is_clause = depth > 0 or CLAUSE.match(line) is not None
-            (clauses if is_clause else others).append(line)
-            depth += line.count("{") - line.count("}") if is_clause else 0
+        for number, line in enumerate(self.code, 1):
+            (clauses if number in self.clause_lines else others).append(line)
         return others, clauses
 
     @cached_property
