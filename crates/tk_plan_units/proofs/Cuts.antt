@@ -34,37 +34,37 @@ from_each-append f i (x ∷ xs) ys =
 joined : {A : Type 0} (old mid new xs ys zs : List A) → mid ≡ old ++ xs → new ≡ mid ++ ys → zs ≡ xs ++ ys → new ≡ old ++ zs
 joined old mid new xs ys zs e f g = f ∙ ap (λ l. l ++ ys) e ∙ append_assoc old xs ys ∙ ap (λ l. old ++ l) (sym g)
 
-each_more : {A : Type 0} (f : ℕ → Part → List A) (old mid : Cutting) (xs ys : List Part) → mid.first ≡ old.first + length (flat_map moves_of xs)
-    → from_each f old.first (xs ++ ys) ≡ from_each f old.first xs ++ from_each f mid.first ys
-each_more f old mid xs ys at = from_each-append f old.first xs ys ∙ ap (λ n. from_each f old.first xs ++ from_each f n ys) (sym at)
+each_more : {A : Type 0} (f : ℕ → Part → List A) (old mid : Cutting) (xs ys : List Part) → mid.event_count ≡ old.event_count + length (flat_map moves_of xs)
+    → from_each f old.event_count (xs ++ ys) ≡ from_each f old.event_count xs ++ from_each f mid.event_count ys
+each_more f old mid xs ys at = from_each-append f old.event_count xs ys ∙ ap (λ n. from_each f old.event_count xs ++ from_each f n ys) (sym at)
 
 pub adds-append : (all : List NumberedNode) (keys : List (List ℕ)) (old mid new : Cutting) (xs ys : List Part)
     → AddsParts (keyed all keys) old mid xs → AddsParts (keyed all keys) mid new ys → AddsParts (keyed all keys) old new (xs ++ ys)
 adds-append all keys old mid new xs ys a b =
-    let at : mid.first ≡ old.first + length (flat_map moves_of xs) = a.first in
+    let at : mid.event_count ≡ old.event_count + length (flat_map moves_of xs) = a.event_count in
     record {
       spine = joined _ _ _ _ _ _ a.spine b.spine (flat_map-append spine_numbers xs ys);
-      units = joined _ _ _ _ _ _ a.units b.units (ap (map _) (each_more piece old mid xs ys a.first) ∙ map-append _ (from_each piece old.first xs) _);
-      pieces = joined _ _ _ _ _ _ a.pieces b.pieces (each_more piece old mid xs ys a.first);
+      unit_keys = joined _ _ _ _ _ _ a.unit_keys b.unit_keys (ap (map _) (each_more piece old mid xs ys a.event_count) ∙ map-append _ (from_each piece old.event_count xs) _);
+      units = joined _ _ _ _ _ _ a.units b.units (each_more piece old mid xs ys a.event_count);
       fits = λ h. b.fits (a.fits h);
-      begin_events_of_spine = joined _ _ _ _ _ _ a.begin_events_of_spine b.begin_events_of_spine (each_more begin_events old mid xs ys a.first);
+      begin_events_of_spine = joined _ _ _ _ _ _ a.begin_events_of_spine b.begin_events_of_spine (each_more begin_events old mid xs ys a.event_count);
       starts = λ h. b.starts (a.starts h);
-      end_events_of_spine = joined _ _ _ _ _ _ a.end_events_of_spine b.end_events_of_spine (each_more end_events old mid xs ys a.first);
+      end_events_of_spine = joined _ _ _ _ _ _ a.end_events_of_spine b.end_events_of_spine (each_more end_events old mid xs ys a.event_count);
       finishes = λ h. b.finishes (a.finishes h);
-      first = b.first ∙ ap (λ n. n + length (flat_map moves_of ys)) at ∙ omega (arith, ap length (flat_map-append moves_of xs ys), length-append (flat_map moves_of xs) (flat_map moves_of ys));
+      event_count = b.event_count ∙ ap (λ n. n + length (flat_map moves_of ys)) at ∙ omega (arith, ap length (flat_map-append moves_of xs ys), length-append (flat_map moves_of xs) (flat_map moves_of ys));
     }
 
 pub adds-none : (all : List NumberedNode) (keys : List (List ℕ)) (old : Cutting) → AddsParts (keyed all keys) old old []
 adds-none all keys old = record {
   spine = sym (append-nil _);
+  unit_keys = sym (append-nil _);
   units = sym (append-nil _);
-  pieces = sym (append-nil _);
   fits = λ h. h;
   begin_events_of_spine = sym (append-nil _);
   starts = λ h. h;
   end_events_of_spine = sym (append-nil _);
   finishes = λ h. h;
-  first = omega arith;
+  event_count = omega arith;
 }
 
 -- ---- a node of the spine
@@ -120,13 +120,13 @@ pub record Goes (keys : List (List ℕ)) (is_root : Bool) (position at : ℕ) (n
   pub statics : all_static (forest left) ≡ true
   pub within : length left ≤ length nodes
   pub positions : at + length left ≡ position + length nodes
-  pub events : now.first + weights (forest left) ≡ old.first + weights (forest nodes)
+  pub events : now.event_count + weights (forest left) ≡ old.event_count + weights (forest nodes)
   pub stands : (all rest : List NumberedNode) → drop position all ≡ nodes ++ rest → drop at all ≡ left ++ rest
   pub adds : (all rest : List NumberedNode) → drop position all ≡ nodes ++ rest → (new : Cutting)
       → AddsParts (keyed all keys) now new (parts_below is_root (forest left)) → AddsParts (keyed all keys) old new (parts_below is_root (forest nodes))
 
 pub goes_end : (keys : List (List ℕ)) (is_root : Bool) (position at : ℕ) (nodes left : List NumberedNode) (old now : Cutting) → Goes keys is_root position at nodes left old now → length left < 1
-    → (now.first ≡ old.first + weights (forest nodes))
+    → (now.event_count ≡ old.event_count + weights (forest nodes))
     × ((all rest : List NumberedNode) → drop position all ≡ nodes ++ rest → AddsParts (keyed all keys) old now (parts_below is_root (forest nodes)))
 goes_end keys is_root position at nodes [] old now g h = (
   omega (arith, g.events, ap weights forest_nil),
@@ -142,7 +142,7 @@ static_tree p after below others s e =
 
 pub goes_next : (keys : List (List ℕ)) (is_root : Bool) (position at : ℕ) (nodes after below others : List NumberedNode) (p : NumberedNode) (old now new : Cutting)
     → Goes keys is_root position at nodes (p ∷ after) old now → IsSplit p after below others
-    → new.first ≡ now.first + weight (tree p.node p.number (forest below))
+    → new.event_count ≡ now.event_count + weight (tree p.node p.number (forest below))
     → ((all rest : List NumberedNode) → drop at all ≡ p ∷ (below ++ rest) → AddsParts (keyed all keys) now new (parts is_root (tree p.node p.number (forest below))))
     → Goes keys is_root position (at + p.span) nodes others old new
 goes_next keys is_root position at nodes after below others p old now new g s first add =
@@ -176,46 +176,46 @@ all_pushed : {A : Type 0} (P : A → Type 0) (xs ys : List A) (x : A) → ys ≡
 all_pushed P xs ys x e h all = subst (All P) (sym e) (All-append P xs (x ∷ []) all (all_one P x h))
 
 pub begin_adds : (all rest : List NumberedNode) (keys : List (List ℕ)) (old new : Cutting) (p : NumberedNode) (s : SpineStamp)
-    → drop s.position all ≡ p ∷ rest → s.stamp ≡ old.first → old.first + (1 + publications p.node) ≤ MAX_EVENTS
+    → drop s.position all ≡ p ∷ rest → s.stamp ≡ old.event_count → old.event_count + (1 + publications p.node) ≤ MAX_EVENTS
     → new.spine.items ≡ old.spine.items ++ p.number ∷ []
     → new.starts.items ≡ old.starts.items ++ s ∷ []
-    → new.units.items ≡ old.units.items → new.pieces.items ≡ old.pieces.items → new.finishes.items ≡ old.finishes.items
-    → new.first ≡ old.first + (1 + publications p.node)
+    → new.unit_keys.items ≡ old.unit_keys.items → new.units.items ≡ old.units.items → new.finishes.items ≡ old.finishes.items
+    → new.event_count ≡ old.event_count + (1 + publications p.node)
     → AddsParts (keyed all keys) old new (spine_begins p.node p.number ∷ [])
-begin_adds all rest keys old new p s at same limit spine starts units pieces finishes first =
-    let there : begin_events_at (drop s.position all) s.stamp ≡ opening_events p.number old.first p.node = ap₂ begin_events_at at same in
+begin_adds all rest keys old new p s at same limit spine starts unit_keys units finishes first =
+    let there : begin_events_at (drop s.position all) s.stamp ≡ opening_events p.number old.event_count p.node = ap₂ begin_events_at at same in
     let sits : HasStampAt all s = record { top = p; rest = rest; position = at; limit = omega (arith, same, limit) } in
     record {
       spine = spine;
-      units = units ∙ sym (append-nil _);
-      pieces = ap (pieces_of_units all) pieces ∙ sym (append-nil _);
-      fits = λ h. subst (All (Fits all keys)) (sym pieces) h;
+      unit_keys = unit_keys ∙ sym (append-nil _);
+      units = ap (pieces_of_units all) units ∙ sym (append-nil _);
+      fits = λ h. subst (All (Fits all keys)) (sym units) h;
       begin_events_of_spine = ap (begin_events_of_spine all) starts ∙ flat_map-append _ old.starts.items (s ∷ []) ∙ ap (λ l. begin_events_of_spine all old.starts.items ++ (l ++ [])) there;
       starts = all_pushed (HasStampAt all) old.starts.items new.starts.items s starts sits;
       end_events_of_spine = ap (end_events_of_spine all) finishes ∙ sym (append-nil _);
       finishes = λ h. subst (All (HasNode all)) (sym finishes) h;
-      first = first ∙ ap (λ m. old.first + m) (sym (opening_moves p.node p.number));
+      event_count = first ∙ ap (λ m. old.event_count + m) (sym (opening_moves p.node p.number));
     }
 
 pub end_adds : (all rest : List NumberedNode) (keys : List (List ℕ)) (old new : Cutting) (p : NumberedNode) (s : SpineStamp)
-    → drop s.position all ≡ p ∷ rest → s.stamp ≡ old.first
+    → drop s.position all ≡ p ∷ rest → s.stamp ≡ old.event_count
     → new.finishes.items ≡ old.finishes.items ++ s ∷ []
-    → new.spine.items ≡ old.spine.items → new.units.items ≡ old.units.items → new.pieces.items ≡ old.pieces.items → new.starts.items ≡ old.starts.items
-    → new.first ≡ old.first + 1
+    → new.spine.items ≡ old.spine.items → new.unit_keys.items ≡ old.unit_keys.items → new.units.items ≡ old.units.items → new.starts.items ≡ old.starts.items
+    → new.event_count ≡ old.event_count + 1
     → AddsParts (keyed all keys) old new (spine_ends p.node p.number ∷ [])
-end_adds all rest keys old new p s at same finishes spine units pieces starts first =
-    let there : end_events_at (drop s.position all) s.stamp ≡ finish_event p.number old.first p.node ∷ [] = ap₂ end_events_at at same in
+end_adds all rest keys old new p s at same finishes spine unit_keys units starts first =
+    let there : end_events_at (drop s.position all) s.stamp ≡ finish_event p.number old.event_count p.node ∷ [] = ap₂ end_events_at at same in
     let sits : HasNode all s = (p, rest, at) in
     record {
       spine = spine ∙ sym (append-nil _);
-      units = units ∙ sym (append-nil _);
-      pieces = ap (pieces_of_units all) pieces ∙ sym (append-nil _);
-      fits = λ h. subst (All (Fits all keys)) (sym pieces) h;
+      unit_keys = unit_keys ∙ sym (append-nil _);
+      units = ap (pieces_of_units all) units ∙ sym (append-nil _);
+      fits = λ h. subst (All (Fits all keys)) (sym units) h;
       begin_events_of_spine = ap (begin_events_of_spine all) starts ∙ sym (append-nil _);
       starts = λ h. subst (All (HasStampAt all)) (sym starts) h;
       end_events_of_spine = ap (end_events_of_spine all) finishes ∙ flat_map-append _ old.finishes.items (s ∷ []) ∙ ap (λ l. end_events_of_spine all old.finishes.items ++ (l ++ [])) there;
       finishes = all_pushed (HasNode all) old.finishes.items new.finishes.items s finishes sits;
-      first = first;
+      event_count = first;
     }
 
 prefix_of : (p : NumberedNode) (below rest : List NumberedNode) → p.span ≡ suc (length below) → first_tree p (below ++ rest) ≡ tree p.node p.number (forest below)
@@ -224,27 +224,27 @@ prefix_of p below rest s =
     ap (λ ps. tree p.node p.number (forest ps)) (ap (λ n. take n (below ++ rest)) one ∙ take-append_seam below rest)
 
 pub add_adds : (all : List NumberedNode) (keys : List (List ℕ)) (old new : Cutting) (p : NumberedNode) (below rest : List NumberedNode) (u : PlanUnit)
-    → drop u.position all ≡ p ∷ (below ++ rest) → p.span ≡ suc (length below) → IsForest below → IsNeed keys (contents (p ∷ below)) u.need → u.first ≡ old.first
-    → old.first + weight (tree p.node p.number (forest below)) ≤ MAX_EVENTS
+    → drop u.position all ≡ p ∷ (below ++ rest) → p.span ≡ suc (length below) → IsForest below → IsNeed keys (contents (p ∷ below)) u.need → u.first ≡ old.event_count
+    → old.event_count + weight (tree p.node p.number (forest below)) ≤ MAX_EVENTS
     → new.spine.items ≡ old.spine.items → new.starts.items ≡ old.starts.items → new.finishes.items ≡ old.finishes.items
-    → new.units.items ≡ old.units.items ++ p.number ∷ [] → new.pieces.items ≡ old.pieces.items ++ u ∷ []
-    → new.first ≡ old.first + weight (tree p.node p.number (forest below))
+    → new.unit_keys.items ≡ old.unit_keys.items ++ p.number ∷ [] → new.units.items ≡ old.units.items ++ u ∷ []
+    → new.event_count ≡ old.event_count + weight (tree p.node p.number (forest below))
     → AddsParts (keyed all keys) old new (whole_unit (tree p.node p.number (forest below)) ∷ [])
-add_adds all keys old new p below rest u at span trees need same limit spine starts finishes units pieces first =
+add_adds all keys old new p below rest u at span trees need same limit spine starts finishes unit_keys units first =
     let t : Tree = tree p.node p.number (forest below) in
     let fit : Fits all keys u = record { top = p; below = below; rest = rest; position = at; span = span; trees = trees; need = need; limit = subst (λ i. i + weight (tree p.node p.number (forest below)) ≤ MAX_EVENTS) (sym same) limit } in
-    let there : piece_of_nodes (drop u.position all) u.first ≡ record { tree = t; first = old.first } ∷ []
+    let there : piece_of_nodes (drop u.position all) u.first ≡ record { tree = t; first = old.event_count } ∷ []
     = ap (λ ps. piece_of_nodes ps u.first) at ∙ ap₂ (λ a i. record { tree = a; first = i } ∷ []) (prefix_of p below rest span) same in
     record {
       spine = spine ∙ sym (append-nil _);
-      units = units;
-      pieces = ap (pieces_of_units all) pieces ∙ flat_map-append _ old.pieces.items (u ∷ []) ∙ ap (λ l. pieces_of_units all old.pieces.items ++ l) (append-nil _ ∙ there);
-      fits = λ h. subst (All (Fits all keys)) (sym pieces) (All-append (Fits all keys) old.pieces.items (u ∷ []) h (all_one (Fits all keys) u fit));
+      unit_keys = unit_keys;
+      units = ap (pieces_of_units all) units ∙ flat_map-append _ old.units.items (u ∷ []) ∙ ap (λ l. pieces_of_units all old.units.items ++ l) (append-nil _ ∙ there);
+      fits = λ h. subst (All (Fits all keys)) (sym units) (All-append (Fits all keys) old.units.items (u ∷ []) h (all_one (Fits all keys) u fit));
       begin_events_of_spine = ap (begin_events_of_spine all) starts ∙ sym (append-nil _);
       starts = λ h. subst (All (HasStampAt all)) (sym starts) h;
       end_events_of_spine = ap (end_events_of_spine all) finishes ∙ sym (append-nil _);
       finishes = λ h. subst (All (HasNode all)) (sym finishes) h;
-      first = first ∙ ap (λ m. old.first + m) (sym (ap length (append-nil (moves t)) ∙ moves-length t));
+      event_count = first ∙ ap (λ m. old.event_count + m) (sym (ap length (append-nil (moves t)) ∙ moves-length t));
     }
 
 -- ---- the pieces that the units are

@@ -8,6 +8,7 @@ pub mod Ordering
 pub mod SpineEvents
 pub mod Parting
 pub mod Knowing
+pub mod UnitScripts
 pub mod Sending
 pub mod StepEvents
 pub mod Keying

@@ -24,19 +24,19 @@ of_none : {A : Type 0} (P : A → Type 0) (xs : List A) → xs ≡ [] → All P 
 of_none P xs e k d l = absurd (omega (arith, ap length e, l))
 
 pub planned : (nodes passed : List NumberedNode) (keys : List (List ℕ)) (old new : Cutting) → passed ≡ nodes → keys ≡ lock_keys (contents nodes) → IsForest nodes → weights (forest nodes) ≤ MAX_EVENTS → all_static (forest nodes) ≡ true
-    → old.spine.items ≡ [] → old.units.items ≡ [] → old.pieces.items ≡ [] → old.starts.items ≡ [] → old.finishes.items ≡ [] → old.first ≡ 0
-    → new.first ≡ old.first + weights (forest passed)
+    → old.spine.items ≡ [] → old.unit_keys.items ≡ [] → old.units.items ≡ [] → old.starts.items ≡ [] → old.finishes.items ≡ [] → old.event_count ≡ 0
+    → new.event_count ≡ old.event_count + weights (forest passed)
     → ((all rest : List NumberedNode) → drop 0 all ≡ passed ++ rest → AddsParts (keyed all keys) old new (parts_below true (forest passed)))
     → IsCut nodes new
-planned nodes passed keys old new same known trees limit statics spine units pieces starts finishes first total adds =
+planned nodes passed keys old new same known trees limit statics spine unit_keys units starts finishes first total adds =
     let a : AddsParts (keyed nodes keys) old new (parts_below true (forest nodes)) = subst (λ ps. AddsParts (keyed nodes keys) old new (parts_below true (forest ps))) same (adds nodes [] (sym (append-nil passed ∙ same))) in
     record {
       trees = trees;
       statics = statics;
       spine = a.spine ∙ ap (λ l. l ++ spine_of (forest nodes)) spine;
-      units = a.units ∙ ap₂ (λ l i. l ++ map (λ u. number_of u.tree) (from_each piece i (parts_below true (forest nodes)))) units first;
-      pieces = a.pieces ∙ ap₂ (λ l i. pieces_of_units nodes l ++ from_each piece i (parts_below true (forest nodes))) pieces first;
-      fits = subst (λ ks. All (Fits nodes ks) new.pieces.items) known (a.fits (of_none (Fits nodes keys) _ pieces));
+      unit_keys = a.unit_keys ∙ ap₂ (λ l i. l ++ map (λ u. number_of u.tree) (from_each piece i (parts_below true (forest nodes)))) unit_keys first;
+      units = a.units ∙ ap₂ (λ l i. pieces_of_units nodes l ++ from_each piece i (parts_below true (forest nodes))) units first;
+      fits = subst (λ ks. All (Fits nodes ks) new.units.items) known (a.fits (of_none (Fits nodes keys) _ units));
       before = a.begin_events_of_spine ∙ ap₂ (λ l i. begin_events_of_spine nodes l ++ from_each begin_events i (parts_below true (forest nodes))) starts first;
       starts = a.starts (of_none (HasStampAt nodes) _ starts);
       after = a.end_events_of_spine ∙ ap₂ (λ l i. end_events_of_spine nodes l ++ from_each end_events i (parts_below true (forest nodes))) finishes first;
@@ -49,17 +49,17 @@ pub counted : (ps : List Piece) → length (map (λ p. number_of p.tree) ps) ≡
 counted [] = refl
 counted (p ∷ ps) = ap suc (counted ps)
 
-pub unit_bound : (nodes seen : List NumberedNode) (c : Cutting) (unit : ℕ) → IsCut nodes c → nodes ≡ seen → unit < length (units_of (forest seen)) → unit < length c.pieces.items
+pub unit_bound : (nodes seen : List NumberedNode) (c : Cutting) (unit : ℕ) → IsCut nodes c → nodes ≡ seen → unit < length (units_of (forest seen)) → unit < length c.units.items
 unit_bound nodes seen c unit cut same h =
-    let pieces = ap length cut.pieces in
-    omega (arith, h, ap (λ ps. length (units_of (forest ps))) same, counted (pieces_of (forest nodes)), pieces, found_length nodes _ c.pieces.items cut.fits)
+    let units = ap length cut.units in
+    omega (arith, h, ap (λ ps. length (units_of (forest ps))) same, counted (pieces_of (forest nodes)), units, found_length nodes _ c.units.items cut.fits)
 
-pub unit_piece : (nodes : List NumberedNode) (c : Cutting) (unit : ℕ) (u : PlanUnit) → IsCut nodes c → unit < length c.pieces.items → u ≡ get_or c.pieces.items unit u
+pub unit_piece : (nodes : List NumberedNode) (c : Cutting) (unit : ℕ) (u : PlanUnit) → IsCut nodes c → unit < length c.units.items → u ≡ get_or c.units.items unit u
     → (f : Fits nodes (lock_keys (contents nodes)) u) × (slice_get (pieces_of (forest nodes)) unit ≡ Some (piece_of f))
 unit_piece nodes c unit u cut h e =
-    let r = found_get nodes (lock_keys (contents nodes)) c.pieces.items cut.fits unit u h in
+    let r = found_get nodes (lock_keys (contents nodes)) c.units.items cut.fits unit u h in
     subst (λ v. (f : Fits nodes (lock_keys (contents nodes)) v) × (slice_get (pieces_of (forest nodes)) unit ≡ Some (piece_of f))) (sym e)
-    (r.0, ap (λ ps. slice_get ps unit) (sym cut.pieces) ∙ r.1)
+    (r.0, ap (λ ps. slice_get ps unit) (sym cut.units) ∙ r.1)
 
 pub unit_need : (nodes : List NumberedNode) (unit : ℕ) (u : PlanUnit) (f : Fits nodes (lock_keys (contents nodes)) u) → slice_get (pieces_of (forest nodes)) unit ≡ Some (piece_of f) → IsNeedOf nodes unit u.need
 unit_need nodes unit u f e =
@@ -94,7 +94,7 @@ stamped-append i (x ∷ xs) ys = ap (λ l. record { node = x.node; stamp = i; ac
 further : (i : ℕ) (xs ys : List Move) (script : List Step) → IsWithin script (stamped (i + length xs) ys) → IsWithin script (stamped i (xs ++ ys))
 further i xs ys script w = (stamped i xs ++ w.0, w.1, stamped-append i xs ys ∙ ap (λ l. stamped i xs ++ l) w.2 ∙ sym (append_assoc (stamped i xs) w.0 _))
 
-the_piece : Option Piece → Piece → Piece
+unfoldable pub the_piece : Option Piece → Piece → Piece
 the_piece None d = d
 the_piece (Some p) d = p
 

@@ -19,14 +19,14 @@ pub record IsCut (nodes : List NumberedNode) (c : Cutting) : Type 0 where
   pub trees : IsForest nodes
   pub statics : all_static (forest nodes) ≡ true
   pub spine : c.spine.items ≡ spine_of (forest nodes)
-  pub units : c.units.items ≡ units_of (forest nodes)
-  pub pieces : pieces_of_units nodes c.pieces.items ≡ pieces_of (forest nodes)
-  pub fits : All (Fits nodes (lock_keys (contents nodes))) c.pieces.items
+  pub unit_keys : c.unit_keys.items ≡ units_of (forest nodes)
+  pub units : pieces_of_units nodes c.units.items ≡ pieces_of (forest nodes)
+  pub fits : All (Fits nodes (lock_keys (contents nodes))) c.units.items
   pub before : begin_events_of_spine nodes c.starts.items ≡ before_of (forest nodes)
   pub starts : All (HasStampAt nodes) c.starts.items
   pub after : end_events_of_spine nodes c.finishes.items ≡ after_of (forest nodes)
   pub finishes : All (HasNode nodes) c.finishes.items
-  pub total : c.first ≡ weights (forest nodes)
+  pub total : c.event_count ≡ weights (forest nodes)
   pub limit : weights (forest nodes) ≤ MAX_EVENTS
 
 -- a plan and what it keeps

@@ -75,22 +75,22 @@ keyed nodes keys = record { nodes = nodes; keys = keys }
 -- these parts were added: to the spine's numbers, the units, and the stamps of starts and finishes
 pub record AddsParts (plan : KeyedNodes) (old new : Cutting) (ps : List Part) : Type 0 where
   pub spine : new.spine.items ≡ old.spine.items ++ flat_map spine_numbers ps
-  pub units : new.units.items ≡ old.units.items
-      ++ map (λ u. number_of u.tree) (from_each piece old.first ps)
-  pub pieces : pieces_of_units plan.nodes new.pieces.items
-      ≡ pieces_of_units plan.nodes old.pieces.items
-      ++ from_each piece old.first ps
-  pub fits : All (Fits plan.nodes plan.keys) old.pieces.items
-      → All (Fits plan.nodes plan.keys) new.pieces.items
+  pub unit_keys : new.unit_keys.items ≡ old.unit_keys.items
+      ++ map (λ u. number_of u.tree) (from_each piece old.event_count ps)
+  pub units : pieces_of_units plan.nodes new.units.items
+      ≡ pieces_of_units plan.nodes old.units.items
+      ++ from_each piece old.event_count ps
+  pub fits : All (Fits plan.nodes plan.keys) old.units.items
+      → All (Fits plan.nodes plan.keys) new.units.items
   pub begin_events_of_spine : begin_events_of_spine plan.nodes new.starts.items
-      ≡ begin_events_of_spine plan.nodes old.starts.items ++ from_each begin_events old.first ps
+      ≡ begin_events_of_spine plan.nodes old.starts.items ++ from_each begin_events old.event_count ps
   pub starts : All (HasStampAt plan.nodes) old.starts.items
       → All (HasStampAt plan.nodes) new.starts.items
   pub end_events_of_spine : end_events_of_spine plan.nodes new.finishes.items
-      ≡ end_events_of_spine plan.nodes old.finishes.items ++ from_each end_events old.first ps
+      ≡ end_events_of_spine plan.nodes old.finishes.items ++ from_each end_events old.event_count ps
   pub finishes : All (HasNode plan.nodes) old.finishes.items
       → All (HasNode plan.nodes) new.finishes.items
-  pub first : new.first ≡ old.first + length (flat_map moves_of ps)
+  pub event_count : new.event_count ≡ old.event_count + length (flat_map moves_of ps)
 
 -- nodes that stand at a position among those of a plan, and the plan's lock keys
 pub record PlacedNodes : Type 0 where

@@ -39,41 +39,42 @@ pub(crate) struct Cutting {
     /// The numbers of the spine's nodes.
     pub spine: Vec<u32>,
     /// The numbers of the units' top nodes.
-    pub units: Vec<u32>,
-    pub pieces: Vec<PlanUnit>,
+    pub unit_keys: Vec<u32>,
+    pub units: Vec<PlanUnit>,
     /// The spine's nodes with the stamps of their starts, in preorder.
     pub starts: Vec<SpineStamp>,
     /// The spine's nodes with the stamps of their finishes, in postorder.
     pub finishes: Vec<SpineStamp>,
     /// How many events there are so far.
-    pub first: u64,
+    pub event_count: u64,
 }
 
 impl Cutting {
     /// Makes the cutting of no node.
     pub(crate) fn new(alloc: Global) -> Cutting
         ensures spine { result.spine.items ≡ [] }
+        ensures unit_keys { result.unit_keys.items ≡ [] }
         ensures units { result.units.items ≡ [] }
-        ensures pieces { result.pieces.items ≡ [] }
         ensures starts { result.starts.items ≡ [] }
         ensures finishes { result.finishes.items ≡ [] }
-        ensures first { result.first ≡ 0 }
+        ensures event_count { result.event_count ≡ 0 }
     {
         Cutting {
             spine: Vec::new(alloc),
+            unit_keys: Vec::new(alloc),
             units: Vec::new(alloc),
-            pieces: Vec::new(alloc),
             starts: Vec::new(alloc),
             finishes: Vec::new(alloc),
-            first: 0,
+            event_count: 0,
         }
     }
 
     /// Adds a start on the spine with its entries and its files.
     fn begin(&mut self, numbered_node: &NumberedNode, position: usize) -> Result<(), AllocError>
-        requires { self.old.first + (1 + publications numbered_node.now.node) ≤ MAX_EVENTS }
-        ensures first { OnOk result
-            (self.new.first ≡ self.old.first + (1 + publications numbered_node.now.node)) }
+        requires { self.old.event_count + (1 + publications numbered_node.now.node) ≤ MAX_EVENTS }
+        ensures event_count { OnOk result
+            (self.new.event_count ≡ self.old.event_count
+            + (1 + publications numbered_node.now.node)) }
         ensures adds { OnOk result ((keys : List (List ℕ))
             → AddsPartsAt (placed position (numbered_node.now ∷ []) keys) self.old self.new
             (spine_begins numbered_node.now.node numbered_node.now.number ∷ [])) }
@@ -81,25 +82,25 @@ impl Cutting {
         self.spine.push(numbered_node.number)?;
         self.starts.push(SpineStamp {
             position,
-            stamp: self.first,
+            stamp: self.event_count,
         })?;
-        self.first += 1 + count_publications(&numbered_node.node);
+        self.event_count += 1 + count_publications(&numbered_node.node);
         Ok(())
     }
 
     /// Adds a finish on the spine.
     fn end(&mut self, numbered_node: &NumberedNode, position: usize) -> Result<(), AllocError>
-        requires { self.old.first ≤ MAX_EVENTS }
-        ensures first { OnOk result (self.new.first ≡ self.old.first + 1) }
+        requires { self.old.event_count ≤ MAX_EVENTS }
+        ensures event_count { OnOk result (self.new.event_count ≡ self.old.event_count + 1) }
         ensures adds { OnOk result ((keys : List (List ℕ))
             → AddsPartsAt (placed position (numbered_node.now ∷ []) keys) self.old self.new
             (spine_ends numbered_node.now.node numbered_node.now.number ∷ [])) }
     {
         self.finishes.push(SpineStamp {
             position,
-            stamp: self.first,
+            stamp: self.event_count,
         })?;
-        self.first += 1;
+        self.event_count += 1;
         Ok(())
     }
 
@@ -114,22 +115,23 @@ impl Cutting {
         requires keys { length keys.now ≤ MAX_KEYS }
         requires below { IsForest below.now }
         requires span { numbered_node.now.span ≡ suc (length below.now) }
-        requires limit { self.old.first + weight (tree_of numbered_node.now below.now)
+        requires limit { self.old.event_count + weight (tree_of numbered_node.now below.now)
             ≤ MAX_EVENTS }
-        ensures first { OnOk result
-            (self.new.first ≡ self.old.first + weight (tree_of numbered_node.now below.now)) }
+        ensures event_count { OnOk result
+            (self.new.event_count ≡ self.old.event_count
+            + weight (tree_of numbered_node.now below.now)) }
         ensures adds { OnOk result
             (AddsPartsAt (placed position (numbered_node.now ∷ below.now) keys.now)
             self.old self.new
             (whole_unit (tree_of numbered_node.now below.now) ∷ [])) }
     {
-        self.units.push(numbered_node.number)?;
-        self.pieces.push(PlanUnit {
+        self.unit_keys.push(numbered_node.number)?;
+        self.units.push(PlanUnit {
             position,
-            first: self.first,
+            first: self.event_count,
             need: need_of(keys, numbered_node, below),
         })?;
-        self.first += count_tree(numbered_node, below);
+        self.event_count += count_tree(numbered_node, below);
         Ok(())
     }
 }
@@ -147,9 +149,11 @@ fn cut_tree(
     requires below { IsForest below.now }
     requires span { numbered_node.now.span ≡ suc (length below.now) }
     requires position { position + 1 + length below.now ≤ 2 ^ 32 }
-    requires limit { cutting.old.first + weight (tree_of numbered_node.now below.now) ≤ MAX_EVENTS }
-    ensures first { OnOk result
-        (cutting.new.first ≡ cutting.old.first + weight (tree_of numbered_node.now below.now)) }
+    requires limit { cutting.old.event_count + weight (tree_of numbered_node.now below.now)
+        ≤ MAX_EVENTS }
+    ensures event_count { OnOk result
+        (cutting.new.event_count ≡ cutting.old.event_count
+        + weight (tree_of numbered_node.now below.now)) }
     ensures adds { OnOk result
         (AddsPartsAt (placed position (numbered_node.now ∷ below.now) keys.now)
         cutting.old cutting.new (parts is_root (tree_of numbered_node.now below.now))) }
@@ -177,9 +181,9 @@ fn cut_all(
     requires nodes { IsForest nodes.now }
     requires statics { all_static (forest nodes.now) ≡ true }
     requires position { position + length nodes.now ≤ 2 ^ 32 }
-    requires limit { cutting.old.first + weights (forest nodes.now) ≤ MAX_EVENTS }
-    ensures first { OnOk result
-        (cutting.new.first ≡ cutting.old.first + weights (forest nodes.now)) }
+    requires limit { cutting.old.event_count + weights (forest nodes.now) ≤ MAX_EVENTS }
+    ensures event_count { OnOk result
+        (cutting.new.event_count ≡ cutting.old.event_count + weights (forest nodes.now)) }
     ensures adds { OnOk result (AddsPartsAt (placed position nodes.now keys.now)
         cutting.old cutting.new (parts_below is_root (forest nodes.now))) }
 {

@@ -31,10 +31,7 @@ fn key_index(keys: &[Text], key: &str) -> Option<usize>
             if first.as_str() == key {
                 return Some(0);
             }
-            match key_index(rest, key) {
-                Some(index) => Some(index + 1),
-                None => None,
-            }
+            Some(key_index(rest, key)? + 1)
         }
     }
 }
@@ -47,17 +44,15 @@ fn resource(keys: &[Text], key: &str) -> Option<usize>
     if key == "global" {
         return Some(0);
     }
-    match key_index(keys, key) {
-        Some(index) => Some(index + 1),
-        None => None,
-    }
+    Some(key_index(keys, key)? + 1)
 }
 
 impl NeedMasks {
     fn mark(&mut self, resource: usize, is_write: bool)
         requires { resource < 16 }
         ensures { (r : ℕ) → r < 16 → access_of_masks self.new r
-            ≡ over (access_of_masks self.old r) (at_resource (Some resource) (access_for is_write) r) }
+            ≡ over (access_of_masks self.old r)
+            (at_resource (Some resource) (access_for is_write) r) }
     {
         let bit = 1u16 << resource;
         if is_write {
@@ -69,8 +64,8 @@ impl NeedMasks {
 
     fn mark_locks(&mut self, keys: &[Text], locks: &[Lock])
         requires { length keys.now ≤ MAX_KEYS }
-        ensures { (r : ℕ) → r < 16
-            → access_of_masks self.new r ≡ over (access_of_masks self.old r) (lock_asks keys.now locks.now r) }
+        ensures { (r : ℕ) → r < 16 → access_of_masks self.new r
+            ≡ over (access_of_masks self.old r) (lock_asks keys.now locks.now r) }
     {
         for lock in locks {
             if let Some(resource) = resource(keys, lock.key.as_str()) {
@@ -81,8 +76,8 @@ impl NeedMasks {
 
     fn mark_node(&mut self, keys: &[Text], node: &Node)
         requires { length keys.now ≤ MAX_KEYS }
-        ensures { (r : ℕ) → r < 16
-            → access_of_masks self.new r ≡ over (access_of_masks self.old r) (node_asks keys.now node.now r) }
+        ensures { (r : ℕ) → r < 16 → access_of_masks self.new r
+            ≡ over (access_of_masks self.old r) (node_asks keys.now node.now r) }
     {
         self.mark(0, node.is_isolated);
         self.mark_locks(keys, node.locks.as_slice());

@@ -91,8 +91,8 @@ impl Plan {
         &self.table
     }
 
-    /// For each static node, in the order of the keys, the number of the node above it, and 0 for the
-    /// root.
+    /// For each static node, in the order of the keys, the number of the node above it, and 0 for
+    /// the root.
     pub fn parents(&self, alloc: Global) -> Result<Vec<u32>, AllocError>
         ensures parents { IfOk result (λ parents.
             parents.items ≡ parents_below 0 (forest self.now.nodes)) }
@@ -115,7 +115,7 @@ impl Plan {
         ensures units { result.now ≡ units_of (forest self.now.nodes) }
         ensures few { length result.now ≤ MAX_DESCRIPTORS }
     {
-        self.cutting.units.as_slice()
+        self.cutting.unit_keys.as_slice()
     }
 
     /// The resources that a unit reads and writes. Units count from 0.
@@ -124,7 +124,7 @@ impl Plan {
         ensures need { IsNeedOf self.now.nodes unit result }
         ensures word { word_of result ≡ need_word self.now.nodes unit }
     {
-        self.cutting.pieces[unit as usize].need
+        self.cutting.units[unit as usize].need
     }
 
     /// The nodes of a unit, and how many events of the root's script come before it.
@@ -136,12 +136,12 @@ impl Plan {
           first = result.first;
         }) }
     {
-        let piece = self.cutting.pieces[unit as usize];
-        let (top, below) = tree_at(self.nodes.as_slice(), piece.position);
+        let plan_unit = self.cutting.units[unit as usize];
+        let (top, below) = tree_at(self.nodes.as_slice(), plan_unit.position);
         UnitTree {
             top,
             below,
-            first: piece.first,
+            first: plan_unit.first,
         }
     }
 
@@ -156,11 +156,12 @@ impl Plan {
         ensures known { IfOk result (λ steps.
             All (λ s. IsKnown self.now.nodes s.node s.act) steps.items) }
     {
-        let piece = self.cutting.pieces[unit as usize];
-        let (numbered_node, below) = tree_at(self.nodes.as_slice(), piece.position);
+        // For the proof: what every plan is.
+        let _nodes = &self.nodes;
+        let UnitTree { top, below, first } = self.unit_tree(unit);
         let mut moves = Vec::new(alloc);
-        push_tree(numbered_node, below, &mut moves)?;
-        stamp_all(alloc, piece.first, moves.as_slice())
+        push_tree(top, below, &mut moves)?;
+        stamp_all(alloc, first, moves.as_slice())
     }
 
     /// The two steps of a unit that is one node, which only starts and finishes, or `None` of any
@@ -172,19 +173,20 @@ impl Plan {
             All (λ s. IsKnown self.now.nodes s.node s.act) steps) }
         ensures other { IfNone result (length (script_of (forest self.now.nodes) unit) ≢ 2) }
     {
-        let piece = self.cutting.pieces[unit as usize];
-        let (top, below) = tree_at(self.nodes.as_slice(), piece.position);
+        // For the proof: what every plan is.
+        let _nodes = &self.nodes;
+        let UnitTree { top, below, first } = self.unit_tree(unit);
         if !is_short(&top.node, below) {
             return None;
         }
         let start = Step {
             node: top.number,
-            stamp: piece.first,
+            stamp: first,
             act: Act::Start,
         };
         let finish = Step {
             node: top.number,
-            stamp: piece.first + 1,
+            stamp: first + 1,
             act: Act::Finish,
         };
         Some([start, finish])
@@ -218,7 +220,7 @@ impl Plan {
     pub fn total_events(&self) -> u32
         ensures { result ≡ length (moves_below 0 (forest self.now.nodes)) }
     {
-        self.cutting.first as u32
+        self.cutting.event_count as u32
     }
 
     /// What the plan says of the node with this number.
@@ -275,10 +277,7 @@ impl Plan {
         ensures { option_map (λ n. n.skip) (slice_get (in_order self.now.nodes) node)
             ≡ Some (option_map (λ r. r.now) result) }
     {
-        match &self.node(node).skip {
-            Some(reason) => Some(reason.as_str()),
-            None => None,
-        }
+        self.node(node).skip.as_ref().map(|reason| reason.as_str())
     }
 
     /// The pairs of one of the node's entries, which count from 0.
@@ -308,9 +307,7 @@ impl Plan {
             ≡ Some (option_map (λ m. m.now) result.1) }
     {
         let node = self.node(node);
-        match &node.message {
-            Some(message) => (node.status, Some(message.as_str())),
-            None => (node.status, None),
-        }
+        let message = node.message.as_ref().map(|message| message.as_str());
+        (node.status, message)
     }
 }

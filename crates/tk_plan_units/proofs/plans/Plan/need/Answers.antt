@@ -6,7 +6,7 @@ use Rattle.tk_plan_units.proofs.Planning.{unit_bound, unit_piece, unit_need}
 use Rattle.tk_plan_units.proofs.plans.Plan.need.Goals as goal
 
 pub index-requires : goal.index-requires
-index-requires c = omega (arith, unit_bound _ _ _ c.args.unit c.self.invariant.cut (nodes_are _ _ c.self.view_is) c.requires, c.self.inside.cutting.pieces.ok)
+index-requires c = omega (arith, unit_bound _ _ _ c.args.unit c.self.invariant.cut (nodes_are _ _ c.self.view_is) c.requires, c.self.inside.cutting.units.ok)
 
 pub returns-clause-word : goal.returns-clause-word
 returns-clause-word c =
