@@ -10,7 +10,7 @@ use crate::json_members::{
     Members, pair_value, push_array, push_isolated, push_member, push_mode, push_text,
 };
 use crate::plan_nodes::{PlanLock, PlanNode};
-use crate::words::{dtype_text, lock_mode_text, status_text};
+use crate::words::{dtype_word, lock_mode_word, status_word};
 use json::Value;
 use std::alloc::{AllocError, Global};
 use tk_events::Status;
@@ -20,7 +20,7 @@ fn lock_value<'t>(alloc: Global, lock: &PlanLock<'t>) -> Result<Value<'t>, Alloc
 {
     let mut members = Vec::new(alloc);
     members.push(("key", Value::String(lock.key)))?;
-    members.push(("mode", Value::String(lock_mode_text(lock.mode))))?;
+    members.push(("mode", Value::String(lock_mode_word(lock.mode))))?;
     Ok(Value::Object(members))
 }
 
@@ -42,7 +42,7 @@ fn result_value<'t>(
     ensures { IfOk result (λ v. value_view v ≡ result_json status (text_of message.entry)) }
 {
     let mut members = Vec::new(alloc);
-    push_member(&mut members, "status", Value::String(status_text(status)))?;
+    push_member(&mut members, "status", Value::String(status_word(status)))?;
     push_text(&mut members, "message", message)?;
     Ok(Value::Object(members))
 }
@@ -86,7 +86,7 @@ fn heading<'t>(alloc: Global, node: &PlanNode<'t>) -> Result<Members<'t>, AllocE
     ensures { IfOk result (λ ms. named ms.items ≡ heading_members (node_view node.now)) }
 {
     let mut members = Vec::new(alloc);
-    members.push(("type", Value::String(dtype_text(node.dtype))))?;
+    members.push(("type", Value::String(dtype_word(node.dtype))))?;
     members.push(("segment", pair_value(alloc, node.tag, node.value)?))?;
     members.push(("name", Value::String(node.name)))?;
     Ok(members)

@@ -1,14 +1,14 @@
 //! The words of a plan's JSON.
 ghost use Rattle.std.specs.Prelude.{◌≡◌};
-ghost use Rattle.tk_plan_nodes.specs.NodeJson.{dtype_word, lock_mode_word, status_word};
+ghost use Rattle.tk_plan_nodes.specs.NodeJson as NodeJson;
 
 use crate::modes::LockMode;
 use tk_events::Status;
 use tk_ids::DType;
 
 /// Gives the word of a type in a plan's text.
-pub(crate) fn dtype_text(dtype: DType) -> &'static str
-    ensures { result.now ≡ dtype_word dtype }
+pub(crate) fn dtype_word(dtype: DType) -> &'static str
+    ensures { result.now ≡ NodeJson.dtype_word dtype }
 {
     match dtype {
         DType::Container => "container",
@@ -18,8 +18,8 @@ pub(crate) fn dtype_text(dtype: DType) -> &'static str
 }
 
 /// Gives the word of a lock's mode in a plan's text.
-pub(crate) fn lock_mode_text(mode: LockMode) -> &'static str
-    ensures { result.now ≡ lock_mode_word mode }
+pub(crate) fn lock_mode_word(mode: LockMode) -> &'static str
+    ensures { result.now ≡ NodeJson.lock_mode_word mode }
 {
     match mode {
         LockMode::Read => "read",
@@ -28,8 +28,8 @@ pub(crate) fn lock_mode_text(mode: LockMode) -> &'static str
 }
 
 /// Gives the word of a status in a plan's text.
-pub(crate) fn status_text(status: Status) -> &'static str
-    ensures { result.now ≡ status_word status }
+pub(crate) fn status_word(status: Status) -> &'static str
+    ensures { result.now ≡ NodeJson.status_word status }
 {
     match status {
         Status::Successful => "successful",
