@@ -1,4 +1,4 @@
--- A letter other than `~` and `/` has no escape.
+-- A character other than `~` and `/` has no escape.
 use Rattle.std.proofs.Common.{◌≡◌, ◌≢◌, ℕ, ◌+◌, ◌/◌, ◌%◌, ◌≤◌, nat_eq, List, [], ◌∷◌, ◌++◌, Bool, true, false, cond, Result, Ok, Err, is_ok, OnOk, flat_map, refl, sym, ap, ◌∙◌, arith, append_assoc}
 use Rattle.std.proofs.lemmas.Grind.{flat_map-append}
 use Rattle.std.proofs.lemmas.Bool.Decides.{nat_tests}
@@ -25,17 +25,17 @@ by_width false true d c h k = rw (escape_above (c / 64) 192 (omega arith), escap
 by_width false false true c h k = rw (escape_above (c / 4096) 224 (omega arith), escape_high ((c / 64) % 64), escape_high (c % 64)) refl
 by_width false false false c h k = rw (escape_above (c / 262144) 240 (omega arith), escape_high ((c / 4096) % 64), escape_high ((c / 64) % 64), escape_high (c % 64)) refl
 
-plain_letter : (c : ℕ) → c ≢ 126 → c ≢ 47 → flat_map escape (encode c) ≡ encode c
+plain_character : (c : ℕ) → c ≢ 126 → c ≢ 47 → flat_map escape (encode c) ≡ encode c
 unfolding encode
-plain_letter c h k = by_width (ltb c 128) (ltb c 2048) (ltb c 65536) c h k
+plain_character c h k = by_width (ltb c 128) (ltb c 2048) (ltb c 65536) c h k
 
 pub plain_pushed : {A E : Type 0} (r : Result A E) (old new : List ℕ) (c : ℕ) → c ≢ 126 → c ≢ 47 → new ≡ cond (is_ok r) (old ++ encode c) old → OnOk r (new ≡ old ++ flat_map escape (encode c))
-plain_pushed (Ok x) old new c h k e = e ∙ ap (λ l. old ++ l) (sym (plain_letter c h k))
+plain_pushed (Ok x) old new c h k e = e ∙ ap (λ l. old ++ l) (sym (plain_character c h k))
 plain_pushed (Err x) old new c h k e = tt
 
--- one more letter is written, escaped
-pub letter_written : (c : ℕ) (before after rest left whole : List ℕ) → before ++ flat_map escape rest ≡ whole → rest ≡ encode c ++ left
+-- one more character is written, escaped
+pub character_written : (c : ℕ) (before after rest left whole : List ℕ) → before ++ flat_map escape rest ≡ whole → rest ≡ encode c ++ left
     → after ≡ before ++ flat_map escape (encode c) → after ++ flat_map escape left ≡ whole
-letter_written c before after rest left whole i s p =
+character_written c before after rest left whole i s p =
     rw p (append_assoc before (flat_map escape (encode c)) (flat_map escape left) ∙ ap (λ e. before ++ e) (sym (flat_map-append escape (encode c) left))
     ∙ ap (λ r. before ++ flat_map escape r) (sym s) ∙ i)

@@ -11,7 +11,7 @@ use Rattle.tk_plan_members.specs.Checks.{first, or_else, row, member_wrong, memb
 use Rattle.tk_plan_members.specs.Rows.{files_row, files_rows, nonempty_text}
 use Rattle.tk_plan_members.specs.Contents.{json_path, json_files}
 use Rattle.tk_plan_members.specs.Contents.{files_of}
-use Rattle.tk_plan_members.specs.Endings.{AreFiles}
+use Rattle.tk_plan_members.specs.MemberValues.{AreFiles}
 use Rattle.tk_plan_members.specs.declared.faults.PlanFault.{PlanFault}
 use Rattle.tk_plan_members.proofs.ChecksInTurn.{both, none_first, none_second}
 use Rattle.tk_plan_members.proofs.Passing.{refuses_whole}

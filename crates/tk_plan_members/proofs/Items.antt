@@ -1,11 +1,11 @@
 -- An array, as the list of its items.
-use Rattle.std.proofs.Common.{◌≡◌, ◌≢◌, ◌==◌, ℕ, ◌+◌, ◌<◌, List, [], ◌∷◌, length, drop, get_or, map, Some, None, cond, refl, sym, ap, ◌∙◌, arith}
+use Rattle.std.proofs.Common.{◌≡◌, ◌≢◌, ◌==◌, ℕ, ◌+◌, ◌<◌, List, [], ◌∷◌, length, drop, get_or, map, Option, Some, None, option_map, IfSome, Bor, cond, refl, sym, ap, ◌∙◌, arith}
 use Rattle.std.proofs.lemmas.List.{drop_more}
 use Rattle.serde_json.specs.Data.{Data, null, boolean, number, string, array, object, Items}
 use Rattle.serde_json.specs.Find.{as_array}
 use Rattle.tk_plan_members.specs.JsonValues.{view, items_view}
 use Rattle.tk_plan_members.specs.JsonValues.{JsonValue}
-use Rattle.tk_plan_members.specs.Checks.{Check, list_of, items_wrong, pair_of, any_array, array_of, item_at}
+use Rattle.tk_plan_members.specs.Checks.{Check, list_of, items_wrong, pair_of, any_array, array_of}
 use Rattle.tk_plan_members.specs.Contents.{listed}
 
 pub list_of-items_view : (vs : List JsonValue) → list_of (items_view vs) ≡ map view vs
@@ -36,19 +36,19 @@ not_a_pair check at d (a ∷ []) e h = pair_of_list check at d (a ∷ []) e
 not_a_pair check at d (a ∷ b ∷ []) e h = absurd (h refl)
 not_a_pair check at d (a ∷ b ∷ x ∷ vs) e h = pair_of_list check at d (a ∷ b ∷ x ∷ vs) e ∙ grind arith
 
-pub wrong_first : (check : Check) (at path : List ℕ) (d : Data) (vs : List JsonValue) (v : JsonValue) → Some (items_view vs) ≡ as_array d → length vs ≡ 2
-    → check (item_at at 0) (view (get_or vs 0 v)) ≡ Some path → pair_of check at d ≡ Some path
-wrong_first check at path d [] v e h w = absurd (omega arith)
-wrong_first check at path d (a ∷ []) v e h w = absurd (omega arith)
-wrong_first check at path d (a ∷ b ∷ []) v e h w = pair_of_list check at d (a ∷ b ∷ []) e ∙ rw w refl
-wrong_first check at path d (a ∷ b ∷ x ∷ vs) v e h w = absurd (omega arith)
+no_list : (check : Check) (at : List ℕ) (d : Data) → None ≡ as_array d → pair_of check at d ≡ Some at
+no_list check at null e = refl
+no_list check at (boolean b) e = refl
+no_list check at (number n) e = refl
+no_list check at (string s) e = refl
+no_list check at (array ds) e = absurd (cc)
+no_list check at (object ms) e = refl
 
-pub wrong_second : (check : Check) (at path : List ℕ) (d : Data) (vs : List JsonValue) (v w : JsonValue) → Some (items_view vs) ≡ as_array d → length vs ≡ 2
-    → check (item_at at 0) (view (get_or vs 0 v)) ≡ None → check (item_at at 1) (view (get_or vs 1 w)) ≡ Some path → pair_of check at d ≡ Some path
-wrong_second check at path d [] v w e h fine wrong = absurd (omega arith)
-wrong_second check at path d (a ∷ []) v w e h fine wrong = absurd (omega arith)
-wrong_second check at path d (a ∷ b ∷ []) v w e h fine wrong = pair_of_list check at d (a ∷ b ∷ []) e ∙ rw (fine, wrong) refl
-wrong_second check at path d (a ∷ b ∷ x ∷ vs) v w e h fine wrong = absurd (omega arith)
+-- no array, or one of another length than two
+pub not_two : (check : Check) (at : List ℕ) (d : Data) (o : Option (Bor (List JsonValue))) → option_map (λ vs. items_view vs.now) o ≡ as_array d → IfSome o (λ vs. length vs.now ≢ 2)
+    → pair_of check at d ≡ Some at
+not_two check at d None e h = no_list check at d e
+not_two check at d (Some vs) e h = not_a_pair check at d vs.now e h
 
 pub array_items : (check : Check) (at : List ℕ) (d : Data) (vs : List JsonValue) → Some (items_view vs) ≡ as_array d → array_of check at d ≡ items_wrong check at 0 (map view vs)
 array_items check at d vs e = ap (array_of check at) (is_array d (items_view vs) e) ∙ ap (items_wrong check at 0) (list_of-items_view vs)

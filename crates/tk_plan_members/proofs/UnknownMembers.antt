@@ -1,5 +1,5 @@
 -- Members with none of some names.
-use Rattle.std.proofs.Common.{◌≡◌, ℕ, List, [], ◌∷◌, map, Bool, true, false, cond, Option, Some, None, Ordering, Less, Equal, Greater, nat_cmp, Bor, refl, sym, ap, ◌∙◌}
+use Rattle.std.proofs.Common.{◌≡◌, ◌||◌, ℕ, List, [], ◌∷◌, map, Bool, true, false, cond, Option, Some, None, Ordering, Less, Equal, Greater, nat_cmp, Bor, refl, sym, ap, ◌∙◌}
 use Rattle.std.specs.Prelude.{⊤}
 use Rattle.std.specs.BTreeMap.{insert_entry}
 use Rattle.std.specs.Cmp.Lexicographic.{slice_cmp}
@@ -13,6 +13,10 @@ use Rattle.tk_plan_members.specs.JsonValues.{AreKnown, data_of, members_data}
 
 abbrev pub is_known : List (List ℕ) → List ℕ → Bool
 is_known names k = list_any (λ n. bytes_eq n k) names
+
+pub list_any-map : {X Y : Type 0} (p : X → Bool) (h : Y → X) (ys : List Y) → list_any p (map h ys) ≡ list_any (λ y. p (h y)) ys
+list_any-map p h [] = refl
+list_any-map p h (y ∷ ys) = ap (λ b. p (h y) || b) (list_any-map p h ys)
 
 -- members go on to be known, once those before them are
 abbrev pub StayKnown : List (List ℕ) → json.Members → Type 0

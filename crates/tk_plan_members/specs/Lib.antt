@@ -6,5 +6,5 @@ pub mod Refusals
 pub mod JsonValues
 pub mod Answers
 pub mod Pointers
-pub mod Endings
+pub mod MemberValues
 pub mod FaultTexts

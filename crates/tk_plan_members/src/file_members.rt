@@ -6,7 +6,7 @@ ghost use Rattle.tk_plan_members.specs.Rows.{files_rows, nonempty_text};
 ghost use Rattle.tk_plan_members.specs.Pointers.{pointer};
 ghost use Rattle.tk_plan_members.specs.Answers.{Reads};
 ghost use Rattle.tk_plan_members.specs.Contents.{json_path, json_files};
-ghost use Rattle.tk_plan_members.specs.Endings.{AreFiles};
+ghost use Rattle.tk_plan_members.specs.MemberValues.{AreFiles};
 
 use crate::faults::PlanFault;
 use crate::json_paths::JsonPath;
@@ -22,13 +22,10 @@ fn path(alloc: Global, array: &str, index: usize, item: &Value<'_>) -> Result<Te
     ensures { Reads (nonempty_text (item_at array.now index) (view item.now))
         (λ t. t ≡ json_path (view item.now)) result }
 {
-    let Some(text) = text_in(item) else {
-        return Err(wrong_item(alloc, JsonPath::Whole(array), index));
-    };
-    if text.is_empty() {
-        return Err(wrong_item(alloc, JsonPath::Whole(array), index));
+    match text_in(item) {
+        Some(text) if !text.is_empty() => Ok(Text::copy(alloc, text)?),
+        _ => Err(wrong_item(alloc, JsonPath::Whole(array), index)),
     }
-    Ok(Text::copy(alloc, text)?)
 }
 
 fn files(alloc: Global, at: &str, value: &Value<'_>) -> Result<Files, PlanFault>

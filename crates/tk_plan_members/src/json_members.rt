@@ -128,14 +128,11 @@ pub(crate) fn two_texts<'t>(
     ensures { Reads (pair_of is_text (pointer at.entry) (view value.now))
         (IsPairOf (Some (view value.now))) result }
 {
-    let Some(items) = items_in(value) else {
+    let Some([first, second]) = items_in(value) else {
         return Err(wrong_value(alloc, at));
     };
-    if items.len() != 2 {
-        return Err(wrong_value(alloc, at));
-    }
-    let first = item_text(alloc, at, 0, &items[0])?;
-    let second = item_text(alloc, at, 1, &items[1])?;
+    let first = item_text(alloc, at, 0, first)?;
+    let second = item_text(alloc, at, 1, second)?;
     Ok(TwoTexts { first, second })
 }
 
@@ -198,12 +195,7 @@ pub fn array_member<'v, 't>(
 fn is_among(names: &[&str], name: &str) -> bool
     ensures { result ≡ list_any (λ n. bytes_eq n name.now) (map (λ n. n.now) names.now) }
 {
-    for known in names {
-        if *known == name {
-            return true;
-        }
-    }
-    false
+    names.contains(&name)
 }
 
 /// Whether each member has one of `names`.
@@ -239,7 +231,7 @@ fn first_unknown<'t>(
 }
 
 /// Refuses a value that is no object, and an object with a member that is not one of `names`.
-pub fn known_members(
+pub fn check_members(
     alloc: Global,
     at: JsonPath<'_>,
     value: &Value<'_>,

@@ -13,7 +13,7 @@ use json::Value;
 fn is_signed(bytes: &[u8]) -> bool
     ensures { result ≡ (slice_index bytes.now 0 == minus_sign) }
 {
-    !bytes.is_empty() && bytes[0] == b'-'
+    bytes.starts_with(b"-")
 }
 
 /// The number of a numeral that has neither point nor exponent and fits 64 bits.

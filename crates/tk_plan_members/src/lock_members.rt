@@ -9,7 +9,7 @@ ghost use Rattle.tk_plan_members.specs.Answers.{Reads};
 ghost use Rattle.tk_plan_members.specs.Contents.{json_writes, json_lock, json_locks};
 
 use crate::faults::PlanFault;
-use crate::json_members::{known_members, text_member};
+use crate::json_members::{check_members, text_member};
 use crate::json_paths::JsonPath;
 use crate::json_values::{items_in, member, text_in};
 use crate::path_texts::{member_path, wrong_member, wrong_value};
@@ -36,7 +36,7 @@ fn lock(alloc: Global, at: JsonPath<'_>, value: &Value<'_>) -> Result<Lock, Plan
     ensures { Reads (is_lock (pointer at.entry) (view value.now))
         (λ l. l ≡ json_lock (view value.now)) result }
 {
-    known_members(alloc, at, value, &["key", "mode"])?;
+    check_members(alloc, at, value, &["key", "mode"])?;
     let key = text_member(alloc, at, value, "key")?;
     let writes = lock_mode_member(alloc, at, value)?;
     Ok(Lock { key, writes })

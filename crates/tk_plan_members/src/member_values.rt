@@ -13,7 +13,7 @@ pub struct TwoTexts<'t> {
 
 /// How a node finishes.
 #[derive(Drop)]
-pub struct Ending {
+pub struct NodeResult {
     pub status: Status,
     pub message: Option<Text>,
 }

@@ -1,5 +1,5 @@
 //! Places as JSON Pointers.
-ghost use Rattle.std.specs.Prelude.{◌≡◌, ◌++◌, IfOk, OnOk, Some, string_bytes, flat_map, encode_utf8};
+ghost use Rattle.std.specs.Prelude.{◌≡◌, ◌++◌, ℕ, List, IfOk, OnOk, Some, string_bytes, flat_map, encode_utf8};
 ghost use Rattle.tk_plan_members.specs.Answers.{Refuses};
 ghost use Rattle.tk_plan_members.specs.Checks.{escape, member_at, item_at};
 ghost use Rattle.tk_plan_members.specs.Pointers.{pointer};
@@ -40,15 +40,15 @@ fn item_path(alloc: Global, at: JsonPath<'_>, index: usize) -> Result<String, Al
     format!(in alloc; "{array}/{index}")
 }
 
-/// Adds a letter of a member's name, escaped.
-fn push_escaped(path: &mut String, letter: char) -> Result<(), AllocError>
+/// Adds a character of a member's name, escaped.
+fn push_escaped(path: &mut String, character: char) -> Result<(), AllocError>
     ensures { OnOk result (string_bytes path.new
-        ≡ string_bytes path.old ++ flat_map escape (encode_utf8 letter)) }
+        ≡ string_bytes path.old ++ flat_map escape (encode_utf8 character)) }
 {
-    match letter {
+    match character {
         '~' => path.push_str("~0"),
         '/' => path.push_str("~1"),
-        _ => path.push(letter),
+        _ => path.push(character),
     }
 }
 
@@ -62,30 +62,34 @@ pub(crate) fn escaped_path(
 {
     let mut path = whole_path(alloc, at)?;
     path.push('/')?;
-    for letter in name.chars() {
-        push_escaped(&mut path, letter)?;
+    for character in name.chars() {
+        push_escaped(&mut path, character)?;
     }
     Ok(path)
+}
+
+/// The fault at a place, or `Memory` where there was none to write the place out.
+fn fault_at(path: Result<String, AllocError>) -> PlanFault
+    ensures { (at : List ℕ) → IfOk path (λ p. string_bytes p ≡ at) → Refuses (Some at) result }
+{
+    match path {
+        Ok(path) => field(path),
+        Err(fault) => PlanFault::from(fault),
+    }
 }
 
 /// The fault of a wrong value.
 pub(crate) fn wrong_value(alloc: Global, at: JsonPath<'_>) -> PlanFault
     ensures { Refuses (Some (pointer at.entry)) result }
 {
-    match whole_path(alloc, at) {
-        Ok(path) => field(path),
-        Err(fault) => PlanFault::from(fault),
-    }
+    fault_at(whole_path(alloc, at))
 }
 
 /// The fault of an array whose item of this index is wrong.
 pub(crate) fn wrong_item(alloc: Global, at: JsonPath<'_>, index: usize) -> PlanFault
     ensures { Refuses (Some (item_at (pointer at.entry) index)) result }
 {
-    match item_path(alloc, at, index) {
-        Ok(path) => field(path),
-        Err(fault) => PlanFault::from(fault),
-    }
+    fault_at(item_path(alloc, at, index))
 }
 
 /// The fault of an object whose member of this name is wrong. The name needs no escape.
@@ -93,10 +97,7 @@ pub fn wrong_member(alloc: Global, at: JsonPath<'_>, name: &str) -> PlanFault
     requires { flat_map escape name.now ≡ name.now }
     ensures { Refuses (Some (member_at (pointer at.entry) name.now)) result }
 {
-    match member_path(alloc, at, name) {
-        Ok(path) => field(path),
-        Err(fault) => PlanFault::from(fault),
-    }
+    fault_at(member_path(alloc, at, name))
 }
 
 /// The fault at a place.

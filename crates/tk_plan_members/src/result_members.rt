@@ -11,13 +11,13 @@ ghost use Rattle.tk_plan_members.specs.Rows.{status_row, result_row, entries_row
 ghost use Rattle.tk_plan_members.specs.Pointers.{pointer};
 ghost use Rattle.tk_plan_members.specs.Answers.{Reads};
 ghost use Rattle.tk_plan_members.specs.Contents.{json_status, listed};
-ghost use Rattle.tk_plan_members.specs.Endings.{has_key, IsEnding, IsOnlyPair, IsReport, AreReports};
+ghost use Rattle.tk_plan_members.specs.MemberValues.{has_key, IsNodeResult, IsOnlyPair, IsReport, AreReports};
 
 use crate::faults::PlanFault;
-use crate::json_members::{known_members, optional_member, two_texts};
+use crate::json_members::{check_members, optional_member, two_texts};
 use crate::json_paths::JsonPath;
 use crate::json_values::{items_in, member, text_in};
-use crate::member_values::{Ending, Report, Reports, TwoTexts};
+use crate::member_values::{NodeResult, Report, Reports, TwoTexts};
 use crate::path_texts::{member_path, wrong_item, wrong_member, wrong_value};
 use json::Value;
 use std::alloc::{AllocError, Global};
@@ -38,17 +38,17 @@ fn status_member(alloc: Global, at: JsonPath<'_>, object: &Value<'_>) -> Result<
     }
 }
 
-fn ending(alloc: Global, at: JsonPath<'_>, value: &Value<'_>) -> Result<Ending, PlanFault>
+fn node_result(alloc: Global, at: JsonPath<'_>, value: &Value<'_>) -> Result<NodeResult, PlanFault>
     ensures { Reads (is_result (pointer at.entry) (view value.now))
-        (IsEnding (Some (view value.now))) result }
+        (IsNodeResult (Some (view value.now))) result }
 {
-    known_members(alloc, at, value, &["status", "message"])?;
+    check_members(alloc, at, value, &["status", "message"])?;
     let status = status_member(alloc, at, value)?;
     let message = optional_member(alloc, at, value, "message")?;
     if status == Status::Successful && message.is_some() {
         return Err(wrong_member(alloc, at, "message"));
     }
-    Ok(Ending { status, message })
+    Ok(NodeResult { status, message })
 }
 
 /// Reads the member `result` of a node, which is successful where it is absent.
@@ -56,16 +56,16 @@ pub fn result_member(
     alloc: Global,
     at: JsonPath<'_>,
     object: &Value<'_>,
-) -> Result<Ending, PlanFault>
+) -> Result<NodeResult, PlanFault>
     ensures { Reads (row (pointer at.entry) (view object.now) result_row)
-        (IsEnding (get (codes "result") (view object.now))) result }
+        (IsNodeResult (get (codes "result") (view object.now))) result }
 {
     match member(object, "result") {
         Some(value) => {
             let path = member_path(alloc, at, "result")?;
-            ending(alloc, JsonPath::Whole(&path), value)
+            node_result(alloc, JsonPath::Whole(&path), value)
         }
-        None => Ok(Ending {
+        None => Ok(NodeResult {
             status: Status::Successful,
             message: None,
         }),
@@ -96,8 +96,8 @@ fn insert_pair(
         repeats ≡ has_key pair.entry.first.now map.old.entries) }
 {
     let key = Text::copy(alloc, pair.first)?;
-    let stated = Text::copy(alloc, pair.second)?;
-    Ok(map.insert(key, stated)?.is_some())
+    let value = Text::copy(alloc, pair.second)?;
+    Ok(map.insert(key, value)?.is_some())
 }
 
 /// Reads the pair of an entry that has no other: it needs no map.
@@ -112,9 +112,9 @@ fn only_pair(
 {
     let pair = two_texts(alloc, JsonPath::Inner(array, index, 0), item)?;
     let key = Text::copy(alloc, pair.first)?;
-    let stated = Text::copy(alloc, pair.second)?;
+    let value = Text::copy(alloc, pair.second)?;
     Ok(Report {
-        pairs: Pairs::shared_pair(alloc, key, stated)?,
+        pairs: Pairs::shared_pair(alloc, key, value)?,
         repeats: false,
     })
 }
@@ -133,7 +133,7 @@ fn entry(alloc: Global, array: &str, index: usize, value: &Value<'_>) -> Result<
     let mut repeats = false;
     for (inner, item) in items.iter().enumerate() {
         let pair = two_texts(alloc, JsonPath::Inner(array, index, inner), item)?;
-        repeats = repeats | insert_pair(alloc, &mut map, pair)?;
+        repeats |= insert_pair(alloc, &mut map, pair)?;
     }
     let pairs = pairs_of(alloc, map)?;
     Ok(Report { pairs, repeats })
@@ -150,7 +150,7 @@ fn entries(alloc: Global, at: &str, value: &Value<'_>) -> Result<Reports, PlanFa
     let mut repeats = false;
     for (index, item) in items.iter().enumerate() {
         let report = entry(alloc, at, index, item)?;
-        repeats = repeats | report.repeats;
+        repeats |= report.repeats;
         entries.push(report.pairs)?;
     }
     Ok(Reports {

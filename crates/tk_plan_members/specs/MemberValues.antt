@@ -11,7 +11,7 @@ use Rattle.tk_events.specs.declared.kinds.Kind.TheVariants.{Finished, File}
 use Rattle.tk_events.specs.declared.payloads.Payload.TheVariants.{Outcome, Path}
 use Rattle.tk_plan_members.specs.Contents.{status_in, message_in, json_pair, json_entry, files_of}
 use Rattle.tk_plan_members.specs.Contents.{repeats as repeats_in}
-use Rattle.tk_plan_members.specs.declared.member_values.Ending.{Ending}
+use Rattle.tk_plan_members.specs.declared.member_values.NodeResult.{NodeResult}
 use Rattle.tk_plan_members.specs.declared.member_values.Report.{Report}
 use Rattle.tk_plan_members.specs.declared.member_values.Reports.{Reports}
 
@@ -19,7 +19,7 @@ use Rattle.tk_plan_members.specs.declared.member_values.Reports.{Reports}
 abbrev pub has_key : List ℕ → List (List ℕ × List ℕ) → Bool
 has_key k es = is_some (lookup (is_at (slice_cmp nat_cmp k)) es)
 
-pub record IsEnding (d : Option Data) (e : Ending) : Type 0 where
+pub record IsNodeResult (d : Option Data) (e : NodeResult) : Type 0 where
   pub status : e.status ≡ status_in d
   pub message : e.message ≡ message_in d
   pub lawful : is_lawful Finished (Outcome e.status e.message) ≡ true

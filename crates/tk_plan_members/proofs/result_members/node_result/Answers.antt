@@ -4,7 +4,7 @@ use Rattle.tk_events.specs.declared.statuses.Status.TheVariants.{Successful}
 use Rattle.tk_plan_members.specs.Pointers.{pointer}
 use Rattle.tk_plan_members.proofs.Passing.{refuses_whole}
 use Rattle.tk_plan_members.proofs.Results.{message_stands}
-use Rattle.tk_plan_members.proofs.result_members.ending.Goals as goal
+use Rattle.tk_plan_members.proofs.result_members.node_result.Goals as goal
 
 pub returns-then-is_some : goal.returns-then-is_some
 returns-then-is_some c =
@@ -12,5 +12,5 @@ returns-then-is_some c =
     let m = c.in_ok-message.ensures in
     let is : c.in_ok-status.status ≡ Successful = grind arith in
     let there : is_some c.in_ok-message.message ≡ true = grind arith in
-    let wrong = message_stands (pointer c.args.at) (view c.args.value.now) c.in_ok-known_members.ensures.0 s.0 m.0 (sym s.1 ∙ is) (ap is_some (sym m.1) ∙ there) in
+    let wrong = message_stands (pointer c.args.at) (view c.args.value.now) c.in_ok-check_members.ensures.0 s.0 m.0 (sym s.1 ∙ is) (ap is_some (sym m.1) ∙ there) in
     refuses_whole _ _ c.wrong_member.result (λ _ w. wrong ∙ w) c.wrong_member.ensures
