@@ -21,8 +21,8 @@ use Rattle.tk_plan_members.specs.Checks.{first}
 use Rattle.tk_plan_json.specs.Progress.{Addition, state, addition_of, IsNoted, IsChecked, IsAdded, HasBelow, IsStarted, room_checks}
 use Rattle.tk_plan_json.specs.NodeInputs.{NodeInput, segment_of, repeats_key}
 use Rattle.tk_plan_json.specs.Verdicts.{checks, node_check, id_fault, same_segment, is_kind}
-use Rattle.tk_plan_json.specs.declared.plan_readers.Reader.{Reader}
-use Rattle.tk_plan_json.specs.declared.plan_readers.Checked.{Checked}
+use Rattle.tk_plan_json.specs.declared.read_nodes.ReadNodes.{ReadNodes}
+use Rattle.tk_plan_json.specs.declared.read_nodes.Checked.{Checked}
 use Rattle.tk_plan_members.specs.declared.faults.PlanFault.{PlanFault}
 use Rattle.tk_plan_members.specs.declared.faults.PlanFault.TheVariants.{Json, Field, Id, Table, TooManyResources, EntryKeyTwice, TooManyEvents, Deep, Memory}
 
@@ -133,7 +133,7 @@ few : (b : Bool) (ns : List Node) (s d : ℕ) → s ≡ count_by (is_kind true) 
 few true ns s d es ed hs hd room = (omega arith, omega arith)
 few false ns s d es ed hs hd room = (omega arith, omega arith)
 
-pub noted_added : (old mid new : Reader) (s : NodeInput) (later : List SegmentView) (c : Checked) → IsNoted old → IsChecked (state old s.earlier) (state mid later) s c → IsAdded mid new c.node c.id → IsNoted new
+pub noted_added : (old mid new : ReadNodes) (s : NodeInput) (later : List SegmentView) (c : Checked) → IsNoted old → IsChecked (state old s.earlier) (state mid later) s c → IsAdded mid new c.node c.id → IsNoted new
 noted_added old mid new s later c noted k a =
     let ns = contents old.nodes.items in
     let n = c.node in
@@ -156,7 +156,7 @@ noted_added old mid new s later c noted k a =
     }
 
 -- a node that was checked and put at the end is started
-pub node_started : (old mid new : Reader) (s : NodeInput) (later : List SegmentView) (c : Checked) (id : Option (List SegmentView)) → IsNoted old → IsChecked (state old s.earlier) (state mid later) s c → IsAdded mid new c.node c.id → HasBelow s id → IsStarted (state old s.earlier) (state new later) s id
+pub node_started : (old mid new : ReadNodes) (s : NodeInput) (later : List SegmentView) (c : Checked) (id : Option (List SegmentView)) → IsNoted old → IsChecked (state old s.earlier) (state mid later) s c → IsAdded mid new c.node c.id → HasBelow s id → IsStarted (state old s.earlier) (state new later) s id
 node_started old mid new s later c id noted k a below = record {
   nodes = a.nodes ∙ ap₂ (λ l n. l ++ record { node = n; number = 0; span = 1 } ∷ []) k.entered.nodes k.node;
   descriptors = a.descriptors ∙ ap₂ (λ l d. l ++ d) k.entered.descriptors (ap₂ descriptor_in k.id k.node);
@@ -167,7 +167,7 @@ node_started old mid new s later c id noted k a below = record {
 }
 
 -- the nodes' spans are not noted
-pub noted_same : (old new : Reader) → contents new.nodes.items ≡ contents old.nodes.items → new.keys.keys ≡ old.keys.keys → new.descriptors.items ≡ old.descriptors.items → new.dynamics ≡ old.dynamics
+pub noted_same : (old new : ReadNodes) → contents new.nodes.items ≡ contents old.nodes.items → new.keys.keys ≡ old.keys.keys → new.descriptors.items ≡ old.descriptors.items → new.dynamics ≡ old.dynamics
     → IsNoted old → IsNoted new
 noted_same old new nodes keys ds dyn n = record {
   keys = keys ∙ n.keys ∙ ap lock_keys (sym nodes);

@@ -16,7 +16,7 @@ use Rattle.tk_plan_units.specs.Trees.{flat, contents}
 use Rattle.tk_plan_units.specs.Ids.{descriptor_in, descriptors}
 use Rattle.tk_plan_members.specs.Checks.{first, or_else, member_at}
 use Rattle.tk_plan_members.specs.declared.faults.PlanFault.{PlanFault}
-use Rattle.tk_plan_json.specs.declared.plan_readers.Reader.{Reader}
+use Rattle.tk_plan_json.specs.declared.read_nodes.ReadNodes.{ReadNodes}
 use Rattle.tk_plan_json.specs.NodeInputs.{NodeInput, NodeArray, node_input, segment_in, id_of, node_of, below, node_inputs, node_inputs_in, children_of, dynamic_of, children_in, dynamic_in, grown}
 use Rattle.tk_plan_json.specs.Verdicts.{checks, verdict, joined}
 use Rattle.tk_plan_json.specs.Progress.{state, IsNoted, IsStarted, IsSpanned, AddsNodes}
@@ -24,7 +24,7 @@ use Rattle.tk_plan_json.proofs.CheckSteps.{noted_same}
 use Rattle.tk_plan_json.proofs.Verdicts.{verdict-append, verdict-cons, nodes-grown, nodes-all, flats-forest, descriptors-forest}
 
 -- of all the sites of k levels more, those that are left are still to be read
-pub record Goes (k : ℕ) (above : List SegmentView) (old now : Reader) (all left : List NodeInput) : Type 0 where
+pub record Goes (k : ℕ) (above : List SegmentView) (old now : ReadNodes) (all left : List NodeInput) : Type 0 where
   pub verdict : verdict (contents old.nodes.items) (flat_map (node_inputs k) all) ≡ verdict (contents now.nodes.items) (flat_map (node_inputs k) left)
   pub nodes : old.nodes.items ++ flat_map flat (map (grown k) all) ≡ now.nodes.items ++ flat_map flat (map (grown k) left)
   pub described : old.descriptors.items ++ flat_map (descriptors above) (map (grown k) all) ≡ now.descriptors.items ++ flat_map (descriptors above) (map (grown k) left)
@@ -56,7 +56,7 @@ pub node_input_next : (array : NodeArray) (i j : ℕ) (met new : List SegmentVie
 node_input_next array i j met new left rest v split up n =
     ap (λ vs. node_inputs_in array i met (map view vs)) split ∙ ap₂ (λ k m. node_input array i met (view v) ∷ node_inputs_in array k m (map view rest)) (sym up) (sym n)
 
-module _ (k m : ℕ) (above up : List SegmentView) (old now : Reader) (all rest left : List NodeInput) (x y : NodeInput) (levels : m ≡ k) (same : y ≡ x) (split : rest ≡ x ∷ left) (g : Goes k above old now all rest) where
+module _ (k m : ℕ) (above up : List SegmentView) (old now : ReadNodes) (all rest left : List NodeInput) (x y : NodeInput) (levels : m ≡ k) (same : y ≡ x) (split : rest ≡ x ∷ left) (g : Goes k above old now all rest) where
   here : verdict (contents now.nodes.items) (node_inputs m y) ≡ verdict (contents now.nodes.items) (node_inputs k x)
   here = ap₂ (λ n s. verdict (contents now.nodes.items) (node_inputs n s)) levels same
 
@@ -67,7 +67,7 @@ module _ (k m : ℕ) (above up : List SegmentView) (old now : Reader) (all rest 
   unfolding here until
   goes_fault f e = until ∙ after_some _ (node_inputs k x) _ f (sym here ∙ e)
 
-  pub goes_next : (new : Reader) → verdict (contents now.nodes.items) (node_inputs m y) ≡ None → up ≡ above → AddsNodes now new (flat (grown m y)) (descriptors up (grown m y)) → Goes k above old new all left
+  pub goes_next : (new : ReadNodes) → verdict (contents now.nodes.items) (node_inputs m y) ≡ None → up ≡ above → AddsNodes now new (flat (grown m y)) (descriptors up (grown m y)) → Goes k above old new all left
   unfolding here until
   goes_next new e is a =
       let added : new.nodes.items ≡ now.nodes.items ++ flat (grown k x) = a.nodes ∙ ap (λ l. now.nodes.items ++ l) (ap₂ (λ n s. flat (grown n s)) levels same) in
@@ -82,13 +82,13 @@ module _ (k m : ℕ) (above up : List SegmentView) (old now : Reader) (all rest 
         noted = a.noted;
       }
 
-pub goes_end : (k : ℕ) (above : List SegmentView) (old now : Reader) (all : List NodeInput) → Goes k above old now all []
+pub goes_end : (k : ℕ) (above : List SegmentView) (old now : ReadNodes) (all : List NodeInput) → Goes k above old now all []
     → (verdict (contents old.nodes.items) (flat_map (node_inputs k) all) ≡ None) × AddsNodes old now (flat_map flat (map (grown k) all)) (flat_map (descriptors above) (map (grown k) all))
 unfolding joined
 goes_end k above old now all g = (g.verdict, record { nodes = sym (g.nodes ∙ append-nil now.nodes.items); descriptors = sym (g.described ∙ append-nil now.descriptors.items); noted = g.noted })
 
 -- where there is nothing to read
-pub goes_nowhere : (k : ℕ) (above : List SegmentView) (old : Reader) (array : NodeArray) (earlier : List SegmentView) (ds : List Data) → ds ≡ [] → IsNoted old
+pub goes_nowhere : (k : ℕ) (above : List SegmentView) (old : ReadNodes) (array : NodeArray) (earlier : List SegmentView) (ds : List Data) → ds ≡ [] → IsNoted old
     → (verdict (contents old.nodes.items) (flat_map (node_inputs k) (node_inputs_in array 0 earlier ds)) ≡ None)
     × AddsNodes old old (flat_map flat (map (grown k) (node_inputs_in array 0 earlier ds))) (flat_map (descriptors above) (map (grown k) (node_inputs_in array 0 earlier ds)))
 unfolding joined
@@ -146,7 +146,7 @@ contents_all : (old : List NumberedNode) (k : ℕ) (xs : List NodeInput) → con
 contents_all old k xs = map-append _ old (flat_map flat (map (grown k) xs)) ∙ ap (λ l. contents old ++ l) (nodes-all (grown k) (node_inputs k) (nodes-grown k) xs)
 
 -- what is below a node stands in two arrays, whose nodes are read one after the other
-module _ (k : ℕ) (old : Reader) (xs ys all : List NodeInput) (parts : all ≡ xs ++ ys) where
+module _ (k : ℕ) (old : ReadNodes) (xs ys all : List NodeInput) (parts : all ≡ xs ++ ys) where
   both : verdict (contents old.nodes.items) (flat_map (node_inputs k) all) ≡ verdict (contents old.nodes.items) (flat_map (node_inputs k) xs ++ flat_map (node_inputs k) ys)
   both = ap (verdict (contents old.nodes.items)) (ap (flat_map (node_inputs k)) parts ∙ flat_map-append (node_inputs k) xs ys)
 
@@ -154,7 +154,7 @@ module _ (k : ℕ) (old : Reader) (xs ys all : List NodeInput) (parts : all ≡ 
   unfolding both
   first_fault f e = both ∙ after_some _ (flat_map (node_inputs k) xs) _ f e
 
-  module _ (above up : List SegmentView) (is : up ≡ above) (mid : Reader) (none : verdict (contents old.nodes.items) (flat_map (node_inputs k) xs) ≡ None)
+  module _ (above up : List SegmentView) (is : up ≡ above) (mid : ReadNodes) (none : verdict (contents old.nodes.items) (flat_map (node_inputs k) xs) ≡ None)
       (first_part : AddsNodes old mid (flat_map flat (map (grown k) xs)) (flat_map (descriptors up) (map (grown k) xs))) where
     pub second_verdict : verdict (contents old.nodes.items) (flat_map (node_inputs k) all) ≡ verdict (contents mid.nodes.items) (flat_map (node_inputs k) ys)
     unfolding both
@@ -162,7 +162,7 @@ module _ (k : ℕ) (old : Reader) (xs ys all : List NodeInput) (parts : all ≡ 
         both ∙ after_none _ (flat_map (node_inputs k) xs) _ none
         ∙ ap (λ b. verdict b (flat_map (node_inputs k) ys)) (sym (ap contents first_part.nodes ∙ contents_all old.nodes.items k xs))
 
-    pub both_added : (new : Reader) → AddsNodes mid new (flat_map flat (map (grown k) ys)) (flat_map (descriptors up) (map (grown k) ys))
+    pub both_added : (new : ReadNodes) → AddsNodes mid new (flat_map flat (map (grown k) ys)) (flat_map (descriptors up) (map (grown k) ys))
         → AddsNodes old new (flat_map flat (map (grown k) all)) (flat_map (descriptors above) (map (grown k) all))
     both_added new second =
         let ts : map (grown k) xs ++ map (grown k) ys ≡ map (grown k) all = sym (ap (map (grown k)) parts ∙ map-append (grown k) xs ys) in
@@ -175,7 +175,7 @@ module _ (k : ℕ) (old : Reader) (xs ys all : List NodeInput) (parts : all ≡ 
         }
 
 -- A node was checked and put at the end.
-module _ (k m : ℕ) (levels : m ≡ suc k) (old pushed : Reader) (s : NodeInput) (later : List SegmentView) (id : Option (List SegmentView)) (fine : first (checks (contents old.nodes.items) s) ≡ None) (started : IsStarted (state old s.earlier) (state pushed later) s id) where
+module _ (k m : ℕ) (levels : m ≡ suc k) (old pushed : ReadNodes) (s : NodeInput) (later : List SegmentView) (id : Option (List SegmentView)) (fine : first (checks (contents old.nodes.items) s) ≡ None) (started : IsStarted (state old s.earlier) (state pushed later) s id) where
   pub below_verdict : verdict (contents old.nodes.items) (node_inputs m s) ≡ verdict (contents pushed.nodes.items) (flat_map (node_inputs k) (below s))
   unfolding node_inputs
   below_verdict =
@@ -206,7 +206,7 @@ module _ (k m : ℕ) (levels : m ≡ suc k) (old pushed : Reader) (s : NodeInput
   }
 
   -- then all below it were read, and its span was written
-  pub node_added : (read new : Reader) (at : ℕ) → at ≡ length old.nodes.items
+  pub node_added : (read new : ReadNodes) (at : ℕ) → at ≡ length old.nodes.items
       → AddsNodes pushed read (flat_map flat (map (grown k) (below s))) (flat_map (descriptors (id_of s)) (map (grown k) (below s))) → IsSpanned read new at
       → AddsNodes old new (flat (grown m s)) (descriptors s.above (grown m s))
   node_added read new at is a spanned =

@@ -107,13 +107,13 @@ module _ (d : Data) (plain : IsPlain d) where
     locks = locks ∙ sym (ap json_locks (none (codes "locks") refl));
   }
 
-  pub plain_content : (fs : Bool) (c : Content) → c.skip ≡ None → c.ending.status ≡ Successful → c.ending.message ≡ None → c.reports.entries ≡ [] → c.reports.repeats ≡ false → c.files ≡ [] → IsContent fs d c
+  pub plain_content : (fs : Bool) (c : Content) → c.skip ≡ None → c.result.status ≡ Successful → c.result.message ≡ None → c.reports.entries ≡ [] → c.reports.repeats ≡ false → c.files ≡ [] → IsContent fs d c
   plain_content fs c skip status message entries repeats files =
       let no_result = none (codes "result") refl in
       let no_entries = none (codes "entries") refl in
       record {
         skip = skip ∙ sym (ap json_optional (none (codes "skip") refl));
-        ending = record { status = status ∙ sym (ap status_in no_result); message = message ∙ sym (ap message_in no_result); lawful = rw (status, message) refl };
+        result = record { status = status ∙ sym (ap status_in no_result); message = message ∙ sym (ap message_in no_result); lawful = rw (status, message) refl };
         reports = record { entries = entries ∙ sym (ap (λ o. map json_entry (listed o)) no_entries); increasing = rw entries refl; repeats = repeats ∙ sym (ap (λ o. list_any repeats_in (listed o)) no_entries) };
         files = record { paths = files ∙ plain_files fs; lawful = rw files refl };
       }

@@ -12,7 +12,7 @@ use Rattle.tk_plan_members.specs.Pointers.{pointer}
 use Rattle.tk_plan_members.specs.declared.faults.PlanFault.{PlanFault}
 use Rattle.tk_plan_members.specs.declared.faults.PlanFault.TheVariants.{Id, Memory}
 use Rattle.tk_plan_members.specs.declared.member_values.TwoTexts.{TwoTexts}
-use Rattle.tk_plan_json.specs.declared.plan_readers.Named.{Named}
+use Rattle.tk_plan_json.specs.declared.read_nodes.Named.{Named}
 use Rattle.tk_plan_json.specs.declared.node_inputs.NodePlace.{NodePlace}
 use Rattle.tk_plan_json.specs.declared.node_inputs.NodeInput.{NodeInput}
 
@@ -53,11 +53,8 @@ abbrev pub json_segment_text : TwoTexts → SegmentView
 json_segment_text p = record { tag = p.first.now; value = p.second.now }
 
 abbrev pub as_plan_fault : IdFault → PlanFault
-as_plan_fault id_faults.Empty = Id id_faults.Empty
-as_plan_fault (id_faults.BadSegment at) = Id (id_faults.BadSegment at)
-as_plan_fault (id_faults.BadEscape at) = Id (id_faults.BadEscape at)
-as_plan_fault id_faults.TooLong = Id id_faults.TooLong
 as_plan_fault id_faults.Memory = Memory
+as_plan_fault fault = Id fault
 
 pub record IsNamed (above : List SegmentView) (s : SegmentView) (n : Named) : Type 0 where
   pub segment : n.segment ≡ s

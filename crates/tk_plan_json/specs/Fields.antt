@@ -11,13 +11,13 @@ use Rattle.tk_plan_members.specs.Rows.{children_row, dynamic_row}
 use Rattle.tk_plan_json.specs.NodeInputs.{concurrent_of, isolated_of, locks_of}
 use Rattle.tk_plan_json.specs.NodeInputs.{children_of, dynamic_of}
 use Rattle.tk_plan_members.specs.Pointers.{IsPairOf}
-use Rattle.tk_plan_members.specs.Endings.{IsEnding, AreReports, AreFiles}
+use Rattle.tk_plan_members.specs.MemberValues.{IsNodeResult, AreReports, AreFiles}
 use Rattle.tk_plan_json.specs.declared.node_fields.Heading.{Heading}
 use Rattle.tk_plan_json.specs.declared.node_fields.Concurrency.{Concurrency}
 use Rattle.tk_plan_json.specs.declared.node_fields.Content.{Content}
 use Rattle.tk_plan_json.specs.declared.node_fields.Fields.{Fields}
-use Rattle.tk_plan_json.specs.declared.plan_readers.Checked.{Checked}
-use Rattle.tk_plan_json.specs.declared.plan_readers.Named.{Named}
+use Rattle.tk_plan_json.specs.declared.read_nodes.Checked.{Checked}
+use Rattle.tk_plan_json.specs.declared.read_nodes.Named.{Named}
 
 abbrev pub heading_rows : List Row
 heading_rows = dtype_row ∷ segment_row ∷ name_row ∷ []
@@ -53,7 +53,7 @@ pub record IsConcurrency (is_static : Bool) (d : Data) (m : Concurrency) : Type 
 
 pub record IsContent (takes_files : Bool) (d : Data) (c : Content) : Type 0 where
   pub skip : c.skip ≡ json_optional (get (codes "skip") d)
-  pub ending : IsEnding (get (codes "result") d) c.ending
+  pub result : IsNodeResult (get (codes "result") d) c.result
   pub reports : AreReports (listed (get (codes "entries") d)) c.reports
   pub files : AreFiles takes_files d c.files
 
@@ -76,8 +76,8 @@ checked_of is_static n f = record {
     is_isolated = f.concurrency.is_isolated;
     locks = f.concurrency.locks;
     skip = f.content.skip;
-    status = f.content.ending.status;
-    message = f.content.ending.message;
+    status = f.content.result.status;
+    message = f.content.result.message;
     entries = f.content.reports.entries;
     files = f.content.files;
   };

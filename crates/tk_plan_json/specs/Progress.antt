@@ -20,12 +20,12 @@ use Rattle.tk_plan_json.specs.NodeInputs.{NodeInput, segment_of, id_of, node_of,
 use Rattle.tk_plan_json.specs.NodeInputs.{dynamic_of, below, grown, node_inputs}
 use Rattle.tk_plan_members.specs.declared.faults.PlanFault.{PlanFault}
 use Rattle.tk_plan_members.specs.declared.faults.PlanFault.TheVariants.{Table, TooManyResources}
-use Rattle.tk_plan_json.specs.declared.plan_readers.Reader.{Reader}
-use Rattle.tk_plan_json.specs.declared.plan_readers.Checked.{Checked}
-use Rattle.tk_plan_json.specs.declared.plan_readers.Named.{Named}
+use Rattle.tk_plan_json.specs.declared.read_nodes.ReadNodes.{ReadNodes}
+use Rattle.tk_plan_json.specs.declared.read_nodes.Checked.{Checked}
+use Rattle.tk_plan_json.specs.declared.read_nodes.Named.{Named}
 
 -- what is kept beside the nodes fits them
-pub record IsNoted (r : Reader) : Type 0 where
+pub record IsNoted (r : ReadNodes) : Type 0 where
   pub keys : r.keys.keys ≡ lock_keys (contents r.nodes.items)
   pub few_keys : length r.keys.keys ≤ MAX_KEYS
   pub statics : length r.descriptors.items ≡ count_by (is_kind true) (contents r.nodes.items)
@@ -34,13 +34,13 @@ pub record IsNoted (r : Reader) : Type 0 where
   pub few_dynamics : r.dynamics ≤ MAX_DESCRIPTORS
   pub lawful : list_all is_lawful_node (contents r.nodes.items) ≡ true
 
--- what was read before a node: the reader, and the segments of the node's siblings
+-- what was read before a node: the nodes, and the segments of the node's siblings
 pub record ReadState : Type 0 where
-  pub reader : Reader
+  pub read : ReadNodes
   pub siblings : List SegmentView
 
-abbrev pub state : Reader → List SegmentView → ReadState
-state reader siblings = record { reader = reader; siblings = siblings }
+abbrev pub state : ReadNodes → List SegmentView → ReadState
+state read siblings = record { read = read; siblings = siblings }
 
 -- What a node adds: one node of its kind, its segment among its siblings', and its lock keys among
 -- the plan's, which together are `keys`.
@@ -68,19 +68,19 @@ room_checks before earlier a =
 
 -- a node's segment and its lock keys were noted, and there is room for the node
 pub record IsEntered (old new : ReadState) (a : Addition) : Type 0 where
-  pub nodes : new.reader.nodes.items ≡ old.reader.nodes.items
-  pub descriptors : new.reader.descriptors.items ≡ old.reader.descriptors.items
-  pub dynamics : new.reader.dynamics ≡ old.reader.dynamics
-  pub keys : new.reader.keys.keys ≡ a.keys
+  pub nodes : new.read.nodes.items ≡ old.read.nodes.items
+  pub descriptors : new.read.descriptors.items ≡ old.read.descriptors.items
+  pub dynamics : new.read.dynamics ≡ old.read.dynamics
+  pub keys : new.read.keys.keys ≡ a.keys
   pub few_keys : length a.keys ≤ MAX_KEYS
-  pub room : count_by (is_kind a.is_static) (contents old.reader.nodes.items) < MAX_DESCRIPTORS
+  pub room : count_by (is_kind a.is_static) (contents old.read.nodes.items) < MAX_DESCRIPTORS
   pub siblings : new.siblings ≡ old.siblings ++ a.segment ∷ []
 
 -- a node's segment and its lock keys were noted, and this is its segment with its id
 pub record IsAdmitted (old new : ReadState) (s : NodeInput) (n : Named) : Type 0 where
   pub segment : n.segment ≡ segment_of s
   pub id : n.id ≡ id_of s
-  pub entered : IsEntered old new (addition_of (contents old.reader.nodes.items) s)
+  pub entered : IsEntered old new (addition_of (contents old.read.nodes.items) s)
 
 -- a node was checked, and its segment and its lock keys were noted
 pub record IsChecked (old new : ReadState) (s : NodeInput) (c : Checked) : Type 0 where
@@ -90,17 +90,17 @@ pub record IsChecked (old new : ReadState) (s : NodeInput) (c : Checked) : Type 
       && length (dynamic_of s.value) == 0)
   pub lawful : is_lawful_node c.node ≡ true
   pub level : s.level ≤ MAX_LEVELS
-  pub entered : IsEntered old new (addition_of (contents old.reader.nodes.items) s)
+  pub entered : IsEntered old new (addition_of (contents old.read.nodes.items) s)
 
 -- a static node's descriptor was put at the end, or another node was counted
-pub record IsDescribed (old new : Reader) (n : Node) (id : List SegmentView) : Type 0 where
+pub record IsDescribed (old new : ReadNodes) (n : Node) (id : List SegmentView) : Type 0 where
   pub nodes : new.nodes.items ≡ old.nodes.items
   pub descriptors : new.descriptors.items ≡ old.descriptors.items ++ descriptor_in id n
   pub dynamics : new.dynamics ≡ old.dynamics + (if n.is_static then 0 else 1)
   pub keys : new.keys.keys ≡ old.keys.keys
 
 -- a node was put at the end
-pub record IsAdded (old new : Reader) (n : Node) (id : List SegmentView) : Type 0 where
+pub record IsAdded (old new : ReadNodes) (n : Node) (id : List SegmentView) : Type 0 where
   pub nodes : new.nodes.items ≡ old.nodes.items ++ record { node = n; number = 0; span = 1 } ∷ []
   pub descriptors : new.descriptors.items ≡ old.descriptors.items ++ descriptor_in id n
   pub dynamics : new.dynamics ≡ old.dynamics + (if n.is_static then 0 else 1)
@@ -114,17 +114,17 @@ HasBelow s (Some id) = id ≡ id_of s
 -- a node was checked and put at the end, and what is below it is still to be read
 pub record IsStarted (old new : ReadState) (s : NodeInput)
     (id : Option (List SegmentView)) : Type 0 where
-  pub nodes : new.reader.nodes.items ≡ old.reader.nodes.items
+  pub nodes : new.read.nodes.items ≡ old.read.nodes.items
       ++ record { node = node_of s; number = 0; span = 1 } ∷ []
-  pub descriptors : new.reader.descriptors.items ≡ old.reader.descriptors.items
+  pub descriptors : new.read.descriptors.items ≡ old.read.descriptors.items
       ++ descriptor_in (id_of s) (node_of s)
-  pub noted : IsNoted new.reader
+  pub noted : IsNoted new.read
   pub level : s.level ≤ MAX_LEVELS
   pub siblings : new.siblings ≡ old.siblings ++ segment_of s ∷ []
   pub below : HasBelow s id
 
 -- the node at a place spans all from there to the last
-pub record IsSpanned (old new : Reader) (at : ℕ) : Type 0 where
+pub record IsSpanned (old new : ReadNodes) (at : ℕ) : Type 0 where
   pub nodes : (before after : List NumberedNode) (n : Node) → old.nodes.items ≡ before
       ++ record { node = n; number = 0; span = 1 } ∷ after → at ≡ length before
       → new.nodes.items ≡ before ++ record { node = n; number = 0; span = suc (length after) }
@@ -134,7 +134,7 @@ pub record IsSpanned (old new : Reader) (at : ℕ) : Type 0 where
   pub keys : new.keys.keys ≡ old.keys.keys
 
 -- nodes were read, with the descriptors of the static ones
-pub record AddsNodes (old new : Reader) (added : List NumberedNode)
+pub record AddsNodes (old new : ReadNodes) (added : List NumberedNode)
     (ds : List Descriptor) : Type 0 where
   pub nodes : new.nodes.items ≡ old.nodes.items ++ added
   pub descriptors : new.descriptors.items ≡ old.descriptors.items ++ ds
@@ -149,11 +149,11 @@ abbrev pub levels_below : ℕ → ℕ
 levels_below level = MAX_LEVELS - level
 
 -- the first fault of a node and of what is below it, at most this many levels, after those read
-abbrev pub verdict_of_node : Reader → ℕ → NodeInput → Option PlanFault
+abbrev pub verdict_of_node : ReadNodes → ℕ → NodeInput → Option PlanFault
 verdict_of_node r levels s = verdict (contents r.nodes.items) (node_inputs levels s)
 
 -- a node and all below it were read
-abbrev pub AddsTree : Reader → Reader → ℕ → NodeInput → Type 0
+abbrev pub AddsTree : ReadNodes → ReadNodes → ℕ → NodeInput → Type 0
 AddsTree old new levels s =
     AddsNodes old new (flat (grown levels s)) (descriptors s.above (grown levels s))
 
@@ -167,16 +167,16 @@ abbrev pub trees_of : NodeGroup → List Tree
 trees_of g = map (grown g.levels) g.nodes
 
 -- the first fault of some nodes and of all below them, after those read
-abbrev pub verdict_of_group : Reader → NodeGroup → Option PlanFault
+abbrev pub verdict_of_group : ReadNodes → NodeGroup → Option PlanFault
 verdict_of_group r g = verdict (contents r.nodes.items) (flat_map (node_inputs g.levels) g.nodes)
 
 -- these nodes and all below them were read
-abbrev pub AddsGroup : Reader → Reader → NodeGroup → Type 0
+abbrev pub AddsGroup : ReadNodes → ReadNodes → NodeGroup → Type 0
 AddsGroup old new g =
     AddsNodes old new (flat_map flat (trees_of g)) (flat_map (descriptors g.above) (trees_of g))
 
 -- the node and all below it were read, and no others
-pub record HasRead (s : NodeInput) (r : Reader) : Type 0 where
+pub record HasRead (s : NodeInput) (r : ReadNodes) : Type 0 where
   pub nodes : r.nodes.items ≡ flat (grown MAX_LEVELS s)
   pub descriptors : r.descriptors.items ≡ descriptors s.above (grown MAX_LEVELS s)
   pub noted : IsNoted r

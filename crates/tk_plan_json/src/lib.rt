@@ -3,7 +3,7 @@
 //! - All nodes in preorder: `node_reading`, which drops the value of each as soon as it was read.
 //! - One node: its members together in `node_fields`, its checks in `node_checks`.
 //! - Where a node stands, and the value that stands for it: `node_inputs`.
-//! - What is kept while reading: `plan_readers`, the segments of one parent's children in
+//! - What is kept while reading: `read_nodes`, the segments of one parent's children in
 //!   `siblings`, lock keys in `lock_keys`.
 //! - Limits: `limits`.
 #![tactic(auto)]
@@ -14,7 +14,7 @@ mod node_checks;
 mod node_fields;
 mod node_inputs;
 pub mod node_reading;
-pub mod plan_readers;
+pub mod read_nodes;
 mod siblings;
 
 pub use limits::MAX_LEVELS;

@@ -19,7 +19,7 @@ use crate::limits::MAX_LEVELS;
 use crate::lock_keys::note_all;
 use crate::node_fields::{Fields, dynamic_fields, static_fields};
 use crate::node_inputs::NodeInput;
-use crate::plan_readers::{Checked, Named, Reader};
+use crate::read_nodes::{Checked, Named, ReadNodes};
 use crate::siblings::Siblings;
 use std::alloc::Global;
 use tk_ids::{IdFault, MAX_DESCRIPTORS, Segment, TableFault, UniqueId};
@@ -49,11 +49,8 @@ fn refused(fault: IdFault) -> PlanFault
     ensures { result ≡ as_plan_fault fault }
 {
     match fault {
-        IdFault::Empty => PlanFault::Id(IdFault::Empty),
-        IdFault::BadSegment(at) => PlanFault::Id(IdFault::BadSegment(at)),
-        IdFault::BadEscape(at) => PlanFault::Id(IdFault::BadEscape(at)),
-        IdFault::TooLong => PlanFault::Id(IdFault::TooLong),
         IdFault::Memory => PlanFault::Memory,
+        fault => PlanFault::Id(fault),
     }
 }
 
@@ -73,26 +70,21 @@ fn named(alloc: Global, above: Option<&UniqueId>, texts: TwoTexts<'_>) -> Result
         (id_fault (above_of above.entry) (json_segment_text texts.entry)))
         (IsNamed (above_of above.entry) (json_segment_text texts.entry)) result }
 {
-    let segment = match Segment::new(alloc, texts.first, texts.second) {
-        Ok(segment) => segment,
-        Err(fault) => return Err(refused(fault)),
-    };
-    match id_below(alloc, above, &segment) {
-        Ok(id) => Ok(Named { segment, id }),
-        Err(fault) => Err(refused(fault)),
-    }
+    let segment = Segment::new(alloc, texts.first, texts.second).map_err(refused)?;
+    let id = id_below(alloc, above, &segment).map_err(refused)?;
+    Ok(Named { segment, id })
 }
 
 /// Whether `MAX_DESCRIPTORS` nodes of the kind were read.
-fn is_full(reader: &Reader, is_static: bool) -> bool
-    requires { IsNoted reader.now }
+fn is_full(read: &ReadNodes, is_static: bool) -> bool
+    requires { IsNoted read.now }
     ensures { result
-        ≡ nat_le MAX_DESCRIPTORS (count_by (is_kind is_static) (contents reader.now.nodes.items)) }
+        ≡ nat_le MAX_DESCRIPTORS (count_by (is_kind is_static) (contents read.now.nodes.items)) }
 {
     let count = if is_static {
-        reader.descriptors.len()
+        read.descriptors.len()
     } else {
-        reader.dynamics
+        read.dynamics
     };
     count >= MAX_DESCRIPTORS
 }
@@ -117,8 +109,8 @@ fn into_checked(is_static: bool, named: Named, fields: Fields<'_, '_>) -> Checke
         is_isolated: concurrency.is_isolated,
         locks: concurrency.locks,
         skip: content.skip,
-        status: content.ending.status,
-        message: content.ending.message,
+        status: content.result.status,
+        message: content.result.message,
         entries: content.reports.entries,
         files: content.files,
     };
@@ -133,27 +125,27 @@ fn into_checked(is_static: bool, named: Named, fields: Fields<'_, '_>) -> Checke
 /// room for them.
 fn note_node<'t>(
     alloc: Global,
-    reader: &mut Reader,
+    read: &mut ReadNodes,
     siblings: &mut Siblings<'t>,
     is_static: bool,
     segment: TwoTexts<'t>,
     locks: &[Lock],
 ) -> Result<(), PlanFault>
-    requires { IsNoted reader.old }
+    requires { IsNoted read.old }
     ensures { let added = addition is_static (json_segment_text segment.entry)
-        (note_locks reader.old.keys.keys locks.now) in
-        Meets (first (room_checks (contents reader.old.nodes.items) siblings.old added))
-        (λ _. IsEntered (state reader.old siblings.old) (state reader.new siblings.new) added)
+        (note_locks read.old.keys.keys locks.now) in
+        Meets (first (room_checks (contents read.old.nodes.items) siblings.old added))
+        (λ _. IsEntered (state read.old siblings.old) (state read.new siblings.new) added)
         result }
 {
     if !siblings.insert(segment)? {
         return Err(PlanFault::Table(TableFault::Twice));
     }
-    if is_full(reader, is_static) {
+    if is_full(read, is_static) {
         return Err(PlanFault::Table(TableFault::Full));
     }
-    note_all(alloc, &mut reader.keys, locks)?;
-    if reader.keys.len() > MAX_KEYS {
+    note_all(alloc, &mut read.keys, locks)?;
+    if read.keys.len() > MAX_KEYS {
         return Err(PlanFault::TooManyResources);
     }
     Ok(())
@@ -163,19 +155,19 @@ fn note_node<'t>(
 /// keys. Answers its segment and its id.
 fn check_fields<'v, 't>(
     alloc: Global,
-    reader: &mut Reader,
+    read: &mut ReadNodes,
     siblings: &mut Siblings<'t>,
     node_input: NodeInput<'_, 'v, 't>,
     fields: &Fields<'v, 't>,
 ) -> Result<Named, PlanFault>
-    requires noted { IsNoted reader.old }
+    requires noted { IsNoted read.old }
     requires level { node_input.place.level ≤ MAX_LEVELS }
     requires members { node_check (seen siblings.old node_input) ≡ None }
-    requires read { HasFields node_input.place.is_static node_input.place.takes_files
+    requires fields { HasFields node_input.place.is_static node_input.place.takes_files
         (view node_input.value.now) fields.now }
     ensures { let s = seen siblings.old node_input.entry in
-        Meets (first (checks (contents reader.old.nodes.items) s))
-        (IsAdmitted (state reader.old siblings.old) (state reader.new siblings.new) s) result }
+        Meets (first (checks (contents read.old.nodes.items) s))
+        (IsAdmitted (state read.old siblings.old) (state read.new siblings.new) s) result }
 {
     if fields.content.reports.repeats {
         return Err(PlanFault::EntryKeyTwice);
@@ -183,7 +175,7 @@ fn check_fields<'v, 't>(
     let named = named(alloc, node_input.place.above, fields.heading.segment)?;
     note_node(
         alloc,
-        reader,
+        read,
         siblings,
         node_input.place.is_static,
         fields.heading.segment,
@@ -195,19 +187,19 @@ fn check_fields<'v, 't>(
 /// Checks one node, given the nodes before it, and notes its segment and its lock keys.
 pub(crate) fn check_node<'t>(
     alloc: Global,
-    reader: &mut Reader,
+    read: &mut ReadNodes,
     siblings: &mut Siblings<'t>,
     node_input: NodeInput<'_, '_, 't>,
 ) -> Result<Checked, PlanFault>
-    requires { IsNoted reader.old }
+    requires { IsNoted read.old }
     ensures { let s = seen siblings.old node_input.entry in
-        Meets (first (checks (contents reader.old.nodes.items) s))
-        (IsChecked (state reader.old siblings.old) (state reader.new siblings.new) s) result }
+        Meets (first (checks (contents read.old.nodes.items) s))
+        (IsChecked (state read.old siblings.old) (state read.new siblings.new) s) result }
 {
     if node_input.place.level > MAX_LEVELS {
         return Err(PlanFault::Deep);
     }
     let fields = fields_of(alloc, node_input)?;
-    let named = check_fields(alloc, reader, siblings, node_input, &fields)?;
+    let named = check_fields(alloc, read, siblings, node_input, &fields)?;
     Ok(into_checked(node_input.place.is_static, named, fields))
 }

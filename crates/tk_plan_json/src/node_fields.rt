@@ -16,13 +16,13 @@ use tk_ids::{DType, Text};
 use tk_plan_members::PlanFault;
 use tk_plan_members::file_members::files_member;
 use tk_plan_members::json_members::{
-    are_known, array_member, dtype_member, isolated_member, known_members, mode_member,
+    are_known, array_member, check_members, dtype_member, isolated_member, mode_member,
     optional_member, segment_member, text_member,
 };
 use tk_plan_members::json_paths::JsonPath;
 use tk_plan_members::json_values::{Items, into_items, into_members, members_in};
 use tk_plan_members::lock_members::locks_member;
-use tk_plan_members::member_values::{Ending, Reports, TwoTexts};
+use tk_plan_members::member_values::{NodeResult, Reports, TwoTexts};
 use tk_plan_members::result_members::{entries_member, result_member};
 use tk_plan_units::{Entries, Files, Locks};
 
@@ -46,7 +46,7 @@ pub(crate) struct Concurrency {
 #[derive(Drop)]
 pub(crate) struct Content {
     pub skip: Option<Text>,
-    pub ending: Ending,
+    pub result: NodeResult,
     pub reports: Reports,
     pub files: Files,
 }
@@ -110,19 +110,19 @@ fn content_members(
         (IsContent takes_files (view object.now)) result }
 {
     let skip = optional_member(alloc, at, object, "skip")?;
-    let ending = result_member(alloc, at, object)?;
+    let result = result_member(alloc, at, object)?;
     let reports = entries_member(alloc, at, object)?;
     let files = files_member(alloc, at, object, takes_files)?;
     Ok(Content {
         skip,
-        ending,
+        result,
         reports,
         files,
     })
 }
 
 /// Refuses a value that is no object, and an object with a member that a static node doesn't have.
-fn known_in_static(
+fn check_static_members(
     alloc: Global,
     at: JsonPath<'_>,
     value: &Value<'_>,
@@ -137,18 +137,18 @@ fn known_in_static(
             "type", "segment", "name", "mode", "isolated", "locks", "skip", "result", "entries",
             "files", "children", "dynamic",
         ];
-        known_members(alloc, at, value, &names)
+        check_members(alloc, at, value, &names)
     } else {
         let names = [
             "type", "segment", "name", "mode", "isolated", "locks", "skip", "result", "entries",
             "children", "dynamic",
         ];
-        known_members(alloc, at, value, &names)
+        check_members(alloc, at, value, &names)
     }
 }
 
 /// Refuses a value that is no object, and an object with a member that no dynamic node has.
-fn known_in_dynamic(
+fn check_dynamic_members(
     alloc: Global,
     at: JsonPath<'_>,
     value: &Value<'_>,
@@ -162,12 +162,12 @@ fn known_in_dynamic(
         let names = [
             "type", "segment", "name", "skip", "result", "entries", "files", "dynamic",
         ];
-        known_members(alloc, at, value, &names)
+        check_members(alloc, at, value, &names)
     } else {
         let names = [
             "type", "segment", "name", "skip", "result", "entries", "dynamic",
         ];
-        known_members(alloc, at, value, &names)
+        check_members(alloc, at, value, &names)
     }
 }
 
@@ -216,15 +216,15 @@ impl Content {
     /// What a node says that has none of these members.
     fn empty(alloc: Global) -> Content
         ensures skip { result.skip ≡ None }
-        ensures status { result.ending.status ≡ Successful }
-        ensures message { result.ending.message ≡ None }
+        ensures status { result.result.status ≡ Successful }
+        ensures message { result.result.message ≡ None }
         ensures entries { result.reports.entries ≡ [] }
         ensures repeats { result.reports.repeats ≡ false }
         ensures files { result.files ≡ [] }
     {
         Content {
             skip: None,
-            ending: Ending {
+            result: NodeResult {
                 status: Status::Successful,
                 message: None,
             },
@@ -272,7 +272,7 @@ pub(crate) fn static_fields<'v, 't>(
     if is_plain(value) {
         return plain_fields(alloc, at, value, takes_files);
     }
-    known_in_static(alloc, at, value, takes_files)?;
+    check_static_members(alloc, at, value, takes_files)?;
     let heading = heading_members(alloc, at, value)?;
     let concurrency = concurrency_members(alloc, at, value)?;
     let content = content_members(alloc, at, value, takes_files)?;
@@ -296,7 +296,7 @@ pub(crate) fn dynamic_fields<'v, 't>(
     ensures { Reads (dynamic_node takes_files (pointer at.entry) (view value.now))
         (HasFields false takes_files (view value.now)) result }
 {
-    known_in_dynamic(alloc, at, value, takes_files)?;
+    check_dynamic_members(alloc, at, value, takes_files)?;
     let heading = heading_members(alloc, at, value)?;
     let content = content_members(alloc, at, value, takes_files)?;
     let dynamic = array_member(alloc, at, value, "dynamic")?;

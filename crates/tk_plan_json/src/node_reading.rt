@@ -16,7 +16,7 @@ ghost use Rattle.tk_plan_json.specs.NodeInputs.{node_inputs, node_inputs_in, roo
 use crate::node_checks::check_node;
 use crate::node_fields::into_below;
 use crate::node_inputs::{NodeInput, NodePlace};
-use crate::plan_readers::Reader;
+use crate::read_nodes::ReadNodes;
 use crate::siblings::Siblings;
 use json::Value;
 use std::alloc::{AllocError, Global};
@@ -27,28 +27,28 @@ use tk_plan_members::path_texts::member_path;
 use tk_plan_units::{Node, NumberedNode};
 
 /// Puts the descriptor of a static node at the end, or counts a dynamic node.
-fn add_descriptor(reader: &mut Reader, node: &Node, id: UniqueId) -> Result<(), AllocError>
-    requires { reader.old.dynamics ≤ MAX_DESCRIPTORS }
-    ensures { OnOk result (IsDescribed reader.old reader.new node.now id) }
+fn add_descriptor(read: &mut ReadNodes, node: &Node, id: UniqueId) -> Result<(), AllocError>
+    requires { read.old.dynamics ≤ MAX_DESCRIPTORS }
+    ensures { OnOk result (IsDescribed read.old read.new node.now id) }
 {
     if node.is_static {
         let name = node.name.try_clone()?;
         let dtype = node.dtype;
-        reader.descriptors.push(Descriptor { id, name, dtype })?;
+        read.descriptors.push(Descriptor { id, name, dtype })?;
     } else {
-        reader.dynamics += 1;
+        read.dynamics += 1;
     }
     Ok(())
 }
 
 /// Puts a node at the end.
-fn add_node(reader: &mut Reader, node: Node, id: UniqueId) -> Result<(), AllocError>
-    requires { reader.old.dynamics ≤ MAX_DESCRIPTORS }
-    ensures { OnOk result (IsAdded reader.old reader.new node id) }
+fn add_node(read: &mut ReadNodes, node: Node, id: UniqueId) -> Result<(), AllocError>
+    requires { read.old.dynamics ≤ MAX_DESCRIPTORS }
+    ensures { OnOk result (IsAdded read.old read.new node id) }
 {
-    let described = add_descriptor(reader, &node, id);
-    // A reader without the descriptor is given up, so the node may follow it in any case.
-    reader.nodes.push(NumberedNode {
+    let described = add_descriptor(read, &node, id);
+    // Nodes without a descriptor are given up, so the node may follow in any case.
+    read.nodes.push(NumberedNode {
         node,
         number: 0,
         span: 1,
@@ -57,44 +57,44 @@ fn add_node(reader: &mut Reader, node: Node, id: UniqueId) -> Result<(), AllocEr
 }
 
 /// Puts a node that other nodes stand below at the end. Answers its id.
-fn add_parent(reader: &mut Reader, node: Node, id: UniqueId) -> Result<UniqueId, AllocError>
-    requires { reader.old.dynamics ≤ MAX_DESCRIPTORS }
-    ensures added { OnOk result (IsAdded reader.old reader.new node id) }
+fn add_parent(read: &mut ReadNodes, node: Node, id: UniqueId) -> Result<UniqueId, AllocError>
+    requires { read.old.dynamics ≤ MAX_DESCRIPTORS }
+    ensures added { OnOk result (IsAdded read.old read.new node id) }
     ensures id { IfOk result (λ i. i ≡ id) }
 {
     let copied = id.try_clone();
-    add_node(reader, node, id)?;
+    add_node(read, node, id)?;
     copied
 }
 
 /// Checks a node and puts it at the end. Answers its id where nodes stand below it.
 fn start_node<'t>(
     alloc: Global,
-    reader: &mut Reader,
+    read: &mut ReadNodes,
     siblings: &mut Siblings<'t>,
     node_input: NodeInput<'_, '_, 't>,
 ) -> Result<Option<UniqueId>, PlanFault>
-    requires { IsNoted reader.old }
+    requires { IsNoted read.old }
     ensures { let s = seen siblings.old node_input.entry in
-        Meets (first (checks (contents reader.old.nodes.items) s))
-        (IsStarted (state reader.old siblings.old) (state reader.new siblings.new) s) result }
+        Meets (first (checks (contents read.old.nodes.items) s))
+        (IsStarted (state read.old siblings.old) (state read.new siblings.new) s) result }
 {
-    let checked = check_node(alloc, reader, siblings, node_input)?;
+    let checked = check_node(alloc, read, siblings, node_input)?;
     // Most nodes are leaves, and only nodes below one need its id once more.
     if checked.is_leaf {
-        add_node(reader, checked.node, checked.id)?;
+        add_node(read, checked.node, checked.id)?;
         return Ok(None);
     }
-    Ok(Some(add_parent(reader, checked.node, checked.id)?))
+    Ok(Some(add_parent(read, checked.node, checked.id)?))
 }
 
 /// Lets the node at `at` span all nodes from there to the last one.
-fn end_node(reader: &mut Reader, at: usize)
-    requires { at < length reader.old.nodes.items }
-    ensures { IsSpanned reader.old reader.new at }
+fn end_node(read: &mut ReadNodes, at: usize)
+    requires { at < length read.old.nodes.items }
+    ensures { IsSpanned read.old read.new at }
 {
-    let span = reader.nodes.len() - at;
-    reader.nodes[at].span = span;
+    let span = read.nodes.len() - at;
+    read.nodes[at].span = span;
 }
 
 /// Reads a node and all below it. As soon as the node itself was read its value is dropped, save
@@ -102,28 +102,28 @@ fn end_node(reader: &mut Reader, at: usize)
 #[cycle(reading)]
 fn read_node<'t>(
     alloc: Global,
-    reader: &mut Reader,
+    read: &mut ReadNodes,
     siblings: &mut Siblings<'t>,
     place: NodePlace<'_>,
     value: Value<'t>,
 ) -> Result<(), PlanFault>
-    requires noted { IsNoted reader.old }
+    requires noted { IsNoted read.old }
     requires level { place.level ≤ MAX_LEVELS + 1 }
     ensures { let s = node_at siblings.old place.entry (view value.entry) in
         let levels = levels_from place.entry.level in
-        Meets (verdict_of_node reader.old levels s)
-        (λ _. AddsTree reader.old reader.new levels s
+        Meets (verdict_of_node read.old levels s)
+        (λ _. AddsTree read.old read.new levels s
         × (siblings.new ≡ siblings.old ++ segment_of s ∷ [])) result }
 {
-    let at = reader.nodes.len();
+    let at = read.nodes.len();
     let node_input = NodeInput {
         place,
         value: &value,
     };
-    match start_node(alloc, reader, siblings, node_input)? {
+    match start_node(alloc, read, siblings, node_input)? {
         Some(id) => {
-            read_below(alloc, reader, place, &id, value)?;
-            end_node(reader, at);
+            read_below(alloc, read, place, &id, value)?;
+            end_node(read, at);
             Ok(())
         }
         None => Ok(()),
@@ -134,18 +134,18 @@ fn read_node<'t>(
 #[cycle(reading)]
 fn read_below(
     alloc: Global,
-    reader: &mut Reader,
+    read: &mut ReadNodes,
     place: NodePlace<'_>,
     id: &UniqueId,
     value: Value<'_>,
 ) -> Result<(), PlanFault>
-    requires noted { IsNoted reader.old }
+    requires noted { IsNoted read.old }
     requires level { place.level ≤ MAX_LEVELS }
     requires id { id.now ≡ id_of (node_at [] place (view value)) }
     ensures { let s = node_at [] place.entry (view value.entry) in
         let levels = levels_below place.entry.level in
         let group : NodeGroup = record { above = id_of s; levels = levels; nodes = below s } in
-        Meets (verdict_of_group reader.old group) (λ _. AddsGroup reader.old reader.new group)
+        Meets (verdict_of_group read.old group) (λ _. AddsGroup read.old read.new group)
         result }
 {
     let (children, dynamic) = into_below(alloc, place.is_static, value);
@@ -153,7 +153,7 @@ fn read_below(
     let mut siblings = Siblings::with_capacity(alloc, count)?;
     read_all(
         alloc,
-        reader,
+        read,
         &mut siblings,
         place,
         "children",
@@ -163,7 +163,7 @@ fn read_below(
     )?;
     read_all(
         alloc,
-        reader,
+        read,
         &mut siblings,
         place,
         "dynamic",
@@ -177,7 +177,7 @@ fn read_below(
 #[cycle(reading)]
 fn read_all<'t>(
     alloc: Global,
-    reader: &mut Reader,
+    read: &mut ReadNodes,
     siblings: &mut Siblings<'t>,
     parent: NodePlace<'_>,
     name: &str,
@@ -185,14 +185,14 @@ fn read_all<'t>(
     id: &UniqueId,
     values: Vec<Value<'t>>,
 ) -> Result<(), PlanFault>
-    requires noted { IsNoted reader.old }
+    requires noted { IsNoted read.old }
     requires level { parent.level ≤ MAX_LEVELS }
     requires plain { flat_map escape name.now ≡ name.now }
     ensures { let array = array_at parent.entry name.now is_static id.now in
         let ss = node_inputs_in array 0 siblings.old (map view values.entry.items) in
         let levels = levels_below parent.entry.level in
         let group : NodeGroup = record { above = id.now; levels = levels; nodes = ss } in
-        Meets (verdict_of_group reader.old group) (λ _. AddsGroup reader.old reader.new group
+        Meets (verdict_of_group read.old group) (λ _. AddsGroup read.old read.new group
         × (siblings.new ≡ siblings.old ++ map segment_in (map view values.entry.items))) result }
 {
     if values.is_empty() {
@@ -207,23 +207,23 @@ fn read_all<'t>(
             takes_files: parent.takes_files,
             above: Some(id),
         };
-        read_node(alloc, reader, siblings, place, value)?;
+        read_node(alloc, read, siblings, place, value)?;
     }
     Ok(())
 }
 
-/// Reads the root and all below it, given a reader that has read no node.
+/// Reads the root and all below it, where no node was read yet.
 fn read_root(
     alloc: Global,
-    reader: &mut Reader,
+    read: &mut ReadNodes,
     takes_files: bool,
     root: Value<'_>,
 ) -> Result<(), PlanFault>
-    requires nodes { reader.old.nodes.items ≡ [] }
-    requires descriptors { reader.old.descriptors.items ≡ [] }
-    requires noted { IsNoted reader.old }
+    requires nodes { read.old.nodes.items ≡ [] }
+    requires descriptors { read.old.descriptors.items ≡ [] }
+    requires noted { IsNoted read.old }
     ensures { let s = root_at takes_files (view root.entry) in
-        Meets (verdict [] (node_inputs MAX_LEVELS s)) (λ _. HasRead s reader.new) result }
+        Meets (verdict [] (node_inputs MAX_LEVELS s)) (λ _. HasRead s read.new) result }
 {
     let mut siblings = Siblings::with_capacity(alloc, 1)?;
     let place = NodePlace {
@@ -233,15 +233,15 @@ fn read_root(
         takes_files,
         above: None,
     };
-    read_node(alloc, reader, &mut siblings, place, root)
+    read_node(alloc, read, &mut siblings, place, root)
 }
 
 /// Reads the nodes of a plan: the root and all below it.
-pub fn read_nodes(alloc: Global, takes_files: bool, root: Value<'_>) -> Result<Reader, PlanFault>
+pub fn read_nodes(alloc: Global, takes_files: bool, root: Value<'_>) -> Result<ReadNodes, PlanFault>
     ensures { let s = root_at takes_files (view root.entry) in
         Meets (verdict [] (node_inputs MAX_LEVELS s)) (HasRead s) result }
 {
-    let mut reader = Reader::new(alloc);
-    read_root(alloc, &mut reader, takes_files, root)?;
-    Ok(reader)
+    let mut read = ReadNodes::new(alloc);
+    read_root(alloc, &mut read, takes_files, root)?;
+    Ok(read)
 }

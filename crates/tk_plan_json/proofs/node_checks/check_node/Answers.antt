@@ -38,14 +38,14 @@ returns c =
           is_isolated = f.1.concurrency.is_isolated i;
           locks = f.1.concurrency.locks i;
           skip = f.1.content.skip i;
-          status = f.1.content.ending.status i;
-          message = f.1.content.ending.message i;
+          status = f.1.content.result.status i;
+          message = f.1.content.result.message i;
           entries = f.1.content.reports.entries i;
           files = f.1.content.files.paths i;
         };
         id = n.1.id;
         leaf = ap₂ (λ m n. m == 0 && n == 0) (sym (length-map _ view) ∙ ap length f.1.children) (sym (length-map _ view) ∙ ap length f.1.dynamic);
-        lawful = both _ _ f.1.content.ending.lawful (both _ _ f.1.content.reports.increasing f.1.content.files.lawful);
+        lawful = both _ _ f.1.content.result.lawful (both _ _ f.1.content.reports.increasing f.1.content.files.lawful);
         level = c.if-node_input-gt-MAX_LEVELS.false;
         entered = n.1.entered;
       },

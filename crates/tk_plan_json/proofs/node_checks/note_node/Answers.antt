@@ -7,15 +7,15 @@ use Rattle.tk_plan_json.proofs.CheckSteps.{twice_fault, full_fault, resource_fau
 use Rattle.tk_plan_json.proofs.node_checks.note_node.Goals as goal
 
 pub returns-then-not-branch : goal.returns-then-not-branch
-returns-then-not-branch c = twice_fault (contents c.args.reader.now.nodes.items) c.args.siblings.now (addition c.args.is_static (json_segment_text c.args.segment) (note_locks c.args.reader.now.keys.keys c.args.locks.now)) (not_false _ _ c.in_ok-insert.ensures.answer c.if-not-branch.true)
+returns-then-not-branch c = twice_fault (contents c.args.read.now.nodes.items) c.args.siblings.now (addition c.args.is_static (json_segment_text c.args.segment) (note_locks c.args.read.now.keys.keys c.args.locks.now)) (not_false _ _ c.in_ok-insert.ensures.answer c.if-not-branch.true)
 
 pub returns-then-is_full : goal.returns-then-is_full
-returns-then-is_full c = full_fault (contents c.args.reader.now.nodes.items) c.args.siblings.now (addition c.args.is_static (json_segment_text c.args.segment) (note_locks c.args.reader.now.keys.keys c.args.locks.now)) (not_true _ _ c.in_ok-insert.ensures.answer c.if-not-branch.false) (sym c.is_full.ensures ∙ c.if-is_full.true)
+returns-then-is_full c = full_fault (contents c.args.read.now.nodes.items) c.args.siblings.now (addition c.args.is_static (json_segment_text c.args.segment) (note_locks c.args.read.now.keys.keys c.args.locks.now)) (not_true _ _ c.in_ok-insert.ensures.answer c.if-not-branch.false) (sym c.is_full.ensures ∙ c.if-is_full.true)
 
 pub returns-then-len-gt-MAX_KEYS : goal.returns-then-len-gt-MAX_KEYS
 returns-then-len-gt-MAX_KEYS c =
     let many : 15 < length c.note_all.new.keys.keys = rw (← c.len.ensures.len) c.if-len-gt-MAX_KEYS.true in
-    resource_fault (contents c.args.reader.now.nodes.items) c.args.siblings.now (addition c.args.is_static (json_segment_text c.args.segment) (note_locks c.args.reader.now.keys.keys c.args.locks.now)) (not_true _ _ c.in_ok-insert.ensures.answer c.if-not-branch.false) (sym c.is_full.ensures ∙ c.if-is_full.false) (subst (λ l. 15 < length l) c.in_ok-note_all.ensures many)
+    resource_fault (contents c.args.read.now.nodes.items) c.args.siblings.now (addition c.args.is_static (json_segment_text c.args.segment) (note_locks c.args.read.now.keys.keys c.args.locks.now)) (not_true _ _ c.in_ok-insert.ensures.answer c.if-not-branch.false) (sym c.is_full.ensures ∙ c.if-is_full.false) (subst (λ l. 15 < length l) c.in_ok-note_all.ensures many)
 
 pub returns : goal.returns
 returns c =
@@ -23,7 +23,7 @@ returns c =
     let room = sym c.is_full.ensures ∙ c.if-is_full.false in
     let few : length c.note_all.new.keys.keys ≤ 15 = rw (← c.len.ensures.len) c.if-len-gt-MAX_KEYS.false in
     let few_keys = subst (λ l. length l ≤ 15) c.in_ok-note_all.ensures few in (
-      no_fault (contents c.args.reader.now.nodes.items) c.args.siblings.now (addition c.args.is_static (json_segment_text c.args.segment) (note_locks c.args.reader.now.keys.keys c.args.locks.now)) new room few_keys,
+      no_fault (contents c.args.read.now.nodes.items) c.args.siblings.now (addition c.args.is_static (json_segment_text c.args.segment) (note_locks c.args.read.now.keys.keys c.args.locks.now)) new room few_keys,
       record {
         nodes = refl;
         descriptors = refl;

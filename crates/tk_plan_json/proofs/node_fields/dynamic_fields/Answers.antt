@@ -6,28 +6,28 @@ use Rattle.tk_plan_members.proofs.Passing.{refuses_whole}
 use Rattle.tk_plan_json.proofs.Groups.{passes, stops, dynamic_groups}
 use Rattle.tk_plan_json.proofs.node_fields.dynamic_fields.Goals as goal
 
-pub returns-in_err-known_in_dynamic : goal.returns-in_err-known_in_dynamic
-returns-in_err-known_in_dynamic c =
+pub returns-in_err-check_dynamic_members : goal.returns-in_err-check_dynamic_members
+returns-in_err-check_dynamic_members c =
     let p = err_from_is_err_and c.from_residual.result c.from_residual.ensures.1 in
-    rw (p.1, p.2) (refuses_whole _ _ _ (λ path w. dynamic_groups c.args.takes_files (pointer c.args.at) (view c.args.value.now) ∙ stops _ _ _ w) c.in_err-known_in_dynamic.ensures)
+    rw (p.1, p.2) (refuses_whole _ _ _ (λ path w. dynamic_groups c.args.takes_files (pointer c.args.at) (view c.args.value.now) ∙ stops _ _ _ w) c.in_err-check_dynamic_members.ensures)
 
 pub returns-in_err-heading : goal.returns-in_err-heading
 returns-in_err-heading c =
     let p = err_from_is_err_and c.from_residual-in_err-heading.result c.from_residual-in_err-heading.ensures.1 in
-    rw (p.1, p.2) (refuses_whole _ _ _ (λ path w. dynamic_groups c.args.takes_files (pointer c.args.at) (view c.args.value.now) ∙ passes _ _ _ c.in_ok-known_in_dynamic.ensures.0 (stops _ _ _ w)) c.in_err-heading.ensures)
+    rw (p.1, p.2) (refuses_whole _ _ _ (λ path w. dynamic_groups c.args.takes_files (pointer c.args.at) (view c.args.value.now) ∙ passes _ _ _ c.in_ok-check_dynamic_members.ensures.0 (stops _ _ _ w)) c.in_err-heading.ensures)
 
 pub returns-in_err-content : goal.returns-in_err-content
 returns-in_err-content c =
     let p = err_from_is_err_and c.from_residual-in_err-content.result c.from_residual-in_err-content.ensures.1 in
-    rw (p.1, p.2) (refuses_whole _ _ _ (λ path w. dynamic_groups c.args.takes_files (pointer c.args.at) (view c.args.value.now) ∙ passes _ _ _ c.in_ok-known_in_dynamic.ensures.0 (passes _ _ _ c.in_ok-heading.ensures.0 (stops _ _ _ w))) c.in_err-content.ensures)
+    rw (p.1, p.2) (refuses_whole _ _ _ (λ path w. dynamic_groups c.args.takes_files (pointer c.args.at) (view c.args.value.now) ∙ passes _ _ _ c.in_ok-check_dynamic_members.ensures.0 (passes _ _ _ c.in_ok-heading.ensures.0 (stops _ _ _ w))) c.in_err-content.ensures)
 
 pub returns-in_err-dynamic : goal.returns-in_err-dynamic
 returns-in_err-dynamic c =
     let p = err_from_is_err_and c.from_residual-in_err-dynamic.result c.from_residual-in_err-dynamic.ensures.1 in
-    rw (p.1, p.2) (refuses_whole _ _ _ (λ path w. dynamic_groups c.args.takes_files (pointer c.args.at) (view c.args.value.now) ∙ passes _ _ _ c.in_ok-known_in_dynamic.ensures.0 (passes _ _ _ c.in_ok-heading.ensures.0 (passes _ _ _ c.in_ok-content.ensures.0 (stops _ _ _ w)))) c.in_err-dynamic.ensures)
+    rw (p.1, p.2) (refuses_whole _ _ _ (λ path w. dynamic_groups c.args.takes_files (pointer c.args.at) (view c.args.value.now) ∙ passes _ _ _ c.in_ok-check_dynamic_members.ensures.0 (passes _ _ _ c.in_ok-heading.ensures.0 (passes _ _ _ c.in_ok-content.ensures.0 (stops _ _ _ w)))) c.in_err-dynamic.ensures)
 
 pub returns : goal.returns
 returns c = (
-  dynamic_groups c.args.takes_files (pointer c.args.at) (view c.args.value.now) ∙ passes _ _ _ c.in_ok-known_in_dynamic.ensures.0 (passes _ _ _ c.in_ok-heading.ensures.0 (passes _ _ _ c.in_ok-content.ensures.0 (passes _ _ _ c.in_ok-dynamic.ensures.0 refl))),
+  dynamic_groups c.args.takes_files (pointer c.args.at) (view c.args.value.now) ∙ passes _ _ _ c.in_ok-check_dynamic_members.ensures.0 (passes _ _ _ c.in_ok-heading.ensures.0 (passes _ _ _ c.in_ok-content.ensures.0 (passes _ _ _ c.in_ok-dynamic.ensures.0 refl))),
   record { heading = c.in_ok-heading.ensures.1; concurrency = record { is_concurrent = c.of_mode.ensures.mode; is_isolated = c.of_mode.ensures.isolated; locks = c.of_mode.ensures.locks }; content = c.in_ok-content.ensures.1; children = ap (map view) c.none.ensures; dynamic = c.in_ok-dynamic.ensures.1 },
 )

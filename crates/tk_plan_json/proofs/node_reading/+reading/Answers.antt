@@ -53,14 +53,14 @@ read_all-returns t c =
     let none : left.items ≡ [] = no_values _ (omega (arith, left.ok.0, c.in-None.ensures.steps.0.0)) in
     let array = array_at c.args.parent c.args.name.now c.args.is_static c.args.id.now in
     let all = node_inputs_in array 0 c.args.siblings.now (map view c.args.values.items) in
-    let over = subst (λ vs. Goes (60 - c.args.parent.level) c.args.id.now c.args.reader.now c.loop-index.reader all (node_inputs_in array c.loop-index.index-iterator.count c.loop-index.siblings (map view vs))) none c.loop-index.invariant.0 in
+    let over = subst (λ vs. Goes (60 - c.args.parent.level) c.args.id.now c.args.read.now c.loop-index.read all (node_inputs_in array c.loop-index.index-iterator.count c.loop-index.siblings (map view vs))) none c.loop-index.invariant.0 in
     let end = goes_end _ _ _ _ _ over in
     (end.0, (end.1, met_end _ _ _ _ (ap (map view) none) c.loop-index.invariant.1))
 
 pub read_node-returns-in_err-id : goal.read_node-returns-in_err-id
 read_node-returns-in_err-id t c =
     let p = err_from_is_err_and c.from_residual.result c.from_residual.ensures.1 in
-    let old : List NumberedNode = c.args.reader.now.nodes.items in
+    let old : List NumberedNode = c.args.read.now.nodes.items in
     let s : spec.NodeInput = node_at c.args.siblings.now c.args.place (view c.args.value) in
     rw (p.1, p.2) (faults_also (first (checks (contents old) s)) _ _ (λ f w. check_fault (61 - c.args.place.level) (contents old) s f w) c.in_err-id.ensures)
 
@@ -68,8 +68,8 @@ pub read_all-returns-then-is_empty : goal.read_all-returns-then-is_empty
 read_all-returns-then-is_empty t c =
     let count : length c.args.values.items ≡ 0 = grind (arith, nat_tests) in
     let none : c.args.values.items ≡ [] = no_values _ count in
-    let noted : IsNoted c.args.reader.now = search rules in
-    let nowhere = goes_nowhere (60 - c.args.parent.level) c.args.id.now c.args.reader.now (array_at c.args.parent c.args.name.now c.args.is_static c.args.id.now) c.args.siblings.now _ (ap (map view) none) noted in
+    let noted : IsNoted c.args.read.now = search rules in
+    let nowhere = goes_nowhere (60 - c.args.parent.level) c.args.id.now c.args.read.now (array_at c.args.parent c.args.name.now c.args.is_static c.args.id.now) c.args.siblings.now _ (ap (map view) none) noted in
     (nowhere.0, (nowhere.1, sym (ap (λ l. c.args.siblings.now ++ map segment_in (map view l)) none ∙ append-nil c.args.siblings.now)))
 
 pub read_node-returns-in_err-read_below-in-Some : goal.read_node-returns-in_err-read_below-in-Some
@@ -80,7 +80,7 @@ read_node-returns-in_err-read_below-in-Some t c =
     let l : ℕ = 60 - c.args.place.level in
     let m : ℕ = 61 - c.args.place.level in
     let up : m ≡ suc l = omega (arith, k.1.level) in
-    rw (p.1, p.2) (faults_also _ _ _ (λ f w. below_verdict l m up c.args.reader.now c.start_node.new.reader s _ _ k.0 k.1 ∙ w) c.in_err-read_below-in-Some.ensures)
+    rw (p.1, p.2) (faults_also _ _ _ (λ f w. below_verdict l m up c.args.read.now c.start_node.new.read s _ _ k.0 k.1 ∙ w) c.in_err-read_below-in-Some.ensures)
 
 pub read_node-returns-in_ok-read_below-in-Some : goal.read_node-returns-in_ok-read_below-in-Some
 read_node-returns-in_ok-read_below-in-Some t c =
@@ -90,10 +90,10 @@ read_node-returns-in_ok-read_below-in-Some t c =
     let l : ℕ = 60 - c.args.place.level in
     let m : ℕ = 61 - c.args.place.level in
     let up : m ≡ suc l = omega (arith, k.1.level) in
-    let start : c.len-at.result ≡ length c.args.reader.now.nodes.items = grind arith in (
-      below_verdict l m up c.args.reader.now c.start_node.new.reader s _ _ k.0 k.1 ∙ below_read.0,
+    let start : c.len-at.result ≡ length c.args.read.now.nodes.items = grind arith in (
+      below_verdict l m up c.args.read.now c.start_node.new.read s _ _ k.0 k.1 ∙ below_read.0,
       (
-        node_added l m up c.args.reader.now c.start_node.new.reader s _ _ k.0 k.1 c.read_below.new.reader c.end_node.new.reader c.len-at.result start below_read.1 c.end_node.ensures,
+        node_added l m up c.args.read.now c.start_node.new.read s _ _ k.0 k.1 c.read_below.new.read c.end_node.new.read c.len-at.result start below_read.1 c.end_node.ensures,
         k.1.siblings,
       ),
     )
@@ -106,8 +106,8 @@ read_node-returns-in-None t c =
     let m : ℕ = 61 - c.args.place.level in
     let up : m ≡ suc l = omega (arith, k.1.level) in
     let none : below s ≡ [] = subst (HasBelow s) c.in-None.is k.1.below in (
-      leaf_verdict l m up c.args.reader.now c.start_node.new.reader s _ _ k.0 k.1 none,
-      (leaf_added l m up c.args.reader.now c.start_node.new.reader s _ _ k.0 k.1 none, k.1.siblings),
+      leaf_verdict l m up c.args.read.now c.start_node.new.read s _ _ k.0 k.1 none,
+      (leaf_added l m up c.args.read.now c.start_node.new.read s _ _ k.0 k.1 none, k.1.siblings),
     )
 
 pub read_below-returns-in_err-read_all : goal.read_below-returns-in_err-read_all
@@ -120,7 +120,7 @@ read_below-returns-in_err-read_all t c =
     let ds = map view arrays.result.1.items in
     let e1 = c.in_ok-siblings.siblings in
     let parts = parts_of s cs ds c.args.id.now e1 (e1 ++ map segment_in cs) arrays.ensures.children arrays.ensures.dynamic q.id c.in_ok-siblings.ensures refl in
-    rw (p.1, p.2) (faults_also _ _ _ (first_fault (60 - c.args.place.level) c.args.reader.now _ _ (below s) parts) c.in_err-read_all.ensures)
+    rw (p.1, p.2) (faults_also _ _ _ (first_fault (60 - c.args.place.level) c.args.read.now _ _ (below s) parts) c.in_err-read_all.ensures)
 
 pub read_below-returns : goal.read_below-returns
 read_below-returns t c =
@@ -134,6 +134,6 @@ read_below-returns t c =
     let k : ℕ = 60 - c.args.place.level in
     let parts = parts_of s cs ds id c.in_ok-siblings.siblings c.read_all.new.siblings arrays.ensures.children arrays.ensures.dynamic q.id c.in_ok-siblings.ensures one.1.1 in
     meets_also _ _ _ _ c.read_all-2.result
-    (second_verdict k c.args.reader.now _ _ (below s) parts (id_of s) id q.id c.read_all.new.reader one.0 one.1.0)
-    (λ _ a. both_added k c.args.reader.now _ _ (below s) parts (id_of s) id q.id c.read_all.new.reader one.0 one.1.0 c.read_all-2.new.reader a.0)
+    (second_verdict k c.args.read.now _ _ (below s) parts (id_of s) id q.id c.read_all.new.read one.0 one.1.0)
+    (λ _ a. both_added k c.args.read.now _ _ (below s) parts (id_of s) id q.id c.read_all.new.read one.0 one.1.0 c.read_all-2.new.read a.0)
     c.read_all-2.ensures

@@ -6,12 +6,12 @@ use Rattle.tk_plan_units.specs.Planned.{is_lawful_node}
 use Rattle.tk_plan_units.specs.Trees.{contents}
 use Rattle.tk_plan_json.specs.Verdicts.{is_kind}
 use Rattle.tk_plan_json.specs.Progress.{IsNoted}
-use Rattle.tk_plan_json.specs.declared.plan_readers.Reader.{Reader}
+use Rattle.tk_plan_json.specs.declared.read_nodes.ReadNodes.{ReadNodes}
 use Rattle.tk_plan_json.proofs.CheckSteps.{faults_also}
 use Rattle.tk_plan_json.proofs.node_reading.read_nodes.Goals as goal
 
 -- where no node was read
-none_noted : (r : Reader) → r.nodes.items ≡ [] → r.descriptors.items ≡ [] → r.dynamics ≡ 0 → r.keys.keys ≡ [] → IsNoted r
+none_noted : (r : ReadNodes) → r.nodes.items ≡ [] → r.descriptors.items ≡ [] → r.dynamics ≡ 0 → r.keys.keys ≡ [] → IsNoted r
 none_noted r nodes descriptors dynamics keys =
     let no_keys : length r.keys.keys ≡ 0 = ap length keys in
     let no_descriptors : length r.descriptors.items ≡ 0 = ap length descriptors in
@@ -32,5 +32,5 @@ returns-in_err-read_root c =
 
 pub read_root-requires : goal.read_root-requires
 read_root-requires c =
-    let new = c.new-reader.ensures in
-    record { nodes = new.nodes; descriptors = new.descriptors; noted = none_noted c.new-reader.result new.nodes new.descriptors new.dynamics new.keys }
+    let new = c.new-read.ensures in
+    record { nodes = new.nodes; descriptors = new.descriptors; noted = none_noted c.new-read.result new.nodes new.descriptors new.dynamics new.keys }

@@ -8,7 +8,7 @@ use tk_plan_units::{Node, NumberedNode};
 
 /// The nodes that were read, in preorder, and what they have.
 #[derive(Drop)]
-pub struct Reader {
+pub struct ReadNodes {
     /// The nodes, with no number yet.
     pub nodes: Vec<NumberedNode>,
     /// The descriptors of the static nodes.
@@ -19,15 +19,15 @@ pub struct Reader {
     pub keys: IndexSet<Text>,
 }
 
-impl Reader {
-    /// A reader that has read no node.
-    pub fn new(alloc: Global) -> Reader
+impl ReadNodes {
+    /// Makes what is kept before any node was read.
+    pub fn new(alloc: Global) -> ReadNodes
         ensures nodes { result.nodes.items ≡ [] }
         ensures descriptors { result.descriptors.items ≡ [] }
         ensures dynamics { result.dynamics ≡ 0 }
         ensures keys { result.keys.keys ≡ [] }
     {
-        Reader {
+        ReadNodes {
             nodes: Vec::new(alloc),
             descriptors: Vec::new(alloc),
             dynamics: 0,
