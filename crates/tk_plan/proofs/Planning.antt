@@ -22,7 +22,7 @@ use Rattle.tk_plan.specs.PlanOf.{PlanOf, top, takes_files_in, root_of, first_fau
 use Rattle.tk_plan_json.specs.Progress.{IsNoted}
 use Rattle.tk_plan_members.specs.Refusals.{IsFault}
 use Rattle.tk_plan_json.specs.NodeInputs.{NodeInput, root_at, node_inputs, grown}
-use Rattle.tk_plan_json.specs.declared.plan_readers.Reader.{Reader}
+use Rattle.tk_plan_json.specs.declared.read_nodes.ReadNodes.{ReadNodes}
 use Rattle.tk_plan_members.specs.declared.faults.PlanFault.{PlanFault}
 use Rattle.tk_plan_members.specs.declared.faults.PlanFault.TheVariants.{Json, Field, Id, Table, TooManyResources, EntryKeyTwice, TooManyEvents, Deep, Memory}
 use Rattle.tk_plan_json.proofs.Distinct.{apart_grown, distinct_in, are_distinct}
@@ -123,7 +123,7 @@ module _ (s : NodeInput) (static : s.is_static ≡ true) (nodes : List NumberedN
   unfolding moves_are
   not_many h = ap (λ b. when b TooManyEvents) (le-ltb _ _ (subst (λ m. length m ≤ 2 ^ 20) moves_are h))
 
-  pub planned : (r : Reader) (table : List Descriptor) → r.nodes.items ≡ nodes → IsNoted r → s.above ≡ [] → verdict [] (node_inputs 60 s) ≡ None → r.descriptors.items ≡ descriptors s.above (grown 60 s) → table ≡ r.descriptors.items
+  pub planned : (r : ReadNodes) (table : List Descriptor) → r.nodes.items ≡ nodes → IsNoted r → s.above ≡ [] → verdict [] (node_inputs 60 s) ≡ None → r.descriptors.items ≡ descriptors s.above (grown 60 s) → table ≡ r.descriptors.items
       → length (moves_below 0 (forest nodes)) ≤ 2 ^ 20 → IsPlanned nodes table
   unfolding forest_is trees
   planned r table same noted none fine described t few =

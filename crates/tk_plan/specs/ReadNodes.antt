@@ -7,10 +7,10 @@ use Rattle.tk_plan_json.specs.Progress.{IsNoted}
 use Rattle.tk_plan_members.specs.Refusals.{IsFault}
 use Rattle.tk_plan.specs.Tables.{Follow}
 use Rattle.tk_plan_members.specs.declared.faults.PlanFault.{PlanFault}
-use Rattle.tk_plan_json.specs.declared.plan_readers.Reader.{Reader}
+use Rattle.tk_plan_json.specs.declared.read_nodes.ReadNodes.{ReadNodes}
 
--- the reader has the nodes of the tree and the descriptors of the static ones, and they are a plan
-pub record HasTree (t : Tree) (r : Reader) : Type 0 where
+-- what was read has the nodes of the tree and the descriptors of the static ones, and they are a plan
+pub record HasTree (t : Tree) (r : ReadNodes) : Type 0 where
   pub nodes : r.nodes.items ≡ flat t
   pub descriptors : r.descriptors.items ≡ descriptors [] t
   pub noted : IsNoted r
@@ -18,6 +18,6 @@ pub record HasTree (t : Tree) (r : Reader) : Type 0 where
   pub planned : IsPlanned r.nodes.items r.descriptors.items
 
 -- the nodes of the plan were read, or the answer is the fault, unless memory ran out
-abbrev pub IsReadFrom : Result Tree PlanFault → Result Reader PlanFault → Type 0
+abbrev pub IsReadFrom : Result Tree PlanFault → Result ReadNodes PlanFault → Type 0
 IsReadFrom plan (Ok r) = (t : Tree) × (plan ≡ Ok t) × HasTree t r
 IsReadFrom plan (Err e) = IsFault (λ f. plan ≡ Err f) e

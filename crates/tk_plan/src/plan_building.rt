@@ -23,6 +23,6 @@ pub fn build_plan(alloc: Global, root: &PlanNode<'_>) -> Result<Plan, PlanFault>
     ensures { Answered (PlanOf (plan_data root.now)) result }
 {
     let value = plan_value(alloc, root)?;
-    let reader = nodes_of(alloc, value)?;
-    Ok(plan_from(alloc, reader)?)
+    let read = nodes_of(alloc, value)?;
+    Ok(plan_from(alloc, read)?)
 }

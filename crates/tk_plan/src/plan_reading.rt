@@ -20,9 +20,9 @@ use std::alloc::{AllocError, Global};
 use std::sync::Arc;
 use tk_ids::{Descriptor, Table, Text};
 use tk_plan_json::node_reading::read_nodes;
-use tk_plan_json::plan_readers::Reader;
+use tk_plan_json::read_nodes::ReadNodes;
 use tk_plan_members::PlanFault;
-use tk_plan_members::json_members::known_members;
+use tk_plan_members::json_members::check_members;
 use tk_plan_members::json_numbers::whole_number_in;
 use tk_plan_members::json_paths::JsonPath;
 use tk_plan_members::json_texts::read_json;
@@ -61,7 +61,7 @@ fn top_members<'t>(alloc: Global, value: Value<'t>) -> Result<(bool, Value<'t>),
         (λ t. (t.0 ≡ takes_files_in (view value.entry))
         × (get (codes "root") (view value.entry) ≡ Some (view t.1))) result }
 {
-    known_members(alloc, JsonPath::Whole(""), &value, &["version", "root"])?;
+    check_members(alloc, JsonPath::Whole(""), &value, &["version", "root"])?;
     let (version, root) = into_members(value, "version", "root");
     let takes_files = version_member(alloc, version)?;
     let root = root_member(alloc, root)?;
@@ -93,38 +93,38 @@ fn table_of(alloc: Global, descriptors: Vec<Descriptor>) -> Result<Arc<Table>, A
 }
 
 /// Makes the plan of the nodes that were read.
-pub(crate) fn plan_from(alloc: Global, reader: Reader) -> Result<Plan, AllocError>
-    requires follow { Follow [] reader.descriptors.items }
-    requires noted { IsNoted reader }
-    requires planned { IsPlanned reader.nodes.items reader.descriptors.items }
+pub(crate) fn plan_from(alloc: Global, read: ReadNodes) -> Result<Plan, AllocError>
+    requires follow { Follow [] read.descriptors.items }
+    requires noted { IsNoted read }
+    requires planned { IsPlanned read.nodes.items read.descriptors.items }
     ensures { IfOk result (λ plan.
-        plan ≡ record { nodes = numbered reader.nodes.items; table = reader.descriptors.items }) }
+        plan ≡ record { nodes = numbered read.nodes.items; table = read.descriptors.items }) }
 {
-    let Reader {
+    let ReadNodes {
         nodes,
         descriptors,
         dynamics: _,
         keys,
-    } = reader;
+    } = read;
     let keys = key_list(alloc, keys)?;
     let table = table_of(alloc, descriptors)?;
     Plan::new(alloc, nodes, table, keys.as_slice())
 }
 
 /// Reads the nodes of the plan that a value stands for.
-pub(crate) fn nodes_of(alloc: Global, value: Value<'_>) -> Result<Reader, PlanFault>
+pub(crate) fn nodes_of(alloc: Global, value: Value<'_>) -> Result<ReadNodes, PlanFault>
     ensures { IsReadFrom (PlanOf (view value.entry)) result }
 {
     let (takes_files, root) = top_members(alloc, value)?;
-    let reader = read_nodes(alloc, takes_files, root)?;
-    match count_events(reader.nodes.as_slice()) {
+    let read = read_nodes(alloc, takes_files, root)?;
+    match count_events(read.nodes.as_slice()) {
         None => Err(PlanFault::TooManyEvents),
-        Some(_) => Ok(reader),
+        Some(_) => Ok(read),
     }
 }
 
 /// Reads the nodes of a plan from its text.
-fn read_text(alloc: Global, bytes: &[u8]) -> Result<Reader, PlanFault>
+fn read_text(alloc: Global, bytes: &[u8]) -> Result<ReadNodes, PlanFault>
     ensures { IsReadFrom (plan_in bytes.now) result }
 {
     let Ok(text) = str::from_utf8(bytes) else {
@@ -143,6 +143,6 @@ fn read_text(alloc: Global, bytes: &[u8]) -> Result<Reader, PlanFault>
 pub fn read_plan(alloc: Global, bytes: &[u8]) -> Result<Plan, PlanFault>
     ensures { Answered (plan_in bytes.now) result }
 {
-    let reader = read_text(alloc, bytes)?;
-    Ok(plan_from(alloc, reader)?)
+    let read = read_text(alloc, bytes)?;
+    Ok(plan_from(alloc, read)?)
 }

@@ -16,19 +16,19 @@ returns-in_err-takes_files c =
     let p = err_from_is_err_and c.from_residual.result c.from_residual.ensures.1 in
     rw (p.1, p.2) (refuses_as _ (λ e. PlanOf (view c.args.value) ≡ Err e) _ (λ path w. top_fault (view c.args.value) path w) c.in_err-takes_files.ensures)
 
-pub returns-in_err-reader : goal.returns-in_err-reader
-returns-in_err-reader c =
-    let p = err_from_is_err_and c.from_residual-in_err-reader.result c.from_residual-in_err-reader.ensures.1 in
+pub returns-in_err-read : goal.returns-in_err-read
+returns-in_err-read c =
+    let p = err_from_is_err_and c.from_residual-in_err-read.result c.from_residual-in_err-read.ensures.1 in
     let r = view c.in_ok-takes_files.root in
-    rw (p.1, p.2) (fault_as (λ f. verdict [] (node_inputs 60 (root_at c.in_ok-takes_files.takes_files r)) ≡ Some f) (λ e. PlanOf (view c.args.value) ≡ Err e) _ (λ f w. node_fault (view c.args.value) r c.in_ok-takes_files.ensures.1.1 c.in_ok-takes_files.ensures.0 (root_at c.in_ok-takes_files.takes_files r) f (ap (λ b. root_at b r) c.in_ok-takes_files.ensures.1.0) w) c.in_err-reader.ensures)
+    rw (p.1, p.2) (fault_as (λ f. verdict [] (node_inputs 60 (root_at c.in_ok-takes_files.takes_files r)) ≡ Some f) (λ e. PlanOf (view c.args.value) ≡ Err e) _ (λ f w. node_fault (view c.args.value) r c.in_ok-takes_files.ensures.1.1 c.in_ok-takes_files.ensures.0 (root_at c.in_ok-takes_files.takes_files r) f (ap (λ b. root_at b r) c.in_ok-takes_files.ensures.1.0) w) c.in_err-read.ensures)
 
 pub count_events-requires : goal.count_events-requires
-count_events-requires c = trees (root_at c.in_ok-takes_files.takes_files (view c.in_ok-takes_files.root)) refl _ (c.as_slice.ensures.value ∙ c.in_ok-reader.ensures.1.nodes)
+count_events-requires c = trees (root_at c.in_ok-takes_files.takes_files (view c.in_ok-takes_files.root)) refl _ (c.as_slice.ensures.value ∙ c.in_ok-read.ensures.1.nodes)
 
 pub returns-in-None : goal.returns-in-None
 returns-in-None c =
     let r = view c.in_ok-takes_files.root in
-    let read = c.in_ok-reader.ensures in
+    let read = c.in_ok-read.ensures in
     no_node_fault (view c.args.value) r c.in_ok-takes_files.ensures.1.1 c.in_ok-takes_files.ensures.0 (root_at c.in_ok-takes_files.takes_files r) (ap (λ b. root_at b r) c.in_ok-takes_files.ensures.1.0) read.0
     ∙ ap (λ o. ok_unless o (grown 60 (root_at c.in_ok-takes_files.takes_files r))) (too_many (root_at c.in_ok-takes_files.takes_files r) refl _ (c.as_slice.ensures.value ∙ read.1.nodes) c.in-None.ensures)
 
@@ -36,8 +36,8 @@ pub returns-in-Some : goal.returns-in-Some
 returns-in-Some c =
     let r = view c.in_ok-takes_files.root in
     let s = root_at c.in_ok-takes_files.takes_files r in
-    let read = c.in_ok-reader.ensures in
-    let reader = c.in_ok-reader.reader in
+    let read = c.in_ok-read.ensures in
+    let nodes = c.in_ok-read.read in
     let few = subst (λ l. length (moves_below 0 (forest l)) ≤ 2 ^ 20) c.as_slice.ensures.value (subst (λ x. x ≤ 2 ^ 20) c.in-Some.ensures.0 c.in-Some.ensures.1) in (
       grown 60 s,
       no_node_fault (view c.args.value) r c.in_ok-takes_files.ensures.1.1 c.in_ok-takes_files.ensures.0 s (ap (λ b. root_at b r) c.in_ok-takes_files.ensures.1.0) read.0
@@ -47,6 +47,6 @@ returns-in-Some c =
         descriptors = read.1.descriptors;
         noted = read.1.noted;
         follow = subst (Follow []) (sym read.1.descriptors) (plan_follows 60 s refl read.0);
-        planned = planned s refl reader.nodes.items read.1.nodes reader _ refl read.1.noted refl read.0 read.1.descriptors refl few;
+        planned = planned s refl nodes.nodes.items read.1.nodes nodes _ refl read.1.noted refl read.0 read.1.descriptors refl few;
       },
     )
