@@ -83,7 +83,8 @@ pub record AddsParts (plan : KeyedNodes) (old new : Cutting) (ps : List Part) : 
   pub fits : All (Fits plan.nodes plan.keys) old.units.items
       → All (Fits plan.nodes plan.keys) new.units.items
   pub begin_events_of_spine : begin_events_of_spine plan.nodes new.starts.items
-      ≡ begin_events_of_spine plan.nodes old.starts.items ++ from_each begin_events old.event_count ps
+      ≡ begin_events_of_spine plan.nodes old.starts.items
+      ++ from_each begin_events old.event_count ps
   pub starts : All (HasStampAt plan.nodes) old.starts.items
       → All (HasStampAt plan.nodes) new.starts.items
   pub end_events_of_spine : end_events_of_spine plan.nodes new.finishes.items
