@@ -1,5 +1,6 @@
 -- What the code's values stand for.
-use Rattle.std.specs.Prelude.{◌≡◌, ◌++◌, ◌+◌, ◌∷◌, [], ℕ, Bool, List, Option, None, Some}
+use Rattle.std.specs.Prelude.{◌≡◌, ◌++◌, ◌+◌, ◌∷◌, [], ℕ, Bool, true, false, List, Option}
+use Rattle.std.specs.Prelude.{None, Some, codes}
 use denote.Ref.{Bor}
 use Rattle.serde_json.specs.Data.{Data}
 use Rattle.tk_plan_members.specs.JsonValues.{view}
@@ -13,6 +14,8 @@ use Rattle.tk_plan_members.specs.declared.faults.PlanFault.{PlanFault}
 use Rattle.tk_plan_members.specs.declared.faults.PlanFault.TheVariants.{Id, Memory}
 use Rattle.tk_plan_members.specs.declared.member_values.TwoTexts.{TwoTexts}
 use Rattle.tk_plan_json.specs.declared.read_nodes.Named.{Named}
+use Rattle.tk_plan_json.specs.declared.node_inputs.BelowMember.{BelowMember}
+use Rattle.tk_plan_json.specs.declared.node_inputs.BelowMember.TheVariants.{Children, Dynamic}
 use Rattle.tk_plan_json.specs.declared.node_inputs.NodePlace.{NodePlace}
 use Rattle.tk_plan_json.specs.declared.node_inputs.NodeInput.{NodeInput}
 
@@ -38,13 +41,22 @@ node_at earlier p d =
 abbrev pub seen : List SegmentView → NodeInput → spec.NodeInput
 seen earlier s = node_at earlier s.place (view s.value.now)
 
--- the array in the member of that name of the node at a place, whose id is given
-abbrev pub array_at : NodePlace → List ℕ → Bool → List SegmentView → spec.NodeArray
-array_at p name is_static id =
+abbrev pub member_name : BelowMember → List ℕ
+member_name Children = codes "children"
+member_name Dynamic = codes "dynamic"
+
+-- whether the nodes in the member are static
+abbrev pub has_static : BelowMember → Bool
+has_static Children = true
+has_static Dynamic = false
+
+-- the array in a member of the node at a place, whose id is given
+abbrev pub array_at : NodePlace → BelowMember → List SegmentView → spec.NodeArray
+array_at p member id =
     record {
-      path = member_at (pointer p.path) name;
+      path = member_at (pointer p.path) (member_name member);
       level = p.level + 1;
-      is_static = is_static;
+      is_static = has_static member;
       takes_files = p.takes_files;
       above = id;
     }

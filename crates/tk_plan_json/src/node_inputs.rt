@@ -1,4 +1,7 @@
 //! Values that stand for nodes, and where they stand.
+ghost use Rattle.std.specs.Prelude.{◌≡◌, flat_map};
+ghost use Rattle.tk_plan_members.specs.Checks.{escape};
+ghost use Rattle.tk_plan_json.specs.CodeValues.{member_name, has_static};
 
 use json::Value;
 use tk_ids::UniqueId;
@@ -22,4 +25,36 @@ pub(crate) struct NodePlace<'a> {
 pub(crate) struct NodeInput<'a, 'v, 't> {
     pub place: NodePlace<'a>,
     pub value: &'v Value<'t>,
+}
+
+/// A member whose items stand for the nodes below a node.
+#[derive(Clone, Copy, Drop)]
+pub(crate) enum BelowMember {
+    /// The static nodes.
+    Children,
+    /// The dynamic ones.
+    Dynamic,
+}
+
+impl BelowMember {
+    /// The member's name, which needs no escape.
+    pub fn name(self) -> &'static str
+        ensures name { result.now ≡ member_name self }
+        ensures plain { flat_map escape result.now ≡ result.now }
+    {
+        match self {
+            BelowMember::Children => "children",
+            BelowMember::Dynamic => "dynamic",
+        }
+    }
+
+    /// Whether the nodes in the member are static.
+    pub fn is_static(self) -> bool
+        ensures { result ≡ has_static self }
+    {
+        match self {
+            BelowMember::Children => true,
+            BelowMember::Dynamic => false,
+        }
+    }
 }

@@ -1,9 +1,9 @@
 //! Reading a plan's nodes.
-ghost use Rattle.std.specs.Prelude.{◌≡◌, ◌≤◌, ◌<◌, ◌+◌, ◌-◌, ◌++◌, ◌∷◌, [], length, map, flat_map, IfOk, OnOk};
+ghost use Rattle.std.specs.Prelude.{◌≡◌, ◌≤◌, ◌<◌, ◌+◌, ◌-◌, ◌++◌, ◌∷◌, [], length, map, IfOk, OnOk};
 ghost use Rattle.tk_plan_members.specs.JsonValues.{view};
 ghost use Rattle.tk_plan_units.specs.Trees.{flat, contents};
 ghost use Rattle.tk_plan_units.specs.Ids.{descriptors};
-ghost use Rattle.tk_plan_members.specs.Checks.{escape, first};
+ghost use Rattle.tk_plan_members.specs.Checks.{first};
 ghost use Rattle.tk_plan_json.specs.Verdicts.{checks, verdict};
 ghost use Rattle.tk_ids.specs.declared.tables.TheConstants.{MAX_DESCRIPTORS};
 ghost use Rattle.tk_plan_json.specs.declared.limits.TheConstants.{MAX_LEVELS};
@@ -15,7 +15,7 @@ ghost use Rattle.tk_plan_json.specs.NodeInputs.{node_inputs, node_inputs_in, roo
 
 use crate::node_checks::check_node;
 use crate::node_fields::into_below;
-use crate::node_inputs::{NodeInput, NodePlace};
+use crate::node_inputs::{BelowMember, NodeInput, NodePlace};
 use crate::read_nodes::ReadNodes;
 use crate::siblings::Siblings;
 use json::Value;
@@ -156,8 +156,7 @@ fn read_below(
         read,
         &mut siblings,
         place,
-        "children",
-        true,
+        BelowMember::Children,
         id,
         children,
     )?;
@@ -166,29 +165,26 @@ fn read_below(
         read,
         &mut siblings,
         place,
-        "dynamic",
-        false,
+        BelowMember::Dynamic,
         id,
         dynamic,
     )
 }
 
-/// Reads the nodes in the member `name` of the node at `parent`, whose id is `id`.
+/// Reads the nodes in a member of the node at `parent`, whose id is `id`.
 #[cycle(reading)]
 fn read_all<'t>(
     alloc: Global,
     read: &mut ReadNodes,
     siblings: &mut Siblings<'t>,
     parent: NodePlace<'_>,
-    name: &str,
-    is_static: bool,
+    member: BelowMember,
     id: &UniqueId,
     values: Vec<Value<'t>>,
 ) -> Result<(), PlanFault>
     requires noted { IsNoted read.old }
     requires level { parent.level ≤ MAX_LEVELS }
-    requires plain { flat_map escape name.now ≡ name.now }
-    ensures { let array = array_at parent.entry name.now is_static id.now in
+    ensures { let array = array_at parent.entry member id.now in
         let ss = node_inputs_in array 0 siblings.old (map view values.entry.items) in
         let levels = levels_below parent.entry.level in
         let group : NodeGroup = record { above = id.now; levels = levels; nodes = ss } in
@@ -198,12 +194,12 @@ fn read_all<'t>(
     if values.is_empty() {
         return Ok(());
     }
-    let array = member_path(alloc, parent.path, name)?;
+    let array = member_path(alloc, parent.path, member.name())?;
     for (index, value) in values.into_iter().enumerate() {
         let place = NodePlace {
             path: JsonPath::Item(&array, index),
             level: parent.level + 1,
-            is_static,
+            is_static: member.is_static(),
             takes_files: parent.takes_files,
             above: Some(id),
         };

@@ -19,30 +19,30 @@ pub read_all-returns-in_err-read_node : goal.read_all-returns-in_err-read_node
 read_all-returns-in_err-read_node t c =
     let p = err_from_is_err_and c.from_residual-in_err-read_node.result c.from_residual-in_err-read_node.ensures.1 in
     let steps = c.in-Some.ensures.steps in
-    let array = array_at c.args.parent c.args.name.now c.args.is_static c.args.id.now in
+    let array = array_at c.args.parent c.args.member c.args.id.now in
     let i = c.loop-index.index-iterator.count in
     let v : JsonValue = c.in-Some.value in
     let path : c.deref.result.now ≡ array.path = grind arith in
     let met = c.loop-index.siblings in
     let split = node_input_next array i _ met (met ++ segment_in (view v) ∷ []) _ _ v steps.0.0 steps.2 refl in
-    let y : spec.NodeInput = record { path = item_at c.deref.result.now c.in-Some.index; level = c.args.parent.level + 1; is_static = c.args.is_static; takes_files = c.args.parent.takes_files; above = c.args.id.now; earlier = met; value = view v } in
+    let y : spec.NodeInput = record { path = item_at c.deref.result.now c.in-Some.index; level = c.args.parent.level + 1; is_static = c.is_static.result; takes_files = c.args.parent.takes_files; above = c.args.id.now; earlier = met; value = view v } in
     let x : spec.NodeInput = node_input array i met (view v) in
-    let is : y ≡ x = λ j. record { path = item_at (path j) (steps.1 j); level = c.args.parent.level + 1; is_static = c.args.is_static; takes_files = c.args.parent.takes_files; above = c.args.id.now; earlier = met; value = view v } in
+    let is : y ≡ x = λ j. record { path = item_at (path j) (steps.1 j); level = c.args.parent.level + 1; is_static = c.is_static.ensures j; takes_files = c.args.parent.takes_files; above = c.args.id.now; earlier = met; value = view v } in
     rw (p.1, p.2) (faults_also _ _ _ (λ f w. goes_fault _ _ _ c.args.id.now _ _ _ _ _ _ _ (omega arith) is split c.loop-index.invariant.0 f w) c.in_err-read_node.ensures)
 
 pub read_all-loop-index-preserved : goal.read_all-loop-index-preserved
 read_all-loop-index-preserved t c =
     let steps = c.in-Some.ensures.steps in
-    let array = array_at c.args.parent c.args.name.now c.args.is_static c.args.id.now in
+    let array = array_at c.args.parent c.args.member c.args.id.now in
     let i = c.loop-index.index-iterator.count in
     let v : JsonValue = c.in-Some.value in
     let path : c.deref.result.now ≡ array.path = grind arith in
     let met = c.loop-index.siblings in
     let done = c.in_ok-read_node.ensures in
     let split = node_input_next array i _ met c.read_node.new.siblings _ _ v steps.0.0 steps.2 done.1.1 in
-    let y : spec.NodeInput = record { path = item_at c.deref.result.now c.in-Some.index; level = c.args.parent.level + 1; is_static = c.args.is_static; takes_files = c.args.parent.takes_files; above = c.args.id.now; earlier = met; value = view v } in
+    let y : spec.NodeInput = record { path = item_at c.deref.result.now c.in-Some.index; level = c.args.parent.level + 1; is_static = c.is_static.result; takes_files = c.args.parent.takes_files; above = c.args.id.now; earlier = met; value = view v } in
     let x : spec.NodeInput = node_input array i met (view v) in
-    let is : y ≡ x = λ j. record { path = item_at (path j) (steps.1 j); level = c.args.parent.level + 1; is_static = c.args.is_static; takes_files = c.args.parent.takes_files; above = c.args.id.now; earlier = met; value = view v } in (
+    let is : y ≡ x = λ j. record { path = item_at (path j) (steps.1 j); level = c.args.parent.level + 1; is_static = c.is_static.ensures j; takes_files = c.args.parent.takes_files; above = c.args.id.now; earlier = met; value = view v } in (
       goes_next _ _ _ c.args.id.now _ _ _ _ _ _ _ (omega arith) is split c.loop-index.invariant.0 _ done.0 refl done.1.0,
       met_next _ _ _ _ _ _ (view v) (ap (map view) steps.0.0) done.1.1 c.loop-index.invariant.1,
     )
@@ -51,7 +51,7 @@ pub read_all-returns : goal.read_all-returns
 read_all-returns t c =
     let left = c.loop-index.index-iterator.iter.rest in
     let none : left.items ≡ [] = no_values _ (omega (arith, left.ok.0, c.in-None.ensures.steps.0.0)) in
-    let array = array_at c.args.parent c.args.name.now c.args.is_static c.args.id.now in
+    let array = array_at c.args.parent c.args.member c.args.id.now in
     let all = node_inputs_in array 0 c.args.siblings.now (map view c.args.values.items) in
     let over = subst (λ vs. Goes (60 - c.args.parent.level) c.args.id.now c.args.read.now c.loop-index.read all (node_inputs_in array c.loop-index.index-iterator.count c.loop-index.siblings (map view vs))) none c.loop-index.invariant.0 in
     let end = goes_end _ _ _ _ _ over in
@@ -69,7 +69,7 @@ read_all-returns-then-is_empty t c =
     let count : length c.args.values.items ≡ 0 = grind (arith, nat_tests) in
     let none : c.args.values.items ≡ [] = no_values _ count in
     let noted : IsNoted c.args.read.now = search rules in
-    let nowhere = goes_nowhere (60 - c.args.parent.level) c.args.id.now c.args.read.now (array_at c.args.parent c.args.name.now c.args.is_static c.args.id.now) c.args.siblings.now _ (ap (map view) none) noted in
+    let nowhere = goes_nowhere (60 - c.args.parent.level) c.args.id.now c.args.read.now (array_at c.args.parent c.args.member c.args.id.now) c.args.siblings.now _ (ap (map view) none) noted in
     (nowhere.0, (nowhere.1, sym (ap (λ l. c.args.siblings.now ++ map segment_in (map view l)) none ∙ append-nil c.args.siblings.now)))
 
 pub read_node-returns-in_err-read_below-in-Some : goal.read_node-returns-in_err-read_below-in-Some

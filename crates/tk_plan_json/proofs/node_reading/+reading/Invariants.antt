@@ -17,6 +17,6 @@ decreases-read_below l = 3 * (60 - l.place.level) + 2
 abbrev pub invariant-read_all-loop-index : goal.invariant-read_all-loop-index
 invariant-read_all-loop-index l =
     Goes (60 - l.parent.level) l.id l.initial.read l.read
-    (node_inputs_in (array_at l.parent l.name l.is_static l.id) 0 l.initial.siblings (map view l.fn.values.items))
-    (node_inputs_in (array_at l.parent l.name l.is_static l.id) l.index-iterator.count l.siblings (map view l.index-iterator.iter.rest.items))
+    (node_inputs_in (array_at l.parent l.member l.id) 0 l.initial.siblings (map view l.fn.values.items))
+    (node_inputs_in (array_at l.parent l.member l.id) l.index-iterator.count l.siblings (map view l.index-iterator.iter.rest.items))
     × Met l.initial.siblings l.siblings (map view l.fn.values.items) (map view l.index-iterator.iter.rest.items)
