@@ -9,7 +9,7 @@ use Rattle.tk_plan.specs.Tables.{Follow}
 use Rattle.tk_plan_members.specs.declared.faults.PlanFault.{PlanFault}
 use Rattle.tk_plan_json.specs.declared.read_nodes.ReadNodes.{ReadNodes}
 
--- what was read has the nodes of the tree and the descriptors of the static ones, and they are a plan
+-- what was read has the nodes of the tree and the descriptors of the static ones, which are a plan
 pub record HasTree (t : Tree) (r : ReadNodes) : Type 0 where
   pub nodes : r.nodes.items ≡ flat t
   pub descriptors : r.descriptors.items ≡ descriptors [] t

@@ -18,7 +18,7 @@ use tk_plan_units::Plan;
 /// # Errors
 /// `Field` with the place in that JSON, where a dynamic node has what only a static one may have, a
 /// success has a message, or the path of a file is empty; else the faults of the nodes in preorder,
-/// then `TooManyEvents`. Where an allocation fails, the fault is `Memory`.
+/// then `TooManyEvents`. Where a request for memory is refused, the fault is `Memory`.
 pub fn build_plan(alloc: Global, root: &PlanNode<'_>) -> Result<Plan, PlanFault>
     ensures { Answered (PlanOf (plan_data root.now)) result }
 {

@@ -139,7 +139,8 @@ fn read_text(alloc: Global, bytes: &[u8]) -> Result<ReadNodes, PlanFault>
 ///
 /// # Errors
 /// `Json` where `bytes` are no JSON. Else the first fault of the value's own members, then of its
-/// nodes in preorder, then `TooManyEvents`. Where an allocation fails, the fault is `Memory`.
+/// nodes in preorder, then `TooManyEvents`. Where a request for memory is refused, the fault is
+/// `Memory`.
 pub fn read_plan(alloc: Global, bytes: &[u8]) -> Result<Plan, PlanFault>
     ensures { Answered (plan_in bytes.now) result }
 {
