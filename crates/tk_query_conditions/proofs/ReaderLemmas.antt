@@ -140,7 +140,7 @@ pub depth_at : (stack : List OpenGroup) (position : Position) → depth_of (stat
 depth_at stack (positions.Word word) = refl
 depth_at stack (positions.Text text_atom partial) = refl
 depth_at stack (positions.Kind word) = refl
-depth_at stack (positions.Pairs pairs key partial) = refl
+depth_at stack (positions.Pairs pairs) = refl
 depth_at stack (positions.After c) = refl
 
 pub depth_is : (stack : List group.OpenGroup) (position : Position) → depth_of (state_at (groups_of stack) position) ≡ length stack

@@ -17,7 +17,7 @@ use Rattle.tk_query_conditions.proofs.Members.{cond_of-All, cond_of-Any, conds_m
 use Rattle.tk_query_conditions.proofs.Prefixes.{escaped_append}
 use Rattle.tk_query_conditions.proofs.ReaderLemmas.{pairs_push}
 
--- Letters: no byte of one that stands as it is has an escape.
+-- Characters: no byte of one that stands as it is has an escape.
 
 not_equal : (x y : ℕ) → x ≢ y → nat_eq x y ≡ false
 not_equal x y h = grind (arith, nat_tests)
@@ -43,18 +43,18 @@ by_width false false false c h =
     spelled_above (c / 262144) 240 _ (omega arith) ∙ ap (λ l. (240 + c / 262144) ∷ l) (spelled_above ((c / 4096) % 64) 128 _ (omega arith)
     ∙ ap (λ l. next (c / 4096) ∷ l) (spelled_above ((c / 64) % 64) 128 _ (omega arith) ∙ ap (λ l. next (c / 64) ∷ l) (spelled_above (c % 64) 128 [] (omega arith))))
 
-plain_letter : (c : ℕ) → IsPlain c → escaped (encode c) ≡ encode c
+plain_character : (c : ℕ) → IsPlain c → escaped (encode c) ≡ encode c
 unfolding encode
-plain_letter c h = by_width (ltb c 128) (ltb c 2048) (ltb c 65536) c h
+plain_character c h = by_width (ltb c 128) (ltb c 2048) (ltb c 65536) c h
 
 pub plain_pushed : {A E : Type 0} (r : Result A E) (old new : List ℕ) (c : ℕ) → c ≢ 37 → c ≢ 40 → c ≢ 41 → c ≢ 44 → new ≡ cond (is_ok r) (old ++ encode c) old → OnOk r (new ≡ old ++ escaped (encode c))
-plain_pushed (Ok x) old new c h i j k e = e ∙ ap (λ l. old ++ l) (sym (plain_letter c record { percent = h; opening = i; closing = j; comma = k }))
+plain_pushed (Ok x) old new c h i j k e = e ∙ ap (λ l. old ++ l) (sym (plain_character c record { percent = h; opening = i; closing = j; comma = k }))
 plain_pushed (Err x) old new c h i j k e = tt
 
--- one more letter is written, escaped
-pub letter_written : (c : ℕ) (before after rest left whole : List ℕ) → before ++ escaped rest ≡ whole → rest ≡ encode c ++ left
+-- one more character is written, escaped
+pub character_written : (c : ℕ) (before after rest left whole : List ℕ) → before ++ escaped rest ≡ whole → rest ≡ encode c ++ left
     → after ≡ before ++ escaped (encode c) → after ++ escaped left ≡ whole
-letter_written c before after rest left whole i s p =
+character_written c before after rest left whole i s p =
     rw p (append_assoc before (escaped (encode c)) (escaped left) ∙ ap (λ e. before ++ e) (sym (escaped_append (encode c) left))
     ∙ ap (λ r. before ++ escaped r) (sym s) ∙ i)
 

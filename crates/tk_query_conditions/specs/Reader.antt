@@ -12,6 +12,7 @@ use Rattle.tk_query_conditions.specs.declared.words.Opener as opener
 use Rattle.tk_query_conditions.specs.declared.words.Opener.TheVariants as openers
 use Rattle.tk_query_conditions.specs.declared.open_groups.OpenGroup as group
 use Rattle.tk_query_conditions.specs.declared.open_groups.OpenGroup.TheVariants as groups
+use Rattle.tk_query_conditions.specs.declared.readers.PartialPairs.{PartialPairs}
 use Rattle.tk_query_conditions.specs.declared.readers.Position.{Position}
 use Rattle.tk_query_conditions.specs.declared.readers.Position.TheVariants as positions
 use Rattle.tk_query_conditions.specs.declared.readers.Reader.{Reader}
@@ -78,12 +79,15 @@ groups_from below (f ∷ stack) = groups_from (group_of f ∷ below) stack
 abbrev pub groups_of : List group.OpenGroup → List OpenGroup
 groups_of stack = groups_from [] stack
 
+-- in the pairs of an entry, behind these open brackets
+abbrev pub in_pairs : List OpenGroup → PartialPairs → State
+in_pairs stack pairs = InPairs stack (pairs_from NoPairs pairs.whole) pairs.key pairs.partial
+
 abbrev pub state_at : List OpenGroup → Position → State
 state_at stack (positions.Word word) = Word stack word.items
 state_at stack (positions.Text t partial) = InText stack (text_atom_of t) partial
 state_at stack (positions.Kind word) = InKind stack word.items
-state_at stack (positions.Pairs pairs key partial) =
-    InPairs stack (pairs_from NoPairs pairs) key partial
+state_at stack (positions.Pairs pairs) = in_pairs stack pairs
 state_at stack (positions.After c) = After stack (cond_of c)
 
 abbrev pub state_of : Reader → State

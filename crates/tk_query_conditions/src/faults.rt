@@ -16,7 +16,7 @@ pub enum CondFault {
     BadAtom(usize),
     /// More than `MAX_DEPTH` brackets of `all(`, `any(` and `not(` are open at once.
     Deep,
-    /// Memory was refused.
+    /// A request for memory was refused.
     Memory,
 }
 

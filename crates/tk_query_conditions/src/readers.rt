@@ -2,7 +2,7 @@
 ghost use Rattle.std.specs.Prelude.{◌≡◌, [], ◌∷◌, IfOk, option_map, Some, length, MatchOption};
 ghost use Rattle.tk_query_conditions.specs.Cond.{Cond, NoPairs, Plain};
 ghost use Rattle.tk_query_conditions.specs.CondOf.{cond_of, pairs_from};
-ghost use Rattle.tk_query_conditions.specs.Reader.{group_of, groups_of, text_atom_of, opener_of, state_of, depth_of, ContinuesAsText, CanContinue};
+ghost use Rattle.tk_query_conditions.specs.Reader.{group_of, groups_of, text_atom_of, opener_of, in_pairs, state_of, depth_of, ContinuesAsText, CanContinue};
 ghost use Rattle.tk_query_conditions.specs.Reading.{Word, InText, InKind, InPairs, After, start, step, close, close_empty, after_word, opened, next_text, last_text, ended, look};
 
 use crate::conditions::Condition;
@@ -15,6 +15,17 @@ use std::alloc::{AllocError, Global};
 use tk_events::Pairs;
 use tk_ids::Text;
 
+/// The pairs of an entry, as far as they are read.
+#[derive(Drop)]
+pub(crate) struct PartialPairs {
+    /// The pairs that are whole.
+    whole: Pairs,
+    /// The key of the next pair, where it is read.
+    key: Option<Text>,
+    /// What is read of the key or the value that comes next.
+    partial: PartialText,
+}
+
 /// Where a text is in a condition.
 #[derive(Drop)]
 pub(crate) enum Position {
@@ -24,9 +35,8 @@ pub(crate) enum Position {
     Text(TextAtom, PartialText),
     /// In the name of a kind.
     Kind(Vec<u8>),
-    /// In the pairs of an entry: those that are whole, the key of the next one where it is read, and
-    /// the text that is read.
-    Pairs(Pairs, Option<Text>, PartialText),
+    /// In the pairs of an entry.
+    Pairs(PartialPairs),
     /// After a condition.
     After(Condition),
 }
@@ -41,7 +51,7 @@ pub(crate) struct Reader {
 
 type NextReader = Result<Option<Reader>, AllocError>;
 
-/// After a condition.
+/// Makes the reader after a condition.
 fn after(stack: Vec<OpenGroup>, condition: Condition) -> Reader
     ensures { state_of result ≡ After (groups_of stack.items) (cond_of condition) }
 {
@@ -51,7 +61,7 @@ fn after(stack: Vec<OpenGroup>, condition: Condition) -> Reader
     }
 }
 
-/// Before a condition in one more bracket.
+/// Makes the reader before a condition that stands in one more bracket, the innermost.
 fn within(alloc: Global, mut stack: Vec<OpenGroup>, group: OpenGroup) -> NextReader
     ensures { IfOk result (λ next.
         Some (Word (group_of group ∷ groups_of stack.items) []) ≡ option_map state_of next) }
@@ -63,7 +73,7 @@ fn within(alloc: Global, mut stack: Vec<OpenGroup>, group: OpenGroup) -> NextRea
     }))
 }
 
-/// After `)` or `,` after a condition.
+/// Reads the byte after a condition: `)` closes the innermost bracket, `,` begins its next member.
 fn close(alloc: Global, mut stack: Vec<OpenGroup>, condition: Condition, byte: u8) -> NextReader
     ensures { IfOk result (λ next.
         close (groups_of stack.items) (cond_of condition) byte ≡ option_map state_of next) }
@@ -88,23 +98,20 @@ fn close(alloc: Global, mut stack: Vec<OpenGroup>, condition: Condition, byte: u
     }
 }
 
-/// After `)` after a bracket without a member.
+/// Reads the byte after a bracket that has no member yet: only `)` may stand there.
 fn close_empty(mut stack: Vec<OpenGroup>, byte: u8) -> Option<Reader>
     ensures { close_empty (groups_of stack.items) byte ≡ option_map state_of result }
 {
-    let Some(group) = stack.pop() else {
-        return None;
-    };
+    let group = stack.pop()?;
     if byte != b')' {
         return None;
     }
-    match group.close_empty() {
-        Some(condition) => Some(after(stack, condition)),
-        None => None,
-    }
+    let condition = group.close_empty()?;
+    Some(after(stack, condition))
 }
 
-/// After `)` or `,` after a word.
+/// Reads `)` or `,` after a word, which is a condition by itself, or after no word, where `)` closes
+/// a bracket without a member.
 fn after_word(alloc: Global, stack: Vec<OpenGroup>, word: &[u8], byte: u8) -> NextReader
     ensures { IfOk result (λ next.
         after_word (groups_of stack.items) word.now byte ≡ option_map state_of next) }
@@ -118,7 +125,7 @@ fn after_word(alloc: Global, stack: Vec<OpenGroup>, word: &[u8], byte: u8) -> Ne
     }
 }
 
-/// After the bracket of a word.
+/// Reads `(` after the word of this opener.
 fn after_opener(alloc: Global, stack: Vec<OpenGroup>, opener: Opener) -> NextReader
     ensures { IfOk result (λ next.
         Some (opened (groups_of stack.items) (opener_of opener)) ≡ option_map state_of next) }
@@ -134,7 +141,11 @@ fn after_opener(alloc: Global, stack: Vec<OpenGroup>, opener: Opener) -> NextRea
         })),
         Opener::Entry => Ok(Some(Reader {
             stack,
-            position: Position::Pairs(Pairs::new(alloc), None, PartialText::new(alloc)),
+            position: Position::Pairs(PartialPairs {
+                whole: Pairs::new(alloc),
+                key: None,
+                partial: PartialText::new(alloc),
+            }),
         })),
         Opener::All => within(alloc, stack, OpenGroup::All(Vec::new(alloc))),
         Opener::Any => within(alloc, stack, OpenGroup::Any(Vec::new(alloc))),
@@ -142,6 +153,7 @@ fn after_opener(alloc: Global, stack: Vec<OpenGroup>, opener: Opener) -> NextRea
     }
 }
 
+/// Reads a byte in a word, or where a condition may begin.
 fn feed_word(alloc: Global, stack: Vec<OpenGroup>, mut word: Vec<u8>, byte: u8) -> NextReader
     ensures { IfOk result (λ next.
         step (Word (groups_of stack.items) word.items) byte ≡ option_map state_of next) }
@@ -166,6 +178,7 @@ fn feed_word(alloc: Global, stack: Vec<OpenGroup>, mut word: Vec<u8>, byte: u8) 
     }
 }
 
+/// Reads a byte in the text of an atom.
 fn feed_text(
     stack: Vec<OpenGroup>,
     text_atom: TextAtom,
@@ -189,6 +202,7 @@ fn feed_text(
     }
 }
 
+/// Reads a byte in the name of a kind.
 fn feed_kind(stack: Vec<OpenGroup>, mut word: Vec<u8>, byte: u8) -> NextReader
     ensures { IfOk result (λ next.
         step (InKind (groups_of stack.items) word.items) byte ≡ option_map state_of next) }
@@ -210,7 +224,7 @@ fn feed_kind(stack: Vec<OpenGroup>, mut word: Vec<u8>, byte: u8) -> NextReader
     }
 }
 
-/// After a comma in pairs.
+/// Reads the comma after a text in pairs: the text is a key, or the value of the key before it.
 fn next_text(
     alloc: Global,
     stack: Vec<OpenGroup>,
@@ -225,19 +239,28 @@ fn next_text(
     match key {
         None => Ok(Some(Reader {
             stack,
-            position: Position::Pairs(pairs, Some(text), PartialText::new(alloc)),
+            position: Position::Pairs(PartialPairs {
+                whole: pairs,
+                key: Some(text),
+                partial: PartialText::new(alloc),
+            }),
         })),
         Some(key) => {
             pairs.push(key, text)?;
             Ok(Some(Reader {
                 stack,
-                position: Position::Pairs(pairs, None, PartialText::new(alloc)),
+                position: Position::Pairs(PartialPairs {
+                    whole: pairs,
+                    key: None,
+                    partial: PartialText::new(alloc),
+                }),
             }))
         }
     }
 }
 
-/// After the bracket that ends pairs.
+/// Reads the bracket that ends pairs: the text before it is the last value, or empty where there is
+/// no pair.
 fn last_text(stack: Vec<OpenGroup>, mut pairs: Pairs, key: Option<Text>, text: Text) -> NextReader
     ensures { IfOk result (λ next.
         last_text (groups_of stack.items) (pairs_from NoPairs pairs) key text
@@ -258,27 +281,29 @@ fn last_text(stack: Vec<OpenGroup>, mut pairs: Pairs, key: Option<Text>, text: T
     }
 }
 
-fn feed_pairs(
-    alloc: Global,
-    stack: Vec<OpenGroup>,
-    pairs: Pairs,
-    key: Option<Text>,
-    mut partial: PartialText,
-    byte: u8,
-) -> NextReader
-    requires text { ContinuesAsText partial byte }
+/// Reads a byte in the pairs of an entry.
+fn feed_pairs(alloc: Global, stack: Vec<OpenGroup>, pairs: PartialPairs, byte: u8) -> NextReader
+    requires text { ContinuesAsText pairs.partial byte }
     ensures { IfOk result (λ next.
-        step (InPairs (groups_of stack.items) (pairs_from NoPairs pairs) key partial) byte
-        ≡ option_map state_of next) }
+        step (in_pairs (groups_of stack.items) pairs) byte ≡ option_map state_of next) }
 {
+    let PartialPairs {
+        whole,
+        key,
+        mut partial,
+    } = pairs;
     if partial.ends(b',', byte) {
-        next_text(alloc, stack, pairs, key, partial.into_text())
+        next_text(alloc, stack, whole, key, partial.into_text())
     } else if partial.ends(b')', byte) {
-        last_text(stack, pairs, key, partial.into_text())
+        last_text(stack, whole, key, partial.into_text())
     } else if partial.feed(byte)? {
         Ok(Some(Reader {
             stack,
-            position: Position::Pairs(pairs, key, partial),
+            position: Position::Pairs(PartialPairs {
+                whole,
+                key,
+                partial,
+            }),
         }))
     } else {
         Ok(None)
@@ -306,9 +331,7 @@ impl Reader {
             Position::Word(word) => feed_word(alloc, stack, word, byte),
             Position::Text(text_atom, partial) => feed_text(stack, text_atom, partial, byte),
             Position::Kind(word) => feed_kind(stack, word, byte),
-            Position::Pairs(pairs, key, partial) => feed_pairs(
-                alloc, stack, pairs, key, partial, byte,
-            ),
+            Position::Pairs(pairs) => feed_pairs(alloc, stack, pairs, byte),
             Position::After(condition) => close(alloc, stack, condition, byte),
         }
     }

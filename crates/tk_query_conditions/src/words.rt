@@ -62,7 +62,7 @@ pub(crate) fn kind_named(word: &[u8]) -> Option<Kind>
     ensures { result ≡ look kinds word.now }
 {
     for kind in &KINDS {
-        if is(word, kind.word()) {
+        if is_name(word, kind.word()) {
             return Some(*kind);
         }
     }
@@ -70,7 +70,7 @@ pub(crate) fn kind_named(word: &[u8]) -> Option<Kind>
 }
 
 /// Whether a word is this name.
-fn is(word: &[u8], name: &str) -> bool
+fn is_name(word: &[u8], name: &str) -> bool
     ensures { result ≡ bytes_eq word.now name.now }
 {
     word == name.as_bytes()
@@ -80,19 +80,19 @@ fn is(word: &[u8], name: &str) -> bool
 pub(crate) fn bare_named(word: &[u8]) -> Option<Condition>
     ensures { option_map cond_of result ≡ option_map Plain (look bares word.now) }
 {
-    if is(word, "test") {
+    if is_name(word, "test") {
         Some(Condition::Test)
-    } else if is(word, "container") {
+    } else if is_name(word, "container") {
         Some(Condition::Container)
-    } else if is(word, "engine") {
+    } else if is_name(word, "engine") {
         Some(Condition::Engine)
-    } else if is(word, "started") {
+    } else if is_name(word, "started") {
         Some(Condition::Started)
-    } else if is(word, "succeeded") {
+    } else if is_name(word, "succeeded") {
         Some(Condition::Succeeded)
-    } else if is(word, "failed") {
+    } else if is_name(word, "failed") {
         Some(Condition::Failed(None))
-    } else if is(word, "aborted") {
+    } else if is_name(word, "aborted") {
         Some(Condition::Aborted(None))
     } else {
         None
@@ -103,27 +103,27 @@ pub(crate) fn bare_named(word: &[u8]) -> Option<Condition>
 pub(crate) fn opener_named(word: &[u8]) -> Option<Opener>
     ensures { option_map opener_of result ≡ look openers word.now }
 {
-    if is(word, "id") {
+    if is_name(word, "id") {
         Some(Opener::Text(TextAtom::Id))
-    } else if is(word, "name") {
+    } else if is_name(word, "name") {
         Some(Opener::Text(TextAtom::Name))
-    } else if is(word, "skipped") {
+    } else if is_name(word, "skipped") {
         Some(Opener::Text(TextAtom::Skipped))
-    } else if is(word, "failed") {
+    } else if is_name(word, "failed") {
         Some(Opener::Text(TextAtom::Failed))
-    } else if is(word, "aborted") {
+    } else if is_name(word, "aborted") {
         Some(Opener::Text(TextAtom::Aborted))
-    } else if is(word, "file") {
+    } else if is_name(word, "file") {
         Some(Opener::Text(TextAtom::File))
-    } else if is(word, "kind") {
+    } else if is_name(word, "kind") {
         Some(Opener::Kind)
-    } else if is(word, "entry") {
+    } else if is_name(word, "entry") {
         Some(Opener::Entry)
-    } else if is(word, "all") {
+    } else if is_name(word, "all") {
         Some(Opener::All)
-    } else if is(word, "any") {
+    } else if is_name(word, "any") {
         Some(Opener::Any)
-    } else if is(word, "not") {
+    } else if is_name(word, "not") {
         Some(Opener::Not)
     } else {
         None
@@ -131,7 +131,7 @@ pub(crate) fn opener_named(word: &[u8]) -> Option<Opener>
 }
 
 /// Whether a name begins with this word.
-fn begins(word: &[u8], name: &str) -> bool
+fn is_prefix_of(word: &[u8], name: &str) -> bool
     ensures { result ≡ begins_with word.now name.now }
 {
     name.as_bytes().starts_with(word)
@@ -142,7 +142,7 @@ pub(crate) fn begins_kind(word: &[u8]) -> bool
     ensures { result ≡ is_prefix kinds word.now }
 {
     for kind in &KINDS {
-        if begins(word, kind.word()) {
+        if is_prefix_of(word, kind.word()) {
             return true;
         }
     }
@@ -152,29 +152,29 @@ pub(crate) fn begins_kind(word: &[u8]) -> bool
 fn begins_bare(word: &[u8]) -> bool
     ensures { result ≡ is_prefix bares word.now }
 {
-    begins(word, "test")
-        || begins(word, "container")
-        || begins(word, "engine")
-        || begins(word, "started")
-        || begins(word, "succeeded")
-        || begins(word, "failed")
-        || begins(word, "aborted")
+    is_prefix_of(word, "test")
+        || is_prefix_of(word, "container")
+        || is_prefix_of(word, "engine")
+        || is_prefix_of(word, "started")
+        || is_prefix_of(word, "succeeded")
+        || is_prefix_of(word, "failed")
+        || is_prefix_of(word, "aborted")
 }
 
 fn begins_opener(word: &[u8]) -> bool
     ensures { result ≡ is_prefix openers word.now }
 {
-    begins(word, "id")
-        || begins(word, "name")
-        || begins(word, "skipped")
-        || begins(word, "failed")
-        || begins(word, "aborted")
-        || begins(word, "file")
-        || begins(word, "kind")
-        || begins(word, "entry")
-        || begins(word, "all")
-        || begins(word, "any")
-        || begins(word, "not")
+    is_prefix_of(word, "id")
+        || is_prefix_of(word, "name")
+        || is_prefix_of(word, "skipped")
+        || is_prefix_of(word, "failed")
+        || is_prefix_of(word, "aborted")
+        || is_prefix_of(word, "file")
+        || is_prefix_of(word, "kind")
+        || is_prefix_of(word, "entry")
+        || is_prefix_of(word, "all")
+        || is_prefix_of(word, "any")
+        || is_prefix_of(word, "not")
 }
 
 /// Whether a word of conditions begins so.

@@ -9,23 +9,17 @@ use crate::conditions::Condition;
 use std::alloc::{AllocError, Global};
 use tk_ids::Text;
 
-fn push(out: &mut String, text: &str) -> Result<(), AllocError>
-    ensures { OnOk result (string_bytes out.new ≡ string_bytes out.old ++ text.now) }
-{
-    out.push_str(text)
-}
-
-/// Writes a letter of a text, escaped where it has to be.
-fn push_letter(out: &mut String, letter: char) -> Result<(), AllocError>
+/// Writes a character of a text, escaped where it has to be.
+fn push_character(out: &mut String, character: char) -> Result<(), AllocError>
     ensures { OnOk result (string_bytes out.new
-        ≡ string_bytes out.old ++ escaped (encode_utf8 letter)) }
+        ≡ string_bytes out.old ++ escaped (encode_utf8 character)) }
 {
-    match letter {
+    match character {
         '%' => out.push_str("%25"),
         '(' => out.push_str("%28"),
         ')' => out.push_str("%29"),
         ',' => out.push_str("%2C"),
-        _ => out.push(letter),
+        _ => out.push(character),
     }
 }
 
@@ -33,8 +27,8 @@ fn push_letter(out: &mut String, letter: char) -> Result<(), AllocError>
 fn push_escaped(out: &mut String, text: &str) -> Result<(), AllocError>
     ensures { OnOk result (string_bytes out.new ≡ string_bytes out.old ++ escaped text.now) }
 {
-    for letter in text.chars() {
-        push_letter(out, letter)?;
+    for character in text.chars() {
+        push_character(out, character)?;
     }
     Ok(())
 }
@@ -44,9 +38,9 @@ fn push_text(out: &mut String, text: &str) -> Result<(), AllocError>
     ensures { OnOk result (string_bytes out.new
         ≡ string_bytes out.old ++ (opening_bracket ∷ escaped text.now ++ closing_bracket ∷ [])) }
 {
-    push(out, "(")?;
+    out.push_str("(")?;
     push_escaped(out, text)?;
-    push(out, ")")
+    out.push_str(")")
 }
 
 /// Writes what stands before the item at this place in a list: a comma, except before the first.
@@ -56,22 +50,22 @@ fn push_separator(out: &mut String, at: usize) -> Result<(), AllocError>
     if at == 0 {
         return Ok(());
     }
-    push(out, ",")
+    out.push_str(",")
 }
 
 /// Writes pairs in brackets, with a comma between each two texts.
 fn push_pairs(out: &mut String, pairs: &[(Text, Text)]) -> Result<(), AllocError>
     ensures { OnOk result (string_bytes out.new ≡ string_bytes out.old
-        ++ (40 ∷ pairs_text (pairs_from NoPairs pairs.now) ++ 41 ∷ [])) }
+        ++ (opening_bracket ∷ pairs_text (pairs_from NoPairs pairs.now) ++ closing_bracket ∷ [])) }
 {
-    push(out, "(")?;
+    out.push_str("(")?;
     for (at, pair) in pairs.iter().enumerate() {
         push_separator(out, at)?;
         push_escaped(out, pair.0.as_str())?;
-        push(out, ",")?;
+        out.push_str(",")?;
         push_escaped(out, pair.1.as_str())?;
     }
-    push(out, ")")
+    out.push_str(")")
 }
 
 /// The word with which a condition's text begins.
@@ -124,14 +118,14 @@ fn push_condition(out: &mut String, condition: &Condition) -> Result<(), AllocEr
     ensures { OnOk result (string_bytes out.new
         ≡ string_bytes out.old ++ cond_text (cond_of condition.now)) }
 {
-    push(out, word(condition))?;
+    out.push_str(word(condition))?;
     match condition {
         Condition::All(members) => push_members(out, members),
         Condition::Any(members) => push_members(out, members),
         Condition::Not(member) => {
-            push(out, "(")?;
+            out.push_str("(")?;
             push_condition(out, member)?;
-            push(out, ")")
+            out.push_str(")")
         }
         _ => push_operand(out, condition),
     }
@@ -141,14 +135,14 @@ fn push_condition(out: &mut String, condition: &Condition) -> Result<(), AllocEr
 #[cycle(writing)]
 fn push_members(out: &mut String, members: &[Condition]) -> Result<(), AllocError>
     ensures { OnOk result (string_bytes out.new ≡ string_bytes out.old
-        ++ (40 ∷ list_text (conds_from Nothing members.now) ++ 41 ∷ [])) }
+        ++ (opening_bracket ∷ list_text (conds_from Nothing members.now) ++ closing_bracket ∷ [])) }
 {
-    push(out, "(")?;
+    out.push_str("(")?;
     for (at, member) in members.iter().enumerate() {
         push_separator(out, at)?;
         push_condition(out, member)?;
     }
-    push(out, ")")
+    out.push_str(")")
 }
 
 /// The text of a condition.

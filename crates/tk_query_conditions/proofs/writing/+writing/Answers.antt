@@ -5,17 +5,17 @@ use Rattle.tk_query_conditions.proofs.writing.+writing.Goals as goal
 
 pub push_condition-returns-in-All : goal.push_condition-returns-in-All
 push_condition-returns-in-All t c =
-    written_after c.push_members.result (cond_of c.args.condition.now) _ _ _ _ _ c.in_ok-push.ensures c.word.ensures
+    written_after c.push_members.result (cond_of c.args.condition.now) _ _ _ _ _ c.in_ok-push_str.ensures.bytes c.word.ensures
     (all_text c.args.condition.now c.in-All.members c.deref.result.now c.in-All.is c.deref.ensures.value) c.push_members.ensures
 
 pub push_condition-returns-in-Any : goal.push_condition-returns-in-Any
 push_condition-returns-in-Any t c =
-    written_after c.push_members-in-Any.result (cond_of c.args.condition.now) _ _ _ _ _ c.in_ok-push.ensures c.word.ensures
+    written_after c.push_members-in-Any.result (cond_of c.args.condition.now) _ _ _ _ _ c.in_ok-push_str.ensures.bytes c.word.ensures
     (any_text c.args.condition.now c.in-Any.members c.deref-in-Any.result.now c.in-Any.is c.deref-in-Any.ensures.value) c.push_members-in-Any.ensures
 
 pub push_condition-returns-in_default : goal.push_condition-returns-in_default
 push_condition-returns-in_default t c =
-    written_after c.push_operand.result (cond_of c.args.condition.now) _ _ _ _ _ c.in_ok-push.ensures c.word.ensures
+    written_after c.push_operand.result (cond_of c.args.condition.now) _ _ _ _ _ c.in_ok-push_str.ensures.bytes c.word.ensures
     (atom_text c.args.condition.now c.in_default.not-All c.in_default.not-Any c.in_default.not-Not) c.push_operand.ensures
 
 pub push_members-loop-at-preserved : goal.push_members-loop-at-preserved

@@ -1,6 +1,6 @@
-use Rattle.tk_query_conditions.proofs.WritingLemmas.{letter_written}
+use Rattle.tk_query_conditions.proofs.WritingLemmas.{character_written}
 use Rattle.tk_query_conditions.proofs.writing.push_escaped.Goals as goal
 
-pub loop-letter-preserved : goal.loop-letter-preserved
-loop-letter-preserved c =
-    letter_written c.in-Some.letter _ _ _ _ _ c.loop-letter.invariant c.in-Some.ensures.steps.0 c.in_ok-push_letter.ensures
+pub loop-character-preserved : goal.loop-character-preserved
+loop-character-preserved c =
+    character_written c.in-Some.character _ _ _ _ _ c.loop-character.invariant c.in-Some.ensures.steps.0 c.in_ok-push_character.ensures
