@@ -2,6 +2,7 @@
 use Rattle.std.proofs.Common.{◌≡◌, ◌≢◌, ℕ, suc, ◌<◌, ◌≤◌, ◌⊎◌, ⊎_elim, Bool, true, false, ◌&&◌, ◌||◌, not, List, [], ◌∷◌, length, slice_index_or, Option, Some, None, MatchOption, Ok, refl, sym, ap, ◌∙◌, subst, arith, eq-eqb, eqb-true}
 use Rattle.std.specs.Prelude.{◌==◌, if◌then◌else◌}
 use Rattle.std.specs.List.{sum_by}
+use Rattle.std.specs.Option.{IsSomeAnd}
 use Rattle.std.proofs.lemmas.Bool.{true≢false}
 use Rattle.std.proofs.lemmas.List.{get_or_past}
 use Rattle.std.proofs.lemmas.List.Sums.{sum_by-cons, get_or-le-sum_by, sum_by-le}
@@ -15,7 +16,7 @@ use Rattle.tk_record_columns.specs.Entries.{of_kind, with_entry}
 use Rattle.tk_record_columns.specs.Recorded.{Recorded}
 use Rattle.tk_query_lifecycle.specs.Lifecycle.{HasId, has_event, has_run, runs, rank, Breaks, BreaksFirst, BreaksNone, KnowsId, KnowsNoParent, HasNoRunningParent, RunsAgain, EndsNothing, LeavesChild}
 use Rattle.tk_query_lifecycle.specs.KeyStates.{idle, state_of, is_key, is_running, running_child, refusal, start_refusal, finish_refusal, IsFirstRunning}
-use Rattle.tk_query_lifecycle.specs.Progress.{AreStates, IsProgress, IsChecked, IsFirstOfRuns, IsKnownId, IsKnownParent, IsParent, IsParentOf, IsPhase, IsSought, is_at_rest, missing_parent, next_event}
+use Rattle.tk_query_lifecycle.specs.Progress.{AreStates, IsProgress, IsChecked, IsFirstOfRuns, IsFound, IsKnownId, IsKnownParent, IsParent, IsParentOf, IsPhase, IsSought, is_at_rest, missing_parent, next_event}
 use Rattle.tk_query_lifecycle.specs.declared.lifecycle_rules.LifecycleRule.{LifecycleRule}
 use Rattle.tk_query_lifecycle.specs.declared.lifecycle_rules.LifecycleRule.TheVariants.{IdKnown, ParentUnknown, ParentNotRunning, RanAlready, NotRunning, ChildRunning}
 use Rattle.tk_query_lifecycle.specs.declared.key_states.KeyState.{KeyState}
@@ -48,15 +49,21 @@ first_of_runs r states ids None p h = λ key. phase_runs r.entries key (state_of
 pub sought_root : (r : Recorded) (id : List SegmentView) (parent : Option (List SegmentView)) → parent ≡ None → MatchOption parent (length id ≡ 1) (λ i. (1 < length id) × (i ≡ parent_of id)) → IsSought r id (Some Root)
 sought_root r id parent is h = subst (λ o. MatchOption o (length id ≡ 1) (λ i. (1 < length id) × (i ≡ parent_of id))) is h
 
-pub sought_key : (r : Recorded) (id above : List SegmentView) (parent : Option (List SegmentView)) (key : ℕ) → parent ≡ Some above → MatchOption parent (length id ≡ 1) (λ i. (1 < length id) × (i ≡ parent_of id)) → HasId r key above → IsSought r id (Some (Key key))
+sought_key : (r : Recorded) (id above : List SegmentView) (parent : Option (List SegmentView)) (key : ℕ) → parent ≡ Some above → MatchOption parent (length id ≡ 1) (λ i. (1 < length id) × (i ≡ parent_of id)) → HasId r key above → IsSought r id (Some (Key key))
 sought_key r id above parent key is h found =
     let m = subst (λ o. MatchOption o (length id ≡ 1) (λ i. (1 < length id) × (i ≡ parent_of id))) is h in
     (m.0, subst (HasId r key) m.1 found)
 
-pub sought_none : (r : Recorded) (id above : List SegmentView) (parent : Option (List SegmentView)) → parent ≡ Some above → MatchOption parent (length id ≡ 1) (λ i. (1 < length id) × (i ≡ parent_of id)) → ((key : ℕ) → ¬ HasId r key above) → IsSought r id None
+sought_none : (r : Recorded) (id above : List SegmentView) (parent : Option (List SegmentView)) → parent ≡ Some above → MatchOption parent (length id ≡ 1) (λ i. (1 < length id) × (i ≡ parent_of id)) → ((key : ℕ) → ¬ HasId r key above) → IsSought r id None
 sought_none r id above parent is h unknown =
     let m = subst (λ o. MatchOption o (length id ≡ 1) (λ i. (1 < length id) × (i ≡ parent_of id))) is h in
     (m.0, λ key found. unknown key (subst (HasId r key) (sym m.1) found))
+
+pub sought_found : (r : Recorded) (id above : List SegmentView) (parent : Option (List SegmentView)) (found : Option ℕ) (sought : Option Parent) → parent ≡ Some above → MatchOption parent (length id ≡ 1) (λ i. (1 < length id) × (i ≡ parent_of id))
+    → IsFound r above found → MatchOption found (sought ≡ None) (λ key. IsSomeAnd sought (λ p. p ≡ Key key)) → IsSought r id sought
+sought_found r id above parent (Some key) (Some p) is h its e = subst (λ q. IsSought r id (Some q)) (sym e) (sought_key r id above parent key is h its)
+sought_found r id above parent (Some key) None is h its e = absurd e
+sought_found r id above parent None sought is h its e = subst (IsSought r id) (sym e) (sought_none r id above parent is h its)
 
 -- a running child of the key
 child_is : (k : ℕ) (s : KeyState) (phase : Phase) (parent : Parent) → s.phase ≡ phase → s.parent ≡ parent → (let share : ℕ = if is_running phase && is_key k parent then 1 else 0 in share) ≢ 0 → (is_running s.phase ≡ true) × (s.parent ≡ Key k)

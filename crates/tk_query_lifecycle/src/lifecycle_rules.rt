@@ -4,20 +4,21 @@ ghost use Rattle.tk_query_lifecycle.specs.LifecycleTexts.{rule_text};
 
 use std::fmt;
 
-/// The rules of the lifecycle, in the order in which they are looked at.
+/// The rules of the lifecycle, each named for what breaks it, in the order in which they are looked
+/// at.
 #[derive(Clone, Copy, Debug, PartialEq, Eq)]
 pub enum LifecycleRule {
-    /// A registered id is one that no static descriptor has, and that wasn't registered earlier.
+    /// An id is registered that a descriptor has already, static or registered.
     IdKnown,
-    /// The parent of a registered descriptor is static or was registered earlier.
+    /// An id is registered below a parent's id that no descriptor has.
     ParentUnknown,
-    /// The parent of the event's descriptor runs: it was started, and hasn't finished.
+    /// An event is of a key whose id has a parent's id, and no key with that id runs.
     ParentNotRunning,
-    /// What starts or is skipped wasn't started or skipped earlier.
+    /// A key starts or is skipped that was started or skipped earlier.
     RanAlready,
-    /// What finishes runs.
+    /// A key finishes that doesn't run.
     NotRunning,
-    /// No child runs of what finishes.
+    /// A key finishes of which a child runs.
     ChildRunning,
 }
 

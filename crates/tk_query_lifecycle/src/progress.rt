@@ -71,13 +71,7 @@ impl Progress {
         ensures { (past : Recorded) → past.table ≡ «record».now.table → AreIds past self.now.ids
             → IsKnownId past registers id.now result }
     {
-        if !registers {
-            return false;
-        }
-        match self.find(record, id) {
-            Some(_) => true,
-            None => false,
-        }
+        registers && self.find(record, id).is_some()
     }
 
     // Looks up the parent of an id; None where no descriptor has the parent's id.
@@ -93,10 +87,7 @@ impl Progress {
         let Some(parent) = id.parent(alloc)? else {
             return Ok(Some(Parent::Root));
         };
-        match self.find(record, &parent) {
-            Some(key) => Ok(Some(Parent::Key(key))),
-            None => Ok(None),
-        }
+        Ok(self.find(record, &parent).map(Parent::Key))
     }
 
     // Looks up the parent of an id, where it wasn't before.
@@ -172,7 +163,11 @@ impl Progress {
         ensures states { OnOk result (AreAdvanced self.old.states self.new.states
             (entry_of_view event.now) parent) }
     {
-        self.ids.note(registers(event), &descriptor.id, event.key)?;
+        // For the proof: what every id is.
+        let _text = descriptor.id.as_text();
+        if registers(event) {
+            self.ids.note(&descriptor.id, event.key)?;
+        }
         self.states.advance(event.key, event.kind, parent)?;
         self.states.count_child(parent, event.kind)
     }

@@ -1,5 +1,5 @@
 //! The keys of registered ids.
-ghost use Rattle.std.specs.Prelude.{◌≡◌, ℕ, List, [], Some, OnOk, if◌then◌else◌, ◌&&◌, bytes_eq};
+ghost use Rattle.std.specs.Prelude.{◌≡◌, ℕ, List, [], Some, OnOk, if◌then◌else◌, bytes_eq};
 ghost use Rattle.tk_ids.specs.IdText.{IsId, id_text};
 ghost use Rattle.tk_query_lifecycle.specs.KeyStates.{key_under};
 
@@ -41,23 +41,12 @@ impl RegisteredIds {
         self.keys.get(id.as_text().as_str()).copied()
     }
 
-    /// Stores the key of an id that an event registers, where it registers one.
-    pub(crate) fn note(
-        &mut self,
-        registers: bool,
-        id: &UniqueId,
-        key: u32,
-    ) -> Result<(), AllocError>
-        ensures noted { OnOk result ((text : List ℕ) → key_under self.new text
-            ≡ (if registers && bytes_eq text (id_text id.now)
-            then Some key else key_under self.old text)) }
-        // What every id is.
-        ensures id { OnOk result (IsId id.now) }
+    /// Stores the key of an id that an event registers.
+    pub(crate) fn note(&mut self, id: &UniqueId, key: u32) -> Result<(), AllocError>
+        ensures { OnOk result ((text : List ℕ) → key_under self.new text
+            ≡ (if bytes_eq text (id_text id.now) then Some key else key_under self.old text)) }
     {
-        let text = id.shared_text()?;
-        if registers {
-            self.keys.insert(text, key)?;
-        }
+        self.keys.insert(id.shared_text()?, key)?;
         Ok(())
     }
 }
