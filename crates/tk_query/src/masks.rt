@@ -30,8 +30,8 @@ fn answer_before(answers: &[Option<bool>], index: usize) -> Option<bool>
     }
 }
 
-/// Whether the descriptor of a key passes a test, asked once for each key. `answers` has, under each
-/// key that was asked before, its answer.
+/// Whether the descriptor of a key passes a test, asked once for each key. `answers` has, under
+/// each key that was asked before, its answer.
 fn answer_by_key(
     answers: &mut Vec<Option<bool>>,
     record: &Record,
@@ -100,7 +100,8 @@ fn payload_mask(
     payload_test: PayloadTest,
 ) -> Result<Flags, AllocError>
     ensures { IfOk result (λ flags. flags
-        ≡ map (rule_holds (Rule.Payload test payload_test.entry) «record».now) «record».now.entries) }
+        ≡ map (rule_holds (Rule.Payload test payload_test.entry) «record».now)
+        «record».now.entries) }
 {
     let candidates = record.flags(alloc, test)?;
     let mut column = Vec::with_capacity(alloc, record.len())?;

@@ -13,8 +13,8 @@ use tk_lanes::Flags;
 use tk_query_conditions::Condition;
 use tk_record_columns::Events;
 
-/// The first position not below `from` of one of the candidates of which the condition holds, where it
-/// holds of no other event.
+/// The first position not below `from` of one of the candidates of which the condition holds, where
+/// it holds of no other event.
 fn next_fit(
     events: &Events,
     candidates: &Flags,
@@ -108,7 +108,7 @@ fn try_column_test(
 }
 
 /// Whether the condition holds of some event, by its mask.
-fn try_mask(alloc: Global, events: &Events, condition: &Condition) -> Result<bool, AllocError>
+fn holds_by_mask(alloc: Global, events: &Events, condition: &Condition) -> Result<bool, AllocError>
     ensures { IfOk result (HoldsOfSome events.now condition.now) }
 {
     let record = events.record();
@@ -128,7 +128,7 @@ fn holds_of_some(alloc: Global, events: &Events, condition: &Condition) -> Resul
     if let Some(answer) = try_column_test(alloc, events, condition)? {
         return Ok(answer);
     }
-    try_mask(alloc, events, condition)
+    holds_by_mask(alloc, events, condition)
 }
 
 /// Whether each condition holds of some event. One event may serve several conditions.

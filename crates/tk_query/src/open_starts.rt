@@ -5,10 +5,11 @@ ghost use Rattle.tk_query.specs.Pairing.{open_of, HasSlot, HaveSlots};
 use std::alloc::{AllocError, Global};
 use std::marker::Model;
 use std::mem;
+use tk_ids::MAX_DESCRIPTORS;
 use tk_record_columns::Record;
 
 /// How many keys share a row: those that one worker may register.
-pub(crate) const KEYS_IN_ROW: usize = 65_536;
+pub(crate) const KEYS_IN_ROW: usize = MAX_DESCRIPTORS;
 
 /// The open starts of the keys of one row, each with its position and its stamp.
 #[derive(Drop)]

@@ -109,9 +109,10 @@ impl Pairing {
     }
 }
 
-/// The executions that are still to come, in the order of their ends. A contract sees them as a list.
+/// The executions that are still to come, in the order of their ends. A contract sees them as a
+/// list.
 ///
-/// It had all its memory when it was made.
+/// The iterator had all its memory when it was made, so that no step is refused.
 #[derive(Drop)]
 pub struct ExecutionIter<'r> {
     events: Events<'r>,

@@ -1,6 +1,6 @@
 use Rattle.tk_query.proofs.AskedLemmas.{AreFlags}
 use Rattle.tk_query.proofs.MatchLemmas.{mask_tells}
-use Rattle.tk_query.proofs.matching.try_mask.Goals as goal
+use Rattle.tk_query.proofs.matching.holds_by_mask.Goals as goal
 
 pub returns : goal.returns
 returns c =
