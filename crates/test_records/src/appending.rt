@@ -9,7 +9,7 @@ pub(crate) enum Answer {
     UnknownKey,
     Unlawful,
     Full,
-    /// Memory was refused, and the entry that came back has this stamp.
+    /// A request for memory was refused, and the entry that came back has this stamp.
     Memory(u64),
 }
 

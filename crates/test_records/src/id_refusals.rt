@@ -1,6 +1,7 @@
 //! Ids and their segments, with ample memory and with any one request for memory refused. What one
 //! refusal stops is done once more, and then it has to succeed.
 use std::alloc::Global;
+use test_support::again_if_refused;
 use tk_ids::{Segment, UniqueId};
 
 // Whether these are an engine's segment and one with escapes.
@@ -20,9 +21,6 @@ fn has_its_segments(alloc: Global) -> Option<bool> {
 
 #[test]
 fn segments(rt: HostRuntime) {
-    let answer = match has_its_segments(rt.alloc()) {
-        None => has_its_segments(rt.alloc()),
-        answer => answer,
-    };
+    let answer = again_if_refused(|| has_its_segments(rt.alloc()));
     assert_eq!(rt; answer, Some(true));
 }

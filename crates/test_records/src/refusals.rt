@@ -2,7 +2,7 @@
 //! one answers `Memory` are made once more, and then all have to succeed.
 use crate::appending::{Answer, append};
 use std::alloc::Global;
-use test_support::{is_written, read_again, start, two_tests};
+use test_support::{again_if_refused, is_written, read_again, start, two_tests};
 use tk_events::Entry;
 use tk_ids::Text;
 use tk_record::{write_record, write_tail};
@@ -31,14 +31,8 @@ fn is_tail_written(alloc: Global, record: &Record) -> Option<bool> {
 
 // Whether the texts of a record are written, also where one request for memory is refused.
 fn texts_hold(alloc: Global, record: &Record) -> bool {
-    let written = match is_record_written(alloc, record) {
-        None => is_record_written(alloc, record),
-        answer => answer,
-    };
-    let tail = match is_tail_written(alloc, record) {
-        None => is_tail_written(alloc, record),
-        answer => answer,
-    };
+    let written = again_if_refused(|| is_record_written(alloc, record));
+    let tail = again_if_refused(|| is_tail_written(alloc, record));
     written == Some(true) && tail == Some(true)
 }
 
@@ -65,11 +59,7 @@ fn is_appended(record: &mut Record, stamp: u64) -> Option<bool> {
 // Whether twenty starts are appended, also where one request for memory is refused.
 fn are_appended(record: &mut Record) -> bool {
     for stamp in 0..20 {
-        let appended = match is_appended(record, stamp) {
-            None => is_appended(record, stamp),
-            answer => answer,
-        };
-        if appended != Some(true) {
+        if again_if_refused(|| is_appended(record, stamp)) != Some(true) {
             return false;
         }
     }

@@ -1,18 +1,10 @@
 //! What is answered where memory is refused. A call that answers so is made once more, and then it
 //! has to succeed: each test passes with ample memory, and with any one request for memory refused.
 use std::alloc::Global;
+use test_support::{Ending, again_if_refused, is_done};
 use tk_ids::{DType, Segment, Table, TableFault};
 
-/// How a call ended.
-#[derive(Clone, Copy)]
-enum Ending {
-    Done,
-    /// For want of memory, and the table is as long as before.
-    Refused,
-    Wrong,
-}
-
-// Adds a root.
+// Adds a root. Where memory is refused, the table is as long as before.
 fn added(alloc: Global, table: &mut Table, segment: &Segment) -> Ending {
     let before = table.len();
     let answer = table.add(alloc, None, segment, "one", DType::Test);
@@ -33,26 +25,10 @@ fn numbered(alloc: Global, number: u32) -> Option<Segment> {
     segment(alloc, number.to_string(alloc).ok()?.as_str())
 }
 
-// The segment of this number, also where one request for memory is refused.
-fn numbered_again(alloc: Global, number: u32) -> Option<Segment> {
-    match numbered(alloc, number) {
-        None => numbered(alloc, number),
-        segment => segment,
-    }
-}
-
 // Whether a root is added, also where one request for memory is refused.
-fn is_added(alloc: Global, table: &mut Table, segment: &Segment) -> bool {
-    match added(alloc, table, segment) {
-        Ending::Done => true,
-        Ending::Refused => matches!(added(alloc, table, segment), Ending::Done),
-        Ending::Wrong => false,
-    }
-}
-
 fn is_number_added(alloc: Global, table: &mut Table, number: u32) -> bool {
-    match numbered_again(alloc, number) {
-        Some(segment) => is_added(alloc, table, &segment),
+    match again_if_refused(|| numbered(alloc, number)) {
+        Some(segment) => is_done(|| added(alloc, table, &segment)),
         None => false,
     }
 }

@@ -1,8 +1,6 @@
 //! Record texts that are read and written again.
 use std::alloc::{AllocError, Global};
-use test_support::{record_of, two_tests};
-use tk_record::{Record, write_record};
-use tk_streams::ByteTarget;
+use test_support::{is_written_as, record_of, two_tests};
 
 // The lines of each tail of version 1, with escapes and without.
 fn each_tail() -> &'static [u8] {
@@ -14,15 +12,10 @@ fn files() -> &'static [u8] {
     b"testkit-record|2\nN|T|[engine:e]|e\nE|1|0|0|start\nE|1|0|1|file|out/log.txt\nE|1|0|2|file|a\\pb\n"
 }
 
-fn is_written(alloc: Global, record: &Record, text: &[u8]) -> bool {
-    let mut target = ByteTarget::new(alloc);
-    write_record(alloc, record, &mut target).is_ok() && target.bytes() == text
-}
-
 // Whether the record of a text is written as that other text.
-fn is_written_as(alloc: Global, text: &[u8], written: &[u8]) -> bool {
+fn is_read_and_written_as(alloc: Global, text: &[u8], written: &[u8]) -> bool {
     match record_of(alloc, text) {
-        Some(record) => is_written(alloc, &record, written),
+        Some(record) => is_written_as(alloc, &record, written),
         None => false,
     }
 }
@@ -38,14 +31,14 @@ fn is_renewed(alloc: Global, lines: &[u8]) -> Result<bool, AllocError> {
     let first = with_header(alloc, b"testkit-record|1\n", lines)?;
     let second = with_header(alloc, b"testkit-record|2\n", lines)?;
     Ok(
-        is_written_as(alloc, first.as_slice(), second.as_slice())
-            && is_written_as(alloc, second.as_slice(), second.as_slice()),
+        is_read_and_written_as(alloc, first.as_slice(), second.as_slice())
+            && is_read_and_written_as(alloc, second.as_slice(), second.as_slice()),
     )
 }
 
 #[test]
 fn texts_written_again(rt: HostRuntime) {
-    assert!(rt; is_written_as(rt.alloc(), two_tests(), two_tests()));
-    assert!(rt; is_written_as(rt.alloc(), files(), files()));
+    assert!(rt; is_read_and_written_as(rt.alloc(), two_tests(), two_tests()));
+    assert!(rt; is_read_and_written_as(rt.alloc(), files(), files()));
     assert!(rt; matches!(is_renewed(rt.alloc(), each_tail()), Ok(true)));
 }

@@ -3,15 +3,17 @@
 #![tactic(auto)]
 
 mod devices;
+mod endings;
 mod samples;
 mod shown;
 mod texts;
 mod written;
 
 pub use devices::{OneByteSource, OneByteTarget};
+pub use endings::{Ending, again_if_refused, done_if, is_done, refused_if};
 pub use samples::{one_node, read_again, record_of, start, starts};
 pub use shown::{are_shown, are_shown_as, is_debugged_as, is_shown, is_shown_as};
 pub use texts::{
     demo_plan, demo_report, small_replay, small_replay_taken, two_tests, two_tests_report,
 };
-pub use written::{is_cut, is_written};
+pub use written::{is_cut, is_written, is_written_as};

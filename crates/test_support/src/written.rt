@@ -1,6 +1,7 @@
 //! What a writer answered, beside what its target took.
 use crate::devices::OneByteTarget;
-use tk_record::WriteFault;
+use std::alloc::Global;
+use tk_record::{Record, WriteFault, write_record};
 use tk_streams::{ByteTarget, Target};
 
 /// Returns whether a writer wrote this text; none where memory was refused to it, or to the target,
@@ -16,6 +17,12 @@ pub fn is_written(
         Err(WriteFault::Device) if target.is_broken() => None,
         Err(_) => Some(false),
     }
+}
+
+/// Returns whether a record is written as this text.
+pub fn is_written_as(alloc: Global, record: &Record, text: &[u8]) -> bool {
+    let mut target = ByteTarget::new(alloc);
+    write_record(alloc, record, &mut target).is_ok() && target.bytes() == text
 }
 
 /// Returns whether a target that broke got this number of bytes of a text, and the writer answered
