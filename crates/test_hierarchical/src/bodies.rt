@@ -3,7 +3,7 @@ use std::alloc::{AllocError, Global};
 use std::sync::Wait;
 use std::sync::atomic::{AtomicU64, Ordering};
 use std::thread::Threads;
-use test_support::are_shown_as;
+use test_support::{are_shown_as, is_written_as};
 use tk_engine::{Results, RunFault, Sink, UnitFault, execute};
 use tk_engine_hierarchical::{
     Body, Hierarchical, HierarchicalFault, OUT_OF_ORDER, Outcome, Reporter, TWICE, Tests, UnitRun,
@@ -12,9 +12,7 @@ use tk_events::Pairs;
 use tk_ids::{Segment, Text};
 use tk_plan::{ExecutionMode, LockMode, Plan, PlanNode, build_plan};
 use tk_query::Lifecycle;
-use tk_record::write_record;
 use tk_record_columns::Statistics;
-use tk_streams::ByteTarget;
 
 // A body that publishes a file and fails.
 struct Failing;
@@ -211,8 +209,7 @@ E|0|0|10|finish|ok
 
 /// Whether that is the record of a run.
 pub(crate) fn is_recorded(alloc: Global, results: &Results) -> bool {
-    let mut target = ByteTarget::new(alloc);
-    write_record(alloc, results.recorded(), &mut target).is_ok() && target.bytes() == record()
+    is_written_as(alloc, results.recorded(), record())
 }
 
 // Whether a run by one worker has that record.

@@ -3,12 +3,11 @@
 use std::alloc::{AllocError, Global};
 use std::sync::Wait;
 use std::thread::Threads;
+use test_support::is_written_as;
 use tk_engine::{Results, Scripted, Sink, UnitFault, execute};
 use tk_engine_hierarchical::{Hierarchical, Outcome, Reporter, Tests, UnitRun};
 use tk_events::Status;
 use tk_plan::{ExecutionMode, Plan, PlanNode, build_plan};
-use tk_record::write_record;
-use tk_streams::ByteTarget;
 
 // Tests that succeed and publish nothing.
 #[derive(Drop)]
@@ -94,8 +93,7 @@ E|0|0|16|finish|ok
 }
 
 fn is_recorded(alloc: Global, results: &Results) -> bool {
-    let mut target = ByteTarget::new(alloc);
-    write_record(alloc, results.recorded(), &mut target).is_ok() && target.bytes() == record()
+    is_written_as(alloc, results.recorded(), record())
 }
 
 fn runs_bodies<R: Threads + Wait + Sync>(rt: &R, alloc: Global) -> Option<bool> {

@@ -4,17 +4,9 @@ use crate::bodies::{is_recorded, sample_engine};
 use std::alloc::Global;
 use std::sync::Wait;
 use std::thread::Threads;
+use test_support::{Ending, is_done, refused_if};
 use tk_engine::{RunFault, SinkFault, UnitFault, execute};
 use tk_queue::RegisterFault;
-
-/// How a run ended.
-#[derive(Clone, Copy)]
-enum Ending {
-    Done,
-    /// For want of memory.
-    Refused,
-    Wrong,
-}
 
 fn is_unit_refused(fault: &UnitFault) -> bool {
     match fault {
@@ -25,15 +17,10 @@ fn is_unit_refused(fault: &UnitFault) -> bool {
 }
 
 fn of_fault(fault: &RunFault) -> Ending {
-    let is_refused = match fault {
-        RunFault::Memory | RunFault::Threads => true,
-        RunFault::Engine(_, why) => is_unit_refused(why),
-        _ => false,
-    };
-    if is_refused {
-        Ending::Refused
-    } else {
-        Ending::Wrong
+    match fault {
+        RunFault::Memory | RunFault::Threads => Ending::Refused,
+        RunFault::Engine(_, why) => refused_if(is_unit_refused(why)),
+        _ => Ending::Wrong,
     }
 }
 
@@ -54,9 +41,5 @@ fn run<R: Threads + Wait + Sync>(rt: &R, alloc: Global) -> Ending {
 
 #[test]
 fn a_run_of_bodies(rt: HostRuntime) {
-    let first = run(&rt, rt.alloc());
-    assert!(rt; !matches!(first, Ending::Wrong));
-    if matches!(first, Ending::Refused) {
-        assert!(rt; matches!(run(&rt, rt.alloc()), Ending::Done));
-    }
+    assert!(rt; is_done(|| run(&rt, rt.alloc())));
 }

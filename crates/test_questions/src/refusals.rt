@@ -1,7 +1,7 @@
 //! Calls on questions, with ample memory and with any one request for memory refused. Calls of which
 //! one answers `Memory` are made once more, and then all have to succeed.
 use std::alloc::Global;
-use test_support::{is_written, read_again, two_tests_report};
+use test_support::{again_if_refused, is_written, read_again, two_tests_report};
 use tk_query::{Condition, InOrder, executions, match_in_order, read_condition, select};
 use tk_record_columns::{Events, Record};
 use tk_report_text::write_report_of;
@@ -39,18 +39,9 @@ fn are_executed(alloc: Global, record: &Record) -> Option<bool> {
 
 // Whether the questions are answered, also where one request for memory is refused.
 fn questions_hold(alloc: Global, record: &Record) -> bool {
-    let selected = match are_selected(alloc, record) {
-        None => are_selected(alloc, record),
-        answer => answer,
-    };
-    let matched = match is_matched(alloc, record) {
-        None => is_matched(alloc, record),
-        answer => answer,
-    };
-    let executed = match are_executed(alloc, record) {
-        None => are_executed(alloc, record),
-        answer => answer,
-    };
+    let selected = again_if_refused(|| are_selected(alloc, record));
+    let matched = again_if_refused(|| is_matched(alloc, record));
+    let executed = again_if_refused(|| are_executed(alloc, record));
     selected == Some(true) && matched == Some(true) && executed == Some(true)
 }
 
@@ -75,11 +66,7 @@ fn is_report_written(alloc: Global, record: &Record) -> Option<bool> {
 
 // Whether the report is written, also where one request for memory is refused.
 fn report_holds(alloc: Global, record: &Record) -> bool {
-    let written = match is_report_written(alloc, record) {
-        None => is_report_written(alloc, record),
-        answer => answer,
-    };
-    written == Some(true)
+    again_if_refused(|| is_report_written(alloc, record)) == Some(true)
 }
 
 #[test]

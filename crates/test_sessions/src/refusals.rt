@@ -4,7 +4,10 @@ use crate::ends::{TakenItem, plain, take, two_senders};
 use std::alloc::Global;
 use std::sync::Wait;
 use std::test::*;
-use test_support::{one_node, small_replay, small_replay_taken, start};
+use test_support::{
+    Ending, again_if_refused, done_if, is_done, one_node, refused_if, small_replay,
+    small_replay_taken, start,
+};
 use tk_book::{Book, BookFault, Holdings, Need};
 use tk_engine_claim::{Claim, ClaimFault};
 use tk_events::Kind;
@@ -13,27 +16,6 @@ use tk_queue::{
     Core, CoreFault, OpenFault, Receiver, RegisterFault, ReplayFault, Sender, open, replay_text,
 };
 use tk_streams::{ByteSource, ByteTarget, Target};
-
-/// How a call ended.
-#[derive(Clone, Copy, PartialEq, Eq)]
-enum Ending {
-    Done,
-    /// For want of memory, and what the call was given is as it was.
-    Refused,
-    Wrong,
-}
-
-fn done_if(is_done: bool) -> Ending {
-    if is_done { Ending::Done } else { Ending::Wrong }
-}
-
-fn refused_if(is_refused: bool) -> Ending {
-    if is_refused {
-        Ending::Refused
-    } else {
-        Ending::Wrong
-    }
-}
 
 // A refused growth of the target breaks it, and what it took is a prefix of the record.
 fn ending_of(answer: &Result<(), ReplayFault>, target: &ByteTarget) -> Ending {
@@ -58,11 +40,7 @@ fn replayed(alloc: Global) -> Ending {
 
 #[test]
 fn a_replay(rt: HostRuntime) {
-    let first = replayed(rt.alloc());
-    assert!(rt; first != Ending::Wrong);
-    if first == Ending::Refused {
-        assert!(rt; replayed(rt.alloc()) == Ending::Done);
-    }
+    assert!(rt; is_done(|| replayed(rt.alloc())));
 }
 
 // Where memory is refused, the event comes back and no more items wait.
@@ -80,10 +58,7 @@ fn emitted(core: &mut Core, stamp: u64) -> Ending {
 // Whether 20 starts are emitted, each at once or where it is emitted once more.
 fn are_emitted(core: &mut Core) -> bool {
     for stamp in 0..20 {
-        let first = emitted(core, stamp);
-        let is_done = first == Ending::Done
-            || first == Ending::Refused && emitted(core, stamp) == Ending::Done;
-        if !is_done {
+        if !is_done(|| emitted(core, stamp)) {
             return false;
         }
     }
@@ -121,18 +96,12 @@ fn registered<R: Wait>(rt: &R, sender: &mut Sender, segment: &Segment) -> Ending
 
 // The two senders of a session and their receiver, also where one request for memory is refused.
 fn opened(alloc: Global) -> Option<(Sender, Sender, Receiver)> {
-    match two_senders(alloc, 4) {
-        Some(session) => Some(session),
-        None => two_senders(alloc, 4),
-    }
+    again_if_refused(|| two_senders(alloc, 4))
 }
 
 // The segment `[dyn:1]`, also where one request for memory is refused.
 fn made_segment(alloc: Global) -> Option<Segment> {
-    match Segment::new(alloc, "dyn", "1") {
-        Ok(segment) => Some(segment),
-        Err(_) => Segment::new(alloc, "dyn", "1").ok(),
-    }
+    again_if_refused(|| Segment::new(alloc, "dyn", "1").ok())
 }
 
 // Whether worker 2 registers the segment, and its registration is taken, and nothing else.
@@ -142,10 +111,7 @@ fn is_registered<R: Wait>(
     receiver: &mut Receiver,
     segment: &Segment,
 ) -> bool {
-    let first = registered(rt, sender, segment);
-    let is_done = first == Ending::Done
-        || first == Ending::Refused && registered(rt, sender, segment) == Ending::Done;
-    is_done
+    is_done(|| registered(rt, sender, segment))
         && take(rt, receiver) == TakenItem::Entry(2, Kind::Dynamic, 131_072, 5)
         && take(rt, receiver) == TakenItem::Nothing
 }
@@ -204,28 +170,20 @@ fn session_opened(alloc: Global) -> Ending {
 
 #[test]
 fn a_claim(rt: HostRuntime) {
-    let first = claim_opened(rt.alloc());
-    assert!(rt; first != Ending::Wrong);
-    assert!(rt; first == Ending::Done || claim_opened(rt.alloc()) == Ending::Done);
+    assert!(rt; is_done(|| claim_opened(rt.alloc())));
 }
 
 #[test]
 fn a_book(rt: HostRuntime) {
-    let first = book_opened(rt.alloc());
-    assert!(rt; first != Ending::Wrong);
-    assert!(rt; first == Ending::Done || book_opened(rt.alloc()) == Ending::Done);
+    assert!(rt; is_done(|| book_opened(rt.alloc())));
 }
 
 #[test]
 fn some_holdings(rt: HostRuntime) {
-    let first = holdings_made(rt.alloc());
-    assert!(rt; first != Ending::Wrong);
-    assert!(rt; first == Ending::Done || holdings_made(rt.alloc()) == Ending::Done);
+    assert!(rt; is_done(|| holdings_made(rt.alloc())));
 }
 
 #[test]
 fn a_session(rt: HostRuntime) {
-    let first = session_opened(rt.alloc());
-    assert!(rt; first != Ending::Wrong);
-    assert!(rt; first == Ending::Done || session_opened(rt.alloc()) == Ending::Done);
+    assert!(rt; is_done(|| session_opened(rt.alloc())));
 }

@@ -108,14 +108,14 @@ fn fill<R: Wait>(rt: &R, first: &mut Sender, second: &mut Sender, receiver: &mut
 }
 
 // Whether the third start finds the queue of capacity two full, and goes out once one was taken.
-fn two_places_are_filled<R: Wait>(rt: &R, alloc: Global) -> Option<bool> {
+fn capacity_two_is_filled<R: Wait>(rt: &R, alloc: Global) -> Option<bool> {
     let (mut first, mut second, mut receiver) = two_senders(alloc, 2)?;
     Some(fill(rt, &mut first, &mut second, &mut receiver))
 }
 
 #[test]
 fn capacity_two(rt: HostRuntime) {
-    assert!(rt; two_places_are_filled(&rt, rt.alloc()) == Some(true));
+    assert!(rt; capacity_two_is_filled(&rt, rt.alloc()) == Some(true));
 }
 
 // How many starts are sent until one comes back since the queue is full.
@@ -131,13 +131,13 @@ fn sent<R: Wait>(rt: &R, sender: &mut Sender) -> Option<u64> {
 }
 
 // How many starts are sent through a session of one sender until its queue is full.
-fn sent_through<R: Wait>(rt: &R, alloc: Global, places: usize) -> Option<u64> {
-    let (mut sender, _receiver) = one_sender(alloc, places)?;
+fn sent_through<R: Wait>(rt: &R, alloc: Global, capacity: usize) -> Option<u64> {
+    let (mut sender, _receiver) = one_sender(alloc, capacity)?;
     sent(rt, &mut sender)
 }
 
 #[test]
-fn as_many_places_as_asked(rt: HostRuntime) {
+fn as_many_starts_as_the_capacity(rt: HostRuntime) {
     assert!(rt; sent_through(&rt, rt.alloc(), 3) == Some(3));
     assert!(rt; sent_through(&rt, rt.alloc(), 1_024) == Some(1_024));
 }
