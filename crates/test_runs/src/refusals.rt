@@ -3,33 +3,12 @@
 use std::alloc::Global;
 use std::sync::Wait;
 use std::thread::Threads;
-use test_support::{demo_plan, demo_report};
+use test_support::{Ending, demo_plan, demo_report, done_if, is_done, refused_if};
 use tk_engine_execute::{RunFault, SinkFault, UnitFault};
 use tk_plan::{Plan, PlanFault, read_plan};
 use tk_queue::RegisterFault;
 use tk_report::{ReportFault, plan_report};
 use tk_streams::{ByteTarget, Target};
-
-/// How a call ended.
-#[derive(Clone, Copy)]
-enum Ending {
-    Done,
-    /// For want of memory.
-    Refused,
-    Wrong,
-}
-
-fn done_if(is_done: bool) -> Ending {
-    if is_done { Ending::Done } else { Ending::Wrong }
-}
-
-fn refused_if(is_refused: bool) -> Ending {
-    if is_refused {
-        Ending::Refused
-    } else {
-        Ending::Wrong
-    }
-}
 
 fn of_reading(answer: &Result<Plan, PlanFault>) -> Ending {
     match answer {
@@ -47,11 +26,7 @@ fn read(alloc: Global) -> Ending {
 
 #[test]
 fn a_plan(rt: HostRuntime) {
-    let first = read(rt.alloc());
-    assert!(rt; !matches!(first, Ending::Wrong));
-    if matches!(first, Ending::Refused) {
-        assert!(rt; matches!(read(rt.alloc()), Ending::Done));
-    }
+    assert!(rt; is_done(|| read(rt.alloc())));
 }
 
 fn is_emission_refused(fault: &SinkFault) -> bool {
@@ -100,9 +75,5 @@ fn report<R: Threads + Wait + Sync>(rt: &R, alloc: Global) -> Ending {
 
 #[test]
 fn a_report(rt: HostRuntime) {
-    let first = report(&rt, rt.alloc());
-    assert!(rt; !matches!(first, Ending::Wrong));
-    if matches!(first, Ending::Refused) {
-        assert!(rt; matches!(report(&rt, rt.alloc()), Ending::Done));
-    }
+    assert!(rt; is_done(|| report(&rt, rt.alloc())));
 }

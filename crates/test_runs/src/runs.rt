@@ -203,9 +203,9 @@ fn workers_and_capacity(rt: HostRuntime) {
         let (ran, _) = run(&rt, rt.alloc(), 1, read_of_all(), steps, workers, 1);
         assert!(rt; matches!(ran, Outcome::Workers), "{workers}");
     }
-    for places in [0, 1025] {
-        let (ran, _) = run(&rt, rt.alloc(), 1, read_of_all(), steps, 1, places);
-        assert!(rt; matches!(ran, Outcome::Capacity), "{places}");
+    for capacity in [0, 1025] {
+        let (ran, _) = run(&rt, rt.alloc(), 1, read_of_all(), steps, 1, capacity);
+        assert!(rt; matches!(ran, Outcome::Capacity), "{capacity}");
     }
     let (ran, _) = run(&rt, rt.alloc(), 1, read_of_all(), steps, 15, 1024);
     assert!(rt; matches!(ran, Outcome::Recorded { entries: 1, .. }));
@@ -349,8 +349,8 @@ fn all_workers_fail(rt: HostRuntime) {
     }
 }
 
-// A run of two units with 1,000 starts each, by two workers through one place: what it answered, and the sums of the bits
-// of the units that began and that came to their end.
+// A run of two units with 1,000 starts each, by two workers through a queue of capacity one: what it
+// answered, and the sums of the bits of the units that began and that came to their end.
 fn run_of_starts<R: Threads + Wait + Sync>(rt: &R, alloc: Global) -> (Outcome, u64, u64) {
     let mut steps = [UnitStep::Start(0); 1_002];
     steps[0] = UnitStep::Begin;

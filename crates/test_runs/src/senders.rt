@@ -1,4 +1,4 @@
-//! Senders on threads of their own, through queues of few and of many places.
+//! Senders on threads of their own, through queues of small and of great capacity.
 ghost use Rattle.std.specs.Prelude.{◌≡◌, All, IfSome};
 
 use crossbeam_utils::Backoff;
