@@ -1,8 +1,7 @@
 -- What a unit has played after one event more.
-use Rattle.std.proofs.Common.{◌≡◌, ◌<◌, ◌≤◌, ◌+◌, ◌-◌, ◌==◌, ◌&&◌, ◌||◌, ℕ, zero, suc, ◌⊎◌, inl, inr, ⊎_elim, Bool, true, false, List, [], ◌∷◌, ◌++◌, length, take, Some, slice_get, All, refl, sym, ap, ap₂, ◌∙◌, subst, append_assoc, append-nil, arith, tests}
+use Rattle.std.proofs.Common.{◌≡◌, ◌<◌, ◌+◌, ◌-◌, ◌==◌, ◌&&◌, ◌||◌, ℕ, zero, suc, ◌⊎◌, inl, inr, ⊎_elim, Bool, true, false, List, [], ◌∷◌, ◌++◌, length, take, Some, slice_get, All, refl, sym, ap, ap₂, ◌∙◌, subst, append_assoc, append-nil, arith, tests}
 use Rattle.std.specs.List.{list_any}
 use Rattle.std.specs.Prelude.{Ok}
-use Rattle.std.proofs.Math.Seq.{take-length}
 use Rattle.std.proofs.lemmas.List.{map-append}
 use Rattle.std.proofs.lemmas.List.Elements.{All-nil, All-cons, All-append}
 use Rattle.tk_ids.specs.IdText.{SegmentView, parent_of}

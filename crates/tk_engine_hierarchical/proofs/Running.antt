@@ -379,7 +379,7 @@ or_true : (b : Bool) → (b || true) ≡ true
 or_true true = refl
 or_true false = refl
 
-noted_more : (registered noted : List (List ℕ × ℕ)) (own : List ℕ) → ((text : List ℕ) → is_registered noted text ≡ (bytes_eq text own || is_registered registered text))
+pub noted_more : (registered noted : List (List ℕ × ℕ)) (own : List ℕ) → ((text : List ℕ) → is_registered noted text ≡ (bytes_eq text own || is_registered registered text))
     → (text : List ℕ) → is_registered registered text ≡ true → is_registered noted text ≡ true
 noted_more registered noted own all text h = all text ∙ ap (λ b. bytes_eq text own || b) h ∙ or_true (bytes_eq text own)
 
@@ -392,11 +392,11 @@ noted_own : (registered noted : List (List ℕ × ℕ)) (own : List ℕ) → ((t
 noted_own registered noted own all = all own ∙ true_or (bytes_eq own own) (is_registered registered own) ((bytes_eq-Decides own own).1 refl)
 
 -- the ids were noted, and nothing was emitted
-pub ran_noted : (f : Frame) (unit : ℕ) (start now : SenderView) (running : List RunningId) (registered noted : List (List ℕ × ℕ)) (next : ℕ) (own : List ℕ)
-    → ((text : List ℕ) → is_registered noted text ≡ (bytes_eq text own || is_registered registered text))
+pub ran_noted : (f : Frame) (unit : ℕ) (start now : SenderView) (running : List RunningId) (registered noted : List (List ℕ × ℕ)) (next : ℕ)
+    → ((text : List ℕ) → is_registered registered text ≡ true → is_registered noted text ≡ true)
     → IsRunning f unit start now running registered next → IsRunning f unit start now running noted next
-ran_noted f unit start now running registered noted next own all r =
-    let j = emitting_noted f unit start now (progress running registered next) r.emitting (is_registered noted) (noted_more registered noted own all) in
+ran_noted f unit start now running registered noted next more r =
+    let j = emitting_noted f unit start now (progress running registered next) r.emitting (is_registered noted) more in
     record { emitting = j; ids = r.ids; nesting = nests_same f unit start now (progress running registered next) (progress running noted next) running r.emitting j r.nesting }
 
 pub ran_registration : (s : ShapeView) (unit : ℕ) (start old now : SenderView) (running rest : List RunningId) (registered noted : List (List ℕ × ℕ)) (next key : ℕ)

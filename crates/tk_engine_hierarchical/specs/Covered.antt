@@ -1,5 +1,5 @@
 -- Which static keys had their turn.
-use Rattle.std.specs.Prelude.{◌≡◌, ◌⊎◌, ℕ, ◌<◌, ◌≤◌, true, List, ◌∷◌, ◌++◌, Some, slice_get}
+use Rattle.std.specs.Prelude.{◌≡◌, ◌⊎◌, ℕ, ◌<◌, ◌≤◌, true, List, Some, slice_get}
 use Rattle.tk_ids.specs.IdText.{SegmentView, IsBelow}
 use Rattle.tk_ids.specs.Table.{ids_of}
 use Rattle.tk_ids.specs.declared.descriptors.Descriptor.{Descriptor}

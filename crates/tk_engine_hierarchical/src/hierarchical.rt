@@ -1,5 +1,6 @@
 //! The engine of a plan whose tests have bodies.
-ghost use Rattle.std.specs.Prelude.{◌≡◌, ◌⊎◌, ◌<◌, ℕ, Err, IfOk, IfSome, IsTrue, OnOk, length, unwrap_or};
+ghost use Rattle.std.specs.Prelude.{◌≡◌, ◌⊎◌, ◌<◌, ◌+◌, ◌-◌, ◌^◌, ◌&&◌, ℕ, Err, IfOk, IfSome, IsTrue, OnOk, is_some, length, min, unwrap_or};
+ghost use Rattle.tk_ids.specs.DTypes.{is_test};
 ghost use Rattle.tk_engine_execute.specs.declared.engines.UnitFault.{UnitFault};
 ghost use Rattle.tk_engine_execute.specs.declared.engines.UnitFault.TheVariants.{Own};
 ghost use Rattle.tk_plan_units.specs.Cutting.{units_of};
@@ -32,8 +33,11 @@ struct PlannedStamps {
 }
 
 impl PlannedStamps {
-    // The stamp of the next event.
-    fn take(&mut self) -> u64 {
+    // Takes the stamp of the next event. The greatest one is taken again and again.
+    fn take(&mut self) -> u64
+        ensures stamp { result ≡ self.old.next }
+        ensures next { self.new.next ≡ min (self.old.next + 1) (2 ^ 64 - 1) }
+    {
         let stamp = self.next;
         self.next = stamp.saturating_add(1);
         stamp
@@ -42,7 +46,7 @@ impl PlannedStamps {
 
 // The outcome of a test that ran, and the stamp that it set, where it did.
 #[derive(Drop)]
-struct Ended {
+struct TestEnd {
     outcome: Outcome,
     stamp: Option<u64>,
 }
@@ -54,12 +58,12 @@ fn run_test<R: Wait, S: Sink, K: UnitRun, T: Tests>(
     tests: &T,
     key: u32,
     reporter: &mut Reporter<'_, S, K>,
-) -> Result<Ended, UnitFault>
+) -> Result<TestEnd, UnitFault>
     ensures may { IfOk result (λ e. T.may_end tests.now key e.outcome) }
     ensures stamp { IfOk result (λ e. e.stamp ≡ reporter.new.events.own_stamp) }
 {
     let outcome = tests.run(rt, alloc, key, reporter)?;
-    Ok(Ended {
+    Ok(TestEnd {
         outcome,
         stamp: reporter.events.own_stamp(),
     })
@@ -73,8 +77,10 @@ fn run_node<R: Wait, S: Sink, K: UnitRun, T: Tests>(
     node: &Node,
     key: u32,
     reporter: &mut Reporter<'_, S, K>,
-) -> Result<Option<Ended>, UnitFault>
-    ensures { IfOk result (λ ended. IfSome ended (λ e. T.may_end tests.now key e.outcome)) }
+) -> Result<Option<TestEnd>, UnitFault>
+    ensures may { IfOk result (λ ended. IfSome ended (λ e. T.may_end tests.now key e.outcome)) }
+    ensures test { IfOk result (λ ended.
+        is_some ended ≡ (node.now.is_static && is_test node.now.dtype)) }
 {
     if !node.is_static || !node.dtype.is_test() {
         return Ok(None);
@@ -84,7 +90,11 @@ fn run_node<R: Wait, S: Sink, K: UnitRun, T: Tests>(
 }
 
 // What is registered for a dynamic node.
-fn child_of(node: &Node) -> Child<'_> {
+fn child_of(node: &Node) -> Child<'_>
+    ensures segment { result.segment.now ≡ node.now.segment }
+    ensures name { result.name.now ≡ node.now.name }
+    ensures dtype { result.dtype ≡ node.now.dtype }
+{
     Child {
         segment: &node.segment,
         name: node.name.as_str(),
@@ -170,7 +180,7 @@ fn publish_planned<R: Wait, S: Sink, K: UnitRun>(
 fn finish_test<R: Wait, S: Sink, K: UnitRun>(
     rt: &R,
     key: u32,
-    test: Ended,
+    test: TestEnd,
     planned: u64,
     reporter: &mut Reporter<'_, S, K>,
 ) -> Result<(), UnitFault>
@@ -270,24 +280,23 @@ fn run_tree<R: Wait, S: Sink, K: UnitRun, T: Tests>(
     }
 }
 
-// How a unit ended that was run so: well only where no key runs, and each static one
-// had its turn.
-fn ending(played: Result<(), UnitFault>, rests: bool, had_turns: bool) -> Result<(), UnitFault>
-    ensures rests { OnOk result (IsTrue rests) }
-    ensures had_turns { OnOk result (IsTrue had_turns) }
+// How a unit ended that was run so: well only where it is complete.
+fn ending(played: Result<(), UnitFault>, is_complete: bool) -> Result<(), UnitFault>
+    ensures complete { OnOk result (IsTrue is_complete) }
     ensures fault { (why : UnitFault) → played ≡ Err why → result ≡ Err why }
     ensures own { (why : UnitFault) → result ≡ Err why
         → (played ≡ Err why) ⊎ (why ≡ Own OUT_OF_ORDER) }
 {
     played?;
-    if rests && had_turns {
+    if is_complete {
         Ok(())
     } else {
         Err(UnitFault::Own(OUT_OF_ORDER))
     }
 }
 
-// Runs a unit into a sink that is lent, and gives the sink back. How the unit ended is left in `ran`.
+// Runs a unit into a sink that is lent, and gives the sink back. How the unit ended is left in `ran`:
+// in a pair with it the proof would lose that the sink is the one that was lent.
 pub(crate) fn run_unit<'a, R: Wait, S: Sink, K: UnitRun, T: Tests>(
     rt: &R,
     alloc: Global,
@@ -328,7 +337,7 @@ pub(crate) fn run_unit<'a, R: Wait, S: Sink, K: UnitRun, T: Tests>(
         &mut reporter,
     );
     let Reporter { events } = reporter;
-    let (lease, rests, had_turns) = events.end();
-    *ran = ending(played, rests, had_turns);
+    let (lease, is_complete) = events.end();
+    *ran = ending(played, is_complete);
     lease
 }

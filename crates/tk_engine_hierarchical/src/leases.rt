@@ -1,17 +1,23 @@
 //! A sink that is lent to a unit.
-ghost use Rattle.std.specs.Prelude.{◌≡◌, Ok, IfOk, OnOk, OnErr};
+ghost use Rattle.std.specs.Prelude.{◌≡◌, ◌++◌, ◌∷◌, ◌||◌, ℕ, List, [], Ok, IfOk, OnOk, OnErr, bytes_eq, false, true};
+ghost use Rattle.tk_ids.specs.IdText.{id_text};
+ghost use Rattle.tk_ids.specs.Table.{HasId as TableHasId};
 ghost use Rattle.tk_queue_session.specs.Senders.{SenderView, sends};
 ghost use Rattle.tk_queue_session.specs.Registering.{IsRegisteredAs};
 ghost use Rattle.tk_engine_execute.specs.Engines.{Extends};
 ghost use Rattle.tk_engine_hierarchical.specs.Events.{IsRunning};
-ghost use Rattle.tk_engine_hierarchical.specs.Running.{with_ids};
+ghost use Rattle.tk_engine_hierarchical.specs.RegisteredIds.{is_registered};
+ghost use Rattle.tk_engine_hierarchical.specs.Running.{with_id, with_ids};
 ghost use Rattle.tk_engine_hierarchical.specs.Shapes.{frame};
 ghost use Rattle.tk_engine_hierarchical.specs.Units.{HasPlayed};
 
+use crate::registered_ids::RegisteredIds;
 use crate::reporters::Reporter;
+use crate::running_keys::RunningKey;
 use crate::shapes::Shape;
 use crate::tests::Body;
-use crate::unit_events::{BodyRun, UnitEvents, UnitProgress};
+use crate::unit_events::{BodyRun, Child, UnitEvents, UnitProgress};
+use crate::unit_ids::new_child;
 use crate::unit_runs::UnitRun;
 use std::alloc::Global;
 use std::marker::Brand;
@@ -19,7 +25,7 @@ use std::mem;
 use std::sync::Wait;
 use tk_engine_execute::{Sink, UnitFault};
 use tk_events::Event;
-use tk_ids::{DType, Segment};
+use tk_ids::{DType, Segment, UniqueId};
 
 /// A sink that is lent to a unit: it stays the same sink as long as the unit runs.
 #[derive(Drop)]
@@ -35,10 +41,8 @@ impl<'a, S: Sink> Lease<'a, S> {
         ensures err { OnErr result (S.view self.new.sink.now ≡ S.view self.old.sink.now) }
         ensures same { self.new.sink.ghost_name ≡ self.old.sink.ghost_name }
     {
-        match self.sink.emit(rt, event) {
-            Ok(()) => Ok(()),
-            Err(fault) => Err(UnitFault::Sink(fault)),
-        }
+        self.sink.emit(rt, event)?;
+        Ok(())
     }
 
     /// Registers a descriptor below its parent, and returns its key.
@@ -63,10 +67,45 @@ impl<'a, S: Sink> Lease<'a, S> {
         ensures err { OnErr result (S.view self.new.sink.now ≡ S.view self.old.sink.now) }
         ensures same { self.new.sink.ghost_name ≡ self.old.sink.ghost_name }
     {
-        match self.sink.register(rt, parent, segment, name, dtype, stamp) {
-            Ok(key) => Ok(key),
-            Err(fault) => Err(UnitFault::Sink(fault)),
-        }
+        Ok(self.sink.register(rt, parent, segment, name, dtype, stamp)?)
+    }
+
+    /// Registers a child of a running key, and notes its id. Returns its key and its id.
+    pub(crate) fn register_child<R: Wait>(
+        &mut self,
+        rt: &R,
+        alloc: Global,
+        shape: &Shape,
+        registered: &mut RegisteredIds,
+        above: &RunningKey,
+        child: &Child<'_>,
+        stamp: u64,
+    ) -> Result<(u32, UniqueId), UnitFault>
+        ensures registration { IfOk result (λ new.
+            IsRegisteredAs (S.view self.old.sink.now) (S.view self.new.sink.now)
+            (record {
+              parent = above.now.key;
+              segment = child.now.segment.now;
+              name = child.now.name.now;
+              dtype = child.now.dtype;
+              stamp = stamp;
+            }) (Ok new.0)) }
+        ensures id { IfOk result (λ new. new.1
+            ≡ (with_id shape.now.table above.now).id ++ child.now.segment.now ∷ []) }
+        ensures not_static { IfOk result (λ new. ¬ TableHasId shape.now.table new.1) }
+        ensures not_registered { IfOk result (λ new.
+            is_registered registered.old (id_text new.1) ≡ false) }
+        ensures noted { IfOk result (λ new. (text : List ℕ) → is_registered registered.new text
+            ≡ (bytes_eq text (id_text new.1) || is_registered registered.old text)) }
+        ensures kept { (text : List ℕ) → is_registered registered.old text ≡ true
+            → is_registered registered.new text ≡ true }
+        ensures err { OnErr result (S.view self.new.sink.now ≡ S.view self.old.sink.now) }
+        ensures same { self.new.sink.ghost_name ≡ self.old.sink.ghost_name }
+    {
+        let id = new_child(alloc, shape, registered, above, child.segment)?;
+        registered.add(&id)?;
+        let key = self.register(rt, above.key, child.segment, child.name, child.dtype, stamp)?;
+        Ok((key, id))
     }
 
     /// Runs a body, which emits into this sink. Where the unit stands then, and how the body ended, is

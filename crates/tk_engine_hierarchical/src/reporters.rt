@@ -147,7 +147,10 @@ impl<'a, S: Sink, K: UnitRun> Reporter<'a, S, K> {
         ended
     }
 
-    /// Does the same for a dynamic container, whose body runs what is below it.
+    /// Registers a dynamic container below the test or container that runs, starts it, runs its body,
+    /// which runs what is below it, and finishes it with the outcome.
+    ///
+    /// JUnit: `dynamicTestRegistered` and what follows it.
     ///
     /// # Errors
     /// As [`Reporter::dynamic_test`].

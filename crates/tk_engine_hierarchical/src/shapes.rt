@@ -87,17 +87,13 @@ fn is_common(table: &Table, owners: &[u32], units: u32, event: &Event) -> bool
     ensures statics { IsTrue result → IsStaticEvent (length table.now) event.now }
     ensures common { IsTrue result → units ≤ get_or owners.now event.now.key units }
 {
-    let owner = match owners.get(event.key as usize) {
-        Some(owner) => *owner,
-        None => units,
-    };
     (event.key as usize) < table.len()
-        && units <= owner
+        && units <= number_at(owners, event.key, units)
         && event.kind != Kind::Dynamic
         && event.is_lawful()
 }
 
-// Whether all events are.
+// Whether all events are common.
 fn are_common(table: &Table, owners: &[u32], units: u32, events: &[Event]) -> bool
     ensures statics { IsTrue result → All (IsStaticEvent (length table.now)) events.now }
     ensures common { IsTrue result
@@ -193,10 +189,7 @@ fn running_after(
 ) -> Result<Option<Vec<bool>>, AllocError>
     ensures { IfOk result (λ found. IfSome found (λ flags. AreRunning before.now flags.items)) }
 {
-    let mut flags = Vec::with_capacity(alloc, keys)?;
-    for _ in 0..keys {
-        flags.push(false)?;
-    }
+    let mut flags = Vec::from_elem(alloc, false, keys)?;
     for event in before {
         if !note_start(&mut flags, event) {
             return Ok(None);
@@ -205,14 +198,18 @@ fn running_after(
     Ok(Some(flags))
 }
 
-// The number at an index, or 0 past the end.
-fn number_at(numbers: &[u32], index: u32) -> u32
-    ensures { result ≡ get_or numbers.now index 0 }
+// The number at an index, or another one past the end.
+fn number_at(numbers: &[u32], index: u32, past_end: u32) -> u32
+    ensures { result ≡ get_or numbers.now index past_end }
 {
-    match numbers.get(index as usize) {
-        Some(number) => *number,
-        None => 0,
-    }
+    numbers.get(index as usize).copied().unwrap_or(past_end)
+}
+
+// Whether a key has a flag that is set.
+fn has_flag(flags: &[bool], key: u32) -> bool
+    ensures { IsTrue result → slice_get flags.now key ≡ Some true }
+{
+    flags.get(key as usize).copied().unwrap_or(false)
 }
 
 // Whether a static key is one of a unit's keys, or has a flag.
@@ -221,18 +218,12 @@ fn has_place(keys: &KeysOfUnits, units: u32, flags: &[bool], key: u32) -> bool
         → IsInUnit units keys.now.firsts.items keys.now.ends.items key
         ⊎ (slice_get flags.now key ≡ Some true) }
 {
-    let unit = match keys.owners.as_slice().get(key as usize) {
-        Some(unit) => *unit,
-        None => units,
-    };
+    let unit = number_at(keys.owners.as_slice(), key, units);
     if unit < units {
-        let first = number_at(keys.firsts.as_slice(), unit);
-        return first <= key && key < number_at(keys.ends.as_slice(), unit);
+        let first = number_at(keys.firsts.as_slice(), unit, 0);
+        return first <= key && key < number_at(keys.ends.as_slice(), unit, 0);
     }
-    match flags.get(key as usize) {
-        Some(flag) => *flag,
-        None => false,
-    }
+    has_flag(flags, key)
 }
 
 // Whether each of the first static keys is one of a unit's keys, or has a flag.
@@ -314,10 +305,7 @@ impl Shape {
     pub(crate) fn owner(&self, key: u32) -> u32
         ensures { result ≡ get_or self.now.owners key self.now.units }
     {
-        match self.keys.owners.as_slice().get(key as usize) {
-            Some(owner) => *owner,
-            None => self.units,
-        }
+        number_at(self.keys.owners.as_slice(), key, self.units)
     }
 
     /// The static key of the parent of another.
@@ -337,18 +325,15 @@ impl Shape {
         ensures { record { unit = unit; first = result.0; end = result.1 }
             ≡ keys_in self.now unit }
     {
-        let first = number_at(self.keys.firsts.as_slice(), unit);
-        (first, number_at(self.keys.ends.as_slice(), unit))
+        let first = number_at(self.keys.firsts.as_slice(), unit, 0);
+        (first, number_at(self.keys.ends.as_slice(), unit, 0))
     }
 
     /// Whether a static key runs after the events before the units.
     pub(crate) fn runs_before(&self, key: u32) -> bool
         ensures { IsTrue result → runs key (entries_by 0 self.now.before) ≡ true }
     {
-        match self.run_before.as_slice().get(key as usize) {
-            Some(runs) => *runs,
-            None => false,
-        }
+        has_flag(self.run_before.as_slice(), key)
     }
 
     /// Shows what holds of each shape.

@@ -12,11 +12,11 @@ use tk_ids::Text;
 
 /// The number of the fault [`Own`](UnitFault::Own) of a unit whose events would break the lifecycle,
 /// as where a key finishes that isn't the innermost running one. No plan leads to it.
-pub const OUT_OF_ORDER: u32 = 4_294_967_295;
+pub const OUT_OF_ORDER: u32 = u32::MAX;
 
 /// The number of the fault [`Own`](UnitFault::Own) of a unit that registers a dynamic descriptor whose
 /// id is that of a static one, or of one that the unit registered.
-pub const TWICE: u32 = 4_294_967_294;
+pub const TWICE: u32 = u32::MAX - 1;
 
 /// How a test ended.
 ///

@@ -1,5 +1,5 @@
 //! What a unit emits.
-ghost use Rattle.std.specs.Prelude.{◌≡◌, ◌<◌, ◌≤◌, ℕ, IfOk, IsTrue, None, OnErr, OnOk, Some, false, length, true};
+ghost use Rattle.std.specs.Prelude.{◌≡◌, ◌<◌, ◌≤◌, ◌∷◌, ℕ, IfOk, IsTrue, List, None, OnErr, OnOk, Some, false, length, true};
 ghost use Rattle.tk_engine_execute.specs.Engines.{Extends, IsSameSender};
 ghost use Rattle.tk_events.specs.declared.kinds.Kind.TheVariants.{Finished, Skipped, Started};
 ghost use Rattle.tk_events.specs.declared.payloads.Payload.TheVariants.{Nothing};
@@ -9,6 +9,7 @@ ghost use Rattle.tk_engine_hierarchical.specs.Reporting.{Grew, HasFinished, HasS
 ghost use Rattle.tk_engine_hierarchical.specs.Running.{with_ids};
 ghost use Rattle.tk_engine_hierarchical.specs.Shapes.{frame, keys_in};
 ghost use Rattle.tk_engine_hierarchical.specs.Units.{HasPlayed};
+ghost use Rattle.tk_engine_hierarchical.specs.declared.running_keys.RunningKey.{RunningKey};
 
 use crate::leases::Lease;
 use crate::registered_ids::RegisteredIds;
@@ -16,7 +17,7 @@ use crate::running_keys::RunningKey;
 use crate::shapes::Shape;
 use crate::stacks::Stack;
 use crate::tests::{Body, OUT_OF_ORDER, Outcome};
-use crate::unit_ids::{end_below, may_start, new_child};
+use crate::unit_ids::{end_below, may_start};
 use crate::unit_runs::UnitRun;
 use std::alloc::Global;
 use std::marker::{Model, PhantomData};
@@ -68,6 +69,16 @@ impl UnitProgress {
 pub(crate) struct BodyRun {
     pub(crate) progress: UnitProgress,
     pub(crate) outcome: Result<Outcome, UnitFault>,
+}
+
+// The innermost running key.
+fn innermost(running: &Stack<RunningKey>) -> Result<&RunningKey, UnitFault>
+    ensures { IfOk result (λ top. (outer : List RunningKey) × (running.now ≡ top.now ∷ outer)) }
+{
+    match running.top() {
+        Some(top) => Ok(top),
+        None => Err(UnitFault::Own(OUT_OF_ORDER)),
+    }
 }
 
 /// What a unit has emitted, which keeps the lifecycle. Contracts see the sink, and which keys run.
@@ -207,18 +218,19 @@ impl<'a, S: Sink, K: UnitRun> UnitEvents<'a, S, K> {
         outcome
     }
 
-    /// Gives the sink back, and says whether no key runs, and whether each static one had its turn.
-    pub(crate) fn end(self) -> (Lease<'a, S>, bool, bool)
+    /// Gives the sink back, and says whether the unit is complete: no key runs, and each static one had
+    /// its turn.
+    pub(crate) fn end(self) -> (Lease<'a, S>, bool)
         ensures name { result.0.sink.ghost_name ≡ K.name }
         ensures same { IsSameSender K.start (S.view result.0.sink.now) }
         ensures some { Extends K.start (S.view result.0.sink.now) }
-        ensures run { IsTrue result.1 → IsTrue result.2
+        ensures run { IsTrue result.1
             → HasRun K.frame K.may_end K.keys K.start (S.view result.0.sink.now) }
     {
         let rests = self.progress.running.top().is_none();
         let had_turns = self.progress.end <= self.progress.next;
         let UnitEvents { lease, .. } = self;
-        (lease, rests, had_turns)
+        (lease, rests && had_turns)
     }
 
     /// Shows what holds of the sink since the unit began.
@@ -227,11 +239,6 @@ impl<'a, S: Sink, K: UnitRun> UnitEvents<'a, S, K> {
         ensures some { Extends K.start self.now.sink }
     {
         let _lease = &self.lease;
-    }
-
-    /// The innermost running key.
-    pub(crate) fn innermost(&self) -> Option<u32> {
-        Some(self.progress.running.top()?.key)
     }
 
     /// Whether the key is that of a static test.
@@ -352,9 +359,7 @@ impl<'a, S: Sink, K: UnitRun> UnitEvents<'a, S, K> {
         ensures err { OnErr result (self.new ≡ self.old) }
         ensures own_stamp { self.new.own_stamp ≡ self.old.own_stamp }
     {
-        let Some(innermost) = self.progress.running.top() else {
-            return Err(UnitFault::Own(OUT_OF_ORDER));
-        };
+        let innermost = innermost(&self.progress.running)?;
         let event = Event {
             kind,
             key: innermost.key,
@@ -377,9 +382,7 @@ impl<'a, S: Sink, K: UnitRun> UnitEvents<'a, S, K> {
             (HasFinished self.old self.new (event Finished key stamp outcome)) }
         ensures err { OnErr result (self.new ≡ self.old) }
     {
-        let Some(innermost) = self.progress.running.top() else {
-            return Err(UnitFault::Own(OUT_OF_ORDER));
-        };
+        let innermost = innermost(&self.progress.running)?;
         if innermost.key != key {
             return Err(UnitFault::Own(OUT_OF_ORDER));
         }
@@ -414,24 +417,14 @@ impl<'a, S: Sink, K: UnitRun> UnitEvents<'a, S, K> {
               stamp = registered;
             }) (event Started key stamp Nothing)) }
     {
-        let Some(innermost) = self.progress.running.top() else {
-            return Err(UnitFault::Own(OUT_OF_ORDER));
-        };
-        let above = innermost.key;
-        let id = new_child(
+        let innermost = innermost(&self.progress.running)?;
+        let (key, id) = self.lease.register_child(
+            rt,
             alloc,
             self.shape,
-            &self.progress.registered,
+            &mut self.progress.registered,
             innermost,
-            child.segment,
-        )?;
-        self.progress.registered.add(&id)?;
-        let key = self.lease.register(
-            rt,
-            above,
-            child.segment,
-            child.name,
-            child.dtype,
+            child,
             registered,
         )?;
         self.progress.running.push(RunningKey {
@@ -475,24 +468,14 @@ impl<'a, S: Sink, K: UnitRun> UnitEvents<'a, S, K> {
         ensures err { OnErr result (Grew self.old self.new) }
         ensures own_stamp { self.new.own_stamp ≡ self.old.own_stamp }
     {
-        let Some(innermost) = self.progress.running.top() else {
-            return Err(UnitFault::Own(OUT_OF_ORDER));
-        };
-        let above = innermost.key;
-        let id = new_child(
+        let innermost = innermost(&self.progress.running)?;
+        let (key, _id) = self.lease.register_child(
+            rt,
             alloc,
             self.shape,
-            &self.progress.registered,
+            &mut self.progress.registered,
             innermost,
-            child.segment,
-        )?;
-        self.progress.registered.add(&id)?;
-        let key = self.lease.register(
-            rt,
-            above,
-            child.segment,
-            child.name,
-            child.dtype,
+            child,
             registered,
         )?;
         let event = Event {

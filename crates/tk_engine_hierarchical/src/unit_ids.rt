@@ -14,9 +14,8 @@ use crate::shapes::Shape;
 use crate::stacks::Stack;
 use crate::tests::{OUT_OF_ORDER, TWICE};
 use std::alloc::Global;
-use tk_engine_execute::{SinkFault, UnitFault};
-use tk_ids::{IdFault, Segment, Table, UniqueId};
-use tk_queue_session::RegisterFault;
+use tk_engine_execute::UnitFault;
+use tk_ids::{Segment, Table, UniqueId};
 
 // Whether an id is a root's, while no key runs.
 fn starts_root(running: &Stack<RunningKey>, id: &UniqueId) -> bool
@@ -77,17 +76,8 @@ pub(crate) fn new_child(
     let Some(above) = running_id(shape, parent) else {
         return Err(UnitFault::Own(OUT_OF_ORDER));
     };
-    let id = match above.append(alloc, segment) {
-        Ok(id) => id,
-        Err(IdFault::Memory) => return Err(UnitFault::Memory),
-        Err(fault) => {
-            return Err(UnitFault::Sink(SinkFault::Register(RegisterFault::Id(fault))));
-        }
-    };
-    if shape.table().find(&id).is_some() {
-        return Err(UnitFault::Own(TWICE));
-    }
-    if registered.has(&id) {
+    let id = above.append(alloc, segment)?;
+    if shape.table().find(&id).is_some() || registered.has(&id) {
         return Err(UnitFault::Own(TWICE));
     }
     Ok(id)

@@ -1,12 +1,18 @@
-use Rattle.std.proofs.Common.{◌≤◌, ap, subst, arith, tests}
+use Rattle.std.proofs.Common.{◌≡◌, ◌≤◌, ◌∙◌, ap, subst, sym, arith, tests, true, false}
 use Rattle.tk_engine_hierarchical.specs.Running.{with_ids}
 use Rattle.tk_engine_hierarchical.proofs.Running.{at_none, ran_all}
 use Rattle.tk_engine_hierarchical.proofs.unit_events.UnitEvents.end.Goals as goal
+use Rattle.tk_engine_hierarchical.proofs.unit_events.UnitEvents.end.Goals.{then-rests, else-rests}
 
 pub returns-clause-run : goal.returns-clause-run
-returns-clause-run g c = λ rests over.
+returns-clause-run g c = λ done.
     let t = g.K.UnitRun.frame.table in
-    let past : c.self.inside.progress.end ≤ c.self.inside.progress.next = grind (arith, tests, over) in
-    ran_all g.K.UnitRun.frame g.K.UnitRun.may_end g.K.UnitRun.keys g.K.UnitRun.start _ (with_ids t c.self.inside.progress.running) c.self.inside.progress.registered c.self.inside.progress.next c.self.invariant.4 c.self.invariant.5
-    (ap (with_ids t) (at_none c.top.result c.is_none-rests.result _ c.is_none-rests.ensures c.top.ensures.none rests))
-    (subst (λ n. n ≤ c.self.inside.progress.next) c.self.invariant.3 past)
+    elim c.if-rests.branch [
+      | then-rests w ↦
+          (let over = sym w.result-is ∙ done in
+          let past : c.self.inside.progress.end ≤ c.self.inside.progress.next = grind (arith, tests, over) in
+          ran_all g.K.UnitRun.frame g.K.UnitRun.may_end g.K.UnitRun.keys g.K.UnitRun.start _ (with_ids t c.self.inside.progress.running) c.self.inside.progress.registered c.self.inside.progress.next c.self.invariant.4 c.self.invariant.5
+          (ap (with_ids t) (at_none c.top.result c.is_none-rests.result _ c.is_none-rests.ensures c.top.ensures.none w.if-rests.true))
+          (subst (λ n. n ≤ c.self.inside.progress.next) c.self.invariant.3 past))
+      | else-rests w ↦ (let bad : false ≡ true = sym w.if-rests.false ∙ sym w.result-is ∙ done in cc)
+    ]

@@ -11,10 +11,10 @@ use Rattle.tk_engine_hierarchical.proofs.unit_events.UnitEvents.finish.Goals as 
 pub invariant_of-self-2 : goal.invariant_of-self-2
 invariant_of-self-2 g c =
     let i = c.self.invariant in
-    let first = c.in-Some.innermost.now in
-    let rest = c.in-Some.ensures.some.0 in
+    let first = c.in_ok-innermost.innermost.now in
+    let rest = c.in_ok-innermost.ensures.0 in
     let t = g.K.UnitRun.frame.table in
-    let left = popped c.self.inside.progress.running c.pop-finished.new.self rest first c.pop-finished.result c.in-Some.ensures.some.1 c.pop-finished.ensures.some c.pop-finished.ensures.none in (
+    let left = popped c.self.inside.progress.running c.pop-finished.new.self rest first c.pop-finished.result c.in_ok-innermost.ensures.1 c.pop-finished.ensures.some c.pop-finished.ensures.none in (
       c.emit.ensures.same ∙ i.0,
       i.1,
       i.2,

@@ -11,15 +11,15 @@ use Rattle.tk_engine_hierarchical.proofs.Running.{child_off, ran_child, ran_note
 use Rattle.tk_engine_execute.specs.Engines.{Extends}
 use Rattle.tk_engine_hierarchical.proofs.unit_events.UnitEvents.start_child.Goals as goal
 
-pub invariant_of-self-in_err-key : goal.invariant_of-self-in_err-key
-invariant_of-self-in_err-key g c =
+pub invariant_of-self : goal.invariant_of-self
+invariant_of-self g c =
     let i = c.self.invariant in (
-      c.register.ensures.same ∙ i.0,
+      c.register_child.ensures.same ∙ i.0,
       i.1,
       i.2,
       i.3,
-      subst (λ s. IsRunning g.K.UnitRun.frame g.K.UnitRun.keys.unit g.K.UnitRun.start s (with_ids g.K.UnitRun.frame.table c.self.inside.progress.running) c.add.new.self c.self.inside.progress.next) (sym c.in_err-key.ensures.err)
-          (ran_noted g.K.UnitRun.frame g.K.UnitRun.keys.unit g.K.UnitRun.start _ (with_ids g.K.UnitRun.frame.table c.self.inside.progress.running) c.self.inside.progress.registered c.add.new.self c.self.inside.progress.next _ c.in_ok-add.ensures.ok i.4),
+      subst (λ s. IsRunning g.K.UnitRun.frame g.K.UnitRun.keys.unit g.K.UnitRun.start s (with_ids g.K.UnitRun.frame.table c.self.inside.progress.running) c.register_child.new.registered c.self.inside.progress.next) (sym c.in_err-key.ensures.err)
+          (ran_noted g.K.UnitRun.frame g.K.UnitRun.keys.unit g.K.UnitRun.start _ (with_ids g.K.UnitRun.frame.table c.self.inside.progress.running) c.self.inside.progress.registered c.register_child.new.registered c.self.inside.progress.next c.register_child.ensures.kept i.4),
       subst (λ s. HasPlayed g.K.UnitRun.frame.table g.K.UnitRun.may_end g.K.UnitRun.keys.first c.self.inside.progress.next g.K.UnitRun.start s) (sym c.in_err-key.ensures.err) i.5,
       subst (λ s. Extends g.K.UnitRun.since s) (sym c.in_err-key.ensures.err) i.6,
     )
@@ -27,62 +27,62 @@ invariant_of-self-in_err-key g c =
 pub invariant_of-self-in_err-push : goal.invariant_of-self-in_err-push
 invariant_of-self-in_err-push g c =
     let i = c.self.invariant in (
-      c.register.ensures.same ∙ i.0,
+      c.register_child.ensures.same ∙ i.0,
       i.1,
       i.2,
       i.3,
-      subst (λ (l : List RunningKey). IsRunning g.K.UnitRun.frame g.K.UnitRun.keys.unit g.K.UnitRun.start (g.S.Sink.view c.register.new.self.sink.now) (with_ids g.K.UnitRun.frame.table l) c.add.new.self c.self.inside.progress.next) (sym c.in_err-push.ensures.err)
-          (ran_registered g.K.UnitRun.frame g.K.UnitRun.keys.unit g.K.UnitRun.start _ (with_ids g.K.UnitRun.frame.table c.self.inside.progress.running) c.add.new.self c.self.inside.progress.next c.in_ok-key.key _
-          (registered_below c.self.inside.shape.now g.K.UnitRun.frame g.K.UnitRun.keys.unit g.K.UnitRun.start _ _ c.self.inside.progress.running _ c.self.inside.progress.registered c.add.new.self c.self.inside.progress.next c.in_ok-key.key c.in-Some.innermost.now _ _ i.1 i.4
-          c.in-Some.ensures.some.1 c.in_ok-key.ensures.ok refl c.in_ok-id.ensures.id c.in_ok-id.ensures.not_static c.in_ok-id.ensures.not_registered c.in_ok-add.ensures.ok)),
-      played_registration g.K.UnitRun.frame.table g.K.UnitRun.may_end g.K.UnitRun.keys.first g.K.UnitRun.start _ _ c.self.inside.progress.next c.in_ok-key.key _ c.in_ok-key.ensures.ok i.5,
-      extends_child _ (g.S.Sink.view c.self.inside.lease.sink.now) (g.S.Sink.view c.register.new.self.sink.now) _ c.in_ok-key.key c.in_ok-key.ensures.ok i.6,
+      subst (λ (l : List RunningKey). IsRunning g.K.UnitRun.frame g.K.UnitRun.keys.unit g.K.UnitRun.start (g.S.Sink.view c.register_child.new.self.sink.now) (with_ids g.K.UnitRun.frame.table l) c.register_child.new.registered c.self.inside.progress.next) (sym c.in_err-push.ensures.err)
+          (ran_registered g.K.UnitRun.frame g.K.UnitRun.keys.unit g.K.UnitRun.start _ (with_ids g.K.UnitRun.frame.table c.self.inside.progress.running) c.register_child.new.registered c.self.inside.progress.next c.in_ok-key.key _
+          (registered_below c.self.inside.shape.now g.K.UnitRun.frame g.K.UnitRun.keys.unit g.K.UnitRun.start _ _ c.self.inside.progress.running _ c.self.inside.progress.registered c.register_child.new.registered c.self.inside.progress.next c.in_ok-key.key c.in_ok-innermost.innermost.now _ _ i.1 i.4
+          c.in_ok-innermost.ensures.1 c.in_ok-key.ensures.registration refl c.in_ok-key.ensures.id c.in_ok-key.ensures.not_static c.in_ok-key.ensures.not_registered c.in_ok-key.ensures.noted)),
+      played_registration g.K.UnitRun.frame.table g.K.UnitRun.may_end g.K.UnitRun.keys.first g.K.UnitRun.start _ _ c.self.inside.progress.next c.in_ok-key.key _ c.in_ok-key.ensures.registration i.5,
+      extends_child _ (g.S.Sink.view c.self.inside.lease.sink.now) (g.S.Sink.view c.register_child.new.self.sink.now) _ c.in_ok-key.key c.in_ok-key.ensures.registration i.6,
     )
 
 pub invariant_of-self-in-Ok : goal.invariant_of-self-in-Ok
 invariant_of-self-in-Ok g c =
     let i = c.self.invariant in (
-      c.emit.ensures.same ∙ (c.register.ensures.same ∙ i.0),
+      c.emit.ensures.same ∙ (c.register_child.ensures.same ∙ i.0),
       i.1,
       i.2,
       i.3,
-      ran_child g.K.UnitRun.frame g.K.UnitRun.keys.unit g.K.UnitRun.start _ _ (with_ids g.K.UnitRun.frame.table c.self.inside.progress.running) (with_ids g.K.UnitRun.frame.table c.push.new.self) c.add.new.self c.self.inside.progress.next c.in_ok-key.key _ _
+      ran_child g.K.UnitRun.frame g.K.UnitRun.keys.unit g.K.UnitRun.start _ _ (with_ids g.K.UnitRun.frame.table c.self.inside.progress.running) (with_ids g.K.UnitRun.frame.table c.push.new.self) c.register_child.new.registered c.self.inside.progress.next c.in_ok-key.key _ _
           c.in-Ok.ensures.ok (ap (with_ids g.K.UnitRun.frame.table) c.in_ok-push.ensures.ok) refl refl
-          (registered_below c.self.inside.shape.now g.K.UnitRun.frame g.K.UnitRun.keys.unit g.K.UnitRun.start _ _ c.self.inside.progress.running _ c.self.inside.progress.registered c.add.new.self c.self.inside.progress.next c.in_ok-key.key c.in-Some.innermost.now _ _ i.1 i.4
-          c.in-Some.ensures.some.1 c.in_ok-key.ensures.ok refl c.in_ok-id.ensures.id c.in_ok-id.ensures.not_static c.in_ok-id.ensures.not_registered c.in_ok-add.ensures.ok),
+          (registered_below c.self.inside.shape.now g.K.UnitRun.frame g.K.UnitRun.keys.unit g.K.UnitRun.start _ _ c.self.inside.progress.running _ c.self.inside.progress.registered c.register_child.new.registered c.self.inside.progress.next c.in_ok-key.key c.in_ok-innermost.innermost.now _ _ i.1 i.4
+          c.in_ok-innermost.ensures.1 c.in_ok-key.ensures.registration refl c.in_ok-key.ensures.id c.in_ok-key.ensures.not_static c.in_ok-key.ensures.not_registered c.in_ok-key.ensures.noted),
       subst (λ s. HasPlayed g.K.UnitRun.frame.table g.K.UnitRun.may_end g.K.UnitRun.keys.first c.self.inside.progress.next g.K.UnitRun.start s) (sym c.in-Ok.ensures.ok)
           (played_plain g.K.UnitRun.frame.table g.K.UnitRun.may_end g.K.UnitRun.keys.first g.K.UnitRun.start _ c.self.inside.progress.next _ Started refl started_is_not
-          (played_registration g.K.UnitRun.frame.table g.K.UnitRun.may_end g.K.UnitRun.keys.first g.K.UnitRun.start _ _ c.self.inside.progress.next c.in_ok-key.key _ c.in_ok-key.ensures.ok i.5)),
-      subst (λ s. Extends g.K.UnitRun.since s) (sym c.in-Ok.ensures.ok) (extends_more _ _ _ (extends_child _ (g.S.Sink.view c.self.inside.lease.sink.now) (g.S.Sink.view c.register.new.self.sink.now) _ c.in_ok-key.key c.in_ok-key.ensures.ok i.6)),
+          (played_registration g.K.UnitRun.frame.table g.K.UnitRun.may_end g.K.UnitRun.keys.first g.K.UnitRun.start _ _ c.self.inside.progress.next c.in_ok-key.key _ c.in_ok-key.ensures.registration i.5)),
+      subst (λ s. Extends g.K.UnitRun.since s) (sym c.in-Ok.ensures.ok) (extends_more _ _ _ (extends_child _ (g.S.Sink.view c.self.inside.lease.sink.now) (g.S.Sink.view c.register_child.new.self.sink.now) _ c.in_ok-key.key c.in_ok-key.ensures.registration i.6)),
     )
 
 pub invariant_of-self-in-Err : goal.invariant_of-self-in-Err
 invariant_of-self-in-Err g c =
     let i = c.self.invariant in (
-      c.emit.ensures.same ∙ (c.register.ensures.same ∙ i.0),
+      c.emit.ensures.same ∙ (c.register_child.ensures.same ∙ i.0),
       i.1,
       i.2,
       i.3,
-      child_off g.K.UnitRun.frame g.K.UnitRun.keys.unit g.K.UnitRun.start _ _ c.self.inside.progress.running c.push.new.self c.pop-started.new.self _ c.add.new.self c.self.inside.progress.next c.in_ok-key.key _ c.pop-started.result
+      child_off g.K.UnitRun.frame g.K.UnitRun.keys.unit g.K.UnitRun.start _ _ c.self.inside.progress.running c.push.new.self c.pop-started.new.self _ c.register_child.new.registered c.self.inside.progress.next c.in_ok-key.key _ c.pop-started.result
           c.in-Err.ensures.err c.in_ok-push.ensures.ok c.pop-started.ensures.some c.pop-started.ensures.none
-          (registered_below c.self.inside.shape.now g.K.UnitRun.frame g.K.UnitRun.keys.unit g.K.UnitRun.start _ _ c.self.inside.progress.running _ c.self.inside.progress.registered c.add.new.self c.self.inside.progress.next c.in_ok-key.key c.in-Some.innermost.now _ _ i.1 i.4
-          c.in-Some.ensures.some.1 c.in_ok-key.ensures.ok refl c.in_ok-id.ensures.id c.in_ok-id.ensures.not_static c.in_ok-id.ensures.not_registered c.in_ok-add.ensures.ok),
+          (registered_below c.self.inside.shape.now g.K.UnitRun.frame g.K.UnitRun.keys.unit g.K.UnitRun.start _ _ c.self.inside.progress.running _ c.self.inside.progress.registered c.register_child.new.registered c.self.inside.progress.next c.in_ok-key.key c.in_ok-innermost.innermost.now _ _ i.1 i.4
+          c.in_ok-innermost.ensures.1 c.in_ok-key.ensures.registration refl c.in_ok-key.ensures.id c.in_ok-key.ensures.not_static c.in_ok-key.ensures.not_registered c.in_ok-key.ensures.noted),
       subst (λ s. HasPlayed g.K.UnitRun.frame.table g.K.UnitRun.may_end g.K.UnitRun.keys.first c.self.inside.progress.next g.K.UnitRun.start s) (sym c.in-Err.ensures.err)
-          (played_registration g.K.UnitRun.frame.table g.K.UnitRun.may_end g.K.UnitRun.keys.first g.K.UnitRun.start _ _ c.self.inside.progress.next c.in_ok-key.key _ c.in_ok-key.ensures.ok i.5),
-      subst (λ s. Extends g.K.UnitRun.since s) (sym c.in-Err.ensures.err) (extends_child _ (g.S.Sink.view c.self.inside.lease.sink.now) (g.S.Sink.view c.register.new.self.sink.now) _ c.in_ok-key.key c.in_ok-key.ensures.ok i.6),
+          (played_registration g.K.UnitRun.frame.table g.K.UnitRun.may_end g.K.UnitRun.keys.first g.K.UnitRun.start _ _ c.self.inside.progress.next c.in_ok-key.key _ c.in_ok-key.ensures.registration i.5),
+      subst (λ s. Extends g.K.UnitRun.since s) (sym c.in-Err.ensures.err) (extends_child _ (g.S.Sink.view c.self.inside.lease.sink.now) (g.S.Sink.view c.register_child.new.self.sink.now) _ c.in_ok-key.key c.in_ok-key.ensures.registration i.6),
     )
 
 pub returns-in-Ok-clause-started : goal.returns-in-Ok-clause-started
 returns-in-Ok-clause-started g c =
     let sink = ap (λ (v : UnitView). v.sink) c.self.view_is in
     let runs = ap (λ (v : UnitView). v.running) c.self.view_is in (
-      c.in-Some.innermost.now.key,
-      started_child _ _ _ _ (with_ids g.K.UnitRun.frame.table c.self.inside.progress.running) (with_ids g.K.UnitRun.frame.table c.in-Some.ensures.some.0) (with_id g.K.UnitRun.frame.table c.in-Some.innermost.now) _ c.in_ok-key.key c.args.stamp (sym sink) (sym runs) (ap (with_ids g.K.UnitRun.frame.table) c.in-Some.ensures.some.1) refl c.in_ok-key.ensures.ok c.in-Ok.ensures.ok
+      c.in_ok-innermost.innermost.now.key,
+      started_child _ _ _ _ (with_ids g.K.UnitRun.frame.table c.self.inside.progress.running) (with_ids g.K.UnitRun.frame.table c.in_ok-innermost.ensures.0) (with_id g.K.UnitRun.frame.table c.in_ok-innermost.innermost.now) _ c.in_ok-key.key c.args.stamp (sym sink) (sym runs) (ap (with_ids g.K.UnitRun.frame.table) c.in_ok-innermost.ensures.1) refl c.in_ok-key.ensures.registration c.in-Ok.ensures.ok
           (ap (λ (l : List RunningKey). keys_of (with_ids g.K.UnitRun.frame.table l)) c.in_ok-push.ensures.ok) (ap (λ (v : UnitView). v.stamp) c.self.view_is),
     )
 
 pub returns-in-Ok-clause-dynamic : goal.returns-in-Ok-clause-dynamic
 returns-in-Ok-clause-dynamic g c =
     let i = c.self.invariant in
-    (registered_below c.self.inside.shape.now g.K.UnitRun.frame g.K.UnitRun.keys.unit g.K.UnitRun.start _ _ c.self.inside.progress.running _ c.self.inside.progress.registered c.add.new.self c.self.inside.progress.next c.in_ok-key.key c.in-Some.innermost.now _ _ i.1 i.4
-    c.in-Some.ensures.some.1 c.in_ok-key.ensures.ok refl c.in_ok-id.ensures.id c.in_ok-id.ensures.not_static c.in_ok-id.ensures.not_registered c.in_ok-add.ensures.ok).registration.dynamic
+    (registered_below c.self.inside.shape.now g.K.UnitRun.frame g.K.UnitRun.keys.unit g.K.UnitRun.start _ _ c.self.inside.progress.running _ c.self.inside.progress.registered c.register_child.new.registered c.self.inside.progress.next c.in_ok-key.key c.in_ok-innermost.innermost.now _ _ i.1 i.4
+    c.in_ok-innermost.ensures.1 c.in_ok-key.ensures.registration refl c.in_ok-key.ensures.id c.in_ok-key.ensures.not_static c.in_ok-key.ensures.not_registered c.in_ok-key.ensures.noted).registration.dynamic
