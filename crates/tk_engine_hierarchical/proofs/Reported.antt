@@ -12,7 +12,7 @@ use Rattle.tk_queue_session.specs.Registering.{IsRegisteredAs, RegisterRequest, 
 use Rattle.tk_queue_session.specs.Senders.{SenderView, sends}
 use Rattle.tk_engine_execute.specs.Engines.{Extends}
 use Rattle.tk_engine_hierarchical.specs.Endings.{IsStaticTest, payload_of}
-use Rattle.tk_engine_hierarchical.specs.Reporting.{EndsChild, HasFinished, HasRunChild, HasSkipped, HasStarted, Published, UnitView, event}
+use Rattle.tk_engine_hierarchical.specs.Reporting.{BodyRuns, EndsChild, HasFinished, HasRunChild, HasSkipped, HasStarted, Published, UnitView, event}
 use Rattle.tk_engine_hierarchical.specs.declared.tests.Outcome.{Outcome}
 use Rattle.tk_engine_hierarchical.specs.Running.{RunningId, keys_of}
 
@@ -107,10 +107,11 @@ started_child old new sink registered running rest first ask key stamp was view 
   stamp = kept;
 }
 
-pub has_run_child : (old started before new : UnitView) (ask : ℕ → RegisterRequest) (key given stamp : ℕ) (outcome : Payload) → given ≡ stamp
-    → HasStarted old started (ask given) (event Started key (ask given).stamp Nothing) → Extends started.sink before.sink → HasFinished before new (event Finished key before.stamp outcome) → HasRunChild old new (ask stamp)
-has_run_child old started before new ask key given stamp outcome same s x f =
-    record { key = key; started = started; start = subst (λ n. HasStarted old started (ask n) (event Started key (ask n).stamp Nothing)) same s; before = before; later = x; outcome = outcome; finish = f }
+pub has_run_child : (may_run : BodyRuns) (old started before new : UnitView) (ask : ℕ → RegisterRequest) (key given stamp : ℕ) (outcome : Outcome) → given ≡ stamp
+    → HasStarted old started (ask given) (event Started key (ask given).stamp Nothing) → Extends started.sink before.sink → may_run started before outcome
+    → HasFinished before new (event Finished key before.stamp (payload_of outcome)) → HasRunChild may_run old new (ask stamp)
+has_run_child may_run old started before new ask key given stamp outcome same s x r f =
+    record { key = key; started = started; start = subst (λ n. HasStarted old started (ask n) (event Started key (ask n).stamp Nothing)) same s; before = before; later = x; outcome = outcome; ran = r; finish = f }
 
 pub finished_as : (old new : UnitView) (key given stamp : ℕ) (payload outcome : Payload) → given ≡ stamp → payload ≡ outcome
     → HasFinished old new (event Finished key given payload) → HasFinished old new (event Finished key stamp outcome)

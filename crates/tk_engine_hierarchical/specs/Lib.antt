@@ -10,4 +10,5 @@ pub mod Covered
 pub mod Nesting
 pub mod Units
 pub mod Reporting
+pub mod UnitViews
 pub mod Laws

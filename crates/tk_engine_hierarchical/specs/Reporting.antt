@@ -58,16 +58,22 @@ pub record HasStarted (old new : UnitView) (ask : RegisterRequest) (start : Even
   pub running : new.running ≡ start.key ∷ old.running
   pub stamp : new.stamp ≡ old.stamp
 
--- what was asked for was registered below the innermost running key and started; then events may
--- have been emitted, and its finish is the last one
-pub record HasRunChild (old new : UnitView) (ask : RegisterRequest) : Type 0 where
+-- how a body may run: from which unit to which one, with which outcome
+abbrev pub BodyRuns : Type 1
+BodyRuns = UnitView → UnitView → Outcome → Type 0
+
+-- what was asked for was registered below the innermost running key and started; then its body ran
+-- once, and its finish with the body's outcome is the last event
+pub record HasRunChild (may_run : BodyRuns) (old new : UnitView) (ask : RegisterRequest) :
+    Type 0 where
   pub key : ℕ
   pub started : UnitView
   pub start : HasStarted old started ask (event Started key ask.stamp Nothing)
   pub before : UnitView
   pub later : Extends started.sink before.sink
-  pub outcome : Payload
-  pub finish : HasFinished before new (event Finished key before.stamp outcome)
+  pub outcome : Outcome
+  pub ran : may_run started before outcome
+  pub finish : HasFinished before new (event Finished key before.stamp (payload_of outcome))
 
 -- what was asked for was registered below the innermost running key, then skipped with this event,
 -- and nothing else happened

@@ -9,6 +9,7 @@ ghost use Rattle.tk_engine_hierarchical.specs.Events.{IsRunning};
 ghost use Rattle.tk_engine_hierarchical.specs.RegisteredIds.{is_registered};
 ghost use Rattle.tk_engine_hierarchical.specs.Running.{with_id, with_ids};
 ghost use Rattle.tk_engine_hierarchical.specs.Shapes.{frame};
+ghost use Rattle.tk_engine_hierarchical.specs.UnitViews.{unit_view};
 ghost use Rattle.tk_engine_hierarchical.specs.Units.{HasPlayed};
 
 use crate::registered_ids::RegisteredIds;
@@ -136,6 +137,9 @@ impl<'a, S: Sink> Lease<'a, S> {
             K.start (S.view self.new.sink.now) }
         ensures since { Extends (S.view self.old.sink.now) (S.view self.new.sink.now) }
         ensures may { IfOk run.new.outcome (λ outcome. B.may_end body.now outcome) }
+        ensures ran { IfOk run.new.outcome (λ outcome. B.may_run body.now
+            (unit_view K.frame.table (S.view self.old.sink.now) run.old.progress)
+            (unit_view K.frame.table (S.view self.new.sink.now) run.new.progress) outcome) }
     {
         run_into::<R, S, K, B>(rt, alloc, body, shape, self.sink, run);
     }
@@ -167,6 +171,9 @@ fn run_into<R: Wait, S: Sink, K: UnitRun, B: Body>(
         (S.view sink.new) }
     ensures since { Extends (S.view sink.old) (S.view sink.new) }
     ensures may { IfOk run.new.outcome (λ outcome. B.may_end body.now outcome) }
+    ensures ran { IfOk run.new.outcome (λ outcome. B.may_run body.now
+        (unit_view K.frame.table (S.view sink.old) run.old.progress)
+        (unit_view K.frame.table (S.view sink.new) run.new.progress) outcome) }
 {
     let lease = Lease { sink };
     let _lease = run_lent::<R, S, Brand, B>(rt, alloc, body, shape, lease, run);
@@ -201,6 +208,9 @@ fn run_lent<'a, R: Wait, S: Sink, K: UnitRun, B: Body>(
         (S.view result.sink.now) }
     ensures since { Extends K.since (S.view result.sink.now) }
     ensures may { IfOk run.new.outcome (λ outcome. B.may_end body.now outcome) }
+    ensures ran { IfOk run.new.outcome (λ outcome. B.may_run body.now
+        (unit_view K.frame.table K.since run.old.progress)
+        (unit_view K.frame.table (S.view result.sink.now) run.new.progress) outcome) }
 {
     let begun = mem::replace(&mut run.progress, UnitProgress::nothing(alloc));
     let mut reporter: Reporter<'a, S, K> = Reporter {

@@ -50,7 +50,8 @@ impl<'a, S: Sink, K: UnitRun> Reporter<'a, S, K> {
     ) -> Result<(), UnitFault>
         ensures ok { OnOk result
             (EndsChild (length K.frame.table) (B.may_end body.now) self.new.events) }
-        ensures child { OnOk result ((above : ℕ) × HasRunChild self.old.events self.new.events
+        ensures child { OnOk result ((above : ℕ)
+            × HasRunChild (B.may_run body.now) self.old.events self.new.events
             (record {
               parent = above;
               segment = child.now.segment.now;
@@ -125,7 +126,8 @@ impl<'a, S: Sink, K: UnitRun> Reporter<'a, S, K> {
     ) -> Result<(), UnitFault>
         ensures ok { OnOk result
             (EndsChild (length K.frame.table) (B.may_end body.now) self.new.events) }
-        ensures child { OnOk result ((above : ℕ) × HasRunChild self.old.events self.new.events
+        ensures child { OnOk result ((above : ℕ)
+            × HasRunChild (B.may_run body.now) self.old.events self.new.events
             (record {
               parent = above;
               segment = segment.now;
@@ -164,7 +166,8 @@ impl<'a, S: Sink, K: UnitRun> Reporter<'a, S, K> {
     ) -> Result<(), UnitFault>
         ensures ok { OnOk result
             (EndsChild (length K.frame.table) (B.may_end body.now) self.new.events) }
-        ensures child { OnOk result ((above : ℕ) × HasRunChild self.old.events self.new.events
+        ensures child { OnOk result ((above : ℕ)
+            × HasRunChild (B.may_run body.now) self.old.events self.new.events
             (record {
               parent = above;
               segment = segment.now;

@@ -64,12 +64,17 @@ pub trait Tests {
 
 /// The body of a dynamic test or container.
 ///
-/// `may_end` says which outcomes it may have, as that of [`Tests`].
+/// `may_end` says which outcomes it may have, as that of [`Tests`], and `may_run` how it may run:
+/// from which state of the unit to which other one, with which outcome. An author who leaves them
+/// out promises nothing.
 pub trait Body {
     ghost use Rattle.std.specs.Prelude.{IfOk};
+    ghost use Rattle.tk_engine_hierarchical.specs.Reporting.{BodyRuns};
     ghost use Rattle.tk_engine_hierarchical.specs.declared.tests.Outcome.{Outcome};
 
     ghost may_end: { Self → Outcome → Type 0 } = { λ body outcome. Unit {0} };
+
+    ghost may_run: { Self → BodyRuns } = { λ body before after outcome. Unit {0} };
 
     /// Runs the body, and says how it ended.
     ///
@@ -81,7 +86,9 @@ pub trait Body {
         alloc: Global,
         reporter: &mut Reporter<'_, S, K>,
     ) -> Result<Outcome, UnitFault>
-        ensures { IfOk result (λ outcome. may_end self.now outcome) };
+        ensures end { IfOk result (λ outcome. may_end self.now outcome) }
+        ensures run { IfOk result (λ outcome.
+            may_run self.now reporter.old.events reporter.new.events outcome) };
 }
 
 /// The payload of a finish with this outcome.

@@ -8,6 +8,7 @@ ghost use Rattle.tk_engine_hierarchical.specs.Events.{HasRun, IsRunning};
 ghost use Rattle.tk_engine_hierarchical.specs.Reporting.{Grew, HasFinished, HasSkipped, HasStarted, Published, event, publishes};
 ghost use Rattle.tk_engine_hierarchical.specs.Running.{with_ids};
 ghost use Rattle.tk_engine_hierarchical.specs.Shapes.{frame, keys_in};
+ghost use Rattle.tk_engine_hierarchical.specs.UnitViews.{unit_view};
 ghost use Rattle.tk_engine_hierarchical.specs.Units.{HasPlayed};
 ghost use Rattle.tk_engine_hierarchical.specs.declared.running_keys.RunningKey.{RunningKey};
 
@@ -169,6 +170,7 @@ impl<'a, S: Sink, K: UnitRun> UnitEvents<'a, S, K> {
         requires played { HasPlayed K.frame.table K.may_end K.keys.first progress.next K.start
             (S.view lease.sink.now) }
         requires since { K.since ≡ S.view lease.sink.now }
+        ensures { result ≡ unit_view K.frame.table K.since progress }
     {
         UnitEvents {
             lease,
@@ -188,6 +190,7 @@ impl<'a, S: Sink, K: UnitRun> UnitEvents<'a, S, K> {
         ensures played { HasPlayed K.frame.table K.may_end K.keys.first result.1.next K.start
             (S.view result.0.sink.now) }
         ensures since { Extends K.since (S.view result.0.sink.now) }
+        ensures view { self.entry ≡ unit_view K.frame.table (S.view result.0.sink.now) result.1 }
     {
         let UnitEvents {
             lease,
@@ -205,6 +208,7 @@ impl<'a, S: Sink, K: UnitRun> UnitEvents<'a, S, K> {
         body: &B,
     ) -> Result<Outcome, UnitFault>
         ensures may { IfOk result (λ outcome. B.may_end body.now outcome) }
+        ensures ran { IfOk result (λ outcome. B.may_run body.now self.old self.new outcome) }
         ensures more { Extends self.old.sink self.new.sink }
     {
         let mut run = BodyRun {

@@ -13,7 +13,7 @@ returns-clause-child g c =
     on_ok c.finish.result c.finish.ensures
     (λ f. (
       s.0,
-      has_run_child _ _ _ _
+      has_run_child (g.B.Body.may_run c.args.body.now) _ _ _ _
           (λ n. record { parent = s.0; segment = c.args.child.now.segment.now; name = c.args.child.now.name.now; dtype = c.args.child.now.dtype; stamp = n })
-          c.in_ok-key.key _ _ _ c.stamp-stamp.ensures s.1 c.in_ok-outcome.ensures.more f,
+          c.in_ok-key.key _ _ _ c.stamp-stamp.ensures s.1 c.in_ok-outcome.ensures.more c.in_ok-outcome.ensures.ran f,
     ))
