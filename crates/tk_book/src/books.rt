@@ -88,7 +88,7 @@ impl Error for Busy {}
 pub enum BookFault {
     /// The number of seats isn't 1 to `MAX_WORKERS`.
     Seats,
-    /// An allocation failed.
+    /// A request for memory was refused.
     Memory,
 }
 

@@ -11,7 +11,7 @@ use std::time::Duration;
 /// delay after them it sleeps.
 pub const MAX_SHORT_DELAYS: u32 = 256;
 
-// How long one sleep is at most, in microseconds.
+// How many microseconds a sleep asks for. The system may make it longer.
 const SLEEP_MICROS: u64 = 100;
 
 /// The delay between one try and the next of a thread that waits for others.
