@@ -1,11 +1,11 @@
 -- One turn more.
-use Rattle.std.proofs.Common.{◌≡◌, ◌<◌, ◌+◌, ℕ, zero, suc, List, [], ◌∷◌, ◌++◌, length, take, get_or, Option, Some, None, Result, Ok, Err, refl, sym, ap, subst, ◌∙◌, arith}
+use Rattle.std.proofs.Common.{◌≡◌, ◌<◌, ◌+◌, ℕ, List, [], ◌∷◌, ◌++◌, length, take, get_or, replicate, Option, Some, None, Result, Ok, Err, refl, sym, ap, subst, ◌∙◌}
 use Rattle.std.proofs.lemmas.Option.{same_Some, none-some}
 use Rattle.std.proofs.lemmas.List.{take_more}
 use Rattle.tk_events.specs.declared.events.Event.{Event}
 use Rattle.tk_queue_replay.specs.declared.turns.Turn.{Turn}
 use Rattle.std.proofs.lemmas.Option.{slice_get-get_or}
-use Rattle.std.proofs.lemmas.List.{length-append}
+use Rattle.std.proofs.lemmas.List.{length-replicate}
 use Rattle.tk_ids.specs.declared.descriptors.Descriptor.{Descriptor}
 use Rattle.tk_events.specs.declared.events.Entry.{Entry}
 use Rattle.tk_record_columns.specs.declared.records.AppendFault.{AppendFault}
@@ -16,7 +16,7 @@ use Rattle.tk_queue_replay.specs.declared.replays.ReplayFault.{ReplayFault}
 use Rattle.tk_queue_replay.specs.declared.replays.ReplayFault.TheVariants as faults
 use Rattle.tk_record_columns.specs.Recorded.{Recorded}
 use Rattle.tk_queue_core.specs.CoreState.{CoreState, fresh}
-use Rattle.tk_queue_replay.specs.Replay.{Moment, Stop, Faulty, Refuses, turn_step, take_item, append_to, after, plays, start, zeros, Suits, IsStop, replay_input, StopsAt, IsReplayed}
+use Rattle.tk_queue_replay.specs.Replay.{Moment, Stop, Faulty, Refuses, turn_step, take_item, append_to, after, plays, start, Suits, IsStop, replay_input, StopsAt, IsReplayed}
 
 pub plays_more : (scripts : List (List Event)) (turns : List Turn) (t : Turn) (m n o : Moment) → plays scripts turns m ≡ Some n → turn_step scripts n t ≡ Ok o → plays scripts (turns ++ t ∷ []) m ≡ Some o
 plays_more scripts [] t m n o e step = ap (λ x. after (turn_step scripts x t) (plays scripts [])) (same_Some m n e) ∙ ap (λ r. after r (plays scripts [])) step
@@ -48,10 +48,6 @@ take_keeps m n (Emitted e ∷ xs) h = append_keeps m n xs e (fault_of m.taken e)
 pub suits_taken : (scripts : List (List Event)) (m n : Moment) → take_item m m.core.waiting ≡ Ok n → Suits m scripts → Suits n scripts
 suits_taken scripts m n h s = let k = take_keeps m n m.core.waiting h in (k.0 ∙ s.0, ap length k.1 ∙ s.1)
 
-pub zeros_long : (n : ℕ) → length (zeros n) ≡ n
-zeros_long zero = refl
-zeros_long (suc n) = let h = zeros_long n in omega (arith, length-append (zeros n) (0 ∷ []))
-
 -- where a turn stops
 pub stopped : (table : List Descriptor) (scripts : List (List Event)) (turns : List Turn) (i : ℕ) (d : Turn) (m : Moment) (fault : ReplayFault) → i < length turns → plays scripts (take i turns) (start table (length scripts)) ≡ Some m → IsStop i (turn_step scripts m (get_or turns i d)) fault → IsReplayed table scripts turns (Err fault)
 stopped table scripts turns i d m (faults.AfterEnd k) lt before stop = subst (λ (j : ℕ). StopsAt (replay_input table scripts turns) j Faulty) (sym stop.0) (record { moment = m; turn = get_or turns i d; before = before; at = slice_get-get_or turns i d lt; stops = stop.1 })
@@ -71,8 +67,8 @@ recorded_is a b c d p q = rw (p, q) refl
 abbrev started : CoreState → List ℕ → Recorded → Moment
 started core counts taken = record { core = core; emitted = counts; taken = taken }
 
-pub begins : (table : List Descriptor) (scripts : List (List Event)) (n : ℕ) (core : CoreState) (counts : List ℕ) (taken : Recorded) → n ≡ length scripts → core ≡ fresh n → counts ≡ zeros n → taken.table ≡ table → taken.entries ≡ [] → Suits (started core counts taken) scripts × (Some (start table (length scripts)) ≡ Some (started core counts taken))
+pub begins : (table : List Descriptor) (scripts : List (List Event)) (n : ℕ) (core : CoreState) (counts : List ℕ) (taken : Recorded) → n ≡ length scripts → core ≡ fresh n → counts ≡ replicate n 0 → taken.table ≡ table → taken.entries ≡ [] → Suits (started core counts taken) scripts × (Some (start table (length scripts)) ≡ Some (started core counts taken))
 begins table scripts n core counts taken long is zero_ of_table none = (
-  (ap (λ (l : CoreState). l.workers) is ∙ long, ap length zero_ ∙ zeros_long n ∙ long),
-  ap Some (sym (moment_is core (fresh (length scripts)) counts (zeros (length scripts)) taken (record { table = table; entries = [] }) (is ∙ ap fresh long) (zero_ ∙ ap zeros long) (recorded_is taken.table table taken.entries [] of_table none))),
+  (ap (λ (l : CoreState). l.workers) is ∙ long, ap length zero_ ∙ length-replicate n 0 ∙ long),
+  ap Some (sym (moment_is core (fresh (length scripts)) counts (replicate (length scripts) 0) taken (record { table = table; entries = [] }) (is ∙ ap fresh long) (zero_ ∙ ap (λ (k : ℕ). replicate k 0) long) (recorded_is taken.table table taken.entries [] of_table none))),
 )

@@ -2,7 +2,7 @@
 use Rattle.std.proofs.Common.{◌≡◌, ◌≢◌, ◌<◌, ◌≤◌, ◌+◌, ◌-◌, ℕ, zero, suc, Bool, true, false, cond, List, [], ◌∷◌, ◌++◌, length, take, get_or, slice_get, slice_set, replicate, Option, Some, None, Result, Ok, Err, refl, sym, ap, subst, ◌∙◌, ⊎_elim, append_assoc, append-nil, arith, get_or-set_same, get_or-set_other, true≢false}
 use Rattle.std.specs.List.{AllByRecursion}
 use Rattle.std.proofs.lemmas.Option.{same_Some, none-some, slice_get_past, slice_get_within, get_or_from_slice_get}
-use Rattle.std.proofs.lemmas.List.{take_more, length-set, length-take-le}
+use Rattle.std.proofs.lemmas.List.{take_more, length-set, length-take-le, length-replicate}
 use Rattle.std.specs.Prelude.{count_by}
 use Rattle.tk_ids.specs.declared.descriptors.Descriptor.{Descriptor}
 use Rattle.std.proofs.lemmas.Bool.{cases_eq}
@@ -19,11 +19,10 @@ use Rattle.tk_queue_replay.specs.declared.turns.Turn.{Turn}
 use Rattle.tk_queue_replay.specs.declared.turns.Turn.TheVariants.{Worker, Take}
 use Rattle.tk_queue_core.specs.CoreState.{has_ended, fresh}
 use Rattle.tk_queue_core.specs.Core.{Core, put, entry, script, emit, finish, take_first, entries}
-use Rattle.tk_queue_replay.specs.Replay.{Moment, Stop, Faulty, IsTurn, script_of, count_of, next, append_to, take_item, turn_step, after, plays, start, zeros}
+use Rattle.tk_queue_replay.specs.Replay.{Moment, Stop, Faulty, IsTurn, script_of, count_of, next, append_to, take_item, turn_step, after, plays, start}
 use Rattle.tk_queue_replay.specs.Laws.{IsMomentOf, ReplaysCore, FaultyHasNoItem}
 use Rattle.tk_queue_replay.specs.TurnItems.{is_turn_of, item_after}
 use Rattle.tk_queue_replay.proofs.TurnItems.{Ordered, none_ordered, worker_ordered, take_ordered, scripted_event, scripted_mark, script_long}
-use Rattle.tk_queue_replay.proofs.Plays.{zeros_long}
 use Rattle.tk_queue_core.proofs.CoreSteps.{emits, finishes, takes, put-same, put-other}
 
 same_Ok : (m n : Moment) → (let r : Result Moment Stop = Ok m in r) ≡ Ok n → m ≡ n
@@ -191,23 +190,13 @@ all_steps scripts done (t ∷ turns) m n c few all is o e =
       | Err stop ↦ λ step h. absurd (none-some n h)
     ] refl e
 
-zeros_at : (n k : ℕ) → get_or (zeros n) k 0 ≡ 0
-zeros_at zero k = refl
-zeros_at (suc n) k = zero_after (zeros n) k (zeros_at n)
-  where
-    zero_after : (xs : List ℕ) (k : ℕ) → ((j : ℕ) → get_or xs j 0 ≡ 0) → get_or (xs ++ 0 ∷ []) k 0 ≡ 0
-    zero_after [] zero h = refl
-    zero_after [] (suc k) h = refl
-    zero_after (x ∷ xs) zero h = h zero
-    zero_after (x ∷ xs) (suc k) h = zero_after xs k (λ j. h (suc j))
-
-false_at : (n k : ℕ) → get_or (replicate n false) k false ≡ false
-false_at zero k = refl
-false_at (suc n) zero = refl
-false_at (suc n) (suc k) = false_at n k
+same_at : {X : Type 0} (x : X) (n k : ℕ) → get_or (replicate n x) k x ≡ x
+same_at x zero k = refl
+same_at x (suc n) zero = refl
+same_at x (suc n) (suc k) = same_at x n k
 
 not_ended : (n w : ℕ) → has_ended (fresh n) w ≡ false
-not_ended n w = false_at worker_slots w
+not_ended n w = same_at false worker_slots w
 
 played : (table : List Descriptor) (scripts : List (List Event)) (turns : List Turn) (m : Moment) → length scripts ≤ most_workers → AllByRecursion (IsTurn (length scripts)) turns → plays scripts turns (start table (length scripts)) ≡ Some m → HasMoment scripts turns m
 played table scripts turns m few all e = all_steps scripts [] turns (start table (length scripts)) m
@@ -216,10 +205,10 @@ played table scripts turns m few all e = all_steps scripts [] turns (start table
       lawful = record { kept = λ w. refl; others = λ w not. (refl, refl) };
       waits = refl;
       taken = refl;
-      sent = λ w at. ap (λ k. take k (script_of scripts w)) (sym (zeros_at (length scripts) (w - 1)));
+      sent = λ w at. ap (λ k. take k (script_of scripts w)) (sym (same_at 0 (length scripts) (w - 1)));
       ended = λ w at. sym (not_ended (length scripts) w);
       whole = λ w at done. absurd (true≢false (sym done));
-      counts = zeros_long (length scripts);
+      counts = length-replicate (length scripts) 0;
       marks = refl;
     }) (none_ordered scripts) e
 

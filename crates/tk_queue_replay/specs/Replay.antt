@@ -2,18 +2,16 @@
 use Rattle.std.specs.Prelude.{
   ◌≡◌,
   ℕ,
-  zero,
-  suc,
   ◌+◌,
   ◌-◌,
   if◌then◌else◌,
   List,
   [],
   ◌∷◌,
-  ◌++◌,
   length,
   take,
   get_or,
+  replicate,
   slice_set,
   slice_get,
   Option,
@@ -104,15 +102,14 @@ abbrev pub plays : List (List Event) → List Turn → Moment → Option Moment
 plays scripts [] m = Some m
 plays scripts (t ∷ turns) m = after (turn_step scripts m t) (plays scripts turns)
 
--- n zeros
-abbrev pub zeros : ℕ → List ℕ
-zeros zero = []
-zeros (suc n) = zeros n ++ 0 ∷ []
-
 -- the moment before the first turn of a replay with n workers
 abbrev pub start : List Descriptor → ℕ → Moment
 start table n =
-    record { core = fresh n; emitted = zeros n; taken = record { table = table; entries = [] } }
+    record {
+      core = fresh n;
+      emitted = replicate n 0;
+      taken = record { table = table; entries = [] };
+    }
 
 -- what a replay is given: the static descriptors, the script of each worker, and the turns
 pub record ReplayInput : Type 0 where

@@ -25,12 +25,8 @@ fn read_worker(field: &[u8], workers: u8) -> Option<u8>
 pub(crate) fn read_workers(line: &[u8]) -> Option<u8>
     ensures { result ≡ in_line workers_of line.now }
 {
-    let Some((letter, fields)) = Fields::of(line).split() else {
-        return None;
-    };
-    let Some((count, fields)) = fields.split() else {
-        return None;
-    };
+    let (letter, fields) = Fields::of(line).split()?;
+    let (count, fields) = fields.split()?;
     if let Some(_) = fields.split() {
         return None;
     }
@@ -48,14 +44,11 @@ fn read_turn(field: &[u8], workers: u8) -> Option<Turn>
     if field == b"t".as_slice() {
         return Some(Turn::Take);
     }
-    match read_worker(field, workers) {
-        Some(worker) => Some(Turn::Worker(worker)),
-        None => None,
-    }
+    read_worker(field, workers).map(Turn::Worker)
 }
 
 // Reads the turns of these fields, one a field.
-fn read_steps(
+fn read_turn_fields(
     alloc: Global,
     fields: Fields<'_>,
     workers: u8,
@@ -66,7 +59,7 @@ fn read_steps(
 {
     let mut turns = Vec::new(alloc);
     let mut rest = fields;
-    'steps: while let Some((field, more)) = rest.split() {
+    'turns: while let Some((field, more)) = rest.split() {
         let Some(turn) = read_turn(field, workers) else {
             return Ok(None);
         };
@@ -91,7 +84,7 @@ pub(crate) fn read_turns(
         return Ok(None);
     };
     if letter == b"S".as_slice() {
-        read_steps(alloc, fields, workers)
+        read_turn_fields(alloc, fields, workers)
     } else {
         Ok(None)
     }

@@ -4,7 +4,7 @@ ghost use Rattle.std.specs.Arc.{arc_value};
 ghost use Rattle.tk_record_columns.specs.Entries.{with_entry};
 ghost use Rattle.tk_record_columns.specs.Mixing.{IsWorkerOf};
 ghost use Rattle.tk_queue_core.specs.CoreState.{has_ended, fresh};
-ghost use Rattle.tk_queue_replay.specs.Replay.{IsReplayed, IsTurn, next, count_of, take_item, turn_step, refusal, IsStop, Suits, Refuses, IsMemory, start, zeros};
+ghost use Rattle.tk_queue_replay.specs.Replay.{IsReplayed, IsTurn, next, count_of, take_item, turn_step, refusal, IsStop, Suits, Refuses, IsMemory, start};
 ghost use Rattle.tk_queue_replay.specs.FaultTexts.{replay_fault_text};
 ghost use Rattle.tk_queue_replay.specs.declared.replays.ReplayFault.TheVariants.{Memory};
 
@@ -237,17 +237,6 @@ fn refused(number: usize, fault: AppendFault) -> ReplayFault
     }
 }
 
-// Makes as many zeros as there are workers.
-fn zeros(alloc: Global, workers: u8) -> Result<Vec<usize>, AllocError>
-    ensures { IfOk result (λ v. v.items ≡ zeros workers) }
-{
-    let mut counts = Vec::new(alloc);
-    for _number in 0..workers {
-        counts.push(0)?;
-    }
-    Ok(counts)
-}
-
 /// Replays the turns over a core and a record of `table`.
 ///
 /// `scripts[i]` are the events of worker i + 1: its turns emit them in order, and then its end mark.
@@ -265,10 +254,9 @@ pub fn replay(
     requires turns { All (IsTurn (length scripts.now)) turns.now }
     ensures { IsReplayed (arc_value table) (map (λ s. s.items) scripts.now) turns.now result }
 {
-    let workers = scripts.len() as u8;
-    let emitted = zeros(alloc, workers)?;
+    let emitted = Vec::from_elem(alloc, 0, scripts.len())?;
     let mut playing = Playing {
-        core: Core::new(alloc, workers),
+        core: Core::new(alloc, scripts.len() as u8),
         emitted,
         taken: Record::new(alloc, table),
     };

@@ -1,6 +1,6 @@
 -- What `close` looks for, and what it concludes.
-use Rattle.std.proofs.Common.{◌≡◌, ◌≢◌, ◌⊎◌, ◌==◌, ℕ, ◌<◌, ◌≤◌, ◌+◌, Bool, true, false, ◌||◌, if◌then◌else◌, true≢false, List, [], ◌∷◌, ◌++◌, map, length, sym, refl, ap, ◌∙◌, subst, inl, inr, ⊎_elim, append_assoc, eq-eqb, ne_eqb, arith}
-use Rattle.std.specs.Prelude.{All, slice_index, slice_index_or, IfNone, Option, Some, None}
+use Rattle.std.proofs.Common.{◌≡◌, ◌≢◌, ◌==◌, ℕ, ◌<◌, ◌≤◌, ◌+◌, Bool, true, false, ◌||◌, if◌then◌else◌, true≢false, List, [], ◌∷◌, ◌++◌, map, sym, refl, ap, ◌∙◌, subst, ⊎_elim, append_assoc, eq-eqb, ne_eqb, arith}
+use Rattle.std.specs.Prelude.{All, slice_index_or, IfNone, Option, Some, None}
 use Rattle.std.proofs.lemmas.Bool.{cases_eq, true_from_ne_false}
 use Rattle.std.proofs.lemmas.List.Elements.{All-nil, All-cons, All-head, All-tail}
 use Rattle.std.proofs.lemmas.List.Sums.{sum_by-cons}
@@ -19,17 +19,15 @@ use Rattle.tk_queue_core.specs.declared.items.Item.TheVariants.{Entry as Emitted
 use Rattle.tk_queue_core.proofs.CoreSteps.{filter-append}
 use Rattle.tk_queue_session.proofs.SharedSteps.{holder_worker, marked_among, events_in, events_among, events_scripted}
 
-pub worker_cases : (n w : ℕ) → IsWorkerOf (n + 1) w → IsWorkerOf n w ⊎ (w ≡ n + 1)
-worker_cases n w is = ⊎_elim (λ (e : w ≡ n + 1). inr e) (λ (apart : w ≢ n + 1). let below : 0 < w = is.0 in let at_most : w ≤ n + 1 = is.1 in inl (omega arith, omega arith)) (cases_eq w (n + 1))
+-- P holds at none of the workers below worker n
+abbrev pub NoneBelow : ℕ → (ℕ → Type 0) → Type 0
+NoneBelow n P = (w : ℕ) → 0 < w → w < n → ¬ P w
 
-pub none_more : (P : ℕ → Type 0) (n : ℕ) → ((w : ℕ) → IsWorkerOf n w → ¬ P w) → ¬ P (n + 1) → (w : ℕ) → IsWorkerOf (n + 1) w → ¬ P w
-none_more P n before here w is = ⊎_elim (λ (h : IsWorkerOf n w). before w h) (λ (e : w ≡ n + 1). subst (λ v. ¬ P v) (sym e) here) (worker_cases n w is)
+pub none_more : (P : ℕ → Type 0) (n : ℕ) → NoneBelow n P → ¬ P n → NoneBelow (n + 1) P
+none_more P n below here w some few = ⊎_elim (λ (e : w ≡ n). subst (λ v. ¬ P v) (sym e) here) (λ (apart : w ≢ n). below w some (omega arith)) (cases_eq w n)
 
--- the row of counts, filled for the workers 1 to n
-pub record Counted (n : ℕ) (counts : List ℕ) (of_worker : ℕ → ℕ) : Type 0 where
-  pub long : length counts ≡ worker_slots
-  pub each : (w : ℕ) → IsWorkerOf n w → slice_index counts w ≡ of_worker w
-  pub others : (w : ℕ) → ¬ IsWorkerOf n w → slice_index counts w ≡ 0
+pub none_of : (P : ℕ → Type 0) (n : ℕ) → NoneBelow n P → ¬ P n → (w : ℕ) → IsWorkerOf n w → ¬ P w
+none_of P n below here w is = let at_most : w ≤ n = is.1 in none_more P n below here w is.0 (omega arith)
 
 pub some_token : (n : ℕ) (tokens : List SenderView) → ((w : ℕ) → IsWorkerOf n w → ¬ (tokens_of w tokens ≡ 0)) → (w : ℕ) → IsWorkerOf n w → 0 < tokens_of w tokens
 some_token n tokens there w is = let not_none : ¬ (tokens_of w tokens ≡ 0) = there w is in let k = tokens_of w tokens in positive k not_none where

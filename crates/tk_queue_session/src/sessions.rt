@@ -82,11 +82,12 @@ fn open_within_limits(
     set_static_count(&queue, &mut pass, table.len() as u32);
     let shared_queue = Arc::new(alloc, queue)?;
     let mut senders = Vec::with_capacity(alloc, workers as usize)?;
-    for before in 0..workers {
+    for done in 0..workers {
+        let worker = done + 1;
         let own_queue = Arc::try_clone(&shared_queue)?;
         let own_table = Arc::try_clone(&table)?;
         let next = shared_queue.another::<SplitSender>(&mut pass);
-        senders.push(Sender::with_pass(alloc, own_queue, next, own_table, before + 1))?;
+        senders.push(Sender::with_pass(alloc, own_queue, next, own_table, worker))?;
     }
     Ok((
         senders,

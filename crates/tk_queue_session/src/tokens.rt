@@ -38,8 +38,8 @@ pub fn emitted_by_worker(ended: &[Ended], workers: u8) -> [u64; WORKER_SLOTS]
     ensures others { (w : ℕ) → ¬ IsWorkerOf workers w → slice_index result w ≡ 0 }
 {
     let mut emitted = [0; WORKER_SLOTS];
-    for before in 0..workers {
-        emitted[before as usize + 1] = emitted_by(ended, before + 1);
+    for worker in 1..=workers {
+        emitted[worker as usize] = emitted_by(ended, worker);
     }
     emitted
 }
@@ -50,9 +50,9 @@ pub fn first_without_token(ended: &[Ended], workers: u8) -> Option<u8>
         ((w : ℕ) → IsWorkerOf workers w → ¬ (tokens_of w ended.now ≡ 0))
         (Least workers (λ w. tokens_of w ended.now ≡ 0)) }
 {
-    for before in 0..workers {
-        if tokens_of(ended, before + 1) == 0 {
-            return Some(before + 1);
+    for worker in 1..=workers {
+        if tokens_of(ended, worker) == 0 {
+            return Some(worker);
         }
     }
     None
@@ -64,9 +64,9 @@ pub fn first_with_two_tokens(ended: &[Ended], workers: u8) -> Option<u8>
         ((w : ℕ) → IsWorkerOf workers w → ¬ (1 < tokens_of w ended.now))
         (Least workers (λ w. 1 < tokens_of w ended.now)) }
 {
-    for before in 0..workers {
-        if tokens_of(ended, before + 1) > 1 {
-            return Some(before + 1);
+    for worker in 1..=workers {
+        if tokens_of(ended, worker) > 1 {
+            return Some(worker);
         }
     }
     None
@@ -79,9 +79,9 @@ pub fn first_undrained(marked: &[bool; WORKER_SLOTS], workers: u8) -> Option<u8>
         ((w : ℕ) → IsWorkerOf workers w → ¬ (slice_index_or marked.now w false ≡ false))
         (Least workers (λ w. slice_index_or marked.now w false ≡ false)) }
 {
-    for before in 0..workers {
-        if !marked[before as usize + 1] {
-            return Some(before + 1);
+    for worker in 1..=workers {
+        if !marked[worker as usize] {
+            return Some(worker);
         }
     }
     None

@@ -8,7 +8,7 @@ use Rattle.tk_queue_replay.proofs.replays.replay.Goals as goal
 pub turns-init : goal.turns-init
 turns-init c =
     let scripts = map (λ s. s.items) c.args.scripts.now in
-    let b = begins (arc_value c.args.table) scripts (length c.args.scripts.now) c.new.result c.in_ok-emitted.emitted.items c.new-2.result (sym (length-map c.args.scripts.now (λ s. s.items))) c.new.ensures c.in_ok-emitted.ensures c.new-2.ensures.table c.new-2.ensures.entries in
+    let b = begins (arc_value c.args.table) scripts (length c.args.scripts.now) c.new.result c.in_ok-emitted.emitted.items c.new-2.result (sym (length-map c.args.scripts.now (λ s. s.items))) c.new.ensures (c.in_ok-emitted.ensures.items_if_clones_equal (λ count same. same)) c.new-2.ensures.table c.new-2.ensures.entries in
     record { suits = b.0; so_far = b.1 }
 
 pub returns-in_err-turn : goal.returns-in_err-turn

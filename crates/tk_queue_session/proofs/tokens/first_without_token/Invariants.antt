@@ -1,7 +1,6 @@
-use Rattle.std.proofs.Common.{◌≡◌, ℕ}
-use Rattle.tk_record_columns.specs.Mixing.{IsWorkerOf}
+use Rattle.std.proofs.Common.{◌≡◌, ◌<◌, ℕ}
 use Rattle.tk_queue_session.specs.Tokens.{tokens_of}
 use Rattle.tk_queue_session.proofs.tokens.first_without_token.Given as goal
 
-abbrev pub invariant-loop-before : goal.invariant-loop-before
-invariant-loop-before l = (w : ℕ) → IsWorkerOf l.before w → ¬ (tokens_of w l.ended ≡ 0)
+abbrev pub invariant-loop-worker : goal.invariant-loop-worker
+invariant-loop-worker l = (w : ℕ) → 0 < w → w < l.worker → ¬ (tokens_of w l.ended ≡ 0)
