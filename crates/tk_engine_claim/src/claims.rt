@@ -59,7 +59,7 @@ impl Model for ClaimSeat {
 pub enum ClaimFault {
     /// The number of seats isn't 1 to `MAX_WORKERS`.
     Seats,
-    /// An allocation failed.
+    /// A request for memory was refused.
     Memory,
 }
 
