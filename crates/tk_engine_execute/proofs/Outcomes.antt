@@ -6,7 +6,7 @@ use Rattle.std.proofs.lemmas.List.Quantifiers.{all_pairs_push}
 use Rattle.atomic_table.specs.Seated.{TableId}
 use Rattle.tk_engine_execute.specs.declared.event_collectors.EventCollector.{EventCollector}
 use Rattle.tk_engine_execute.specs.declared.worker_threads.Collected.{Collected}
-use Rattle.tk_engine_execute.specs.declared.workers.Outcome.{Outcome}
+use Rattle.tk_engine_execute.specs.declared.workers.WorkerEnd.{WorkerEnd}
 use Rattle.tk_engine_execute.specs.EventCollectors.{TookMore, CanCollect, NoneIsAwaited}
 use Rattle.tk_engine_execute.specs.WorkerThreads.{WorkersWereRun}
 use Rattle.tk_engine_execute.specs.Workers.{RunUnits, IsDone, AreDone}
@@ -14,19 +14,19 @@ use Rattle.tk_engine_execute.proofs.Positions.{nil_of_length, snoc_all}
 use Rattle.tk_engine_execute.proofs.Collecting.{took_more-trans}
 
 module _ (units : RunUnits) (session : TableId) where
-  abbrev IsOwn : Outcome → Type 0
+  abbrev IsOwn : WorkerEnd → Type 0
   IsOwn o = IsDone units session o.ended.worker o
 
-  -- outcomes of the first m workers are outcomes of the first n, where n is at least m
-  still_done : (m n : ℕ) (os : List Outcome) → m ≤ n → AreDone units session m os → AreDone units session n os
+  -- ends of the first m workers are ends of the first n, where n is at least m
+  still_done : (m n : ℕ) (os : List WorkerEnd) → m ≤ n → AreDone units session m os → AreDone units session n os
   still_done m n os more done = record {
     each = done.each;
     few = All-weaker (λ o. o.ended.worker ≤ m) (λ o. o.ended.worker ≤ n) (λ o few. omega (arith, few, more)) os done.few;
     rising = done.rising;
   }
 
-  -- a higher worker's outcome comes last
-  one_done : (m n : ℕ) (os : List Outcome) (o : Outcome) → m < n → AreDone units session m os → IsDone units session n o → AreDone units session n (os ++ o ∷ [])
+  -- a higher worker's end comes last
+  one_done : (m n : ℕ) (os : List WorkerEnd) (o : WorkerEnd) → m < n → AreDone units session m os → IsDone units session n o → AreDone units session n (os ++ o ∷ [])
   one_done m n os o more done last =
       let own : o.ended.worker ≡ n = last.worker in
       let still = still_done m n os (omega (arith, more)) done in record {
@@ -37,10 +37,10 @@ module _ (units : RunUnits) (session : TableId) where
 
 module _ (units : RunUnits) where
   -- no worker is to be joined
-  pub nobody_joined : (n : ℕ) (old : Collected) (last : EventCollector) → n ≡ 0 → vec_len old.outcomes ≡ 0 → TookMore old.collector last → CanCollect last → NoneIsAwaited last → last.lacks_thread ≡ old.collector.lacks_thread
-      → WorkersWereRun units n old (record { collector = last; outcomes = old.outcomes })
+  pub nobody_joined : (n : ℕ) (old : Collected) (last : EventCollector) → n ≡ 0 → vec_len old.worker_ends ≡ 0 → TookMore old.collector last → CanCollect last → NoneIsAwaited last → last.lacks_thread ≡ old.collector.lacks_thread
+      → WorkersWereRun units n old (record { collector = last; worker_ends = old.worker_ends })
   nobody_joined n old last none empty took_more collector none_is_awaited same =
-      let nil : old.outcomes.items ≡ [] = nil_of_length old.outcomes.items (sym (old.outcomes.ok.0) ∙ empty) in
+      let nil : old.worker_ends.items ≡ [] = nil_of_length old.worker_ends.items (sym (old.worker_ends.ok.0) ∙ empty) in
       record {
         took_more = took_more;
         collector = collector;
@@ -52,26 +52,26 @@ module _ (units : RunUnits) where
       }
 
   -- the next worker was joined
-  pub one_joined : (m n : ℕ) (old mid new : Collected) (o : Outcome) → n ≡ m + 1 → WorkersWereRun units m old mid → new.collector ≡ mid.collector
-      → new.outcomes.items ≡ mid.outcomes.items ++ o ∷ [] → IsDone units old.collector.receiver.session (m + 1) o → WorkersWereRun units n old new
+  pub one_joined : (m n : ℕ) (old mid new : Collected) (o : WorkerEnd) → n ≡ m + 1 → WorkersWereRun units m old mid → new.collector ≡ mid.collector
+      → new.worker_ends.items ≡ mid.worker_ends.items ++ o ∷ [] → IsDone units old.collector.receiver.session (m + 1) o → WorkersWereRun units n old new
   one_joined m n old mid new o more was same items done =
       let session = old.collector.receiver.session in
       let lacks_thread : new.collector.lacks_thread ≡ mid.collector.lacks_thread = ap (λ (a : EventCollector). a.lacks_thread) same in
-      let longer : vec_len new.outcomes ≡ vec_len mid.outcomes + 1 = (let long = ap (λ l. length l) items in omega (arith, new.outcomes.ok.0, mid.outcomes.ok.0, long, length-append mid.outcomes.items (o ∷ []))) in
+      let longer : vec_len new.worker_ends ≡ vec_len mid.worker_ends + 1 = (let long = ap (λ l. length l) items in omega (arith, new.worker_ends.ok.0, mid.worker_ends.ok.0, long, length-append mid.worker_ends.items (o ∷ []))) in
       record {
         took_more = rw same was.took_more;
         collector = rw same was.collector;
         none_is_awaited = rw same was.none_is_awaited;
-        each = rw (items, more) (one_done units session m (m + 1) mid.outcomes.items o (omega arith) was.each done);
+        each = rw (items, more) (one_done units session m (m + 1) mid.worker_ends.items o (omega arith) was.each done);
         lacks_thread = λ started missing. let fewer = was.lacks_thread started (sym lacks_thread ∙ missing) in omega (arith, fewer, longer, more);
         count = λ going. let all = was.count (sym lacks_thread ∙ going) in omega (arith, all, longer, more);
         done = λ going.
-            let all : length mid.outcomes.items ≡ m = sym (mid.outcomes.ok.0) ∙ was.count (sym lacks_thread ∙ going) in
-            rw items (snoc_all (λ i x. IsDone units session (i + 1) x) mid.outcomes.items o (was.done (sym lacks_thread ∙ going)) (rw all done));
+            let all : length mid.worker_ends.items ≡ m = sym (mid.worker_ends.ok.0) ∙ was.count (sym lacks_thread ∙ going) in
+            rw items (snoc_all (λ i x. IsDone units session (i + 1) x) mid.worker_ends.items o (was.done (sym lacks_thread ∙ going)) (rw all done));
       }
 
   -- the next worker's thread was not started
-  pub one_lacks_thread : (m n : ℕ) (old mid new : Collected) → n ≡ m + 1 → TookMore old.collector mid.collector → mid.collector.lacks_thread ≡ true → vec_len new.outcomes ≤ m
+  pub one_lacks_thread : (m n : ℕ) (old mid new : Collected) → n ≡ m + 1 → TookMore old.collector mid.collector → mid.collector.lacks_thread ≡ true → vec_len new.worker_ends ≤ m
       → WorkersWereRun units m mid new → WorkersWereRun units n old new
   one_lacks_thread m n old mid new more first missing few was =
       let not_going : new.collector.lacks_thread ≡ false → ⊥ = (λ going. let e : true ≡ false = sym missing ∙ was.took_more.lacks_thread going in cc) in
@@ -79,7 +79,7 @@ module _ (units : RunUnits) where
         took_more = took_more-trans old.collector mid.collector new.collector first was.took_more;
         collector = was.collector;
         none_is_awaited = was.none_is_awaited;
-        each = rw more (still_done units old.collector.receiver.session m (m + 1) new.outcomes.items (omega arith) (rw first.session at was.each));
+        each = rw more (still_done units old.collector.receiver.session m (m + 1) new.worker_ends.items (omega arith) (rw first.session at was.each));
         lacks_thread = λ _ _. omega (arith, few, more);
         count = λ going. absurd (not_going going);
         done = λ going. absurd (not_going going);

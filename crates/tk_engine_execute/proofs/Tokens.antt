@@ -20,7 +20,7 @@ use Rattle.tk_queue_session.specs.Tokens.{tokens_of, sent_by}
 use Rattle.tk_queue_session.specs.Closing.{IsCloseFault}
 use Rattle.tk_engine_runs.specs.Run.{IsShared}
 use Rattle.tk_engine_execute.specs.declared.engines.UnitFault.{UnitFault}
-use Rattle.tk_engine_execute.specs.declared.workers.Outcome.{Outcome}
+use Rattle.tk_engine_execute.specs.declared.workers.WorkerEnd.{WorkerEnd}
 use Rattle.tk_engine_execute.specs.declared.workers.FailedUnit.{FailedUnit}
 use Rattle.tk_engine_execute.specs.declared.event_collectors.EventCollector.{EventCollector}
 use Rattle.tk_engine_execute.specs.EventCollectors.{CanCollect, NoneIsAwaited}
@@ -106,11 +106,11 @@ no_fault r ts (NotDrained w) can h =
 pub sessions : (r : ReceiverView) (ts : List Sent) → CanClose r ts → All (λ t. t.session ≡ r.session) ts
 sessions r ts can = all_from (λ t. t.session ≡ r.session) ts can.session
 
--- ---- outcomes
+-- ---- the ends of workers
 
--- the outcome of a token, and its seat
-token_at : (os : List Outcome) (ts : List Sent) (ss : List ClaimSeatView) → AllCompleted os ts ss → (i : ℕ) (t : Sent) → slice_get ts i ≡ Some t
-    → (o : Outcome) × (slice_get os i ≡ Some o) × (o.failure ≡ None) × (t ≡ o.ended) × (slice_get ss i ≡ Some o.claim_seat)
+-- the end with a token, and its seat
+token_at : (os : List WorkerEnd) (ts : List Sent) (ss : List ClaimSeatView) → AllCompleted os ts ss → (i : ℕ) (t : Sent) → slice_get ts i ≡ Some t
+    → (o : WorkerEnd) × (slice_get os i ≡ Some o) × (o.failure ≡ None) × (t ≡ o.ended) × (slice_get ss i ≡ Some o.claim_seat)
 token_at [] ts ss (a, b) i t e = let none : slice_get [] i ≡ Some t = rw a at e in cc
 token_at (o ∷ os) ts ss (none, us, rs, a, b, rest) zero t e =
     let first : slice_get (o.ended ∷ us) 0 ≡ Some t = rw a at e in (o, refl, none, cc, rw b refl)
@@ -118,9 +118,9 @@ token_at (o ∷ os) ts ss (none, us, rs, a, b, rest) (suc i) t e =
     let later : slice_get (o.ended ∷ us) (suc i) ≡ Some t = rw a at e in
     let h = token_at os us rs rest i t later in (h.0, h.1, h.2, h.3, rw b (h.4))
 
--- the outcome of a seat, and its token
-pub seat_at : (os : List Outcome) (ts : List Sent) (ss : List ClaimSeatView) → AllCompleted os ts ss → (i : ℕ) (s : ClaimSeatView) → slice_get ss i ≡ Some s
-    → (o : Outcome) × (slice_get os i ≡ Some o) × (o.failure ≡ None) × (s ≡ o.claim_seat) × (slice_get ts i ≡ Some o.ended)
+-- the end with a seat, and its token
+pub seat_at : (os : List WorkerEnd) (ts : List Sent) (ss : List ClaimSeatView) → AllCompleted os ts ss → (i : ℕ) (s : ClaimSeatView) → slice_get ss i ≡ Some s
+    → (o : WorkerEnd) × (slice_get os i ≡ Some o) × (o.failure ≡ None) × (s ≡ o.claim_seat) × (slice_get ts i ≡ Some o.ended)
 seat_at [] ts ss (a, b) i s e = let none : slice_get [] i ≡ Some s = rw b at e in cc
 seat_at (o ∷ os) ts ss (none, us, rs, a, b, rest) zero s e =
     let first : slice_get (o.claim_seat ∷ rs) 0 ≡ Some s = rw b at e in (o, refl, none, cc, rw a refl)
@@ -128,11 +128,11 @@ seat_at (o ∷ os) ts ss (none, us, rs, a, b, rest) (suc i) s e =
     let later : slice_get (o.claim_seat ∷ rs) (suc i) ≡ Some s = rw b at e in
     let h = seat_at os us rs rest i s later in (h.0, h.1, h.2, h.3, rw a (h.4))
 
-length-tokens : (os : List Outcome) (ts : List Sent) (ss : List ClaimSeatView) → AllCompleted os ts ss → length ts ≡ length os
+length-tokens : (os : List WorkerEnd) (ts : List Sent) (ss : List ClaimSeatView) → AllCompleted os ts ss → length ts ≡ length os
 length-tokens [] ts ss (a, b) = ap (λ l. length l) a
 length-tokens (o ∷ os) ts ss (none, us, rs, a, b, rest) = ap (λ l. length l) a ∙ ap suc (length-tokens os us rs rest)
 
-pub length-seats : (os : List Outcome) (ts : List Sent) (ss : List ClaimSeatView) → AllCompleted os ts ss → length ss ≡ length os
+pub length-seats : (os : List WorkerEnd) (ts : List Sent) (ss : List ClaimSeatView) → AllCompleted os ts ss → length ss ≡ length os
 length-seats [] ts ss (a, b) = ap (λ l. length l) b
 length-seats (o ∷ os) ts ss (none, us, rs, a, b, rest) = ap (λ l. length l) b ∙ ap suc (length-seats os us rs rest)
 
@@ -145,7 +145,7 @@ all_marked a collector none_is_awaited going i within =
     let gone : get_or a.awaited.items i true ≡ false = none_is_awaited i (get_or a.awaited.items i true) here in
     collector.marked going i (here ∙ ap Some gone)
 
-module _ (units : RunUnits) (many workers : ℕ) (os : List Outcome) (ts : List Sent) (ss : List ClaimSeatView) (whole : AllCompleted os ts ss) (count : length os ≡ workers) where
+module _ (units : RunUnits) (many workers : ℕ) (os : List WorkerEnd) (ts : List Sent) (ss : List ClaimSeatView) (whole : AllCompleted os ts ss) (count : length os ≡ workers) where
   pub can_close : (a : EventCollector) → CanCollect a → NoneIsAwaited a → a.lacks_thread ≡ false → length a.awaited.items ≡ workers → a.receiver.workers ≡ workers
       → AllDone units a.receiver.session os → CanClose a.receiver ts
   can_close a collector none_is_awaited going width is_workers done = record {
@@ -199,13 +199,13 @@ tallied n closed es ls mix each others = record {
 -- ---- why a run has no record
 
 module _ (units : RunUnits) where
-  has_ended : (session : TableId) (o : Outcome) → IsDone units session o.ended.worker o → HasEnded units.may units.fails o
+  has_ended : (session : TableId) (o : WorkerEnd) → IsDone units session o.ended.worker o → HasEnded units.may units.fails o
   has_ended session o done = record { emits = done.emits; failed = done.failed; stopped = done.stopped }
 
   -- what the workers left that had a thread
-  left : (session : TableId) (workers : ℕ) (os : List Outcome) (is_out_of_memory : Bool) (f : RunFault) → AreDone units session workers os → IsFirstFault workers os is_out_of_memory f → IsFaultOfRunning units.may units.fails workers f
+  left : (session : TableId) (workers : ℕ) (os : List WorkerEnd) (is_out_of_memory : Bool) (f : RunFault) → AreDone units session workers os → IsFirstFault workers os is_out_of_memory f → IsFaultOfRunning units.may units.fails workers f
   left session workers os is_out_of_memory f done first = record {
-    outcomes = os;
+    worker_ends = os;
     is_out_of_memory = is_out_of_memory;
     each = All-weaker (λ o. IsDone units session o.ended.worker o) (HasEnded units.may units.fails) (has_ended session) os done.each;
     few = done.few;
@@ -213,7 +213,7 @@ module _ (units : RunUnits) where
     first = first;
   }
 
-  pub is_running : (session : TableId) (workers : ℕ) (a : EventCollector) (os : List Outcome) (f : RunFault) → AreDone units session workers os → (a.lacks_thread ≡ true → length os < workers)
+  pub is_running : (session : TableId) (workers : ℕ) (a : EventCollector) (os : List WorkerEnd) (f : RunFault) → AreDone units session workers os → (a.lacks_thread ≡ true → length os < workers)
       → IsFaultOfWorkers a os f → IsFaultOfRunning units.may units.fails workers f
   is_running session workers a os fault.Workers done fewer why = absurd why
   is_running session workers a os fault.Capacity done fewer why = absurd why
@@ -224,16 +224,16 @@ module _ (units : RunUnits) where
 module _ (may : ℕ → ℕ → ℕ → List Event → Type 0) (fails : ℕ → UnitFault → Type 0) where
   -- memory was refused before a thread was started or after all were joined
   pub out_of_memory : (workers : ℕ) (f : RunFault) → f ≡ fault.Memory → IsFaultOfRunning may fails workers f
-  out_of_memory workers f is = rw is (record { outcomes = []; is_out_of_memory = true; each = All-nil _; few = All-nil _; rising = search rules; first = (tt, refl) })
+  out_of_memory workers f is = rw is (record { worker_ends = []; is_out_of_memory = true; each = All-nil _; few = All-nil _; rising = search rules; first = (tt, refl) })
 
-  first_may_fail : (os : List Outcome) (u : ℕ) (why : UnitFault) → All (HasEnded may fails) os → IsFirstFailure os u why → fails u why
+  first_may_fail : (os : List WorkerEnd) (u : ℕ) (why : UnitFault) → All (HasEnded may fails) os → IsFirstFailure os u why → fails u why
   first_may_fail [] u why all h = absurd h
   first_may_fail (o ∷ os) u why all (inl is) = let one = (All-head (HasEnded may fails) o os all).failed in subst (λ (f : Option FailedUnit). IfSome f (λ g. fails g.unit g.why)) is one
   first_may_fail (o ∷ os) u why all (inr h) = first_may_fail os u why (All-tail (HasEnded may fails) o os all) h.1
 
   -- the unit of the answer may fail so
   pub unit_may_fail : (workers : ℕ) (f : RunFault) → IsFaultOfRunning may fails workers f → (u : ℕ) (why : UnitFault) → f ≡ fault.Engine u why → fails u why
-  unit_may_fail workers f h u why is = first_may_fail h.outcomes u why h.each (subst (λ (r : RunFault). IsFirstFault workers h.outcomes h.is_out_of_memory r) is h.first)
+  unit_may_fail workers f h u why is = first_may_fail h.worker_ends u why h.each (subst (λ (r : RunFault). IsFirstFault workers h.worker_ends h.is_out_of_memory r) is h.first)
 
   -- `execute` hands on the fault of a run
   pub of_execute : (workers : ℕ) (f : RunFault) → IsFaultOfRunning may fails workers f → IsFaultOfExecute may fails workers f

@@ -58,7 +58,7 @@ pub record IsFreshCollector (asked : RunRequest) (a : EventCollector) : Type 0 w
   pub room : a.is_out_of_memory ≡ false
   pub started : a.lacks_thread ≡ false
 
--- a claim on the units, a book, workers who have done nothing, and room for the outcome of each
+-- a claim on the units, a book, workers who have done nothing, and room for the end of each
 pub record IsPreparedRun (asked : RunRequest) (s : PreparedRun) : Type 0 where
   pub limit : s.claim.limit ≡ asked.units
   pub seats : s.claim.seats ≡ asked.workers
@@ -67,5 +67,5 @@ pub record IsPreparedRun (asked : RunRequest) (s : PreparedRun) : Type 0 where
       (shared_parts s.claim s.book asked.table) s.unstarted
   pub many : vec_len s.unstarted.senders ≡ asked.workers
   pub collector : IsFreshCollector asked s.collected.collector
-  pub empty : vec_len s.collected.outcomes ≡ 0
-  pub room : asked.workers ≤ vec_capacity s.collected.outcomes
+  pub empty : vec_len s.collected.worker_ends ≡ 0
+  pub room : asked.workers ≤ vec_capacity s.collected.worker_ends

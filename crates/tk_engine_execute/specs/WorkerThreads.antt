@@ -11,26 +11,26 @@ use Rattle.tk_engine_execute.specs.Workers.{
   AreDone,
 }
 
--- no worker was joined yet, and there is room for the outcome of each
+-- no worker was joined yet, and there is room for the end of each
 pub record CanRunWorkers (shared : SharedParts) (c : UnstartedWorkers) (t : Collected)
     : Type 0 where
   pub unstarted : AreUnstarted t.collector.receiver.session shared c
   pub collector : CanCollect t.collector
-  pub empty : vec_len t.outcomes ≡ 0
-  pub room : vec_len c.senders ≤ vec_capacity t.outcomes
+  pub empty : vec_len t.worker_ends ≡ 0
+  pub room : vec_len c.senders ≤ vec_capacity t.worker_ends
 
--- After the threads of n workers were joined: no worker is awaited any more, and the outcomes are
--- what the workers have left. Where a thread was not started, an outcome is missing; else there is
--- one of each worker.
+-- After the threads of n workers were joined: no worker is awaited any more, and the ends are what
+-- the workers have left. Where a thread was not started, an end is missing; else there is one of
+-- each worker.
 pub record WorkersWereRun (units : RunUnits) (n : ℕ) (old new : Collected) : Type 0 where
   pub took_more : TookMore old.collector new.collector
   pub collector : CanCollect new.collector
   pub none_is_awaited : NoneIsAwaited new.collector
-  pub each : AreDone units old.collector.receiver.session n new.outcomes.items
+  pub each : AreDone units old.collector.receiver.session n new.worker_ends.items
   pub lacks_thread :
       old.collector.lacks_thread ≡ false → new.collector.lacks_thread ≡ true
-      → vec_len new.outcomes < n
-  pub count : new.collector.lacks_thread ≡ false → vec_len new.outcomes ≡ n
+      → vec_len new.worker_ends < n
+  pub count : new.collector.lacks_thread ≡ false → vec_len new.worker_ends ≡ n
   pub done :
       new.collector.lacks_thread ≡ false
-      → AllDone units old.collector.receiver.session new.outcomes.items
+      → AllDone units old.collector.receiver.session new.worker_ends.items

@@ -29,7 +29,7 @@ use Rattle.tk_engine_runs.specs.Run.{Emits}
 use Rattle.tk_engine_execute.specs.Engines.{MayFail}
 use Rattle.tk_engine_execute.specs.declared.engines.UnitFault.{UnitFault}
 use Rattle.tk_engine_execute.specs.declared.workers.WorkerHandles.{WorkerHandles}
-use Rattle.tk_engine_execute.specs.declared.workers.Outcome.{Outcome}
+use Rattle.tk_engine_execute.specs.declared.workers.WorkerEnd.{WorkerEnd}
 use Rattle.tk_engine_execute.specs.declared.unstarted_workers.UnstartedWorkers.{UnstartedWorkers}
 
 -- what all workers of a run share: the claim on its units, its book, and the table of its engine
@@ -76,7 +76,7 @@ pub record IsStopped (may : ℕ → ℕ → ℕ → List Event → Type 0) (send
 
 -- What worker w has left: its token, its seat, and where no unit failed, the list that the units
 -- that it drew may emit. A unit that failed is one that may fail so, and the worker stopped at it.
-pub record IsDone (units : RunUnits) (session : TableId) (w : ℕ) (o : Outcome) : Type 0 where
+pub record IsDone (units : RunUnits) (session : TableId) (w : ℕ) (o : WorkerEnd) : Type 0 where
   pub session_is : o.ended.session ≡ session
   pub worker : o.ended.worker ≡ w
   pub claim_is : o.claim_seat.claim ≡ units.claim
@@ -100,15 +100,15 @@ pub record IsLastWorker (all rest : UnstartedWorkers) (h : WorkerHandles) : Type
   pub claim_seat : all.claim_seats.items ≡ rest.claim_seats.items ++ h.claim_seat ∷ []
   pub book_seat : all.book_seats.items ≡ rest.book_seats.items ++ h.book_seat ∷ []
 
--- worker i + 1 left outcome i
-abbrev pub AllDone : RunUnits → TableId → List Outcome → Type 0
-AllDone units session outcomes =
-    (i : ℕ) (o : Outcome) → slice_get outcomes i ≡ Some o → IsDone units session (i + 1) o
+-- worker i + 1 left end i
+abbrev pub AllDone : RunUnits → TableId → List WorkerEnd → Type 0
+AllDone units session worker_ends =
+    (i : ℕ) (o : WorkerEnd) → slice_get worker_ends i ≡ Some o → IsDone units session (i + 1) o
 
--- Each outcome is what its worker has left, which is one of the workers 1 to n, and they stand in
+-- Each end is what its worker has left, which is one of the workers 1 to n, and they stand in
 -- the order of the workers. A worker without a thread has none.
-pub record AreDone (units : RunUnits) (session : TableId) (n : ℕ) (outcomes : List Outcome)
+pub record AreDone (units : RunUnits) (session : TableId) (n : ℕ) (worker_ends : List WorkerEnd)
     : Type 0 where
-  pub each : All (λ o. IsDone units session o.ended.worker o) outcomes
-  pub few : All (λ o. o.ended.worker ≤ n) outcomes
-  pub rising : AllPairs (λ a b. a.ended.worker < b.ended.worker) outcomes
+  pub each : All (λ o. IsDone units session o.ended.worker o) worker_ends
+  pub few : All (λ o. o.ended.worker ≤ n) worker_ends
+  pub rising : AllPairs (λ a b. a.ended.worker < b.ended.worker) worker_ends

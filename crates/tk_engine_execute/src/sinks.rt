@@ -90,10 +90,7 @@ impl Sink for Sender {
         ensures err { OnErr result (self.new ≡ self.old) }
         ensures cause { IfErr result (IsSendCause self.old event) }
     {
-        match self.send(rt, event) {
-            Ok(()) => Ok(()),
-            Err(fault) => Err(SinkFault::Send(fault)),
-        }
+        self.send(rt, event).map_err(SinkFault::Send)
     }
 
     fn register<R: Wait>(
@@ -125,9 +122,6 @@ impl Sink for Sender {
               stamp = stamp;
             })) }
     {
-        match Sender::register(self, rt, parent, segment, name, dtype, stamp) {
-            Ok(key) => Ok(key),
-            Err(fault) => Err(SinkFault::Register(fault)),
-        }
+        Sender::register(self, rt, parent, segment, name, dtype, stamp).map_err(SinkFault::Register)
     }
 }

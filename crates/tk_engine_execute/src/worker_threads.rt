@@ -6,7 +6,7 @@ ghost use Rattle.tk_engine_execute.specs.Workers.{shared_parts, run_units, IsRea
 use crate::engines::Engine;
 use crate::event_collectors::EventCollector;
 use crate::unstarted_workers::UnstartedWorkers;
-use crate::workers::{Outcome, WorkerHandles, work};
+use crate::workers::{WorkerEnd, WorkerHandles, work};
 use std::alloc::Global;
 use std::snapshot::Snapshot;
 use std::sync::Wait;
@@ -15,7 +15,7 @@ use std::thread::{Promise, Scope, Threads};
 use tk_book::Book;
 use tk_engine_claim::Claim;
 
-/// What a worker's thread promises of the outcome that it returns.
+/// What a worker's thread promises of the end that it returns.
 #[derive(Drop)]
 pub(crate) struct WorkerPromise<'e, E> {
     engine: &'e E,
@@ -23,17 +23,17 @@ pub(crate) struct WorkerPromise<'e, E> {
     handles: Snapshot<WorkerHandles>,
 }
 
-impl<'e, E: Engine> Promise<Outcome> for WorkerPromise<'e, E> {
+impl<'e, E: Engine> Promise<WorkerEnd> for WorkerPromise<'e, E> {
     ghost kept_by = { λ p r. IsDone
         (run_units p.claim.now (E.may p.engine.now) (E.units p.engine.now) (E.fails p.engine.now))
         p.handles.value.sender.session p.handles.value.sender.worker r };
 }
 
-/// The receiver's side of a run, and the outcome of each worker that was joined.
+/// The receiver's side of a run, and the end of each worker that was joined.
 #[derive(Drop)]
 pub(crate) struct Collected {
     pub collector: EventCollector,
-    pub outcomes: Vec<Outcome>,
+    pub worker_ends: Vec<WorkerEnd>,
 }
 
 // Starts a thread for the last worker, does the same with the rest, collects events where none is
@@ -57,8 +57,8 @@ fn spawn_workers<'s, 'e, R: Threads + Wait + Sync, E: Engine>(
     ensures run_to_the_end { WorkersWereRun
         (run_units claim.now (E.may engine.now) (E.units engine.now) (E.fails engine.now))
         (vec_len unstarted.old.senders) collected.old collected.new }
-    ensures capacity { vec_capacity collected.old.outcomes ≤ vec_capacity collected.new.outcomes }
-    ensures at_most { vec_len collected.new.outcomes ≤ vec_len unstarted.old.senders }
+    ensures capacity { vec_capacity collected.old.worker_ends ≤ vec_capacity collected.new.worker_ends }
+    ensures at_most { vec_len collected.new.worker_ends ≤ vec_len unstarted.old.senders }
 {
     let Some(handles) = unstarted.take() else {
         collected.collector.collect_all(rt);
@@ -70,7 +70,7 @@ fn spawn_workers<'s, 'e, R: Threads + Wait + Sync, E: Engine>(
         claim,
         handles: Snapshot::of(&handles),
     };
-    let run = move || -> Outcome
+    let run = move || -> WorkerEnd
         requires { (claim.now.limit ≡ E.units engine.now)
             × IsReady (shared_parts claim.now book.now (E.table engine.now)) handles }
         ensures { IsDone
@@ -80,7 +80,7 @@ fn spawn_workers<'s, 'e, R: Threads + Wait + Sync, E: Engine>(
     match scope.spawn_with(promise, run) {
         Ok(thread) => {
             spawn_workers(rt, alloc, scope, engine, claim, book, unstarted, collected);
-            collected.outcomes.push_reserved(thread.join(rt));
+            collected.worker_ends.push_reserved(thread.join(rt));
         }
         Err(not_started) => {
             drop(not_started);

@@ -106,7 +106,7 @@ close-requires-clause-fewer g c κs within = λ missing.
     let many = start.many in
     let collected = c.run_workers-collected.result in
     let fewer = c.run_workers-collected.ensures.lacks_thread start.collector.started missing in
-    omega (arith, many, fewer, collected.outcomes.ok.0)
+    omega (arith, many, fewer, collected.worker_ends.ok.0)
 
 pub returns-in_err-start : goal.returns-in_err-start
 returns-in_err-start g c =

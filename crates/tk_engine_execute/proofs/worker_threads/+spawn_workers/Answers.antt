@@ -42,7 +42,7 @@ returns-in-Ok-clause-run_to_the_end g t c =
     let own : IsDone units handles.sender.session handles.sender.worker o = search rules in
     let index : handles.sender.worker ≡ vec_len rest + 1 = ap (λ (s : SenderView). s.worker) last ∙ ap (λ n. n + 1) (sym (rest.ok.0)) in
     let done : IsDone units session (vec_len rest + 1) o = rw (ap (λ (s : SenderView). s.session) last, index) at own in
-    one_joined units (vec_len rest) (vec_len c.args.unstarted.now.senders) c.args.collected.now c.spawn_workers.new.collected (record { collector = c.spawn_workers.new.collected.collector; outcomes = c.push_reserved.new.self }) o (one_fewer _ _ _ c.in-Some.ensures.some) c.spawn_workers.ensures.run_to_the_end refl c.push_reserved.ensures.items done
+    one_joined units (vec_len rest) (vec_len c.args.unstarted.now.senders) c.args.collected.now c.spawn_workers.new.collected (record { collector = c.spawn_workers.new.collected.collector; worker_ends = c.push_reserved.new.self }) o (one_fewer _ _ _ c.in-Some.ensures.some) c.spawn_workers.ensures.run_to_the_end refl c.push_reserved.ensures.items done
 
 pub returns-in-Err-clause-run_to_the_end : goal.returns-in-Err-clause-run_to_the_end
 returns-in-Err-clause-run_to_the_end g t c =

@@ -1,4 +1,0 @@
-use Rattle.tk_engine_execute.proofs.sinks.SenderSink.register.Goals as goal
-
-pub returns-in-Ok-clause-ok : goal.returns-in-Ok-clause-ok
-returns-in-Ok-clause-ok g c = c.in-Ok.ensures
