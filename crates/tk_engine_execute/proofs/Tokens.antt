@@ -1,9 +1,9 @@
 -- From what each worker left to what a run is.
-use Rattle.std.proofs.Common.{◌≡◌, ◌≢◌, ◌==◌, ℕ, zero, suc, ◌+◌, ◌-◌, ◌<◌, ◌≤◌, Bool, true, false, if◌then◌else◌, cond, List, [], ◌∷◌, ◌++◌, map, length, None, Some, slice_get, get_or, ap, sym, subst, ◌∙◌, refl, arith, inl, inr, ⊎_elim, eq-eqb, ne_eqb, rules}
+use Rattle.std.proofs.Common.{◌≡◌, ◌≢◌, ◌==◌, ℕ, zero, suc, ◌+◌, ◌-◌, ◌<◌, ◌≤◌, Bool, true, false, if◌then◌else◌, cond, List, [], ◌∷◌, ◌++◌, map, length, None, Some, slice_get, get_or, ap, sym, subst, ◌∙◌, refl, arith, inl, inr, ⊎_elim, eq-eqb, ne_eqb}
 use Rattle.std.specs.Prelude.{All, Option, IfSome, slice_index}
 use Rattle.std.proofs.lemmas.Option.{slice_get-get_or}
 use Rattle.std.proofs.lemmas.Bool.{cases_eq}
-use Rattle.std.proofs.lemmas.List.Elements.{All-head, All-tail, All-nil, All-weaker}
+use Rattle.std.proofs.lemmas.List.Elements.{All-head, All-tail}
 use Rattle.std.proofs.lemmas.List.{length-map}
 use Rattle.std.proofs.lemmas.List.Sums.{sum_by-cons}
 use Rattle.atomic_table.specs.Seated.{TableId}
@@ -29,7 +29,7 @@ use Rattle.tk_queue_session.specs.Emission.{entries_by}
 use Rattle.tk_engine_runs.proofs.Workers.{in_the_middle}
 use Rattle.tk_engine_execute.specs.declared.run_faults.RunFault.{RunFault}
 use Rattle.tk_engine_execute.specs.declared.run_faults.RunFault.TheVariants as fault
-use Rattle.tk_engine_execute.specs.Outcomes.{AllCompleted, CanClose, IsFirstFailure, IsFaultOfWorkers, IsFirstFault, HasEnded, IsFaultOfRunning, IsFaultOfExecute}
+use Rattle.tk_engine_execute.specs.Outcomes.{AllCompleted, CanClose, IsFirstFailure, IsFaultOfWorkers, IsFaultOfRunning}
 use Rattle.tk_engine_execute.specs.Workers.{RunUnits, AllDone, AreDone, IsDone}
 use Rattle.tk_engine_execute.proofs.Positions.{map_at, all_from}
 use Rattle.tk_engine_execute.proofs.Emitted.{emits_along}
@@ -198,50 +198,27 @@ tallied n closed es ls mix each others = record {
 
 -- ---- why a run has no record
 
-module _ (units : RunUnits) where
-  has_ended : (session : TableId) (o : WorkerEnd) → IsDone units session o.ended.worker o → HasEnded units.may units.fails o
-  has_ended session o done = record { emits = done.emits; failed = done.failed; stopped = done.stopped }
-
-  -- what the workers left that had a thread
-  left : (session : TableId) (workers : ℕ) (os : List WorkerEnd) (is_out_of_memory : Bool) (f : RunFault) → AreDone units session workers os → IsFirstFault workers os is_out_of_memory f → IsFaultOfRunning units.may units.fails workers f
-  left session workers os is_out_of_memory f done first = record {
-    worker_ends = os;
-    is_out_of_memory = is_out_of_memory;
-    each = All-weaker (λ o. IsDone units session o.ended.worker o) (HasEnded units.may units.fails) (has_ended session) os done.each;
-    few = done.few;
-    rising = done.rising;
-    first = first;
-  }
-
-  pub is_running : (session : TableId) (workers : ℕ) (a : EventCollector) (os : List WorkerEnd) (f : RunFault) → AreDone units session workers os → (a.lacks_thread ≡ true → length os < workers)
-      → IsFaultOfWorkers a os f → IsFaultOfRunning units.may units.fails workers f
-  is_running session workers a os fault.Workers done fewer why = absurd why
-  is_running session workers a os fault.Capacity done fewer why = absurd why
-  is_running session workers a os (fault.Engine unit cause) done fewer why = left session workers os a.is_out_of_memory (fault.Engine unit cause) done why
-  is_running session workers a os fault.Memory done fewer why = left session workers os true fault.Memory done (why, refl)
-  is_running session workers a os fault.Threads done fewer why = left session workers os a.is_out_of_memory fault.Threads done (why.0, why.1, fewer (why.2))
-
-module _ (may : ℕ → ℕ → ℕ → List Event → Type 0) (fails : ℕ → UnitFault → Type 0) where
-  -- memory was refused before a thread was started or after all were joined
-  pub out_of_memory : (workers : ℕ) (f : RunFault) → f ≡ fault.Memory → IsFaultOfRunning may fails workers f
-  out_of_memory workers f is = rw is (record { worker_ends = []; is_out_of_memory = true; each = All-nil _; few = All-nil _; rising = search rules; first = (tt, refl) })
-
-  first_may_fail : (os : List WorkerEnd) (u : ℕ) (why : UnitFault) → All (HasEnded may fails) os → IsFirstFailure os u why → fails u why
+module _ (units : RunUnits) (session : TableId) where
+  first_may_fail : (os : List WorkerEnd) (u : ℕ) (why : UnitFault) → All (λ o. IsDone units session o.ended.worker o) os → IsFirstFailure os u why → units.fails u why
   first_may_fail [] u why all h = absurd h
-  first_may_fail (o ∷ os) u why all (inl is) = let one = (All-head (HasEnded may fails) o os all).failed in subst (λ (f : Option FailedUnit). IfSome f (λ g. fails g.unit g.why)) is one
-  first_may_fail (o ∷ os) u why all (inr h) = first_may_fail os u why (All-tail (HasEnded may fails) o os all) h.1
+  first_may_fail (o ∷ os) u why all (inl is) = let one = (All-head (λ o. IsDone units session o.ended.worker o) o os all).failed in subst (λ (f : Option FailedUnit). IfSome f (λ g. units.fails g.unit g.why)) is one
+  first_may_fail (o ∷ os) u why all (inr h) = first_may_fail os u why (All-tail (λ o. IsDone units session o.ended.worker o) o os all) h.1
+
+  pub is_running : (workers : ℕ) (a : EventCollector) (os : List WorkerEnd) (f : RunFault) → AreDone units session workers os → IsFaultOfWorkers a os f → IsFaultOfRunning units.fails f
+  is_running workers a os fault.Workers done why = absurd why
+  is_running workers a os fault.Capacity done why = absurd why
+  is_running workers a os (fault.Engine unit cause) done why = first_may_fail os unit cause done.each why
+  is_running workers a os fault.Memory done why = tt
+  is_running workers a os fault.Threads done why = tt
+
+module _ (may_fail : ℕ → UnitFault → Type 0) where
+  -- memory was refused before a thread was started or after all were joined
+  pub out_of_memory : (f : RunFault) → f ≡ fault.Memory → IsFaultOfRunning may_fail f
+  out_of_memory f is = rw is tt
 
   -- the unit of the answer may fail so
-  pub unit_may_fail : (workers : ℕ) (f : RunFault) → IsFaultOfRunning may fails workers f → (u : ℕ) (why : UnitFault) → f ≡ fault.Engine u why → fails u why
-  unit_may_fail workers f h u why is = first_may_fail h.worker_ends u why h.each (subst (λ (r : RunFault). IsFirstFault workers h.worker_ends h.is_out_of_memory r) is h.first)
-
-  -- `execute` hands on the fault of a run
-  pub of_execute : (workers : ℕ) (f : RunFault) → IsFaultOfRunning may fails workers f → IsFaultOfExecute may fails workers f
-  of_execute workers fault.Workers h = tt
-  of_execute workers fault.Capacity h = tt
-  of_execute workers (fault.Engine unit cause) h = h
-  of_execute workers fault.Memory h = h
-  of_execute workers fault.Threads h = h
+  pub unit_may_fail : (f : RunFault) → IsFaultOfRunning may_fail f → (u : ℕ) (why : UnitFault) → f ≡ fault.Engine u why → may_fail u why
+  unit_may_fail f h u why is = subst (λ (r : RunFault). IsFaultOfRunning may_fail r) is h
 
 -- what a worker has in a run, it has in the middle
 pub tallied_whole : (n : ℕ) (numbers : List ℕ) (before after : List Event) (mid whole : List Entry) → whole ≡ entries_by 0 before ++ mid ++ entries_by 0 after → IsTallied n numbers mid → IsTallied n numbers whole

@@ -57,7 +57,8 @@ fn spawn_workers<'s, 'e, R: Threads + Wait + Sync, E: Engine>(
     ensures run_to_the_end { WorkersWereRun
         (run_units claim.now (E.may engine.now) (E.units engine.now) (E.fails engine.now))
         (vec_len unstarted.old.senders) collected.old collected.new }
-    ensures capacity { vec_capacity collected.old.worker_ends ≤ vec_capacity collected.new.worker_ends }
+    ensures capacity { vec_capacity collected.old.worker_ends
+        ≤ vec_capacity collected.new.worker_ends }
     ensures at_most { vec_len collected.new.worker_ends ≤ vec_len unstarted.old.senders }
 {
     let Some(handles) = unstarted.take() else {

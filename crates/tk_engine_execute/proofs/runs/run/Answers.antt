@@ -100,26 +100,16 @@ returns-clause-tally g c =
     IfOk-weaker c.finish.result _ _ (is_tallied c.args.workers c.in_ok-record.closed before after mid c.in_ok-record.«record».entries prefix c.in_ok-record.ensures.tally)
     (both c.finish.result _ _ c.finish.ensures.entries c.finish.ensures.closed)
 
-pub close-requires-clause-fewer : goal.close-requires-clause-fewer
-close-requires-clause-fewer g c κs within = λ missing.
-    let start = c.in_ok-start.ensures.start in
-    let many = start.many in
-    let collected = c.run_workers-collected.result in
-    let fewer = c.run_workers-collected.ensures.lacks_thread start.collector.started missing in
-    omega (arith, many, fewer, collected.worker_ends.ok.0)
-
 pub returns-in_err-start : goal.returns-in_err-start
 returns-in_err-start g c =
     let p = err_from_is_err_and c.from_residual.result c.from_residual.ensures.1 in
-    let may = g.E.Engine.may c.args.engine.now in
-    let fails = MayFail (g.E.Engine.units c.args.engine.now) (g.E.Engine.fails c.args.engine.now) in
-    rw (p.1, p.2) (record { run = tt; tally = tt; of_capacity = tt; running = out_of_memory may fails c.args.workers c.in_err-start.field-0.0 c.in_err-start.ensures.memory })
+    let may_fail = MayFail (g.E.Engine.units c.args.engine.now) (g.E.Engine.fails c.args.engine.now) in
+    rw (p.1, p.2) (record { run = tt; tally = tt; of_capacity = tt; running = out_of_memory may_fail c.in_err-start.field-0.0 c.in_err-start.ensures.memory })
 
 pub returns-clause-running : goal.returns-clause-running
 returns-clause-running g c =
-    let may = g.E.Engine.may c.args.engine.now in
-    let fails = MayFail (g.E.Engine.units c.args.engine.now) (g.E.Engine.fails c.args.engine.now) in
-    IfErr-weaker c.finish.result (λ f. f ≡ Memory) (IsFaultOfRunning may fails c.args.workers) (out_of_memory may fails c.args.workers) c.finish.ensures.memory
+    let may_fail = MayFail (g.E.Engine.units c.args.engine.now) (g.E.Engine.fails c.args.engine.now) in
+    IfErr-weaker c.finish.result (λ f. f ≡ Memory) (IsFaultOfRunning may_fail) (out_of_memory may_fail) c.finish.ensures.memory
 
 pub returns-clause-of_capacity : goal.returns-clause-of_capacity
 returns-clause-of_capacity g c =
