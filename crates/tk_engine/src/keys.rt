@@ -34,7 +34,7 @@ impl Keys {
 
     /// Returns the key of a node that is static, so that its number is its key, or whose key was
     /// noted.
-    pub fn of(&self, statics: usize, node: u32) -> u32
+    pub fn key_of(&self, statics: usize, node: u32) -> u32
         requires { (node < statics) ⊎ IsSome (kept self.now node) }
         ensures { key_found statics (kept self.now) node ≡ Some result }
     {

@@ -41,10 +41,8 @@ fn emit_step<R: Wait, S: Sink>(
         stamp: step.stamp,
         payload,
     };
-    match sink.emit(rt, event) {
-        Ok(()) => Ok(()),
-        Err(fault) => Err(UnitFault::Sink(fault)),
-    }
+    sink.emit(rt, event)?;
+    Ok(())
 }
 
 // Registers the node of a step below the descriptor with that key, and returns its key.
@@ -64,10 +62,7 @@ fn register<R: Wait, S: Sink>(
     let segment = plan.segment(step.node);
     let name = plan.name(step.node);
     let dtype = plan.dtype(step.node);
-    match sink.register(rt, above, segment, name, dtype, step.stamp) {
-        Ok(key) => Ok(key),
-        Err(fault) => Err(UnitFault::Sink(fault)),
-    }
+    Ok(sink.register(rt, above, segment, name, dtype, step.stamp)?)
 }
 
 // Plays a step: registers its node, or emits its event.
@@ -101,13 +96,13 @@ fn play<R: Wait, S: Sink>(
     let statics = plan.table().len();
     match step.act {
         Act::Register { parent } => {
-            let above = keys.of(statics, parent);
+            let above = keys.key_of(statics, parent);
             let key = register(rt, plan, step, above, sink)?;
             keys.note(step.node, key)?;
             Ok(())
         }
         Act::Skip | Act::Start | Act::Report(_) | Act::File(_) | Act::Finish => {
-            let key = keys.of(statics, step.node);
+            let key = keys.key_of(statics, step.node);
             emit_step(rt, alloc, plan, step, key, sink)?;
             Ok(())
         }
