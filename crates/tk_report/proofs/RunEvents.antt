@@ -20,7 +20,7 @@ use Rattle.tk_engine_laws.specs.Reports.{report_of_plan}
 use Rattle.tk_report.specs.declared.plan_runs.PlanRun.{PlanRun}
 use Rattle.tk_report.specs.declared.faults.ReportFault.{ReportFault}
 use Rattle.tk_report.specs.declared.faults.ReportFault.TheVariants.{Plan, Run, Device, Memory}
-use Rattle.tk_report.specs.Answers.{IsNotRun, IsPlanRun, IsExecuteFault, IsRunFault, IsRunOfPlan, IsRunReport, IsReported, MayWork, OfPlan, UnitMayFail, plan_text}
+use Rattle.tk_report.specs.Answers.{IsNotRun, IsPlanRun, IsRunFault, IsRunOfPlan, IsRunReport, IsReported, MayWork, OfPlan, UnitMayFail, plan_text}
 use Rattle.tk_report.specs.Faults.{fault_of_plan, fault_of_run}
 
 -- what is not out of the limits is within them
@@ -94,12 +94,12 @@ module _ (bytes : List ℕ) (workers : ℕ) (plan : Outline) (is : Answered (pla
   run fault why = (is.0, is.1, subst (λ (o : Outline). IsRunFault workers o fault) is.2 why)
 
   pub not_run : (fault : RunFault) → (fault ≡ runs.Workers → (workers ≡ 0) ⊎ (MAX_WORKERS < workers)) → (fault ≢ runs.Workers → MayWork workers) → fault ≢ runs.Capacity
-      → ((unit : ℕ) (why : UnitFault) → fault ≡ runs.Engine unit why → UnitMayFail plan unit why) → IsExecuteFault workers plan fault → IsPlanRun bytes workers (Err (fault_of_run fault))
-  not_run runs.Workers out may places failed answer = run runs.Workers (refused workers (out refl))
-  not_run runs.Capacity out may places failed answer = absurd (places refl)
-  not_run (runs.Engine unit why) out may places failed answer = run (runs.Engine unit why) (may (λ e. absurd cc), failed unit why refl, answer)
-  not_run runs.Memory out may places failed answer = tt
-  not_run runs.Threads out may places failed answer = run runs.Threads (may (λ e. absurd cc), answer)
+      → ((unit : ℕ) (why : UnitFault) → fault ≡ runs.Engine unit why → UnitMayFail plan unit why) → IsPlanRun bytes workers (Err (fault_of_run fault))
+  not_run runs.Workers out may places failed = run runs.Workers (refused workers (out refl))
+  not_run runs.Capacity out may places failed = absurd (places refl)
+  not_run (runs.Engine unit why) out may places failed = run (runs.Engine unit why) (may (λ e. absurd cc), failed unit why refl)
+  not_run runs.Memory out may places failed = tt
+  not_run runs.Threads out may places failed = run runs.Threads (may (λ e. absurd cc))
 
 -- a queue of the default capacity is opened
 pub has_places : (◌≡◌ {A = ℕ} 64 0) ⊎ (1024 < 64) → ⊥

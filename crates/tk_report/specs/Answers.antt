@@ -16,12 +16,11 @@ use Rattle.tk_engine_execute.specs.declared.run_faults.RunFault.{RunFault}
 use Rattle.tk_engine_execute.specs.declared.run_faults.RunFault.TheVariants as runs
 use Rattle.tk_engine_execute.specs.declared.engines.UnitFault.{UnitFault}
 use Rattle.tk_engine_execute.specs.Engines.{MayFail}
-use Rattle.tk_engine_execute.specs.Outcomes.{IsFaultOfExecute}
 use Rattle.tk_engine_execute.specs.Results.{IsTallied}
 use Rattle.tk_report_text.specs.Reports.{report_of_record}
 use Rattle.tk_engine_laws.specs.Laws.{IsKept}
 use Rattle.tk_engine_laws.specs.Reports.{report_of_plan}
-use Rattle.tk_engine_laws.specs.Scripts.{IsRunOf, may}
+use Rattle.tk_engine_laws.specs.Scripts.{IsRunOf}
 use Rattle.tk_engine.specs.Plays.{IsPlayFault}
 use Rattle.tk_report.specs.declared.plan_runs.PlanRun.{PlanRun}
 use Rattle.tk_report.specs.declared.plan_runs.TheConstants.{DEFAULT_CAPACITY}
@@ -55,22 +54,14 @@ MayWork workers = (0 < workers) × (workers ≤ MAX_WORKERS)
 abbrev pub UnitMayFail : Outline → ℕ → UnitFault → Type 0
 UnitMayFail plan = MayFail (length (units_of (forest plan.nodes))) (λ unit. IsPlayFault)
 
--- The fault is what `execute` says of the plan's engine: the first failure of a unit, in the order
--- of the workers that had a thread; without one, a worker had no thread.
-abbrev pub IsExecuteFault : ℕ → Outline → RunFault → Type 0
-IsExecuteFault workers plan =
-    IsFaultOfExecute (may plan.nodes plan.table) (UnitMayFail plan) workers
-
 -- Why a plan is not run. The number of workers is refused exactly where it is out of its limits,
 -- and the capacity never is. Where memory was refused, that is the report's own fault.
 abbrev pub IsRunFault : ℕ → Outline → RunFault → Type 0
 IsRunFault workers plan runs.Workers = ¬ MayWork workers
 IsRunFault workers plan runs.Capacity = ⊥
-IsRunFault workers plan (runs.Engine unit why) =
-    MayWork workers × UnitMayFail plan unit why × IsExecuteFault workers plan (runs.Engine unit why)
+IsRunFault workers plan (runs.Engine unit why) = MayWork workers × UnitMayFail plan unit why
 IsRunFault workers plan runs.Memory = ⊥
-IsRunFault workers plan runs.Threads =
-    MayWork workers × IsExecuteFault workers plan runs.Threads
+IsRunFault workers plan runs.Threads = MayWork workers
 
 -- the bytes are a plan that is not run by this number of workers, for this fault
 abbrev pub IsNotRun : List ℕ → ℕ → RunFault → Type 0

@@ -18,7 +18,7 @@ returns-in_err-results g c =
     let run = c.in_err-results.ensures in
     let plan = subst (λ (o : Outline). Answered (plan_in c.args.bytes.now) (Ok o)) (sym c.new-engine.ensures) c.in_ok-plan.ensures in
     rw (p.1, p.2) (not_run c.args.bytes.now c.args.workers c.new-engine.result plan fault (λ is. run.workers.0 (ap Err is)) (λ other. may_work c.args.workers (λ out. let bad = run.workers.1 out in other cc))
-    (λ is. let bad = run.capacity.0 (ap Err is) in has_places bad.1) (λ unit why is. run.unit unit why (ap Err is)) run.fault)
+    (λ is. let bad = run.capacity.0 (ap Err is) in has_places bad.1) (λ unit why is. run.unit unit why (ap Err is)))
 
 pub returns : goal.returns
 returns g c =
