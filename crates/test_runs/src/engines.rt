@@ -141,10 +141,8 @@ impl StepEngine<'_> {
 fn emit<R: Wait, S: Sink>(rt: &R, sink: &mut S, key: u32, stamp: u64) -> Result<(), UnitFault>
     ensures { Grew (S.view sink.old) (S.view sink.new) }
 {
-    match sink.emit(rt, start(key, stamp)) {
-        Ok(()) => Ok(()),
-        Err(fault) => Err(UnitFault::Sink(fault)),
-    }
+    sink.emit(rt, start(key, stamp))?;
+    Ok(())
 }
 
 // Fails with the number of the sink's worker, as the key of what it registers says, and with the unit's.
