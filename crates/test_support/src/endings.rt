@@ -8,6 +8,7 @@ pub enum Ending {
     Done,
     /// A request for memory was refused, and what the call was given is as it was.
     Refused,
+    /// It did something else.
     Wrong,
 }
 

@@ -16,7 +16,7 @@ use Rattle.tk_plan_units.proofs.Cuts.{piece_of}
 use Rattle.tk_plan_units.proofs.Knowing.{unit_known}
 use Rattle.tk_plan_units.proofs.Planning.{the_piece, unit_bound, unit_piece, script_within}
 
--- the script of a unit whose tree is this, with so many events of the root's script before it
+-- the script of a unit whose tree is t, which begins at this stamp of the root's script
 pub record IsScript (nodes : List NumberedNode) (unit : ℕ) (t : Tree) (first : ℕ) : Type 0 where
   pub limit : first + weight t ≤ MAX_EVENTS
   pub script : script_of (forest nodes) unit ≡ stamped first (moves t)
