@@ -49,7 +49,7 @@ def homes_of(parts: Sequence[str], sources: Sequence[Source]) -> Dict[str, str]:
     found = {}
     for source in sources:
         if source.crate in parts and source.path.endswith("/src/lib.rt"):
-            found.update({name: source.crate for name in own_names(source, parts)})
+            found.update({name: source.crate for name in sorted(own_names(source, parts))})
     return found
 
 
