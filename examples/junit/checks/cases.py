@@ -440,9 +440,16 @@ KIT_UNREGISTERED = lines(
     E|1|0|~|finish|ok
     """
 )
-KIT_UNREGISTERED_MESSAGES = [
-    f"testkit: nobody registered {it} before its first event" for it in ("[engine:e]/[t:2]", "[engine:e]/[d:late]", "[engine:e]/[d:1]/[t:3]")
-]
+
+
+def unregistered(unique_id: str) -> str:
+    """The line for an id of results whose first event is no registration."""
+    return f"testkit: nobody registered {unique_id} before its first event"
+
+
+KIT_UNREGISTERED_MESSAGES = [unregistered(it) for it in ("[engine:e]/[t:2]", "[engine:e]/[d:late]", "[engine:e]/[d:1]/[t:3]")]
+KIT_TWO_RESULTS = [HEADER, ENGINE, "N|C|[engine:e]/[c:1]|a container", "N|T|[engine:e]/[c:1]/[t:1]|a test", "N|T|[engine:e]/[t:2]|two"]
+KIT_TWO_RESULTS += ["E|1|3|~|start", "E|1|2|~|start"]
 
 KIT_THREADS = lines(
     """
@@ -472,6 +479,7 @@ def cases_of_kit() -> List[Expected]:
         Expected("kit-threads", KIT_THREADS),
         Expected("kit-times", [*ONE_TEST, "E|1|0|~|start", "E|1|0|~|finish|ok"]),
         Expected("kit-positions", ONE_TEST_BY_POSITIONS),
+        Expected("kit-two-results", KIT_TWO_RESULTS, [("whole", "true")] * 2, [unregistered("[engine:e]/[t:2]")]),
         Expected("kit-bad-path", [], NOT_WHOLE, NOT_RECORDED[:1]),
     ]
 

@@ -35,6 +35,7 @@ public class KitCases {
         CASES.put("kit-threads", KitCases::threads);
         CASES.put("kit-times", KitCases::times);
         CASES.put("kit-positions", KitCases::positions);
+        CASES.put("kit-two-results", KitCases::twoResults);
         CASES.put("kit-bad-path", (path, name) -> write("nowhere/at/all.record", name, root -> { }, (calls, root) -> calls.start(root)));
     }
 
@@ -138,5 +139,14 @@ public class KitCases {
         } finally {
             System.clearProperty("testkit.stamps");
         }
+    }
+
+    /** Results at the path of earlier ones, which have more events. The later ones have none of their root, and first one of no tree. */
+    private static void twoResults(String path, String name) {
+        write(path, name, ListenerCases::kindsTree, ListenerCases::kindsScript);
+        write(path, name, root -> root.add("c", "1", "a container", Type.CONTAINER).add("t", "1", "a test", Type.TEST), (calls, root) -> {
+            calls.start(new Node(root.getUniqueId().append("t", "2"), "two", Type.TEST));
+            calls.start(root.child(0).child(0));
+        });
     }
 }
