@@ -97,6 +97,7 @@ def check_exact(program: str) -> None:
     page = page_of(program, records.HEADER + records.nodes("T 1", "T 2", "T 3") + marks + records.events(f"1 3 {5 + 3 * beyond} skip|off"))
     stamps = [(it["start"], it["stop"]) for it in page.executions()]
     demand_equal(stamps, [(0, greatest), (str(beyond), str(2 * beyond)), (str(3 * beyond), str(3 * beyond))], "stamps")
+    demand_equal(page.data["origin"], "5", "origin")
     demand_equal(page.data["slowest"], [[1, str(beyond)], [0, greatest]], "slowest")
     demand_equal(page.data["gaps"], [[2, str(beyond)], [1, 1]], "gaps")
 

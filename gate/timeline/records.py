@@ -121,6 +121,20 @@ SAMPLES: List[Sample] = [
         gaps=[],
     ),
     Sample(
+        "a test that begins when the first row is taken again stands below the others",
+        HEADER
+        + nodes("T 1", "T 2", "T 3", "T 4")
+        + events("1 1 0 start", "1 2 1 start", "1 1 2 finish|ok", "1 3 3 start", "1 4 4 start")
+        + events("1 2 5 finish|ok", "1 3 6 finish|ok", "1 4 7 finish|ok"),
+        lanes=[(1, 0, 3)],
+        drawn=[
+            ("[x:1]", "successful", 0, 2, 0, 2, 0, 2, 0, 1),
+            ("[x:2]", "successful", 1, 5, 1, 5, 1, 5, 1, 1),
+            ("[x:3]", "successful", 3, 6, 3, 6, 3, 6, 0, 1),
+            ("[x:4]", "successful", 4, 7, 4, 7, 4, 7, 2, 1),
+        ],
+    ),
+    Sample(
         "a child that ends after its parent stands in no frame",
         HEADER + nodes("C c", "T c/1") + events("1 1 0 start", "1 2 1 start", "1 1 2 finish|ok", "1 2 3 finish|ok"),
         lanes=[(1, 0, 2)],
@@ -185,6 +199,31 @@ SAMPLES: List[Sample] = [
         ],
     ),
     Sample(
+        "a frame that needs two rows stands in none in which a test ends within it",
+        HEADER
+        + nodes("T 1", "T 2", "T 3", "C c", "T c/4")
+        + events("1 1 0 start", "1 2 1 start", "1 3 2 start", "1 2 3 finish|ok", "1 4 4 start", "1 3 5 finish|ok", "1 5 6 start")
+        + events("1 5 7 finish|ok", "1 4 8 finish|ok", "1 1 9 finish|ok"),
+        lanes=[(1, 0, 5)],
+        drawn=[
+            ("[x:2]", "successful", 1, 3, 1, 3, 1, 3, 1, 1),
+            ("[x:3]", "successful", 2, 5, 2, 5, 2, 5, 2, 1),
+            ("[x:4]", "successful", 6, 7, 6, 7, 6, 7, 4, 1),
+            ("[x:c]", "successful", 4, 8, 4, 8, 4, 8, 3, 2),
+            ("[x:1]", "successful", 0, 9, 0, 9, 0, 9, 0, 1),
+        ],
+    ),
+    Sample(
+        "a test that another worker finishes runs no more, so its own worker may have a gap",
+        HEADER
+        + nodes("T 1", "T 2")
+        + events("1 1 0 start", "2 1 3 finish|ok", "1 2 4 report|k|v", "1 2 5 start", "1 2 6 finish|ok"),
+        lanes=[(1, 0, 1)],
+        drawn=[("[x:1]", "successful", 0, 3, 0, 1, 0, 3, 0, 1), ("[x:2]", "successful", 5, 6, 3, 4, 5, 6, 0, 1)],
+        slowest=[(0, 3), (1, 1)],
+        gaps=[(1, 1)],
+    ),
+    Sample(
         "a container that is a test too",
         HEADER + nodes("B b", "T b/1") + events("1 1 0 start", "1 2 2 start", "1 2 5 finish|ok", "1 1 9 finish|ok"),
         lanes=[(1, 0, 2)],
@@ -207,12 +246,29 @@ SAMPLES: List[Sample] = [
         gaps=[(0, 1), (1, 1)],
     ),
     Sample(
+        "a registered test below an unknown parent stands in no frame of another engine",
+        HEADER
+        + nodes()
+        + events("1 0 0 start", "1 65536 1 dynamic|T|[engine:f]/[x:u]/[x:1]|d", "1 65536 2 start", "1 65536 3 finish|ok", "1 0 4 finish|ok"),
+        lanes=[(1, 0, 2)],
+        drawn=[("[x:1]", "successful", 2, 3, 2, 3, 2, 3, 1, 1), ("[engine:e]", "successful", 0, 4, 0, 4, 0, 4, 0, 1)],
+    ),
+    Sample(
+        "a test that never finishes stands in the frame of a container that doesn't either, up to the end of the last stamp's unit",
+        HEADER + nodes("C c", "T c/1") + events("1 1 0 start", "1 2 4 start", "1 2 4 report|k|start"),
+        lanes=[(1, 0, 2)],
+        drawn=[("[x:c]", "unfinished", 0, None, 0, None, 0, 5, 0, 2), ("[x:1]", "unfinished", 4, None, 1, None, 4, 5, 1, 1)],
+        slowest=[(1, 0)],
+        gaps=[(1, 4)],
+        end=5,
+    ),
+    Sample(
         "a second start of a key ends the first bar, and a finish without a start has none",
         HEADER
         + nodes("T 1", "T 2")
-        + events("1 2 0 finish|ok", "1 1 1 start", "1 1 3 start", "1 1 4 finish|fail")
-        + events("1 1 6 start", "1 1 7 skip|off", "1 1 9 finish|ok"),
-        lanes=[(1, 0, 1)],
+        + events("3 2 0 finish|ok", "3 1 1 start", "3 1 3 start", "3 1 4 finish|fail")
+        + events("3 1 6 start", "3 1 7 skip|off", "3 1 9 finish|ok"),
+        lanes=[(3, 0, 1)],
         drawn=[
             ("[x:1]", "failed", 3, 4, 2, 3, 3, 4, 0, 1),
             ("[x:1]", "skipped", 7, 7, 5, 5, 7, 7, 0, 1),
@@ -258,7 +314,7 @@ SAMPLES: List[Sample] = [
     ),
     Sample(
         "stamps that fall in a worker at an event of no execution are no times",
-        HEADER + nodes("T 1") + events("1 1 2 report", "1 1 1 start", "1 1 3 finish|ok"),
+        HEADER + nodes("T 1") + events("3 1 2 report", "3 1 1 start", "3 1 3 finish|ok"),
         times=False,
         drawn=[("[x:1]", "successful", 1, 3, 1, 2, 1, 2, 0, 1)],
     ),
