@@ -26,6 +26,10 @@ enum Amount {
 struct Idle;
 
 impl Body for Idle {
+    ghost use Rattle.std.specs.Prelude.{◌≡◌};
+
+    ghost may_run = { λ body before after outcome. after ≡ before };
+
     fn run<R: Wait, S: Sink, K: UnitRun>(
         &self,
         _rt: &R,
