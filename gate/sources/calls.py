@@ -37,7 +37,7 @@ class Function:
 
 def calls_in(source: Source) -> Set[str]:
     """What the code of a file calls, or may call."""
-    paths = set(re.findall(r"\b\w+::\w+\b", source.body))
+    paths = {f"{first}::{last}" for first, last in re.findall(r"\b(\w+)(?=::(\w+))", source.body)}
     methods = set(re.findall(r"\.\w+\(", source.body))
     names = {found[2] for found in re.finditer(r"\b(fn )?(\w+)\b", source.body) if not found[1]}
     return paths | methods | names | {f"{source.path} {path}" for path in paths if path.startswith("Self::")}

@@ -37,12 +37,12 @@ def edit_fault(tree: Tree, path: str) -> str:
     file = old = ""
     for line in tree.text(path).split("\n"):
         word, _, rest = line.partition(": ")
-        if word == "file":
+        if word == "file" and not old:
             file = rest
             if not re.fullmatch(r"src/[\w/]+\.rt", file):
                 return f"{file} is no source"
             texts.setdefault(file, (tree.text(f"{crate}/{file}"),) * 2)
-        elif word == "old":
+        elif word == "old" and not old:
             old = rest
         elif word in ("new", "new:") and file and old:
             before, now = texts[file]

@@ -24,10 +24,9 @@ class Facade:
 
 
 def names_of_use(path: str) -> Set[str]:
-    """The names that a `pub use` of this path gives out."""
-    inner = path.partition("{")[2].rpartition("}")[0] if "{" in path else path
-    words = [item.split(" as ")[-1].split("::")[-1].strip() for item in inner.split(",")]
-    return {word for word in words if word}
+    """The names that a `pub use` of this path gives out. (What ends with `::` stands before braces.)"""
+    items = [item.strip() for item in re.split("[{},]", path)]
+    return {item.split(" as ")[-1].split("::")[-1] for item in items if item and not item.endswith("::")}
 
 
 def uses_of(source: Source) -> Dict[str, str]:

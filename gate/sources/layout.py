@@ -53,13 +53,13 @@ def module_faults(tree: Tree) -> List[str]:
     """Files that no root names, and files in a folder of src that its module doesn't name: nothing reads them."""
     faults = []
     for path in tree.files:
-        found = re.fullmatch(r"crates/\w+/(?:(src)((?:/\w+)*)|specs|proofs)/(\w+)\.(rt|antt)", path)
+        found = re.fullmatch(r"crates/\w+/(?:(src)((?:/[^/]+)*)|specs|proofs)/([^/]+)\.(rt|antt)", path)
         if not found or bool(found[1]) != (found[4] == "rt") or not found[2] and found[3] in ("lib", "main", "Lib"):
             continue
         folder = os.path.dirname(path)
         roots = [f"{folder}.rt"] if found[2] else [f"{folder}/{it}" for it in (("lib.rt", "main.rt") if found[1] else ("Lib.antt",))]
         root = "\n".join(tree.text(it) for it in roots)
-        if not re.search(rf"^(pub )?mod {found[3]};?\s*$", root, re.MULTILINE):
+        if not re.search(rf"^(pub )?mod {re.escape(found[3])};?\s*$", root, re.MULTILINE):
             faults.append(f"{path} is named by no root")
     return faults
 

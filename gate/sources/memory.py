@@ -12,10 +12,10 @@ from typing import List, Sequence, Set
 from sources import Source
 
 COMMENT = "// No allocation failed here:"
-MADE = re.compile(r"(?:\(|^\s*|\breturn )AllocError\b(?!::)|::Memory\b")
+MADE = re.compile(r"(?:\(|= |^\s*|\breturn )(?:\w+::)*AllocError\b(?!::)|::Memory\b")
 HANDED = re.compile(r"\b(Memory|OutOfMemory|AllocError)\b")
 TEST = re.compile(r"\bif let\b.*\b(Memory|AllocError)\b|\bis_memory\(\)")
-FROM = re.compile(r"\bFrom<(AllocError|AllocFailed<)")
+FROM = re.compile(r"^impl(?:<.*>)? From<(AllocError|AllocFailed<)")
 PATTERN = re.compile(r"\bmatches!|\bif let\b")
 
 
