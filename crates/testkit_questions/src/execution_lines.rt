@@ -1,36 +1,44 @@
 //! Executions as lines, written in pieces.
-ghost use Rattle.std.specs.Prelude.{◌≡◌, ◌++◌, ◌∷◌, [], true, OnErr, OnOk};
+ghost use Rattle.std.specs.Prelude.{◌≡◌, ◌≤◌, length, true, OnErr, OnOk};
 ghost use Rattle.std.specs.Io.KnownBytes.{Appends};
 ghost use Rattle.std.specs.List.{flat_map};
 ghost use Rattle.tk_streams.specs.Stream.{AppendsPrefix};
 ghost use Rattle.testkit_questions.specs.Answers.{ending_name, execution_line};
-ghost use Rattle.testkit_questions.specs.Characters.{blank};
+ghost use Rattle.testkit_questions.specs.declared.execution_lines.TheConstants.{ENDING_NAME};
 ghost use Rattle.tk_streams.specs.Pieces.{Adds, outgoing};
 
 use tk_query::{Ending, Execution, ExecutionIter};
-use tk_streams::{Broken, Piece, Target};
+use tk_streams::{Broken, Piece, ShortLine, Target};
 
-// The name of an ending, and a blank.
-fn ending_field(ending: Ending) -> &'static str
-    ensures { result.now ≡ ending_name ending ++ blank ∷ [] }
+// How many bytes the name of an ending has at most.
+const ENDING_NAME: usize = 9;
+
+fn ending_name(ending: Ending) -> &'static str
+    ensures name { result.now ≡ ending_name ending }
+    ensures length { length result.now ≤ ENDING_NAME }
 {
     match ending {
-        Ending::Skipped => "skipped ",
-        Ending::Aborted => "aborted ",
-        Ending::Successful => "succeeded ",
-        Ending::Failed => "failed ",
+        Ending::Skipped => "skipped",
+        Ending::Aborted => "aborted",
+        Ending::Successful => "succeeded",
+        Ending::Failed => "failed",
     }
 }
 
-fn put_execution<T: Target>(piece: &mut Piece, target: &mut T, execution: Execution)
-    ensures { Adds (outgoing (T.contents target.old) (T.broken target.old) piece.old)
-        (outgoing (T.contents target.new) (T.broken target.new) piece.new)
-        (execution_line execution) }
+// Makes the line of an execution, from its end to its start.
+fn line_of(execution: Execution) -> ShortLine
+    ensures { result ≡ execution_line execution }
 {
-    piece.put_number(target, execution.key as u64, b' ');
-    piece.put(target, ending_field(execution.ending).as_bytes());
-    piece.put_number(target, execution.start, b' ');
-    piece.put_number(target, execution.stop, b'\n');
+    let mut line = ShortLine::new();
+    line.push_front(b'\n');
+    line.push_front_number(execution.stop);
+    line.push_front(b' ');
+    line.push_front_number(execution.start);
+    line.push_front(b' ');
+    line.push_front_text(ending_name(execution.ending));
+    line.push_front(b' ');
+    line.push_front_number(execution.key as u64);
+    line
 }
 
 fn put_executions<T: Target>(piece: &mut Piece, target: &mut T, executions: ExecutionIter<'_>)
@@ -39,7 +47,7 @@ fn put_executions<T: Target>(piece: &mut Piece, target: &mut T, executions: Exec
         (flat_map execution_line executions.entry) }
 {
     'executions: for execution in executions {
-        put_execution(piece, target, execution);
+        piece.put(target, line_of(execution).as_bytes());
     }
 }
 

@@ -5,11 +5,13 @@ mod device_streams;
 pub mod laws;
 mod memory_streams;
 mod pieces;
+mod short_lines;
 mod streams;
 mod transfers;
 
 pub use device_streams::{StdSource, StdTarget};
 pub use memory_streams::{ByteSource, ByteTarget};
 pub use pieces::{MAX_DIGITS, Piece};
+pub use short_lines::{SHORT_LINE, ShortLine};
 pub use streams::{Broken, Source, Target};
 pub use transfers::{CHUNK, LoadFault, load, write_all};
