@@ -22,6 +22,6 @@ pub use tk_record_columns::{
     Record, STATISTICS, Selection, Statistics,
 };
 pub use tk_streams::{
-    Broken, ByteSource, ByteTarget, CHUNK, LoadFault, MAX_DIGITS, Piece, Source, StdSource,
-    StdTarget, Target, load, write_all,
+    Broken, ByteSource, ByteTarget, CHUNK, LoadFault, MAX_DIGITS, Piece, SHORT_LINE, ShortLine,
+    Source, StdSource, StdTarget, Target, load, write_all,
 };

@@ -4,7 +4,7 @@ use test_support::{OneByteSource, OneByteTarget, is_cut, record_of, two_tests, t
 use testkit_questions::{AskFault, ask};
 use tk_record::{ReadFault, Record};
 use tk_report_text::write_report_of;
-use tk_streams::ByteTarget;
+use tk_streams::{ByteTarget, Source};
 
 // Whether the answer is that the device of the record broke.
 fn is_device(answer: &Result<bool, AskFault>) -> bool {
@@ -39,6 +39,34 @@ fn reading_at_each_call(rt: HostRuntime) -> Result<(), AllocError> {
         assert!(rt; asking_breaks(rt.alloc(), words.as_slice(), call), "{call}");
     }
     assert!(rt; !asking_breaks(rt.alloc(), words.as_slice(), two_tests().len() + 1));
+    Ok(())
+}
+
+// Whether a question about a text is answered without a read after the one that gives its end.
+fn ends_once(alloc: Global, words: &[String], text: &[u8]) -> bool {
+    let mut source = OneByteSource::new(text, text.len() + 1);
+    let mut target = ByteTarget::new(alloc);
+    let answer = ask(alloc, words, &mut source, &mut target);
+    drop(answer);
+    !source.is_broken()
+}
+
+/// A source that breaks after its end is not asked again, also at a text that is refused.
+#[test]
+fn reading_the_end_once(rt: HostRuntime) -> Result<(), AllocError> {
+    let words = vec![in rt.alloc(); String::from_str(rt.alloc(), "stats")?]?;
+    let words = words.as_slice();
+    let text = two_tests();
+    assert!(rt; ends_once(rt.alloc(), words, text), "a record");
+    assert!(rt; ends_once(rt.alloc(), words, b"x\n"), "no header");
+    assert!(rt;
+        ends_once(rt.alloc(), words, &text[..text.len() - 1]),
+        "a line cut off"
+    );
+    assert!(rt;
+        ends_once(rt.alloc(), words, b"testkit-record|"),
+        "a header cut off"
+    );
     Ok(())
 }
 

@@ -1,5 +1,10 @@
 //! The jobs of the program.
-ghost use Rattle.std.specs.Prelude.{◌≡◌, ◌⊎◌, map, string_bytes, IfErr, IfOk, OnOk};
+ghost use Rattle.std.specs.Prelude.{◌≡◌, ◌+◌, ◌⊎◌, map, string_bytes, Err, IfErr, IfOk, OnOk};
+ghost use Rattle.tk_record.specs.declared.reading.TheConstants.{MAX_TEXT};
+ghost use Rattle.tk_streams.specs.Stream.{ConsumesUpTo};
+ghost use Rattle.tk_streams.specs.declared.transfers.LoadFault.{LoadFault};
+ghost use Rattle.tk_streams.specs.declared.transfers.TheConstants.{CHUNK};
+ghost use Rattle.testkit_program.specs.declared.faults.Fault.TheVariants.{Load};
 ghost use Rattle.testkit_program.specs.Jobs.{IsBroken, IsDone, IsInWriting, IsNotPerformed, IsOfWords, IsPerformed, IsPlanReported, IsRefused, devices, transfer};
 ghost use Rattle.testkit_command_line.specs.declared.jobs.Job.TheVariants as jobs;
 
@@ -35,6 +40,8 @@ fn report_plan<R: Threads + Wait + Sync, S: Source, T: Target>(
         IsInWriting fault ⊎ (target.new ≡ target.old)) }
     ensures device { IfErr result (IsBroken (devices (S.broken source.new) (T.broken target.new))
         (transfer (S.remaining source.old) (T.contents target.old) (T.contents target.new))) }
+    ensures stops { (fault : LoadFault) → result ≡ Err (Load fault)
+        → ConsumesUpTo (MAX_TEXT + CHUNK) (S.remaining source.old) (S.remaining source.new) }
 {
     let bytes = match load(alloc, source, MAX_TEXT) {
         Ok(bytes) => bytes,
@@ -80,6 +87,8 @@ pub fn do_job<R: Threads + Wait + Sync, S: Source, T: Target>(
         IsInWriting fault ⊎ (target.new ≡ target.old)) }
     ensures device { IfErr result (IsBroken (devices (S.broken source.new) (T.broken target.new))
         (transfer (S.remaining source.old) (T.contents target.old) (T.contents target.new))) }
+    ensures stops { (fault : LoadFault) → result ≡ Err (Load fault)
+        → ConsumesUpTo (MAX_TEXT + CHUNK) (S.remaining source.old) (S.remaining source.new) }
 {
     match job {
         Job::Ask(question) => match ask(alloc, question, source, target) {
@@ -118,6 +127,8 @@ pub fn perform<R: Threads + Wait + Sync, S: Source, T: Target>(
         IsInWriting fault ⊎ (target.new ≡ target.old)) }
     ensures device { IfErr result (IsBroken (devices (S.broken source.new) (T.broken target.new))
         (transfer (S.remaining source.old) (T.contents target.old) (T.contents target.new))) }
+    ensures stops { (fault : LoadFault) → result ≡ Err (Load fault)
+        → ConsumesUpTo (MAX_TEXT + CHUNK) (S.remaining source.old) (S.remaining source.new) }
 {
     let job = job_of(alloc, words)?;
     do_job(rt, alloc, job, source, target)

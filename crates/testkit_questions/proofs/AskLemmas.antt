@@ -1,5 +1,5 @@
 -- An answer, from what reading and writing gave.
-use Rattle.std.proofs.Common.{sym, ◌≡◌, ◌⊎◌, ℕ, Bool, List, Option, Some, None, Result, Ok, Err, refl, subst, inl, inr}
+use Rattle.std.proofs.Common.{sym, ◌≡◌, ◌⊎◌, arith, [], ℕ, Bool, List, Option, Some, None, Result, Ok, Err, refl, subst, inl, inr}
 use Rattle.std.specs.Prelude.{IfErr, IfOk, IfSome, IsErrOf, OnOk}
 use Rattle.tk_record_columns.specs.Recorded.{Recorded}
 use Rattle.tk_record.specs.Text.{IsAnswer}
@@ -9,7 +9,8 @@ use Rattle.testkit_questions.specs.declared.faults.AskFault.TheVariants as fault
 use Rattle.tk_record.specs.declared.reading.ReadFault.{ReadFault}
 use Rattle.tk_record.specs.declared.reading.ReadFault.TheVariants as read
 use Rattle.testkit_questions.specs.Questions.{Asks, IsAskedAs}
-use Rattle.testkit_questions.specs.Asked.{AddsAnswer, AddsPrefix, IsOfWords, IsReadRefusal, IsRefusal, IsReply, Written}
+use Rattle.std.specs.Io.KnownBytes.{Consumes, IsAtEnd}
+use Rattle.testkit_questions.specs.Asked.{AddsAnswer, AddsPrefix, IsOfWords, IsReadInTime, IsReadRefusal, IsRefusal, IsReply, Written}
 
 -- the fault that a result has
 pub same_fault : {T : Type 0} (a b : AskFault) → IsErrOf {T = T} (Err a) b → a ≡ b
@@ -141,3 +142,15 @@ no_source words fault source asked e = subst (λ (f : AskFault). IsAskedAs words
 
 pub no_target : (input : Option (List ℕ)) (fault : AskFault) → IsReadRefusal input fault → ¬ (IsErrOf {T = Bool} (Err fault) faults.Device)
 no_target input fault h e = subst (λ (f : AskFault). IsReadRefusal input f) (same_fault fault faults.Device e) h
+
+-- how far the source was read: not at all, to the end of a record text, or until the reader stopped
+none_taken : (bytes : Option (List ℕ)) → Consumes bytes bytes []
+none_taken None = tt
+none_taken (Some bytes) = refl
+
+pub unread_in_time : (bytes : Option (List ℕ)) → IsReadInTime bytes bytes
+unread_in_time bytes = inl ([], none_taken bytes, omega arith)
+
+pub whole_in_time : (old new : Option (List ℕ)) (r : Recorded) → IsAtEnd new
+    → IfSome old (λ input. IsAnswer input (Ok r)) → IsReadInTime old new
+whole_in_time old new r end answer = inr (end, if_known old _ _ (λ input h. h.0) answer)

@@ -1,10 +1,13 @@
 -- What asking a question does: it reads a record text to its end, and writes the answer.
-use Rattle.std.specs.Prelude.{◌≢◌, ℕ, Bool, List, Option, Result, Ok, Err, IfSome}
-use Rattle.std.specs.Io.KnownBytes.{Appends}
+use Rattle.std.specs.Prelude.{◌≢◌, ◌≤◌, ◌+◌, ◌⊎◌, ℕ, Bool, List, length, Option, Result, Ok, Err}
+use Rattle.std.specs.Prelude.{IfSome}
+use Rattle.std.specs.Io.KnownBytes.{Appends, IsAtEnd}
 use Rattle.tk_record_columns.specs.Recorded.{Recorded}
-use Rattle.tk_streams.specs.Stream.{AppendsPrefix}
+use Rattle.tk_streams.specs.Stream.{AppendsPrefix, ConsumesUpTo}
+use Rattle.tk_streams.specs.declared.transfers.TheConstants.{CHUNK}
 use Rattle.tk_query_conditions.specs.declared.faults.CondFault.TheVariants as conditions
 use Rattle.tk_record.specs.declared.reading.ReadFault.TheVariants as read
+use Rattle.tk_record.specs.declared.reading.TheConstants.{MAX_TEXT}
 use Rattle.tk_record.specs.Text.{IsAnswer}
 use Rattle.testkit_questions.specs.declared.faults.AskFault.{AskFault}
 use Rattle.testkit_questions.specs.declared.faults.AskFault.TheVariants as faults
@@ -52,6 +55,13 @@ IsReply question r w (Err faults.Device) =
     × IsAnswerTo question r is_yes output × AppendsPrefix w.old w.new output
 IsReply question r w (Err faults.Memory) = Unit {0}
 IsReply question r w (Err _) = ⊥
+
+-- No more was taken of the source than a record text may have and one read past that, or all of an
+-- input that has no more than a record text may have.
+abbrev pub IsReadInTime : (old new : Option (List ℕ)) → Type 0
+IsReadInTime old new =
+    ConsumesUpTo (MAX_TEXT + CHUNK) old new
+    ⊎ (IsAtEnd new × IfSome old (λ input. length input ≤ MAX_TEXT))
 
 -- the fault is of the words alone
 abbrev pub IsOfWords : AskFault → Type 0

@@ -2,12 +2,11 @@
 ghost use Rattle.std.specs.Prelude.{◌≡◌, ◌⊎◌, true, Ok, Err, IfErr, IfOk, IfSome, IsErrOf, OnErr, OnOk, ◌+◌, map, string_bytes};
 ghost use Rattle.std.specs.Io.KnownBytes.{IsAtEnd};
 ghost use Rattle.tk_record.specs.Text.{IsAnswer};
-ghost use Rattle.tk_record.specs.declared.reading.ReadFault.{ReadFault};
 ghost use Rattle.tk_record.specs.declared.reading.ReadFault.TheVariants as read_faults;
 ghost use Rattle.tk_record.specs.declared.reading.TheConstants.{MAX_TEXT};
 ghost use Rattle.tk_streams.specs.Stream.{ConsumesUpTo};
 ghost use Rattle.tk_streams.specs.declared.transfers.TheConstants.{CHUNK};
-ghost use Rattle.testkit_questions.specs.Asked.{AddsAnswer, AddsPrefix, IsOfWords, IsReadRefusal, IsRefusal, IsReply, written};
+ghost use Rattle.testkit_questions.specs.Asked.{AddsAnswer, AddsPrefix, IsOfWords, IsReadInTime, IsReadRefusal, IsRefusal, IsReply, written};
 
 use crate::answers::reply_to;
 use crate::faults::AskFault;
@@ -84,8 +83,7 @@ pub fn ask<S: Source, T: Target>(
         (T.contents target.old) (T.contents target.new)) }
     ensures source_device { result ≡ Err (AskFault.Read read_faults.Device)
         → S.broken source.new ≡ true }
-    ensures stops { (fault : ReadFault) → result ≡ Err (AskFault.Read fault)
-        → ConsumesUpTo (MAX_TEXT + CHUNK) (S.remaining source.old) (S.remaining source.new) }
+    ensures stops { IsReadInTime (S.remaining source.old) (S.remaining source.new) }
 {
     let question = read_question(alloc, words)?;
     let recorded = read_input(alloc, source)?;

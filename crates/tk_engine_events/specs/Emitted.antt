@@ -7,6 +7,8 @@ use Rattle.tk_queue_session.specs.Emission.{registrations}
 use Rattle.tk_queue_session.specs.Registering.{RegisterRequest, child_of, parent_of}
 use Rattle.tk_queue_session.specs.Senders.{SenderView}
 use Rattle.tk_engine_execute.specs.Engines.{IsSameSender}
+use Rattle.tk_engine_execute.specs.declared.engines.UnitFault.{UnitFault}
+use Rattle.tk_engine_execute.specs.declared.engines.UnitFault.TheVariants.{Sink, Memory, Own}
 use Rattle.tk_engine_events.specs.Events.{registered}
 
 -- b is a after it emitted these events, in this order, and no others
@@ -27,3 +29,9 @@ pub record Registered (a b : SenderView) (ask : RegisterRequest) (key : ℕ) : T
   pub parent : parent_of a ask.parent ≡ Some above
   pub next : key ≡ registered_key a.worker (registrations a.sent)
   pub emitted : Emitted a b (registered key ask.stamp (child_of ask above) ∷ [])
+
+-- a unit's fault that is a refusal of its sink
+abbrev pub IsOfSink : UnitFault → Type 0
+IsOfSink (Sink why) = Unit {0}
+IsOfSink Memory = ⊥
+IsOfSink (Own number) = ⊥

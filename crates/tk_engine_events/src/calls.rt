@@ -1,8 +1,8 @@
 //! Calls that emit one event each.
-ghost use Rattle.std.specs.Prelude.{◌≡◌, [], ◌∷◌, IfOk, OnOk, OnErr};
+ghost use Rattle.std.specs.Prelude.{◌≡◌, [], ◌∷◌, IfOk, OnOk, IfErr, OnErr};
 ghost use Rattle.tk_engine_execute.specs.Grown.{Grew};
 ghost use Rattle.tk_engine_events.specs.Events.{file_published, finished, reported, skipped, started};
-ghost use Rattle.tk_engine_events.specs.Emitted.{Emitted, Registered};
+ghost use Rattle.tk_engine_events.specs.Emitted.{Emitted, Registered, IsOfSink};
 
 use crate::events::{file_published, finished, reported, skipped, started};
 use std::sync::Wait;
@@ -18,6 +18,7 @@ use tk_ids::{DType, Segment, Text};
 pub fn emit<R: Wait, S: Sink>(rt: &R, event: Event, sink: &mut S) -> Result<(), UnitFault>
     ensures ok { OnOk result (Emitted (S.view sink.old) (S.view sink.new) (event ∷ [])) }
     ensures err { OnErr result (S.view sink.new ≡ S.view sink.old) }
+    ensures fault { IfErr result IsOfSink }
     ensures grew { Grew (S.view sink.old) (S.view sink.new) }
 {
     sink.emit(rt, event)?;
@@ -32,6 +33,7 @@ pub fn start<R: Wait, S: Sink>(rt: &R, key: u32, stamp: u64, sink: &mut S) -> Re
     ensures ok { OnOk result
         (Emitted (S.view sink.old) (S.view sink.new) (started key stamp ∷ [])) }
     ensures err { OnErr result (S.view sink.new ≡ S.view sink.old) }
+    ensures fault { IfErr result IsOfSink }
     ensures grew { Grew (S.view sink.old) (S.view sink.new) }
 {
     emit(rt, started(key, stamp), sink)
@@ -52,6 +54,7 @@ pub fn finish<R: Wait, S: Sink>(
     ensures ok { OnOk result
         (Emitted (S.view sink.old) (S.view sink.new) (finished key stamp status message ∷ [])) }
     ensures err { OnErr result (S.view sink.new ≡ S.view sink.old) }
+    ensures fault { IfErr result IsOfSink }
     ensures grew { Grew (S.view sink.old) (S.view sink.new) }
 {
     emit(rt, finished(key, stamp, status, message), sink)
@@ -71,6 +74,7 @@ pub fn skip<R: Wait, S: Sink>(
     ensures ok { OnOk result
         (Emitted (S.view sink.old) (S.view sink.new) (skipped key stamp reason ∷ [])) }
     ensures err { OnErr result (S.view sink.new ≡ S.view sink.old) }
+    ensures fault { IfErr result IsOfSink }
     ensures grew { Grew (S.view sink.old) (S.view sink.new) }
 {
     emit(rt, skipped(key, stamp, reason), sink)
@@ -90,6 +94,7 @@ pub fn report<R: Wait, S: Sink>(
     ensures ok { OnOk result
         (Emitted (S.view sink.old) (S.view sink.new) (reported key stamp pairs ∷ [])) }
     ensures err { OnErr result (S.view sink.new ≡ S.view sink.old) }
+    ensures fault { IfErr result IsOfSink }
     ensures grew { Grew (S.view sink.old) (S.view sink.new) }
 {
     emit(rt, reported(key, stamp, pairs), sink)
@@ -109,6 +114,7 @@ pub fn publish_file<R: Wait, S: Sink>(
     ensures ok { OnOk result
         (Emitted (S.view sink.old) (S.view sink.new) (file_published key stamp path ∷ [])) }
     ensures err { OnErr result (S.view sink.new ≡ S.view sink.old) }
+    ensures fault { IfErr result IsOfSink }
     ensures grew { Grew (S.view sink.old) (S.view sink.new) }
 {
     emit(rt, file_published(key, stamp, path), sink)
@@ -142,6 +148,7 @@ pub fn register<R: Wait, S: Sink>(
           stamp = stamp;
         }) key) }
     ensures err { OnErr result (S.view sink.new ≡ S.view sink.old) }
+    ensures fault { IfErr result IsOfSink }
     ensures grew { Grew (S.view sink.old) (S.view sink.new) }
 {
     Ok(sink.register(rt, parent, segment, name, dtype, stamp)?)

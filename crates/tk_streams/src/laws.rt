@@ -1,7 +1,6 @@
 //! The laws of the limits: each as a number.
 ghost use Rattle.std.specs.Prelude.{◌≡◌};
-ghost use Rattle.tk_streams.specs.declared.pieces.TheConstants.{MAX_DIGITS};
-ghost use Rattle.tk_streams.specs.declared.short_lines.TheConstants.{SHORT_LINE};
+ghost use Rattle.tk_streams.specs.declared.short_lines.TheConstants.{MAX_DIGITS, SHORT_LINE};
 ghost use Rattle.tk_streams.specs.declared.transfers.TheConstants.{CHUNK};
 
 /// A reader asks a source for 65,536 bytes at a time, a number of 64 bits has at most twenty

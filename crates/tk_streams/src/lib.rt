@@ -11,7 +11,7 @@ mod transfers;
 
 pub use device_streams::{StdSource, StdTarget};
 pub use memory_streams::{ByteSource, ByteTarget};
-pub use pieces::{MAX_DIGITS, Piece};
-pub use short_lines::{SHORT_LINE, ShortLine};
+pub use pieces::Piece;
+pub use short_lines::{MAX_DIGITS, SHORT_LINE, ShortLine};
 pub use streams::{Broken, Source, Target};
 pub use transfers::{CHUNK, LoadFault, load, write_all};

@@ -1,6 +1,5 @@
 //! Bytes on their way to a target, in pieces.
 ghost use Rattle.std.specs.Prelude.{◌≡◌, ◌<◌, length, ◌++◌, ◌∷◌, ℕ, List, [], Option, true, false, if◌then◌else◌, OnErr, OnOk};
-ghost use Rattle.std.specs.Fmt.{decimal};
 ghost use Rattle.std.specs.Io.KnownBytes.{Appends};
 ghost use Rattle.tk_streams.specs.Stream.{AppendsPrefix};
 ghost use Rattle.tk_streams.specs.declared.pieces.TheConstants.{PIECE};
@@ -8,14 +7,10 @@ ghost use Rattle.tk_streams.specs.Pieces.{Adds, IsSent, IsWrittenTo, outgoing};
 
 use crate::streams::{Broken, Target};
 use crate::transfers::write_all;
-use itoa::write_digits;
 use std::marker::Model;
 
 // How many bytes a piece holds.
 const PIECE: usize = 65_536;
-
-/// How many decimal digits a `u64` has at most.
-pub const MAX_DIGITS: usize = 20;
 
 /// Bytes that wait to be written, at most 64 KiB. Contracts see those that wait.
 ///
@@ -124,18 +119,6 @@ impl Piece {
     {
         self.make_room(target);
         self.push(byte);
-    }
-
-    /// Adds a number, and the character after it.
-    pub fn put_number<T: Target>(&mut self, target: &mut T, number: u64, after: u8)
-        ensures { Adds (outgoing (T.contents target.old) (T.broken target.old) self.old)
-            (outgoing (T.contents target.new) (T.broken target.new) self.new)
-            (decimal number ++ after ∷ []) }
-    {
-        let mut text = [0u8; MAX_DIGITS + 1];
-        text[MAX_DIGITS] = after;
-        let start = write_digits(number, &mut text, MAX_DIGITS);
-        self.put(target, &text[start..]);
     }
 
     /// Writes what waits at the end.

@@ -1,8 +1,8 @@
-use Rattle.std.proofs.Common.{Err, ap, inr, map, refl, string_bytes}
+use Rattle.std.proofs.Common.{Err, ap, inl, inr, map, refl, string_bytes}
 use Rattle.std.proofs.lemmas.Result.{err_from_is_err_and}
 use Rattle.tk_record.specs.declared.reading.ReadFault.TheVariants as read
 use Rattle.testkit_questions.specs.Asked.{written}
-use Rattle.testkit_questions.proofs.AskLemmas.{always_ok, no_device, no_source, no_target, not_of_words, refused_read, refused_words, replied, replied_no_source, replied_partly, replied_refusal, replied_unread, replied_unwritten, same_fault}
+use Rattle.testkit_questions.proofs.AskLemmas.{always_ok, no_device, no_source, no_target, not_of_words, refused_read, refused_words, replied, replied_no_source, replied_partly, replied_refusal, replied_unread, replied_unwritten, same_fault, unread_in_time, whole_in_time}
 use Rattle.testkit_questions.proofs.asking.ask.Goals as goal
 
 pub returns-in_err-question : goal.returns-in_err-question
@@ -20,7 +20,7 @@ returns-in_err-question g c =
       device = λ e. absurd (no_device words fault asked e);
       prefix = λ e. absurd (no_device words fault asked e);
       source_device = λ e. absurd (no_source words fault read.Device asked e);
-      stops = λ source e. absurd (no_source words fault source asked e);
+      stops = unread_in_time _;
     })
 
 pub returns-in_err-recorded : goal.returns-in_err-recorded
@@ -38,7 +38,7 @@ returns-in_err-recorded g c =
       device = λ e. absurd (no_target _ fault refused e);
       prefix = λ e. absurd (no_target _ fault refused e);
       source_device = λ e. c.in_err-recorded.ensures.device (ap (λ f. Err f) (same_fault _ _ e));
-      stops = λ _ _. c.in_err-recorded.ensures.stops;
+      stops = inl c.in_err-recorded.ensures.stops;
     })
 
 pub returns : goal.returns
@@ -58,5 +58,5 @@ returns g c =
       device = c.write_answer.ensures.device;
       prefix = λ e. replied_partly words input _ _ w result asks c.in_ok-recorded.ensures.answer reply e;
       source_device = λ e. absurd (replied_no_source _ _ w result read.Device reply e);
-      stops = λ source e. absurd (replied_no_source _ _ w result source reply e);
+      stops = whole_in_time _ _ _ c.in_ok-recorded.ensures.end c.in_ok-recorded.ensures.answer;
     }
