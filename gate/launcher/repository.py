@@ -126,7 +126,7 @@ class Repository:
         os.makedirs(f"{self.at}/tools")
         os.mkdir(f"{self.at}/.git")
         shutil.copy(f"{TOP}/testkit", self.at)
-        for name in ("build_program", "crates.py"):
+        for name in ("build_program", "crates.py", "proofs.py"):
             shutil.copy(f"{TOP}/tools/{name}", f"{self.at}/tools")
         self.write("crates.txt", CRATES)
         self.write("bin/rt", RT)
