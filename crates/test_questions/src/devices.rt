@@ -57,12 +57,10 @@ fn reading_the_end_once(rt: HostRuntime) -> Result<(), AllocError> {
     let words = vec![in rt.alloc(); String::from_str(rt.alloc(), "stats")?]?;
     let words = words.as_slice();
     let text = two_tests();
+    let cut = &text[..text.len().saturating_sub(1)];
     assert!(rt; ends_once(rt.alloc(), words, text), "a record");
     assert!(rt; ends_once(rt.alloc(), words, b"x\n"), "no header");
-    assert!(rt;
-        ends_once(rt.alloc(), words, &text[..text.len() - 1]),
-        "a line cut off"
-    );
+    assert!(rt; ends_once(rt.alloc(), words, cut), "a line cut off");
     assert!(rt;
         ends_once(rt.alloc(), words, b"testkit-record|"),
         "a header cut off"
