@@ -43,13 +43,9 @@ impl Segment {
         requires value { IsNonEmptyText value.now }
         ensures { IfOk result (λ s. s ≡ record { tag = tag.now; value = value.now }) }
     {
-        let tag_len = tag.len();
-        let mut text = String::with_capacity(alloc, tag_len.saturating_add(value.len()))?;
-        text.push_str(tag)?;
-        text.push_str(value)?;
         Ok(Segment {
-            text: Text::from(text),
-            tag_len,
+            text: Text::join(alloc, tag, value)?,
+            tag_len: tag.len(),
         })
     }
 

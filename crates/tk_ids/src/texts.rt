@@ -1,5 +1,5 @@
 //! Texts that contracts see as their bytes.
-ghost use Rattle.std.specs.Prelude.{◌≡◌, ◌==◌, ℕ, List, length, IfOk, string_bytes, IsTrue, IsUtf8};
+ghost use Rattle.std.specs.Prelude.{◌≡◌, ◌==◌, ◌++◌, ℕ, List, length, IfOk, string_bytes, IsTrue, IsUtf8};
 ghost use Rattle.std.specs.Prelude.{nat_eq, Some, refl};
 ghost use Rattle.std.specs.Ordering.{nat_cmp};
 ghost use Rattle.std.specs.Cmp;
@@ -7,41 +7,77 @@ ghost use Rattle.std.specs.Cmp.Lexicographic.{pointwise, slice_cmp, bytes_decide
 ghost use Rattle.std.specs.Hash as fed;
 ghost use Rattle.std.proofs.Common.{ap};
 
+use arrayvec::ArrayString;
 use std::alloc::{AllocError, Global};
 use std::cmp::Ordering;
 use std::fmt;
 use std::hash::{Hash, Hasher};
 use std::marker::Model;
 
+/// How many bytes a text may have to stand in the value itself.
+const INLINE_BYTES: usize = 16;
+
+// Where the bytes of a text are kept.
+#[derive(Drop)]
+enum Storage {
+    // In the value itself, which then has no memory of its own.
+    Inline(ArrayString<INLINE_BYTES>),
+    Heap(String),
+}
+
 /// A text in UTF-8. Contracts see it as the list of its bytes.
 #[derive(Drop)]
 pub struct Text {
-    string: String,
+    storage: Storage,
 }
 
 impl Model for Text {
+    ghost use Rattle.std.specs.Prelude.{ℕ, List};
+    ghost use Rattle.tk_ids.specs.Texts.{stored_bytes};
+
     ghost Value = { List ℕ };
 
-    ghost view = { λ t. string_bytes t.string };
+    ghost view = { λ t. stored_bytes t.storage };
 }
 
 impl Text {
-    /// Copies a text.
+    /// Copies a text. One of at most 16 bytes needs no memory.
     pub fn copy(alloc: Global, text: &str) -> Result<Text, AllocError>
         ensures { IfOk result (λ t. t ≡ text.now) }
     {
-        Ok(Text {
-            string: String::from_str(alloc, text)?,
-        })
+        let storage = match ArrayString::from(text) {
+            Ok(string) => Storage::Inline(string),
+            Err(_) => Storage::Heap(String::from_str(alloc, text)?),
+        };
+        Ok(Text { storage })
     }
 
-    /// Makes a text of bytes that are UTF-8.
+    /// Copies two texts, one after the other.
+    pub(crate) fn join(alloc: Global, first: &str, second: &str) -> Result<Text, AllocError>
+        ensures { IfOk result (λ t. t ≡ first.now ++ second.now) }
+    {
+        let length = first.len().saturating_add(second.len());
+        if length <= INLINE_BYTES {
+            let mut string = ArrayString::new();
+            string.push_str(first);
+            string.push_str(second);
+            return Ok(Text {
+                storage: Storage::Inline(string),
+            });
+        }
+        let mut string = String::with_capacity(alloc, length)?;
+        string.push_str(first)?;
+        string.push_str(second)?;
+        Ok(Text::from(string))
+    }
+
+    /// Makes a text of bytes that are UTF-8, which it keeps.
     pub fn from_utf8(bytes: Vec<u8>) -> Text
         requires { IsUtf8 bytes.items }
         ensures { result ≡ bytes.items }
     {
         match String::from_utf8(bytes) {
-            Ok(string) => Text { string },
+            Ok(string) => Text::from(string),
             Err(_) => unreachable!(),
         }
     }
@@ -50,30 +86,35 @@ impl Text {
     pub fn as_str(&self) -> &str
         ensures { result.now ≡ self.now }
     {
-        self.string.as_str()
+        match &self.storage {
+            Storage::Inline(string) => string.as_str(),
+            Storage::Heap(string) => string.as_str(),
+        }
     }
 
     /// How many bytes the text has.
     pub fn len(&self) -> usize
         ensures { result ≡ length self.now }
     {
-        self.string.len()
+        self.as_str().len()
     }
 
     /// Whether the text has no byte.
     pub fn is_empty(&self) -> bool
         ensures { result ≡ (length self.now == 0) }
     {
-        self.string.is_empty()
+        self.as_str().is_empty()
     }
 
     /// Another text with the same bytes.
     pub fn try_clone(&self) -> Result<Text, AllocError>
         ensures { IfOk result (λ t. t ≡ self.now) }
     {
-        Ok(Text {
-            string: self.string.clone()?,
-        })
+        let storage = match &self.storage {
+            Storage::Inline(string) => Storage::Inline(*string),
+            Storage::Heap(string) => Storage::Heap(string.clone()?),
+        };
+        Ok(Text { storage })
     }
 }
 
@@ -88,7 +129,9 @@ impl From<String> for Text {
     ghost from_gives = { λ s t. t ≡ string_bytes s };
 
     fn from(string: String) -> Text {
-        Text { string }
+        Text {
+            storage: Storage::Heap(string),
+        }
     }
 }
 
