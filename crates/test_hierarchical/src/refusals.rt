@@ -5,7 +5,10 @@ use std::alloc::Global;
 use std::sync::Wait;
 use std::thread::Threads;
 use test_support::{Ending, is_done, refused_if};
-use tk_engine::{RunFault, SinkFault, UnitFault, execute};
+use tk_engine::{RunFault, Sink, SinkFault, UnitFault, execute};
+use tk_engine_hierarchical::{Hierarchical, Outcome, Reporter, Tests, UnitRun};
+use tk_ids::{Segment, Text};
+use tk_plan::{PlanNode, build_plan};
 use tk_queue::RegisterFault;
 
 fn is_unit_refused(fault: &UnitFault) -> bool {
@@ -42,4 +45,50 @@ fn run<R: Threads + Wait + Sync>(rt: &R, alloc: Global) -> Ending {
 #[test]
 fn a_run_of_bodies(rt: HostRuntime) {
     assert!(rt; is_done(|| run(&rt, rt.alloc())));
+}
+
+// A test that asks once more for what was refused: a descriptor that isn't there has no id.
+#[derive(Drop)]
+struct Insisting;
+
+impl Tests for Insisting {
+    fn run<R: Wait, S: Sink, K: UnitRun>(
+        &self,
+        rt: &R,
+        alloc: Global,
+        _key: u32,
+        reporter: &mut Reporter<'_, S, K>,
+    ) -> Result<Outcome, UnitFault> {
+        let segment = Segment::new(alloc, "d", "1")?;
+        let reason = Text::copy(alloc, "off")?;
+        let again = Text::copy(alloc, "off")?;
+        if reporter
+            .skip_test(rt, alloc, &segment, "d", reason)
+            .is_err()
+        {
+            reporter.skip_test(rt, alloc, &segment, "d", again)?;
+        }
+        Ok(Outcome::Successful)
+    }
+}
+
+fn insist<R: Threads + Wait + Sync>(rt: &R, alloc: Global) -> Ending {
+    let Ok(plan) = build_plan(alloc, &PlanNode::test(alloc, ("t", "t"), "t")) else {
+        return Ending::Refused;
+    };
+    let Ok(engine) = Hierarchical::new(alloc, plan, Insisting) else {
+        return Ending::Refused;
+    };
+    let ran = execute(rt, alloc, &engine, 1, 4);
+    let ending = match &ran {
+        Ok(_) => Ending::Done,
+        Err(fault) => of_fault(fault),
+    };
+    drop(ran);
+    ending
+}
+
+#[test]
+fn what_was_refused_is_asked_for_again(rt: HostRuntime) {
+    assert!(rt; is_done(|| insist(&rt, rt.alloc())));
 }

@@ -7,3 +7,4 @@ pub mod Recorded
 pub mod Reported
 pub mod Running
 pub mod Shaped
+pub mod Stepped

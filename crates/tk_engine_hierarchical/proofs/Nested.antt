@@ -20,7 +20,6 @@ use Rattle.tk_engine_lifecycle.proofs.Whole.{kept_run, turn_whole}
 use Rattle.tk_engine_hierarchical.specs.Laws.{UnitsNest}
 use Rattle.tk_engine_hierarchical.specs.Nesting.{BelongsTo, EachFinishes, EventsNest}
 use Rattle.tk_engine_hierarchical.specs.Shapes.{ShapeView, frame, may_emit}
-use Rattle.tk_engine_hierarchical.specs.declared.tests.Outcome.{Outcome}
 use Rattle.tk_engine_hierarchical.proofs.Nesting.{all_both, nest-append, nesting_none}
 
 -- the key of each event in the middle has an event in the list
@@ -65,10 +64,10 @@ none_of_zero w (e ∷ es) low =
     let fails : (0 == w) ≡ false = grind (arith, tests, low) in
     other_first w (entry_by 0 e) (entries_by 0 es) fails ∙ none_of_zero w es low
 
-pub units_nest : (s : ShapeView) (may_end : ℕ → Outcome → Type 0) (workers : ℕ) (r : Recorded) → UnitsKeepLifecycle (frame s) (may_emit s may_end)
-    → IsRun (may_emit s may_end) s.table s.before s.after s.units workers r → IsRecord r → UnitsNest r
-units_nest s may_end workers r units run lawful w low =
-    let M : ℕ → ℕ → ℕ → List Event → Type 0 = may_emit s may_end in
+pub units_nest : (s : ShapeView) (may_step : Event → Type 0) (workers : ℕ) (r : Recorded) → UnitsKeepLifecycle (frame s) (may_emit s may_step)
+    → IsRun (may_emit s may_step) s.table s.before s.after s.units workers r → IsRecord r → UnitsNest r
+units_nest s may_step workers r units run lawful w low =
+    let M : ℕ → ℕ → ℕ → List Event → Type 0 = may_emit s may_step in
     let c = kept_run (frame s) M workers r units run lawful in
     let t = turned M s.units workers run.mid run.shared in
     let whole : Recorded = record { table = s.table; entries = r.entries } in

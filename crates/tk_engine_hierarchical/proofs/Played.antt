@@ -1,5 +1,5 @@
 -- What a unit has played after one event more.
-use Rattle.std.proofs.Common.{◌≡◌, ◌<◌, ◌+◌, ◌-◌, ◌==◌, ◌&&◌, ◌||◌, ℕ, zero, suc, ◌⊎◌, inl, inr, ⊎_elim, Bool, true, false, List, [], ◌∷◌, ◌++◌, length, take, Some, slice_get, All, refl, sym, ap, ap₂, ◌∙◌, subst, append_assoc, append-nil, arith, tests}
+use Rattle.std.proofs.Common.{◌≡◌, ◌<◌, ◌≤◌, ◌+◌, ◌-◌, ◌==◌, ◌&&◌, ◌||◌, ℕ, zero, suc, ◌⊎◌, inl, inr, ⊎_elim, Bool, true, false, List, [], ◌∷◌, ◌++◌, length, take, Some, slice_get, All, refl, sym, ap, ap₂, ◌∙◌, subst, append_assoc, append-nil, arith, tests}
 use Rattle.std.specs.List.{list_any}
 use Rattle.std.specs.Prelude.{Ok}
 use Rattle.std.proofs.lemmas.List.{map-append}
@@ -11,17 +11,17 @@ use Rattle.tk_events.specs.Event.{kind_code}
 use Rattle.tk_events.specs.declared.events.Event.{Event}
 use Rattle.tk_events.specs.declared.events.Entry.{Entry}
 use Rattle.tk_events.specs.declared.kinds.Kind.{Kind}
-use Rattle.tk_events.specs.declared.kinds.Kind.TheVariants.{Dynamic, Finished, Skipped, Started}
+use Rattle.tk_events.specs.declared.kinds.Kind.TheVariants.{Dynamic, File, Finished, Reporting, Skipped, Started}
 use Rattle.tk_queue_session.specs.Emission.{entries_by, entry_by}
 use Rattle.tk_queue_session.specs.Registering.{IsRegisteredAs, RegisterRequest, child_of, registration}
 use Rattle.tk_queue_session.specs.Senders.{SenderView, sends}
+use Rattle.tk_query_lifecycle.specs.KeepsLifecycle.{is_step}
 use Rattle.tk_query_lifecycle.specs.Lifecycle.{has_event, is_event}
 use Rattle.tk_engine_hierarchical.specs.Covered.{IsCovered, IsKeyBelow}
 use Rattle.tk_ids.specs.IdText.{IsBelow}
-use Rattle.tk_engine_hierarchical.specs.Endings.{EndsAsItMay}
 use Rattle.tk_engine_hierarchical.specs.Reporting.{publishes}
+use Rattle.tk_engine_hierarchical.specs.Steps.{StepsAs}
 use Rattle.tk_engine_hierarchical.specs.Units.{HasPlayed}
-use Rattle.tk_engine_hierarchical.specs.declared.tests.Outcome.{Outcome}
 
 or_assoc : (a b c : Bool) → (a || (b || c)) ≡ ((a || b) || c)
 or_assoc true b c = refl
@@ -73,17 +73,13 @@ covered_by table a b more key (inr h) = inr (record { above = h.above; skipped =
 
 -- ---- one event more
 
-pub dynamic_is_not : Dynamic ≡ Finished → ⊥
-dynamic_is_not e = cc
-
-pub started_is_not : Started ≡ Finished → ⊥
-started_is_not e = cc
-
-pub skipped_is_not : Skipped ≡ Finished → ⊥
-skipped_is_not e = cc
-
-pub published_is_not : (k : Kind) → publishes k ≡ true → k ≡ Finished → ⊥
-published_is_not k p e = let bad : true ≡ false = sym p ∙ ap publishes e in cc
+pub published_is_no_step : (k : Kind) → publishes k ≡ true → is_step k ≡ false
+published_is_no_step Reporting e = refl
+published_is_no_step File e = refl
+published_is_no_step Dynamic e = cc
+published_is_no_step Skipped e = cc
+published_is_no_step Started e = cc
+published_is_no_step Finished e = cc
 
 below_or_here : (key next : ℕ) → key < next + 1 → (key < next) ⊎ (key ≡ next)
 below_or_here key next h = grind (arith, tests, h)
@@ -91,12 +87,12 @@ below_or_here key next h = grind (arith, tests, h)
 below_or_after : (key next : ℕ) → (key < next) ⊎ ((key ≡ next) ⊎ (next < key))
 below_or_after key next = grind (arith, tests)
 
-module _ (table : List Descriptor) (may_end : ℕ → Outcome → Type 0) (first : ℕ) (start : SenderView) where
-  pub played_none : (now : SenderView) (next : ℕ) → now ≡ start → next ≡ first → HasPlayed table may_end first next start now
+module _ (table : List Descriptor) (may_step : Event → Type 0) (first : ℕ) (start : SenderView) where
+  pub played_none : (now : SenderView) (next : ℕ) → now ≡ start → next ≡ first → HasPlayed table may_step first next start now
   played_none now next same low = record {
     events = [];
     sent = ap (λ (s : SenderView). s.sent) same ∙ sym (append-nil start.sent);
-    each_holds = All-nil (EndsAsItMay table may_end);
+    each_holds = All-nil (StepsAs table may_step);
     all_hold = λ key a b. absurd (omega (arith, a, b, low));
   }
 
@@ -106,31 +102,36 @@ module _ (table : List Descriptor) (may_end : ℕ → Outcome → Type 0) (first
   all_more : (P : Event → Type 0) (l : List Event) (e : Event) → All P l → P e → All P (l ++ e ∷ [])
   all_more P l e h x = All-append P l (e ∷ []) h (All-cons P e [] x (All-nil P))
 
-  pub played_more : (now : SenderView) (next : ℕ) (e : Event) → HasPlayed table may_end first next start now → EndsAsItMay table may_end e
-      → HasPlayed table may_end first next start (sends now e)
+  pub played_more : (now : SenderView) (next : ℕ) (e : Event) → HasPlayed table may_step first next start now → StepsAs table may_step e
+      → HasPlayed table may_step first next start (sends now e)
   played_more now next e d ends = record {
     events = d.events ++ e ∷ [];
     sent = sent_more now.sent start.sent d.events e d.sent;
-    each_holds = all_more (EndsAsItMay table may_end) d.events e d.each_holds ends;
+    each_holds = all_more (StepsAs table may_step) d.events e d.each_holds ends;
     all_hold = λ key a b. covered_by table (entries_by start.worker d.events) (entries_by start.worker (d.events ++ e ∷ []))
         (λ kind k h. any_kept kind k start.worker d.events (e ∷ []) h) key (d.all_hold key a b);
   }
 
-  not_finish : (e : Event) (k : Kind) → e.kind ≡ k → (k ≡ Finished → ⊥) → EndsAsItMay table may_end e
-  not_finish e k is n f = absurd (n (sym is ∙ f))
+  no_step : (e : Event) (k : Kind) → e.kind ≡ k → is_step k ≡ false → StepsAs table may_step e
+  no_step e k is n low step = let bad : true ≡ false = sym step ∙ ap is_step is ∙ n in cc
 
-  -- an event that finishes nothing
-  pub played_plain : (now : SenderView) (next : ℕ) (e : Event) (k : Kind) → e.kind ≡ k → (k ≡ Finished → ⊥) → HasPlayed table may_end first next start now
-      → HasPlayed table may_end first next start (sends now e)
-  played_plain now next e k is n d = played_more now next e d (not_finish e k is n)
+  -- an event that is no step
+  pub played_plain : (now : SenderView) (next : ℕ) (e : Event) (k : Kind) → e.kind ≡ k → is_step k ≡ false → HasPlayed table may_step first next start now
+      → HasPlayed table may_step first next start (sends now e)
+  played_plain now next e k is n d = played_more now next e d (no_step e k is n)
+
+  -- an event of a dynamic key
+  pub played_dynamic : (now : SenderView) (next : ℕ) (e : Event) → length table ≤ e.key → HasPlayed table may_step first next start now
+      → HasPlayed table may_step first next start (sends now e)
+  played_dynamic now next e past d = played_more now next e d (λ low step. absurd (omega (arith, low, past)))
 
   -- the next key starts
   pub played_start : (old now : SenderView) (next after key : ℕ) (e : Event) → now ≡ sends old e → after ≡ key + 1 → key ≡ next → e.kind ≡ Started → e.key ≡ key
-      → HasPlayed table may_end first next start old → HasPlayed table may_end first after start now
+      → may_step e → HasPlayed table may_step first next start old → HasPlayed table may_step first after start now
   unfolding played_more
-  played_start old now next after key e sent more same kind own d =
-      let m = played_more old next e d (not_finish e Started kind started_is_not) in
-      subst (λ s. HasPlayed table may_end first after start s) (sym sent) (record {
+  played_start old now next after key e sent more same kind own may d =
+      let m = played_more old next e d (λ low step. may) in
+      subst (λ s. HasPlayed table may_step first after start s) (sym sent) (record {
         events = m.events;
         sent = m.sent;
         each_holds = m.each_holds;
@@ -144,11 +145,11 @@ module _ (table : List Descriptor) (may_end : ℕ → Outcome → Type 0) (first
   -- the next key is skipped, and with it those below it
   pub played_skip : (old now : SenderView) (next after key : ℕ) (id : List SegmentView) (e : Event) → now ≡ sends old e → key ≡ next → e.kind ≡ Skipped → e.key ≡ key
       → slice_get (ids_of table) key ≡ Some id → ((other : ℕ) → key < other → other < after → IsKeyBelow table id other)
-      → HasPlayed table may_end first next start old → HasPlayed table may_end first after start now
+      → may_step e → HasPlayed table may_step first next start old → HasPlayed table may_step first after start now
   unfolding played_more
-  played_skip old now next after key id e sent same kind own its below d =
-      let m = played_more old next e d (not_finish e Skipped kind skipped_is_not) in
-      subst (λ s. HasPlayed table may_end first after start s) (sym sent) (record {
+  played_skip old now next after key id e sent same kind own its below may d =
+      let m = played_more old next e d (λ low step. may) in
+      subst (λ s. HasPlayed table may_step first after start s) (sym sent) (record {
         events = m.events;
         sent = m.sent;
         each_holds = m.each_holds;
@@ -170,9 +171,9 @@ module _ (table : List Descriptor) (may_end : ℕ → Outcome → Type 0) (first
 
   -- a registration
   pub played_registration : (old now : SenderView) (next key : ℕ) (ask : RegisterRequest) → IsRegisteredAs old now ask (Ok key)
-      → HasPlayed table may_end first next start old → HasPlayed table may_end first next start now
+      → HasPlayed table may_step first next start old → HasPlayed table may_step first next start now
   played_registration old now next key ask a d =
-      subst (λ s. HasPlayed table may_end first next start s) (sym a.5) (played_plain old next (registration old ask.stamp (child_of ask a.0)) Dynamic refl dynamic_is_not d)
+      subst (λ s. HasPlayed table may_step first next start s) (sym a.5) (played_plain old next (registration old ask.stamp (child_of ask a.0)) Dynamic refl refl d)
 
 -- ---- ids below one another
 

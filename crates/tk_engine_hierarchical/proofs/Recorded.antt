@@ -5,6 +5,8 @@ use Rattle.std.proofs.lemmas.List.{map-append}
 use Rattle.std.proofs.lemmas.List.Elements.{All-nil, All-cons, All-head, All-tail, All-append, All-weaker}
 use Rattle.std.proofs.lemmas.List.Sums.{length-filter}
 use Rattle.std.proofs.lemmas.List.Recursion.{is_sum_by}
+use Rattle.std.proofs.lemmas.Option.{slice_get_within}
+use Rattle.tk_plan_units.specs.Planned.{Outline}
 use Rattle.tk_ids.specs.declared.descriptors.Descriptor.{Descriptor}
 use Rattle.tk_events.specs.Event.{kind_code}
 use Rattle.tk_events.specs.declared.events.Event.{Event}
@@ -20,9 +22,10 @@ use Rattle.tk_engine_claim.specs.Claims.{once_below, times}
 use Rattle.tk_engine_runs.specs.Run.{Emits, IsRun, IsShared}
 use Rattle.tk_engine_lifecycle.proofs.Apart.{other_first, own_first}
 use Rattle.tk_engine_hierarchical.specs.Covered.{IsCovered}
-use Rattle.tk_engine_hierarchical.specs.Endings.{EndsAsItMay}
-use Rattle.tk_engine_hierarchical.specs.Laws.{HasOutcomes, HasTurn, HaveTurns}
+use Rattle.tk_engine_hierarchical.specs.Endings.{EndsAsItMay, IsStaticTest}
+use Rattle.tk_engine_hierarchical.specs.Laws.{FollowsPlan, HasOutcomes, HasTurn, HaveTurns}
 use Rattle.tk_engine_hierarchical.specs.Shapes.{HavePlaces, IsInUnit, ShapeView, may_emit}
+use Rattle.tk_engine_hierarchical.specs.Steps.{FitsPlan, StepsAs}
 use Rattle.tk_engine_hierarchical.specs.declared.tests.Outcome.{Outcome}
 use Rattle.tk_engine_hierarchical.proofs.Played.{any-append, any_kept, covered_by, or_cases, or_left, or_right}
 
@@ -184,17 +187,30 @@ around_none : (Q : Event → Type 0) (es : List Event) → All (λ (x : Entry). 
 around_none Q [] = All-nil (λ (x : Entry). 0 < x.worker → Q x.event)
 around_none Q (e ∷ es) = All-cons (λ (x : Entry). 0 < x.worker → Q x.event) (entry_by 0 e) (entries_by 0 es) (λ h. absurd (omega (arith, h))) (around_none Q es)
 
-pub has_outcomes : (s : ShapeView) (may_end : ℕ → Outcome → Type 0) (before after : List Event) (units workers : ℕ) (r : Recorded)
-    → IsRun (may_emit s may_end) s.table before after units workers r → HasOutcomes may_end r
-has_outcomes s may_end before after units workers r run =
-    let Q : Event → Type 0 = EndsAsItMay s.table may_end in
+pub has_steps : (s : ShapeView) (may_step : Event → Type 0) (before after : List Event) (units workers : ℕ) (r : Recorded)
+    → IsRun (may_emit s may_step) s.table before after units workers r
+    → All (λ (x : Entry). 0 < x.worker → StepsAs r.table may_step x.event) r.entries
+has_steps s may_step before after units workers r run =
+    let Q : Event → Type 0 = StepsAs s.table may_step in
     let P : Entry → Type 0 = λ x. 0 < x.worker → Q x.event in
-    let mid = all_emitted (may_emit s may_end) Q (λ u w k l m. m.ended) units workers run.mid run.shared in
-    subst (λ t. All (λ (x : Entry). 0 < x.worker → EndsAsItMay t may_end x.event) r.entries) (sym run.over)
+    let mid = all_emitted (may_emit s may_step) Q (λ u w k l m. m.steps) units workers run.mid run.shared in
+    subst (λ t. All (λ (x : Entry). 0 < x.worker → StepsAs t may_step x.event) r.entries) (sym run.over)
     (subst (All P) (sym run.whole)
     (All-append P (entries_by 0 before ++ run.mid) (entries_by 0 after)
     (All-append P (entries_by 0 before) run.mid (around_none Q before) (All-weaker (λ (x : Entry). Q x.event) P (λ x q h. q) run.mid mid))
     (around_none Q after)))
+
+-- a step that the plan has for a static test is a finish with an outcome that the test may have
+ends_so : (plan : Outline) (table : List Descriptor) (may_end : ℕ → Outcome → Type 0) (e : Event) → table ≡ plan.table
+    → StepsAs table (FitsPlan plan may_end) e → EndsAsItMay table may_end e
+ends_so plan table may_end e same steps kind t =
+    (steps (slice_get_within table e.key t.descriptor t.described) (ap is_step kind)).fits.ended kind
+    (subst (λ (l : List Descriptor). IsStaticTest l e.key) same t)
+
+pub has_outcomes : (plan : Outline) (may_end : ℕ → Outcome → Type 0) (r : Recorded) → r.table ≡ plan.table → FollowsPlan plan may_end r → HasOutcomes may_end r
+has_outcomes plan may_end r same follows =
+    All-weaker (λ (x : Entry). 0 < x.worker → StepsAs r.table (FitsPlan plan may_end) x.event) (λ (x : Entry). 0 < x.worker → EndsAsItMay r.table may_end x.event)
+    (λ x h low. ends_so plan r.table may_end x.event same (h low)) r.entries follows
 
 -- ---- turns
 
@@ -265,11 +281,11 @@ first_part : (a b : Bool) → (a && not b) ≡ true → a ≡ true
 first_part true b e = refl
 first_part false b e = cc
 
-pub have_turns : (s : ShapeView) (may_end : ℕ → Outcome → Type 0) (after : List Event) (workers : ℕ) (r : Recorded) → HavePlaces s
-    → IsRun (may_emit s may_end) s.table s.before after s.units workers r
+pub have_turns : (s : ShapeView) (may_step : Event → Type 0) (after : List Event) (workers : ℕ) (r : Recorded) → HavePlaces s
+    → IsRun (may_emit s may_step) s.table s.before after s.units workers r
     → KeepsLifecycle r → HaveTurns r
-have_turns s may_end after workers r places run keeps key low =
-    let M : ℕ → ℕ → ℕ → List Event → Type 0 = may_emit s may_end in
+have_turns s may_step after workers r places run keeps key low =
+    let M : ℕ → ℕ → ℕ → List Event → Type 0 = may_emit s may_step in
     let e0 = entries_by 0 s.before in
     let e1 = entries_by 0 after in
     let covered : IsCovered s.table r.entries key = ⊎_elim

@@ -1,8 +1,6 @@
 -- What a reporter's calls promise.
-use Rattle.std.proofs.Common.{◌≡◌, ◌≤◌, ℕ, zero, suc, List, [], ◌∷◌, ◌++◌, length, Option, Some, None, slice_get, true, false, refl, sym, ap, ◌∙◌, subst, append_assoc, append-nil, arith}
+use Rattle.std.proofs.Common.{◌≡◌, ◌≤◌, inl, inr, ℕ, List, [], ◌∷◌, ◌++◌, sym, ap, ◌∙◌, subst, append_assoc, append-nil}
 use Rattle.std.specs.Prelude.{Result, Ok, Err, OnOk, OnErr}
-use Rattle.tk_ids.specs.DTypes.{is_test}
-use Rattle.tk_ids.specs.declared.descriptors.Descriptor.{Descriptor}
 use Rattle.tk_events.specs.declared.events.Event.{Event}
 use Rattle.tk_events.specs.declared.kinds.Kind.{Kind}
 use Rattle.tk_events.specs.declared.kinds.Kind.TheVariants.{Finished, Skipped, Started}
@@ -11,8 +9,8 @@ use Rattle.tk_events.specs.declared.payloads.Payload.TheVariants.{Nothing}
 use Rattle.tk_queue_session.specs.Registering.{IsRegisteredAs, RegisterRequest, child_of, registration}
 use Rattle.tk_queue_session.specs.Senders.{SenderView, sends}
 use Rattle.tk_engine_execute.specs.Engines.{Extends}
-use Rattle.tk_engine_hierarchical.specs.Endings.{IsStaticTest, payload_of}
-use Rattle.tk_engine_hierarchical.specs.Reporting.{BodyRuns, EndsChild, HasFinished, HasRunChild, HasSkipped, HasStarted, Published, UnitView, event}
+use Rattle.tk_engine_hierarchical.specs.Endings.{payload_of}
+use Rattle.tk_engine_hierarchical.specs.Reporting.{BodyRuns, EndsChild, Grew, HasBegunChild, HasBrokenOff, HasFinished, HasRunChild, HasSkipped, HasStarted, Published, UnitView, event}
 use Rattle.tk_engine_hierarchical.specs.declared.tests.Outcome.{Outcome}
 use Rattle.tk_engine_hierarchical.specs.Running.{RunningId, keys_of}
 
@@ -46,22 +44,27 @@ pub extends_child : (a : List Event) (b c : SenderView) (ask : RegisterRequest) 
 extends_child a b c ask key r x = subst (λ (s : SenderView). IsLonger a s.sent) (sym r.5) (extends_more a b.sent (registration b ask.stamp (child_of ask r.0)) x)
 
 -- what holds holds at `Err`
-pub err_of : {F A : Type 0} (r : Result (Unit {0}) F) → A → OnErr r A
+pub err_of : {R F A : Type 0} (r : Result R F) → A → OnErr r A
 err_of (Ok _) a = tt
 err_of (Err _) a = a
 
-pub grew_same : (old new : SenderView) (outer running : List ℕ) → new ≡ old → running ≡ outer → Extends old new × (running ≡ outer)
-grew_same old new outer running sink same = (extends_same old new sink, same)
+pub grew_same : (old new : UnitView) → new.sink ≡ old.sink → new.running ≡ old.running → new.stamp ≡ old.stamp → new.own_stamp ≡ old.own_stamp → Grew old new
+grew_same old new sink running stamp own =
+    record { more = extends_same old.sink new.sink sink; running = running; stamp = stamp; own_stamp = own }
 
-pub grew_registered : (old new sink registered : SenderView) (outer running : List ℕ) (ask : RegisterRequest) (key : ℕ) → old ≡ sink
-    → IsRegisteredAs sink registered ask (Ok key) → new ≡ registered → running ≡ outer → Extends old new × (running ≡ outer)
-grew_registered old new sink registered outer running ask key was r now same =
-    (subst (λ s. Extends s new) (sym was) (extends_registered sink registered new ask key r now), same)
+pub grew_registered : (old new : UnitView) (sink registered : SenderView) (ask : RegisterRequest) (key : ℕ) → old.sink ≡ sink
+    → IsRegisteredAs sink registered ask (Ok key) → new.sink ≡ registered → new.running ≡ old.running → new.stamp ≡ old.stamp → new.own_stamp ≡ old.own_stamp → Grew old new
+grew_registered old new sink registered ask key was r now running stamp own = record {
+  more = subst (λ s. Extends s new.sink) (sym was) (extends_registered sink registered new.sink ask key r now);
+  running = running;
+  stamp = stamp;
+  own_stamp = own;
+}
 
 pub published : (old new : UnitView) (sink : SenderView) (running rest : List RunningId) (first : RunningId) (kind : Kind) (stamp : ℕ) (payload : Payload)
-    → old.sink ≡ sink → old.running ≡ keys_of running → running ≡ first ∷ rest → new.sink ≡ sends sink (event kind first.key stamp payload) → new.running ≡ old.running → new.stamp ≡ old.stamp
+    → old.sink ≡ sink → old.running ≡ keys_of running → running ≡ first ∷ rest → new.sink ≡ sends sink (event kind first.key stamp payload) → new.running ≡ old.running → new.stamp ≡ old.stamp → new.own_stamp ≡ old.own_stamp
     → (key : ℕ) × Published old new (event kind key stamp payload)
-published old new sink running rest first kind stamp payload was view is took same kept = (
+published old new sink running rest first kind stamp payload was view is took same kept own = (
   first.key,
   record {
     outer = keys_of rest;
@@ -69,14 +72,15 @@ published old new sink running rest first kind stamp payload was view is took sa
     took = took ∙ ap (λ s. sends s (event kind first.key stamp payload)) (sym was);
     running = same;
     stamp = kept;
+    own_stamp = own;
   },
 )
 
 pub skipped_child : (old new : UnitView) (sink registered : SenderView) (running rest : List RunningId) (first : RunningId) (ask : RegisterRequest) (key stamp : ℕ) (reason : Payload)
     → old.sink ≡ sink → old.running ≡ keys_of running → running ≡ first ∷ rest → ask.parent ≡ first.key → IsRegisteredAs sink registered ask (Ok key)
-    → new.sink ≡ sends registered (event Skipped key stamp reason) → new.running ≡ old.running → new.stamp ≡ old.stamp
+    → new.sink ≡ sends registered (event Skipped key stamp reason) → new.running ≡ old.running → new.stamp ≡ old.stamp → new.own_stamp ≡ old.own_stamp
     → (key : ℕ) × HasSkipped old new ask (event Skipped key stamp reason)
-skipped_child old new sink registered running rest first ask key stamp reason was view is parent r took same kept = (
+skipped_child old new sink registered running rest first ask key stamp reason was view is parent r took same kept own = (
   key,
   record {
     outer = keys_of rest;
@@ -86,6 +90,7 @@ skipped_child old new sink registered running rest first ask key stamp reason wa
     took = took;
     running = same;
     stamp = kept;
+    own_stamp = own;
   },
 )
 
@@ -95,9 +100,9 @@ skipped_at old new ask given stamp reason same s = subst (λ n. (key : ℕ) × H
 
 pub started_child : (old new : UnitView) (sink registered : SenderView) (running rest : List RunningId) (first : RunningId) (ask : RegisterRequest) (key stamp : ℕ)
     → old.sink ≡ sink → old.running ≡ keys_of running → running ≡ first ∷ rest → ask.parent ≡ first.key → IsRegisteredAs sink registered ask (Ok key)
-    → new.sink ≡ sends registered (event Started key stamp Nothing) → new.running ≡ key ∷ keys_of running → new.stamp ≡ old.stamp
+    → new.sink ≡ sends registered (event Started key stamp Nothing) → new.running ≡ key ∷ keys_of running → new.stamp ≡ old.stamp → new.own_stamp ≡ old.own_stamp
     → HasStarted old new ask (event Started key stamp Nothing)
-started_child old new sink registered running rest first ask key stamp was view is parent r took more kept = record {
+started_child old new sink registered running rest first ask key stamp was view is parent r took more kept own = record {
   outer = keys_of rest;
   innermost = view ∙ ap keys_of is ∙ ap (λ k. k ∷ keys_of rest) (sym parent);
   registered = registered;
@@ -105,6 +110,7 @@ started_child old new sink registered running rest first ask key stamp was view 
   took = took;
   running = more ∙ ap (λ l. key ∷ l) (sym view);
   stamp = kept;
+  own_stamp = own;
 }
 
 pub has_run_child : (may_run : BodyRuns) (old started before new : UnitView) (ask : ℕ → RegisterRequest) (key given stamp : ℕ) (outcome : Outcome) → given ≡ stamp
@@ -112,6 +118,37 @@ pub has_run_child : (may_run : BodyRuns) (old started before new : UnitView) (as
     → HasFinished before new (event Finished key before.stamp (payload_of outcome)) → HasRunChild may_run old new (ask stamp)
 has_run_child may_run old started before new ask key given stamp outcome same s x r f =
     record { key = key; started = started; start = subst (λ n. HasStarted old started (ask n) (event Started key (ask n).stamp Nothing)) same s; before = before; later = x; outcome = outcome; ran = r; finish = f }
+
+pub has_begun_child : (old started new : UnitView) (ask : ℕ → RegisterRequest) (key given stamp : ℕ) → given ≡ stamp
+    → HasStarted old started (ask given) (event Started key (ask given).stamp Nothing) → Extends started.sink new.sink → HasBegunChild old new (ask stamp)
+has_begun_child old started new ask key given stamp same s x =
+    record { key = key; started = started; start = subst (λ n. HasStarted old started (ask n) (event Started key (ask n).stamp Nothing)) same s; later = x }
+
+-- what was asked for wasn't started
+pub not_begun : {F : Type 0} (r : Result (Unit {0}) F) (old new : UnitView) (ask : ℕ → RegisterRequest) → Grew old new
+    → OnErr r ((above : ℕ) × HasBrokenOff old new (ask above))
+not_begun r old new ask grew = let broken : (above : ℕ) × HasBrokenOff old new (ask above) = (0, inl grew) in err_of r broken
+
+-- its body had a fault
+pub body_broken : {F : Type 0} (r : Result (Unit {0}) F) (old started new : UnitView) (ask : ℕ → ℕ → RegisterRequest) (above key given stamp : ℕ) → given ≡ stamp
+    → HasStarted old started (ask above given) (event Started key (ask above given).stamp Nothing) → Extends started.sink new.sink
+    → OnErr r ((a : ℕ) × HasBrokenOff old new (ask a stamp))
+body_broken r old started new ask above key given stamp same s x =
+    let broken : (a : ℕ) × HasBrokenOff old new (ask a stamp) = (above, inr (has_begun_child old started new (ask above) key given stamp same s x)) in err_of r broken
+
+-- its finish was refused
+pub finish_broken : {F : Type 0} (r : Result (Unit {0}) F) (old started before new : UnitView) (ask : ℕ → ℕ → RegisterRequest) (above key given stamp : ℕ) → given ≡ stamp
+    → HasStarted old started (ask above given) (event Started key (ask above given).stamp Nothing) → Extends started.sink before.sink → OnErr r (new ≡ before)
+    → OnErr r ((a : ℕ) × HasBrokenOff old new (ask a stamp))
+finish_broken r old started before new ask above key given stamp same s x refused =
+    on_err r refused
+    (λ e.
+    let broken : (a : ℕ) × HasBrokenOff old new (ask a stamp)
+    = (above, inr (has_begun_child old started new (ask above) key given stamp same s (subst (λ (v : UnitView). Extends started.sink v.sink) (sym e) x))) in
+    broken)
+
+pub tails_same : {A : Type 0} {x y : A} {xs ys : List A} → x ∷ xs ≡ y ∷ ys → xs ≡ ys
+tails_same e = cc
 
 pub finished_as : (old new : UnitView) (key given stamp : ℕ) (payload outcome : Payload) → given ≡ stamp → payload ≡ outcome
     → HasFinished old new (event Finished key given payload) → HasFinished old new (event Finished key stamp outcome)
@@ -128,32 +165,3 @@ ends_child statics may_end old new key outcome dynamic its f = record {
   its = its;
   took = f.took ∙ ap (λ n. sends old.sink (event Finished key n (payload_of outcome))) (sym f.stamp);
 }
-
--- ---- static tests
-
-some_none : {A : Type 0} {x : A} (o : Option A) → o ≡ None → o ≡ Some x → ⊥
-some_none None e h = cc
-some_none (Some y) e h = cc
-
-some_same : {A : Type 0} {x y : A} → Some x ≡ Some y → x ≡ y
-some_same e = cc
-
-false_true : false ≡ true → ⊥
-false_true e = cc
-
-pub not_test : (table : List Descriptor) (key : ℕ) (d : Descriptor) → slice_get table key ≡ Some d → is_test d.dtype ≡ false → IsStaticTest table key → ⊥
-not_test table key d is fails t =
-    let same : d ≡ t.descriptor = some_same (sym is ∙ t.described) in
-    false_true (sym fails ∙ (ap (λ (x : Descriptor). is_test x.dtype) same ∙ t.test))
-
-pub not_there : (table : List Descriptor) (key : ℕ) → slice_get table key ≡ None → IsStaticTest table key → ⊥
-not_there table key is t = some_none (slice_get table key) is t.described
-
-get_past : (table : List Descriptor) (key : ℕ) → length table ≤ key → slice_get table key ≡ None
-get_past [] key h = refl
-get_past (x ∷ xs) zero h = absurd (omega (arith, h))
-get_past (x ∷ xs) (suc key) h = get_past xs key (omega (arith, h))
-
--- the key of a dynamic descriptor is no static test's
-pub dynamic_is_no_test : (table : List Descriptor) (key : ℕ) → length table ≤ key → IsStaticTest table key → ⊥
-dynamic_is_no_test table key h = not_there table key (get_past table key h)

@@ -1,5 +1,5 @@
 -- A unit of a hierarchical engine after each thing that it may do.
-use Rattle.std.proofs.Common.{◌≡◌, ◌<◌, ◌≤◌, ◌+◌, ◌==◌, ◌||◌, ℕ, zero, suc, inl, ⊎_elim, Bool, true, false, List, [], ◌∷◌, ◌++◌, length, Option, Some, None, slice_get, refl, sym, ap, ◌∙◌, subst, append_assoc, append-nil, arith}
+use Rattle.std.proofs.Common.{◌≡◌, ◌<◌, ◌≤◌, ◌+◌, ◌==◌, ◌&&◌, ◌||◌, ℕ, zero, suc, inl, ⊎_elim, Bool, true, false, List, [], ◌∷◌, ◌++◌, length, Option, Some, None, slice_get, refl, sym, ap, ◌∙◌, subst, append_assoc, append-nil, arith}
 use Rattle.std.specs.Prelude.{All, Result, Ok, Err, OnOk, OnErr, IfSome, IfNone, bytes_eq, get_or, is_some, not, unwrap_or}
 use Rattle.std.proofs.lemmas.List.Elements.{All-cons, All-nil, All-head, All-tail, All-weaker}
 use Rattle.std.proofs.lemmas.Slice.Eq.{bytes_eq-Decides}
@@ -27,9 +27,7 @@ use Rattle.tk_engine_execute.specs.Engines.{Extends, IsSameSender}
 use Rattle.tk_engine_hierarchical.specs.Emitting.{IsEmitting, Progress, since}
 use Rattle.tk_engine_hierarchical.specs.Covered.{AreCovered}
 use Rattle.tk_ids.specs.IdText.{IsBelow}
-use Rattle.tk_engine_hierarchical.specs.Endings.{EndsAsItMay}
 use Rattle.tk_engine_hierarchical.specs.Units.{HasPlayed, UnitKeys}
-use Rattle.tk_engine_hierarchical.specs.declared.tests.Outcome.{Outcome}
 use Rattle.tk_engine_hierarchical.specs.Events.{HasInnermostParent, HasRun, HasParentAmong, HaveIds, IsNesting, IsRunning, MayStart, progress}
 use Rattle.tk_engine_hierarchical.specs.RegisteredIds.{is_registered}
 use Rattle.tk_engine_hierarchical.specs.Reporting.{publishes}
@@ -37,6 +35,7 @@ use Rattle.tk_engine_hierarchical.specs.declared.running_keys.RunningKey.{Runnin
 use Rattle.tk_engine_hierarchical.specs.Running.{RunningId, id_at, keys_of, with_id, with_ids}
 use Rattle.tk_plan_units.specs.Parents.{HasParentAt}
 use Rattle.tk_engine_hierarchical.specs.Shapes.{ShapeView, frame}
+use Rattle.tk_engine_hierarchical.specs.Steps.{StepsAs}
 use Rattle.tk_engine_hierarchical.proofs.Nesting.{Adds, IsNext, IsWithin, below_parent, each_finishes, nest_later, nesting_finish, nesting_none, nesting_plain, nesting_start, within_all, within_first}
 use Rattle.tk_engine_hierarchical.proofs.Owned.{owner_child, owner_static}
 use Rattle.tk_engine_hierarchical.proofs.Emitted.{Registered, Registering, emitted_finish, emitted_all, emitted_registration, emitted_report, emitted_skip, emitted_start, emitting_later, emitting_none, emitting_noted, registered_skip, registered_start, sender_later, sender_now}
@@ -383,6 +382,23 @@ pub noted_more : (registered noted : List (List ℕ × ℕ)) (own : List ℕ) �
     → (text : List ℕ) → is_registered registered text ≡ true → is_registered noted text ≡ true
 noted_more registered noted own all text h = all text ∙ ap (λ b. bytes_eq text own || b) h ∙ or_true (bytes_eq text own)
 
+-- an id that was noted and taken off again
+unnoted_by : (here old added removed : Bool) → (here ≡ true → old ≡ false) → added ≡ (here || old) → removed ≡ (not here && added) → removed ≡ old
+unnoted_by true old added removed absent a r = r ∙ sym (absent refl)
+unnoted_by false old added removed absent a r = r ∙ a
+
+pub unnoted : (registered noted left : List (List ℕ × ℕ)) (own : List ℕ) → is_registered registered own ≡ false
+    → ((text : List ℕ) → is_registered noted text ≡ (bytes_eq text own || is_registered registered text))
+    → ((text : List ℕ) → is_registered left text ≡ (not (bytes_eq text own) && is_registered noted text))
+    → (text : List ℕ) → is_registered left text ≡ is_registered registered text
+unnoted registered noted left own absent added removed text =
+    unnoted_by (bytes_eq text own) (is_registered registered text) (is_registered noted text) (is_registered left text)
+    (λ here. ap (is_registered registered) ((bytes_eq-Decides text own).0 here) ∙ absent) (added text) (removed text)
+
+pub unnoted_more : (registered left : List (List ℕ × ℕ)) → ((text : List ℕ) → is_registered left text ≡ is_registered registered text)
+    → (text : List ℕ) → is_registered registered text ≡ true → is_registered left text ≡ true
+unnoted_more registered left same text h = same text ∙ h
+
 true_or : (a b : Bool) → a ≡ true → (a || b) ≡ true
 true_or true b e = refl
 true_or false b e = cc
@@ -581,10 +597,10 @@ pub ran_some : (f : Frame) (unit : ℕ) (start now : SenderView) (running : List
 ran_some f unit start now running registered next r = (r.emitting.events, r.emitting.sent)
 
 -- a unit of which no key runs, and each of whose static keys had its turn
-pub ran_all : (f : Frame) (may_end : ℕ → Outcome → Type 0) (keys : UnitKeys) (start now : SenderView) (running : List RunningId) (registered : List (List ℕ × ℕ)) (next : ℕ)
-    → IsRunning f keys.unit start now running registered next → HasPlayed f.table may_end keys.first next start now → running ≡ [] → keys.end ≤ next
-    → HasRun f may_end keys start now
-ran_all f may_end keys start now running registered next r d none past =
+pub ran_all : (f : Frame) (may_step : Event → Type 0) (keys : UnitKeys) (start now : SenderView) (running : List RunningId) (registered : List (List ℕ × ℕ)) (next : ℕ)
+    → IsRunning f keys.unit start now running registered next → HasPlayed f.table may_step keys.first next start now → running ≡ [] → keys.end ≤ next
+    → HasRun f may_step keys start now
+ran_all f may_step keys start now running registered next r d none past =
     let i = r.emitting in
     let same : d.events ≡ i.events = cancel start.sent d.events i.events (sym d.sent ∙ i.sent) in
     let w = start.worker in
@@ -593,7 +609,7 @@ ran_all f may_end keys start now running registered next r d none past =
       i.sent,
       record {
         keeps = emitted_all f keys.unit start now (progress running registered next) i (ap keys_of none);
-        ended = subst (All (EndsAsItMay f.table may_end)) same d.each_holds;
+        steps = subst (All (StepsAs f.table may_step)) same d.each_holds;
         covered = λ key a b. subst (λ l. AreCovered f.table (entries_by start.worker l) keys.first next) same d.all_hold key a (omega (arith, b, past));
         nest = nest_later (so_far f w i.events) (run_alone f w i.events) i.events (later_id f.table (so_far f w i.events).entries (entries_by 0 f.after)) n.nest;
         finish = each_finishes (so_far f w i.events) i.events n;

@@ -17,7 +17,6 @@ use Rattle.tk_query_lifecycle.specs.KeepsLifecycle.{KeepsLifecycle}
 use Rattle.tk_engine_execute.specs.Engines.{IsStaticEvent}
 use Rattle.tk_engine_lifecycle.specs.Units.{KeepsAround, UnitsKeepLifecycle, run_alone}
 use Rattle.tk_engine_hierarchical.specs.Shapes.{AreRunning, HavePlaces, IsInUnit, ShapeView, frame, may_emit}
-use Rattle.tk_engine_hierarchical.specs.declared.tests.Outcome.{Outcome}
 use Rattle.tk_engine_hierarchical.proofs.Owned.{owner_static}
 use Rattle.tk_engine_hierarchical.proofs.Played.{any-append, or_left}
 use Rattle.tk_engine_hierarchical.proofs.Running.{described_here, described_id}
@@ -159,6 +158,6 @@ same_frame s table before after units a b c d =
     ap₂ (λ t x. record { table = t; before = x; after = s.after; units = s.units; owner = (frame s).owner }) a b
     ∙ ap₂ (λ x u. record { table = table; before = before; after = x; units = u; owner = (frame s).owner }) c d
 
-pub kept_units : (s : ShapeView) (may_end : ℕ → Outcome → Type 0) → KeepsAround (frame s)
-    → UnitsKeepLifecycle (frame s) (may_emit s may_end)
-kept_units s may_end around = record { around = around; each = λ unit worker earlier events low runs. runs.keeps }
+pub kept_units : (s : ShapeView) (may_step : Event → Type 0) → KeepsAround (frame s)
+    → UnitsKeepLifecycle (frame s) (may_emit s may_step)
+kept_units s may_step around = record { around = around; each = λ unit worker earlier events low runs. runs.keeps }

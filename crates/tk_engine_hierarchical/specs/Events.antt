@@ -18,7 +18,6 @@ use Rattle.tk_engine_hierarchical.specs.Nesting.{EventsNest, LacksFinish}
 use Rattle.tk_engine_hierarchical.specs.RegisteredIds.{is_registered}
 use Rattle.tk_engine_hierarchical.specs.Running.{RunningId, keys_of}
 use Rattle.tk_engine_hierarchical.specs.Units.{RunsUnit, UnitKeys}
-use Rattle.tk_engine_hierarchical.specs.declared.tests.Outcome.{Outcome}
 
 -- where a unit stands whose keys run, innermost first, and that has registered these ids
 abbrev pub progress : List RunningId → List (List ℕ × ℕ) → ℕ → Progress
@@ -81,7 +80,7 @@ pub record MayStart (f : Frame) (unit : ℕ) (running : List ℕ) (key : ℕ) : 
 
 -- the sink took a list of events since the unit began, which is what the unit emits
 abbrev pub HasRun :
-    Frame → (ℕ → Outcome → Type 0) → UnitKeys → SenderView → SenderView → Type 0
-HasRun f may_end keys start now =
+    Frame → (Event → Type 0) → UnitKeys → SenderView → SenderView → Type 0
+HasRun f may_step keys start now =
     (events : List Event) × (now.sent ≡ start.sent ++ events)
-    × RunsUnit f may_end keys (record { worker = start.worker; events = events })
+    × RunsUnit f may_step keys (record { worker = start.worker; events = events })

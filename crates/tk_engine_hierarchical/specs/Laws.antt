@@ -12,14 +12,15 @@ use Rattle.tk_engine_hierarchical.specs.Covered.{IsBelowSkipped}
 use Rattle.tk_engine_hierarchical.specs.Endings.{EndsAsItMay}
 use Rattle.tk_engine_hierarchical.specs.Nesting.{EventsNest}
 use Rattle.tk_engine_hierarchical.specs.Shapes.{ShapeView, may_emit}
+use Rattle.tk_engine_hierarchical.specs.Steps.{FitsPlan, StepsAs}
 use Rattle.tk_engine_hierarchical.specs.declared.tests.Outcome.{Outcome}
 
 -- The record is that of a run of the engine of a plan by some workers, in which each unit emits
--- what it may by the engine's shape and by which outcomes each test may have.
+-- what it may by the engine's shape, by the plan, and by which outcomes each test may have.
 abbrev pub IsRunOf : Outline → ShapeView → (ℕ → Outcome → Type 0) → Recorded → Type 0
 IsRunOf plan shape may_end r =
     (workers : ℕ)
-    × IsRun (may_emit shape may_end) plan.table (before_of (forest plan.nodes))
+    × IsRun (may_emit shape (FitsPlan plan may_end)) plan.table (before_of (forest plan.nodes))
     (after_of (forest plan.nodes)) (length (units_of (forest plan.nodes))) workers r
 
 -- each finish of a static test has an outcome that the test may have, where a unit emitted it;
@@ -27,6 +28,11 @@ IsRunOf plan shape may_end r =
 abbrev pub HasOutcomes : (ℕ → Outcome → Type 0) → Recorded → Type 0
 HasOutcomes may_end r =
     All (λ x. 0 < x.worker → EndsAsItMay r.table may_end x.event) r.entries
+
+-- each start, skip and finish of a static key that a unit emitted is what the plan says of it
+abbrev pub FollowsPlan : Outline → (ℕ → Outcome → Type 0) → Recorded → Type 0
+FollowsPlan plan may_end r =
+    All (λ x. 0 < x.worker → StepsAs r.table (FitsPlan plan may_end) x.event) r.entries
 
 -- the key has one start and then one finish, or one skip, or stands below a key that was skipped
 abbrev pub HasTurn : Recorded → ℕ → Type 0

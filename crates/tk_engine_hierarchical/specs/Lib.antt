@@ -6,6 +6,7 @@ pub mod Running
 pub mod Events
 pub mod Endings
 pub mod FaultTexts
+pub mod Steps
 pub mod Covered
 pub mod Nesting
 pub mod Units

@@ -1,5 +1,5 @@
 -- What a reporter emits.
-use Rattle.std.specs.Prelude.{◌≡◌, ℕ, ◌≤◌, Bool, true, false, List, ◌∷◌, Ok, Option}
+use Rattle.std.specs.Prelude.{◌≡◌, ◌⊎◌, ℕ, ◌≤◌, Bool, true, false, List, ◌∷◌, Ok, Option}
 use Rattle.tk_events.specs.declared.events.Event.{Event}
 use Rattle.tk_events.specs.declared.kinds.Kind.{Kind}
 use Rattle.tk_events.specs.declared.kinds.Kind.TheVariants.{Dynamic, File, Finished}
@@ -40,12 +40,14 @@ pub record Published (old new : UnitView) (e : Event) : Type 0 where
   pub took : new.sink ≡ sends old.sink e
   pub running : new.running ≡ old.running
   pub stamp : new.stamp ≡ old.stamp
+  pub own_stamp : new.own_stamp ≡ old.own_stamp
 
 -- the innermost running key finished with this event, and nothing else happened
 pub record HasFinished (old new : UnitView) (e : Event) : Type 0 where
   pub running : old.running ≡ e.key ∷ new.running
   pub took : new.sink ≡ sends old.sink e
   pub stamp : new.stamp ≡ old.stamp
+  pub own_stamp : new.own_stamp ≡ old.own_stamp
 
 -- what was asked for was registered below the innermost running key, then started with this event,
 -- and nothing else happened
@@ -57,6 +59,7 @@ pub record HasStarted (old new : UnitView) (ask : RegisterRequest) (start : Even
   pub took : new.sink ≡ sends registered start
   pub running : new.running ≡ start.key ∷ old.running
   pub stamp : new.stamp ≡ old.stamp
+  pub own_stamp : new.own_stamp ≡ old.own_stamp
 
 -- how a body may run: from which unit to which one, with which outcome
 abbrev pub BodyRuns : Type 1
@@ -85,10 +88,26 @@ pub record HasSkipped (old new : UnitView) (ask : RegisterRequest) (skip : Event
   pub took : new.sink ≡ sends registered skip
   pub running : new.running ≡ old.running
   pub stamp : new.stamp ≡ old.stamp
+  pub own_stamp : new.own_stamp ≡ old.own_stamp
 
--- the sink took events, and the same keys run
-abbrev pub Grew : UnitView → UnitView → Type 0
-Grew old new = Extends old.sink new.sink × (new.running ≡ old.running)
+-- the sink took events, the same keys run, and the stamps stay
+pub record Grew (old new : UnitView) : Type 0 where
+  pub more : Extends old.sink new.sink
+  pub running : new.running ≡ old.running
+  pub stamp : new.stamp ≡ old.stamp
+  pub own_stamp : new.own_stamp ≡ old.own_stamp
+
+-- what was asked for was registered below the innermost running key and started, and then the sink
+-- took what its body emitted
+pub record HasBegunChild (old new : UnitView) (ask : RegisterRequest) : Type 0 where
+  pub key : ℕ
+  pub started : UnitView
+  pub start : HasStarted old started ask (event Started key ask.stamp Nothing)
+  pub later : Extends started.sink new.sink
+
+-- what was asked for wasn't started, or it was, and its body or its finish was refused
+abbrev pub HasBrokenOff : UnitView → UnitView → RegisterRequest → Type 0
+HasBrokenOff old new ask = Grew old new ⊎ HasBegunChild old new ask
 
 -- The last that the sink took is the finish of a dynamic descriptor, whose key is past those of the
 -- static ones, with an outcome that its body may have.

@@ -8,7 +8,6 @@ use Rattle.tk_query_lifecycle.specs.Lifecycle.{runs}
 use Rattle.tk_engine_lifecycle.specs.Units.{Frame}
 use Rattle.tk_engine_hierarchical.specs.Owners.{owner_of}
 use Rattle.tk_engine_hierarchical.specs.Units.{RunsUnit, UnitKeys}
-use Rattle.tk_engine_hierarchical.specs.declared.tests.Outcome.{Outcome}
 
 -- the table, the events before and after the units, how many units there are, for each static key
 -- the unit to which it belongs, and for each unit its first static key and the end of its keys
@@ -41,12 +40,11 @@ abbrev pub keys_in : ShapeView → ℕ → UnitKeys
 keys_in s unit =
     record { unit = unit; first = get_or s.firsts unit 0; end = get_or s.ends unit 0 }
 
--- which events a unit of an engine of this shape may emit for a worker, where each test may have
--- these outcomes
-abbrev pub may_emit :
-    ShapeView → (ℕ → Outcome → Type 0) → ℕ → ℕ → ℕ → List Event → Type 0
-may_emit s may_end unit worker earlier events =
-    RunsUnit (frame s) may_end (keys_in s unit) (record { worker = worker; events = events })
+-- which events a unit of an engine of this shape may emit for a worker, where static keys may have
+-- these steps
+abbrev pub may_emit : ShapeView → (Event → Type 0) → ℕ → ℕ → ℕ → List Event → Type 0
+may_emit s may_step unit worker earlier events =
+    RunsUnit (frame s) may_step (keys_in s unit) (record { worker = worker; events = events })
 
 -- the key is one of those of a unit, whose number is below `units`
 abbrev pub IsInUnit : ℕ → List ℕ → List ℕ → ℕ → Type 0

@@ -7,9 +7,8 @@ use Rattle.tk_queue_session.specs.Emission.{entries_by}
 use Rattle.tk_queue_session.specs.Senders.{SenderView}
 use Rattle.tk_engine_lifecycle.specs.Units.{Frame, KeepsAlone, run_alone}
 use Rattle.tk_engine_hierarchical.specs.Covered.{AreCovered}
-use Rattle.tk_engine_hierarchical.specs.Endings.{EndsAsItMay}
 use Rattle.tk_engine_hierarchical.specs.Nesting.{EachFinishes, EventsNest}
-use Rattle.tk_engine_hierarchical.specs.declared.tests.Outcome.{Outcome}
+use Rattle.tk_engine_hierarchical.specs.Steps.{StepsAs}
 
 -- the number of a unit, and its static keys: from the first one on, and below the end
 pub record UnitKeys : Type 0 where
@@ -22,13 +21,13 @@ pub record UnitOutput : Type 0 where
   pub worker : ℕ
   pub events : List Event
 
--- Of what a unit emits: it keeps the lifecycle where the unit runs alone, each finish of a static
--- test has an outcome that the test may have, each of the unit's static keys had its turn, and each
--- key that starts has its own events until it finishes.
-pub record RunsUnit (f : Frame) (may_end : ℕ → Outcome → Type 0) (keys : UnitKeys)
+-- Of what a unit emits: it keeps the lifecycle where the unit runs alone, each step of a static key
+-- is one that the unit may emit, each of the unit's static keys had its turn, and each key that
+-- starts has its own events until it finishes.
+pub record RunsUnit (f : Frame) (may_step : Event → Type 0) (keys : UnitKeys)
     (out : UnitOutput) : Type 0 where
   pub keeps : KeepsAlone f keys.unit out.worker out.events
-  pub ended : All (EndsAsItMay f.table may_end) out.events
+  pub steps : All (StepsAs f.table may_step) out.events
   pub covered : AreCovered f.table (entries_by out.worker out.events) keys.first keys.end
   pub nest : EventsNest (run_alone f out.worker out.events) out.events
   pub finish : EachFinishes out.events
@@ -41,9 +40,9 @@ pub record HasTaken (each : Event → Type 0) (all : List Entry → Type 0)
   pub each_holds : All each events
   pub all_hold : all (entries_by start.worker events)
 
--- so far each finish of a static test has an outcome that the test may have, and each static key
--- from the first one on and below the next had its turn
+-- so far each step of a static key is one that the unit may emit, and each static key from the
+-- first one on and below the next had its turn
 abbrev pub HasPlayed :
-    List Descriptor → (ℕ → Outcome → Type 0) → ℕ → ℕ → SenderView → SenderView → Type 0
-HasPlayed table may_end first next start now =
-    HasTaken (EndsAsItMay table may_end) (λ entries. AreCovered table entries first next) start now
+    List Descriptor → (Event → Type 0) → ℕ → ℕ → SenderView → SenderView → Type 0
+HasPlayed table may_step first next start now =
+    HasTaken (StepsAs table may_step) (λ entries. AreCovered table entries first next) start now

@@ -1,17 +1,18 @@
 //! The engine of a plan whose tests have bodies.
-ghost use Rattle.std.specs.Prelude.{◌≡◌, ◌⊎◌, ◌<◌, ◌+◌, ◌-◌, ◌^◌, ◌&&◌, ℕ, Err, IfOk, IfSome, IsTrue, OnOk, is_some, length, min, unwrap_or};
-ghost use Rattle.tk_ids.specs.DTypes.{is_test};
+ghost use Rattle.std.specs.Prelude.{◌≡◌, ◌⊎◌, ◌<◌, ◌+◌, ◌-◌, ◌^◌, ℕ, All, Err, IfNone, IfOk, IfSome, IsTrue, None, OnOk, length, min, unwrap_or};
 ghost use Rattle.tk_engine_execute.specs.declared.engines.UnitFault.{UnitFault};
 ghost use Rattle.tk_engine_execute.specs.declared.engines.UnitFault.TheVariants.{Own};
 ghost use Rattle.tk_plan_units.specs.Cutting.{units_of};
 ghost use Rattle.tk_plan_units.specs.Trees.{IsForest, forest};
 ghost use Rattle.tk_engine_execute.specs.Engines.{Extends, IsSameSender};
-ghost use Rattle.tk_events.specs.declared.kinds.Kind.TheVariants.{Finished};
+ghost use Rattle.tk_events.specs.declared.events.Event.{Event};
+ghost use Rattle.tk_events.specs.declared.kinds.Kind.TheVariants.{Finished, Skipped, Started};
+ghost use Rattle.tk_events.specs.declared.payloads.Payload.TheVariants.{Nothing, Outcome as Ended, Reason};
 ghost use Rattle.tk_engine_hierarchical.specs.Endings.{IsStaticTest, payload_of};
 ghost use Rattle.tk_engine_hierarchical.specs.Events.{HasRun};
 ghost use Rattle.tk_engine_hierarchical.specs.Reporting.{HasFinished, event};
 ghost use Rattle.tk_engine_hierarchical.specs.Shapes.{frame, keys_in};
-ghost use Rattle.tk_engine_hierarchical.specs.declared.tests.Outcome.{Outcome};
+ghost use Rattle.tk_engine_hierarchical.specs.Steps.{FitsPlan, MayStepAs};
 
 use crate::leases::Lease;
 use crate::reporters::Reporter;
@@ -74,15 +75,15 @@ fn run_node<R: Wait, S: Sink, K: UnitRun, T: Tests>(
     rt: &R,
     alloc: Global,
     tests: &T,
-    node: &Node,
     key: u32,
     reporter: &mut Reporter<'_, S, K>,
 ) -> Result<Option<TestEnd>, UnitFault>
     ensures may { IfOk result (λ ended. IfSome ended (λ e. T.may_end tests.now key e.outcome)) }
     ensures test { IfOk result (λ ended.
-        is_some ended ≡ (node.now.is_static && is_test node.now.dtype)) }
+        IfSome ended (λ e. IsStaticTest K.frame.table key)) }
+    ensures other { IfOk result (λ ended. IfNone ended (¬ IsStaticTest K.frame.table key)) }
 {
-    if !node.is_static || !node.dtype.is_test() {
+    if !reporter.events.is_static_test(key) {
         return Ok(None);
     }
     let ended = run_test(rt, alloc, tests, key, reporter)?;
@@ -110,7 +111,11 @@ fn start_node<R: Wait, S: Sink, K: UnitRun>(
     numbered_node: &NumberedNode,
     stamps: &mut PlannedStamps,
     reporter: &mut Reporter<'_, S, K>,
-) -> Result<u32, UnitFault> {
+) -> Result<u32, UnitFault>
+    requires { (stamp : ℕ) → K.may_step (event Started numbered_node.now.number stamp Nothing) }
+    ensures { IfOk result (λ key.
+        key < length K.frame.table → key ≡ numbered_node.now.number) }
+{
     if numbered_node.node.is_static {
         let key = numbered_node.number;
         let stamp = stamps.take();
@@ -135,7 +140,10 @@ fn skip_node<R: Wait, S: Sink, K: UnitRun>(
     reason: &Text,
     stamps: &mut PlannedStamps,
     reporter: &mut Reporter<'_, S, K>,
-) -> Result<(), UnitFault> {
+) -> Result<(), UnitFault>
+    requires { (stamp : ℕ)
+        → K.may_step (event Skipped numbered_node.now.number stamp (Reason reason.now)) }
+{
     let reason = Payload::Reason(reason.try_clone()?);
     if numbered_node.node.is_static {
         let key = numbered_node.number;
@@ -184,7 +192,8 @@ fn finish_test<R: Wait, S: Sink, K: UnitRun>(
     planned: u64,
     reporter: &mut Reporter<'_, S, K>,
 ) -> Result<(), UnitFault>
-    requires { IsStaticTest K.frame.table key → K.may_end key test.outcome }
+    requires { key < length K.frame.table → (stamp : ℕ)
+        → K.may_step (event Finished key stamp (payload_of test.outcome)) }
     ensures { OnOk result (HasFinished reporter.old.events reporter.new.events
         (event Finished key (unwrap_or test.stamp planned) (payload_of test.outcome))) }
 {
@@ -200,10 +209,10 @@ fn finish_without_body<R: Wait, S: Sink, K: UnitRun>(
     node: &Node,
     stamp: u64,
     reporter: &mut Reporter<'_, S, K>,
-) -> Result<(), UnitFault> {
-    if reporter.events.is_static_test(key) {
-        return Err(UnitFault::Own(OUT_OF_ORDER));
-    }
+) -> Result<(), UnitFault>
+    requires { key < length K.frame.table
+        → K.may_step (event Finished key stamp (Ended node.now.status node.now.message)) }
+{
     let outcome = Payload::Outcome(node.status, try_clone_message(&node.message)?);
     reporter.events.finish(rt, key, stamp, outcome)
 }
@@ -220,11 +229,13 @@ fn run_started<R: Wait, S: Sink, K: UnitRun, T: Tests>(
     reporter: &mut Reporter<'_, S, K>,
 ) -> Result<(), UnitFault>
     requires below { IsForest below.now }
-    requires may { (key : ℕ) (o : Outcome) → T.may_end tests.now key o → K.may_end key o }
+    requires runs { numbered_node.now.node.skip ≡ None }
+    requires may { MayStepAs K.frame.table (T.may_end tests.now) K.may_step numbered_node.now }
+    requires may_below { All (MayStepAs K.frame.table (T.may_end tests.now) K.may_step) below.now }
 {
     let node = &numbered_node.node;
     let key = start_node(rt, alloc, numbered_node, stamps, reporter)?;
-    let ended = run_node(rt, alloc, tests, node, key, reporter)?;
+    let ended = run_node(rt, alloc, tests, key, reporter)?;
     // Most tests have neither.
     if publishes(node) {
         publish_planned(rt, alloc, node, stamps, reporter)?;
@@ -249,7 +260,7 @@ fn run_all<R: Wait, S: Sink, K: UnitRun, T: Tests>(
     reporter: &mut Reporter<'_, S, K>,
 ) -> Result<(), UnitFault>
     requires nodes { IsForest nodes.now }
-    requires may { (key : ℕ) (o : Outcome) → T.may_end tests.now key o → K.may_end key o }
+    requires may { All (MayStepAs K.frame.table (T.may_end tests.now) K.may_step) nodes.now }
 {
     let mut rest = nodes;
     while let [numbered_node, after @ ..] = rest {
@@ -272,7 +283,8 @@ fn run_tree<R: Wait, S: Sink, K: UnitRun, T: Tests>(
     reporter: &mut Reporter<'_, S, K>,
 ) -> Result<(), UnitFault>
     requires below { IsForest below.now }
-    requires may { (key : ℕ) (o : Outcome) → T.may_end tests.now key o → K.may_end key o }
+    requires may { MayStepAs K.frame.table (T.may_end tests.now) K.may_step numbered_node.now }
+    requires may_below { All (MayStepAs K.frame.table (T.may_end tests.now) K.may_step) below.now }
 {
     match &numbered_node.node.skip {
         Some(reason) => skip_node(rt, alloc, numbered_node, reason, stamps, reporter),
@@ -313,15 +325,18 @@ pub(crate) fn run_unit<'a, R: Wait, S: Sink, K: UnitRun, T: Tests>(
     requires since { K.since ≡ K.start }
     requires frame { frame shape.now ≡ K.frame }
     requires keys { keys_in shape.now unit ≡ K.keys }
-    requires may { (key : ℕ) (o : Outcome) → T.may_end tests.now key o → K.may_end key o }
+    requires may { (e : Event) → FitsPlan plan.now (T.may_end tests.now) e → K.may_step e }
     requires is_unit { unit < shape.now.units }
     requires table { K.start.table ≡ K.frame.table }
+    requires plan_table { plan.now.table ≡ K.frame.table }
     ensures name { result.sink.ghost_name ≡ K.name }
     ensures same { IsSameSender K.start (S.view result.sink.now) }
     ensures some { Extends K.start (S.view result.sink.now) }
     ensures run { OnOk ran.new
-        (HasRun K.frame K.may_end K.keys K.start (S.view result.sink.now)) }
+        (HasRun K.frame K.may_step K.keys K.start (S.view result.sink.now)) }
 {
+    // For the proof: what every plan is.
+    let _table = plan.table();
     let tree = plan.unit_tree(unit);
     let mut stamps = PlannedStamps { next: tree.first };
     let mut reporter: Reporter<'a, S, K> = Reporter {

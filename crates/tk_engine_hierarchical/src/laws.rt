@@ -1,6 +1,6 @@
 //! The laws of engines whose tests have bodies.
 ghost use Rattle.tk_query_lifecycle.specs.KeepsLifecycle.{KeepsLifecycle};
-ghost use Rattle.tk_engine_hierarchical.specs.Laws.{HasOutcomes, HaveTurns, IsRunOf, UnitsNest};
+ghost use Rattle.tk_engine_hierarchical.specs.Laws.{FollowsPlan, HasOutcomes, HaveTurns, IsRunOf, UnitsNest};
 
 use crate::engines::Hierarchical;
 use crate::tests::Tests;
@@ -23,6 +23,17 @@ pub fn outcomes<T: Tests + Sync>(engine: &Hierarchical<T>, results: &Results)
     requires { IsRunOf engine.now.scripted engine.now.shape (T.may_end engine.now.tests)
         results.now.recorded }
     ensures { HasOutcomes (T.may_end engine.now.tests) results.now.recorded }
+{
+    steps(engine, results);
+}
+
+/// Each start, skip and finish of a static descriptor by a unit is what the plan says: it starts where
+/// it isn't skipped, or is skipped for the plan's reason; a test finishes with an outcome that
+/// `may_end` allows, any other descriptor with that of the plan.
+pub fn steps<T: Tests + Sync>(engine: &Hierarchical<T>, results: &Results)
+    requires { IsRunOf engine.now.scripted engine.now.shape (T.may_end engine.now.tests)
+        results.now.recorded }
+    ensures { FollowsPlan engine.now.scripted (T.may_end engine.now.tests) results.now.recorded }
 {
     engine.shows_shape();
     let _ = results;

@@ -72,6 +72,8 @@ impl<'a, S: Sink> Lease<'a, S> {
     }
 
     /// Registers a child of a running key, and notes its id. Returns its key and its id.
+    ///
+    /// What is refused isn't noted, so that a body may ask for it once more.
     pub(crate) fn register_child<R: Wait>(
         &mut self,
         rt: &R,
@@ -101,12 +103,19 @@ impl<'a, S: Sink> Lease<'a, S> {
         ensures kept { (text : List ℕ) → is_registered registered.old text ≡ true
             → is_registered registered.new text ≡ true }
         ensures err { OnErr result (S.view self.new.sink.now ≡ S.view self.old.sink.now) }
+        ensures refused { OnErr result ((text : List ℕ) → is_registered registered.new text
+            ≡ is_registered registered.old text) }
         ensures same { self.new.sink.ghost_name ≡ self.old.sink.ghost_name }
     {
         let id = new_child(alloc, shape, registered, above, child.segment)?;
         registered.add(&id)?;
-        let key = self.register(rt, above.key, child.segment, child.name, child.dtype, stamp)?;
-        Ok((key, id))
+        match self.register(rt, above.key, child.segment, child.name, child.dtype, stamp) {
+            Ok(key) => Ok((key, id)),
+            Err(fault) => {
+                registered.remove(&id);
+                Err(fault)
+            }
+        }
     }
 
     /// Runs a body, which emits into this sink. Where the unit stands then, and how the body ended, is
@@ -125,7 +134,7 @@ impl<'a, S: Sink> Lease<'a, S> {
         requires running { IsRunning K.frame K.keys.unit K.start (S.view self.old.sink.now)
             (with_ids K.frame.table run.old.progress.running) run.old.progress.registered
             run.old.progress.next }
-        requires played { HasPlayed K.frame.table K.may_end K.keys.first run.old.progress.next
+        requires played { HasPlayed K.frame.table K.may_step K.keys.first run.old.progress.next
             K.start (S.view self.old.sink.now) }
         ensures same { self.new.sink.ghost_name ≡ self.old.sink.ghost_name }
         ensures unit { run.new.progress.unit ≡ K.keys.unit }
@@ -133,7 +142,7 @@ impl<'a, S: Sink> Lease<'a, S> {
         ensures running { IsRunning K.frame K.keys.unit K.start (S.view self.new.sink.now)
             (with_ids K.frame.table run.new.progress.running) run.new.progress.registered
             run.new.progress.next }
-        ensures played { HasPlayed K.frame.table K.may_end K.keys.first run.new.progress.next
+        ensures played { HasPlayed K.frame.table K.may_step K.keys.first run.new.progress.next
             K.start (S.view self.new.sink.now) }
         ensures since { Extends (S.view self.old.sink.now) (S.view self.new.sink.now) }
         ensures may { IfOk run.new.outcome (λ outcome. B.may_end body.now outcome) }
@@ -160,14 +169,14 @@ fn run_into<R: Wait, S: Sink, K: UnitRun, B: Body>(
     requires running { IsRunning K.frame K.keys.unit K.start (S.view sink.old)
         (with_ids K.frame.table run.old.progress.running) run.old.progress.registered
         run.old.progress.next }
-    requires played { HasPlayed K.frame.table K.may_end K.keys.first run.old.progress.next K.start
+    requires played { HasPlayed K.frame.table K.may_step K.keys.first run.old.progress.next K.start
         (S.view sink.old) }
     ensures unit { run.new.progress.unit ≡ K.keys.unit }
     ensures end { run.new.progress.end ≡ K.keys.end }
     ensures running { IsRunning K.frame K.keys.unit K.start (S.view sink.new)
         (with_ids K.frame.table run.new.progress.running) run.new.progress.registered
         run.new.progress.next }
-    ensures played { HasPlayed K.frame.table K.may_end K.keys.first run.new.progress.next K.start
+    ensures played { HasPlayed K.frame.table K.may_step K.keys.first run.new.progress.next K.start
         (S.view sink.new) }
     ensures since { Extends (S.view sink.old) (S.view sink.new) }
     ensures may { IfOk run.new.outcome (λ outcome. B.may_end body.now outcome) }
@@ -195,7 +204,7 @@ fn run_lent<'a, R: Wait, S: Sink, K: UnitRun, B: Body>(
     requires running { IsRunning K.frame K.keys.unit K.start (S.view lease.sink.now)
         (with_ids K.frame.table run.old.progress.running) run.old.progress.registered
         run.old.progress.next }
-    requires played { HasPlayed K.frame.table K.may_end K.keys.first run.old.progress.next K.start
+    requires played { HasPlayed K.frame.table K.may_step K.keys.first run.old.progress.next K.start
         (S.view lease.sink.now) }
     requires since { K.since ≡ S.view lease.sink.now }
     ensures name { result.sink.ghost_name ≡ K.name }
@@ -204,7 +213,7 @@ fn run_lent<'a, R: Wait, S: Sink, K: UnitRun, B: Body>(
     ensures running { IsRunning K.frame K.keys.unit K.start (S.view result.sink.now)
         (with_ids K.frame.table run.new.progress.running) run.new.progress.registered
         run.new.progress.next }
-    ensures played { HasPlayed K.frame.table K.may_end K.keys.first run.new.progress.next K.start
+    ensures played { HasPlayed K.frame.table K.may_step K.keys.first run.new.progress.next K.start
         (S.view result.sink.now) }
     ensures since { Extends K.since (S.view result.sink.now) }
     ensures may { IfOk run.new.outcome (λ outcome. B.may_end body.now outcome) }

@@ -1,5 +1,5 @@
 //! The ids that a unit has registered.
-ghost use Rattle.std.specs.Prelude.{◌≡◌, List, [], ℕ, ◌||◌, OnOk, OnErr, bytes_eq, true};
+ghost use Rattle.std.specs.Prelude.{◌≡◌, List, [], ℕ, ◌&&◌, ◌||◌, OnOk, OnErr, bytes_eq, not};
 ghost use Rattle.tk_ids.specs.IdText.{id_text};
 ghost use Rattle.tk_engine_hierarchical.specs.RegisteredIds.{is_registered};
 
@@ -48,5 +48,13 @@ impl RegisteredIds {
         let text = id.shared_text()?;
         self.by_text.insert(text, 0)?;
         Ok(())
+    }
+
+    /// Takes an id off again.
+    pub(crate) fn remove(&mut self, id: &UniqueId)
+        ensures { (text : List ℕ) → is_registered self.new text
+            ≡ (not (bytes_eq text (id_text id.now)) && is_registered self.old text) }
+    {
+        let _value = self.by_text.swap_remove(id.as_text().as_str());
     }
 }

@@ -1,11 +1,11 @@
 //! What a test publishes while it runs.
-ghost use Rattle.std.specs.Prelude.{◌≡◌, ℕ, OnErr, OnOk, Some, length};
+ghost use Rattle.std.specs.Prelude.{◌≡◌, ◌≤◌, ℕ, OnErr, OnOk, Some, length};
 ghost use Rattle.tk_ids.specs.declared.descriptors.DType.TheVariants.{Container, Test};
 ghost use Rattle.tk_events.specs.declared.kinds.Kind.TheVariants as kinds;
 ghost use Rattle.tk_events.specs.declared.payloads.Payload.TheVariants as payloads;
 ghost use Rattle.tk_engine_execute.specs.Engines.{Extends, IsSameSender};
-ghost use Rattle.tk_engine_hierarchical.specs.Endings.{IsStaticTest, payload_of};
-ghost use Rattle.tk_engine_hierarchical.specs.Reporting.{EndsChild, Grew, HasFinished, HasRunChild, HasSkipped, Published, event};
+ghost use Rattle.tk_engine_hierarchical.specs.Endings.{payload_of};
+ghost use Rattle.tk_engine_hierarchical.specs.Reporting.{EndsChild, Grew, HasBrokenOff, HasFinished, HasRunChild, HasSkipped, Published, event};
 
 use crate::tests::{Body, Outcome, payload_of};
 use crate::unit_events::{Child, UnitEvents};
@@ -25,16 +25,17 @@ pub struct Reporter<'a, S: Sink, K: UnitRun> {
 }
 
 impl<'a, S: Sink, K: UnitRun> Reporter<'a, S, K> {
-    /// Finishes a key, which has to be the innermost running one.
+    /// Finishes a dynamic key, which has to be the innermost running one.
     pub(crate) fn finish<R: Wait>(
         &mut self,
         rt: &R,
         key: u32,
         outcome: Outcome,
     ) -> Result<(), UnitFault>
-        requires { IsStaticTest K.frame.table key → K.may_end key outcome }
-        ensures { OnOk result (HasFinished self.old.events self.new.events
+        requires { length K.frame.table ≤ key }
+        ensures ok { OnOk result (HasFinished self.old.events self.new.events
             (event kinds.Finished key self.old.events.stamp (payload_of outcome))) }
+        ensures err { OnErr result (self.new.events ≡ self.old.events) }
     {
         let stamp = self.events.stamp();
         self.events.finish(rt, key, stamp, payload_of(outcome))
@@ -52,6 +53,15 @@ impl<'a, S: Sink, K: UnitRun> Reporter<'a, S, K> {
             (EndsChild (length K.frame.table) (B.may_end body.now) self.new.events) }
         ensures child { OnOk result ((above : ℕ)
             × HasRunChild (B.may_run body.now) self.old.events self.new.events
+            (record {
+              parent = above;
+              segment = child.now.segment.now;
+              name = child.now.name.now;
+              dtype = child.now.dtype;
+              stamp = self.old.events.stamp;
+            })) }
+        ensures err { OnErr result ((above : ℕ)
+            × HasBrokenOff self.old.events self.new.events
             (record {
               parent = above;
               segment = child.now.segment.now;
@@ -87,7 +97,6 @@ impl<'a, S: Sink, K: UnitRun> Reporter<'a, S, K> {
         ensures ok { OnOk result ((key : ℕ) × Published self.old.events self.new.events
             (event kinds.Reporting key self.old.events.stamp (payloads.Report pairs))) }
         ensures err { OnErr result (self.new.events ≡ self.old.events) }
-        ensures finish { self.new.events.own_stamp ≡ self.old.events.own_stamp }
     {
         let stamp = self.events.stamp();
         self.events
@@ -102,7 +111,6 @@ impl<'a, S: Sink, K: UnitRun> Reporter<'a, S, K> {
         ensures ok { OnOk result ((key : ℕ) × Published self.old.events self.new.events
             (event kinds.File key self.old.events.stamp (payloads.Path path))) }
         ensures err { OnErr result (self.new.events ≡ self.old.events) }
-        ensures finish { self.new.events.own_stamp ≡ self.old.events.own_stamp }
     {
         let stamp = self.events.stamp();
         self.events
@@ -128,6 +136,15 @@ impl<'a, S: Sink, K: UnitRun> Reporter<'a, S, K> {
             (EndsChild (length K.frame.table) (B.may_end body.now) self.new.events) }
         ensures child { OnOk result ((above : ℕ)
             × HasRunChild (B.may_run body.now) self.old.events self.new.events
+            (record {
+              parent = above;
+              segment = segment.now;
+              name = name.now;
+              dtype = Test;
+              stamp = self.old.events.stamp;
+            })) }
+        ensures err { OnErr result ((above : ℕ)
+            × HasBrokenOff self.old.events self.new.events
             (record {
               parent = above;
               segment = segment.now;
@@ -175,6 +192,15 @@ impl<'a, S: Sink, K: UnitRun> Reporter<'a, S, K> {
               dtype = Container;
               stamp = self.old.events.stamp;
             })) }
+        ensures err { OnErr result ((above : ℕ)
+            × HasBrokenOff self.old.events self.new.events
+            (record {
+              parent = above;
+              segment = segment.now;
+              name = name.now;
+              dtype = Container;
+              stamp = self.old.events.stamp;
+            })) }
         // Whatever the body does.
         ensures same { IsSameSender K.start self.new.events.sink }
         ensures some { Extends K.start self.new.events.sink }
@@ -211,7 +237,6 @@ impl<'a, S: Sink, K: UnitRun> Reporter<'a, S, K> {
               stamp = self.old.events.stamp;
             }) (event kinds.Skipped key self.old.events.stamp (payloads.Reason reason))) }
         ensures err { OnErr result (Grew self.old.events self.new.events) }
-        ensures finish { self.new.events.own_stamp ≡ self.old.events.own_stamp }
     {
         let child = Child {
             segment,

@@ -3,7 +3,7 @@ ghost use Rattle.std.specs.Prelude.{◌≡◌, ◌<◌, ◌≤◌, ◌∷◌, �
 ghost use Rattle.tk_engine_execute.specs.Engines.{Extends, IsSameSender};
 ghost use Rattle.tk_events.specs.declared.kinds.Kind.TheVariants.{Finished, Skipped, Started};
 ghost use Rattle.tk_events.specs.declared.payloads.Payload.TheVariants.{Nothing};
-ghost use Rattle.tk_engine_hierarchical.specs.Endings.{IsStaticTest, MayFinish};
+ghost use Rattle.tk_engine_hierarchical.specs.Endings.{IsStaticTest};
 ghost use Rattle.tk_engine_hierarchical.specs.Events.{HasRun, IsRunning};
 ghost use Rattle.tk_engine_hierarchical.specs.Reporting.{Grew, HasFinished, HasSkipped, HasStarted, Published, event, publishes};
 ghost use Rattle.tk_engine_hierarchical.specs.Running.{with_ids};
@@ -115,7 +115,7 @@ impl<'a, S: Sink, K: UnitRun> Model for UnitEvents<'a, S, K> {
         × (e.progress.end ≡ K.keys.end)
         × IsRunning K.frame K.keys.unit K.start (S.view e.lease.sink.now)
         (with_ids K.frame.table e.progress.running) e.progress.registered e.progress.next
-        × HasPlayed K.frame.table K.may_end K.keys.first e.progress.next K.start
+        × HasPlayed K.frame.table K.may_step K.keys.first e.progress.next K.start
         (S.view e.lease.sink.now)
         × Extends K.since (S.view e.lease.sink.now) };
 }
@@ -167,7 +167,7 @@ impl<'a, S: Sink, K: UnitRun> UnitEvents<'a, S, K> {
         requires end { progress.end ≡ K.keys.end }
         requires running { IsRunning K.frame K.keys.unit K.start (S.view lease.sink.now)
             (with_ids K.frame.table progress.running) progress.registered progress.next }
-        requires played { HasPlayed K.frame.table K.may_end K.keys.first progress.next K.start
+        requires played { HasPlayed K.frame.table K.may_step K.keys.first progress.next K.start
             (S.view lease.sink.now) }
         requires since { K.since ≡ S.view lease.sink.now }
         ensures { result ≡ unit_view K.frame.table K.since progress }
@@ -187,7 +187,7 @@ impl<'a, S: Sink, K: UnitRun> UnitEvents<'a, S, K> {
         ensures end { result.1.end ≡ K.keys.end }
         ensures running { IsRunning K.frame K.keys.unit K.start (S.view result.0.sink.now)
             (with_ids K.frame.table result.1.running) result.1.registered result.1.next }
-        ensures played { HasPlayed K.frame.table K.may_end K.keys.first result.1.next K.start
+        ensures played { HasPlayed K.frame.table K.may_step K.keys.first result.1.next K.start
             (S.view result.0.sink.now) }
         ensures since { Extends K.since (S.view result.0.sink.now) }
         ensures view { self.entry ≡ unit_view K.frame.table (S.view result.0.sink.now) result.1 }
@@ -229,7 +229,7 @@ impl<'a, S: Sink, K: UnitRun> UnitEvents<'a, S, K> {
         ensures same { IsSameSender K.start (S.view result.0.sink.now) }
         ensures some { Extends K.start (S.view result.0.sink.now) }
         ensures run { IsTrue result.1
-            → HasRun K.frame K.may_end K.keys K.start (S.view result.0.sink.now) }
+            → HasRun K.frame K.may_step K.keys K.start (S.view result.0.sink.now) }
     {
         let rests = self.progress.running.top().is_none();
         let had_turns = self.progress.end <= self.progress.next;
@@ -247,7 +247,8 @@ impl<'a, S: Sink, K: UnitRun> UnitEvents<'a, S, K> {
 
     /// Whether the key is that of a static test.
     pub(crate) fn is_static_test(&self, key: u32) -> bool
-        ensures { result ≡ false → ¬ IsStaticTest K.frame.table key }
+        ensures test { IsTrue result → IsStaticTest K.frame.table key }
+        ensures other { result ≡ false → ¬ IsStaticTest K.frame.table key }
     {
         match self.shape.table().get(key) {
             Some(descriptor) => descriptor.dtype.is_test(),
@@ -287,7 +288,9 @@ impl<'a, S: Sink, K: UnitRun> UnitEvents<'a, S, K> {
     }
 
     /// Starts the next static descriptor, below the innermost running key.
-    pub(crate) fn start<R: Wait>(&mut self, rt: &R, key: u32, stamp: u64) -> Result<(), UnitFault> {
+    pub(crate) fn start<R: Wait>(&mut self, rt: &R, key: u32, stamp: u64) -> Result<(), UnitFault>
+        requires { K.may_step (event Started key stamp Nothing) }
+    {
         let Some(next) = key.checked_add(1) else {
             return Err(UnitFault::Own(OUT_OF_ORDER));
         };
@@ -326,7 +329,9 @@ impl<'a, S: Sink, K: UnitRun> UnitEvents<'a, S, K> {
         key: u32,
         stamp: u64,
         reason: Payload,
-    ) -> Result<(), UnitFault> {
+    ) -> Result<(), UnitFault>
+        requires { K.may_step (event Skipped key stamp reason) }
+    {
         if key != self.progress.next {
             return Err(UnitFault::Own(OUT_OF_ORDER));
         }
@@ -361,7 +366,6 @@ impl<'a, S: Sink, K: UnitRun> UnitEvents<'a, S, K> {
         ensures ok { OnOk result ((key : ℕ)
             × Published self.old self.new (event kind key stamp payload)) }
         ensures err { OnErr result (self.new ≡ self.old) }
-        ensures own_stamp { self.new.own_stamp ≡ self.old.own_stamp }
     {
         let innermost = innermost(&self.progress.running)?;
         let event = Event {
@@ -381,7 +385,8 @@ impl<'a, S: Sink, K: UnitRun> UnitEvents<'a, S, K> {
         stamp: u64,
         outcome: Payload,
     ) -> Result<(), UnitFault>
-        requires { MayFinish K.frame.table K.may_end key outcome }
+        requires { key < length K.frame.table
+            → K.may_step (event Finished key stamp outcome) }
         ensures ok { OnOk result
             (HasFinished self.old self.new (event Finished key stamp outcome)) }
         ensures err { OnErr result (self.new ≡ self.old) }
@@ -420,6 +425,7 @@ impl<'a, S: Sink, K: UnitRun> UnitEvents<'a, S, K> {
               dtype = child.now.dtype;
               stamp = registered;
             }) (event Started key stamp Nothing)) }
+        ensures err { OnErr result (Grew self.old self.new) }
     {
         let innermost = innermost(&self.progress.running)?;
         let (key, id) = self.lease.register_child(
@@ -470,7 +476,6 @@ impl<'a, S: Sink, K: UnitRun> UnitEvents<'a, S, K> {
               stamp = registered;
             }) (event Skipped key stamp reason)) }
         ensures err { OnErr result (Grew self.old self.new) }
-        ensures own_stamp { self.new.own_stamp ≡ self.old.own_stamp }
     {
         let innermost = innermost(&self.progress.running)?;
         let (key, _id) = self.lease.register_child(

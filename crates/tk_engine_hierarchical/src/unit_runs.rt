@@ -3,20 +3,20 @@
 use std::marker::Brand;
 
 /// Which run of a unit a proof speaks of: the engine's frame, the unit and its static keys, which
-/// outcomes a static test may have, the sink as it was when the unit began, as it was when the body
+/// steps its static keys may have, the sink as it was when the unit began, as it was when the body
 /// that runs began, and the name of the reference to it. Each call of a unit or of a body picks it.
 pub trait UnitRun {
     ghost use Rattle.std.specs.Prelude.{ℕ};
     ghost use Rattle.tk_engine_lifecycle.specs.Units.{Frame};
     ghost use Rattle.tk_queue_session.specs.Senders.{SenderView};
     ghost use Rattle.tk_engine_hierarchical.specs.Units.{UnitKeys};
-    ghost use Rattle.tk_engine_hierarchical.specs.declared.tests.Outcome.{Outcome};
+    ghost use Rattle.tk_events.specs.declared.events.Event.{Event};
 
     ghost frame: { Frame };
 
     ghost keys: { UnitKeys };
 
-    ghost may_end: { ℕ → Outcome → Type 0 };
+    ghost may_step: { Event → Type 0 };
 
     ghost start: { SenderView };
 
@@ -33,7 +33,7 @@ impl UnitRun for Brand {
 
     ghost keys = { record { unit = 0; first = 0; end = 0 } };
 
-    ghost may_end = { λ key outcome. Unit {0} };
+    ghost may_step = { λ event. Unit {0} };
 
     ghost start = { record {
       session = record {

@@ -6,6 +6,7 @@ use Rattle.tk_plan_units.specs.Cutting.{after_of, before_of}
 use Rattle.tk_plan_units.specs.Trees.{forest}
 use Rattle.tk_engine_runs.specs.Run.{IsRun}
 use Rattle.tk_engine_hierarchical.specs.Shapes.{may_emit}
+use Rattle.tk_engine_hierarchical.specs.Steps.{FitsPlan}
 use Rattle.tk_engine_hierarchical.proofs.Nested.{units_nest}
 use Rattle.tk_engine_hierarchical.proofs.Shaped.{kept_units}
 use Rattle.tk_engine_hierarchical.proofs.laws.nesting.Goals as goal
@@ -14,11 +15,11 @@ pub returns : goal.returns
 returns g c =
     let s = c.args.engine.now.shape in
     let root = forest c.args.engine.now.scripted.nodes in
-    let may_end = g.T.Tests.may_end c.args.engine.now.tests in
-    let may : ℕ → ℕ → ℕ → List Event → Type 0 = may_emit s may_end in
+    let may_step = FitsPlan c.args.engine.now.scripted (g.T.Tests.may_end c.args.engine.now.tests) in
+    let may : ℕ → ℕ → ℕ → List Event → Type 0 = may_emit s may_step in
     let shown = c.shows_shape.ensures in
     let r = c.args.results.now.recorded in
-    units_nest s may_end c.requires.0 r (kept_units s may_end shown.around)
+    units_nest s may_step c.requires.0 r (kept_units s may_step shown.around)
     (subst (λ (t : List Descriptor). IsRun may t s.before s.after s.units c.requires.0 r) (sym shown.table)
     (subst (λ b. IsRun may c.args.engine.now.scripted.table b s.after s.units c.requires.0 r) (sym shown.before)
     (subst (λ a. IsRun may c.args.engine.now.scripted.table (before_of root) a s.units c.requires.0 r) (sym shown.after)

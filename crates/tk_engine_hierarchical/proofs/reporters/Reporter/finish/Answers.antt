@@ -1,8 +1,9 @@
+use Rattle.std.proofs.Common.{arith}
 use Rattle.tk_engine_hierarchical.proofs.Reported.{finished_as, on_ok}
 use Rattle.tk_engine_hierarchical.proofs.reporters.Reporter.finish.Goals as goal
 
 pub finish-requires : goal.finish-requires
-finish-requires g c = λ t. (c.args.outcome, c.requires t, c.payload_of.ensures)
+finish-requires g c = λ low. absurd (omega (arith, low, c.requires))
 
-pub returns : goal.returns
-returns g c = on_ok c.finish.result c.finish.ensures.ok (λ f. finished_as _ _ c.args.key _ _ _ _ c.stamp-stamp.ensures c.payload_of.ensures f)
+pub returns-clause-ok : goal.returns-clause-ok
+returns-clause-ok g c = on_ok c.finish.result c.finish.ensures.ok (λ f. finished_as _ _ c.args.key _ _ _ _ c.stamp-stamp.ensures c.payload_of.ensures f)

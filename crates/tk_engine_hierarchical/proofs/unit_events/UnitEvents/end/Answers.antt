@@ -11,7 +11,7 @@ returns-clause-run g c = λ done.
       | then-rests w ↦
           (let over = sym w.result-is ∙ done in
           let past : c.self.inside.progress.end ≤ c.self.inside.progress.next = grind (arith, tests, over) in
-          ran_all g.K.UnitRun.frame g.K.UnitRun.may_end g.K.UnitRun.keys g.K.UnitRun.start _ (with_ids t c.self.inside.progress.running) c.self.inside.progress.registered c.self.inside.progress.next c.self.invariant.4 c.self.invariant.5
+          ran_all g.K.UnitRun.frame g.K.UnitRun.may_step g.K.UnitRun.keys g.K.UnitRun.start _ (with_ids t c.self.inside.progress.running) c.self.inside.progress.registered c.self.inside.progress.next c.self.invariant.4 c.self.invariant.5
           (ap (with_ids t) (at_none c.top.result c.is_none-rests.result _ c.is_none-rests.ensures c.top.ensures.none w.if-rests.true))
           (subst (λ n. n ≤ c.self.inside.progress.next) c.self.invariant.3 past))
       | else-rests w ↦ (let bad : false ≡ true = sym w.if-rests.false ∙ sym w.result-is ∙ done in cc)

@@ -21,7 +21,7 @@ invariant_of-self-2 g c =
       i.3,
       subst (λ s. IsRunning g.K.UnitRun.frame g.K.UnitRun.keys.unit g.K.UnitRun.start s (with_ids t c.pop-finished.new.self) c.self.inside.progress.registered c.self.inside.progress.next) (sym c.in_ok-emit.ensures.ok)
           (ran_finish _ _ _ _ _ (with_ids t c.pop-finished.new.self) _ _ (with_id t first) _ i.4 (ap (with_ids t) left) refl (sym c.if-innermost-key.false)),
-      subst (λ s. HasPlayed g.K.UnitRun.frame.table g.K.UnitRun.may_end g.K.UnitRun.keys.first c.self.inside.progress.next g.K.UnitRun.start s) (sym c.in_ok-emit.ensures.ok)
-          (played_more g.K.UnitRun.frame.table g.K.UnitRun.may_end g.K.UnitRun.keys.first g.K.UnitRun.start _ c.self.inside.progress.next _ i.5 (λ f. c.requires)),
+      subst (λ s. HasPlayed g.K.UnitRun.frame.table g.K.UnitRun.may_step g.K.UnitRun.keys.first c.self.inside.progress.next g.K.UnitRun.start s) (sym c.in_ok-emit.ensures.ok)
+          (played_more g.K.UnitRun.frame.table g.K.UnitRun.may_step g.K.UnitRun.keys.first g.K.UnitRun.start _ c.self.inside.progress.next _ i.5 (λ low step. c.requires low)),
       subst (λ s. Extends g.K.UnitRun.since s) (sym c.in_ok-emit.ensures.ok) (extends_more _ _ _ i.6),
     )

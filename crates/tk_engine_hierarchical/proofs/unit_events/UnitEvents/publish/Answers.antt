@@ -4,7 +4,7 @@ use Rattle.tk_engine_hierarchical.proofs.Reported.{extends_more, on_ok, publishe
 use Rattle.tk_engine_hierarchical.specs.Events.{IsRunning}
 use Rattle.tk_engine_hierarchical.specs.Running.{with_id, with_ids}
 use Rattle.tk_engine_hierarchical.specs.Units.{HasPlayed}
-use Rattle.tk_engine_hierarchical.proofs.Played.{played_plain, published_is_not}
+use Rattle.tk_engine_hierarchical.proofs.Played.{played_plain, published_is_no_step}
 use Rattle.tk_engine_hierarchical.proofs.Running.{after_emit, ran_published}
 use Rattle.tk_engine_execute.specs.Engines.{Extends}
 use Rattle.tk_engine_hierarchical.proofs.unit_events.UnitEvents.publish.Goals as goal
@@ -20,8 +20,8 @@ invariant_of-self g c =
       i.3,
       after_emit _ _ _ c.emit.result (λ s. IsRunning g.K.UnitRun.frame g.K.UnitRun.keys.unit g.K.UnitRun.start s (with_ids t c.self.inside.progress.running) c.self.inside.progress.registered c.self.inside.progress.next) c.emit.ensures.ok c.emit.ensures.err i.4
           (ran_published _ _ _ _ _ _ _ (with_id t c.in_ok-innermost.innermost.now) _ i.4 (with_ids t some.0, ap (with_ids t) some.1) c.requires refl),
-      after_emit _ _ _ c.emit.result (λ s. HasPlayed g.K.UnitRun.frame.table g.K.UnitRun.may_end g.K.UnitRun.keys.first c.self.inside.progress.next g.K.UnitRun.start s) c.emit.ensures.ok c.emit.ensures.err i.5
-          (played_plain g.K.UnitRun.frame.table g.K.UnitRun.may_end g.K.UnitRun.keys.first g.K.UnitRun.start _ c.self.inside.progress.next _ c.args.kind refl (published_is_not c.args.kind c.requires) i.5),
+      after_emit _ _ _ c.emit.result (λ s. HasPlayed g.K.UnitRun.frame.table g.K.UnitRun.may_step g.K.UnitRun.keys.first c.self.inside.progress.next g.K.UnitRun.start s) c.emit.ensures.ok c.emit.ensures.err i.5
+          (played_plain g.K.UnitRun.frame.table g.K.UnitRun.may_step g.K.UnitRun.keys.first g.K.UnitRun.start _ c.self.inside.progress.next _ c.args.kind refl (published_is_no_step c.args.kind c.requires) i.5),
       after_emit _ _ _ c.emit.result (λ s. Extends g.K.UnitRun.since s) c.emit.ensures.ok c.emit.ensures.err i.6 (extends_more _ _ _ i.6),
     )
 
@@ -32,4 +32,4 @@ returns-clause-ok g c =
     let t = g.K.UnitRun.frame.table in
     let some = c.in_ok-innermost.ensures in
     on_ok c.emit.result c.emit.ensures.ok
-    (λ e. published _ _ _ (with_ids t c.self.inside.progress.running) (with_ids t some.0) (with_id t c.in_ok-innermost.innermost.now) c.args.kind c.args.stamp c.args.payload (sym sink) (sym runs) (ap (with_ids t) some.1) e runs (ap (λ (v : UnitView). v.stamp) c.self.view_is))
+    (λ e. published _ _ _ (with_ids t c.self.inside.progress.running) (with_ids t some.0) (with_id t c.in_ok-innermost.innermost.now) c.args.kind c.args.stamp c.args.payload (sym sink) (sym runs) (ap (with_ids t) some.1) e runs (ap (λ (v : UnitView). v.stamp) c.self.view_is) (ap (λ (v : UnitView). v.own_stamp) c.self.view_is))

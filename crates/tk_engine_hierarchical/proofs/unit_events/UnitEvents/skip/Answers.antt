@@ -25,8 +25,8 @@ invariant_of-self-2 g c =
       skipped f g.K.UnitRun.keys.unit g.K.UnitRun.start _ _ (with_ids t p.running) p.registered p.next c.end_below-next.result c.args.key _
           c.in_ok-emit.ensures.ok c.end_below-next.ensures.more refl refl i.4
           (may_here c.self.inside.shape.now f p.unit g.K.UnitRun.keys.unit c.args.key p.running i.1 i.2 (c.may_start.ensures c.if-not-may_start.false)) (omega (arith, c.if-key-self.false)),
-      played_skip t g.K.UnitRun.may_end g.K.UnitRun.keys.first g.K.UnitRun.start _ _ p.next c.end_below-next.result c.args.key d.id _ c.in_ok-emit.ensures.ok c.if-key-self.false refl refl
+      played_skip t g.K.UnitRun.may_step g.K.UnitRun.keys.first g.K.UnitRun.start _ _ p.next c.end_below-next.result c.args.key d.id _ c.in_ok-emit.ensures.ok c.if-key-self.false refl refl
           (described_here t c.args.key d is)
-          (λ other a b. subst (λ (l : List Descriptor). IsKeyBelow l d.id other) (c.deref-2.ensures ∙ c.table-2.ensures ∙ table) (c.end_below-next.ensures.below other a b)) i.5,
+          (λ other a b. subst (λ (l : List Descriptor). IsKeyBelow l d.id other) (c.deref-2.ensures ∙ c.table-2.ensures ∙ table) (c.end_below-next.ensures.below other a b)) c.requires i.5,
       subst (λ s. Extends g.K.UnitRun.since s) (sym c.in_ok-emit.ensures.ok) (extends_more _ _ _ i.6),
     )

@@ -21,6 +21,6 @@ invariant_of-self-in-Ok g c =
           c.in-Ok.ensures.ok (ap (with_ids t) c.in_ok-push.ensures.ok) c.in-Some.ensures.1 refl refl i.4
           may (omega (arith, c.if-key-self.false))
           (static_is f g.K.UnitRun.keys.unit c.args.key (keys_of (with_ids t p.running)) may),
-      played_start t g.K.UnitRun.may_end g.K.UnitRun.keys.first g.K.UnitRun.start _ _ p.next c.in-Some.next c.args.key _ c.in-Ok.ensures.ok c.in-Some.ensures.1 c.if-key-self.false refl refl i.5,
+      played_start t g.K.UnitRun.may_step g.K.UnitRun.keys.first g.K.UnitRun.start _ _ p.next c.in-Some.next c.args.key _ c.in-Ok.ensures.ok c.in-Some.ensures.1 c.if-key-self.false refl refl c.requires i.5,
       subst (λ s. Extends g.K.UnitRun.since s) (sym c.in-Ok.ensures.ok) (extends_more _ _ _ i.6),
     )

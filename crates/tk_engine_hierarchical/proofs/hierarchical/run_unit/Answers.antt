@@ -1,0 +1,14 @@
+use Rattle.tk_engine_hierarchical.proofs.Stepped.{all_found_fit, found_fits, unit_found}
+use Rattle.tk_engine_hierarchical.proofs.hierarchical.run_unit.Goals as goal
+
+pub run_tree-played-requires-clause-may : goal.run_tree-played-requires-clause-may
+run_tree-played-requires-clause-may g c =
+    let tree = c.unit_tree-tree.result in
+    let found = unit_found c.args.plan.now.nodes c.args.unit tree.first tree.top.now tree.below.now c.table-table.ensures.planned.trees c.table-table.ensures.numbered c.unit_tree-tree.ensures.below c.unit_tree-tree.ensures.piece in
+    found_fits c.args.plan.now g.K.UnitRun.frame.table (g.T.Tests.may_end c.args.tests.now) g.K.UnitRun.may_step c.requires.plan_table c.requires.may tree.top.now found.0
+
+pub run_tree-played-requires-clause-may_below : goal.run_tree-played-requires-clause-may_below
+run_tree-played-requires-clause-may_below g c =
+    let tree = c.unit_tree-tree.result in
+    let found = unit_found c.args.plan.now.nodes c.args.unit tree.first tree.top.now tree.below.now c.table-table.ensures.planned.trees c.table-table.ensures.numbered c.unit_tree-tree.ensures.below c.unit_tree-tree.ensures.piece in
+    all_found_fit c.args.plan.now g.K.UnitRun.frame.table (g.T.Tests.may_end c.args.tests.now) g.K.UnitRun.may_step c.requires.plan_table c.requires.may tree.below.now found.1
