@@ -73,7 +73,7 @@ def copy_built(folder: str, crates: Sequence[str]) -> None:
     wanted = {it for crate in crates for it in [*libraries_below(crate, listed), crate]}
     missing = [crate for crate in wanted if not os.path.isfile(f"{ROOT}/crates/{crate}/out/rlib/stamp")]
     if missing:
-        raise NotMeasured(f"not built: {' '.join(sorted(missing))}. Call ./testkit first, which proves and builds them")
+        raise NotMeasured(f"not built: {' '.join(sorted(missing))}. Call `rt lib` in the folder of each first, which proves and builds it")
     for crate in wanted:
         for part in PARTS:
             path, to = f"{ROOT}/crates/{crate}/{part}", f"{folder}/crates/{crate}/{part}"

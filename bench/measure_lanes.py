@@ -1,7 +1,7 @@
 #!/usr/bin/env -S python3 -B
 """Measures the kernels of tk_lanes beside plain Rust loops, over 16 MiB: `bench/measure_lanes.py`.
 
-It wants the libraries that `./testkit` builds, rt and rustc, and leaves nothing behind. The exports for a caller in C
+It wants the libraries that `rt lib` builds, rt and rustc, and leaves nothing behind. The exports for a caller in C
 (lanes/exports.rt.in) are proved and built in a copy, over the library, since they are no part of the product. Each line: a kernel, the
 milliseconds of both, the median of nine runs in turn, and their ratio; once with the plain loops (lanes/main.rs) by rustc -O, and once by
 rustc -O -C target-cpu=native (the kernels are for x86-64-v2).

@@ -1,7 +1,7 @@
 #!/usr/bin/env -S python3 -B
 """Measures how long `read_plan` takes for plans of several shapes, most near 16 MiB: `bench/measure_plan.py`.
 
-Beside it stands serde_json's reading of the same bytes. It wants the libraries that `./testkit` builds and rt, and leaves nothing behind.
+Beside it stands serde_json's reading of the same bytes. It wants the libraries that `rt lib` builds, and rt, and leaves nothing behind.
 The program (plan/main.rt.in) is proved and built in a copy, over the libraries, since it is no part of the product; each reading has a
 process of its own, as a plan has in use. On a busy machine PRIORITY="chrt -f 10" before it gives the program a processor when it wants it.
 

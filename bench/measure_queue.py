@@ -2,7 +2,7 @@
 """Measures events a second through one session of tk_queue with 1, 2, 4 and 8 senders and capacity 64: `bench/measure_queue.py`.
 
 Beside it stand plain bounded queues (queue/plain.rs, rustc -O) with the same push into a record at their end. It wants the libraries that
-`./testkit` builds, rt and rustc, and leaves nothing behind. The program (queue/main.rt.in) is proved and built in a copy, over the
+`rt lib` builds, rt and rustc, and leaves nothing behind. The program (queue/main.rt.in) is proved and built in a copy, over the
 libraries. On a busy machine PRIORITY="chrt -f 10" before it gives each program a processor when it wants it.
 
 Each line: senders; millions of events a second, medians of 15 rounds in turn: of the session; of the plain queue, the better of waiting at

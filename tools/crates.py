@@ -6,10 +6,11 @@ from typing import Dict, List
 
 @dataclass(frozen=True)
 class Crate:
-    """A crate of the repository: its line without the comment, and the libraries of the repository that it names."""
+    """A crate of the repository: its line without the comment, and the libraries that it names, of the repository and of the toolchain."""
 
     line: str
     libraries: List[str]
+    of_toolchain: List[str]
 
 
 def read_crates(top: str) -> Dict[str, Crate]:
@@ -17,7 +18,10 @@ def read_crates(top: str) -> Dict[str, Crate]:
     with open(f"{top}/crates.txt", encoding="utf-8") as file:
         lines = [line.partition("#")[0].strip() for line in file]
     found = {line.partition(":")[0].split()[0]: line for line in lines if line}
-    return {name: Crate(line, [it for it in line.partition(":")[2].split() if it in found]) for name, line in found.items()}
+    named = {name: line.partition(":")[2].split() for name, line in found.items()}
+    return {
+        name: Crate(line, [it for it in named[name] if it in found], [it for it in named[name] if it not in found]) for name, line in found.items()
+    }
 
 
 def libraries_below(name: str, crates: Dict[str, Crate]) -> List[str]:

@@ -1,9 +1,8 @@
-"""Proves the crates of the program beside each other, each in a room of its own, and links the program.
+"""Proves the crates of the program beside each other, and links the program.
 
-Each crate is proved by `rt lib` once its libraries are proved, and the program by `rt run`. Those with the longest chain of crates above
-them come first, and the idle processors are shared among the crates that are ready, by their lines. Two calls of `rt lib` in one tree wait
-for each other, so each has a room: a folder with the sources as they were at the start, what is built of the libraries, and the crate's kept
-proofs. What it makes there goes to the crate's out/, with a list of what it was built from.
+Each crate is proved by the compiler, `rattle build`, once its libraries are proved. Those with the longest chain of crates above them come
+first, and the idle processors are shared among the crates that are ready, by their lines. A library is kept with what its contracts state and
+without its proofs, which is all that the crates above it read, and beside it a list of what it was built from.
 """
 
 import contextlib
@@ -13,14 +12,10 @@ import shutil
 import signal
 import subprocess
 import sys
-import time
 from dataclasses import dataclass
-from typing import Callable, Dict, Iterator, List
+from typing import Dict, Iterator, List
 
 from crates import Crate, libraries_below
-
-SECONDS_TO_END = 10
-"""How many seconds `rt` has to end after an interrupt."""
 
 MOST_JOBS = 4
 """How many jobs a proof gets at most."""
@@ -32,10 +27,8 @@ INTERRUPTS = (signal.SIGINT, signal.SIGTERM, signal.SIGHUP)
 
 ROOT = os.path.dirname(os.path.dirname(os.path.realpath(__file__)))
 OUT = f"{ROOT}/crates/testkit/out"
-ROOMS = f"{ROOT}/.git/testkit-rooms" if os.path.isdir(f"{ROOT}/.git") else f"{OUT}/rooms"
-"""Where crates are proved, on the disk of the repository. `rt ci` stops at a second crates.txt, but not below .git."""
-SNAPSHOT = f"{ROOMS}/.sources"
-"""The crates' sources as they were when the proofs began."""
+LIBRARIES = f"{OUT}/rlib"
+"""Where each crate has a folder of what is made of it. Elsewhere `rt all` refuses a library's sources. `rt ci` puts this folder back."""
 
 
 class NotBuilt(Exception):
@@ -44,7 +37,7 @@ class NotBuilt(Exception):
 
 @dataclass(frozen=True)
 class Proof:
-    """A crate that is being proved in its room, with so many jobs."""
+    """A crate that is being proved, with so many jobs, or the program that is being linked."""
 
     crate: str
     jobs: int
@@ -87,23 +80,18 @@ def made_of(names: List[str], crates: Dict[str, Crate]) -> str:
     return "".join(f"{line}\n" for line in lines)
 
 
-def out_of(name: str) -> str:
-    """Returns the folder of what is made of a crate."""
-    return f"{ROOT}/crates/{name}/out"
-
-
-def out_in_room(name: str) -> str:
-    """Returns the same folder in the crate's room."""
-    return f"{ROOMS}/{name}/crates/{name}/out"
+def library_of(name: str) -> str:
+    """Returns the folder that is a proved library, as the compiler writes it."""
+    return f"{LIBRARIES}/{name}/{name}.rlib"
 
 
 def list_of(name: str) -> str:
-    """Returns the file that lists what a library or the program was built from; `rt` removes a library's list when it builds it anew."""
-    return f"{OUT}/testkit.built_from" if name == "testkit" else f"{out_of(name)}/rlib/built_from"
+    """Returns the file that lists what a library or the program was built from."""
+    return f"{OUT}/testkit.built_from" if name == "testkit" else f"{LIBRARIES}/{name}/built_from"
 
 
 def is_built(name: str, wanted: str) -> bool:
-    """Returns whether a library or the program was built from this. (`rt run` looks at each library once more before it links.)"""
+    """Returns whether a library or the program was built from this."""
     try:
         with open(list_of(name), encoding="utf-8") as file:
             return file.read() == wanted
@@ -121,116 +109,104 @@ def uninterrupted() -> Iterator[None]:
         signal.pthread_sigmask(signal.SIG_SETMASK, before)
 
 
-def link_or_copy(path: str, to: str) -> None:
-    """Copies a file, by a link where both are on one disk: libraries are large, and `rt` writes into none of their files."""
-    try:
-        os.link(path, to)
-    except OSError:
-        shutil.copy2(path, to)
+def toolchain() -> str:
+    """Returns the folder of the toolchain."""
+    return os.path.dirname(os.path.dirname(os.path.realpath(shutil.which("rt") or "")))
 
 
-def copy(path: str, to: str, copy_file: Callable = link_or_copy) -> None:
-    """Copies a folder where it is there. A symbolic link stays one, which `rt` refuses."""
-    if os.path.isdir(path):
-        shutil.copytree(path, to, symlinks=True, copy_function=copy_file)
+def name_of_toolchain() -> str:
+    """Returns what tells this toolchain from others: no compiler reads a library that another one wrote."""
+    with open(f"{toolchain()}/WHAT", encoding="utf-8") as file:
+        return file.read()
 
 
-def move(path: str, to: str) -> None:
-    """Moves a file or folder where it is there, in place of what was there before."""
-    if os.path.exists(path):
-        os.makedirs(os.path.dirname(to), exist_ok=True)
-        shutil.rmtree(to, ignore_errors=True)
-        os.rename(path, to)
+def proving(name: str, jobs: int, crates: Dict[str, Crate]) -> List[str]:
+    """Returns the command that proves a crate, from nothing, and compiles it."""
+    kit, crate = toolchain(), crates[name]
+    libraries = [f"{it}={kit}/rlibs/{it}.rlib" for it in ("std", *crate.of_toolchain)] + [f"{it}={library_of(it)}" for it in crate.libraries]
+    folders = [f"{kit}/rlibs", *(os.path.dirname(library_of(it)) for it in libraries_below(name, crates))]
+    command = [f"{kit}/bin/rattle", "build", "--crate-name", name, "src/main.rt" if name == "testkit" else "src/lib.rt"]
+    command += [word for it in libraries for word in ("--extern", it)] + [word for it in folders for word in ("-L", f"dependency={it}")]
+    command += ["--antt-project", f"{kit}/rattle/logic/antt-project.json", "--logic-built", f"{kit}/logic_built"]
+    command += ["--links", f"{name}=", "--jobs", str(jobs)]
+    if name == "testkit":
+        return [*command, "--backend", "llvm", "--toolchain", f"{kit}/toolchain", "-o", f"{LIBRARIES}/testkit/testkit.o"]
+    return [*command, "--statements", "-o", library_of(name)]
 
 
-def keep_sources(names: List[str]) -> None:
-    """Copies the crates' sources to where rooms are made."""
-    for name in names:
-        for part in PARTS:
-            copy(f"{ROOT}/crates/{name}/{part}", f"{SNAPSHOT}/{name}/{part}", shutil.copy2)
-    # Where rooms are left since a call was killed, this file tells rt that their crates are not the repository's.
-    with open(f"{ROOMS}/MODULE.bazel", "w"):
-        pass
-
-
-def furnish(name: str, crates: Dict[str, Crate]) -> None:
-    """Makes the room of a crate: those below it with what is built of them, and the crate with its kept proofs."""
-    room, wanted = f"{ROOMS}/{name}", with_libraries(name, crates)
-    for it in wanted:
-        copy(f"{SNAPSHOT}/{it}", f"{room}/crates/{it}")
-        copy(f"{out_of(it)}/rlib", f"{room}/crates/{it}/out/rlib")
-    with open(f"{room}/crates.txt", "w", encoding="utf-8") as file:
-        file.writelines(f"{crates[it].line}\n" for it in wanted)
-    move(f"{out_of(name)}/incremental", f"{out_in_room(name)}/incremental")
+def linking() -> List[str]:
+    """Returns the command that links the program."""
+    kit = toolchain()
+    command = [f"{kit}/bin/rattle-link", "--target", "x86_64-unknown-linux-gnu", "--toolchain", f"{kit}/toolchain"]
+    command += ["-o", f"{LIBRARIES}/testkit/testkit", f"{LIBRARIES}/testkit/testkit.o"]
+    return [*command, f"{kit}/c/libos_c.a", f"{kit}/c/liblibc_c.a"]
 
 
 def hear_interrupts() -> None:
     signal.pthread_sigmask(signal.SIG_UNBLOCK, INTERRUPTS)
 
 
-def start(name: str, jobs: int, crates: Dict[str, Crate]) -> Proof:
-    """Starts `rt` in the room of a crate, in a group of processes of its own, which reads nothing."""
-    furnish(name, crates)
-    command = ["rt", "run" if name == "testkit" else "lib", "--jobs", str(jobs)]
-    with open(f"{ROOMS}/{name}/said", "wb") as said:
+def start(name: str, jobs: int, command: List[str]) -> Proof:
+    """Starts a command in the folder of a crate, in a group of processes of its own, which reads nothing."""
+    with open(f"{LIBRARIES}/{name}/said", "wb") as said:
         how = {"stdin": subprocess.DEVNULL, "stdout": said, "stderr": subprocess.STDOUT, "start_new_session": True, "preexec_fn": hear_interrupts}
-        return Proof(name, jobs, subprocess.Popen(command, cwd=os.path.dirname(out_in_room(name)), **how))
+        # (with the turn, see tools/build_program)
+        return Proof(name, jobs, subprocess.Popen(command, cwd=f"{ROOT}/crates/{name}", close_fds=False, **how))
 
 
 def start_ready(work: Work, processors: int) -> None:
-    """Starts the crates whose libraries are proved, while there are idle processors, which they share by their lines."""
+    """Starts the crates whose libraries are proved, while there are idle processors. They share these by their lines, save that the first,
+    for which most others wait, gets as many as half of all processors."""
     unproved = {*work.left, *(it.crate for it in work.running)}
     ready = [it for it in work.left if not unproved & {*work.crates[it].libraries}]
     for at, name in enumerate(ready):
         idle = processors - sum(it.jobs for it in work.running)
         if idle > 0:
             share = math.ceil(idle * work.lines[name] / sum(work.lines[it] for it in ready[at:]))
+            jobs = min(share if at else max(share, processors // 2), idle, MOST_JOBS)
+            shutil.rmtree(f"{LIBRARIES}/{name}", ignore_errors=True)
+            os.makedirs(f"{LIBRARIES}/{name}")
             with uninterrupted():
                 work.left.remove(name)
-                work.running.append(start(name, min(share, MOST_JOBS), work.crates))
+                work.running.append(start(name, jobs, proving(name, jobs, work.crates)))
 
 
-def refuse_failed(proof: Proof) -> None:
-    """Stops with the last lines of what `rt` wrote where it didn't prove the crate or link the program."""
-    # ('rt run' also runs the program, which with no words only refuses its command line)
-    is_made = os.path.isfile(f"{out_in_room('testkit')}/testkit") if proof.crate == "testkit" else proof.ran.returncode == 0
-    if not is_made:
-        with open(f"{ROOMS}/{proof.crate}/said", encoding="utf-8", errors="replace") as said:
-            sys.stderr.write("".join(said.read().splitlines(True)[-20:]))
-        raise NotBuilt(f"the program was not built: rt failed in {proof.crate}")
+def wait_for_one(running: List[Proof]) -> List[Proof]:
+    """Waits until one or more have ended, and takes them out. Stops with the last lines of what one wrote that failed, which stays in."""
+    os.waitid(os.P_ALL, 0, os.WEXITED | os.WNOWAIT)
+    ended = [it for it in running if it.ran.poll() is not None]
+    for it in ended:
+        if it.ran.returncode:
+            with open(f"{LIBRARIES}/{it.crate}/said", encoding="utf-8", errors="replace") as said:
+                sys.stderr.write("".join(said.read().splitlines(True)[-20:]))
+            raise NotBuilt(f"the program was not built: {os.path.basename(it.ran.args[0])} failed in {it.crate}")
+        running.remove(it)
+    return ended
 
 
-def take(name: str, built_from: str) -> None:
-    """Moves what was made in a crate's room to the crate's own folder, with the list of what it was built from."""
-    for it in os.listdir(out_in_room(name)):
-        move(f"{out_in_room(name)}/{it}", f"{out_of(name)}/{it}")
-    with open(f"{ROOMS}/{name}/built_from", "w", encoding="utf-8") as file:
+def write_list(name: str, built_from: str) -> None:
+    """Writes down what a library or the program was built from."""
+    with open(list_of(name), "w", encoding="utf-8") as file:
         file.write(built_from)
-    move(f"{ROOMS}/{name}/built_from", list_of(name))
-    shutil.rmtree(f"{ROOMS}/{name}", ignore_errors=True)
+
+
+def link(work: Work, built_from: str) -> None:
+    """Links the program, and puts it where it belongs."""
+    with uninterrupted():
+        work.running.append(start("testkit", 1, linking()))
+    wait_for_one(work.running)
+    # (a program without its list is one of the gate)
+    write_list("testkit", built_from)
+    os.replace(f"{LIBRARIES}/testkit/testkit", f"{OUT}/testkit")
+    shutil.rmtree(f"{LIBRARIES}/testkit")
 
 
 def end(running: List[Proof]) -> None:
-    """Interrupts each `rt` and all that it started."""
-    for number in (signal.SIGINT, signal.SIGKILL):
-        until = time.monotonic() + SECONDS_TO_END
-        for it in running:
-            with contextlib.suppress(ProcessLookupError):
-                os.killpg(it.ran.pid, number)
-        for it in running:
-            with contextlib.suppress(subprocess.TimeoutExpired):
-                it.ran.wait(max(0, until - time.monotonic()))
-
-
-def clear_rooms(names: List[str]) -> None:
-    """Gives the crates back the kept proofs that are in rooms, and removes the rooms; a call that was killed may have left some."""
-    for name in names:
-        if not os.path.isdir(f"{out_of(name)}/incremental"):
-            move(f"{out_in_room(name)}/incremental", f"{out_of(name)}/incremental")
-    until = time.monotonic() + SECONDS_TO_END
-    # (what was started by an `rt` that was just ended may still write there)
-    while os.path.exists(ROOMS) and time.monotonic() < until:
-        shutil.rmtree(ROOMS, ignore_errors=True)
+    """Ends what is running, and all that it started."""
+    for it in running:
+        with contextlib.suppress(ProcessLookupError):
+            os.killpg(it.ran.pid, signal.SIGKILL)
+        it.ran.wait()
 
 
 def lines_of(name: str) -> int:
@@ -261,22 +237,18 @@ def work_of(names: List[str], crates: Dict[str, Crate], made: Dict[str, str]) ->
 def prove(names: List[str], crates: Dict[str, Crate], processors: int) -> None:
     """Proves the crates, libraries first, and links the program. Where one fails, those that are being proved are ended."""
     made = {it: made_of(with_libraries(it, crates), crates) for it in names}
+    made.update({it: name_of_toolchain() + made[it] for it in names if it != "testkit"})
     work = work_of(names, crates, made)
     try:
-        clear_rooms(names)
-        keep_sources(names)
         while work.left or work.running:
             start_ready(work, processors)
             proved = len(names) - len(work.left) - len(work.running)
             say(f"{proved} of {len(names)} crates proved, now at {', '.join(it.crate for it in work.running)}")
-            os.waitid(os.P_ALL, 0, os.WEXITED | os.WNOWAIT)
-            for proof in [it for it in work.running if it.ran.poll() is not None]:
-                refuse_failed(proof)
-                with uninterrupted():
-                    work.running.remove(proof)
-                    take(proof.crate, made[proof.crate])
+            for it in wait_for_one(work.running):
+                if it.crate != "testkit":
+                    write_list(it.crate, made[it.crate])
         say(f"{len(names)} of {len(names)} crates proved")
+        link(work, made["testkit"])
     finally:
         with uninterrupted():
             end(work.running)
-            clear_rooms(names)

@@ -1,8 +1,10 @@
-"""A small repository with `./testkit`, in which a script stands for `rt`."""
+"""A small repository with `./testkit`, and a toolchain for it, whose commands toolchain.py stands for."""
 
+import json
 import os
 import shutil
 import subprocess
+import sys
 import time
 from dataclasses import dataclass
 from typing import Optional, Sequence
@@ -12,98 +14,22 @@ TOP = os.path.dirname(os.path.dirname(os.path.dirname(os.path.abspath(__file__))
 SECONDS = 120
 """How many seconds a call may take: far more than any needs."""
 
-CRATES = "# Libraries first.\ntk_low:\ntk_high: tk_low indexmap # below testkit\ntk_side tests_may=Wait:\ntestkit: tk_high tk_low tk_side\ntest_high: tk_high\n"
-
-RT = r"""#!/bin/sh
-# Stands for rt in the folder of a crate. As rt does, it refuses links, and a crates.txt in a crate of the repository; it works alone in
-# its tree and makes nothing where out/rlib/stamp has the text of the sources. It adds a line to out/incremental/kept, and fails where a
-# library is not built of the sources that are there.
-# A file tells what a proof does, 'slow' that of each crate and 'slow.tk_low' that of tk_low: 'slow' takes a second; 'endless' doesn't end,
-# nor does what it started; 'slow_to_end' works until an interrupt, and then takes half a second to write 'ended'; 'broken' says what stands
-# there and fails; 'killed' is killed; 'meets' ends once each other crate of which it is told is being proved too. 'unlinked' and 'linking'
-# tell of the link: it fails, or doesn't end. In 'processes' is a line of numbers for each proof or link that doesn't end.
-name=${PWD##*/}
-top=${PWD%/crates/*}
-echo "$name $*" >>"$REPOSITORY/calls"
-cat >>"$REPOSITORY/read_by_rt"
-printf 'rt: what rt prints, with a byte that is no text: \377\n'
-echo "rt: what rt complains of" >&2
-[ "$1" != try ] || exit 0
-
-does() { [ -e "$REPOSITORY/$1" ] || [ -e "$REPOSITORY/$1.$name" ]; }
-refuse() { echo "rt: $*"; exit 2; }
-libraries_of() {
-    while IFS=: read -r crate libraries; do
-        [ "${crate%% *}" != "$1" ] || for it in $libraries; do [ ! -d "../$it" ] || echo "$it"; done
-    done <"$top/crates.txt"
-}
-sum_of() {
-    cat "../$1"/src/*.rt "../$1"/src/*/*.rt "../$1"/specs/* "../$1"/proofs/*/* 2>/dev/null
-    for library in $(libraries_of "$1"); do (sum_of "$library"); done
-}
-never_end() { sleep 600 & echo "$$ $!" >>"$REPOSITORY/processes"; wait; }
-
-! does killed || kill -KILL $$
-mkdir "$top/works" || refuse "another rt works in this tree"
-trap 'rmdir "$top/works"' EXIT
-[ -z "$(find "$top" -type l)" ] || refuse "there is a link"
-found=$(find "$REPOSITORY/crates" -name crates.txt)
-[ -z "$found" ] || [ ! -e "$REPOSITORY/.git" ] || refuse "$found is inside another crate's files"
-for it in $(libraries_of "$name"); do
-    [ "$(cat "../$it/out/rlib/stamp")" = "$(sum_of "$it")" ] || refuse "the library $it is not built"
-done
-if [ "$1" = lib ]; then
-    sum=$(sum_of "$name")
-    [ "$(cat out/rlib/stamp 2>/dev/null)" != "$sum" ] || exit 0
-    echo "$name" >>"$REPOSITORY/proved"
-    rm -rf out/rlib
-    mkdir -p out/rlib out/incremental
-    echo "a proof of $name" >>out/incremental/kept
-    ! does slow || sleep 1
-    ! does endless || never_end
-    if does slow_to_end; then
-        trap 'sleep 0.5; echo "$name" >>"$REPOSITORY/ended"; exit 130' INT
-        echo $$ >>"$REPOSITORY/processes"
-        while :; do sleep 0.1; done
-    fi
-    if [ -e "$REPOSITORY/meets.$name" ]; then
-        echo >"$REPOSITORY/met.$name"
-        for other in "$REPOSITORY"/meets.*; do
-            tries=0
-            until [ -e "$REPOSITORY/met.${other##*/meets.}" ]; do
-                [ $((tries += 1)) -le 200 ] || refuse "$other doesn't come"
-                sleep 0.05
-            done
-        done
-    fi
-    if does broken; then
-        cat "$REPOSITORY/broken" "$REPOSITORY/broken.$name" 2>/dev/null
-        echo "logic=not-proved"
-        exit 1
-    fi
-    echo "$sum" >out/rlib/stamp
-elif [ -e "$REPOSITORY/unlinked" ]; then
-    echo "ld: no room"
-    exit 1
-else
-    mkdir -p out/incremental
-    {
-        echo "#!/bin/sh"
-        echo "printf '%s' '$(head -n 1 ../tk_low/src/lib.rt)'"
-        echo 'printf " <%s>" "$@"; echo'
-        echo 'cat'
-        echo 'echo "the program complains" >&2'
-        echo 'case $1 in [0-9]*) exit "$1" ;; killed) kill -KILL $$ ;; esac'
-    } >out/linked
-    [ ! -e "$REPOSITORY/linking" ] || never_end
-    mv out/linked out/testkit
-    chmod +x out/testkit
-    exit 2
-fi
+CRATES = """# Libraries first.
+tk_low:
+tk_high: tk_low indexmap # below testkit
+tk_side tests_may=Wait: itoa indexmap
+testkit: tk_high tk_side
+test_high: tk_high
 """
 
-PROCESSORS = "import os\nos.sched_getaffinity = lambda _: set(range({}))\n"
-"""A module that Python reads first, after which a script sees so many processors."""
+LIBRARIES = ("core", "std", "indexmap", "itoa")
+"""The libraries of the toolchain, each built over those before it."""
+
+FILES = ("rattle/logic/antt-project.json", "logic_built/base", "toolchain/clang", "c/libos_c.a", "c/liblibc_c.a")
+"""What else a command names of the toolchain."""
+
+PROCESSORS = "import os, signal, subprocess\nos.sched_getaffinity = lambda _: set(range({}))\n"
+"""A module that Python reads first, after which a script sees so many processors. What stands in the file 'python' comes after it."""
 
 COMPLAINT = "the program complains\n"
 
@@ -122,28 +48,51 @@ class Repository:
     """A repository of three libraries, a program and a crate of tests, all sources an hour old."""
 
     def __init__(self, at: str):
-        self.at = os.path.join(at, "a folder")
+        self.at = os.path.join(os.path.realpath(at), "a folder")
         os.makedirs(f"{self.at}/tools")
         os.mkdir(f"{self.at}/.git")
         shutil.copy(f"{TOP}/testkit", self.at)
         for name in ("build_program", "crates.py", "proofs.py"):
             shutil.copy(f"{TOP}/tools/{name}", f"{self.at}/tools")
         self.write("crates.txt", CRATES)
-        self.write("bin/rt", RT)
-        os.chmod(f"{self.at}/bin/rt", 0o755)
+        self.write_toolchain("kit", "one")
+        self.lead_to("kit")
         for name in ("tk_low", "tk_high", "tk_side", "testkit", "test_high"):
-            self.write(f"crates/{name}/src/lib.rt", "old\n")
+            self.write(f"crates/{name}/src/{'main' if name == 'testkit' else 'lib'}.rt", "old\n")
             self.write(f"crates/{name}/src/parts/part.rt", "part")
             self.write(f"crates/{name}/specs/Lib.antt", "pub mod A")
             self.write(f"crates/{name}/proofs/lib/Proof.antt", "proof")
             self.write(f"crates/{name}/must-fail/wrong.edit", "file: src/lib.rt")
         self.make_older()
 
+    def write_toolchain(self, kit: str, what: str) -> None:
+        """Writes a toolchain into a folder, which says of itself what it is."""
+        self.write(f"{kit}/WHAT", f"compiler {what}\n")
+        with open(f"{os.path.dirname(os.path.abspath(__file__))}/toolchain.py", encoding="utf-8") as file:
+            script = f"#!{sys.executable} -IS\n{file.read()}"
+        for name in ("rt", "rattle", "rattle-link"):
+            self.write(f"{kit}/bin/{name}", script)
+            os.chmod(self.path(f"{kit}/bin/{name}"), 0o755)
+        for at, name in enumerate(LIBRARIES):
+            needs = {it: f"{it} of {what}" for it in LIBRARIES[:at]}
+            library = {"crate": name, "compiler": f"compiler {what}\n", "sum": f"{name} of {what}", "needs": needs, "first": ""}
+            self.write(f"{kit}/rlibs/{name}.rlib/format", json.dumps(library))
+        for name in FILES:
+            self.write(f"{kit}/{name}", "")
+
+    def lead_to(self, kit: str) -> None:
+        """Has the command `rt` of the path be a link, by another link, to that of this toolchain."""
+        os.makedirs(self.path("bin/links"), exist_ok=True)
+        for name, to in {"links/rt": f"../../{kit}/bin/rt", "rt": "links/rt"}.items():
+            if os.path.lexists(self.path(f"bin/{name}")):
+                os.remove(self.path(f"bin/{name}"))
+            os.symlink(to, self.path(f"bin/{name}"))
+
     def make_older(self) -> None:
         hour_ago = time.time() - 3600
         for folder, folders, files in os.walk(self.at):
             for name in folders + files:
-                os.utime(f"{folder}/{name}", (hour_ago, hour_ago))
+                os.utime(f"{folder}/{name}", (hour_ago, hour_ago), follow_symlinks=False)
 
     def path(self, name: str) -> str:
         return f"{self.at}/{name}"
@@ -161,17 +110,17 @@ class Repository:
             return ""
 
     def start(self, words: Sequence = ("0", "a word"), command: str = "", path: str = "", processors: int = 4, **streams) -> "subprocess.Popen[bytes]":
-        """Starts `./testkit`, or this command, with the stand-in for `rt`, or with only this path for commands, on so many processors, or all where it is 0."""
+        """Starts `./testkit`, or this command, with the stand-in toolchain, or with only this path for commands, on so many processors, or all where it is 0."""
         environment = {**os.environ, "PATH": path or f"{self.path('bin')}:{os.environ['PATH']}", "REPOSITORY": self.at, "PYTHONDONTWRITEBYTECODE": ""}
         if processors:
-            self.write(f"{processors} processors/sitecustomize.py", PROCESSORS.format(processors))
+            self.write(f"{processors} processors/sitecustomize.py", PROCESSORS.format(processors) + self.read("python"))
             environment["PYTHONPATH"] = self.path(f"{processors} processors")
         how = {"stdin": subprocess.DEVNULL, "stdout": subprocess.PIPE, "stderr": subprocess.PIPE, **streams}
         return subprocess.Popen([command or self.path("testkit"), *words], env=environment, start_new_session=True, **how)
 
     def end(self, ran: "subprocess.Popen[bytes]", data: Optional[bytes] = None) -> Came:
         output, error = ran.communicate(data, timeout=SECONDS)
-        return Came(ran.returncode, (output or b"").decode(errors="replace"), (error or b"").decode(errors="replace"), self.read("calls").count("testkit run "))
+        return Came(ran.returncode, (output or b"").decode(errors="replace"), (error or b"").decode(errors="replace"), self.read("calls").count("testkit rattle-link "))
 
     def call(self, *given, data: Optional[bytes] = None, **how) -> Came:
         """Calls `./testkit` once."""
