@@ -166,7 +166,8 @@ def rules_of_sweeps(module) -> str:
     found = {(it.name.split()[0], it.kind, it.survived, it.kept, len(it.units)) for it in sweeps}
     wanted = {(of, kind, int(kind == "memory"), 0, 0) for of in ("ask", "replay") for kind in ("memory", "read", "write")}
     wanted |= {("run", kind, int(kind == "memory"), module.KEPT_BY_RUN, 0) for kind in ("memory", "read", "write", "thread")}
-    wanted |= {("run", "memory", 1, module.KEPT_BY_RUN, 4), ("fault", "message", 0, 0, 0)}
+    wanted |= {("run", kind, 0, module.KEPT_LONG, 0) for kind in ("read", "write", "thread")}
+    wanted |= {("run", "memory", 1, kept, 4) for kept in (module.KEPT_BY_RUN, module.KEPT_LONG)} | {("fault", "message", 0, 0, 0)}
     return "" if found == wanted else f"{sorted(found ^ wanted)}"
 
 
