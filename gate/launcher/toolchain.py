@@ -5,7 +5,7 @@ a folder with a file that says what it was made of, and a source.
 
 A file at the top of the repository tells what a proof does, 'slow' that of each crate and 'slow.tk_low' that of tk_low: 'slow' takes a
 second; 'waits' goes on once the file is removed; 'meets' goes on once each other crate of which it is told is being proved too;
-'endless' doesn't end, nor does what it started; 'deaf' hears no interrupt, nor does what it started; 'broken' says what stands there and
+'endless' doesn't end, nor does what it started; 'ignores_interrupts' hears none, nor does that; 'broken' says what stands there and
 fails; 'killed' is killed, and leaves what it started. 'unlinked', 'waits.link' and 'linking' tell of the link: it fails, waits, or doesn't
 end. 'changing' has libraries taken that are older than their sources. In 'processes' is a line of numbers for each command that leaves a
 process without an end.
@@ -123,7 +123,7 @@ def libraries_of(crate: str, externs: List[str], folders: List[str]) -> Dict[str
 def prove(crate: str) -> None:
     """Does what the proof of a crate is told to do."""
     add_line("proved", crate)
-    if is_told("deaf", crate):
+    if is_told("ignores_interrupts", crate):
         for number in (signal.SIGINT, signal.SIGTERM, signal.SIGHUP):
             signal.signal(number, signal.SIG_IGN)
     if is_told("killed", crate):
