@@ -8,3 +8,4 @@ pub mod Reported
 pub mod Running
 pub mod Shaped
 pub mod Stepped
+pub mod TreeRuns

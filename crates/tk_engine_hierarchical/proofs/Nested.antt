@@ -2,6 +2,7 @@
 use Rattle.std.proofs.Common.{◌≡◌, ◌<◌, ◌==◌, ℕ, false, List, [], ◌∷◌, ◌++◌, filter, All, refl, sym, ap, ap₂, ◌∙◌, subst, append_assoc, append-nil, arith, tests}
 use Rattle.std.proofs.lemmas.List.Elements.{All-nil, All-cons, All-weaker}
 use Rattle.tk_ids.specs.IdText.{SegmentView}
+use Rattle.tk_ids.specs.declared.descriptors.Descriptor.{Descriptor}
 use Rattle.tk_events.specs.declared.events.Event.{Event}
 use Rattle.tk_events.specs.declared.events.Entry.{Entry}
 use Rattle.tk_record_columns.specs.Mixing.{of_worker}
@@ -64,6 +65,15 @@ none_of_zero w (e ∷ es) low =
     let fails : (0 == w) ≡ false = grind (arith, tests, low) in
     other_first w (entry_by 0 e) (entries_by 0 es) fails ∙ none_of_zero w es low
 
+-- of a worker from 1 on the record has what stands between the events around the units
+pub of_worker_mid : (may : ℕ → ℕ → ℕ → List Event → Type 0) (table : List Descriptor) (before after : List Event) (units workers : ℕ) (r : Recorded)
+    (run : IsRun may table before after units workers r) (w : ℕ) → 0 < w → of_worker w r.entries ≡ of_worker w run.mid
+of_worker_mid may table before after units workers r run w low =
+    let e0 = entries_by 0 before in
+    ap (of_worker w) run.whole ∙ of_worker-append w (e0 ++ run.mid) (entries_by 0 after)
+    ∙ ap₂ (λ a b. a ++ b) (of_worker-append w e0 run.mid ∙ ap (λ l. l ++ of_worker w run.mid) (none_of_zero w before low)) (none_of_zero w after low)
+    ∙ append-nil (of_worker w run.mid)
+
 pub units_nest : (s : ShapeView) (may_step : Event → Type 0) (workers : ℕ) (r : Recorded) → UnitsKeepLifecycle (frame s) (may_emit s may_step)
     → IsRun (may_emit s may_step) s.table s.before s.after s.units workers r → IsRecord r → UnitsNest r
 units_nest s may_step workers r units run lawful w low =
@@ -76,10 +86,6 @@ units_nest s may_step workers r units run lawful w low =
     let u = unfiltered (is_by w) c.ts p x q is in
     let m = t.each u.prefix x u.suffix u.is in
     (nest_there (frame s) r.entries c u.prefix x u.suffix u.is m.1.1.nest, m.1.1.finish) in
-    let e0 = entries_by 0 s.before in
-    let list : of_worker w r.entries ≡ of_worker w run.mid
-    = ap (of_worker w) run.whole ∙ of_worker-append w (e0 ++ run.mid) (entries_by 0 s.after)
-    ∙ ap₂ (λ a b. a ++ b) (of_worker-append w e0 run.mid ∙ ap (λ l. l ++ of_worker w run.mid) (none_of_zero w s.before low)) (none_of_zero w s.after low)
-    ∙ append-nil (of_worker w run.mid) in
+    let list = of_worker_mid M s.table s.before s.after s.units workers r run w low in
     subst (λ v. EventsNest v (of_worker w r.entries)) same
     (subst (EventsNest whole) (c.emits w ∙ sym list) (turns_nest whole (filter (is_by w) c.ts) each))

@@ -1,5 +1,5 @@
 -- What the record of a run says, by what its units emit.
-use Rattle.std.proofs.Common.{◌≡◌, ◌<◌, ◌+◌, ◌==◌, ◌&&◌, ◌||◌, not, nat_eq, nat_lt, ℕ, zero, suc, ◌⊎◌, inl, inr, ⊎_elim, Bool, true, false, cond, if◌then◌else◌, List, [], ◌∷◌, ◌++◌, length, filter, Some, slice_get, All, refl, sym, ap, ap₂, ◌∙◌, subst, arith, tests}
+use Rattle.std.proofs.Common.{◌≡◌, ◌<◌, ◌+◌, ◌==◌, ◌&&◌, ◌||◌, not, nat_eq, nat_lt, ℕ, zero, suc, ◌⊎◌, inl, inr, ⊎_elim, Bool, true, false, cond, if◌then◌else◌, List, [], ◌∷◌, ◌++◌, length, filter, Some, slice_get, All, refl, sym, ap, ap₂, ◌∙◌, subst, append_assoc, arith, tests}
 use Rattle.std.specs.List.{list_any}
 use Rattle.std.proofs.lemmas.List.{map-append}
 use Rattle.std.proofs.lemmas.List.Elements.{All-nil, All-cons, All-head, All-tail, All-append, All-weaker}
@@ -122,28 +122,29 @@ module _ (may : ℕ → ℕ → ℕ → List Event → Type 0) where
   all_emitted P each units workers mid s =
       all_of_workers P workers mid s.mix.workers (λ w within. let e = worker_emits units workers mid s w within in emits_all P each w 0 e.0 (of_worker w mid) e.1)
 
-  -- the list that a unit emitted, with its events in a longer one
+  -- the list that a unit emitted, as a part of a longer one
   pub record Part (u w : ℕ) (l : List Event) : Type 0 where
     pub k : ℕ
     pub list : List Event
     pub may_be : may u w k list
-    pub within : (kind : Kind) (key : ℕ) → has_event kind key (entries_by w list) ≡ true → has_event kind key (entries_by w l) ≡ true
+    pub earlier : List Event
+    pub later : List Event
+    pub whole : l ≡ earlier ++ list ++ later
 
   part_at : (b : Bool) (u x w k : ℕ) (us : List ℕ) (l : List Event) (e : Emits may w k (x ∷ us) l) → nat_eq x u ≡ b → 0 < drawn_by u (x ∷ us)
       → (0 < drawn_by u us → Part u w e.1) → Part u w l
   part_at true u x w k us l e is some more =
-      let same : x ≡ u = grind (arith, tests, is) in record {
-        k = k;
-        list = e.0;
-        may_be = subst (λ v. may v w k e.0) same e.3;
-        within = λ kind key h. subst (λ m. has_event kind key (entries_by w m) ≡ true) (sym e.2) (any_kept kind key w e.0 e.1 h);
-      }
+      let same : x ≡ u = grind (arith, tests, is) in
+      record { k = k; list = e.0; may_be = subst (λ v. may v w k e.0) same e.3; earlier = []; later = e.1; whole = e.2 }
   part_at false u x w k us l e is some more =
       let p = more (subst (λ n. 0 < n) (ap (λ b. length (cond b (x ∷ filter (λ y. nat_eq y u) us) (filter (λ y. nat_eq y u) us))) is) some) in record {
         k = p.k;
         list = p.list;
         may_be = p.may_be;
-        within = λ kind key h. subst (λ m. has_event kind key (entries_by w m) ≡ true) (sym e.2) (any_after kind key w e.0 e.1 (p.within kind key h));
+        earlier = e.0 ++ p.earlier;
+        later = p.later;
+        whole = e.2 ∙ ap (λ m. e.0 ++ m) p.whole ∙ sym (append_assoc e.0 (p.earlier ++ p.list) p.later)
+            ∙ ap (λ m. m ++ p.later) (sym (append_assoc e.0 p.earlier p.list));
       }
 
   part_of : (u w k : ℕ) (us : List ℕ) (l : List Event) → Emits may w k us l → 0 < drawn_by u us → Part u w l
@@ -157,13 +158,16 @@ module _ (may : ℕ → ℕ → ℕ → List Event → Type 0) where
   once true n is e = omega (arith, e)
   once false n is e = absurd (false_true is)
 
-  -- each unit emitted a list, all of whose events are there
+  -- a worker emitted the unit's list in a row
   pub record Ran (u : ℕ) (mid : List Entry) : Type 0 where
     pub worker : ℕ
+    pub is_worker : 0 < worker
     pub k : ℕ
     pub list : List Event
     pub may_be : may u worker k list
-    pub within : (kind : Kind) (key : ℕ) → has_event kind key (entries_by worker list) ≡ true → has_event kind key mid ≡ true
+    pub earlier : List Event
+    pub later : List Event
+    pub whole : of_worker worker mid ≡ earlier ++ list ++ later
 
   pub unit_ran : (units workers : ℕ) (mid : List Entry) → IsShared may units workers mid → (u : ℕ) → u < units → Ran u mid
   unit_ran units workers mid s u low =
@@ -174,11 +178,44 @@ module _ (may : ℕ → ℕ → ℕ → List Event → Type 0) where
       let p = part_of u (d.0 + 1) 0 d.1 (s.lists (d.0 + 1)) (s.emits d.0 d.1 d.3) d.4 in
       record {
         worker = d.0 + 1;
+        is_worker = w.0;
         k = p.k;
         list = p.list;
         may_be = p.may_be;
-        within = λ kind key h. in_all kind key (d.0 + 1) mid
-            (subst (λ l. has_event kind key (entries_by (d.0 + 1) l) ≡ true) (sym (s.mix.each (d.0 + 1) w)) (p.within kind key h));
+        earlier = p.earlier;
+        later = p.later;
+        whole = s.mix.each (d.0 + 1) w ∙ p.whole;
+      }
+
+  -- each of its events is there
+  pub ran_within : (u : ℕ) (mid : List Entry) (r : Ran u mid) (kind : Kind) (key : ℕ) → has_event kind key (entries_by r.worker r.list) ≡ true → has_event kind key mid ≡ true
+  ran_within u mid r kind key h =
+      in_all kind key r.worker mid
+      (subst (λ l. has_event kind key (entries_by r.worker l) ≡ true) (sym r.whole)
+      (any_kept kind key r.worker (r.earlier ++ r.list) r.later (any_after kind key r.worker r.earlier r.list h)))
+
+-- ---- what each unit may emit, said more weakly
+
+module _ (may more : ℕ → ℕ → ℕ → List Event → Type 0) (also : (u w k : ℕ) (l : List Event) → may u w k l → more u w k l) where
+  emits_more : (w k : ℕ) (us : List ℕ) (l : List Event) → Emits may w k us l → Emits more w k us l
+  emits_more w k [] l e = e
+  emits_more w k (u ∷ us) l e = (e.0, e.1, e.2, also u w k e.0 e.3, emits_more w (k + registrations e.0) us e.1 e.4)
+
+  pub run_more : (table : List Descriptor) (before after : List Event) (units workers : ℕ) (r : Recorded) → IsRun may table before after units workers r
+      → IsRun more table before after units workers r
+  run_more table before after units workers r run =
+      let s = run.shared in record {
+        over = run.over;
+        mid = run.mid;
+        whole = run.whole;
+        shared = record {
+          drawn = s.drawn;
+          lists = s.lists;
+          seats = s.seats;
+          claims = s.claims;
+          mix = s.mix;
+          emits = λ i us g. emits_more (i + 1) 0 us (s.lists (i + 1)) (s.emits i us g);
+        };
       }
 
 -- ---- outcomes
@@ -292,7 +329,7 @@ have_turns s may_step after workers r places run keeps key low =
     (λ (u : IsInUnit s.units s.firsts s.ends key).
     let ran = unit_ran M s.units workers run.mid run.shared u.0 u.1 in
     covered_by s.table (entries_by ran.worker ran.list) r.entries
-    (λ kind k h. subst (λ l. has_event kind k l ≡ true) (sym run.whole) (any_in kind k e0 run.mid e1 (ran.within kind k h)))
+    (λ kind k h. subst (λ l. has_event kind k l ≡ true) (sym run.whole) (any_in kind k e0 run.mid e1 (ran_within M u.0 run.mid ran kind k h)))
     key (ran.may_be.covered key u.2 u.3))
     (λ h. inl (or_left (has_event Started key r.entries) (has_event Skipped key r.entries)
     (subst (λ l. has_event Started key l ≡ true) (sym run.whole) (any_first Started key e0 run.mid e1 (first_part (has_event Started key e0) (has_event Finished key e0) h)))))

@@ -106,8 +106,3 @@ pub others_few : (p : NumberedNode) (m k : ℕ) (rest below others : List Number
 others_few p m k rest below others n s low =
     let whole : length (take m (drop k rest)) ≡ length (below ++ others) = ap length s.whole in
     omega (arith, whole, low, length-append below others, take_few m (drop k rest), drop_few k rest)
-
--- what a unit emitted by one plan it emitted by another that is the same
-pub moved_plan : {F : Type 0} (r : Result (Unit {0}) F) (s : ShapeView) (p q : Outline) (may_end : ℕ → Outcome → Type 0) (unit : ℕ) (old new : SenderView) → p ≡ q
-    → OnOk r (ExtendsAs (may_emit s (FitsPlan p may_end) unit) old new) → OnOk r (ExtendsAs (may_emit s (FitsPlan q may_end) unit) old new)
-moved_plan r s p q may_end unit old new same ran = subst (λ o. OnOk r (ExtendsAs (may_emit s (FitsPlan o may_end) unit) old new)) same ran

@@ -1,9 +1,10 @@
 -- What the record of a run of a hierarchical engine says.
-use Rattle.std.specs.Prelude.{◌≡◌, ◌⊎◌, ℕ, ◌<◌, [], ◌∷◌, All, length}
+use Rattle.std.specs.Prelude.{◌≡◌, ◌⊎◌, ℕ, ◌<◌, List, [], ◌∷◌, ◌++◌, All, length}
 use Rattle.tk_plan_units.specs.Cutting.{after_of, before_of, units_of}
 use Rattle.tk_plan_units.specs.Planned.{Outline}
 use Rattle.tk_plan_units.specs.Trees.{forest}
 use Rattle.tk_engine_runs.specs.Run.{IsRun}
+use Rattle.tk_events.specs.declared.events.Event.{Event}
 use Rattle.tk_events.specs.declared.kinds.Kind.TheVariants.{Finished, Skipped, Started}
 use Rattle.tk_record_columns.specs.Mixing.{of_worker}
 use Rattle.tk_record_columns.specs.Recorded.{Recorded}
@@ -13,14 +14,30 @@ use Rattle.tk_engine_hierarchical.specs.Endings.{EndsAsItMay}
 use Rattle.tk_engine_hierarchical.specs.Nesting.{EventsNest}
 use Rattle.tk_engine_hierarchical.specs.Shapes.{ShapeView, may_emit}
 use Rattle.tk_engine_hierarchical.specs.Steps.{FitsPlan, StepsAs}
+use Rattle.tk_engine_hierarchical.specs.TreeRuns.{IsOfUnitTree, TestRuns}
 use Rattle.tk_engine_hierarchical.specs.declared.tests.Outcome.{Outcome}
 
+-- what tests promise, by their keys: with which outcomes each may end, and how its body may run
+pub record TestRules : Type 1 where
+  pub may_end : ℕ → Outcome → Type 0
+  pub may_run : TestRuns
+
+abbrev pub test_rules : (ℕ → Outcome → Type 0) → TestRuns → TestRules
+test_rules may_end may_run = record { may_end = may_end; may_run = may_run }
+
+-- Which events a unit of the engine of a plan may emit for a worker, by the engine's shape, by the
+-- plan, and by what the tests promise.
+abbrev pub may_of : Outline → ShapeView → TestRules → ℕ → ℕ → ℕ → List Event → Type 0
+may_of plan shape rules unit worker earlier events =
+    may_emit shape (FitsPlan plan rules.may_end) unit worker earlier events
+    × IsOfUnitTree plan rules.may_run unit worker events
+
 -- The record is that of a run of the engine of a plan by some workers, in which each unit emits
--- what it may by the engine's shape, by the plan, and by which outcomes each test may have.
-abbrev pub IsRunOf : Outline → ShapeView → (ℕ → Outcome → Type 0) → Recorded → Type 0
-IsRunOf plan shape may_end r =
+-- what it may.
+abbrev pub IsRunOf : Outline → ShapeView → TestRules → Recorded → Type 0
+IsRunOf plan shape rules r =
     (workers : ℕ)
-    × IsRun (may_emit shape (FitsPlan plan may_end)) plan.table (before_of (forest plan.nodes))
+    × IsRun (may_of plan shape rules) plan.table (before_of (forest plan.nodes))
     (after_of (forest plan.nodes)) (length (units_of (forest plan.nodes))) workers r
 
 -- each finish of a static test has an outcome that the test may have, where a unit emitted it;
@@ -47,3 +64,18 @@ HaveTurns r = (key : ℕ) → key < length r.table → HasTurn r key
 -- each key that a unit starts has its own events until it finishes
 abbrev pub UnitsNest : Recorded → Type 0
 UnitsNest r = (worker : ℕ) → 0 < worker → EventsNest r (of_worker worker r.entries)
+
+-- a worker emitted in a row what a run of the unit's tree emits
+pub record RanTree (plan : Outline) (may_run : TestRuns) (unit : ℕ) (r : Recorded) : Type 0 where
+  pub worker : ℕ
+  pub is_worker : 0 < worker
+  pub earlier : List Event
+  pub events : List Event
+  pub later : List Event
+  pub emitted : of_worker worker r.entries ≡ earlier ++ events ++ later
+  pub of_tree : IsOfUnitTree plan may_run unit worker events
+
+-- so of each unit
+abbrev pub UnitsRanTrees : Outline → TestRuns → Recorded → Type 0
+UnitsRanTrees plan may_run r =
+    (unit : ℕ) → unit < length (units_of (forest plan.nodes)) → RanTree plan may_run unit r

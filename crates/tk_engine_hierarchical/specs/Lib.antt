@@ -12,4 +12,5 @@ pub mod Nesting
 pub mod Units
 pub mod Reporting
 pub mod UnitViews
+pub mod TreeRuns
 pub mod Laws

@@ -157,8 +157,7 @@ impl<T: Tests + Sync> Engine for Hierarchical<T> {
     ghost use Rattle.tk_plan_units.specs.Trees.{forest};
     ghost use Rattle.tk_plan_units.specs.Cutting.{before_of, after_of, units_of};
     ghost use Rattle.tk_engine.specs.Masks.{need_of};
-    ghost use Rattle.tk_engine_hierarchical.specs.Shapes.{may_emit};
-    ghost use Rattle.tk_engine_hierarchical.specs.Steps.{FitsPlan};
+    ghost use Rattle.tk_engine_hierarchical.specs.Laws.{may_of, test_rules};
 
     ghost table = { λ e. e.scripted.table };
 
@@ -170,7 +169,8 @@ impl<T: Tests + Sync> Engine for Hierarchical<T> {
 
     ghost need = { λ e unit. need_of e.scripted.nodes unit };
 
-    ghost may = { λ e. may_emit e.shape (FitsPlan e.scripted (T.may_end e.tests)) };
+    ghost may = { λ e. may_of e.scripted e.shape
+        (test_rules (T.may_end e.tests) (T.may_run e.tests)) };
 
     fn table(&self) -> &Arc<Table> {
         self.scripted.table()

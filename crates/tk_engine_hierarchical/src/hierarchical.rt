@@ -3,16 +3,17 @@ ghost use Rattle.std.specs.Prelude.{◌≡◌, ◌⊎◌, ◌<◌, ◌+◌, ◌-
 ghost use Rattle.tk_engine_execute.specs.declared.engines.UnitFault.{UnitFault};
 ghost use Rattle.tk_engine_execute.specs.declared.engines.UnitFault.TheVariants.{Own};
 ghost use Rattle.tk_plan_units.specs.Cutting.{units_of};
-ghost use Rattle.tk_plan_units.specs.Trees.{IsForest, forest};
+ghost use Rattle.tk_plan_units.specs.Trees.{IsForest, forest, tree_of};
 ghost use Rattle.tk_engine_execute.specs.Engines.{Extends, IsSameSender};
 ghost use Rattle.tk_events.specs.declared.events.Event.{Event};
-ghost use Rattle.tk_events.specs.declared.kinds.Kind.TheVariants.{Finished, Skipped, Started};
-ghost use Rattle.tk_events.specs.declared.payloads.Payload.TheVariants.{Nothing, Outcome as Ended, Reason};
+ghost use Rattle.tk_events.specs.declared.kinds.Kind.TheVariants.{File, Finished, Reporting, Skipped, Started};
+ghost use Rattle.tk_events.specs.declared.payloads.Payload.TheVariants.{Nothing, Outcome as Ended, Path, Reason, Report};
 ghost use Rattle.tk_engine_hierarchical.specs.Endings.{IsStaticTest, payload_of};
 ghost use Rattle.tk_engine_hierarchical.specs.Events.{HasRun};
 ghost use Rattle.tk_engine_hierarchical.specs.Reporting.{HasFinished, event};
 ghost use Rattle.tk_engine_hierarchical.specs.Shapes.{frame, keys_in};
 ghost use Rattle.tk_engine_hierarchical.specs.Steps.{FitsPlan, MayStepAs};
+ghost use Rattle.tk_engine_hierarchical.specs.TreeRuns.{FinishesNode, RunsBody, RunsForest, RunsNode, RunsTree, RunsUnitTree, SkipsNode, StartsNode, after_each, after_next, after_publishing, plan_state};
 
 use crate::leases::Lease;
 use crate::reporters::Reporter;
@@ -23,7 +24,7 @@ use crate::unit_runs::UnitRun;
 use std::alloc::Global;
 use std::sync::Wait;
 use tk_engine_execute::{Sink, UnitFault};
-use tk_events::{Kind, Payload, try_clone_message};
+use tk_events::{Kind, Pairs, Payload, try_clone_message};
 use tk_ids::Text;
 use tk_plan_units::{Node, NumberedNode, Plan};
 
@@ -61,6 +62,8 @@ fn run_test<R: Wait, S: Sink, K: UnitRun, T: Tests>(
     reporter: &mut Reporter<'_, S, K>,
 ) -> Result<TestEnd, UnitFault>
     ensures may { IfOk result (λ e. T.may_end tests.now key e.outcome) }
+    ensures ran { IfOk result (λ e.
+        T.may_run tests.now key reporter.old.events reporter.new.events e.outcome) }
     ensures stamp { IfOk result (λ e. e.stamp ≡ reporter.new.events.own_stamp) }
 {
     let outcome = tests.run(rt, alloc, key, reporter)?;
@@ -82,6 +85,8 @@ fn run_node<R: Wait, S: Sink, K: UnitRun, T: Tests>(
     ensures test { IfOk result (λ ended.
         IfSome ended (λ e. IsStaticTest K.frame.table key)) }
     ensures other { IfOk result (λ ended. IfNone ended (¬ IsStaticTest K.frame.table key)) }
+    ensures body { IfOk result (λ ended. RunsBody K.frame.table (T.may_run tests.now) key
+        reporter.old.events reporter.new.events ended) }
 {
     if !reporter.events.is_static_test(key) {
         return Ok(None);
@@ -113,8 +118,12 @@ fn start_node<R: Wait, S: Sink, K: UnitRun>(
     reporter: &mut Reporter<'_, S, K>,
 ) -> Result<u32, UnitFault>
     requires { (stamp : ℕ) → K.may_step (event Started numbered_node.now.number stamp Nothing) }
-    ensures { IfOk result (λ key.
+    ensures number { IfOk result (λ key.
         key < length K.frame.table → key ≡ numbered_node.now.number) }
+    ensures start { IfOk result (λ key.
+        StartsNode numbered_node.now.node.is_static numbered_node.now.node numbered_node.now.number
+        key (plan_state reporter.old.events stamps.old.next)
+        (plan_state reporter.new.events stamps.new.next)) }
 {
     if numbered_node.node.is_static {
         let key = numbered_node.number;
@@ -143,6 +152,10 @@ fn skip_node<R: Wait, S: Sink, K: UnitRun>(
 ) -> Result<(), UnitFault>
     requires { (stamp : ℕ)
         → K.may_step (event Skipped numbered_node.now.number stamp (Reason reason.now)) }
+    ensures { OnOk result
+        (SkipsNode numbered_node.now.node.is_static numbered_node.now.node
+        numbered_node.now.number reason.now (plan_state reporter.old.events stamps.old.next)
+        (plan_state reporter.new.events stamps.new.next)) }
 {
     let reason = Payload::Reason(reason.try_clone()?);
     if numbered_node.node.is_static {
@@ -156,32 +169,65 @@ fn skip_node<R: Wait, S: Sink, K: UnitRun>(
         .skip_child(rt, alloc, &child, registered, stamps.take(), reason)
 }
 
-// Whether the plan has entries or files for a node.
-fn publishes(node: &Node) -> bool {
-    !node.entries.as_slice().is_empty() || !node.files.as_slice().is_empty()
+// Publishes the entries that the plan has for a node.
+fn publish_entries<R: Wait, S: Sink, K: UnitRun>(
+    rt: &R,
+    alloc: Global,
+    key: u32,
+    entries: &[Pairs],
+    stamps: &mut PlannedStamps,
+    reporter: &mut Reporter<'_, S, K>,
+) -> Result<(), UnitFault>
+    ensures { OnOk result (plan_state reporter.new.events stamps.new.next
+        ≡ after_each (λ pairs. after_next Reporting key (Report pairs)) entries.now
+        (plan_state reporter.old.events stamps.old.next)) }
+{
+    for pairs in entries {
+        let pairs = Payload::Report(pairs.try_clone(alloc)?);
+        let stamp = stamps.take();
+        reporter
+            .events
+            .publish_planned(rt, key, Kind::Reporting, stamp, pairs)?;
+    }
+    Ok(())
 }
 
-// Publishes the entries and the files that the plan has for a node.
+// Publishes the files that the plan has for a node.
+fn publish_files<R: Wait, S: Sink, K: UnitRun>(
+    rt: &R,
+    key: u32,
+    files: &[Text],
+    stamps: &mut PlannedStamps,
+    reporter: &mut Reporter<'_, S, K>,
+) -> Result<(), UnitFault>
+    ensures { OnOk result (plan_state reporter.new.events stamps.new.next
+        ≡ after_each (λ path. after_next File key (Path path)) files.now
+        (plan_state reporter.old.events stamps.old.next)) }
+{
+    for path in files {
+        let path = Payload::Path(path.try_clone()?);
+        let stamp = stamps.take();
+        reporter
+            .events
+            .publish_planned(rt, key, Kind::File, stamp, path)?;
+    }
+    Ok(())
+}
+
+// Publishes the entries and then the files that the plan has for a node.
 fn publish_planned<R: Wait, S: Sink, K: UnitRun>(
     rt: &R,
     alloc: Global,
+    key: u32,
     node: &Node,
     stamps: &mut PlannedStamps,
     reporter: &mut Reporter<'_, S, K>,
-) -> Result<(), UnitFault> {
-    for entry in node.entries.as_slice() {
-        let pairs = Payload::Report(entry.try_clone(alloc)?);
-        reporter
-            .events
-            .publish(rt, Kind::Reporting, stamps.take(), pairs)?;
-    }
-    for path in node.files.as_slice() {
-        let path = Payload::Path(path.try_clone()?);
-        reporter
-            .events
-            .publish(rt, Kind::File, stamps.take(), path)?;
-    }
-    Ok(())
+) -> Result<(), UnitFault>
+    ensures { OnOk result (plan_state reporter.new.events stamps.new.next
+        ≡ after_publishing node.now key (plan_state reporter.old.events stamps.old.next)) }
+{
+    publish_entries(rt, alloc, key, node.entries.as_slice(), stamps, reporter)?;
+    publish_files(rt, key, node.files.as_slice(), stamps, reporter)
 }
 
 // Finishes a test with its outcome, at the stamp that it set, or else at the plan's.
@@ -212,9 +258,34 @@ fn finish_without_body<R: Wait, S: Sink, K: UnitRun>(
 ) -> Result<(), UnitFault>
     requires { key < length K.frame.table
         → K.may_step (event Finished key stamp (Ended node.now.status node.now.message)) }
+    ensures { OnOk result (HasFinished reporter.old.events reporter.new.events
+        (event Finished key stamp (Ended node.now.status node.now.message))) }
 {
     let outcome = Payload::Outcome(node.status, try_clone_message(&node.message)?);
     reporter.events.finish(rt, key, stamp, outcome)
+}
+
+// Finishes a node whose body, where it has one, ended so.
+fn finish_node<R: Wait, S: Sink, K: UnitRun>(
+    rt: &R,
+    key: u32,
+    node: &Node,
+    ended: Option<TestEnd>,
+    stamps: &mut PlannedStamps,
+    reporter: &mut Reporter<'_, S, K>,
+) -> Result<(), UnitFault>
+    requires test { IfSome ended (λ end. key < length K.frame.table → (stamp : ℕ)
+        → K.may_step (event Finished key stamp (payload_of end.outcome))) }
+    requires other { IfNone ended (key < length K.frame.table → (stamp : ℕ)
+        → K.may_step (event Finished key stamp (Ended node.now.status node.now.message))) }
+    ensures { OnOk result (FinishesNode node.now key ended
+        (plan_state reporter.old.events stamps.old.next)
+        (plan_state reporter.new.events stamps.new.next)) }
+{
+    match ended {
+        Some(test) => finish_test(rt, key, test, stamps.take(), reporter),
+        None => finish_without_body(rt, key, node, stamps.take(), reporter),
+    }
 }
 
 // Runs a node that isn't skipped, and what stands below it, from its start to its finish.
@@ -232,21 +303,19 @@ fn run_started<R: Wait, S: Sink, K: UnitRun, T: Tests>(
     requires runs { numbered_node.now.node.skip ≡ None }
     requires may { MayStepAs K.frame.table (T.may_end tests.now) K.may_step numbered_node.now }
     requires may_below { All (MayStepAs K.frame.table (T.may_end tests.now) K.may_step) below.now }
+    ensures { OnOk result
+        (RunsNode K.frame.table (T.may_run tests.now) numbered_node.now.node
+        numbered_node.now.number
+        (RunsForest K.frame.table (T.may_run tests.now) (forest below.now))
+        (plan_state reporter.old.events stamps.old.next)
+        (plan_state reporter.new.events stamps.new.next)) }
 {
     let node = &numbered_node.node;
     let key = start_node(rt, alloc, numbered_node, stamps, reporter)?;
     let ended = run_node(rt, alloc, tests, key, reporter)?;
-    // Most tests have neither.
-    if publishes(node) {
-        publish_planned(rt, alloc, node, stamps, reporter)?;
-    }
-    if !below.is_empty() {
-        run_all(rt, alloc, tests, below, stamps, reporter)?;
-    }
-    match ended {
-        Some(test) => finish_test(rt, key, test, stamps.take(), reporter),
-        None => finish_without_body(rt, key, node, stamps.take(), reporter),
-    }
+    publish_planned(rt, alloc, key, node, stamps, reporter)?;
+    run_all(rt, alloc, tests, below, stamps, reporter)?;
+    finish_node(rt, key, node, ended, stamps, reporter)
 }
 
 // Runs the trees that some nodes in preorder are, one after another.
@@ -261,6 +330,10 @@ fn run_all<R: Wait, S: Sink, K: UnitRun, T: Tests>(
 ) -> Result<(), UnitFault>
     requires nodes { IsForest nodes.now }
     requires may { All (MayStepAs K.frame.table (T.may_end tests.now) K.may_step) nodes.now }
+    ensures { OnOk result
+        (RunsForest K.frame.table (T.may_run tests.now) (forest nodes.now)
+        (plan_state reporter.old.events stamps.old.next)
+        (plan_state reporter.new.events stamps.new.next)) }
 {
     let mut rest = nodes;
     while let [numbered_node, after @ ..] = rest {
@@ -285,6 +358,10 @@ fn run_tree<R: Wait, S: Sink, K: UnitRun, T: Tests>(
     requires below { IsForest below.now }
     requires may { MayStepAs K.frame.table (T.may_end tests.now) K.may_step numbered_node.now }
     requires may_below { All (MayStepAs K.frame.table (T.may_end tests.now) K.may_step) below.now }
+    ensures { OnOk result
+        (RunsTree K.frame.table (T.may_run tests.now) (tree_of numbered_node.now below.now)
+        (plan_state reporter.old.events stamps.old.next)
+        (plan_state reporter.new.events stamps.new.next)) }
 {
     match &numbered_node.node.skip {
         Some(reason) => skip_node(rt, alloc, numbered_node, reason, stamps, reporter),
@@ -334,6 +411,8 @@ pub(crate) fn run_unit<'a, R: Wait, S: Sink, K: UnitRun, T: Tests>(
     ensures some { Extends K.start (S.view result.sink.now) }
     ensures run { OnOk ran.new
         (HasRun K.frame K.may_step K.keys K.start (S.view result.sink.now)) }
+    ensures tree { OnOk ran.new
+        (RunsUnitTree plan.now (T.may_run tests.now) unit K.start (S.view result.sink.now)) }
 {
     // For the proof: what every plan is.
     let _table = plan.table();

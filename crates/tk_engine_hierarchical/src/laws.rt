@@ -1,15 +1,17 @@
 //! The laws of engines whose tests have bodies.
+ghost use Rattle.std.specs.Prelude.{◌≡◌, ◌-◌, ◌^◌};
 ghost use Rattle.tk_query_lifecycle.specs.KeepsLifecycle.{KeepsLifecycle};
-ghost use Rattle.tk_engine_hierarchical.specs.Laws.{FollowsPlan, HasOutcomes, HaveTurns, IsRunOf, UnitsNest};
+ghost use Rattle.tk_engine_hierarchical.specs.Laws.{FollowsPlan, HasOutcomes, HaveTurns, IsRunOf, UnitsNest, UnitsRanTrees, test_rules};
 
 use crate::engines::Hierarchical;
-use crate::tests::Tests;
+use crate::tests::{OUT_OF_ORDER, TWICE, Tests};
 use tk_engine::Results;
 use tk_engine_lifecycle::laws::runs_keep_lifecycle;
 
 /// The record of each run of the engine keeps the lifecycle, whatever its tests do.
 pub fn lifecycle<T: Tests + Sync>(engine: &Hierarchical<T>, results: &Results)
-    requires { IsRunOf engine.now.scripted engine.now.shape (T.may_end engine.now.tests)
+    requires { IsRunOf engine.now.scripted engine.now.shape
+        (test_rules (T.may_end engine.now.tests) (T.may_run engine.now.tests))
         results.now.recorded }
     ensures { KeepsLifecycle results.now.recorded }
 {
@@ -20,7 +22,8 @@ pub fn lifecycle<T: Tests + Sync>(engine: &Hierarchical<T>, results: &Results)
 /// Each static test that a unit finishes has an outcome that its `run` answered there: one that
 /// `may_end` allows.
 pub fn outcomes<T: Tests + Sync>(engine: &Hierarchical<T>, results: &Results)
-    requires { IsRunOf engine.now.scripted engine.now.shape (T.may_end engine.now.tests)
+    requires { IsRunOf engine.now.scripted engine.now.shape
+        (test_rules (T.may_end engine.now.tests) (T.may_run engine.now.tests))
         results.now.recorded }
     ensures { HasOutcomes (T.may_end engine.now.tests) results.now.recorded }
 {
@@ -31,7 +34,8 @@ pub fn outcomes<T: Tests + Sync>(engine: &Hierarchical<T>, results: &Results)
 /// it isn't skipped, or is skipped for the plan's reason; a test finishes with an outcome that
 /// `may_end` allows, any other descriptor with that of the plan.
 pub fn steps<T: Tests + Sync>(engine: &Hierarchical<T>, results: &Results)
-    requires { IsRunOf engine.now.scripted engine.now.shape (T.may_end engine.now.tests)
+    requires { IsRunOf engine.now.scripted engine.now.shape
+        (test_rules (T.may_end engine.now.tests) (T.may_run engine.now.tests))
         results.now.recorded }
     ensures { FollowsPlan engine.now.scripted (T.may_end engine.now.tests) results.now.recorded }
 {
@@ -42,7 +46,8 @@ pub fn steps<T: Tests + Sync>(engine: &Hierarchical<T>, results: &Results)
 /// Each static descriptor starts once and then finishes once, or is skipped once, or stands below
 /// one that was skipped.
 pub fn turns<T: Tests + Sync>(engine: &Hierarchical<T>, results: &Results)
-    requires { IsRunOf engine.now.scripted engine.now.shape (T.may_end engine.now.tests)
+    requires { IsRunOf engine.now.scripted engine.now.shape
+        (test_rules (T.may_end engine.now.tests) (T.may_run engine.now.tests))
         results.now.recorded }
     ensures { HaveTurns results.now.recorded }
 {
@@ -53,11 +58,33 @@ pub fn turns<T: Tests + Sync>(engine: &Hierarchical<T>, results: &Results)
 /// What a worker emits after the start of a key, and before the key finishes, is of that key or of
 /// one below it. So it is with each test, and what its body runs.
 pub fn nesting<T: Tests + Sync>(engine: &Hierarchical<T>, results: &Results)
-    requires { IsRunOf engine.now.scripted engine.now.shape (T.may_end engine.now.tests)
+    requires { IsRunOf engine.now.scripted engine.now.shape
+        (test_rules (T.may_end engine.now.tests) (T.may_run engine.now.tests))
         results.now.recorded }
     ensures { UnitsNest results.now.recorded }
 {
     engine.shows_shape();
     // For the proof: what holds of each record.
     results.recorded().shows_record();
+}
+
+/// Each unit ran its tree, and a worker emitted what it did in a row: each node that isn't skipped
+/// starts, runs its body once where it is a static test, as `may_run` says, publishes the plan's
+/// entries and files, runs what stands below it, and finishes, at the plan's stamps.
+pub fn trees<T: Tests + Sync>(engine: &Hierarchical<T>, results: &Results)
+    requires { IsRunOf engine.now.scripted engine.now.shape
+        (test_rules (T.may_end engine.now.tests) (T.may_run engine.now.tests))
+        results.now.recorded }
+    ensures { UnitsRanTrees engine.now.scripted (T.may_run engine.now.tests)
+        results.now.recorded }
+{
+    let _ = engine;
+    let _ = results;
+}
+
+/// The numbers of the faults of a unit.
+pub fn fault_numbers()
+    ensures out_of_order { OUT_OF_ORDER ≡ 2 ^ 32 - 1 }
+    ensures twice { TWICE ≡ 2 ^ 32 - 2 }
+{
 }

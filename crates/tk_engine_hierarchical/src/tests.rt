@@ -33,13 +33,17 @@ pub enum Outcome {
 
 /// The tests of an engine: what each static test of its plan does.
 ///
-/// `may_end` says which outcomes a test may have. An author who leaves it out promises nothing.
-/// JUnit: the bodies of a `HierarchicalTestEngine`'s nodes.
+/// `may_end` says which outcomes a test may have, and `may_run` how its body may run: from which
+/// state of the unit to which other one, with which outcome. An author who leaves them out promises
+/// nothing. JUnit: the bodies of a `HierarchicalTestEngine`'s nodes.
 pub trait Tests {
     ghost use Rattle.std.specs.Prelude.{ℕ, IfOk};
+    ghost use Rattle.tk_engine_hierarchical.specs.Reporting.{BodyRuns};
     ghost use Rattle.tk_engine_hierarchical.specs.declared.tests.Outcome.{Outcome};
 
     ghost may_end: { Self → ℕ → Outcome → Type 0 } = { λ tests key outcome. Unit {0} };
+
+    ghost may_run: { Self → ℕ → BodyRuns } = { λ tests key before after outcome. Unit {0} };
 
     /// Runs the test with this key, and says how it ended.
     ///
@@ -59,14 +63,14 @@ pub trait Tests {
         key: u32,
         reporter: &mut Reporter<'_, S, K>,
     ) -> Result<Outcome, UnitFault>
-        ensures { IfOk result (λ outcome. may_end self.now key outcome) };
+        ensures end { IfOk result (λ outcome. may_end self.now key outcome) }
+        ensures run { IfOk result (λ outcome.
+            may_run self.now key reporter.old.events reporter.new.events outcome) };
 }
 
 /// The body of a dynamic test or container.
 ///
-/// `may_end` says which outcomes it may have, as that of [`Tests`], and `may_run` how it may run:
-/// from which state of the unit to which other one, with which outcome. An author who leaves them
-/// out promises nothing.
+/// `may_end` says which outcomes it may have, and `may_run` how it may run, as those of [`Tests`].
 pub trait Body {
     ghost use Rattle.std.specs.Prelude.{IfOk};
     ghost use Rattle.tk_engine_hierarchical.specs.Reporting.{BodyRuns};

@@ -8,6 +8,7 @@ ghost use Rattle.tk_engine_hierarchical.specs.Events.{HasRun, IsRunning};
 ghost use Rattle.tk_engine_hierarchical.specs.Reporting.{Grew, HasFinished, HasSkipped, HasStarted, Published, event, publishes};
 ghost use Rattle.tk_engine_hierarchical.specs.Running.{with_ids};
 ghost use Rattle.tk_engine_hierarchical.specs.Shapes.{frame, keys_in};
+ghost use Rattle.tk_engine_hierarchical.specs.TreeRuns.{after_event, after_start, begun};
 ghost use Rattle.tk_engine_hierarchical.specs.UnitViews.{unit_view};
 ghost use Rattle.tk_engine_hierarchical.specs.Units.{HasPlayed};
 ghost use Rattle.tk_engine_hierarchical.specs.declared.running_keys.RunningKey.{RunningKey};
@@ -135,6 +136,7 @@ impl<'a, S: Sink, K: UnitRun> UnitEvents<'a, S, K> {
         requires keys { keys_in shape.now unit ≡ K.keys }
         requires is_unit { unit < shape.now.units }
         requires table { K.start.table ≡ K.frame.table }
+        ensures { result ≡ begun K.start }
     {
         shape.shows_shape();
         let (next, end) = shape.keys_of(unit);
@@ -230,6 +232,7 @@ impl<'a, S: Sink, K: UnitRun> UnitEvents<'a, S, K> {
         ensures some { Extends K.start (S.view result.0.sink.now) }
         ensures run { IsTrue result.1
             → HasRun K.frame K.may_step K.keys K.start (S.view result.0.sink.now) }
+        ensures sink { S.view result.0.sink.now ≡ self.entry.sink }
     {
         let rests = self.progress.running.top().is_none();
         let had_turns = self.progress.end <= self.progress.next;
@@ -290,6 +293,8 @@ impl<'a, S: Sink, K: UnitRun> UnitEvents<'a, S, K> {
     /// Starts the next static descriptor, below the innermost running key.
     pub(crate) fn start<R: Wait>(&mut self, rt: &R, key: u32, stamp: u64) -> Result<(), UnitFault>
         requires { K.may_step (event Started key stamp Nothing) }
+        ensures { OnOk result
+            (self.new ≡ after_start self.old (event Started key stamp Nothing)) }
     {
         let Some(next) = key.checked_add(1) else {
             return Err(UnitFault::Own(OUT_OF_ORDER));
@@ -331,6 +336,8 @@ impl<'a, S: Sink, K: UnitRun> UnitEvents<'a, S, K> {
         reason: Payload,
     ) -> Result<(), UnitFault>
         requires { K.may_step (event Skipped key stamp reason) }
+        ensures { OnOk result
+            (self.new ≡ after_event self.old (event Skipped key stamp reason)) }
     {
         if key != self.progress.next {
             return Err(UnitFault::Own(OUT_OF_ORDER));
@@ -375,6 +382,25 @@ impl<'a, S: Sink, K: UnitRun> UnitEvents<'a, S, K> {
             payload,
         };
         self.lease.emit(rt, event)
+    }
+
+    /// Publishes what the plan has for a key, which has to be the innermost running one.
+    pub(crate) fn publish_planned<R: Wait>(
+        &mut self,
+        rt: &R,
+        key: u32,
+        kind: Kind,
+        stamp: u64,
+        payload: Payload,
+    ) -> Result<(), UnitFault>
+        requires { publishes kind ≡ true }
+        ensures { OnOk result
+            (self.new ≡ after_event self.old (event kind key stamp payload)) }
+    {
+        if innermost(&self.progress.running)?.key != key {
+            return Err(UnitFault::Own(OUT_OF_ORDER));
+        }
+        self.publish(rt, kind, stamp, payload)
     }
 
     /// Finishes a key, which has to be the innermost running one.
