@@ -14,6 +14,7 @@ use Rattle.tk_plan_units.specs.Planned.{Outline}
 use Rattle.tk_plan_units.specs.Trees.{Forest, Tree, forest, more, no_trees, tree}
 use Rattle.tk_queue_session.specs.Registering.{RegisterRequest}
 use Rattle.tk_queue_session.specs.Senders.{SenderView, sends}
+use Rattle.tk_engine_execute.specs.Engines.{Extends}
 use Rattle.tk_engine_hierarchical.specs.Endings.{IsStaticTest, payload_of}
 use Rattle.tk_engine_hierarchical.specs.Reporting.{BodyRuns, HasFinished, HasSkipped, HasStarted}
 use Rattle.tk_engine_hierarchical.specs.Reporting.{UnitView, event}
@@ -109,10 +110,17 @@ FinishesNode n key None old new =
     × (new.next ≡ stamp_after old.next)
 
 module _ (table : List Descriptor) (may_run : TestRuns) where
-  -- a static test ran its body once; any other node did nothing
+  -- the static test with this key ran its body once, which ended so and published after what was
+  -- there
+  pub record RunsTest (key : ℕ) (old new : UnitView) (end : TestEnd) : Type 0 where
+    pub test : IsStaticTest table key
+    pub later : Extends old.sink new.sink
+    pub ran : may_run key old new end.outcome
+    pub stamp : end.stamp ≡ new.own_stamp
+
+  -- a static test ran its body; any other node did nothing
   abbrev pub RunsBody : ℕ → UnitView → UnitView → Option TestEnd → Type 0
-  RunsBody key old new (Some end) =
-      IsStaticTest table key × may_run key old new end.outcome × (end.stamp ≡ new.own_stamp)
+  RunsBody key old new (Some end) = RunsTest key old new end
   RunsBody key old new None = (¬ IsStaticTest table key) × (new ≡ old)
 
   -- A node that isn't skipped starts, runs its body where it is a static test, publishes its

@@ -18,7 +18,7 @@ ghost use Rattle.tk_engine_hierarchical.specs.TreeRuns.{FinishesNode, RunsBody, 
 use crate::leases::Lease;
 use crate::reporters::Reporter;
 use crate::shapes::Shape;
-use crate::tests::{OUT_OF_ORDER, Outcome, Tests, payload_of};
+use crate::tests::{Body, OUT_OF_ORDER, Outcome, Tests, payload_of};
 use crate::unit_events::{Child, UnitEvents};
 use crate::unit_runs::UnitRun;
 use std::alloc::Global;
@@ -53,6 +53,28 @@ struct TestEnd {
     stamp: Option<u64>,
 }
 
+// A static test of this key, as a body.
+#[derive(Drop)]
+struct TestBody<'t, T> {
+    tests: &'t T,
+    key: u32,
+}
+
+impl<'t, T: Tests> Body for TestBody<'t, T> {
+    ghost may_end = { λ body. T.may_end body.tests.now body.key };
+
+    ghost may_run = { λ body. T.may_run body.tests.now body.key };
+
+    fn run<R: Wait, S: Sink, K: UnitRun>(
+        &self,
+        rt: &R,
+        alloc: Global,
+        reporter: &mut Reporter<'_, S, K>,
+    ) -> Result<Outcome, UnitFault> {
+        self.tests.run(rt, alloc, self.key, reporter)
+    }
+}
+
 // Runs the body of a test. The stamp is the one that the test set, where it did.
 fn run_test<R: Wait, S: Sink, K: UnitRun, T: Tests>(
     rt: &R,
@@ -64,9 +86,11 @@ fn run_test<R: Wait, S: Sink, K: UnitRun, T: Tests>(
     ensures may { IfOk result (λ e. T.may_end tests.now key e.outcome) }
     ensures ran { IfOk result (λ e.
         T.may_run tests.now key reporter.old.events reporter.new.events e.outcome) }
+    ensures later { Extends reporter.old.events.sink reporter.new.events.sink }
     ensures stamp { IfOk result (λ e. e.stamp ≡ reporter.new.events.own_stamp) }
 {
-    let outcome = tests.run(rt, alloc, key, reporter)?;
+    let body = TestBody { tests, key };
+    let outcome = reporter.events.run_body(rt, alloc, &body)?;
     Ok(TestEnd {
         outcome,
         stamp: reporter.events.own_stamp(),
