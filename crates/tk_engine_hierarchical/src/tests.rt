@@ -48,10 +48,10 @@ pub trait Tests {
     /// Runs the test with this key, and says how it ended.
     ///
     /// The keys of a plan's static nodes are their numbers in preorder. `execute` calls this from
-    /// the thread of the worker that drew the test's unit, between the test's start and its finish,
-    /// which has the outcome. What the test publishes goes through `reporter`.
-    /// It is called for each node that is a test and isn't skipped, save for a node of both types on
-    /// the spine, whose children are units of their own: that finishes as the plan says.
+    /// the thread of the worker that drew the test's unit, right after the test's start. The test's
+    /// finish has the outcome. What the test publishes goes through `reporter`.
+    /// It is called once for each node that is a test and isn't skipped, save for a node of both
+    /// types on the spine, whose children are units of their own: that finishes as the plan says.
     ///
     /// # Errors
     /// What `reporter` answered, or `Own(n)` where the engine can't go on. A test that fails is no
