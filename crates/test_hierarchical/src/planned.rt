@@ -14,6 +14,10 @@ use tk_plan::{ExecutionMode, Plan, PlanNode, build_plan};
 struct Silent;
 
 impl Tests for Silent {
+    ghost use Rattle.std.specs.Prelude.{◌≡◌};
+
+    ghost may_run = { λ tests key before after outcome. after ≡ before };
+
     fn run<R: Wait, S: Sink, K: UnitRun>(
         &self,
         _rt: &R,

@@ -184,7 +184,7 @@ module _ (may : ℕ → ℕ → ℕ → List Event → Type 0) where
         may_be = p.may_be;
         earlier = p.earlier;
         later = p.later;
-        whole = s.mix.each (d.0 + 1) w ∙ p.whole;
+        whole = let same : of_worker (d.0 + 1) mid ≡ s.lists (d.0 + 1) = s.mix.each (d.0 + 1) w in same ∙ p.whole;
       }
 
   -- each of its events is there
