@@ -7,3 +7,4 @@ pub mod Trying
 pub mod Gathering
 pub mod Granting
 pub mod Writing
+pub mod Passing

@@ -1,7 +1,8 @@
 -- What the steps of a book do to what its seats hold. In each fact `holds` is the rule of the
 -- book's word, and `outcome` is what a step shows of the word that it finds and of the seat.
-use Rattle.std.specs.Prelude.{◌≡◌, ◌≢◌, ℕ, ◌<◌, ◌≤◌, List, [], ◌∷◌, Option, None, Some, length}
-use Rattle.std.specs.Prelude.{sum_by, take, slice_set}
+use Rattle.std.specs.Prelude.{◌≡◌, ◌≢◌, ℕ, ◌-◌, ◌<◌, ◌≤◌, List, [], ◌∷◌, ◌++◌, Option, None, Some}
+use Rattle.std.specs.Prelude.{length, replicate, sum_by, take, slice_set}
+use Rattle.std.specs.List.Sorted.{IsPermutation}
 use mathlib.Core.Option.{none, some}
 use lib.ListN.{get_elem?}
 use Rattle.atomic_table.specs.Table.{State, Me, Step, Act, step, stepped, carried_after}
@@ -89,3 +90,22 @@ SubtractionIsRelease holds outcome = (t : SeatStep) (n : NeedView) (subtracted f
     → FindsWord holds t found → t.before.0.held ≡ Some n ∷ []
     → outcome (step t.slots 0 subtracted 0 none) t.before found (after t)
     → Releases (held_before t) (holding_index t) n (held_after t)
+
+-- A split of a seat that stands for some places, all empty, is no step: the new seat has one of
+-- these places, and what all seats hold stays, in another order at most.
+abbrev pub SplitIsNone : (SeatNote → SeatNote) → (SeatNote → SeatNote) → Type 0
+SplitIsNone left right =
+    (views : List SeatNote) (seat places : ℕ) (v : SeatNote)
+    → get_elem? views seat ≡ some v → v.held ≡ replicate places None → 0 < places
+    → ((left v).held ≡ replicate (places - 1) None) × ((right v).held ≡ None ∷ [])
+    × IsPermutation (holdings views) (holdings (slice_set views seat (left v) ++ right v ∷ []))
+
+-- A join of two seats is no step: the first holds afterwards what both held, the other has no place
+-- left, and what all seats hold stays, in another order at most.
+abbrev pub JoinIsNone : (SeatNote → SeatNote → SeatNote) → SeatNote → Type 0
+JoinIsNone both spent =
+    (views : List SeatNote) (seat other : ℕ) (v w : SeatNote)
+    → seat ≢ other → get_elem? views seat ≡ some v → get_elem? views other ≡ some w
+    → ((both v w).held ≡ w.held ++ v.held) × (spent.held ≡ [])
+    × IsPermutation (holdings views)
+    (holdings (slice_set (slice_set views seat (both v w)) other spent))

@@ -1,17 +1,13 @@
 -- Records whose ids have the same tails say the same of each id.
-use Rattle.std.proofs.Common.{◌≡◌, ℕ, true, false, List, [], ◌∷◌, map, bytes_eq, refl, sym, ap₂, ◌∙◌, if◌then◌else◌}
+use Rattle.std.proofs.Common.{◌≡◌, ℕ, true, false, List, [], ◌∷◌, All, map, bytes_eq, refl, sym, ap₂, ◌∙◌, if◌then◌else◌}
 use Rattle.std.specs.List.{AllByRecursion}
+use Rattle.std.proofs.lemmas.List.Elements.{All-head, All-tail}
 use Rattle.std.specs.Cmp.Lexicographic.{bytes_decides}
 use Rattle.tk_ids.specs.IdText.{SegmentView, id_text}
 use Rattle.tk_events.specs.declared.kinds.Kind.{Kind}
 use Rattle.tk_events.specs.declared.payloads.Payload.{Payload}
 use Rattle.tk_events.specs.declared.events.Entry.{Entry}
-use Rattle.tk_record_columns.specs.Recorded.{Recorded}
-use Rattle.tk_record_columns.specs.Entries.{with_entry}
 use Rattle.tk_record.specs.Spelling.{HasTail, joined, tail}
-use Rattle.tk_record.specs.declared.versions.Version.{Version}
-use Rattle.tk_record.specs.declared.versions.Version.TheVariants.{Two}
-use Rattle.tk_record.specs.Text.{AreEntries}
 use Rattle.tk_record.proofs.TailLines.{one_tail}
 use Rattle.tk_report_text.specs.Labels.{Label, events, label, labels, name}
 use Rattle.tk_report_text.specs.Reports.{labels_of_id}
@@ -30,10 +26,12 @@ record IsOf (x : List ℕ) (l : Label) : Type 0 where
   has : HasTail l.kind l.payload
   is : bytes_eq (id_text l.id) x ≡ true
 
-have : (version : Version) (names : ℕ → List SegmentView) (r : Recorded) (es : List Entry) → AreEntries version r es → AllByRecursion HasOne (map (label names) (events es))
-unfolding AreEntries
-have version names r [] h = tt
-have version names r (e ∷ es) h = (h.0.line.tail, have version names (with_entry r e) es h.2)
+abbrev EventHasTail : Entry → Type 0
+EventHasTail e = HasTail e.event.kind e.event.payload
+
+have : (names : ℕ → List SegmentView) (es : List Entry) → All EventHasTail es → AllByRecursion HasOne (map (label names) (events es))
+have names [] h = tt
+have names (e ∷ es) h = (All-head EventHasTail e es h, have names es (All-tail EventHasTail e es h))
 
 own : (x : List ℕ) (ls : List Label) → AllByRecursion HasOne ls → AllByRecursion (IsOf x) (labels_of_id x ls)
 own x [] h = tt
@@ -61,4 +59,4 @@ all x (a ∷ ls) (b ∷ ks) h i e =
 pub report_is_of_tails : ReportIsOfTails
 report_is_of_tails r s p q same = report_same r s (λ x.
     all x (labels_of_id x (labels r)) (labels_of_id x (labels s))
-    (own x (labels r) (have Two (name r) _ r.entries p.1)) (own x (labels s) (have Two (name s) _ s.entries q.1)) (same x))
+    (own x (labels r) (have (name r) r.entries p)) (own x (labels s) (have (name s) s.entries q)) (same x))

@@ -1,8 +1,8 @@
 -- What holds of reports alone.
-use Rattle.std.specs.Prelude.{◌≡◌, ℕ, List, map}
+use Rattle.std.specs.Prelude.{◌≡◌, ℕ, List, All, map}
+use Rattle.tk_events.specs.declared.events.Entry.{Entry}
 use Rattle.tk_record_columns.specs.Recorded.{Recorded}
-use Rattle.tk_record.specs.Spelling.{tail, joined}
-use Rattle.tk_record.specs.Text.{HasText}
+use Rattle.tk_record.specs.Spelling.{HasTail, tail, joined}
 use Rattle.tk_report_text.specs.Labels.{Label, labels}
 use Rattle.tk_report_text.specs.Reports.{labels_of_id, report_of_record}
 
@@ -10,9 +10,13 @@ use Rattle.tk_report_text.specs.Reports.{labels_of_id, report_of_record}
 abbrev pub tails_of_id : List ℕ → Recorded → List (List ℕ)
 tails_of_id x r = map (λ (l : Label). joined (tail l.kind l.payload)) (labels_of_id x (labels r))
 
+-- each event of the record has a tail, as in every record that has a text
+abbrev pub EventsHaveTails : Recorded → Type 0
+EventsHaveTails r = All (λ (e : Entry). HasTail e.event.kind e.event.payload) r.entries
+
 -- two records with the same tails for each id, each in its order, have one report, whatever their
 -- workers, keys, stamps and the order of their ids
 abbrev pub ReportIsOfTails : Type 0
-ReportIsOfTails = (r s : Recorded) → HasText r → HasText s
+ReportIsOfTails = (r s : Recorded) → EventsHaveTails r → EventsHaveTails s
     → ((x : List ℕ) → tails_of_id x r ≡ tails_of_id x s)
     → report_of_record r ≡ report_of_record s

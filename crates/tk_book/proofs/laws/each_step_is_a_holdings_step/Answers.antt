@@ -1,4 +1,5 @@
 use Rattle.tk_book.proofs.Granting.{state, grant, failure, load, release}
+use Rattle.tk_book.proofs.Passing.{split, join}
 use Rattle.tk_book.proofs.laws.each_step_is_a_holdings_step.Goals as goal
 
 pub returns-clause-state : goal.returns-clause-state
@@ -15,3 +16,9 @@ returns-clause-load c = load
 
 pub returns-clause-release : goal.returns-clause-release
 returns-clause-release c = release
+
+pub returns-clause-split : goal.returns-clause-split
+returns-clause-split c = split
+
+pub returns-clause-join : goal.returns-clause-join
+returns-clause-join c = join
