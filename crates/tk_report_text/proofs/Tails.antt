@@ -1,17 +1,22 @@
 -- Records whose ids have the same tails say the same of each id.
 use Rattle.std.proofs.Common.{◌≡◌, ℕ, true, false, List, [], ◌∷◌, All, map, bytes_eq, refl, sym, ap₂, ◌∙◌, if◌then◌else◌}
 use Rattle.std.specs.List.{AllByRecursion}
-use Rattle.std.proofs.lemmas.List.Elements.{All-head, All-tail}
+use Rattle.std.proofs.lemmas.List.Elements.{All-head, All-tail, All-from_recursion}
 use Rattle.std.specs.Cmp.Lexicographic.{bytes_decides}
 use Rattle.tk_ids.specs.IdText.{SegmentView, id_text}
 use Rattle.tk_events.specs.declared.kinds.Kind.{Kind}
 use Rattle.tk_events.specs.declared.payloads.Payload.{Payload}
 use Rattle.tk_events.specs.declared.events.Entry.{Entry}
+use Rattle.tk_record_columns.specs.Recorded.{Recorded, without_entries}
+use Rattle.tk_record_columns.specs.Entries.{with_entry}
 use Rattle.tk_record.specs.Spelling.{HasTail, joined, tail}
+use Rattle.tk_record.specs.declared.versions.Version.{Version}
+use Rattle.tk_record.specs.declared.versions.Version.TheVariants.{Two}
+use Rattle.tk_record.specs.Text.{AreEntries}
 use Rattle.tk_record.proofs.TailLines.{one_tail}
 use Rattle.tk_report_text.specs.Labels.{Label, events, label, labels, name}
 use Rattle.tk_report_text.specs.Reports.{labels_of_id}
-use Rattle.tk_report_text.specs.Laws.{ReportIsOfTails}
+use Rattle.tk_report_text.specs.Laws.{ReportIsOfTails, TextHasTails}
 use Rattle.tk_report_text.proofs.Ids.{text_is_unique}
 use Rattle.tk_report_text.proofs.SameReports.{report_same}
 
@@ -28,6 +33,14 @@ record IsOf (x : List ℕ) (l : Label) : Type 0 where
 
 abbrev EventHasTail : Entry → Type 0
 EventHasTail e = HasTail e.event.kind e.event.payload
+
+lines_have : (version : Version) (r : Recorded) (es : List Entry) → AreEntries version r es → AllByRecursion EventHasTail es
+unfolding AreEntries
+lines_have version r [] h = tt
+lines_have version r (e ∷ es) h = (h.0.line.tail, lines_have version (with_entry r e) es h.2)
+
+pub text_has_tails : TextHasTails
+text_has_tails r h = All-from_recursion EventHasTail r.entries (lines_have Two (without_entries r.table) r.entries h.1)
 
 have : (names : ℕ → List SegmentView) (es : List Entry) → All EventHasTail es → AllByRecursion HasOne (map (label names) (events es))
 have names [] h = tt
