@@ -105,6 +105,16 @@ impl fmt::Display for BookFault {
 
 impl Error for BookFault {}
 
+impl From<AllocError> for BookFault {
+    ghost use Rattle.tk_book.specs.declared.books.BookFault.TheVariants.{Memory};
+
+    ghost from_gives = { λ _ e. e ≡ Memory };
+
+    fn from(_: AllocError) -> BookFault {
+        BookFault::Memory
+    }
+}
+
 // Cuts the first seat into `count` seats.
 fn split_seats(
     alloc: Global,
@@ -147,14 +157,8 @@ impl Book {
         if seats == 0 || seats > MAX_WORKERS as usize {
             return Err(BookFault::Seats);
         }
-        let Ok((table, first)) = Table::of_words(alloc, &[0], &seats) else {
-            // No allocation failed here: that of the table did.
-            return Err(BookFault::Memory);
-        };
-        let Ok(all) = split_seats(alloc, &table, first, seats) else {
-            // No allocation failed here: that of the list of seats did.
-            return Err(BookFault::Memory);
-        };
+        let (table, first) = Table::of_words(alloc, &[0], &seats)?;
+        let all = split_seats(alloc, &table, first, seats)?;
         Ok((Book { table }, all))
     }
 

@@ -76,6 +76,16 @@ impl fmt::Display for ClaimFault {
 
 impl Error for ClaimFault {}
 
+impl From<AllocError> for ClaimFault {
+    ghost use Rattle.tk_engine_claim.specs.declared.claims.ClaimFault.TheVariants.{Memory};
+
+    ghost from_gives = { λ _ e. e ≡ Memory };
+
+    fn from(_: AllocError) -> ClaimFault {
+        ClaimFault::Memory
+    }
+}
+
 // Cuts the first seat into `count` seats.
 fn split_seats(
     alloc: Global,
@@ -120,14 +130,8 @@ impl Claim {
             return Err(ClaimFault::Seats);
         }
         let claim_limits = ClaimLimits { limit: n, seats };
-        let Ok((table, first)) = Table::of_words(alloc, &[0], &claim_limits) else {
-            // No allocation failed here: that of the table did.
-            return Err(ClaimFault::Memory);
-        };
-        let Ok(all) = split_seats(alloc, &table, first, seats) else {
-            // No allocation failed here: that of the list of seats did.
-            return Err(ClaimFault::Memory);
-        };
+        let (table, first) = Table::of_words(alloc, &[0], &claim_limits)?;
+        let all = split_seats(alloc, &table, first, seats)?;
         Ok((Claim { table, limit: n }, all))
     }
 

@@ -86,5 +86,4 @@ pub fn trees<T: Tests + Sync>(engine: &Hierarchical<T>, results: &Results)
 pub fn fault_numbers()
     ensures out_of_order { OUT_OF_ORDER ≡ 2 ^ 32 - 1 }
     ensures twice { TWICE ≡ 2 ^ 32 - 2 }
-{
-}
+{}
