@@ -19,6 +19,7 @@ use Rattle.tk_queue_session.specs.Emission.{entries_by, entry_by, registrations}
 use Rattle.tk_query_lifecycle.specs.Lifecycle.{has_event, is_event}
 use Rattle.tk_query_lifecycle.specs.KeepsLifecycle.{IsWhole, KeepsLifecycle, is_step, steps_of}
 use Rattle.tk_engine_claim.specs.Claims.{once_below, times}
+use Rattle.tk_engine_execute.proofs.Emitted.{registrations-append}
 use Rattle.tk_engine_runs.specs.Run.{Emits, IsRun, IsShared}
 use Rattle.tk_engine_lifecycle.proofs.Apart.{other_first, own_first}
 use Rattle.tk_engine_hierarchical.specs.Covered.{IsCovered}
@@ -122,20 +123,21 @@ module _ (may : ℕ → ℕ → ℕ → List Event → Type 0) where
   all_emitted P each units workers mid s =
       all_of_workers P workers mid s.mix.workers (λ w within. let e = worker_emits units workers mid s w within in emits_all P each w 0 e.0 (of_worker w mid) e.1)
 
-  -- the list that a unit emitted, as a part of a longer one
-  pub record Part (u w : ℕ) (l : List Event) : Type 0 where
+  -- the list that a unit emitted, as a part of a longer one, before which n descriptors were registered
+  pub record Part (u w n : ℕ) (l : List Event) : Type 0 where
     pub k : ℕ
     pub list : List Event
     pub may_be : may u w k list
     pub earlier : List Event
     pub later : List Event
     pub whole : l ≡ earlier ++ list ++ later
+    pub counted : n + registrations earlier ≡ k
 
   part_at : (b : Bool) (u x w k : ℕ) (us : List ℕ) (l : List Event) (e : Emits may w k (x ∷ us) l) → nat_eq x u ≡ b → 0 < drawn_by u (x ∷ us)
-      → (0 < drawn_by u us → Part u w e.1) → Part u w l
+      → (0 < drawn_by u us → Part u w (k + registrations e.0) e.1) → Part u w k l
   part_at true u x w k us l e is some more =
       let same : x ≡ u = grind (arith, tests, is) in
-      record { k = k; list = e.0; may_be = subst (λ v. may v w k e.0) same e.3; earlier = []; later = e.1; whole = e.2 }
+      record { k = k; list = e.0; may_be = subst (λ v. may v w k e.0) same e.3; earlier = []; later = e.1; whole = e.2; counted = omega arith }
   part_at false u x w k us l e is some more =
       let p = more (subst (λ n. 0 < n) (ap (λ b. length (cond b (x ∷ filter (λ y. nat_eq y u) us) (filter (λ y. nat_eq y u) us))) is) some) in record {
         k = p.k;
@@ -145,9 +147,10 @@ module _ (may : ℕ → ℕ → ℕ → List Event → Type 0) where
         later = p.later;
         whole = e.2 ∙ ap (λ m. e.0 ++ m) p.whole ∙ sym (append_assoc e.0 (p.earlier ++ p.list) p.later)
             ∙ ap (λ m. m ++ p.later) (sym (append_assoc e.0 p.earlier p.list));
+        counted = omega (arith, registrations-append e.0 p.earlier, p.counted);
       }
 
-  part_of : (u w k : ℕ) (us : List ℕ) (l : List Event) → Emits may w k us l → 0 < drawn_by u us → Part u w l
+  part_of : (u w k : ℕ) (us : List ℕ) (l : List Event) → Emits may w k us l → 0 < drawn_by u us → Part u w k l
   part_of u w k [] l e some = absurd (omega (arith, some))
   part_of u w k (x ∷ us) l e some = part_at (nat_eq x u) u x w k us l e refl some (λ s. part_of u w (k + registrations e.0) us e.1 e.4 s)
 
@@ -168,6 +171,7 @@ module _ (may : ℕ → ℕ → ℕ → List Event → Type 0) where
     pub earlier : List Event
     pub later : List Event
     pub whole : of_worker worker mid ≡ earlier ++ list ++ later
+    pub counted : registrations earlier ≡ k
 
   pub unit_ran : (units workers : ℕ) (mid : List Entry) → IsShared may units workers mid → (u : ℕ) → u < units → Ran u mid
   unit_ran units workers mid s u low =
@@ -185,6 +189,7 @@ module _ (may : ℕ → ℕ → ℕ → List Event → Type 0) where
         earlier = p.earlier;
         later = p.later;
         whole = let same : of_worker (d.0 + 1) mid ≡ s.lists (d.0 + 1) = s.mix.each (d.0 + 1) w in same ∙ p.whole;
+        counted = omega (arith, p.counted);
       }
 
   -- each of its events is there

@@ -138,12 +138,14 @@ tree_ran played ended plan table may_run unit piece start now old left same its 
     fault
 
 -- what a unit emitted that ran its tree by one plan it emitted by another that is the same
-pub ran_unit : {F : Type 0} (r : Result (Unit {0}) F) (p q : Outline) (s : ShapeView) (rules : TestRules) (unit : ℕ) (old new : SenderView) → p ≡ q
+pub ran_unit : {F : Type 0} (r : Result (Unit {0}) F) (p q : Outline) (s : ShapeView) (rules : TestRules) (unit : ℕ) (old new : SenderView) → p ≡ q → old.table ≡ q.table
     → OnOk r (HasRun (frame s) (FitsPlan p rules.may_end) (keys_in s unit) old new) → OnOk r (RunsUnitTree p rules.may_run unit old new)
     → OnOk r (ExtendsAs (may_of q s rules unit) old new)
-ran_unit (Ok _) p q s rules unit old new same h t =
-    subst (λ o. ExtendsAs (may_of o s rules unit) old new) same (h.0, h.1, (h.2, record { start = old; now = new; ran = t; by = refl; sent = h.1 }))
-ran_unit (Err _) p q s rules unit old new same h t = tt
+ran_unit (Ok _) p q s rules unit old new same over h t =
+    let table : old.table ≡ p.table = over ∙ ap (λ (o : Outline). o.table) (sym same) in
+    subst (λ o. ExtendsAs (may_of o s rules unit) old new) same
+    (h.0, h.1, (h.2, record { start = old; now = new; ran = t; table = table; by = refl; earlier = refl; sent = h.1 }))
+ran_unit (Err _) p q s rules unit old new same over h t = tt
 
 -- ---- the record of a run
 
@@ -162,11 +164,12 @@ module _ (plan : Outline) (s : ShapeView) (rules : TestRules) where
       → (unit : ℕ) → unit < units → RanTree plan rules.may_run unit r
   ran_trees table before after units workers r run unit low =
       let ran = unit_ran (may_of plan s rules) units workers run.mid run.shared unit low in record {
-        worker = ran.worker;
+        by = record { worker = ran.worker; earlier = ran.k };
         is_worker = ran.is_worker;
-        earlier = ran.earlier;
+        before = ran.earlier;
         events = ran.list;
-        later = ran.later;
+        after = ran.later;
         emitted = of_worker_mid (may_of plan s rules) table before after units workers r run ran.worker ran.is_worker ∙ ran.whole;
+        registered = ran.counted;
         of_tree = ran.may_be.1;
       }

@@ -9,12 +9,13 @@ use Rattle.tk_events.specs.declared.kinds.Kind.TheVariants.{Finished, Skipped, S
 use Rattle.tk_record_columns.specs.Mixing.{of_worker}
 use Rattle.tk_record_columns.specs.Recorded.{Recorded}
 use Rattle.tk_query_lifecycle.specs.KeepsLifecycle.{steps_of}
+use Rattle.tk_queue_session.specs.Emission.{registrations}
 use Rattle.tk_engine_hierarchical.specs.Covered.{IsBelowSkipped}
 use Rattle.tk_engine_hierarchical.specs.Endings.{EndsAsItMay}
 use Rattle.tk_engine_hierarchical.specs.Nesting.{EventsNest}
 use Rattle.tk_engine_hierarchical.specs.Shapes.{ShapeView, may_emit}
 use Rattle.tk_engine_hierarchical.specs.Steps.{FitsPlan, StepsAs}
-use Rattle.tk_engine_hierarchical.specs.TreeRuns.{IsOfUnitTree, TestRuns}
+use Rattle.tk_engine_hierarchical.specs.TreeRuns.{IsOfUnitTree, TestRuns, UnitWorker}
 use Rattle.tk_engine_hierarchical.specs.declared.tests.Outcome.{Outcome}
 
 -- what tests promise, by their keys: with which outcomes each may end, and how its body may run
@@ -30,7 +31,7 @@ test_rules may_end may_run = record { may_end = may_end; may_run = may_run }
 abbrev pub may_of : Outline → ShapeView → TestRules → ℕ → ℕ → ℕ → List Event → Type 0
 may_of plan shape rules unit worker earlier events =
     may_emit shape (FitsPlan plan rules.may_end) unit worker earlier events
-    × IsOfUnitTree plan rules.may_run unit worker events
+    × IsOfUnitTree plan rules.may_run unit (record { worker = worker; earlier = earlier }) events
 
 -- The record is that of a run of the engine of a plan by some workers, in which each unit emits
 -- what it may.
@@ -67,13 +68,14 @@ UnitsNest r = (worker : ℕ) → 0 < worker → EventsNest r (of_worker worker r
 
 -- a worker emitted in a row what a run of the unit's tree emits
 pub record RanTree (plan : Outline) (may_run : TestRuns) (unit : ℕ) (r : Recorded) : Type 0 where
-  pub worker : ℕ
-  pub is_worker : 0 < worker
-  pub earlier : List Event
+  pub by : UnitWorker
+  pub is_worker : 0 < by.worker
+  pub before : List Event
   pub events : List Event
-  pub later : List Event
-  pub emitted : of_worker worker r.entries ≡ earlier ++ events ++ later
-  pub of_tree : IsOfUnitTree plan may_run unit worker events
+  pub after : List Event
+  pub emitted : of_worker by.worker r.entries ≡ before ++ events ++ after
+  pub registered : registrations before ≡ by.earlier
+  pub of_tree : IsOfUnitTree plan may_run unit by events
 
 -- so of each unit
 abbrev pub UnitsRanTrees : Outline → TestRuns → Recorded → Type 0

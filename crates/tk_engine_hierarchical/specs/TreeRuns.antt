@@ -12,6 +12,7 @@ use Rattle.tk_plan_units.specs.declared.nodes.Node.{Node}
 use Rattle.tk_plan_units.specs.Cutting.{Piece, pieces_of}
 use Rattle.tk_plan_units.specs.Planned.{Outline}
 use Rattle.tk_plan_units.specs.Trees.{Forest, Tree, forest, more, no_trees, tree}
+use Rattle.tk_queue_session.specs.Emission.{registrations}
 use Rattle.tk_queue_session.specs.Registering.{RegisterRequest}
 use Rattle.tk_queue_session.specs.Senders.{SenderView, sends}
 use Rattle.tk_engine_execute.specs.Engines.{Extends}
@@ -169,11 +170,18 @@ pub record RunsUnitTree (plan : Outline) (may_run : TestRuns) (unit : ℕ) (star
   pub ran : RunsTree plan.table may_run piece.tree (plan_state (begun start) piece.first) left
   pub sink : left.unit.sink ≡ now
 
+-- a worker, and how many descriptors it had registered before
+pub record UnitWorker : Type 0 where
+  pub worker : ℕ
+  pub earlier : ℕ
+
 -- the events are those that a worker emits which runs the tree of the unit
-pub record IsOfUnitTree (plan : Outline) (may_run : TestRuns) (unit worker : ℕ)
+pub record IsOfUnitTree (plan : Outline) (may_run : TestRuns) (unit : ℕ) (w : UnitWorker)
     (events : List Event) : Type 0 where
   pub start : SenderView
   pub now : SenderView
   pub ran : RunsUnitTree plan may_run unit start now
-  pub by : start.worker ≡ worker
+  pub table : start.table ≡ plan.table
+  pub by : start.worker ≡ w.worker
+  pub earlier : registrations start.sent ≡ w.earlier
   pub sent : now.sent ≡ start.sent ++ events
