@@ -40,9 +40,9 @@ def called(words: Sequence[str], cwd: str = "/", stdin: str = os.devnull, user: 
     """Calls a program in a folder, as another user if one is given, with variables changed, and PROGRAM unset."""
     environment = {**os.environ, **changed}
     environment.pop("PROGRAM", None)
-    how = {} if user is None else {"user": user, "group": user, "extra_groups": []}
+    as_user = [] if user is None else ["setpriv", f"--reuid={user}", f"--regid={user}", "--clear-groups"]
     with open(stdin, "rb") as given:
-        ran = subprocess.run(words, cwd=cwd, env=environment, stdin=given, capture_output=True, timeout=SECONDS, check=False, **how)
+        ran = subprocess.run([*as_user, *words], cwd=cwd, env=environment, stdin=given, capture_output=True, timeout=SECONDS, check=False)
     return Came(ran.returncode, ran.stdout, ran.stderr.decode(errors="replace"))
 
 
