@@ -1,11 +1,11 @@
 """Tests of `tools/try_in_debian`, with scripts in place of `debootstrap`, and of `chroot` and so of all that runs in that Debian."""
 
 import os
-import shutil
+import re
 from dataclasses import dataclass
 from typing import List, Sequence, Tuple
 
-from repository import TOP, Came, called
+from repository import TOP, called, read
 
 TRY = f"{TOP}/tools/try_in_debian"
 
@@ -40,12 +40,15 @@ CHECKS = len(LINES) - 1
 
 CHROOT = (
     '[ -f "$1/testkit.deb" ] || echo "there is no package"',
+    '[ ! -f /etc/resolv.conf ] || cmp -s /etc/resolv.conf "$1/etc/resolv.conf" || echo "there is no resolv.conf"',
     'shift; for line; do :; done; echo "$*" >>"$ROOM/calls"; at=$(wc -l <"$ROOM/calls")',
     'cat "$ROOM/printed.$at" >&2; exit "$(cat "$ROOM/status.$at")"',
 )
 """What stands for `chroot`: it prints what is prepared for the line of this number."""
 
 IN_CHROOT = "env -i PATH=/usr/sbin:/usr/bin:/sbin:/bin DEBIAN_FRONTEND=noninteractive LC_ALL=C.UTF-8 sh -c "
+
+UMOUNT = ('echo "$*" >"$ROOM/unmounted"', "echo not mounted >&2", "exit 1")
 
 DEBOOTSTRAP = ('mkdir -p "$3/etc"', 'echo "$1 $2 $4" >"$ROOM/suite"', "echo a line", "echo a fault >&2")
 
@@ -81,17 +84,17 @@ class Trial:
         return fault or (self.fault_of_calls(room) if self.status == 0 else "")
 
     def fault_of_calls(self, room: str) -> str:
-        """What is wrong with what it asked of `debootstrap` and `chroot`."""
-        with open(f"{room}/calls", encoding="utf-8") as calls, open(f"{room}/suite", encoding="utf-8") as suite:
-            came, asked = calls.read(), suite.read()
+        """What is wrong with what it asked of `debootstrap`, `chroot` and `umount`."""
+        asked, came, unmounted = (read(f"{room}/{name}").decode() for name in ("suite", "calls", "unmounted"))
         wanted = "".join(f"{IN_CHROOT}{line}\n" for line, _, _ in LINES)
-        return "" if (came, asked) == (wanted, self.suite) else f"it asks for {asked!r} and {came!r}"
+        is_unmounted = re.fullmatch(rf"{re.escape(room)}/place/[^/]+/root/proc\n", unmounted)
+        return "" if (asked, came) == (self.suite, wanted) and is_unmounted else f"it asks for {asked!r}, {came!r} and {unmounted!r}"
 
     def write(self, room: str) -> None:
         """Writes the package and the scripts."""
         for folder in ("commands", "place", "folder"):
             os.mkdir(f"{room}/{folder}")
-        scripts = {"chroot": CHROOT, "debootstrap": self.debootstrap, "id": (f"echo {self.user}",), "umount": ("exit 1",)}
+        scripts = {"chroot": CHROOT, "debootstrap": self.debootstrap, "id": (f"echo {self.user}",), "umount": UMOUNT}
         for name, lines in scripts.items():
             if lines:
                 write(f"{room}/commands/{name}", "".join(f"{line}\n" for line in ("#!/bin/sh", *lines)))
