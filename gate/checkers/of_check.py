@@ -36,12 +36,13 @@ WRONG_CHECKERS: Dict[str, List[str]] = {
     "has a number below zero": ['echo "-3 passed, 0 failed"'],
 }
 
-ANSWERS = ["echo 5"]
+ANSWERS = ['read -r line && [ "$* $line" = "ask count all a record" ] && echo 5']
 
 WRONG_LAUNCHERS: Dict[str, List[str]] = {
     "says nothing": [],
     "says something else": ["echo 6"],
     "says more": [*ANSWERS, "echo 5"],
+    "is asked something else": ['[ "$*" != "ask count all" ] && echo 5'],
     "proves again": ["echo 'testkit: proving the program' >&2", *ANSWERS],
     "has status 1": [*ANSWERS, "exit 1"],
     "is killed": [*ANSWERS, "kill -KILL $$"],
@@ -105,9 +106,9 @@ def repository(at: str) -> None:
         write_script(f"{at}/{path}", f'echo "{os.path.basename(path)} $*" >>"{at}/out/calls"', *GOOD)
     write_script(f"{at}/bin/rt", f'echo "rt $*" >>"{at}/out/calls"', f'if [ "$1" = version ]; then echo "{KIT}"; exit; fi', *GOOD)
     write_script(f"{at}/{PROGRAM}", "exit 1")
-    write_script(f"{at}/testkit", "! command -v rt || exit 1", *ANSWERS)
+    write_script(f"{at}/testkit", "! command -v rt && command -v python3 dirname readlink >&3 || exit 1", *ANSWERS)
     os.makedirs(f"{at}/examples")
-    write(f"{at}/examples/two_tests.record", "")
+    write(f"{at}/examples/two_tests.record", "a record\n")
     write(f"{at}/{RUN}", "an older run\n")
     git(at, "init", "-q")
     commit(at)

@@ -15,7 +15,7 @@ GZIP = 'gzip -t /usr/share/man/man1/testkit.1.gz && grep -c "^kit rattle-kit" /u
 INSTALL = "apt-get -q update && apt-get -q install -y python3"
 
 LINES: Sequence[Tuple[str, str, int]] = (
-    ("command -v testkit python3", "", 127),
+    ("for it in testkit python3; do command -v $it; done", "", 127),
     ("dpkg -i /testkit.deb >/dev/null", "", 0),
     ("dpkg --verify testkit", "", 0),
     (f"testkit ask count all <{EXAMPLES}/two_tests.record", "5", 0),
@@ -29,7 +29,7 @@ LINES: Sequence[Tuple[str, str, int]] = (
     (EXPLAIN, "yes\n0 failed(boom)\n    2: E|1|1|2|finish|fail|boom", 0),
     (f"testkit-timeline <{EXAMPLES}/two_tests.record >/page && head -n 1 /page && rm /page", "<!doctype html>", 0),
     ("dpkg --remove testkit >/dev/null && rm /testkit.deb", "", 0),
-    ("command -v testkit testkit-explain testkit-timeline", "", 127),
+    ("for it in testkit testkit-explain testkit-timeline; do command -v $it; done", "", 127),
     ('find / -xdev -name "*testkit*" -not -path "/proc/*" -not -path "/var/lib/dpkg/*"', "", 0),
     ("dpkg --purge testkit 2>/dev/null; dpkg --status testkit 2>/dev/null", "", 1),
 )
