@@ -36,13 +36,15 @@ WRONG_CHECKERS: Dict[str, List[str]] = {
     "has a number below zero": ['echo "-3 passed, 0 failed"'],
 }
 
+COMMANDS = ["! command -v rt || exit 1", "for it in python3 dirname readlink; do command -v $it >/dev/null || exit 1; done"]
+"""How the launcher sees that it has the commands that it needs, and no `rt`."""
+
 ANSWERS = ['read -r line && [ "$* $line" = "ask count all a record" ] && echo 5']
 
 WRONG_LAUNCHERS: Dict[str, List[str]] = {
     "says nothing": [],
     "says something else": ["echo 6"],
     "says more": [*ANSWERS, "echo 5"],
-    "is asked something else": ['[ "$*" != "ask count all" ] && echo 5'],
     "proves again": ["echo 'testkit: proving the program' >&2", *ANSWERS],
     "has status 1": [*ANSWERS, "exit 1"],
     "is killed": [*ANSWERS, "kill -KILL $$"],
@@ -106,7 +108,7 @@ def repository(at: str) -> None:
         write_script(f"{at}/{path}", f'echo "{os.path.basename(path)} $*" >>"{at}/out/calls"', *GOOD)
     write_script(f"{at}/bin/rt", f'echo "rt $*" >>"{at}/out/calls"', f'if [ "$1" = version ]; then echo "{KIT}"; exit; fi', *GOOD)
     write_script(f"{at}/{PROGRAM}", "exit 1")
-    write_script(f"{at}/testkit", "! command -v rt && command -v python3 dirname readlink >&3 || exit 1", *ANSWERS)
+    write_script(f"{at}/testkit", *COMMANDS, *ANSWERS)
     os.makedirs(f"{at}/examples")
     write(f"{at}/examples/two_tests.record", "a record\n")
     write(f"{at}/{RUN}", "an older run\n")
@@ -188,9 +190,22 @@ TESTS_OF_RUNS: Dict[str, Callable[[], str]] = {
     "a kit that has no name": lambda: leaves_nothing(
         lambda at: (write_script(f"{at}/bin/rt", '[ "$1" = ci ] || exit 1', *GOOD), commit(at)), True, "version"
     ),
+    "a kit that says nothing": lambda: leaves_nothing(
+        lambda at: (write_script(f"{at}/bin/rt", '[ "$1" = ci ] || exit 0', *GOOD), commit(at)), True, "list index out of range"
+    ),
+    "a folder in the place of what is left": lambda: leaves_nothing(
+        lambda at: (write_script(f"{at}/gate/cases/run_cases", f"mkdir {at}/{RUN}", *GOOD), commit(at)), True, "Is a directory"
+    ),
 }
 
 COMMITS = "cd {} && git -c user.name=a -c user.email=a commit -q --allow-empty -m new"
+
+
+TIMES = re.compile(
+    r"^check: \d+ minutes by the clock on \d+ processors; minutes of processor time: \d+ of the programs, \d+ of the system\n\d+ passed, 0 failed\n\Z",
+    re.MULTILINE,
+)
+"""How the gate ends where all is right."""
 
 
 def all_pass(command: str) -> str:
@@ -204,7 +219,25 @@ def all_pass(command: str) -> str:
     refusals = f"refuse_requests {program} " + " ".join(f"crates/{it}/out/{it}_tests" for it in crates)
     lacking = {"rt ci", f"run_cases {program}", refusals, f"check_documents {program}", f"test_checkers {program}"} - calls
     uncalled = f"{sorted(missing)} isn't called" if missing else ""
-    return came.fault(True) or uncalled or counted or (f"no call {sorted(lacking)}" if lacking else "")
+    unsaid = "" if TIMES.search(came.said) else f"it says {came.said[-300:]!r}"
+    return came.fault(True) or uncalled or counted or (f"no call {sorted(lacking)}" if lacking else "") or unsaid
+
+
+def with_checker(*lines: str) -> Callable[[str], object]:
+    """A change after which a checker has these lines."""
+    return lambda at: write_script(f"{at}/gate/cases/run_cases", *lines)
+
+
+def with_interrupt(at: str) -> None:
+    """Lets the gate be interrupted while `rt` runs."""
+    write_script(f"{at}/bin/rt", "kill -INT $PPID", "sleep 1")
+    commit(at)
+
+
+def with_folder(at: str) -> None:
+    """Lets a folder stand where the gate leaves what it passed."""
+    os.remove(f"{at}/{RUN}")
+    os.mkdir(f"{at}/{RUN}")
 
 
 def with_script(path: str, lines: Sequence[str]) -> str:
@@ -242,6 +275,12 @@ def nothing_done(lines: Sequence[str]) -> str:
     return came.fault(False) or ("" if came.failed == len(paths) else f"{came.failed} failed, and {len(paths)} do nothing")
 
 
+def breaks(change: Callable[[str], object], line: str) -> str:
+    """After this change the gate can't work, and says so in one line."""
+    came = check(change).came
+    return came.fault(None) or ("" if line in came.said else f"it says {came.said!r}")
+
+
 def fails_in_ci() -> str:
     return check(lambda at: write_script(f"{at}/bin/rt", *WRONG_CHECKERS["has a failure"]), ".ci/run").came.fault(False)
 
@@ -253,6 +292,10 @@ def tests_of_check() -> List[Test]:
         found.append(Test(f"a checker {name}", lambda lines=lines: with_script("gate/cases/run_cases", lines)))
     for path in ["bin/rt", *checkers_of_the_gate()]:
         found.append(Test(f"{path} does nothing", lambda path=path: with_script(path, [])))
+    unended = GOOD[-1].replace("echo", "printf %s")
+    found.append(Test("a checker without a line feed at its end", lambda: check(with_checker(unended)).came.fault(True)))
+    found.append(Test("a folder in the place of an older run", lambda: breaks(with_folder, "Is a directory")))
+    found.append(Test("an interrupt", lambda: breaks(with_interrupt, "KeyboardInterrupt")))
     found.append(Test("a checker is missing", lambda: without("gate/cases/run_cases")))
     for name, lines in WRONG_LAUNCHERS.items():
         found.append(Test(f"./testkit {name}", lambda lines=lines: with_script("testkit", lines)))
