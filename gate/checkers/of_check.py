@@ -15,6 +15,11 @@ from outcomes import TOP, Came, Test, called, write_script
 
 GOOD = ['echo "a line"', 'echo "3 passed, 0 failed"']
 
+RIGHT_CHECKERS: Dict[str, List[str]] = {
+    "has no line feed at its end": ['printf "3 passed, 0 failed"'],
+    "has a line that begins as its last": ['echo "3 passed, 0 failed, 2 left out"', *GOOD],
+}
+
 WRONG_CHECKERS: Dict[str, List[str]] = {
     "does nothing": [],
     "does nothing and fails": ["exit 1"],
@@ -201,6 +206,9 @@ TESTS_OF_RUNS: Dict[str, Callable[[], str]] = {
 COMMITS = "cd {} && git -c user.name=a -c user.email=a commit -q --allow-empty -m new"
 
 
+SAID = "a line\n3 passed, 0 failed\n"
+"""What each checker says."""
+
 TIMES = re.compile(
     r"^check: \d+ minutes by the clock on \d+ processors; minutes of processor time: \d+ of the programs, \d+ of the system\n\d+ passed, 0 failed\n\Z",
     re.MULTILINE,
@@ -212,14 +220,15 @@ def all_pass(command: str) -> str:
     found = check(lambda at: None, command)
     came, calls = found.came, found.calls
     missing = {os.path.basename(path) for path in checkers_of_the_gate()} - {call.split()[0] for call in calls}
-    wanted = 3 * (1 + len(checkers_of_the_gate())) + 1
+    checkers = 1 + len(checkers_of_the_gate())
+    wanted = 3 * checkers + 1
     counted = "" if came.passed == wanted else f"{came.passed} passed, and {wanted} are wanted"
+    unsaid = "" if came.said.count(SAID) == checkers and TIMES.search(came.said) else f"it says {came.said!r}"
     program = PROGRAM
     crates = ("test_records", "test_questions", "test_sessions", "test_plans", "test_runs", "test_hierarchical", "test_example_engine")
     refusals = f"refuse_requests {program} " + " ".join(f"crates/{it}/out/{it}_tests" for it in crates)
     lacking = {"rt ci", f"run_cases {program}", refusals, f"check_documents {program}", f"test_checkers {program}"} - calls
     uncalled = f"{sorted(missing)} isn't called" if missing else ""
-    unsaid = "" if TIMES.search(came.said) else f"it says {came.said[-300:]!r}"
     return came.fault(True) or uncalled or counted or (f"no call {sorted(lacking)}" if lacking else "") or unsaid
 
 
@@ -292,8 +301,8 @@ def tests_of_check() -> List[Test]:
         found.append(Test(f"a checker {name}", lambda lines=lines: with_script("gate/cases/run_cases", lines)))
     for path in ["bin/rt", *checkers_of_the_gate()]:
         found.append(Test(f"{path} does nothing", lambda path=path: with_script(path, [])))
-    unended = GOOD[-1].replace("echo", "printf %s")
-    found.append(Test("a checker without a line feed at its end", lambda: check(with_checker(unended)).came.fault(True)))
+    for name, lines in RIGHT_CHECKERS.items():
+        found.append(Test(f"a checker {name}", lambda lines=lines: check(with_checker(*lines)).came.fault(True)))
     found.append(Test("a folder in the place of an older run", lambda: breaks(with_folder, "Is a directory")))
     found.append(Test("an interrupt", lambda: breaks(with_interrupt, "KeyboardInterrupt")))
     found.append(Test("a checker is missing", lambda: without("gate/cases/run_cases")))
