@@ -111,7 +111,7 @@ def repository(at: str) -> None:
     os.makedirs(f"{at}/out")
     for path in checkers_of_the_gate():
         write_script(f"{at}/{path}", f'echo "{os.path.basename(path)} $*" >>"{at}/out/calls"', *GOOD)
-    write_script(f"{at}/bin/rt", f'echo "rt $*" >>"{at}/out/calls"', f'if [ "$1" = version ]; then echo "{KIT}"; exit; fi', *GOOD)
+    write_script(f"{at}/bin/rt", f'echo "rt $*" >>"{at}/out/calls"', f'if [ "$1" = version ]; then echo "{KIT}"; echo more; exit; fi', *GOOD)
     write_script(f"{at}/{PROGRAM}", "exit 1")
     write_script(f"{at}/testkit", *COMMANDS, *ANSWERS)
     os.makedirs(f"{at}/examples")
