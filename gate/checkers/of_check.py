@@ -138,9 +138,9 @@ def check(change: Callable[[str], object], command: str = "check") -> Checked:
         return Checked(came, set(text_of(f"{at}/out/calls").splitlines()), text_of(f"{at}/{RUN}"), wanted)
 
 
-def leaves(change: Callable[[str], object]) -> str:
+def leaves(change: Callable[[str], object], command: str = "check") -> str:
     """After this change the gate has to pass, and to leave what it passed."""
-    found = check(change)
+    found = check(change, command)
     is_left = re.fullmatch(re.escape(found.wanted) + r"date \d{4}-\d\d-\d\dT\d\d:\d\d:\d\dZ\n", found.left)
     return found.came.fault(True) or ("" if is_left else f"it leaves {found.left!r}, wanted {found.wanted!r} and a date")
 
@@ -160,6 +160,7 @@ def without_repository(at: str) -> None:
 TESTS_OF_RUNS: Dict[str, Callable[[], str]] = {
     "a clean tree": lambda: leaves(lambda at: None),
     "a clean tree of another commit": lambda: leaves(lambda at: (write(f"{at}/new", ""), commit(at))),
+    "a clean tree that is called through a link": lambda: leaves(lambda at: os.symlink(at, f"{at}/out/link"), "out/link/check"),
     "a file that is ignored": lambda: leaves(lambda at: write(f"{at}/out/new", "")),
     "a file changed": lambda: leaves_nothing(lambda at: write(f"{at}/.gitignore", "out/\n\n"), True, ": .gitignore is not as it was"),
     "a file added": lambda: leaves_nothing(lambda at: write(f"{at}/new", ""), True, ": new is not as it was"),
