@@ -325,6 +325,15 @@ SAMPLES: List[Sample] = [
         drawn=[("[x:2]", "successful", 3, 4, 1, 2, 0, 1, 1, 1), ("[x:1]", "successful", 5, 6, 0, 3, 2, 3, 0, 1)],
     ),
     Sample(
+        "a test that never finishes takes up to the greatest stamp, which isn't the last",
+        HEADER + nodes("T 1", "T 2") + events("1 1 1 start", "2 2 9 report|k|v", "1 2 3 skip|off"),
+        lanes=[(1, 0, 2)],
+        drawn=[("[x:2]", "skipped", 3, 3, 2, 2, 2, 2, 1, 1), ("[x:1]", "unfinished", 1, None, 0, None, 0, 9, 0, 1)],
+        slowest=[(1, 8)],
+        gaps=[],
+        end=9,
+    ),
+    Sample(
         "stamps of one execution of two that fall from one worker to the other are no times",
         HEADER + nodes("T 1", "T 2") + events("1 2 1 start", "1 2 2 finish|ok", "1 1 5 start", "2 1 4 finish|ok"),
         times=False,
