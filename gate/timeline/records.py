@@ -280,6 +280,18 @@ SAMPLES: List[Sample] = [
         not_run=2,
     ),
     Sample(
+        "a skip ends the test that its key had started, so its worker may have a gap",
+        HEADER + nodes("T 1", "T 2") + events("1 1 0 start", "1 1 2 skip|off", "1 2 5 start", "1 2 6 finish|ok"),
+        lanes=[(1, 0, 1)],
+        drawn=[
+            ("[x:1]", "skipped", 2, 2, 1, 1, 2, 2, 0, 1),
+            ("[x:2]", "successful", 5, 6, 2, 3, 5, 6, 0, 1),
+            ("[x:1]", "unfinished", 0, None, 0, None, 0, 2, 0, 1),
+        ],
+        slowest=[(2, 2), (1, 1)],
+        gaps=[(1, 3)],
+    ),
+    Sample(
         "events of one stamp stand side by side",
         HEADER + nodes("T 1", "T 2") + events("1 1 4 skip|a", "1 2 4 start", "2 1 4 report|k|v", "1 2 4 finish|ok", "1 2 9 report"),
         lanes=[(1, 0, 1)],
