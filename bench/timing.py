@@ -1,6 +1,7 @@
 """Runs commands in turn on an input, and gives the medians of the time that they took and the most memory."""
 import os
 import statistics
+import subprocess
 import time
 from dataclasses import dataclass
 from typing import List, Sequence
@@ -42,15 +43,13 @@ class Taken:
 
 def run_once(command: Sequence[str], input_path: str, output_path: str) -> Run:
     """Runs a command from one file to another."""
-    files = [
-        (os.POSIX_SPAWN_OPEN, 0, input_path, os.O_RDONLY, 0),
-        (os.POSIX_SPAWN_OPEN, 1, output_path, os.O_WRONLY | os.O_CREAT | os.O_TRUNC, 0o600),
-    ]
-    begun = time.monotonic()
-    child = os.posix_spawnp(command[0], command, os.environ, file_actions=files)
-    _, status, usage = os.wait4(child, 0)
-    clock = time.monotonic() - begun
-    return Run(usage.ru_utime + usage.ru_stime, clock, usage.ru_maxrss / 1024, os.waitstatus_to_exitcode(status))
+    with open(input_path, "rb") as given, open(output_path, "wb") as written:
+        begun = time.monotonic()
+        child = subprocess.Popen(command, stdin=given, stdout=written)
+        _, status, usage = os.wait4(child.pid, 0)
+        clock = time.monotonic() - begun
+    child.returncode = os.WEXITSTATUS(status) if os.WIFEXITED(status) else -os.WTERMSIG(status)
+    return Run(usage.ru_utime + usage.ru_stime, clock, usage.ru_maxrss / 1024, child.returncode)
 
 
 def take(commands: Sequence[Sequence[str]], input_path: str, folder: str, rounds: int = ROUNDS) -> List[Taken]:

@@ -15,6 +15,11 @@ from outcomes import TOP, Came, Test, called, write_script
 
 GOOD = ['echo "a line"', 'echo "3 passed, 0 failed"']
 
+RIGHT_CHECKERS: Dict[str, List[str]] = {
+    "has no line feed at its end": ['printf "3 passed, 0 failed"'],
+    "has a line that begins as its last": ['echo "3 passed, 0 failed, 2 left out"', *GOOD],
+}
+
 WRONG_CHECKERS: Dict[str, List[str]] = {
     "does nothing": [],
     "does nothing and fails": ["exit 1"],
@@ -36,7 +41,10 @@ WRONG_CHECKERS: Dict[str, List[str]] = {
     "has a number below zero": ['echo "-3 passed, 0 failed"'],
 }
 
-ANSWERS = ["echo 5"]
+COMMANDS = ["! command -v rt || exit 1", "for it in python3 dirname readlink; do command -v $it >/dev/null || exit 1; done"]
+"""How the launcher sees that it has the commands that it needs, and no `rt`."""
+
+ANSWERS = ['read -r line && [ "$* $line" = "ask count all a record" ] && echo 5']
 
 WRONG_LAUNCHERS: Dict[str, List[str]] = {
     "says nothing": [],
@@ -103,11 +111,11 @@ def repository(at: str) -> None:
     os.makedirs(f"{at}/out")
     for path in checkers_of_the_gate():
         write_script(f"{at}/{path}", f'echo "{os.path.basename(path)} $*" >>"{at}/out/calls"', *GOOD)
-    write_script(f"{at}/bin/rt", f'echo "rt $*" >>"{at}/out/calls"', f'if [ "$1" = version ]; then echo "{KIT}"; exit; fi', *GOOD)
+    write_script(f"{at}/bin/rt", f'echo "rt $*" >>"{at}/out/calls"', f'if [ "$1" = version ]; then echo "{KIT}"; echo more; exit; fi', *GOOD)
     write_script(f"{at}/{PROGRAM}", "exit 1")
-    write_script(f"{at}/testkit", "! command -v rt || exit 1", *ANSWERS)
+    write_script(f"{at}/testkit", *COMMANDS, *ANSWERS)
     os.makedirs(f"{at}/examples")
-    write(f"{at}/examples/two_tests.record", "")
+    write(f"{at}/examples/two_tests.record", "a record\n")
     write(f"{at}/{RUN}", "an older run\n")
     git(at, "init", "-q")
     commit(at)
@@ -130,9 +138,9 @@ def check(change: Callable[[str], object], command: str = "check") -> Checked:
         return Checked(came, set(text_of(f"{at}/out/calls").splitlines()), text_of(f"{at}/{RUN}"), wanted)
 
 
-def leaves(change: Callable[[str], object]) -> str:
+def leaves(change: Callable[[str], object], command: str = "check") -> str:
     """After this change the gate has to pass, and to leave what it passed."""
-    found = check(change)
+    found = check(change, command)
     is_left = re.fullmatch(re.escape(found.wanted) + r"date \d{4}-\d\d-\d\dT\d\d:\d\d:\d\dZ\n", found.left)
     return found.came.fault(True) or ("" if is_left else f"it leaves {found.left!r}, wanted {found.wanted!r} and a date")
 
@@ -152,6 +160,7 @@ def without_repository(at: str) -> None:
 TESTS_OF_RUNS: Dict[str, Callable[[], str]] = {
     "a clean tree": lambda: leaves(lambda at: None),
     "a clean tree of another commit": lambda: leaves(lambda at: (write(f"{at}/new", ""), commit(at))),
+    "a clean tree that is called through a link": lambda: leaves(lambda at: os.symlink(at, f"{at}/out/link"), "out/link/check"),
     "a file that is ignored": lambda: leaves(lambda at: write(f"{at}/out/new", "")),
     "a file changed": lambda: leaves_nothing(lambda at: write(f"{at}/.gitignore", "out/\n\n"), True, ": .gitignore is not as it was"),
     "a file added": lambda: leaves_nothing(lambda at: write(f"{at}/new", ""), True, ": new is not as it was"),
@@ -187,23 +196,58 @@ TESTS_OF_RUNS: Dict[str, Callable[[], str]] = {
     "a kit that has no name": lambda: leaves_nothing(
         lambda at: (write_script(f"{at}/bin/rt", '[ "$1" = ci ] || exit 1', *GOOD), commit(at)), True, "version"
     ),
+    "a kit that says nothing": lambda: leaves_nothing(
+        lambda at: (write_script(f"{at}/bin/rt", '[ "$1" = ci ] || exit 0', *GOOD), commit(at)), True, "list index out of range"
+    ),
+    "a folder in the place of what is left": lambda: leaves_nothing(
+        lambda at: (write_script(f"{at}/gate/cases/run_cases", f"mkdir {at}/{RUN}", *GOOD), commit(at)), True, "Is a directory"
+    ),
 }
 
 COMMITS = "cd {} && git -c user.name=a -c user.email=a commit -q --allow-empty -m new"
+
+
+SAID = "a line\n3 passed, 0 failed\n"
+"""What each checker says."""
+
+TIMES = re.compile(
+    r"^check: \d+ minutes by the clock on \d+ processors; minutes of processor time: \d+ of the programs, \d+ of the system\n\d+ passed, 0 failed\n\Z",
+    re.MULTILINE,
+)
+"""How the gate ends where all is right."""
 
 
 def all_pass(command: str) -> str:
     found = check(lambda at: None, command)
     came, calls = found.came, found.calls
     missing = {os.path.basename(path) for path in checkers_of_the_gate()} - {call.split()[0] for call in calls}
-    wanted = 3 * (1 + len(checkers_of_the_gate())) + 1
+    checkers = 1 + len(checkers_of_the_gate())
+    wanted = 3 * checkers + 1
     counted = "" if came.passed == wanted else f"{came.passed} passed, and {wanted} are wanted"
+    unsaid = "" if came.said.count(SAID) == checkers and TIMES.search(came.said) else f"it says {came.said!r}"
     program = PROGRAM
     crates = ("test_records", "test_questions", "test_sessions", "test_plans", "test_runs", "test_hierarchical", "test_example_engine")
     refusals = f"refuse_requests {program} " + " ".join(f"crates/{it}/out/{it}_tests" for it in crates)
     lacking = {"rt ci", f"run_cases {program}", refusals, f"check_documents {program}", f"test_checkers {program}"} - calls
     uncalled = f"{sorted(missing)} isn't called" if missing else ""
-    return came.fault(True) or uncalled or counted or (f"no call {sorted(lacking)}" if lacking else "")
+    return came.fault(True) or uncalled or counted or (f"no call {sorted(lacking)}" if lacking else "") or unsaid
+
+
+def with_checker(*lines: str) -> Callable[[str], object]:
+    """A change after which a checker has these lines."""
+    return lambda at: write_script(f"{at}/gate/cases/run_cases", *lines)
+
+
+def with_interrupt(at: str) -> None:
+    """Lets the gate be interrupted while `rt` runs."""
+    write_script(f"{at}/bin/rt", "kill -INT $PPID", "sleep 1")
+    commit(at)
+
+
+def with_folder(at: str) -> None:
+    """Lets a folder stand where the gate leaves what it passed."""
+    os.remove(f"{at}/{RUN}")
+    os.mkdir(f"{at}/{RUN}")
 
 
 def with_script(path: str, lines: Sequence[str]) -> str:
@@ -241,6 +285,12 @@ def nothing_done(lines: Sequence[str]) -> str:
     return came.fault(False) or ("" if came.failed == len(paths) else f"{came.failed} failed, and {len(paths)} do nothing")
 
 
+def breaks(change: Callable[[str], object], line: str) -> str:
+    """After this change the gate can't work, and says so in one line."""
+    came = check(change).came
+    return came.fault(None) or ("" if line in came.said else f"it says {came.said!r}")
+
+
 def fails_in_ci() -> str:
     return check(lambda at: write_script(f"{at}/bin/rt", *WRONG_CHECKERS["has a failure"]), ".ci/run").came.fault(False)
 
@@ -252,6 +302,10 @@ def tests_of_check() -> List[Test]:
         found.append(Test(f"a checker {name}", lambda lines=lines: with_script("gate/cases/run_cases", lines)))
     for path in ["bin/rt", *checkers_of_the_gate()]:
         found.append(Test(f"{path} does nothing", lambda path=path: with_script(path, [])))
+    for name, lines in RIGHT_CHECKERS.items():
+        found.append(Test(f"a checker {name}", lambda lines=lines: check(with_checker(*lines)).came.fault(True)))
+    found.append(Test("a folder in the place of an older run", lambda: breaks(with_folder, "Is a directory")))
+    found.append(Test("an interrupt", lambda: breaks(with_interrupt, "KeyboardInterrupt")))
     found.append(Test("a checker is missing", lambda: without("gate/cases/run_cases")))
     for name, lines in WRONG_LAUNCHERS.items():
         found.append(Test(f"./testkit {name}", lambda lines=lines: with_script("testkit", lines)))

@@ -23,8 +23,13 @@ RUN = "crates/testkit/out/checked"
 KIT = "rattle-kit-0 logic 0123456789abcdef"
 PASSED = 12
 
-NAMES = {"NAME": "An author", "EMAIL": "author@place.example"}
-AUTHOR = {f"GIT_{who}_{what}": value for who in ("AUTHOR", "COMMITTER") for what, value in NAMES.items()}
+AUTHOR = {
+    "GIT_AUTHOR_NAME": "Another author",
+    "GIT_AUTHOR_EMAIL": "another@place.example",
+    "GIT_COMMITTER_NAME": "An author",
+    "GIT_COMMITTER_EMAIL": "author@place.example",
+}
+"""Who wrote the commits, and who made them, who is the package's maintainer."""
 
 
 @dataclass(frozen=True)
@@ -40,9 +45,9 @@ def called(words: Sequence[str], cwd: str = "/", stdin: str = os.devnull, user: 
     """Calls a program in a folder, as another user if one is given, with variables changed, and PROGRAM unset."""
     environment = {**os.environ, **changed}
     environment.pop("PROGRAM", None)
-    how = {} if user is None else {"user": user, "group": user, "extra_groups": []}
+    as_user = [] if user is None else ["setpriv", f"--reuid={user}", f"--regid={user}", "--clear-groups"]
     with open(stdin, "rb") as given:
-        ran = subprocess.run(words, cwd=cwd, env=environment, stdin=given, capture_output=True, timeout=SECONDS, check=False, **how)
+        ran = subprocess.run([*as_user, *words], cwd=cwd, env=environment, stdin=given, capture_output=True, timeout=SECONDS, check=False)
     return Came(ran.returncode, ran.stdout, ran.stderr.decode(errors="replace"))
 
 
@@ -75,7 +80,7 @@ class Repository:
             file.write(text)
 
     def git(self, *words: str, seconds: int = MOMENT) -> str:
-        dates = {"GIT_AUTHOR_DATE": f"{seconds} +0100", "GIT_COMMITTER_DATE": f"{seconds} +0100"}
+        dates = {"GIT_AUTHOR_DATE": f"{seconds - 60} +0100", "GIT_COMMITTER_DATE": f"{seconds} +0100"}
         came = called(["git", "-C", self.at, "-c", "commit.gpgSign=false", "-c", "core.hooksPath=/dev/null", *words], **AUTHOR, **dates)
         if came.status:
             raise RuntimeError(f"git {words}: {came.error}")

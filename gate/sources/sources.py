@@ -3,8 +3,7 @@
 import os
 import re
 from dataclasses import dataclass
-from functools import cached_property
-from typing import Dict, List, Set, Tuple
+from typing import Any, Callable, Dict, List, Set, Tuple
 
 from crates import Crate, read_crates
 
@@ -16,6 +15,17 @@ NO_CODE = re.compile(r"""//[^\n]*|'(?:\\.|[^'\\\n])'|"(?:\\.|[^"\\])*\"""", re.D
 
 CLAUSE = re.compile(r"\s*(requires|ensures)\b")
 """How a clause begins. It ends with the brace that closes it."""
+
+
+class cached_property:
+    """A property that is worked out once, as that of `functools`, which Python 3.7 doesn't have."""
+
+    def __init__(self, function: Callable[[Any], Any]) -> None:
+        self.function = function
+
+    def __get__(self, of: Any, _type: type) -> Any:
+        value = of.__dict__[self.function.__name__] = self.function(of)
+        return value
 
 
 @dataclass(frozen=True)

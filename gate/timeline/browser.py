@@ -64,12 +64,12 @@ class Browser:
         self.events: Deque[Dict[str, Any]] = deque()
 
     def __enter__(self) -> "Browser":
-        self.room = tempfile.TemporaryDirectory(prefix="browser-", ignore_cleanup_errors=True)
+        self.room = tempfile.mkdtemp(prefix="browser-")
         (reading, self.output), (self.input, writing) = ends_of_pipe(), ends_of_pipe()
         call = ["sh", "-c", f'exec "$@" 3</dev/fd/{reading} 4>/dev/fd/{writing}', "sh", self.path, *FLAGS]
         quiet = {"stdin": subprocess.DEVNULL, "stdout": subprocess.DEVNULL, "stderr": subprocess.DEVNULL}
-        environment = {**os.environ, "HOME": self.room.name}
-        call.append(f"--user-data-dir={self.room.name}/profile")
+        environment = {**os.environ, "HOME": self.room}
+        call.append(f"--user-data-dir={self.room}/profile")
         self.process = subprocess.Popen(call, pass_fds=(reading, writing), env=environment, **quiet)
         os.close(reading)
         os.close(writing)
@@ -89,7 +89,7 @@ class Browser:
             self.process.wait()
         os.close(self.output)
         os.close(self.input)
-        self.room.cleanup()
+        shutil.rmtree(self.room, ignore_errors=True)
 
     def attach(self) -> None:
         """Makes a page, and asks to be told of what it fetches and says."""

@@ -277,6 +277,7 @@ CALLS = [
     Call("a program that is a folder", command='PROGRAM=/ exec "$@"'),
     Call("a program that is stopped", stand_in("kill -9 $$"), says=b"was stopped by signal 9"),
     Call("a program whose path is no text", stand_in("kill -9 $$"), 'mv program "$(printf "\\377")" && PROGRAM=$(printf "./\\377") exec "$@"'),
+    Call("a program whose path has two lines", stand_in("kill -9 $$"), 'mv program "$(printf "a\\nb")" && PROGRAM=$(printf "./a\\nb") exec "$@"', says=b"a b was stopped"),
     Call("an answer that is none", stand_in("echo yes"), says=b" answers b'yes\\n' with status 0\n"),
     Call("the first 80 bytes of an answer", stand_in("printf '%081d' 0"), says=b" answers b'" + 80 * b"0" + b"' with status 0\n"),
     Call("an answer with a word before", stand_in("echo x 0 succeeded 0 1"), says=b" with status 0\n"),

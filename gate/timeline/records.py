@@ -280,6 +280,18 @@ SAMPLES: List[Sample] = [
         not_run=2,
     ),
     Sample(
+        "a skip ends the test that its key had started, so its worker may have a gap",
+        HEADER + nodes("T 1", "T 2") + events("1 1 0 start", "1 1 2 skip|off", "1 2 5 start", "1 2 6 finish|ok"),
+        lanes=[(1, 0, 1)],
+        drawn=[
+            ("[x:1]", "skipped", 2, 2, 1, 1, 2, 2, 0, 1),
+            ("[x:2]", "successful", 5, 6, 2, 3, 5, 6, 0, 1),
+            ("[x:1]", "unfinished", 0, None, 0, None, 0, 2, 0, 1),
+        ],
+        slowest=[(2, 2), (1, 1)],
+        gaps=[(1, 3)],
+    ),
+    Sample(
         "events of one stamp stand side by side",
         HEADER + nodes("T 1", "T 2") + events("1 1 4 skip|a", "1 2 4 start", "2 1 4 report|k|v", "1 2 4 finish|ok", "1 2 9 report"),
         lanes=[(1, 0, 1)],
@@ -323,6 +335,15 @@ SAMPLES: List[Sample] = [
         HEADER + nodes("T 1", "T 2") + events("1 1 5 start", "2 2 3 start", "2 2 4 finish|ok", "1 1 6 finish|ok"),
         lanes=[(1, 0, 1), (2, 1, 1)],
         drawn=[("[x:2]", "successful", 3, 4, 1, 2, 0, 1, 1, 1), ("[x:1]", "successful", 5, 6, 0, 3, 2, 3, 0, 1)],
+    ),
+    Sample(
+        "a test that never finishes takes up to the greatest stamp, which isn't the last",
+        HEADER + nodes("T 1", "T 2") + events("1 1 1 start", "2 2 9 report|k|v", "1 2 3 skip|off"),
+        lanes=[(1, 0, 2)],
+        drawn=[("[x:2]", "skipped", 3, 3, 2, 2, 2, 2, 1, 1), ("[x:1]", "unfinished", 1, None, 0, None, 0, 9, 0, 1)],
+        slowest=[(1, 8)],
+        gaps=[],
+        end=9,
     ),
     Sample(
         "stamps of one execution of two that fall from one worker to the other are no times",
