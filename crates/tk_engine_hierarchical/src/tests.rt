@@ -11,7 +11,8 @@ use tk_events::{Payload, Status};
 use tk_ids::Text;
 
 /// The number of the fault [`Own`](UnitFault::Own) of a unit whose events would break the lifecycle,
-/// as where a key finishes that isn't the innermost running one. No plan leads to it.
+/// as where a key finishes that isn't the innermost running one. No test has found a plan that
+/// leads to it.
 pub const OUT_OF_ORDER: u32 = u32::MAX;
 
 /// The number of the fault [`Own`](UnitFault::Own) of a unit that registers a dynamic descriptor whose
@@ -50,8 +51,9 @@ pub trait Tests {
     /// The keys of a plan's static nodes are their numbers in preorder. `execute` calls this from
     /// the thread of the worker that drew the test's unit, right after the test's start. The test's
     /// finish has the outcome. What the test publishes goes through `reporter`.
-    /// It is called once for each node that is a test and isn't skipped, save for a node of both
-    /// types on the spine, whose children are units of their own: that finishes as the plan says.
+    /// It is called once for each node that is a test, where the plan skips neither the node nor
+    /// one above it. A node of both types on the spine, whose children are units of their own, has
+    /// no body: it finishes as the plan says.
     ///
     /// # Errors
     /// What `reporter` answered, or `Own(n)` where the engine can't go on. A test that fails is no
