@@ -1,4 +1,4 @@
-//! Engines: the trait, the sinks that take their events, calls that emit them, locks, and `execute`.
+//! Engines: the trait, sinks that take their events, calls that emit them, locks, and `execute`.
 pub use tk_book::{Book, BookFault, BookSeat, Busy, Holdings, Need};
 pub use tk_engine_events::{
     emit, file_published, finish, finished, publish_file, register, report, reported, skip,

@@ -1,11 +1,11 @@
-//! The one library that an author of an engine names: it passes on the public names of all layers, and has none of its own.
+//! The one library that an author of an engine names. It has no code: its names are other crates'.
 //!
-//! An author implements [`Tests`], and [`Hierarchical`] makes an [`Engine`] of them and of a [`Plan`]; an engine by hand
-//! implements [`Engine`] and emits into a [`Sink`]. [`execute`] runs it by 1 to `MAX_WORKERS` workers, and [`Results`] answers
-//! questions about what was recorded. `crates/example_engine` has engines written so, with their tests.
-//! What clauses cite is in `specs/` under the same roof. JUnit: `EngineTestKit`.
+//! An author implements [`Tests`], and [`Hierarchical`] makes an [`Engine`] of them and a [`Plan`];
+//! an engine by hand implements [`Engine`] and emits into a [`Sink`]. [`execute`] runs either by 1
+//! to `MAX_WORKERS` workers, and [`Results`] has the record. `crates/example_engine` has examples.
+//! What clauses cite is in `specs/Lib.antt`. JUnit: `EngineTestKit`.
 //!
-//! Here stand the names that most engines and their tests need; every name stands in one of the modules.
+//! Here stand the names that most engines and their tests need; the modules have every name.
 #![tactic(auto)]
 
 pub mod engine;

@@ -1,4 +1,4 @@
-//! Questions about a record: conditions, matchers, executions, the lifecycle, and what `ask` answers.
+//! Questions about a record: conditions, matchers, executions, lifecycle, and what `ask` answers.
 pub use testkit_questions::{AskFault, AskFaultText, Mode, Overview, Question, ask, read_question};
 pub use tk_query::{
     CondFault, Condition, Ending, Exact, Execution, ExecutionIter, Executions, InOrder, Lifecycle,

@@ -1,4 +1,4 @@
-//! The queue between the workers and the receiver: its sessions, and the queue as a machine on lists.
+//! The queue between workers and receiver: its sessions, and the queue as a machine on lists.
 pub use tk_queue::{
     CloseFault, CloseReason, Closed, Core, CoreFault, Ended, Item, MAX_CAPACITY, OpenFault,
     Receiver, RegisterFault, ReplayFault, Replayed, SendFault, Sender, Turn, open, replay,

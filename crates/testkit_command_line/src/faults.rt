@@ -10,7 +10,7 @@ use std::alloc::AllocError;
 /// Why a command line was not taken.
 #[derive(Debug, Drop)]
 pub enum CommandLineFault {
-    /// The words are no command line of the program (docs/FORMATS.md, commands).
+    /// The words are no command line of the program (docs/testkit.1, SYNOPSIS).
     BadWords,
     /// An allocation failed.
     Memory,

@@ -104,7 +104,7 @@ AreConditions [] [] = Unit {0}
 AreConditions (text ∷ texts) (c ∷ cs) = IsReadAs text (Ok c) × AreConditions texts cs
 AreConditions _ _ = ⊥
 
--- the texts before it are conditions, and text i is none
+-- the texts before text i are conditions, and text i is none
 pub record IsBadCondition (texts : List (List ℕ)) (i : ℕ) (fault : CondFault) : Type 0 where
   pub conditions : List Condition
   pub before : AreConditions (take i texts) conditions

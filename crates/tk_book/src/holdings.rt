@@ -75,7 +75,7 @@ impl Holdings {
 
     /// Adds up the words of what is held, where at most fourteen seats hold something.
     ///
-    /// It admits a need exactly where no seat's need conflicts with it.
+    /// It admits a need exactly where no seat's need conflicts with it; 15 reads look like a write.
     pub fn word(&self) -> u64
         requires few { count_by is_some self.now ≤ 14 }
         ensures value { result ≡ sum_by held_word self.now }

@@ -85,7 +85,7 @@ pub record IsRegistered (nodes : List NumberedNode) (old new : SenderView) (s : 
       })
       (Ok key)
 
--- a unit's fault that is the sink's, or want of memory, and none of the engine's own
+-- a unit's fault that isn't the engine's own: the sink's, or that memory was refused
 abbrev pub IsPlayFault : UnitFault → Type 0
 IsPlayFault (Sink why) = Unit {0}
 IsPlayFault Memory = Unit {0}

@@ -11,7 +11,7 @@ abbrev pub started : ℕ → ℕ → Event
 started key stamp =
     record { kind = kinds.Started; key = key; stamp = stamp; payload = payloads.Nothing }
 
--- it finished with this status, and with a message where there is one
+-- the descriptor with the key finished with this status, and with a message where there is one
 abbrev pub finished : ℕ → ℕ → Status → Option (List ℕ) → Event
 finished key stamp status message = record {
   kind = kinds.Finished;
@@ -20,22 +20,22 @@ finished key stamp status message = record {
   payload = payloads.Outcome status message;
 }
 
--- it is skipped for this reason
+-- the descriptor with the key is skipped for this reason
 abbrev pub skipped : ℕ → ℕ → List ℕ → Event
 skipped key stamp reason =
     record { kind = kinds.Skipped; key = key; stamp = stamp; payload = payloads.Reason reason }
 
--- an entry of these pairs was published for it
+-- an entry of these pairs was published for the descriptor with the key
 abbrev pub reported : ℕ → ℕ → List (List ℕ × List ℕ) → Event
 reported key stamp pairs =
     record { kind = kinds.Reporting; key = key; stamp = stamp; payload = payloads.Report pairs }
 
--- the file at this path was published for it
+-- the file at this path was published for the descriptor with the key
 abbrev pub file_published : ℕ → ℕ → List ℕ → Event
 file_published key stamp path =
     record { kind = kinds.File; key = key; stamp = stamp; payload = payloads.Path path }
 
--- it was registered, and is this descriptor
+-- this descriptor was registered under the key
 abbrev pub registered : ℕ → ℕ → Descriptor → Event
 registered key stamp d =
     record { kind = kinds.Dynamic; key = key; stamp = stamp; payload = payloads.Described d }

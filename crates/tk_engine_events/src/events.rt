@@ -57,7 +57,7 @@ pub fn reported(key: u32, stamp: u64, pairs: Pairs) -> Event
     }
 }
 
-/// Makes the event that the file at this path was published. It is lawful where the path isn't empty.
+/// Makes the event that the file at this path was published, lawful where the path isn't empty.
 pub fn file_published(key: u32, stamp: u64, path: Text) -> Event
     ensures { result ≡ file_published key stamp path }
 {

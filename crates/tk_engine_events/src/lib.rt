@@ -1,8 +1,8 @@
 //! The events of an engine: a constructor for each kind, and calls that emit one into a sink.
 //!
-//! The clauses of a call say which event it emits, and nothing else. What a unit has emitted is said
-//! by `Emitted`, the list of its events in order (`specs/Emitted.antt`), or by `GrewBy`, some events
-//! of which each has a property (`specs/Grown.antt` of `tk_engine_execute`).
+//! The clauses of a call say which event it emits, and nothing else. Two facts say what a unit has
+//! emitted: `Emitted`, the list of its events in order (`specs/Emitted.antt`), and `GrewBy`, some
+//! events of which each has a property (`specs/Grown.antt` of `tk_engine_execute`).
 #![tactic(auto)]
 
 mod calls;

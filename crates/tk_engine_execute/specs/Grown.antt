@@ -11,7 +11,7 @@ pub record GrewBy (P : Event → Type 0) (a b : SenderView) : Type 0 where
   pub sent : b.sent ≡ a.sent ++ events
   pub each : All P events
 
--- it holds of every event
+-- the property that every event has
 abbrev pub AnyEvent : Event → Type 0
 AnyEvent e = Unit {0}
 

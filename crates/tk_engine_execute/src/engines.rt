@@ -23,7 +23,7 @@ pub const MAX_UNITS: u32 = 65_536;
 /// Why a unit stopped.
 #[derive(Debug, Drop)]
 pub enum UnitFault {
-    /// The sink refused an event or a registration.
+    /// The sink refused an event or a registration, or a segment for one can't be made.
     Sink(SinkFault),
     /// A request for memory was refused.
     Memory,

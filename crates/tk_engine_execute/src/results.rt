@@ -53,14 +53,14 @@ impl Results {
         &self.closed
     }
 
-    /// Selects all events of the run.
+    /// Selects all events of the run. JUnit: `allEvents`.
     pub fn all_events(&self, alloc: Global) -> Result<Events<'_>, AllocError>
         ensures { IfOk result (λ events. events ≡ all_of self.now.recorded) }
     {
         Events::all(alloc, &self.record)
     }
 
-    /// Selects the events of tests.
+    /// Selects the events of tests. JUnit: `testEvents`.
     pub fn test_events(&self, alloc: Global) -> Result<Events<'_>, AllocError>
         ensures { IfOk result (λ events.
             events
@@ -69,7 +69,7 @@ impl Results {
         self.all_events(alloc)?.pick(alloc, Selection::Tests)
     }
 
-    /// Selects the events of containers.
+    /// Selects the events of containers. JUnit: `containerEvents`.
     pub fn container_events(&self, alloc: Global) -> Result<Events<'_>, AllocError>
         ensures { IfOk result (λ events.
             events

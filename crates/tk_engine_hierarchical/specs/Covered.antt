@@ -25,7 +25,7 @@ pub record IsBelowSkipped (table : List Descriptor) (entries : List Entry) (key 
 abbrev pub IsCovered : List Descriptor → List Entry → ℕ → Type 0
 IsCovered table entries key = (has_run key entries ≡ true) ⊎ IsBelowSkipped table entries key
 
--- each key from a first one on and below another is covered
+-- each key from `first` on and below `end` started or was skipped, or stands below a skipped one
 abbrev pub AreCovered : List Descriptor → List Entry → ℕ → ℕ → Type 0
 AreCovered table entries first end =
     (key : ℕ) → first ≤ key → key < end → IsCovered table entries key

@@ -58,7 +58,7 @@ HasTurn r key =
     (steps_of key r.entries ≡ Started ∷ Finished ∷ [])
     ⊎ ((steps_of key r.entries ≡ Skipped ∷ []) ⊎ IsBelowSkipped r.table r.entries key)
 
--- each static key has its turn
+-- each static key starts and finishes once, or is skipped once, or stands below a skipped key
 abbrev pub HaveTurns : Recorded → Type 0
 HaveTurns r = (key : ℕ) → key < length r.table → HasTurn r key
 
@@ -77,7 +77,7 @@ pub record RanTree (plan : Outline) (may_run : TestRuns) (unit : ℕ) (r : Recor
   pub registered : registrations before ≡ by.earlier
   pub of_tree : IsOfUnitTree plan may_run unit by events
 
--- for each unit of the plan, a worker emitted in a row what a run of the unit's tree emits
+-- of each unit a worker emitted in a row what a run of the unit's tree emits
 abbrev pub UnitsRanTrees : Outline → TestRuns → Recorded → Type 0
 UnitsRanTrees plan may_run r =
     (unit : ℕ) → unit < length (units_of (forest plan.nodes)) → RanTree plan may_run unit r

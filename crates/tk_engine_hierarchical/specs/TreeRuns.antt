@@ -54,7 +54,7 @@ abbrev pub after_next : Kind → ℕ → Payload → PlanState → PlanState
 after_next kind key payload p =
     plan_state (after_event p.unit (event kind key p.next payload)) (stamp_after p.next)
 
--- what `after_one` says happened for each of some things, in their order
+-- the state after the items in their order, where `after_one` says what one of them does
 abbrev pub after_each : {A : Type 0} → (A → PlanState → PlanState) → List A → PlanState → PlanState
 after_each after_one [] p = p
 after_each after_one (x ∷ xs) p = after_each after_one xs (after_one x p)
@@ -145,7 +145,7 @@ module _ (table : List Descriptor) (may_run : TestRuns) where
       SkipsNode n.is_static n number reason old new
   RunsOrSkips None n number below old new = RunsNode n number below old new
 
-  -- the trees of some nodes run one after another, each node as said above
+  -- a tree runs from its top node on, and the trees of a forest run one after another
   abbrev mutual
     pub RunsTree : Tree → PlanState → PlanState → Type 0
     RunsTree (tree n number below) old new =

@@ -25,8 +25,7 @@ use tk_plan_units::{Plan, UnitTree};
 /// Why there is no engine of a plan.
 #[derive(Debug, Drop)]
 pub enum HierarchicalFault {
-    /// The events of the plan around its units don't keep the lifecycle. No test has found such a
-    /// plan.
+    /// The plan's spine and units don't fit the lifecycle. No plan that was tested has this fault.
     Lifecycle,
     /// A request for memory was refused.
     Memory,
@@ -118,7 +117,7 @@ impl<T: Tests + Drop> Hierarchical<T> {
     /// after them are the plan's.
     ///
     /// # Errors
-    /// `Memory`. No test has found a plan that has the other fault.
+    /// `Memory`; no plan that was tested has the other fault.
     pub fn new(alloc: Global, plan: Plan, tests: T) -> Result<Hierarchical<T>, HierarchicalFault>
         ensures plan { IfOk result (λ engine. engine.scripted ≡ plan) }
         ensures tests { IfOk result (λ engine. engine.tests ≡ tests) }

@@ -132,8 +132,8 @@ fn child_of(node: &Node) -> Child<'_>
     }
 }
 
-// Starts a node, and answers its key: a static one has it already, any other is registered by a step
-// of its own.
+// Starts a node, and answers its key. A static node's key is its number; any other node is
+// registered first.
 fn start_node<R: Wait, S: Sink, K: UnitRun>(
     rt: &R,
     alloc: Global,
@@ -289,7 +289,7 @@ fn finish_without_body<R: Wait, S: Sink, K: UnitRun>(
     reporter.events.finish(rt, key, stamp, outcome)
 }
 
-// Finishes a node whose body, where it has one, ended so.
+// Finishes a node as its body ended, where it ran one, and else as the plan says.
 fn finish_node<R: Wait, S: Sink, K: UnitRun>(
     rt: &R,
     key: u32,
@@ -393,7 +393,7 @@ fn run_tree<R: Wait, S: Sink, K: UnitRun, T: Tests>(
     }
 }
 
-// How a unit ended that was run so: well only where it is complete.
+// Answers the fault at which the unit stopped, or `OUT_OF_ORDER` where it isn't complete.
 fn ending(played: Result<(), UnitFault>, is_complete: bool) -> Result<(), UnitFault>
     ensures complete { OnOk result (IsTrue is_complete) }
     ensures fault { (why : UnitFault) → played ≡ Err why → result ≡ Err why }
@@ -408,8 +408,8 @@ fn ending(played: Result<(), UnitFault>, is_complete: bool) -> Result<(), UnitFa
     }
 }
 
-// Runs a unit into a sink that is lent, and gives the sink back. How the unit ended is left in `ran`:
-// in a pair with it the proof would lose that the sink is the one that was lent.
+// Runs a unit into a sink that is lent, and gives the sink back. How the unit ended is left in
+// `ran`: in a pair with it the proof would lose that the sink is the one that was lent.
 pub(crate) fn run_unit<'a, R: Wait, S: Sink, K: UnitRun, T: Tests>(
     rt: &R,
     alloc: Global,

@@ -19,8 +19,8 @@ pub fn lifecycle<T: Tests + Sync>(engine: &Hierarchical<T>, results: &Results)
     runs_keep_lifecycle(engine, results);
 }
 
-/// Each static test that a unit finishes has an outcome that its `run` answered there: one that
-/// `may_end` allows.
+/// Each static test that a unit finishes has an outcome that `may_end` allows. [`trees`] says that
+/// it is the one that the test's `run` answered.
 pub fn outcomes<T: Tests + Sync>(engine: &Hierarchical<T>, results: &Results)
     requires { IsRunOf engine.now.scripted engine.now.shape
         (test_rules (T.may_end engine.now.tests) (T.may_run engine.now.tests))
@@ -30,9 +30,9 @@ pub fn outcomes<T: Tests + Sync>(engine: &Hierarchical<T>, results: &Results)
     steps(engine, results);
 }
 
-/// Each start, skip and finish of a static descriptor by a unit is what the plan says: it starts where
-/// it isn't skipped, or is skipped for the plan's reason; a test finishes with an outcome that
-/// `may_end` allows, any other descriptor with that of the plan.
+/// Each start, skip and finish of a static descriptor by a unit is what the plan says: it starts
+/// where it isn't skipped, or is skipped for the plan's reason; a test finishes with an outcome
+/// that `may_end` allows, any other descriptor with that of the plan.
 pub fn steps<T: Tests + Sync>(engine: &Hierarchical<T>, results: &Results)
     requires { IsRunOf engine.now.scripted engine.now.shape
         (test_rules (T.may_end engine.now.tests) (T.may_run engine.now.tests))
@@ -56,7 +56,7 @@ pub fn turns<T: Tests + Sync>(engine: &Hierarchical<T>, results: &Results)
 }
 
 /// What a worker emits after the start of a key, and before the key finishes, is of that key or of
-/// one below it. So it is with each test, and what its body runs.
+/// one below it: the events of a test, and of what its body runs, stand together.
 pub fn nesting<T: Tests + Sync>(engine: &Hierarchical<T>, results: &Results)
     requires { IsRunOf engine.now.scripted engine.now.shape
         (test_rules (T.may_end engine.now.tests) (T.may_run engine.now.tests))

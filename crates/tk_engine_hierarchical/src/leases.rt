@@ -118,8 +118,8 @@ impl<'a, S: Sink> Lease<'a, S> {
         }
     }
 
-    /// Runs a body, which emits into this sink. Where the unit stands then, and how the body ended, is
-    /// left in `run`.
+    /// Runs a body, which emits into this sink. Leaves in `run` where the unit stands then, and how
+    /// the body ended.
     pub(crate) fn run_body<R: Wait, K: UnitRun, B: Body>(
         &mut self,
         rt: &R,

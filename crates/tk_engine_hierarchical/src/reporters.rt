@@ -18,7 +18,7 @@ use tk_ids::{DType, Segment, Text};
 
 /// Publishes what belongs to the test or container that runs.
 ///
-/// It emits each event at once, for the test that runs alone, and what it started it finishes.
+/// It emits each event at once, only for what runs, and finishes what it starts if no call fails.
 #[derive(Drop)]
 pub struct Reporter<'a, S: Sink, K: UnitRun> {
     pub(crate) events: UnitEvents<'a, S, K>,
@@ -76,10 +76,10 @@ impl<'a, S: Sink, K: UnitRun> Reporter<'a, S, K> {
         self.finish(rt, key, outcome)
     }
 
-    /// Sets the stamp of what is published from now on, by the bodies below too, and of the finish of
-    /// the test that runs, as the microseconds since the run began.
+    /// Sets the stamp of what is published from now on, by the bodies below too, and of the finish
+    /// of the static test that runs, for instance the microseconds since the run began.
     ///
-    /// Until then each event has the stamp of the plan.
+    /// Until then what is published has the stamp that the plan has for the test's start.
     pub fn set_stamp(&mut self, stamp: u64)
         ensures { self.new.events
             ≡ record self.old.events { stamp = stamp; own_stamp = Some stamp } }
@@ -92,7 +92,7 @@ impl<'a, S: Sink, K: UnitRun> Reporter<'a, S, K> {
     /// JUnit: `reportingEntryPublished`.
     ///
     /// # Errors
-    /// The fault of the sink.
+    /// The fault of the sink, such as `Unlawful` where the keys don't.
     pub fn report<R: Wait>(&mut self, rt: &R, pairs: Pairs) -> Result<(), UnitFault>
         ensures ok { OnOk result ((key : ℕ) × Published self.old.events self.new.events
             (event kinds.Reporting key self.old.events.stamp (payloads.Report pairs))) }
@@ -106,7 +106,7 @@ impl<'a, S: Sink, K: UnitRun> Reporter<'a, S, K> {
     /// Publishes a file, whose path isn't empty.
     ///
     /// # Errors
-    /// The fault of the sink.
+    /// The fault of the sink, such as `Unlawful` where the path is empty.
     pub fn publish_file<R: Wait>(&mut self, rt: &R, path: Text) -> Result<(), UnitFault>
         ensures ok { OnOk result ((key : ℕ) × Published self.old.events self.new.events
             (event kinds.File key self.old.events.stamp (payloads.Path path))) }
@@ -166,8 +166,8 @@ impl<'a, S: Sink, K: UnitRun> Reporter<'a, S, K> {
         ended
     }
 
-    /// Registers a dynamic container below the test or container that runs, starts it, runs its body,
-    /// which runs what is below it, and finishes it with the outcome.
+    /// Registers a dynamic container below the test or container that runs, starts it, runs its
+    /// body, which runs what is below it, and finishes it with the outcome.
     ///
     /// JUnit: `dynamicTestRegistered` and what follows it.
     ///

@@ -5,7 +5,7 @@ ghost use Rattle.tk_engine_hierarchical.specs.Running.{with_id};
 use crate::shapes::Shape;
 use tk_ids::UniqueId;
 
-/// A key that runs, and the id of its descriptor where that is dynamic: the table has a static one's.
+/// A key that runs, and the id of a dynamic descriptor; the table has a static descriptor's id.
 #[derive(Drop)]
 pub(crate) struct RunningKey {
     pub(crate) key: u32,

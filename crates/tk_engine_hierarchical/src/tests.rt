@@ -10,13 +10,12 @@ use tk_engine_execute::{Sink, UnitFault};
 use tk_events::{Payload, Status};
 use tk_ids::Text;
 
-/// The number of the fault [`Own`](UnitFault::Own) of a unit whose events would break the lifecycle,
-/// as where a key finishes that isn't the innermost running one. No test has found a plan that
-/// leads to it.
+/// The number of the fault [`Own`](UnitFault::Own) of a unit whose events would break the lifecycle
+/// or leave a key without its turn. No plan that was tested leads to it.
 pub const OUT_OF_ORDER: u32 = u32::MAX;
 
-/// The number of the fault [`Own`](UnitFault::Own) of a unit that registers a dynamic descriptor whose
-/// id is that of a static one, or of one that the unit registered.
+/// The number of the fault [`Own`](UnitFault::Own) of a unit that registers a dynamic descriptor
+/// whose id is that of a static one, or of one that the unit registered.
 pub const TWICE: u32 = u32::MAX - 1;
 
 /// How a test ended.

@@ -224,8 +224,8 @@ impl<'a, S: Sink, K: UnitRun> UnitEvents<'a, S, K> {
         outcome
     }
 
-    /// Gives the sink back, and says whether the unit is complete: no key runs, and each static one had
-    /// its turn.
+    /// Gives the sink back, and says whether the unit is complete: no key runs, and each static key
+    /// had its turn.
     pub(crate) fn end(self) -> (Lease<'a, S>, bool)
         ensures name { result.0.sink.ghost_name ≡ K.name }
         ensures same { IsSameSender K.start (S.view result.0.sink.now) }

@@ -5,6 +5,6 @@ use Rattle.tk_plan_units.specs.declared.nodes.NumberedNode.{NumberedNode}
 use Rattle.tk_report_text.specs.Reports.{report_of_record}
 use Rattle.tk_engine_laws.specs.Scripts.{script_record}
 
--- the report of its root's script in place of a record
+-- the report of a plan: that of its root's script in place of a record
 abbrev pub report_of_plan : List NumberedNode → List Descriptor → List ℕ
 report_of_plan nodes table = report_of_record (script_record nodes table)

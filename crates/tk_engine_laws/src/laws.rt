@@ -14,7 +14,7 @@ pub fn scripts_are_playable()
     ensures { ScriptsArePlayable }
 {}
 
-/// What a worker registered in a unit it finds there under the key of the node, with the node's id.
+/// A worker that plays a unit's script finds each node that has a key under it, with the node's id.
 pub fn nodes_are_found()
     ensures { NodesAreFound }
 {}
@@ -35,7 +35,7 @@ pub fn listener_by_key()
     ensures { ListenerByKey }
 {}
 
-/// Every run of a plan keeps the lifecycle, and `Kept` is the one answer of `lifecycle` on its record.
+/// Every run of a plan keeps the lifecycle, and `Kept` is the one answer of `lifecycle` on it.
 pub fn lifecycle()
     ensures keeps { RunsKeepLifecycle }
     ensures kept { RunsAreKept }

@@ -34,7 +34,7 @@ impl DType {
     }
 }
 
-/// A test or a container.
+/// A test or a container. JUnit: `TestDescriptor`.
 #[derive(Debug, Drop)]
 pub struct Descriptor {
     /// Its path from the root.

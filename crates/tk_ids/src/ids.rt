@@ -29,7 +29,7 @@ pub(crate) struct IdFields {
     segment_count: usize,
 }
 
-/// The path of a descriptor from its root: one segment or more. Clones share its text.
+/// A descriptor's path from its root, one segment or more. Clones share it. JUnit: `UniqueId`.
 #[derive(Drop)]
 pub struct UniqueId {
     path: Arc<IdFields>,

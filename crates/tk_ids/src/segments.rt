@@ -7,7 +7,7 @@ use std::alloc::{AllocError, Global};
 use std::fmt;
 use std::marker::Model;
 
-/// One step of an id: a tag and a value, neither of them empty.
+/// One step of an id: a tag and a value, neither of them empty. JUnit: `UniqueId.Segment`.
 #[derive(Drop)]
 pub struct Segment {
     // The tag, and then the value.
@@ -37,7 +37,7 @@ impl Segment {
     ghost use Rattle.tk_ids.specs.IdText.{IsNonEmptyText};
     ghost use Rattle.tk_ids.specs.Answer.{IsSegmentOf};
 
-    /// Makes a segment of copies of `tag` and `value`, which stand without escapes and aren't empty.
+    /// Makes a segment of copies of `tag` and `value`, which have no escapes and aren't empty.
     pub(crate) fn of_texts(alloc: Global, tag: &str, value: &str) -> Result<Segment, AllocError>
         requires tag { IsNonEmptyText tag.now }
         requires value { IsNonEmptyText value.now }

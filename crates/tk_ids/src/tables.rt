@@ -309,8 +309,8 @@ impl Table {
         Ok(key)
     }
 
-    /// Puts a descriptor at the end. Unlike [`Table::insert`], it doesn't look up the parent and the
-    /// id: the caller knows them.
+    /// Puts a descriptor at the end. Unlike [`Table::insert`], it doesn't look up the parent and
+    /// the id: the caller knows that the one is there and the other isn't.
     ///
     /// # Errors
     /// `AllocError`. The table is then unchanged.

@@ -19,7 +19,7 @@ abbrev pub one_or_two : Check
 one_or_two at (number (unsigned n)) = if n == 1 || n == 2 then None else Some at
 one_or_two at _ = Some at
 
--- the number 2, likewise
+-- whether there is a value, and it is the number 2, written without fraction or exponent
 abbrev pub is_two : Option Data → Bool
 is_two (Some (number (unsigned n))) = n == 2
 is_two _ = false

@@ -135,7 +135,7 @@ fn read_text(alloc: Global, bytes: &[u8]) -> Result<ReadNodes, PlanFault>
     nodes_of(alloc, value)
 }
 
-/// Reads a plan from its JSON text, of version 1 or 2.
+/// Reads a plan from its JSON text, of version 1 or 2 (docs/FORMATS.md, Plan JSON).
 ///
 /// # Errors
 /// `Json` where `bytes` are no JSON. Else the first fault of the value's own members, then of its

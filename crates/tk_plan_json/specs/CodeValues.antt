@@ -37,7 +37,7 @@ node_at earlier p d =
       value = d;
     }
 
--- a value that stands for a node, after such siblings
+-- a value that stands for a node, after siblings with the earlier segments
 abbrev pub seen : List SegmentView → NodeInput → spec.NodeInput
 seen earlier s = node_at earlier s.place (view s.value.now)
 

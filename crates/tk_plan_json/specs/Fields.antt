@@ -22,7 +22,7 @@ use Rattle.tk_plan_json.specs.declared.read_nodes.Named.{Named}
 abbrev pub heading_rows : List Row
 heading_rows = dtype_row ∷ segment_row ∷ name_row ∷ []
 
--- a dynamic node has none of these
+-- the members that say when a node may run, of which a dynamic node has none
 abbrev pub concurrency_rows : List Row
 concurrency_rows = mode_row ∷ isolated_row ∷ locks_row ∷ []
 

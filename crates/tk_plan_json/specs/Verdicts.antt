@@ -49,7 +49,7 @@ node_check s =
     if s.is_static then static_node s.takes_files s.path s.value
     else dynamic_node s.takes_files s.path s.value
 
--- static, or dynamic
+-- whether the node is static, where the first argument is true, or else dynamic
 abbrev pub is_kind : Bool → Node → Bool
 is_kind true n = n.is_static
 is_kind false n = not n.is_static

@@ -67,7 +67,7 @@ AreMembersInRange ms = (found : Members) → of_members ms found ≡ Some (membe
 abbrev pub json_in : List ℕ → Option json.Json
 json_in text = option_and_then (λ p. json.if_last p.0 p.1) (json.value max_depth (tokens text))
 
--- such a value was read, or the text is none, unless memory ran out
+-- the value that the text is was read, or the text is none, unless memory ran out
 abbrev pub IsJsonOf : List ℕ → Result JsonValue PlanFault → Type 0
 IsJsonOf text (Ok v) = json_in text ≡ Some (borrowed.value_view v)
 IsJsonOf text (Err e) = IsFault (λ f. (f ≡ Json) × (json_in text ≡ None)) e

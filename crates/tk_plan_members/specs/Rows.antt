@@ -78,7 +78,7 @@ abbrev pub files_rows : Bool → List Row
 files_rows true = files_row ∷ []
 files_rows false = []
 
--- their items are checked as nodes
+-- the items of `children` and `dynamic` are checked as nodes
 abbrev pub children_row : Row
 children_row = may (codes "children") any_array
 

@@ -45,7 +45,7 @@ pub record IsStatic (table : List Descriptor) (e : Event) : Type 0 where
   pub lawful : is_lawful e.kind e.payload ≡ true
   pub registers_none : e.kind ≢ Dynamic
 
--- at most 2^20 such events
+-- at most `MAX_EVENTS` events of the table, each lawful, none a registration
 pub record AreStatic (table : List Descriptor) (es : List Event) : Type 0 where
   pub each : All (IsStatic table) es
   pub few : length es ≤ MAX_EVENTS

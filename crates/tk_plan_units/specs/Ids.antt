@@ -5,7 +5,7 @@ use Rattle.tk_ids.specs.declared.descriptors.Descriptor.{Descriptor}
 use Rattle.tk_plan_units.specs.declared.nodes.Node.{Node}
 use Rattle.tk_plan_units.specs.Trees.{Tree, tree, Forest, no_trees, more}
 
--- In preorder. A node's id is its parent's with its segment at the end.
+-- The ids in preorder. A node's id is its parent's with its segment at the end.
 abbrev mutual
   pub ids : List SegmentView → Tree → List (List SegmentView)
   ids above (tree n k f) = (above ++ n.segment ∷ []) ∷ ids_below (above ++ n.segment ∷ []) f
@@ -17,7 +17,7 @@ abbrev mutual
 abbrev pub descriptor : List SegmentView → Node → Descriptor
 descriptor id n = record { id = id; name = n.name; dtype = n.dtype }
 
--- one for a static node, none for any other
+-- the descriptor of a static node, and none of a dynamic one
 abbrev pub descriptor_in : List SegmentView → Node → List Descriptor
 descriptor_in id n = if n.is_static then descriptor id n ∷ [] else []
 

@@ -5,7 +5,7 @@ use Rattle.std.specs.Str.{bytes_eq}
 use Rattle.tk_plan_units.specs.declared.nodes.Lock.{Lock}
 use Rattle.tk_plan_units.specs.declared.nodes.Node.{Node}
 
--- the key `global` has a resource of its own
+-- the keys with one more, unless it is there or is `global`, which has a resource of its own
 abbrev pub note_key : List (List ℕ) → List ℕ → List (List ℕ)
 note_key keys key =
     if bytes_eq key (codes "global") || list_any (bytes_eq key) keys then keys else keys ++ key ∷ []

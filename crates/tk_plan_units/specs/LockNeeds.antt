@@ -7,7 +7,7 @@ use Rattle.tk_book.specs.NeedView.{NeedView}
 use Rattle.tk_plan_units.specs.declared.nodes.Lock.{Lock}
 use Rattle.tk_plan_units.specs.declared.nodes.Node.{Node}
 
--- the key `global` is resource 0, the others are numbered from 1 on
+-- where a key stands in the list; `global` isn't there, and is resource 0 before all others
 abbrev pub key_index : List (List ℕ) → List ℕ → Option ℕ
 key_index [] key = None
 key_index (k ∷ ks) key = if bytes_eq k key then Some 0 else option_map suc (key_index ks key)
@@ -16,7 +16,7 @@ abbrev pub resource : List (List ℕ) → List ℕ → Option ℕ
 resource keys key =
     if bytes_eq key (codes "global") then Some 0 else option_map suc (key_index keys key)
 
--- write over read
+-- what two asks are together: a write stands over a read
 abbrev pub over : Access → Access → Access
 over nothing b = b
 over reads writes = writes

@@ -39,7 +39,7 @@ top_node (p ∷ ps) = p.node ∷ []
 abbrev pub at_positions : List NumberedNode → List ℕ → List Node
 at_positions all = flat_map (λ i. top_node (drop i all))
 
--- what a plan keeps of the numbers
+-- the positions are those of the nodes in the order of their numbers
 pub record ArePositionsByNumber (all : List NumberedNode) (positions : List ℕ) : Type 0 where
   pub order : at_positions all positions ≡ in_order all
   pub within : All (λ i. i < length all) positions

@@ -3,7 +3,7 @@ use Rattle.std.specs.Prelude.{ℕ, ◌+◌, length, is_some, if◌then◌else◌
 use Rattle.tk_plan_units.specs.declared.nodes.Node.{Node}
 use Rattle.tk_plan_units.specs.Trees.{Tree, tree, Forest, no_trees, more}
 
--- a registration for a dynamic child
+-- how many moves register the top node: one where it is dynamic, and else none
 abbrev pub registered : Tree → ℕ
 registered (tree n k f) = if n.is_static then 0 else 1
 

@@ -9,7 +9,7 @@ pub fn loses_nothing()
     ensures { LosesNothing }
 {}
 
-/// With their stamps, which count on from part to part, they are the root's script.
+/// The parts of a root, with stamps that count on from part to part, are the root's script.
 pub fn keeps_stamps()
     ensures { KeepsStamps }
 {}

@@ -85,6 +85,6 @@ rest_of asked p =
 abbrev pub HasSlot : List (List (Option (ℕ × ℕ))) → ℕ → Type 0
 HasSlot rows key = key % KEYS_IN_ROW < length (get_or rows (key / KEYS_IN_ROW) [])
 
--- the key of each entry has one
+-- the key of each entry has a slot for its open start
 pub record HaveSlots (r : Recorded) (rows : List (List (Option (ℕ × ℕ)))) : Type 0 where
   pub each : (i : ℕ) (e : Entry) → slice_get r.entries i ≡ Some e → HasSlot rows e.event.key

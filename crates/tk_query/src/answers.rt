@@ -23,8 +23,8 @@ pub enum Loose {
 /// Whether conditions hold in turn, each at a later event than the one before it, and where.
 #[derive(Debug, Drop)]
 pub enum InOrder {
-    /// The least increasing positions in the record.
+    /// The conditions hold in turn at these positions, the lexicographically least in the record.
     Yes(Vec<usize>),
-    /// The number of the first condition up to which there are no such positions.
+    /// The least number K such that the conditions 0 to K hold in turn nowhere.
     No(usize),
 }

@@ -8,7 +8,7 @@ use std::alloc::{AllocError, Global};
 use std::marker::Model;
 use std::slice;
 
-/// How an execution ended.
+/// How an execution ended. JUnit: `TerminationInfo`.
 #[derive(Clone, Copy, Debug, PartialEq, Eq)]
 pub enum Ending {
     /// It was skipped, and never started.
@@ -21,7 +21,7 @@ pub enum Ending {
     Failed,
 }
 
-/// A start and a finish of one key that belong together, or a skip.
+/// A start and a finish of one key that belong together, or a skip. JUnit: `Execution`.
 #[derive(Clone, Copy, Debug, PartialEq, Eq)]
 pub struct Execution {
     /// The key of the descriptor that was executed or skipped.
@@ -46,7 +46,7 @@ impl Execution {
     }
 }
 
-/// Executions, in the order of their ends.
+/// Executions, in the order of their ends. JUnit: `Executions`.
 #[derive(Debug, Drop)]
 pub struct Executions {
     items: Vec<Execution>,

@@ -163,7 +163,7 @@ pub(crate) fn payload_passes(test: PayloadTest, payload: &Payload) -> bool
     }
 }
 
-/// Whether a rule accepts an event. That by members accepts none.
+/// Whether a rule accepts an event. `Rule::Members` accepts none.
 pub(crate) fn rule_holds(record: &Record, rule: Rule, event: &EntryView) -> bool
     ensures { result ≡ rule_holds rule.entry «record».now (entry_of_view event.now) }
 {

@@ -112,7 +112,7 @@ fn payload_mask(
     Flags::of_byte(alloc, &column, 1)
 }
 
-/// For each entry whether a rule accepts it. That by members accepts none.
+/// For each entry whether a rule accepts it. `Rule::Members` accepts none.
 fn rule_mask(alloc: Global, record: &Record, rule: Rule) -> Result<Flags, AllocError>
     ensures { IfOk result (λ flags.
         flags ≡ map (rule_holds rule.entry «record».now) «record».now.entries) }

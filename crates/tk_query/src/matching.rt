@@ -36,7 +36,7 @@ fn next_fit(
     None
 }
 
-/// Whether there is one condition for each event, and each holds of its event. It takes no memory.
+/// Whether each event has a condition, which holds of it. JUnit: `assertEventsMatchExactly`.
 pub fn match_exactly(
     _alloc: Global,
     events: &Events,
@@ -131,7 +131,7 @@ fn holds_of_some(alloc: Global, events: &Events, condition: &Condition) -> Resul
     holds_by_mask(alloc, events, condition)
 }
 
-/// Whether each condition holds of some event. One event may serve several conditions.
+/// Whether each condition holds of some event, maybe the same. JUnit: `assertEventsMatchLoosely`.
 pub fn match_loosely(
     alloc: Global,
     events: &Events,

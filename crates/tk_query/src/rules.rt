@@ -81,8 +81,8 @@ fn of_event(test: ColumnTest) -> Option<ColumnTest>
     }
 }
 
-/// Finds the test of kinds or statuses that each event passes which the rule accepts, where there is
-/// one.
+/// Finds the test of kinds or statuses that each event passes which the rule accepts, where there
+/// is one.
 fn test_of_rule(rule: Rule) -> Option<ColumnTest>
     ensures { IfSome result (λ test. (r : Recorded) → AcceptsWithin test r rule.entry) }
 {

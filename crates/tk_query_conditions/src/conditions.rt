@@ -62,8 +62,8 @@ fn message_text(alloc: Global, message: Option<&str>) -> Result<Option<Text>, Al
     }
 }
 
-/// Constructors under the names of JUnit's `EventConditions`. Its `test()`, `container()`, `engine()`
-/// and `started()` are the variants `Test`, `Container`, `Engine` and `Started`.
+/// Constructors under the names of JUnit's `EventConditions`. Its `test()`, `container()`,
+/// `engine()` and `started()` are the variants `Test`, `Container`, `Engine` and `Started`.
 impl Condition {
     /// Each of the conditions holds. JUnit: `event`.
     pub fn event(conditions: Vec<Condition>) -> Condition

@@ -12,7 +12,7 @@ pub const MAX_DEPTH: usize = 32;
 /// Why a text is no condition.
 #[derive(Debug, Clone, Copy, PartialEq, Eq, Drop)]
 pub enum CondFault {
-    /// The text is no condition's from this byte on.
+    /// After this many bytes the text goes on, or ends, as no condition's text does.
     BadAtom(usize),
     /// More than `MAX_DEPTH` brackets of `all(`, `any(` and `not(` are open at once.
     Deep,

@@ -110,8 +110,8 @@ fn close_empty(mut stack: Vec<OpenGroup>, byte: u8) -> Option<Reader>
     Some(after(stack, condition))
 }
 
-/// Reads `)` or `,` after a word, which is a condition by itself, or after no word, where `)` closes
-/// a bracket without a member.
+/// Reads `)` or `,` after a word, which is a condition by itself, or after no word, where `)`
+/// closes a bracket without a member.
 fn after_word(alloc: Global, stack: Vec<OpenGroup>, word: &[u8], byte: u8) -> NextReader
     ensures { IfOk result (λ next.
         after_word (groups_of stack.items) word.now byte ≡ option_map state_of next) }

@@ -1,7 +1,7 @@
 //! What the definition of a record's lifecycle implies.
 ghost use Rattle.tk_query_lifecycle.specs.LifecycleLaws.{LifecycleIsUnique, BreakIsFinal, KeptByItsEvents};
 
-/// A record has one lifecycle, and no record that begins with a broken rule keeps it.
+/// A record has one lifecycle, and a record that breaks a rule breaks it whatever events follow.
 pub fn lifecycle_is_unique()
     ensures one { LifecycleIsUnique }
     ensures broken { BreakIsFinal }

@@ -134,7 +134,7 @@ pub record Shows (r : Replayed) (m : Moment) : Type 0 where
   pub waiting : r.waiting.items ≡ m.core.waiting
   pub emitted : r.emitted.items ≡ m.emitted
 
--- what a replay answers; `Memory` may come at any
+-- what a replay answers; `Memory` may always come
 abbrev pub IsReplayed :
     List Descriptor → List (List Event) → List Turn → Result Replayed ReplayFault → Type 0
 IsReplayed table scripts turns (Ok r) =

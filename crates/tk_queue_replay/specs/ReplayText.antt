@@ -171,7 +171,7 @@ abbrev pub input_of : Scenario → ReplayInput
 input_of p =
     record { table = p.table; scripts = scripts_by p.entries p.workers; turns = p.turns }
 
--- what a replay answers with the record of what is taken; `Memory` may come at any
+-- what a replay answers with the record of what is taken; `Memory` may always come
 abbrev pub IsPlayedAs : ReplayInput → Result Recorded ReplayFault → Type 0
 IsPlayedAs p (Ok r) =
     (m : Moment) × (plays p.scripts p.turns (start p.table (length p.scripts)) ≡ Some m)
@@ -182,7 +182,7 @@ IsPlayedAs p (Err faults.Memory) = Unit {0}
 IsPlayedAs p (Err _) = ⊥
 
 -- what playing an input within the limit answers, with the record of what is taken; `Memory`
--- may come at any
+-- may always come
 abbrev pub IsPlayed : List ℕ → Result Recorded ReplayFault → Type 0
 IsPlayed input (Ok r) =
     (p : Scenario) × (m : Moment) × IsTextOf input p

@@ -239,7 +239,7 @@ fn refused(number: usize, fault: AppendFault) -> ReplayFault
 
 /// Replays the turns over a core and a record of `table`.
 ///
-/// `scripts[i]` are the events of worker i + 1: its turns emit them in order, and then its end mark.
+/// `scripts[i]` are the events of worker i + 1: its turns emit them in order, then its end mark.
 /// There must be 1 to `MAX_WORKERS` scripts, and each turn of a worker must be of one of them.
 ///
 /// # Errors

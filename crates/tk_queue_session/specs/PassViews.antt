@@ -13,12 +13,12 @@ use Rattle.tk_queue_session.specs.Marks.{is_marked}
 use Rattle.tk_queue_session.specs.Emission.{MayEmit}
 use Rattle.tk_queue_session.specs.declared.session_rules.PassView.TheVariants.{Sends, Takes, Spent}
 
--- a receiver's: the numbers of static descriptors and of workers, what was taken, and the tokens
+-- a receiver's pass: how many static descriptors and workers, what was taken, and the tokens
 abbrev pub pass_of_receiver : ℕ → ℕ → List Item → List SenderPass → PassView
 pass_of_receiver statics workers taken tokens =
     Takes (record { statics = statics; workers = workers; taken = taken; tokens = tokens })
 
--- a sender's: the number of static descriptors, its worker, what it sent, and whether it ended
+-- a sender's pass: how many static descriptors, its worker, what it sent, and whether it ended
 abbrev pub pass_of_sender : ℕ → ℕ → List Event → Bool → PassView
 pass_of_sender statics w sent ended =
     Sends (record { statics = statics; worker = w; sent = sent; ended = ended })
@@ -57,12 +57,12 @@ MayTake v x = Unit {0}
 abbrev pub Pops : PassView → Item → PassView → Type 0
 Pops v x w = (w ≡ popped v x) × MayTake v x
 
--- the receiver's, with one bit more of the number of static descriptors, the highest bit first
+-- the receiver's pass, with one bit more of how many static descriptors there are, highest first
 abbrev pub with_bit : ℕ → PassView → PassView
 with_bit b (Takes r) = pass_of_receiver (2 * r.statics + b) r.workers r.taken r.tokens
 with_bit b v = v
 
--- the receiver's, with one worker more
+-- the receiver's pass, with one worker more
 abbrev pub with_worker : PassView → PassView
 with_worker (Takes r) = pass_of_receiver r.statics (r.workers + 1) r.taken r.tokens
 with_worker v = v
@@ -72,7 +72,7 @@ abbrev pub next_sender : PassView → PassView
 next_sender (Takes r) = pass_of_sender r.statics (r.workers + 1) [] false
 next_sender v = Spent
 
--- the receiver's, with the token of a sender that has ended
+-- the receiver's pass, with the token of a sender that has ended
 abbrev pub with_token : PassView → PassView → PassView
 with_token (Takes r) (Sends s) =
     pass_of_receiver r.statics r.workers r.taken (r.tokens ++ s ∷ [])

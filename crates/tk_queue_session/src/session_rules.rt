@@ -96,8 +96,8 @@ impl Split<PassView> for WithZeroBit {
     ghost right = { λ v. Spent };
 }
 
-/// Before it makes a sender, the receiver doubles the number of static descriptors and adds one. The
-/// other half is no one's.
+/// Before it makes a sender, the receiver doubles the number of static descriptors and adds one.
+/// The other half is no one's.
 pub struct WithOneBit;
 
 impl Split<PassView> for WithOneBit {

@@ -45,8 +45,8 @@ impl fmt::Display for OpenFault {
 impl Error for OpenFault {}
 
 // Sets the number of static descriptors in the queue's rule, its highest bit first: what a split of
-// a pass makes of it is fixed by the split's type, which carries no number, so there is one type for
-// each bit.
+// a pass makes of it is fixed by the split's type, which carries no number, so there is one type
+// for each bit.
 fn set_static_count(shared_queue: &EventQueue, pass: &mut QueuePass, statics: u32)
     requires queue { IsPassOf shared_queue.now pass.old }
     requires fresh { view pass.old ≡ pass_of_receiver 0 0 [] [] }

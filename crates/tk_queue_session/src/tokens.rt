@@ -30,7 +30,7 @@ fn emitted_by(ended: &[Ended], worker: u8) -> u64
     0
 }
 
-/// Returns how many events each worker emitted, by its number; 0 at the numbers that are no worker's.
+/// Returns how many events each worker emitted, by its number; 0 at a number that is no worker's.
 pub fn emitted_by_worker(ended: &[Ended], workers: u8) -> [u64; WORKER_SLOTS]
     requires { workers ≤ MAX_WORKERS }
     ensures each { (w : ℕ) → IsWorkerOf workers w

@@ -29,7 +29,7 @@ pub struct BrokenEngine {
     defect: Defect,
 }
 
-// A table of one test; none for want of memory.
+// A table of one test, or `None` where memory is refused.
 fn one_test(alloc: Global) -> Option<Table> {
     let segment = Segment::new(alloc, "engine", "broken").ok()?;
     let mut table = Table::new(alloc);
@@ -40,7 +40,7 @@ fn one_test(alloc: Global) -> Option<Table> {
 }
 
 impl BrokenEngine {
-    /// An engine with this defect; none for want of memory.
+    /// Makes an engine with this defect, or `None` where memory is refused.
     pub fn new(alloc: Global, defect: Defect) -> Option<BrokenEngine> {
         let table = Arc::new(alloc, one_test(alloc)?).ok()?;
         Some(BrokenEngine {

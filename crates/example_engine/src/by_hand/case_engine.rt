@@ -1,4 +1,4 @@
-//! The engine.
+//! The engine of tables of cases, which emits its events itself.
 #![tactic(auto, using(engine_testkit::proofs::Emitting::emissions))]
 
 ghost use Rattle.std.specs.Prelude.{◌≡◌, ◌+◌, [], ◌∷◌, None, length, ◌≤◌, slice_get, IfOk, IfSome, OnOk};
@@ -14,7 +14,7 @@ use std::alloc::{AllocError, Global};
 use std::marker::Model;
 use std::sync::{Arc, Wait};
 
-/// An engine whose units are tables of cases of one function, each with a lock on what the function works with.
+/// An engine whose units are tables of cases of one function; each locks what the function uses.
 ///
 /// Its descriptors are the root `[engine:cases]` and a container for each table.
 #[derive(Drop)]
@@ -78,7 +78,7 @@ impl<'a, F: Function + Sync> CaseEngine<'a, F> {
     /// An engine that runs each table under the lock.
     ///
     /// # Errors
-    /// A table's name is empty, too long or that of another table, there are 65,536 tables, or memory was refused.
+    /// A table's name is empty, too long or taken, there are 65,536 tables, or memory is refused.
     pub fn new(
         alloc: Global,
         function: &'a F,
