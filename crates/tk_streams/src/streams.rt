@@ -32,7 +32,10 @@ pub trait Source {
     ghost broken: { Self → Bool };
 
     /// Reads into the start of the buffer, and answers how many bytes it read. At a buffer that is
-    /// not empty, 0 is the end of the input. A read that fails takes no byte.
+    /// not empty, 0 is the end of the input.
+    ///
+    /// # Errors
+    /// `Broken` where the read fails, and at each call after that. No byte is then taken.
     fn read_some(&mut self, buffer: &mut [u8]) -> Result<usize, Broken>
         ensures bytes { ReadTakes (remaining self.old) (remaining self.new) result buffer.new }
         ensures keeps { OnErr result (Keeps (remaining self.old) (remaining self.new)) }
@@ -56,7 +59,10 @@ pub trait Target {
     ghost broken: { Self → Bool };
 
     /// Writes a prefix of the bytes, and answers how many it wrote: at least one of a slice that is
-    /// not empty. A write that fails takes no byte.
+    /// not empty.
+    ///
+    /// # Errors
+    /// `Broken` where the write fails, and at each call after that. No byte is then taken.
     fn write_some(&mut self, bytes: &[u8]) -> Result<usize, Broken>
         ensures bytes { WriteAdds (contents self.old) (contents self.new) result bytes.now }
         ensures broken { broken self.new ≡ is_err result }
