@@ -54,6 +54,9 @@ impl Results {
     }
 
     /// Selects all events of the run. JUnit: `allEvents`.
+    ///
+    /// # Errors
+    /// `AllocError` where a request for memory is refused.
     pub fn all_events(&self, alloc: Global) -> Result<Events<'_>, AllocError>
         ensures { IfOk result (λ events. events ≡ all_of self.now.recorded) }
     {
@@ -61,6 +64,9 @@ impl Results {
     }
 
     /// Selects the events of tests. JUnit: `testEvents`.
+    ///
+    /// # Errors
+    /// `AllocError` where a request for memory is refused.
     pub fn test_events(&self, alloc: Global) -> Result<Events<'_>, AllocError>
         ensures { IfOk result (λ events.
             events
@@ -70,6 +76,9 @@ impl Results {
     }
 
     /// Selects the events of containers. JUnit: `containerEvents`.
+    ///
+    /// # Errors
+    /// `AllocError` where a request for memory is refused.
     pub fn container_events(&self, alloc: Global) -> Result<Events<'_>, AllocError>
         ensures { IfOk result (λ events.
             events
@@ -80,6 +89,9 @@ impl Results {
 
     /// Says whether the run keeps the lifecycle that a listener may rely on, and where it first
     /// doesn't.
+    ///
+    /// # Errors
+    /// `AllocError` where a request for memory is refused.
     pub fn lifecycle(&self, alloc: Global) -> Result<Lifecycle, AllocError>
         ensures { IfOk result (IsLifecycle self.now.recorded) }
     {

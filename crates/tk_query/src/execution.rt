@@ -111,6 +111,9 @@ impl Executions {
     }
 
     /// Keeps the executions of a skip.
+    ///
+    /// # Errors
+    /// `AllocError` where a request for memory is refused.
     pub fn skipped(&self, alloc: Global) -> Result<Executions, AllocError>
         ensures { IfOk result (λ kept. kept ≡ filter (has_ending Skipped) self.now) }
     {
@@ -118,6 +121,9 @@ impl Executions {
     }
 
     /// Keeps the executions that started: all but those of a skip.
+    ///
+    /// # Errors
+    /// `AllocError` where a request for memory is refused.
     pub fn started(&self, alloc: Global) -> Result<Executions, AllocError>
         ensures { IfOk result (λ kept. kept ≡ filter has_started self.now) }
     {
@@ -131,6 +137,9 @@ impl Executions {
     }
 
     /// Keeps the executions that finished: all but those of a skip.
+    ///
+    /// # Errors
+    /// `AllocError` where a request for memory is refused.
     pub fn finished(&self, alloc: Global) -> Result<Executions, AllocError>
         ensures { IfOk result (λ kept. kept ≡ filter has_started self.now) }
     {
@@ -138,6 +147,9 @@ impl Executions {
     }
 
     /// Keeps the executions that finished as aborted.
+    ///
+    /// # Errors
+    /// `AllocError` where a request for memory is refused.
     pub fn aborted(&self, alloc: Global) -> Result<Executions, AllocError>
         ensures { IfOk result (λ kept. kept ≡ filter (has_ending Aborted) self.now) }
     {
@@ -145,6 +157,9 @@ impl Executions {
     }
 
     /// Keeps the executions that finished successfully.
+    ///
+    /// # Errors
+    /// `AllocError` where a request for memory is refused.
     pub fn succeeded(&self, alloc: Global) -> Result<Executions, AllocError>
         ensures { IfOk result (λ kept. kept ≡ filter (has_ending Successful) self.now) }
     {
@@ -152,6 +167,9 @@ impl Executions {
     }
 
     /// Keeps the executions that finished as failed.
+    ///
+    /// # Errors
+    /// `AllocError` where a request for memory is refused.
     pub fn failed(&self, alloc: Global) -> Result<Executions, AllocError>
         ensures { IfOk result (λ kept. kept ≡ filter (has_ending Failed) self.now) }
     {

@@ -172,6 +172,9 @@ fn any_mask(alloc: Global, record: &Record, members: &[Condition]) -> Result<Fla
 }
 
 /// Keeps the events of which the condition holds.
+///
+/// # Errors
+/// `AllocError` where a request for memory is refused.
 pub fn select<'r>(
     alloc: Global,
     events: &Events<'r>,

@@ -37,6 +37,9 @@ fn next_fit(
 }
 
 /// Whether each event has a condition, which holds of it. JUnit: `assertEventsMatchExactly`.
+///
+/// # Errors
+/// None: it asks for no memory. It answers a `Result` as the other matchers do.
 pub fn match_exactly(
     _alloc: Global,
     events: &Events,
@@ -132,6 +135,9 @@ fn holds_of_some(alloc: Global, events: &Events, condition: &Condition) -> Resul
 }
 
 /// Whether each condition holds of some event, maybe the same. JUnit: `assertEventsMatchLoosely`.
+///
+/// # Errors
+/// `AllocError` where a request for memory is refused.
 pub fn match_loosely(
     alloc: Global,
     events: &Events,
@@ -150,6 +156,9 @@ pub fn match_loosely(
 /// Whether the conditions hold in turn, each at a later event than the one before it.
 ///
 /// JUnit: `assertEventsMatchLooselyInOrder`.
+///
+/// # Errors
+/// `AllocError` where a request for memory is refused.
 pub fn match_in_order(
     alloc: Global,
     events: &Events,

@@ -133,6 +133,9 @@ impl<'r> Model for ExecutionIter<'r> {
 
 impl<'r> ExecutionIter<'r> {
     /// Begins with the first of the executions that the events show.
+    ///
+    /// # Errors
+    /// `AllocError` where a request for memory is refused.
     pub fn new(alloc: Global, events: Events<'r>) -> Result<ExecutionIter<'r>, AllocError>
         ensures { IfOk result (AreExecutions (step_at events.entry)) }
     {
@@ -154,6 +157,9 @@ impl<'r> Iterator for ExecutionIter<'r> {
 }
 
 /// The executions that the events show.
+///
+/// # Errors
+/// `AllocError` where a request for memory is refused.
 pub fn executions(alloc: Global, events: &Events) -> Result<Executions, AllocError>
     ensures { IfOk result (λ list. AreExecutions (step_at events.now) list) }
 {

@@ -73,6 +73,9 @@ impl Condition {
     }
 
     /// The descriptor is a test whose id contains this text. JUnit: `test` of a text.
+    ///
+    /// # Errors
+    /// `AllocError` where a request for memory is refused.
     pub fn test(alloc: Global, unique_id_substring: &str) -> Result<Condition, AllocError>
         ensures { IfOk result (λ condition.
             cond_of condition ≡ both (Plain Test) (With Id unique_id_substring.now)) }
@@ -81,6 +84,9 @@ impl Condition {
     }
 
     /// The descriptor is a container whose id contains this text. JUnit: `container` of a text.
+    ///
+    /// # Errors
+    /// `AllocError` where a request for memory is refused.
     pub fn container(alloc: Global, unique_id_substring: &str) -> Result<Condition, AllocError>
         ensures { IfOk result (λ condition.
             cond_of condition ≡ both (Plain Container) (With Id unique_id_substring.now)) }
@@ -89,6 +95,9 @@ impl Condition {
     }
 
     /// A descriptor whose id contains this text was registered. JUnit: `dynamicTestRegistered`.
+    ///
+    /// # Errors
+    /// `AllocError` where a request for memory is refused.
     pub fn dynamic_test_registered(
         alloc: Global,
         unique_id_substring: &str,
@@ -100,6 +109,9 @@ impl Condition {
     }
 
     /// The descriptor's id contains this text. JUnit: `uniqueIdSubstring`.
+    ///
+    /// # Errors
+    /// `AllocError` where a request for memory is refused.
     pub fn unique_id_substring(alloc: Global, text: &str) -> Result<Condition, AllocError>
         ensures { IfOk result (λ condition. condition ≡ Condition.Id text.now) }
     {
@@ -107,6 +119,9 @@ impl Condition {
     }
 
     /// The descriptor has this display name. JUnit: `displayName`.
+    ///
+    /// # Errors
+    /// `AllocError` where a request for memory is refused.
     pub fn display_name(alloc: Global, name: &str) -> Result<Condition, AllocError>
         ensures { IfOk result (λ condition. condition ≡ Condition.Name name.now) }
     {
@@ -114,6 +129,9 @@ impl Condition {
     }
 
     /// The descriptor was skipped for this reason. JUnit: `skippedWithReason`.
+    ///
+    /// # Errors
+    /// `AllocError` where a request for memory is refused.
     pub fn skipped_with_reason(alloc: Global, reason: &str) -> Result<Condition, AllocError>
         ensures { IfOk result (λ condition. condition ≡ Condition.Skipped reason.now) }
     {
@@ -130,6 +148,9 @@ impl Condition {
     /// The execution failed, and with this message where one is given.
     ///
     /// JUnit: `finishedWithFailure`.
+    ///
+    /// # Errors
+    /// `AllocError` where a request for memory is refused.
     pub fn finished_with_failure(
         alloc: Global,
         message: Option<&str>,
@@ -143,6 +164,9 @@ impl Condition {
     /// The execution was aborted, and with this message where one is given.
     ///
     /// JUnit: `abortedWithReason`.
+    ///
+    /// # Errors
+    /// `AllocError` where a request for memory is refused.
     pub fn aborted_with_reason(
         alloc: Global,
         message: Option<&str>,
@@ -156,6 +180,9 @@ impl Condition {
     /// An entry of these pairs, each a key and a value, and no others was published.
     ///
     /// JUnit: `reportEntry`.
+    ///
+    /// # Errors
+    /// `AllocError` where a request for memory is refused.
     pub fn report_entry(alloc: Global, pairs: &[(&str, &str)]) -> Result<Condition, AllocError>
         ensures { IfOk result (λ condition.
             condition ≡ Condition.Entry (map (λ p. (p.0.now, p.1.now)) pairs.now)) }
@@ -168,6 +195,9 @@ impl Condition {
     }
 
     /// The file at this path was published. JUnit: `fileEntry`.
+    ///
+    /// # Errors
+    /// `AllocError` where a request for memory is refused.
     pub fn file_entry(alloc: Global, path: &str) -> Result<Condition, AllocError>
         ensures { IfOk result (λ condition. condition ≡ Condition.File path.now) }
     {

@@ -149,6 +149,9 @@ fn push_members(out: &mut String, members: &[Condition]) -> Result<(), AllocErro
 ///
 /// [`crate::read_condition`] reads it as the same condition where no more than `MAX_DEPTH` brackets
 /// of `all(`, `any(` and `not(` are open at once.
+///
+/// # Errors
+/// `AllocError` where a request for memory is refused.
 pub fn write_condition(alloc: Global, condition: &Condition) -> Result<Text, AllocError>
     ensures { IfOk result (λ text. text ≡ cond_text (cond_of condition.now)) }
 {

@@ -8,6 +8,9 @@ use std::alloc::{AllocError, Global};
 use tk_record_columns::Record;
 
 /// Says whether the record keeps the lifecycle, and where it first doesn't.
+///
+/// # Errors
+/// `AllocError` where a request for memory is refused.
 pub fn lifecycle(alloc: Global, record: &Record) -> Result<Lifecycle, AllocError>
     ensures { IfOk result (IsLifecycle «record».now) }
 {
