@@ -233,6 +233,11 @@ fn read_root(
 }
 
 /// Reads the nodes of a plan: the root and all below it.
+///
+/// # Errors
+/// The first fault of the nodes in preorder, of each node in this order: `Deep`, `Field`,
+/// `EntryKeyTwice`, `Id`, `Table`, `TooManyResources`. Where a request for memory is refused, the
+/// fault is `Memory`.
 pub fn read_nodes(alloc: Global, takes_files: bool, root: Value<'_>) -> Result<ReadNodes, PlanFault>
     ensures { let s = root_at takes_files (view root.entry) in
         Meets (verdict [] (node_inputs MAX_LEVELS s)) (HasRead s) result }

@@ -27,6 +27,9 @@ impl<'t> Model for Siblings<'t> {
 
 impl<'t> Siblings<'t> {
     /// No segments, with room for as many as `capacity`.
+    ///
+    /// # Errors
+    /// `AllocError` where a request for memory is refused.
     pub fn with_capacity(alloc: Global, capacity: usize) -> Result<Siblings<'t>, AllocError>
         ensures { IfOk result (λ siblings. siblings ≡ []) }
     {
@@ -36,6 +39,9 @@ impl<'t> Siblings<'t> {
     }
 
     /// Puts a segment at the end unless it is there; answers whether it was put.
+    ///
+    /// # Errors
+    /// `AllocError` where a request for memory is refused.
     pub fn insert(&mut self, segment: TwoTexts<'t>) -> Result<bool, AllocError>
         ensures answer { IfOk result (λ is_new.
             is_new ≡ not (list_any (same_segment (json_segment_text segment.entry)) self.old)) }

@@ -43,6 +43,10 @@ fn files(alloc: Global, at: &str, value: &Value<'_>) -> Result<Files, PlanFault>
 }
 
 /// Reads the member `files`, which a node may have only in a plan of version 2.
+///
+/// # Errors
+/// `Field` with the first place in the member where something is wrong or missing; `Memory` where a
+/// request for memory is refused.
 pub fn files_member(
     alloc: Global,
     at: JsonPath<'_>,

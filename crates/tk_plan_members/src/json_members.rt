@@ -21,6 +21,10 @@ use std::collections::BTreeMap;
 use tk_ids::{DType, Text};
 
 /// Reads a member that has to be there and to be a text.
+///
+/// # Errors
+/// `Field` with the place of the member where it is missing or no text; `Memory` where a request
+/// for memory is refused.
 pub fn text_member(
     alloc: Global,
     at: JsonPath<'_>,
@@ -38,6 +42,10 @@ pub fn text_member(
 }
 
 /// Reads a member that may be missing, and else is a text.
+///
+/// # Errors
+/// `Field` with the place of the member where it is there and no text; `Memory` where a request for
+/// memory is refused.
 pub fn optional_member(
     alloc: Global,
     at: JsonPath<'_>,
@@ -58,6 +66,10 @@ pub fn optional_member(
 }
 
 /// Reads the member `type`.
+///
+/// # Errors
+/// `Field` with the place of the member where it is missing or no name of a type; `Memory` where a
+/// request for memory is refused.
 pub fn dtype_member(alloc: Global, at: JsonPath<'_>, object: &Value<'_>) -> Result<DType, PlanFault>
     ensures { Reads (row (pointer at.entry) (view object.now) dtype_row)
         (λ t. t ≡ json_dtype (get (codes "type") (view object.now))) result }
@@ -71,6 +83,10 @@ pub fn dtype_member(alloc: Global, at: JsonPath<'_>, object: &Value<'_>) -> Resu
 }
 
 /// Reads the member `mode`: whether it is `concurrent`.
+///
+/// # Errors
+/// `Field` with the place of the member where it is there and no name of a mode; `Memory` where a
+/// request for memory is refused.
 pub fn mode_member(alloc: Global, at: JsonPath<'_>, object: &Value<'_>) -> Result<bool, PlanFault>
     ensures { Reads (row (pointer at.entry) (view object.now) mode_row)
         (λ b. b ≡ json_concurrent (get (codes "mode") (view object.now))) result }
@@ -86,6 +102,10 @@ pub fn mode_member(alloc: Global, at: JsonPath<'_>, object: &Value<'_>) -> Resul
 }
 
 /// Reads the member `isolated`, which is false where it is missing.
+///
+/// # Errors
+/// `Field` with the place of the member where it is there and neither true nor false; `Memory`
+/// where a request for memory is refused.
 pub fn isolated_member(
     alloc: Global,
     at: JsonPath<'_>,
@@ -151,6 +171,10 @@ fn pair_in<'t>(value: &Value<'t>) -> Option<TwoTexts<'t>>
 }
 
 /// Reads the member `segment`. The place of its value is written out only where it is wrong.
+///
+/// # Errors
+/// `Field` with the place of the member where it is missing or not of two items, or with that of
+/// its first item that is no text; `Memory` where a request for memory is refused.
 pub fn segment_member<'t>(
     alloc: Global,
     at: JsonPath<'_>,
@@ -172,6 +196,10 @@ pub fn segment_member<'t>(
 }
 
 /// Reads a member that may be missing, and else is an array: its items.
+///
+/// # Errors
+/// `Field` with the place of the member where it is there and no array; `Memory` where a request
+/// for memory is refused.
 pub fn array_member<'v, 't>(
     alloc: Global,
     at: JsonPath<'_>,
@@ -231,6 +259,10 @@ fn first_unknown<'t>(
 }
 
 /// Refuses a value that is no object, and an object with a member that is not one of `names`.
+///
+/// # Errors
+/// `Field` with the place of the value where it is no object, else with that of the first such
+/// member in the order of the names; `Memory` where a request for memory is refused.
 pub fn check_members(
     alloc: Global,
     at: JsonPath<'_>,

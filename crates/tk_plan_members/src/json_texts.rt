@@ -42,6 +42,10 @@ fn check_numbers(alloc: Global, text: &str) -> Result<(), PlanFault>
 
 /// Reads the value that a text is for `serde_json`, which refuses a number out of the range of
 /// `f64`. So a text is read by it too, unless all its numbers are digits alone.
+///
+/// # Errors
+/// `Json` where `serde_json` reads no value from the text; `Memory` where a request for memory is
+/// refused.
 pub fn read_json<'t>(
     alloc: Global,
     text: &'t str,

@@ -57,6 +57,10 @@ fn locks(alloc: Global, at: &str, value: &Value<'_>) -> Result<Locks, PlanFault>
 }
 
 /// Reads the member `locks` of a node, which has none where it is absent.
+///
+/// # Errors
+/// `Field` with the first place in the member where something is wrong or missing; `Memory` where a
+/// request for memory is refused.
 pub fn locks_member(alloc: Global, at: JsonPath<'_>, object: &Value<'_>) -> Result<Locks, PlanFault>
     ensures { Reads (row (pointer at.entry) (view object.now) locks_row)
         (λ l. l ≡ json_locks (get (codes "locks") (view object.now))) result }

@@ -24,6 +24,9 @@ fn whole_path(alloc: Global, at: JsonPath<'_>) -> Result<String, AllocError>
 }
 
 /// The place of a member whose name needs no escape.
+///
+/// # Errors
+/// `AllocError` where a request for memory is refused.
 pub fn member_path(alloc: Global, at: JsonPath<'_>, name: &str) -> Result<String, AllocError>
     requires { flat_map escape name.now ≡ name.now }
     ensures { IfOk result (λ p. string_bytes p ≡ member_at (pointer at.entry) name.now) }

@@ -52,6 +52,10 @@ fn node_result(alloc: Global, at: JsonPath<'_>, value: &Value<'_>) -> Result<Nod
 }
 
 /// Reads the member `result` of a node, which is successful where it is absent.
+///
+/// # Errors
+/// `Field` with the first place in the member where something is wrong or missing; `Memory` where a
+/// request for memory is refused.
 pub fn result_member(
     alloc: Global,
     at: JsonPath<'_>,
@@ -160,6 +164,10 @@ fn entries(alloc: Global, at: &str, value: &Value<'_>) -> Result<Reports, PlanFa
 }
 
 /// Reads the member `entries` of a node, which has none where it is absent.
+///
+/// # Errors
+/// `Field` with the first place in the member where something is wrong or missing; `Memory` where a
+/// request for memory is refused.
 pub fn entries_member(
     alloc: Global,
     at: JsonPath<'_>,

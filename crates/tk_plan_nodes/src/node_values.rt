@@ -162,6 +162,9 @@ fn node_values<'t>(alloc: Global, nodes: &[PlanNode<'t>]) -> Result<Vec<Value<'t
 }
 
 /// The JSON value, of version 2, of the plan with this root.
+///
+/// # Errors
+/// `AllocError` where a request for memory is refused.
 pub fn plan_value<'t>(alloc: Global, root: &PlanNode<'t>) -> Result<Value<'t>, AllocError>
     ensures { IfOk result (λ v. value_view v ≡ plan_json root.now) }
 {

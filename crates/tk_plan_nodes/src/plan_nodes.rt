@@ -127,6 +127,9 @@ impl<'t> PlanNode<'t> {
     }
 
     /// Adds a lock. JUnit: `@ResourceLock`.
+    ///
+    /// # Errors
+    /// `AllocError` where a request for memory is refused.
     pub fn lock(mut self, key: &'t str, mode: LockMode) -> Result<PlanNode<'t>, AllocError>
         ensures { IfOk result (λ n. node_view n ≡ record (node_view self.entry) {
           locks = (node_view self.entry).locks ++ record { key = key.entry; mode = mode } ∷ [];
@@ -157,6 +160,9 @@ impl<'t> PlanNode<'t> {
     }
 
     /// Adds an entry that the node publishes, a list of keys and values.
+    ///
+    /// # Errors
+    /// `AllocError` where a request for memory is refused.
     pub fn entry(mut self, pairs: Vec<(&'t str, &'t str)>) -> Result<PlanNode<'t>, AllocError>
         ensures { IfOk result (λ n. node_view n ≡ record (node_view self.entry) {
           entries = (node_view self.entry).entries ++ pairs_of pairs.entry.items ∷ [];
@@ -167,6 +173,9 @@ impl<'t> PlanNode<'t> {
     }
 
     /// Adds a file that the node publishes.
+    ///
+    /// # Errors
+    /// `AllocError` where a request for memory is refused.
     pub fn file(mut self, path: &'t str) -> Result<PlanNode<'t>, AllocError>
         ensures { IfOk result (λ n. node_view n ≡ record (node_view self.entry) {
           files = (node_view self.entry).files ++ path.now ∷ [];
@@ -177,6 +186,9 @@ impl<'t> PlanNode<'t> {
     }
 
     /// Adds a static node below the node, after those that are there.
+    ///
+    /// # Errors
+    /// `AllocError` where a request for memory is refused.
     pub fn child(mut self, node: PlanNode<'t>) -> Result<PlanNode<'t>, AllocError>
         ensures { IfOk result (λ n. node_view n ≡ record (node_view self.entry) {
           children = (node_view self.entry).children ++ node.entry ∷ [];
@@ -187,6 +199,9 @@ impl<'t> PlanNode<'t> {
     }
 
     /// Adds a node below the node that is registered as the node runs.
+    ///
+    /// # Errors
+    /// `AllocError` where a request for memory is refused.
     pub fn dynamic(mut self, node: PlanNode<'t>) -> Result<PlanNode<'t>, AllocError>
         ensures { IfOk result (λ n. node_view n ≡ record (node_view self.entry) {
           dynamic = (node_view self.entry).dynamic ++ node.entry ∷ [];

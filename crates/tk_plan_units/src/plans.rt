@@ -58,6 +58,9 @@ impl Plan {
     ///
     /// `table` has the descriptors of the static nodes, and `keys` are the lock keys without
     /// `global`, in the order of their first appearance.
+    ///
+    /// # Errors
+    /// `AllocError` where a request for memory is refused.
     pub fn new(
         alloc: Global,
         mut nodes: Vec<NumberedNode>,
@@ -93,6 +96,9 @@ impl Plan {
 
     /// For each static node, in the order of the keys, the number of the node above it, and 0 for
     /// the root.
+    ///
+    /// # Errors
+    /// `AllocError` where a request for memory is refused.
     pub fn parents(&self, alloc: Global) -> Result<Vec<u32>, AllocError>
         ensures parents { IfOk result (λ parents.
             parents.items ≡ parents_below 0 (forest self.now.nodes)) }
@@ -146,6 +152,9 @@ impl Plan {
     }
 
     /// The steps of a unit, in their order.
+    ///
+    /// # Errors
+    /// `AllocError` where a request for memory is refused.
     pub fn script(&self, alloc: Global, unit: u32) -> Result<Vec<Step>, AllocError>
         requires { unit < length (units_of (forest self.now.nodes)) }
         ensures steps { IfOk result (λ steps.
@@ -193,6 +202,9 @@ impl Plan {
     }
 
     /// The starts of the spine's nodes with their entries and their files, in preorder.
+    ///
+    /// # Errors
+    /// `AllocError` where a request for memory is refused.
     pub fn before(&self, alloc: Global) -> Result<Vec<Event>, AllocError>
         ensures events { IfOk result (λ events. events.items ≡ before_of (forest self.now.nodes)) }
         ensures lawful { IfOk result (λ events. AreStatic self.now.table events.items) }
@@ -205,6 +217,9 @@ impl Plan {
     }
 
     /// The finishes of the spine's nodes, in postorder.
+    ///
+    /// # Errors
+    /// `AllocError` where a request for memory is refused.
     pub fn after(&self, alloc: Global) -> Result<Vec<Event>, AllocError>
         ensures events { IfOk result (λ events. events.items ≡ after_of (forest self.now.nodes)) }
         ensures lawful { IfOk result (λ events. AreStatic self.now.table events.items) }
@@ -235,6 +250,9 @@ impl Plan {
     /// Makes the payload of a step's event.
     ///
     /// A registration has none: the sink makes its descriptor.
+    ///
+    /// # Errors
+    /// `AllocError` where a request for memory is refused.
     pub fn payload(&self, alloc: Global, step: Step) -> Result<Payload, AllocError>
         requires { IsKnown self.now.nodes step.node step.act }
         ensures { IfOk result (λ p.
