@@ -31,6 +31,9 @@ impl Model for Holdings {
 
 impl Holdings {
     /// Makes this many seats, none of which holds anything.
+    ///
+    /// # Errors
+    /// `AllocError` where a request for memory is refused.
     pub fn new(alloc: Global, seats: usize) -> Result<Holdings, AllocError>
         ensures { IfOk result (λ h. h ≡ replicate seats None) }
     {

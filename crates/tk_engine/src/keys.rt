@@ -22,6 +22,9 @@ impl Keys {
     }
 
     /// Notes the key of a node, unless it has one.
+    ///
+    /// # Errors
+    /// `AllocError` where a request for memory is refused.
     pub fn note(&mut self, node: u32, key: u32) -> Result<(), AllocError>
         ensures { OnOk result ((other : ℕ)
             → kept self.new other ≡ noted (kept self.old) node key other) }

@@ -47,6 +47,9 @@ pub struct Descriptor {
 
 impl Descriptor {
     /// Makes another descriptor with the same contents, which shares the id.
+    ///
+    /// # Errors
+    /// `AllocError` where a request for memory is refused.
     pub fn try_clone(&self) -> Result<Descriptor, AllocError>
         ensures { IfOk result (λ d. d ≡ self.now) }
     {

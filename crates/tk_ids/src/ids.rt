@@ -154,6 +154,9 @@ impl UniqueId {
     }
 
     /// Copies the id's text.
+    ///
+    /// # Errors
+    /// `AllocError` where a request for memory is refused.
     pub fn write(&self) -> Result<Text, AllocError>
         ensures text { IfOk result (λ t. t ≡ id_text self.now) }
         // What every id is.
@@ -182,6 +185,9 @@ impl UniqueId {
     }
 
     /// Makes a key of maps of the id's text, which it shares.
+    ///
+    /// # Errors
+    /// `AllocError` where the text has as many owners as can be counted.
     pub fn shared_text(&self) -> Result<IdText, AllocError>
         ensures text { IfOk result (λ t. t ≡ id_text self.now) }
         // What every id is.
@@ -199,6 +205,9 @@ impl UniqueId {
     }
 
     /// Makes the segments, beginning with the root's, from the id's text.
+    ///
+    /// # Errors
+    /// `AllocError` where a request for memory is refused.
     pub fn segments(&self, alloc: Global) -> Result<Vec<Segment>, AllocError>
         ensures { IfOk result (λ segments. segments.items ≡ self.now) }
     {
@@ -231,6 +240,9 @@ impl UniqueId {
     }
 
     /// Makes another id with the same segments, which shares its text.
+    ///
+    /// # Errors
+    /// `AllocError` where the text has as many owners as can be counted.
     pub fn try_clone(&self) -> Result<UniqueId, AllocError>
         ensures { IfOk result (λ id. id ≡ self.now) }
     {
@@ -251,6 +263,9 @@ impl UniqueId {
     }
 
     /// Makes the id without its last segment, or `None` where it has only one.
+    ///
+    /// # Errors
+    /// `AllocError` where a request for memory is refused.
     pub fn parent(&self, alloc: Global) -> Result<Option<UniqueId>, AllocError>
         ensures { IfOk result (λ parent. MatchOption parent (length self.now ≡ 1)
             (λ id. (1 < length self.now) × (id ≡ parent_of self.now))) }

@@ -63,6 +63,9 @@ impl Segment {
     }
 
     /// Makes another segment with copies of the tag and the value.
+    ///
+    /// # Errors
+    /// `AllocError` where a request for memory is refused.
     pub fn try_clone(&self) -> Result<Segment, AllocError>
         ensures { IfOk result (λ s. s ≡ self.now) }
     {

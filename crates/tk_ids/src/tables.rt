@@ -111,6 +111,9 @@ impl Table {
     }
 
     /// Makes an empty table with room for as many descriptors as `capacity`.
+    ///
+    /// # Errors
+    /// `AllocError` where a request for memory is refused.
     pub fn with_capacity(alloc: Global, capacity: usize) -> Result<Table, AllocError>
         ensures { IfOk result (λ table. table ≡ []) }
     {

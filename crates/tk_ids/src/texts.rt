@@ -42,6 +42,9 @@ impl Model for Text {
 
 impl Text {
     /// Copies a text. One of at most 16 bytes needs no memory.
+    ///
+    /// # Errors
+    /// `AllocError` where a request for memory is refused.
     pub fn copy(alloc: Global, text: &str) -> Result<Text, AllocError>
         ensures { IfOk result (λ t. t ≡ text.now) }
     {
@@ -107,6 +110,9 @@ impl Text {
     }
 
     /// Another text with the same bytes.
+    ///
+    /// # Errors
+    /// `AllocError` where a request for memory is refused.
     pub fn try_clone(&self) -> Result<Text, AllocError>
         ensures { IfOk result (λ t. t ≡ self.now) }
     {

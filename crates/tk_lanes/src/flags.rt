@@ -33,6 +33,9 @@ impl Model for Flags {
 
 impl Flags {
     /// Makes the flags of a column of bytes: set where the byte equals the value.
+    ///
+    /// # Errors
+    /// `AllocError` where a request for memory is refused.
     pub fn of_byte(alloc: Global, column: &[u8], value: u8) -> Result<Flags, AllocError>
         requires { length column.now ≤ 2 ^ 32 }
         ensures { IfOk result (λ flags. flags ≡ map (λ x. x == value) column.now) }
@@ -44,6 +47,9 @@ impl Flags {
     }
 
     /// Makes the flags of a column of bytes: set where the byte shares a one bit with the value.
+    ///
+    /// # Errors
+    /// `AllocError` where a request for memory is refused.
     pub fn of_flag(alloc: Global, column: &[u8], value: u8) -> Result<Flags, AllocError>
         requires { length column.now ≤ 2 ^ 32 }
         ensures { IfOk result (λ flags. flags ≡ map (λ x. shares_bit x value) column.now) }
@@ -55,6 +61,9 @@ impl Flags {
     }
 
     /// Makes the flags of a column of numbers: set where the number equals the value.
+    ///
+    /// # Errors
+    /// `AllocError` where a request for memory is refused.
     pub fn of_number(alloc: Global, column: &[u32], value: u32) -> Result<Flags, AllocError>
         requires { length column.now ≤ 2 ^ 32 }
         ensures { IfOk result (λ flags. flags ≡ map (λ x. x == value) column.now) }
@@ -66,6 +75,9 @@ impl Flags {
     }
 
     /// Makes `len` set flags.
+    ///
+    /// # Errors
+    /// `AllocError` where a request for memory is refused.
     pub fn all(alloc: Global, len: usize) -> Result<Flags, AllocError>
         requires { len ≤ 2 ^ 32 }
         ensures { IfOk result (λ flags. flags ≡ replicate len true) }
@@ -76,6 +88,9 @@ impl Flags {
     }
 
     /// Makes `len` clear flags.
+    ///
+    /// # Errors
+    /// `AllocError` where a request for memory is refused.
     pub fn none(alloc: Global, len: usize) -> Result<Flags, AllocError>
         requires { len ≤ 2 ^ 32 }
         ensures { IfOk result (λ flags. flags ≡ replicate len false) }
@@ -85,6 +100,9 @@ impl Flags {
     }
 
     /// Copies the flags.
+    ///
+    /// # Errors
+    /// `AllocError` where a request for memory is refused.
     pub fn try_clone(&self) -> Result<Flags, AllocError>
         ensures { IfOk result (λ flags. flags ≡ self.now) }
     {
@@ -163,6 +181,9 @@ impl Flags {
     }
 
     /// Lists the positions whose flags are set, in increasing order.
+    ///
+    /// # Errors
+    /// `AllocError` where a request for memory is refused.
     pub fn positions(&self, alloc: Global) -> Result<Vec<usize>, AllocError>
         ensures { IfOk result (λ list. list.items ≡ positions (λ flag. flag) self.now) }
     {

@@ -168,6 +168,9 @@ impl Core {
     }
 
     /// Gives the items that wait, in their order.
+    ///
+    /// # Errors
+    /// `AllocError` where a request for memory is refused.
     pub fn into_waiting(self, alloc: Global) -> Result<Vec<Item>, AllocError>
         ensures { IfOk result (λ items. items.items ≡ self.waiting) }
     {

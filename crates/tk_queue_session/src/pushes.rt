@@ -8,7 +8,11 @@ use std::sync::Wait;
 use tk_queue_core::Item;
 use tk_waiting::RetryDelay;
 
-/// Pushes the item. It comes back only where the queue was full at one moment of the call.
+/// Pushes the item.
+///
+/// # Errors
+/// The item comes back, only where the queue was full at one moment of the call. It is then not
+/// pushed.
 pub fn try_push<R: Wait>(
     rt: &R,
     queue: &EventQueue,
