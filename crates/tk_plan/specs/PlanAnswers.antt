@@ -25,6 +25,7 @@ Answered plan (Err e) = IsFault (λ f. plan ≡ Err f) e
 abbrev pub value_of : List ℕ → Option Data
 value_of bytes = if is_utf8 bytes then read bytes else None
 
+-- the plan of a value, or `Json` where there is none
 abbrev pub plan_or_json : Option Data → Result Tree PlanFault
 plan_or_json None = Err Json
 plan_or_json (Some d) = PlanOf d

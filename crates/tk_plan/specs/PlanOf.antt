@@ -28,12 +28,15 @@ is_two _ = false
 abbrev pub takes_files_in : Data → Bool
 takes_files_in v = is_two (get (codes "version") v)
 
+-- any value
 abbrev pub anything : Check
 anything at d = None
 
+-- a plan has a version and a root, and nothing else
 abbrev pub top : Check
 top = object_of (must (codes "version") one_or_two ∷ must (codes "root") anything ∷ [])
 
+-- the root of a plan's value
 abbrev pub root_of : Data → NodeInput
 root_of v = root_at (takes_files_in v) (unwrap_or (get (codes "root") v) null)
 
@@ -41,6 +44,7 @@ root_of v = root_at (takes_files_in v) (unwrap_or (get (codes "root") v) null)
 abbrev pub events_fault : Tree → Option PlanFault
 events_fault t = when (nat_lt MAX_EVENTS (length (moves t))) TooManyEvents
 
+-- the fault, where there is one, or else the value
 abbrev pub ok_unless : {A E : Type 0} → Option E → A → Result A E
 ok_unless (Some e) x = Err e
 ok_unless None x = Ok x

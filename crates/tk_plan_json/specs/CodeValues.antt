@@ -61,13 +61,16 @@ array_at p member id =
       above = id;
     }
 
+-- two texts, as a tag and a value
 abbrev pub json_segment_text : TwoTexts → SegmentView
 json_segment_text p = record { tag = p.first.now; value = p.second.now }
 
+-- the fault of a plan whose node has this fault of an id
 abbrev pub as_plan_fault : IdFault → PlanFault
 as_plan_fault id_faults.Memory = Memory
 as_plan_fault fault = Id fault
 
+-- the segment, and the id that ends with it
 pub record IsNamed (above : List SegmentView) (s : SegmentView) (n : Named) : Type 0 where
   pub segment : n.segment ≡ s
   pub id : n.id ≡ above ++ s ∷ []

@@ -19,6 +19,7 @@ use Rattle.tk_plan_json.specs.declared.node_fields.Fields.{Fields}
 use Rattle.tk_plan_json.specs.declared.read_nodes.Checked.{Checked}
 use Rattle.tk_plan_json.specs.declared.read_nodes.Named.{Named}
 
+-- the members that each node has to have
 abbrev pub heading_rows : List Row
 heading_rows = dtype_row ∷ segment_row ∷ name_row ∷ []
 
@@ -26,6 +27,7 @@ heading_rows = dtype_row ∷ segment_row ∷ name_row ∷ []
 abbrev pub concurrency_rows : List Row
 concurrency_rows = mode_row ∷ isolated_row ∷ locks_row ∷ []
 
+-- the members that say what a node emits
 abbrev pub content_rows : Bool → List Row
 content_rows takes_files = skip_row ∷ result_row ∷ entries_row ∷ files_rows takes_files
 
@@ -41,22 +43,26 @@ plain_names = map (λ r. r.name) (dtype_row ∷ segment_row ∷ name_row ∷ mod
 abbrev pub IsPlain : Data → Type 0
 IsPlain d = (at : List ℕ) → unknown plain_names at d ≡ None
 
+-- a type, a segment and a name, as a node's members say
 pub record IsHeading (d : Data) (h : Heading) : Type 0 where
   pub dtype : h.dtype ≡ json_dtype (get (codes "type") d)
   pub segment : IsPairOf (get (codes "segment") d) h.segment
   pub name : h.name ≡ json_text (get (codes "name") d)
 
+-- when a node may run, as its members say
 pub record IsConcurrency (is_static : Bool) (d : Data) (m : Concurrency) : Type 0 where
   pub is_concurrent : m.is_concurrent ≡ concurrent_of is_static d
   pub is_isolated : m.is_isolated ≡ isolated_of is_static d
   pub locks : m.locks ≡ locks_of is_static d
 
+-- what a node emits, as its members say
 pub record IsContent (takes_files : Bool) (d : Data) (c : Content) : Type 0 where
   pub skip : c.skip ≡ json_optional (get (codes "skip") d)
   pub result : IsNodeResult (get (codes "result") d) c.result
   pub reports : AreReports (listed (get (codes "entries") d)) c.reports
   pub files : AreFiles takes_files d c.files
 
+-- all that a node's members say
 pub record HasFields (is_static takes_files : Bool) (d : Data) (f : Fields) : Type 0 where
   pub heading : IsHeading d f.heading
   pub concurrency : IsConcurrency is_static d f.concurrency

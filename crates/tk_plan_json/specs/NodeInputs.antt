@@ -37,6 +37,7 @@ root_at takes_files d = record {
   value = d;
 }
 
+-- the segment in a value that stands for a node
 abbrev pub segment_in : Data → SegmentView
 segment_in d = json_segment (get (codes "segment") d)
 
@@ -126,6 +127,7 @@ node_inputs_in array index earlier (d ∷ ds) =
     node_input array index earlier d
     ∷ node_inputs_in array (index + 1) (earlier ++ segment_in d ∷ []) ds
 
+-- the static children of a node, from their values
 abbrev pub children_in : NodeInput → List Data → List NodeInput
 children_in s cs = node_inputs_in (array_in s (codes "children") true) 0 [] cs
 
@@ -133,6 +135,7 @@ children_in s cs = node_inputs_in (array_in s (codes "children") true) 0 [] cs
 abbrev pub dynamic_in : NodeInput → List Data → List Data → List NodeInput
 dynamic_in s cs ds = node_inputs_in (array_in s (codes "dynamic") false) 0 (map segment_in cs) ds
 
+-- the nodes right below a node: the static children, and then the dynamic ones
 abbrev pub below : NodeInput → List NodeInput
 below s =
     children_in s (children_of s.is_static s.value)

@@ -163,6 +163,7 @@ pub record NodeGroup : Type 0 where
   pub levels : ℕ
   pub nodes : List NodeInput
 
+-- the trees of these nodes, before the nodes have their numbers
 abbrev pub trees_of : NodeGroup → List Tree
 trees_of g = map (grown g.levels) g.nodes
 

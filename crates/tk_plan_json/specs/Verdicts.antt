@@ -21,6 +21,7 @@ use Rattle.tk_plan_members.specs.declared.faults.PlanFault.TheVariants.{TooManyR
 use Rattle.tk_plan_members.specs.declared.faults.PlanFault.TheVariants.{EntryKeyTwice}
 use Rattle.tk_plan_json.specs.declared.limits.TheConstants.{MAX_LEVELS}
 
+-- this, where it is true
 abbrev pub when : {A : Type 0} → Bool → A → Option A
 when b x = if b then Some x else None
 
@@ -44,6 +45,7 @@ same_segment a b = bytes_eq a.tag b.tag && bytes_eq a.value b.value
 
 -- ---- checks
 
+-- the place of what is wrong first with a node's members
 abbrev pub node_check : NodeInput → Option (List ℕ)
 node_check s =
     if s.is_static then static_node s.takes_files s.path s.value

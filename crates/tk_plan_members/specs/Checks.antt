@@ -32,24 +32,29 @@ abbrev pub or_else : {A : Type 0} → Option A → Option A → Option A
 or_else (Some x) later = Some x
 or_else None later = later
 
+-- the first that is there
 abbrev pub first : {A : Type 0} → List (Option A) → Option A
 first [] = None
 first (x ∷ rest) = or_else x (first rest)
 
 -- ---- values
 
+-- any text
 abbrev pub text : Check
 text at (string s) = None
 text at _ = Some at
 
+-- one of these texts
 abbrev pub one_of : List (List ℕ) → Check
 one_of names at (string s) = if list_any (bytes_eq s) names then None else Some at
 one_of names at _ = Some at
 
+-- true or false
 abbrev pub truth : Check
 truth at (boolean b) = None
 truth at _ = Some at
 
+-- an array, whatever its items are
 abbrev pub any_array : Check
 any_array at (array ds) = None
 any_array at _ = Some at
@@ -58,6 +63,7 @@ abbrev pub list_of : Items → List Data
 list_of no_items = []
 list_of (item d ds) = d ∷ list_of ds
 
+-- the first of the items that is wrong, counted from i on
 abbrev pub items_wrong : Check → List ℕ → ℕ → List Data → Option (List ℕ)
 items_wrong check at i [] = None
 items_wrong check at i (d ∷ ds) = or_else (check (item_at at i) d) (items_wrong check at (i + 1) ds)
@@ -75,21 +81,26 @@ pair_of check at _ = Some at
 
 -- ---- members
 
+-- a member: its name, whether it has to be there, and the check of its value
 pub record Row : Type 0 where
   pub name : List ℕ
   pub needed : Bool
   pub check : Check
 
+-- a member that has to be there
 abbrev pub must : List ℕ → Check → Row
 must name check = record { name = name; needed = true; check = check }
 
+-- a member that may be missing
 abbrev pub may : List ℕ → Check → Row
 may name check = record { name = name; needed = false; check = check }
 
+-- what is wrong with a member: with its value, or that it is missing
 abbrev pub member_wrong : Row → List ℕ → Option Data → Option (List ℕ)
 member_wrong r at None = if r.needed then Some at else None
 member_wrong r at (Some d) = r.check at d
 
+-- what is wrong with this member of a value
 abbrev pub row : List ℕ → Data → Row → Option (List ℕ)
 row at d r = member_wrong r (member_at at r.name) (get r.name d)
 

@@ -16,6 +16,7 @@ use Rattle.tk_events.specs.declared.statuses.Status.TheVariants.{Successful, Abo
 use Rattle.tk_plan_units.specs.declared.nodes.Lock.{Lock}
 use Rattle.tk_plan_members.specs.Checks.{list_of}
 
+-- a text that has to be there
 abbrev pub json_text : Option Data → List ℕ
 json_text (Some (string s)) = s
 json_text _ = []
@@ -30,6 +31,7 @@ abbrev pub json_truth : Option Data → Bool
 json_truth (Some (boolean b)) = b
 json_truth _ = false
 
+-- a type, by its name
 abbrev pub json_dtype : Option Data → DType
 json_dtype (Some (string s)) =
     if bytes_eq s (codes "container") then Container
@@ -41,6 +43,7 @@ abbrev pub listed : Option Data → List Data
 listed (Some (array ds)) = list_of ds
 listed _ = []
 
+-- the first two items, as texts
 abbrev pub two_texts : List Data → List ℕ × List ℕ
 two_texts (a ∷ b ∷ ds) = (json_text (Some a), json_text (Some b))
 two_texts _ = ([], [])
@@ -94,9 +97,11 @@ abbrev pub put_all : List (List ℕ × List ℕ) → List (List ℕ × List ℕ)
 put_all put [] = put
 put_all put (p ∷ ps) = put_all (insert_entry (slice_cmp nat_cmp) put p.0 p.1) ps
 
+-- the pairs in increasing byte order of their keys
 abbrev pub by_key : List (List ℕ × List ℕ) → List (List ℕ × List ℕ)
 by_key ps = put_all [] ps
 
+-- the pairs of an entry, by their keys
 abbrev pub json_entry : Data → List (List ℕ × List ℕ)
 json_entry d = by_key (written d)
 

@@ -57,9 +57,11 @@ members_view ms = members_data (borrowed.members_view ms) no_members
 abbrev pub IsInRange : json.Json → Type 0
 IsInRange j = of_json j ≡ Some (data_of j)
 
+-- each number in the items is in range
 abbrev pub AreItemsInRange : json.Items → Type 0
 AreItemsInRange js = of_items js ≡ Some (items_data js)
 
+-- each number in the members is in range
 abbrev pub AreMembersInRange : json.Members → Type 0
 AreMembersInRange ms = (found : Members) → of_members ms found ≡ Some (members_data ms found)
 

@@ -19,11 +19,13 @@ use Rattle.tk_plan_members.specs.declared.member_values.Reports.{Reports}
 abbrev pub has_key : List ℕ → List (List ℕ × List ℕ) → Bool
 has_key k es = is_some (lookup (is_at (slice_cmp nat_cmp k)) es)
 
+-- the status and the message of a result, which a finish may have
 pub record IsNodeResult (d : Option Data) (e : NodeResult) : Type 0 where
   pub status : e.status ≡ status_in d
   pub message : e.message ≡ message_in d
   pub lawful : is_lawful Finished (Outcome e.status e.message) ≡ true
 
+-- the pairs of an entry by their keys, and whether a key stands there twice
 pub record IsReport (d : Data) (r : Report) : Type 0 where
   pub pairs : r.pairs ≡ json_entry d
   pub increasing : is_strictly_increasing r.pairs ≡ true
@@ -34,11 +36,13 @@ pub record IsOnlyPair (pair : Data) (r : Report) : Type 0 where
   pub pairs : r.pairs ≡ json_pair (Some pair) ∷ []
   pub repeats : r.repeats ≡ false
 
+-- the pairs of the entries, and whether an entry has a key twice
 pub record AreReports (ds : List Data) (r : Reports) : Type 0 where
   pub entries : r.entries ≡ map json_entry ds
   pub increasing : list_all is_strictly_increasing r.entries ≡ true
   pub repeats : r.repeats ≡ list_any repeats_in ds
 
+-- the paths of the files, which may be published
 pub record AreFiles (takes_files : Bool) (d : Data) (files : List (List ℕ)) : Type 0 where
   pub paths : files ≡ files_of takes_files d
   pub lawful : list_all (λ p. is_lawful File (Path p)) files ≡ true

@@ -25,6 +25,7 @@ isolated_row = may (codes "isolated") truth
 abbrev pub lock_mode_row : Row
 lock_mode_row = may (codes "mode") (one_of (codes "read" ∷ codes "read_write" ∷ []))
 
+-- a lock has a key, and maybe a mode
 abbrev pub lock : Check
 lock = object_of (must (codes "key") text ∷ lock_mode_row ∷ [])
 
@@ -52,6 +53,7 @@ message_wrong at d =
     if succeeds (get (codes "status") d) && is_some (get (codes "message") d)
     then Some (member_at at (codes "message")) else None
 
+-- a result has a status, and maybe a message where it is not a success
 abbrev pub result : Check
 result at d = or_else (object_of (status_row ∷ message_row ∷ []) at d) (message_wrong at d)
 

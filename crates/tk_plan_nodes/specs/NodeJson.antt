@@ -38,18 +38,22 @@ json_pair p = json_array (string p.0 ∷ string p.1 ∷ [])
 
 -- ---- members that are left out where they would say what a plan takes where they are missing
 
+-- an array, left out where it is empty
 abbrev pub array_members : List ℕ → List Json → List NamedJson
 array_members name [] = []
 array_members name (j ∷ js) = (name, json_array (j ∷ js)) ∷ []
 
+-- a text, left out where there is none
 abbrev pub text_members : List ℕ → Option (List ℕ) → List NamedJson
 text_members name None = []
 text_members name (Some text) = (name, string text) ∷ []
 
+-- the mode, left out where the node runs in its parent's thread
 abbrev pub mode_members : ExecutionMode → List NamedJson
 mode_members SameThread = []
 mode_members Concurrent = (codes "mode", string (codes "concurrent")) ∷ []
 
+-- whether the node is isolated, left out where it isn't
 abbrev pub isolated_members : Bool → List NamedJson
 isolated_members false = []
 isolated_members true = (codes "isolated", boolean true) ∷ []
@@ -90,6 +94,7 @@ entry_json pairs = json_array (map json_pair pairs)
 
 -- ---- nodes
 
+-- the members that each node has to have
 abbrev pub heading_members : {A : Type 0} → NodeView A → List NamedJson
 heading_members n =
     (codes "type", string (dtype_word n.dtype))
@@ -110,6 +115,7 @@ content_members n =
     ++ array_members (codes "entries") (map entry_json n.entries)
     ++ array_members (codes "files") (map string n.files)
 
+-- the object of a node, given the objects of those below it
 abbrev pub view_json : NodeView Json → Json
 view_json n =
     json_object (heading_members n ++ concurrency_members n ++ content_members n

@@ -12,6 +12,7 @@ use Rattle.tk_plan_units.specs.Trees.{Tree, tree, Forest, no_trees, more, number
 use Rattle.tk_plan_units.specs.Script.{move, moves, moves_below, opening, stamped}
 use Rattle.tk_plan_units.specs.Events.{opening_events, finish_event}
 
+-- nothing stands below the node
 abbrev pub is_leaf : Forest → Bool
 is_leaf no_trees = true
 is_leaf (more t f) = false
@@ -21,6 +22,7 @@ abbrev pub all_concurrent : Forest → Bool
 all_concurrent no_trees = true
 all_concurrent (more (tree n k g) f) = (n.is_static && n.is_concurrent) && all_concurrent f
 
+-- no tree's node is dynamic
 abbrev pub all_static : Forest → Bool
 all_static no_trees = true
 all_static (more (tree n k g) f) = n.is_static && all_static f
@@ -55,11 +57,13 @@ abbrev mutual
   parts_below is_root no_trees = []
   parts_below is_root (more t f) = parts is_root t ++ parts_below is_root f
 
+-- what happens in a part, in its order
 abbrev pub moves_of : Part → List Move
 moves_of (spine_begins n k) = opening n k
 moves_of (whole_unit t) = moves t
 moves_of (spine_ends n k) = move k Finish ∷ []
 
+-- the number of a spine node, where it begins
 abbrev pub spine_numbers : Part → List ℕ
 spine_numbers (spine_begins n k) = k ∷ []
 spine_numbers (whole_unit t) = []
@@ -70,6 +74,7 @@ pub record Piece : Type 0 where
   pub tree : Tree
   pub first : ℕ
 
+-- the unit that a part is, if it is one, after so many events
 abbrev pub piece : ℕ → Part → List Piece
 piece i (spine_begins n k) = []
 piece i (whole_unit t) = record { tree = t; first = i } ∷ []
@@ -94,12 +99,15 @@ end_events i (spine_ends n k) = finish_event k i n ∷ []
 
 -- What follows takes a forest with the root alone.
 
+-- the numbers of the spine's nodes, in preorder
 abbrev pub spine_of : Forest → List ℕ
 spine_of root = flat_map spine_numbers (parts_below true root)
 
+-- the units, in the order of the root's script
 abbrev pub pieces_of : Forest → List Piece
 pieces_of root = from_each piece 0 (parts_below true root)
 
+-- the numbers of the units' top nodes
 abbrev pub units_of : Forest → List ℕ
 units_of root = map (λ u. number_of u.tree) (pieces_of root)
 
@@ -111,10 +119,12 @@ before_of root = from_each begin_events 0 (parts_below true root)
 abbrev pub after_of : Forest → List Event
 after_of root = from_each end_events 0 (parts_below true root)
 
+-- what a unit does, with the stamps that it has in the root's script
 abbrev pub steps_of : Option Piece → List Step
 steps_of None = []
 steps_of (Some u) = stamped u.first (moves u.tree)
 
+-- the script of the unit with this number, empty where there is none
 abbrev pub script_of : Forest → ℕ → List Step
 script_of root u = steps_of (slice_get (pieces_of root) u)
 

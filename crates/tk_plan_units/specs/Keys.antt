@@ -10,9 +10,11 @@ abbrev pub note_key : List (List ℕ) → List ℕ → List (List ℕ)
 note_key keys key =
     if bytes_eq key (codes "global") || list_any (bytes_eq key) keys then keys else keys ++ key ∷ []
 
+-- the keys with those of some locks
 abbrev pub note_locks : List (List ℕ) → List Lock → List (List ℕ)
 note_locks keys [] = keys
 note_locks keys (l ∷ ls) = note_locks (note_key keys l.key) ls
 
+-- the lock keys of some nodes, by first appearance
 abbrev pub lock_keys : List Node → List (List ℕ)
 lock_keys ns = note_locks [] (flat_map (λ n. n.locks) ns)

@@ -34,6 +34,7 @@ pub record IsKeyed (table : List Descriptor) (p : NumberedNode) (id : List Segme
   pub static : p.node.is_static ≡ true → slice_get table p.number ≡ Some (descriptor id p.node)
   pub dynamic : p.node.is_static ≡ false → ¬ HasId table id
 
+-- the table has each static node under its number, and no dynamic one
 abbrev pub HasKeys : Type 0
 HasKeys =
     (nodes : List NumberedNode) (table : List Descriptor) → IsPlanned nodes table → IsNumbered nodes

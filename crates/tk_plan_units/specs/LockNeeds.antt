@@ -12,6 +12,7 @@ abbrev pub key_index : List (List ℕ) → List ℕ → Option ℕ
 key_index [] key = None
 key_index (k ∷ ks) key = if bytes_eq k key then Some 0 else option_map suc (key_index ks key)
 
+-- the resource of a lock key: 0 for `global`, and from 1 on those of the list
 abbrev pub resource : List (List ℕ) → List ℕ → Option ℕ
 resource keys key =
     if bytes_eq key (codes "global") then Some 0 else option_map suc (key_index keys key)
@@ -24,14 +25,17 @@ over reads reads = reads
 over reads nothing = reads
 over writes b = writes
 
+-- a write where it is true, else a read
 abbrev pub access_for : Bool → Access
 access_for true = writes
 access_for false = reads
 
+-- an ask of one resource, and nothing of any other
 abbrev pub at_resource : Option ℕ → Access → ℕ → Access
 at_resource None a r = nothing
 at_resource (Some k) a r = if k == r then a else nothing
 
+-- what some locks ask of a resource
 abbrev pub lock_asks : List (List ℕ) → List Lock → ℕ → Access
 lock_asks keys [] r = nothing
 lock_asks keys (l ∷ ls) r =
@@ -42,6 +46,7 @@ abbrev pub node_asks : List (List ℕ) → Node → ℕ → Access
 node_asks keys n r =
     over (at_resource (Some 0) (access_for n.is_isolated) r) (lock_asks keys n.locks r)
 
+-- what some nodes together ask of a resource
 abbrev pub nodes_ask : List (List ℕ) → List Node → ℕ → Access
 nodes_ask keys [] r = nothing
 nodes_ask keys (n ∷ ns) r = over (node_asks keys n r) (nodes_ask keys ns r)

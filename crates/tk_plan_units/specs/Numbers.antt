@@ -28,9 +28,11 @@ numbered_from s d (p ∷ ps) =
 abbrev pub numbered : List NumberedNode → List NumberedNode
 numbered ps = numbered_from 0 (length (of_kind true ps)) ps
 
+-- the nodes have their numbers
 abbrev pub IsNumbered : List NumberedNode → Type 0
 IsNumbered ps = ps ≡ numbered ps
 
+-- the first node, if there is one
 abbrev pub top_node : List NumberedNode → List Node
 top_node [] = []
 top_node (p ∷ ps) = p.node ∷ []

@@ -4,9 +4,11 @@ use Rattle.tk_plan_units.specs.declared.nodes.Node.{Node}
 use Rattle.tk_plan_units.specs.declared.nodes.NumberedNode.{NumberedNode}
 
 mutual
+  -- a node with its number, and the trees below it
   pub data Tree : Type 0 where
     tree : Node → ℕ → Forest → Tree
 
+  -- trees, one after another
   pub data Forest : Type 0 where
     no_trees : Forest
     more : Tree → Forest → Forest
@@ -51,9 +53,11 @@ pub record IsSplit (p : NumberedNode) (after below others : List NumberedNode) :
   pub second : IsForest others
   pub trees : forest (p ∷ after) ≡ more (tree p.node p.number (forest below)) (forest others)
 
+-- the number of the tree's top node
 abbrev pub number_of : Tree → ℕ
 number_of (tree n k f) = k
 
+-- what the plan says of the nodes, without their numbers
 abbrev pub contents : List NumberedNode → List Node
 contents = map (λ p. p.node)
 
