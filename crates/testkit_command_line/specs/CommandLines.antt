@@ -27,6 +27,7 @@ use Rattle.testkit_command_line.specs.declared.faults.CommandLineFault.TheVarian
 abbrev pub IsAskLine : List (List ℕ) → List (List ℕ) → Type 0
 IsAskLine words question = (name : List ℕ) × (words ≡ name ∷ codes "ask" ∷ question)
 
+-- the words are the line of no question
 abbrev pub IsNoAskLine : List (List ℕ) → Type 0
 IsNoAskLine words = (question : List (List ℕ)) → ¬ IsAskLine words question
 

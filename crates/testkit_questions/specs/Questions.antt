@@ -59,6 +59,7 @@ expecting e selection n =
     then Some (with_expected selection n e)
     else None
 
+-- the word is NAME=N, and N has at most 64 bits
 pub record IsExpectation (word : List ℕ) (selection : Selection) (n : ℕ) : Type 0 where
   pub number : n < 2 ^ 64
   pub word_is : word ≡ expectation_word selection n

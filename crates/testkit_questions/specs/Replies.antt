@@ -6,6 +6,7 @@ use Rattle.testkit_questions.specs.declared.replies.Reply.{Reply}
 use Rattle.testkit_questions.specs.declared.replies.Reply.TheVariants as replies
 use Rattle.testkit_questions.specs.Answers.{execution_line}
 
+-- an answer may be yes or no; executions, events and a report are always yes
 abbrev pub reply_is_yes : Reply → Bool
 reply_is_yes (replies.Whole answer) = answer.is_yes
 reply_is_yes (replies.Executions xs) = true

@@ -29,6 +29,7 @@ WordWasLoaded st old x new =
     (new ≡ (seat_note old.0.seats old.0.held (old.0.seen ++ x ∷ []), old.1))
     × ((r : ℕ) → r < 16 → sum_by (λ h. held_lane h r) old.0.held ≤ lane_at x r)
 
+-- the need that a step was given, if it was given one
 abbrev pub need_of_operand : maybe.Option NeedView → Option NeedView
 need_of_operand maybe.none = None
 need_of_operand (maybe.some n) = Some n

@@ -10,6 +10,7 @@ abbrev pub mask : ℕ → (ℕ → Bool) → ℕ
 mask zero f = 0
 mask (suc k) f = (if f 0 then 1 else 0) + 2 * mask k (λ i. f (suc i))
 
+-- a read, and no write
 abbrev pub is_read : Access → Bool
 is_read nothing = false
 is_read reads = true

@@ -14,6 +14,7 @@ claim_view table limits = record { table = table; limit = limits.limit; seats = 
 abbrev pub view_of : claim.Inside → ClaimView
 view_of c = claim_view c.table.shared.table_id c.table.shared.key
 
+-- a table of one word, with a limit of 32 bits and 1 to `MAX_WORKERS` seats
 pub record IsClaim (c : claim.Inside) : Type 0 where
   pub limit_same : c.limit ≡ c.table.shared.key.limit
   pub one_word : c.table.shared.table_id.words ≡ 1
@@ -29,6 +30,7 @@ seat_view_of s = record {
   spent = s.spent;
 }
 
+-- one seat of the table, whose view has the numbers that it drew and whether it is spent
 pub record IsClaimant (s : seat.Inside) : Type 0 where
   pub one_part : s.seat.me.0.parts ≡ 1
   pub no_slot : s.seat.me.1 ≡ []

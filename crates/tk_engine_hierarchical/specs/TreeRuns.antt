@@ -138,6 +138,7 @@ module _ (table : List Descriptor) (may_run : TestRuns) where
     pub children : below (after_publishing n key (plan_state ran started.next)) left
     pub finish : FinishesNode n key end left new
 
+  -- a node with a reason is skipped, and nothing below it runs; any other node runs
   abbrev pub RunsOrSkips :
       Option (List ℕ) → Node → ℕ → (PlanState → PlanState → Type 0) → PlanState → PlanState
       → Type 0

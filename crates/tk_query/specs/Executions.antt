@@ -29,6 +29,7 @@ pub record IsSkip (steps : ℕ → Option ExecutionStep) (x : Execution) : Type 
   pub skips : steps x.last ≡ Some (record { key = x.key; stamp = x.stop; transition = Skips })
   pub ending : x.ending ≡ Skipped
 
+-- a skip, or a start and its finish
 abbrev pub IsExecution : (ℕ → Option ExecutionStep) → Execution → Type 0
 IsExecution steps x = IsSkip steps x ⊎ IsSpan steps x
 

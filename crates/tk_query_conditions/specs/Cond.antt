@@ -29,6 +29,7 @@ pub data Pairs : Type 0 where
   MorePairs : Pairs → List ℕ → List ℕ → Pairs
 
 mutual
+  -- a condition of an event
   pub data Cond : Type 0 where
     Plain : Bare → Cond
     With : TextAtom → List ℕ → Cond

@@ -81,6 +81,7 @@ pub data OpenGroup : Type 0 where
   OpenAll : Conds → OpenGroup
   OpenAny : Conds → OpenGroup
 
+-- where the reading stands in a text, with the open brackets, the last one first
 pub data State : Type 0 where
   -- in a word, or where a condition may begin
   Word : List OpenGroup → List ℕ → State
