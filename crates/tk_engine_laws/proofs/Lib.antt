@@ -21,3 +21,6 @@ pub mod Samples
 pub mod Playing
 pub mod Finding
 pub mod Running
+pub mod SpineEvents
+pub mod SpinePlaces
+pub mod SpineLifecycle

@@ -6,4 +6,5 @@ pub use Rattle.tk_engine_runs.specs.Run
 pub mod Scripts
 pub mod Reports
 pub mod Listening
+pub mod Spines
 pub mod Laws

@@ -1,4 +1,5 @@
 //! Laws of runs of plans, which hold of the definitions alone.
+ghost use Rattle.tk_engine_laws.specs.Spines.{NodesArePlaced, SpineEmits, SpineKeepsLifecycle, SpineRuns};
 ghost use Rattle.tk_engine_laws.specs.Laws.{StampsArePositions, ScriptsArePlayable, NodesAreFound, ReportIsUnique, Listener, ListenerByKey, RunsKeepLifecycle, RunsAreKept};
 
 use tk_query_lifecycle::laws::{kept_by_its_events, lifecycle_is_unique};
@@ -43,3 +44,13 @@ pub fn lifecycle()
     kept_by_its_events();
     lifecycle_is_unique();
 }
+
+/// Each static node of a plan stands on the spine or in one unit. Before the units and after them
+/// there are lawful events of the spine, which register nothing, and keep the lifecycle by
+/// themselves; between them each node on the spine runs.
+pub fn spine()
+    ensures places { NodesArePlaced }
+    ensures emits { SpineEmits }
+    ensures runs { SpineRuns }
+    ensures keeps { SpineKeepsLifecycle }
+{}
