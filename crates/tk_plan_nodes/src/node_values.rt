@@ -86,9 +86,10 @@ fn heading<'t>(alloc: Global, node: &PlanNode<'t>) -> Result<Members<'t>, AllocE
     ensures { IfOk result (λ ms. named ms.items ≡ heading_members (node_view node.now)) }
 {
     let mut members = Vec::new(alloc);
-    members.push(("type", Value::String(dtype_word(node.dtype))))?;
-    members.push(("segment", pair_value(alloc, node.tag, node.value)?))?;
-    members.push(("name", Value::String(node.name)))?;
+    push_member(&mut members, "type", Value::String(dtype_word(node.dtype)))?;
+    let segment = pair_value(alloc, node.tag, node.value)?;
+    push_member(&mut members, "segment", segment)?;
+    push_member(&mut members, "name", Value::String(node.name))?;
     Ok(members)
 }
 
