@@ -15,9 +15,9 @@ pub mod queue;
 pub mod record;
 
 pub use engine::{
-    Body, BookSeat, Engine, Hierarchical, HierarchicalFault, Need, Outcome, Reporter, Results,
-    RunFault, Sink, Tests, UnitFault, UnitRun, emit, execute, file_published, finish, finished,
-    publish_file, register, report, reported, skip, skipped, start, started,
+    Body, BookSeat, Engine, Hierarchical, Need, Outcome, Reporter, Results, RunFault, Sink, Tests,
+    UnitFault, UnitRun, emit, execute, file_published, finish, finished, publish_file, register,
+    report, reported, skip, skipped, start, started,
 };
 pub use plans::{ExecutionMode, LockMode, Plan, PlanFault, PlanNode, build_plan};
 pub use questions::{

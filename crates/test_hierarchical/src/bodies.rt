@@ -3,10 +3,10 @@ use std::alloc::{AllocError, Global};
 use std::sync::Wait;
 use std::sync::atomic::{AtomicU64, Ordering};
 use std::thread::Threads;
-use test_support::{are_shown_as, is_written_as};
+use test_support::is_written_as;
 use tk_engine::{Results, RunFault, Sink, UnitFault, execute};
 use tk_engine_hierarchical::{
-    Body, Hierarchical, HierarchicalFault, OUT_OF_ORDER, Outcome, Reporter, TWICE, Tests, UnitRun,
+    Body, Hierarchical, OUT_OF_ORDER, Outcome, Reporter, TWICE, Tests, UnitRun,
 };
 use tk_events::Pairs;
 use tk_ids::{Segment, Text};
@@ -297,20 +297,6 @@ fn faults_of_a_unit(rt: HostRuntime) {
 fn numbers_of_faults(rt: HostRuntime) {
     assert!(rt; OUT_OF_ORDER == 4_294_967_295);
     assert!(rt; TWICE == 4_294_967_294);
-}
-
-// Whether the faults of making an engine have their texts.
-fn show_faults(alloc: Global) -> bool {
-    let rows = [
-        (HierarchicalFault::Lifecycle, "plan breaks the lifecycle"),
-        (HierarchicalFault::Memory, "out of memory"),
-    ];
-    are_shown_as(alloc, &rows)
-}
-
-#[test]
-fn texts_of_faults(rt: HostRuntime) {
-    assert!(rt; show_faults(rt.alloc()));
 }
 
 // Tests that count who is inside: none may find another there.

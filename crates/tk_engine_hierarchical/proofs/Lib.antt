@@ -2,6 +2,7 @@ pub mod Emitted
 pub mod Nested
 pub mod Nesting
 pub mod Owned
+pub mod Owning
 pub mod Played
 pub mod Recorded
 pub mod Reported

@@ -75,17 +75,17 @@ of_worker_mid may table before after units workers r run w low =
     ∙ append-nil (of_worker w run.mid)
 
 pub units_nest : (s : ShapeView) (may_step : Event → Type 0) (workers : ℕ) (r : Recorded) → UnitsKeepLifecycle (frame s) (may_emit s may_step)
-    → IsRun (may_emit s may_step) s.table s.before s.after s.units workers r → IsRecord r → UnitsNest r
+    → IsRun (may_emit s may_step) (frame s).table (frame s).before (frame s).after (frame s).units workers r → IsRecord r → UnitsNest r
 units_nest s may_step workers r units run lawful w low =
     let M : ℕ → ℕ → ℕ → List Event → Type 0 = may_emit s may_step in
     let c = kept_run (frame s) M workers r units run lawful in
-    let t = turned M s.units workers run.mid run.shared in
-    let whole : Recorded = record { table = s.table; entries = r.entries } in
+    let t = turned M (frame s).units workers run.mid run.shared in
+    let whole : Recorded = record { table = s.plan.table; entries = r.entries } in
     let same : whole ≡ r = ap (λ table. record { table = table; entries = r.entries }) (sym run.over) in
     let each : Each (λ x. EventsNest whole x.list × EachFinishes x.list) (filter (is_by w) c.ts) = λ p x q is.
     let u = unfiltered (is_by w) c.ts p x q is in
     let m = t.each u.prefix x u.suffix u.is in
     (nest_there (frame s) r.entries c u.prefix x u.suffix u.is m.1.1.nest, m.1.1.finish) in
-    let list = of_worker_mid M s.table s.before s.after s.units workers r run w low in
+    let list = of_worker_mid M (frame s).table (frame s).before (frame s).after (frame s).units workers r run w low in
     subst (λ v. EventsNest v (of_worker w r.entries)) same
     (subst (EventsNest whole) (c.emits w ∙ sym list) (turns_nest whole (filter (is_by w) c.ts) each))

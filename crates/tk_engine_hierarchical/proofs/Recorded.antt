@@ -25,7 +25,7 @@ use Rattle.tk_engine_lifecycle.proofs.Apart.{other_first, own_first}
 use Rattle.tk_engine_hierarchical.specs.Covered.{IsCovered}
 use Rattle.tk_engine_hierarchical.specs.Endings.{EndsAsItMay, IsStaticTest}
 use Rattle.tk_engine_hierarchical.specs.Laws.{FollowsPlan, HasOutcomes, HasTurn, HaveTurns}
-use Rattle.tk_engine_hierarchical.specs.Shapes.{HavePlaces, IsInUnit, ShapeView, may_emit}
+use Rattle.tk_engine_hierarchical.specs.Shapes.{HavePlaces, IsInUnit, ShapeView, frame, may_emit}
 use Rattle.tk_engine_hierarchical.specs.Steps.{FitsPlan, StepsAs}
 use Rattle.tk_engine_hierarchical.specs.declared.tests.Outcome.{Outcome}
 use Rattle.tk_engine_hierarchical.proofs.Played.{any-append, any_kept, covered_by, or_cases, or_left, or_right}
@@ -230,10 +230,10 @@ around_none Q [] = All-nil (λ (x : Entry). 0 < x.worker → Q x.event)
 around_none Q (e ∷ es) = All-cons (λ (x : Entry). 0 < x.worker → Q x.event) (entry_by 0 e) (entries_by 0 es) (λ h. absurd (omega (arith, h))) (around_none Q es)
 
 pub has_steps : (s : ShapeView) (may_step : Event → Type 0) (before after : List Event) (units workers : ℕ) (r : Recorded)
-    → IsRun (may_emit s may_step) s.table before after units workers r
+    → IsRun (may_emit s may_step) s.plan.table before after units workers r
     → All (λ (x : Entry). 0 < x.worker → StepsAs r.table may_step x.event) r.entries
 has_steps s may_step before after units workers r run =
-    let Q : Event → Type 0 = StepsAs s.table may_step in
+    let Q : Event → Type 0 = StepsAs s.plan.table may_step in
     let P : Entry → Type 0 = λ x. 0 < x.worker → Q x.event in
     let mid = all_emitted (may_emit s may_step) Q (λ u w k l m. m.steps) units workers run.mid run.shared in
     subst (λ t. All (λ (x : Entry). 0 < x.worker → StepsAs t may_step x.event) r.entries) (sym run.over)
@@ -324,16 +324,16 @@ first_part true b e = refl
 first_part false b e = cc
 
 pub have_turns : (s : ShapeView) (may_step : Event → Type 0) (after : List Event) (workers : ℕ) (r : Recorded) → HavePlaces s
-    → IsRun (may_emit s may_step) s.table s.before after s.units workers r
+    → IsRun (may_emit s may_step) s.plan.table (frame s).before after (frame s).units workers r
     → KeepsLifecycle r → HaveTurns r
 have_turns s may_step after workers r places run keeps key low =
     let M : ℕ → ℕ → ℕ → List Event → Type 0 = may_emit s may_step in
-    let e0 = entries_by 0 s.before in
+    let e0 = entries_by 0 (frame s).before in
     let e1 = entries_by 0 after in
-    let covered : IsCovered s.table r.entries key = ⊎_elim
-    (λ (u : IsInUnit s.units s.firsts s.ends key).
-    let ran = unit_ran M s.units workers run.mid run.shared u.0 u.1 in
-    covered_by s.table (entries_by ran.worker ran.list) r.entries
+    let covered : IsCovered s.plan.table r.entries key = ⊎_elim
+    (λ (u : IsInUnit s key).
+    let ran = unit_ran M (frame s).units workers run.mid run.shared u.0 u.1 in
+    covered_by s.plan.table (entries_by ran.worker ran.list) r.entries
     (λ kind k h. subst (λ l. has_event kind k l ≡ true) (sym run.whole) (any_in kind k e0 run.mid e1 (ran_within M u.0 run.mid ran kind k h)))
     key (ran.may_be.covered key u.2 u.3))
     (λ h. inl (or_left (has_event Started key r.entries) (has_event Skipped key r.entries)

@@ -285,30 +285,30 @@ parent_above table key above id is p =
 
 -- the innermost key that runs is that of an id's parent
 pub innermost_parent : (s : ShapeView) (running rest : List RunningKey) (k : RunningKey) (above : ℕ) (id : List SegmentView) → running ≡ k ∷ rest
-    → k.key ≡ above → (1 < length id) × (slice_get (ids_of s.table) above ≡ Some (parent_of id)) → HasInnermostParent (frame s) (keys_of (with_ids s.table running)) id
+    → k.key ≡ above → (1 < length id) × (slice_get (ids_of s.plan.table) above ≡ Some (parent_of id)) → HasInnermostParent (frame s) (keys_of (with_ids s.plan.table running)) id
 innermost_parent s running rest k above id is same p =
-    subst (λ (ks : List RunningKey). HasInnermostParent (frame s) (keys_of (with_ids s.table ks)) id) (sym is)
-    (p.0, subst (λ n. slice_get (ids_of s.table) n ≡ Some (parent_of id)) (sym same) p.1)
+    subst (λ (ks : List RunningKey). HasInnermostParent (frame s) (keys_of (with_ids s.plan.table ks)) id) (sym is)
+    (p.0, subst (λ n. slice_get (ids_of s.plan.table) n ≡ Some (parent_of id)) (sym same) p.1)
 
 pub innermost_among : (s : ShapeView) (running rest : List RunningKey) (k : RunningKey) (above : ℕ) (id : List SegmentView) → running ≡ k ∷ rest
-    → k.key ≡ above → (1 < length id) × (slice_get (ids_of s.table) above ≡ Some (parent_of id)) → HasParentAmong (frame s) (keys_of (with_ids s.table running)) id
+    → k.key ≡ above → (1 < length id) × (slice_get (ids_of s.plan.table) above ≡ Some (parent_of id)) → HasParentAmong (frame s) (keys_of (with_ids s.plan.table running)) id
 innermost_among s running rest k above id is same p = λ more. (
   k.key,
-  subst (λ n. slice_get (ids_of s.table) n ≡ Some (parent_of id)) (sym same) p.1,
-  inl (innermost_is (with_ids s.table running) (with_ids s.table rest) (with_id s.table k) (ap (with_ids s.table) is)),
+  subst (λ n. slice_get (ids_of s.plan.table) n ≡ Some (parent_of id)) (sym same) p.1,
+  inl (innermost_is (with_ids s.plan.table running) (with_ids s.plan.table rest) (with_id s.plan.table k) (ap (with_ids s.plan.table) is)),
 )
 
 -- no key runs
-pub none_innermost : (s : ShapeView) (running : List RunningKey) (id : List SegmentView) → running ≡ [] → HasInnermostParent (frame s) (keys_of (with_ids s.table running)) id
-none_innermost s running id is = subst (λ (ks : List RunningKey). HasInnermostParent (frame s) (keys_of (with_ids s.table ks)) id) (sym is) tt
+pub none_innermost : (s : ShapeView) (running : List RunningKey) (id : List SegmentView) → running ≡ [] → HasInnermostParent (frame s) (keys_of (with_ids s.plan.table running)) id
+none_innermost s running id is = subst (λ (ks : List RunningKey). HasInnermostParent (frame s) (keys_of (with_ids s.plan.table ks)) id) (sym is) tt
 
 -- a static key whose owner is the unit, and whose parent runs, may start
-pub may_start : (s : ShapeView) (unit key : ℕ) (running : List RunningId) (d : Descriptor) → AreDifferent s.table → slice_get s.table key ≡ Some d
-    → get_or s.owners key s.units ≡ unit → HasParentAmong (frame s) (keys_of running) d.id → HasInnermostParent (frame s) (keys_of running) d.id → MayStart (frame s) unit (keys_of running) key
+pub may_start : (s : ShapeView) (unit key : ℕ) (running : List RunningId) (d : Descriptor) → AreDifferent s.plan.table → slice_get s.plan.table key ≡ Some d
+    → get_or s.owners key (frame s).units ≡ unit → HasParentAmong (frame s) (keys_of running) d.id → HasInnermostParent (frame s) (keys_of running) d.id → MayStart (frame s) unit (keys_of running) key
 may_start s unit key running d different is owner parent innermost = record {
   descriptor = d;
   described = is;
-  belongs = owner_static s.table s.owners s.units key d.id different (described_here s.table key d is) ∙ owner;
+  belongs = owner_static s.plan.table s.owners (frame s).units key d.id different (described_here s.plan.table key d is) ∙ owner;
   parent = parent;
   innermost = innermost;
 }
@@ -347,9 +347,9 @@ skipped f unit start old now running registered next after key e sent more kind 
 
 -- what may start in a shape of the engine may start in its frame
 pub may_here : (s : ShapeView) (f : Frame) (u unit key : ℕ) (running : List RunningKey) → frame s ≡ f → u ≡ unit
-    → MayStart (frame s) u (keys_of (with_ids s.table running)) key → MayStart f unit (keys_of (with_ids f.table running)) key
+    → MayStart (frame s) u (keys_of (with_ids s.plan.table running)) key → MayStart f unit (keys_of (with_ids f.table running)) key
 may_here s f u unit key running a b m =
-    subst (λ (g : Frame). MayStart g unit (keys_of (with_ids g.table running)) key) a (subst (λ v. MayStart (frame s) v (keys_of (with_ids s.table running)) key) b m)
+    subst (λ (g : Frame). MayStart g unit (keys_of (with_ids g.table running)) key) a (subst (λ v. MayStart (frame s) v (keys_of (with_ids s.plan.table running)) key) b m)
 
 -- a static key has its id in the table
 pub static_is : (f : Frame) (unit key : ℕ) (running : List ℕ) → MayStart f unit running key → slice_get (ids_of f.table) key ≡ Some (id_at f.table key)
@@ -357,7 +357,7 @@ static_is f unit key running m =
     let is = described_here f.table key m.descriptor m.described in
     is ∙ ap (λ i. Some i) (sym (ap (λ o. unwrap_or o []) is))
 
-pub id_here : (s : ShapeView) (f : Frame) (key : ℕ) (id : List SegmentView) → frame s ≡ f → slice_get (ids_of s.table) key ≡ Some id → slice_get (ids_of f.table) key ≡ Some id
+pub id_here : (s : ShapeView) (f : Frame) (key : ℕ) (id : List SegmentView) → frame s ≡ f → slice_get (ids_of s.plan.table) key ≡ Some id → slice_get (ids_of f.table) key ≡ Some id
 id_here s f key id a e = ap (λ (g : Frame). slice_get (ids_of g.table) key) (sym a) ∙ e
 
 -- ---- registrations
@@ -419,7 +419,7 @@ pub ran_registration : (s : ShapeView) (unit : ℕ) (start old now : SenderView)
     (first : RunningId) (id : List SegmentView) (ask : RegisterRequest)
     → IsRunning (frame s) unit start old running registered next → running ≡ first ∷ rest → IsRegisteredAs old now ask (Ok key)
     → ask.parent ≡ first.key → id ≡ first.id ++ ask.segment ∷ []
-    → ¬ TableHasId s.table id → is_registered registered (id_text id) ≡ false
+    → ¬ TableHasId s.plan.table id → is_registered registered (id_text id) ≡ false
     → ((text : List ℕ) → is_registered noted text ≡ (bytes_eq text (id_text id) || is_registered registered text))
     → HasRegistered (frame s) unit start now running noted next key id
 ran_registration s unit start old now running rest registered noted next key first id ask r is a parent made static fresh all =
@@ -444,9 +444,9 @@ ran_registration s unit start old now running rest registered noted next key fir
       above_is = there;
       segment = ask.segment;
       child = refl;
-      not_static = subst (λ x. ¬ TableHasId s.table x) (sym id_is) static;
+      not_static = subst (λ x. ¬ TableHasId s.plan.table x) (sym id_is) static;
       not_registered = subst (λ x. is_registered registered (id_text x) ≡ false) (sym id_is) fresh;
-      owner = owner_child s.table s.owners s.units above.id ask.segment (subst (λ x. ¬ TableHasId s.table x) (sym id_is) static);
+      owner = owner_child s.plan.table s.owners (frame s).units above.id ask.segment (subst (λ x. ¬ TableHasId s.plan.table x) (sym id_is) static);
     } in
     let done = emitted_registration f unit start old (progress running registered next) e d i g (is_registered noted) (noted_more registered noted (id_text id) all)
     (subst (λ x. is_registered noted (id_text x) ≡ true) (sym id_is) (noted_own registered noted (id_text id) all)) in
@@ -525,7 +525,7 @@ pub registered_child : (s : ShapeView) (f : Frame) (unit : ℕ) (start old now :
     (first : RunningId) (id : List SegmentView) (ask : RegisterRequest) → frame s ≡ f
     → IsRunning f unit start old running registered next → running ≡ first ∷ rest → IsRegisteredAs old now ask (Ok key)
     → ask.parent ≡ first.key → id ≡ first.id ++ ask.segment ∷ []
-    → ¬ TableHasId s.table id → is_registered registered (id_text id) ≡ false
+    → ¬ TableHasId s.plan.table id → is_registered registered (id_text id) ≡ false
     → ((text : List ℕ) → is_registered noted text ≡ (bytes_eq text (id_text id) || is_registered registered text))
     → HasRegistered f unit start now running noted next key id
 registered_child s f unit start old now running rest registered noted next key first id ask same r is a parent made static fresh all =
@@ -536,8 +536,8 @@ registered_child s f unit start old now running rest registered noted next key f
 pub registered_below : (s : ShapeView) (f : Frame) (unit : ℕ) (start old now : SenderView) (running rest : List RunningKey) (registered noted : List (List ℕ × ℕ)) (next key : ℕ)
     (first : RunningKey) (id : List SegmentView) (ask : RegisterRequest) → frame s ≡ f
     → IsRunning f unit start old (with_ids f.table running) registered next → running ≡ first ∷ rest → IsRegisteredAs old now ask (Ok key)
-    → ask.parent ≡ first.key → id ≡ (with_id s.table first).id ++ ask.segment ∷ []
-    → ¬ TableHasId s.table id → is_registered registered (id_text id) ≡ false
+    → ask.parent ≡ first.key → id ≡ (with_id s.plan.table first).id ++ ask.segment ∷ []
+    → ¬ TableHasId s.plan.table id → is_registered registered (id_text id) ≡ false
     → ((text : List ℕ) → is_registered noted text ≡ (bytes_eq text (id_text id) || is_registered registered text))
     → HasRegistered f unit start now (with_ids f.table running) noted next key id
 registered_below s f unit start old now running rest registered noted next key first id ask same r is a parent made static fresh all =
@@ -617,11 +617,11 @@ ran_all f may_step keys start now running registered next r d none past =
     )
 
 pub began : (s : ShapeView) (f : Frame) (u unit : ℕ) (start now : SenderView) (running : List RunningId) (registered : List (List ℕ × ℕ)) (next : ℕ) → frame s ≡ f → u ≡ unit → now ≡ start → running ≡ []
-    → KeepsAround (frame s) → u < s.units → start.table ≡ f.table → IsRunning f unit start now running registered next
+    → KeepsAround (frame s) → u < (frame s).units → start.table ≡ f.table → IsRunning f unit start now running registered next
 began s f u unit start now running registered next a b c none around low table =
     subst (λ v. IsRunning f unit start v running registered next) (sym c)
     (ran_nothing f unit start running registered next none (subst KeepsAround a around)
-    (subst (λ (g : Frame). unit < g.units) a (subst (λ v. v < s.units) b low)) table)
+    (subst (λ (g : Frame). unit < g.units) a (subst (λ v. v < (frame s).units) b low)) table)
 
 -- what holds where there is none
 pub at_none : {A : Type 0} (r : Option A) (b : Bool) (P : Type 0) → is_some r ≡ not b → IfNone r P → b ≡ true → P

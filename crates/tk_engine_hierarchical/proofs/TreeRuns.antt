@@ -22,6 +22,7 @@ use Rattle.tk_engine_hierarchical.specs.Laws.{RanTree, TestRules, may_of}
 use Rattle.tk_engine_hierarchical.specs.Reporting.{UnitView, event}
 use Rattle.tk_engine_hierarchical.specs.Shapes.{ShapeView, frame, keys_in, may_emit}
 use Rattle.tk_engine_hierarchical.specs.Steps.{FitsPlan, MayStepAs}
+use Rattle.tk_engine_hierarchical.specs.Units.{RunsUnit}
 use Rattle.tk_engine_hierarchical.specs.TreeRuns.{FinishesNode, PlanState, RunsBody, RunsForest, RunsNode, RunsTree, RunsUnitTree, StartsNode, TestRuns, after_each, after_publishing, begun, plan_state}
 use Rattle.tk_engine_hierarchical.specs.declared.hierarchical.TestEnd.{TestEnd}
 use Rattle.tk_engine_hierarchical.specs.declared.tests.Outcome.{Outcome}
@@ -138,38 +139,42 @@ tree_ran played ended plan table may_run unit piece start now old left same its 
     fault
 
 -- what a unit emitted that ran its tree by one plan it emitted by another that is the same
-pub ran_unit : {F : Type 0} (r : Result (Unit {0}) F) (p q : Outline) (s : ShapeView) (rules : TestRules) (unit : ℕ) (old new : SenderView) → p ≡ q → old.table ≡ q.table
+pub ran_unit : {F : Type 0} (r : Result (Unit {0}) F) (p : Outline) (s : ShapeView) (rules : TestRules) (unit : ℕ) (old new : SenderView) → p ≡ s.plan → old.table ≡ s.plan.table
     → OnOk r (HasRun (frame s) (FitsPlan p rules.may_end) (keys_in s unit) old new) → OnOk r (RunsUnitTree p rules.may_run unit old new)
-    → OnOk r (ExtendsAs (may_of q s rules unit) old new)
-ran_unit (Ok _) p q s rules unit old new same over h t =
-    let table : old.table ≡ p.table = over ∙ ap (λ (o : Outline). o.table) (sym same) in
-    subst (λ o. ExtendsAs (may_of o s rules unit) old new) same
-    (h.0, h.1, (h.2, record { start = old; now = new; ran = t; table = table; by = refl; earlier = refl; sent = h.1 }))
-ran_unit (Err _) p q s rules unit old new same over h t = tt
+    → OnOk r (ExtendsAs (may_of s rules unit) old new)
+ran_unit (Ok _) p s rules unit old new same over h t = (
+  h.0,
+  h.1,
+  (
+    subst (λ (o : Outline). RunsUnit (frame s) (FitsPlan o rules.may_end) (keys_in s unit) (record { worker = old.worker; events = h.0 })) same h.2,
+    record { start = old; now = new; ran = subst (λ (o : Outline). RunsUnitTree o rules.may_run unit old new) same t; table = over; by = refl; earlier = refl; sent = h.1 },
+  ),
+)
+ran_unit (Err _) p s rules unit old new same over h t = tt
 
 -- ---- the record of a run
 
-module _ (plan : Outline) (s : ShapeView) (rules : TestRules) where
+module _ (s : ShapeView) (rules : TestRules) where
   -- a run of the engine is one in which each unit emits what its shape allows
-  pub run_by_shape : (table : List Descriptor) (before after : List Event) (units workers : ℕ) (r : Recorded) → IsRun (may_of plan s rules) table before after units workers r
-      → IsRun (may_emit s (FitsPlan plan rules.may_end)) table before after units workers r
-  run_by_shape table before after units workers r run =
-      run_more (may_of plan s rules) (may_emit s (FitsPlan plan rules.may_end)) (λ u w k l m. m.0) table before after units workers r run
+  pub run_by_shape : (workers : ℕ) (r : Recorded) → IsRun (may_of s rules) (frame s).table (frame s).before (frame s).after (frame s).units workers r
+      → IsRun (may_emit s (FitsPlan s.plan rules.may_end)) (frame s).table (frame s).before (frame s).after (frame s).units workers r
+  run_by_shape workers r run =
+      run_more (may_of s rules) (may_emit s (FitsPlan s.plan rules.may_end)) (λ u w k l m. m.0) (frame s).table (frame s).before (frame s).after (frame s).units workers r run
 
-  pub kept_trees : KeepsAround (frame s) → UnitsKeepLifecycle (frame s) (may_of plan s rules)
+  pub kept_trees : KeepsAround (frame s) → UnitsKeepLifecycle (frame s) (may_of s rules)
   kept_trees around = record { around = around; each = λ unit worker earlier events low runs. runs.0.keeps }
 
   -- in the record of a run each unit's tree was run
-  pub ran_trees : (table : List Descriptor) (before after : List Event) (units workers : ℕ) (r : Recorded) → IsRun (may_of plan s rules) table before after units workers r
-      → (unit : ℕ) → unit < units → RanTree plan rules.may_run unit r
-  ran_trees table before after units workers r run unit low =
-      let ran = unit_ran (may_of plan s rules) units workers run.mid run.shared unit low in record {
+  pub ran_trees : (workers : ℕ) (r : Recorded) → IsRun (may_of s rules) (frame s).table (frame s).before (frame s).after (frame s).units workers r
+      → (unit : ℕ) → unit < (frame s).units → RanTree s.plan rules.may_run unit r
+  ran_trees workers r run unit low =
+      let ran = unit_ran (may_of s rules) (frame s).units workers run.mid run.shared unit low in record {
         by = record { worker = ran.worker; earlier = ran.k };
         is_worker = ran.is_worker;
         before = ran.earlier;
         events = ran.list;
         after = ran.later;
-        emitted = of_worker_mid (may_of plan s rules) table before after units workers r run ran.worker ran.is_worker ∙ ran.whole;
+        emitted = of_worker_mid (may_of s rules) (frame s).table (frame s).before (frame s).after (frame s).units workers r run ran.worker ran.is_worker ∙ ran.whole;
         registered = ran.counted;
         of_tree = ran.may_be.1;
       }

@@ -1,6 +1,6 @@
 -- What the record of a run of a hierarchical engine says.
 use Rattle.std.specs.Prelude.{◌≡◌, ◌⊎◌, ℕ, ◌<◌, List, [], ◌∷◌, ◌++◌, All, length}
-use Rattle.tk_plan_units.specs.Cutting.{after_of, before_of, units_of}
+use Rattle.tk_plan_units.specs.Cutting.{units_of}
 use Rattle.tk_plan_units.specs.Planned.{Outline}
 use Rattle.tk_plan_units.specs.Trees.{forest}
 use Rattle.tk_engine_runs.specs.Run.{IsRun}
@@ -13,7 +13,7 @@ use Rattle.tk_queue_session.specs.Emission.{registrations}
 use Rattle.tk_engine_hierarchical.specs.Covered.{IsBelowSkipped}
 use Rattle.tk_engine_hierarchical.specs.Endings.{EndsAsItMay}
 use Rattle.tk_engine_hierarchical.specs.Nesting.{EventsNest}
-use Rattle.tk_engine_hierarchical.specs.Shapes.{ShapeView, may_emit}
+use Rattle.tk_engine_hierarchical.specs.Shapes.{ShapeView, frame, may_emit}
 use Rattle.tk_engine_hierarchical.specs.Steps.{FitsPlan, StepsAs}
 use Rattle.tk_engine_hierarchical.specs.TreeRuns.{IsOfUnitTree, TestRuns, UnitWorker}
 use Rattle.tk_engine_hierarchical.specs.declared.tests.Outcome.{Outcome}
@@ -26,20 +26,21 @@ pub record TestRules : Type 1 where
 abbrev pub test_rules : (ℕ → Outcome → Type 0) → TestRuns → TestRules
 test_rules may_end may_run = record { may_end = may_end; may_run = may_run }
 
--- Which events a unit of the engine of a plan may emit for a worker, by the engine's shape, by the
--- plan, and by what the tests promise.
-abbrev pub may_of : Outline → ShapeView → TestRules → ℕ → ℕ → ℕ → List Event → Type 0
-may_of plan shape rules unit worker earlier events =
-    may_emit shape (FitsPlan plan rules.may_end) unit worker earlier events
-    × IsOfUnitTree plan rules.may_run unit (record { worker = worker; earlier = earlier }) events
+-- Which events a unit of the engine of a plan may emit for a worker, by the engine's shape, which
+-- has the plan, and by what the tests promise.
+abbrev pub may_of : ShapeView → TestRules → ℕ → ℕ → ℕ → List Event → Type 0
+may_of shape rules unit worker earlier events =
+    may_emit shape (FitsPlan shape.plan rules.may_end) unit worker earlier events
+    × IsOfUnitTree shape.plan rules.may_run unit
+    (record { worker = worker; earlier = earlier }) events
 
 -- The record is that of a run of the engine of a plan by some workers, in which each unit emits
 -- what it may.
-abbrev pub IsRunOf : Outline → ShapeView → TestRules → Recorded → Type 0
-IsRunOf plan shape rules r =
+abbrev pub IsRunOf : ShapeView → TestRules → Recorded → Type 0
+IsRunOf shape rules r =
     (workers : ℕ)
-    × IsRun (may_of plan shape rules) plan.table (before_of (forest plan.nodes))
-    (after_of (forest plan.nodes)) (length (units_of (forest plan.nodes))) workers r
+    × IsRun (may_of shape rules) (frame shape).table (frame shape).before (frame shape).after
+    (frame shape).units workers r
 
 -- each finish of a static test has an outcome that the test may have, where a unit emitted it;
 -- worker 0 emits the events around the units, which are the plan's

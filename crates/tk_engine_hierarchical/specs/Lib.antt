@@ -1,11 +1,11 @@
 pub mod Emitting
 pub mod Owners
+pub mod Owned
 pub mod RegisteredIds
 pub mod Shapes
 pub mod Running
 pub mod Events
 pub mod Endings
-pub mod FaultTexts
 pub mod Steps
 pub mod Covered
 pub mod Nesting

@@ -11,7 +11,7 @@ ghost use Rattle.tk_events.specs.declared.payloads.Payload.TheVariants.{Nothing,
 ghost use Rattle.tk_engine_hierarchical.specs.Endings.{IsStaticTest, payload_of};
 ghost use Rattle.tk_engine_hierarchical.specs.Events.{HasRun};
 ghost use Rattle.tk_engine_hierarchical.specs.Reporting.{HasFinished, event};
-ghost use Rattle.tk_engine_hierarchical.specs.Shapes.{frame, keys_in};
+ghost use Rattle.tk_engine_hierarchical.specs.Shapes.{count_units, frame, keys_in};
 ghost use Rattle.tk_engine_hierarchical.specs.Steps.{FitsPlan, MayStepAs};
 ghost use Rattle.tk_engine_hierarchical.specs.TreeRuns.{FinishesNode, RunsBody, RunsForest, RunsNode, RunsTree, RunsUnitTree, SkipsNode, StartsNode, after_each, after_next, after_publishing, plan_state};
 
@@ -427,7 +427,7 @@ pub(crate) fn run_unit<'a, R: Wait, S: Sink, K: UnitRun, T: Tests>(
     requires frame { frame shape.now ≡ K.frame }
     requires keys { keys_in shape.now unit ≡ K.keys }
     requires may { (e : Event) → FitsPlan plan.now (T.may_end tests.now) e → K.may_step e }
-    requires is_unit { unit < shape.now.units }
+    requires is_unit { unit < count_units shape.now }
     requires table { K.start.table ≡ K.frame.table }
     requires plan_table { plan.now.table ≡ K.frame.table }
     ensures name { result.sink.ghost_name ≡ K.name }

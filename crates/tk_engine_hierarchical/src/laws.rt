@@ -10,7 +10,7 @@ use tk_engine_lifecycle::laws::runs_keep_lifecycle;
 
 /// The record of each run of the engine keeps the lifecycle, whatever its tests do.
 pub fn lifecycle<T: Tests + Sync>(engine: &Hierarchical<T>, results: &Results)
-    requires { IsRunOf engine.now.scripted engine.now.shape
+    requires { IsRunOf engine.now.shape
         (test_rules (T.may_end engine.now.tests) (T.may_run engine.now.tests))
         results.now.recorded }
     ensures { KeepsLifecycle results.now.recorded }
@@ -22,7 +22,7 @@ pub fn lifecycle<T: Tests + Sync>(engine: &Hierarchical<T>, results: &Results)
 /// Each static test that a unit finishes has an outcome that `may_end` allows. [`trees`] says that
 /// it is the one that the test's `run` answered.
 pub fn outcomes<T: Tests + Sync>(engine: &Hierarchical<T>, results: &Results)
-    requires { IsRunOf engine.now.scripted engine.now.shape
+    requires { IsRunOf engine.now.shape
         (test_rules (T.may_end engine.now.tests) (T.may_run engine.now.tests))
         results.now.recorded }
     ensures { HasOutcomes (T.may_end engine.now.tests) results.now.recorded }
@@ -34,10 +34,10 @@ pub fn outcomes<T: Tests + Sync>(engine: &Hierarchical<T>, results: &Results)
 /// where it isn't skipped, or is skipped for the plan's reason; a test finishes with an outcome
 /// that `may_end` allows, any other descriptor with that of the plan.
 pub fn steps<T: Tests + Sync>(engine: &Hierarchical<T>, results: &Results)
-    requires { IsRunOf engine.now.scripted engine.now.shape
+    requires { IsRunOf engine.now.shape
         (test_rules (T.may_end engine.now.tests) (T.may_run engine.now.tests))
         results.now.recorded }
-    ensures { FollowsPlan engine.now.scripted (T.may_end engine.now.tests) results.now.recorded }
+    ensures { FollowsPlan engine.now.shape.plan (T.may_end engine.now.tests) results.now.recorded }
 {
     engine.shows_shape();
     let _ = results;
@@ -46,7 +46,7 @@ pub fn steps<T: Tests + Sync>(engine: &Hierarchical<T>, results: &Results)
 /// Each static descriptor starts once and then finishes once, or is skipped once, or stands below
 /// one that was skipped.
 pub fn turns<T: Tests + Sync>(engine: &Hierarchical<T>, results: &Results)
-    requires { IsRunOf engine.now.scripted engine.now.shape
+    requires { IsRunOf engine.now.shape
         (test_rules (T.may_end engine.now.tests) (T.may_run engine.now.tests))
         results.now.recorded }
     ensures { HaveTurns results.now.recorded }
@@ -58,7 +58,7 @@ pub fn turns<T: Tests + Sync>(engine: &Hierarchical<T>, results: &Results)
 /// What a worker emits after the start of a key, and before the key finishes, is of that key or of
 /// one below it: the events of a test, and of what its body runs, stand together.
 pub fn nesting<T: Tests + Sync>(engine: &Hierarchical<T>, results: &Results)
-    requires { IsRunOf engine.now.scripted engine.now.shape
+    requires { IsRunOf engine.now.shape
         (test_rules (T.may_end engine.now.tests) (T.may_run engine.now.tests))
         results.now.recorded }
     ensures { UnitsNest results.now.recorded }
@@ -72,10 +72,10 @@ pub fn nesting<T: Tests + Sync>(engine: &Hierarchical<T>, results: &Results)
 /// starts, runs its body once where it is a static test, as `may_run` says, publishes the plan's
 /// entries and files, runs what stands below it, and finishes, at the plan's stamps.
 pub fn trees<T: Tests + Sync>(engine: &Hierarchical<T>, results: &Results)
-    requires { IsRunOf engine.now.scripted engine.now.shape
+    requires { IsRunOf engine.now.shape
         (test_rules (T.may_end engine.now.tests) (T.may_run engine.now.tests))
         results.now.recorded }
-    ensures { UnitsRanTrees engine.now.scripted (T.may_run engine.now.tests)
+    ensures { UnitsRanTrees engine.now.shape.plan (T.may_run engine.now.tests)
         results.now.recorded }
 {
     let _ = engine;

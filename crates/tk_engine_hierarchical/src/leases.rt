@@ -94,8 +94,8 @@ impl<'a, S: Sink> Lease<'a, S> {
               stamp = stamp;
             }) (Ok new.0)) }
         ensures id { IfOk result (λ new. new.1
-            ≡ (with_id shape.now.table above.now).id ++ child.now.segment.now ∷ []) }
-        ensures not_static { IfOk result (λ new. ¬ TableHasId shape.now.table new.1) }
+            ≡ (with_id shape.now.plan.table above.now).id ++ child.now.segment.now ∷ []) }
+        ensures not_static { IfOk result (λ new. ¬ TableHasId shape.now.plan.table new.1) }
         ensures not_registered { IfOk result (λ new.
             is_registered registered.old (id_text new.1) ≡ false) }
         ensures noted { IfOk result (λ new. (text : List ℕ) → is_registered registered.new text

@@ -15,7 +15,7 @@ mod unit_events;
 mod unit_ids;
 mod unit_runs;
 
-pub use engines::{Hierarchical, HierarchicalFault};
+pub use engines::Hierarchical;
 pub use reporters::Reporter;
 pub use tests::{Body, OUT_OF_ORDER, Outcome, TWICE, Tests};
 pub use unit_runs::UnitRun;

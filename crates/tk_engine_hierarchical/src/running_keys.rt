@@ -14,7 +14,7 @@ pub(crate) struct RunningKey {
 
 /// The id of the descriptor of a running key.
 pub(crate) fn running_id<'s>(shape: &'s Shape, running: &'s RunningKey) -> Option<&'s UniqueId>
-    ensures { IfSome result (λ id. id.now ≡ (with_id shape.now.table running.now).id) }
+    ensures { IfSome result (λ id. id.now ≡ (with_id shape.now.plan.table running.now).id) }
 {
     match &running.dynamic_id {
         Some(id) => Some(id),

@@ -7,7 +7,7 @@ ghost use Rattle.tk_engine_hierarchical.specs.Endings.{IsStaticTest};
 ghost use Rattle.tk_engine_hierarchical.specs.Events.{HasRun, IsRunning};
 ghost use Rattle.tk_engine_hierarchical.specs.Reporting.{Grew, HasFinished, HasSkipped, HasStarted, Published, event, publishes};
 ghost use Rattle.tk_engine_hierarchical.specs.Running.{with_ids};
-ghost use Rattle.tk_engine_hierarchical.specs.Shapes.{frame, keys_in};
+ghost use Rattle.tk_engine_hierarchical.specs.Shapes.{count_units, frame, keys_in};
 ghost use Rattle.tk_engine_hierarchical.specs.TreeRuns.{after_event, after_start, begun};
 ghost use Rattle.tk_engine_hierarchical.specs.UnitViews.{unit_view};
 ghost use Rattle.tk_engine_hierarchical.specs.Units.{HasPlayed};
@@ -98,7 +98,7 @@ impl<'a, S: Sink, K: UnitRun> Model for UnitEvents<'a, S, K> {
     ghost use Rattle.tk_engine_hierarchical.specs.Events.{IsRunning};
     ghost use Rattle.tk_engine_hierarchical.specs.Reporting.{UnitView};
     ghost use Rattle.tk_engine_hierarchical.specs.Running.{keys_of, with_ids};
-    ghost use Rattle.tk_engine_hierarchical.specs.Shapes.{frame};
+    ghost use Rattle.tk_engine_hierarchical.specs.Shapes.{count_units, frame};
     ghost use Rattle.tk_engine_hierarchical.specs.Units.{HasPlayed};
 
     ghost Value = { UnitView };
@@ -134,7 +134,7 @@ impl<'a, S: Sink, K: UnitRun> UnitEvents<'a, S, K> {
         requires since { K.since ≡ K.start }
         requires frame { frame shape.now ≡ K.frame }
         requires keys { keys_in shape.now unit ≡ K.keys }
-        requires is_unit { unit < shape.now.units }
+        requires is_unit { unit < count_units shape.now }
         requires table { K.start.table ≡ K.frame.table }
         ensures { result ≡ begun K.start }
     {

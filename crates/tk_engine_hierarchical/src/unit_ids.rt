@@ -28,11 +28,11 @@ fn starts_root(running: &Stack<RunningKey>, id: &UniqueId) -> bool
 // Whether the parent of a static key, which has this id, is the innermost key that runs, or no key
 // runs and it runs before the units. The first key has none.
 fn has_running_parent(shape: &Shape, running: &Stack<RunningKey>, key: u32, id: &UniqueId) -> bool
-    requires { slice_get (ids_of shape.now.table) key ≡ Some id.now }
+    requires { slice_get (ids_of shape.now.plan.table) key ≡ Some id.now }
     ensures among { IsTrue result → HasParentAmong (frame shape.now)
-        (keys_of (with_ids shape.now.table running.now)) id.now }
+        (keys_of (with_ids shape.now.plan.table running.now)) id.now }
     ensures innermost { IsTrue result → HasInnermostParent (frame shape.now)
-        (keys_of (with_ids shape.now.table running.now)) id.now }
+        (keys_of (with_ids shape.now.plan.table running.now)) id.now }
 {
     if key == 0 {
         return starts_root(running, id);
@@ -49,7 +49,7 @@ fn has_running_parent(shape: &Shape, running: &Stack<RunningKey>, key: u32, id: 
 /// Whether a static key may start or be skipped.
 pub(crate) fn may_start(shape: &Shape, unit: u32, running: &Stack<RunningKey>, key: u32) -> bool
     ensures { IsTrue result → MayStart (frame shape.now) unit
-        (keys_of (with_ids shape.now.table running.now)) key }
+        (keys_of (with_ids shape.now.plan.table running.now)) key }
 {
     let Some(descriptor) = shape.table().get(key) else {
         return false;
@@ -68,8 +68,8 @@ pub(crate) fn new_child(
     segment: &Segment,
 ) -> Result<UniqueId, UnitFault>
     ensures id { IfOk result (λ id.
-        id ≡ (with_id shape.now.table parent.now).id ++ segment.now ∷ []) }
-    ensures not_static { IfOk result (λ id. ¬ TableHasId shape.now.table id) }
+        id ≡ (with_id shape.now.plan.table parent.now).id ++ segment.now ∷ []) }
+    ensures not_static { IfOk result (λ id. ¬ TableHasId shape.now.plan.table id) }
     ensures not_registered { IfOk result (λ id.
         is_registered registered.now (id_text id) ≡ false) }
 {

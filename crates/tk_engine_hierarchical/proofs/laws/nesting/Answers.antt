@@ -1,12 +1,6 @@
-use Rattle.std.proofs.Common.{sym, subst, length, ℕ, List}
-use Rattle.tk_ids.specs.declared.descriptors.Descriptor.{Descriptor}
-use Rattle.tk_events.specs.declared.events.Event.{Event}
+use Rattle.std.proofs.Common.{subst}
 use Rattle.tk_record_columns.specs.Record.{IsRecord}
-use Rattle.tk_plan_units.specs.Cutting.{after_of, before_of, units_of}
-use Rattle.tk_plan_units.specs.Trees.{forest}
-use Rattle.tk_engine_runs.specs.Run.{IsRun}
 use Rattle.tk_engine_hierarchical.specs.Laws.{test_rules}
-use Rattle.tk_engine_hierarchical.specs.Shapes.{may_emit}
 use Rattle.tk_engine_hierarchical.specs.Steps.{FitsPlan}
 use Rattle.tk_engine_hierarchical.proofs.Nested.{units_nest}
 use Rattle.tk_engine_hierarchical.proofs.Shaped.{kept_units}
@@ -15,17 +9,9 @@ use Rattle.tk_engine_hierarchical.proofs.laws.nesting.Goals as goal
 
 pub returns : goal.returns
 returns g c =
-    let plan = c.args.engine.now.scripted in
     let s = c.args.engine.now.shape in
     let rules = test_rules (g.T.Tests.may_end c.args.engine.now.tests) (g.T.Tests.may_run c.args.engine.now.tests) in
-    let root = forest plan.nodes in
-    let may_step = FitsPlan plan rules.may_end in
-    let may : ℕ → ℕ → ℕ → List Event → Type 0 = may_emit s may_step in
-    let shown = c.shows_shape.ensures in
+    let may_step = FitsPlan s.plan rules.may_end in
     let r = c.args.results.now.recorded in
-    units_nest s may_step c.requires.0 r (kept_units s may_step shown.around)
-    (subst (λ (t : List Descriptor). IsRun may t s.before s.after s.units c.requires.0 r) (sym shown.table)
-    (subst (λ b. IsRun may plan.table b s.after s.units c.requires.0 r) (sym shown.before)
-    (subst (λ a. IsRun may plan.table (before_of root) a s.units c.requires.0 r) (sym shown.after)
-    (subst (λ n. IsRun may plan.table (before_of root) (after_of root) n c.requires.0 r) (sym shown.units) (run_by_shape plan s rules plan.table (before_of root) (after_of root) (length (units_of root)) c.requires.0 r c.requires.1)))))
+    units_nest s may_step c.requires.0 r (kept_units s may_step c.shows_shape.ensures.around) (run_by_shape s rules c.requires.0 r c.requires.1)
     (subst IsRecord c.recorded.ensures c.shows_record.ensures)

@@ -1,11 +1,5 @@
-use Rattle.std.proofs.Common.{sym, subst, length, ℕ, List}
-use Rattle.tk_ids.specs.declared.descriptors.Descriptor.{Descriptor}
-use Rattle.tk_events.specs.declared.events.Event.{Event}
-use Rattle.tk_plan_units.specs.Cutting.{after_of, before_of, units_of}
-use Rattle.tk_plan_units.specs.Trees.{forest}
-use Rattle.tk_engine_runs.specs.Run.{IsRun}
 use Rattle.tk_engine_hierarchical.specs.Laws.{test_rules}
-use Rattle.tk_engine_hierarchical.specs.Shapes.{may_emit}
+use Rattle.tk_engine_hierarchical.specs.Shapes.{frame}
 use Rattle.tk_engine_hierarchical.specs.Steps.{FitsPlan}
 use Rattle.tk_engine_hierarchical.proofs.Recorded.{have_turns}
 use Rattle.tk_engine_hierarchical.proofs.TreeRuns.{run_by_shape}
@@ -13,16 +7,8 @@ use Rattle.tk_engine_hierarchical.proofs.laws.turns.Goals as goal
 
 pub returns : goal.returns
 returns g c =
-    let plan = c.args.engine.now.scripted in
     let s = c.args.engine.now.shape in
     let rules = test_rules (g.T.Tests.may_end c.args.engine.now.tests) (g.T.Tests.may_run c.args.engine.now.tests) in
-    let root = forest plan.nodes in
-    let may_step = FitsPlan plan rules.may_end in
-    let may : ℕ → ℕ → ℕ → List Event → Type 0 = may_emit s may_step in
-    let shown = c.shows_shape.ensures in
     let r = c.args.results.now.recorded in
-    have_turns s may_step (after_of root) c.requires.0 r shown.places
-    (subst (λ (t : List Descriptor). IsRun may t s.before (after_of root) s.units c.requires.0 r) (sym shown.table)
-    (subst (λ b. IsRun may plan.table b (after_of root) s.units c.requires.0 r) (sym shown.before)
-    (subst (λ n. IsRun may plan.table (before_of root) (after_of root) n c.requires.0 r) (sym shown.units) (run_by_shape plan s rules plan.table (before_of root) (after_of root) (length (units_of root)) c.requires.0 r c.requires.1))))
+    have_turns s (FitsPlan s.plan rules.may_end) (frame s).after c.requires.0 r c.shows_shape.ensures.places (run_by_shape s rules c.requires.0 r c.requires.1)
     c.lifecycle.ensures

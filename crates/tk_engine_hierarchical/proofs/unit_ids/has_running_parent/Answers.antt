@@ -15,7 +15,7 @@ returns-in-Some-top-clause-among c = λ same.
     let above = c.in-Some.parent in
     let first = c.in-Some-top.ensures.some in
     let k = c.in-Some-top.innermost.now in
-    let p = parent_above s.table c.args.key above c.args.id.now c.requires (c.in-Some.ensures (omega arith)) in
+    let p = parent_above s.plan.table c.args.key above c.args.id.now c.requires (c.in-Some.ensures (omega arith)) in
     innermost_among s c.args.running.now first.0 k above c.args.id.now first.1 (eqb-true k.key above same) p
 
 pub returns-in-Some-top-clause-innermost : goal.returns-in-Some-top-clause-innermost
@@ -24,14 +24,14 @@ returns-in-Some-top-clause-innermost c = λ same.
     let above = c.in-Some.parent in
     let first = c.in-Some-top.ensures.some in
     let k = c.in-Some-top.innermost.now in
-    let p = parent_above s.table c.args.key above c.args.id.now c.requires (c.in-Some.ensures (omega arith)) in
+    let p = parent_above s.plan.table c.args.key above c.args.id.now c.requires (c.in-Some.ensures (omega arith)) in
     innermost_parent s c.args.running.now first.0 k above c.args.id.now first.1 (eqb-true k.key above same) p
 
 pub returns-in-None-clause-among : goal.returns-in-None-clause-among
 returns-in-None-clause-among c = λ runs more.
     let s = c.args.shape.now in
     let above = c.in-Some.parent in
-    let p = parent_above s.table c.args.key above c.args.id.now c.requires (c.in-Some.ensures (omega arith)) in
+    let p = parent_above s.plan.table c.args.key above c.args.id.now c.requires (c.in-Some.ensures (omega arith)) in
     (above, p.1, inr (c.runs_before.ensures runs))
 
 pub returns-in-None-clause-innermost : goal.returns-in-None-clause-innermost
