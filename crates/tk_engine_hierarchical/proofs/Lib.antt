@@ -2,7 +2,6 @@ pub mod Emitted
 pub mod Nested
 pub mod Nesting
 pub mod Owned
-pub mod Owning
 pub mod Played
 pub mod Recorded
 pub mod Reported
@@ -10,3 +9,4 @@ pub mod Running
 pub mod Shaped
 pub mod Stepped
 pub mod TreeRuns
+pub mod UnitsOfKeys

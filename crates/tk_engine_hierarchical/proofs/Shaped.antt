@@ -1,9 +1,8 @@
 -- The events around the units, and the keys of units.
-use Rattle.std.proofs.Common.{◌≡◌, ◌<◌, ◌≤◌, ◌+◌, ℕ, zero, suc, ◌⊎◌, inl, inr, ⊎_elim, true, refl, List, [], ◌∷◌, ◌++◌, length, get_or, All, Option, Some, None, slice_get, sym, ap, ap₂, ◌∙◌, subst, append-nil, arith}
+use Rattle.std.proofs.Common.{◌≡◌, ◌<◌, ◌≤◌, ℕ, zero, suc, ◌⊎◌, inl, inr, ⊎_elim, refl, List, [], ◌∷◌, ◌++◌, length, get_or, Option, Some, slice_get, sym, ap, ap₂, ◌∙◌, subst, append-nil, arith}
 use Rattle.std.proofs.lemmas.List.Elements.{All-weaker}
 use Rattle.tk_ids.specs.IdText.{SegmentView}
 use Rattle.tk_ids.specs.Table.{AreDifferent}
-use Rattle.tk_ids.specs.declared.descriptors.Descriptor.{Descriptor}
 use Rattle.tk_events.specs.declared.events.Event.{Event}
 use Rattle.tk_queue_session.specs.Emission.{entries_by}
 use Rattle.tk_query_lifecycle.specs.Lifecycle.{HasId}
@@ -15,11 +14,11 @@ use Rattle.tk_plan_units.specs.Trees.{forest, number_of}
 use Rattle.tk_engine_execute.specs.Engines.{IsStaticEvent}
 use Rattle.tk_engine_laws.specs.Spines.{ArePlaced, end_of, IsOfUnit, IsOnSpine, IsSpineEvent, SpineEmits, SpineKeepsLifecycle, SpineRuns}
 use Rattle.tk_engine_lifecycle.specs.Units.{KeepsAround, UnitsKeepLifecycle, run_alone}
-use Rattle.tk_engine_hierarchical.specs.Owned.{AreOwners}
+use Rattle.tk_engine_hierarchical.specs.Owners.{AreOwners}
 use Rattle.tk_engine_hierarchical.specs.Shapes.{HavePlaces, IsInUnit, ShapeView, count_units, frame, end_in, first_in, keys_in, may_emit}
 use Rattle.tk_engine_hierarchical.specs.Units.{UnitKeys}
 use Rattle.tk_engine_hierarchical.proofs.Owned.{owner_static}
-use Rattle.tk_engine_hierarchical.proofs.Owning.{order, unit_below}
+use Rattle.tk_engine_hierarchical.proofs.UnitsOfKeys.{order, unit_below}
 use Rattle.tk_engine_hierarchical.proofs.Running.{described_here, described_id}
 
 get_below : {A : Type 0} (xs : List A) (i : ℕ) → i < length xs → (x : A) × (slice_get xs i ≡ Some x)

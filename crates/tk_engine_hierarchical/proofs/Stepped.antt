@@ -1,6 +1,5 @@
 -- Each node of a unit is a node of the plan, by its number.
 use Rattle.std.proofs.Common.{◌≡◌, ◌≤◌, ◌+◌, ℕ, zero, suc, Bool, true, false, cond, List, [], ◌∷◌, ◌++◌, length, take, drop, Some, slice_get, All, arith, length-append, sym, ap, ◌∙◌, subst}
-use Rattle.std.specs.Prelude.{OnOk, Result}
 use Rattle.std.proofs.lemmas.List.Elements.{All-nil, All-cons, All-head, All-tail, All-append, All-drop, All-take, All-weaker}
 use Rattle.tk_ids.specs.declared.descriptors.Descriptor.{Descriptor}
 use Rattle.tk_events.specs.declared.events.Event.{Event}
@@ -13,9 +12,6 @@ use Rattle.tk_plan_units.specs.Trees.{Forest, IsForest, IsSplit, Tree, flat, fla
 use Rattle.tk_plan_units.proofs.Ordering.{all_numbered}
 use Rattle.tk_plan_units.proofs.Parting.{all_back, all_prefix, all_single}
 use Rattle.tk_engine_execute.proofs.Positions.{all_at}
-use Rattle.tk_engine_execute.specs.Engines.{ExtendsAs}
-use Rattle.tk_queue_session.specs.Senders.{SenderView}
-use Rattle.tk_engine_hierarchical.specs.Shapes.{ShapeView, may_emit}
 use Rattle.tk_engine_hierarchical.specs.Steps.{FitsNode, FitsPlan, MayStepAs}
 use Rattle.tk_engine_hierarchical.specs.declared.tests.Outcome.{Outcome}
 

@@ -1,6 +1,5 @@
 pub mod Emitting
 pub mod Owners
-pub mod Owned
 pub mod RegisteredIds
 pub mod Shapes
 pub mod Running

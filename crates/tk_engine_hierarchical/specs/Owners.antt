@@ -1,5 +1,8 @@
--- To which unit an id belongs.
+-- To which unit a static key belongs, and an id.
 use Rattle.std.specs.Prelude.{
+  ◌≡◌,
+  ◌<◌,
+  ◌≤◌,
   ℕ,
   zero,
   suc,
@@ -16,11 +19,16 @@ use Rattle.std.specs.Prelude.{
   Some,
   None,
   get_or,
+  slice_get,
   if◌then◌else◌,
 }
 use Rattle.std.specs.Option.{option_map}
 use Rattle.tk_ids.specs.IdText.{SegmentView, parent_of}
 use Rattle.tk_ids.specs.declared.descriptors.Descriptor.{Descriptor}
+use Rattle.tk_plan_units.specs.Cutting.{units_of}
+use Rattle.tk_plan_units.specs.Planned.{Outline}
+use Rattle.tk_plan_units.specs.Trees.{forest}
+use Rattle.tk_engine_laws.specs.Spines.{IsOfUnit, IsOnSpine}
 
 -- whether two ids have the same segments
 abbrev pub same_id : List SegmentView → List SegmentView → Bool
@@ -51,3 +59,11 @@ owner_within table owners none (suc depth) id =
 -- the unit to which an id belongs
 abbrev pub owner_of : List Descriptor → List ℕ → ℕ → List SegmentView → ℕ
 owner_of table owners none id = owner_within table owners none (suc (length id)) id
+
+-- The number of a static key is that of its unit. A key whose number is no unit's stands on the
+-- spine.
+pub record AreOwners (plan : Outline) (owners : List ℕ) : Type 0 where
+  pub owned : (key unit : ℕ) → slice_get owners key ≡ Some unit
+      → unit < length (units_of (forest plan.nodes)) → IsOfUnit plan.nodes unit key
+  pub others : (key unit : ℕ) → slice_get owners key ≡ Some unit
+      → length (units_of (forest plan.nodes)) ≤ unit → IsOnSpine plan.nodes key

@@ -8,7 +8,7 @@ ghost use Rattle.tk_engine_laws.specs.Spines.{count_static, end_of};
 ghost use Rattle.tk_engine_lifecycle.specs.Units.{KeepsAround};
 ghost use Rattle.tk_plan_units.specs.Parents.{HasParentAt};
 ghost use Rattle.tk_plan_units.specs.Trees.{IsForest, tree_of};
-ghost use Rattle.tk_engine_hierarchical.specs.Owned.{AreOwners};
+ghost use Rattle.tk_engine_hierarchical.specs.Owners.{AreOwners};
 ghost use Rattle.tk_engine_hierarchical.specs.Shapes.{HavePlaces, count_units, frame, keys_in};
 
 use std::alloc::{AllocError, Global};
@@ -30,7 +30,7 @@ pub(crate) struct Shape {
 
 impl Model for Shape {
     ghost use Rattle.tk_plan_units.specs.Parents.{AreParents};
-    ghost use Rattle.tk_engine_hierarchical.specs.Owned.{AreOwners};
+    ghost use Rattle.tk_engine_hierarchical.specs.Owners.{AreOwners};
     ghost use Rattle.tk_engine_hierarchical.specs.Shapes.{ShapeView};
 
     ghost Value = { ShapeView };

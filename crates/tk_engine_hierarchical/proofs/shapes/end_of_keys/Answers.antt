@@ -1,7 +1,7 @@
 use Rattle.std.proofs.Common.{◌+◌, ◌-◌, ◌^◌, ◌∷◌, min, sym, ap, ◌∙◌}
 use Rattle.std.proofs.lemmas.List.{take_all}
 use Rattle.tk_engine_laws.specs.Spines.{count_static}
-use Rattle.tk_engine_hierarchical.proofs.Owning.{end_is, ends_more}
+use Rattle.tk_engine_hierarchical.proofs.UnitsOfKeys.{end_is, ends_more}
 use Rattle.tk_engine_hierarchical.proofs.shapes.end_of_keys.Goals as goal
 
 pub loop-numbered_node-preserved : goal.loop-numbered_node-preserved

@@ -1,6 +1,6 @@
-use Rattle.std.proofs.Common.{◌≡◌, ◌≤◌, arith, ap, length, refl, subst}
+use Rattle.std.proofs.Common.{◌≡◌, arith, ap, length, refl, subst}
 use Rattle.tk_plan_units.specs.Trees.{tree_of}
-use Rattle.tk_engine_hierarchical.proofs.Owning.{OwnedSoFar, all_owned, count_units_of, end_exact, first_before_end, next_owned}
+use Rattle.tk_engine_hierarchical.proofs.UnitsOfKeys.{OwnedSoFar, all_owned, count_units_of, end_exact, first_before_end, next_owned}
 use Rattle.tk_engine_hierarchical.proofs.shapes.owners_of.Goals as goal
 
 pub set_owner-requires-clause-order : goal.set_owner-requires-clause-order

@@ -1,5 +1,4 @@
-use Rattle.std.proofs.Common.{◌≤◌}
-use Rattle.tk_engine_hierarchical.proofs.Owning.{OwnedSoFar}
+use Rattle.tk_engine_hierarchical.proofs.UnitsOfKeys.{OwnedSoFar}
 use Rattle.tk_engine_hierarchical.proofs.shapes.owners_of.Given as goal
 
 abbrev pub invariant-loop-unit : goal.invariant-loop-unit

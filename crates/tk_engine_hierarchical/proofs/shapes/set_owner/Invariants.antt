@@ -1,5 +1,5 @@
 use Rattle.std.proofs.Common.{◌≤◌}
-use Rattle.tk_engine_hierarchical.proofs.Owning.{AreSet}
+use Rattle.tk_engine_hierarchical.proofs.UnitsOfKeys.{AreSet}
 use Rattle.tk_engine_hierarchical.proofs.shapes.set_owner.Given as goal
 
 abbrev pub invariant-loop-key : goal.invariant-loop-key

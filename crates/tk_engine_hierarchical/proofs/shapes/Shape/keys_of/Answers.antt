@@ -1,6 +1,6 @@
 use Rattle.std.proofs.Common.{refl, ap, ◌∙◌}
 use Rattle.tk_engine_hierarchical.specs.Shapes.{ShapeView}
-use Rattle.tk_engine_hierarchical.proofs.Owning.{end_exact}
+use Rattle.tk_engine_hierarchical.proofs.UnitsOfKeys.{end_exact}
 use Rattle.tk_engine_hierarchical.proofs.Shaped.{keys_are}
 use Rattle.tk_engine_hierarchical.proofs.shapes.Shape.keys_of.Goals as goal
 

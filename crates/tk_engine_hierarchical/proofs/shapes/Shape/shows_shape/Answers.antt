@@ -2,7 +2,7 @@ use Rattle.std.proofs.Common.{◌≡◌, ap, subst, ◌∙◌}
 use Rattle.tk_ids.specs.Table.{AreDifferent}
 use Rattle.tk_plan_units.specs.Numbers.{IsNumbered}
 use Rattle.tk_plan_units.specs.Planned.{IsPlanned, Outline}
-use Rattle.tk_engine_hierarchical.specs.Owned.{AreOwners}
+use Rattle.tk_engine_hierarchical.specs.Owners.{AreOwners}
 use Rattle.tk_engine_hierarchical.specs.Shapes.{ShapeView}
 use Rattle.tk_engine_hierarchical.proofs.Shaped.{have_places, keeps_around}
 use Rattle.tk_engine_hierarchical.proofs.shapes.Shape.shows_shape.Goals as goal

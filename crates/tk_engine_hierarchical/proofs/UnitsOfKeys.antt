@@ -1,15 +1,14 @@
 -- The units of static keys.
 use Rattle.std.proofs.Common.{◌≡◌, ◌<◌, ◌≤◌, ◌+◌, ◌-◌, ◌^◌, ℕ, zero, suc, ◌⊎◌, inl, inr, ⊎_elim, true, false, if◌then◌else◌, List, [], ◌∷◌, ◌++◌, length, take, get_or, set, replicate, min, Some, slice_get, refl, sym, ap, ◌∙◌, subst, arith}
 use Rattle.std.proofs.lemmas.List.{length-map, take_more}
-use Rattle.tk_ids.specs.declared.descriptors.Descriptor.{Descriptor}
 use Rattle.tk_plan_units.specs.Cutting.{Piece, pieces_of, units_of}
 use Rattle.tk_plan_units.specs.Numbers.{of_kind}
 use Rattle.tk_plan_units.specs.Planned.{IsPlanned, Outline}
 use Rattle.tk_plan_units.specs.Trees.{IsForest, Tree, forest, number_of, tree_of}
 use Rattle.tk_plan_units.specs.declared.nodes.NumberedNode.{NumberedNode}
 use Rattle.tk_engine_execute.proofs.Positions.{replicate_at}
-use Rattle.tk_engine_laws.specs.Spines.{ArePlaced, IsOfUnit, IsOnSpine, count_static, end_of}
-use Rattle.tk_engine_hierarchical.specs.Owned.{AreOwners}
+use Rattle.tk_engine_laws.specs.Spines.{ArePlaced, IsOfUnit, count_static, end_of}
+use Rattle.tk_engine_hierarchical.specs.Owners.{AreOwners}
 
 -- ---- counting
 
