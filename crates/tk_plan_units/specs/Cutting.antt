@@ -74,7 +74,7 @@ pub record Piece : Type 0 where
   pub tree : Tree
   pub first : ℕ
 
--- the unit that a part is, if it is one, after so many events
+-- the unit that a part is, if it is one, with i events before it
 abbrev pub piece : ℕ → Part → List Piece
 piece i (spine_begins n k) = []
 piece i (whole_unit t) = record { tree = t; first = i } ∷ []
