@@ -51,8 +51,8 @@ pub trait Tests {
     /// the thread of the worker that drew the test's unit, right after the test's start. The test's
     /// finish has the outcome. What the test publishes goes through `reporter`.
     /// It is called once for each node that is a test, where the plan skips neither the node nor
-    /// one above it. A node of both types on the spine, whose children are units of their own, has
-    /// no body: it finishes as the plan says.
+    /// one above it. A test on the spine, whose children are units of their own, has no body: it
+    /// finishes as the plan says.
     ///
     /// # Errors
     /// What `reporter` answered, or `Own(n)` where the engine can't go on. A test that fails is no
