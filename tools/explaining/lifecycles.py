@@ -190,6 +190,6 @@ def explain_end(record: Record) -> None:
     running = [descriptor for _, descriptor in sorted(history.by_key.items()) if history.runs(descriptor)]
     for descriptor in running[:MOST_UNFINISHED]:
         start = history.marks_of(descriptor)[-1]
-        show_sentence(record, history, descriptor, at(start) + b", was never finished", [start[0]])
+        show_sentence(record, history, descriptor, at(start) + b" and never finished", [start[0]])
     if len(running) > MOST_UNFINISHED:
         show(f"{len(running) - MOST_UNFINISHED} more were never finished".encode())
