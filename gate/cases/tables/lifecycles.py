@@ -25,6 +25,10 @@ KEPT = [
     ("a skipped container", events("0 skip|off")),
     ("a report of what doesn't run", events("0 start", "1 report|k|v", "0 finish|ok")),
     (
+        "reports of a root before it ran and afterwards",
+        events("0 report|k|v", "0 start", "0 finish|ok", "0 report|k|v"),
+    ),
+    (
         "a registered root",
         events("65536 dynamic|C|[engine:f]|f", "65536 start", "65536 finish|ok"),
     ),
@@ -38,6 +42,12 @@ BROKEN = [
     ("a test before its container", events("1 start"), "0 parent-not-running"),
     ("a test below a skipped container", events("0 skip|off", "1 start"), "1 parent-not-running"),
     ("a test after its container", events("0 start", "0 finish|ok", "1 start"), "2 parent-not-running"),
+    (
+        "a report of a test after its container",
+        events("0 start", "0 finish|ok", "1 report|k|v"),
+        "2 parent-not-running",
+    ),
+    ("a file of a test below a skipped container", events("0 skip|off", "1 file|a"), "1 parent-not-running"),
     ("two starts", events("0 start", "1 start", "1 start"), "2 ran-already"),
     ("a skip after a start", events("0 start", "1 start", "1 skip|off"), "2 ran-already"),
     ("a start after a skip", events("0 start", "1 skip|off", "1 start"), "2 ran-already"),

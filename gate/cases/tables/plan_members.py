@@ -232,6 +232,8 @@ FILES = [
         '{"version":1,"root":{"type":"test","segment":["engine","e"],"name":"e","files":["a","b"]}}',
         "plan member /root/files is bad",
     ),
+    wrong_root(',"tags":1,"files":[]', "/root/files"),
+    wrong_root(',"dynamic":[{"type":3,"files":[]}]', "/root/dynamic/0/files"),
 ] + [
     fault(
         f"plan member/version 2, {members}",
@@ -245,6 +247,7 @@ FILES = [
         (',"files":[1]', "/root/files/0"),
         (',"files":3,"entries":3', "/root/entries"),
         (',"files":3,"children":3', "/root/files"),
+        (',"dynamic":[{"type":"test","segment":["b","y"],"name":"m","files":["a",""]}]', "/root/dynamic/0/files/1"),
     ]
 ]
 

@@ -258,6 +258,12 @@ FILE_CASES = [
     answer("files/kind", "ask match in-order kind(file)", FILES, "yes 1\n"),
     no("files/another path", "ask match loosely file(out)", FILES, "no 0\n"),
     answer("files/executions", "ask executions", FILES, "0 succeeded 0 2\n"),
+    no(
+        "files/asked of version 1",
+        "ask match loosely not(kind(file)) kind(file)",
+        "testkit-record|1\n" + ONE_START.partition("\n")[2],
+        "no 1\n",
+    ),
 ]
 
 CASES = STATS + EXPECTATIONS + COUNTS + MATCHES + EXECUTIONS + FILE_CASES

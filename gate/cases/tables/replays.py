@@ -21,6 +21,12 @@ def refused(name: str, lines, line: str):
 
 SMALL = [
     answer("replay/small replay", "replay", SMALL_REPLAY, record(NODE, START, REPORT, FINISH)),
+    answer(
+        "replay/small replay of version 1",
+        "replay",
+        "testkit-replay|1\n" + SMALL_REPLAY[len(REPLAY_HEADER) :],
+        record(NODE, START, REPORT, FINISH),
+    ),
     small("no step", "S"),
     small("takes alone", "S|t|t|t"),
     small("one step", "S|1"),
@@ -246,6 +252,12 @@ LONGER = [
         "replay",
         replay("W|1", *NODES, *EVERY_TAIL, "S" + "|1|t" * len(EVERY_TAIL)),
         record(*NODES, *EVERY_TAIL),
+    ),
+    answer(
+        "replay/every tail of version 1",
+        "replay",
+        "\n".join(["testkit-replay|1", "W|1", *NODES, *EVERY_TAIL[:-1], "S" + "|1|t" * len(EVERY_TAIL), ""]),
+        record(*NODES, *EVERY_TAIL[:-1]),
     ),
     answer(
         "replay/every tail after the last was emitted",

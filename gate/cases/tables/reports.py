@@ -28,6 +28,19 @@ CASES: List = [
         + "  finish|abort\n  finish|abort|late\n  finish|fail\n  finish|fail|\n",
     ),
     answer(
+        "report/ids in the order of their own bytes, not of the fields' escapes",
+        "ask report",
+        record(
+            "N|C|[a:\\p]|bar",
+            "N|C|[a:b]|letter",
+            "N|C|[a:\\n]|line feed",
+            "E|0|0|0|start",
+            "E|0|1|0|start",
+            "E|0|2|0|start",
+        ),
+        stats(started=3) + "[a:\\n]\n  start\n[a:b]\n  start\n[a:\\p]\n  start\n",
+    ),
+    answer(
         "report/two descriptors of one id stand together, in byte order of the ids",
         "ask report",
         record(
