@@ -40,6 +40,9 @@ def perform(words: List[str], data: bytes):
     """What is written, and whether it is a yes; or `Refused`."""
     if words[:1] == ["ask"]:
         return ask(words[1:], data)
+    if words[1:] and words[-1] == "--":
+        # (the end of the options, after which a word would be one too many)
+        words = words[:-1]
     if words == ["replay"]:
         return replay(data), True
     workers = read_run(words)

@@ -35,6 +35,9 @@ COMMANDS = [
     fault("command line/replay --help", "replay --help", SMALL_REPLAY, BAD),
     fault("command line/replay help", "help replay", SMALL_REPLAY, BAD),
     fault("command line/run with a word", "run more", ONE_TEST_PLAN, BAD),
+    fault("command line/run with a word after the options", "run -- more", ONE_TEST_PLAN, BAD),
+    fault("command line/run with two ends of the options", "run -- --", ONE_TEST_PLAN, BAD),
+    fault("command line/replay with a word after the options", "replay -- more", SMALL_REPLAY, BAD),
     fault("command line/run --help", "run --help", ONE_TEST_PLAN, BAD),
     fault("command line/run with an unknown option", "run --threads 1", ONE_TEST_PLAN, BAD),
     fault("command line/run with a short option", "run -w 1", ONE_TEST_PLAN, BAD),
@@ -94,6 +97,8 @@ WORKER_FORMS = [
 
 RUNS = [
     answer("run/one test", "run", ONE_TEST_PLAN, ONE_TEST_REPORT),
+    answer("run/one test, end of the options", "run --", ONE_TEST_PLAN, ONE_TEST_REPORT),
+    answer("run/one test, end of the options after a number", "run --workers 2 --", ONE_TEST_PLAN, ONE_TEST_REPORT),
     answer("run/demo plan", "run", DEMO_PLAN, DEMO_REPORT),
 ] + [
     case
