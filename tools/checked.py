@@ -66,9 +66,9 @@ def state_of(top: str) -> State:
 def changes_of(top: str) -> List[str]:
     """Lists the files that differ from the commit, and those of which `git status` may not say it.
 
-    These are the files that are marked in the index, and those that .git/info/exclude names.
+    These are the files that are marked in the index, and new ones that .git/info/exclude or a user's settings name.
     """
-    status = git(top, "-c", "core.excludesFile=/dev/null", "-c", "core.fileMode=true", "status", "--porcelain", "--untracked-files=all")
+    status = git(top, "-c", "core.fileMode=true", "status", "--porcelain", "--untracked-files=no")
     marked = [line[2:] for line in git(top, "ls-files", "-v").decode(errors="replace").splitlines() if not line.startswith("H ")]
     others = git(top, "ls-files", "--others", "--exclude-per-directory=.gitignore").decode(errors="replace").splitlines()
     return [line[3:] for line in status.decode(errors="replace").splitlines()] + marked + others

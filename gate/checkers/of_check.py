@@ -9,11 +9,11 @@ import stat
 import subprocess
 import tempfile
 from dataclasses import dataclass
-from typing import Callable, Dict, List, Sequence, Set
+from typing import Callable, Dict, List, Sequence
 
 from outcomes import TOP, Came, Test, called, write_script
 
-GOOD = ['echo "a line"', 'echo "3 passed, 0 failed"']
+GOOD = ['echo "a line"', 'echo "30 passed, 0 failed"']
 
 RIGHT_CHECKERS: Dict[str, List[str]] = {
     "has no line feed at its end": ['printf "3 passed, 0 failed"'],
@@ -71,6 +71,8 @@ def checkers_of_the_gate() -> List[str]:
 PROGRAM = "crates/testkit/out/testkit"
 RUN = "crates/testkit/out/checked"
 KIT = "kit-7 logic 89ab"
+PYTHON = {"PYTHONDONTWRITEBYTECODE": "", "PYTHONUNBUFFERED": ""}
+"""Variables that would hide a file that Python leaves, or what it has not yet written."""
 AUTHOR = {f"GIT_{who}_{what}": "author" for who in ("AUTHOR", "COMMITTER") for what in ("NAME", "EMAIL")}
 
 
@@ -79,7 +81,7 @@ class Checked:
     """What came of `./check`, the calls of the checkers, the file that it leaves for packages, and what it had to leave there."""
 
     came: Came
-    calls: Set[str]
+    calls: List[str]
     left: str
     wanted: str
 
@@ -131,11 +133,11 @@ def check(change: Callable[[str], object], command: str = "check") -> Checked:
     with tempfile.TemporaryDirectory(prefix="checkers-") as at:
         repository(at)
         change(at)
-        came = called(f"{at}/{command}", cwd="/", env={**os.environ, "PATH": f"{at}/bin:{os.environ['PATH']}"})
+        came = called(f"{at}/{command}", cwd="/", env={**os.environ, **PYTHON, "PATH": f"{at}/bin:{os.environ['PATH']}"})
         program = hashlib.sha256(text_of(f"{at}/{PROGRAM}").encode()).hexdigest()
         commit, tree = git(at, "rev-parse", "HEAD"), git(at, "rev-parse", "HEAD^{tree}")
         wanted = f"commit {commit}\ntree {tree}\nkit {KIT}\nprogram {program}\npassed {came.passed}\n"
-        return Checked(came, set(text_of(f"{at}/out/calls").splitlines()), text_of(f"{at}/{RUN}"), wanted)
+        return Checked(came, text_of(f"{at}/out/calls").splitlines(), text_of(f"{at}/{RUN}"), wanted)
 
 
 def leaves(change: Callable[[str], object], command: str = "check") -> str:
@@ -161,6 +163,7 @@ TESTS_OF_RUNS: Dict[str, Callable[[], str]] = {
     "a clean tree": lambda: leaves(lambda at: None),
     "a clean tree of another commit": lambda: leaves(lambda at: (write(f"{at}/new", ""), commit(at))),
     "a clean tree that is called through a link": lambda: leaves(lambda at: os.symlink(at, f"{at}/out/link"), "out/link/check"),
+    "a clean tree, by a link to the script": lambda: leaves(lambda at: os.symlink(f"{at}/check", f"{at}/out/link"), "out/link"),
     "a file that is ignored": lambda: leaves(lambda at: write(f"{at}/out/new", "")),
     "a file changed": lambda: leaves_nothing(lambda at: write(f"{at}/.gitignore", "out/\n\n"), True, ": .gitignore is not as it was"),
     "a file added": lambda: leaves_nothing(lambda at: write(f"{at}/new", ""), True, ": new is not as it was"),
@@ -207,7 +210,7 @@ TESTS_OF_RUNS: Dict[str, Callable[[], str]] = {
 COMMITS = "cd {} && git -c user.name=a -c user.email=a commit -q --allow-empty -m new"
 
 
-SAID = "a line\n3 passed, 0 failed\n"
+SAID = "a line\n30 passed, 0 failed\n"
 """What each checker says."""
 
 TIMES = re.compile(
@@ -217,20 +220,28 @@ TIMES = re.compile(
 """How the gate ends where all is right."""
 
 
+ALONE = ("test_launcher", "check_sources", "test_check_sources", "test_check_documents", "test_check_costs")
+"""The checkers that need no program."""
+
+
+def calls_wanted() -> List[str]:
+    """The calls of the gate, sorted: all other checkers get the program, and one the built tests too."""
+    crates = ("test_records", "test_questions", "test_sessions", "test_plans", "test_runs", "test_hierarchical", "test_example_engine")
+    words = {**dict.fromkeys(ALONE, ""), "refuse_requests": " ".join([PROGRAM, *(f"crates/{it}/out/{it}_tests" for it in crates)])}
+    checkers = [os.path.basename(path) for path in checkers_of_the_gate()]
+    return sorted(["rt ci", "rt version", *(f"{it} {words.get(it, PROGRAM)}" for it in checkers)])
+
+
 def all_pass(command: str) -> str:
     found = check(lambda at: None, command)
     came, calls = found.came, found.calls
-    missing = {os.path.basename(path) for path in checkers_of_the_gate()} - {call.split()[0] for call in calls}
     checkers = 1 + len(checkers_of_the_gate())
-    wanted = 3 * checkers + 1
+    wanted = 30 * checkers + 1
     counted = "" if came.passed == wanted else f"{came.passed} passed, and {wanted} are wanted"
     unsaid = "" if came.said.count(SAID) == checkers and TIMES.search(came.said) else f"it says {came.said!r}"
-    program = PROGRAM
-    crates = ("test_records", "test_questions", "test_sessions", "test_plans", "test_runs", "test_hierarchical", "test_example_engine")
-    refusals = f"refuse_requests {program} " + " ".join(f"crates/{it}/out/{it}_tests" for it in crates)
-    lacking = {"rt ci", f"run_cases {program}", refusals, f"check_documents {program}", f"test_checkers {program}"} - calls
-    uncalled = f"{sorted(missing)} isn't called" if missing else ""
-    return came.fault(True) or uncalled or counted or (f"no call {sorted(lacking)}" if lacking else "") or unsaid
+    # (`rt ci` builds the program, so that it comes first)
+    uncalled = "" if sorted(calls) == calls_wanted() and calls[0] == "rt ci" else f"it calls {calls}, wanted {calls_wanted()}"
+    return came.fault(True) or uncalled or counted or unsaid
 
 
 def with_checker(*lines: str) -> Callable[[str], object]:
@@ -285,9 +296,28 @@ def nothing_done(lines: Sequence[str]) -> str:
     return came.fault(False) or ("" if came.failed == len(paths) else f"{came.failed} failed, and {len(paths)} do nothing")
 
 
-def breaks(change: Callable[[str], object], line: str) -> str:
+def with_full_device(at: str) -> None:
+    """Lets a script call the gate with a full device as its output."""
+    write_script(f"{at}/out/full", f'exec "{at}/check" >/dev/full')
+
+
+def with_input(at: str) -> None:
+    """Lets a script call the gate with an input, and a checker fail that can read it."""
+    write_script(f"{at}/out/fed", f'echo a line | "{at}/check"')
+    write_script(f"{at}/gate/cases/run_cases", "read -r line && exit 1", *GOOD)
+
+
+def with_watch(at: str) -> None:
+    """Lets a script call the gate, and a checker wait until its first line is shown."""
+    said = f"{at}/out/said"
+    write_script(f"{at}/out/watched", f'"{at}/check" >"{said}"; status=$?; cat "{said}"; exit $status')
+    waits = f"for it in $(seq 100); do grep -q 'now at it' '{said}' && break; sleep 0.1; [ $it != 100 ] || exit 1; done"
+    write_script(f"{at}/gate/cases/run_cases", "echo now at it", waits, *GOOD)
+
+
+def breaks(change: Callable[[str], object], line: str, command: str = "check") -> str:
     """After this change the gate can't work, and says so in one line."""
-    came = check(change).came
+    came = check(change, command).came
     return came.fault(None) or ("" if line in came.said else f"it says {came.said!r}")
 
 
@@ -305,6 +335,9 @@ def tests_of_check() -> List[Test]:
     for name, lines in RIGHT_CHECKERS.items():
         found.append(Test(f"a checker {name}", lambda lines=lines: check(with_checker(*lines)).came.fault(True)))
     found.append(Test("a folder in the place of an older run", lambda: breaks(with_folder, "Is a directory")))
+    found.append(Test("a checker gets no input", lambda: check(with_input, "out/fed").came.fault(True)))
+    found.append(Test("a line is shown at once", lambda: check(with_watch, "out/watched").came.fault(True)))
+    found.append(Test("a full device", lambda: breaks(with_full_device, "No space left", "out/full")))
     found.append(Test("an interrupt", lambda: breaks(with_interrupt, "KeyboardInterrupt")))
     found.append(Test("a checker is missing", lambda: without("gate/cases/run_cases")))
     for name, lines in WRONG_LAUNCHERS.items():

@@ -147,5 +147,6 @@ TRIALS = [
         lines=[(line, "much\nno such package", 100) if line == INSTALL else (line, printed, status) for line, printed, status in LINES],
     ),
     Trial("an interrupt", 130, debootstrap=('mkdir -p "$3/etc"', "kill -INT $PPID")),
+    Trial("an end of the terminal", 130, debootstrap=('mkdir -p "$3/etc"', "kill -HUP $PPID")),
     Trial("a request to end", 130, debootstrap=('mkdir -p "$3/etc"', "kill -TERM $PPID")),
 ]

@@ -23,10 +23,13 @@ RUN = "crates/testkit/out/checked"
 KIT = "rattle-kit-0 logic 0123456789abcdef"
 PASSED = 12
 
+PYTHON = {"PYTHONDONTWRITEBYTECODE": "", "PYTHONUNBUFFERED": ""}
+"""Variables that would hide a file that Python leaves, or what it has not yet written."""
+
 AUTHOR = {
     "GIT_AUTHOR_NAME": "Another author",
     "GIT_AUTHOR_EMAIL": "another@place.example",
-    "GIT_COMMITTER_NAME": "An author",
+    "GIT_COMMITTER_NAME": "An äuthor",
     "GIT_COMMITTER_EMAIL": "author@place.example",
 }
 """Who wrote the commits, and who made them, who is the package's maintainer."""
@@ -43,7 +46,7 @@ class Came:
 
 def called(words: Sequence[str], cwd: str = "/", stdin: str = os.devnull, user: Optional[int] = None, **changed: str) -> Came:
     """Calls a program in a folder, as another user if one is given, with variables changed, and PROGRAM unset."""
-    environment = {**os.environ, **changed}
+    environment = {**os.environ, **PYTHON, **changed}
     environment.pop("PROGRAM", None)
     as_user = [] if user is None else ["setpriv", f"--reuid={user}", f"--regid={user}", "--clear-groups"]
     with open(stdin, "rb") as given:
