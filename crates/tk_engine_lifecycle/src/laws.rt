@@ -8,8 +8,9 @@ ghost use Rattle.tk_engine_lifecycle.specs.Units.{UnitsKeepLifecycle};
 
 use tk_engine_execute::{Engine, Results};
 
-/// Where each unit of an engine keeps the lifecycle in a run of its own, and no id belongs to two
-/// units, each run of the engine keeps it, whoever ran its units and in whatever order.
+/// Where each unit of an engine keeps the lifecycle in a run of its own, no id belongs to two units,
+/// and what stands around the units keeps it by itself, each run of the engine keeps it, whoever ran
+/// its units and in whatever order.
 ///
 /// `owner` says to which unit an id belongs. Each record that
 /// [`execute`](tk_engine_execute::execute) answers is such a run.
