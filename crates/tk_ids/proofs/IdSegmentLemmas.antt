@@ -5,8 +5,8 @@ use Rattle.std.proofs.lemmas.Option.{same_Some, none-some}
 use Rattle.std.specs.List.{starts_with}
 use Rattle.std.specs.Cmp.Lexicographic.{bytes_decides}
 use Rattle.std.proofs.lemmas.List.{append_assoc, append-nil, drop_more, take_at, take-append-drop, get_or_at, length-append}
-use Rattle.tk_ids.specs.declared.reading.Escape.{Escape}
-use Rattle.tk_ids.specs.declared.reading.Escape.TheVariants.{Plain}
+use Rattle.tk_ids.specs.declared.escapes.Escape.{Escape}
+use Rattle.tk_ids.specs.declared.escapes.Escape.TheVariants.{Plain}
 use Rattle.tk_ids.specs.Machine.{run}
 use Rattle.tk_ids.specs.IdText.{SegmentView, IsId, IsBelow, IsEngine, id_text, segment_text, FitsLimits}
 use Rattle.tk_ids.specs.IdSegments.{segments_of, whole_segments, IsTextOfId}

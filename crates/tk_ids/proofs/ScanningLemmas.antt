@@ -4,8 +4,8 @@ use Rattle.std.specs.Str.{IsUtf8}
 use Rattle.std.proofs.lemmas.Option.{same_Some, cond_some}
 use Rattle.std.proofs.lemmas.List.{append-nil, length-append}
 use Rattle.std.proofs.lemmas.Bool.{lt-ltb}
-use Rattle.tk_ids.specs.declared.reading.Escape.{Escape}
-use Rattle.tk_ids.specs.declared.reading.Escape.TheVariants.{Plain, Percent, Digit}
+use Rattle.tk_ids.specs.declared.escapes.Escape.{Escape}
+use Rattle.tk_ids.specs.declared.escapes.Escape.TheVariants.{Plain, Percent, Digit}
 use Rattle.tk_ids.specs.declared.scanning.Part.{Part}
 use Rattle.tk_ids.specs.declared.scanning.ScanState.{ScanState}
 use Rattle.tk_ids.specs.declared.scanning.ScanState.TheVariants.{Start, Tag, Value, End}

@@ -2,8 +2,8 @@
 use Rattle.std.specs.Prelude.{◌≡◌, ◌≤◌, ◌<◌, ℕ, Bool, true, false, ◌==◌, ◌&&◌}
 use Rattle.std.specs.Prelude.{List, length, slice_index}
 use Rattle.std.specs.Prelude.{Option, Some, None, option_map, is_some, if◌then◌else◌}
-use Rattle.tk_ids.specs.declared.reading.Escape.{Escape}
-use Rattle.tk_ids.specs.declared.reading.Escape.TheVariants.{Plain, Percent, Digit}
+use Rattle.tk_ids.specs.declared.escapes.Escape.{Escape}
+use Rattle.tk_ids.specs.declared.escapes.Escape.TheVariants.{Plain, Percent, Digit}
 use Rattle.tk_ids.specs.declared.scanning.Part.{Part}
 use Rattle.tk_ids.specs.declared.scanning.ScanState.{ScanState}
 use Rattle.tk_ids.specs.declared.scanning.ScanState.TheVariants.{Start, Tag, Value, End}

@@ -4,9 +4,10 @@ ghost use Rattle.std.specs.Arc.{arc_value};
 ghost use Rattle.std.specs.Cmp;
 ghost use Rattle.std.specs.Cmp.Lexicographic.{pointwise, bytes_decides, nat_list_eq_equiv};
 ghost use Rattle.std.specs.Hash as fed;
+ghost use Rattle.tk_ids.specs.KeptTexts.{kept_text};
 ghost use Rattle.std.proofs.Common.{ap};
 
-use crate::ids::IdFields;
+use crate::id_fields::IdFields;
 use crate::texts::Text;
 use indexmap::Equivalent;
 use std::hash::{Hash, Hasher};
@@ -22,16 +23,17 @@ pub struct IdText {
 impl Model for IdText {
     ghost use Rattle.std.specs.Prelude.{ℕ, List};
     ghost use Rattle.std.specs.Arc.{arc_value};
+    ghost use Rattle.tk_ids.specs.KeptTexts.{kept_text};
 
     ghost Value = { List ℕ };
 
-    ghost view = { λ t. (arc_value t.path).text };
+    ghost view = { λ t. kept_text (arc_value t.path) };
 }
 
 impl IdText {
     /// Makes the key of the id that keeps `path`. Its text is not copied.
     pub(crate) fn of(path: Arc<IdFields>) -> IdText
-        ensures { result ≡ (arc_value path).text }
+        ensures { result ≡ kept_text (arc_value path) }
     {
         IdText { path }
     }
@@ -40,7 +42,7 @@ impl IdText {
     pub fn as_text(&self) -> &Text
         ensures { result.now ≡ self.now }
     {
-        &self.path.text
+        self.path.text()
     }
 }
 

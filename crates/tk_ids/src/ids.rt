@@ -5,9 +5,10 @@ ghost use Rattle.tk_ids.specs.IdSegments.{IsLastSlash, IsCheckedAs};
 ghost use Rattle.tk_ids.specs.Answer.{IsFaultAfter};
 
 use crate::id_faults::IdFault;
+use crate::id_fields::IdFields;
 use crate::id_texts::IdText;
-use crate::reading::Reader;
 use crate::scanning::count_segments;
+use crate::segment_lists::Segments;
 use crate::segments::Segment;
 use crate::texts::Text;
 use crate::writing::push_segment;
@@ -22,13 +23,6 @@ pub const MAX_BYTES: usize = 4096;
 /// The most segments that an id may have.
 pub const MAX_SEGMENTS: usize = 64;
 
-/// What an id keeps: its text, and how many segments it has.
-#[derive(Drop)]
-pub(crate) struct IdFields {
-    pub(crate) text: Text,
-    segment_count: usize,
-}
-
 /// A descriptor's path from its root, one segment or more. Clones share it. JUnit: `UniqueId`.
 #[derive(Drop)]
 pub struct UniqueId {
@@ -39,19 +33,20 @@ impl Model for UniqueId {
     ghost use Rattle.std.specs.Prelude.{List};
     ghost use Rattle.std.specs.Arc.{arc_value};
     ghost use Rattle.tk_ids.specs.IdText.{SegmentView};
-    ghost use Rattle.tk_ids.specs.IdSegments.{segments_of, IsTextOfId};
+    ghost use Rattle.tk_ids.specs.IdSegments.{segments_of};
+    ghost use Rattle.tk_ids.specs.KeptTexts.{kept_text, AreKept};
 
     ghost Value = { List SegmentView };
 
-    ghost view = { λ u. segments_of (arc_value u.path).text };
+    ghost view = { λ u. segments_of (kept_text (arc_value u.path)) };
 
-    ghost invariant = { λ u. IsTextOfId (arc_value u.path).text (arc_value u.path).segment_count };
+    ghost invariant = { λ u. AreKept (arc_value u.path) };
 }
 
 /// Shows the id's text, in quotes.
 impl fmt::Debug for UniqueId {
     fn fmt<W: fmt::Write>(&self, f: &mut fmt::Formatter<W>) -> fmt::Result {
-        fmt::Debug::fmt(&self.path.text, f)
+        fmt::Debug::fmt(self.path.text(), f)
     }
 }
 
@@ -116,13 +111,7 @@ impl UniqueId {
         ensures { IfOk result (λ id. id ≡ segments_of text) }
     {
         Ok(UniqueId {
-            path: Arc::new(
-                alloc,
-                IdFields {
-                    text,
-                    segment_count,
-                },
-            )?,
+            path: Arc::new(alloc, IdFields::new(alloc, text, segment_count)?)?,
         })
     }
 
@@ -163,7 +152,7 @@ impl UniqueId {
         ensures id { IsId self.now }
         ensures fits { FitsLimits self.now }
     {
-        self.path.text.try_clone()
+        self.path.text().try_clone()
     }
 
     /// Lends the id's text.
@@ -173,7 +162,7 @@ impl UniqueId {
         ensures id { IsId self.now }
         ensures fits { FitsLimits self.now }
     {
-        &self.path.text
+        self.path.text()
     }
 
     // Lends the bytes of the id's text.
@@ -201,27 +190,18 @@ impl UniqueId {
     pub fn segment_count(&self) -> usize
         ensures { result ≡ length self.now }
     {
-        self.path.segment_count
+        self.path.segment_count()
     }
 
-    /// Makes the segments, beginning with the root's, from the id's text.
-    ///
-    /// # Errors
-    /// `AllocError` where a request for memory is refused.
-    pub fn segments(&self, alloc: Global) -> Result<Vec<Segment>, AllocError>
-        ensures { IfOk result (λ segments. segments.items ≡ self.now) }
+    /// Lends the segments, beginning with the root's.
+    pub fn segments(&self) -> Segments<'_>
+        ensures { result ≡ self.now }
     {
-        let bytes = self.as_bytes();
-        let mut reader = Reader::new(alloc);
-        for byte in bytes {
-            if !reader.feed(alloc, *byte)? {
-                unreachable!()
-            }
-        }
-        match reader.finish() {
-            Some(segments) => Ok(segments),
-            None => unreachable!(),
-        }
+        Segments::new(
+            self.path.text().as_str(),
+            self.path.plain_text().as_str(),
+            self.segment_count(),
+        )
     }
 
     /// Whether the id is one segment with the tag `engine`.

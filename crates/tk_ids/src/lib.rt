@@ -2,12 +2,14 @@
 #![tactic(auto)]
 
 mod descriptors;
+mod escapes;
 mod id_faults;
+mod id_fields;
 mod id_texts;
 mod ids;
 pub mod laws;
-mod reading;
 mod scanning;
+mod segment_lists;
 mod segments;
 mod tables;
 mod texts;
@@ -17,6 +19,7 @@ pub use descriptors::{DType, Descriptor};
 pub use id_faults::IdFault;
 pub use id_texts::IdText;
 pub use ids::{MAX_BYTES, MAX_SEGMENTS, UniqueId};
+pub use segment_lists::{SegmentIter, SegmentRef, Segments};
 pub use segments::Segment;
 pub use tables::{MAX_DESCRIPTORS, Table, TableFault};
 pub use texts::Text;

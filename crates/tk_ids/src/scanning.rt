@@ -4,7 +4,7 @@ ghost use Rattle.tk_ids.specs.declared.scanning.ScanState.TheVariants.{End};
 ghost use Rattle.tk_ids.specs.Answer.{IsBadAt};
 ghost use Rattle.tk_ids.specs.Scanning.{part, part_after, is_ended, state_after, ended_segments, KeepsPlainBytes, ArePlain, HasSegments};
 
-use crate::reading::{Escape, byte_of_digits, digits_of_byte};
+use crate::escapes::{Escape, byte_of_digits, digits_of_byte};
 
 /// What is known of a tag or a value as far as it is read.
 #[derive(Clone, Copy)]

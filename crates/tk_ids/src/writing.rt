@@ -2,7 +2,7 @@
 ghost use Rattle.std.specs.Prelude.{◌≡◌, ◌++◌, OnOk, IsTrue};
 ghost use Rattle.tk_ids.specs.IdText.{escaped, segment_text, IsSegment};
 
-use crate::reading::digits_of_byte;
+use crate::escapes::digits_of_byte;
 use crate::segments::Segment;
 use std::alloc::AllocError;
 
