@@ -4,8 +4,8 @@ pub use tk_events::{
     try_clone_message,
 };
 pub use tk_ids::{
-    DType, Descriptor, IdFault, IdText, MAX_BYTES, MAX_DESCRIPTORS, MAX_SEGMENTS, Segment, Table,
-    TableFault, Text, UniqueId,
+    DType, Descriptor, IdFault, IdText, MAX_BYTES, MAX_DESCRIPTORS, MAX_SEGMENTS, Segment,
+    SegmentIter, SegmentRef, Segments, Table, TableFault, Text, UniqueId,
 };
 pub use tk_lanes::{
     Flags, admits, and_into, count_byte, first_from, gather, mask_byte, mask_flag, mask_u32,

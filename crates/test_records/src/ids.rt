@@ -202,11 +202,11 @@ fn a_long_segment(rt: HostRuntime) {
     assert_eq!(rt; bytes_of_value(rt.alloc(), 100_000), Some(100_001));
 }
 
-// How many segments an id of 64 has, which are read from its text.
+// How many segments an id of 64 has.
 fn count_of_segments(alloc: Global) -> Option<usize> {
     let text = repeated(alloc, "[a:b", "]/[a:b", 63).ok()?;
     let id = UniqueId::from_text(alloc, Text::from(text)).ok()?;
-    Some(id.segments(alloc).ok()?.len())
+    Some(id.segments().iter().count())
 }
 
 #[test]
@@ -214,14 +214,41 @@ fn as_many_segments_as_may_be(rt: HostRuntime) {
     assert_eq!(rt; count_of_segments(rt.alloc()), Some(64));
 }
 
-// How many bytes the last value of the longest id has, which is read from the id's text.
+// How many bytes the last value of the longest id has.
 fn bytes_of_last_value(alloc: Global) -> Option<usize> {
     let id = lengthened(alloc, &engine(alloc).ok()?, 4081).ok()?;
-    let segments = id.segments(alloc).ok()?;
-    Some(segments.last()?.value().len())
+    let segments = id.segments();
+    Some(segments.get(segments.len() - 1)?.value().len())
 }
 
 #[test]
 fn segments_of_the_longest_id(rt: HostRuntime) {
     assert_eq!(rt; bytes_of_last_value(rt.alloc()), Some(4081));
+}
+
+// The segments of an id, as `tag=value`, each with a semicolon after it.
+fn listed_segments(alloc: Global, text: &str) -> Option<String> {
+    let id = UniqueId::read(alloc, text).ok()?;
+    let mut list = String::new(alloc);
+    for segment in id.segments().iter() {
+        list.push_str(segment.tag()).ok()?;
+        list.push('=').ok()?;
+        list.push_str(segment.value()).ok()?;
+        list.push(';').ok()?;
+    }
+    Some(list)
+}
+
+// Whether the segments of an id are listed so.
+fn are_listed(alloc: Global, text: &str, want: &str) -> bool {
+    match listed_segments(alloc, text) {
+        Some(list) => list.as_str() == want,
+        None => false,
+    }
+}
+
+#[test]
+fn lists_of_segments(rt: HostRuntime) {
+    assert!(rt; are_listed(rt.alloc(), "[engine:e]/[ä:1]", "engine=e;ä=1;"));
+    assert!(rt; are_listed(rt.alloc(), "[%2F%25:ä%5D]/[c:%2B]/[d:d]", "/%=ä];c=+;d=d;"));
 }

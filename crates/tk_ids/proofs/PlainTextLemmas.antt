@@ -1,13 +1,13 @@
 -- The text of an id without its escapes.
-use Rattle.std.proofs.Common.{◌≡◌, ℕ, ◌+◌, ◌<◌, ◌≤◌, Bool, false, true, cond, eqb, List, [], ◌∷◌, ◌++◌, length, drop, get_or, Option, Some, None, refl, sym, ap, ◌∙◌, subst, arith}
+use Rattle.std.proofs.Common.{◌≡◌, ℕ, ◌+◌, ◌<◌, ◌≤◌, false, cond, eqb, List, [], ◌∷◌, ◌++◌, length, drop, get_or, Option, Some, None, refl, sym, ap, ◌∙◌, subst, arith}
 use Rattle.std.specs.List.{AllByRecursion, list_any}
 use Rattle.std.specs.Str.{IsUtf8}
-use Rattle.std.proofs.lemmas.Bool.{cond_both, ne_eqb, eqb-true, false≢true}
+use Rattle.std.proofs.lemmas.Bool.{cond_both, ne_eqb}
 use Rattle.std.proofs.lemmas.List.{append_assoc, append-nil, drop_more, drop_all}
 use Rattle.std.proofs.lemmas.Str.{IsUtf8-append, IsUtf8-nil}
 use Rattle.tk_ids.specs.declared.escapes.Escape.{Escape}
 use Rattle.tk_ids.specs.declared.escapes.Escape.TheVariants.{Plain, Percent, Digit}
-use Rattle.tk_ids.specs.IdText.{SegmentView, digits_of, spelled_by, escaped, segment_text, id_text, IsSegment, IsId, IsIdText}
+use Rattle.tk_ids.specs.IdText.{SegmentView, digits_of, spelled_by, escaped, segment_text, id_text, IsSegment, IsIdText}
 use Rattle.tk_ids.specs.IdSegments.{segments_of, IsTextOfId}
 use Rattle.tk_ids.specs.PlainText.{plain_segment_text, plain_text}
 use Rattle.tk_ids.specs.Reading.{byte_of}

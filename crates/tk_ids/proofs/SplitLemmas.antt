@@ -1,5 +1,5 @@
 -- The first segment of an id is split off its texts.
-use Rattle.std.proofs.Common.{◌≡◌, ℕ, ◌+◌, ◌-◌, ◌<◌, ◌≤◌, min, Bool, cond, eqb, List, [], ◌∷◌, ◌++◌, length, length-drop, take, drop, get_or, refl, sym, ap, ◌∙◌, subst, arith, inl, inr, ◌⊎◌, ⊎_elim}
+use Rattle.std.proofs.Common.{◌≡◌, ℕ, ◌+◌, ◌-◌, ◌<◌, ◌≤◌, min, cond, eqb, List, [], ◌∷◌, ◌++◌, length, length-drop, take, drop, get_or, refl, sym, ap, ◌∙◌, subst, arith, inl, inr, ◌⊎◌, ⊎_elim}
 use Rattle.std.specs.Prelude.{map}
 use Rattle.std.specs.List.{AllByRecursion, join_with_byte, slice_range}
 use Rattle.std.specs.Str.{IsUtf8, IsCharBoundary}
@@ -155,14 +155,17 @@ first_of text plain count h some =
     elim (segments_of text) as (λ l. segments_of text ≡ l → (s : SegmentView) × (more : List SegmentView) × IsFirst text plain s more) [
       | [] ↦ λ e. absurd (some (h.counted ∙ ap length e))
       | s ∷ more ↦ λ e.
-          let all : AllByRecursion IsSegment (s ∷ more) = subst (AllByRecursion IsSegment) e h.segments in
-          (s, more, record {
-            whole = e;
-            segment = all.0;
-            others = all.1;
-            spells = h.spells ∙ ap id_text e ∙ first_joined segment_text s more ∙ spread (escaped s.tag) (escaped s.value) (after segment_text more);
-            spells_plain = h.spells_plain ∙ ap plain_text e ∙ first_joined plain_segment_text s more ∙ spread s.tag s.value (after plain_segment_text more);
-          })
+          let all : AllByRecursion IsSegment (s ∷ more) = subst (AllByRecursion IsSegment) e h.segments in (
+            s,
+            more,
+            record {
+              whole = e;
+              segment = all.0;
+              others = all.1;
+              spells = h.spells ∙ ap id_text e ∙ first_joined segment_text s more ∙ spread (escaped s.tag) (escaped s.value) (after segment_text more);
+              spells_plain = h.spells_plain ∙ ap plain_text e ∙ first_joined plain_segment_text s more ∙ spread s.tag s.value (after plain_segment_text more);
+            },
+          )
     ] refl
 
 -- `&text[n..]`

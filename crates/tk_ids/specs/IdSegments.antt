@@ -16,7 +16,8 @@ whole_segments (Some (InTag done p)) = []
 whole_segments (Some (InValue done tag p)) = []
 whole_segments (Some (Closed done)) = done
 
--- the segments of an id's text
+-- The segments of an id's text: the id whose `id_text` it is (`SegmentsAreRead`). Of any other text
+-- it means nothing.
 unfoldable pub segments_of : List ℕ → List SegmentView
 segments_of text = whole_segments (run step (Before []) text)
 

@@ -6,12 +6,17 @@ use Rattle.tk_ids.specs.declared.descriptors.Descriptor.{Descriptor}
 use Rattle.tk_ids.specs.declared.tables.TableFault.{TableFault}
 use Rattle.tk_ids.specs.declared.tables.TableFault.TheVariants as table_faults
 use Rattle.tk_ids.specs.IdText.{SegmentView, IsId, id_text}
+use Rattle.tk_ids.specs.IdSegments.{segments_of}
 use Rattle.tk_ids.specs.Answer.{IsReadAs}
 use Rattle.tk_ids.specs.Table.{Addition, IsAddedAs, IsInsertedAs}
 
 -- two ids never have one text
 abbrev pub TextIsUnique : Type 0
 TextIsUnique = (a b : List SegmentView) → IsId a → IsId b → id_text a ≡ id_text b → a ≡ b
+
+-- the segments that are read of an id's text are the id
+abbrev pub SegmentsAreRead : Type 0
+SegmentsAreRead = (id : List SegmentView) → IsId id → segments_of (id_text id) ≡ id
 
 -- a text has one answer beside `Memory`
 abbrev pub AnswerIsUnique : Type 0

@@ -37,8 +37,8 @@ impl Segment {
     ghost use Rattle.tk_ids.specs.IdText.{IsNonEmptyText};
     ghost use Rattle.tk_ids.specs.Answer.{IsSegmentOf};
 
-    /// Makes a segment of copies of `tag` and `value`, which have no escapes and aren't empty.
-    pub(crate) fn of_texts(alloc: Global, tag: &str, value: &str) -> Result<Segment, AllocError>
+    // Makes a segment of copies of `tag` and `value`, which have no escapes and aren't empty.
+    fn of_texts(alloc: Global, tag: &str, value: &str) -> Result<Segment, AllocError>
         requires tag { IsNonEmptyText tag.now }
         requires value { IsNonEmptyText value.now }
         ensures { IfOk result (λ s. s ≡ record { tag = tag.now; value = value.now }) }

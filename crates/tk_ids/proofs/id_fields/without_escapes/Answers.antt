@@ -1,7 +1,5 @@
-use Rattle.std.proofs.Common.{◌≡◌, List, ℕ, sym, ap, ◌∙◌, subst}
+use Rattle.std.proofs.Common.{sym, ◌∙◌, subst}
 use Rattle.std.specs.Str.{IsUtf8}
-use Rattle.tk_ids.specs.PlainText.{plain_text}
-use Rattle.tk_ids.specs.IdSegments.{segments_of}
 use Rattle.tk_ids.proofs.PlainTextLemmas.{written_end, utf8_of_id}
 use Rattle.tk_ids.proofs.id_fields.without_escapes.Goals as goal
 

@@ -1,5 +1,4 @@
-use Rattle.std.proofs.Common.{◌≡◌, ◌∷◌, ◌∙◌, List, ℕ, length, sym, ap, ap₂, subst, arith}
-use Rattle.std.specs.Str.{IsCharBoundary}
+use Rattle.std.proofs.Common.{◌∷◌, ◌∙◌, List, ℕ, length, sym, ap, ap₂, arith}
 use Rattle.tk_ids.specs.IdText.{SegmentView}
 use Rattle.tk_ids.proofs.SplitLemmas.{first_of, tag_split, plain_split, next_text, next_plain, segments_of_all, texts_of_all}
 use Rattle.tk_ids.proofs.segment_lists.Segments.split_first.Goals as goal
