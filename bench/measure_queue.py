@@ -36,8 +36,8 @@ def rates(written: bytes) -> Dict[int, List[float]]:
 
 
 def measure(folder: str, _words: List[str]) -> None:
-    building.copy_built(folder, ["tk_queue", "tk_record"])
-    line = "queue_bench: tk_queue tk_record tk_events tk_ids crossbeam_utils"
+    building.copy_built(folder, ["tk_queue", "tk_record", "tk_waiting"])
+    line = "queue_bench: tk_queue tk_record tk_events tk_ids tk_waiting"
     crate = building.add_crate(folder, line, f"{HERE}/main.rt.in", "src/main.rt")
     building.call(["rt", "run"], crate)
     plain = building.compile_plain(f"{HERE}/plain.rs", f"{folder}/plain")

@@ -1,5 +1,5 @@
 //! Engines of two lists of steps, one for unit 0 and one for each other unit.
-ghost use Rattle.std.specs.Prelude.{◌≡◌, ◌<◌, ◌≤◌, [], if◌then◌else◌, nat_eq};
+ghost use Rattle.std.specs.Prelude.{◌≡◌, ◌<◌, ◌≤◌, [], if◌then◌else◌, nat_eq, slice_index};
 ghost use Rattle.std.specs.Arc.{arc_value};
 ghost use Rattle.tk_engine_execute.specs.Grown.{Grew};
 
@@ -36,31 +36,92 @@ pub enum UnitStep {
     FailAsWorker,
 }
 
-/// An engine over a table of one node, whose unit 0 does the one list of steps under the one need, and each other unit the
-/// other one under the other need.
+/// The units of an engine: how many there are, and what they do. Unit 0 does the first list of steps
+/// under the first need, and each other unit the second list under the second need.
+#[derive(Clone, Copy)]
+pub struct Units<'a> {
+    pub count: u32,
+    pub needs: [Need; 2],
+    pub steps: [&'a [UnitStep]; 2],
+}
+
+impl<'a> Units<'a> {
+    /// Units that run side by side. Unit 0 does the first steps, each other unit the second.
+    pub fn beside(count: u32, steps: [&'a [UnitStep]; 2]) -> Units<'a> {
+        Units {
+            count,
+            needs: [Need::of(1, 0); 2],
+            steps,
+        }
+    }
+
+    /// Units that run side by side, and do the same steps.
+    pub fn alike(count: u32, steps: &'a [UnitStep]) -> Units<'a> {
+        Units::beside(count, [steps, steps])
+    }
+}
+
+/// How often an engine was asked for some events, and the bits of the units that had come to their
+/// end when it was asked last.
+#[derive(Clone, Copy, PartialEq, Eq)]
+pub struct Asked {
+    pub times: u64,
+    pub ended: u64,
+}
+
+/// What an engine saw of a run: the sum of a bit for each unit that began and that came to its end,
+/// and how it was asked for the events before and after its units. Each of 60 units has its own bit.
+#[derive(Clone, Copy, PartialEq, Eq)]
+pub struct Seen {
+    pub begun: u64,
+    pub ended: u64,
+    pub before: Asked,
+    pub after: Asked,
+}
+
+#[derive(Drop)]
+struct AskedCounter {
+    times: AtomicU64,
+    ended: AtomicU64,
+}
+
+impl AskedCounter {
+    fn new() -> AskedCounter {
+        AskedCounter {
+            times: AtomicU64::new(0),
+            ended: AtomicU64::new(0),
+        }
+    }
+
+    fn note(&self, ended: u64) {
+        self.times.fetch_add(1, Ordering::SeqCst);
+        self.ended.store(ended, Ordering::SeqCst);
+    }
+
+    fn asked(&self) -> Asked {
+        Asked {
+            times: self.times.load(Ordering::SeqCst),
+            ended: self.ended.load(Ordering::SeqCst),
+        }
+    }
+}
+
+/// An engine of such units, over a table of one node.
 #[derive(Drop)]
 pub struct StepEngine<'a> {
     table: Arc<Table>,
     segment: Segment,
-    units: u32,
-    need: Need,
-    need_of_others: Need,
-    first: &'a [UnitStep],
-    others: &'a [UnitStep],
+    units: Units<'a>,
     begun: AtomicU64,
     ended: AtomicU64,
-    ghost few: { units ≤ 65536 },
+    before: AskedCounter,
+    after: AskedCounter,
+    ghost few: { units.count ≤ 65536 },
 }
 
 /// Makes an engine of at most 65,536 units; none where there are more, or memory was refused.
-pub fn engine<'a>(
-    alloc: Global,
-    units: u32,
-    needs: [Need; 2],
-    first: &'a [UnitStep],
-    others: &'a [UnitStep],
-) -> Option<StepEngine<'a>> {
-    if units > 65_536 {
+pub fn engine<'a>(alloc: Global, units: Units<'a>) -> Option<StepEngine<'a>> {
+    if units.count > 65_536 {
         return None;
     }
     let segment = Segment::new(alloc, "d", "1").ok()?;
@@ -69,12 +130,10 @@ pub fn engine<'a>(
         table,
         segment,
         units,
-        need: needs[0],
-        need_of_others: needs[1],
-        first,
-        others,
         begun: AtomicU64::new(0),
         ended: AtomicU64::new(0),
+        before: AskedCounter::new(),
+        after: AskedCounter::new(),
     })
 }
 
@@ -84,20 +143,20 @@ fn bit(unit: u32) -> u64 {
 }
 
 impl StepEngine<'_> {
-    /// The sum of a bit for each unit that has begun. Each of 60 units has its own.
-    pub fn begun(&self) -> u64 {
-        self.begun.load(Ordering::SeqCst)
-    }
-
-    /// The sum of the bits of the units that have come to their end.
-    pub fn ended(&self) -> u64 {
-        self.ended.load(Ordering::SeqCst)
+    /// What the engine has seen so far.
+    pub fn seen(&self) -> Seen {
+        Seen {
+            begun: self.begun.load(Ordering::SeqCst),
+            ended: self.ended.load(Ordering::SeqCst),
+            before: self.before.asked(),
+            after: self.after.asked(),
+        }
     }
 
     // Whether `units` units begin within 10,000,000 turns.
     fn have_begun(&self, units: u32) -> bool {
         for _ in 0..10_000_000 {
-            if self.begun().count_ones() >= units {
+            if self.begun.load(Ordering::SeqCst).count_ones() >= units {
                 return true;
             }
             thread::yield_now();
@@ -133,7 +192,7 @@ impl StepEngine<'_> {
     }
 
     fn steps(&self, unit: u32) -> &[UnitStep] {
-        if unit == 0 { self.first } else { self.others }
+        self.units.steps[usize::from(unit != 0)]
     }
 }
 
@@ -204,13 +263,14 @@ fn play<R: Wait, S: Sink>(
 impl Engine for StepEngine<'_> {
     ghost table = { λ e. arc_value e.table };
 
-    ghost units = { λ e. e.units };
+    ghost units = { λ e. e.units.count };
 
     ghost before = { λ e. [] };
 
     ghost after = { λ e. [] };
 
-    ghost need = { λ e u. if nat_eq u 0 then e.need else e.need_of_others };
+    ghost need = { λ e u.
+        if nat_eq u 0 then slice_index e.units.needs 0 else slice_index e.units.needs 1 };
 
     ghost may = { λ e u w k l. Unit {0} };
 
@@ -219,22 +279,24 @@ impl Engine for StepEngine<'_> {
     }
 
     fn units(&self) -> u32 {
-        self.units
+        self.units.count
     }
 
     fn before(&self, alloc: Global) -> Result<Vec<Event>, AllocError> {
+        self.before.note(self.ended.load(Ordering::SeqCst));
         Ok(Vec::new(alloc))
     }
 
     fn after(&self, alloc: Global) -> Result<Vec<Event>, AllocError> {
+        self.after.note(self.ended.load(Ordering::SeqCst));
         Ok(Vec::new(alloc))
     }
 
     fn need(&self, unit: u32) -> Need {
         if unit == 0 {
-            self.need
+            self.units.needs[0]
         } else {
-            self.need_of_others
+            self.units.needs[1]
         }
     }
 

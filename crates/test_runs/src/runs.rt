@@ -1,35 +1,40 @@
 //! Engines that are run by one to fifteen workers.
-use crate::engines::{StepEngine, UnitStep, engine};
+use crate::engines::{Asked, Seen, UnitStep, Units, engine};
 use std::alloc::Global;
 use std::sync::Wait;
 use std::thread::Threads;
 use tk_book::Need;
 use tk_engine_execute::{Results, RunFault, UnitFault, execute};
 
-// What a run answered, as a plain value.
+// What a run recorded: how many entries, the stamps of the first four, and how many events the
+// closed session says that worker 1 and that all workers emitted.
 #[derive(Clone, Copy)]
-enum Outcome {
-    /// How many entries there are, the digits of the first four stamps, and what the closed session says that worker 1 and
-    /// all workers emitted.
-    Recorded {
-        entries: usize,
-        stamps: u64,
-        emitted_by_one: u64,
-        emitted: u64,
-    },
-    Workers,
-    Capacity,
-    /// A unit failed with a number of its own.
-    Own(u32, u32),
-    /// For want of memory.
-    Refused,
-    /// A thread was refused.
-    NoThread,
-    /// The sink refused an event of this unit.
-    Sink(u32),
-    /// This unit failed for want of memory.
-    NoMemory(u32),
+struct Recorded {
+    entries: usize,
+    stamps: [u64; 4],
+    emitted_by_one: u64,
+    emitted: u64,
 }
+
+// What a run answered, and what the engine saw of it.
+#[derive(Drop)]
+struct Ran {
+    answer: Result<Recorded, RunFault>,
+    seen: Seen,
+}
+
+// Nothing of an engine's run.
+const NOT_ASKED: Asked = Asked { times: 0, ended: 0 };
+
+const NOTHING: Seen = Seen {
+    begun: 0,
+    ended: 0,
+    before: NOT_ASKED,
+    after: NOT_ASKED,
+};
+
+// The bits of 60 units.
+const ALL_OF_60: u64 = (1 << 60) - 1;
 
 // How many events the closed session says that the workers emitted.
 fn emitted(results: &Results) -> u64 {
@@ -40,95 +45,66 @@ fn emitted(results: &Results) -> u64 {
     all
 }
 
-// The digits of the first four stamps.
-fn stamps(results: &Results) -> u64 {
-    let mut digits = 0u64;
+// The stamps of the first four entries, and 0 where there are fewer.
+fn stamps(results: &Results) -> [u64; 4] {
+    let mut stamps = [0u64; 4];
     for position in 0..4usize {
         if let Some(entry) = results.recorded().entry(position) {
-            digits = digits.wrapping_mul(10).wrapping_add(entry.stamp);
+            stamps[position] = entry.stamp;
         }
     }
-    digits
+    stamps
 }
 
-fn outcome_of(ran: &Result<Results, RunFault>) -> Outcome {
-    match ran {
-        Ok(results) => Outcome::Recorded {
+impl Recorded {
+    fn of(results: &Results) -> Recorded {
+        Recorded {
             entries: results.recorded().len(),
             stamps: stamps(results),
             emitted_by_one: results.closed().emitted(1),
             emitted: emitted(results),
-        },
-        Err(RunFault::Workers) => Outcome::Workers,
-        Err(RunFault::Capacity) => Outcome::Capacity,
-        Err(RunFault::Engine(unit, UnitFault::Own(number))) => Outcome::Own(*unit, *number),
-        Err(RunFault::Engine(unit, UnitFault::Sink(_))) => Outcome::Sink(*unit),
-        Err(RunFault::Engine(unit, UnitFault::Memory)) => Outcome::NoMemory(*unit),
-        Err(RunFault::Threads) => Outcome::NoThread,
-        Err(_) => Outcome::Refused,
+        }
     }
 }
 
-// What a run of the engine answered.
-fn run_engine<R: Threads + Wait + Sync>(
-    rt: &R,
-    alloc: Global,
-    engine: &StepEngine<'_>,
-    workers: usize,
-    capacity: usize,
-) -> Outcome {
-    let ran = execute(rt, alloc, engine, workers, capacity);
-    let outcome = outcome_of(&ran);
-    drop(ran);
-    outcome
-}
-
-// A run of units of this need, of which the first does the one list of steps and the others the other one: what it
-// answered, and the sum of the bits of the units that began.
+// Runs these units by this number of workers, through a queue of this capacity.
 fn run<R: Threads + Wait + Sync>(
     rt: &R,
     alloc: Global,
-    units: u32,
-    need: Need,
-    steps: [&[UnitStep]; 2],
+    units: Units<'_>,
     workers: usize,
     capacity: usize,
-) -> (Outcome, u64) {
-    match engine(alloc, units, [need; 2], steps[0], steps[1]) {
-        Some(engine) => {
-            let outcome = run_engine(rt, alloc, &engine, workers, capacity);
-            (outcome, engine.begun())
-        }
-        None => (Outcome::Refused, 0),
+) -> Ran {
+    let Some(engine) = engine(alloc, units) else {
+        // No allocation failed here: one failed in `engine`.
+        return Ran {
+            answer: Err(RunFault::Memory),
+            seen: NOTHING,
+        };
+    };
+    let answer = match execute(rt, alloc, &engine, workers, capacity) {
+        Ok(results) => Ok(Recorded::of(&results)),
+        Err(fault) => Err(fault),
+    };
+    Ran {
+        answer,
+        seen: engine.seen(),
     }
-}
-
-// The need of units that run side by side.
-fn read_of_all() -> Need {
-    Need::of(1, 0)
 }
 
 #[test]
 fn one_to_fifteen_workers_run_all_units(rt: HostRuntime) {
     let steps = [UnitStep::Start(0), UnitStep::Start(1)];
     for workers in 1..=15usize {
-        let (ran, _) = run(
-            &rt,
-            rt.alloc(),
-            300,
-            read_of_all(),
-            [&steps, &steps],
-            workers,
-            3,
-        );
+        let ran = run(&rt, rt.alloc(), Units::alike(300, &steps), workers, 3);
         assert!(rt;
             matches!(
-                ran,
-                Outcome::Recorded {
+                ran.answer,
+                Ok(Recorded {
                     entries: 600,
                     emitted: 600,
                     ..
-                }
+                })
             ),
             "{workers}"
         );
@@ -137,24 +113,24 @@ fn one_to_fifteen_workers_run_all_units(rt: HostRuntime) {
 
 #[test]
 fn no_unit_is_a_run(rt: HostRuntime) {
-    let (ran, _) = run(&rt, rt.alloc(), 0, read_of_all(), [&[][..], &[][..]], 15, 1);
+    let ran = run(&rt, rt.alloc(), Units::alike(0, &[]), 15, 1);
     assert!(rt;
         matches!(
-            ran,
-            Outcome::Recorded {
+            ran.answer,
+            Ok(Recorded {
                 entries: 0,
                 emitted: 0,
                 ..
-            }
+            })
         )
     );
 }
 
 #[test]
 fn side_by_side(rt: HostRuntime) {
-    let steps = [&[UnitStep::Await(1, 1)][..], &[UnitStep::Begin][..]];
-    let (ran, _) = run(&rt, rt.alloc(), 2, read_of_all(), steps, 2, 64);
-    assert!(rt; matches!(ran, Outcome::Recorded { .. }));
+    let units = Units::beside(2, [&[UnitStep::Await(1, 1)], &[UnitStep::Begin]]);
+    let ran = run(&rt, rt.alloc(), units, 2, 64);
+    assert!(rt; matches!(ran.answer, Ok(_)));
 }
 
 #[test]
@@ -166,16 +142,17 @@ fn events_as_they_are_emitted(rt: HostRuntime) {
         UnitStep::Start(3),
     ];
     let other = [UnitStep::Await(1, 3), UnitStep::Start(2), UnitStep::Begin];
-    let (ran, _) = run(&rt, rt.alloc(), 2, read_of_all(), [&first, &other], 2, 64);
+    let units = Units::beside(2, [&first, &other]);
+    let ran = run(&rt, rt.alloc(), units, 2, 64);
     assert!(rt;
         matches!(
-            ran,
-            Outcome::Recorded {
+            ran.answer,
+            Ok(Recorded {
                 entries: 3,
-                stamps: 123,
+                stamps: [1, 2, 3, 0],
                 emitted_by_one: 1 | 2,
                 emitted: 3
-            }
+            })
         )
     );
 }
@@ -184,95 +161,88 @@ fn events_as_they_are_emitted(rt: HostRuntime) {
 fn one_shared_book(rt: HostRuntime) {
     let first = [UnitStep::Start(7), UnitStep::Alone(2), UnitStep::Start(7)];
     let other = [UnitStep::Start(8), UnitStep::Alone(2), UnitStep::Start(8)];
-    let (ran, _) = run(&rt, rt.alloc(), 2, Need::of(0, 1), [&first, &other], 2, 64);
+    let units = Units {
+        count: 2,
+        needs: [Need::of(0, 1); 2],
+        steps: [&first, &other],
+    };
+    let ran = run(&rt, rt.alloc(), units, 2, 64);
     assert!(rt;
         matches!(
-            ran,
-            Outcome::Recorded {
-                stamps: 7_788 | 8_877,
+            ran.answer,
+            Ok(Recorded {
+                stamps: [7, 7, 8, 8] | [8, 8, 7, 7],
                 ..
-            }
+            })
         )
     );
 }
 
 #[test]
 fn workers_and_capacity(rt: HostRuntime) {
-    let steps = [&[UnitStep::Start(0)][..], &[][..]];
+    let units = Units::alike(1, &[UnitStep::Start(0)]);
     for workers in [0, 16] {
-        let (ran, _) = run(&rt, rt.alloc(), 1, read_of_all(), steps, workers, 1);
-        assert!(rt; matches!(ran, Outcome::Workers), "{workers}");
+        let ran = run(&rt, rt.alloc(), units, workers, 1);
+        assert!(rt; matches!(ran.answer, Err(RunFault::Workers)), "{workers}");
     }
     for capacity in [0, 1025] {
-        let (ran, _) = run(&rt, rt.alloc(), 1, read_of_all(), steps, 1, capacity);
-        assert!(rt; matches!(ran, Outcome::Capacity), "{capacity}");
+        let ran = run(&rt, rt.alloc(), units, 1, capacity);
+        assert!(rt; matches!(ran.answer, Err(RunFault::Capacity)), "{capacity}");
     }
-    let (ran, _) = run(&rt, rt.alloc(), 1, read_of_all(), steps, 15, 1024);
-    assert!(rt; matches!(ran, Outcome::Recorded { entries: 1, .. }));
+    let ran = run(&rt, rt.alloc(), units, 15, 1024);
+    assert!(rt; matches!(ran.answer, Ok(Recorded { entries: 1, .. })));
 }
 
 #[test]
 fn a_failure_names_its_unit(rt: HostRuntime) {
     let fails = [UnitStep::Start(1), UnitStep::Fail(3)];
-    let (ran, _) = run(&rt, rt.alloc(), 2, read_of_all(), [&fails, &fails], 1, 64);
-    assert!(rt; matches!(ran, Outcome::Own(0, 3)));
-    let (ran, _) = run(
-        &rt,
-        rt.alloc(),
-        3,
-        read_of_all(),
-        [&[][..], &fails[..]],
-        1,
-        64,
-    );
-    assert!(rt; matches!(ran, Outcome::Own(1, 3)));
+    let ran = run(&rt, rt.alloc(), Units::alike(2, &fails), 1, 64);
+    assert!(rt; matches!(ran.answer, Err(RunFault::Engine(0, UnitFault::Own(3)))));
+    let ran = run(&rt, rt.alloc(), Units::beside(3, [&[], &fails]), 1, 64);
+    assert!(rt; matches!(ran.answer, Err(RunFault::Engine(1, UnitFault::Own(3)))));
 }
 
 /// The fault of a unit is handed on as it is, with the unit's number.
 #[test]
 fn a_failure_is_handed_on(rt: HostRuntime) {
-    let own = [UnitStep::Fail(u32::MAX)];
-    let (ran, _) = run(&rt, rt.alloc(), 1, read_of_all(), [&own, &own], 1, 64);
-    assert!(rt; matches!(ran, Outcome::Own(0, u32::MAX)));
-    let memory = [&[][..], &[UnitStep::FailForMemory][..]];
-    let (ran, _) = run(&rt, rt.alloc(), 2, read_of_all(), memory, 1, 64);
-    assert!(rt; matches!(ran, Outcome::NoMemory(1)));
-    let sink = [&[][..], &[UnitStep::StartOf(9)][..]];
-    let (ran, _) = run(&rt, rt.alloc(), 2, read_of_all(), sink, 15, 64);
-    assert!(rt; matches!(ran, Outcome::Sink(1)));
+    let own = Units::alike(1, &[UnitStep::Fail(u32::MAX)]);
+    let ran = run(&rt, rt.alloc(), own, 1, 64);
+    assert!(rt;
+        matches!(
+            ran.answer,
+            Err(RunFault::Engine(0, UnitFault::Own(u32::MAX)))
+        )
+    );
+    let memory = Units::beside(2, [&[], &[UnitStep::FailForMemory]]);
+    let ran = run(&rt, rt.alloc(), memory, 1, 64);
+    assert!(rt; matches!(ran.answer, Err(RunFault::Engine(1, UnitFault::Memory))));
+    let sink = Units::beside(2, [&[], &[UnitStep::StartOf(9)]]);
+    let ran = run(&rt, rt.alloc(), sink, 15, 64);
+    assert!(rt; matches!(ran.answer, Err(RunFault::Engine(1, UnitFault::Sink(_)))));
 }
 
 #[test]
 fn as_many_units_as_may_be(rt: HostRuntime) {
-    let steps = [UnitStep::Start(0)];
-    let (ran, _) = run(
-        &rt,
-        rt.alloc(),
-        65_536,
-        read_of_all(),
-        [&steps, &steps],
-        2,
-        64,
-    );
+    let units = Units::alike(65_536, &[UnitStep::Start(0)]);
+    let ran = run(&rt, rt.alloc(), units, 2, 1024);
     assert!(rt;
         matches!(
-            ran,
-            Outcome::Recorded {
+            ran.answer,
+            Ok(Recorded {
                 entries: 65_536,
                 ..
-            }
+            })
         )
     );
 }
 
 // A run of two units, each by a worker of its own, with this number of steps each: two, and then starts.
-fn run_of_many<R: Threads + Wait + Sync>(rt: &R, alloc: Global, count: usize) -> Option<Outcome> {
+fn run_of_many<R: Threads + Wait + Sync>(rt: &R, alloc: Global, count: usize) -> Option<Ran> {
     let mut steps = Vec::new(alloc);
     steps.push(UnitStep::Begin).ok()?;
     steps.push(UnitStep::Await(2, 1)).ok()?;
     steps.resize(count, UnitStep::Start(0)).ok()?;
-    let steps = [steps.as_slice(), steps.as_slice()];
-    Some(run(rt, alloc, 2, read_of_all(), steps, 2, 1024).0)
+    Some(run(rt, alloc, Units::alike(2, steps.as_slice()), 2, 1024))
 }
 
 /// More than 2^20 entries are recorded.
@@ -282,26 +252,28 @@ fn many_events(rt: HostRuntime) {
     assert!(rt;
         matches!(
             ran,
-            Some(Outcome::Recorded {
-                entries: 1_200_000,
+            Some(Ran {
+                answer: Ok(Recorded {
+                    entries: 1_200_000,
+                    ..
+                }),
                 ..
             })
         )
     );
 }
 
-// A run of two units that write different resources, each of which waits until the other one has begun.
-fn run_of_writers<R: Threads + Wait + Sync>(rt: &R, alloc: Global) -> Outcome {
-    let steps = [UnitStep::Begin, UnitStep::Await(2, 1)];
-    match engine(alloc, 2, [Need::of(1, 2), Need::of(1, 4)], &steps, &steps) {
-        Some(engine) => run_engine(rt, alloc, &engine, 2, 64),
-        None => Outcome::Refused,
-    }
-}
-
+/// Two units that write different resources, each of which waits until the other one has begun.
 #[test]
 fn writers_of_different_resources(rt: HostRuntime) {
-    assert!(rt; matches!(run_of_writers(&rt, rt.alloc()), Outcome::Recorded { .. }));
+    let steps = [UnitStep::Begin, UnitStep::Await(2, 1)];
+    let units = Units {
+        count: 2,
+        needs: [Need::of(1, 2), Need::of(1, 4)],
+        steps: [&steps, &steps],
+    };
+    let ran = run(&rt, rt.alloc(), units, 2, 64);
+    assert!(rt; matches!(ran.answer, Ok(_)));
 }
 
 /// Each of 60 units waits until every worker has one.
@@ -309,17 +281,32 @@ fn writers_of_different_resources(rt: HostRuntime) {
 fn each_unit_is_run_once(rt: HostRuntime) {
     for workers in [1u32, 2, 15] {
         let steps = [UnitStep::Begin, UnitStep::Await(workers, 1)];
-        let (ran, begun) = run(
-            &rt,
-            rt.alloc(),
-            60,
-            read_of_all(),
-            [&steps, &steps],
-            workers as usize,
-            64,
+        let units = Units::alike(60, &steps);
+        let ran = run(&rt, rt.alloc(), units, workers as usize, 64);
+        assert!(rt; matches!(ran.answer, Ok(_)), "{workers}");
+        assert!(rt; ran.seen.begun == ALL_OF_60, "{workers}");
+    }
+}
+
+/// The events before the units are asked for once, before a unit begins, and those after them once,
+/// when each unit has come to its end; not where a unit failed.
+#[test]
+fn before_and_after_are_asked_once(rt: HostRuntime) {
+    let before = Asked { times: 1, ended: 0 };
+    let after = Asked {
+        times: 1,
+        ended: ALL_OF_60,
+    };
+    for workers in [1usize, 2, 15] {
+        let units = Units::alike(60, &[UnitStep::Begin, UnitStep::End]);
+        let seen = run(&rt, rt.alloc(), units, workers, 64).seen;
+        assert!(rt; seen.before == before && seen.after == after, "{workers}");
+        let failing = Units::alike(60, &[UnitStep::Begin, UnitStep::End, UnitStep::Fail(1)]);
+        let seen = run(&rt, rt.alloc(), failing, workers, 64).seen;
+        assert!(rt;
+            seen.before == before && seen.after == NOT_ASKED,
+            "{workers}"
         );
-        assert!(rt; matches!(ran, Outcome::Recorded { .. }), "{workers}");
-        assert!(rt; begun == (1 << 60) - 1, "{workers}");
     }
 }
 
@@ -332,53 +319,57 @@ fn all_workers_fail(rt: HostRuntime) {
             UnitStep::Await(workers, 1),
             UnitStep::FailAsWorker,
         ];
-        let (ran, begun) = run(
-            &rt,
-            rt.alloc(),
-            60,
-            read_of_all(),
-            [&steps, &steps],
-            workers as usize,
-            64,
-        );
+        let units = Units::alike(60, &steps);
+        let ran = run(&rt, rt.alloc(), units, workers as usize, 64);
         assert!(rt;
-            matches!(ran, Outcome::Own(unit, fault) if fault == unit.wrapping_add(1_000)),
+            matches!(
+                ran.answer,
+                Err(RunFault::Engine(unit, UnitFault::Own(fault)))
+                    if fault == unit.wrapping_add(1_000)
+            ),
             "{workers}"
         );
-        assert!(rt; begun.count_ones() == workers, "{workers}");
+        assert!(rt; ran.seen.begun.count_ones() == workers, "{workers}");
     }
 }
 
-// A run of two units with 1,000 starts each, by two workers through a queue of capacity one: what it
-// answered, and the sums of the bits of the units that began and that came to their end.
-fn run_of_starts<R: Threads + Wait + Sync>(rt: &R, alloc: Global) -> (Outcome, u64, u64) {
+// A run of two units, by two workers through a queue of capacity one. Each unit has 1,000 starts between its first step
+// and this last one.
+fn run_of_starts<R: Threads + Wait + Sync>(rt: &R, alloc: Global, last: UnitStep) -> Ran {
     let mut steps = [UnitStep::Start(0); 1_002];
     steps[0] = UnitStep::Begin;
-    steps[1_001] = UnitStep::End;
-    match engine(alloc, 2, [read_of_all(); 2], &steps, &steps) {
-        Some(engine) => {
-            let outcome = run_engine(rt, alloc, &engine, 2, 1);
-            (outcome, engine.begun(), engine.ended())
-        }
-        None => (Outcome::Refused, 0, 0),
-    }
+    steps[1_001] = last;
+    run(rt, alloc, Units::alike(2, &steps), 2, 1)
 }
 
 /// Such a run with ample memory, and with any one request for memory or any one thread refused. The workers that were
 /// started draw both units and run them to their end, even where the other worker has no thread.
 #[test]
 fn a_refused_run(rt: HostRuntime) {
-    let (first, begun, ended) = run_of_starts(&rt, rt.alloc());
+    let first = run_of_starts(&rt, rt.alloc(), UnitStep::End);
+    let Seen { begun, ended, .. } = first.seen;
     assert_eq!(rt; begun, ended);
     let is_whole = begun == 3;
-    match first {
-        Outcome::Recorded { entries, .. } => assert!(rt; is_whole && entries == 2_000),
-        Outcome::NoThread => assert!(rt; is_whole),
-        Outcome::Refused => assert!(rt; is_whole || begun == 0),
+    match first.answer {
+        Ok(Recorded { entries, .. }) => assert!(rt; is_whole && entries == 2_000),
+        Err(RunFault::Threads) => assert!(rt; is_whole),
+        Err(RunFault::Memory) => assert!(rt; is_whole || begun == 0),
         _ => assert!(rt; false, "a unit failed"),
     }
-    if matches!(first, Outcome::Refused | Outcome::NoThread) {
-        let (again, _, _) = run_of_starts(&rt, rt.alloc());
-        assert!(rt; matches!(again, Outcome::Recorded { entries: 2_000, .. }));
+    if first.answer.is_err() {
+        let again = run_of_starts(&rt, rt.alloc(), UnitStep::End);
+        assert!(rt; matches!(again.answer, Ok(Recorded { entries: 2_000, .. })));
     }
+}
+
+/// Such a run whose units fail at their last step: what a unit answered is what the run answers, whatever else was
+/// refused after the unit had begun.
+#[test]
+fn a_refused_run_that_fails(rt: HostRuntime) {
+    let mut ran = run_of_starts(&rt, rt.alloc(), UnitStep::Fail(5));
+    if matches!(ran.answer, Err(RunFault::Memory | RunFault::Threads)) {
+        assert_eq!(rt; ran.seen.begun, 0);
+        ran = run_of_starts(&rt, rt.alloc(), UnitStep::Fail(5));
+    }
+    assert!(rt; matches!(ran.answer, Err(RunFault::Engine(_, UnitFault::Own(5)))));
 }

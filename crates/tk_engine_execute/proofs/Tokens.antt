@@ -29,7 +29,7 @@ use Rattle.tk_queue_session.specs.Emission.{entries_by}
 use Rattle.tk_engine_runs.proofs.Workers.{in_the_middle}
 use Rattle.tk_engine_execute.specs.declared.run_faults.RunFault.{RunFault}
 use Rattle.tk_engine_execute.specs.declared.run_faults.RunFault.TheVariants as fault
-use Rattle.tk_engine_execute.specs.Outcomes.{AllCompleted, CanClose, IsFirstFailure, IsFaultOfWorkers, IsFaultOfRunning}
+use Rattle.tk_engine_execute.specs.Outcomes.{AllCompleted, NoneFailed, CanClose, IsFirstFailure, IsFaultOfWorkers, IsFaultOfRunning}
 use Rattle.tk_engine_execute.specs.Workers.{RunUnits, AllDone, AreDone, IsDone}
 use Rattle.tk_engine_execute.proofs.Positions.{map_at, all_from}
 use Rattle.tk_engine_execute.proofs.Emitted.{emits_along}
@@ -219,6 +219,11 @@ module _ (may_fail : ℕ → UnitFault → Type 0) where
   -- the unit of the answer may fail so
   pub unit_may_fail : (f : RunFault) → IsFaultOfRunning may_fail f → (u : ℕ) (why : UnitFault) → f ≡ fault.Engine u why → may_fail u why
   unit_may_fail f h u why is = subst (λ (r : RunFault). IsFaultOfRunning may_fail r) is h
+
+-- where each end has its token and its seat, none failed
+pub none_failed : (os : List WorkerEnd) (ts : List Sent) (ss : List ClaimSeatView) → AllCompleted os ts ss → NoneFailed os
+none_failed [] ts ss h = tt
+none_failed (o ∷ os) ts ss h = (h.0, none_failed os h.1 h.2 h.5)
 
 -- what a worker has in a run, it has in the middle
 pub tallied_whole : (n : ℕ) (numbers : List ℕ) (before after : List Event) (mid whole : List Entry) → whole ≡ entries_by 0 before ++ mid ++ entries_by 0 after → IsTallied n numbers mid → IsTallied n numbers whole

@@ -20,6 +20,14 @@ use tk_queue_session::RegisterFault;
 /// The most units that an engine may have.
 pub const MAX_UNITS: u32 = 65_536;
 
+/// The number of the fault [`Own`](UnitFault::Own) of a unit whose events would break the lifecycle
+/// or leave a key without its turn. No plan that was tested leads to it.
+pub const OUT_OF_ORDER: u32 = u32::MAX;
+
+/// The number of the fault [`Own`](UnitFault::Own) of a unit that registers a dynamic descriptor
+/// whose id is that of a static one, or of one that the unit registered.
+pub const TWICE: u32 = u32::MAX - 1;
+
 /// Why a unit stopped.
 #[derive(Debug, Drop)]
 pub enum UnitFault {
@@ -30,7 +38,7 @@ pub enum UnitFault {
     /// A fault of the engine's own, such as a fixture that it can't set up.
     ///
     /// The engine chooses the number, for instance one for each cause. The caller of `execute`
-    /// finds it in `RunFault::Engine`.
+    /// finds it in `RunFault::Engine`. `OUT_OF_ORDER` and `TWICE` have a meaning already.
     Own(u32),
 }
 
@@ -41,6 +49,8 @@ impl fmt::Display for UnitFault {
         match self {
             UnitFault::Sink(fault) => write!(f, "{fault}"),
             UnitFault::Memory => f.write_str("out of memory"),
+            UnitFault::Own(OUT_OF_ORDER) => f.write_str("it breaks the order of its tests"),
+            UnitFault::Own(TWICE) => f.write_str("it registers a dynamic id twice"),
             UnitFault::Own(number) => write!(f, "engine fault {number}"),
         }
     }
@@ -120,7 +130,7 @@ pub trait Engine: Sync {
 
     /// Makes the events before all units, which worker 0 emits.
     ///
-    /// There are at most `MAX_EVENTS`. Each is lawful, of a static descriptor and no registration.
+    /// [`execute`](crate::execute) calls this once, before it starts a thread. There are at most `MAX_EVENTS`. Each is lawful, of a static descriptor and no registration.
     ///
     /// # Errors
     /// A request for memory was refused.
@@ -130,6 +140,9 @@ pub trait Engine: Sync {
             (AreOfWorkerZero (length (table self.now)) (before self.now)) };
 
     /// Makes the events after all units, which worker 0 emits, with the limits of those before.
+    ///
+    /// [`execute`](crate::execute) calls this once, after every thread has ended, where each unit
+    /// was run and the run has not failed.
     ///
     /// # Errors
     /// A request for memory was refused.

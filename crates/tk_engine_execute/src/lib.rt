@@ -15,7 +15,7 @@ mod unstarted_workers;
 mod worker_threads;
 mod workers;
 
-pub use engines::{Engine, MAX_UNITS, UnitFault};
+pub use engines::{Engine, MAX_UNITS, OUT_OF_ORDER, TWICE, UnitFault};
 pub use results::Results;
 pub use run_faults::RunFault;
 pub use runs::execute;

@@ -18,12 +18,12 @@ ghost use Rattle.tk_engine_hierarchical.specs.TreeRuns.{FinishesNode, RunsBody, 
 use crate::leases::Lease;
 use crate::reporters::Reporter;
 use crate::shapes::Shape;
-use crate::tests::{Body, OUT_OF_ORDER, Outcome, Tests, payload_of};
+use crate::tests::{Body, Outcome, Tests, payload_of};
 use crate::unit_events::{Child, UnitEvents};
 use crate::unit_runs::UnitRun;
 use std::alloc::Global;
 use std::sync::Wait;
-use tk_engine_execute::{Sink, UnitFault};
+use tk_engine_execute::{OUT_OF_ORDER, Sink, UnitFault};
 use tk_events::{Kind, Pairs, Payload, try_clone_message};
 use tk_ids::Text;
 use tk_plan_units::{Node, NumberedNode, Plan};

@@ -1,10 +1,9 @@
 //! The laws of engines whose tests have bodies.
-ghost use Rattle.std.specs.Prelude.{◌≡◌, ◌-◌, ◌^◌};
 ghost use Rattle.tk_query_lifecycle.specs.KeepsLifecycle.{KeepsLifecycle};
 ghost use Rattle.tk_engine_hierarchical.specs.Laws.{FollowsPlan, HasOutcomes, HaveTurns, IsRunOf, UnitsNest, UnitsRanTrees, test_rules};
 
 use crate::engines::Hierarchical;
-use crate::tests::{OUT_OF_ORDER, TWICE, Tests};
+use crate::tests::Tests;
 use tk_engine::Results;
 use tk_engine_lifecycle::laws::runs_keep_lifecycle;
 
@@ -81,9 +80,3 @@ pub fn trees<T: Tests + Sync>(engine: &Hierarchical<T>, results: &Results)
     let _ = engine;
     let _ = results;
 }
-
-/// The numbers of the faults of a unit.
-pub fn fault_numbers()
-    ensures out_of_order { OUT_OF_ORDER ≡ 2 ^ 32 - 1 }
-    ensures twice { TWICE ≡ 2 ^ 32 - 2 }
-{}

@@ -17,5 +17,6 @@ mod unit_runs;
 
 pub use engines::Hierarchical;
 pub use reporters::Reporter;
-pub use tests::{Body, OUT_OF_ORDER, Outcome, TWICE, Tests};
+pub use tests::{Body, Outcome, Tests};
+pub use tk_engine_execute::{OUT_OF_ORDER, TWICE};
 pub use unit_runs::UnitRun;

@@ -10,14 +10,6 @@ use tk_engine_execute::{Sink, UnitFault};
 use tk_events::{Payload, Status};
 use tk_ids::Text;
 
-/// The number of the fault [`Own`](UnitFault::Own) of a unit whose events would break the lifecycle
-/// or leave a key without its turn. No plan that was tested leads to it.
-pub const OUT_OF_ORDER: u32 = u32::MAX;
-
-/// The number of the fault [`Own`](UnitFault::Own) of a unit that registers a dynamic descriptor
-/// whose id is that of a static one, or of one that the unit registered.
-pub const TWICE: u32 = u32::MAX - 1;
-
 /// How a test ended.
 ///
 /// JUnit: `TestExecutionResult`.

@@ -18,14 +18,14 @@ use crate::registered_ids::RegisteredIds;
 use crate::running_keys::RunningKey;
 use crate::shapes::Shape;
 use crate::stacks::Stack;
-use crate::tests::{Body, OUT_OF_ORDER, Outcome};
+use crate::tests::{Body, Outcome};
 use crate::unit_ids::{end_below, may_start};
 use crate::unit_runs::UnitRun;
 use std::alloc::Global;
 use std::marker::{Model, PhantomData};
 use std::mem;
 use std::sync::Wait;
-use tk_engine_execute::{Sink, UnitFault};
+use tk_engine_execute::{OUT_OF_ORDER, Sink, UnitFault};
 use tk_events::{Event, Kind, Payload};
 use tk_ids::{DType, Segment};
 

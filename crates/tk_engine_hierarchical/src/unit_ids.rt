@@ -12,9 +12,8 @@ use crate::registered_ids::RegisteredIds;
 use crate::running_keys::{RunningKey, running_id};
 use crate::shapes::Shape;
 use crate::stacks::Stack;
-use crate::tests::{OUT_OF_ORDER, TWICE};
 use std::alloc::Global;
-use tk_engine_execute::UnitFault;
+use tk_engine_execute::{OUT_OF_ORDER, TWICE, UnitFault};
 use tk_ids::{Segment, Table, UniqueId};
 
 // Whether an id is a root's, while no key runs.

@@ -17,9 +17,9 @@ use Rattle.tk_engine_execute.specs.Results.{RunResults, IsTallied}
 use Rattle.tk_engine_execute.specs.PreparedRuns.{RunRequest, IsFreshCollector}
 use Rattle.tk_engine_execute.proofs.Collecting.{fresh_collector, room_left}
 use Rattle.tk_engine_execute.specs.Engines.{MayFail}
-use Rattle.tk_engine_execute.specs.Outcomes.{IsFaultOfRunning}
-use Rattle.tk_engine_execute.specs.declared.run_faults.RunFault.TheVariants.{Memory}
-use Rattle.tk_engine_execute.proofs.Tokens.{out_of_memory, tallied_whole}
+use Rattle.tk_engine_execute.specs.Workers.{run_units}
+use Rattle.tk_engine_execute.specs.Outcomes.{IsFaultOfWorkers, IsFaultOfRunning}
+use Rattle.tk_engine_execute.proofs.Tokens.{is_running, out_of_memory, tallied_whole}
 use Rattle.tk_engine_execute.proofs.runs.run.Goals as goal
 
 -- the record of a new collector that took some items
@@ -37,17 +37,17 @@ both (Err e) P Q p q = p
 whole_is : (before after : List Event) (mid prefix whole : List Entry) → prefix ≡ entries_by 0 before ++ mid → whole ≡ prefix ++ entries_by 0 after → whole ≡ entries_by 0 before ++ mid ++ entries_by 0 after
 whole_is before after mid prefix whole first is = is ∙ ap (λ l. l ++ entries_by 0 after) first
 
-is_tallied : (n : ℕ) (closed : ClosedView) (before after : List Event) (mid prefix : List Entry) → prefix ≡ entries_by 0 before ++ mid → IsTallied n closed.emitted mid
-    → (r : RunResults) → (r.recorded.entries ≡ prefix ++ entries_by 0 after) × (r.closed ≡ closed) → IsTallied n r.closed.emitted r.recorded.entries
-is_tallied n closed before after mid prefix first tally r stated = rw (stated.1) (tallied_whole n closed.emitted before after mid r.recorded.entries (whole_is before after mid prefix r.recorded.entries first (stated.0)) tally)
+is_tallied : (n : ℕ) (before after : List Event) (mid prefix : List Entry) → prefix ≡ entries_by 0 before ++ mid
+    → (r : RunResults) → r.recorded.entries ≡ prefix ++ entries_by 0 after → IsTallied n r.closed.emitted mid → IsTallied n r.closed.emitted r.recorded.entries
+is_tallied n before after mid prefix first r stated tally = tallied_whole n r.closed.emitted before after mid r.recorded.entries (whole_is before after mid prefix r.recorded.entries first stated) tally
 
-is_run : (may : ℕ → ℕ → ℕ → List Event → Type 0) (table : List Descriptor) (before after : List Event) (units workers : ℕ) (mid prefix : List Entry) (over : List Descriptor)
-    → over ≡ table → prefix ≡ entries_by 0 before ++ mid → IsShared may units workers mid
-    → (r : RunResults) → (r.recorded.table ≡ over) × (r.recorded.entries ≡ prefix ++ entries_by 0 after) → IsRun may table before after units workers r.recorded
-is_run may table before after units workers mid prefix over same first shared r stated = record {
-  over = stated.0 ∙ same;
+is_run : (may : ℕ → ℕ → ℕ → List Event → Type 0) (table : List Descriptor) (before after : List Event) (units workers : ℕ) (mid prefix : List Entry)
+    → prefix ≡ entries_by 0 before ++ mid
+    → (r : RunResults) → r.recorded.table ≡ table → r.recorded.entries ≡ prefix ++ entries_by 0 after → IsShared may units workers mid → IsRun may table before after units workers r.recorded
+is_run may table before after units workers mid prefix first r over stated shared = record {
+  over = over;
   mid = mid;
-  whole = whole_is before after mid prefix r.recorded.entries first (stated.1);
+  whole = whole_is before after mid prefix r.recorded.entries first stated;
   shared = shared;
 }
 
@@ -62,43 +62,44 @@ run_workers-collected-requires-clause-ready g c κs within =
       room = omega (arith, many, room);
     }
 
-pub close-requires-clause-each : goal.close-requires-clause-each
-close-requires-clause-each g c κs within =
+pub finish-requires-clause-table : goal.finish-requires-clause-table
+finish-requires-clause-table g c κs within = c.run_workers-collected.ensures.took_more.table ∙ c.in_ok-start.ensures.start.collector.table_is
+
+pub finish-requires-clause-each : goal.finish-requires-clause-each
+finish-requires-clause-each g c κs within =
     let many = c.in_ok-start.ensures.start.many in
     rw (sym many, c.run_workers-collected.ensures.took_more.session) c.run_workers-collected.ensures.each
 
-pub close-requires-clause-done : goal.close-requires-clause-done
-close-requires-clause-done g c κs within = λ going. rw c.run_workers-collected.ensures.took_more.session (c.run_workers-collected.ensures.done going)
-
-pub finish-requires-clause-room : goal.finish-requires-clause-room
-finish-requires-clause-room g c κs within =
-    let stated = c.in_ok-record.ensures.recorded in
-    rw stated.0 (room_left c.run_workers-collected.result.collector most_events c.run_workers-collected.ensures.collector stated.1 (omega arith))
+pub finish-requires-clause-done : goal.finish-requires-clause-done
+finish-requires-clause-done g c κs within = λ going. rw c.run_workers-collected.ensures.took_more.session (c.run_workers-collected.ensures.done going)
 
 pub returns-clause-run : goal.returns-clause-run
 returns-clause-run g c =
+    let may = g.E.Engine.may c.args.engine.now in
     let table = g.E.Engine.table c.args.engine.now in
     let before = g.E.Engine.before c.args.engine.now in
     let after = g.E.Engine.after c.args.engine.now in
+    let units = g.E.Engine.units c.args.engine.now in
     let start = c.in_ok-start.ensures.start in
-    let took_more = c.run_workers-collected.ensures.took_more in
-    let stated = c.in_ok-record.ensures.recorded in
-    let mid = entries c.run_workers-collected.result.collector.receiver.taken in
-    let prefix : c.in_ok-record.«record».entries ≡ entries_by 0 before ++ mid = ap (λ (r : Recorded). r.entries) (stated.0) ∙ prefix_is _ _ c.run_workers-collected.result.collector start.collector took_more (stated.1) in
-    let over : c.in_ok-record.«record».table ≡ table = ap (λ (r : Recorded). r.table) (stated.0) ∙ took_more.table ∙ start.collector.table_is in
-    IfOk-weaker c.finish.result _ _ (is_run (g.E.Engine.may c.args.engine.now) table before after (g.E.Engine.units c.args.engine.now) c.args.workers mid c.in_ok-record.«record».entries c.in_ok-record.«record».table over prefix c.in_ok-record.ensures.shared)
-    (both c.finish.result _ _ c.finish.ensures.table c.finish.ensures.entries)
+    let collector = c.run_workers-collected.result.collector in
+    let mid = entries collector.receiver.taken in
+    let first = prefix_is _ _ collector start.collector c.run_workers-collected.ensures.took_more in
+    IfOk-weaker c.finish.result _ _ (λ r h. is_run may table before after units c.args.workers mid collector.«record».entries (first (h.0)) r (h.1.0) (h.1.1.0) (h.1.1.1))
+    (both c.finish.result (λ _. collector.is_out_of_memory ≡ false) _ c.finish.ensures.grew
+    (both c.finish.result (λ r. r.recorded.table ≡ table) _ c.finish.ensures.table
+    (both c.finish.result (λ r. r.recorded.entries ≡ collector.«record».entries ++ entries_by 0 after) (λ _. IsShared may units c.args.workers mid) c.finish.ensures.entries c.finish.ensures.shared)))
 
 pub returns-clause-tally : goal.returns-clause-tally
 returns-clause-tally g c =
     let before = g.E.Engine.before c.args.engine.now in
     let after = g.E.Engine.after c.args.engine.now in
     let start = c.in_ok-start.ensures.start in
-    let stated = c.in_ok-record.ensures.recorded in
-    let mid = entries c.run_workers-collected.result.collector.receiver.taken in
-    let prefix : c.in_ok-record.«record».entries ≡ entries_by 0 before ++ mid = ap (λ (r : Recorded). r.entries) (stated.0) ∙ prefix_is _ _ c.run_workers-collected.result.collector start.collector c.run_workers-collected.ensures.took_more (stated.1) in
-    IfOk-weaker c.finish.result _ _ (is_tallied c.args.workers c.in_ok-record.closed before after mid c.in_ok-record.«record».entries prefix c.in_ok-record.ensures.tally)
-    (both c.finish.result _ _ c.finish.ensures.entries c.finish.ensures.closed)
+    let collector = c.run_workers-collected.result.collector in
+    let mid = entries collector.receiver.taken in
+    let first = prefix_is _ _ collector start.collector c.run_workers-collected.ensures.took_more in
+    IfOk-weaker c.finish.result _ _ (λ r h. is_tallied c.args.workers before after mid collector.«record».entries (first (h.0)) r (h.1.0) (h.1.1))
+    (both c.finish.result (λ _. collector.is_out_of_memory ≡ false) _ c.finish.ensures.grew
+    (both c.finish.result (λ r. r.recorded.entries ≡ collector.«record».entries ++ entries_by 0 after) (λ r. IsTallied c.args.workers r.closed.emitted mid) c.finish.ensures.entries c.finish.ensures.tally))
 
 pub returns-in_err-start : goal.returns-in_err-start
 returns-in_err-start g c =
@@ -108,11 +109,17 @@ returns-in_err-start g c =
 
 pub returns-clause-running : goal.returns-clause-running
 returns-clause-running g c =
-    let may_fail = MayFail (g.E.Engine.units c.args.engine.now) (g.E.Engine.fails c.args.engine.now) in
-    IfErr-weaker c.finish.result (λ f. f ≡ Memory) (IsFaultOfRunning may_fail) (out_of_memory may_fail) c.finish.ensures.memory
+    let many = g.E.Engine.units c.args.engine.now in
+    let fails = g.E.Engine.fails c.args.engine.now in
+    let units = run_units c.in_ok-start.start.claim (g.E.Engine.may c.args.engine.now) many fails in
+    let workers = c.in_ok-start.ensures.start.many in
+    let collected = c.run_workers-collected.result in
+    let session = c.run_workers-collected.ensures.took_more.session in
+    let running = is_running units collected.collector.receiver.session c.args.workers collected.collector collected.worker_ends.items in
+    IfErr-weaker c.finish.result (IsFaultOfWorkers collected.collector collected.worker_ends.items) (IsFaultOfRunning (MayFail many fails))
+    (λ f why. running f (rw (sym workers, session) c.run_workers-collected.ensures.each) why) c.finish.ensures.fault
 
 pub returns-clause-of_capacity : goal.returns-clause-of_capacity
 returns-clause-of_capacity g c =
     let asked = c.in_ok-start.ensures.start.collector.of_capacity in
-    let session = c.in_ok-record.ensures.session ∙ c.run_workers-collected.ensures.took_more.session in
-    IfOk-weaker c.finish.result _ (λ (r : RunResults). capacity_of r.closed.session ≡ c.args.capacity) (λ r same. ap (λ (x : ClosedView). capacity_of x.session) same ∙ ap (λ s. capacity_of s) session ∙ asked) c.finish.ensures.closed
+    IfOk-weaker c.finish.result _ (λ (r : RunResults). capacity_of r.closed.session ≡ c.args.capacity) (λ r same. ap (λ s. capacity_of s) (same ∙ c.run_workers-collected.ensures.took_more.session) ∙ asked) c.finish.ensures.session
