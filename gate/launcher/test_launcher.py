@@ -18,7 +18,7 @@ COMMANDS = ("awk", "cat", "dirname", "find", "head", "mktemp", "readlink", "rm",
 
 CRATES = """# Libraries first.
 tk_low:
-tk_high: tk_low indexmap # below testkit
+tk_high: tk_low indexmap # below testkit, beside tk_other
 tk_other: tk_low
 testkit: tk_high itoa
 test_high tests_may=Wait: tk_high
@@ -255,6 +255,9 @@ class Launcher(unittest.TestCase):
                 self.it.answers("5\n", "testkit: bad word 0\n", status, f"{ended}\n")
                 ran = self.it.call("ask")
                 self.assert_failed(ran, "no answer by rt try", ended.splitlines()[-1] if ended else "", lines=2)
+        self.it.answers("5\n", "", 130, "run=none proved=no\n")
+        ran = self.it.call("ask")
+        self.assertEqual((ran.status, ran.output, ran.error.count(b"\n")), (130, b"", 1))
 
     def test_no_toolchain(self) -> None:
         os.remove(f"{self.it.commands}/rt")
