@@ -15,7 +15,7 @@ MODES = {"each a unit": "concurrent", "one unit": "same_thread"}
 
 
 def measure(folder: str) -> None:
-    for shape, mode in MODES.items():
+    for mode in MODES.values():
         building.apart(plans.write, f"{folder}/{mode}", lambda mode=mode: dict(children=[plans.test("t", str(it), mode=mode) for it in range(TESTS)]))
     program = building.build_program(folder, LINE, "bodies/main.rt.in", f"{folder}/concurrent")
     for shape, mode in MODES.items():

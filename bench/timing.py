@@ -4,11 +4,13 @@ On a busy machine PRIORITY="chrt -f 10" in the environment gives each program a 
 """
 
 import os
-import statistics
 import subprocess
 import time
-from dataclasses import dataclass
+from dataclasses import dataclass, field
+from statistics import median
 from typing import List, Sequence
+
+from building import NotMeasured
 
 ROUNDS = 5
 """How often each command is run, in turn with the others, so that all meet the same load."""
@@ -16,37 +18,36 @@ ROUNDS = 5
 PRIORITY = os.environ.get("PRIORITY", "").split()
 
 
-@dataclass(frozen=True)
-class Run:
-    """One run of a command: its seconds, its memory in MiB, and its status.
+@dataclass
+class Taken:
+    """What a command took: the seconds of each run, the most memory in MiB, and the file with what it wrote last.
 
     The system counts the memory of the process that starts a command too, so small numbers are this program's own.
     """
 
-    processor: float
-    clock: float
-    memory: float
-    status: int
-
-
-@dataclass(frozen=True)
-class Taken:
-    """What a command took in each of its runs, and the file with what it wrote last."""
-
-    runs: List[Run]
     output: str
+    processors: List[float] = field(default_factory=list)
+    clocks: List[float] = field(default_factory=list)
+    memory: float = 0
 
     @property
     def processor(self) -> float:
-        return statistics.median(run.processor for run in self.runs)
+        return median(self.processors)
 
     @property
     def clock(self) -> float:
-        return statistics.median(run.clock for run in self.runs)
+        return median(self.clocks)
 
-    @property
-    def memory(self) -> float:
-        return max(run.memory for run in self.runs)
+    def add_run(self, command: Sequence[str], input_path: str) -> None:
+        with open(input_path, "rb") as given, open(self.output, "wb") as written:
+            begun = time.monotonic()
+            child = subprocess.Popen([*PRIORITY, *command], stdin=given, stdout=written)
+            _, child.returncode, usage = os.wait4(child.pid, 0)
+        if child.returncode:
+            raise NotMeasured(f"{' '.join(command[:3])} failed")
+        self.clocks.append(time.monotonic() - begun)
+        self.processors.append(usage.ru_utime + usage.ru_stime)
+        self.memory = max(self.memory, usage.ru_maxrss / 1024)
 
     def begins(self) -> str:
         """The beginning of what it wrote."""
@@ -55,29 +56,16 @@ class Taken:
 
     def over(self, other: "Taken") -> str:
         """The ratio of the processor times, and the least and the greatest of a round."""
-        ratios = [mine.processor / its.processor for mine, its in zip(self.runs, other.runs)]
+        ratios = [mine / its for mine, its in zip(self.processors, other.processors)]
         return f"{self.processor / other.processor:.2f} ({min(ratios):.2f} to {max(ratios):.2f})"
-
-
-def run_once(command: Sequence[str], input_path: str, output_path: str) -> Run:
-    """Runs a command from one file to another."""
-    with open(input_path, "rb") as given, open(output_path, "wb") as written:
-        begun = time.monotonic()
-        child = subprocess.Popen([*PRIORITY, *command], stdin=given, stdout=written)
-        _, status, usage = os.wait4(child.pid, 0)
-        clock = time.monotonic() - begun
-    child.returncode = os.WEXITSTATUS(status) if os.WIFEXITED(status) else -os.WTERMSIG(status)
-    return Run(usage.ru_utime + usage.ru_stime, clock, usage.ru_maxrss / 1024, child.returncode)
 
 
 def take(commands: Sequence[Sequence[str]], input_path: str, folder: str) -> List[Taken]:
     """What each of these commands takes on an input. What they write last is left in files of the folder."""
-    taken = [Taken([], f"{folder}/output{number}") for number in range(len(commands))]
+    taken = [Taken(f"{folder}/output{number}") for number in range(len(commands))]
     for _ in range(ROUNDS):
-        for command, of_it in zip(commands, taken):
-            of_it.runs.append(run_once(command, input_path, of_it.output))
-    for of_it in taken:
-        assert len({run.status for run in of_it.runs}) == 1, "runs of one command end with different statuses"
+        for command, it in zip(commands, taken):
+            it.add_run(command, input_path)
     return taken
 
 

@@ -3,6 +3,7 @@
 import json
 import os
 import pty
+import select
 import shutil
 import signal
 import subprocess
@@ -104,10 +105,13 @@ class Repository:
     def environment(self) -> Dict[str, str]:
         return {"PATH": self.commands, "TMPDIR": self.temporary, "REPOSITORY": self.at}
 
-    def call(self, *words: str, input: bytes = b"", streams: str = "", command: str = "", **how) -> Ran:
+    def start(self, *words: str, **how) -> "subprocess.Popen[bytes]":
+        pipes = {"stdin": subprocess.PIPE, "stdout": subprocess.PIPE, "stderr": subprocess.PIPE, **how}
+        return subprocess.Popen(words, env=self.environment(), start_new_session=True, **pipes)
+
+    def call(self, *words: str, input: bytes = b"", streams: str = "", **how) -> Ran:
         """Calls `./testkit`, with these redirections of a shell."""
-        command = command or self.path("testkit")
-        return run(["/bin/sh", "-c", f'exec "$@" {streams}', "sh", command, *words], input, env=self.environment(), **how)
+        return run(["/bin/sh", "-c", f'exec "$@" {streams}', "sh", self.path("testkit"), *words], input, env=self.environment(), **how)
 
     def asked(self) -> List:
         """How `rt` was called: the folder, the words, and whether the input is a file."""
@@ -139,21 +143,16 @@ class Launcher(unittest.TestCase):
         self.assertEqual(os.listdir(self.it.temporary), [])
 
     def test_proved_program(self) -> None:
-        """It takes the place of the launcher, in the caller's folder."""
-        elsewhere = folder(self)
+        """It takes the place of the launcher, in the caller's folder, also where a link leads to the launcher."""
+        elsewhere = os.path.realpath(folder(self))
+        os.symlink(self.it.path("testkit"), f"{elsewhere}/link")
         for status in (0, 1, 2, 3):
             with self.subTest(status):
                 words = [str(status), *WORDS]
-                pipes = {"stdin": subprocess.PIPE, "stdout": subprocess.PIPE, "stderr": subprocess.PIPE}
-                started = subprocess.Popen([self.it.path("testkit"), *words], cwd=elsewhere, env=self.it.environment(), **pipes)
+                started = self.it.start(f"{elsewhere}/link", *words, cwd=elsewhere)
                 output, error = started.communicate(BINARY)
-                wanted = f"{started.pid} {os.path.realpath(elsewhere)}\n{''.join(f'<{it}>' for it in words)}".encode() + BINARY
+                wanted = f"{started.pid} {elsewhere}\n{''.join(f'<{it}>' for it in words)}".encode() + BINARY
                 self.assertEqual((output == wanted, error, started.returncode), (True, b"testkit: it complains\n", status))
-
-    def test_called_by_a_link(self) -> None:
-        os.symlink(self.it.path("testkit"), f"{self.it.temporary}/link")
-        ran = self.it.call("3", command=f"{self.it.temporary}/link", cwd=self.it.temporary)
-        self.assertEqual((ran.status, ran.error), (3, b"testkit: it complains\n"))
 
     def test_changed_sources(self) -> None:
         changes: Dict[str, Callable[[Repository], None]] = {
@@ -194,8 +193,9 @@ class Launcher(unittest.TestCase):
     def test_first_line_first(self) -> None:
         """The line on what is to come stands there before the input is read."""
         self.it.unprove()
-        pipes = {"stdin": subprocess.PIPE, "stdout": subprocess.PIPE, "stderr": subprocess.PIPE}
-        started = subprocess.Popen([self.it.path("testkit")], env=self.it.environment(), **pipes)
+        started = self.it.start(self.it.path("testkit"))
+        self.addCleanup(started.kill)
+        self.assertTrue(select.select([started.stderr], [], [], 60)[0], "nothing is said")
         first = started.stderr.readline()
         started.stdin.write(b"a")
         started.stdin.flush()
@@ -206,11 +206,10 @@ class Launcher(unittest.TestCase):
 
     def test_inputs(self) -> None:
         self.it.unprove()
-        for streams in ("<&-", "<.", "</dev/zero"):
+        for streams, *wanted in (("<&-", DEVICE_FAILED, 3), ("<.", DEVICE_FAILED, 3), ("</dev/zero", TOO_LARGE, 2)):
             with self.subTest(streams):
                 self.it.answers("", TOO_LARGE, 2)
-                fails = streams != "</dev/zero"
-                self.assert_tried(self.it.call(streams=streams), "", *((DEVICE_FAILED, 3) if fails else (TOO_LARGE, 2)))
+                self.assert_tried(self.it.call(streams=streams), "", *wanted)
                 self.assertGreater(len(self.it.given()), 16 << 20)
                 self.it.answers("", "testkit: bad word 0\n", 2)
                 self.assert_tried(self.it.call(streams=streams), "", "testkit: bad word 0\n", 2)
@@ -254,7 +253,7 @@ class Launcher(unittest.TestCase):
             with self.subTest(ended):
                 self.it.answers("5\n", "testkit: bad word 0\n", status, f"{ended}\n")
                 ran = self.it.call("ask")
-                self.assert_failed(ran, "no answer by rt try", ended.splitlines()[-1] if ended else "", lines=2)
+                self.assert_failed(ran, "no answer by rt try", *ended.splitlines()[-1:], lines=2)
         self.it.answers("5\n", "", 130, "run=none proved=no\n")
         ran = self.it.call("ask")
         self.assertEqual((ran.status, ran.output, ran.error.count(b"\n")), (130, b"", 1))
@@ -266,17 +265,15 @@ class Launcher(unittest.TestCase):
         self.assert_failed(self.it.call("1"), "testkit_VERSION_amd64.deb", "testkit-VERSION-x86_64-linux.tar.gz", lines=1)
 
     def test_interrupts(self) -> None:
-        """They end it, and nothing is left behind, but for the answer of a proved program."""
+        """They end it, and nothing is left behind."""
         self.it.unprove()
         for number in (signal.SIGINT, signal.SIGTERM, signal.SIGKILL):
             with self.subTest(number):
                 self.it.answers("5\n", "", "waits", "run=ended status=0 runners=1\n")
-                if os.path.exists(self.it.path("call")):
-                    os.remove(self.it.path("call"))
-                how = {"stdin": subprocess.DEVNULL, "stdout": subprocess.PIPE, "stderr": subprocess.PIPE, "start_new_session": True}
-                started = subprocess.Popen([self.it.path("testkit"), "ask"], env=self.it.environment(), **how)
+                started = self.it.start(self.it.path("testkit"), stdin=subprocess.DEVNULL)
                 while not os.path.exists(self.it.path("call")) and started.poll() is None:
                     time.sleep(0.02)
+                os.remove(self.it.path("call"))
                 os.killpg(started.pid, number)
                 output, error = started.communicate()
                 self.assertIn(started.returncode, (-number, 128 + number))
