@@ -1,106 +1,63 @@
 #!/usr/bin/env -S python3 -B
-"""Measures how long `read_plan` takes for plans of several shapes, most near 16 MiB: `bench/measure_plan.py`.
+"""Measures how long `read_plan` takes for plans of several shapes, most near 16 MiB, beside serde_json's reading.
 
-Beside it stands serde_json's reading of the same bytes. It wants the libraries that `rt lib` builds, and rt, and leaves nothing behind.
-The program (plan/main.rt.in) is proved and built in a copy, over the libraries, since it is no part of the product; each reading has a
-process of its own, as a plan has in use. On a busy machine PRIORITY="chrt -f 10" before it gives the program a processor when it wants it.
+It wants rt, and leaves nothing behind. The program (plan/main.rt.in) is proved and built in a copy, since it is no part of the product;
+each reading has a process of its own, as a plan has in use.
 
-Each line: the shape, its nodes, seconds by the clock (medians of five readings in turn), and the ratio of `read_plan` to serde_json's
-reading, and to its reading and dropping the value (`read_plan` reads and drops a value of json).
+Each line: the shape, seconds by the clock (medians of five readings in turn), and the ratio of `read_plan` to serde_json's reading, and to
+its reading and dropping the value (`read_plan` reads and drops a value of json).
 """
 
-import json
 import os
 import statistics
-from typing import Any, Dict, List
+from typing import Callable, Dict, List
 
 import building
+import plans
 import timing
+from plans import Node, test
 
-USAGE = "bench/measure_plan.py"
-HERE = building.folder_of("plan")
-MAX_TEXT = 16 * 2**20
-
-Node = Dict[str, Any]
-"""A node as JSON has it."""
+MOST_BYTES = 16 * 2**20
+LINE = "plan_bench: tk_plan tk_plan_units tk_book tk_events tk_ids serde_json json fast_float indexmap"
 
 
-def node(tag: str, value: str, name: str, **members: Any) -> Node:
-    """A test."""
-    return dict(type="test", segment=[tag, value], name=name, **members)
+def classes() -> Node:
+    methods = [test("method", f"method{it}()", "n" * 150, mode="concurrent", locks=[]) for it in range(99)]
+    return dict(children=[plans.container("class", f"class{it}", methods, mode="concurrent") for it in range(655)])
 
 
-def group(value: str, children: List[Node]) -> Node:
-    """A class that may run beside others."""
-    return dict(type="container", segment=["class", value], name=value, mode="concurrent", children=children)
+SHAPES: Dict[str, Callable[[], Node]] = {
+    "static-small": lambda: dict(children=[test("t", str(it)) for it in range(65_535)]),
+    "static": classes,
+    "dynamic": lambda: dict(dynamic=[test("row", str(it), "n" * 160, result=dict(status="successful")) for it in range(65_536)]),
+    "deep": lambda: dict(children=plans.chain(57, [test("m", str(it), "n" * 180) for it in range(65_000)])),
+    "entries": lambda: dict(children=[test("t", str(it), entries=[[["key", "value"], ["other", "value"]]] * 10) for it in range(34_000)]),
+    "strings": lambda: dict(children=[test("t", str(it), "n" * 8_000) for it in range(2_000)]),
+}
 
 
-def chain(levels: int, children: List[Node]) -> List[Node]:
-    """One container below the other, and these children below the last."""
-    for _ in range(levels):
-        children = [dict(type="container", segment=["s", "x"], name="n", children=children)]
-    return children
-
-
-def count(root: Node, is_dynamic: bool, kinds: List[int]) -> None:
-    """Adds a node and those below it to the numbers of the static and of the dynamic nodes."""
-    kinds[is_dynamic] += 1
-    for child in root.get("children", []):
-        count(child, False, kinds)
-    for child in root.get("dynamic", []):
-        count(child, True, kinds)
-
-
-def shapes() -> Dict[str, Node]:
-    """The members of the root of each plan."""
-    methods = [node("method", f"method{m}()", "n" * 150, mode="concurrent", locks=[]) for m in range(99)]
-    ten = [[["key", "value"], ["other", "value"]]] * 10
-    return {
-        "static-small": dict(children=[node("t", str(it), "n") for it in range(65_535)]),
-        "static": dict(children=[group(f"class{it}", methods) for it in range(655)]),
-        "dynamic": dict(dynamic=[node("row", str(it), "n" * 160, result=dict(status="successful")) for it in range(65_536)]),
-        "deep": dict(children=chain(57, [node("m", str(it), "n" * 180) for it in range(65_000)])),
-        "entries": dict(children=[node("t", str(it), "n", entries=ten) for it in range(34_000)]),
-        "strings": dict(children=[node("t", str(it), "n" * 8_000) for it in range(2_000)]),
-    }
-
-
-def write_plan(path: str, members: Node) -> str:
-    """Writes a plan; returns how many nodes it has."""
-    root, kinds = dict(type="container", segment=["engine", "bench"], name="bench", **members), [0, 0]
-    text = json.dumps(dict(version=1, root=root), separators=(",", ":"))
-    assert len(text) < MAX_TEXT, (path, len(text))
-    count(root, False, kinds)
-    with open(path, "w", encoding="utf-8") as file:
-        file.write(text)
-    return f"{kinds[0]} static and {kinds[1]} dynamic nodes"
-
-
-def microseconds(command: List[str], path: str) -> List[int]:
-    """What the program prints of one reading: a number, or two of serde_json, without and with dropping the value."""
+def seconds(command: List[str], path: str) -> List[float]:
+    """What the program prints of one reading: microseconds, or those of serde_json without and with dropping the value."""
     with open(path, "rb") as file:
-        return [int(word) for word in building.call(building.priority() + command, stdin=file).split()]
+        return [int(word) / 1e6 for word in building.call([*timing.PRIORITY, *command], stdin=file).split()]
 
 
-def measure(folder: str, _words: List[str]) -> None:
-    building.copy_built(folder, ["tk_plan"])
-    line = "plan_bench: tk_plan tk_plan_units tk_book tk_events tk_ids serde_json json fast_float indexmap"
-    crate = building.add_crate(folder, line, f"{HERE}/main.rt.in", "src/main.rt")
-    program = f"{crate}/out/plan_bench"
-    for shape, members in shapes().items():
-        path = f"{folder}/{shape}.json"
-        nodes = write_plan(path, members)
-        if not os.path.exists(program):
-            building.run_crate(crate, path)
-        rounds = [(microseconds([program, "json"], path), microseconds([program], path)) for _ in range(timing.ROUNDS)]
-        alone, both = (statistics.median(theirs[it] for theirs, _ in rounds) / 1e6 for it in (0, 1))
-        plan = statistics.median(ours[0] for _, ours in rounds) / 1e6
+def measure(folder: str) -> None:
+    for shape, members in SHAPES.items():
+        building.apart(plans.write, f"{folder}/{shape}", members)
+    program = building.build_program(folder, LINE, "plan/main.rt.in", f"{folder}/static-small")
+    for shape in SHAPES:
+        path = f"{folder}/{shape}"
+        if os.path.getsize(path) > MOST_BYTES:
+            raise building.NotMeasured(f"{shape} has {os.path.getsize(path)} bytes")
+        rounds = [seconds([program, "json"], path) + seconds([program], path) for _ in range(timing.ROUNDS)]
+        alone, both, plan = map(statistics.median, zip(*rounds))
         print(
-            f"{shape}: {nodes}, {os.path.getsize(path) / 2**20:.1f} MiB, {timing.load()}: serde_json {alone:.3f} s (with dropping the value"
+            f"{shape}: {os.path.getsize(path) / 2**20:.1f} MiB, {timing.load()}: serde_json {alone:.3f} s (with dropping the value"
             f" {both:.3f} s), read_plan {plan:.3f} s, ratio {plan / alone:.2f} (goal: at most 2.5), with dropping the value {plan / both:.2f}",
             flush=True,
         )
 
 
 if __name__ == "__main__":
-    building.run_script(measure, USAGE, 0, 0)
+    building.main(measure, __doc__)

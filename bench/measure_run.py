@@ -1,5 +1,5 @@
 #!/usr/bin/env -S python3 -B
-"""Times `run` with 1, 2 and 4 workers on three plans beside a plain Rust program that does the same: `bench/measure_run.py PROGRAM`.
+"""Times `run` with 1, 2 and 4 workers on three plans beside a plain Rust program that does the same.
 
 It wants rustc, and leaves nothing behind. The reports of both have to be the same. Each line: workers and events of a run; seconds of
 processor time and by the clock, medians of five runs in turn; the ratios plain / ours (above 1 we are faster); the most memory; events a
@@ -7,98 +7,54 @@ second by the clock.
 """
 
 import filecmp
-import json
-import multiprocessing
 import os
 from typing import Any, Callable, Dict, List
 
 import building
+import plans
 import timing
+from plans import Node, container, test
 
-USAGE = "bench/measure_run.py PROGRAM"
-HERE = building.folder_of("run")
 WORKERS = [1, 2, 4]
 STATISTICS = ["skipped", "started", "finished", "reporting", "dynamic", "files"]
 """The lines of a report whose numbers together are that of the events."""
 
-Node = Dict[str, Any]
-"""A node as JSON has it."""
+
+def tests(number: int, **members: Any) -> List[Node]:
+    return [test("method", f"method{it}()", f"method{it}()", mode="concurrent", **members) for it in range(number)]
 
 
-def node(kind: str, tag: str, value: str, **members: Any) -> Node:
-    """A node that may run beside others."""
-    return dict(type=kind, segment=[tag, value], name=value, mode="concurrent", **members)
+def groups(**members: Any) -> List[Node]:
+    return [container("class", f"Class{it}", tests(66, **members), mode="concurrent") for it in range(300)]
 
 
-def groups(tests: int, containers: int, **members: Any) -> List[Node]:
-    """Tests, in containers of the same size."""
-    size = tests // containers
-    return [
-        node(
-            "container",
-            "class",
-            f"Class{group}",
-            children=[node("test", "method", f"method{test}()", **members) for test in range(size)],
-        )
-        for group in range(containers)
-    ]
-
-
-def chain(levels: int, tests: int) -> List[Node]:
-    """Tests below one chain of containers."""
-    children = [node("test", "method", f"test{test}()") for test in range(tests)]
-    for _ in range(levels):
-        children = [node("container", "s", "x", children=children)]
-    return children
-
-
-def entries(number: int) -> List[List[List[str]]]:
-    """What a test reports."""
-    return [[[f"k{entry}", "v"]] for entry in range(number)]
-
-
-PLANS: Dict[str, Callable[[], List[Node]]] = {
-    "groups": lambda: groups(19_800, 300),
-    "entries": lambda: groups(19_800, 300, entries=entries(40)),
-    "chain": lambda: chain(57, 65_000),
+PLANS: Dict[str, Callable[[], Node]] = {
+    "groups": lambda: dict(mode="concurrent", children=groups()),
+    "entries": lambda: dict(mode="concurrent", children=groups(entries=[[[f"k{entry}", "v"]] for entry in range(40)])),
+    "chain": lambda: dict(mode="concurrent", children=plans.chain(57, tests(65_000), mode="concurrent")),
 }
-"""What makes the children of the root of each plan."""
-
-
-def write_plan(path: str, name: str) -> None:
-    root = node("container", "engine", "bench", children=PLANS[name]())
-    with open(path, "w", encoding="utf-8") as file:
-        json.dump(dict(version=1, root=root), file, separators=(",", ":"))
-
-
-def write_plan_apart(path: str, name: str) -> None:
-    """Writes a plan in a process of its own: the system counts the memory of this one with that of each program that it starts."""
-    writer = multiprocessing.Process(target=write_plan, args=(path, name))
-    writer.start()
-    writer.join()
-    if writer.exitcode:
-        raise building.NotMeasured(f"{name}: no plan was written")
+"""The members of the root of each plan."""
 
 
 def count_events(report: str) -> int:
-    """How many events a report has."""
+    """How many events a report has. (Its other lines aren't read: the system counts this memory with that of the programs.)"""
     with open(report, encoding="utf-8") as file:
         rows = dict(next(file).split() for _ in range(9))
     return sum(int(rows[name]) for name in STATISTICS)
 
 
-def measure(folder: str, words: List[str]) -> None:
-    program, plain = os.path.realpath(words[0]), building.compile_plain(f"{HERE}/plain/main.rs", f"{folder}/plain")
+def measure(folder: str, program: str) -> None:
+    plain = building.compile_plain(folder, "run/plain/main.rs")
     print(timing.load())
-    for name in PLANS:
-        plan = os.path.join(folder, f"{name}.json")
-        write_plan_apart(plan, name)
+    for name, members in PLANS.items():
+        plan = f"{folder}/{name}"
+        building.apart(plans.write, plan, members)
         print(f"{name}: {os.path.getsize(plan) / 1e6:.1f} MB of JSON")
         for workers in WORKERS:
             of_run = ["run", "--workers", str(workers)]
             ours, theirs = timing.take([[program, *of_run], [plain, *of_run]], plan, folder)
-            if ours.status or theirs.status or not filecmp.cmp(ours.output, theirs.output, shallow=False):
-                raise building.NotMeasured(f"{name}: the reports differ (status {ours.status} and {theirs.status})")
+            if not filecmp.cmp(ours.output, theirs.output, shallow=False):
+                raise building.NotMeasured(f"{name}: the reports differ")
             events = count_events(ours.output)
             print(
                 f"  {workers} workers, {events} events: {timing.beside(ours, theirs)};"
@@ -109,4 +65,4 @@ def measure(folder: str, words: List[str]) -> None:
 
 
 if __name__ == "__main__":
-    building.run_script(measure, USAGE, 1, 1)
+    building.main(measure, __doc__, takes_program=True)

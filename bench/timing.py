@@ -1,85 +1,78 @@
-"""Runs commands in turn on an input, and gives the medians of the time that they took and the most memory."""
+"""Runs commands in turn on an input, and gives the medians of the time that they took and the most memory.
+
+On a busy machine PRIORITY="chrt -f 10" in the environment gives each program a processor when it wants it.
+"""
+
 import os
-import statistics
 import subprocess
 import time
-from dataclasses import dataclass
+from dataclasses import dataclass, field
+from statistics import median
 from typing import List, Sequence
+
+from building import NotMeasured
 
 ROUNDS = 5
 """How often each command is run, in turn with the others, so that all meet the same load."""
 
+PRIORITY = os.environ.get("PRIORITY", "").split()
 
-@dataclass(frozen=True)
-class Run:
-    """One run of a command: its seconds, its memory in MiB, and its status.
+
+@dataclass
+class Taken:
+    """What a command took: the seconds of each run, the most memory in MiB, and the file with what it wrote last.
 
     The system counts the memory of the process that starts a command too, so small numbers are this program's own.
     """
 
-    processor: float
-    clock: float
-    memory: float
-    status: int
-
-
-@dataclass(frozen=True)
-class Taken:
-    """What a command took: the medians of the seconds, the most memory in MiB, its status, and the file with what it wrote."""
-
-    processors: List[float]
-    """The seconds of processor time of each round."""
-    processor: float
-    clock: float
-    memory: float
-    status: int
     output: str
+    processors: List[float] = field(default_factory=list)
+    clocks: List[float] = field(default_factory=list)
+    memory: float = 0
 
-    def text(self) -> str:
-        """What the command wrote."""
+    @property
+    def processor(self) -> float:
+        return median(self.processors)
+
+    @property
+    def clock(self) -> float:
+        return median(self.clocks)
+
+    def add_run(self, command: Sequence[str], input_path: str) -> None:
+        with open(input_path, "rb") as given, open(self.output, "wb") as written:
+            begun = time.monotonic()
+            child = subprocess.Popen([*PRIORITY, *command], stdin=given, stdout=written)
+            _, child.returncode, usage = os.wait4(child.pid, 0)
+        if child.returncode:
+            raise NotMeasured(f"{' '.join(command[:3])} failed")
+        self.clocks.append(time.monotonic() - begun)
+        self.processors.append(usage.ru_utime + usage.ru_stime)
+        self.memory = max(self.memory, usage.ru_maxrss / 1024)
+
+    def begins(self) -> str:
+        """The beginning of what it wrote."""
         with open(self.output, encoding="utf-8") as file:
-            return file.read()
+            return file.read(100)
+
+    def over(self, other: "Taken") -> str:
+        """The ratio of the processor times, and the least and the greatest of a round."""
+        ratios = [mine / its for mine, its in zip(self.processors, other.processors)]
+        return f"{self.processor / other.processor:.2f} ({min(ratios):.2f} to {max(ratios):.2f})"
 
 
-def run_once(command: Sequence[str], input_path: str, output_path: str) -> Run:
-    """Runs a command from one file to another."""
-    with open(input_path, "rb") as given, open(output_path, "wb") as written:
-        begun = time.monotonic()
-        child = subprocess.Popen(command, stdin=given, stdout=written)
-        _, status, usage = os.wait4(child.pid, 0)
-        clock = time.monotonic() - begun
-    child.returncode = os.WEXITSTATUS(status) if os.WIFEXITED(status) else -os.WTERMSIG(status)
-    return Run(usage.ru_utime + usage.ru_stime, clock, usage.ru_maxrss / 1024, child.returncode)
-
-
-def take(commands: Sequence[Sequence[str]], input_path: str, folder: str, rounds: int = ROUNDS) -> List[Taken]:
+def take(commands: Sequence[Sequence[str]], input_path: str, folder: str) -> List[Taken]:
     """What each of these commands takes on an input. What they write last is left in files of the folder."""
-    runs: List[List[Run]] = [[] for _ in commands]
-    outputs = [os.path.join(folder, f"output{number}") for number in range(len(commands))]
-    for _ in range(rounds):
-        for command, output, done in zip(commands, outputs, runs):
-            done.append(run_once(command, input_path, output))
-    return [summed(done, output) for done, output in zip(runs, outputs)]
-
-
-def summed(runs: Sequence[Run], output: str) -> Taken:
-    """The medians of some runs."""
-    statuses = {run.status for run in runs}
-    assert len(statuses) == 1, f"runs of one command end with different statuses: {statuses}"
-    return Taken(
-        [run.processor for run in runs],
-        statistics.median(run.processor for run in runs),
-        statistics.median(run.clock for run in runs),
-        max(run.memory for run in runs),
-        runs[0].status,
-        output,
-    )
+    taken = [Taken(f"{folder}/output{number}") for number in range(len(commands))]
+    for _ in range(ROUNDS):
+        for command, it in zip(commands, taken):
+            it.add_run(command, input_path)
+    return taken
 
 
 def beside(ours: Taken, plain: Taken) -> str:
-    """The seconds of ours and of a plain program, of processor time and by the clock, with the ratios plain / ours."""
+    """The seconds of ours and of a plain program, with the ratios plain / ours: above 1 we are faster."""
     return (
-        f"processor {ours.processor:.3f} s, plain {plain.processor:.3f} s, ratio {plain.processor / ours.processor:.2f};"
+        f"processor {ours.processor:.3f} s, plain {plain.processor:.3f} s, ratio {plain.over(ours)};"
         f" clock {ours.clock:.3f} s, plain {plain.clock:.3f} s, ratio {plain.clock / ours.clock:.2f}"
     )
 
