@@ -181,6 +181,8 @@ WRONG = [
 
 
 class Rules(unittest.TestCase):
+    maxDiff = None
+
     def faults(self, files):
         """What the rules find wrong with a tree that differs from the right one in these files."""
         with tempfile.TemporaryDirectory() as top:

@@ -51,6 +51,8 @@ LIMITS = Limits(
 
 
 class Sources(unittest.TestCase):
+    maxDiff = None
+
     def test_rules(self):
         for name, rule in rules_of(Tree(TOP), LIMITS).items():
             with self.subTest(name):
