@@ -8,15 +8,12 @@ command says its status, which is 0 elsewhere. The proved program stands for `./
 import os
 import re
 import shlex
-import signal
 import subprocess
 from dataclasses import dataclass, field
 from typing import List, Sequence
 
 from documents import Document
-
-SECONDS = 60
-"""How many seconds a command may take: far more than any needs."""
+from fixtures import run
 
 
 @dataclass
@@ -27,23 +24,15 @@ class Example:
     command: str
     lines: List[str] = field(default_factory=list)
 
-    def fault(self, top: str, program: str, seconds: float = SECONDS) -> str:
+    def fault(self, top: str, program: str) -> str:
         """What the command does that the document does not show; nothing where they agree."""
         command = re.sub(r"(?<!\S)\./testkit(?!\S)", lambda _: shlex.quote(program), self.command)
         shown = re.search(r"\s# status (\d+)", self.command)
-        how = {"stdin": subprocess.DEVNULL, "stdout": subprocess.PIPE, "stderr": subprocess.STDOUT, "start_new_session": True}
-        with subprocess.Popen(["sh", "-c", command], cwd=top, env={**os.environ, "PROGRAM": program}, **how) as ran:
-            try:
-                output, _ = ran.communicate(timeout=seconds)
-            except BaseException as fault:
-                # (with all that it started, which may hold the pipe)
-                os.killpg(ran.pid, signal.SIGKILL)
-                if isinstance(fault, subprocess.TimeoutExpired):
-                    return f"it does not end within {seconds} seconds"
-                raise
-        status, printed = int(shown[1]) if shown else 0, output.decode(errors="replace").splitlines()
-        if ran.returncode != status:
-            return f"its status is {ran.returncode}, and not {status}; it prints {printed}"
+        environment = {**os.environ, "PROGRAM": program}
+        ran = run(["sh", "-c", command], cwd=top, env=environment, stdin=subprocess.DEVNULL, stderr=subprocess.STDOUT)
+        status, printed = int(shown[1]) if shown else 0, ran.output.decode(errors="replace").splitlines()
+        if ran.status != status:
+            return f"its status is {ran.status}, and not {status}; it prints {printed}"
         return "" if is_shown(printed, self.lines) else f"it prints {printed}, and not {self.lines}"
 
 

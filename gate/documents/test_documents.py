@@ -1,19 +1,15 @@
 """Checks README.md, docs/*.md and crates/*/README.md: their commands, their quotes, and the rules of `rules.py`."""
 
-import os
 import re
-import shutil
-import subprocess
 import unittest
+from operator import itemgetter
 
 from commands import examples_of
 from documents import documents_of
+from fixtures import PROGRAM, TOP, WithProgram, needs, parameterized, run
 from quotes import quotes_of
 from rules import Limits, rules_of
 from tree import Tree
-
-TOP = os.path.dirname(os.path.dirname(os.path.dirname(os.path.realpath(__file__))))
-PROGRAM = f"{TOP}/crates/testkit/out/testkit"
 
 LIMITS = Limits(
     fewest_commands={
@@ -31,42 +27,31 @@ LIMITS = Limits(
 )
 
 TREE = Tree(TOP)
-DOCUMENTS = {it.path: it for it in documents_of(TOP)}
+DOCUMENTS = documents_of(TOP)
+EXAMPLES = [example for document in DOCUMENTS for example in examples_of(document)]
 
 
 class Documents(unittest.TestCase):
     maxDiff = None
 
-    def test_rules(self):
-        for name, rule in rules_of(TREE, list(DOCUMENTS.values()), LIMITS).items():
-            with self.subTest(name):
-                self.assertEqual(rule(), [])
+    @parameterized(lambda: rules_of(TREE, DOCUMENTS, LIMITS).items(), name=itemgetter(0))
+    def test_rules(self, rule):
+        self.assertEqual(rule[1](), [])
 
-    def test_quotes(self):
-        for document in DOCUMENTS.values():
-            for place, fault in quotes_of(TREE, document).items():
-                with self.subTest(place):
-                    self.assertEqual(fault, "")
+    @parameterized(lambda: [quote for document in DOCUMENTS for quote in quotes_of(TREE, document).items()], name=itemgetter(0))
+    def test_quotes(self, quote):
+        self.assertEqual(quote[1], "")
 
+    @needs("rt")
     def test_kit(self):
         """README.md names the kit that proves the repository here."""
-        if not shutil.which("rt"):
-            self.skipTest("no rt")
-        kit = subprocess.run(["rt", "version"], stdin=subprocess.DEVNULL, stdout=subprocess.PIPE, check=True).stdout.decode().splitlines()[0]
-        self.assertEqual(set(re.findall(r"`(rattle-kit[^`]*)`", DOCUMENTS["README.md"].text)), {kit})
+        kit = run(["rt", "version"]).output.decode().splitlines()[0]
+        self.assertEqual(re.findall(r"`(rattle-kit[^`]*)`", TREE.text("README.md")), [kit])
 
 
-class Commands(unittest.TestCase):
+class Commands(WithProgram):
     maxDiff = None
 
-    def setUp(self):
-        if not os.access(PROGRAM, os.X_OK):
-            self.skipTest("no proved program")
-
-    def test_commands(self):
-        for path, document in DOCUMENTS.items():
-            examples = examples_of(document)
-            self.assertGreaterEqual(len(examples), LIMITS.fewest_commands.get(path, 0), f"{path} shows fewer commands than it has to")
-            for it in examples:
-                with self.subTest(f"{it.place}: {it.command}"):
-                    self.assertEqual(it.fault(TOP, PROGRAM), "")
+    @parameterized(EXAMPLES, name=lambda it: f"{it.place}: {it.command}")
+    def test_commands(self, example):
+        self.assertEqual(example.fault(TOP, PROGRAM), "")

@@ -2,11 +2,12 @@
 
 import os
 import tempfile
-import time
 import unittest
+from operator import itemgetter
 
-from commands import Example, examples_of
+from commands import examples_of
 from documents import documents_of
+from fixtures import parameterized
 from quotes import quotes_of
 from rules import Limits, rules_of
 from tree import Tree
@@ -159,23 +160,14 @@ class Rules(unittest.TestCase):
                 found += [f"{place}: {fault}" for place, fault in quotes_of(tree, document).items() if fault]
                 examples = [(it, it.fault(top, f"{top}/program")) for it in examples_of(document)]
                 found += [f"{it.place}: {it.command}: {fault}" for it, fault in examples if fault]
-                if len(examples) < LIMITS.fewest_commands.get(document.path, 0):
-                    found.append(f"{document.path} shows {len(examples)} commands")
             return found
 
-    def test_right(self):
-        for name, files in RIGHT:
-            with self.subTest(name):
-                self.assertEqual(self.faults(files), [])
+    @parameterized(RIGHT, name=itemgetter(0))
+    def test_right(self, row):
+        self.assertEqual(self.faults(row[1]), [])
 
-    def test_wrong(self):
-        for name, fault, files in WRONG:
-            with self.subTest(name):
-                found = self.faults(files)
-                self.assertEqual((len(found), [it for it in found if fault not in it]), (1, []), found)
-
-    def test_time(self):
-        """A command that doesn't end is killed with what holds its pipe."""
-        begun = time.monotonic()
-        self.assertEqual(Example("README.md:1", "sleep 60 | cat").fault("/", "/bin/true", 0.2), "it does not end within 0.2 seconds")
-        self.assertLess(time.monotonic() - begun, 30)
+    @parameterized(WRONG, name=itemgetter(0))
+    def test_wrong(self, row):
+        _, fault, files = row
+        found = self.faults(files)
+        self.assertEqual((len(found), [it for it in found if fault not in it]), (1, []), found)

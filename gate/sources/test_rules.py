@@ -3,8 +3,10 @@
 import os
 import tempfile
 import unittest
+from operator import itemgetter
 
 from facade import Facade
+from fixtures import parameterized
 from rules import Limits, rules_of
 from tree import Tree
 
@@ -193,13 +195,12 @@ class Rules(unittest.TestCase):
                         file.write(text)
             return [fault for rule in rules_of(Tree(top), LIMITS).values() for fault in rule()]
 
-    def test_right(self):
-        for name, files in RIGHT:
-            with self.subTest(name):
-                self.assertEqual(self.faults(files), [])
+    @parameterized(RIGHT, name=itemgetter(0))
+    def test_right(self, row):
+        self.assertEqual(self.faults(row[1]), [])
 
-    def test_wrong(self):
-        for name, fault, files in WRONG:
-            with self.subTest(name):
-                found = self.faults(files)
-                self.assertEqual((len(found), [it for it in found if fault not in it]), (1, []), found)
+    @parameterized(WRONG, name=itemgetter(0))
+    def test_wrong(self, row):
+        _, fault, files = row
+        found = self.faults(files)
+        self.assertEqual((len(found), [it for it in found if fault not in it]), (1, []), found)

@@ -1,13 +1,12 @@
 """Checks the repository's sources by the rules of `rules.py`."""
 
-import os
 import unittest
+from operator import itemgetter
 
 from facade import Facade
+from fixtures import TOP, parameterized
 from rules import Limits, rules_of
 from tree import Tree
-
-TOP = os.path.dirname(os.path.dirname(os.path.dirname(os.path.realpath(__file__))))
 
 HOMES = {
     "engine": "tk_limits tk_waiting tk_book tk_engine_claim tk_engine_execute tk_engine_events tk_engine_hierarchical",
@@ -53,7 +52,6 @@ LIMITS = Limits(
 class Sources(unittest.TestCase):
     maxDiff = None
 
-    def test_rules(self):
-        for name, rule in rules_of(Tree(TOP), LIMITS).items():
-            with self.subTest(name):
-                self.assertEqual(rule(), [])
+    @parameterized(lambda: rules_of(Tree(TOP), LIMITS).items(), name=itemgetter(0))
+    def test_rules(self, rule):
+        self.assertEqual(rule[1](), [])
