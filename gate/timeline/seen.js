@@ -55,7 +55,7 @@
   canvas.focus();
   saw.isFocused = document.activeElement === canvas;
   press("Escape");
-  saw.keys = ["ArrowRight", "ArrowRight", "ArrowDown", "ArrowLeft", "ArrowUp"].map((key) => press(key).name);
+  saw.keys = ["ArrowRight", "ArrowDown", "ArrowRight", "ArrowRight", "ArrowLeft", "ArrowUp"].map((key) => press(key).id);
   press("+");
   saw.closer = state.right - state.left < data.end;
   press("0");

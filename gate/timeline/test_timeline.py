@@ -144,7 +144,8 @@ class Browser(WithProgram):
         """The canvas takes the focus, the arrow keys go from bar to bar, + shows a part and 0 the whole."""
         self.assertTrue(self.saw["isFocused"])
         self.assertEqual((self.saw["closer"], self.saw["whole"]), (True, [0, 81]))
-        self.assertEqual(self.saw["keys"], [])
+        ids = ["[engine:e]", *(f"[engine:e]/[x:c]{it}" for it in ("", "/[x:1]", "/[x:2]", "/[x:1]", ""))]
+        self.assertEqual(self.saw["keys"], ids)
 
     def test_longest(self):
         """It lists the slowest tests and the longest gaps, the longest first, and shows the one that is chosen."""
