@@ -120,7 +120,7 @@ RIGHT = [
     ("a wrong body that changes a text", edit(('"Memory"', '"memory"'))),
     ("a wrong body in two files", {EDIT: TREE[EDIT] + "file: src/lib.rt\nold: mod lanes;\nnew: pub mod lanes;\n"}),
     ("a long line of code", {LOW: LANES + "// ensures " + "x" * 100 + "\n"}),
-    ("what is built", {"crates/tk_low/out/old.rt": "unsafe"}),
+    ("what is built", {"crates/tk_low/must-fail/out/old": ""}),
 ]
 WRONG = [
     ("a method that nothing calls", "Lane::count is public, and no test", changed(TESTS, "lane.count() ==", "lane.count ==")),
@@ -170,6 +170,9 @@ WRONG = [
     ("a source that no root names", "tk_low/src/old.rt is named by no root", {"crates/tk_low/src/old.rt": ""}),
     ("a source that a comment names", "tk_low/src/laws.rt is named by no root", changed("crates/tk_low/src/lib.rt", "pub mod laws;", "// mod laws;")),
     ("a source that its module doesn't name", "lanes/parts.rt is named by no root", changed(LOW, "mod parts;", "mod other;")),
+    ("a source in a folder that the root names", "lanes/parts.rt is named by no root", {
+        **changed(LOW, "mod parts;", ""), "crates/tk_low/src/lib.rt": TREE["crates/tk_low/src/lib.rt"] + "mod parts;\n",
+    }),
     ("definitions that no root names", "Lanes.antt is named by no root", changed("crates/tk_low/specs/Lib.antt", "Lanes", "Lane")),
     ("proofs that no root names", "Steps.antt is named by no root", changed("crates/tk_low/proofs/Lib.antt", "mod Steps", "")),
     ("two roots", "main.rt stands beside lib.rt", {"crates/tk_low/src/main.rt": ""}),
