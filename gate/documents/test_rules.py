@@ -92,6 +92,7 @@ RIGHT = [
 WRONG = [
     ("another status", "README.md:9: ./testkit three; exit 2    # status 3: its status is 2, and not 3", changed("README.md", "# status 2", "# status 3")),
     ("a status that isn't shown", "its status is 2, and not 0", changed("README.md", "    # status 2", "")),
+    ("a status that doesn't come", "its status is 0, and not 1", changed("README.md", "$ ./testkit three\n", "$ ./testkit three # status 1\n")),
     ("another line", "it prints", changed("README.md", "    two\n", "    too\n")),
     ("a line less", "it prints", changed("README.md", "    three\n    $", "    $")),
     ("a line more", "it prints", changed("README.md", "    three\n    $", "    three\n    four\n    $")),
@@ -131,7 +132,7 @@ WRONG = [
     ("a quote by a path that goes up", "is no file of a crate", changed("crates/low/README.md", CODE, "crates/high/src/../../unlisted/src/lib.rt")),
     ("no block after its line", "low/README.md:3: no block of code follows", {**changed("crates/low/README.md", "```rust", "words\n\n```")}),
     ("a quote of nothing", "no code is quoted", changed("crates/low/README.md", "if at < first_bits {\n    append(at)\n}", " ")),
-    ("code of nobody", "top/README.md:5: no line 'From crates/..:'", more("crates/top/README.md", "\n```rust\nappend(at)\n```\n")),
+    ("code of nobody", "low/README.md:11: no line 'From crates/..:'", more("crates/low/README.md", "\n```rust\nappend(at)\n```")),
     ("a head that quotes nobody", "crates/high/README.md quotes no caller", {"crates/high/README.md": "# high\n"}),
     ("a backquote alone", "docs/USE.md:9: a backquote has no second one", more("docs/USE.md", "`first of all\n")),
     ("a fence without an end", "README.md: a fence has no end", changed("README.md", "`\n```\n", "`\n")),
