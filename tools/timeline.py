@@ -20,9 +20,7 @@ Where the program refuses the record, its line and its status are handed on, and
 
 import argparse
 import base64
-import contextlib
 import hashlib
-import heapq
 import json
 import os
 import re
@@ -30,13 +28,14 @@ import sys
 import tempfile
 from collections import Counter, defaultdict
 from dataclasses import dataclass, field
+from itertools import count
 from typing import Dict, Iterator, List, Optional, Sequence, Tuple
 
 HERE = os.path.dirname(os.path.realpath(__file__))
 sys.path.insert(0, HERE)
 sys.dont_write_bytecode = True
 
-from explaining.asking import Failed, Refused, ask, not_an_answer
+from explaining.asking import Failed, ask, not_an_answer, run_script
 
 UNITS = {"nanoseconds": 1, "microseconds": 1_000, "milliseconds": 1_000_000, "seconds": 1_000_000_000}
 """The units of stamps, in nanoseconds."""
@@ -186,40 +185,18 @@ def roots_of_lanes(record: Record) -> Dict[int, List[Execution]]:
     return roots
 
 
-class Rows:
-    """Rows of a lane or a frame; each is free from the end of what stands in it."""
-
-    def __init__(self) -> None:
-        self.ends: List[float] = []
-        self.taken: List[Tuple[float, int]] = []
-        self.free: List[int] = []
-
-    def take(self, it: Execution) -> int:
-        """Takes the first free rows that are enough for an execution."""
-        while self.taken and self.taken[0][0] <= it.begin:
-            heapq.heappush(self.free, heapq.heappop(self.taken)[1])
-        while self.free and self.ends[self.free[0]] > it.begin:
-            heapq.heappop(self.free)
-        row = self.free[0] if self.free else len(self.ends)
-        while any(end > it.begin for end in self.ends[row : row + it.height]):
-            row += 1
-        self.ends += [0.0] * (row + it.height - len(self.ends))
-        for taken in range(row, row + it.height):
-            self.ends[taken] = it.end
-            heapq.heappush(self.taken, (it.end, taken))
-        return row
-
-
 def pack(executions: Sequence[Execution]) -> int:
-    """Gives each execution its rows, counted from those of its frame, and returns how many rows they need.
+    """Gives each execution the first rows that are free, counted from those of its frame, and returns how many rows they need.
 
     They are of one worker and in the order of its events, so none begins before an earlier one.
     """
-    rows = Rows()
+    ends: List[float] = []
     for it in executions:
         it.height = 1 + pack(it.inner)
-        it.row = rows.take(it)
-    return len(rows.ends)
+        it.row = next(row for row in count() if all(end <= it.begin for end in ends[row : row + it.height]))
+        ends += [0.0] * (it.row + it.height - len(ends))
+        ends[it.row : it.row + it.height] = [it.end] * it.height
+    return len(ends)
 
 
 def move(executions: Sequence[Execution], row: int) -> None:
@@ -236,10 +213,10 @@ def lanes_of(record: Record, end: float) -> List[Dict[str, int]]:
         it.begin, it.end = places[it.first], end if it.last is None else places[it.last]
     lanes, row = [], 0
     for worker, roots in sorted(roots_of_lanes(record).items()):
-        count = pack(roots)
+        rows = pack(roots)
         move(roots, row)
-        lanes.append({"worker": worker, "row": row, "rows": count})
-        row += count
+        lanes.append({"worker": worker, "row": row, "rows": rows})
+        row += rows
     return lanes
 
 
@@ -331,13 +308,6 @@ def page_of(data: Dict[str, object]) -> str:
     return re.sub(r"\{\{(\w+)\}\}", lambda found: fillings[found[1]], parts["html"])
 
 
-def say(text: bytes) -> None:
-    """Writes on standard error, where that is open and takes it; the status stays what it is."""
-    if sys.stderr:
-        with contextlib.suppress(OSError):
-            os.write(sys.stderr.fileno(), text)
-
-
 def main(words: Sequence[str]) -> int:
     parser = argparse.ArgumentParser(prog="tools/timeline", description="Draws a run as a page: tools/timeline < RECORD > run.html.")
     parser.add_argument("--unit", choices=UNITS, help="what a stamp counts: microseconds in a record of the listener for JUnit")
@@ -347,11 +317,7 @@ def main(words: Sequence[str]) -> int:
     text = sys.stdin.buffer.read()
     with tempfile.TemporaryFile() as file:
         file.write(text)
-        try:
-            answered = ask(file, b"executions")
-        except Refused as fault:
-            say(fault.line)
-            return fault.status
+        answered = ask(file, b"executions")
     record = Record(text)
     if answered != (0, record.answer()):
         raise not_an_answer(*answered)
@@ -361,13 +327,4 @@ def main(words: Sequence[str]) -> int:
 
 
 if __name__ == "__main__":
-    try:
-        sys.exit(main(sys.argv[1:]))
-    except KeyboardInterrupt:
-        sys.exit(130)
-    except Exception as error:
-        say(f"tools/timeline: {' '.join(str(error).split()) or type(error).__name__}\n".encode(errors="replace"))
-        with contextlib.suppress(OSError, AttributeError):
-            sys.stdout.flush()
-        # (what can't be written is not tried once more at the end of Python)
-        os._exit(70)
+    run_script("tools/timeline", main)

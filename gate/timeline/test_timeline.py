@@ -6,7 +6,6 @@ import html
 import json
 import os
 import re
-import unittest
 
 from fixtures import PROGRAM, TOP, WithProgram, folder, needs, run
 
