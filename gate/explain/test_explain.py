@@ -223,7 +223,7 @@ class Explain(WithProgram):
         lines = [f"{line}   does not hold: {condition}" for line in shown(ESCAPED, order).values()]
         for atom, spelled, events in atoms:
             lines.append(f"    {atom} holds of no event: a record's field spells {spelled}, a condition doesn't; without escapes it holds of {events}")
-        self.explained(shlex.join(["loosely", condition]) if hasattr(shlex, "join") else f"loosely {shlex.quote(condition)}", ESCAPED, "no 0", f"0 {condition}", *lines)
+        self.explained(f"loosely {shlex.quote(condition)}", ESCAPED, "no 0", f"0 {condition}", *lines)
 
     @parameterized(LIFECYCLES, name=lambda row: "; ".join(row[0]))
     def test_lifecycles(self, row):
