@@ -1,20 +1,19 @@
-"""What a run of `./check` that passed leaves behind, in a file of lines of a name and a value.
+"""What a run of `./check` that passed leaves behind: `./check` writes it where nothing failed and the work tree was clean.
 
-`./check` writes it where nothing failed and the work tree was clean; `tools/package` makes no package without it.
+`tools/package` makes no package without it.
 """
 
+import contextlib
 import hashlib
+import json
 import os
 import subprocess
-from dataclasses import asdict, dataclass, fields
+from dataclasses import asdict, dataclass
 from typing import List, Optional
 
 PROGRAM = "crates/testkit/out/testkit"
 RUN = "crates/testkit/out/checked"
 """Where the file stands. Git ignores the folder."""
-
-ELSEWHERE = ("GIT_DIR", "GIT_WORK_TREE", "GIT_INDEX_FILE")
-"""Variables that would have git answer about another tree."""
 
 
 class Unknown(Exception):
@@ -32,27 +31,26 @@ class State:
 
 @dataclass(frozen=True)
 class Run:
-    """A run of the gate in which nothing failed."""
+    """A run of the gate in which nothing failed; `program` is the hash of the program's file."""
 
     commit: str
     tree: str
     kit: str
     program: str
-    """The hash of the program's file."""
     passed: int
     date: str
 
 
 def git(top: str, *words: str, given: bytes = b"") -> bytes:
     """Answers what git prints of the tree at `top`, where it is given this to read."""
-    environment = {name: value for name, value in os.environ.items() if name not in ELSEWHERE}
+    # (variables as GIT_DIR would have git answer about another tree)
+    environment = {name: value for name, value in os.environ.items() if not name.startswith("GIT_")}
     try:
-        ran = subprocess.run(["git", "-C", top, *words], env=environment, input=given, capture_output=True, check=False)
+        return subprocess.run(["git", "-C", top, *words], env=environment, input=given, capture_output=True, check=True).stdout
     except OSError as fault:
         raise Unknown(f"git can't be run: {fault}") from fault
-    if ran.returncode:
-        raise Unknown(" ".join(ran.stderr.decode(errors="replace").split()) or f"git {words[0]} failed")
-    return ran.stdout
+    except subprocess.CalledProcessError as fault:
+        raise Unknown(" ".join(fault.stderr.decode(errors="replace").split()) or f"git {words[0]} failed") from fault
 
 
 def state_of(top: str) -> State:
@@ -82,21 +80,16 @@ def hash_of(path: str) -> str:
 
 def write(top: str, run: Run) -> None:
     with open(f"{top}/{RUN}", "w", encoding="utf-8") as file:
-        file.write("".join(f"{name} {value}\n" for name, value in asdict(run).items()))
+        json.dump(asdict(run), file)
 
 
 def read(top: str) -> Optional[Run]:
     """Reads the run that the gate left, if it left one and it is whole."""
-    try:
+    with contextlib.suppress(OSError, ValueError, TypeError):
         with open(f"{top}/{RUN}", encoding="utf-8") as file:
-            lines = [line.rstrip("\n").partition(" ") for line in file]
-        if [name for name, _, value in lines if value] != [it.name for it in fields(Run)]:
-            return None
-        found = {name: value for name, _, value in lines}
-        run = Run(**{**found, "passed": int(found["passed"])})
-        return run if run.passed > 0 else None
-    except (OSError, ValueError):
-        return None
+            run = Run(**json.load(file))
+        return run if run.passed > 0 and all(asdict(run).values()) else None
+    return None
 
 
 def remove(top: str) -> None:

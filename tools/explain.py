@@ -20,7 +20,6 @@ Positions and conditions count from 0. The status is that of the program; it is 
 itself fails.
 """
 
-import contextlib
 import os
 import sys
 from typing import Sequence
@@ -28,7 +27,7 @@ from typing import Sequence
 sys.dont_write_bytecode = True
 
 from explaining import executions, lifecycles, matches
-from explaining.asking import Failed, Record, Refused, show
+from explaining.asking import Failed, Record, Refused, run_script, say, show
 
 EXPLAINED = {**dict.fromkeys(matches.MODES, matches), "lifecycle": lifecycles, "executions": executions}
 """The module that explains each question."""
@@ -36,43 +35,26 @@ EXPLAINED = {**dict.fromkeys(matches.MODES, matches), "lifecycle": lifecycles, "
 USAGE = "usage: tools/explain exactly|loosely|in-order CONDITION .., or lifecycle, or executions, with a record on standard input"
 
 
-def say(text: str) -> None:
-    """Writes on standard error, where that is open and takes it; the status stays what it is."""
-    if sys.stderr:
-        with contextlib.suppress(OSError):
-            os.write(sys.stderr.fileno(), text.encode(errors="backslashreplace"))
-
-
 def main(words: Sequence[str]) -> int:
     module = EXPLAINED.get(words[0]) if words else None
     if module is None:
-        say(f"{USAGE}\n")
+        say(f"{USAGE}\n".encode())
         return 2
     if sys.stdin is None:
         raise Failed("standard input is closed")
     record = Record.read(sys.stdin.buffer)
     asked = [os.fsencode(word) for word in words]
-    try:
-        answer = module.ask(record, asked)
-    except Refused as fault:
-        say(str(fault))
-        return fault.status
+    answer = module.ask(record, asked)
     if str(answer):
         show(str(answer).encode())
         sys.stdout.flush()
-    module.explain(record, asked, answer)
+    try:
+        module.explain(record, asked, answer)
+    except Refused as fault:
+        raise Failed(str(fault)) from fault
     sys.stdout.flush()
     return answer.status
 
 
 if __name__ == "__main__":
-    try:
-        sys.exit(main(sys.argv[1:]))
-    except KeyboardInterrupt:
-        sys.exit(130)
-    except Exception as error:
-        say(f"tools/explain: {' '.join(str(error).split()) or type(error).__name__}\n")
-        with contextlib.suppress(OSError, AttributeError):
-            sys.stdout.flush()
-        # (what can't be written is not tried once more at the end of Python)
-        os._exit(70)
+    run_script("tools/explain", main)

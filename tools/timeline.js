@@ -3,7 +3,7 @@
 // page by `textContent` and `fillText` alone, so that none is ever markup.
 
 // The endings in the order of the legend. Where bars are narrower than the screen can show, one of more weight stands before others.
-const WEIGHTS = { successful: 0, failed: 4, aborted: 2, skipped: 1, unfinished: 3 };
+const WEIGHTS = { succeeded: 0, failed: 4, aborted: 2, skipped: 1, unfinished: 3 };
 const ENDINGS = Object.keys(WEIGHTS);
 const WEIGHT_OF_FOUND = 10;
 const TYPES = { C: "container", T: "test", B: "container and test" };
@@ -22,6 +22,7 @@ const NEAR = 3;
 const SAMPLE = "abcdefghijklmnopqrstuvwxyz (1)";
 const LEAST_DRAG = 4;
 
+const MOST_BESIDE = 20;
 const MOST_IN_TIP = 600;
 const MOST_IN_DETAILS = 100000;
 const ZOOM = 1.5;
@@ -46,7 +47,7 @@ const inOrder = [...executions].sort((one, other) => one.begin - other.begin || 
 const rows = [];
 const state = {
   left: 0, right: data.end, width: 0, height: 0,
-  selected: null, pointed: null, gap: null, ending: "", text: "", unit: 0, isAsked: false, colors: {},
+  selected: null, pointed: null, gap: null, ending: "", text: "", isAsked: false, colors: {},
 };
 
 // Rows: each with its place, and its executions, none of which begins before the one before it ends.
@@ -106,8 +107,8 @@ function counted(number, noun) {
 
 function lengthText(length) {
   if (!data.times) return counted(length, "position");
-  if (!state.unit) return counted(length, "stamp");
-  const nanoseconds = Number(length) * state.unit;
+  if (!data.unit) return counted(length, "stamp");
+  const nanoseconds = Number(length) * data.unit;
   const [size, unit] = UNITS.find(([least]) => nanoseconds >= least) || UNITS[UNITS.length - 1];
   return `${(nanoseconds / size).toLocaleString("en", { maximumFractionDigits: 3 })} ${unit}`;
 }
@@ -124,6 +125,16 @@ function workerText(it) {
   return isOther ? `${it.worker}, and ${it.worker_of_end} finished it` : String(it.worker);
 }
 
+const isTest = (it) => it.type !== "C" && it.ending !== "skipped";
+
+// The tests that ran at some time of a test, each with its worker.
+function besideText(it) {
+  const found = inOrder.filter((other) => other !== it && isTest(other) && other.begin < it.end && it.begin < other.end);
+  const lines = found.slice(0, MOST_BESIDE).map((other) => `worker ${other.worker}: ${other.name}`);
+  if (found.length > MOST_BESIDE) lines.push(`and ${counted(found.length - MOST_BESIDE, "other")}`);
+  return lines.join("\n") || "none";
+}
+
 // Terms and texts that describe an execution.
 function description(it) {
   const ends = it.ending !== "unfinished";
@@ -137,9 +148,9 @@ function description(it) {
   return rowsOfIt;
 }
 
-function describe(place, it, most) {
+function describe(place, it, most, more = []) {
   const list = document.createElement("dl");
-  for (const [term, text] of description(it)) {
+  for (const [term, text] of [...description(it), ...more]) {
     list.append(Object.assign(document.createElement("dt"), { textContent: term }));
     list.append(Object.assign(document.createElement("dd"), { textContent: visible(cut(text, most)) }));
   }
@@ -209,12 +220,12 @@ function roundStep(least) {
 }
 
 function tickText(place, step) {
-  if (!data.times || !state.unit) {
+  if (!data.times || !data.unit) {
     return place.toLocaleString("en", { maximumFractionDigits: Math.max(0, Math.ceil(-Math.log10(step))) });
   }
-  const [size, unit] = UNITS.find(([least]) => state.right * state.unit >= least) || UNITS[UNITS.length - 1];
-  const digits = Math.min(20, Math.max(0, Math.ceil(-Math.log10((step * state.unit) / size) - 1e-9)));
-  return `${((place * state.unit) / size).toLocaleString("en", { minimumFractionDigits: digits, maximumFractionDigits: digits })} ${unit}`;
+  const [size, unit] = UNITS.find(([least]) => state.right * data.unit >= least) || UNITS[UNITS.length - 1];
+  const digits = Math.min(20, Math.max(0, Math.ceil(-Math.log10((step * data.unit) / size) - 1e-9)));
+  return `${((place * data.unit) / size).toLocaleString("en", { minimumFractionDigits: digits, maximumFractionDigits: digits })} ${unit}`;
 }
 
 function drawAxis() {
@@ -391,7 +402,7 @@ function point(it, x, y) {
 function select(it) {
   state.selected = it;
   state.gap = null;
-  if (it) describe(element("details"), it, MOST_IN_DETAILS);
+  if (it) describe(element("details"), it, MOST_IN_DETAILS, isTest(it) ? [["beside it", besideText(it)]] : []);
   else element("details").replaceChildren(help);
   ask();
 }
@@ -499,7 +510,6 @@ function fillHeader() {
   element("note").textContent =
     "Positions in the record stand for stamps: the stamps are no times, since all are equal, or one is below an earlier one of its worker "
     + "or of its execution. A length is a number of positions.";
-  element("units").hidden = !data.times;
 }
 
 // Events of the browser.
@@ -593,12 +603,6 @@ function listen() {
   element("closer").addEventListener("click", () => zoom(ZOOM));
   element("farther").addEventListener("click", () => zoom(1 / ZOOM));
   element("whole").addEventListener("click", () => show(0, data.end));
-  element("unit").addEventListener("change", (event) => {
-    state.unit = Number(event.target.value);
-    fillLists();
-    if (state.selected) describe(element("details"), state.selected, MOST_IN_DETAILS);
-    ask();
-  });
 }
 
 const help = element("help");

@@ -2,21 +2,18 @@
 
 In an indented block a line that begins with `$ ` is a command, and the lines up to the next command or the end of the block are what it
 has to print, on standard output and standard error. A line `..` stands for any lines, one at least. A comment `# status N` after the
-command says its status, which is 0 elsewhere.
+command says its status, which is 0 elsewhere. The proved program stands for `./testkit`, also in the scripts that take it from PROGRAM.
 """
 
 import os
 import re
 import shlex
-import signal
 import subprocess
 from dataclasses import dataclass, field
-from typing import Dict, List, Optional, Sequence, Tuple
+from typing import List, Sequence
 
 from documents import Document
-
-SECONDS = 60
-"""How many seconds a command may take: far more than any needs."""
+from fixtures import run
 
 
 @dataclass
@@ -27,36 +24,16 @@ class Example:
     command: str
     lines: List[str] = field(default_factory=list)
 
-    @property
-    def status(self) -> int:
-        found = re.search(r"\s# status (\d+)", self.command)
-        return int(found[1]) if found else 0
-
     def fault(self, top: str, program: str) -> str:
         """What the command does that the document does not show; nothing where they agree."""
         command = re.sub(r"(?<!\S)\./testkit(?!\S)", lambda _: shlex.quote(program), self.command)
-        status, output = ran(command, top, {**os.environ, "PROGRAM": program})
-        printed = output.decode(errors="replace").splitlines()
-        if status is None:
-            return f"it does not end within {SECONDS} seconds"
-        if status != self.status:
-            return f"its status is {status}, and not {self.status}"
+        shown = re.search(r"\s# status (\d+)", self.command)
+        environment = {**os.environ, "PROGRAM": program}
+        ran = run(["sh", "-c", command], cwd=top, env=environment, stdin=subprocess.DEVNULL, stderr=subprocess.STDOUT)
+        status, printed = int(shown[1]) if shown else 0, ran.output.decode(errors="replace").splitlines()
+        if ran.status != status:
+            return f"its status is {ran.status}, and not {status}; it prints {printed}"
         return "" if is_shown(printed, self.lines) else f"it prints {printed}, and not {self.lines}"
-
-
-def ran(command: str, folder: str, environment: Dict[str, str]) -> Tuple[Optional[int], bytes]:
-    """Runs a command in a folder; returns its status, or None where it took too long, and what it printed."""
-    how = {"stdin": subprocess.DEVNULL, "stdout": subprocess.PIPE, "stderr": subprocess.STDOUT}
-    with subprocess.Popen(["sh", "-c", command], cwd=folder, env=environment, start_new_session=True, **how) as started:
-        try:
-            output, _ = started.communicate(timeout=SECONDS)
-            return started.returncode, output
-        except BaseException as fault:
-            # (with all that it started, which may hold the pipe)
-            os.killpg(started.pid, signal.SIGKILL)
-            if isinstance(fault, subprocess.TimeoutExpired):
-                return None, b""
-            raise
 
 
 def is_shown(printed: Sequence[str], shown: Sequence[str]) -> bool:
@@ -68,12 +45,11 @@ def is_shown(printed: Sequence[str], shown: Sequence[str]) -> bool:
 def examples_of(document: Document) -> List[Example]:
     """The commands of a document, in their order."""
     found: List[Example] = []
-    for block in document.blocks():
-        example = None
+    for block in [it for it in document.blocks() if it.is_indented]:
+        begun = len(found)
         for number, line in enumerate(block.lines, block.number):
-            if block.is_indented and line.startswith("$ "):
-                example = Example(f"{document.path}:{number}", line[len("$ ") :])
-                found.append(example)
-            elif example:
-                example.lines.append(line)
+            if line.startswith("$ "):
+                found.append(Example(f"{document.path}:{number}", line[len("$ ") :]))
+            elif len(found) > begun:
+                found[-1].lines.append(line)
     return found

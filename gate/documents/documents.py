@@ -4,6 +4,7 @@ import glob
 import os
 import re
 from dataclasses import dataclass
+from itertools import groupby
 from typing import Iterator, List, Tuple
 
 INDENT = " " * 4
@@ -11,12 +12,11 @@ INDENT = " " * 4
 
 @dataclass(frozen=True)
 class Block:
-    """A block of code: the number of its first line, and its lines without their indentation."""
+    """A block of code, indented or between fences: the number of its first line, and its lines without their indentation."""
 
     number: int
-    lines: Tuple[str, ...]
+    lines: List[str]
     is_indented: bool
-    """Whether it is indented, and not between fences."""
 
 
 @dataclass(frozen=True)
@@ -26,59 +26,39 @@ class Document:
     path: str
     text: str
 
-    @property
-    def lines(self) -> List[str]:
-        return self.text.split("\n")
-
-    def words(self) -> int:
-        """How many words it has, as `wc -w` counts them: all that stands between blanks, bars of tables too."""
-        return len(self.text.split())
-
-    def parts(self) -> Iterator[Tuple[int, str, bool]]:
-        """Each line with its number from 1 on, and whether it is code. (Fences are neither, and are left out.)"""
+    def parts(self) -> Iterator[Tuple[int, str, str]]:
+        """Each line with its number from 1 on, and what it is: `text`, `indented`, `fenced` or a `fence`."""
         is_fenced = False
-        for number, line in enumerate(self.lines, 1):
+        for number, line in enumerate(self.text.split("\n"), 1):
             if line.startswith("```"):
                 is_fenced = not is_fenced
+                yield number, line, "fence"
             else:
-                yield number, line, is_fenced or line.startswith(INDENT)
+                yield number, line, "fenced" if is_fenced else "indented" if line.startswith(INDENT) else "text"
 
-    def spans(self) -> Iterator[Tuple[int, str]]:
+    def prose(self) -> List[Tuple[int, str]]:
+        """The lines that are no code, with their numbers."""
+        return [(number, line) for number, line, kind in self.parts() if kind == "text"]
+
+    def spans(self) -> List[Tuple[int, str]]:
         """What stands in backquotes outside blocks of code, with the number of its line."""
-        for number, line, is_code in self.parts():
-            if not is_code:
-                yield from ((number, found) for found in re.findall(r"`([^`]+)`", line))
+        return [(number, span) for number, line in self.prose() for span in re.findall(r"`([^`]+)`", line)]
 
     def blocks(self) -> List[Block]:
         """The blocks of code, in their order."""
-        found: List[Block] = []
-        lines: List[str] = []
-        begun, fenced = 0, False
-        for number, line in enumerate([*self.lines, ""], 1):
-            is_fence = line.startswith("```")
-            is_indented = not fenced and line.startswith(INDENT)
-            if is_fence and not fenced:
-                begun, lines, fenced = number + 1, [], True
-            elif is_fence:
-                found.append(Block(begun, tuple(lines), False))
-                lines, fenced = [], False
-            elif fenced:
-                lines.append(line)
-            elif is_indented:
-                begun = begun if lines else number
-                lines.append(line[len(INDENT) :])
-            elif lines:
-                found.append(Block(begun, tuple(lines), True))
-                lines = []
-        return found
+        groups = [(kind, list(parts)) for kind, parts in groupby(self.parts(), key=lambda part: part[2])]
+        return [
+            Block(parts[0][0], [line[len(INDENT) :] if kind == "indented" else line for _, line, _ in parts], kind == "indented")
+            for kind, parts in groups
+            if kind in ("indented", "fenced")
+        ]
 
 
-def read(top: str, path: str) -> Document:
-    with open(os.path.join(top, path), encoding="utf-8") as file:
-        return Document(path, file.read())
-
-
-def paths(top: str) -> List[str]:
+def documents_of(top: str) -> List[Document]:
     """README.md, docs/*.md and crates/*/README.md, as far as they are there."""
-    found = [f"{top}/README.md", *sorted(glob.glob(f"{top}/docs/*.md")), *sorted(glob.glob(f"{top}/crates/*/README.md"))]
-    return [os.path.relpath(path, top) for path in found if os.path.isfile(path)]
+    paths = [f"{top}/README.md", *sorted(glob.glob(f"{top}/docs/*.md")), *sorted(glob.glob(f"{top}/crates/*/README.md"))]
+    found = []
+    for path in filter(os.path.isfile, paths):
+        with open(path, encoding="utf-8") as file:
+            found.append(Document(os.path.relpath(path, top), file.read()))
+    return found

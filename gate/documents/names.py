@@ -8,13 +8,15 @@ may use all. Names of others, as JUnit's, stand in `other_names.txt`.
 
 import os
 import re
-from dataclasses import dataclass
-from typing import Dict, FrozenSet, Iterable, Iterator, List, Sequence, Set
+from typing import Dict, FrozenSet, List, Sequence, Set
 
 from documents import Document
+from tree import Tree
 
 FOLDERS = ("bench", "crates", "docs", "examples", "gate", "tools", ".ci")
 """Folders at the top of the repository."""
+
+OTHERS = "gate/documents/other_names.txt"
 
 COMMENTS = {".rt": "//", ".antt": "--"}
 """How a comment begins, by the end of a file's name."""
@@ -24,53 +26,40 @@ ALONE = re.compile(r"[\w:.()?&<>]+")
 """A span that is one name, one with its type or its crate, or a call."""
 
 
-def files_of(top: str) -> Iterator[str]:
-    """The files of the tree, without what is built and without documents."""
-    for folder, folders, files in os.walk(top):
-        folders[:] = [name for name in folders if name not in (".git", "out", "__pycache__")]
-        for name in files:
-            if not name.endswith((".md", ".pyc")) and name != "other_names.txt":
-                yield os.path.relpath(os.path.join(folder, name), top)
-
-
-def words_of_code(path: str, text: str) -> Set[str]:
-    mark = COMMENTS.get(os.path.splitext(path)[1])
-    lines = text.split("\n") if mark else [text]
-    return {word for line in lines for word in WORD.findall(line.partition(mark)[0] if mark else line)}
-
-
-@dataclass(frozen=True)
 class Names:
-    """The names of a tree: those of each crate, and those of all other files."""
+    """The names of a tree: of each crate, and of all other files."""
 
-    crates: Dict[str, FrozenSet[str]]
-    others: FrozenSet[str]
+    def __init__(self, tree: Tree) -> None:
+        self.tree = tree
+        self.words: Dict[str, Set[str]] = {"": set()}
+        for path in [it for it in tree.files if not it.endswith(".md") and it != OTHERS]:
+            parts = path.split(os.sep)
+            mark = COMMENTS.get(os.path.splitext(path)[1])
+            code = [line.partition(mark)[0] if mark else line for line in tree.text(path).split("\n")]
+            found = self.words.setdefault(parts[1] if parts[0] == "crates" and len(parts) > 2 else "", set())
+            found.update(WORD.findall(path), *map(WORD.findall, code))
 
-    def of(self, crates: Iterable[str]) -> FrozenSet[str]:
-        """The names of these crates, and of all files that are no crate's."""
-        return self.others.union(*(self.crates.get(crate, frozenset()) for crate in crates))
+    def known_to(self, document: Document) -> FrozenSet[str]:
+        """The names that a document may use: all, or in a crate's README those of the crate, of those below it, and of those that it names."""
+        crates, found = set(self.tree.crates), re.fullmatch(r"crates/(\w+)/README\.md", document.path)
+        if found:
+            named = {crate for crate in crates if re.search(rf"\b{crate}\b", document.text)} | {found[1]} & crates
+            crates = named.union(*map(self.tree.libraries_below, named))
+        return frozenset().union(*(self.words.get(crate, ()) for crate in ["", *crates]))
 
-
-def names_of_tree(top: str) -> Names:
-    """The names of the tree."""
-    crates: Dict[str, Set[str]] = {}
-    others: Set[str] = set()
-    for path in files_of(top):
-        parts = path.split(os.sep)
-        found = crates.setdefault(parts[1], set()) if parts[0] == "crates" and len(parts) > 2 else others
-        found.update(WORD.findall(path))
-        with open(os.path.join(top, path), encoding="utf-8", errors="replace") as file:
-            found |= words_of_code(path, file.read())
-    return Names({crate: frozenset(found) for crate, found in crates.items()}, frozenset(others))
-
-
-def crates_of(document: Document, below: Dict[str, List[str]]) -> Set[str]:
-    """The crates whose names a document may use: all; for a crate's README the crate, those below it, and those that it names."""
-    found = re.fullmatch(r"crates/(\w+)/README\.md", document.path)
-    if not found:
-        return set(below)
-    named = {crate for crate in below if re.search(rf"\b{crate}\b", document.text)}
-    return {below_it for crate in {found[1], *named} for below_it in [crate, *below.get(crate, [])]}
+    def unknown_of(self, document: Document) -> Dict[str, int]:
+        """The names in backquotes that the tree doesn't have, each with the number of its first line."""
+        known, found = self.known_to(document), {}
+        for number, span in document.spans():
+            if is_path(span):
+                # (what a build makes is no file of the repository, built or not)
+                is_there = os.path.exists(os.path.join(self.tree.top, span)) and "out" not in span.split("/")
+                unknown = [] if is_there else [span]
+            else:
+                unknown = [word for word in names_in(span) if word not in known]
+            for name in unknown:
+                found.setdefault(name, number)
+        return found
 
 
 def is_path(span: str) -> bool:
@@ -86,24 +75,13 @@ def names_in(span: str) -> List[str]:
     return [word for word in words if "_" in word.strip("_") or re.search("[a-z0-9][A-Z]", word)]
 
 
-def is_made(path: str) -> bool:
-    """Whether a path is of what a build makes, which is no file of the repository, built or not."""
-    return "out" in path.split("/")
-
-
-def unknown_of(top: str, document: Document, known: FrozenSet[str]) -> Dict[str, int]:
-    """The names in backquotes that the tree doesn't have, each with the number of its first line."""
-    found: Dict[str, int] = {}
-    for number, span in document.spans():
-        if is_path(span):
-            unknown = [] if os.path.exists(os.path.join(top, span)) and not is_made(span) else [span]
-        else:
-            unknown = [word for word in names_in(span) if word not in known]
-        for name in unknown:
-            found.setdefault(name, number)
-    return found
-
-
-def others(text: str) -> Sequence[str]:
-    """The names of a list, one or more a line, without comments."""
-    return [name for line in text.split("\n") for name in line.partition("#")[0].split()]
+def name_faults(tree: Tree, documents: Sequence[Document]) -> List[str]:
+    """The names in backquotes that are not there, and the names of others that no document needs."""
+    names, needed = Names(tree), set()
+    others = [name for line in tree.text(OTHERS).split("\n") for name in line.partition("#")[0].split()]
+    faults = []
+    for document in documents:
+        unknown = names.unknown_of(document)
+        needed |= set(unknown)
+        faults += [f"{document.path}:{number}: there is no {name}" for name, number in unknown.items() if name not in others]
+    return faults + [f"other_names.txt: no document needs {name}" for name in others if name not in needed]

@@ -1,61 +1,44 @@
-"""Public functions that nothing calls: no test, and no other function.
+"""Public functions of the libraries that nothing calls, and those that no clause says anything of.
 
 A method counts as called where `.name(` or `Type::name` stands in code, another function of a type where `Type::name` does (`Self::name`
 in the file of the type), a function of no type where its name does. Clauses, `use` items and names of modules call nothing.
 """
 
 import re
-from dataclasses import dataclass
-from typing import List, Sequence, Set
+from typing import Iterable, List, Sequence, Set
 
-from sources import Source
-
-TYPE = r"^impl(?:<.*?>)? (\w+)"
-"""Where the functions of a type begin. (An impl of a trait has no public function.)"""
-FUNCTION = r"^( *)pub (?:const )?fn (\w+)[^(]*\(\s*(&?(?:mut )?self\b)?"
-ITEM = re.compile(f"{TYPE}|{FUNCTION}", re.MULTILINE)
+from sources import Function, Source
 
 
-@dataclass(frozen=True)
-class Function:
-    """A public function: its file, its type if it has one, its name, and whether it is a method."""
-
-    path: str
-    type: str
-    name: str
-    is_method: bool
-
-    def __str__(self) -> str:
-        return f"{self.type}::{self.name}" if self.type else self.name
-
-    def calls(self) -> Set[str]:
-        """How code may call it."""
-        if not self.type:
-            return {self.name}
-        return {f"{self.type}::{self.name}", f"{self.path} Self::{self.name}", *([f".{self.name}("] if self.is_method else [])}
+def ways_to_call(it: Function) -> Set[str]:
+    """How code may call a function."""
+    if not it.type:
+        return {it.name}
+    return {f"{it.type}::{it.name}", f"{it.path} Self::{it.name}", *([f".{it.name}("] if it.is_method else [])}
 
 
 def calls_in(source: Source) -> Set[str]:
     """What the code of a file calls, or may call."""
     paths = {f"{first}::{last}" for first, last in re.findall(r"\b(\w+)(?=::(\w+))", source.body)}
-    methods = set(re.findall(r"\.\w+\(", source.body))
     names = {found[2] for found in re.finditer(r"\b(fn )?(\w+)\b", source.body) if not found[1]}
-    return paths | methods | names | {f"{source.path} {path}" for path in paths if path.startswith("Self::")}
+    return paths | names | set(re.findall(r"\.\w+\(", source.body)) | {f"{source.path} {it}" for it in paths if it.startswith("Self::")}
 
 
-def functions_of(source: Source) -> List[Function]:
-    """The public functions of a file."""
-    found, type_name = [], ""
-    for new_type, indent, name, receiver in ITEM.findall("\n".join(source.code)):
-        if new_type:
-            type_name = new_type
-        else:
-            found.append(Function(source.path, type_name if indent else "", name, receiver != ""))
-    return found
+def differences(found: Sequence[str], exceptions: Iterable[str], fault: str) -> List[str]:
+    """A fault for each of these that is no exception, and for each exception that is none of these."""
+    needless = [f"{name} is an exception that is not needed" for name in exceptions if name not in found]
+    return [f"{name} {fault}" for name in found if name not in exceptions] + needless
 
 
-def uncalled(sources: Sequence[Source]) -> List[Function]:
-    """The public functions of the libraries that nothing calls. (A law is a theorem: nobody has to call it.)"""
-    libraries = [source for source in sources if not source.is_test and not source.path.endswith("/laws.rt")]
-    called = set().union(*(calls_in(source) for source in sources))
-    return [function for source in libraries for function in functions_of(source) if not function.calls() & called]
+def uncalled(sources: Sequence[Source], exceptions: Iterable[str]) -> List[str]:
+    """Public functions that nothing calls. (A law is a theorem: nobody has to call it.)"""
+    libraries = [it for it in sources if not it.is_test and not it.path.endswith("/laws.rt")]
+    called = set().union(*map(calls_in, sources))
+    found = [str(it) for source in libraries for it in source.functions() if not ways_to_call(it) & called]
+    return differences(found, exceptions, "is public, and no test and no other code calls it")
+
+
+def without_clause(sources: Sequence[Source], exceptions: Iterable[str]) -> List[str]:
+    """Public functions of libraries that have no clause, each with its file."""
+    found = [f"{it.path} {it.name}" for source in sources if not source.is_test for it in source.functions() if not it.has_clause]
+    return differences(found, exceptions, "is public and has no clause: any body passes")

@@ -1,20 +1,10 @@
-"""Tests and wrong bodies: how many there are, and whether each wrong body can be applied and changes code, and no clause.
-
-A wrong body that can't be applied counts for nothing in `rt ci`, and fails nothing there.
-"""
+"""Wrong bodies: whether each can be applied and changes code, and no clause. `rt ci` counts one for nothing that can't be applied."""
 
 import re
-from typing import Dict, List, Tuple
+from typing import Dict, List
 
-from sources import Source, Tree
-
-
-def tests_of(tree: Tree) -> Dict[str, int]:
-    """How many tests each crate has."""
-    found: Dict[str, int] = {}
-    for source in tree.sources:
-        found[source.crate] = found.get(source.crate, 0) + sum(line.strip() == "#[test]" for line in source.code)
-    return found
+from sources import Source
+from tree import Tree
 
 
 def edits_of(tree: Tree) -> List[str]:
@@ -25,15 +15,15 @@ def edits_of(tree: Tree) -> List[str]:
 def edit_faults(tree: Tree) -> List[str]:
     """Wrong bodies that can't be applied, or don't change code alone; and files beside them that are none."""
     edits = edits_of(tree)
-    others = [path for path in tree.files if "/must-fail/" in path and path not in edits]
     faults = [f"{path}: {fault}" for path in edits for fault in [edit_fault(tree, path)] if fault]
-    return faults + [f"{path} is no wrong body" for path in others]
+    return faults + [f"{path} is no wrong body" for path in tree.files if "/must-fail/" in path and path not in edits]
 
 
 def edit_fault(tree: Tree, path: str) -> str:
     """Why a wrong body can't be applied, or doesn't change code alone; nothing where it can and does."""
     crate = path.partition("/must-fail/")[0]
-    texts: Dict[str, Tuple[str, str]] = {}
+    before: Dict[str, str] = {}
+    now: Dict[str, str] = {}
     file = old = ""
     for line in tree.text(path).split("\n"):
         word, _, rest = line.partition(": ")
@@ -41,26 +31,20 @@ def edit_fault(tree: Tree, path: str) -> str:
             file = rest
             if not re.fullmatch(r"src/[\w/]+\.rt", file):
                 return f"{file} is no source"
-            texts.setdefault(file, (tree.text(f"{crate}/{file}"),) * 2)
+            before.setdefault(file, tree.text(f"{crate}/{file}"))
+            now.setdefault(file, before[file])
         elif word == "old" and not old:
             old = rest
         elif word in ("new", "new:") and file and old:
-            before, now = texts[file]
-            if now.count(old) != 1:
-                return f"{old.strip()!r} stands {now.count(old)} times in {file}"
-            texts[file], old = (before, now.replace(old, rest)), ""
+            if now[file].count(old) != 1:
+                return f"{old.strip()!r} stands {now[file].count(old)} times in {file}"
+            now[file], old = now[file].replace(old, rest), ""
         elif line.strip():
             return f"{line!r} is no line of a wrong body"
     if old:
         return "an 'old:' has no 'new:'"
-    before, now = ([code_and_clauses(it[at]) for it in texts.values()] for at in (0, 1))
-    if [clauses for _, clauses in before] != [clauses for _, clauses in now]:
+    pairs = [(Source(f"{crate}/{it}", before[it]), Source(f"{crate}/{it}", now[it])) for it in now]
+    if any(first.clauses != second.clauses for first, second in pairs):
         return "it changes a clause"
-    return "" if before != now else "it changes no code"
-
-
-def code_and_clauses(text: str) -> Tuple[List[str], List[str]]:
-    """The code of a text with what stands in it in quotes, and the lines of its clauses."""
-    source = Source("", "", tuple(text.split("\n")))
-    code, clauses = source.parts
-    return code + source.quoted, clauses
+    changes = any((first.others, first.quoted) != (second.others, second.quoted) for first, second in pairs)
+    return "" if changes else "it changes no code"

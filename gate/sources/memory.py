@@ -1,13 +1,12 @@
 """Places where code makes an `AllocError` or a fault `Memory` without having been handed one.
 
 Such a place has a comment right above that begins `// No allocation failed here:` and says why the answer is right. Handed on is what
-stands in a match arm or below an `if let` whose pattern has it, below a test `is_memory()`, and in an impl of `From` of an error of
-memory.
+stands in a match arm or below an `if let` whose pattern has it, below a test `is_memory()`, and in an impl of `From` of an error of memory.
 """
 
 import re
 from itertools import takewhile
-from typing import List, Sequence, Set
+from typing import List, Sequence
 
 from sources import Source
 
@@ -38,18 +37,13 @@ def made_in(source: Source) -> List[int]:
     return found
 
 
-def comment_above(source: Source, line: int) -> Set[int]:
-    """The numbers of the lines of the comment right above a line."""
-    return {*takewhile(lambda at: source.lines[at - 1].strip().startswith("//"), range(line - 1, 0, -1))}
-
-
 def unexplained(sources: Sequence[Source]) -> List[str]:
     """The places that have no reason, and the comments that stand above no such place."""
     faults = []
     for source in [it for it in sources if not it.is_test]:
         comments = {at for at, line in enumerate(source.lines, 1) if re.search(re.escape(COMMENT) + r".*\w", line)}
         for line in made_in(source):
-            reasons = comments & comment_above(source, line)
+            reasons = comments & set(takewhile(lambda at: source.lines[at - 1].strip().startswith("//"), range(line - 1, 0, -1)))
             comments -= reasons
             if not reasons:
                 faults.append(f"{source.path}:{line}: a fault of memory is made, and no comment above says '{COMMENT}' and why")

@@ -1,121 +1,79 @@
-"""The files of a tree, its crates, and the code of their sources without comments."""
+"""The files of the crates' src: their code without comments and without what stands in quotes, their clauses, their functions."""
 
-import os
 import re
 from dataclasses import dataclass
-from typing import Any, Callable, Dict, List, Set, Tuple
+from typing import Iterator, List, Set
 
-from crates import Crate, read_crates
-
-TEST_CRATE = re.compile(r"test_\w+")
-"""Crates of tests, and of what tests share."""
+from tree import Tree
 
 NO_CODE = re.compile(r"""//[^\n]*|'(?:\\.|[^'\\\n])'|"(?:\\.|[^"\\])*\"""", re.DOTALL)
 """A comment, a letter in quotes, or a text in quotes, which may have several lines."""
-
 CLAUSE = re.compile(r"\s*(requires|ensures)\b")
 """How a clause begins. It ends with the brace that closes it."""
-
-
-class cached_property:
-    """A property that is worked out once, as that of `functools`, which Python 3.7 doesn't have."""
-
-    def __init__(self, function: Callable[[Any], Any]) -> None:
-        self.function = function
-
-    def __get__(self, of: Any, _type: type) -> Any:
-        value = of.__dict__[self.function.__name__] = self.function(of)
-        return value
+NO_CALL = re.compile(r"^\s*(pub )?(ghost )?(use [^;]*|mod \w+);", re.MULTILINE)
+"""Items that name functions and call none."""
+ITEM = re.compile(r"^impl(?:<.*?>)? (\w+)|^( *)pub (?:const )?fn (\w+)[^(]*\(\s*(&?(?:mut )?self\b)?", re.MULTILINE)
+"""Where the functions of a type begin, or a public function does. (An impl of a trait has no public function.)"""
+HEAD_END = re.compile(r"\{\}?$|;$|^\s*(?:pub(?:\(\w+\))? )?(?:const )?fn ", re.MULTILINE)
+"""How the head of a function ends: with its body, or at the latest with another function."""
 
 
 @dataclass(frozen=True)
-class Source:
-    """A file of a crate's src: the path below the top of the tree, the crate, and the lines."""
+class Function:
+    """A public function: its file, its type if it has one, its name, whether it is a method, and whether a clause says what it does."""
 
     path: str
-    crate: str
-    lines: Tuple[str, ...]
+    type: str
+    name: str
+    is_method: bool
+    has_clause: bool
 
-    @property
-    def is_test(self) -> bool:
-        return TEST_CRATE.fullmatch(self.crate) is not None
+    def __str__(self) -> str:
+        return f"{self.type}::{self.name}" if self.type else self.name
 
-    @cached_property
-    def code(self) -> Tuple[str, ...]:
-        """The lines without comments and without what stands in quotes."""
-        code = NO_CODE.sub(lambda found: blank(found[0]), "\n".join(self.lines))
-        return tuple(line.rstrip() for line in code.split("\n"))
 
-    @property
-    def quoted(self) -> List[str]:
-        """The letters and texts in quotes of the code, in their order."""
-        return [found for found in NO_CODE.findall("\n".join(self.lines)) if not found.startswith("//")]
+def blank(found: "re.Match[str]") -> str:
+    """What stands in the code for a comment or for what is in quotes, in as many lines."""
+    text = found[0]
+    return "" if text.startswith("//") else text[0] + "\n" * text.count("\n") + text[-1]
 
-    @cached_property
-    def clause_lines(self) -> Set[int]:
+
+class Source:
+    """A file of a crate's src, or a text that an edit made of one."""
+
+    def __init__(self, path: str, text: str) -> None:
+        self.path, self.crate, self.lines = path, path.split("/")[1], text.split("\n")
+        self.is_test = self.crate.startswith("test_")
+        self.quoted = [found for found in NO_CODE.findall(text) if not found.startswith("//")]
+        self.code = [line.rstrip() for line in NO_CODE.sub(blank, text).split("\n")]
+        self.clause_lines = self._clause_lines()
+        self.clauses = [line for number, line in enumerate(self.code, 1) if number in self.clause_lines]
+        self.others = [line for number, line in enumerate(self.code, 1) if number not in self.clause_lines]
+        self.body = NO_CALL.sub("", "\n".join(self.others))
+
+    def _clause_lines(self) -> Set[int]:
         """The numbers of the lines that clauses have, counted from 1."""
-        found: Set[int] = set()
-        depth = 0
+        found, depth = set(), 0
         for number, line in enumerate(self.code, 1):
             if depth > 0 or CLAUSE.match(line):
                 found.add(number)
                 depth += line.count("{") - line.count("}")
         return found
 
-    @cached_property
-    def parts(self) -> Tuple[List[str], List[str]]:
-        """The lines of the code that are in no clause, and those of clauses."""
-        others: List[str] = []
-        clauses: List[str] = []
-        for number, line in enumerate(self.code, 1):
-            (clauses if number in self.clause_lines else others).append(line)
-        return others, clauses
-
-    @cached_property
-    def body(self) -> str:
-        """The code without clauses, `use` items and names of modules."""
-        return re.sub(r"^\s*(pub )?(ghost )?(use [^;]*|mod \w+);", "", "\n".join(self.parts[0]), flags=re.MULTILINE)
-
-
-def blank(found: str) -> str:
-    """What stands in the code for a comment, or for what is in quotes, in as many lines."""
-    return "" if found.startswith("//") else found[0] + "\n" * found.count("\n") + found[-1]
+    def functions(self) -> Iterator[Function]:
+        """The public functions."""
+        code, type_name = "\n".join(self.code), ""
+        for found in ITEM.finditer(code):
+            new_type, indent, name, receiver = found.groups()
+            if new_type:
+                type_name = new_type
+            else:
+                end = HEAD_END.search(code, found.end())
+                head = code[found.end() : end.start() if end else None]
+                has_clause = re.search(r"^\s*ensures\b", head, re.MULTILINE) is not None
+                yield Function(self.path, type_name if indent else "", name, receiver is not None, has_clause)
 
 
-class Tree:
-    """A tree: its files without what is built, its crates, and the files of their src."""
-
-    def __init__(self, top: str):
-        self.top = top
-
-    @cached_property
-    def files(self) -> List[str]:
-        """The paths of all files."""
-        found = []
-        for folder, folders, files in os.walk(self.top):
-            folders[:] = sorted(name for name in folders if name not in (".git", "out", "__pycache__"))
-            found += [os.path.relpath(os.path.join(folder, name), self.top) for name in sorted(files)]
-        return found
-
-    @cached_property
-    def crates(self) -> Dict[str, Crate]:
-        """The crates of crates.txt."""
-        return read_crates(self.top)
-
-    @cached_property
-    def sources(self) -> List[Source]:
-        """The files of the crates' src."""
-        paths = [path for path in self.files if re.fullmatch(r"crates/\w+/src/.*\.rt", path)]
-        return [Source(path, path.split("/")[1], tuple(self.text(path).split("\n"))) for path in paths]
-
-    def text(self, path: str) -> str:
-        """The text of a file; nothing where there is none."""
-        try:
-            with open(f"{self.top}/{path}", encoding="utf-8", errors="replace") as file:
-                return file.read()
-        except FileNotFoundError:
-            return ""
-
-    def is_script(self, path: str) -> bool:
-        """Whether a file can be run."""
-        return os.access(f"{self.top}/{path}", os.X_OK)
+def sources_of(tree: Tree) -> List[Source]:
+    """The files of the crates' src."""
+    return [Source(path, tree.text(path)) for path in tree.files if re.fullmatch(r"crates/\w+/src/.*\.rt", path)]

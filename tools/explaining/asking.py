@@ -1,12 +1,13 @@
 """Asking the program about a record, and the lines of the record's text."""
 
+import contextlib
 import os
 import re
 import subprocess
 import sys
 import tempfile
 from dataclasses import dataclass, field
-from typing import BinaryIO, Dict, List, Sequence, Tuple
+from typing import BinaryIO, Callable, Dict, List, Sequence, Tuple
 
 TOP = os.path.dirname(os.path.dirname(os.path.dirname(os.path.realpath(__file__))))
 PROGRAM = os.environ.get("PROGRAM", f"{TOP}/testkit")
@@ -85,6 +86,30 @@ class Record:
 
 def not_an_answer(status: int, output: bytes) -> Failed:
     return Failed(f"{PROGRAM} answers {output[:80]!r} with status {status}")
+
+
+def say(text: bytes) -> None:
+    """Writes on standard error, where that is open and takes it; the status stays what it is."""
+    if sys.stderr:
+        with contextlib.suppress(OSError):
+            os.write(sys.stderr.fileno(), text)
+
+
+def run_script(name: str, main: Callable[[Sequence[str]], int]) -> None:
+    """Ends with the status of `main`, with the program's line and status where it refuses, and with 70 and a line where the script fails."""
+    try:
+        sys.exit(main(sys.argv[1:]))
+    except KeyboardInterrupt:
+        sys.exit(130)
+    except Refused as fault:
+        say(fault.line)
+        sys.exit(fault.status)
+    except Exception as error:
+        say(f"{name}: {' '.join(str(error).split()) or type(error).__name__}\n".encode(errors="backslashreplace"))
+        with contextlib.suppress(OSError, AttributeError):
+            sys.stdout.flush()
+        # (what can't be written is not tried once more at the end of Python)
+        os._exit(70)
 
 
 def show(*texts: bytes) -> None:

@@ -1,0 +1,57 @@
+"""Checks README.md, docs/*.md and crates/*/README.md: their commands, their quotes, and the rules of `rules.py`."""
+
+import re
+import unittest
+from operator import itemgetter
+
+from commands import examples_of
+from documents import documents_of
+from fixtures import PROGRAM, TOP, WithProgram, needs, parameterized, run
+from quotes import quotes_of
+from rules import Limits, rules_of
+from tree import Tree
+
+LIMITS = Limits(
+    fewest_commands={
+        "README.md": 14,
+        "docs/FORMATS.md": 1,
+        "docs/JUNIT.md": 4,
+        **{f"docs/{it}.md": 0 for it in ("ARCHITECTURE", "DECISIONS", "ENGINES", "PROVED", "SPECIFICATION", "SPEED", "TESTING")},
+    },
+    most_words=18_000,
+    most_readme_bytes=14_336,
+    most_crate_lines=80,
+    fewest_crate_readmes=35,
+    heads=("tk_lanes", "tk_ids", "tk_events", "tk_record", "tk_query", "tk_book", "tk_plan", "tk_queue", "tk_engine", "tk_report", "testkit"),
+    phrases=("want of memory", "refused growth", "so many", "passes on", "beyond the surface", "who wants to look"),
+)
+
+TREE = Tree(TOP)
+DOCUMENTS = documents_of(TOP)
+EXAMPLES = [example for document in DOCUMENTS for example in examples_of(document)]
+
+
+class Documents(unittest.TestCase):
+    maxDiff = None
+
+    @parameterized(lambda: rules_of(TREE, DOCUMENTS, LIMITS).items(), name=itemgetter(0))
+    def test_rules(self, rule):
+        self.assertEqual(rule[1](), [])
+
+    @parameterized(lambda: [quote for document in DOCUMENTS for quote in quotes_of(TREE, document).items()], name=itemgetter(0))
+    def test_quotes(self, quote):
+        self.assertEqual(quote[1], "")
+
+    @needs("rt")
+    def test_kit(self):
+        """README.md names the kit that proves the repository here."""
+        kit = run(["rt", "version"]).output.decode().splitlines()[0]
+        self.assertEqual(re.findall(r"`(rattle-kit[^`]*)`", TREE.text("README.md")), [kit])
+
+
+class Commands(WithProgram):
+    maxDiff = None
+
+    @parameterized(EXAMPLES, name=lambda it: f"{it.place}: {it.command}")
+    def test_commands(self, example):
+        self.assertEqual(example.fault(TOP, PROGRAM), "")

@@ -1,0 +1,174 @@
+"""Holds the checks of commands, names, quotes, figures and sizes against small trees that are right, or wrong in one way."""
+
+import os
+import tempfile
+import unittest
+from operator import itemgetter
+
+from commands import examples_of
+from documents import documents_of
+from fixtures import parameterized
+from quotes import quotes_of
+from rules import Limits, rules_of
+from tree import Tree
+
+README = """# Small
+
+`first_bits` of `low`, `Record::append` of `high`; a call `run(first)`, `crates/low/src/lib.rt`, `crates/NAME/none`.
+
+    $ ./testkit three
+    one
+    two
+    three
+    $ ./testkit three; exit 2    # status 2
+    one
+    ..
+    three
+    $ $PROGRAM three | head -n 1
+    one
+
+Two words of others: `JUnitName`, and `Assertion`.
+
+```
+$ no command `last_bits`
+```
+
+Measured (`docs/SPEED.md`): `run` is 4 times as fast. `ask first` takes 1.5 times the time and 0.9 times the memory; `run` 4.2.
+"""
+SPEED = """# Speed
+
+| `run` at least 4 times as fast | 4.2 times |
+| `ask first` likewise; `ask second` | 1.50 times, 1.5 (1.4-1.6) |
+| and in no more memory | 0.9 times |
+"""
+USE = "# Use\n\nAlso many; so manyfold: `all the words of it`.\n\n    $ cat tools/list\n    first\n    ..\n    fourth\n"
+CODE = "crates/high/src/lib.rt"
+LOW = f"# low\n\nFrom {CODE}:\n\n```rust\nif at < first_bits {{\n    append(at)\n}}\n```\n"
+HIGH = "# high\n\nFrom `crates/low/specs/Bits.antt`, shortened by nothing:\n\n    abbrev pub first_bits : ℕ\n    first_bits = 1\n"
+TREE = {
+    "README.md": README,
+    "docs/USE.md": USE,
+    "docs/SPEED.md": SPEED,
+    "crates.txt": "low:\nhigh: low  # the head\ntop staticlib: high\n",
+    "crates/low/README.md": LOW,
+    "crates/high/README.md": HIGH,
+    "crates/top/README.md": "# top\n\n`Bits`, `append`\n",
+    "crates/low/src/lib.rt": "pub fn first() {}\n// no_name stands in a comment alone\n",
+    "crates/low/specs/Bits.antt": "-- other_name\nabbrev pub first_bits : ℕ\nfirst_bits = 1\n",
+    CODE: "impl Record {\n    fn append() {\n        if at < first_bits {\n            append(at)\n        }\n    }\n}\n",
+    "crates/top/src/lib.rt": "fn above_name() {}\n",
+    "gate/documents/other_names.txt": "# names of others\nJUnitName Assertion\n",
+    "tools/list": "first\nsecond\nthird\nfourth\n",
+    "tools/run": "run()\n",
+    "crates/unlisted/src/lib.rt": "if at < first_bits {\n    append(at)\n}\n",
+}
+PROGRAM = "#!/bin/sh\nprintf 'one\\ntwo\\nthree\\n'\n"
+WORDS = sum(len(text.split()) for path, text in TREE.items() if path.endswith(".md"))
+LIMITS = Limits({"README.md": 3, "docs/SPEED.md": 0, "docs/USE.md": 1}, WORDS + 40, len(README.encode()) + 80, 12, 3, ("low", "high"), ("so many",))
+
+
+def changed(path, old, new):
+    """One place of a file with another text."""
+    assert old in TREE[path], (path, old)
+    return {path: TREE[path].replace(old, new, 1)}
+
+
+def more(path, text):
+    return {path: TREE[path] + text}
+
+
+RIGHT = [
+    ("the tree", {}),
+    (".. for one line", changed("README.md", "    two\n", "    ..\n")),
+    ("a status of two digits", changed("README.md", "exit 2    # status 2", "exit 70    # status 70")),
+    ("a word with the program's name in it", changed("README.md", "$PROGRAM three | head -n 1\n    one\n", "echo at/./testkit.old\n    at/./testkit.old\n")),
+    ("a name of a crate that a document doesn't name", more("docs/USE.md", "\n`above_name`\n")),
+    ("a name of a crate above that is named", more("crates/high/README.md", "\n`above_name` of `top`\n")),
+    ("a command of a script that is no path", changed("README.md", "crates/low/src/lib.rt", "tools/run first_bits")),
+    ("a quote with blanks at its ends", changed("crates/low/README.md", "{\n", "{  \n")),
+    ("a quote of proofs", {**changed("crates/low/README.md", CODE, "crates/high/proofs/All.antt"), "crates/high/proofs/All.antt": TREE[CODE]}),
+    ("as many lines as there may be", more("crates/top/README.md", "line\n" * 9)),
+]
+WRONG = [
+    ("another status", "README.md:9: ./testkit three; exit 2    # status 3: its status is 2, and not 3", changed("README.md", "# status 2", "# status 3")),
+    ("a status that isn't shown", "its status is 2, and not 0", changed("README.md", "    # status 2", "")),
+    ("a status that doesn't come", "its status is 0, and not 1", changed("README.md", "$ ./testkit three\n", "$ ./testkit three # status 1\n")),
+    ("another line", "it prints", changed("README.md", "    two\n", "    too\n")),
+    ("a line less", "it prints", changed("README.md", "    three\n    $", "    $")),
+    ("a line more", "it prints", changed("README.md", "    three\n    $", "    three\n    four\n    $")),
+    (".. for no line", "it prints", changed("README.md", "    ..\n    three", "    two\n    ..\n    three")),
+    ("another line after ..", "it prints", changed("docs/USE.md", "    fourth", "    fifth")),
+    ("a line on standard error", "it prints", changed("README.md", "head -n 1", "head -n 1; echo two >&2")),
+    ("a command that doesn't run", "its status is 127", changed("README.md", "$PROGRAM three | head -n 1", "./nothing")),
+    ("a command after fences", "README.md:22: false: its status is 1", changed("README.md", "```\n\nMeasured", "```\n\n    $ false\n\nMeasured")),
+    ("fewer commands", "README.md shows 2 commands", changed("README.md", "    $ $PROGRAM three | head -n 1\n    one\n", "")),
+    ("a document is left out", "docs/USE.md is missing", {"docs/USE.md": None}),
+    ("a document of no list", "docs/MORE.md is in no list", {"docs/MORE.md": "# More\n"}),
+    ("a README of no crate", "crates/none/README.md is in no list", {"crates/none/README.md": "# none\n"}),
+    ("a crate without a README", "1 crates have no README, of 3: crates/top", {"crates/top/README.md": None}),
+    ("a name that isn't there", "README.md:3: there is no last_bits", changed("README.md", "first_bits", "last_bits")),
+    ("a member that isn't there", "there is no remove", changed("README.md", "Record::append", "Record::remove")),
+    ("a call that isn't there", "there is no walk", changed("README.md", "run(first)", "walk(first)")),
+    ("a name of a comment", "there is no no_name", changed("README.md", "first_bits", "no_name")),
+    ("a name of a comment in specs", "there is no other_name", changed("README.md", "first_bits", "other_name")),
+    ("a name among words", "there is no lastBits", changed("README.md", "`first_bits`", "`all the lastBits of it`")),
+    ("a name of what is built", "there is no last_bits", {**changed("README.md", "first_bits", "last_bits"), "crates/low/out/low.rs": "last_bits"}),
+    ("a file that isn't there", "there is no crates/low/src/main.rt", changed("README.md", "src/lib.rt", "src/main.rt")),
+    ("a file that a build makes", "there is no tools/out/low", {**changed("README.md", "crates/low/src/lib.rt", "tools/out/low"), "tools/out/low": ""}),
+    ("a name of a crate above", "crates/high/README.md:8: there is no above_name", more("crates/high/README.md", "\n`above_name` of topmost things\n")),
+    ("a needless exception", "no document needs Needless", more("gate/documents/other_names.txt", "Needless\n")),
+    ("a missing exception", "there is no Assertion", changed("gate/documents/other_names.txt", " Assertion", "")),
+    ("a figure that isn't there", "docs/SPEED.md has no 1.7 of ask first", changed("README.md", "1.5", "1.7")),
+    ("a figure of another command", "docs/SPEED.md has no 4.2 of ask first", changed("README.md", "1.5", "4.2")),
+    ("a figure in a line below", "docs/SPEED.md has no 0.8 of ask first", changed("README.md", "0.9", "0.8")),
+    ("no figures", "README.md has no figures of docs/SPEED.md", changed("README.md", "Measured (", "Found (")),
+    ("a quote with another word", "low/README.md:3: the block is no quote of", changed("crates/low/README.md", "append(at)", "append(to)")),
+    ("a quote without a line", "is no quote of", changed("crates/low/README.md", "    append(at)\n", "")),
+    ("a quote with another indentation", "is no quote of", changed("crates/low/README.md", "    append", "  append")),
+    ("a quote whose source changed", "is no quote of", changed(CODE, "at < first_bits", "at <= first_bits")),
+    ("an indented quote that is none", "is no quote of", changed("crates/high/README.md", "first_bits = 1", "first_bits = 2")),
+    ("a quote of no crate", "is no file of a crate", changed("crates/low/README.md", "crates/high", "crates/unlisted")),
+    ("a quote of a document", "is no file of a crate", changed("crates/low/README.md", CODE, "crates/high/README.md")),
+    ("a quote by a path that goes up", "is no file of a crate", changed("crates/low/README.md", CODE, "crates/high/src/../../unlisted/src/lib.rt")),
+    ("no block after its line", "low/README.md:3: no block of code follows", {**changed("crates/low/README.md", "```rust", "words\n\n```")}),
+    ("a quote of nothing", "no code is quoted", changed("crates/low/README.md", "if at < first_bits {\n    append(at)\n}", " ")),
+    ("code of nobody", "low/README.md:11: no line 'From crates/..:'", more("crates/low/README.md", "\n```rust\nappend(at)\n```")),
+    ("a head that quotes nobody", "crates/high/README.md quotes no caller", {"crates/high/README.md": "# high\n"}),
+    ("a backquote alone", "docs/USE.md:9: a backquote has no second one", more("docs/USE.md", "`first of all\n")),
+    ("a fence without an end", "README.md: a fence has no end", changed("README.md", "`\n```\n", "`\n")),
+    ("a README of a line too many", "has 13 lines, and may have 12", more("crates/top/README.md", "line\n" * 10)),
+    ("a README.md of too many bytes", "README.md has", more("README.md", "é" * 40 + "\n")),
+    ("too many words", "words together, and may have", more("docs/USE.md", "| " * 41 + "\n")),
+    ("a phrase over two lines", "docs/USE.md:9: 'so many'", more("docs/USE.md", "There are So\nmany.\n")),
+]
+
+
+class Rules(unittest.TestCase):
+    maxDiff = None
+
+    def faults(self, files):
+        """What is found wrong with a tree that differs from the right one in these files."""
+        with tempfile.TemporaryDirectory() as top:
+            for path, text in {**TREE, "program": PROGRAM, **files}.items():
+                if text is not None:
+                    os.makedirs(os.path.dirname(f"{top}/{path}"), exist_ok=True)
+                    with open(f"{top}/{path}", "w", encoding="utf-8") as file:
+                        file.write(text)
+            os.chmod(f"{top}/program", 0o755)
+            tree, documents = Tree(top), documents_of(top)
+            found = [fault for rule in rules_of(tree, documents, LIMITS).values() for fault in rule()]
+            for document in documents:
+                found += [f"{place}: {fault}" for place, fault in quotes_of(tree, document).items() if fault]
+                examples = [(it, it.fault(top, f"{top}/program")) for it in examples_of(document)]
+                found += [f"{it.place}: {it.command}: {fault}" for it, fault in examples if fault]
+            return found
+
+    @parameterized(RIGHT, name=itemgetter(0))
+    def test_right(self, row):
+        self.assertEqual(self.faults(row[1]), [])
+
+    @parameterized(WRONG, name=itemgetter(0))
+    def test_wrong(self, row):
+        _, fault, files = row
+        found = self.faults(files)
+        self.assertEqual((len(found), [it for it in found if fault not in it]), (1, []), found)

@@ -1,0 +1,327 @@
+"""Tests what `tools/package` makes: both packages, their bytes, the man page, and the jar of the listener for JUnit."""
+
+import gzip
+import hashlib
+import io
+import os
+import re
+import shutil
+import sys
+import tarfile
+import tempfile
+import time
+import unittest
+import zipfile
+
+from fixtures import PROGRAM, TOP, folder, needs, parameterized, run
+from repository import BUILT, MOMENT, RUN, Repository, read
+
+VERSION = read(f"{TOP}/VERSION").decode().strip()
+INSIDE = f"testkit-{VERSION}"
+TAR, DEB, JAR = f"{INSIDE}-x86_64-linux.tar.gz", f"testkit_{VERSION}_amd64.deb", "testkit-listener.jar"
+COMMANDS = ("explain", "timeline")
+TOOLS = {*COMMANDS, "explain.py", "timeline.py", "timeline.css", "timeline.html", "timeline.js"}
+DOCUMENTS = "usr/share/doc/testkit"
+JUNIT = ("junit-platform-commons", "junit-platform-engine", "junit-platform-launcher", "opentest4j", "apiguardian-api")
+CONSOLE = "/usr/share/java/junit-platform-console-standalone.jar"
+HAS_JAVA = bool(shutil.which("javac")) and all(os.path.exists(f"/usr/share/java/{it}.jar") for it in JUNIT)
+NO_JAR = b"tools/package: without a JDK and JUnit (apt-get install junit5 default-jdk-headless) there is no jar\n"
+
+
+def files_below(at):
+    return sorted(os.path.relpath(os.path.join(place, name), at) for place, _, names in os.walk(at) for name in names)
+
+
+def without_jdk(test):
+    """A path of commands that has what `tools/package` needs, and no JDK."""
+    at = folder(test)
+    for name, path in {"git": shutil.which("git"), "sh": "/bin/sh", "python3": sys.executable}.items():
+        os.symlink(path, f"{at}/{name}")
+    return at
+
+
+@needs("git")
+@needs("dpkg-deb")
+class Made(unittest.TestCase):
+    """Both packages of a repository, unpacked; `packed` are its files that are packed, `programs` those that can be run."""
+
+    maxDiff = None
+
+    @classmethod
+    def setUpClass(cls):
+        cls.room = tempfile.TemporaryDirectory(prefix="package-")
+        cls.of = Repository(cls.room.name)
+        cls.ran = cls.of.package()
+        assert cls.ran.status == 0, cls.ran
+        with tarfile.open(cls.of.path(f"out/{TAR}")) as files:
+            cls.in_tar = files.getmembers()
+            files.extractall(cls.of.path("tar"))
+        with tarfile.open(fileobj=io.BytesIO(run(["dpkg-deb", "--fsys-tarfile", cls.of.path(f"out/{DEB}")]).output)) as files:
+            cls.in_deb = files.getmembers()
+        run(["dpkg-deb", "-R", cls.of.path(f"out/{DEB}"), cls.of.path("deb")])
+        os.rename(cls.of.path("deb/DEBIAN"), cls.of.path("control"))
+        cls.tar, cls.deb = cls.of.path(f"tar/{INSIDE}"), cls.of.path("deb")
+        cls.packed = ["LICENSE", "docs/FORMATS.md", "docs/JUNIT.md", "docs/testkit.1"]
+        cls.packed += [f"examples/{name}" for name in files_below(cls.of.path("examples"))]
+        cls.packed += [f"tools/{it}" for it in files_below(cls.of.path("tools")) if it in TOOLS or it.startswith("explaining/")]
+        cls.programs = {name for name in cls.packed if os.access(cls.of.path(name), os.X_OK)}
+
+    @classmethod
+    def tearDownClass(cls):
+        cls.room.cleanup()
+
+    def test_call(self):
+        self.assertEqual((self.ran.output.decode(), self.ran.error), ("".join(f"{self.of.path('out')}/{it}\n" for it in (TAR, DEB)), b"" if HAS_JAVA else NO_JAR))
+        self.assertEqual(list(self.of.made()), sorted((TAR, DEB)))
+
+    def test_archive(self):
+        """It has the files of the repository with fixed owners, times and modes, sorted, and no name and no time of its own."""
+        self.assertEqual(files_below(self.tar), sorted([*self.packed, "PROVED-WITH", "testkit", *([JAR] if HAS_JAVA else [])]))
+        self.assertEqual([it for it in self.packed if read(f"{self.tar}/{it}") != read(self.of.path(it))], [])
+        self.assertEqual(read(f"{self.tar}/testkit"), read(self.of.path(BUILT)))
+        names = [it.name for it in self.in_tar]
+        programs = {f"{INSIDE}/{it}" for it in ("testkit", *self.programs)}
+        self.assertEqual(names, sorted(names))
+        self.assertEqual([it.name for it in self.in_tar if it.mode != (0o755 if it.name in programs else 0o644)], [])
+        self.assertEqual({(it.uid, it.gid, it.uname, it.gname, it.mtime, it.isfile()) for it in self.in_tar}, {(0, 0, "root", "root", MOMENT, True)})
+        self.assertEqual(read(self.of.path(f"out/{TAR}"))[3:8], b"\0" * 5)
+
+    def test_proved_with(self):
+        commit, tree = self.of.git("rev-parse", "HEAD", "HEAD^{tree}").split()
+        program = hashlib.sha256(read(self.of.path(BUILT))).hexdigest()
+        wanted = f"testkit {VERSION}\ncommit {commit}\ntree {tree}\nkit rattle-kit-0\nprogram sha256 {program}\n"
+        self.assertEqual(read(f"{self.tar}/PROVED-WITH").decode(), f"{wanted}gate ./check of this tree: 12 passed, 0 failed\n")
+
+    def place(self, name):
+        """Where Debian has a file of the archive."""
+        places = {"LICENSE": f"{DOCUMENTS}/copyright", "docs/testkit.1": "usr/share/man/man1/testkit.1.gz", JAR: f"usr/share/java/{JAR}"}
+        if name.startswith("tools/") or name == "testkit":
+            return f"usr/lib/testkit/{name}"
+        return places.get(name) or f"{DOCUMENTS}/{name[5:] if name.startswith('docs/') else name}"
+
+    def test_files_in_debian(self):
+        """It has the files of the archive in other places, and links."""
+        links = ["usr/bin/testkit", *(link for it in COMMANDS for link in (f"usr/bin/testkit-{it}", f"usr/share/man/man1/testkit-{it}.1.gz"))]
+        names = files_below(self.tar)
+        self.assertEqual(files_below(self.deb), sorted([*map(self.place, names), *links]))
+        self.assertEqual([it for it in links if not os.path.islink(f"{self.deb}/{it}") or not os.path.exists(f"{self.deb}/{it}")], [])
+        for name in names:
+            data = read(f"{self.deb}/{self.place(name)}")
+            self.assertEqual(gzip.decompress(data) if name == "docs/testkit.1" else data, read(f"{self.tar}/{name}"), name)
+        owners = {(it.uid, it.gid, it.uname, it.gname, it.mtime) for it in self.in_deb}
+        modes = {it.name: it.mode for it in self.in_deb if it.isfile()}
+        programs = {f"./{self.place(it)}" for it in ("testkit", *self.programs)}
+        self.assertEqual(owners, {(0, 0, "root", "root", MOMENT)})
+        self.assertEqual({it.mode for it in self.in_deb if it.isdir()}, {0o755})
+        self.assertEqual(modes, {name: 0o755 if name in programs else 0o644 for name in modes})
+
+    def test_what_debian_is_told(self):
+        told = read(self.of.path("control/control")).decode()
+        fields = dict(re.findall(r"^([\w-]+): (.*)$", told, re.MULTILINE))
+        libc = max(int(it) for it in re.findall(rb"GLIBC_2\.(\d+)", read(self.of.path(BUILT))))
+        size = sum(os.lstat(f"{self.deb}/{it}").st_size for it in files_below(self.deb)) // 1024
+        self.assertIn(int(fields.pop("Installed-Size")), range(size, size + 200))
+        self.assertEqual(fields, {
+            "Package": "testkit", "Version": VERSION, "Architecture": "amd64", "Maintainer": "An äuthor <author@place.example>",
+            "Recommends": "python3", "Section": "devel", "Priority": "optional", "Depends": f"libc6 (>= 2.{libc})",
+            "Description": "JUnit Platform Test Kit as a verified program",
+        })
+        files = [it for it in files_below(self.deb) if not os.path.islink(f"{self.deb}/{it}")]
+        sums = "".join(f"{hashlib.md5(read(f'{self.deb}/{it}')).hexdigest()}  {it}\n" for it in files)
+        self.assertEqual(read(self.of.path("control/md5sums")).decode(), sums)
+        parts = re.findall(rb"([\w.-]+)/? +\d+ +0 +0 +100644 ", read(self.of.path(f"out/{DEB}")))
+        self.assertEqual(parts, [b"debian-binary", b"control.tar.gz", b"data.tar.gz"], "parts that each dpkg can unpack")
+
+    def test_answers(self):
+        """The unpacked program and its tools answer."""
+        if not os.path.exists(PROGRAM):
+            self.skipTest("no proved program")
+        in_debian = (f"{self.deb}/usr/bin/testkit", f"{self.deb}/usr/bin/testkit-", f"{self.deb}/{DOCUMENTS}/examples")
+        for program, tools, examples in ((f"{self.tar}/testkit", f"{self.tar}/tools/", f"{self.tar}/examples"), in_debian):
+            record = read(f"{examples}/two_tests.record")
+            self.assertEqual(run([program, "ask", "count", "all"], record).output, b"5\n")
+            explained = run([f"{tools}explain", "loosely", "failed(boom)"], record, env={"PATH": os.environ["PATH"]})
+            self.assertEqual(explained.output, b"yes\n0 failed(boom)\n    2: E|1|1|2|finish|fail|boom\n", explained.error)
+            drawn = run([f"{tools}timeline"], record, env={"PATH": os.environ["PATH"]})
+            self.assertTrue(drawn.output.startswith(b"<!doctype html>") and b"[engine:e]/[t:1]" in drawn.output, drawn.error)
+
+    @unittest.skipUnless(HAS_JAVA, "no javac")
+    def test_jar(self):
+        with zipfile.ZipFile(f"{self.tar}/{JAR}") as jar:
+            names, found = jar.namelist(), {name: jar.read(name) for name in jar.namelist()}
+            forms = {(it.create_system, it.external_attr >> 16, it.compress_type, it.date_time) for it in jar.infolist()}
+        heads = ["META-INF/MANIFEST.MF", "META-INF/LICENSE", "META-INF/services/org.junit.platform.launcher.TestExecutionListener"]
+        sources = [it for it in ("RecordListener", "ResultsWriter", "RecordAssert") if f"examples/junit/testkit/{it}.java" in self.packed]
+        self.assertEqual(names, heads + sorted(names[3:]))
+        self.assertEqual(forms, {(3, 0o100644, zipfile.ZIP_DEFLATED, time.gmtime(MOMENT)[:6])})
+        self.assertEqual({re.sub(r"(\$\w+)?\.class$", "", name) for name in names[3:]}, {f"testkit/{it}" for it in sources})
+        self.assertEqual({found[name][4:8] for name in names[3:]}, {b"\0\0\0\x34"}, "Java 8")
+        wanted = f"Manifest-Version: 1.0\r\nImplementation-Title: testkit\r\nImplementation-Version: {VERSION}\r\n\r\n".encode()
+        self.assertEqual([found[it] for it in heads], [wanted, read(self.of.path("LICENSE")), b"testkit.RecordListener\n"])
+
+    @unittest.skipUnless(HAS_JAVA and os.path.exists(CONSOLE), "no javac")
+    def test_jar_in_the_console(self):
+        """The console finds the listener in the jar, which records a run."""
+        at = folder(self)
+        with open(f"{at}/OneTest.java", "w", encoding="utf-8") as file:
+            file.write("public class OneTest {\n    @org.junit.jupiter.api.Test\n    void one() {\n    }\n}\n")
+        compiled = run(["javac", "-d", f"{at}/classes", "-cp", CONSOLE, f"{at}/OneTest.java"])
+        words = ["-cp", f"{at}/classes:{self.tar}/{JAR}", "--config", f"testkit.record={at}/run.record", "--select-class", "OneTest"]
+        ran = run(["java", "-jar", CONSOLE, *words, "--disable-banner"], cwd=at)
+        self.assertEqual((compiled.status, ran.status), (0, 0), (compiled, ran))
+        self.assertRegex(read(f"{at}/run.record"), rb"(?s)^testkit-record\|2\n.*method:one\(\).*\|finish\|ok\n")
+
+
+def set_git(it):
+    """Settings of git by which an archive or a text of it would differ."""
+    it.write(".git/info/attributes", b"docs/JUNIT.md export-ignore\n")
+    it.write(f"{RUN}.attributes", b"*.record export-ignore\n")
+    values = {"core.autocrlf": "true", "core.attributesFile": it.path(f"{RUN}.attributes"), "i18n.logOutputEncoding": "ISO-8859-1"}
+    for name, value in values.items():
+        it.git("config", name, value)
+
+
+def mark(it):
+    it.git("update-index", "--assume-unchanged", FORMATS)
+    it.write(FORMATS, b"new")
+
+
+def ignore_mode(it):
+    it.git("config", "core.fileMode", "false")
+    os.chmod(it.path(FORMATS), 0o755)
+
+
+def committed(change):
+    """A change that is committed, and for which the gate passed."""
+
+    def of(it):
+        change(it)
+        it.commit()
+        it.pass_gate()
+
+    return of
+
+
+AGAIN = [
+    ("after another run of the gate", lambda it: it.pass_gate(date="2027-01-01"), {"SOURCE_DATE_EPOCH": "1", "TZ": "Asia/Tokyo", "LC_ALL": "C"}),
+    ("under other settings of git", set_git, {}),
+    ("where a variable names another repository", lambda it: None, {"GIT_DIR": "/none", "GIT_WORK_TREE": "/", "GIT_INDEX_FILE": "/none"}),
+    ("over an older package", lambda it: (os.makedirs(it.path("out/made")), it.write(f"out/made/{TAR}", b"old")), {}),
+]
+"""What changes between two calls that give the same bytes."""
+
+FORMATS = "docs/FORMATS.md"
+NO_RUN, CHANGED, OTHER_PROGRAM = f"no run of ./check that passed has left {RUN}", f"{FORMATS} is not as it was committed", f"{BUILT} is not the program that"
+REFUSED = [
+    ("no run of the gate", 1, NO_RUN, lambda it: os.remove(it.path(RUN))),
+    ("a run that was cut off", 1, NO_RUN, lambda it: it.write(RUN, read(it.path(RUN))[:-1])),
+    ("a run without its tree", 1, NO_RUN, lambda it: it.pass_gate(tree=None)),
+    ("a run that counted nothing", 1, NO_RUN, lambda it: it.pass_gate(passed=0)),
+    ("a run that counts no number", 1, NO_RUN, lambda it: it.pass_gate(passed="all")),
+    ("a run with more", 1, NO_RUN, lambda it: it.pass_gate(failed=1)),
+    ("a run of no kit", 1, NO_RUN, lambda it: it.pass_gate(kit="")),
+    ("another tree", 1, "./check passed for the tree ", lambda it: (it.write("README.md", b"new"), it.commit())),
+    ("another program", 1, OTHER_PROGRAM, lambda it: it.write(BUILT, b"new")),
+    ("no program", 1, OTHER_PROGRAM, lambda it: os.remove(it.path(BUILT))),
+    ("a file changed", 1, CHANGED, lambda it: it.write(FORMATS, b"new")),
+    ("a file changed and staged", 1, CHANGED, lambda it: (it.write(FORMATS, b"new"), it.git("add", "-A"))),
+    ("a file removed", 1, CHANGED, lambda it: os.remove(it.path(FORMATS))),
+    ("another mode", 1, CHANGED, ignore_mode),
+    ("a file changed and marked", 1, CHANGED, mark),
+    ("a file added", 1, "examples/new.record is not as it was committed", lambda it: it.write("examples/new.record", b"new")),
+    ("a file added and ignored", 1, "a.new is not as it was committed", lambda it: (it.write(".git/info/exclude", b"*.new\n"), it.write("a.new", b""))),
+    ("no repository", 70, "", lambda it: shutil.rmtree(it.path(".git"))),
+    ("a folder of another repository", 70, "/", lambda it: os.rename(it.path(".git"), f"{os.path.dirname(it.at)}/.git")),
+    ("a link", 70, "examples/a.record is no file", committed(lambda it: os.symlink("x", it.path("examples/a.record")))),
+    ("no document", 70, "the commit has no docs/JUNIT.md", committed(lambda it: os.remove(it.path("docs/JUNIT.md")))),
+    ("no tool", 70, "the commit has no tools/timeline.css", committed(lambda it: os.remove(it.path("tools/timeline.css")))),
+    ("no version", 70, "VERSION is no version: '1.0.0-new'", committed(lambda it: it.write("VERSION", b"1.0.0-new\n"))),
+    ("no place", 70, "FileExistsError: ", committed(lambda it: it.write("out", b""))),
+]
+"""Where no package comes: the status, what is said, and what was done."""
+
+
+@needs("git")
+class Bytes(unittest.TestCase):
+    """The same commit gives the same bytes."""
+
+    @parameterized(AGAIN, name=lambda row: row[0])
+    def test_again(self, row):
+        _, change, environment = row
+        it, path = Repository(folder(self)), without_jdk(self)
+        first, before = it.package(PATH=path), it.made()
+        change(it)
+        second = it.package(it.path("out/made"), **{"PATH": path, **environment})
+        self.assertEqual((first.status, second.status, len(before)), (0, 0, 2), (first, second))
+        self.assertTrue(before == it.made("out/made"), "the bytes differ")
+
+    def test_another_clone(self):
+        """Also with other times of files, under another mask, called by a link, beside another call."""
+        it, other = Repository(folder(self)), Repository(f"{folder(self)}/much/deeper")
+        os.makedirs(other.path("out"))
+        os.symlink(other.path("tools/package"), other.path("out/link"))
+        os.utime(other.path("LICENSE"), (1, 1))
+        ran = run(["sh", "-c", 'umask 077; "$0" made & "$0" made && wait $!', other.path("out/link")], cwd=other.path("out"))
+        self.assertEqual((ran.status, it.package().status), (0, 0), ran)
+        self.assertTrue(len(it.made()) == 2 and it.made() == other.made("out/made"), "the bytes differ")
+
+
+@needs("git")
+class Refusals(unittest.TestCase):
+    maxDiff = None
+
+    @parameterized(REFUSED, name=lambda row: row[0])
+    def test_refused(self, row):
+        _, status, line, change = row
+        it = Repository(folder(self))
+        change(it)
+        ran = it.package(PATH=without_jdk(self))
+        self.assertEqual((ran.status, ran.output), (status, b""), ran)
+        self.assertRegex(ran.error.replace(NO_JAR, b"").decode(), f"^tools/package: {re.escape(line)}.*\n$")
+        self.assertFalse(os.path.isdir(it.path("out")) and it.made())
+
+    def test_words(self):
+        for words in (["one", "two"], ["--folder"]):
+            ran = run([f"{TOP}/tools/package", *words])
+            self.assertEqual((ran.status, ran.output, ran.error.count(b"\n")), (70, b"", 1), ran)
+
+    def test_full_output(self):
+        it = Repository(folder(self))
+        ran = run(["sh", "-c", 'exec "$0" >/dev/full', it.path("tools/package")], env={**os.environ, "PATH": without_jdk(self)})
+        self.assertEqual((ran.status, ran.error.replace(NO_JAR, b"").count(b"\n")), (70, 1), ran)
+
+    def test_no_jdk(self):
+        """Without a JDK there are packages, and no jar."""
+        it = Repository(folder(self))
+        ran = it.package(PATH=without_jdk(self))
+        with tarfile.open(it.path(f"out/{TAR}")) as files:
+            self.assertEqual((ran.status, ran.error, f"{INSIDE}/{JAR}" in files.getnames()), (0, NO_JAR, False))
+
+    @unittest.skipUnless(HAS_JAVA, "no javac")
+    def test_no_java(self):
+        """A listener that can't be compiled."""
+        it = Repository(folder(self))
+        committed(lambda it: it.write("examples/junit/testkit/RecordListener.java", b"class { int }\n"))(it)
+        ran = it.package()
+        self.assertEqual((ran.status, it.made(), ran.error.count(b"\n")), (70, {}, 1), ran)
+        self.assertIn(b"tools/package: the listener can't be compiled: ", ran.error)
+
+
+class ManPage(unittest.TestCase):
+    TEXT = re.sub(r"\\f[BIR]", "", read(f"{TOP}/docs/testkit.1").decode().replace("\\-", "-"))
+    """The man page without its marks."""
+
+    def test_words(self):
+        """It has each command that README.md has, and each word of a question."""
+        shown = re.findall(r"^    (testkit(?: ask)? [a-z]+)", read(f"{TOP}/README.md").decode(), re.MULTILINE)
+        self.assertGreaterEqual(len(shown), 8)
+        self.assertEqual([it for it in shown if not re.search(rf"^{it} ", self.TEXT, re.MULTILINE)], [])
+        words = "all tests containers skipped started finished aborted succeeded failed reporting dynamic files exactly loosely in-order "
+        words += "test container engine id(TEXT) name(TEXT) failed(TEXT) aborted(TEXT) skipped(TEXT) entry(KEY,VALUE,..) file(TEXT) kind(K) "
+        words += "skip start finish report file %25 %28 %29 %2C testkit-explain testkit-timeline"
+        self.assertEqual([it for it in words.split() if not re.search(rf"(?<!\w){re.escape(it)}(?!\w)", self.TEXT)], [])
+
+    @needs("groff")
+    def test_roff(self):
+        ran = run(["groff", "-man", "-ww", "-z", "-Tutf8", f"{TOP}/docs/testkit.1"])
+        self.assertEqual((ran.status, ran.output, ran.error), (0, b"", b""))

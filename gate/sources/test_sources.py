@@ -1,0 +1,57 @@
+"""Checks the repository's sources by the rules of `rules.py`."""
+
+import unittest
+from operator import itemgetter
+
+from facade import Facade
+from fixtures import TOP, parameterized
+from rules import Limits, rules_of
+from tree import Tree
+
+HOMES = {
+    "engine": "tk_limits tk_waiting tk_book tk_engine_claim tk_engine_execute tk_engine_events tk_engine_hierarchical",
+    "record": "tk_lanes tk_streams tk_ids tk_events tk_record_columns tk_record",
+    "questions": "tk_query_conditions tk_query_lifecycle tk_query testkit_questions",
+    "plans": "tk_plan_units tk_plan_nodes tk_plan_members tk_plan_json tk_plan tk_engine tk_report_text tk_report",
+    "queue": "tk_queue_core tk_queue_session tk_queue_replay tk_queue",
+}
+"""The modules of `engine_testkit`, and the libraries whose names each gives out."""
+
+AT_THE_TOP = """
+BookSeat Engine Need Results RunFault Sink UnitFault execute
+emit file_published finish finished publish_file register report reported skip skipped
+start started DType Descriptor Event Events Expected Kind Mismatch Pairs Payload
+Segment Selection Status Table TableFault Text Condition Ending Exact Execution
+Executions InOrder Lifecycle LifecycleRule Loose executions match_exactly match_in_order match_loosely
+Body Hierarchical Outcome Reporter Tests UnitRun
+ExecutionMode LockMode Plan PlanFault PlanNode build_plan
+"""
+"""The names that `engine_testkit` gives out at its top besides."""
+
+LIMITS = Limits(
+    handles="Handles allowed: Threads, Wait.\n",
+    facade=Facade("engine_testkit", {library: module for module, them in HOMES.items() for library in them.split()}, AT_THE_TOP.split()),
+    # (an author needs no clause to make an engine of tests)
+    without_clause=[
+        *("crates/example_engine/src/by_hand/broken.rt new", "crates/example_engine/src/case_tests.rt case_engine"),
+        "crates/example_engine/src/evens.rt even_numbers",
+    ],
+    fewest_edits=210,
+    fewest_tests={
+        "test_example_engine": 10,
+        "test_hierarchical": 13,
+        "test_plans": 16,
+        "test_questions": 19,
+        "test_records": 41,
+        "test_runs": 34,
+        "test_sessions": 28,
+    },
+)
+
+
+class Sources(unittest.TestCase):
+    maxDiff = None
+
+    @parameterized(lambda: rules_of(Tree(TOP), LIMITS).items(), name=itemgetter(0))
+    def test_rules(self, rule):
+        self.assertEqual(rule[1](), [])

@@ -1,0 +1,66 @@
+// Looks at the page as somebody who opens it, and presses and clicks what is there; what came is left for test_timeline.py.
+
+(() => {
+  const swatches = [...document.querySelectorAll("#legend .swatch")];
+
+  // How many coherent areas of each color of the legend are seen on the canvas, and a place in each of a failed test's.
+  function areas() {
+    const { width, height } = canvas;
+    const found = {};
+    for (const swatch of swatches) {
+      const [red, green, blue] = getComputedStyle(swatch).backgroundColor.match(/\d+/g).map(Number);
+      const color = (0xff000000 | (blue << 16) | (green << 8) | red) >>> 0;
+      const pixels = new Uint32Array(context.getImageData(0, 0, width, height).data.buffer);
+      found[swatch.classList[1]] = [];
+      for (let seed = 0; seed < pixels.length; seed += 1) {
+        if (pixels[seed] !== color) continue;
+        let lowest = seed;
+        const waiting = [seed];
+        pixels[seed] = 0;
+        while (waiting.length) {
+          const at = waiting.pop();
+          lowest = Math.max(lowest, at);
+          for (const next of [at - 1, at + 1, at - width, at + width]) {
+            if (pixels[next] === color) { pixels[next] = 0; waiting.push(next); }
+          }
+        }
+        if (lowest - seed >= 2 * width) found[swatch.classList[1]].push([seed % width, Math.floor(seed / width) + 3]);
+      }
+    }
+    return found;
+  }
+
+  const terms = (id) => Object.fromEntries([...document.querySelectorAll(`#${id} dt`)].map((it) => [it.textContent, it.nextSibling.textContent]));
+  const listed = (id) => [...document.querySelectorAll(`#${id} li`)].map((it) => [...it.querySelectorAll("span")].map((part) => part.textContent).join(" "));
+  const press = (key) => { canvas.dispatchEvent(new KeyboardEvent("keydown", { key })); return terms("details"); };
+
+  function point(type, x, y) {
+    const box = canvas.getBoundingClientRect();
+    canvas.dispatchEvent(new PointerEvent(type, { clientX: box.left + x, clientY: box.top + y, pointerId: 1 }));
+  }
+
+  const saw = { legend: document.getElementById("legend").innerText, summary: element("summary").textContent };
+  const bars = areas();
+  saw.bars = Object.fromEntries(Object.entries(bars).map(([ending, found]) => [ending, found.length]));
+  saw.slowest = listed("slowest");
+  saw.gaps = listed("gaps");
+  if (bars.failed.length) {
+    canvas.setPointerCapture = () => {};
+    point("pointermove", ...bars.failed[0]);
+    saw.tip = terms("tip");
+    point("pointerdown", ...bars.failed[0]);
+    point("pointerup", ...bars.failed[0]);
+    saw.selected = terms("details");
+  }
+  canvas.focus();
+  saw.isFocused = document.activeElement === canvas;
+  press("Escape");
+  saw.keys = ["ArrowRight", "ArrowDown", "ArrowRight", "ArrowRight", "ArrowLeft", "ArrowUp"].map((key) => press(key).id);
+  press("+");
+  saw.closer = state.right - state.left < data.end;
+  press("0");
+  saw.whole = [state.left, state.right];
+  document.querySelector("#slowest button").click();
+  saw.longest = terms("details");
+  document.body.dataset.saw = JSON.stringify(saw);
+})();
