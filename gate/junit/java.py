@@ -24,6 +24,9 @@ LISTENER = ("RecordListener", "ResultsWriter", "RecordAssert")
 KIT = os.environ.get("KIT", "")
 """The class path of JUnit's EngineTestKit with what it needs. Without it the classes in kit/ stand for it, as Debian has none."""
 
+SECONDS = 1_200
+"""How many seconds a compiler, a process of cases or a build may take: far more than any needs."""
+
 COMMAND = ("java", "-XX:TieredStopAtLevel=1", "-XX:-UsePerfData")
 
 
@@ -47,7 +50,7 @@ class Classes:
     def compile(self, sources: Sequence[str], *words: str) -> None:
         """Compiles these files beside what is compiled already."""
         command = ["javac", "-encoding", "UTF-8", "-proc:none", "-nowarn", "-Xlint:-options", *words, "-d", self.folder, "-cp", self.path]
-        ran = fixtures.run([*command, *sources])
+        ran = fixtures.run([*command, *sources], seconds=SECONDS)
         if ran.status:
             raise OSError(f"these classes can't be compiled: {ran.error.decode(errors='replace')}")
 
@@ -57,7 +60,7 @@ class Classes:
 
     def run(self, main: str, *words: str, **how) -> str:
         """What a process of a class writes, which has to succeed."""
-        ran = fixtures.run(self.command(main, *words), **how)
+        ran = fixtures.run(self.command(main, *words), seconds=SECONDS, **how)
         if ran.status:
             raise OSError(f"{main} ends with status {ran.status}: {ran.error.decode(errors='replace')[-2_000:]}")
         # (the messages of a process that isn't a case's stay visible)

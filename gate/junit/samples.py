@@ -3,7 +3,7 @@
 from collections import Counter
 from typing import Dict, List, Sequence, Tuple
 
-from cases import HERE, SHARED
+from cases import HERE, read
 from records import HEADER, by_id, check_lines, check_stamps, entries
 
 Events = Dict[str, List[str]]
@@ -26,8 +26,7 @@ def run_of(statics: Sequence[str], events: Events) -> List[str]:
 
 def sample_run() -> List[str]:
     """The sample tests; the names and ids are Jupiter's."""
-    with open(f"{HERE}/expected/sample.events", encoding="utf-8") as file:
-        return file.read().split("\n")[:-1]
+    return read(f"{HERE}/sample.events").split("\n")[:-1]
 
 
 def odd_run() -> List[str]:
@@ -72,7 +71,7 @@ def check_crowd(lines: Sequence[str], messages: Sequence[str]) -> None:
         assert [tail for _, tail in made[1::2]] == REPORTED, f"the calls of {thread} have another order"
     workers = Counter(made[0][0] for made in calls.values())
     assert workers == {worker: 2 for worker in range(1, 16)}, f"the threads don't get the workers in turn: {workers}"
-    check_lines(messages, SHARED)
+    check_lines(messages, ["testkit: more than 15 threads share the workers 1 to 15"])
 
 
 def check_workers(lines: Sequence[str]) -> None:

@@ -57,38 +57,39 @@ class OfCases(WithClasses):
     @classmethod
     def setUpClass(cls):
         super().setUpClass()
-        cls.facts, cls.others = {}, []
-        cls.play("ListenerCases", [*cases.cases_of_texts(), *cases.cases_of_runs()])
-        cls.play("ListenerCases", cases.cases_of_limits())
-        cls.play("KitCases", cases.cases_of_kit())
-        cls.play("ListenerCases", [cases.FULL_DISK], FULL)
-        cls.keep(cls.classes.run("ListenerCases", cls.out, "crowd"))
-        cls.keep(cls.classes.run("ListenerCases", cls.out, "full-at-once", preexec_fn=limit(len(HEADER) // 2)))
+        cls.facts = {}
+        groups = cases.expected()
+        cls.play("ListenerCases", *(case.name for case in groups["texts"] + groups["runs"]), "crowd")
+        cls.play("ListenerCases", *(case.name for case in cases.limits()))
+        cls.play("KitCases", *(case.name for case in groups["kit"]))
+        cls.play("ListenerCases", "full-disk", most_bytes=FULL)
+        cls.play("ListenerCases", "full-at-once", most_bytes=len(HEADER) // 2)
         cls.play_beside_each_other()
 
     @classmethod
-    def play(cls, main, of, most_bytes=None):
-        """Runs cases in a process whose files may have so many bytes."""
-        cls.keep(cls.classes.run(main, cls.out, *(case.name for case in of), preexec_fn=limit(most_bytes)))
+    def play(cls, main, *names, most_bytes=None):
+        """Runs cases in a process, whose files may have so many bytes."""
+        limit = most_bytes and (lambda: resource.setrlimit(resource.RLIMIT_FSIZE, (most_bytes, most_bytes)))
+        cls.keep(cls.classes.run(main, cls.out, *names, preexec_fn=limit))
 
     @classmethod
     def keep(cls, output):
         """Keeps what cases said, each line its case, a fact and its value."""
         for line in output.splitlines():
-            words = line.split(" ")
-            cls.facts.setdefault(words[0], []).append(tuple(words[1:]))
+            name, _, fact = line.partition(" ")
+            cls.facts.setdefault(name, []).append(fact)
 
     @classmethod
     def play_beside_each_other(cls):
         """Runs a case in a process of its own while the case `held` of another process writes the same record."""
-        command = cls.classes.command("ListenerCases", cls.out, cases.HELD.name)
+        command = cls.classes.command("ListenerCases", cls.out, "held")
         with subprocess.Popen(command, stdin=subprocess.PIPE, stdout=subprocess.PIPE, text=True) as holder:
             try:
                 first = holder.stdout.readline()
                 cls.before = cases.read(f"{cls.out}/held.record")
-                cls.play("ListenerCases", [cases.OTHER_PROCESS])
+                cls.play("ListenerCases", "other-process")
                 cls.after = cases.read(f"{cls.out}/held.record")
-                output, _ = holder.communicate("go on\n", fixtures.SECONDS)
+                output, _ = holder.communicate("go on\n", java.SECONDS)
             finally:
                 holder.kill()
         cls.keep(first + output)
@@ -102,15 +103,15 @@ class OfCases(WithClasses):
         self.assertEqual(set(self.facts) - named, {"crowd", "full-at-once"})
 
     def test_crowd(self):
-        self.assertIn(cases.WHOLE, self.facts["crowd"])
+        self.assertIn("whole true", self.facts["crowd"])
         samples.check_crowd(self.lines("crowd.record"), self.lines("crowd.messages"))
 
     def test_no_part_of_a_header_stays(self):
-        self.assertIn(cases.NOT_WHOLE, self.facts["full-at-once"])
+        self.assertIn("whole false", self.facts["full-at-once"])
         self.assertEqual(cases.read(f"{self.out}/full-at-once.record"), "")
 
     def test_pause(self):
-        facts = dict(self.facts["times"])
+        facts = dict(fact.split(" ") for fact in self.facts["times"])
         stamps = [it.stamp for it in entries(self.lines("times.2.record"))]
         samples.check_pause(stamps, int(facts["second-run"]), int(facts["microseconds"]))
 
@@ -122,12 +123,7 @@ class OfCases(WithClasses):
 
     def test_a_record_that_another_process_writes(self):
         self.assertEqual(self.before, self.after)
-        check_lines(self.before.split("\n")[:3], cases.ONE_TEST)
-
-
-def limit(most_bytes):
-    """What limits the bytes of each file of a process before it begins; nothing where there is no number."""
-    return most_bytes and (lambda: resource.setrlimit(resource.RLIMIT_FSIZE, (most_bytes, most_bytes)))
+        self.assertEqual(self.before.count("\n"), 4)
 
 
 @java.needs_junit

@@ -8,12 +8,12 @@ from fixtures import TOP, WithProgram, ask, parameterized
 class OfRecords(WithProgram):
     """The records that are wanted, and the one that is stored."""
 
-    @parameterized([case for case in cases.all_cases() if case.record])
-    def test_wanted_record(self, case):
-        events = sum(line.startswith("E|") for line in case.record)
-        self.check_answer(case.record, ["count", "all"], f"{events}\n")
+    @parameterized([case for case in cases.all_cases() if case.records])
+    def test_wanted_records(self, case):
+        for record in case.records.values():
+            self.check_answer(record, ["count", "all"], f"{sum(line.startswith('E|') for line in record)}\n")
         if case.lifecycle:
-            self.check_answer(case.record, ["lifecycle"], f"{case.lifecycle}\n")
+            self.check_answer(case.records["record"], ["lifecycle"], f"{case.lifecycle}\n")
 
     def test_stored_record(self):
         lines = cases.read(f"{TOP}/examples/jupiter.record").split("\n")[:-1]

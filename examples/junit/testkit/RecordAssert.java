@@ -29,7 +29,7 @@ import org.junit.platform.testkit.engine.EngineExecutionResults;
  * }</pre>
  *
  * <p>Where the program says no, an {@link AssertionError} has its answer and what stands behind it. Where it refuses the words or the
- * record, that is an {@link IllegalArgumentException}, and an {@link IllegalStateException} where it can't be run, breaks or lasts too long.
+ * record, that is an {@link IllegalArgumentException}; where it can't be run, breaks or takes too long, an {@link IllegalStateException}.
  *
  * <p>A condition is a text ({@code docs/FORMATS.md}); {@link Conditions} writes it. The system property {@link #PROGRAM_PROPERTY} names
  * the program, which is else {@code testkit} on the path.
@@ -172,7 +172,7 @@ public final class RecordAssert {
         return new AssertionError(why);
     }
 
-    /** Returns the answer with what stands behind it, or the answer alone where {@code testkit-explain} isn't found or doesn't explain it. */
+    /** Returns the answer with what stands behind it, or the answer alone where no {@code testkit-explain} explains it. */
     private String explanation(List<String> question, String answer) {
         File beside = new File(new File(program()).getParentFile(), PROGRAM + "-explain");
         List<String> words = new ArrayList<>(Arrays.asList(System.getProperty(EXPLAIN_PROPERTY, beside.getPath())));
@@ -195,7 +195,7 @@ public final class RecordAssert {
             // Java would hand over other letters.
             Charset[] charsets = {Charset.defaultCharset(), Charset.forName(System.getProperty("sun.jnu.encoding", "UTF-8"))};
             if (!Arrays.stream(charsets).allMatch(it -> Arrays.equals(word.getBytes(it), word.getBytes(UTF_8)))) {
-                throw new IllegalArgumentException("Java can't hand over \"" + word + "\" in this locale; LC_ALL=C.UTF-8 is one in which it can");
+                throw new IllegalStateException("Java changes \"" + word + "\" in this locale, and wouldn't with LC_ALL=C.UTF-8");
             }
         }
         File output = File.createTempFile("testkit-", ".output");

@@ -39,7 +39,7 @@ import testkit.ScriptedEngine.Tree;
  * Runs of small engines, each recorded, which do what Jupiter seldom or never does.
  *
  * <p>{@code ListenerCases FOLDER NAME..} leaves of each case a record, what went to standard error as {@code NAME.messages}, and on
- * standard output lines {@code NAME FACT VALUE}. {@code expected.py} says what has to come.
+ * standard output lines {@code NAME FACT VALUE}. {@code expected.txt} says what has to come.
  */
 public class ListenerCases {
 
@@ -674,6 +674,7 @@ public class ListenerCases {
         int records = 0;
         for (File file : new File(room.folder).listFiles((folder, name) -> name.startsWith(room.name + ".") && !name.endsWith(".messages"))) {
             records += linesOf(file) == 7 ? 1 : 0;
+            file.delete();
         }
         room.fact("whole", whole == ROUNDS * LAUNCHES);
         room.fact("records", records == ROUNDS * LAUNCHES);
