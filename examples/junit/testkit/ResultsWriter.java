@@ -2,6 +2,7 @@ package testkit;
 
 import java.time.Instant;
 import java.time.temporal.ChronoUnit;
+import java.util.ArrayList;
 import java.util.HashSet;
 import java.util.LinkedHashMap;
 import java.util.List;
@@ -41,6 +42,11 @@ public final class ResultsWriter {
             return first.until(now, ChronoUnit.NANOS);
         }
 
+        @Override
+        boolean keepsEarlier() {
+            return false;
+        }
+
         void report(Event event) {
             now = event.getTimestamp();
             TestIdentifier identifier = TestIdentifier.from(event.getTestDescriptor());
@@ -70,25 +76,44 @@ public final class ResultsWriter {
     }
 
     /**
-     * Writes the record of {@code results} to {@code path}, and returns whether it has each event.
+     * Writes the record of {@code results} to {@code path}, over what is there, and returns whether it has each event, and each event's
+     * id was known before it. Standard error names the others, as {@link #unregistered} does.
      *
-     * <p>The path, and what ends a recording early, are as {@link RecordListener} has them. The system property
-     * {@link RecordListener#STAMPS_PARAMETER} says what the stamps are.
+     * <p>The numbers in a path, and what ends a recording early, are as {@link RecordListener} has them; what a listener of this process
+     * has recorded there stays. The system property {@link RecordListener#STAMPS_PARAMETER} says what the stamps are.
      */
     public static boolean write(EngineExecutionResults results, String path) {
+        List<String> unregistered = unregistered(results);
+        unregistered.forEach(id -> RecordListener.say("nobody registered " + id + " before its first event"));
+        return writeWhole(results, path) && unregistered.isEmpty();
+    }
+
+    /** Writes the record, and returns whether it has each event, also those of ids that nobody registered. */
+    static boolean writeWhole(EngineExecutionResults results, String path) {
         List<Event> events = results.allEvents().list();
+        Map<UniqueId, TestIdentifier> identifiers = discovered(events);
+        identifiers.putAll(unregistered(events));
         Replay replay = new Replay(events.isEmpty() ? Instant.EPOCH : events.get(0).getTimestamp());
-        replay.begin(path, System.getProperty(RecordListener.STAMPS_PARAMETER, ""), staticIdentifiers(events));
+        replay.begin(path, System.getProperty(RecordListener.STAMPS_PARAMETER, ""), identifiers);
         events.forEach(replay::report);
         replay.end();
         return replay.isWhole();
     }
 
     /**
-     * Returns the descriptors that need a line before the events: what stands in the trees of the events' descriptors and neither was
-     * registered nor is below what was, and what has an event before it was registered, or was never.
+     * Returns the ids that an event names before anybody has registered them, in the order of the events.
+     *
+     * <p>JUnit's launcher drops such events. What an engine adds to its tree while it runs, outside of what it registers, can't be told
+     * from what it has discovered, and isn't named.
      */
-    private static Map<UniqueId, TestIdentifier> staticIdentifiers(List<Event> events) {
+    public static List<String> unregistered(EngineExecutionResults results) {
+        List<String> found = new ArrayList<>();
+        unregistered(results.allEvents().list()).keySet().forEach(id -> found.add(id.toString()));
+        return found;
+    }
+
+    /** Returns what stands in the trees of the events' descriptors, and neither was registered nor is below what was, parents first. */
+    private static Map<UniqueId, TestIdentifier> discovered(List<Event> events) {
         Set<UniqueId> registered = new HashSet<>();
         for (Event event : events) {
             if (isRegistration(event)) {
@@ -103,16 +128,20 @@ public final class ResultsWriter {
                 collect(root, registered, identifiers);
             }
         }
-        Set<UniqueId> known = new HashSet<>(identifiers.keySet());
+        return identifiers;
+    }
+
+    /** Returns the descriptors that have an event before they are registered, and weren't discovered. */
+    private static Map<UniqueId, TestIdentifier> unregistered(List<Event> events) {
+        Set<UniqueId> known = new HashSet<>(discovered(events).keySet());
+        Map<UniqueId, TestIdentifier> found = new LinkedHashMap<>();
         for (Event event : events) {
             TestDescriptor descriptor = event.getTestDescriptor();
-            if (!isRegistration(event) && !known.contains(descriptor.getUniqueId())) {
-                System.err.println("testkit: nobody registered " + descriptor.getUniqueId() + " before its first event");
-                identifiers.put(descriptor.getUniqueId(), TestIdentifier.from(descriptor));
+            if (known.add(descriptor.getUniqueId()) && !isRegistration(event)) {
+                found.put(descriptor.getUniqueId(), TestIdentifier.from(descriptor));
             }
-            known.add(descriptor.getUniqueId());
         }
-        return identifiers;
+        return found;
     }
 
     private static boolean isRegistration(Event event) {

@@ -1,7 +1,9 @@
 package testkit;
 
 import java.util.LinkedHashMap;
+import java.util.LinkedHashSet;
 import java.util.Map;
+import java.util.Set;
 
 import org.junit.platform.engine.EngineDiscoveryRequest;
 import org.junit.platform.engine.EngineExecutionListener;
@@ -10,6 +12,7 @@ import org.junit.platform.engine.TestDescriptor;
 import org.junit.platform.engine.TestDescriptor.Type;
 import org.junit.platform.engine.TestEngine;
 import org.junit.platform.engine.TestExecutionResult;
+import org.junit.platform.engine.TestTag;
 import org.junit.platform.engine.UniqueId;
 import org.junit.platform.engine.reporting.ReportEntry;
 import org.junit.platform.engine.support.descriptor.AbstractTestDescriptor;
@@ -21,6 +24,7 @@ class ScriptedEngine implements TestEngine {
     static class Node extends AbstractTestDescriptor {
 
         private final Type type;
+        private final Set<TestTag> tags = new LinkedHashSet<>();
 
         Node(UniqueId id, String name, Type type) {
             super(id, name);
@@ -30,6 +34,17 @@ class ScriptedEngine implements TestEngine {
         @Override
         public Type getType() {
             return type;
+        }
+
+        @Override
+        public Set<TestTag> getTags() {
+            return tags;
+        }
+
+        /** Gives the node a tag. */
+        Node tag(String name) {
+            tags.add(TestTag.create(name));
+            return this;
         }
 
         @Override

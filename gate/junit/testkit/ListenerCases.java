@@ -4,12 +4,18 @@ import java.io.File;
 import java.io.IOException;
 import java.io.OutputStream;
 import java.io.PrintStream;
+import java.io.UncheckedIOException;
 import java.nio.file.Files;
 import java.nio.file.Path;
 import java.nio.file.Paths;
+import java.util.ArrayList;
+import java.util.Arrays;
 import java.util.Collections;
 import java.util.LinkedHashMap;
+import java.util.List;
 import java.util.Map;
+import java.util.concurrent.BrokenBarrierException;
+import java.util.concurrent.CyclicBarrier;
 import java.util.logging.LogManager;
 
 import org.junit.platform.engine.TestDescriptor.Type;
@@ -20,6 +26,7 @@ import org.junit.platform.engine.reporting.ReportEntry;
 import org.junit.platform.launcher.Launcher;
 import org.junit.platform.launcher.TestExecutionListener;
 import org.junit.platform.launcher.TestIdentifier;
+import org.junit.platform.launcher.TestPlan;
 import org.junit.platform.launcher.core.LauncherConfig;
 import org.junit.platform.launcher.core.LauncherDiscoveryRequestBuilder;
 import org.junit.platform.launcher.core.LauncherFactory;
@@ -32,13 +39,16 @@ import testkit.ScriptedEngine.Tree;
  * Runs of small engines, each recorded, which do what Jupiter seldom or never does.
  *
  * <p>{@code ListenerCases FOLDER NAME..} leaves of each case a record, what went to standard error as {@code NAME.messages}, and on
- * standard output lines {@code NAME FACT VALUE}. {@code checks/cases.py} says what has to come.
+ * standard output lines {@code NAME FACT VALUE}. {@code expected.txt} says what has to come.
  */
 public class ListenerCases {
 
     /** How many threads report at once, and how often each. */
     private static final int CROWD = 30;
     private static final int REPORTS = 600;
+    /** How many launches begin at once, and how often. */
+    private static final int LAUNCHES = 8;
+    private static final int ROUNDS = 20;
     private static final int MAX_DESCRIPTORS = 65_536;
     private static final int MAX_TEXT_BYTES = 16 << 20;
     /** Each escape, control characters, several alphabets, and surrogates in a pair and alone. */
@@ -150,6 +160,14 @@ public class ListenerCases {
         CASES.put("failing-clock", ListenerCases::failingClock);
         CASES.put("refused-messages", ListenerCases::refusedMessages);
         CASES.put("two-runs", ListenerCases::twoRuns);
+        CASES.put("three-runs", ListenerCases::threeRuns);
+        CASES.put("numbered-runs", ListenerCases::numberedRuns);
+        CASES.put("deleted-record", ListenerCases::deletedRecord);
+        CASES.put("names-without-endings", ListenerCases::namesWithoutEndings);
+        CASES.put("runs-at-once", ListenerCases::runsAtOnce);
+        CASES.put("tags", room -> tags(room, "true"));
+        CASES.put("no-tags", room -> tags(room, "false"));
+        CASES.put("verbose", ListenerCases::verbose);
         CASES.put("run-in-run", ListenerCases::runInRun);
         CASES.put("same-listener-in-run", ListenerCases::sameListenerInRun);
         CASES.put("dropped", ListenerCases::dropped);
@@ -199,7 +217,7 @@ public class ListenerCases {
     }
 
     /** Runs one engine with this listener. */
-    private static void launch(TestExecutionListener listener, Tree tree, Script script) {
+    static void launch(TestExecutionListener listener, Tree tree, Script script) {
         launch(listener, Collections.emptyMap(), new ScriptedEngine("e", "engine", tree, script));
     }
 
@@ -490,7 +508,7 @@ public class ListenerCases {
     }
 
     private static void badPaths(Room room) {
-        for (String path : new String[] {"nowhere/at/all.record", "", "a\u0000b", "."}) {
+        for (String path : new String[] {"nowhere/at/all.record", "", "a\u0000b", ".", "."}) {
             RecordListener listener = new RecordListener(path);
             launch(listener, ListenerCases::oneTest, ListenerCases::playOneTest);
             room.fact("whole", listener.isWhole());
@@ -582,7 +600,119 @@ public class ListenerCases {
         room.fact("whole", listener.isWhole());
     }
 
-    /** Runs at the path that a run writes: they aren't recorded, and don't change its record. One after it is. */
+    /** Three launches, as a build tool makes them of one process, whose listeners have one path. */
+    private static void threeRuns(Room room) {
+        for (int run = 1; run <= 3; run++) {
+            RecordListener listener = new RecordListener();
+            String reason = "run " + run;
+            TestEngine engine = new ScriptedEngine("e", "engine", ListenerCases::oneTest, (calls, root) -> calls.skip(root, reason));
+            launch(listener, parameters("testkit.record", room.path()), engine);
+            room.fact("whole", listener.isWhole());
+        }
+    }
+
+    /** Runs whose path has a place for their number, the second beside the first; and a path that their third one would have. */
+    private static void numberedRuns(Room room) throws IOException {
+        String path = room.folder + File.separator + room.name + ".%n.%n.record";
+        Files.write(Paths.get(path.replace("%n", "1")), Collections.nCopies(100, "what an earlier process left"));
+        launch(new RecordListener(path.replace("%n", "3")), ListenerCases::oneTest, (calls, root) -> calls.skip(root, "by its name"));
+        launch(new RecordListener(path), ListenerCases::oneTest, (calls, root) -> {
+            launch(new RecordListener(path), ListenerCases::oneTest, (inner, other) -> inner.skip(other, "inside"));
+            calls.skip(root, "around");
+        });
+        launch(new RecordListener(path), ListenerCases::oneTest, (calls, root) -> calls.skip(root, "after"));
+    }
+
+    /** A record that is deleted before the next run: its name is free. */
+    private static void deletedRecord(Room room) throws IOException {
+        launch(new RecordListener(room.path()), ListenerCases::oneTest, (calls, root) -> calls.start(root));
+        Files.delete(Paths.get(room.path()));
+        launch(new RecordListener(room.path()), ListenerCases::oneTest, ListenerCases::playOneTest);
+    }
+
+    /** Two runs at each of some paths without an ending. */
+    private static void namesWithoutEndings(Room room) throws IOException {
+        Path folder = Files.createDirectory(Paths.get(room.folder, room.name + ".d"));
+        for (String name : new String[] {"plain", ".hidden", "two.dots.x"}) {
+            launch(new RecordListener(folder.resolve(name).toString()), ListenerCases::oneTest, ListenerCases::playOneTest);
+            launch(new RecordListener(folder.resolve(name).toString()), ListenerCases::oneTest, ListenerCases::playOneTest);
+        }
+        String[] found = folder.toFile().list();
+        Arrays.sort(found);
+        room.fact("files", String.join(",", found));
+    }
+
+    /** Launches in threads that begin at once at a path where no file is. */
+    private static void runsAtOnce(Room room) throws InterruptedException {
+        int whole = 0;
+        for (int round = 0; round < ROUNDS; round++) {
+            String path = room.folder + File.separator + room.name + "." + round;
+            CyclicBarrier begin = new CyclicBarrier(LAUNCHES);
+            List<RecordListener> listeners = new ArrayList<>();
+            List<Thread> threads = new ArrayList<>();
+            for (int i = 0; i < LAUNCHES; i++) {
+                RecordListener listener = new RecordListener(path) {
+                    @Override
+                    public void testPlanExecutionStarted(TestPlan plan) {
+                        try {
+                            begin.await();
+                        } catch (InterruptedException | BrokenBarrierException fault) {
+                            throw new IllegalStateException(fault);
+                        }
+                        super.testPlanExecutionStarted(plan);
+                    }
+                };
+                listeners.add(listener);
+                threads.add(new Thread(() -> launch(listener, ListenerCases::oneTest, ListenerCases::playOneTest)));
+            }
+            threads.forEach(Thread::start);
+            for (Thread thread : threads) {
+                thread.join();
+            }
+            whole += (int) listeners.stream().filter(RecordListener::isWhole).count();
+        }
+        int records = 0;
+        for (File file : new File(room.folder).listFiles((folder, name) -> name.startsWith(room.name + ".") && !name.endsWith(".messages"))) {
+            records += linesOf(file) == 7 ? 1 : 0;
+            file.delete();
+        }
+        room.fact("whole", whole == ROUNDS * LAUNCHES);
+        room.fact("records", records == ROUNDS * LAUNCHES);
+    }
+
+    private static int linesOf(File file) {
+        try {
+            return Files.readAllLines(file.toPath()).size();
+        } catch (IOException fault) {
+            throw new UncheckedIOException(fault);
+        }
+    }
+
+    /** Descriptors with tags, one of them dynamic. */
+    private static void tags(Room room, String value) {
+        launch(new RecordListener(room.path()), parameters("testkit.tags", value), new ScriptedEngine("e", "engine", root -> {
+            root.add("t", "1", "one", Type.TEST).tag("b\\c").tag("a");
+            root.add("t", "2", "two", Type.TEST).tag("off");
+        }, (calls, root) -> {
+            calls.start(root);
+            calls.play(root.child(0));
+            calls.skip(root.child(1), "off");
+            Node dynamic = root.add("d", "1", "late", Type.TEST).tag("late");
+            calls.register(dynamic);
+            calls.play(dynamic);
+            calls.succeed(root);
+        }));
+    }
+
+    /** Runs whose listener says which file it takes, if any; and one whose listener is told to be silent. */
+    private static void verbose(Room room) {
+        launch(new RecordListener(), parameters("testkit.record", room.path(), "testkit.verbose", "true"), oneTestEngine());
+        launch(new RecordListener(), parameters("testkit.verbose", "true"), oneTestEngine());
+        launch(new RecordListener(), parameters("testkit.verbose", "false"), oneTestEngine());
+        launch(new RecordListener("."), parameters("testkit.verbose", "true"), oneTestEngine());
+    }
+
+    /** Runs at the path that a run writes are recorded beside it, and don't change its record. */
     private static void runInRun(Room room) throws IOException {
         Path link = Paths.get(room.path() + ".link");
         RecordListener outer = new RecordListener(room.path());
@@ -592,7 +722,7 @@ public class ListenerCases {
             String roundabout = room.folder + "/../" + new File(room.folder).getName() + "/run-in-run.record";
             for (String path : new String[] {room.path(), link.toString(), roundabout}) {
                 RecordListener inner = new RecordListener(path);
-                launch(inner, ListenerCases::oneTest, ListenerCases::playOneTest);
+                launch(inner, ListenerCases::oneTest, (calls2, root2) -> calls2.skip(root2, "inside"));
                 room.fact("inner-whole", inner.isWhole());
             }
             Files.delete(link);
@@ -600,14 +730,14 @@ public class ListenerCases {
             calls.succeed(root);
         });
         room.fact("whole", outer.isWhole());
-        RecordListener other = new RecordListener(room.path() + ".2");
-        Files.copy(Paths.get(room.path()), Paths.get(room.path() + ".2"));
+        RecordListener other = new RecordListener(room.path() + ".copy");
+        Files.copy(Paths.get(room.path()), Paths.get(room.path() + ".copy"));
         launch(other, ListenerCases::oneTest, (calls, root) -> calls.start(root));
-        room.fact("after", Files.readAllLines(Paths.get(room.path() + ".2")).size());
+        room.fact("after", linesOf(new File(room.path() + ".copy")));
     }
 
     /** A run inside a run with the same listener ends the recording; the next run is recorded. */
-    private static void sameListenerInRun(Room room) throws IOException {
+    private static void sameListenerInRun(Room room) {
         RecordListener listener = new RecordListener(room.path());
         launch(listener, ListenerCases::oneTest, (calls, root) -> {
             calls.start(root);
@@ -617,7 +747,7 @@ public class ListenerCases {
             calls.succeed(root);
         });
         room.fact("whole", listener.isWhole());
-        room.fact("lines", Files.readAllLines(Paths.get(room.path())).size());
+        room.fact("lines", linesOf(new File(room.path())));
         launch(listener, ListenerCases::oneTest, ListenerCases::playOneTest);
         room.fact("whole", listener.isWhole());
     }
@@ -718,14 +848,10 @@ public class ListenerCases {
         });
     }
 
-    /** A run that two runs of the same process want to write over, one by a link, and which then waits for a line of input. */
+    /** A run that waits for a line of input. */
     private static void held(Room room) {
         record(room, ListenerCases::oneTest, (calls, root) -> {
             calls.start(root);
-            Path link = Files.createSymbolicLink(Paths.get(room.path() + ".link"), Paths.get(room.path()).toAbsolutePath());
-            launch(new RecordListener(room.path()), ListenerCases::oneTest, ListenerCases::playOneTest);
-            launch(new RecordListener(link.toString()), ListenerCases::oneTest, ListenerCases::playOneTest);
-            Files.delete(link);
             room.fact("waits", true);
             if (System.in.read() < 0) {
                 throw new IOException("no line");

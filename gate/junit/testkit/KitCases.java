@@ -36,6 +36,7 @@ public class KitCases {
         CASES.put("kit-times", KitCases::times);
         CASES.put("kit-positions", KitCases::positions);
         CASES.put("kit-two-results", KitCases::twoResults);
+        CASES.put("kit-over-listener", KitCases::overListener);
         CASES.put("kit-bad-path", (path, name) -> write("nowhere/at/all.record", name, root -> { }, (calls, root) -> calls.start(root)));
     }
 
@@ -64,6 +65,12 @@ public class KitCases {
         TestEngine engine = new ScriptedEngine("e", "engine", tree, script);
         engine.execute(new ExecutionRequest(engine.discover(null, UniqueId.forEngine("e")), recorder, null));
         System.out.println(name + " whole " + ResultsWriter.write(recorder.getExecutionResults(), path));
+    }
+
+    /** Results at the path of a run that a listener of this process has recorded. */
+    private static void overListener(String path, String name) {
+        ListenerCases.launch(new RecordListener(path), KitCases::oneTest, (calls, root) -> calls.skip(root, "first"));
+        write(path, name, KitCases::oneTest, (calls, root) -> calls.start(root));
     }
 
     private static void oneTest(Node root) {

@@ -1,0 +1,106 @@
+"""What has to come of each case of ListenerCases and KitCases, as expected.txt says it, and at the limits of a record."""
+
+import glob
+import os
+import re
+from dataclasses import dataclass, field
+from typing import Dict, List, Sequence
+
+from records import HEADER, check_lines, check_record
+
+HERE = os.path.dirname(os.path.realpath(__file__))
+MIB = 1 << 20
+
+
+@dataclass
+class Case:
+    """What has to come of a case."""
+
+    name: str
+    facts: List[str] = field(default_factory=list)
+    messages: List[str] = field(default_factory=list)
+    lifecycle: str = ""
+    records: Dict[str, List[str]] = field(default_factory=dict)
+    """The lines of each record that it leaves, by what stands after its name."""
+
+
+def read(path: str) -> str:
+    """The text of a file; what isn't UTF-8 differs from any text that is wanted."""
+    with open(path, encoding="utf-8", errors="surrogateescape", newline="") as file:
+        return file.read()
+
+
+def unfolded(line: str) -> str:
+    """A line of expected.txt without its abbreviations."""
+    line = re.sub(r"\{x(\d+)\}", lambda found: "x" * int(found[1]), line)
+    return re.sub(r"\{u([0-9a-f]{4})\}", lambda found: chr(int(found[1], 16)), line)
+
+
+def expected() -> Dict[str, List[Case]]:
+    """The cases of expected.txt by their group, which a line `## GROUP: ..` begins."""
+    found: Dict[str, List[Case]] = {}
+    for line in map(unfolded, read(f"{HERE}/expected.txt").split("\n")):
+        sign, _, text = line.partition(" ")
+        if sign == "##":
+            cases = found.setdefault(text.split(":")[0], [])
+        elif sign == "=":
+            case = Case(text)
+            cases.append(case)
+        elif sign == ">":
+            lines = case.records.setdefault(text, [HEADER])
+        elif sign == "-" and text.startswith("lifecycle: "):
+            case.lifecycle = text[len("lifecycle: ") :]
+        elif sign == "-":
+            (case.messages if text.startswith("testkit: ") else case.facts).append(text)
+        elif sign not in ("", "#"):
+            lines.append(line)
+    return found
+
+
+def limits() -> List[Case]:
+    """What comes at the limits of a record."""
+    engine = [HEADER, "N|C|[engine:e]|engine"]
+    one_test = [*engine, "N|T|[engine:e]/[t:1]|one"]
+    static = [*engine, *(f"N|T|[engine:e]/[t:{at}]|t{at}" for at in range(1, 65_536))]
+    last = ["E|1|0|0|start", "E|1|65535|0|skip|last", "E|1|65536|0|dynamic|T|[engine:e]/[d:1]|dynamic"]
+    last += ["E|1|65536|0|start", "E|1|65536|0|finish|ok"]
+    registered = [*one_test, "E|1|65536|0|dynamic|T|[engine:e]/[d:other]|other"]
+    registered += [f"E|2|{131_072 + at}|0|dynamic|T|[engine:e]/[d:{at}]|d{at}" for at in range(65_536)]
+    first = [*one_test, f"E|1|0|0|report|k|{'x' * (10 * MIB)}"]
+    rest = 16 * MIB - sum(len(line) + 1 for line in first) - len("E|1|0|1|report|k|\n")
+    names = [*engine, "N|T|[engine:e]/[t:1]|" + "x" * (10 * MIB), "N|T|[engine:e]/[t:2]|"]
+    # (so 2,000 bytes are left)
+    names[-1] += "x" * (16 * MIB - 2_000 - sum(len(line) + 1 for line in names))
+    too_long = "the text would be longer than 16777216 bytes"
+    return [
+        at_limit("most-static", static + last, lifecycle="no end 0"),
+        at_limit("too-many-static", static, "the run has more than 65536 static descriptors"),
+        at_limit("most-registered", [*registered, "E|3|196608|0|dynamic|T|[engine:e]/[d:third]|third"]),
+        at_limit("too-many-registered", registered, "worker 2 has registered 65536 descriptors"),
+        at_limit("most-bytes", [*first, f"E|1|0|1|report|k|{'x' * rest}"], too_long),
+        at_limit("too-many-bytes", first, too_long),
+        at_limit("too-many-static-bytes", names, too_long),
+    ]
+
+
+def at_limit(name: str, record: List[str], why: str = "", lifecycle: str = "") -> Case:
+    """A case whose recording ends early for this reason, if there is one."""
+    messages = [f"testkit: the recording ends here: {why}"] if why else []
+    return Case(name, [f"whole {'false' if why else 'true'}"], messages, lifecycle, {"record": record})
+
+
+def all_cases() -> List[Case]:
+    """Each case."""
+    return [case for group in (*expected().values(), limits()) for case in group]
+
+
+def check_case(case: Case, folder: str, facts: Sequence[str]) -> None:
+    """Fails where a case left something else in the folder, or said something else."""
+    took = [int(fact.split(" ")[1]) for fact in facts if fact.startswith("microseconds ")]
+    assert len(took) == 1, "it didn't come to its end"
+    check_lines([fact for fact in facts if not fact.startswith("microseconds ")], case.facts)
+    files = {path[len(f"{folder}/{case.name}.") :] for path in glob.glob(f"{folder}/{case.name}.*") if not os.path.isdir(path)}
+    assert files == {*case.records, "messages"}, f"it left {sorted(files)}"
+    for ending, lines in case.records.items():
+        check_record(read(f"{folder}/{case.name}.{ending}"), lines, took[0])
+    check_lines(read(f"{folder}/{case.name}.messages").replace(folder, "FOLDER").split("\n"), [*case.messages, ""])

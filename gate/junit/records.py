@@ -1,0 +1,71 @@
+"""Record texts as tests compare them: without stamps, or without threads too."""
+
+import re
+from collections import Counter, defaultdict
+from dataclasses import dataclass
+from itertools import zip_longest
+from typing import Dict, List, Optional, Sequence
+
+HEADER = "testkit-record|2"
+ENTRY = re.compile(r"E\|([0-9]+)\|([0-9]+)\|([0-9]+)\|(.*)", re.DOTALL)
+FIRST_KEYS = 65_536
+"""How many keys there are of static descriptors, and of each worker's registrations."""
+
+MOST_COLUMNS = 300
+"""How much of a line is shown."""
+
+
+@dataclass(frozen=True)
+class Entry:
+    """A line of an event."""
+
+    worker: int
+    key: int
+    stamp: int
+    tail: str
+
+
+def entries(lines: Sequence[str]) -> List[Entry]:
+    """The entries among these lines."""
+    found = filter(None, map(ENTRY.fullmatch, lines))
+    return [Entry(int(it[1]), int(it[2]), int(it[3]), it[4]) for it in found]
+
+
+def check_stamps(lines: Sequence[str], most: Optional[int] = None) -> None:
+    """Fails where stamps that are times fall, or the last is later than the end of the run."""
+    stamps = [it.stamp for it in entries(lines)]
+    assert stamps == sorted(stamps), f"a stamp falls: {stamps[:MOST_COLUMNS]}"
+    assert most is None or not stamps or stamps[-1] <= most, f"the last stamp is {stamps[-1]}, and the run took {most} microseconds"
+
+
+def by_id(lines: Sequence[str]) -> List[str]:
+    """The lines without threads and stamps: those of the static descriptors, sorted, then for each id its events in order."""
+    statics = [line for line in lines if line.startswith("N|")]
+    ids = {key: line.split("|")[2] for key, line in enumerate(statics)}
+    registered: Dict[int, int] = Counter()
+    events: Dict[str, List[str]] = defaultdict(list)
+    others = [line for line in lines if not line.startswith("N|") and not ENTRY.fullmatch(line)]
+    for entry in entries(lines):
+        if entry.tail.startswith("dynamic|"):
+            wanted = FIRST_KEYS * entry.worker + registered[entry.worker]
+            registered[entry.worker] += 1
+            ids[entry.key] = entry.tail.split("|")[2] if entry.key == wanted else f"key {entry.key} in place of {wanted}"
+        events[ids.get(entry.key, f"unknown key {entry.key}")].append(f"  {entry.tail}")
+    return others + sorted(statics) + [line for it in sorted(events) for line in (it, *events[it])]
+
+
+def check_lines(came: Sequence[str], wanted: Sequence[str]) -> None:
+    """Fails where two lists of lines differ, and shows where first; a wanted line that ends with `..` may go on."""
+    for number, (one, other) in enumerate(zip_longest(came, wanted), 1):
+        if one != other and not (one and other and other.endswith("..") and one.startswith(other[:-2])):
+            shown = [it if it is None else it[:MOST_COLUMNS] for it in (one, other)]
+            raise AssertionError(f"line {number} is {shown[0]!r}, wanted {shown[1]!r}")
+
+
+def check_record(text: str, wanted: Sequence[str], most: Optional[int] = None) -> None:
+    """Fails where the text isn't this record; where all wanted stamps are 0 those of the text are times, and may not fall."""
+    lines = text.split("\n")
+    if not any(it.stamp for it in entries(wanted)):
+        check_stamps(lines, most)
+        lines = [ENTRY.sub(r"E|\1|\2|0|\4", line) for line in lines]
+    check_lines(lines, [*wanted, ""])

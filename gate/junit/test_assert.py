@@ -1,0 +1,48 @@
+"""Tests of RecordAssert: RecordAssertTests by JUnit's console, whose run the listener records as in a build."""
+
+import os
+
+import fixtures
+import java
+from records import HEADER, entries
+from test_listener import WithClasses as Compiled
+
+TESTS = 22
+"""How many tests RecordAssertTests has."""
+
+
+@java.needs_junit
+class OfRecordAssert(Compiled, fixtures.WithProgram):
+    """The tests, each of which is a case here, with the program; and again where Java can't hand over letters outside of ASCII."""
+
+    def play(self, name, locale, *words):
+        """Runs tests in a locale, and returns the tails of each test's events by its method."""
+        service, scratch = f"{self.out}/{name}.service", f"{self.out}/{name}.tmp"
+        java.with_service(self.classes, service)
+        os.mkdir(scratch)
+        properties = {"java.io.tmpdir": scratch, "testkit.real": fixtures.PROGRAM, "testkit.record": f"{self.out}/{name}.record"}
+        command = [*java.COMMAND, *(f"-D{key}={value}" for key, value in properties.items()), "-jar", java.CONSOLE, *words]
+        command += ["-cp", ":".join(filter(None, [self.classes.folder, service, java.KIT])), "--disable-banner", "--disable-ansi-colors"]
+        ran = fixtures.run(command, seconds=java.SECONDS, env={**os.environ, "LC_ALL": locale})
+        self.assertEqual(ran.status, 0, ran.output.decode(errors="replace"))
+        lines = self.lines(f"{name}.record")
+        self.assertEqual(lines[0], HEADER)
+        statics = [line.split("|") for line in lines if line.startswith("N|")]
+        methods = {key: it[2].split("[method:")[1].split("(")[0] for key, it in enumerate(statics) if "[method:" in it[2]}
+        found = {method: [it.tail for it in entries(lines) if it.key == key] for key, method in methods.items()}
+        return found, os.listdir(scratch)
+
+    def test_each(self):
+        found, left = self.play("assert", "C.UTF-8", "--select-class", "testkit.RecordAssertTests")
+        self.assertGreaterEqual(len(found), TESTS)
+        for method, tails in found.items():
+            with self.subTest(method):
+                self.assertEqual(tails[0], "start")
+                # (a program that doesn't know a question, or one on the path, leaves out a test, which says so)
+                self.assertTrue(tails[1] == "finish|ok" or tails[1].startswith("finish|abort|Assumption failed: "), tails)
+        with self.subTest("the records that stay are those of refused results"):
+            self.assertEqual(sum(name.endswith(".record") for name in left), 2, left)
+
+    def test_letters_that_java_would_change(self):
+        found, _ = self.play("ascii", "C", "--select-method", "testkit.RecordAssertTests#lettersAreHandedOverOrRefused")
+        self.assertEqual(found, {"lettersAreHandedOverOrRefused": ["start", "finish|ok"]})

@@ -1,0 +1,159 @@
+"""Tests of the listener and of ResultsWriter: runs of small engines, of sample tests and of runs that are cut off, recorded and compared.
+
+With the variable JUPITER_RECORD the record of the sample tests is copied to the path that it names, as examples/jupiter.record.
+"""
+
+import os
+import resource
+import shutil
+import subprocess
+import tempfile
+import unittest
+
+import cases
+import fixtures
+import java
+import samples
+from fixtures import parameterized
+from records import HEADER, by_id, check_lines, check_stamps, entries
+
+LONGER = 1 << 16
+"""How many bytes a file has that is longer than any sample's record."""
+
+FULL = 1 << 20
+"""How many bytes a file may have in the case of a full disk."""
+
+LIFECYCLES = {"sample": "yes", "odd": "yes", "halt": "no end 0", "exit": "no end 0", "memory": "no end 0"}
+"""What `ask lifecycle` says of each sample run: the last three are cut off while the root runs."""
+
+
+class WithClasses(unittest.TestCase):
+    """Tests that have the classes compiled, and a folder for what they leave."""
+
+    @classmethod
+    def setUpClass(cls):
+        super().setUpClass()
+        cls.room = tempfile.TemporaryDirectory(prefix="junit-")
+        cls.out = f"{os.path.realpath(cls.room.name)}/out"
+        os.mkdir(cls.out)
+        cls.classes = java.compiled(f"{cls.room.name}/classes")
+
+    @classmethod
+    def tearDownClass(cls):
+        cls.room.cleanup()
+        super().tearDownClass()
+
+    def lines(self, name):
+        """The lines of a file that was left."""
+        text = cases.read(f"{self.out}/{name}")
+        self.assertTrue(text.endswith("\n"), f"the last line of {name} has no end")
+        return text.split("\n")[:-1]
+
+
+@java.needs_junit
+class OfCases(WithClasses):
+    """The cases of ListenerCases and KitCases."""
+
+    @classmethod
+    def setUpClass(cls):
+        super().setUpClass()
+        cls.facts = {}
+        groups = cases.expected()
+        cls.play("ListenerCases", *(case.name for case in groups["texts"] + groups["runs"]), "crowd")
+        cls.play("ListenerCases", *(case.name for case in cases.limits()))
+        cls.play("KitCases", *(case.name for case in groups["kit"]))
+        cls.play("ListenerCases", "full-disk", most_bytes=FULL)
+        cls.play("ListenerCases", "full-at-once", most_bytes=len(HEADER) // 2)
+        cls.play_beside_each_other()
+
+    @classmethod
+    def play(cls, main, *names, most_bytes=None):
+        """Runs cases in a process, whose files may have so many bytes."""
+        limit = most_bytes and (lambda: resource.setrlimit(resource.RLIMIT_FSIZE, (most_bytes, most_bytes)))
+        cls.keep(cls.classes.run(main, cls.out, *names, preexec_fn=limit))
+
+    @classmethod
+    def keep(cls, output):
+        """Keeps what cases said, each line its case, a fact and its value."""
+        for line in output.splitlines():
+            name, _, fact = line.partition(" ")
+            cls.facts.setdefault(name, []).append(fact)
+
+    @classmethod
+    def play_beside_each_other(cls):
+        """Runs a case in a process of its own while the case `held` of another process writes the same record."""
+        command = cls.classes.command("ListenerCases", cls.out, "held")
+        with subprocess.Popen(command, stdin=subprocess.PIPE, stdout=subprocess.PIPE, text=True) as holder:
+            try:
+                first = holder.stdout.readline()
+                cls.before = cases.read(f"{cls.out}/held.record")
+                cls.play("ListenerCases", "other-process")
+                cls.after = cases.read(f"{cls.out}/held.record")
+                output, _ = holder.communicate("go on\n", java.SECONDS)
+            finally:
+                holder.kill()
+        cls.keep(first + output)
+
+    @parameterized(cases.all_cases)
+    def test_case(self, case):
+        cases.check_case(case, self.out, self.facts.get(case.name, []))
+
+    def test_nothing_else_is_said(self):
+        named = {case.name for case in cases.all_cases()}
+        self.assertEqual(set(self.facts) - named, {"crowd", "full-at-once"})
+
+    def test_crowd(self):
+        self.assertIn("whole true", self.facts["crowd"])
+        samples.check_crowd(self.lines("crowd.record"), self.lines("crowd.messages"))
+
+    def test_no_part_of_a_header_stays(self):
+        self.assertIn("whole false", self.facts["full-at-once"])
+        self.assertEqual(cases.read(f"{self.out}/full-at-once.record"), "")
+
+    def test_pause(self):
+        facts = dict(fact.split(" ") for fact in self.facts["times"])
+        stamps = [it.stamp for it in entries(self.lines("times.2.record"))]
+        samples.check_pause(stamps, int(facts["second-run"]), int(facts["microseconds"]))
+
+    def test_pause_in_results(self):
+        """The first stamp is 0, whatever time has passed before it; the clock of the day, by which the kit goes, may be slowed down."""
+        first, last = [it.stamp for it in entries(self.lines("kit-times.record"))]
+        self.assertEqual(first, 0)
+        self.assertGreaterEqual(last, samples.PAUSE * 9 // 10)
+
+    def test_a_record_that_another_process_writes(self):
+        self.assertEqual(self.before, self.after)
+        self.assertEqual(self.before.count("\n"), 4)
+
+
+@java.needs_junit
+class OfSamples(WithClasses, fixtures.WithProgram):
+    """The sample tests, beside what JUnit's SummaryGeneratingListener counts."""
+
+    @parameterized(sorted(LIFECYCLES), name=str)
+    def test_run(self, name):
+        path = f"{self.out}/{name}.record"
+        if name == "halt":
+            # A longer record of an earlier process: a run that is cut off leaves nothing of it either.
+            with open(path, "wb") as file:
+                file.write(b"x" * LONGER)
+        counts = self.classes.run("RunSamples", name, path).split()
+        lines = self.lines(f"{name}.record")
+        # (no report and no file is counted)
+        self.assertEqual(len(counts), 7)
+        self.assertEqual(self.ask(name, "stats", *counts)[0], 0, counts)
+        self.assertEqual(self.ask(name, "lifecycle"), (int(LIFECYCLES[name] != "yes"), f"{LIFECYCLES[name]}\n"))
+        check_stamps(lines)
+        if name == "sample":
+            samples.check_stored(lines)
+            if "JUPITER_RECORD" in os.environ:
+                shutil.copy(path, os.environ["JUPITER_RECORD"])
+        if name == "odd":
+            check_lines(by_id(lines), samples.odd_run())
+            samples.check_workers(lines)
+
+    def ask(self, name, *words):
+        """The program's status and its answer to a question about a record."""
+        with open(f"{self.out}/{name}.record", "rb") as record:
+            ran = fixtures.ask(["ask", *words], stdin=record)
+        return ran.status, ran.output.decode()

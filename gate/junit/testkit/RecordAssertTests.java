@@ -1,0 +1,367 @@
+package testkit;
+
+import static java.nio.charset.StandardCharsets.UTF_8;
+import static org.junit.jupiter.api.Assertions.assertEquals;
+import static org.junit.jupiter.api.Assertions.assertFalse;
+import static org.junit.jupiter.api.Assertions.assertSame;
+import static org.junit.jupiter.api.Assertions.assertThrows;
+import static org.junit.jupiter.api.Assertions.assertTrue;
+import static org.junit.jupiter.api.Assumptions.assumeTrue;
+import static testkit.RecordAssert.Conditions.all;
+import static testkit.RecordAssert.Conditions.any;
+import static testkit.RecordAssert.Conditions.hasEntry;
+import static testkit.RecordAssert.Conditions.hasFailed;
+import static testkit.RecordAssert.Conditions.hasFile;
+import static testkit.RecordAssert.Conditions.hasId;
+import static testkit.RecordAssert.Conditions.hasKind;
+import static testkit.RecordAssert.Conditions.hasName;
+import static testkit.RecordAssert.Conditions.hasStarted;
+import static testkit.RecordAssert.Conditions.hasSucceeded;
+import static testkit.RecordAssert.Conditions.isContainer;
+import static testkit.RecordAssert.Conditions.isEngine;
+import static testkit.RecordAssert.Conditions.isTest;
+import static testkit.RecordAssert.Conditions.not;
+import static testkit.RecordAssert.Conditions.wasAborted;
+import static testkit.RecordAssert.Conditions.wasSkipped;
+
+import java.io.IOException;
+import java.lang.reflect.Method;
+import java.nio.charset.Charset;
+import java.nio.file.Files;
+import java.nio.file.Path;
+import java.nio.file.Paths;
+import java.util.Arrays;
+import java.util.Collections;
+import java.util.LinkedHashMap;
+import java.util.List;
+import java.util.Map;
+import java.util.function.Function;
+
+import org.junit.jupiter.api.AfterEach;
+import org.junit.jupiter.api.BeforeEach;
+import org.junit.jupiter.api.Test;
+import org.junit.jupiter.api.io.TempDir;
+import org.junit.platform.engine.ExecutionRequest;
+import org.junit.platform.engine.TestDescriptor.Type;
+import org.junit.platform.engine.UniqueId;
+import org.junit.platform.testkit.engine.EngineExecutionResults;
+import org.junit.platform.testkit.engine.ExecutionRecorder;
+import testkit.ScriptedEngine.Script;
+
+/** Tests of {@link RecordAssert} with a script in place of the program, and with the program that {@code testkit.real} names. */
+class RecordAssertTests {
+
+    /** The names of JUnit's classes of conditions, up to version 6. */
+    private static final List<String> NAMES_OF_JUNIT = Arrays.asList("event", "engine", "test", "container", "nestedContainer",
+            "dynamicTestRegistered", "uniqueId", "uniqueIdSubstring", "uniqueIdSubstrings", "displayName", "skippedWithReason", "started",
+            "abortedWithReason", "finishedWithCause", "finishedWithFailure", "finishedSuccessfully", "finished", "type", "reportEntry",
+            "legacyReportingName", "fileEntry", "status", "throwable", "cause", "rootCause", "suppressed", "instanceOf", "message");
+
+    private static final String TWO_TESTS = "testkit-record|2\nN|C|[engine:e]|e\nN|T|[engine:e]/[t:1]|one\nN|T|[engine:e]/[t:2]|two\n"
+            + "E|1|0|0|start\nE|1|1|0|start\nE|2|2|0|start\nE|1|1|0|finish|fail|boom\nE|2|2|0|finish|ok\nE|1|0|0|finish|ok\n";
+    private static final String BROKEN = "testkit-record|2\nN|T|[engine:e]|e\nE|1|0|0|start\n";
+    private static final String STATISTICS = "skipped 0";
+
+    @TempDir
+    Path folder;
+    private Path record;
+
+    @BeforeEach
+    void writeRecord() throws IOException {
+        record = folder.resolve("run.record");
+        Files.write(record, TWO_TESTS.getBytes(UTF_8));
+    }
+
+    @AfterEach
+    void clearProperties() {
+        System.clearProperty("testkit.program");
+        System.clearProperty("testkit.explain");
+        System.clearProperty("testkit.seconds");
+    }
+
+    /** Puts a script in place of a program, which keeps its words and its input beside itself. */
+    private Path script(String name, String... lines) throws IOException {
+        Path script = folder.resolve(name);
+        String keep = "#!/bin/sh\nprintf '%s\\n' \"$@\" > \"$0.words\"\ncat > \"$0.input\"\n";
+        Files.write(script, (keep + String.join("\n", lines) + "\n").getBytes(UTF_8));
+        assertTrue(script.toFile().setExecutable(true));
+        return script;
+    }
+
+    private void program(String... lines) throws IOException {
+        System.setProperty("testkit.program", script("program", lines).toString());
+    }
+
+    private static String text(Path path) throws IOException {
+        return new String(Files.readAllBytes(path), UTF_8);
+    }
+
+    private List<String> words(String name) throws IOException {
+        return Files.readAllLines(folder.resolve(name + ".words"));
+    }
+
+    /** Each method with the words that it has to ask. */
+    private static Map<String, Function<RecordAssert, RecordAssert>> methods() {
+        Map<String, Function<RecordAssert, RecordAssert>> found = new LinkedHashMap<>();
+        found.put("ask lifecycle", RecordAssert::keepsLifecycle);
+        found.put("ask stats failed=1 skipped=0", it -> it.hasStatistics("failed=1", "skipped=0"));
+        found.put("ask match exactly a b", it -> it.matchesExactly("a", "b"));
+        found.put("ask match loosely c", it -> it.matchesLoosely("c"));
+        found.put("ask match in-order d e f", it -> it.matchesInOrder("d", "e", "f"));
+        found.put("ask exclusive g", it -> it.exclusive("g"));
+        found.put("ask exclusive h i", it -> it.exclusive("h", "i"));
+        return found;
+    }
+
+    @Test
+    void eachMethodAsksAndTakesAYes() throws IOException {
+        program("[ \"$2\" = stats ] && echo " + STATISTICS + " || echo yes");
+        RecordAssert asserting = RecordAssert.assertThat(record);
+        for (Map.Entry<String, Function<RecordAssert, RecordAssert>> method : methods().entrySet()) {
+            assertSame(asserting, method.getValue().apply(asserting));
+            assertEquals(method.getKey(), String.join(" ", words("program")));
+            assertEquals(TWO_TESTS, text(folder.resolve("program.input")));
+        }
+    }
+
+    @Test
+    void eachMethodRefusesANoWithTheAnswer() throws IOException {
+        program("echo no 4", "exit 1");
+        for (Map.Entry<String, Function<RecordAssert, RecordAssert>> method : methods().entrySet()) {
+            AssertionError fault = assertThrows(AssertionError.class, () -> method.getValue().apply(RecordAssert.assertThat(record)));
+            assertEquals(folder.resolve("program") + " " + method.getKey() + " < " + record + "\nno 4\n", fault.getMessage());
+        }
+    }
+
+    @Test
+    void aNoIsExplained() throws IOException {
+        program("echo no 4", "exit 1");
+        System.setProperty("testkit.explain", script("explain", "echo no 4", "echo why", "exit 1").toString());
+        AssertionError fault = assertThrows(AssertionError.class, () -> RecordAssert.assertThat(record).matchesLoosely("a", "b"));
+        assertTrue(fault.getMessage().endsWith("run.record\nno 4\nwhy\n"), fault.getMessage());
+        assertEquals(Arrays.asList("loosely", "a", "b"), words("explain"));
+        assertEquals(TWO_TESTS, text(folder.resolve("explain.input")));
+        assertThrows(AssertionError.class, () -> RecordAssert.assertThat(record).keepsLifecycle());
+        assertEquals(Arrays.asList("lifecycle"), words("explain"));
+    }
+
+    @Test
+    void whatExplainsMayStandBesideTheProgram() throws IOException {
+        program("echo no 4", "exit 1");
+        script("testkit-explain", "echo no 4", "echo why beside", "exit 1");
+        AssertionError fault = assertThrows(AssertionError.class, () -> RecordAssert.assertThat(record).matchesLoosely("a"));
+        assertTrue(fault.getMessage().endsWith("run.record\nno 4\nwhy beside\n"), fault.getMessage());
+    }
+
+    @Test
+    void whatDoesNotExplainIsLeftOut() throws IOException {
+        program("echo no 4", "exit 1");
+        for (String[] lines : new String[][] {{"echo why", "exit 70"}, {"exit 1"}, {"echo no 5"}}) {
+            System.setProperty("testkit.explain", script("explain", lines).toString());
+            AssertionError fault = assertThrows(AssertionError.class, () -> RecordAssert.assertThat(record).exclusive("a"));
+            assertTrue(fault.getMessage().endsWith("run.record\nno 4\n"), fault.getMessage());
+        }
+    }
+
+    @Test
+    void refusedWordsAreAnIllegalArgument() throws IOException {
+        program("echo testkit: bad word 0 >&2", "exit 2");
+        RuntimeException fault = assertThrows(IllegalArgumentException.class, () -> RecordAssert.assertThat(record).hasStatistics("x"));
+        assertTrue(fault.getMessage().contains("ask stats x < " + record), fault.getMessage());
+        assertTrue(fault.getMessage().contains("status 2: testkit: bad word 0"), fault.getMessage());
+    }
+
+    @Test
+    void aProgramThatBreaksIsAnIllegalState() throws IOException {
+        String[][] scripts = {{"echo testkit: device failed >&2", "exit 3"}, {"echo no", "exit 70"}, {"kill -KILL $$"}, {"exit 1"}, {"exit 0"},
+            {"echo " + STATISTICS}};
+        for (String[] lines : scripts) {
+            program(lines);
+            RuntimeException fault = assertThrows(IllegalStateException.class, () -> RecordAssert.assertThat(record).matchesLoosely("x"));
+            assertTrue(fault.getMessage().contains("ask match loosely x < " + record), fault.getMessage());
+        }
+        program("echo yes");
+        assertThrows(IllegalStateException.class, () -> RecordAssert.assertThat(record).hasStatistics("failed=1"));
+    }
+
+    @Test
+    void aMissingProgramIsAnIllegalState() {
+        System.setProperty("testkit.program", folder.resolve("nowhere").toString());
+        RuntimeException fault = assertThrows(IllegalStateException.class, () -> RecordAssert.assertThat(record).exclusive("x"));
+        assertTrue(fault.getMessage().contains("ask exclusive x < " + record), fault.getMessage());
+        assertTrue(fault.getMessage().contains("testkit.program"), fault.getMessage());
+    }
+
+    @Test
+    void theProgramIsOnThePathWithoutAProperty() {
+        assumeTrue(Arrays.stream(System.getenv("PATH").split(":")).noneMatch(it -> Files.exists(Paths.get(it, "testkit"))));
+        RuntimeException fault = assertThrows(IllegalStateException.class, () -> RecordAssert.assertThat(record).keepsLifecycle());
+        assertTrue(fault.getMessage().startsWith("testkit ask lifecycle < "), fault.getMessage());
+    }
+
+    @Test
+    void aProgramThatHangsIsKilled() throws Exception {
+        program("echo $$ > \"$0.process\"", "exec sleep 300");
+        System.setProperty("testkit.seconds", "1");
+        long begun = System.nanoTime();
+        RuntimeException fault = assertThrows(IllegalStateException.class, () -> RecordAssert.assertThat(record).keepsLifecycle());
+        assertTrue(fault.getMessage().contains("more than 1 seconds"), fault.getMessage());
+        assertTrue(System.nanoTime() - begun < 60_000_000_000L);
+        long process = Long.parseLong(text(folder.resolve("program.process")).trim());
+        for (int i = 0; i < 100 && ProcessHandle.of(process).map(ProcessHandle::isAlive).orElse(false); i++) {
+            Thread.sleep(100);
+        }
+        assertFalse(ProcessHandle.of(process).map(ProcessHandle::isAlive).orElse(false));
+    }
+
+    @Test
+    void anInterruptEndsTheWait() throws IOException {
+        program("exec sleep 300");
+        Thread.currentThread().interrupt();
+        assertThrows(IllegalStateException.class, () -> RecordAssert.assertThat(record).keepsLifecycle());
+        assertTrue(Thread.interrupted());
+    }
+
+    @Test
+    void nothingToAskIsRefused() throws IOException {
+        program("echo yes");
+        RecordAssert asserting = RecordAssert.assertThat(record);
+        assertThrows(IllegalArgumentException.class, asserting::hasStatistics);
+        assertThrows(IllegalArgumentException.class, asserting::matchesExactly);
+        assertThrows(IllegalArgumentException.class, asserting::matchesLoosely);
+        assertThrows(IllegalArgumentException.class, asserting::matchesInOrder);
+        assertThrows(IllegalArgumentException.class, () -> asserting.matchesLoosely("test", null));
+        assertThrows(IllegalArgumentException.class, () -> asserting.exclusive(null));
+        assertThrows(IllegalArgumentException.class, () -> asserting.exclusive("test", null));
+        assertFalse(Files.exists(folder.resolve("program.words")));
+    }
+
+    @Test
+    void aMissingRecordIsRefused() {
+        assertThrows(IllegalArgumentException.class, () -> RecordAssert.assertThat(folder.resolve("other.record")));
+        assertThrows(IllegalArgumentException.class, () -> RecordAssert.assertThat(folder));
+    }
+
+    /** Letters outside of ASCII come as they are, or are refused where Java would change them. */
+    @Test
+    void lettersAreHandedOverOrRefused() throws IOException {
+        program("echo yes");
+        String condition = hasName("日本");
+        if (Charset.defaultCharset().equals(UTF_8)) {
+            RecordAssert.assertThat(record).matchesLoosely(condition);
+            assertEquals(condition, words("program").get(3));
+        } else {
+            assertThrows(IllegalStateException.class, () -> RecordAssert.assertThat(record).matchesLoosely(condition));
+            assertFalse(Files.exists(folder.resolve("program.words")));
+        }
+    }
+
+    @Test
+    void conditionsAreTexts() {
+        assertEquals("test container engine started succeeded failed aborted", String.join(" ", isTest(), isContainer(), isEngine(),
+                hasStarted(), hasSucceeded(), hasFailed(), wasAborted()));
+        assertEquals("id(a) name(b) kind(skip) failed(c) aborted(d) skipped(e) file(f)", String.join(" ", hasId("a"), hasName("b"),
+                hasKind("skip"), hasFailed("c"), wasAborted("d"), wasSkipped("e"), hasFile("f")));
+        assertEquals("entry(k,v,l,) entry()", hasEntry("k", "v", "l", "") + " " + hasEntry());
+        assertEquals("all(test,not(any(id(a),failed)))", all(isTest(), not(any(hasId("a"), hasFailed()))));
+        assertEquals("all() any()", all() + " " + any());
+        assertEquals("name(100%25%28a%2Cb%29[]\n\uFFFD😀)", hasName("100%(a,b)[]\n\uD83D😀"));
+        assertEquals("entry(a%2C,%2525)", hasEntry("a,", "%25"));
+        assertThrows(IllegalArgumentException.class, () -> hasEntry("k"));
+    }
+
+    @Test
+    void noNameIsOneOfJUnit() {
+        for (Method method : RecordAssert.Conditions.class.getDeclaredMethods()) {
+            assertFalse(NAMES_OF_JUNIT.contains(method.getName()), method.getName());
+        }
+    }
+
+    private static EngineExecutionResults results(Script script) {
+        ExecutionRecorder recorder = new ExecutionRecorder();
+        ScriptedEngine engine = new ScriptedEngine("e", "engine", root -> root.add("t", "1", "one", Type.TEST), script);
+        engine.execute(new ExecutionRequest(engine.discover(null, UniqueId.forEngine("e")), recorder, null));
+        return recorder.getExecutionResults();
+    }
+
+    @Test
+    void resultsAreAskedByTheirRecord() throws IOException {
+        program("echo yes");
+        RecordAssert.assertThat(results((calls, root) -> calls.skip(root, "off"))).keepsLifecycle().matchesLoosely("x");
+        List<String> lines = Files.readAllLines(folder.resolve("program.input"));
+        assertEquals(Arrays.asList("testkit-record|2", "N|C|[engine:e]|engine", "N|T|[engine:e]/[t:1]|one", "E|1|0|0|skip|off"), lines);
+    }
+
+    /** (The records of results that are not refused go when the process ends, which {@code test_assert.py} sees.) */
+    @Test
+    void theRecordOfRefusedResultsStays() throws IOException {
+        program("[ \"$2\" = lifecycle ] && echo yes && exit 0", "echo no 0", "exit 1");
+        RecordAssert asserting = RecordAssert.assertThat(results((calls, root) -> calls.skip(root, "refused")));
+        AssertionError fault = assertThrows(AssertionError.class, () -> asserting.keepsLifecycle().matchesLoosely("x"));
+        Path kept = Paths.get(fault.getMessage().split("\n")[0].split(" < ")[1]);
+        assertTrue(text(kept).contains("|skip|refused\n"));
+    }
+
+    @Test
+    void anIdThatNobodyRegisteredBreaksTheLifecycle() throws IOException {
+        program("echo yes");
+        RecordAssert asserting = RecordAssert.assertThat(results((calls, root) -> {
+            calls.start(root);
+            calls.play(new ScriptedEngine.Node(root.getUniqueId().append("d", "1"), "one", Type.TEST));
+            calls.play(new ScriptedEngine.Node(root.getUniqueId().append("d", "2"), "two", Type.TEST));
+            calls.succeed(root);
+        }));
+        AssertionError fault = assertThrows(AssertionError.class, asserting::keepsLifecycle);
+        assertTrue(fault.getMessage().contains("[engine:e]/[d:1], [engine:e]/[d:2]"), fault.getMessage());
+        asserting.matchesLoosely("x");
+    }
+
+    @Test
+    void resultsWhoseRecordIsNotWholeAreRefused() {
+        EngineExecutionResults tooLong = results((calls, root) -> calls.report(root, "k", String.join("", Collections.nCopies(17 << 20, "x"))));
+        assertThrows(IllegalStateException.class, () -> RecordAssert.assertThat(tooLong));
+    }
+
+    /** Asks the program itself, at a yes and at a no of each method. */
+    @Test
+    void theProgramAnswers() throws IOException {
+        String program = System.getProperty("testkit.real", "");
+        assumeTrue(!program.isEmpty(), "no program");
+        System.setProperty("testkit.program", program);
+        RecordAssert asserting = RecordAssert.assertThat(record).keepsLifecycle().hasStatistics("failed=1", "started=3")
+                .matchesLoosely(all(isTest(), hasFailed("boom")), hasSucceeded()).matchesInOrder(hasFailed(), all(hasName("two"), hasSucceeded()))
+                .matchesExactly(isEngine(), hasId("t:1"), hasId("t:2"), hasFailed("boom"), hasSucceeded(), isContainer());
+        Path broken = Files.write(folder.resolve("broken.record"), BROKEN.getBytes(UTF_8));
+        assertRefused("no end 0", () -> RecordAssert.assertThat(broken).keepsLifecycle());
+        assertRefused("mismatch failed expected 2 actual 1", () -> asserting.hasStatistics("failed=2"));
+        assertRefused("wrong-count", () -> asserting.matchesExactly(isTest()));
+        assertRefused("no 1", () -> asserting.matchesLoosely(isTest(), wasAborted()));
+        assertRefused("no 1", () -> asserting.matchesInOrder(hasSucceeded(), hasFailed()));
+        assertThrows(IllegalArgumentException.class, () -> asserting.matchesLoosely("tests"));
+        Path none = Files.write(folder.resolve("none.record"), new byte[0]);
+        assertThrows(IllegalArgumentException.class, () -> RecordAssert.assertThat(none).keepsLifecycle());
+    }
+
+    /** Asks the program {@code ask exclusive}, where it knows it. */
+    @Test
+    void theProgramSaysWhatOverlaps() {
+        String program = System.getProperty("testkit.real", "");
+        assumeTrue(!program.isEmpty(), "no program");
+        System.setProperty("testkit.program", program);
+        RecordAssert asserting = RecordAssert.assertThat(record);
+        try {
+            asserting.exclusive(hasName("one"));
+        } catch (IllegalArgumentException fault) {
+            assumeTrue(!fault.getMessage().contains("unknown question"), "this program doesn't know it");
+            throw fault;
+        }
+        asserting.exclusive(any(), isTest());
+        assertRefused("no 1 2", () -> asserting.exclusive(isTest()));
+        assertRefused("no 1 2", () -> asserting.exclusive(hasName("two"), hasName("one")));
+    }
+
+    private static void assertRefused(String answer, Runnable asserting) {
+        AssertionError fault = assertThrows(AssertionError.class, asserting::run);
+        assertTrue(Arrays.asList(fault.getMessage().split("\n")).contains(answer), fault.getMessage());
+    }
+}
