@@ -29,13 +29,20 @@ NO_PROGRAM = "no proved program"
 CHOSEN: List[str] = []
 """Parts of names, as `gate/run -k` has them: of a table the rows run whose name has one; all rows where there are none."""
 
+SHARE: List[int] = [0, 1]
+"""Which share of the rows of each table runs in this process, counted from 0, and how many shares there are."""
+
+
+def has_program() -> bool:
+    return os.access(PROGRAM, os.X_OK)
+
 
 class WithProgram(unittest.TestCase):
     """Tests of the proved program, which are skipped where there is none."""
 
     @classmethod
     def setUpClass(cls) -> None:
-        if not os.access(PROGRAM, os.X_OK):
+        if not has_program():
             raise unittest.SkipTest(NO_PROGRAM)
         super().setUpClass()
 
@@ -54,7 +61,7 @@ def parameterized(table: Union[Sequence, Callable[[], Sequence]], name: Callable
     def decorate(method: Callable) -> Callable:
         @functools.wraps(method)
         def test(self: unittest.TestCase) -> None:
-            for row in chosen_rows(test, self.id()):
+            for row in rows_here(test, self.id()):
                 with self.subTest(name(row)):
                     method(self, row)
 
@@ -65,9 +72,10 @@ def parameterized(table: Union[Sequence, Callable[[], Sequence]], name: Callable
     return decorate
 
 
-def chosen_rows(test: Callable, of: str) -> List:
-    """The rows of a parameterized test that were chosen; `of` is the name of the test."""
-    return [row for row in test.rows() if is_chosen(f"{of} {test.name_of(row)}")]
+def rows_here(test: Callable, of: str) -> List:
+    """The rows of a parameterized test that run in this process; `of` is the name of the test."""
+    share, shares = SHARE
+    return [row for row in test.rows() if is_chosen(f"{of} {test.name_of(row)}")][share::shares]
 
 
 def is_chosen(name: str) -> bool:
