@@ -1,4 +1,4 @@
-"""Cases, how one is run on the program, and how all are run and reported.
+"""Cases, and how one is run on the program.
 
 A `Case` is one start of the program: its words and its input, and what has to come on standard output, on
 standard error and as status. A `ThreadCount` also counts the threads of its runs. A `Check` compares two
@@ -7,12 +7,9 @@ values without the program.
 
 import os
 import subprocess
-import sys
 import tempfile
 import threading
 import time
-from collections import Counter
-from concurrent.futures import ThreadPoolExecutor
 from dataclasses import dataclass
 from enum import Enum
 from typing import Callable, List, Optional, Sequence, Tuple, Union
@@ -25,9 +22,6 @@ TIME_LIMIT = 600
 
 SECONDS_WITH_OPEN_INPUT = 60
 """How many seconds a run may take whose input stays open: one that waits for its end would never end."""
-
-MOST_AT_ONCE = 4
-"""How many runs there may be at once."""
 
 STACK = 8_192
 """How many KiB the stack of a thread has where memory is limited."""
@@ -324,57 +318,3 @@ def difference(got: bytes, wanted: bytes) -> str:
         f"{len(got)} bytes, wanted {len(wanted)}; they part at byte {at}: "
         f"{got[start_at : at + 60]!r}, wanted {wanted[start_at : at + 60]!r}"
     )
-
-
-AnyCase = Union[Case, ThreadCount, Check]
-
-
-@dataclass(frozen=True)
-class Group:
-    """The cases of a module, and how many there are at least."""
-
-    name: str
-    cases: Sequence[AnyCase]
-    least: int
-
-
-def faults_of(groups: Sequence[Group], least: int) -> List[str]:
-    """What is wrong with the lists of cases: too few in a group or in all, or two of one name."""
-    faults = [
-        f"{group.name} has {len(group.cases)} cases, and at least {group.least} are wanted"
-        for group in groups
-        if len(group.cases) < group.least
-    ]
-    names = [case.name for group in groups for case in group.cases]
-    if len(names) < least:
-        faults.append(f"there are {len(names)} cases, and at least {least} are wanted")
-    return faults + [f"{number} cases have the name {name}" for name, number in Counter(names).items() if number > 1]
-
-
-def outcome_of(case: AnyCase, program: str) -> Optional[str]:
-    """What differs, or the exception that the case raised, or None where it passes."""
-    try:
-        return case.run(program)
-    except Exception as fault:
-        return f"{type(fault).__name__}: {fault}"
-
-
-def run_all(program: str, cases: Sequence[AnyCase], faults: Sequence[str] = ()) -> int:
-    """Runs the cases, prints a line for each fault of their lists and each case that fails, and the numbers at last.
-
-    The status is 0 where some cases ran, each of them did, and nothing failed.
-    """
-    faults, outcomes, failed = list(faults), {}, 0
-    with ThreadPoolExecutor(min(MOST_AT_ONCE, os.cpu_count() or 1)) as workers:
-        for case, outcome in zip(cases, workers.map(lambda case: outcome_of(case, program), cases)):
-            outcomes[case.name] = outcome
-            if outcome is not None:
-                failed += 1
-                print(f"{case.name}: {outcome}", flush=True)
-    faults += [f"{case.name} did not run" for case in cases if case.name not in outcomes]
-    if not outcomes:
-        faults.append("no case ran")
-    for fault in faults:
-        print(f"gate/cases/run_cases: {fault}")
-    print(f"{len(outcomes) - failed} passed, {failed + len(faults)} failed")
-    return 1 if failed or faults else 0

@@ -11,12 +11,8 @@
 from typing import List
 
 from generated import changes, lifecycles, plans, questions, replays
-from harness import Group
-
-LEAST = {questions: 2_353, lifecycles: 2_002, replays: 301, plans: 752, changes: 1_850}
-"""The modules with cases, and how many each has at least."""
 
 
-def groups() -> List[Group]:
+def cases() -> List:
     """All generated cases, in their order."""
-    return [Group(module.__name__, module.cases(), least) for module, least in LEAST.items()]
+    return [case for module in (questions, lifecycles, replays, plans, changes) for case in module.cases()]

@@ -162,7 +162,16 @@ def spine_report(levels: int) -> bytes:
     return (numbers + "".join(lines)).encode()
 
 
+LONG_NAME = "n" * 1_000_000
+NAMED = REGISTERED.replace("|n\n", f"|{LONG_NAME}\n")
+
 PLANS = [
+    answer(
+        "a dynamic node with a name of 1,000,000 bytes",
+        "run --workers 2",
+        lambda: plan(nodes("dynamic", 1)).replace(b'"0"],"name":"n"', f'"0"],"name":"{LONG_NAME}"'.encode()),
+        lambda: report(stats(started=2, finished=2, succeeded=2, dynamic=1), sorted_lines("dynamic", 1, NAMED)),
+    ),
     answer(
         "1,000 nodes with 40 entries/concurrent",
         MOST,

@@ -1,30 +1,28 @@
-#!/usr/bin/env python3
-"""Runs the program and the tests of refusals with one request refused in turn: `gate/faults/refuse_requests PROGRAM [TESTS ..]`.
+"""The program and the tests of refusals, with one request refused in turn.
 
-PROGRAM is the path of the built program, and TESTS are built test crates. Those of their tests whose path has the word `refused` or
-`refusals` run with refusals, and the others once as they are.
 `refuse.c` is put before the C library, and refuses the first request of a kind (memory, a thread, a read of standard input, a write), then
 the second, and so on, until a run meets no refusal and gives its ordinary answer. Each run has to end in time with the answer that
-docs/FORMATS.md puts there, and what it wrote has to be a prefix of the ordinary output. A test of refusals has to pass whichever
-request is refused. And each run has to give back each block of memory that it took, but for what a run of a plan keeps on purpose
-(`KEPT_BY_RUN`): so a value that is forgotten is seen, on ordinary and on refused paths. First `requests.c` shows that each function of
-`refuse.c` refuses its requests.
+docs/FORMATS.md puts there, and what it wrote has to be a prefix of the ordinary output. And each run has to give back each block of memory
+that it took, but for what a run of a plan keeps on purpose (`KEPT_BY_RUN`): so a value that is forgotten is seen, on ordinary and on
+refused paths.
 
-For each run that fails a line says what was refused, what came and what was wanted; the last line is 'N passed, M failed', in runs.
+Of the built test crates the tests whose path has the word `refused` or `refusals` have to pass whichever request is refused; the others run
+once as they are. `requests.c` shows that each function of `refuse.c` refuses its requests.
 """
 
+import functools
 import os
 import re
 import subprocess
 import sys
 import tempfile
-from concurrent.futures import ThreadPoolExecutor
-from dataclasses import dataclass
+import unittest
+from dataclasses import dataclass, replace
 from typing import Callable, Dict, FrozenSet, List, Optional, Sequence, Set, Tuple
 
-HERE = os.path.dirname(os.path.abspath(__file__))
-sys.path[:0] = [HERE, os.path.join(os.path.dirname(HERE), "cases")]
-sys.dont_write_bytecode = True
+from fixtures import PROGRAM, TOP, WithProgram, folder, parameterized
+
+sys.path.append(f"{TOP}/gate/cases")
 
 from compiling import compile_library, compile_program
 from tables.building import as_bytes, as_words
@@ -50,19 +48,16 @@ MOST_REQUESTS = 5_000
 ROUNDS = 4
 """How many rounds a sweep has at most: a unit makes few requests, and the schedule may put others before them each time."""
 
-LEAST_SWEEPS = 71
-"""How many sweeps of the program there are at least."""
-
-LEAST_TESTS = {
-    "test_records_tests": 4,
-    "test_questions_tests": 3,
-    "test_sessions_tests": 7,
-    "test_plans_tests": 1,
-    "test_runs_tests": 3,
-    "test_hierarchical_tests": 2,
-    "test_example_engine_tests": 0,
+TESTS_OF_REFUSALS = {
+    "test_records": 4,
+    "test_questions": 3,
+    "test_sessions": 7,
+    "test_plans": 1,
+    "test_runs": 3,
+    "test_hierarchical": 2,
+    "test_example_engine": 0,
 }
-"""How many tests of refusals each of the test crates has at least."""
+"""The test crates, and how many tests of refusals each has at least."""
 
 OUT_OF_MEMORY = re.compile(rb"testkit: out of memory\n")
 NO_THREAD = re.compile(rb"testkit: no thread\n")
@@ -118,6 +113,8 @@ class Sweep:
     """How many blocks of memory the ordinary run may keep; a run with a refusal may keep them, or none."""
     survived: int = 0
     """How many of its runs with a refusal may give the ordinary answer, since what was refused is asked for once more."""
+    unbuilt: str = ""
+    """What isn't built of which it is a test, if it can't be run."""
 
 
 def run(library: str, sweep: Sweep, number: int) -> Ended:
@@ -151,15 +148,19 @@ def shown(ended: Ended) -> str:
     return f"status {ended.status}, output {ended.output[:200]!r}, error {ended.error[:200]!r}, {ended.kept} blocks kept"
 
 
-def round_of(library: str, sweep: Sweep, ordinary: Ended) -> Tuple[int, List[str], Set[int]]:
-    """Refuses each request in turn; answers how many runs there were, what failed, and which units did."""
+Run = Callable[[int], Ended]
+"""Runs a sweep with the request of this number refused, or with none where it is 0."""
+
+
+def round_of(run_number: Run, sweep: Sweep, ordinary: Ended) -> Tuple[List[str], Set[int]]:
+    """Refuses each request in turn; answers what failed, and which units did."""
     number, failed, units, survived = 0, [], set(), 0
     while not failed and number < MOST_REQUESTS:
         number += 1
-        ended = run(library, sweep, number)
+        ended = run_number(number)
         if not ended.refused_of:
             if (ended.status, ended.output, ended.error) != (ordinary.status, ordinary.output, ordinary.error):
-                failed.append(f"{sweep.name}, nothing refused: {shown(ended)}; ordinarily {shown(ordinary)}")
+                failed.append(f"nothing refused: {shown(ended)}; ordinarily {shown(ordinary)}")
             break
         is_ordinary = (ended.status, ended.output, ended.error, ended.kept) == (ordinary.status, ordinary.output, ordinary.error, ordinary.kept)
         survived += is_ordinary
@@ -167,39 +168,28 @@ def round_of(library: str, sweep: Sweep, ordinary: Ended) -> Tuple[int, List[str
             continue
         if not sweep.is_right(ended, ordinary) or ended.kept not in (0, sweep.kept):
             where = f"{sweep.kind} {number} of the {ended.refused_of} thread refused"
-            failed.append(f"{sweep.name}, {where}: {shown(ended)}; ordinarily {shown(ordinary)}")
+            failed.append(f"{where}: {shown(ended)}; ordinarily {shown(ordinary)}")
         unit = UNIT_FAILED.fullmatch(ended.error)
         units |= {int(unit[1])} if unit else set()
     if not failed and not sweep.least < number < MOST_REQUESTS:
-        failed.append(f"{sweep.name}: {number - 1} requests of the kind {sweep.kind} were met, and there are at least {sweep.least}")
-    return number, failed, units
+        failed.append(f"{number - 1} requests of the kind {sweep.kind} were met, and there are at least {sweep.least}")
+    return failed, units
 
 
-def failures_of(library: str, sweep: Sweep) -> Tuple[int, List[str]]:
-    """Runs a sweep, in further rounds while a unit has not failed; answers how many runs there were and what failed."""
-    ordinary = run(library, sweep, 0)
+def failures_of(run_number: Run, sweep: Sweep) -> List[str]:
+    """Runs a sweep, in further rounds while a unit has not failed; answers what failed."""
+    ordinary = run_number(0)
     if not sweep.kind:
-        return 1, [] if sweep.is_right(ordinary, ordinary) and ordinary.kept == sweep.kept else [f"{sweep.name}: {shown(ordinary)}"]
+        return [] if sweep.is_right(ordinary, ordinary) and ordinary.kept == sweep.kept else [shown(ordinary)]
     if ordinary.kept != sweep.kept:
-        return 1, [f"{sweep.name}: {ordinary.kept} blocks of memory are kept, and have to be {sweep.kept}"]
-    number, units = 0, set()
+        return [f"{ordinary.kept} blocks of memory are kept, and have to be {sweep.kept}"]
+    units: Set[int] = set()
     for _ in range(ROUNDS):
-        runs, failed, found = round_of(library, sweep, ordinary)
-        number, units = number + runs, units | found
+        failed, found = round_of(run_number, sweep, ordinary)
+        units |= found
         if failed or sweep.units <= units:
-            return number, failed
-    return number, [f"{sweep.name}: the units {sorted(units)} failed, and each of {sorted(sweep.units)} has to"]
-
-
-def failures_of_requests(library: str, requests: str) -> Tuple[int, List[str]]:
-    """Makes a request by each function, which has to be refused where it is asked for, and else served."""
-    failed = []
-    for by, kind in REQUESTS:
-        sweep = Sweep(by, kind, [os.fsencode(requests), os.fsencode(by)], b"", passes)
-        found = [(ended.status, bool(ended.refused_of)) for ended in (run(library, sweep, number) for number in (0, 1, 2))]
-        if found != [(0, False), (1, True), (0, False)]:
-            failed.append(f"refuse.c, {by}: {found}; the first request of the kind {kind} has to be refused, and nothing else")
-    return 3 * len(REQUESTS), failed
+            return failed
+    return [f"the units {sorted(units)} failed, and each of {sorted(sweep.units)} has to"]
 
 
 def refused_with(line: "re.Pattern[bytes]") -> Callable[[Ended, Ended], bool]:
@@ -289,9 +279,9 @@ FAULTS = [
 ]
 
 
-def program_sweeps(program: bytes) -> List[Sweep]:
-    found = []
-    for it in COMMANDS:
+def sweeps_of_program() -> List[Sweep]:
+    found, program = [], os.fsencode(PROGRAM)
+    for number, it in enumerate(COMMANDS):
         rules = {
             "memory": refused_memory_of_a_run if it.words.startswith("run") else refused_with(OUT_OF_MEMORY),
             "read": refused_with(DEVICE_FAILED),
@@ -303,54 +293,155 @@ def program_sweeps(program: bytes) -> List[Sweep]:
             # (the room for the list of words is asked for at once, and else word by word)
             survived = int(kind == "memory")
             command = [program, *as_words(it.words)]
-            found.append(Sweep(it.words, kind, command, as_bytes(it.input), rules[kind], least, units, it.kept, survived))
+            name = f"{number + 1} {it.words}, {kind}"
+            found.append(Sweep(name, kind, command, as_bytes(it.input), rules[kind], least, units, it.kept, survived))
     for words, text in FAULTS:
-        found.append(Sweep(f"fault of {words}", "message", [program, *as_words(words)], as_bytes(text), keeps_status))
+        found.append(Sweep(f"fault of {words}, message", "message", [program, *as_words(words)], as_bytes(text), keeps_status))
     return found
 
 
-def test_sweeps(tests: str) -> Tuple[List[Sweep], List[str]]:
-    """The tests of a built test crate, those of refusals with each request refused and the others once, and what is missing."""
-    listed = subprocess.run([tests, "--list"], stdout=subprocess.PIPE, check=True, text=True).stdout
-    names = re.findall(r"[\w:]+::\w+", listed)
-    refused, least = [name for name in names if re.search("refused|refusals", name)], LEAST_TESTS.get(os.path.basename(tests), 1)
-    rounds = [(name, kind) for name in names for kind in (("memory", "thread") if name in refused else ("",))]
-    sweeps = [Sweep(name, kind, [os.fsencode(tests), os.fsencode(name)], b"", passes, int(kind == "memory")) for name, kind in rounds]
-    missing = f"{tests} has {len(refused)} tests of refusals, and there are at least {least}"
-    return sweeps, [missing] if len(refused) < least or not names else []
+def program_of(crate: str) -> str:
+    return f"{TOP}/crates/{crate}/out/{crate}_tests"
 
 
-def main() -> int:
-    if len(sys.argv) < 2:
-        print("usage: gate/faults/refuse_requests PROGRAM [TESTS ..]", file=sys.stderr)
-        return 70
-    faults, sweeps = [], program_sweeps(os.fsencode(os.path.abspath(sys.argv[1])))
-    if len(sweeps) < LEAST_SWEEPS:
-        faults.append(f"the program has {len(sweeps)} sweeps, and there are at least {LEAST_SWEEPS}")
-    for tests in sys.argv[2:]:
-        of_tests, missing = test_sweeps(os.path.abspath(tests))
-        sweeps, faults = sweeps + of_tests, faults + missing
-    with tempfile.TemporaryDirectory() as room, ThreadPoolExecutor(os.cpu_count() or 1) as pool:
-        library, requests = os.path.join(room, "refuse.so"), os.path.join(room, "requests")
-        compile_library(os.path.join(HERE, "refuse.c"), library)
-        compile_program(os.path.join(HERE, "requests.c"), requests)
-        passed, failed = failures_of_requests(library, requests)
-        passed -= len(failed)
-        # (what refuses too little shows nothing of the program)
-        for runs, wrong in pool.map(lambda sweep: failures_of(library, sweep), [] if failed else sweeps):
-            passed, failed = passed + max(0, runs - len(wrong)), failed + wrong
-    for fault in faults + failed:
-        print(fault)
-    print(f"{passed} passed, {len(faults) + len(failed)} failed", flush=True)
-    return 1 if faults or failed else 0
+@functools.lru_cache(maxsize=None)
+def names_of(crate: str) -> Tuple[str, ...]:
+    """The tests of a built test crate."""
+    listed = subprocess.run([program_of(crate), "--list"], stdout=subprocess.PIPE, check=True, text=True).stdout
+    return tuple(re.findall(r"[\w:]+::\w+", listed))
 
 
-if __name__ == "__main__":
-    try:
-        sys.exit(main())
-    except KeyboardInterrupt:
-        sys.exit(130)
-    except Exception as fault:
-        print(f"gate/faults/refuse_requests: {type(fault).__name__}: {' '.join(str(fault).split())}", file=sys.stderr, flush=True)
-        # (what can't be written is not tried once more at the end of Python)
-        os._exit(70)
+def is_of_refusals(name: str) -> bool:
+    return bool(re.search("refused|refusals", name))
+
+
+def sweeps_of_tests() -> List[Sweep]:
+    """The tests of the built test crates, those of refusals with each request refused and the others once."""
+    sweeps = []
+    for crate in TESTS_OF_REFUSALS:
+        program = program_of(crate)
+        if not os.access(program, os.X_OK):
+            sweeps.append(Sweep(crate, "", [], b"", passes, unbuilt=program_of(crate)))
+            continue
+        for name in names_of(crate):
+            for kind in ("memory", "thread") if is_of_refusals(name) else ("",):
+                command = [os.fsencode(program), os.fsencode(name)]
+                sweeps.append(Sweep(f"{crate} {name} {kind}".rstrip(), kind, command, b"", passes, int(kind == "memory")))
+    return sweeps
+
+
+class WithLibrary(unittest.TestCase):
+    """Tests for which `refuse.c` is compiled."""
+
+    @classmethod
+    def setUpClass(cls) -> None:
+        super().setUpClass()
+        cls.room = tempfile.TemporaryDirectory(prefix="faults-")
+        cls.library, cls.requests = f"{cls.room.name}/refuse.so", f"{cls.room.name}/requests"
+        compile_library(f"{TOP}/gate/faults/refuse.c", cls.library)
+        compile_program(f"{TOP}/gate/faults/requests.c", cls.requests)
+
+    @classmethod
+    def tearDownClass(cls) -> None:
+        cls.room.cleanup()
+
+    def check(self, sweep: Sweep) -> None:
+        if sweep.unbuilt:
+            self.skipTest(f"not built: {os.path.relpath(sweep.unbuilt, TOP)}")
+        self.assertEqual([], failures_of(lambda number: run(self.library, sweep, number), sweep))
+
+
+class OfTheProgram(WithProgram, WithLibrary):
+    @parameterized(sweeps_of_program)
+    def test_each_request(self, sweep):
+        self.check(sweep)
+
+
+class OfTests(WithLibrary):
+    @parameterized(sweeps_of_tests)
+    def test_each_request(self, sweep):
+        self.check(sweep)
+
+    @parameterized(list(TESTS_OF_REFUSALS.items()), name=lambda row: row[0])
+    def test_numbers(self, row):
+        crate, least = row
+        if not os.access(program_of(crate), os.X_OK):
+            self.skipTest(f"not built: {os.path.relpath(program_of(crate), TOP)}")
+        self.assertTrue(names_of(crate))
+        self.assertGreaterEqual(len([name for name in names_of(crate) if is_of_refusals(name)]), least)
+
+
+class OfRequests(WithLibrary):
+    @parameterized(REQUESTS, name=lambda row: row[0])
+    def test_first_of_its_kind(self, row):
+        """The first request of its kind is refused where it is asked for, and nothing else."""
+        by, kind = row
+        for asked, number, wanted in [(kind, 0, (0, False)), (kind, 1, (1, True)), (kind, 2, (0, False)), ("another", 1, (0, False))]:
+            ended = run(self.library, Sweep(by, asked, [os.fsencode(self.requests), os.fsencode(by)], b"", passes), number)
+            self.assertEqual(wanted, (ended.status, bool(ended.refused_of)), (asked, number))
+
+
+ORDINARY = Ended(0, b"an answer\n", b"", "", 0)
+REFUSED = Ended(3, b"an ", b"testkit: out of memory\n", "first", 0)
+SURVIVED = replace(ORDINARY, refused_of="first")
+OF_UNIT = replace(REFUSED, error=b"testkit: unit 1 failed\n", refused_of="worker")
+FAULT = replace(ORDINARY, status=2, output=b"", error=b"testkit: bad word 0\n")
+SILENT = replace(FAULT, error=b"", refused_of="first")
+KEEPS_ONE = replace(ORDINARY, kept=1)
+MEMORY, OF_A_PLAN = refused_with(OUT_OF_MEMORY), refused_memory_of_a_run
+
+
+@dataclass(frozen=True)
+class Example:
+    """Runs of a sweep: the ordinary one, and those in which each request is refused; whether they are right."""
+
+    name: str
+    is_passed: bool
+    rule: Callable[[Ended, Ended], bool]
+    runs: Sequence[Ended]
+    units: FrozenSet[int] = frozenset()
+    kept: int = 0
+    survived: int = 0
+    least: int = 1
+
+
+def example(name: str, is_passed: bool, rule: Callable, ended: Ended, first: Ended = ORDINARY, **how) -> Example:
+    """An example with one request."""
+    return Example(name, is_passed, rule, [first, ended, first], **how)
+
+
+EXAMPLES = [
+    example("its answer", True, MEMORY, REFUSED),
+    example("its answer beside a no", True, MEMORY, REFUSED, replace(ORDINARY, status=1)),
+    example("another status", False, MEMORY, replace(REFUSED, status=2)),
+    example("no end", False, MEMORY, replace(REFUSED, status=None, kept=None)),
+    example("the line of another fault", False, MEMORY, replace(REFUSED, error=b"testkit: no thread\n")),
+    example("its line twice", False, MEMORY, replace(REFUSED, error=2 * REFUSED.error)),
+    example("output that is no prefix", False, MEMORY, replace(REFUSED, output=b"answer")),
+    example("a block that it keeps", False, MEMORY, replace(REFUSED, kept=1)),
+    example("a block that the ordinary run keeps too", True, MEMORY, replace(REFUSED, kept=1), KEEPS_ONE, kept=1),
+    example("two blocks, of which the ordinary run keeps one", False, MEMORY, replace(REFUSED, kept=2), KEEPS_ONE, kept=1),
+    example("no block, of which the ordinary run keeps one and may not", False, MEMORY, REFUSED, KEEPS_ONE),
+    example("the ordinary answer", False, MEMORY, SURVIVED),
+    example("the ordinary answer, once", True, MEMORY, SURVIVED, survived=1),
+    example("the ordinary answer, once, and a block", False, MEMORY, replace(SURVIVED, kept=1), survived=1),
+    example("an ordinary run that fails", False, MEMORY, REFUSED, FAULT),
+    example("the unit of a worker", True, OF_A_PLAN, OF_UNIT, units=frozenset({1})),
+    example("a unit of another number", False, OF_A_PLAN, OF_UNIT, units=frozenset({0})),
+    example("no thread where a worker has no memory", False, OF_A_PLAN, replace(OF_UNIT, error=b"testkit: no thread\n")),
+    example("a unit where no worker was refused", False, OF_A_PLAN, replace(OF_UNIT, refused_of="first")),
+    example("no line where none can be written", True, keeps_status, SILENT, FAULT),
+    example("a line where none can be written", False, keeps_status, replace(SILENT, error=FAULT.error), FAULT),
+    example("fewer requests than there are at least", False, MEMORY, REFUSED, least=2),
+    Example("the ordinary answer twice, and may be once", False, MEMORY, [ORDINARY, SURVIVED, SURVIVED, ORDINARY], survived=1),
+    Example("another answer where no request is left", False, MEMORY, [ORDINARY, REFUSED, FAULT]),
+    Example("requests without an end", False, MEMORY, [ORDINARY] + [REFUSED] * MOST_REQUESTS),
+]
+
+
+class OfExamples(unittest.TestCase):
+    @parameterized(EXAMPLES)
+    def test_runs(self, row):
+        sweep = Sweep(row.name, "memory", [], b"", row.rule, row.least, row.units, row.kept, row.survived)
+        # (a further round has the same runs)
+        self.assertEqual(row.is_passed, not failures_of(lambda number: row.runs[number], sweep))

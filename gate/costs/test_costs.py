@@ -1,0 +1,447 @@
+"""What large inputs cost the program.
+
+`ROWS` is the table: for each command line and input the seconds of processor time, the most memory at one time, the requests for memory,
+the reads and the writes that it may take. `count.c` is put before the C library, and counts all but the seconds. These counts are the
+same on each machine, so a limit is a fifth above what was counted, or one; the least memory of a small plan shows how many places its
+queue has. The seconds were measured on one machine: a limit is four times what they were, twice for a machine half as fast, and twice
+for what the program may need more. Where a run waits, its seconds by the clock have a limit too.
+"""
+
+import contextlib
+import math
+import os
+import resource
+import subprocess
+import sys
+import tempfile
+import time
+import unittest
+from dataclasses import dataclass, fields
+from typing import Callable, List, Sequence, Tuple
+
+import fixtures
+from fixtures import PROGRAM, TOP, WithProgram, folder, parameterized
+
+sys.path.append(f"{TOP}/gate/faults")
+
+from compiling import compile_library, compile_program
+
+KIB = 1024
+SIZE = 16 * KIB * KIB
+"""How many bytes an input has: as many as it may have."""
+
+MOST_SECONDS = 300
+"""How many seconds by the clock a run may take: far more than any needs, so that one that only waits has an end."""
+
+@dataclass(frozen=True)
+class Costs:
+    """What a run cost."""
+
+    seconds: float
+    memory: int
+    """KiB, rounded up."""
+    requests: int
+    reads: int
+    writes: int
+    clock: float = math.inf
+    """Seconds by the clock; a limit has them where a run waits."""
+
+    def above(self, limit: "Costs") -> List[str]:
+        """The costs that are above a limit."""
+        pairs = [(it.name, getattr(self, it.name), getattr(limit, it.name)) for it in fields(self)]
+        return [f"{name} {cost}, and may be {most}" for name, cost, most in pairs if cost > most]
+
+
+@dataclass(frozen=True)
+class Row:
+    """A command line and its input, what it answers, and what it may cost."""
+
+    name: str
+    words: Sequence[str]
+    input: Callable[[], bytes]
+    limit: Costs
+    begins: str
+    """How what it writes begins, on standard output or else on standard error."""
+    status: int = 0
+    is_alone: bool = False
+    """Whether it has one processor alone: a thread that waits and doesn't give it away then takes many times the seconds."""
+    least_memory: int = 0
+    """KiB that it has at least at one time: a queue of fewer places than a run asks for takes less."""
+    late: int = 0
+    """How many milliseconds late its threads begin: one that waits for them and doesn't sleep takes as many of processor time."""
+
+    def prepare(self) -> None:
+        """Limits the process of a run: one that takes twice its seconds is stopped."""
+        seconds = math.ceil(2 * self.limit.seconds)
+        resource.setrlimit(resource.RLIMIT_CPU, (seconds, seconds))
+        if self.is_alone:
+            os.sched_setaffinity(0, {min(os.sched_getaffinity(0))})
+
+
+RECORD = "testkit-record|2\nN|T|[engine:e]|e\n"
+
+
+def repeated(front: str, middle: str, back: str = "") -> Callable[[], bytes]:
+    """A text of `SIZE` bytes at most, with as many copies of its middle as it has room for."""
+    room = SIZE - len(front.encode()) - len(back.encode())
+    return lambda: (front + middle * (room // len(middle.encode())) + back).encode()
+
+
+def node(members: str, value: str = "e", kind: str = "container") -> str:
+    """A node of a plan."""
+    return f'{{"type":"{kind}","segment":["engine","{value}"],"name":"n"{members}}}'
+
+
+def plan(root: str) -> bytes:
+    return f'{{"version":2,"root":{root}}}'.encode()
+
+
+def plan_of_nodes(count: int, members: str) -> bytes:
+    """A plan with this number of tests below its root."""
+    return plan(node(',"children":[' + ",".join(node(members, str(number), "test") for number in range(count)) + "]"))
+
+
+def plan_of_entries(last: str = "") -> bytes:
+    """A plan of one node with as many entries as it has room for, and a last member."""
+    entry = '[["key","value %d"]]'
+    entries = ",".join(entry % number for number in range(600_000))
+    return plan(node(f',"entries":[{entries}]{last}'))
+
+
+def pairs() -> bytes:
+    """A record whose one entry has as many pairs as it has room for."""
+    return (RECORD + "E|1|0|0|report" + "".join(f"|{number:07}|v" for number in range(1_500_000)) + "\n").encode()
+
+
+def waiting_replay() -> bytes:
+    """A worker that emits 200,000 starts before the first is taken."""
+    entries = "".join(f"E|1|0|{stamp}|start\n" for stamp in range(200_000))
+    turns = "|1" * 200_001 + "|t" * 200_001
+    return f"testkit-replay|2\nW|1\nN|T|[engine:e]|e\n{entries}S{turns}\n".encode()
+
+
+def one_lock(count: int) -> bytes:
+    """A plan of units that all write one resource, each with many entries."""
+    entries = ",".join('[["k","v"]]' for _ in range(2_000))
+    return plan_of_nodes(count, f',"mode":"concurrent","locks":[{{"key":"db"}}],"entries":[{entries}]')
+
+
+def tests_of_an_engine(count: int) -> bytes:
+    """A record of an engine and of this number of tests below it, each with a long name, a start and a finish."""
+    nodes = "".join(f"N|T|[engine:e]/[t:{number}]|{'n' * 170}\n" for number in range(count))
+    events = "".join(f"E|1|{key}|0|start\nE|1|{key}|0|finish|ok\n" for key in range(1, count + 1))
+    return f"{RECORD.replace('|T|', '|C|')}{nodes}E|1|0|0|start\n{events}E|1|0|0|finish|ok\n".encode()
+
+
+def registrations(count: int) -> bytes:
+    """A record of an engine that registers this number of tests, each of which starts and finishes."""
+    rounds = "".join(
+        f"E|1|{key}|0|dynamic|T|[engine:e]/[t:{key}]|{'n' * 160}\nE|1|{key}|0|start\nE|1|{key}|0|finish|ok\n" for key in range(65_536, 65_536 + count)
+    )
+    return f"{RECORD.replace('|T|', '|C|')}E|1|0|0|start\n{rounds}E|1|0|0|finish|ok\n".encode()
+
+
+def one_long_unit() -> bytes:
+    """A plan of 15 concurrent units, one of which has 1,000,000 entries."""
+    tests = [node(',"mode":"concurrent"' + (',"entries":[' + ",".join(["[]"] * 1_000_000) + "]" if number == 7 else ""), str(number), "test") for number in range(15)]
+    return plan(node(',"children":[' + ",".join(tests) + "]"))
+
+
+def long_ids() -> bytes:
+    """A record without an event, whose descriptors have ids of nearly as many bytes as they may have."""
+    nodes = "".join(f"N|T|[engine:e]/[t:{number:04}{'v' * 4_000}]|n\n" for number in range(4_000))
+    return (RECORD.replace("|T|", "|C|") + nodes).encode()
+
+
+EVENTS = repeated(RECORD, "E|1|0|7|start\nE|1|0|8|finish|ok\n")
+FAILING = repeated(RECORD, "E|1|0|7|start\nE|1|0|8|finish|ok\n", "E|1|0|9|finish|fail|boom\n")
+FAILURES = repeated(RECORD, "E|1|0|7|start\nE|1|0|8|finish|ok\n", "E|1|0|9|finish|fail|boom\n" * 1_000)
+STARTS = repeated(RECORD, "E|1|0|7|start\n")
+REPORTS = repeated(f"{RECORD}E|1|0|7|start\n", "E|1|0|7|report\n", "E|1|0|8|finish|ok\n")
+
+ROWS = [
+    Row("record/stats", ["ask", "stats"], EVENTS, Costs(0.8, 25_000, 200, 312, 2), "skipped 0\n"),
+    Row("record/executions", ["ask", "executions"], EVENTS, Costs(0.8, 49_400, 210, 312, 153), "0 succeeded 7 8\n"),
+    Row("record/list of all", ["ask", "list", "all"], EVENTS, Costs(0.8, 25_000, 190, 312, 442), "0 E|1|0|7|start\n1 E|1|0|8|finish|ok\n"),
+    Row("record/list by 100 conditions", ["ask", "list", "all", *["started"] * 99, "not(started)"], EVENTS, Costs(0.8, 25_000, 570, 312, 0), ""),
+    Row("record/lifecycle of 65,000 tests", ["ask", "lifecycle"], lambda: tests_of_an_engine(65_000), Costs(1.5, 29_300, 469_000, 285, 2), "yes\n"),
+    Row("record/lifecycle of one test", ["ask", "lifecycle"], REPORTS, Costs(1.2, 168_000, 230, 312, 2), "yes\n"),
+    Row(
+        "record/report of 65,000 tests", ["ask", "report"], lambda: tests_of_an_engine(65_000),
+        Costs(1.6, 35_400, 391_000, 285, 50), "skipped 0\nstarted 65001\n",
+    ),
+    Row(
+        "record/100 conditions in order", ["ask", "match", "in-order", *["started"] * 99, "failed"], EVENTS,
+        Costs(0.7, 25_000, 470, 312, 2), "no 99\n", status=1,
+    ),
+    Row(
+        "record/100 conditions loosely", ["ask", "match", "loosely", *["started"] * 99, "failed"], EVENTS,
+        Costs(0.6, 25_000, 460, 312, 2), "no 99\n", status=1,
+    ),
+    Row(
+        "record/1,000 rare conditions loosely", ["ask", "match", "loosely", *["all(failed(boom),name(e))"] * 1_000], FAILING,
+        Costs(1.3, 25_600, 11_000, 312, 2), "yes\n",
+    ),
+    Row(
+        "record/1,000 rare conditions loosely, 1,000 failures", ["ask", "match", "loosely", *["all(failed(boom),name(e))"] * 1_000], FAILURES,
+        Costs(1.3, 26_000, 13_000, 312, 2), "yes\n",
+    ),
+    Row(
+        "record/1,000 conditions without a test of a column", ["ask", "match", "loosely", *["any(name(x),name(e))"] * 1_000], EVENTS,
+        Costs(1.3, 25_600, 13_000, 312, 2), "yes\n",
+    ),
+    Row(
+        "record/lifecycle of 60,000 registrations", ["ask", "lifecycle"], lambda: registrations(60_000),
+        Costs(2, 60_000, 900_000, 312, 2), "yes\n",
+    ),
+    Row(
+        "record/report of 60,000 registrations", ["ask", "report"], lambda: registrations(60_000),
+        Costs(2, 60_000, 900_000, 312, 400), "skipped 0\nstarted 60001\n",
+    ),
+    Row(
+        "record/report of one id", ["ask", "report"], STARTS,
+        Costs(2, 60_000, 300, 312, 400), "skipped 0\nstarted 1198",
+    ),
+    Row(
+        "record/many conditions", ["ask", "match", "loosely", *["started"] * 10_000], lambda: (RECORD + "E|1|0|7|start\n").encode(),
+        Costs(0.4, 4_400, 25_000, 6, 2), "yes\n",
+    ),
+    Row(
+        "record/a long condition", ["ask", "match", "loosely", "any(" + "started," * 12_000 + "started)"],
+        lambda: (RECORD + "E|1|0|7|start\n").encode(),
+        Costs(0.4, 930, 15_000, 6, 2), "yes\n",
+    ),
+    Row(
+        "record/descriptors", ["ask", "count", "tests"],
+        lambda: (RECORD + "".join(f"N|T|[engine:e]/[t:{number}]|{'n' * 200}\n" for number in range(65_000))).encode(),
+        Costs(1, 25_800, 313_000, 273, 2), "0\n",
+    ),
+    Row("record/long ids", ["ask", "count", "all"], long_ids, Costs(1.6, 19_700, 19_300, 297, 2), "0\n"),
+    Row(
+        "record/registrations", ["ask", "count", "dynamic"],
+        lambda: (RECORD + "".join(f"E|1|{65_536 + number}|0|dynamic|T|[engine:e]/[t:{number}]|{'n' * 180}\n" for number in range(65_000))).encode(),
+        Costs(1, 25_000, 313_000, 272, 2), "65000\n",
+    ),
+    Row(
+        "record/reasons", ["ask", "count", "skipped"], repeated(RECORD, "E|1|0|7|skip|a reason of some length\n"),
+        Costs(1.1, 55_000, 550_000, 312, 2), "4",
+    ),
+    Row("long line/reason", ["ask", "count", "skipped"], repeated(RECORD + "E|1|0|7|skip|", "x", "\n"), Costs(0.8, 40_000, 70, 312, 2), "1\n"),
+    Row("long line/escapes", ["ask", "count", "skipped"], repeated(RECORD + "E|1|0|7|skip|", "\\p", "\n"), Costs(0.9, 30_000, 90, 312, 2), "1\n"),
+    Row("long line/pairs", ["ask", "count", "reporting"], pairs, Costs(2.7, 230_000, 3_700_000, 279, 2), "1\n"),
+    Row(
+        "long line/number", ["ask", "count", "all"], repeated(RECORD + "E|", "1", "|0|7|start\n"),
+        Costs(0.4, 20_000, 50, 312, 0), "testkit: line 3 is bad\n", status=2,
+    ),
+    Row(
+        "long line/id", ["ask", "count", "all"], repeated(RECORD + "N|T|[engine:", "e", "]|e\n"),
+        Costs(1.4, 39_400, 80, 312, 0), "testkit: line 3 is bad\n", status=2,
+    ),
+    Row(
+        "long line/no line feed", ["ask", "count", "all"], repeated(RECORD + "E|1|0|7|skip|", "x"),
+        Costs(0.7, 20_000, 50, 313, 0), "testkit: line 3 is bad\n", status=2,
+    ),
+    Row(
+        "record/a bad line first", ["ask", "count", "all"], repeated(RECORD + "X\n", "x"),
+        Costs(0.2, 1_000, 50, 312, 0), "testkit: line 3 is bad\n", status=2,
+    ),
+    Row(
+        "record/16 MiB too many", ["ask", "count", "all"], lambda: EVENTS() + b"\n" * SIZE,
+        Costs(0.6, 25_000, 200, 312, 0), "testkit: input too large\n", status=2,
+    ),
+    Row("replay/waiting", ["replay"], waiting_replay, Costs(0.6, 84_000, 330, 87, 69), "testkit-record|2\n"),
+    Row("plan/entries", ["run"], plan_of_entries, Costs(3.9, 370_000, 3_700_000, 278, 3), "skipped 0\n"),
+    Row(
+        "plan/entries and a fault", ["run"], lambda: plan_of_entries(',"files":[""]'),
+        Costs(2.8, 370_000, 3_700_000, 278, 0), "testkit: plan member /root/files/0 is bad\n", status=2,
+    ),
+    Row(
+        "plan/a long text", ["run"], lambda: plan(node(',"entries":[[["k","' + "x" * 16_000_000 + '"]]]')),
+        Costs(0.6, 57_200, 170, 299, 3), "skipped 0\n",
+    ),
+    Row(
+        "plan/a long text with escapes", ["run"], lambda: plan(node(',"entries":[[["k","' + "\\n" * 8_000_000 + '"]]]')),
+        Costs(1.5, 47_900, 190, 299, 3), "skipped 0\n",
+    ),
+    Row("plan/nodes", ["run"], lambda: plan_of_nodes(65_000, ""), Costs(1.5, 59_000, 625_000, 72, 56), "skipped 0\n"),
+    Row("plan/units", ["run"], lambda: plan_of_nodes(65_000, ',"mode":"concurrent"'), Costs(1.8, 65_000, 1_100_000, 96, 56), "skipped 0\n"),
+    Row(
+        "plan/one long unit of 15", ["run", "--workers", "15"], one_long_unit,
+        Costs(3, 200_000, 3_700_000, 70, 60), "skipped 0\nstarted 16\n",
+    ),
+    Row("small/record", ["ask", "stats"], lambda: (RECORD + "E|1|0|7|start\n").encode(), Costs(0.4, 10, 60, 6, 2), "skipped 0\n"),
+    Row(
+        "small/replay", ["replay"], lambda: b"testkit-replay|2\nW|1\nN|T|[engine:e]|e\nE|1|0|7|start\nS|1|1|t|t\n",
+        Costs(0.4, 20, 100, 6, 2), "testkit-record|2\n",
+    ),
+    Row("small/plan", ["run"], lambda: plan_of_nodes(2, ""), Costs(0.4, 20, 190, 6, 2), "skipped 0\n", least_memory=15),
+    Row("waiting/1 worker", ["run"], lambda: one_lock(100), Costs(1.2, 80_000, 1_210_000, 49, 60, 2), "skipped 0\n", is_alone=True),
+    Row(
+        "waiting/4 workers for one lock", ["run", "--workers", "4"], lambda: one_lock(100),
+        Costs(1.1, 80_000, 1_210_000, 49, 60, 2), "skipped 0\n", is_alone=True,
+    ),
+    Row(
+        "waiting/15 workers for one lock", ["run", "--workers", "15"], lambda: one_lock(100),
+        Costs(1.3, 80_000, 1_210_000, 49, 60, 2), "skipped 0\n", is_alone=True,
+    ),
+    Row("waiting/a worker that begins late", ["run"], lambda: plan_of_nodes(2, ""), Costs(0.5, 20, 190, 6, 2, 3), "skipped 0\n", late=2_000),
+]
+
+
+def costs_of(row: Row, program: str, library: str, room: str) -> Tuple[Costs, int, str]:
+    """Runs a row; answers its costs, its status, and what it wrote first. The status is -1 where not one run alone was counted."""
+    status = -1
+    reading, writing = os.pipe()
+    with open(f"{room}/input", "wb") as file:
+        file.write(row.input())
+    environment = {"PATH": "/usr/bin:/bin", "LD_PRELOAD": library, "COUNTED_TO": str(writing)}
+    if row.late:
+        environment["THREADS_BEGIN_LATE"] = str(row.late)
+    try:
+        before, begun = resource.getrusage(resource.RUSAGE_CHILDREN), time.monotonic()
+        with open(f"{room}/input", "rb") as source, open(f"{room}/output", "wb") as output, open(f"{room}/error", "wb") as error:
+            how = {"stdin": source, "stdout": output, "stderr": error, "env": environment, "pass_fds": [writing], "preexec_fn": row.prepare}
+            with contextlib.suppress(subprocess.TimeoutExpired):
+                status = subprocess.run([program, *row.words], timeout=MOST_SECONDS, check=False, **how).returncode
+        after, clock = resource.getrusage(resource.RUSAGE_CHILDREN), time.monotonic() - begun
+        os.set_blocking(reading, False)
+        try:
+            counted = [int(word) for word in os.read(reading, 100).split()]
+        except BlockingIOError:
+            counted = []
+    finally:
+        os.close(reading)
+        os.close(writing)
+    seconds = after.ru_utime - before.ru_utime + after.ru_stime - before.ru_stime
+    if len(counted) != 4:
+        status, counted = -1, [0, 0, 0, 0]
+    peak, requests, reads, writes = counted
+    wrote = b""
+    for name in ("output", "error"):
+        with open(f"{room}/{name}", "rb") as file:
+            wrote = wrote or file.read(200)
+    costs = Costs(round(seconds, 2), math.ceil(peak / KIB), requests, reads, writes, round(clock, 2))
+    return costs, status, wrote.decode(errors="replace")
+
+
+def faults_of(row: Row, costs: Costs, status: int, wrote: str) -> List[str]:
+    """What is wrong with a run of a row."""
+    answered = status == row.status and wrote.startswith(row.begins)
+    little = [f"memory {costs.memory}, and has to be {row.least_memory}"] if costs.memory < row.least_memory else []
+    return costs.above(row.limit) + little + ([] if answered else [f"status {status}, and it writes {wrote!r}"])
+
+
+class WithLibrary(unittest.TestCase):
+    """Tests for which `count.c` is compiled."""
+
+    @classmethod
+    def setUpClass(cls) -> None:
+        super().setUpClass()
+        cls.room = tempfile.TemporaryDirectory(prefix="costs-")
+        cls.library = f"{cls.room.name}/count.so"
+        compile_library(f"{TOP}/gate/costs/count.c", cls.library)
+
+    @classmethod
+    def tearDownClass(cls) -> None:
+        cls.room.cleanup()
+
+
+class OfTheProgram(WithProgram, WithLibrary):
+    @parameterized(ROWS)
+    def test_costs(self, row):
+        came = costs_of(row, PROGRAM, self.library, folder(self))
+        if fixtures.CHOSEN:
+            print(f"{row.name}: {came[0]}")
+        self.assertEqual([], faults_of(row, *came))
+
+
+COUNTED = {
+    "malloc": (1, 0, 0),
+    "calloc": (1, 0, 0),
+    "realloc": (1, 0, 0),
+    "aligned_alloc": (1, 0, 0),
+    "posix_memalign": (1, 0, 0),
+    "read": (0, 1, 0),
+    "readv": (0, 1, 0),
+    "write 1": (0, 0, 1),
+    "writev 1": (0, 0, 1),
+    "write 2": (0, 0, 0),
+}
+"""How many requests for memory, reads and writes a call of each function is."""
+
+SMALL = Costs(0.4, 2_000, 200, 40, 40)
+
+
+def python(text: str) -> List[str]:
+    return [sys.executable, "-S", "-c", text]
+
+
+BEGIN_THREAD = "import threading, time; begun = time.monotonic(); thread = threading.Thread(target=int); thread.start(); thread.join()"
+"""Starts a thread that begins `time.monotonic() - begun` seconds later."""
+
+
+@dataclass(frozen=True)
+class Example:
+    """A command that is no program of ours, and a part of what is wrong with its costs; empty where nothing is."""
+
+    name: str
+    command: Sequence[str]
+    fault: str
+    limit: Costs = SMALL
+    is_alone: bool = False
+    least_memory: int = 0
+    late: int = 0
+
+
+EXAMPLES = [
+    Example("little of all", ["/bin/dd", "bs=64K", "status=none"], ""),
+    Example("many reads", ["/bin/dd", "bs=4K", "status=none"], "reads 490, and may be 40"),
+    Example("many writes", ["/bin/dd", "ibs=64K", "obs=4K", "status=none"], "writes 489, and may be 40"),
+    Example("much memory", ["/bin/dd", "bs=3M", "status=none"], ", and may be 2000"),
+    Example("little memory", ["/bin/dd", "bs=64K", "status=none"], ", and has to be 1000", least_memory=1_000),
+    Example("many requests", python("print('xx')"), "and may be 200"),
+    Example("many seconds", python("import time; print('xx')\nwhile time.process_time() < 0.6: pass"), "seconds"),
+    Example("too many seconds", ["/bin/sh", "-c", "printf xx; while :; do :; done"], "status -"),
+    Example("a wait", ["/bin/sh", "-c", "printf xx; exec sleep 1"], "clock", Costs(0.4, 2_000, 200, 40, 40, 0.5)),
+    Example("another status", ["/bin/sh", "-c", "printf xx; exit 1"], "status 1"),
+    Example("another answer", ["/bin/sh", "-c", "printf yxx"], "it writes 'yxx'"),
+    Example("no counts", ["/usr/bin/env", "-u", "LD_PRELOAD", "/bin/dd", "bs=64K", "status=none"], "status -1"),
+    Example("counts of two programs", ["/bin/sh", "-c", "/bin/true; printf xx"], "status -1"),
+    Example("one processor", python("import os; print('xx' if len(os.sched_getaffinity(0)) == 1 else 'many')"), "requests", is_alone=True),
+    Example("a late thread", python(f"{BEGIN_THREAD}; print('xx' if time.monotonic() - begun > 0.3 else 'early')"), "requests", late=300),
+]
+
+
+class OfExamples(WithLibrary):
+    """The counts and the limits themselves."""
+
+    @parameterized(list(COUNTED.items()), name=lambda row: row[0])
+    def test_counts(self, row):
+        by, wanted = row
+        room = folder(self)
+        compile_program(f"{TOP}/gate/faults/requests.c", f"{room}/requests")
+        costs, _, _ = costs_of(Row("counts", [by], lambda: b"x", SMALL, ""), f"{room}/requests", self.library, room)
+        self.assertEqual((costs.requests, costs.reads, costs.writes, costs.memory), (*wanted, wanted[0]))
+
+    def test_memory_that_is_given_back(self):
+        command = python("for _ in range(100): bytes(1_000_000)")
+        costs, _, _ = costs_of(Row("memory", command[1:], lambda: b"", Costs(9, 0, 0, 0, 0), ""), command[0], self.library, folder(self))
+        self.assertLess(costs.memory, 50_000)
+
+    @parameterized(EXAMPLES)
+    def test_limits(self, example):
+        how = {"is_alone": example.is_alone, "least_memory": example.least_memory, "late": example.late}
+        row = Row(example.name, example.command[1:], lambda: b"x" * 2_000_000, example.limit, "xx", **how)
+        faults = faults_of(row, *costs_of(row, example.command[0], self.library, folder(self)))
+        if not example.fault:
+            self.assertEqual([], faults)
+        else:
+            self.assertIn(example.fault, "; ".join(faults))
+            # (what is right besides is found right: the answer, where it isn't what is wrong)
+            is_answered = "status" in example.fault or "it writes" in example.fault
+            self.assertTrue(is_answered or "it writes" not in "; ".join(faults), faults)
+
+    def test_the_largest_input(self):
+        text = repeated("ä", "äöü", "x")()
+        self.assertTrue(text.startswith("ää".encode()) and text.endswith("üx".encode()))
+        self.assertTrue(SIZE - 6 < len(text) <= SIZE == 1 << 24)
