@@ -8,6 +8,26 @@ use std::sync::Wait;
 use std::thread::Parker;
 use std::time::Duration;
 
+// How many delays in a row are short: the thread spins, and then yields the processor. In any delay
+// after them it sleeps.
+const MAX_SHORT_DELAYS: u32 = 256;
+
+// The delays since the last success, as far as they are short.
+#[derive(Drop)]
+struct ShortDelays {
+    backoff: Backoff,
+    count: u32,
+}
+
+impl ShortDelays {
+    fn new() -> ShortDelays {
+        ShortDelays {
+            backoff: Backoff::new(),
+            count: 0,
+        }
+    }
+}
+
 /// The delay between one try and the next of a thread that waits for others.
 ///
 /// The first delays after a success spin, those after them yield the processor, and where the
@@ -15,8 +35,8 @@ use std::time::Duration;
 /// was a delay since the last success.
 #[derive(Drop)]
 pub struct RetryDelay {
-    // Counts the delays since the last success. Before the first of them there is none.
-    backoff: Option<Backoff>,
+    // None where there was no delay since the last success.
+    short_delays: Option<ShortDelays>,
     parker: Parker,
 }
 
@@ -25,7 +45,7 @@ impl Model for RetryDelay {
 
     ghost Value = { Bool };
 
-    ghost view = { λ d. is_some d.backoff };
+    ghost view = { λ d. is_some d.short_delays };
 }
 
 // How long a sleep is. The system may make it longer.
@@ -41,7 +61,7 @@ impl RetryDelay {
         ensures { result ≡ false }
     {
         RetryDelay {
-            backoff: None,
+            short_delays: None,
             parker: Parker::new(),
         }
     }
@@ -50,11 +70,12 @@ impl RetryDelay {
     pub fn wait<R: Wait>(&mut self, rt: &R)
         ensures { self.new ≡ true }
     {
-        let backoff = self.backoff.get_or_insert_with(Backoff::new);
-        if backoff.is_completed() {
-            self.parker.park_timeout(rt, sleep_time());
+        let short = self.short_delays.get_or_insert_with(ShortDelays::new);
+        if short.count < MAX_SHORT_DELAYS {
+            short.count += 1;
+            short.backoff.snooze();
         } else {
-            backoff.snooze();
+            self.parker.park_timeout(rt, sleep_time());
         }
     }
 
@@ -62,6 +83,6 @@ impl RetryDelay {
     pub fn reset(&mut self)
         ensures { self.new ≡ false }
     {
-        self.backoff = None;
+        self.short_delays = None;
     }
 }
