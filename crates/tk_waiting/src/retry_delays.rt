@@ -1,5 +1,5 @@
 //! Delays between tries.
-ghost use Rattle.std.specs.Prelude.{◌≡◌, true, false};
+ghost use Rattle.std.specs.Prelude.{◌≡◌, ◌+◌, ◌<◌};
 ghost use Rattle.std.specs.Duration.{as_nanos};
 
 use crossbeam_utils::Backoff;
@@ -8,44 +8,32 @@ use std::sync::Wait;
 use std::thread::Parker;
 use std::time::Duration;
 
-// How many delays in a row are short: the thread spins, and then yields the processor. In any delay
-// after them it sleeps.
-const MAX_SHORT_DELAYS: u32 = 256;
-
-// The delays since the last success, as far as they are short.
-#[derive(Drop)]
-struct ShortDelays {
-    backoff: Backoff,
-    count: u32,
-}
-
-impl ShortDelays {
-    fn new() -> ShortDelays {
-        ShortDelays {
-            backoff: Backoff::new(),
-            count: 0,
-        }
-    }
-}
+/// How many delays in a row are short: the thread spins, and then yields the processor. In any
+/// delay after them it sleeps.
+pub const MAX_SHORT_DELAYS: u32 = 256;
 
 /// The delay between one try and the next of a thread that waits for others.
 ///
-/// The first delays after a success spin, those after them yield the processor, and where the
-/// others need long it sleeps, so that it leaves the processor to them. Contracts see whether there
-/// was a delay since the last success.
+/// Where they need long it sleeps, so that it leaves the processor to them. Contracts see how many
+/// short delays there were since the last success.
 #[derive(Drop)]
 pub struct RetryDelay {
-    // None where there was no delay since the last success.
-    short_delays: Option<ShortDelays>,
+    // Paces the short delays. Before the first of them there is none.
+    backoff: Option<Backoff>,
     parker: Parker,
+    short_delays: u32,
 }
 
 impl Model for RetryDelay {
-    ghost use Rattle.std.specs.Prelude.{Bool, is_some};
+    ghost use Rattle.std.specs.Prelude.{◌≡◌, ℕ, ◌≤◌, None};
+    ghost use Rattle.tk_waiting.specs.declared.retry_delays.TheConstants.{MAX_SHORT_DELAYS};
 
-    ghost Value = { Bool };
+    ghost Value = { ℕ };
 
-    ghost view = { λ d. is_some d.short_delays };
+    ghost view = { λ d. d.short_delays };
+
+    ghost invariant = { λ d.
+        (d.short_delays ≤ MAX_SHORT_DELAYS) × (d.short_delays ≡ 0 → d.backoff ≡ None) };
 }
 
 // How long a sleep is. The system may make it longer.
@@ -58,22 +46,24 @@ fn sleep_time() -> Duration
 impl RetryDelay {
     /// Makes a delay before which there was none.
     pub fn new() -> RetryDelay
-        ensures { result ≡ false }
+        ensures { result ≡ 0 }
     {
         RetryDelay {
-            short_delays: None,
+            backoff: None,
             parker: Parker::new(),
+            short_delays: 0,
         }
     }
 
     /// Waits before the next try.
     pub fn wait<R: Wait>(&mut self, rt: &R)
-        ensures { self.new ≡ true }
+        ensures short { self.old < MAX_SHORT_DELAYS → self.new ≡ self.old + 1 }
+        ensures long { self.old ≡ MAX_SHORT_DELAYS → self.new ≡ self.old }
+        ensures some { 0 < self.new }
     {
-        let short = self.short_delays.get_or_insert_with(ShortDelays::new);
-        if short.count < MAX_SHORT_DELAYS {
-            short.count += 1;
-            short.backoff.snooze();
+        if self.short_delays < MAX_SHORT_DELAYS {
+            self.short_delays += 1;
+            self.backoff.get_or_insert_with(Backoff::new).snooze();
         } else {
             self.parker.park_timeout(rt, sleep_time());
         }
@@ -81,8 +71,9 @@ impl RetryDelay {
 
     /// Notes that a try succeeded, so that the next delays are short.
     pub fn reset(&mut self)
-        ensures { self.new ≡ false }
+        ensures { self.new ≡ 0 }
     {
-        self.short_delays = None;
+        self.short_delays = 0;
+        self.backoff = None;
     }
 }
