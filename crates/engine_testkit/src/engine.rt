@@ -13,4 +13,4 @@ pub use tk_engine_hierarchical::{
 };
 pub use tk_events::MAX_WORKERS;
 pub use tk_queue::MAX_EVENTS;
-pub use tk_waiting::RetryDelay;
+pub use tk_waiting::{MAX_SHORT_DELAYS, RetryDelay};

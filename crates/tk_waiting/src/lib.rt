@@ -3,4 +3,4 @@
 
 mod retry_delays;
 
-pub use retry_delays::RetryDelay;
+pub use retry_delays::{MAX_SHORT_DELAYS, RetryDelay};

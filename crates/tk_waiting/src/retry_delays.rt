@@ -1,5 +1,5 @@
 //! Delays between tries.
-ghost use Rattle.std.specs.Prelude.{◌≡◌, true, false};
+ghost use Rattle.std.specs.Prelude.{◌≡◌, ◌+◌, ◌<◌};
 ghost use Rattle.std.specs.Duration.{as_nanos};
 
 use crossbeam_utils::Backoff;
@@ -8,24 +8,32 @@ use std::sync::Wait;
 use std::thread::Parker;
 use std::time::Duration;
 
+/// How many delays in a row are short: the thread spins, and then yields the processor. In any
+/// delay after them it sleeps.
+pub const MAX_SHORT_DELAYS: u32 = 256;
+
 /// The delay between one try and the next of a thread that waits for others.
 ///
-/// The first delays after a success spin, those after them yield the processor, and where the
-/// others need long it sleeps, so that it leaves the processor to them. Contracts see whether there
-/// was a delay since the last success.
+/// Where they need long it sleeps, so that it leaves the processor to them. Contracts see how many
+/// short delays there were since the last success.
 #[derive(Drop)]
 pub struct RetryDelay {
-    // Counts the delays since the last success. Before the first of them there is none.
+    // Paces the short delays. Before the first of them there is none.
     backoff: Option<Backoff>,
     parker: Parker,
+    short_delays: u32,
 }
 
 impl Model for RetryDelay {
-    ghost use Rattle.std.specs.Prelude.{Bool, is_some};
+    ghost use Rattle.std.specs.Prelude.{◌≡◌, ℕ, ◌≤◌, None};
+    ghost use Rattle.tk_waiting.specs.declared.retry_delays.TheConstants.{MAX_SHORT_DELAYS};
 
-    ghost Value = { Bool };
+    ghost Value = { ℕ };
 
-    ghost view = { λ d. is_some d.backoff };
+    ghost view = { λ d. d.short_delays };
+
+    ghost invariant = { λ d.
+        (d.short_delays ≤ MAX_SHORT_DELAYS) × (d.short_delays ≡ 0 → d.backoff ≡ None) };
 }
 
 // How long a sleep is. The system may make it longer.
@@ -38,30 +46,34 @@ fn sleep_time() -> Duration
 impl RetryDelay {
     /// Makes a delay before which there was none.
     pub fn new() -> RetryDelay
-        ensures { result ≡ false }
+        ensures { result ≡ 0 }
     {
         RetryDelay {
             backoff: None,
             parker: Parker::new(),
+            short_delays: 0,
         }
     }
 
     /// Waits before the next try.
     pub fn wait<R: Wait>(&mut self, rt: &R)
-        ensures { self.new ≡ true }
+        ensures short { self.old < MAX_SHORT_DELAYS → self.new ≡ self.old + 1 }
+        ensures long { self.old ≡ MAX_SHORT_DELAYS → self.new ≡ self.old }
+        ensures some { 0 < self.new }
     {
-        let backoff = self.backoff.get_or_insert_with(Backoff::new);
-        if backoff.is_completed() {
-            self.parker.park_timeout(rt, sleep_time());
+        if self.short_delays < MAX_SHORT_DELAYS {
+            self.short_delays += 1;
+            self.backoff.get_or_insert_with(Backoff::new).snooze();
         } else {
-            backoff.snooze();
+            self.parker.park_timeout(rt, sleep_time());
         }
     }
 
     /// Notes that a try succeeded, so that the next delays are short.
     pub fn reset(&mut self)
-        ensures { self.new ≡ false }
+        ensures { self.new ≡ 0 }
     {
+        self.short_delays = 0;
         self.backoff = None;
     }
 }
