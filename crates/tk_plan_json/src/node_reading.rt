@@ -1,6 +1,6 @@
 //! Reading a plan's nodes.
 ghost use Rattle.std.specs.Prelude.{◌≡◌, ◌≤◌, ◌<◌, ◌+◌, ◌-◌, ◌++◌, ◌∷◌, [], length, map, IfOk, OnOk};
-ghost use Rattle.tk_plan_members.specs.JsonValues.{view};
+ghost use Rattle.serde_json.specs.View.{view};
 ghost use Rattle.tk_plan_units.specs.Trees.{flat, contents};
 ghost use Rattle.tk_plan_units.specs.Ids.{descriptors};
 ghost use Rattle.tk_plan_members.specs.Checks.{first};
@@ -18,7 +18,7 @@ use crate::node_fields::into_below;
 use crate::node_inputs::{BelowMember, NodeInput, NodePlace};
 use crate::read_nodes::ReadNodes;
 use crate::siblings::Siblings;
-use json::Value;
+use serde_json::Value;
 use std::alloc::{AllocError, Global};
 use tk_ids::{Descriptor, UniqueId};
 use tk_plan_members::PlanFault;
@@ -48,6 +48,7 @@ fn add_node(read: &mut ReadNodes, node: Node, id: UniqueId) -> Result<(), AllocE
 {
     let described = add_descriptor(read, &node, id);
     // Nodes without a descriptor are given up, so the node may follow in any case.
+    // It gets its number when all nodes were read, and its span when those below it were.
     read.nodes.push(NumberedNode {
         node,
         number: 0,
@@ -68,11 +69,11 @@ fn add_parent(read: &mut ReadNodes, node: Node, id: UniqueId) -> Result<UniqueId
 }
 
 /// Checks a node and puts it at the end. Answers its id where nodes stand below it.
-fn start_node<'t>(
+fn start_node(
     alloc: Global,
     read: &mut ReadNodes,
-    siblings: &mut Siblings<'t>,
-    node_input: NodeInput<'_, '_, 't>,
+    siblings: &mut Siblings,
+    node_input: NodeInput<'_>,
 ) -> Result<Option<UniqueId>, PlanFault>
     requires { IsNoted read.old }
     ensures { let s = seen siblings.old node_input.entry in
@@ -100,12 +101,12 @@ fn end_node(read: &mut ReadNodes, at: usize)
 /// Reads a node and all below it. As soon as the node itself was read its value is dropped, save
 /// the values of the nodes below it, which are read next.
 #[cycle(reading)]
-fn read_node<'t>(
+fn read_node(
     alloc: Global,
     read: &mut ReadNodes,
-    siblings: &mut Siblings<'t>,
+    siblings: &mut Siblings,
     place: NodePlace<'_>,
-    value: Value<'t>,
+    value: Value,
 ) -> Result<(), PlanFault>
     requires noted { IsNoted read.old }
     requires level { place.level ≤ MAX_LEVELS + 1 }
@@ -137,7 +138,7 @@ fn read_below(
     read: &mut ReadNodes,
     place: NodePlace<'_>,
     id: &UniqueId,
-    value: Value<'_>,
+    value: Value,
 ) -> Result<(), PlanFault>
     requires noted { IsNoted read.old }
     requires level { place.level ≤ MAX_LEVELS }
@@ -173,14 +174,14 @@ fn read_below(
 
 /// Reads the nodes in a member of the node at `parent`, whose id is `id`.
 #[cycle(reading)]
-fn read_all<'t>(
+fn read_all(
     alloc: Global,
     read: &mut ReadNodes,
-    siblings: &mut Siblings<'t>,
+    siblings: &mut Siblings,
     parent: NodePlace<'_>,
     member: BelowMember,
     id: &UniqueId,
-    values: Vec<Value<'t>>,
+    values: Vec<Value>,
 ) -> Result<(), PlanFault>
     requires noted { IsNoted read.old }
     requires level { parent.level ≤ MAX_LEVELS }
@@ -213,7 +214,7 @@ fn read_root(
     alloc: Global,
     read: &mut ReadNodes,
     takes_files: bool,
-    root: Value<'_>,
+    root: Value,
 ) -> Result<(), PlanFault>
     requires nodes { read.old.nodes.items ≡ [] }
     requires descriptors { read.old.descriptors.items ≡ [] }
@@ -238,7 +239,7 @@ fn read_root(
 /// The first fault of the nodes in preorder, of each node in this order: `Deep`, `Field`,
 /// `EntryKeyTwice`, `Id`, `Table`, `TooManyResources`. Where a request for memory is refused, the
 /// fault is `Memory`.
-pub fn read_nodes(alloc: Global, takes_files: bool, root: Value<'_>) -> Result<ReadNodes, PlanFault>
+pub fn read_nodes(alloc: Global, takes_files: bool, root: Value) -> Result<ReadNodes, PlanFault>
     ensures { let s = root_at takes_files (view root.entry) in
         Meets (verdict [] (node_inputs MAX_LEVELS s)) (HasRead s) result }
 {
