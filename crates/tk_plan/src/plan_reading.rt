@@ -31,8 +31,8 @@ use tk_plan_units::{Plan, count_events};
 /// Reads the member `version`, which is 1 or 2: whether it is 2, so that nodes may have files.
 fn version_member(alloc: Global, version: Option<Value>) -> Result<bool, PlanFault>
     ensures { Reads (member_wrong (must (codes "version") one_or_two)
-        (member_at [] (codes "version")) (option_map view version.entry))
-        (λ b. b ≡ is_two (option_map view version.entry)) result }
+        (member_at [] (codes "version")) (option_map view version))
+        (λ b. b ≡ is_two (option_map view version)) result }
 {
     match version.as_ref().and_then(Value::as_u64) {
         Some(1) => Ok(false),
@@ -44,8 +44,8 @@ fn version_member(alloc: Global, version: Option<Value>) -> Result<bool, PlanFau
 /// Reads the member `root`.
 fn root_member(alloc: Global, root: Option<Value>) -> Result<Value, PlanFault>
     ensures { Reads (member_wrong (must (codes "root") anything)
-        (member_at [] (codes "root")) (option_map view root.entry))
-        (λ v. option_map view root.entry ≡ Some (view v)) result }
+        (member_at [] (codes "root")) (option_map view root))
+        (λ v. option_map view root ≡ Some (view v)) result }
 {
     match root {
         Some(root) => Ok(root),
@@ -55,9 +55,9 @@ fn root_member(alloc: Global, root: Option<Value>) -> Result<Value, PlanFault>
 
 /// Reads the members of the whole value: whether nodes may have files, and the root.
 fn top_members(alloc: Global, value: Value) -> Result<(bool, Value), PlanFault>
-    ensures { Reads (top [] (view value.entry))
-        (λ t. (t.0 ≡ takes_files_in (view value.entry))
-        × (get (codes "root") (view value.entry) ≡ Some (view t.1))) result }
+    ensures { Reads (top [] (view value))
+        (λ t. (t.0 ≡ takes_files_in (view value))
+        × (get (codes "root") (view value) ≡ Some (view t.1))) result }
 {
     check_members(alloc, JsonPath::Whole(""), &value, &["version", "root"])?;
     let (version, root) = into_members(value, "version", "root");
@@ -111,7 +111,7 @@ pub(crate) fn plan_from(alloc: Global, read: ReadNodes) -> Result<Plan, AllocErr
 
 /// Reads the nodes of the plan that a value stands for.
 pub(crate) fn nodes_of(alloc: Global, value: Value) -> Result<ReadNodes, PlanFault>
-    ensures { IsReadFrom (PlanOf (view value.entry)) result }
+    ensures { IsReadFrom (PlanOf (view value)) result }
 {
     let (takes_files, root) = top_members(alloc, value)?;
     let read = read_nodes(alloc, takes_files, root)?;

@@ -247,8 +247,8 @@ pub(crate) fn into_below(
     is_static: bool,
     value: Value,
 ) -> (Vec<Value>, Vec<Value>)
-    ensures children { map view result.0.items ≡ children_of is_static (view value.entry) }
-    ensures dynamic { map view result.1.items ≡ dynamic_of (view value.entry) }
+    ensures children { map view result.0.items ≡ children_of is_static (view value) }
+    ensures dynamic { map view result.1.items ≡ dynamic_of (view value) }
 {
     let (children, dynamic) = into_members(value, "children", "dynamic");
     let children = if is_static { children } else { None };

@@ -110,7 +110,7 @@ fn read_node(
 ) -> Result<(), PlanFault>
     requires noted { IsNoted read.old }
     requires level { place.level ≤ MAX_LEVELS + 1 }
-    ensures { let s = node_at siblings.old place.entry (view value.entry) in
+    ensures { let s = node_at siblings.old place.entry (view value) in
         let levels = levels_from place.entry.level in
         Meets (verdict_of_node read.old levels s)
         (λ _. AddsTree read.old read.new levels s
@@ -143,7 +143,7 @@ fn read_below(
     requires noted { IsNoted read.old }
     requires level { place.level ≤ MAX_LEVELS }
     requires id { id.now ≡ id_of (node_at [] place (view value)) }
-    ensures { let s = node_at [] place.entry (view value.entry) in
+    ensures { let s = node_at [] place.entry (view value) in
         let levels = levels_below place.entry.level in
         let group : NodeGroup = record { above = id_of s; levels = levels; nodes = below s } in
         Meets (verdict_of_group read.old group) (λ _. AddsGroup read.old read.new group)
@@ -186,11 +186,11 @@ fn read_all(
     requires noted { IsNoted read.old }
     requires level { parent.level ≤ MAX_LEVELS }
     ensures { let array = array_at parent.entry member id.now in
-        let ss = node_inputs_in array 0 siblings.old (map view values.entry.items) in
+        let ss = node_inputs_in array 0 siblings.old (map view values.items) in
         let levels = levels_below parent.entry.level in
         let group : NodeGroup = record { above = id.now; levels = levels; nodes = ss } in
         Meets (verdict_of_group read.old group) (λ _. AddsGroup read.old read.new group
-        × (siblings.new ≡ siblings.old ++ map segment_in (map view values.entry.items))) result }
+        × (siblings.new ≡ siblings.old ++ map segment_in (map view values.items))) result }
 {
     if values.is_empty() {
         return Ok(());
@@ -219,7 +219,7 @@ fn read_root(
     requires nodes { read.old.nodes.items ≡ [] }
     requires descriptors { read.old.descriptors.items ≡ [] }
     requires noted { IsNoted read.old }
-    ensures { let s = root_at takes_files (view root.entry) in
+    ensures { let s = root_at takes_files (view root) in
         Meets (verdict [] (node_inputs MAX_LEVELS s)) (λ _. HasRead s read.new) result }
 {
     let mut siblings = Siblings::with_capacity(alloc, 1)?;
@@ -240,7 +240,7 @@ fn read_root(
 /// `EntryKeyTwice`, `Id`, `Table`, `TooManyResources`. Where a request for memory is refused, the
 /// fault is `Memory`.
 pub fn read_nodes(alloc: Global, takes_files: bool, root: Value) -> Result<ReadNodes, PlanFault>
-    ensures { let s = root_at takes_files (view root.entry) in
+    ensures { let s = root_at takes_files (view root) in
         Meets (verdict [] (node_inputs MAX_LEVELS s)) (HasRead s) result }
 {
     let mut read = ReadNodes::new(alloc);

@@ -5,7 +5,7 @@ use Rattle.std.specs.Cmp.Lexicographic.{slice_cmp, texts_ties, bytes_decides}
 use Rattle.std.specs.Map.{lookup, remove_entry}
 use Rattle.std.specs.BTreeMap.{is_at}
 use Rattle.serde_json.specs.Find.{get, get_member}
-use Rattle.serde_json.specs.View.{view}
+use Rattle.serde_json.specs.View.{view, members_view}
 use Rattle.serde_json.specs.declared.value.Value.{Value, Object}
 use Rattle.serde_json.proofs.Views.{Entry, view-Object, view-lookup}
 
@@ -28,12 +28,16 @@ other_stays first second other [] = refl
 other_stays first second other (e ∷ es) =
     past (has_name first e.0) (has_name second e.0) e es _ second (one_name first second (string_bytes e.0) other) (other_stays first second other es) refl
 
-module _ (first second : List ℕ) (m : BTreeMap (String Global) Value) where
-  pub first_taken : (v : Option Value) → v ≡ lookup (has_name first) m.entries → option_map view v ≡ get first (view (Object m))
-  first_taken v e = ap (option_map view) e ∙ view-lookup first m.entries ∙ sym (ap (get first) (view-Object m))
+module _ (first second : List ℕ) (object : Value) (m : BTreeMap (String Global) Value) (is : object ≡ Object m) where
+  members_are : (name : List ℕ) → get_member name (members_view m.entries) ≡ get name (view object)
+  members_are name = sym (ap (λ v. get name (view v)) is ∙ ap (get name) (view-Object m))
+
+  pub first_taken : (v : Option Value) → v ≡ lookup (has_name first) m.entries → option_map view v ≡ get first (view object)
+  unfolding members_are
+  first_taken v e = ap (option_map view) e ∙ view-lookup first m.entries ∙ members_are first
 
   pub second_taken : (v : Option Value) (left : List Entry) → (first ≡ second → ⊥) → left ≡ remove_entry (has_name first) m.entries → v ≡ lookup (has_name second) left
-      → option_map view v ≡ get second (view (Object m))
-  second_taken v left other is e =
-      ap (option_map view) (e ∙ ap (lookup (has_name second)) is ∙ other_stays first second other m.entries) ∙ view-lookup second m.entries
-      ∙ sym (ap (get second) (view-Object m))
+      → option_map view v ≡ get second (view object)
+  unfolding members_are
+  second_taken v left other rest e =
+      ap (option_map view) (e ∙ ap (lookup (has_name second)) rest ∙ other_stays first second other m.entries) ∙ view-lookup second m.entries ∙ members_are second

@@ -1,5 +1,5 @@
 -- Members with none of some names.
-use Rattle.std.proofs.Common.{◌≡◌, ◌||◌, ℕ, List, [], ◌∷◌, map, Bool, cond, Option, Some, None, String, Global, string_bytes, refl, ap}
+use Rattle.std.proofs.Common.{◌≡◌, ◌||◌, ℕ, List, [], ◌∷◌, map, Bool, true, false, cond, Option, Some, None, String, Global, string_bytes, refl, ap, ◌∙◌}
 use Rattle.std.specs.List.{list_any}
 use Rattle.std.specs.Map.{keys_of}
 use Rattle.std.specs.Str.{bytes_eq}
@@ -22,3 +22,17 @@ unknown_among names at (k ∷ ks) = cond (is_known names (string_bytes k)) (unkn
 pub unknown_by_name : (names : List (List ℕ)) (at : List ℕ) (es : List Entry) → unknown_in names at (members_view es) ≡ unknown_among names at (keys_of es)
 unknown_by_name names at [] = refl
 unknown_by_name names at (e ∷ es) = ap (λ r. cond (is_known names (string_bytes e.0)) r (Some (member_at at (string_bytes e.0)))) (unknown_by_name names at es)
+
+module _ (names : List (List ℕ)) (at : List ℕ) (whole : Option (List ℕ)) (left : List (String Global)) (k : String Global) (ks : List (String Global))
+    (goes : whole ≡ unknown_among names at left) (split : left ≡ k ∷ ks) where
+  next_by : (b : Bool) → is_known names (string_bytes k) ≡ b → whole ≡ cond b (unknown_among names at ks) (Some (member_at at (string_bytes k)))
+  next_by b e = goes ∙ ap (unknown_among names at) split ∙ ap (λ c. cond c (unknown_among names at ks) (Some (member_at at (string_bytes k)))) e
+
+  -- the next name is unknown, and so the first
+  pub next_unknown : is_known names (string_bytes k) ≡ false → whole ≡ Some (member_at at (string_bytes k))
+  unfolding next_by
+  next_unknown e = next_by false e
+
+  pub next_known : is_known names (string_bytes k) ≡ true → whole ≡ unknown_among names at ks
+  unfolding next_by
+  next_known e = next_by true e

@@ -33,7 +33,7 @@ pub fn into_members(object: Value, first: &str, second: &str) -> (Option<Value>,
 
 /// Takes the items out of an array. Anything else has none.
 pub fn into_items(alloc: Global, value: Option<Value>) -> Vec<Value>
-    ensures { map view result.items ≡ listed (option_map view value.entry) }
+    ensures { map view result.items ≡ listed (option_map view value) }
 {
     let Some(value) = value else {
         return Vec::new(alloc);
