@@ -6,7 +6,7 @@ The program (plan/main.rt.in) is proved and built in a copy, over the libraries,
 process of its own, as a plan has in use. On a busy machine PRIORITY="chrt -f 10" before it gives the program a processor when it wants it.
 
 Each line: the shape, its nodes, seconds by the clock (medians of five readings in turn), and the ratio of `read_plan` to serde_json's
-reading, and to its reading and dropping the value (`read_plan` reads and drops a value of json).
+reading, and to its reading and dropping the value, which `read_plan` does too.
 """
 
 import json
@@ -84,7 +84,7 @@ def microseconds(command: List[str], path: str) -> List[int]:
 
 def measure(folder: str, _words: List[str]) -> None:
     building.copy_built(folder, ["tk_plan"])
-    line = "plan_bench: tk_plan tk_plan_units tk_book tk_events tk_ids serde_json json fast_float indexmap"
+    line = "plan_bench: tk_plan tk_plan_units tk_book tk_events tk_ids serde_json indexmap"
     crate = building.add_crate(folder, line, f"{HERE}/main.rt.in", "src/main.rt")
     program = f"{crate}/out/plan_bench"
     for shape, members in shapes().items():
