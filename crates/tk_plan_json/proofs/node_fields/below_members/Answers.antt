@@ -1,4 +1,3 @@
-use Rattle.std.proofs.Common.{◌&&◌, refl, ap₂}
 use Rattle.std.proofs.lemmas.Result.{err_from_is_err_and}
 use Rattle.tk_plan_members.proofs.Passing.{refuses_whole}
 use Rattle.tk_plan_json.proofs.Groups.{passes, stops}
@@ -13,6 +12,3 @@ pub returns-in_err-has_no_dynamic : goal.returns-in_err-has_no_dynamic
 returns-in_err-has_no_dynamic c =
     let p = err_from_is_err_and c.from_residual-in_err-has_no_dynamic.result c.from_residual-in_err-has_no_dynamic.ensures.1 in
     rw (p.1, p.2) (refuses_whole _ _ _ (λ path w. passes _ _ _ c.in_ok-has_no_children.ensures.0 (stops _ _ _ w)) c.in_err-has_no_dynamic.ensures)
-
-pub returns : goal.returns
-returns c = (passes _ _ _ c.in_ok-has_no_children.ensures.0 (passes _ _ _ c.in_ok-has_no_dynamic.ensures.0 refl), ap₂ (λ a b. a && b) c.in_ok-has_no_children.ensures.1 c.in_ok-has_no_dynamic.ensures.1)
