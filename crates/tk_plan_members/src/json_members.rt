@@ -105,11 +105,7 @@ pub fn mode_member(alloc: Global, at: JsonPath<'_>, object: &Value) -> Result<bo
 /// # Errors
 /// `Field` with the place of the member where it is there and neither true nor false; `Memory`
 /// where a request for memory is refused.
-pub fn isolated_member(
-    alloc: Global,
-    at: JsonPath<'_>,
-    object: &Value,
-) -> Result<bool, PlanFault>
+pub fn isolated_member(alloc: Global, at: JsonPath<'_>, object: &Value) -> Result<bool, PlanFault>
     ensures { Reads (row (pointer at.entry) (view object.now) isolated_row)
         (λ b. b ≡ json_truth (get (codes "isolated") (view object.now))) result }
 {

@@ -105,12 +105,7 @@ fn insert_pair(
 }
 
 /// Reads the pair of an entry that has no other: it needs no map.
-fn only_pair(
-    alloc: Global,
-    array: &str,
-    index: usize,
-    item: &Value,
-) -> Result<Report, PlanFault>
+fn only_pair(alloc: Global, array: &str, index: usize, item: &Value) -> Result<Report, PlanFault>
     ensures { Reads (pair_of is_text (item_at (item_at array.now index) 0) (view item.now))
         (IsOnlyPair (view item.now)) result }
 {
@@ -168,11 +163,7 @@ fn entries(alloc: Global, at: &str, value: &Value) -> Result<Reports, PlanFault>
 /// # Errors
 /// `Field` with the first place in the member where something is wrong or missing; `Memory` where a
 /// request for memory is refused.
-pub fn entries_member(
-    alloc: Global,
-    at: JsonPath<'_>,
-    object: &Value,
-) -> Result<Reports, PlanFault>
+pub fn entries_member(alloc: Global, at: JsonPath<'_>, object: &Value) -> Result<Reports, PlanFault>
     ensures { Reads (row (pointer at.entry) (view object.now) entries_row)
         (AreReports (listed (get (codes "entries") (view object.now)))) result }
 {

@@ -16,7 +16,12 @@ fn lock_value(alloc: Global, lock: &PlanLock<'_>) -> Result<Value, AllocError>
     ensures { IfOk result (λ v. view v ≡ lock_json lock.now) }
 {
     let mut members = Map::new(alloc);
-    put(&mut members, alloc, "key", Value::try_from_str(alloc, lock.key)?)?;
+    put(
+        &mut members,
+        alloc,
+        "key",
+        Value::try_from_str(alloc, lock.key)?,
+    )?;
     let mode = Value::try_from_str(alloc, lock_mode_word(lock.mode))?;
     put(&mut members, alloc, "mode", mode)?;
     Ok(Value::Object(members))
@@ -32,11 +37,7 @@ fn lock_values(alloc: Global, locks: &[PlanLock<'_>]) -> Result<Vec<Value>, Allo
     Ok(values)
 }
 
-fn result_value(
-    alloc: Global,
-    status: Status,
-    message: Option<&str>,
-) -> Result<Value, AllocError>
+fn result_value(alloc: Global, status: Status, message: Option<&str>) -> Result<Value, AllocError>
     ensures { IfOk result (λ v. view v ≡ result_json status (text_of message.entry)) }
 {
     let mut members = Map::new(alloc);
@@ -56,10 +57,7 @@ fn entry_value(alloc: Global, pairs: &[(&str, &str)]) -> Result<Value, AllocErro
     Ok(Value::Array(values))
 }
 
-fn entry_values(
-    alloc: Global,
-    entries: &[Vec<(&str, &str)>],
-) -> Result<Vec<Value>, AllocError>
+fn entry_values(alloc: Global, entries: &[Vec<(&str, &str)>]) -> Result<Vec<Value>, AllocError>
     ensures { IfOk result (λ vs. map view vs.items
         ≡ map entry_json (map (λ e. pairs_of e.items) entries.now)) }
 {
@@ -114,11 +112,7 @@ fn put_concurrency(
 
 /// Adds the members that say what the node emits.
 #[tactic(auto, using(crate::proofs::JsonObjects::members_append))]
-fn put_content(
-    alloc: Global,
-    members: &mut Members,
-    node: &PlanNode<'_>,
-) -> Result<(), AllocError>
+fn put_content(alloc: Global, members: &mut Members, node: &PlanNode<'_>) -> Result<(), AllocError>
     ensures { OnOk result (members_view members.new.entries
         ≡ with_members (members_view members.old.entries)
         (content_members (node_view node.now))) }
