@@ -5,7 +5,7 @@ It wants rt, and leaves nothing behind. The program (plan/main.rt.in) is proved 
 each reading has a process of its own, as a plan has in use.
 
 Each line: the shape, seconds by the clock (medians of five readings in turn), and the ratio of `read_plan` to serde_json's reading, and to
-its reading and dropping the value (`read_plan` reads and drops a value of json).
+its reading and dropping the value, which `read_plan` does too.
 """
 
 import os
@@ -18,7 +18,7 @@ import timing
 from plans import Node, test
 
 MOST_BYTES = 16 * 2**20
-LINE = "plan_bench: tk_plan tk_plan_units tk_book tk_events tk_ids serde_json json fast_float indexmap"
+LINE = "plan_bench: tk_plan tk_plan_units tk_book tk_events tk_ids serde_json indexmap"
 
 
 def classes() -> Node:

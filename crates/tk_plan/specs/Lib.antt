@@ -16,11 +16,9 @@ pub use Rattle.tk_plan_members.specs.Contents
 pub use Rattle.tk_plan_json.specs.NodeInputs
 pub use Rattle.tk_plan_json.specs.Verdicts
 pub use Rattle.tk_plan_members.specs.Refusals
-pub use Rattle.tk_plan_members.specs.JsonValues
 pub use Rattle.tk_plan_members.specs.FaultTexts
 pub mod PlanOf
 pub mod PlanAnswers
-pub mod BuiltPlans
 pub mod Tables
 pub mod ReadNodes
 pub mod PlanLaws

@@ -1,5 +1,5 @@
 //! Building a plan from nodes in code.
-ghost use Rattle.tk_plan.specs.BuiltPlans.{plan_data};
+ghost use Rattle.tk_plan_nodes.specs.NodeJson.{plan_data};
 ghost use Rattle.tk_plan.specs.PlanAnswers.{Answered};
 ghost use Rattle.tk_plan.specs.PlanOf.{PlanOf};
 

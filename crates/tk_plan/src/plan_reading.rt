@@ -1,7 +1,7 @@
 //! Reading a plan.
 ghost use Rattle.std.specs.Prelude.{◌≡◌, ◌≤◌, ◌<◌, ◌++◌, ◌∷◌, [], Some, codes, length, IfOk, OnOk, option_map};
 ghost use Rattle.serde_json.specs.Find.{get};
-ghost use Rattle.tk_plan_members.specs.JsonValues.{view};
+ghost use Rattle.serde_json.specs.View.{view};
 ghost use Rattle.tk_plan_members.specs.Answers.{Reads};
 ghost use Rattle.tk_plan_members.specs.Checks.{member_at, member_wrong, must};
 ghost use Rattle.tk_plan.specs.PlanOf.{PlanOf, one_or_two, is_two, takes_files_in, anything, top};
@@ -15,7 +15,7 @@ ghost use Rattle.std.specs.Arc.{arc_value};
 ghost use Rattle.tk_ids.specs.declared.tables.TheConstants.{MAX_DESCRIPTORS};
 
 use indexmap::IndexSet;
-use json::{Scratch, Value};
+use serde_json::Value;
 use std::alloc::{AllocError, Global};
 use std::sync::Arc;
 use tk_ids::{Descriptor, Table, Text};
@@ -23,20 +23,18 @@ use tk_plan_json::node_reading::read_nodes;
 use tk_plan_json::read_nodes::ReadNodes;
 use tk_plan_members::PlanFault;
 use tk_plan_members::json_members::check_members;
-use tk_plan_members::json_numbers::whole_number_in;
 use tk_plan_members::json_paths::JsonPath;
-use tk_plan_members::json_texts::read_json;
 use tk_plan_members::json_values::into_members;
 use tk_plan_members::path_texts::wrong_member;
 use tk_plan_units::{Plan, count_events};
 
 /// Reads the member `version`, which is 1 or 2: whether it is 2, so that nodes may have files.
-fn version_member(alloc: Global, version: Option<Value<'_>>) -> Result<bool, PlanFault>
+fn version_member(alloc: Global, version: Option<Value>) -> Result<bool, PlanFault>
     ensures { Reads (member_wrong (must (codes "version") one_or_two)
-        (member_at [] (codes "version")) (option_map view version.entry))
-        (λ b. b ≡ is_two (option_map view version.entry)) result }
+        (member_at [] (codes "version")) (option_map view version))
+        (λ b. b ≡ is_two (option_map view version)) result }
 {
-    match version.as_ref().and_then(whole_number_in) {
+    match version.as_ref().and_then(Value::as_u64) {
         Some(1) => Ok(false),
         Some(2) => Ok(true),
         _ => Err(wrong_member(alloc, JsonPath::Whole(""), "version")),
@@ -44,10 +42,10 @@ fn version_member(alloc: Global, version: Option<Value<'_>>) -> Result<bool, Pla
 }
 
 /// Reads the member `root`.
-fn root_member<'t>(alloc: Global, root: Option<Value<'t>>) -> Result<Value<'t>, PlanFault>
+fn root_member(alloc: Global, root: Option<Value>) -> Result<Value, PlanFault>
     ensures { Reads (member_wrong (must (codes "root") anything)
-        (member_at [] (codes "root")) (option_map view root.entry))
-        (λ v. option_map view root.entry ≡ Some (view v)) result }
+        (member_at [] (codes "root")) (option_map view root))
+        (λ v. option_map view root ≡ Some (view v)) result }
 {
     match root {
         Some(root) => Ok(root),
@@ -56,10 +54,10 @@ fn root_member<'t>(alloc: Global, root: Option<Value<'t>>) -> Result<Value<'t>, 
 }
 
 /// Reads the members of the whole value: whether nodes may have files, and the root.
-fn top_members<'t>(alloc: Global, value: Value<'t>) -> Result<(bool, Value<'t>), PlanFault>
-    ensures { Reads (top [] (view value.entry))
-        (λ t. (t.0 ≡ takes_files_in (view value.entry))
-        × (get (codes "root") (view value.entry) ≡ Some (view t.1))) result }
+fn top_members(alloc: Global, value: Value) -> Result<(bool, Value), PlanFault>
+    ensures { Reads (top [] (view value))
+        (λ t. (t.0 ≡ takes_files_in (view value))
+        × (get (codes "root") (view value) ≡ Some (view t.1))) result }
 {
     check_members(alloc, JsonPath::Whole(""), &value, &["version", "root"])?;
     let (version, root) = into_members(value, "version", "root");
@@ -112,8 +110,8 @@ pub(crate) fn plan_from(alloc: Global, read: ReadNodes) -> Result<Plan, AllocErr
 }
 
 /// Reads the nodes of the plan that a value stands for.
-pub(crate) fn nodes_of(alloc: Global, value: Value<'_>) -> Result<ReadNodes, PlanFault>
-    ensures { IsReadFrom (PlanOf (view value.entry)) result }
+pub(crate) fn nodes_of(alloc: Global, value: Value) -> Result<ReadNodes, PlanFault>
+    ensures { IsReadFrom (PlanOf (view value)) result }
 {
     let (takes_files, root) = top_members(alloc, value)?;
     let read = read_nodes(alloc, takes_files, root)?;
@@ -127,12 +125,11 @@ pub(crate) fn nodes_of(alloc: Global, value: Value<'_>) -> Result<ReadNodes, Pla
 fn read_text(alloc: Global, bytes: &[u8]) -> Result<ReadNodes, PlanFault>
     ensures { IsReadFrom (plan_in bytes.now) result }
 {
-    let Ok(text) = str::from_utf8(bytes) else {
-        return Err(PlanFault::Json);
-    };
-    let mut scratch = Scratch::new(alloc);
-    let value = read_json(alloc, text, &mut scratch)?;
-    nodes_of(alloc, value)
+    match Value::from_slice(alloc, bytes) {
+        Ok(value) => nodes_of(alloc, value),
+        Err(error) if error.is_memory() => Err(PlanFault::Memory),
+        Err(_) => Err(PlanFault::Json),
+    }
 }
 
 /// Reads a plan from its JSON text, of version 1 or 2 (docs/FORMATS.md, Plan JSON).

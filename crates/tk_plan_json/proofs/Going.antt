@@ -6,8 +6,8 @@ use Rattle.std.proofs.Common.{length-append}
 use Rattle.std.proofs.Math.ListN.{set}
 use Rattle.std.proofs.Math.Seq.{set-append_seam}
 use Rattle.serde_json.specs.Data.{Data}
-use Rattle.tk_plan_members.specs.JsonValues.{view}
-use Rattle.tk_plan_members.specs.JsonValues.{JsonValue}
+use Rattle.serde_json.specs.View.{view}
+use Rattle.serde_json.specs.declared.value.Value.{Value}
 use Rattle.std.proofs.lemmas.Grind.{flat_map-append}
 use Rattle.tk_ids.specs.IdText.{SegmentView}
 use Rattle.tk_plan_units.specs.declared.nodes.Node.{Node}
@@ -51,7 +51,7 @@ contents_after : (old new : List NumberedNode) (k : ℕ) (x : NodeInput) → new
 contents_after old new k x e = ap contents e ∙ map-append _ old (flat (grown k x)) ∙ ap (λ l. contents old ++ l) (nodes-grown k x)
 
 -- the sites that are left, from the next on
-pub node_input_next : (array : NodeArray) (i j : ℕ) (met new : List SegmentView) (left rest : List JsonValue) (v : JsonValue) → left ≡ v ∷ rest → j ≡ i + 1 → new ≡ met ++ segment_in (view v) ∷ []
+pub node_input_next : (array : NodeArray) (i j : ℕ) (met new : List SegmentView) (left rest : List Value) (v : Value) → left ≡ v ∷ rest → j ≡ i + 1 → new ≡ met ++ segment_in (view v) ∷ []
     → node_inputs_in array i met (map view left) ≡ node_input array i met (view v) ∷ node_inputs_in array j new (map view rest)
 node_input_next array i j met new left rest v split up n =
     ap (λ vs. node_inputs_in array i met (map view vs)) split ∙ ap₂ (λ k m. node_input array i met (view v) ∷ node_inputs_in array k m (map view rest)) (sym up) (sym n)

@@ -1,5 +1,4 @@
 pub mod Groups
-pub mod Plain
 pub mod Meeting
 pub mod Naming
 pub mod Verdicts

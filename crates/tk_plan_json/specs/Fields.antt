@@ -1,9 +1,8 @@
 -- What readers of a node's members hand on.
-use Rattle.std.specs.Prelude.{◌≡◌, ◌==◌, ◌&&◌, ℕ, Bool, List, [], ◌∷◌, length, map, codes, None}
+use Rattle.std.specs.Prelude.{◌≡◌, ◌==◌, ◌&&◌, ℕ, Bool, List, [], ◌∷◌, length, codes}
 use Rattle.serde_json.specs.Data.{Data}
 use Rattle.serde_json.specs.Find.{get}
-use Rattle.tk_plan_members.specs.JsonValues.{view}
-use Rattle.tk_plan_members.specs.Checks.{Row, unknown}
+use Rattle.tk_plan_members.specs.Checks.{Row}
 use Rattle.tk_plan_members.specs.Contents.{json_text, json_optional, json_dtype, listed}
 use Rattle.tk_plan_members.specs.Rows.{dtype_row, segment_row, name_row, mode_row, isolated_row}
 use Rattle.tk_plan_members.specs.Rows.{locks_row, skip_row, result_row, entries_row, files_rows}
@@ -35,13 +34,9 @@ content_rows takes_files = skip_row ∷ result_row ∷ entries_row ∷ files_row
 abbrev pub below_rows : List Row
 below_rows = children_row ∷ dynamic_row ∷ []
 
--- the names of all members that most nodes have
-abbrev pub plain_names : List (List ℕ)
-plain_names = map (λ r. r.name) (dtype_row ∷ segment_row ∷ name_row ∷ mode_row ∷ [])
-
--- an object with no members but `type`, `segment`, `name` and `mode`
-abbrev pub IsPlain : Data → Type 0
-IsPlain d = (at : List ℕ) → unknown plain_names at d ≡ None
+-- no node stands right below one
+abbrev pub has_no_below : Bool → Data → Bool
+has_no_below is_static d = length (children_of is_static d) == 0 && length (dynamic_of d) == 0
 
 -- a type, a segment and a name, as a node's members say
 pub record IsHeading (d : Data) (h : Heading) : Type 0 where
@@ -67,8 +62,7 @@ pub record HasFields (is_static takes_files : Bool) (d : Data) (f : Fields) : Ty
   pub heading : IsHeading d f.heading
   pub concurrency : IsConcurrency is_static d f.concurrency
   pub content : IsContent takes_files d f.content
-  pub children : map view f.children.values.now ≡ children_of is_static d
-  pub dynamic : map view f.dynamic.values.now ≡ dynamic_of d
+  pub leaf : f.is_leaf ≡ has_no_below is_static d
 
 -- a node with its id, as its members say
 abbrev pub checked_of : Bool → Named → Fields → Checked
@@ -88,5 +82,5 @@ checked_of is_static n f = record {
     files = f.content.files;
   };
   id = n.id;
-  is_leaf = length f.children.values.now == 0 && length f.dynamic.values.now == 0;
+  is_leaf = f.is_leaf;
 }

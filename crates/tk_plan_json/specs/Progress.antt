@@ -16,8 +16,9 @@ use Rattle.tk_plan_units.specs.Planned.{is_lawful_node}
 use Rattle.tk_plan_units.specs.Trees.{Tree, flat, contents}
 use Rattle.tk_plan_json.specs.declared.limits.TheConstants.{MAX_LEVELS}
 use Rattle.tk_plan_json.specs.Verdicts.{is_kind, same_segment, verdict, when}
-use Rattle.tk_plan_json.specs.NodeInputs.{NodeInput, segment_of, id_of, node_of, children_of}
-use Rattle.tk_plan_json.specs.NodeInputs.{dynamic_of, below, grown, node_inputs}
+use Rattle.tk_plan_json.specs.Fields.{has_no_below}
+use Rattle.tk_plan_json.specs.NodeInputs.{NodeInput, segment_of, id_of, node_of, below, grown}
+use Rattle.tk_plan_json.specs.NodeInputs.{node_inputs}
 use Rattle.tk_plan_members.specs.declared.faults.PlanFault.{PlanFault}
 use Rattle.tk_plan_members.specs.declared.faults.PlanFault.TheVariants.{Table, TooManyResources}
 use Rattle.tk_plan_json.specs.declared.read_nodes.ReadNodes.{ReadNodes}
@@ -86,8 +87,7 @@ pub record IsAdmitted (old new : ReadState) (s : NodeInput) (n : Named) : Type 0
 pub record IsChecked (old new : ReadState) (s : NodeInput) (c : Checked) : Type 0 where
   pub node : c.node ≡ node_of s
   pub id : c.id ≡ id_of s
-  pub leaf : c.is_leaf ≡ (length (children_of s.is_static s.value) == 0
-      && length (dynamic_of s.value) == 0)
+  pub leaf : c.is_leaf ≡ has_no_below s.is_static s.value
   pub lawful : is_lawful_node c.node ≡ true
   pub level : s.level ≤ MAX_LEVELS
   pub entered : IsEntered old new (addition_of (contents old.read.nodes.items) s)

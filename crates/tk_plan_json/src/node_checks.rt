@@ -1,7 +1,7 @@
 //! The checks of a node.
 ghost use Rattle.std.specs.Prelude.{◌≡◌, ◌≤◌, ◌++◌, ◌∷◌, [], None, option_map, nat_le};
 ghost use Rattle.std.specs.List.{count_by};
-ghost use Rattle.tk_plan_members.specs.JsonValues.{view};
+ghost use Rattle.serde_json.specs.View.{view};
 ghost use Rattle.tk_ids.specs.Answer.{IsMadeOf};
 ghost use Rattle.tk_ids.specs.declared.tables.TheConstants.{MAX_DESCRIPTORS};
 ghost use Rattle.tk_plan_units.specs.Keys.{note_locks};
@@ -28,10 +28,10 @@ use tk_plan_members::member_values::TwoTexts;
 use tk_plan_units::{Lock, MAX_KEYS, Node};
 
 /// Reads the members of a node by its kind.
-fn fields_of<'v, 't>(
+fn fields_of<'v>(
     alloc: Global,
-    node_input: NodeInput<'_, 'v, 't>,
-) -> Result<Fields<'v, 't>, PlanFault>
+    node_input: NodeInput<'v>,
+) -> Result<Fields<'v>, PlanFault>
     ensures { Reads (node_check (seen [] node_input.entry))
         (HasFields node_input.entry.place.is_static node_input.entry.place.takes_files
         (view node_input.entry.value.now)) result }
@@ -90,15 +90,14 @@ fn is_full(read: &ReadNodes, is_static: bool) -> bool
 }
 
 /// Makes the node that these fields describe, with its id.
-fn into_checked(is_static: bool, named: Named, fields: Fields<'_, '_>) -> Checked
+fn into_checked(is_static: bool, named: Named, fields: Fields<'_>) -> Checked
     ensures { result ≡ checked_of is_static named fields.entry }
 {
     let Fields {
         heading,
         concurrency,
         content,
-        children,
-        dynamic,
+        is_leaf,
     } = fields;
     let node = Node {
         is_static,
@@ -117,18 +116,18 @@ fn into_checked(is_static: bool, named: Named, fields: Fields<'_, '_>) -> Checke
     Checked {
         node,
         id: named.id,
-        is_leaf: children.values.is_empty() && dynamic.values.is_empty(),
+        is_leaf,
     }
 }
 
 /// Notes a node's segment among its siblings' and its lock keys among the plan's, where there is
 /// room for them.
-fn note_node<'t>(
+fn note_node(
     alloc: Global,
     read: &mut ReadNodes,
-    siblings: &mut Siblings<'t>,
+    siblings: &mut Siblings,
     is_static: bool,
-    segment: TwoTexts<'t>,
+    segment: TwoTexts<'_>,
     locks: &[Lock],
 ) -> Result<(), PlanFault>
     requires { IsNoted read.old }
@@ -138,7 +137,7 @@ fn note_node<'t>(
         (λ _. IsEntered (state read.old siblings.old) (state read.new siblings.new) added)
         result }
 {
-    if !siblings.insert(segment)? {
+    if !siblings.insert(alloc, segment)? {
         return Err(PlanFault::Table(TableFault::Twice));
     }
     if is_full(read, is_static) {
@@ -153,12 +152,12 @@ fn note_node<'t>(
 
 /// Checks what a node's members say, given the nodes before it, and notes its segment and its lock
 /// keys. Answers its segment and its id.
-fn check_fields<'v, 't>(
+fn check_fields(
     alloc: Global,
     read: &mut ReadNodes,
-    siblings: &mut Siblings<'t>,
-    node_input: NodeInput<'_, 'v, 't>,
-    fields: &Fields<'v, 't>,
+    siblings: &mut Siblings,
+    node_input: NodeInput<'_>,
+    fields: &Fields<'_>,
 ) -> Result<Named, PlanFault>
     requires noted { IsNoted read.old }
     requires level { node_input.place.level ≤ MAX_LEVELS }
@@ -185,11 +184,11 @@ fn check_fields<'v, 't>(
 }
 
 /// Checks one node, given the nodes before it, and notes its segment and its lock keys.
-pub(crate) fn check_node<'t>(
+pub(crate) fn check_node(
     alloc: Global,
     read: &mut ReadNodes,
-    siblings: &mut Siblings<'t>,
-    node_input: NodeInput<'_, '_, 't>,
+    siblings: &mut Siblings,
+    node_input: NodeInput<'_>,
 ) -> Result<Checked, PlanFault>
     requires { IsNoted read.old }
     ensures { let s = seen siblings.old node_input.entry in

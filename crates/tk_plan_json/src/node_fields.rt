@@ -1,36 +1,34 @@
 //! The members of a node.
-ghost use Rattle.std.specs.Prelude.{◌≡◌, [], true, false, map, IsTrue, None};
-ghost use Rattle.tk_events.specs.declared.statuses.Status.TheVariants.{Successful};
-ghost use Rattle.tk_plan_members.specs.JsonValues.{view};
+ghost use Rattle.std.specs.Prelude.{◌≡◌, [], true, false, map};
+ghost use Rattle.serde_json.specs.View.{view};
 ghost use Rattle.tk_plan_members.specs.Checks.{members_wrong, unknown};
 ghost use Rattle.tk_plan_members.specs.Rows.{static_rows, dynamic_rows, static_node, dynamic_node};
 ghost use Rattle.tk_plan_json.specs.NodeInputs.{children_of, dynamic_of};
 ghost use Rattle.tk_plan_members.specs.Pointers.{pointer};
 ghost use Rattle.tk_plan_members.specs.Answers.{Reads};
-ghost use Rattle.tk_plan_json.specs.Fields.{heading_rows, concurrency_rows, content_rows, below_rows, IsPlain, IsHeading, IsConcurrency, IsContent, HasFields};
+ghost use Rattle.tk_plan_json.specs.Fields.{heading_rows, concurrency_rows, content_rows, below_rows, has_no_below, IsHeading, IsConcurrency, IsContent, HasFields};
 
-use json::Value;
+use serde_json::Value;
 use std::alloc::Global;
-use tk_events::Status;
 use tk_ids::{DType, Text};
 use tk_plan_members::PlanFault;
 use tk_plan_members::file_members::files_member;
 use tk_plan_members::json_members::{
-    are_known, array_member, check_members, dtype_member, isolated_member, mode_member,
-    optional_member, segment_member, text_member,
+    array_member, check_members, dtype_member, isolated_member, mode_member, optional_member,
+    segment_member, text_member,
 };
 use tk_plan_members::json_paths::JsonPath;
-use tk_plan_members::json_values::{Items, into_items, into_members, members_in};
+use tk_plan_members::json_values::{into_items, into_members};
 use tk_plan_members::lock_members::locks_member;
 use tk_plan_members::member_values::{NodeResult, Reports, TwoTexts};
 use tk_plan_members::result_members::{entries_member, result_member};
-use tk_plan_units::{Entries, Files, Locks};
+use tk_plan_units::{Files, Locks};
 
 /// What the members `type`, `segment` and `name` of a node say.
 #[derive(Drop)]
-pub(crate) struct Heading<'t> {
+pub(crate) struct Heading<'v> {
     pub dtype: DType,
-    pub segment: TwoTexts<'t>,
+    pub segment: TwoTexts<'v>,
     pub name: Text,
 }
 
@@ -53,20 +51,20 @@ pub(crate) struct Content {
 
 /// What the members of a node say.
 #[derive(Drop)]
-pub(crate) struct Fields<'v, 't> {
-    pub heading: Heading<'t>,
+pub(crate) struct Fields<'v> {
+    pub heading: Heading<'v>,
     pub concurrency: Concurrency,
     pub content: Content,
-    pub children: Items<'v, 't>,
-    pub dynamic: Items<'v, 't>,
+    /// Whether no node stands below it.
+    pub is_leaf: bool,
 }
 
 /// Reads the members `type`, `segment` and `name`.
-fn heading_members<'t>(
+fn heading_members<'v>(
     alloc: Global,
     at: JsonPath<'_>,
-    object: &Value<'t>,
-) -> Result<Heading<'t>, PlanFault>
+    object: &'v Value,
+) -> Result<Heading<'v>, PlanFault>
     ensures { Reads (members_wrong heading_rows (pointer at.entry) (view object.now))
         (IsHeading (view object.now)) result }
 {
@@ -84,7 +82,7 @@ fn heading_members<'t>(
 fn concurrency_members(
     alloc: Global,
     at: JsonPath<'_>,
-    object: &Value<'_>,
+    object: &Value,
 ) -> Result<Concurrency, PlanFault>
     ensures { Reads (members_wrong concurrency_rows (pointer at.entry) (view object.now))
         (IsConcurrency true (view object.now)) result }
@@ -103,7 +101,7 @@ fn concurrency_members(
 fn content_members(
     alloc: Global,
     at: JsonPath<'_>,
-    object: &Value<'_>,
+    object: &Value,
     takes_files: bool,
 ) -> Result<Content, PlanFault>
     ensures { Reads (members_wrong (content_rows takes_files) (pointer at.entry) (view object.now))
@@ -125,7 +123,7 @@ fn content_members(
 fn check_static_members(
     alloc: Global,
     at: JsonPath<'_>,
-    value: &Value<'_>,
+    value: &Value,
     takes_files: bool,
 ) -> Result<(), PlanFault>
     ensures { Reads
@@ -151,7 +149,7 @@ fn check_static_members(
 fn check_dynamic_members(
     alloc: Global,
     at: JsonPath<'_>,
-    value: &Value<'_>,
+    value: &Value,
     takes_files: bool,
 ) -> Result<(), PlanFault>
     ensures { Reads
@@ -171,153 +169,86 @@ fn check_dynamic_members(
     }
 }
 
-/// Reads the members `children` and `dynamic` of a static node: their items.
-fn below_members<'v, 't>(
-    alloc: Global,
-    at: JsonPath<'_>,
-    object: &'v Value<'t>,
-) -> Result<(Items<'v, 't>, Items<'v, 't>), PlanFault>
+/// Refuses the members `children` and `dynamic` of a static node where they are no arrays. Answers
+/// whether no node stands below it.
+fn below_members(alloc: Global, at: JsonPath<'_>, object: &Value) -> Result<bool, PlanFault>
     ensures { Reads (members_wrong below_rows (pointer at.entry) (view object.now))
-        (λ t. (map view t.0.values.now ≡ children_of true (view object.now))
-        × (map view t.1.values.now ≡ dynamic_of (view object.now))) result }
+        (λ is_leaf. is_leaf ≡ has_no_below true (view object.now)) result }
 {
-    let children = array_member(alloc, at, object, "children")?;
-    let dynamic = array_member(alloc, at, object, "dynamic")?;
-    Ok((children, dynamic))
-}
-
-/// Whether a value is an object with no members but `type`, `segment`, `name` and `mode`. A wrong
-/// no costs time alone.
-fn is_plain(value: &Value<'_>) -> bool
-    ensures { IsTrue result → IsPlain (view value.now) }
-{
-    match members_in(value) {
-        Some(members) => are_known(members, &["type", "segment", "name", "mode"]),
-        None => false,
-    }
+    let has_no_children = array_member(alloc, at, object, "children")?;
+    let has_no_dynamic = array_member(alloc, at, object, "dynamic")?;
+    Ok(has_no_children && has_no_dynamic)
 }
 
 impl Concurrency {
-    /// What a node says that has neither `isolated` nor `locks`.
-    fn of_mode(alloc: Global, is_concurrent: bool) -> Concurrency
-        ensures mode { result.is_concurrent ≡ is_concurrent }
+    /// What a node says that has none of these members, as each dynamic one.
+    fn none(alloc: Global) -> Concurrency
+        ensures concurrent { result.is_concurrent ≡ false }
         ensures isolated { result.is_isolated ≡ false }
         ensures locks { result.locks ≡ [] }
     {
         Concurrency {
-            is_concurrent,
+            is_concurrent: false,
             is_isolated: false,
             locks: Locks::new(Vec::new(alloc)),
         }
     }
 }
 
-impl Content {
-    /// What a node says that has none of these members.
-    fn empty(alloc: Global) -> Content
-        ensures skip { result.skip ≡ None }
-        ensures status { result.result.status ≡ Successful }
-        ensures message { result.result.message ≡ None }
-        ensures entries { result.reports.entries ≡ [] }
-        ensures repeats { result.reports.repeats ≡ false }
-        ensures files { result.files ≡ [] }
-    {
-        Content {
-            skip: None,
-            result: NodeResult {
-                status: Status::Successful,
-                message: None,
-            },
-            reports: Reports {
-                entries: Entries::new(Vec::new(alloc)),
-                repeats: false,
-            },
-            files: Files::new(Vec::new(alloc)),
-        }
-    }
-}
-
-/// Reads the members of a static node that has none but `type`, `segment`, `name` and `mode`.
-fn plain_fields<'v, 't>(
-    alloc: Global,
-    at: JsonPath<'_>,
-    value: &'v Value<'t>,
-    takes_files: bool,
-) -> Result<Fields<'v, 't>, PlanFault>
-    requires { IsPlain (view value.now) }
-    ensures { Reads (static_node takes_files (pointer at.entry) (view value.now))
-        (HasFields true takes_files (view value.now)) result }
-{
-    let heading = heading_members(alloc, at, value)?;
-    let is_concurrent = mode_member(alloc, at, value)?;
-    Ok(Fields {
-        heading,
-        concurrency: Concurrency::of_mode(alloc, is_concurrent),
-        content: Content::empty(alloc),
-        children: Items::none(),
-        dynamic: Items::none(),
-    })
-}
-
 /// Reads the members of a static node.
-pub(crate) fn static_fields<'v, 't>(
+pub(crate) fn static_fields<'v>(
     alloc: Global,
     at: JsonPath<'_>,
-    value: &'v Value<'t>,
+    value: &'v Value,
     takes_files: bool,
-) -> Result<Fields<'v, 't>, PlanFault>
+) -> Result<Fields<'v>, PlanFault>
     ensures { Reads (static_node takes_files (pointer at.entry) (view value.now))
         (HasFields true takes_files (view value.now)) result }
 {
-    if is_plain(value) {
-        return plain_fields(alloc, at, value, takes_files);
-    }
     check_static_members(alloc, at, value, takes_files)?;
     let heading = heading_members(alloc, at, value)?;
     let concurrency = concurrency_members(alloc, at, value)?;
     let content = content_members(alloc, at, value, takes_files)?;
-    let (children, dynamic) = below_members(alloc, at, value)?;
+    let is_leaf = below_members(alloc, at, value)?;
     Ok(Fields {
         heading,
         concurrency,
         content,
-        children,
-        dynamic,
+        is_leaf,
     })
 }
 
 /// Reads the members of a dynamic node, which has no `mode`, `isolated`, `locks` and `children`.
-pub(crate) fn dynamic_fields<'v, 't>(
+pub(crate) fn dynamic_fields<'v>(
     alloc: Global,
     at: JsonPath<'_>,
-    value: &'v Value<'t>,
+    value: &'v Value,
     takes_files: bool,
-) -> Result<Fields<'v, 't>, PlanFault>
+) -> Result<Fields<'v>, PlanFault>
     ensures { Reads (dynamic_node takes_files (pointer at.entry) (view value.now))
         (HasFields false takes_files (view value.now)) result }
 {
     check_dynamic_members(alloc, at, value, takes_files)?;
     let heading = heading_members(alloc, at, value)?;
     let content = content_members(alloc, at, value, takes_files)?;
-    let dynamic = array_member(alloc, at, value, "dynamic")?;
+    let is_leaf = array_member(alloc, at, value, "dynamic")?;
     Ok(Fields {
         heading,
-        concurrency: Concurrency::of_mode(alloc, false),
+        concurrency: Concurrency::none(alloc),
         content,
-        children: Items::none(),
-        dynamic,
+        is_leaf,
     })
 }
 
 /// Takes the values of the nodes below a node out of its value, and drops all else of it: those in
 /// its `children`, which only a static node has, and those in its `dynamic`.
-pub(crate) fn into_below<'t>(
+pub(crate) fn into_below(
     alloc: Global,
     is_static: bool,
-    value: Value<'t>,
-) -> (Vec<Value<'t>>, Vec<Value<'t>>)
-    ensures children { map view result.0.items ≡ children_of is_static (view value.entry) }
-    ensures dynamic { map view result.1.items ≡ dynamic_of (view value.entry) }
+    value: Value,
+) -> (Vec<Value>, Vec<Value>)
+    ensures children { map view result.0.items ≡ children_of is_static (view value) }
+    ensures dynamic { map view result.1.items ≡ dynamic_of (view value) }
 {
     let (children, dynamic) = into_members(value, "children", "dynamic");
     let children = if is_static { children } else { None };

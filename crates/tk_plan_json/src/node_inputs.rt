@@ -3,7 +3,7 @@ ghost use Rattle.std.specs.Prelude.{◌≡◌, flat_map};
 ghost use Rattle.tk_plan_members.specs.Checks.{escape};
 ghost use Rattle.tk_plan_json.specs.CodeValues.{member_name, has_static};
 
-use json::Value;
+use serde_json::Value;
 use tk_ids::UniqueId;
 use tk_plan_members::json_paths::JsonPath;
 
@@ -22,9 +22,9 @@ pub(crate) struct NodePlace<'a> {
 
 /// A value that stands for a node.
 #[derive(Clone, Copy, Drop)]
-pub(crate) struct NodeInput<'a, 'v, 't> {
+pub(crate) struct NodeInput<'a> {
     pub place: NodePlace<'a>,
-    pub value: &'v Value<'t>,
+    pub value: &'a Value,
 }
 
 /// A member whose items stand for the nodes below a node.

@@ -1,6 +1,6 @@
 //! Reading a plan's nodes.
 ghost use Rattle.std.specs.Prelude.{◌≡◌, ◌≤◌, ◌<◌, ◌+◌, ◌-◌, ◌++◌, ◌∷◌, [], length, map, IfOk, OnOk};
-ghost use Rattle.tk_plan_members.specs.JsonValues.{view};
+ghost use Rattle.serde_json.specs.View.{view};
 ghost use Rattle.tk_plan_units.specs.Trees.{flat, contents};
 ghost use Rattle.tk_plan_units.specs.Ids.{descriptors};
 ghost use Rattle.tk_plan_members.specs.Checks.{first};
@@ -18,7 +18,7 @@ use crate::node_fields::into_below;
 use crate::node_inputs::{BelowMember, NodeInput, NodePlace};
 use crate::read_nodes::ReadNodes;
 use crate::siblings::Siblings;
-use json::Value;
+use serde_json::Value;
 use std::alloc::{AllocError, Global};
 use tk_ids::{Descriptor, UniqueId};
 use tk_plan_members::PlanFault;
@@ -48,6 +48,7 @@ fn add_node(read: &mut ReadNodes, node: Node, id: UniqueId) -> Result<(), AllocE
 {
     let described = add_descriptor(read, &node, id);
     // Nodes without a descriptor are given up, so the node may follow in any case.
+    // It gets its number when all nodes were read, and its span when those below it were.
     read.nodes.push(NumberedNode {
         node,
         number: 0,
@@ -68,11 +69,11 @@ fn add_parent(read: &mut ReadNodes, node: Node, id: UniqueId) -> Result<UniqueId
 }
 
 /// Checks a node and puts it at the end. Answers its id where nodes stand below it.
-fn start_node<'t>(
+fn start_node(
     alloc: Global,
     read: &mut ReadNodes,
-    siblings: &mut Siblings<'t>,
-    node_input: NodeInput<'_, '_, 't>,
+    siblings: &mut Siblings,
+    node_input: NodeInput<'_>,
 ) -> Result<Option<UniqueId>, PlanFault>
     requires { IsNoted read.old }
     ensures { let s = seen siblings.old node_input.entry in
@@ -100,16 +101,16 @@ fn end_node(read: &mut ReadNodes, at: usize)
 /// Reads a node and all below it. As soon as the node itself was read its value is dropped, save
 /// the values of the nodes below it, which are read next.
 #[cycle(reading)]
-fn read_node<'t>(
+fn read_node(
     alloc: Global,
     read: &mut ReadNodes,
-    siblings: &mut Siblings<'t>,
+    siblings: &mut Siblings,
     place: NodePlace<'_>,
-    value: Value<'t>,
+    value: Value,
 ) -> Result<(), PlanFault>
     requires noted { IsNoted read.old }
     requires level { place.level ≤ MAX_LEVELS + 1 }
-    ensures { let s = node_at siblings.old place.entry (view value.entry) in
+    ensures { let s = node_at siblings.old place.entry (view value) in
         let levels = levels_from place.entry.level in
         Meets (verdict_of_node read.old levels s)
         (λ _. AddsTree read.old read.new levels s
@@ -137,12 +138,12 @@ fn read_below(
     read: &mut ReadNodes,
     place: NodePlace<'_>,
     id: &UniqueId,
-    value: Value<'_>,
+    value: Value,
 ) -> Result<(), PlanFault>
     requires noted { IsNoted read.old }
     requires level { place.level ≤ MAX_LEVELS }
     requires id { id.now ≡ id_of (node_at [] place (view value)) }
-    ensures { let s = node_at [] place.entry (view value.entry) in
+    ensures { let s = node_at [] place.entry (view value) in
         let levels = levels_below place.entry.level in
         let group : NodeGroup = record { above = id_of s; levels = levels; nodes = below s } in
         Meets (verdict_of_group read.old group) (λ _. AddsGroup read.old read.new group)
@@ -173,23 +174,23 @@ fn read_below(
 
 /// Reads the nodes in a member of the node at `parent`, whose id is `id`.
 #[cycle(reading)]
-fn read_all<'t>(
+fn read_all(
     alloc: Global,
     read: &mut ReadNodes,
-    siblings: &mut Siblings<'t>,
+    siblings: &mut Siblings,
     parent: NodePlace<'_>,
     member: BelowMember,
     id: &UniqueId,
-    values: Vec<Value<'t>>,
+    values: Vec<Value>,
 ) -> Result<(), PlanFault>
     requires noted { IsNoted read.old }
     requires level { parent.level ≤ MAX_LEVELS }
     ensures { let array = array_at parent.entry member id.now in
-        let ss = node_inputs_in array 0 siblings.old (map view values.entry.items) in
+        let ss = node_inputs_in array 0 siblings.old (map view values.items) in
         let levels = levels_below parent.entry.level in
         let group : NodeGroup = record { above = id.now; levels = levels; nodes = ss } in
         Meets (verdict_of_group read.old group) (λ _. AddsGroup read.old read.new group
-        × (siblings.new ≡ siblings.old ++ map segment_in (map view values.entry.items))) result }
+        × (siblings.new ≡ siblings.old ++ map segment_in (map view values.items))) result }
 {
     if values.is_empty() {
         return Ok(());
@@ -213,12 +214,12 @@ fn read_root(
     alloc: Global,
     read: &mut ReadNodes,
     takes_files: bool,
-    root: Value<'_>,
+    root: Value,
 ) -> Result<(), PlanFault>
     requires nodes { read.old.nodes.items ≡ [] }
     requires descriptors { read.old.descriptors.items ≡ [] }
     requires noted { IsNoted read.old }
-    ensures { let s = root_at takes_files (view root.entry) in
+    ensures { let s = root_at takes_files (view root) in
         Meets (verdict [] (node_inputs MAX_LEVELS s)) (λ _. HasRead s read.new) result }
 {
     let mut siblings = Siblings::with_capacity(alloc, 1)?;
@@ -238,8 +239,8 @@ fn read_root(
 /// The first fault of the nodes in preorder, of each node in this order: `Deep`, `Field`,
 /// `EntryKeyTwice`, `Id`, `Table`, `TooManyResources`. Where a request for memory is refused, the
 /// fault is `Memory`.
-pub fn read_nodes(alloc: Global, takes_files: bool, root: Value<'_>) -> Result<ReadNodes, PlanFault>
-    ensures { let s = root_at takes_files (view root.entry) in
+pub fn read_nodes(alloc: Global, takes_files: bool, root: Value) -> Result<ReadNodes, PlanFault>
+    ensures { let s = root_at takes_files (view root) in
         Meets (verdict [] (node_inputs MAX_LEVELS s)) (HasRead s) result }
 {
     let mut read = ReadNodes::new(alloc);

@@ -7,15 +7,16 @@ ghost use Rattle.tk_plan_json.specs.CodeValues.{json_segment_text};
 use indexmap::IndexSet;
 use std::alloc::{AllocError, Global};
 use std::marker::Model;
+use tk_ids::Text;
 use tk_plan_members::member_values::TwoTexts;
 
 /// The segments of a parent's children, as far as they were read.
 #[derive(Drop)]
-pub(crate) struct Siblings<'t> {
-    keys: IndexSet<(&'t str, &'t str)>,
+pub(crate) struct Siblings {
+    keys: IndexSet<(Text, Text)>,
 }
 
-impl<'t> Model for Siblings<'t> {
+impl Model for Siblings {
     ghost use Rattle.std.specs.Prelude.{List, map, ℕ};
     ghost use Rattle.tk_ids.specs.IdText.{SegmentView};
     ghost use Rattle.tk_plan_json.specs.SegmentSets.{segments_of};
@@ -25,12 +26,12 @@ impl<'t> Model for Siblings<'t> {
     ghost view = { λ s. segments_of s.keys.keys };
 }
 
-impl<'t> Siblings<'t> {
+impl Siblings {
     /// No segments, with room for as many as `capacity`.
     ///
     /// # Errors
     /// `AllocError` where a request for memory is refused.
-    pub fn with_capacity(alloc: Global, capacity: usize) -> Result<Siblings<'t>, AllocError>
+    pub fn with_capacity(alloc: Global, capacity: usize) -> Result<Siblings, AllocError>
         ensures { IfOk result (λ siblings. siblings ≡ []) }
     {
         Ok(Siblings {
@@ -38,17 +39,19 @@ impl<'t> Siblings<'t> {
         })
     }
 
-    /// Puts a segment at the end unless it is there; answers whether it was put.
+    /// Puts a copy of a segment at the end unless it is there; answers whether it was put.
     ///
     /// # Errors
     /// `AllocError` where a request for memory is refused.
-    pub fn insert(&mut self, segment: TwoTexts<'t>) -> Result<bool, AllocError>
+    pub fn insert(&mut self, alloc: Global, segment: TwoTexts<'_>) -> Result<bool, AllocError>
         ensures answer { IfOk result (λ is_new.
             is_new ≡ not (list_any (same_segment (json_segment_text segment.entry)) self.old)) }
         ensures segments { IfOk result (λ is_new.
             self.new ≡ (if is_new then self.old ++ json_segment_text segment.entry ∷ []
             else self.old)) }
     {
-        Ok(self.keys.insert((segment.first, segment.second))?)
+        let tag = Text::copy(alloc, segment.first)?;
+        let value = Text::copy(alloc, segment.second)?;
+        Ok(self.keys.insert((tag, value))?)
     }
 }

@@ -1,8 +1,7 @@
 pub mod ChecksInTurn
 pub mod Escapes
 pub mod Items
-pub mod JsonData
-pub mod JsonNumbers
+pub mod Taking
 pub mod UnknownMembers
 pub mod Locking
 pub mod Passing

@@ -12,8 +12,8 @@ use Rattle.std.specs.BTreeMap.{insert_entry}
 use Rattle.std.proofs.lemmas.Map.Lookups.{exact_bytes}
 use Rattle.serde_json.specs.Data.{Data}
 use Rattle.serde_json.specs.Find.{as_array}
-use Rattle.tk_plan_members.specs.JsonValues.{view, items_view}
-use Rattle.tk_plan_members.specs.JsonValues.{JsonValue}
+use Rattle.serde_json.specs.View.{view, items_view}
+use Rattle.serde_json.specs.declared.value.Value.{Value}
 use Rattle.tk_plan_members.specs.Contents.{listed}
 use Rattle.tk_plan_members.proofs.Items.{listed_items, array_items}
 use Rattle.tk_events.specs.Event.{is_strictly_increasing, is_before}
@@ -86,7 +86,7 @@ pub record GoesOn (at : List ℕ) (d : Data) (i : ℕ) (put : List Texts) (is_tw
   pub keys : (k : List ℕ) → has_key k put ≡ list_any (bytes_eq k) earlier
   pub twice : repeats d ≡ is_twice || repeats_after earlier (pairs_in left)
 
-pub goes_start : (at : List ℕ) (d : Data) (vs items : List JsonValue) (put : List Texts) → Some (items_view vs) ≡ as_array d → items ≡ vs → put ≡ []
+pub goes_start : (at : List ℕ) (d : Data) (vs items : List Value) (put : List Texts) → Some (items_view vs) ≡ as_array d → items ≡ vs → put ≡ []
     → GoesOn at d 0 put false (map view items)
 goes_start at d vs items put e is none =
     let all : listed (Some d) ≡ map view items = listed_items d vs e ∙ ap (map view) (sym is) in
@@ -133,7 +133,7 @@ map_is_increasing (p ∷ []) h = refl
 map_is_increasing (p ∷ q ∷ es) h = increasing_next p q (is_strictly_increasing (q ∷ es)) h.0.0 (map_is_increasing (q ∷ es) h.1)
 
 -- an entry of one pair
-pub read_alone : (at : List ℕ) (d : Data) (vs : List JsonValue) (v : JsonValue) (r : Result Report PlanFault) → Some (items_view vs) ≡ as_array d → length vs ≡ 1 → v ≡ get_or vs 0 v
+pub read_alone : (at : List ℕ) (d : Data) (vs : List Value) (v : Value) (r : Result Report PlanFault) → Some (items_view vs) ≡ as_array d → length vs ≡ 1 → v ≡ get_or vs 0 v
     → Reads (pair_of text (item_at at 0) (view v)) (IsOnlyPair (view v)) r → Reads (entry at d) (IsReport d) r
 read_alone at d [] v r is one first h = absurd (omega arith)
 read_alone at d (x ∷ y ∷ vs) v r is one first h = absurd (omega arith)
@@ -172,7 +172,7 @@ pub record Reported (at : List ℕ) (d : Data) (i : ℕ) (es : List (List Texts)
   pub increasing : list_all is_strictly_increasing es ≡ true
   pub twice : list_any repeats (listed (Some d)) ≡ is_twice || list_any repeats left
 
-pub report_start : (at : List ℕ) (d : Data) (vs items : List JsonValue) (es : List (List Texts)) → Some (items_view vs) ≡ as_array d → items ≡ vs → es ≡ []
+pub report_start : (at : List ℕ) (d : Data) (vs items : List Value) (es : List (List Texts)) → Some (items_view vs) ≡ as_array d → items ≡ vs → es ≡ []
     → Reported at d 0 es false (map view items)
 report_start at d vs items es e is none =
     let all : listed (Some d) ≡ map view items = listed_items d vs e ∙ ap (map view) (sym is) in

@@ -1,9 +1,5 @@
--- The characters that have a meaning in JSON Pointers and in numbers.
+-- The characters that have a meaning in JSON Pointers.
 use Rattle.std.specs.Prelude.{ℕ}
-
--- `-`
-abbrev pub minus_sign : ℕ
-minus_sign = 45
 
 -- `/`
 abbrev pub slash : ℕ

@@ -3,7 +3,6 @@ pub mod Checks
 pub mod Rows
 pub mod Contents
 pub mod Refusals
-pub mod JsonValues
 pub mod Answers
 pub mod Pointers
 pub mod MemberValues

@@ -1,7 +1,8 @@
--- What the code's places and pairs of texts stand for.
-use Rattle.std.specs.Prelude.{◌≡◌, ℕ, List, Option}
-use Rattle.serde_json.specs.Data.{Data}
-use Rattle.tk_plan_members.specs.Checks.{item_at}
+-- What the code's places, names and pairs of texts stand for.
+use Rattle.std.specs.Prelude.{◌≡◌, ℕ, List, Option, option_map}
+use denote.Ref.{Bor}
+use Rattle.serde_json.specs.Data.{Data, Members}
+use Rattle.tk_plan_members.specs.Checks.{item_at, member_at, unknown_in}
 use Rattle.tk_plan_members.specs.Contents.{json_pair}
 use Rattle.tk_plan_members.specs.declared.json_paths.JsonPath.{JsonPath}
 use Rattle.tk_plan_members.specs.declared.json_paths.JsonPath.TheVariants.{Whole, Item, Inner}
@@ -17,3 +18,8 @@ pointer (Inner at i j) = item_at (item_at at.now i) j
 pub record IsPairOf (d : Option Data) (p : TwoTexts) : Type 0 where
   pub first : p.first.now ≡ (json_pair d).0
   pub second : p.second.now ≡ (json_pair d).1
+
+-- the name is that of the first member that has none of the names
+abbrev pub IsFirstUnknown : List (List ℕ) → Members → Option (Bor (List ℕ)) → Type 0
+IsFirstUnknown names ms name =
+    (at : List ℕ) → unknown_in names at ms ≡ option_map (λ n. member_at at n.now) name

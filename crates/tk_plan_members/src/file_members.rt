@@ -1,6 +1,6 @@
 //! Readers of files.
 ghost use Rattle.std.specs.Prelude.{◌≡◌, Some};
-ghost use Rattle.tk_plan_members.specs.JsonValues.{view};
+ghost use Rattle.serde_json.specs.View.{view};
 ghost use Rattle.tk_plan_members.specs.Checks.{array_of, item_at, members_wrong};
 ghost use Rattle.tk_plan_members.specs.Rows.{files_rows, nonempty_text};
 ghost use Rattle.tk_plan_members.specs.Pointers.{pointer};
@@ -10,25 +10,25 @@ ghost use Rattle.tk_plan_members.specs.MemberValues.{AreFiles};
 
 use crate::faults::PlanFault;
 use crate::json_paths::JsonPath;
-use crate::json_values::{items_in, member, text_in};
+use crate::json_values::items_in;
 use crate::path_texts::{member_path, wrong_item, wrong_value};
-use json::Value;
+use serde_json::Value;
 use std::alloc::Global;
 use tk_ids::Text;
 use tk_plan_units::Files;
 
 /// The path of a file, an item of the array there.
-fn path(alloc: Global, array: &str, index: usize, item: &Value<'_>) -> Result<Text, PlanFault>
+fn path(alloc: Global, array: &str, index: usize, item: &Value) -> Result<Text, PlanFault>
     ensures { Reads (nonempty_text (item_at array.now index) (view item.now))
         (λ t. t ≡ json_path (view item.now)) result }
 {
-    match text_in(item) {
+    match item.as_str() {
         Some(text) if !text.is_empty() => Ok(Text::copy(alloc, text)?),
         _ => Err(wrong_item(alloc, JsonPath::Whole(array), index)),
     }
 }
 
-fn files(alloc: Global, at: &str, value: &Value<'_>) -> Result<Files, PlanFault>
+fn files(alloc: Global, at: &str, value: &Value) -> Result<Files, PlanFault>
     ensures { Reads (array_of nonempty_text at.now (view value.now))
         (λ f. f ≡ json_files (Some (view value.now))) result }
 {
@@ -50,7 +50,7 @@ fn files(alloc: Global, at: &str, value: &Value<'_>) -> Result<Files, PlanFault>
 pub fn files_member(
     alloc: Global,
     at: JsonPath<'_>,
-    object: &Value<'_>,
+    object: &Value,
     takes_files: bool,
 ) -> Result<Files, PlanFault>
     ensures { Reads (members_wrong (files_rows takes_files) (pointer at.entry) (view object.now))
@@ -59,7 +59,7 @@ pub fn files_member(
     if !takes_files {
         return Ok(Files::new(Vec::new(alloc)));
     }
-    match member(object, "files") {
+    match object.get("files") {
         Some(value) => {
             let path = member_path(alloc, at, "files")?;
             files(alloc, &path, value)

@@ -1,23 +1,22 @@
 //! Readers of single members.
-ghost use Rattle.std.specs.Prelude.{◌≡◌, ℕ, List, Some, None, IfSome, IfOk, IsTrue, codes, flat_map, map};
+ghost use Rattle.std.specs.Prelude.{◌≡◌, ◌==◌, ℕ, List, Some, None, IfSome, codes, flat_map, length, map};
 ghost use Rattle.std.specs.List.{list_any};
 ghost use Rattle.std.specs.Str.{bytes_eq};
 ghost use Rattle.serde_json.specs.Find.{get};
-ghost use Rattle.tk_plan_members.specs.JsonValues.{view, members_view, AreKnown, IsFirstUnknown};
+ghost use Rattle.serde_json.specs.View.{view, members_view};
 ghost use Rattle.tk_plan_members.specs.Checks.{escape, item_at, text as is_text, any_array, pair_of, row, must, may, unknown};
 ghost use Rattle.tk_plan_members.specs.Rows.{dtype_row, segment_row, mode_row, isolated_row};
-ghost use Rattle.tk_plan_members.specs.Pointers.{pointer, IsPairOf};
+ghost use Rattle.tk_plan_members.specs.Pointers.{pointer, IsPairOf, IsFirstUnknown};
 ghost use Rattle.tk_plan_members.specs.Answers.{Reads};
 ghost use Rattle.tk_plan_members.specs.Contents.{json_text, json_optional, json_truth, json_dtype, json_concurrent, listed};
 
 use crate::faults::PlanFault;
 use crate::json_paths::JsonPath;
-use crate::json_values::{Items, items_in, member, members_in, text_in, truth_in};
+use crate::json_values::items_in;
 use crate::member_values::TwoTexts;
 use crate::path_texts::{escaped_path, field, member_path, wrong_item, wrong_member, wrong_value};
-use json::Value;
-use std::alloc::{AllocError, Global};
-use std::collections::BTreeMap;
+use serde_json::{Map, Value};
+use std::alloc::Global;
 use tk_ids::{DType, Text};
 
 /// Reads a member that has to be there and to be a text.
@@ -28,14 +27,14 @@ use tk_ids::{DType, Text};
 pub fn text_member(
     alloc: Global,
     at: JsonPath<'_>,
-    object: &Value<'_>,
+    object: &Value,
     name: &str,
 ) -> Result<Text, PlanFault>
     requires { flat_map escape name.now ≡ name.now }
     ensures { Reads (row (pointer at.entry) (view object.now) (must name.now is_text))
         (λ t. t ≡ json_text (get name.now (view object.now))) result }
 {
-    match member(object, name).and_then(text_in) {
+    match object.get(name).and_then(Value::as_str) {
         Some(text) => Ok(Text::copy(alloc, text)?),
         None => Err(wrong_member(alloc, at, name)),
     }
@@ -49,17 +48,17 @@ pub fn text_member(
 pub fn optional_member(
     alloc: Global,
     at: JsonPath<'_>,
-    object: &Value<'_>,
+    object: &Value,
     name: &str,
 ) -> Result<Option<Text>, PlanFault>
     requires { flat_map escape name.now ≡ name.now }
     ensures { Reads (row (pointer at.entry) (view object.now) (may name.now is_text))
         (λ t. t ≡ json_optional (get name.now (view object.now))) result }
 {
-    let Some(value) = member(object, name) else {
+    let Some(value) = object.get(name) else {
         return Ok(None);
     };
-    match text_in(value) {
+    match value.as_str() {
         Some(text) => Ok(Some(Text::copy(alloc, text)?)),
         None => Err(wrong_member(alloc, at, name)),
     }
@@ -70,11 +69,11 @@ pub fn optional_member(
 /// # Errors
 /// `Field` with the place of the member where it is missing or no name of a type; `Memory` where a
 /// request for memory is refused.
-pub fn dtype_member(alloc: Global, at: JsonPath<'_>, object: &Value<'_>) -> Result<DType, PlanFault>
+pub fn dtype_member(alloc: Global, at: JsonPath<'_>, object: &Value) -> Result<DType, PlanFault>
     ensures { Reads (row (pointer at.entry) (view object.now) dtype_row)
         (λ t. t ≡ json_dtype (get (codes "type") (view object.now))) result }
 {
-    match member(object, "type").and_then(text_in) {
+    match object.get("type").and_then(Value::as_str) {
         Some("container") => Ok(DType::Container),
         Some("test") => Ok(DType::Test),
         Some("both") => Ok(DType::Both),
@@ -87,14 +86,14 @@ pub fn dtype_member(alloc: Global, at: JsonPath<'_>, object: &Value<'_>) -> Resu
 /// # Errors
 /// `Field` with the place of the member where it is there and no name of a mode; `Memory` where a
 /// request for memory is refused.
-pub fn mode_member(alloc: Global, at: JsonPath<'_>, object: &Value<'_>) -> Result<bool, PlanFault>
+pub fn mode_member(alloc: Global, at: JsonPath<'_>, object: &Value) -> Result<bool, PlanFault>
     ensures { Reads (row (pointer at.entry) (view object.now) mode_row)
         (λ b. b ≡ json_concurrent (get (codes "mode") (view object.now))) result }
 {
-    let Some(value) = member(object, "mode") else {
+    let Some(value) = object.get("mode") else {
         return Ok(false);
     };
-    match text_in(value) {
+    match value.as_str() {
         Some("same_thread") => Ok(false),
         Some("concurrent") => Ok(true),
         _ => Err(wrong_member(alloc, at, "mode")),
@@ -106,45 +105,41 @@ pub fn mode_member(alloc: Global, at: JsonPath<'_>, object: &Value<'_>) -> Resul
 /// # Errors
 /// `Field` with the place of the member where it is there and neither true nor false; `Memory`
 /// where a request for memory is refused.
-pub fn isolated_member(
-    alloc: Global,
-    at: JsonPath<'_>,
-    object: &Value<'_>,
-) -> Result<bool, PlanFault>
+pub fn isolated_member(alloc: Global, at: JsonPath<'_>, object: &Value) -> Result<bool, PlanFault>
     ensures { Reads (row (pointer at.entry) (view object.now) isolated_row)
         (λ b. b ≡ json_truth (get (codes "isolated") (view object.now))) result }
 {
-    let Some(value) = member(object, "isolated") else {
+    let Some(value) = object.get("isolated") else {
         return Ok(false);
     };
-    match truth_in(value) {
+    match value.as_bool() {
         Some(is_isolated) => Ok(is_isolated),
         None => Err(wrong_member(alloc, at, "isolated")),
     }
 }
 
 /// Reads the item of this index of the array at `at`, which has to be a text.
-fn item_text<'t>(
+fn item_text<'v>(
     alloc: Global,
     at: JsonPath<'_>,
     index: usize,
-    item: &Value<'t>,
-) -> Result<&'t str, PlanFault>
+    item: &'v Value,
+) -> Result<&'v str, PlanFault>
     ensures { Reads (is_text (item_at (pointer at.entry) index) (view item.now))
         (λ t. t.now ≡ json_text (Some (view item.now))) result }
 {
-    match text_in(item) {
+    match item.as_str() {
         Some(text) => Ok(text),
         None => Err(wrong_item(alloc, at, index)),
     }
 }
 
 /// Reads an array of two texts.
-pub(crate) fn two_texts<'t>(
+pub(crate) fn two_texts<'v>(
     alloc: Global,
     at: JsonPath<'_>,
-    value: &Value<'t>,
-) -> Result<TwoTexts<'t>, PlanFault>
+    value: &'v Value,
+) -> Result<TwoTexts<'v>, PlanFault>
     ensures { Reads (pair_of is_text (pointer at.entry) (view value.now))
         (IsPairOf (Some (view value.now))) result }
 {
@@ -157,14 +152,14 @@ pub(crate) fn two_texts<'t>(
 }
 
 /// The two texts of an array, or `None` where the value is anything else.
-fn pair_in<'t>(value: &Value<'t>) -> Option<TwoTexts<'t>>
+fn pair_in(value: &Value) -> Option<TwoTexts<'_>>
     ensures pair { IfSome result (IsPairOf (Some (view value.now))) }
     ensures fine { IfSome result (λ _. (at : List ℕ) → pair_of is_text at (view value.now) ≡ None) }
 {
     match items_in(value)? {
         [first, second] => Some(TwoTexts {
-            first: text_in(first)?,
-            second: text_in(second)?,
+            first: first.as_str()?,
+            second: second.as_str()?,
         }),
         _ => None,
     }
@@ -175,15 +170,15 @@ fn pair_in<'t>(value: &Value<'t>) -> Option<TwoTexts<'t>>
 /// # Errors
 /// `Field` with the place of the member where it is missing or not of two items, or with that of
 /// its first item that is no text; `Memory` where a request for memory is refused.
-pub fn segment_member<'t>(
+pub fn segment_member<'v>(
     alloc: Global,
     at: JsonPath<'_>,
-    object: &Value<'t>,
-) -> Result<TwoTexts<'t>, PlanFault>
+    object: &'v Value,
+) -> Result<TwoTexts<'v>, PlanFault>
     ensures { Reads (row (pointer at.entry) (view object.now) segment_row)
         (IsPairOf (get (codes "segment") (view object.now))) result }
 {
-    let Some(value) = member(object, "segment") else {
+    let Some(value) = object.get("segment") else {
         return Err(wrong_member(alloc, at, "segment"));
     };
     match pair_in(value) {
@@ -195,27 +190,27 @@ pub fn segment_member<'t>(
     }
 }
 
-/// Reads a member that may be missing, and else is an array: its items.
+/// Refuses a member that is there and no array. Answers whether it has no items.
 ///
 /// # Errors
 /// `Field` with the place of the member where it is there and no array; `Memory` where a request
 /// for memory is refused.
-pub fn array_member<'v, 't>(
+pub fn array_member(
     alloc: Global,
     at: JsonPath<'_>,
-    object: &'v Value<'t>,
+    object: &Value,
     name: &str,
-) -> Result<Items<'v, 't>, PlanFault>
+) -> Result<bool, PlanFault>
     requires { flat_map escape name.now ≡ name.now }
     ensures { Reads (row (pointer at.entry) (view object.now) (may name.now any_array))
-        (λ l. map view l.values.now ≡ listed (get name.now (view object.now))) result }
+        (λ is_empty. is_empty ≡ (length (listed (get name.now (view object.now))) == 0)) result }
 {
-    match member(object, name) {
+    match object.get(name) {
         Some(value) => match items_in(value) {
-            Some(values) => Ok(Items { values }),
+            Some(items) => Ok(items.is_empty()),
             None => Err(wrong_member(alloc, at, name)),
         },
-        None => Ok(Items::none()),
+        None => Ok(true),
     }
 }
 
@@ -226,36 +221,16 @@ fn is_among(names: &[&str], name: &str) -> bool
     names.contains(&name)
 }
 
-/// Whether each member has one of `names`.
-pub fn are_known(members: &[(&str, Value<'_>)], names: &[&str]) -> bool
-    ensures { IsTrue result → AreKnown (map (λ n. n.now) names.now) (members_view members.now) }
-{
-    for member in members {
-        if !is_among(names, member.0) {
-            return false;
-        }
-    }
-    true
-}
-
 /// The first name, in byte order, of a member that has none of `names`.
-fn first_unknown<'t>(
-    alloc: Global,
-    members: &[(&'t str, Value<'t>)],
-    names: &[&str],
-) -> Result<Option<&'t str>, AllocError>
-    ensures { IfOk result (IsFirstUnknown (map (λ n. n.now) names.now) (members_view members.now)) }
+fn first_unknown<'v>(members: &'v Map<String, Value>, names: &[&str]) -> Option<&'v str>
+    ensures { IsFirstUnknown (map (λ n. n.now) names.now) (members_view members.now.entries) result }
 {
-    let mut sorted = BTreeMap::new(alloc);
-    for member in members {
-        sorted.insert(member.0, ())?;
-    }
-    for (name, _) in sorted {
-        if !is_among(names, name) {
-            return Ok(Some(name));
+    for name in members.keys() {
+        if !is_among(names, name.as_str()) {
+            return Some(name.as_str());
         }
     }
-    Ok(None)
+    None
 }
 
 /// Refuses a value that is no object, and an object with a member that is not one of `names`.
@@ -266,19 +241,16 @@ fn first_unknown<'t>(
 pub fn check_members(
     alloc: Global,
     at: JsonPath<'_>,
-    value: &Value<'_>,
+    value: &Value,
     names: &[&str],
 ) -> Result<(), PlanFault>
     ensures { Reads (unknown (map (λ n. n.now) names.now) (pointer at.entry) (view value.now))
         (λ _. Unit {0}) result }
 {
-    let Some(members) = members_in(value) else {
+    let Some(members) = value.as_object() else {
         return Err(wrong_value(alloc, at));
     };
-    if are_known(members, names) {
-        return Ok(());
-    }
-    match first_unknown(alloc, members, names)? {
+    match first_unknown(members, names) {
         Some(name) => Err(field(escaped_path(alloc, at, name)?)),
         None => Ok(()),
     }

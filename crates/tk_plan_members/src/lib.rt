@@ -2,8 +2,7 @@
 //!
 //! - Single members: `json_members`, `lock_members`, `file_members`, and `result_members` for the
 //!   result and the entries. What these readers hand on: `member_values`.
-//! - The JSON value of a text: `json_texts`; what a value is, and its parts, lent or taken out of
-//!   it: `json_values`, its numbers in `json_numbers`.
+//! - Parts of a JSON value, lent or taken out of it: `json_values`.
 //! - Where a value stands: `json_paths`, and `path_texts` to write a place out.
 //! - Faults: `faults`.
 #![tactic(auto)]
@@ -11,9 +10,7 @@
 mod faults;
 pub mod file_members;
 pub mod json_members;
-pub mod json_numbers;
 pub mod json_paths;
-pub mod json_texts;
 pub mod json_values;
 pub mod lock_members;
 pub mod member_values;

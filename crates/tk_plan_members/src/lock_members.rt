@@ -1,7 +1,7 @@
 //! Readers of locks.
 ghost use Rattle.std.specs.Prelude.{◌≡◌, Some, codes};
 ghost use Rattle.serde_json.specs.Find.{get};
-ghost use Rattle.tk_plan_members.specs.JsonValues.{view};
+ghost use Rattle.serde_json.specs.View.{view};
 ghost use Rattle.tk_plan_members.specs.Checks.{array_of, row};
 ghost use Rattle.tk_plan_members.specs.Rows.{lock_mode_row, locks_row, lock as is_lock};
 ghost use Rattle.tk_plan_members.specs.Pointers.{pointer};
@@ -11,28 +11,28 @@ ghost use Rattle.tk_plan_members.specs.Contents.{json_writes, json_lock, json_lo
 use crate::faults::PlanFault;
 use crate::json_members::{check_members, text_member};
 use crate::json_paths::JsonPath;
-use crate::json_values::{items_in, member, text_in};
+use crate::json_values::items_in;
 use crate::path_texts::{member_path, wrong_member, wrong_value};
-use json::Value;
+use serde_json::Value;
 use std::alloc::Global;
 use tk_plan_units::{Lock, Locks};
 
 /// Whether the lock writes.
-fn lock_mode_member(alloc: Global, at: JsonPath<'_>, object: &Value<'_>) -> Result<bool, PlanFault>
+fn lock_mode_member(alloc: Global, at: JsonPath<'_>, object: &Value) -> Result<bool, PlanFault>
     ensures { Reads (row (pointer at.entry) (view object.now) lock_mode_row)
         (λ w. w ≡ json_writes (get (codes "mode") (view object.now))) result }
 {
-    let Some(value) = member(object, "mode") else {
+    let Some(value) = object.get("mode") else {
         return Ok(true);
     };
-    match text_in(value) {
+    match value.as_str() {
         Some("read") => Ok(false),
         Some("read_write") => Ok(true),
         _ => Err(wrong_member(alloc, at, "mode")),
     }
 }
 
-fn lock(alloc: Global, at: JsonPath<'_>, value: &Value<'_>) -> Result<Lock, PlanFault>
+fn lock(alloc: Global, at: JsonPath<'_>, value: &Value) -> Result<Lock, PlanFault>
     ensures { Reads (is_lock (pointer at.entry) (view value.now))
         (λ l. l ≡ json_lock (view value.now)) result }
 {
@@ -42,7 +42,7 @@ fn lock(alloc: Global, at: JsonPath<'_>, value: &Value<'_>) -> Result<Lock, Plan
     Ok(Lock { key, writes })
 }
 
-fn locks(alloc: Global, at: &str, value: &Value<'_>) -> Result<Locks, PlanFault>
+fn locks(alloc: Global, at: &str, value: &Value) -> Result<Locks, PlanFault>
     ensures { Reads (array_of is_lock at.now (view value.now))
         (λ l. l ≡ json_locks (Some (view value.now))) result }
 {
@@ -61,11 +61,11 @@ fn locks(alloc: Global, at: &str, value: &Value<'_>) -> Result<Locks, PlanFault>
 /// # Errors
 /// `Field` with the first place in the member where something is wrong or missing; `Memory` where a
 /// request for memory is refused.
-pub fn locks_member(alloc: Global, at: JsonPath<'_>, object: &Value<'_>) -> Result<Locks, PlanFault>
+pub fn locks_member(alloc: Global, at: JsonPath<'_>, object: &Value) -> Result<Locks, PlanFault>
     ensures { Reads (row (pointer at.entry) (view object.now) locks_row)
         (λ l. l ≡ json_locks (get (codes "locks") (view object.now))) result }
 {
-    match member(object, "locks") {
+    match object.get("locks") {
         Some(value) => {
             let path = member_path(alloc, at, "locks")?;
             locks(alloc, &path, value)

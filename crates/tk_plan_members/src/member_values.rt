@@ -6,9 +6,9 @@ use tk_plan_units::Entries;
 
 /// The texts of an array of two.
 #[derive(Clone, Copy, Drop)]
-pub struct TwoTexts<'t> {
-    pub first: &'t str,
-    pub second: &'t str,
+pub struct TwoTexts<'v> {
+    pub first: &'v str,
+    pub second: &'v str,
 }
 
 /// How a node finishes.

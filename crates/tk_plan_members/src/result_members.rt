@@ -4,7 +4,7 @@ ghost use Rattle.std.specs.BTreeMap.{insert_entry};
 ghost use Rattle.std.specs.Cmp.Lexicographic.{slice_cmp};
 ghost use Rattle.std.specs.Ordering.{nat_cmp};
 ghost use Rattle.serde_json.specs.Find.{get};
-ghost use Rattle.tk_plan_members.specs.JsonValues.{view};
+ghost use Rattle.serde_json.specs.View.{view};
 ghost use Rattle.tk_events.specs.Event.{is_strictly_increasing};
 ghost use Rattle.tk_plan_members.specs.Checks.{array_of, item_at, pair_of, row, text as is_text};
 ghost use Rattle.tk_plan_members.specs.Rows.{status_row, result_row, entries_row, entry as is_entry, result as is_result};
@@ -16,21 +16,21 @@ ghost use Rattle.tk_plan_members.specs.MemberValues.{has_key, IsNodeResult, IsOn
 use crate::faults::PlanFault;
 use crate::json_members::{check_members, optional_member, two_texts};
 use crate::json_paths::JsonPath;
-use crate::json_values::{items_in, member, text_in};
+use crate::json_values::items_in;
 use crate::member_values::{NodeResult, Report, Reports, TwoTexts};
 use crate::path_texts::{member_path, wrong_item, wrong_member, wrong_value};
-use json::Value;
+use serde_json::Value;
 use std::alloc::{AllocError, Global};
 use std::collections::BTreeMap;
 use tk_events::{Pairs, Status};
 use tk_ids::Text;
 use tk_plan_units::Entries;
 
-fn status_member(alloc: Global, at: JsonPath<'_>, object: &Value<'_>) -> Result<Status, PlanFault>
+fn status_member(alloc: Global, at: JsonPath<'_>, object: &Value) -> Result<Status, PlanFault>
     ensures { Reads (row (pointer at.entry) (view object.now) status_row)
         (λ s. s ≡ json_status (get (codes "status") (view object.now))) result }
 {
-    match member(object, "status").and_then(text_in) {
+    match object.get("status").and_then(Value::as_str) {
         Some("successful") => Ok(Status::Successful),
         Some("aborted") => Ok(Status::Aborted),
         Some("failed") => Ok(Status::Failed),
@@ -38,7 +38,7 @@ fn status_member(alloc: Global, at: JsonPath<'_>, object: &Value<'_>) -> Result<
     }
 }
 
-fn node_result(alloc: Global, at: JsonPath<'_>, value: &Value<'_>) -> Result<NodeResult, PlanFault>
+fn node_result(alloc: Global, at: JsonPath<'_>, value: &Value) -> Result<NodeResult, PlanFault>
     ensures { Reads (is_result (pointer at.entry) (view value.now))
         (IsNodeResult (Some (view value.now))) result }
 {
@@ -59,12 +59,12 @@ fn node_result(alloc: Global, at: JsonPath<'_>, value: &Value<'_>) -> Result<Nod
 pub fn result_member(
     alloc: Global,
     at: JsonPath<'_>,
-    object: &Value<'_>,
+    object: &Value,
 ) -> Result<NodeResult, PlanFault>
     ensures { Reads (row (pointer at.entry) (view object.now) result_row)
         (IsNodeResult (get (codes "result") (view object.now))) result }
 {
-    match member(object, "result") {
+    match object.get("result") {
         Some(value) => {
             let path = member_path(alloc, at, "result")?;
             node_result(alloc, JsonPath::Whole(&path), value)
@@ -105,12 +105,7 @@ fn insert_pair(
 }
 
 /// Reads the pair of an entry that has no other: it needs no map.
-fn only_pair(
-    alloc: Global,
-    array: &str,
-    index: usize,
-    item: &Value<'_>,
-) -> Result<Report, PlanFault>
+fn only_pair(alloc: Global, array: &str, index: usize, item: &Value) -> Result<Report, PlanFault>
     ensures { Reads (pair_of is_text (item_at (item_at array.now index) 0) (view item.now))
         (IsOnlyPair (view item.now)) result }
 {
@@ -123,7 +118,7 @@ fn only_pair(
     })
 }
 
-fn entry(alloc: Global, array: &str, index: usize, value: &Value<'_>) -> Result<Report, PlanFault>
+fn entry(alloc: Global, array: &str, index: usize, value: &Value) -> Result<Report, PlanFault>
     ensures { Reads (is_entry (item_at array.now index) (view value.now))
         (IsReport (view value.now)) result }
 {
@@ -143,7 +138,7 @@ fn entry(alloc: Global, array: &str, index: usize, value: &Value<'_>) -> Result<
     Ok(Report { pairs, repeats })
 }
 
-fn entries(alloc: Global, at: &str, value: &Value<'_>) -> Result<Reports, PlanFault>
+fn entries(alloc: Global, at: &str, value: &Value) -> Result<Reports, PlanFault>
     ensures { Reads (array_of is_entry at.now (view value.now))
         (AreReports (listed (Some (view value.now)))) result }
 {
@@ -168,15 +163,11 @@ fn entries(alloc: Global, at: &str, value: &Value<'_>) -> Result<Reports, PlanFa
 /// # Errors
 /// `Field` with the first place in the member where something is wrong or missing; `Memory` where a
 /// request for memory is refused.
-pub fn entries_member(
-    alloc: Global,
-    at: JsonPath<'_>,
-    object: &Value<'_>,
-) -> Result<Reports, PlanFault>
+pub fn entries_member(alloc: Global, at: JsonPath<'_>, object: &Value) -> Result<Reports, PlanFault>
     ensures { Reads (row (pointer at.entry) (view object.now) entries_row)
         (AreReports (listed (get (codes "entries") (view object.now)))) result }
 {
-    match member(object, "entries") {
+    match object.get("entries") {
         Some(value) => {
             let path = member_path(alloc, at, "entries")?;
             entries(alloc, &path, value)

@@ -1,32 +1,28 @@
--- The JSON values that the code makes.
-use Rattle.std.proofs.Common.{◌≡◌, ◌++◌, List, ℕ, [], ◌∷◌, Vec, Bor, codes, map, refl, ap, rules, ◌∙◌}
-use Rattle.std.specs.declared.alloc.Global.{Global}
-use Rattle.json.specs.Json.{member, number, object, string}
-use Rattle.json.specs.Value.{value_view, members_view}
-use Rattle.json.specs.declared.value.Value.{Number, Object, String, the_lemmas}
-use Rattle.json.proofs.Trees.{view-Object}
-use Rattle.tk_plan_nodes.specs.NodeJson.{members_from, json_object, node_json, layer_json, heading_members, concurrency_members, content_members, array_members}
-use Rattle.tk_plan_nodes.specs.NodeValues.{JsonValue, named}
+-- The JSON objects that the code makes.
+use Rattle.std.proofs.Common.{◌≡◌, ◌++◌, List, [], ◌∷◌, BTreeMap, String, Global, codes, map, refl, sym, ap, ◌∙◌}
+use Rattle.serde_json.specs.Data.{Members, no_members, object, put}
+use Rattle.serde_json.specs.View.{view, members_view}
+use Rattle.serde_json.specs.declared.value.Value.{Value, Object}
+use Rattle.serde_json.proofs.Views.{view-Object}
+use Rattle.tk_plan_nodes.specs.NodeJson.{NamedJson, with_members, json_object, node_json, layer_json, heading_members, concurrency_members, content_members, array_members}
 use Rattle.tk_plan_nodes.specs.NodeViews.{node_view}
 use Rattle.tk_plan_nodes.specs.declared.plan_nodes.PlanNode.{PlanNode}
 use Rattle.tk_plan_nodes.specs.declared.plan_nodes.PlanNode.TheFolds.{fold_out-PlanNode}
 
-members_view-named : (ms : List (Bor (List ℕ) × JsonValue)) → members_view ms ≡ members_from (named ms)
-members_view-named [] = refl
-members_view-named (m ∷ ms) = ap (member m.0.now (value_view m.1)) (members_view-named ms)
+pub members_append : (found : Members) (a b : List NamedJson) → with_members found (a ++ b) ≡ with_members (with_members found a) b
+members_append found [] b = refl
+members_append found (m ∷ a) b = members_append (put m.0 m.1 found) a b
 
 -- an object, by its members
-pub view_of_object : (v : Vec (Bor (List ℕ) × JsonValue) Global) → value_view (Object v) ≡ json_object (named v.items)
-view_of_object v = view-Object v ∙ ap object (members_view-named v.items)
-
-pub view_of_text : (text : Bor (List ℕ)) → value_view {A = Global} (String text) ≡ string text.now
-view_of_text text = search (rules, the_lemmas)
-
-pub view_of_number : (text : Bor (List ℕ)) → value_view {A = Global} (Number text) ≡ number text.now
-view_of_number text = search (rules, the_lemmas)
+pub view_of_object : (m : BTreeMap (String Global) Value) (ms : List NamedJson) → members_view m.entries ≡ with_members no_members ms → view (Object m) ≡ json_object ms
+view_of_object m ms e = view-Object m ∙ ap object e
 
 -- a node's value, by those of the nodes below it
 pub json_of_node : (n : PlanNode) → node_json n
     ≡ json_object (heading_members (node_view n) ++ concurrency_members (node_view n) ++ content_members (node_view n)
     ++ array_members (codes "children") (map node_json (node_view n).children) ++ array_members (codes "dynamic") (map node_json (node_view n).dynamic))
 json_of_node n = fold_out-PlanNode _ layer_json n
+
+-- two lists of members that are put after others
+pub below_put : (ms children dynamic : List NamedJson) → with_members (with_members (with_members no_members ms) children) dynamic ≡ with_members no_members (ms ++ children ++ dynamic)
+below_put ms children dynamic = sym (members_append no_members (ms ++ children) dynamic ∙ ap (λ found. with_members found dynamic) (members_append no_members ms children))

@@ -1,3 +1,2 @@
 pub mod NodeViews
 pub mod NodeJson
-pub mod NodeValues

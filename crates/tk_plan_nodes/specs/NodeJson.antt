@@ -1,9 +1,9 @@
 -- The JSON value that says the same as a node of a plan in code.
 use Rattle.std.specs.Prelude.{ℕ, Bool, true, false, List, [], ◌∷◌, ◌++◌, Option, Some, None}
 use Rattle.std.specs.Prelude.{codes, map}
-use Rattle.json.specs.Json.{Json, boolean, number, string, array, object, Members, no_members}
-use Rattle.json.specs.Json.{member}
-use Rattle.json.specs.Value.{items_of}
+use Rattle.serde_json.specs.Data.{Data, boolean, number, unsigned, string, array, object}
+use Rattle.serde_json.specs.Data.{Members, no_members, put}
+use Rattle.serde_json.specs.View.{items_of}
 use Rattle.tk_ids.specs.declared.descriptors.DType.{DType}
 use Rattle.tk_ids.specs.declared.descriptors.DType.TheVariants.{Container, Test, Both}
 use Rattle.tk_events.specs.declared.statuses.Status.{Status}
@@ -20,26 +20,27 @@ use Rattle.tk_plan_nodes.specs.NodeViews.{NodeView, layer_view}
 
 -- a member's name and its value
 abbrev pub NamedJson : Type 0
-NamedJson = List ℕ × Json
+NamedJson = List ℕ × Data
 
-abbrev pub members_from : List NamedJson → Members
-members_from [] = no_members
-members_from (m ∷ ms) = member m.0 m.1 (members_from ms)
+-- an object's members, with some that are put among them
+abbrev pub with_members : Members → List NamedJson → Members
+with_members found [] = found
+with_members found (m ∷ ms) = with_members (put m.0 m.1 found) ms
 
-abbrev pub json_object : List NamedJson → Json
-json_object ms = object (members_from ms)
+abbrev pub json_object : List NamedJson → Data
+json_object ms = object (with_members no_members ms)
 
-abbrev pub json_array : List Json → Json
+abbrev pub json_array : List Data → Data
 json_array js = array (items_of js)
 
 -- an array of two texts
-abbrev pub json_pair : List ℕ × List ℕ → Json
+abbrev pub json_pair : List ℕ × List ℕ → Data
 json_pair p = json_array (string p.0 ∷ string p.1 ∷ [])
 
 -- ---- members that are left out where they would say what a plan takes where they are missing
 
 -- an array, left out where it is empty
-abbrev pub array_members : List ℕ → List Json → List NamedJson
+abbrev pub array_members : List ℕ → List Data → List NamedJson
 array_members name [] = []
 array_members name (j ∷ js) = (name, json_array (j ∷ js)) ∷ []
 
@@ -76,12 +77,12 @@ status_word Failed = codes "failed"
 
 -- ---- values of members
 
-abbrev pub lock_json : PlanLock → Json
+abbrev pub lock_json : PlanLock → Data
 lock_json l =
     json_object ((codes "key", string l.key.now) ∷ (codes "mode", string (lock_mode_word l.mode))
     ∷ [])
 
-abbrev pub result_json : Status → Option (List ℕ) → Json
+abbrev pub result_json : Status → Option (List ℕ) → Data
 result_json status message =
     json_object ((codes "status", string (status_word status))
     ∷ text_members (codes "message") message)
@@ -89,7 +90,7 @@ result_json status message =
 abbrev pub result_members : Status → Option (List ℕ) → List NamedJson
 result_members status message = (codes "result", result_json status message) ∷ []
 
-abbrev pub entry_json : List (List ℕ × List ℕ) → Json
+abbrev pub entry_json : List (List ℕ × List ℕ) → Data
 entry_json pairs = json_array (map json_pair pairs)
 
 -- ---- nodes
@@ -116,18 +117,18 @@ content_members n =
     ++ array_members (codes "files") (map string n.files)
 
 -- the object of a node, given the objects of those below it
-abbrev pub view_json : NodeView Json → Json
+abbrev pub view_json : NodeView Data → Data
 view_json n =
     json_object (heading_members n ++ concurrency_members n ++ content_members n
     ++ array_members (codes "children") n.children ++ array_members (codes "dynamic") n.dynamic)
 
-abbrev pub layer_json : PlanNode-F Json → Json
+abbrev pub layer_json : PlanNode-F Data → Data
 layer_json n = view_json (layer_view n)
 
-abbrev pub node_json : PlanNode → Json
-node_json = fold-PlanNode Json layer_json
+abbrev pub node_json : PlanNode → Data
+node_json = fold-PlanNode Data layer_json
 
--- the plan with this root, of version 2
-abbrev pub plan_json : PlanNode → Json
-plan_json root =
-    json_object ((codes "version", number (codes "2")) ∷ (codes "root", node_json root) ∷ [])
+-- the value of the JSON, of version 2, that says the same as the plan with this root
+abbrev pub plan_data : PlanNode → Data
+plan_data root =
+    json_object ((codes "version", number (unsigned 2)) ∷ (codes "root", node_json root) ∷ [])

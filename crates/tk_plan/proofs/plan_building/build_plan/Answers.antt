@@ -1,8 +1,8 @@
 use Rattle.std.proofs.Common.{◌≡◌, Err, sym, ap, ◌∙◌}
 use Rattle.std.proofs.lemmas.Result.{err_from_is_err_and}
 use Rattle.tk_plan_units.specs.Numbers.{numbered}
-use Rattle.tk_plan.specs.BuiltPlans.{plan_data}
-use Rattle.tk_plan_members.specs.JsonValues.{view, data_of}
+use Rattle.tk_plan_nodes.specs.NodeJson.{plan_data}
+use Rattle.serde_json.specs.View.{view}
 use Rattle.tk_plan.specs.PlanOf.{PlanOf}
 use Rattle.tk_plan.proofs.Planning.{fault_as}
 use Rattle.tk_plan.proofs.plan_building.build_plan.Goals as goal
@@ -11,7 +11,7 @@ pub returns-in_err-read : goal.returns-in_err-read
 returns-in_err-read c =
     let p = err_from_is_err_and c.from_residual-in_err-read.result c.from_residual-in_err-read.ensures.1 in
     let v = view c.in_ok-value.value in
-    let same : v ≡ plan_data c.args.root.now = ap data_of c.in_ok-value.ensures in
+    let same : v ≡ plan_data c.args.root.now = c.in_ok-value.ensures in
     rw (p.1, p.2) (fault_as (λ f. PlanOf v ≡ Err f) (λ f. PlanOf (plan_data c.args.root.now) ≡ Err f) _ (λ f w. ap PlanOf (sym same) ∙ w) c.in_err-read.ensures)
 
 pub plan_from-requires : goal.plan_from-requires
@@ -22,5 +22,5 @@ plan_from-requires c =
 pub returns : goal.returns
 returns c =
     let read = c.in_ok-read.ensures in
-    let same : view c.in_ok-value.value ≡ plan_data c.args.root.now = ap data_of c.in_ok-value.ensures in
+    let same : view c.in_ok-value.value ≡ plan_data c.args.root.now = c.in_ok-value.ensures in
     (read.0, ap PlanOf (sym same) ∙ read.1, c.in_ok-plan_from.ensures ∙ (λ j. record { nodes = numbered (read.2.nodes j); table = read.2.descriptors j }))

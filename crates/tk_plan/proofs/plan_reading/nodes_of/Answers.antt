@@ -1,6 +1,6 @@
 use Rattle.std.proofs.Common.{◌≡◌, ◌≤◌, ◌^◌, [], length, Some, Err, refl, sym, ap, ◌∙◌, subst}
 use Rattle.std.proofs.lemmas.Result.{err_from_is_err_and}
-use Rattle.tk_plan_members.specs.JsonValues.{view}
+use Rattle.serde_json.specs.View.{view}
 use Rattle.tk_plan_units.specs.Trees.{forest}
 use Rattle.tk_plan_units.specs.Script.{moves_below}
 use Rattle.tk_plan_json.specs.Verdicts.{verdict}

@@ -1,7 +1,4 @@
-use Rattle.std.proofs.Common.{◌==◌, ◌&&◌, length, sym, ap, ap₂, ◌∙◌}
 use Rattle.std.proofs.lemmas.Result.{err_from_is_err_and}
-use Rattle.std.proofs.lemmas.List.{length-map}
-use Rattle.tk_plan_members.specs.JsonValues.{view}
 use Rattle.tk_plan_json.specs.CodeValues.{seen}
 use Rattle.tk_plan_json.specs.NodeInputs as spec
 use Rattle.tk_plan_json.proofs.CheckSteps.{faults_also, faults_from_path, deep_fault, field_fault}
@@ -44,7 +41,7 @@ returns c =
           files = f.1.content.files.paths i;
         };
         id = n.1.id;
-        leaf = ap₂ (λ m n. m == 0 && n == 0) (sym (length-map _ view) ∙ ap length f.1.children) (sym (length-map _ view) ∙ ap length f.1.dynamic);
+        leaf = f.1.leaf;
         lawful = both _ _ f.1.content.result.lawful (both _ _ f.1.content.reports.increasing f.1.content.files.lawful);
         level = c.if-node_input-gt-MAX_LEVELS.false;
         entered = n.1.entered;

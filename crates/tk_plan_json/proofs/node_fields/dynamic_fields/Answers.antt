@@ -1,6 +1,6 @@
-use Rattle.std.proofs.Common.{◌∙◌, refl, ap, map}
+use Rattle.std.proofs.Common.{◌∙◌, refl}
 use Rattle.std.proofs.lemmas.Result.{err_from_is_err_and}
-use Rattle.tk_plan_members.specs.JsonValues.{view}
+use Rattle.serde_json.specs.View.{view}
 use Rattle.tk_plan_members.specs.Pointers.{pointer}
 use Rattle.tk_plan_members.proofs.Passing.{refuses_whole}
 use Rattle.tk_plan_json.proofs.Groups.{passes, stops, dynamic_groups}
@@ -21,13 +21,13 @@ returns-in_err-content c =
     let p = err_from_is_err_and c.from_residual-in_err-content.result c.from_residual-in_err-content.ensures.1 in
     rw (p.1, p.2) (refuses_whole _ _ _ (λ path w. dynamic_groups c.args.takes_files (pointer c.args.at) (view c.args.value.now) ∙ passes _ _ _ c.in_ok-check_dynamic_members.ensures.0 (passes _ _ _ c.in_ok-heading.ensures.0 (stops _ _ _ w))) c.in_err-content.ensures)
 
-pub returns-in_err-dynamic : goal.returns-in_err-dynamic
-returns-in_err-dynamic c =
-    let p = err_from_is_err_and c.from_residual-in_err-dynamic.result c.from_residual-in_err-dynamic.ensures.1 in
-    rw (p.1, p.2) (refuses_whole _ _ _ (λ path w. dynamic_groups c.args.takes_files (pointer c.args.at) (view c.args.value.now) ∙ passes _ _ _ c.in_ok-check_dynamic_members.ensures.0 (passes _ _ _ c.in_ok-heading.ensures.0 (passes _ _ _ c.in_ok-content.ensures.0 (stops _ _ _ w)))) c.in_err-dynamic.ensures)
+pub returns-in_err-is_leaf : goal.returns-in_err-is_leaf
+returns-in_err-is_leaf c =
+    let p = err_from_is_err_and c.from_residual-in_err-is_leaf.result c.from_residual-in_err-is_leaf.ensures.1 in
+    rw (p.1, p.2) (refuses_whole _ _ _ (λ path w. dynamic_groups c.args.takes_files (pointer c.args.at) (view c.args.value.now) ∙ passes _ _ _ c.in_ok-check_dynamic_members.ensures.0 (passes _ _ _ c.in_ok-heading.ensures.0 (passes _ _ _ c.in_ok-content.ensures.0 (stops _ _ _ w)))) c.in_err-is_leaf.ensures)
 
 pub returns : goal.returns
 returns c = (
-  dynamic_groups c.args.takes_files (pointer c.args.at) (view c.args.value.now) ∙ passes _ _ _ c.in_ok-check_dynamic_members.ensures.0 (passes _ _ _ c.in_ok-heading.ensures.0 (passes _ _ _ c.in_ok-content.ensures.0 (passes _ _ _ c.in_ok-dynamic.ensures.0 refl))),
-  record { heading = c.in_ok-heading.ensures.1; concurrency = record { is_concurrent = c.of_mode.ensures.mode; is_isolated = c.of_mode.ensures.isolated; locks = c.of_mode.ensures.locks }; content = c.in_ok-content.ensures.1; children = ap (map view) c.none.ensures; dynamic = c.in_ok-dynamic.ensures.1 },
+  dynamic_groups c.args.takes_files (pointer c.args.at) (view c.args.value.now) ∙ passes _ _ _ c.in_ok-check_dynamic_members.ensures.0 (passes _ _ _ c.in_ok-heading.ensures.0 (passes _ _ _ c.in_ok-content.ensures.0 (passes _ _ _ c.in_ok-is_leaf.ensures.0 refl))),
+  record { heading = c.in_ok-heading.ensures.1; concurrency = record { is_concurrent = c.none.ensures.concurrent; is_isolated = c.none.ensures.isolated; locks = c.none.ensures.locks }; content = c.in_ok-content.ensures.1; leaf = c.in_ok-is_leaf.ensures.1 },
 )

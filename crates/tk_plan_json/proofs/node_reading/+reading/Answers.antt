@@ -1,8 +1,8 @@
 use Rattle.std.proofs.Common.{◌≡◌, ◌++◌, ◌-◌, ◌+◌, map, ℕ, suc, List, [], ◌∷◌, length, refl, sym, ap, ◌∙◌, subst, arith, rules, append-nil}
 use Rattle.std.proofs.lemmas.Bool.Decides.{nat_tests}
 use Rattle.std.proofs.lemmas.Result.{err_from_is_err_and}
-use Rattle.tk_plan_members.specs.JsonValues.{view}
-use Rattle.tk_plan_members.specs.JsonValues.{JsonValue}
+use Rattle.serde_json.specs.View.{view}
+use Rattle.serde_json.specs.declared.value.Value.{Value}
 use Rattle.tk_plan_units.specs.declared.nodes.NumberedNode.{NumberedNode}
 use Rattle.tk_plan_units.specs.Trees.{contents}
 use Rattle.tk_plan_members.specs.Checks.{item_at, first}
@@ -21,7 +21,7 @@ read_all-returns-in_err-read_node t c =
     let steps = c.in-Some.ensures.steps in
     let array = array_at c.args.parent c.args.member c.args.id.now in
     let i = c.loop-index.index-iterator.count in
-    let v : JsonValue = c.in-Some.value in
+    let v : Value = c.in-Some.value in
     let path : c.deref.result.now ≡ array.path = grind arith in
     let met = c.loop-index.siblings in
     let split = node_input_next array i _ met (met ++ segment_in (view v) ∷ []) _ _ v steps.0.0 steps.2 refl in
@@ -35,7 +35,7 @@ read_all-loop-index-preserved t c =
     let steps = c.in-Some.ensures.steps in
     let array = array_at c.args.parent c.args.member c.args.id.now in
     let i = c.loop-index.index-iterator.count in
-    let v : JsonValue = c.in-Some.value in
+    let v : Value = c.in-Some.value in
     let path : c.deref.result.now ≡ array.path = grind arith in
     let met = c.loop-index.siblings in
     let done = c.in_ok-read_node.ensures in

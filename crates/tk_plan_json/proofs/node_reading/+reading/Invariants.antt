@@ -1,5 +1,5 @@
 use Rattle.std.proofs.Common.{◌-◌, ◌+◌, ◌*◌, map}
-use Rattle.tk_plan_members.specs.JsonValues.{view}
+use Rattle.serde_json.specs.View.{view}
 use Rattle.tk_plan_json.specs.CodeValues.{array_at}
 use Rattle.tk_plan_json.specs.NodeInputs.{node_inputs_in}
 use Rattle.tk_plan_json.proofs.Going.{Goes, Met}

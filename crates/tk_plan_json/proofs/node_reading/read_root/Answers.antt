@@ -1,5 +1,5 @@
 use Rattle.std.proofs.Common.{◌≡◌, ◌++◌, [], codes, true, sym, ap₂, ◌∙◌}
-use Rattle.tk_plan_members.specs.JsonValues.{view}
+use Rattle.serde_json.specs.View.{view}
 use Rattle.tk_plan_units.specs.Ids.{descriptors}
 use Rattle.tk_plan_units.specs.Trees.{flat, contents}
 use Rattle.tk_plan_json.specs.Verdicts.{verdict}

@@ -1,6 +1,6 @@
 use Rattle.std.proofs.Common.{◌≡◌, ◌++◌, ◌∷◌, [], map, ◌∙◌, sym, ap, ap₂, drop, take, arith}
 use Rattle.std.proofs.lemmas.List.{drop_all, take_all}
-use Rattle.tk_plan_members.specs.JsonValues.{view}
+use Rattle.serde_json.specs.View.{view}
 use Rattle.tk_plan_members.specs.Checks.{items_wrong}
 use Rattle.tk_plan_members.specs.Rows.{nonempty_text}
 use Rattle.tk_plan_members.specs.Contents.{json_path}

@@ -1,6 +1,6 @@
 use Rattle.std.proofs.Common.{◌≡◌, Some, codes, arith}
 use Rattle.serde_json.specs.Find.{get}
-use Rattle.tk_plan_members.specs.JsonValues.{view}
+use Rattle.serde_json.specs.View.{view}
 use Rattle.tk_plan_members.specs.Checks.{member_at}
 use Rattle.tk_plan_members.specs.Pointers.{pointer}
 use Rattle.tk_plan_members.proofs.Filing.{files_read}

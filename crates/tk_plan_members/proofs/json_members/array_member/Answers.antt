@@ -1,4 +1,6 @@
-use Rattle.std.proofs.Common.{sym, ap, ◌∙◌}
+use Rattle.std.proofs.Common.{◌==◌, length, sym, ap, ◌∙◌}
+use Rattle.std.proofs.lemmas.List.{length-map}
+use Rattle.serde_json.specs.View.{view}
 use Rattle.tk_plan_members.specs.Checks.{member_wrong, may, any_array, member_at}
 use Rattle.tk_plan_members.specs.Pointers.{pointer}
 use Rattle.tk_plan_members.specs.Contents.{listed}
@@ -10,5 +12,5 @@ returns-in-Some-items_in c =
     let e = c.in-Some-items_in.ensures in
     let found = c.in-Some.ensures in (
       ap (member_wrong (may c.args.name.now any_array) (member_at (pointer c.args.at) c.args.name.now)) (sym found) ∙ is_any_array _ _ _ e,
-      sym (listed_items _ _ e) ∙ ap listed found,
+      c.is_empty.ensures ∙ ap (λ n. n == 0) (sym (length-map c.in-Some-items_in.items.now view) ∙ ap length (sym (listed_items _ _ e) ∙ ap listed found)),
     )

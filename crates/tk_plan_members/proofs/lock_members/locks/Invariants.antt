@@ -1,5 +1,5 @@
 use Rattle.std.proofs.Common.{◌≡◌, drop, take, map}
-use Rattle.tk_plan_members.specs.JsonValues.{view}
+use Rattle.serde_json.specs.View.{view}
 use Rattle.tk_plan_members.specs.Checks.{array_of, items_wrong}
 use Rattle.tk_plan_members.specs.Rows.{lock}
 use Rattle.tk_plan_members.specs.Contents.{json_lock}

@@ -1,7 +1,7 @@
 use Rattle.std.proofs.Common.{◌≡◌, refl, ◌||◌, [], drop, map, sym, ap, ◌∙◌, arith}
 use Rattle.std.proofs.lemmas.List.{drop_all}
 use Rattle.std.proofs.lemmas.Result.{err_from_is_err_and}
-use Rattle.tk_plan_members.specs.JsonValues.{view}
+use Rattle.serde_json.specs.View.{view}
 use Rattle.tk_events.specs.Event.{is_strictly_increasing}
 use Rattle.tk_plan_members.proofs.Passing.{refuses_whole}
 use Rattle.tk_plan_members.proofs.Pairing.{goes_start, goes_next, goes_fault, goes_end}

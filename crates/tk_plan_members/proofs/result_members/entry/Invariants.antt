@@ -1,5 +1,5 @@
 use Rattle.std.proofs.Common.{drop, map}
-use Rattle.tk_plan_members.specs.JsonValues.{view}
+use Rattle.serde_json.specs.View.{view}
 use Rattle.tk_plan_members.specs.Checks.{item_at}
 use Rattle.tk_plan_members.proofs.Pairing.{GoesOn}
 use Rattle.tk_plan_members.proofs.result_members.entry.Given as goal
