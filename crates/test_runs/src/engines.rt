@@ -1,5 +1,5 @@
 //! Engines of two lists of steps, one for unit 0 and one for each other unit.
-ghost use Rattle.std.specs.Prelude.{◌≡◌, ◌<◌, ◌≤◌, [], if◌then◌else◌, nat_eq, slice_index};
+ghost use Rattle.std.specs.Prelude.{◌≡◌, ◌<◌, ◌≤◌, [], if◌then◌else◌, nat_eq};
 ghost use Rattle.std.specs.Arc.{arc_value};
 ghost use Rattle.tk_engine_execute.specs.Grown.{Grew};
 
@@ -41,7 +41,8 @@ pub enum UnitStep {
 #[derive(Clone, Copy)]
 pub struct Units<'a> {
     pub count: u32,
-    pub needs: [Need; 2],
+    pub need: Need,
+    pub need_of_others: Need,
     pub steps: [&'a [UnitStep]; 2],
 }
 
@@ -50,7 +51,8 @@ impl<'a> Units<'a> {
     pub fn beside(count: u32, steps: [&'a [UnitStep]; 2]) -> Units<'a> {
         Units {
             count,
-            needs: [Need::of(1, 0); 2],
+            need: Need::of(1, 0),
+            need_of_others: Need::of(1, 0),
             steps,
         }
     }
@@ -192,7 +194,11 @@ impl StepEngine<'_> {
     }
 
     fn steps(&self, unit: u32) -> &[UnitStep] {
-        self.units.steps[usize::from(unit != 0)]
+        if unit == 0 {
+            self.units.steps[0]
+        } else {
+            self.units.steps[1]
+        }
     }
 }
 
@@ -269,8 +275,7 @@ impl Engine for StepEngine<'_> {
 
     ghost after = { λ e. [] };
 
-    ghost need = { λ e u.
-        if nat_eq u 0 then slice_index e.units.needs 0 else slice_index e.units.needs 1 };
+    ghost need = { λ e u. if nat_eq u 0 then e.units.need else e.units.need_of_others };
 
     ghost may = { λ e u w k l. Unit {0} };
 
@@ -294,9 +299,9 @@ impl Engine for StepEngine<'_> {
 
     fn need(&self, unit: u32) -> Need {
         if unit == 0 {
-            self.units.needs[0]
+            self.units.need
         } else {
-            self.units.needs[1]
+            self.units.need_of_others
         }
     }
 

@@ -163,7 +163,8 @@ fn one_shared_book(rt: HostRuntime) {
     let other = [UnitStep::Start(8), UnitStep::Alone(2), UnitStep::Start(8)];
     let units = Units {
         count: 2,
-        needs: [Need::of(0, 1); 2],
+        need: Need::of(0, 1),
+        need_of_others: Need::of(0, 1),
         steps: [&first, &other],
     };
     let ran = run(&rt, rt.alloc(), units, 2, 64);
@@ -269,7 +270,8 @@ fn writers_of_different_resources(rt: HostRuntime) {
     let steps = [UnitStep::Begin, UnitStep::Await(2, 1)];
     let units = Units {
         count: 2,
-        needs: [Need::of(1, 2), Need::of(1, 4)],
+        need: Need::of(1, 2),
+        need_of_others: Need::of(1, 4),
         steps: [&steps, &steps],
     };
     let ran = run(&rt, rt.alloc(), units, 2, 64);
