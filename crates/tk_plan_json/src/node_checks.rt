@@ -28,10 +28,7 @@ use tk_plan_members::member_values::TwoTexts;
 use tk_plan_units::{Lock, MAX_KEYS, Node};
 
 /// Reads the members of a node by its kind.
-fn fields_of<'v>(
-    alloc: Global,
-    node_input: NodeInput<'v>,
-) -> Result<Fields<'v>, PlanFault>
+fn fields_of<'v>(alloc: Global, node_input: NodeInput<'v>) -> Result<Fields<'v>, PlanFault>
     ensures { Reads (node_check (seen [] node_input.entry))
         (HasFields node_input.entry.place.is_static node_input.entry.place.takes_files
         (view node_input.entry.value.now)) result }

@@ -242,11 +242,7 @@ pub(crate) fn dynamic_fields<'v>(
 
 /// Takes the values of the nodes below a node out of its value, and drops all else of it: those in
 /// its `children`, which only a static node has, and those in its `dynamic`.
-pub(crate) fn into_below(
-    alloc: Global,
-    is_static: bool,
-    value: Value,
-) -> (Vec<Value>, Vec<Value>)
+pub(crate) fn into_below(alloc: Global, is_static: bool, value: Value) -> (Vec<Value>, Vec<Value>)
     ensures children { map view result.0.items ≡ children_of is_static (view value) }
     ensures dynamic { map view result.1.items ≡ dynamic_of (view value) }
 {
