@@ -58,10 +58,10 @@ def apart(function: Callable[..., None], *words) -> None:
         raise NotMeasured("an input was not written")
 
 
-def build_crate(folder: str, line: str, source: str, to: str, *command: str, **how) -> str:
-    """Copies the crates and adds one with this line of crates.txt and this source of `bench/`, which a command of `rt` proves and builds.
+def build_crate(folder: str, line: str, source: str, command: str = "run", input_path: str = os.devnull) -> str:
+    """Copies the crates and adds one with this line of crates.txt and this source of `bench/`, which `rt run` or `rt lib` proves and builds.
 
-    It begins with the libraries that `rt` has kept of these sources on this machine. Returns the crate's folder.
+    It begins with the libraries that `rt` has kept of these sources on this machine. Returns the folder of what was built.
     """
     shutil.copytree(f"{ROOT}/crates", f"{folder}/crates", ignore=shutil.ignore_patterns("out", "must-fail"))
     for name in ("HANDLES", "crates.txt"):
@@ -70,16 +70,10 @@ def build_crate(folder: str, line: str, source: str, to: str, *command: str, **h
         file.write(line + "\n")
     crate = f"{folder}/crates/{line.partition(':')[0].split()[0]}"
     os.makedirs(f"{crate}/src")
-    shutil.copy(f"{BENCH}/{source}", f"{crate}/src/{to}")
-    call(["rt", *command], crate, **how)
-    return crate
-
-
-def build_program(folder: str, line: str, source: str, input_path: str = os.devnull) -> str:
-    """Adds a crate with a program, proves and builds it, and runs it once on an input; returns its path."""
+    shutil.copy(f"{BENCH}/{source}", f"{crate}/src/{'main' if command == 'run' else 'lib'}.rt")
     with open(input_path, "rb") as file:
-        crate = build_crate(folder, line, source, "main.rt", "run", stdin=file)
-    return f"{crate}/out/{os.path.basename(crate)}"
+        call(["rt", command], crate, stdin=file)
+    return f"{crate}/out"
 
 
 def compile_plain(folder: str, source: str, flags: Sequence[str] = ("-O",)) -> str:

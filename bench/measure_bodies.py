@@ -17,7 +17,7 @@ MODES = {"each a unit": "concurrent", "one unit": "same_thread"}
 def measure(folder: str) -> None:
     for mode in MODES.values():
         building.apart(plans.write, f"{folder}/{mode}", lambda mode=mode: dict(children=[plans.test("t", str(it), mode=mode) for it in range(TESTS)]))
-    program = building.build_program(folder, LINE, "bodies/main.rt.in", f"{folder}/concurrent")
+    program = building.build_crate(folder, LINE, "bodies/main.rt.in", input_path=f"{folder}/concurrent") + "/bodies_bench"
     for shape, mode in MODES.items():
         bodies, scripted = timing.take([[program, "bodies"], [program]], f"{folder}/{mode}", folder)
         if bodies.begins() != scripted.begins():

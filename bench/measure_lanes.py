@@ -11,8 +11,8 @@ import building
 
 
 def measure(folder: str) -> None:
-    crate = building.build_crate(folder, "lanes_exports staticlib: tk_lanes", "lanes/exports.rt.in", "lib.rt", "lib")
-    library = ["-L", f"native={crate}/out", "-l", "static=lanes_exports"]
+    built = building.build_crate(folder, "lanes_exports staticlib: tk_lanes", "lanes/exports.rt.in", "lib")
+    library = ["-L", f"native={built}", "-l", "static=lanes_exports"]
     for flags in (["-O"], ["-O", "-C", "target-cpu=native"]):
         program = building.compile_plain(folder, "lanes/main.rs", [*flags, *library])
         print(f"plain loops by rustc {' '.join(flags)}:")
