@@ -130,7 +130,7 @@ const isTest = (it) => it.type !== "C" && it.ending !== "skipped";
 // The tests that ran at some time of a test, each with its worker.
 function besideText(it) {
   const found = inOrder.filter((other) => other !== it && isTest(other) && other.begin < it.end && it.begin < other.end);
-  const lines = found.slice(0, MOST_BESIDE).map((other) => `worker ${other.worker}: ${other.name}`);
+  const lines = found.slice(0, MOST_BESIDE).map((other) => `worker ${other.worker}: ${other.name || other.id}`);
   if (found.length > MOST_BESIDE) lines.push(`and ${counted(found.length - MOST_BESIDE, "other")}`);
   return lines.join("\n") || "none";
 }

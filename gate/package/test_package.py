@@ -12,6 +12,8 @@ import tempfile
 import time
 import unittest
 import zipfile
+from importlib.machinery import SourceFileLoader
+from importlib.util import module_from_spec, spec_from_loader
 
 from fixtures import PROGRAM, TOP, folder, needs, parameterized, run
 from repository import BUILT, MOMENT, RUN, Repository, read
@@ -284,6 +286,15 @@ class Refusals(unittest.TestCase):
         for words in (["one", "two"], ["--folder"]):
             ran = run([f"{TOP}/tools/package", *words])
             self.assertEqual((ran.status, ran.output, ran.error.count(b"\n")), (70, b"", 1), ran)
+
+    def test_odd_parts(self):
+        """A part of an odd length is filled up, since dpkg reads the next one at an even place."""
+        loader = SourceFileLoader("package", f"{TOP}/tools/package")
+        package = module_from_spec(spec_from_loader("package", loader))
+        sys.modules["package"] = package
+        loader.exec_module(package)
+        head = "{:16}7           0     0     100644  {:<10}`\n"
+        self.assertEqual(package.joined({"a": b"abc", "b": b"de"}, 7).decode(), f"!<arch>\n{head.format('a', 3)}abc\n{head.format('b', 2)}de")
 
     def test_full_output(self):
         it = Repository(folder(self))

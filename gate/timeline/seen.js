@@ -62,5 +62,7 @@
   saw.whole = [state.left, state.right];
   document.querySelector("#slowest button").click();
   saw.longest = terms("details");
+  document.querySelectorAll("#gaps button")[1].click();
+  saw.late = terms("details");
   document.body.dataset.saw = JSON.stringify(saw);
 })();

@@ -137,7 +137,9 @@ class Browser(WithProgram):
         wanted = {"name": "", "id": "[engine:e]/[x:c]/[x:1]", "ending": "failed", "message": "boom", "duration": "18 \u00b5s", "worker": "1"}
         wanted.update({"stamps": "112 to 130", "events": "2 to 4", "type": "test"})
         self.assertEqual(self.saw["tip"], wanted)
-        self.assertEqual(self.saw["selected"], {**wanted, "beside it": "worker 2: "})
+        self.assertEqual(self.saw["selected"], {**wanted, "beside it": "worker 2: [engine:e]/[x:3]"})
+        self.assertEqual(self.saw["longest"]["beside it"], "".join(f"worker 1: [engine:e]/[x:c]/[x:{it}]\n" for it in (1, 2, 5)).rstrip())
+        self.assertEqual(self.saw["late"]["beside it"], "worker 2: [engine:e]/[x:3]", "what ran before is not beside")
 
     def test_keys(self):
         """The canvas takes the focus, the arrow keys go from bar to bar, + shows a part and 0 the whole."""
