@@ -22,7 +22,7 @@ import org.junit.platform.testkit.engine.Events;
  * by itself, asks only whether these positions never fall, and before that whether there are as many events as conditions.
  *
  * <p>With a path as its word, the record of both tests is written there, of which {@code ask match in-order} gives the right answers.
- * {@code examples/junit/run} doesn't compile this class: Debian packages no junit-platform-testkit ({@code docs/JUNIT.md}).
+ * The gate doesn't compile this class: Debian packages no junit-platform-testkit ({@code docs/JUNIT.md}).
  */
 public class InOrder {
 
