@@ -5,6 +5,7 @@ import os
 import re
 import shutil
 import subprocess
+import time
 import unittest
 from dataclasses import dataclass, field
 from typing import Callable, Dict, Sequence
@@ -61,6 +62,7 @@ RUNS = [
     Runs("a module that can't be read", {"a/test_a": "# (\nraise OSError('x')\n"}, "0 passed, 1 failed", says="OSError: x", status=1),
     Runs("a module that is killed", {"a/test_a": "    def test_one(self): os.kill(os.getpid(), signal.SIGKILL)\n"}, "0 passed, 1 failed", says="signal 9", status=1),
     Runs("a module that ends early", {"a/test_a": ONE + "    def test_two(self): os._exit(0)\n"}, "0 passed, 1 failed", says="it doesn't end", status=1),
+    Runs("a module with a status", {"a/test_a": ONE + "import atexit\natexit.register(os._exit, 3)\n"}, "1 passed, 1 failed", says="its status is 3", status=1),
     Runs("a class that can't be prepared", {"a/test_a": ONE + "    def setUpClass(): 1 // 0\n"}, "0 passed, 1 failed", status=1),
     Runs("a failure that is expected", {"a/test_a": "    @unittest.expectedFailure\n    def test_one(self): 1 // 0\n"}, "0 passed, 1 failed", status=1),
     Runs("a skip", {"a/test_a": ONE + SKIPPED.format("no javac")}, "1 passed, 0 failed", says="a/test_a: 1 skipped: no javac\n"),
@@ -102,10 +104,11 @@ class Runner(unittest.TestCase):
 class Fixtures(unittest.TestCase):
     def test_a_command_without_an_end(self):
         """It is killed with what it started."""
-        at = folder(self)
+        at, begun = folder(self), time.monotonic()
         self.assertEqual(Ran(-9, b"a\n", b""), run(["sh", "-c", f"echo a; sleep 60 & echo $! >{at}/started; wait"], seconds=0.5))
         with open(f"{at}/started", encoding="utf-8") as file:
             self.assertFalse(is_running(file.read().strip()))
+        self.assertLess(time.monotonic() - begun, 50)
 
     def test_what_a_command_is_given(self):
         self.assertEqual(Ran(3, b"in", b"err"), run(["sh", "-c", "cat; printf err >&2; exit 3"], b"in"))

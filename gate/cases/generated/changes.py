@@ -80,9 +80,7 @@ def conditions() -> List[Case]:
     made = []
     for number in range(250):
         text = change(numbers, condition_text(numbers, 4).encode()).replace(b"\0", b"")
-        made.append(
-            modelled(f"changed condition/{number}", ["ask", "match", "loosely", "all()", text], short_record(numbers))
-        )
+        made.append(modelled(f"changed condition/{number}", ["ask", "match", "loosely", "all()", text], short_record(numbers)))
     return made
 
 
@@ -131,24 +129,7 @@ FIELDS = [
     ["0", "1", "5", "6", "65536", "131072", "00", "4294967296"],
     ["0", "7", "18446744073709551615", "18446744073709551616", "07"],
 ]
-TAIL_FIELDS = [
-    "start",
-    "finish",
-    "skip",
-    "report",
-    "dynamic",
-    "ok",
-    "fail",
-    "abort",
-    "a",
-    "b",
-    "",
-    "T",
-    "[d:1]",
-    "\\p",
-    "\\",
-    "é",
-]
+TAIL_FIELDS = ["start", "finish", "skip", "report", "dynamic", "ok", "fail", "abort", "a", "b", "", "T", "[d:1]", "\\p", "\\", "é"]
 
 
 def loose_lines() -> List[Case]:
@@ -195,13 +176,4 @@ def loose_reports() -> List[Case]:
 
 
 def cases() -> List[Union[Case, Check]]:
-    return [
-        *records(),
-        *replays(),
-        *plans(),
-        *conditions(),
-        *loose_conditions(),
-        *loose_lines(),
-        *loose_tables(),
-        *loose_reports(),
-    ]
+    return [*records(), *replays(), *plans(), *conditions(), *loose_conditions(), *loose_lines(), *loose_tables(), *loose_reports()]

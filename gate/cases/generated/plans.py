@@ -8,17 +8,7 @@ import form
 from generated.numbers import Numbers, each_is_met, modelled
 from harness import Case, Check
 
-SEGMENTS = [
-    ["t", "1"],
-    ["t", "2"],
-    ["t", "10"],
-    ["c", "a/b"],
-    ["c", "%"],
-    ["T", "|"],
-    ["é", "x y"],
-    ["t", "\n"],
-    ["d", "[1]"],
-]
+SEGMENTS = [["t", "1"], ["t", "2"], ["t", "10"], ["c", "a/b"], ["c", "%"], ["T", "|"], ["é", "x y"], ["t", "\n"], ["d", "[1]"]]
 TEXTS = ["", "off", "boom", "a|b", "back\\slash", "line\nfeed", "spät 🦀", "\t"]
 LOCK_KEYS = ["global", "db", "a", "b", "", "é"]
 KEYS = ["", "a", "b", "aa", "B", "é", "k|", "k\\"]
@@ -92,27 +82,7 @@ def plan_text(numbers: Numbers, value: Value) -> bytes:
     return json.dumps(value, ensure_ascii=numbers.below(2) == 0, indent=indent).encode()
 
 
-STRANGE = [
-    None,
-    True,
-    False,
-    0,
-    1,
-    -1,
-    1.5,
-    10**30,
-    10**308,
-    10**309,
-    "",
-    "x",
-    "a/~b|",
-    [],
-    [[]],
-    {},
-    {"key": "k"},
-    ["a", "b"],
-    ["a", 1],
-]
+STRANGE = [None, True, False, 0, 1, -1, 1.5, 10**30, 10**308, 10**309, "", "x", "a/~b|", [], [[]], {}, {"key": "k"}, ["a", "b"], ["a", 1]]
 """What stands in place of a value."""
 
 NAMES = ["type", "name", "mode", "key", "status", "message", "a/b", "~", "", "Z", "é", "files", "dynamic"]
@@ -150,9 +120,7 @@ def runs() -> List[Union[Case, Check]]:
     for number in range(150):
         text = plan_text(numbers, plan(numbers))
         for workers in [1, 2, form.MAX_WORKERS]:
-            made.append(
-                modelled(f"generated plan/{number}, {workers} workers", ["run", "--workers", str(workers)], text)
-            )
+            made.append(modelled(f"generated plan/{number}, {workers} workers", ["run", "--workers", str(workers)], text))
     met = [kind_of_outcome(case) for case in made]
     return made + [each_is_met("generated plan", met, ["done", "entry key", "plan table"], 3)]
 

@@ -171,9 +171,7 @@ def executions() -> Cases:
     numbers = Numbers(8)
     texts = [short_record(numbers) for _ in range(300)]
     texts += [record_text(numbers, 100, nodes) for nodes in range(1, 7) for _ in range(4)]
-    cases: Cases = [
-        modelled(f"generated executions/{number}", ["ask", "executions"], text) for number, text in enumerate(texts)
-    ]
+    cases: Cases = [modelled(f"generated executions/{number}", ["ask", "executions"], text) for number, text in enumerate(texts)]
     met = [line.split()[1] for case in cases for line in case.output.decode().split("\n")[:-1]]
     return cases + [each_is_met("generated executions", met, ["skipped", "aborted", "succeeded", "failed"], 30)]
 

@@ -33,10 +33,7 @@ def script_lines(numbers: Numbers, workers: int) -> List[str]:
 
 def steps_line(numbers: Numbers, workers: int, lines: List[str]) -> str:
     """Steps of any workers and takes; mostly none of a worker that has nothing left."""
-    left = [0] + [
-        1 + len([line for line in lines if line.startswith(f"E|{worker}|")])
-        for worker in range(1, workers + 1)
-    ]
+    left = [0] + [1 + len([line for line in lines if line.startswith(f"E|{worker}|")]) for worker in range(1, workers + 1)]
     steps = ""
     for _ in range(numbers.below(40)):
         worker = numbers.below(workers + 1)
@@ -67,8 +64,5 @@ OUTCOMES = ["some", "none", "comes after the end mark", "has an unknown key", "i
 
 def cases() -> List[Union[Case, Check]]:
     numbers = Numbers(21)
-    made: List[Case] = [
-        modelled(f"generated replay/{number}", ["replay"], replay_text(numbers))
-        for number in range(300)
-    ]
+    made: List[Case] = [modelled(f"generated replay/{number}", ["replay"], replay_text(numbers)) for number in range(300)]
     return made + [each_is_met("generated replay", [kind_of_outcome(case) for case in made], OUTCOMES, 5)]

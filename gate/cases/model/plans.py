@@ -52,13 +52,7 @@ class Members(list):
 def read_json(data: bytes) -> object:
     """The value of a JSON text, numbers as `Number`s, or `Refused`; of two members of one name the last stays."""
     try:
-        value = json.loads(
-            data.decode(),
-            object_pairs_hook=Members,
-            parse_int=number,
-            parse_float=number,
-            parse_constant=refuse_constant,
-        )
+        value = json.loads(data.decode(), object_pairs_hook=Members, parse_int=number, parse_float=number, parse_constant=refuse_constant)
         json.dumps(value, ensure_ascii=False, default=lambda found: found.text).encode()
     except (ValueError, RecursionError):
         raise Refused("plan is not JSON")

@@ -175,18 +175,8 @@ MATCH_WORDS = [
     fault("match words/least of two", "ask match exactly test x y", EMPTY, "condition 2 is bad at 0"),
     fault("match words/empty condition", ["ask", "match", "in-order", ""], EMPTY, "condition 1 is bad at 0"),
     fault("match words/before the input", "ask match loosely tesx", "no record", "condition 1 is bad at 3"),
-    fault(
-        "match words/bad before deep",
-        ["ask", "match", "loosely", "x", "not(" * 33],
-        EMPTY,
-        "condition 1 is bad at 0",
-    ),
-    fault(
-        "match words/deep before bad",
-        ["ask", "match", "loosely", "not(" * 33, "x"],
-        EMPTY,
-        "condition 1 is too deep",
-    ),
+    fault("match words/bad before deep", ["ask", "match", "loosely", "x", "not(" * 33], EMPTY, "condition 1 is bad at 0"),
+    fault("match words/deep before bad", ["ask", "match", "loosely", "not(" * 33, "x"], EMPTY, "condition 1 is too deep"),
 ]
 
 EXECUTIONS_WORDS = [
@@ -199,23 +189,7 @@ EXECUTIONS_WORDS = [
 ORDER = [
     answer("order/an input that no word asks of", "ask count all", ONE_START, "1\n"),
     fault("order/words that are good before a bad input", "ask count all", "no record", "no header"),
-    Case(
-        "order/words before an empty input",
-        as_words("ask count some"),
-        b"",
-        error=b"testkit: bad word 0\n",
-        status=2,
-    ),
+    Case("order/words before an empty input", as_words("ask count some"), b"", error=b"testkit: bad word 0\n", status=2),
 ]
 
-CASES = (
-    COMMANDS
-    + WORKER_FORMS
-    + RUNS
-    + QUESTIONS
-    + STATS_WORDS
-    + COUNT_WORDS
-    + MATCH_WORDS
-    + EXECUTIONS_WORDS
-    + ORDER
-)
+CASES = (COMMANDS + WORKER_FORMS + RUNS + QUESTIONS + STATS_WORDS + COUNT_WORDS + MATCH_WORDS + EXECUTIONS_WORDS + ORDER)

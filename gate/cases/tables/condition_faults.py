@@ -162,25 +162,14 @@ READ = [
 """Conditions that are read; on an empty record none of them holds of an event."""
 
 CASES = (
-    [
-        fault(f"condition/{text!r}", ["ask", "match", "loosely", text], EMPTY, f"condition 1 is bad at {at}")
-        for text, at in BAD_AT
-    ]
+    [fault(f"condition/{text!r}", ["ask", "match", "loosely", text], EMPTY, f"condition 1 is bad at {at}") for text, at in BAD_AT]
     + [
         fault(f"deep condition/{number}", ["ask", "match", "exactly", text], EMPTY, "condition 1 is too deep")
         for number, text in enumerate(DEEP)
     ]
+    + [no(f"condition that is read/{number}", ["ask", "match", "in-order", text], EMPTY, "no 0\n") for number, text in enumerate(READ)]
     + [
-        no(f"condition that is read/{number}", ["ask", "match", "in-order", text], EMPTY, "no 0\n")
-        for number, text in enumerate(READ)
-    ]
-    + [
-        fault(
-            "condition/the twelfth",
-            ["ask", "match", "in-order"] + ["test"] * 11 + ["tesx"],
-            EMPTY,
-            "condition 12 is bad at 3",
-        ),
+        fault("condition/the twelfth", ["ask", "match", "in-order"] + ["test"] * 11 + ["tesx"], EMPTY, "condition 12 is bad at 3"),
         fault(
             "deep condition/the twelfth",
             ["ask", "match", "in-order"] + ["test"] * 11 + ["not(" * 33],

@@ -43,14 +43,7 @@ WRITING = [
 ]
 
 INPUTS = [
-    Case(
-        f"input/{kind.name}, {words}",
-        as_words(words),
-        b"",
-        error=DEVICE_FAILED,
-        status=3,
-        standard_input=kind,
-    )
+    Case(f"input/{kind.name}, {words}", as_words(words), b"", error=DEVICE_FAILED, status=3, standard_input=kind)
     for kind in FAILING_INPUTS
     for words in READING
 ]
@@ -91,27 +84,13 @@ BEFORE_THE_INPUT = [
 ]
 
 OUTPUTS = [
-    Case(
-        f"output/{kind.name}, {words}",
-        as_words(words),
-        as_bytes(data),
-        error=DEVICE_FAILED,
-        status=3,
-        standard_output=kind,
-    )
+    Case(f"output/{kind.name}, {words}", as_words(words), as_bytes(data), error=DEVICE_FAILED, status=3, standard_output=kind)
     for kind in FAILING_OUTPUTS
     for words, data in WRITING
 ]
 
 NOTHING_TO_WRITE = [
-    Case(
-        f"output/{kind.name}, {name}",
-        as_words(words),
-        as_bytes(data),
-        error=error,
-        status=status,
-        standard_output=kind,
-    )
+    Case(f"output/{kind.name}, {name}", as_words(words), as_bytes(data), error=error, status=status, standard_output=kind)
     for kind in FAILING_OUTPUTS
     for name, words, data, error, status in [
         ("no execution to write", "ask executions", EMPTY, b"", 0),
@@ -124,13 +103,7 @@ NOTHING_TO_WRITE = [
 ]
 
 ERRORS = [
-    Case(
-        f"error/{kind.name}, {name}",
-        as_words(words),
-        as_bytes(data),
-        status=2,
-        standard_error=kind,
-    )
+    Case(f"error/{kind.name}, {name}", as_words(words), as_bytes(data), status=2, standard_error=kind)
     for kind in FAILING_OUTPUTS
     for name, words, data in [
         ("bad words", "ask count", EMPTY),
@@ -144,16 +117,8 @@ DEMO_REPORT = as_bytes(stats(skipped=1, started=7, finished=7, succeeded=6, fail
 
 GOOD = [
     ("ask stats", TWO_TESTS, stats(skipped=1, started=2, finished=2, succeeded=1, failed=1)),
-    (
-        "replay",
-        SMALL_REPLAY,
-        record("N|T|[engine:e]|e", "E|1|0|10|start", "E|2|0|20|report|k|v", "E|1|0|11|finish|ok"),
-    ),
-    (
-        "run --workers 2",
-        DEMO_PLAN,
-        DEMO_REPORT,
-    ),
+    ("replay", SMALL_REPLAY, record("N|T|[engine:e]|e", "E|1|0|10|start", "E|2|0|20|report|k|v", "E|1|0|11|finish|ok")),
+    ("run --workers 2", DEMO_PLAN, DEMO_REPORT),
 ]
 
 GOOD_INPUTS = [
@@ -186,14 +151,7 @@ LITTLE_MEMORY = [
 """16 MiB of text don't fit into 16,000 KiB, and a program without it does."""
 
 NO_THREAD = [
-    Case(
-        f"no thread/{words}",
-        as_words(words),
-        as_bytes(DEMO_PLAN),
-        error=b"testkit: no thread\n",
-        status=3,
-        memory=9_000,
-    )
+    Case(f"no thread/{words}", as_words(words), as_bytes(DEMO_PLAN), error=b"testkit: no thread\n", status=3, memory=9_000)
     for words in ["run", f"run --workers {form.MAX_WORKERS}"]
 ]
 """A thread's stack of 8,192 KiB doesn't fit into 9,000 KiB beside a program, and a program without threads does."""

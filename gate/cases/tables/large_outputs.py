@@ -7,14 +7,7 @@ from tables.long_replays import long_replay, long_replay_record
 from tables.many_events import many_events, many_executions, many_skips
 
 FULL_DEVICE = [
-    Case(
-        f"full device/{name}",
-        as_words(words),
-        data,
-        error=b"testkit: device failed\n",
-        status=3,
-        standard_output=Output.FULL,
-    )
+    Case(f"full device/{name}", as_words(words), data, error=b"testkit: device failed\n", status=3, standard_output=Output.FULL)
     for name, words, data in [
         ("a long list of events", "ask list all", many_events),
         ("a long list of executions", "ask executions", many_events),

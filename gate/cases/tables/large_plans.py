@@ -38,10 +38,7 @@ def report(statistics: str, *parts: str, root: str = BEGIN_AND_END) -> bytes:
 
 def static_report(count: int) -> bytes:
     total = count + 1
-    return report(
-        stats(started=total, finished=total, succeeded=total),
-        sorted_lines("children", count, BEGIN_AND_END),
-    )
+    return report(stats(started=total, finished=total, succeeded=total), sorted_lines("children", count, BEGIN_AND_END))
 
 
 def dynamic_report(count: int) -> bytes:
@@ -69,39 +66,14 @@ def entries_report(count: int) -> bytes:
 MOST = f"run --workers {form.MAX_WORKERS}"
 
 NODES = [
-    answer(
-        "65,536 nodes/one unit",
-        "run --workers 2",
-        lambda: plan(nodes("children", 65_535)),
-        lambda: static_report(65_535),
-    ),
-    answer(
-        "65,536 nodes/65,535 units",
-        MOST,
-        lambda: plan(nodes("children", 65_535, CONCURRENT)),
-        lambda: static_report(65_535),
-    ),
+    answer("65,536 nodes/one unit", "run --workers 2", lambda: plan(nodes("children", 65_535)), lambda: static_report(65_535)),
+    answer("65,536 nodes/65,535 units", MOST, lambda: plan(nodes("children", 65_535, CONCURRENT)), lambda: static_report(65_535)),
     fault("65,537 nodes/static", "run", lambda: plan(nodes("children", 65_536)), "plan table is refused"),
-    fault(
-        "65,537 nodes/below a skipped node",
-        "run",
-        lambda: plan(',"skip":"off"' + nodes("children", 65_536)),
-        "plan table is refused",
-    ),
+    fault("65,537 nodes/below a skipped node", "run", lambda: plan(',"skip":"off"' + nodes("children", 65_536)), "plan table is refused"),
     answer("65,536 nodes/dynamic", MOST, lambda: plan(nodes("dynamic", 65_536)), lambda: dynamic_report(65_536)),
     fault("65,537 nodes/dynamic", "run", lambda: plan(nodes("dynamic", 65_537)), "plan table is refused"),
-    answer(
-        "65,536 nodes/of both kinds",
-        MOST,
-        lambda: plan(nodes("children", 65_535) + nodes("dynamic", 65_536)),
-        both_report,
-    ),
-    answer(
-        "2^20 events/entries",
-        "run --workers 2",
-        lambda: plan(entries(1_048_574)),
-        lambda: entries_report(1_048_574),
-    ),
+    answer("65,536 nodes/of both kinds", MOST, lambda: plan(nodes("children", 65_535) + nodes("dynamic", 65_536)), both_report),
+    answer("2^20 events/entries", "run --workers 2", lambda: plan(entries(1_048_574)), lambda: entries_report(1_048_574)),
     answer(
         "2^20 events/of the spine",
         "run --workers 2",
@@ -113,12 +85,7 @@ NODES = [
         ),
     ),
     fault("2^20 events and one/entries", "run", lambda: plan(entries(1_048_575)), "too many events"),
-    fault(
-        "2^20 events and one/before the workers",
-        "run --workers 0",
-        lambda: plan(entries(1_048_575)),
-        "too many events",
-    ),
+    fault("2^20 events and one/before the workers", "run --workers 0", lambda: plan(entries(1_048_575)), "too many events"),
     answer(
         "2^20 events and one/of a skipped node",
         "run",

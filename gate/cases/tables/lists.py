@@ -36,12 +36,7 @@ EVERY_KIND_PICKS = dict(
     dynamic=(1,),
 )
 
-ESCAPES = record(
-    "N|T|[engine:e]|e",
-    "E|15|0|18446744073709551615|skip|a\\pb\\n\\\\",
-    "E|0|0|0|file|out/ä.txt",
-    "E|1|0|7|report||",
-)
+ESCAPES = record("N|T|[engine:e]|e", "E|15|0|18446744073709551615|skip|a\\pb\\n\\\\", "E|0|0|0|file|out/ä.txt", "E|1|0|7|report||")
 VERSION_1 = "testkit-record|1\n" + TWO_TESTS.partition("\n")[2]
 
 

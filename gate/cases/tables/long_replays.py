@@ -29,12 +29,7 @@ def waiting_replay_record() -> bytes:
 REPLAYS = [
     answer("100,000 entries/in turn", "replay", long_replay, long_replay_record),
     answer("100,000 entries/all waiting", "replay", waiting_replay, waiting_replay_record),
-    fault(
-        "100,000 entries/after the end",
-        "replay",
-        lambda: waiting_replay()[:-1] + b"|1\n",
-        "step 200002 comes after the end mark",
-    ),
+    fault("100,000 entries/after the end", "replay", lambda: waiting_replay()[:-1] + b"|1\n", "step 200002 comes after the end mark"),
 ]
 
 CASES = REPLAYS

@@ -23,12 +23,7 @@ DESCRIPTORS = [
     answer("65,536 descriptors/static", "ask stats", lambda: roots(65_536), stats()),
     fault("65,537 descriptors/static", "ask stats", lambda: roots(65_537), "line 65538 is bad"),
     answer("65,536 descriptors/registered", "ask stats", lambda: registrations(65_536), stats(dynamic=65_536)),
-    fault(
-        "65,537 descriptors/registered",
-        "ask stats",
-        lambda: registrations(65_537),
-        "line 65538 has an unknown key",
-    ),
+    fault("65,537 descriptors/registered", "ask stats", lambda: registrations(65_537), "line 65538 has an unknown key"),
     answer(
         "65,536 descriptors/the last of each kind",
         "ask match in-order container test",

@@ -87,34 +87,16 @@ MANY_EVENTS = [
         "no 99\n",
     ),
     no("300,000 events/loosely, all fail", ["ask", "match", "loosely"] + ["failed(x)"] * 100, many_events, "no 0\n"),
-    answer(
-        "300,000 events/in-order, one a round",
-        ["ask", "match", "in-order"] + ["skipped(off)"] * 100,
-        many_events,
-        increasing(6, 5),
-    ),
-    answer(
-        "300,000 events/in-order, each event",
-        ["ask", "match", "in-order"] + ["test"] * 100,
-        many_events,
-        increasing(1, 0),
-    ),
+    answer("300,000 events/in-order, one a round", ["ask", "match", "in-order"] + ["skipped(off)"] * 100, many_events, increasing(6, 5)),
+    answer("300,000 events/in-order, each event", ["ask", "match", "in-order"] + ["test"] * 100, many_events, increasing(1, 0)),
     no(
         "300,000 events/in-order, the last fails",
         ["ask", "match", "in-order"] + ["skipped(off)"] * 99 + ["aborted"],
         many_events,
         "no 99\n",
     ),
-    no(
-        "300,000 events/in-order, the first fails",
-        ["ask", "match", "in-order"] + ["aborted"] * 100,
-        many_events,
-        "no 0\n",
-    ),
-] + [
-    answer(f"300,000 events/count {name}", f"ask count {name}", many_events, f"{MANY_NUMBERS.get(name, 0)}\n")
-    for name in form.SELECTIONS
-]
+    no("300,000 events/in-order, the first fails", ["ask", "match", "in-order"] + ["aborted"] * 100, many_events, "no 0\n"),
+] + [answer(f"300,000 events/count {name}", f"ask count {name}", many_events, f"{MANY_NUMBERS.get(name, 0)}\n") for name in form.SELECTIONS]
 
 
 def hundred_events() -> bytes:
@@ -123,12 +105,7 @@ def hundred_events() -> bytes:
 
 
 HUNDRED_EVENTS = [
-    answer(
-        "100 events/exactly",
-        ["ask", "match", "exactly"] + ["started", "succeeded"] * 50,
-        hundred_events,
-        "yes\n",
-    ),
+    answer("100 events/exactly", ["ask", "match", "exactly"] + ["started", "succeeded"] * 50, hundred_events, "yes\n"),
     no(
         "100 events/exactly, the last fails",
         ["ask", "match", "exactly"] + ["started", "succeeded"] * 49 + ["started"] * 2,

@@ -7,14 +7,7 @@ from tables.texts import ONE_START, ONE_TEST_PLAN, SMALL_REPLAY
 
 
 def refused(name: str, words: str, line: str, data=b"") -> Case:
-    return Case(
-        f"open input/{name}",
-        as_words(words),
-        data,
-        error=f"testkit: {line}\n".encode(),
-        status=2,
-        standard_input=Input.OPEN,
-    )
+    return Case(f"open input/{name}", as_words(words), data, error=f"testkit: {line}\n".encode(), status=2, standard_input=Input.OPEN)
 
 
 WORDS = [

@@ -47,11 +47,7 @@ JSON = [
 ] + [
     refused("not JSON, no text", DEMO_PLAN.encode().replace(b'"off"', b'"\xff"'), "plan is not JSON"),
     refused("not JSON, half a character", DEMO_PLAN.encode().replace(b'"off"', b'"\xc3"'), "plan is not JSON"),
-    refused(
-        "not JSON, a surrogate's bytes",
-        DEMO_PLAN.encode().replace(b'"off"', b'"\xed\xa0\x80"'),
-        "plan is not JSON",
-    ),
+    refused("not JSON, a surrogate's bytes", DEMO_PLAN.encode().replace(b'"off"', b'"\xed\xa0\x80"'), "plan is not JSON"),
     refused("not JSON, nul after the plan", ONE_TEST_PLAN + "\0", "plan is not JSON"),
 ]
 

@@ -194,14 +194,8 @@ ORDER_OF_MEMBERS = [
         (',"dynamic":3,"children":[3]', "/root/dynamic"),
         (',"dynamic":[3],"children":[3]', "/root/children/0"),
         (',"dynamic":[3],"children":[CHILD]', "/root/dynamic/0"),
-        (
-            ',"children":[{"type":"both","segment":["b","y"],"name":"m","children":[3]},3]',
-            "/root/children/0/children/0",
-        ),
-        (
-            ',"children":[{"type":"both","segment":["b","y"],"name":"m","dynamic":[3],"children":[CHILD]},3]',
-            "/root/children/0/dynamic/0",
-        ),
+        (',"children":[{"type":"both","segment":["b","y"],"name":"m","children":[3]},3]', "/root/children/0/children/0"),
+        (',"children":[{"type":"both","segment":["b","y"],"name":"m","dynamic":[3],"children":[CHILD]},3]', "/root/children/0/dynamic/0"),
     ]
 ]
 
@@ -235,12 +229,7 @@ FILES = [
     wrong_root(',"tags":1,"files":[]', "/root/files"),
     wrong_root(',"dynamic":[{"type":3,"files":[]}]', "/root/dynamic/0/files"),
 ] + [
-    fault(
-        f"plan member/version 2, {members}",
-        "run",
-        '{"version":2,"root":{' + NODE + members + "}}",
-        f"plan member {path} is bad",
-    )
+    fault(f"plan member/version 2, {members}", "run", '{"version":2,"root":{' + NODE + members + "}}", f"plan member {path} is bad")
     for members, path in [
         (',"files":["a",""]', "/root/files/1"),
         (',"files":"a"', "/root/files"),

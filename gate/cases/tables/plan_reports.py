@@ -34,10 +34,7 @@ def passed(*ids: str) -> list:
 def reports(name: str, text: str, statistics: str, *lines: str) -> list:
     """The plan has this report, for any number of workers."""
     report = statistics + "".join(line + "\n" for line in lines)
-    return [
-        answer(f"report/{name}, {workers} workers", f"run --workers {workers}", text, report)
-        for workers in ANY_WORKERS
-    ]
+    return [answer(f"report/{name}, {workers} workers", f"run --workers {workers}", text, report) for workers in ANY_WORKERS]
 
 
 ONE = stats(started=1, finished=1, succeeded=1)
@@ -176,12 +173,7 @@ DYNAMIC = [
     ),
     *reports(
         "dynamic nodes below one another",
-        root(
-            dynamic(
-                node("both", "d", "1", dynamic(node("test", "d", "1", ',"entries":[[["k","v"]]]'))),
-                node("test", "d", "2"),
-            )
-        ),
+        root(dynamic(node("both", "d", "1", dynamic(node("test", "d", "1", ',"entries":[[["k","v"]]]'))), node("test", "d", "2"))),
         stats(started=4, finished=4, succeeded=4, reporting=1, dynamic=3),
         *passed("[engine:e]"),
         "[engine:e]/[d:1]",

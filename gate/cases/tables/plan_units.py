@@ -42,12 +42,7 @@ CUTS = [
     ),
     *reports(
         "a child of the same thread among concurrent ones",
-        root(
-            children(
-                node("test", "t", "1", ',"mode":"concurrent"'),
-                node("test", "t", "2", ',"mode":"same_thread","skip":"off"'),
-            )
-        ),
+        root(children(node("test", "t", "1", ',"mode":"concurrent"'), node("test", "t", "2", ',"mode":"same_thread","skip":"off"'))),
         stats(skipped=1, started=2, finished=2, succeeded=2),
         *passed("[engine:e]", "[engine:e]/[t:1]"),
         "[engine:e]/[t:2]",
@@ -59,16 +54,7 @@ CUTS = [
             children(
                 *[
                     node("test", tag, value, ',"mode":"concurrent"')
-                    for tag, value in [
-                        ("t", "10"),
-                        ("t", "9"),
-                        ("t", "1"),
-                        ("T", "1"),
-                        ("é", "1"),
-                        ("t", "]"),
-                        ("a", "z"),
-                        ("t", "1 "),
-                    ]
+                    for tag, value in [("t", "10"), ("t", "9"), ("t", "1"), ("T", "1"), ("é", "1"), ("t", "]"), ("a", "z"), ("t", "1 ")]
                 ]
             )
         ),
@@ -87,22 +73,13 @@ CUTS = [
     ),
     *reports(
         "units that all write one resource",
-        root(
-            children(
-                *[
-                    node("test", "t", str(number), ',"mode":"concurrent","locks":[{"key":"db"}]')
-                    for number in range(9)
-                ]
-            )
-        ),
+        root(children(*[node("test", "t", str(number), ',"mode":"concurrent","locks":[{"key":"db"}]') for number in range(9)])),
         stats(started=10, finished=10, succeeded=10),
         *passed("[engine:e]", *[f"[engine:e]/[t:{number}]" for number in range(9)]),
     ),
     *reports(
         "units that are all isolated",
-        root(
-            children(*[node("test", "t", str(number), ',"mode":"concurrent","isolated":true') for number in range(9)])
-        ),
+        root(children(*[node("test", "t", str(number), ',"mode":"concurrent","isolated":true') for number in range(9)])),
         stats(started=10, finished=10, succeeded=10),
         *passed("[engine:e]", *[f"[engine:e]/[t:{number}]" for number in range(9)]),
     ),

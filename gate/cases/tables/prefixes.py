@@ -38,6 +38,4 @@ def plan_prefix(length: int) -> Case:
     return fault(f"prefix of the demo plan/{length} bytes", "run --workers 2", DEMO_PLAN[:length], "plan is not JSON")
 
 
-CASES = [record_prefix(length) for length in range(len(TWO_TESTS) + 1)] + [
-    plan_prefix(length) for length in range(len(DEMO_PLAN))
-]
+CASES = [record_prefix(length) for length in range(len(TWO_TESTS) + 1)] + [plan_prefix(length) for length in range(len(DEMO_PLAN))]

@@ -219,12 +219,7 @@ EXECUTIONS = [
     answer(
         "executions/of a registered test",
         "ask executions",
-        record(
-            "N|C|[engine:e]|e",
-            "E|1|65536|0|dynamic|T|[engine:e]/[d:1]|one",
-            "E|1|65536|1|start",
-            "E|1|65536|2|finish|ok",
-        ),
+        record("N|C|[engine:e]|e", "E|1|65536|0|dynamic|T|[engine:e]/[d:1]|one", "E|1|65536|1|start", "E|1|65536|2|finish|ok"),
         "65536 succeeded 1 2\n",
     ),
     answer(

@@ -28,9 +28,7 @@ def good_node(line: str):
     return answer(f"node line/{line!r}", STATS, record(line), stats())
 
 
-HEADERS = [
-    answer(f"header/version {version}", STATS, f"testkit-record|{version}\n", stats()) for version in form.VERSIONS
-] + [
+HEADERS = [answer(f"header/version {version}", STATS, f"testkit-record|{version}\n", stats()) for version in form.VERSIONS] + [
     fault(f"header/{name}", STATS, text, "no header")
     for name, text in [
         ("empty input", ""),
@@ -115,12 +113,7 @@ TABLES = [
         record(NODE, "N|C|[engine:e]/[c:1]|c", "N|T|[engine:e]/[c:1]/[t:1]|t", "E|0|2|0|start", "E|0|1|0|start"),
         "1\n",
     ),
-    answer(
-        "table/parent with escapes",
-        STATS,
-        record("N|C|[a%2Fb:c]|x", "N|T|[a%2Fb:c]/[t:%25]|y", "E|1|1|0|start"),
-        stats(started=1),
-    ),
+    answer("table/parent with escapes", STATS, record("N|C|[a%2Fb:c]|x", "N|T|[a%2Fb:c]/[t:%25]|y", "E|1|1|0|start"), stats(started=1)),
 ]
 
 BAD_ENTRIES = [
@@ -261,10 +254,7 @@ GOOD_ENTRIES = [
     good_line("E|1|65536|0|dynamic|T|[engine:e]/[d:1]|one", dynamic=1),
     good_line("E|1|65536|0|dynamic|B|[other:x]/[y:z]|a parent that no line has", dynamic=1),
     good_line("E|1|65536|0|dynamic|C|[engine:e]|an id that is there already", dynamic=1),
-    good_line(
-        f"E|{form.MAX_WORKERS}|{65536 * form.MAX_WORKERS}|0|dynamic|T|[engine:e]/[d:1]|one",
-        dynamic=1,
-    ),
+    good_line(f"E|{form.MAX_WORKERS}|{65536 * form.MAX_WORKERS}|0|dynamic|T|[engine:e]/[d:1]|one", dynamic=1),
 ]
 
 REGISTRATIONS = [
@@ -281,12 +271,7 @@ REGISTRATIONS = [
         ),
         stats(dynamic=3, started=1, skipped=1),
     ),
-    fault(
-        "registrations/key twice",
-        STATS,
-        record(NODE, *["E|1|65536|0|dynamic|T|[engine:e]/[d:1]|one"] * 2),
-        "line 4 has an unknown key",
-    ),
+    fault("registrations/key twice", STATS, record(NODE, *["E|1|65536|0|dynamic|T|[engine:e]/[d:1]|one"] * 2), "line 4 has an unknown key"),
     fault(
         "registrations/before it",
         STATS,
@@ -296,21 +281,13 @@ REGISTRATIONS = [
     fault(
         "registrations/keys that don't increase after one",
         STATS,
-        record(
-            "N|C|[engine:e]|e",
-            "E|1|65536|0|dynamic|T|[engine:e]/[d:1]|one",
-            "E|1|65536|1|start",
-            "E|1|0|2|report|b|1|a|2",
-        ),
+        record("N|C|[engine:e]|e", "E|1|65536|0|dynamic|T|[engine:e]/[d:1]|one", "E|1|65536|1|start", "E|1|0|2|report|b|1|a|2"),
         "line 5 is unlawful",
     ),
     answer(
         "registrations/by the last worker",
         "ask count dynamic",
-        record(
-            "N|C|[engine:e]|e",
-            f"E|{form.MAX_WORKERS}|{65536 * form.MAX_WORKERS}|0|dynamic|T|[engine:e]/[d:1]|one",
-        ),
+        record("N|C|[engine:e]|e", f"E|{form.MAX_WORKERS}|{65536 * form.MAX_WORKERS}|0|dynamic|T|[engine:e]/[d:1]|one"),
         "1\n",
     ),
 ]
@@ -321,12 +298,7 @@ ENDS = [
     fault("end/empty line", STATS, TWO_TESTS + "\n", "line 10 is bad"),
     fault("end/blank", STATS, TWO_TESTS + " ", "line 10 is bad"),
     fault("end/nul", STATS, EMPTY + "\0", "line 2 is bad"),
-    fault(
-        "end/first of two faults",
-        STATS,
-        record(NODE, "E|1|5|0|start", "E|01|0|0|start"),
-        "line 3 has an unknown key",
-    ),
+    fault("end/first of two faults", STATS, record(NODE, "E|1|5|0|start", "E|01|0|0|start"), "line 3 has an unknown key"),
     fault("end/first of two faults, the bad line", STATS, record(NODE, "x", "E|1|5|0|start"), "line 3 is bad"),
     fault("end/a good entry without a line feed", STATS, record(NODE) + "E|1|0|0|start", "line 3 is bad"),
     fault("end/an unknown key without a line feed", STATS, record(NODE) + "E|1|5|0|start", "line 3 is bad"),
@@ -338,12 +310,7 @@ NO_TEXT = [
     fault("no text/id", STATS, record().encode() + b"N|T|[engine:\xff]|e\n", "line 2 is bad"),
     fault("no text/overlong", STATS, record().encode() + b"N|T|[engine:e]|\xc0\xaf\n", "line 2 is bad"),
     fault("no text/surrogate", STATS, record().encode() + b"N|T|[engine:e]|\xed\xa0\x80\n", "line 2 is bad"),
-    fault(
-        "no text/beyond the last character",
-        STATS,
-        record().encode() + b"N|T|[engine:e]|\xf4\x90\x80\x80\n",
-        "line 2 is bad",
-    ),
+    fault("no text/beyond the last character", STATS, record().encode() + b"N|T|[engine:e]|\xf4\x90\x80\x80\n", "line 2 is bad"),
     fault("no text/reason", STATS, record(NODE).encode() + b"E|1|0|0|skip|\x80\n", "line 3 is bad"),
     fault("no text/message", STATS, record(NODE).encode() + b"E|1|0|0|finish|fail|\xe2\x82\n", "line 3 is bad"),
     fault("no text/value", STATS, record(NODE).encode() + b"E|1|0|0|report|k|\xfe\n", "line 3 is bad"),
@@ -352,14 +319,7 @@ NO_TEXT = [
 
 QUESTIONS_ASKED = [
     fault(f"any question/{words}", f"ask {words}", record(NODE, "E|1|5|0|start"), "line 3 has an unknown key")
-    for words in [
-        "stats started=1",
-        "count all",
-        "match exactly",
-        "match loosely started",
-        "match in-order test",
-        "executions",
-    ]
+    for words in ["stats started=1", "count all", "match exactly", "match loosely started", "match in-order test", "executions"]
 ]
 
 FILES = [

@@ -147,56 +147,22 @@ WORKERS = [
 
 KEYS = [
     refused("unknown key", ["W|1", "E|1|5|0|start", "S|1|t"], "step 1 has an unknown key"),
-    answer(
-        "replay/unknown key that isn't taken",
-        "replay",
-        replay("W|1", "E|1|5|0|start", "S|1|1"),
-        record(),
-    ),
+    answer("replay/unknown key that isn't taken", "replay", replay("W|1", "E|1|5|0|start", "S|1|1"), record()),
     answer("replay/unknown key that isn't emitted", "replay", replay("W|1", "E|1|5|0|start", "S|t|t"), record()),
     refused("unlawful", ["W|1", NODE, "E|1|0|0|report|b|1|a|2", "S|t|1|t"], "step 2 is unlawful"),
-    answer(
-        "replay/unlawful that isn't taken",
-        "replay",
-        replay("W|1", NODE, "E|1|0|0|report|b|1|a|2", "S|t|1"),
-        record(NODE),
-    ),
-    refused(
-        "unknown key before unlawful",
-        ["W|1", "E|1|0|0|report|b|1|a|2", "S|1|t"],
-        "step 1 has an unknown key",
-    ),
-    refused(
-        "first of two faulty steps, the take",
-        ["W|1", "E|1|5|0|start", "S|1|t|1|1"],
-        "step 1 has an unknown key",
-    ),
-    refused(
-        "first of two faulty steps, the end",
-        ["W|1", "E|1|5|0|start", "S|1|1|1|t"],
-        "step 2 comes after the end mark",
-    ),
+    answer("replay/unlawful that isn't taken", "replay", replay("W|1", NODE, "E|1|0|0|report|b|1|a|2", "S|t|1"), record(NODE)),
+    refused("unknown key before unlawful", ["W|1", "E|1|0|0|report|b|1|a|2", "S|1|t"], "step 1 has an unknown key"),
+    refused("first of two faulty steps, the take", ["W|1", "E|1|5|0|start", "S|1|t|1|1"], "step 1 has an unknown key"),
+    refused("first of two faulty steps, the end", ["W|1", "E|1|5|0|start", "S|1|1|1|t"], "step 2 comes after the end mark"),
     answer(
         "replay/registration",
         "replay",
-        replay(
-            "W|2",
-            NODE,
-            "E|1|65536|0|dynamic|T|[engine:e]/[d:1]|one",
-            "E|2|65536|1|start",
-            "S|1|2|t|t",
-        ),
+        replay("W|2", NODE, "E|1|65536|0|dynamic|T|[engine:e]/[d:1]|one", "E|2|65536|1|start", "S|1|2|t|t"),
         record(NODE, "E|1|65536|0|dynamic|T|[engine:e]/[d:1]|one", "E|2|65536|1|start"),
     ),
     refused(
         "registration that is taken too late",
-        [
-            "W|2",
-            NODE,
-            "E|1|65536|0|dynamic|T|[engine:e]/[d:1]|one",
-            "E|2|65536|1|start",
-            "S|2|1|t|t",
-        ],
+        ["W|2", NODE, "E|1|65536|0|dynamic|T|[engine:e]/[d:1]|one", "E|2|65536|1|start", "S|2|1|t|t"],
         "step 2 has an unknown key",
     ),
     refused(
@@ -206,13 +172,7 @@ KEYS = [
     ),
     refused(
         "registrations in the wrong order",
-        [
-            "W|1",
-            NODE,
-            "E|1|65537|0|dynamic|T|[engine:e]/[d:1]|one",
-            "E|1|65536|0|dynamic|T|[engine:e]/[d:2]|two",
-            "S|1|1|t|t",
-        ],
+        ["W|1", NODE, "E|1|65537|0|dynamic|T|[engine:e]/[d:1]|one", "E|1|65536|0|dynamic|T|[engine:e]/[d:2]|two", "S|1|1|t|t"],
         "step 2 has an unknown key",
     ),
 ]
@@ -239,20 +199,10 @@ EVERY_TAIL = [
 ]
 """Each form of a tail, with each escape of a text field."""
 
-NODES = [
-    "N|C|[engine:e]|e",
-    "N|B|[engine:e]/[c:%5B%5D]|\\p\\\\\\n",
-    "N|T|[engine:e]/[c:%5B%5D]/[t:\\p]|",
-    "N|C|[other:x]|spät",
-]
+NODES = ["N|C|[engine:e]|e", "N|B|[engine:e]/[c:%5B%5D]|\\p\\\\\\n", "N|T|[engine:e]/[c:%5B%5D]/[t:\\p]|", "N|C|[other:x]|spät"]
 
 LONGER = [
-    answer(
-        "replay/every tail",
-        "replay",
-        replay("W|1", *NODES, *EVERY_TAIL, "S" + "|1|t" * len(EVERY_TAIL)),
-        record(*NODES, *EVERY_TAIL),
-    ),
+    answer("replay/every tail", "replay", replay("W|1", *NODES, *EVERY_TAIL, "S" + "|1|t" * len(EVERY_TAIL)), record(*NODES, *EVERY_TAIL)),
     answer(
         "replay/every tail of version 1",
         "replay",
@@ -265,12 +215,7 @@ LONGER = [
         replay("W|1", *NODES, *EVERY_TAIL, "S" + "|1" * (len(EVERY_TAIL) + 1) + "|t" * 100),
         record(*NODES, *EVERY_TAIL),
     ),
-    answer(
-        "replay/nodes alone",
-        "replay",
-        replay(f"W|{form.MAX_WORKERS}", *NODES, "S"),
-        record(*NODES),
-    ),
+    answer("replay/nodes alone", "replay", replay(f"W|{form.MAX_WORKERS}", *NODES, "S"), record(*NODES)),
     answer(
         "replay/a hundred steps",
         "replay",
@@ -296,12 +241,7 @@ LONGER = [
 ]
 
 FILES = [
-    fault(
-        "replay/file in version 1",
-        "replay",
-        "testkit-replay|1\nW|1\n" + NODE + "\nE|1|0|0|file|a\nS\n",
-        "line 4 is bad",
-    ),
+    fault("replay/file in version 1", "replay", "testkit-replay|1\nW|1\n" + NODE + "\nE|1|0|0|file|a\nS\n", "line 4 is bad"),
     refused("file without a path", ["W|1", NODE, "E|1|0|0|file|", "S|1|t"], "step 1 is unlawful"),
 ]
 

@@ -30,14 +30,7 @@ CASES: List = [
     answer(
         "report/ids in the order of their own bytes, not of the fields' escapes",
         "ask report",
-        record(
-            "N|C|[a:\\p]|bar",
-            "N|C|[a:b]|letter",
-            "N|C|[a:\\n]|line feed",
-            "E|0|0|0|start",
-            "E|0|1|0|start",
-            "E|0|2|0|start",
-        ),
+        record("N|C|[a:\\p]|bar", "N|C|[a:b]|letter", "N|C|[a:\\n]|line feed", "E|0|0|0|start", "E|0|1|0|start", "E|0|2|0|start"),
         stats(started=3) + "[a:\\n]\n  start\n[a:b]\n  start\n[a:\\p]\n  start\n",
     ),
     answer(

@@ -42,6 +42,4 @@ REPORT = (
     )
 )
 
-CASES = [
-    answer(f"schedules/{number}", f"run --workers {form.MAX_WORKERS}", PLAN, REPORT) for number in range(1, RUNS + 1)
-]
+CASES = [answer(f"schedules/{number}", f"run --workers {form.MAX_WORKERS}", PLAN, REPORT) for number in range(1, RUNS + 1)]

@@ -44,12 +44,7 @@ def plan_of_size(size: int) -> bytes:
 
 SIZES = [
     answer("16 MiB/record", "ask stats", lambda: record_of_size(form.MAX_TEXT), stats(skipped=1, started=1_000_000)),
-    answer(
-        "16 MiB/record, loosely",
-        "ask match loosely started kind(skip)",
-        lambda: record_of_size(form.MAX_TEXT),
-        "yes\n",
-    ),
+    answer("16 MiB/record, loosely", "ask match loosely started kind(skip)", lambda: record_of_size(form.MAX_TEXT), "yes\n"),
     answer(
         "16 MiB/record, the list of its last event",
         "ask list skipped not(started)",

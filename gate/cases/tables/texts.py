@@ -19,19 +19,9 @@ BOTH_KINDS = record("N|B|[engine:e]|e", "E|1|0|0|start", "E|1|0|1|finish|ok")
 
 ONE_START = record("N|T|[engine:e]|e", "E|1|0|0|start")
 
-REGISTERED_TEST = record(
-    "N|C|[engine:e]|e",
-    "E|1|65536|0|dynamic|T|[engine:e]/[d:1]|one",
-    "E|1|65536|1|start",
-)
+REGISTERED_TEST = record("N|C|[engine:e]|e", "E|1|65536|0|dynamic|T|[engine:e]/[d:1]|one", "E|1|65536|1|start")
 
-SMALL_SCRIPT = (
-    "W|2",
-    "N|T|[engine:e]|e",
-    "E|1|0|10|start",
-    "E|1|0|11|finish|ok",
-    "E|2|0|20|report|k|v",
-)
+SMALL_SCRIPT = ("W|2", "N|T|[engine:e]|e", "E|1|0|10|start", "E|1|0|11|finish|ok", "E|2|0|20|report|k|v")
 
 SMALL_REPLAY = replay(*SMALL_SCRIPT, "S|1|2|1|t|1|2|t|t|t|t")
 

@@ -84,18 +84,8 @@ LIMITS = [
     bad("a thousand segments", chain(1_000)),
     root("4,096 bytes", "[a:" + "v" * 4_092 + "]", True),
     root("4,097 bytes", "[a:" + "v" * 4_093 + "]", False),
-    answer(
-        "id/64 nodes below one another",
-        "ask stats",
-        record(*[f"N|C|{chain(count)}|name" for count in range(1, 65)]),
-        stats(),
-    ),
-    fault(
-        "id/65 nodes below one another",
-        "ask stats",
-        record(*[f"N|C|{chain(count)}|name" for count in range(1, 66)]),
-        "line 66 is bad",
-    ),
+    answer("id/64 nodes below one another", "ask stats", record(*[f"N|C|{chain(count)}|name" for count in range(1, 65)]), stats()),
+    fault("id/65 nodes below one another", "ask stats", record(*[f"N|C|{chain(count)}|name" for count in range(1, 66)]), "line 66 is bad"),
 ]
 
 ESCAPED = record("N|C|[engine:e]|e", "N|T|[engine:e]/[t:a%2Fb%3Ac%25]|one", "E|1|1|0|start")
