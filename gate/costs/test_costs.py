@@ -399,7 +399,7 @@ EXAMPLES = [
     Example("no counts", ["/usr/bin/env", "-u", "LD_PRELOAD", "/bin/dd", "bs=64K", "status=none"], "status -1"),
     Example("counts of two programs", ["/bin/sh", "-c", "/bin/true; printf xx"], "status -1"),
     Example("one processor", python("import os; print('xx' if len(os.sched_getaffinity(0)) == 1 else 'many')"), "requests", is_alone=True),
-    Example("a late thread", python(f"{BEGIN_THREAD}; print('xx' if time.monotonic() - begun > 0.3 else 'early')"), "requests", late=300),
+    Example("a late thread", python(f"{BEGIN_THREAD}; print('xx' if time.monotonic() - begun > 1.4 else 'early')"), "requests", late=1_500),
 ]
 
 
