@@ -184,18 +184,18 @@ ROWS = [
     ),
     Row(
         "record/1,000 rare conditions loosely, 1,000 failures", ["ask", "match", "loosely", *["all(failed(boom),name(e))"] * 1_000], FAILURES,
-        Costs(1.3, 26_000, 13_000, 312, 2), "yes\n",
+        Costs(1.3, 25_700, 11_000, 312, 2), "yes\n",
     ),
     Row(
         "record/1,000 conditions without a test of a column", ["ask", "match", "loosely", *["any(name(x),name(e))"] * 1_000], EVENTS,
-        Costs(1.3, 25_600, 13_000, 312, 2), "yes\n",
+        Costs(0.8, 25_500, 9_800, 312, 2), "yes\n",
     ),
-    Row("record/lifecycle of 60,000 registrations", ["ask", "lifecycle"], lambda: registrations(60_000), Costs(2, 60_000, 900_000, 312, 2), "yes\n"),
+    Row("record/lifecycle of 60,000 registrations", ["ask", "lifecycle"], lambda: registrations(60_000), Costs(0.8, 34_600, 288_300, 272, 2), "yes\n"),
     Row(
         "record/report of 60,000 registrations", ["ask", "report"], lambda: registrations(60_000),
-        Costs(2, 60_000, 900_000, 312, 400), "skipped 0\nstarted 60001\n",
+        Costs(0.8, 65_000, 504_400, 272, 261), "skipped 0\nstarted 60001\n",
     ),
-    Row("record/report of one id", ["ask", "report"], STARTS, Costs(2, 60_000, 300, 312, 400), "skipped 0\nstarted 1198"),
+    Row("record/report of one id", ["ask", "report"], STARTS, Costs(0.8, 64_200, 220, 312, 3), "skipped 0\nstarted 1198"),
     Row(
         "record/many conditions", ["ask", "match", "loosely", *["started"] * 10_000], lambda: (RECORD + "E|1|0|7|start\n").encode(),
         Costs(0.4, 4_400, 25_000, 6, 2), "yes\n",
@@ -259,23 +259,23 @@ ROWS = [
     ),
     Row("plan/nodes", ["run"], lambda: plan_of_nodes(65_000, ""), Costs(1.5, 59_000, 625_000, 72, 56), "skipped 0\n"),
     Row("plan/units", ["run"], lambda: plan_of_nodes(65_000, ',"mode":"concurrent"'), Costs(1.8, 65_000, 1_100_000, 96, 56), "skipped 0\n"),
-    Row("plan/one long unit of 15", ["run", "--workers", "15"], one_long_unit, Costs(3, 200_000, 3_700_000, 70, 60), "skipped 0\nstarted 16\n"),
+    Row("plan/one long unit of 15", ["run", "--workers", "15"], one_long_unit, Costs(3, 212_300, 1_200_600, 57, 4), "skipped 0\nstarted 16\n"),
     Row("small/record", ["ask", "stats"], lambda: (RECORD + "E|1|0|7|start\n").encode(), Costs(0.4, 10, 60, 6, 2), "skipped 0\n"),
     Row(
         "small/replay", ["replay"], lambda: b"testkit-replay|2\nW|1\nN|T|[engine:e]|e\nE|1|0|7|start\nS|1|1|t|t\n",
         Costs(0.4, 20, 100, 6, 2), "testkit-record|2\n",
     ),
     Row("small/plan", ["run"], lambda: plan_of_nodes(2, ""), Costs(0.4, 20, 190, 6, 2), "skipped 0\n", least_memory=15),
-    Row("waiting/1 worker", ["run"], lambda: one_lock(100), Costs(1.2, 80_000, 1_210_000, 49, 60, 2), "skipped 0\n", is_alone=True),
+    Row("waiting/1 worker", ["run"], lambda: one_lock(100), Costs(1.2, 80_000, 1_210_000, 49, 60, 20), "skipped 0\n", is_alone=True),
     Row(
         "waiting/4 workers for one lock", ["run", "--workers", "4"], lambda: one_lock(100),
-        Costs(1.1, 80_000, 1_210_000, 49, 60, 2), "skipped 0\n", is_alone=True,
+        Costs(1.1, 80_000, 1_210_000, 49, 60, 20), "skipped 0\n", is_alone=True,
     ),
     Row(
         "waiting/15 workers for one lock", ["run", "--workers", "15"], lambda: one_lock(100),
-        Costs(1.3, 80_000, 1_210_000, 49, 60, 2), "skipped 0\n", is_alone=True,
+        Costs(1.3, 80_000, 1_210_000, 49, 60, 20), "skipped 0\n", is_alone=True,
     ),
-    Row("waiting/a worker that begins late", ["run"], lambda: plan_of_nodes(2, ""), Costs(0.5, 20, 190, 6, 2, 3), "skipped 0\n", late=2_000),
+    Row("waiting/a worker that begins late", ["run"], lambda: plan_of_nodes(2, ""), Costs(0.5, 20, 190, 6, 2, 6), "skipped 0\n", late=2_000),
 ]
 
 
@@ -399,7 +399,7 @@ EXAMPLES = [
     Example("no counts", ["/usr/bin/env", "-u", "LD_PRELOAD", "/bin/dd", "bs=64K", "status=none"], "status -1"),
     Example("counts of two programs", ["/bin/sh", "-c", "/bin/true; printf xx"], "status -1"),
     Example("one processor", python("import os; print('xx' if len(os.sched_getaffinity(0)) == 1 else 'many')"), "requests", is_alone=True),
-    Example("a late thread", python(f"{BEGIN_THREAD}; print('xx' if time.monotonic() - begun > 0.3 else 'early')"), "requests", late=300),
+    Example("a late thread", python(f"{BEGIN_THREAD}; print('xx' if time.monotonic() - begun > 1.4 else 'early')"), "requests", late=1_500),
 ]
 
 
