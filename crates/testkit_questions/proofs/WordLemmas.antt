@@ -95,4 +95,4 @@ one_too_many f words word s (extra ∷ more) e n some = inr (inr (inl (s, f extr
 -- a word after the name of an overview
 pub none_wanted : {A : Type 0} (f : A → List ℕ) → (o : Overview) (words : List A) → 0 < length words → IsBadWord (overview_name o ∷ map f words) 0
 none_wanted f o [] some = absurd (omega arith)
-none_wanted f o (extra ∷ more) some = inr (inr (inr (inr (inr (o, f extra, map f more, refl, refl)))))
+none_wanted f o (extra ∷ more) some = inr (inr (inr (inr (inr (inl (o, f extra, map f more, refl, refl))))))
