@@ -1,7 +1,8 @@
 -- The commands that the command-line crate reads, and what it makes of words.
-use Rattle.std.proofs.Common.{◌≡◌, ◌⊎◌, ℕ, Bool, true, false, List, [], ◌∷◌, Option, Some, None, Result, Ok, Err, refl, sym, ap, ◌∙◌, inl, inr, map, codes}
+use Rattle.std.proofs.Common.{◌≡◌, ◌⊎◌, ℕ, Bool, true, false, List, [], ◌∷◌, Option, Some, None, Result, Ok, Err, refl, sym, ap, ◌∙◌, inl, inr, ⊎_elim, ap₂, map, codes}
 use Rattle.std.specs.Prelude.{option_map, if◌then◌else◌, Box}
 use Rattle.std.specs.Box.{box_value}
+use Rattle.std.proofs.lemmas.Option.{same_Some}
 use Rattle.clap.specs.Simple.{subcommand_rows_of}
 use Rattle.clap.specs.Walk.{is_empty}
 use Rattle.clap.specs.Words.{HasMatchesOf, IsAmong, Kinds, Row, fault_of, found_of, is_simple, is_simple_and_free, kind_of, rows_of, subcommand_name_of, subcommand_of, subcommand_rows}
@@ -33,7 +34,29 @@ some_kind : (kind : ErrorKind) (kinds : Kinds) → IsAmong kind kinds → is_emp
 some_kind kind [] among = absurd among
 some_kind kind (k ∷ kinds) among = refl
 
--- words that it refuses
-pub refused : (words : List (List ℕ)) (kind : ErrorKind) → (kind ≡ parse.OutOfMemory) ⊎ IsAmong kind (fault_of commands words)
-    → (Err {T = Job} (fault_of_parse kind) ≡ other_job words) ⊎ (Err {T = Job} (fault_of_parse kind) ≡ Err faults.Memory)
-refused words kind h = ?
+refused_words : (words : List (List ℕ)) → is_empty (fault_of commands words) ≡ false → other_job words ≡ Err faults.BadWords
+unfolding other_job
+refused_words words some = ap (λ (b : Bool). if b then job_of_command (subcommand_of commands words) else Err faults.BadWords) some
+
+bad_or_memory : (kind : ErrorKind) → (fault_of_parse kind ≡ faults.BadWords) ⊎ (fault_of_parse kind ≡ faults.Memory)
+bad_or_memory parse.OutOfMemory = inr refl
+bad_or_memory _ = inl refl
+
+-- words that it refuses, or memory that was refused
+pub refused : (words : List (List ℕ)) (kind : ErrorKind) (fault : CommandLineFault) → fault ≡ fault_of_parse kind → (kind ≡ parse.OutOfMemory) ⊎ IsAmong kind (fault_of commands words)
+    → (Err {T = Job} fault ≡ other_job words) ⊎ (Err {T = Job} fault ≡ Err faults.Memory)
+refused words kind fault is h = ⊎_elim {C = (Err {T = Job} fault ≡ other_job words) ⊎ (Err {T = Job} fault ≡ Err faults.Memory)}
+    (λ (bad : fault_of_parse kind ≡ faults.BadWords). ⊎_elim {C = (Err {T = Job} fault ≡ other_job words) ⊎ (Err {T = Job} fault ≡ Err faults.Memory)}
+    (λ (none : kind ≡ parse.OutOfMemory). inr (ap (λ (f : CommandLineFault). Err {T = Job} f) (is ∙ ap fault_of_parse none)))
+    (λ (among : IsAmong kind (fault_of commands words)). inl (ap (λ (f : CommandLineFault). Err {T = Job} f) (is ∙ bad) ∙ sym (refused_words words (some_kind kind (fault_of commands words) among))))
+    h)
+    (λ (memory : fault_of_parse kind ≡ faults.Memory). inr (ap (λ (f : CommandLineFault). Err {T = Job} f) (is ∙ memory)))
+    (bad_or_memory kind)
+
+-- two maps of an option are a map to pairs
+both_mapped : {A B C D : Type 0} (f : A → C) (g : A → D) (h : B → C) (k : B → D) (o : Option A) (s : Option B) → option_map f o ≡ option_map h s → option_map g o ≡ option_map k s
+    → option_map (λ (b : B). (h b, k b)) s ≡ option_map (λ (a : A). (f a, g a)) o
+both_mapped f g h k None None p q = refl
+both_mapped f g h k None (Some b) p q = cc
+both_mapped f g h k (Some a) None p q = cc
+both_mapped f g h k (Some a) (Some b) p q = ap (λ x. Some x) (ap₂ (λ c d. (c, d)) (sym (same_Some _ _ p)) (sym (same_Some _ _ q)))

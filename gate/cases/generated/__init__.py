@@ -4,16 +4,17 @@
 - `recordings`, `conditions`: records and conditions.
 - `questions`: selections, statistics, conditions, matches, lists, executions and reports of generated records.
 - `lifecycles`: records that keep the lifecycle, whole or spoiled.
+- `exclusives`: executions of writers and readers that overlap, and some that don't.
 - `replays`, `plans`: generated replay texts and plans.
 - `changes`: texts of all kinds with a byte changed, dropped or doubled, and texts made of loose parts.
 """
 
 from typing import List
 
-from generated import changes, lifecycles, plans, questions, replays
+from generated import changes, exclusives, lifecycles, plans, questions, replays
 from harness import Group
 
-LEAST = {questions: 2_353, lifecycles: 2_002, replays: 301, plans: 752, changes: 1_850}
+LEAST = {questions: 2_353, lifecycles: 2_002, exclusives: 3_001, replays: 301, plans: 752, changes: 1_850}
 """The modules with cases, and how many each has at least."""
 
 
