@@ -1,5 +1,5 @@
 #!/usr/bin/env -S python3 -B
-"""Times matches and executions of a record of 640,000 events: `bench/measure_matches.py PROGRAM`.
+"""Times matches, executions and which of them overlap, of a record of 640,000 events: `bench/measure_matches.py PROGRAM`.
 
 It leaves nothing behind. Each line: what is asked and beside what, the seconds of both in processor time and by the clock (medians of five
 runs in turn), their ratio with the goal where there is one, and the most memory. All that is timed reads the whole record first; so a
@@ -89,6 +89,7 @@ def measure(folder: str, words: List[str]) -> None:
     in_order = ["match", "in-order", *EACH_STEP]
     compare("in-order, 1,000 conditions over the whole record, beside count all", "large", in_order, "yes 1 641 ", ALL, "640000", 1.2)
     compare("executions beside count all", "large", ["executions"], "0 failed 0 1\n", ALL, "640000", 1.3)
+    compare("exclusive beside executions", "large", ["exclusive", "any(name(test 1),name(test 2))", "test"], "yes\n", ["executions"], "0 failed 0 1\n", 1.3)
     compare("exactly, 50,000 conditions of 50,000 events, beside count all", "small", EXACTLY, "yes", ALL, "50000")
     compare("exactly, one condition too few, beside count all", "small", EXACTLY[:-1], "wrong-count", ALL, "50000")
 

@@ -51,4 +51,4 @@ def cases() -> Cases:
         words = [word(numbers) for _ in range(1 + numbers.below(2))]
         made.append(modelled(f"generated exclusive/{number}", ["ask", "exclusive", *words], text_of(numbers)))
     met = [case.output.decode()[:-1] for case in made]
-    return [*made, each_is_met("generated exclusive", met, ANSWERS, 20)]
+    return [*made, each_is_met("generated exclusive", met, ANSWERS, 5)]
