@@ -1,7 +1,8 @@
 -- The commands that the command-line crate reads, and what it makes of words.
-use Rattle.std.proofs.Common.{◌≡◌, ◌⊎◌, ℕ, Bool, true, false, List, [], ◌∷◌, Option, Some, None, Result, Ok, Err, refl, sym, ap, ◌∙◌, inl, inr, ⊎_elim, ap₂, map, codes}
+use Rattle.std.proofs.Common.{length, arith, ◌≡◌, ◌⊎◌, ℕ, Bool, true, false, List, [], ◌∷◌, Option, Some, None, Result, Ok, Err, refl, sym, ap, ◌∙◌, inl, inr, ⊎_elim, ap₂, map, codes}
 use Rattle.std.specs.Prelude.{option_map, if◌then◌else◌, Box}
 use Rattle.std.specs.Box.{box_value}
+use Rattle.std.proofs.lemmas.Bool.{ne_eqb}
 use Rattle.std.proofs.lemmas.Option.{same_Some}
 use Rattle.clap.specs.Simple.{subcommand_rows_of}
 use Rattle.clap.specs.Walk.{is_empty}
@@ -32,7 +33,7 @@ taken words none = ap (λ (kinds : Kinds). if is_empty kinds then job_of_command
 
 some_kind : (kind : ErrorKind) (kinds : Kinds) → IsAmong kind kinds → is_empty kinds ≡ false
 some_kind kind [] among = absurd among
-some_kind kind (k ∷ kinds) among = refl
+some_kind kind (k ∷ kinds) among = ne_eqb (length (k ∷ kinds)) 0 (λ (e : length (k ∷ kinds) ≡ 0). omega arith)
 
 refused_words : (words : List (List ℕ)) → is_empty (fault_of commands words) ≡ false → other_job words ≡ Err faults.BadWords
 unfolding other_job
@@ -42,21 +43,39 @@ bad_or_memory : (kind : ErrorKind) → (fault_of_parse kind ≡ faults.BadWords)
 bad_or_memory parse.OutOfMemory = inr refl
 bad_or_memory _ = inl refl
 
+abbrev pub refusal : CommandLineFault → Result Job CommandLineFault
+refusal fault = Err fault
+
 -- words that it refuses, or memory that was refused
 pub refused : (words : List (List ℕ)) (kind : ErrorKind) (fault : CommandLineFault) → fault ≡ fault_of_parse kind → (kind ≡ parse.OutOfMemory) ⊎ IsAmong kind (fault_of commands words)
-    → (Err {T = Job} fault ≡ other_job words) ⊎ (Err {T = Job} fault ≡ Err faults.Memory)
-refused words kind fault is h = ⊎_elim {C = (Err {T = Job} fault ≡ other_job words) ⊎ (Err {T = Job} fault ≡ Err faults.Memory)}
-    (λ (bad : fault_of_parse kind ≡ faults.BadWords). ⊎_elim {C = (Err {T = Job} fault ≡ other_job words) ⊎ (Err {T = Job} fault ≡ Err faults.Memory)}
-    (λ (none : kind ≡ parse.OutOfMemory). inr (ap (λ (f : CommandLineFault). Err {T = Job} f) (is ∙ ap fault_of_parse none)))
-    (λ (among : IsAmong kind (fault_of commands words)). inl (ap (λ (f : CommandLineFault). Err {T = Job} f) (is ∙ bad) ∙ sym (refused_words words (some_kind kind (fault_of commands words) among))))
+    → (refusal fault ≡ other_job words) ⊎ (refusal fault ≡ refusal faults.Memory)
+refused words kind fault is h = ⊎_elim {C = (refusal fault ≡ other_job words) ⊎ (refusal fault ≡ refusal faults.Memory)}
+    (λ (bad : fault_of_parse kind ≡ faults.BadWords). ⊎_elim {C = (refusal fault ≡ other_job words) ⊎ (refusal fault ≡ refusal faults.Memory)}
+    (λ (none : kind ≡ parse.OutOfMemory). inr (ap refusal (is ∙ ap fault_of_parse none)))
+    (λ (among : IsAmong kind (fault_of commands words)). inl (ap refusal (is ∙ bad) ∙ sym (refused_words words (some_kind kind (fault_of commands words) among))))
     h)
-    (λ (memory : fault_of_parse kind ≡ faults.Memory). inr (ap (λ (f : CommandLineFault). Err {T = Job} f) (is ∙ memory)))
+    (λ (memory : fault_of_parse kind ≡ faults.Memory). inr (ap refusal (is ∙ memory)))
     (bad_or_memory kind)
 
 -- two maps of an option are a map to pairs
 both_mapped : {A B C D : Type 0} (f : A → C) (g : A → D) (h : B → C) (k : B → D) (o : Option A) (s : Option B) → option_map f o ≡ option_map h s → option_map g o ≡ option_map k s
-    → option_map (λ (b : B). (h b, k b)) s ≡ option_map (λ (a : A). (f a, g a)) o
+    → option_map {U = C × D} (λ (b : B). (h b, k b)) s ≡ option_map {U = C × D} (λ (a : A). (f a, g a)) o
 both_mapped f g h k None None p q = refl
 both_mapped f g h k None (Some b) p q = cc
 both_mapped f g h k (Some a) None p q = cc
-both_mapped f g h k (Some a) (Some b) p q = ap (λ x. Some x) (ap₂ (λ c d. (c, d)) (sym (same_Some _ _ p)) (sym (same_Some _ _ q)))
+both_mapped {C = C} {D = D} f g h k (Some a) (Some b) p q =
+    ap₂ (λ (c : C) (d : D). Some (let pair : C × D = (c, d) in pair)) (sym (same_Some (f a) (h b) p)) (sym (same_Some (g a) (k b) q))
+
+mapped_twice : {A B C : Type 0} (f : A → B) (g : B → C) (o : Option A) → option_map g (option_map f o) ≡ option_map (λ a. g (f a)) o
+mapped_twice f g None = refl
+mapped_twice f g (Some a) = refl
+
+-- the words that it takes ask for what the subcommand asks that it finds
+pub found : (words : List (List ℕ)) (m : ArgMatches) (o : Option (Bor (List ℕ) × Bor ArgMatches)) → HasMatchesOf commands words m → fault_of commands words ≡ []
+    → option_map (λ p. p.0.now) o ≡ subcommand_name_of m → option_map (λ p. rows_of (found_of p.1.now)) o ≡ option_map (λ p. p.1) (subcommand_rows (out-ArgMatches m).subcommand)
+    → other_job words ≡ job_of_command (option_map {U = List ℕ × List Row} (λ p. (p.0.now, rows_of (found_of p.1.now))) o)
+found words m o matches none name rows =
+    taken words none
+    ∙ ap job_of_command (sym (matches commands_are_simple).1
+    ∙ both_mapped (λ p. p.0.now) (λ p. rows_of (found_of p.1.now)) (λ b. (out-SubCommand (box_value b)).name.now) (λ b. rows_of (found_of (out-SubCommand (box_value b)).matches)) o (out-ArgMatches m).subcommand name
+    (rows ∙ mapped_twice {B = List ℕ × List Row} (λ b. ((out-SubCommand (box_value b)).name.now, rows_of (found_of (out-SubCommand (box_value b)).matches))) (λ p. p.1) (out-ArgMatches m).subcommand))

@@ -1,6 +1,7 @@
 //! How the words of a command line are read.
 ghost use Rattle.std.specs.Prelude.{◌≡◌, codes, map, string_bytes, false, IfErr, IfOk, Err, Ok, ◌⊎◌};
-ghost use Rattle.clap.specs.Words.{app_of, fields_of, first_value, found_of};
+ghost use Rattle.clap.specs.Words.{app_of, first_value, found_of};
+ghost use Rattle.clap.specs.declared.builder.command.Command.TheViews.{out-Command as fields_of};
 ghost use Rattle.testkit_command_line.specs.declared.faults.CommandLineFault.TheVariants.{Memory};
 ghost use Rattle.testkit_command_line.specs.CommandLines.{IsJobOf, IsNoJob, commands, other_job, run_by, run_command};
 

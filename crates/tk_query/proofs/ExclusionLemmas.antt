@@ -95,10 +95,10 @@ at_head x xs = (0, omega arith, refl)
 in_rest : (x : Execution) (xs : List Execution) (z : Execution) → Contains xs z → Contains (x ∷ xs) z
 in_rest x xs z has = let lt = has.1 in (suc has.0, omega arith, has.2)
 
-zeros : (n p : ℕ) → get_or (replicate n 0) p 0 ≡ 0
-zeros zero p = refl
-zeros (suc n) zero = refl
-zeros (suc n) (suc p) = zeros n p
+same_value : (n p value : ℕ) → get_or (replicate n value) p value ≡ value
+same_value zero p value = refl
+same_value (suc n) zero value = refl
+same_value (suc n) (suc p) value = same_value n p value
 
 module _ (asked : Selected) (old new : Pairing) (column : List ℕ) (so_far : AreSoFar asked old column) (y : Execution) (next : rest_of asked old ≡ y ∷ rest_of asked new) (slots : HaveSlots asked.recorded new.starts) where
   was : IsExecution (step_at asked) y
@@ -170,7 +170,7 @@ none_yet asked pairing column n slots to_come all is size = record {
   size = size;
   to_come = to_come;
   found = λ x span. inl (all x (inr span));
-  only = λ p positive. let zero_here = ap (λ l. get_or l p 0) is ∙ zeros n p in absurd (omega arith);
+  only = λ p positive. let zero_here : get_or column p 0 ≡ 0 = ap (λ l. get_or l p 0) is ∙ same_value n p 0 in absurd (omega arith);
 }
 
 pub all_found : (asked : Selected) (pairing : Pairing) (column : List ℕ) → AreSoFar asked pairing column → rest_of asked pairing ≡ [] → AreFinishes asked column
@@ -188,12 +188,15 @@ within_list [] p h = absurd (omega arith)
 within_list (x ∷ xs) zero h = omega arith
 within_list (x ∷ xs) (suc p) h = let lt = within_list xs p h in omega arith
 
+abbrev conflict_in : Holders → ℕ → ℕ → Bool
+conflict_in h p q = (writes h p && holds_any h q) || (writes h q && holds_any h p)
+
 or_swap : (a b : Bool) → (a || b) ≡ true → (b || a) ≡ true
 or_swap true b e = or_right b true refl
 or_swap false b e = or_left b false e
 
 module _ (asked : Selected) (w r : Condition) (h : Holders) (are : AreFinishes asked h.finishes.items) (writers : TellFits asked w h.writers) (readers : TellFits asked r h.readers) where
-  conflict_is : (p q : ℕ) → conflict asked w r p q ≡ ((writes h p && holds_any h q) || (writes h q && holds_any h p))
+  conflict_is : (p q : ℕ) → conflict asked w r p q ≡ conflict_in h p q
   conflict_is p q = rw (writers.tell p, writers.tell q, readers.tell p, readers.tell q) refl
 
   meets : (p q : ℕ) → CollideAt asked w r p q → meet h p q ≡ true
@@ -205,16 +208,16 @@ module _ (asked : Selected) (w r : Condition) (h : Holders) (are : AreFinishes a
       let high = c.overlap.second_starts in
       let first_at = at.first in
       let second_at = at.second in
-      and_from (nat_lt q (finish_of h p)) _ (lt-ltb q (finish_of h p) (omega arith))
-      (and_from (nat_lt 0 (finish_of h q)) _ (lt-ltb 0 (finish_of h q) (omega arith))
-      (sym (conflict_is p q) ∙ subst (λ n. conflict asked w r p n ≡ true) at.second (subst (λ n. conflict asked w r n at.y.first ≡ true) at.first c.conflicts)))
+      and_from (nat_lt q (finish_of h p) && nat_lt 0 (finish_of h q)) (conflict_in h p q)
+      (and_from (nat_lt q (finish_of h p)) (nat_lt 0 (finish_of h q)) (lt-ltb q (finish_of h p) (omega arith)) (lt-ltb 0 (finish_of h q) (omega arith)))
+      (sym (conflict_is p q) ∙ (subst (λ n. conflict asked w r p n ≡ true) at.second (subst (λ n. conflict asked w r n at.y.first ≡ true) at.first c.conflicts)))
 
   collides : (p q : ℕ) → p < q → meet h p q ≡ true → CollideAt asked w r p q
   collides p q order met =
-      let parts = and_parts (nat_lt q (finish_of h p)) _ met in
-      let more = and_parts (nat_lt 0 (finish_of h q)) _ parts.1 in
-      let open_there : q < finish_of h p = ltb-true q (finish_of h p) parts.0 in
-      let finishes : 0 < finish_of h q = ltb-true 0 (finish_of h q) more.0 in
+      let parts = and_parts (nat_lt q (finish_of h p) && nat_lt 0 (finish_of h q)) (conflict_in h p q) met in
+      let ends = and_parts (nat_lt q (finish_of h p)) (nat_lt 0 (finish_of h q)) parts.0 in
+      let open_there : q < finish_of h p = ltb-true q (finish_of h p) ends.0 in
+      let finishes : 0 < finish_of h q = ltb-true 0 (finish_of h q) ends.1 in
       let a = are.only p (omega arith) in
       let b = are.only q finishes in
       let a_at = a.starts in
@@ -231,7 +234,7 @@ module _ (asked : Selected) (w r : Condition) (h : Holders) (are : AreFinishes a
           second = b.span;
           different = λ same. let e = ap (λ (z : Execution). z.first) same in omega arith;
           overlap = record { first_starts = omega arith; second_starts = omega arith };
-          conflicts = subst (λ n. conflict asked w r n b.x.first ≡ true) (sym a.starts) (subst (λ n. conflict asked w r p n ≡ true) (sym b.starts) (conflict_is p q ∙ more.1));
+          conflicts = subst (λ n. conflict asked w r n b.x.first ≡ true) (sym a.starts) (subst (λ n. conflict asked w r p n ≡ true) (sym b.starts) (conflict_is p q ∙ parts.1));
         };
       }
 
@@ -244,7 +247,7 @@ module _ (asked : Selected) (w r : Condition) (h : Holders) (are : AreFinishes a
     second = c.first;
     different = λ same. c.different (sym same);
     overlap = record { first_starts = c.overlap.second_starts; second_starts = c.overlap.first_starts };
-    conflicts = or_swap _ _ c.conflicts;
+    conflicts = or_swap (fits asked w x.first && (fits asked w y.first || fits asked r y.first)) (fits asked w y.first && (fits asked w x.first || fits asked r x.first)) c.conflicts;
   }
 
   none_in_order : ((q : ℕ) → q < length h.finishes.items → MeetsNone h q) → (x y : Execution) → Collide asked w r x y → x.first < y.first → ⊥
@@ -255,7 +258,7 @@ module _ (asked : Selected) (w r : Condition) (h : Holders) (are : AreFinishes a
       (record { x = x; y = y; first = refl; second = refl; collide = c })
 
   pub exclusive_is : (answer : Exclusive) → IsAnswerOf h answer → IsExclusive asked w r answer
-  exclusive_is Yes none x y c = ⊎_elim {C = ⊥}
+  exclusive_is Yes none = λ x y c. ⊎_elim {C = ⊥}
       (λ (same : x.first ≡ y.first). c.different (one_span (step_at asked) x y c.first c.second same))
       (λ (apart : (x.first < y.first) ⊎ (y.first < x.first)). ⊎_elim {C = ⊥}
       (λ (before : x.first < y.first). none_in_order none x y c before)
