@@ -1,12 +1,14 @@
 -- The commands that the command-line crate reads, and what it makes of words.
-use Rattle.std.proofs.Common.{length, arith, ◌≡◌, ◌⊎◌, ℕ, Bool, true, false, List, [], ◌∷◌, Option, Some, None, Result, Ok, Err, refl, sym, ap, ◌∙◌, inl, inr, ⊎_elim, ap₂, map, codes}
-use Rattle.std.specs.Prelude.{option_map, if◌then◌else◌, Box}
+use Rattle.std.proofs.Common.{length, arith, subst, ◌≡◌, ◌⊎◌, ℕ, Bool, true, false, List, [], ◌∷◌, Option, Some, None, Result, Ok, Err, refl, sym, ap, ◌∙◌, inl, inr, ⊎_elim, ap₂, map, codes}
+use Rattle.std.specs.Prelude.{option_map, if◌then◌else◌, Box, IfOk}
+use Rattle.std.specs.Str.{bytes_eq}
 use Rattle.std.specs.Box.{box_value}
 use Rattle.std.proofs.lemmas.Bool.{ne_eqb}
 use Rattle.std.proofs.lemmas.Option.{same_Some}
 use Rattle.clap.specs.Simple.{subcommand_rows_of}
 use Rattle.clap.specs.Walk.{is_empty}
-use Rattle.clap.specs.Words.{HasMatchesOf, IsAmong, Kinds, Row, fault_of, found_of, is_simple, is_simple_and_free, kind_of, rows_of, subcommand_name_of, subcommand_of, subcommand_rows}
+use Rattle.clap.specs.Words.{App, HasKind, HasMatchesOf, IsAmong, Kinds, Row, fault_of, found_of, is_simple, is_simple_and_free, kind_of, rows_of, subcommand_name_of, subcommand_of, subcommand_rows}
+use Rattle.clap.specs.declared.error.Error.{Error}
 use Rattle.clap.specs.declared.error.kind.ErrorKind.{ErrorKind}
 use Rattle.clap.specs.declared.error.kind.ErrorKind.TheVariants as parse
 use Rattle.clap.specs.declared.parser.matches.ArgMatches.{ArgMatches}
@@ -14,9 +16,10 @@ use Rattle.clap.specs.declared.parser.matches.ArgMatches.TheViews.{out-ArgMatche
 use Rattle.clap.proofs.OnLiterals.{clap_on_literals}
 use Rattle.std.specs.Borrow.{Bor}
 use Rattle.testkit_command_line.specs.declared.jobs.Job.{Job}
+use Rattle.testkit_command_line.specs.declared.jobs.Job.TheVariants as jobs
 use Rattle.testkit_command_line.specs.declared.faults.CommandLineFault.{CommandLineFault}
 use Rattle.testkit_command_line.specs.declared.faults.CommandLineFault.TheVariants as faults
-use Rattle.testkit_command_line.specs.CommandLines.{commands, fault_of_parse, job_of_command, other_job}
+use Rattle.testkit_command_line.specs.CommandLines.{IsJobOf, IsNoAskLine, commands, fault_of_parse, job_of_command, other_job, run_by, run_by_number}
 
 pub commands_are_simple : is_simple commands ≡ true
 unfolding commands clap_on_literals
@@ -79,3 +82,32 @@ found words m o matches none name rows =
     ∙ ap job_of_command (sym (matches commands_are_simple).1
     ∙ both_mapped (λ p. p.0.now) (λ p. rows_of (found_of p.1.now)) (λ b. (out-SubCommand (box_value b)).name.now) (λ b. rows_of (found_of (out-SubCommand (box_value b)).matches)) o (out-ArgMatches m).subcommand name
     (rows ∙ mapped_twice {B = List ℕ × List Row} (λ b. ((out-SubCommand (box_value b)).name.now, rows_of (found_of (out-SubCommand (box_value b)).matches))) (λ p. p.1) (out-ArgMatches m).subcommand))
+
+-- the same, of a command that is the one above
+
+pub refused_by : (words : List (List ℕ)) (a : App) → a ≡ commands → (error : Error) (fault : CommandLineFault) → fault ≡ fault_of_parse (kind_of error) → (is_simple_and_free a ≡ true → HasKind (fault_of a words) error)
+    → (refusal fault ≡ other_job words) ⊎ (refusal fault ≡ refusal faults.Memory)
+refused_by words a is error fault fault_is kinds =
+    refused words (kind_of error) fault fault_is (subst (λ (b : App). is_simple_and_free b ≡ true → HasKind (fault_of b words) error) is kinds commands_are_free)
+
+pub found_by : (words : List (List ℕ)) (a : App) → a ≡ commands → (m : ArgMatches) (o : Option (Bor (List ℕ) × Bor ArgMatches)) → HasMatchesOf a words m → (is_simple_and_free a ≡ true → fault_of a words ≡ [])
+    → option_map (λ p. p.0.now) o ≡ subcommand_name_of m → option_map (λ p. rows_of (found_of p.1.now)) o ≡ option_map (λ p. p.1) (subcommand_rows (out-ArgMatches m).subcommand)
+    → other_job words ≡ job_of_command (option_map {U = List ℕ × List Row} (λ p. (p.0.now, rows_of (found_of p.1.now))) o)
+found_by words a is m o matches none name rows =
+    found words m o (subst (λ (b : App). HasMatchesOf b words m) is matches)
+    (subst (λ (b : App). is_simple_and_free b ≡ true → fault_of b words ≡ []) is none commands_are_free) name rows
+
+-- no other job is a question
+
+not_by_number : (question : _) (n : Option ℕ) → run_by_number n ≡ Ok (jobs.Ask question) → ⊥
+not_by_number question None e = cc
+not_by_number question (Some n) e = cc
+
+not_by_run : (question : _) (value : Option (List ℕ)) → run_by value ≡ Ok (jobs.Ask question) → ⊥
+not_by_run question None e = cc
+not_by_run question (Some text) e = not_by_number question (_) e
+
+not_by_name : (question : _) (is_replay is_run : Bool) (value : Option (List ℕ)) → (if is_replay then Ok jobs.Replay else if is_run then run_by value else Err faults.BadWords) ≡ Ok (jobs.Ask question) → ⊥
+not_by_name question true is_run value e = cc
+not_by_name question false true value e = not_by_run question value e
+not_by_name question false false value e = cc

@@ -1,12 +1,13 @@
 //! How the words of a command line are read.
-ghost use Rattle.std.specs.Prelude.{◌≡◌, codes, map, string_bytes, false, IfErr, IfOk, Err, Ok, ◌⊎◌};
-ghost use Rattle.clap.specs.Words.{app_of, first_value, found_of};
+ghost use Rattle.std.specs.Prelude.{◌≡◌, codes, map, string_bytes, false, IfErr, IfOk, Err, Some, ◌⊎◌};
+ghost use Rattle.clap.specs.Words.{app_of, first_value, found_of, kind_of, rows_of};
 ghost use Rattle.clap.specs.declared.builder.command.Command.TheViews.{out-Command as fields_of};
 ghost use Rattle.testkit_command_line.specs.declared.faults.CommandLineFault.TheVariants.{Memory};
-ghost use Rattle.testkit_command_line.specs.CommandLines.{IsJobOf, IsNoJob, commands, other_job, run_by, run_command};
+ghost use Rattle.testkit_command_line.specs.CommandLines.{IsJobOf, IsNoJob, commands, job_of_command, other_job, run_by, run_command};
 
 use crate::faults::{CommandLineFault, parse_fault};
 use crate::jobs::Job;
+use clap::error::ErrorKind;
 use clap::{Arg, ArgAction, ArgMatches, Command, Error};
 use std::alloc::Global;
 use tk_record::read_u8;
@@ -14,6 +15,7 @@ use tk_record::read_u8;
 fn run_command<'w>(alloc: Global) -> Result<Command<'w>, Error>
     ensures app { IfOk result (λ command. app_of command ≡ run_command) }
     ensures local { IfOk result (λ command. (fields_of command).has_globals ≡ false) }
+    ensures memory { IfErr result (λ error. kind_of error ≡ ErrorKind.OutOfMemory) }
 {
     let workers = Arg::new(alloc, "workers")
         .long("workers")
@@ -23,7 +25,8 @@ fn run_command<'w>(alloc: Global) -> Result<Command<'w>, Error>
 
 /// The commands that the command-line crate reads: all but `ask`.
 fn command<'w>(alloc: Global) -> Result<Command<'w>, Error>
-    ensures { IfOk result (λ command. app_of command ≡ commands) }
+    ensures app { IfOk result (λ command. app_of command ≡ commands) }
+    ensures memory { IfErr result (λ error. kind_of error ≡ ErrorKind.OutOfMemory) }
 {
     let run = run_command(alloc)?;
     let command = Command::new(alloc, "testkit")
@@ -45,6 +48,20 @@ fn run_of<'w>(matches: &ArgMatches<'w>) -> Result<Job<'w>, CommandLineFault>
     }
 }
 
+/// What a command of this name asks for, with these values of its options.
+fn job_of_command<'w>(
+    name: &str,
+    matches: &ArgMatches<'w>,
+) -> Result<Job<'w>, CommandLineFault>
+    ensures { result ≡ job_of_command (Some (name.now, rows_of (found_of matches.now))) }
+{
+    match name {
+        "replay" => Ok(Job::Replay),
+        "run" => run_of(matches),
+        _ => Err(CommandLineFault::BadWords),
+    }
+}
+
 /// The job of a command line that is not a question.
 fn other_job<'w>(alloc: Global, words: &'w [String]) -> Result<Job<'w>, CommandLineFault>
     ensures job { (result ≡ other_job (map string_bytes words.now)) ⊎ (result ≡ Err Memory) }
@@ -55,9 +72,8 @@ fn other_job<'w>(alloc: Global, words: &'w [String]) -> Result<Job<'w>, CommandL
     };
     match command.try_get_matches_from(words) {
         Ok(matches) => match matches.subcommand() {
-            Some(("replay", _)) => Ok(Job::Replay),
-            Some(("run", matches)) => run_of(matches),
-            _ => Err(CommandLineFault::BadWords),
+            Some((name, matches)) => job_of_command(name, matches),
+            None => Err(CommandLineFault::BadWords),
         },
         Err(error) => Err(parse_fault(&error)),
     }
