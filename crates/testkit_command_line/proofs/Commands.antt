@@ -1,5 +1,5 @@
 -- The commands that the command-line crate reads, and what it makes of words.
-use Rattle.std.proofs.Common.{length, arith, subst, ◌≡◌, ◌⊎◌, ℕ, Bool, true, false, List, [], ◌∷◌, Option, Some, None, Result, Ok, Err, refl, sym, ap, ◌∙◌, inl, inr, ⊎_elim, ap₂, map, codes}
+use Rattle.std.proofs.Common.{length, arith, subst, ◌^◌, ◌≡◌, ◌⊎◌, ℕ, Bool, true, false, List, [], ◌∷◌, Option, Some, None, Result, Ok, Err, refl, sym, ap, ◌∙◌, inl, inr, ⊎_elim, ap₂, map, codes}
 use Rattle.std.specs.Prelude.{option_map, if◌then◌else◌, Box, IfOk}
 use Rattle.std.specs.Str.{bytes_eq}
 use Rattle.std.specs.Box.{box_value}
@@ -7,7 +7,7 @@ use Rattle.std.proofs.lemmas.Bool.{ne_eqb}
 use Rattle.std.proofs.lemmas.Option.{same_Some}
 use Rattle.clap.specs.Simple.{subcommand_rows_of}
 use Rattle.clap.specs.Walk.{is_empty}
-use Rattle.clap.specs.Words.{App, HasKind, HasMatchesOf, IsAmong, Kinds, Row, fault_of, found_of, is_simple, is_simple_and_free, kind_of, rows_of, subcommand_name_of, subcommand_of, subcommand_rows}
+use Rattle.clap.specs.Words.{App, HasKind, HasMatchesOf, IsAmong, Kinds, Row, fault_of, first_of, found_of, is_simple, is_simple_and_free, kind_of, rows_of, subcommand_name_of, subcommand_of, subcommand_rows}
 use Rattle.clap.specs.declared.error.Error.{Error}
 use Rattle.clap.specs.declared.error.kind.ErrorKind.{ErrorKind}
 use Rattle.clap.specs.declared.error.kind.ErrorKind.TheVariants as parse
@@ -15,6 +15,7 @@ use Rattle.clap.specs.declared.parser.matches.ArgMatches.{ArgMatches}
 use Rattle.clap.specs.declared.parser.matches.ArgMatches.TheViews.{out-ArgMatches, out-SubCommand}
 use Rattle.clap.proofs.OnLiterals.{clap_on_literals}
 use Rattle.std.specs.Borrow.{Bor}
+use Rattle.tk_record.specs.Reading.{number_of}
 use Rattle.testkit_command_line.specs.declared.jobs.Job.{Job}
 use Rattle.testkit_command_line.specs.declared.jobs.Job.TheVariants as jobs
 use Rattle.testkit_command_line.specs.declared.faults.CommandLineFault.{CommandLineFault}
@@ -97,17 +98,47 @@ found_by words a is m o matches none name rows =
     found words m o (subst (λ (b : App). HasMatchesOf b words m) is matches)
     (subst (λ (b : App). is_simple_and_free b ≡ true → fault_of b words ≡ []) is none commands_are_free) name rows
 
--- no other job is a question
+-- no question
+abbrev IsOther : Job → Type 0
+IsOther (jobs.Ask question) = ⊥
+IsOther jobs.Replay = Unit {0}
+IsOther (jobs.Run workers) = Unit {0}
 
-not_by_number : (question : _) (n : Option ℕ) → run_by_number n ≡ Ok (jobs.Ask question) → ⊥
-not_by_number question None e = cc
-not_by_number question (Some n) e = cc
+other_by_number : (n : Option ℕ) (job : Job) → run_by_number n ≡ Ok job → IsOther job
+other_by_number n jobs.Replay e = tt
+other_by_number n (jobs.Run workers) e = tt
+other_by_number None (jobs.Ask question) e = cc
+other_by_number (Some n) (jobs.Ask question) e = cc
 
-not_by_run : (question : _) (value : Option (List ℕ)) → run_by value ≡ Ok (jobs.Ask question) → ⊥
-not_by_run question None e = cc
-not_by_run question (Some text) e = not_by_number question (_) e
+other_by_run : (value : Option (List ℕ)) (job : Job) → run_by value ≡ Ok job → IsOther job
+other_by_run value jobs.Replay e = tt
+other_by_run value (jobs.Run workers) e = tt
+other_by_run None (jobs.Ask question) e = cc
+other_by_run (Some text) (jobs.Ask question) e = other_by_number (number_of (2 ^ 8) text) (jobs.Ask question) e
 
-not_by_name : (question : _) (is_replay is_run : Bool) (value : Option (List ℕ)) → (if is_replay then Ok jobs.Replay else if is_run then run_by value else Err faults.BadWords) ≡ Ok (jobs.Ask question) → ⊥
-not_by_name question true is_run value e = cc
-not_by_name question false true value e = not_by_run question value e
-not_by_name question false false value e = cc
+other_by_name : (is_replay is_run : Bool) (value : Option (List ℕ)) (job : Job) → (if is_replay then Ok jobs.Replay else if is_run then run_by value else Err faults.BadWords) ≡ Ok job → IsOther job
+other_by_name is_replay is_run value jobs.Replay e = tt
+other_by_name is_replay is_run value (jobs.Run workers) e = tt
+other_by_name true is_run value (jobs.Ask question) e = cc
+other_by_name false true value (jobs.Ask question) e = other_by_run value (jobs.Ask question) e
+other_by_name false false value (jobs.Ask question) e = cc
+
+other_by_words : (is_taken : Bool) (o : Option (List ℕ × List Row)) (job : Job) → (if is_taken then job_of_command o else Err faults.BadWords) ≡ Ok job → IsOther job
+other_by_words is_taken o jobs.Replay e = tt
+other_by_words is_taken o (jobs.Run workers) e = tt
+other_by_words true None (jobs.Ask question) e = cc
+other_by_words true (Some command) (jobs.Ask question) e =
+    other_by_name (bytes_eq command.0 (codes "replay")) (bytes_eq command.0 (codes "run")) (first_of (codes "workers") command.1) (jobs.Ask question) e
+other_by_words false o (jobs.Ask question) e = cc
+
+is_other : (words : List (List ℕ)) (job : Job) → other_job words ≡ Ok job → IsOther job
+unfolding other_job
+is_other words job e = other_by_words (is_empty (fault_of commands words)) (subcommand_of commands words) job e
+
+-- the job of words that ask no question
+pub job_is : (words : List (List ℕ)) (result : Result Job CommandLineFault) → IsNoAskLine words → (result ≡ other_job words) ⊎ (result ≡ refusal faults.Memory) → IfOk result (IsJobOf words)
+job_is words (Ok (jobs.Ask question)) none (inl is) = absurd (is_other words (jobs.Ask question) (sym is))
+job_is words (Ok jobs.Replay) none (inl is) = (none, sym is)
+job_is words (Ok (jobs.Run workers)) none (inl is) = (none, sym is)
+job_is words (Ok job) none (inr is) = cc
+job_is words (Err fault) none h = tt
