@@ -1,11 +1,10 @@
 -- The commands that the command-line crate reads, and what it makes of words.
-use Rattle.std.proofs.Common.{length, arith, subst, ◌^◌, ◌≡◌, ◌⊎◌, ℕ, Bool, true, false, List, [], ◌∷◌, Option, Some, None, Result, Ok, Err, refl, sym, ap, ◌∙◌, inl, inr, ⊎_elim, ap₂, map, codes}
-use Rattle.std.specs.Prelude.{option_map, if◌then◌else◌, Box, IfOk}
+use Rattle.std.proofs.Common.{length, arith, subst, ◌^◌, ◌≡◌, ◌⊎◌, ℕ, Bool, true, false, List, [], ◌∷◌, Option, Some, None, Result, Ok, Err, refl, sym, ap, ◌∙◌, inl, inr, ⊎_elim, ap₂, codes}
+use Rattle.std.specs.Prelude.{option_map, if◌then◌else◌, IfOk}
 use Rattle.std.specs.Str.{bytes_eq}
 use Rattle.std.specs.Box.{box_value}
 use Rattle.std.proofs.lemmas.Bool.{ne_eqb}
 use Rattle.std.proofs.lemmas.Option.{same_Some}
-use Rattle.clap.specs.Simple.{subcommand_rows_of}
 use Rattle.clap.specs.Walk.{is_empty}
 use Rattle.clap.specs.Words.{App, HasKind, HasMatchesOf, IsAmong, Kinds, Row, fault_of, first_of, found_of, is_simple, is_simple_and_free, kind_of, rows_of, subcommand_name_of, subcommand_of, subcommand_rows}
 use Rattle.clap.specs.declared.error.Error.{Error}

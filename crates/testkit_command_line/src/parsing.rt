@@ -49,10 +49,7 @@ fn run_of<'w>(matches: &ArgMatches<'w>) -> Result<Job<'w>, CommandLineFault>
 }
 
 /// What a command of this name asks for, with these values of its options.
-fn job_of_command<'w>(
-    name: &str,
-    matches: &ArgMatches<'w>,
-) -> Result<Job<'w>, CommandLineFault>
+fn job_of_command<'w>(name: &str, matches: &ArgMatches<'w>) -> Result<Job<'w>, CommandLineFault>
     ensures { result ≡ job_of_command (Some (name.now, rows_of (found_of matches.now))) }
 {
     match name {
