@@ -58,9 +58,7 @@ pub struct StepEngine<'a> {
 fn two_tests(alloc: Global) -> Option<Arc<Table>> {
     let mut table = Table::new(alloc);
     let engine = Segment::new(alloc, "engine", "e").ok()?;
-    let root = table
-        .add(alloc, None, &engine, "e", DType::Container)
-        .ok()?;
+    let root = table.add(alloc, None, &engine, "e", DType::Container).ok()?;
     for name in ["1", "2"] {
         let segment = Segment::new(alloc, "t", name).ok()?;
         let _key = table

@@ -9,12 +9,7 @@ use tk_query::{Exclusive, exclusive, read_condition};
 use tk_report::{Results, execute, run_plan};
 
 // What `exclusive` answers of a run; none for want of memory.
-fn answer_of(
-    alloc: Global,
-    results: &Results,
-    writers: &str,
-    readers: &str,
-) -> Option<Exclusive> {
+fn answer_of(alloc: Global, results: &Results, writers: &str, readers: &str) -> Option<Exclusive> {
     let writers = read_condition(alloc, writers).ok()?;
     let readers = read_condition(alloc, readers).ok()?;
     let events = results.all_events(alloc).ok()?;
@@ -90,8 +85,18 @@ fn answer_of_two<R: Threads + Wait + Sync>(
     need: Need,
     steps: [UnitStep; 2],
 ) -> Option<Exclusive> {
-    let first = [UnitStep::StartOf(1), steps[0], steps[1], UnitStep::FinishOf(1)];
-    let other = [UnitStep::StartOf(2), steps[0], steps[1], UnitStep::FinishOf(2)];
+    let first = [
+        UnitStep::StartOf(1),
+        steps[0],
+        steps[1],
+        UnitStep::FinishOf(1),
+    ];
+    let other = [
+        UnitStep::StartOf(2),
+        steps[0],
+        steps[1],
+        UnitStep::FinishOf(2),
+    ];
     let engine = engine(alloc, 2, [need; 2], &first, &other)?;
     let ran = execute(rt, alloc, &engine, 2, 64);
     let answer = match &ran {

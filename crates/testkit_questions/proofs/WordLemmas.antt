@@ -126,24 +126,33 @@ pub third_condition : {A : Type 0} (f : A → List ℕ) → (words more rest : L
 third_condition f words more [] w r b d some = absurd (omega arith)
 third_condition f words more (x ∷ rest) w r b d some =
     let all : map f words ≡ f b.first ∷ f d.first ∷ f x ∷ map f rest = ap (map f) (b.cut ∙ ap (λ l. b.first ∷ l) d.cut) in
-    inr (inr (inr (inr (inr (inr (map f words, refl, inr (
-      w ∷ r ∷ [],
-      subst (λ (t : List (List ℕ)). AreConditions (take 2 t) (w ∷ r ∷ [])) (sym all) (b.read, d.read, tt),
-      subst (λ (t : List (List ℕ)). 2 < length t) (sym all) (omega arith),
+    inr (inr (inr (inr (inr (inr (
+      map f words,
       refl,
-    )))))))
+      inr (
+        w ∷ r ∷ [],
+        subst (λ (t : List (List ℕ)). AreConditions (take 2 t) (w ∷ r ∷ [])) (sym all) (b.read, d.read, tt),
+        subst (λ (t : List (List ℕ)). 2 < length t) (sym all) (omega arith),
+        refl,
+      ),
+    ))))))
 
 pub first_fault : {A : Type 0} (f : A → List ℕ) → (words more : List A) (first : A) (text : List ℕ) (fault : AskFault) → words ≡ first ∷ more → text ≡ f first → IsWordFault 0 text fault → IsAskedAs (exclusive_word ∷ map f words) (Err fault)
 first_fault f words more first text (faults.Condition number fault) cut is bad =
     let at : number ≡ 0 = bad.0 in
-    inr (inr (map f words, refl, omega arith, record {
-      conditions = [];
-      before = subst (λ (n : ℕ). AreConditions (take n (map f words)) []) (sym at) tt;
-      text = text;
-      at = ap (slice_get (map f words)) at ∙ ap (λ (l : List (List ℕ)). slice_get l 0) (ap (map f) cut) ∙ ap (λ t. Some t) (sym is);
-      bad = bad.1;
-      read = bad.2;
-    }))
+    inr (inr (
+      map f words,
+      refl,
+      omega arith,
+      record {
+        conditions = [];
+        before = subst (λ (n : ℕ). AreConditions (take n (map f words)) []) (sym at) tt;
+        text = text;
+        at = ap (slice_get (map f words)) at ∙ ap (λ (l : List (List ℕ)). slice_get l 0) (ap (map f) cut) ∙ ap (λ t. Some t) (sym is);
+        bad = bad.1;
+        read = bad.2;
+      },
+    ))
 first_fault f words more first text faults.Memory cut is bad = tt
 first_fault f words more first text faults.Question cut is bad = absurd bad
 first_fault f words more first text (faults.Word k) cut is bad = absurd bad
@@ -154,14 +163,19 @@ pub second_fault : {A : Type 0} (f : A → List ℕ) → (words more rest : List
 second_fault f words more rest second text w (faults.Condition number fault) b cut is bad =
     let at : number ≡ 1 = bad.0 in
     let all : map f words ≡ f b.first ∷ f second ∷ map f rest = ap (map f) (b.cut ∙ ap (λ l. b.first ∷ l) cut) in
-    inr (inr (map f words, refl, omega arith, record {
-      conditions = w ∷ [];
-      before = subst (λ (n : ℕ). AreConditions (take n (map f words)) (w ∷ [])) (sym at) (subst (λ (t : List (List ℕ)). AreConditions (take 1 t) (w ∷ [])) (sym all) (b.read, tt));
-      text = text;
-      at = ap (slice_get (map f words)) at ∙ ap (λ (l : List (List ℕ)). slice_get l 1) all ∙ ap (λ t. Some t) (sym is);
-      bad = bad.1;
-      read = bad.2;
-    }))
+    inr (inr (
+      map f words,
+      refl,
+      omega arith,
+      record {
+        conditions = w ∷ [];
+        before = subst (λ (n : ℕ). AreConditions (take n (map f words)) (w ∷ [])) (sym at) (subst (λ (t : List (List ℕ)). AreConditions (take 1 t) (w ∷ [])) (sym all) (b.read, tt));
+        text = text;
+        at = ap (slice_get (map f words)) at ∙ ap (λ (l : List (List ℕ)). slice_get l 1) all ∙ ap (λ t. Some t) (sym is);
+        bad = bad.1;
+        read = bad.2;
+      },
+    ))
 second_fault f words more rest second text w faults.Memory b cut is bad = tt
 second_fault f words more rest second text w faults.Question b cut is bad = absurd bad
 second_fault f words more rest second text w (faults.Word k) b cut is bad = absurd bad
