@@ -120,7 +120,7 @@ asks_one f words more w r b none nobody =
 
 pub asks_two : {A : Type 0} (f : A → List ℕ) → (words more rest : List A) (w r : Condition) → BeginsWith f words w more → BeginsWith f more r rest → rest ≡ [] → Asks (exclusive_word ∷ map f words) (questions.Exclusive w r)
 asks_two f words more rest w r b d none =
-    (map f words, refl, inl (subst (λ (t : List (List ℕ)). AreConditions t (w ∷ r ∷ [])) (sym (ap (map f) (b.cut ∙ ap (λ l. b.first ∷ l) (d.cut ∙ ap (λ l. d.first ∷ l) none)))) (b.read, d.read, tt)))
+    (map f words, refl, inl (subst (λ (t : List (List ℕ)). AreConditions t (w ∷ r ∷ [])) (sym (ap (map f) (b.cut ∙ ap (λ l. b.first ∷ l) (d.cut ∙ ap (λ l. d.first ∷ l) none)))) (b.read, (d.read, tt))))
 
 pub third_condition : {A : Type 0} (f : A → List ℕ) → (words more rest : List A) (w r : Condition) → BeginsWith f words w more → BeginsWith f more r rest → 0 < length rest → IsBadWord (exclusive_word ∷ map f words) 2
 third_condition f words more [] w r b d some = absurd (omega arith)
@@ -131,7 +131,7 @@ third_condition f words more (x ∷ rest) w r b d some =
       refl,
       inr (
         w ∷ r ∷ [],
-        subst (λ (t : List (List ℕ)). AreConditions (take 2 t) (w ∷ r ∷ [])) (sym all) (b.read, d.read, tt),
+        subst (λ (t : List (List ℕ)). AreConditions (take 2 t) (w ∷ r ∷ [])) (sym all) (b.read, (d.read, tt)),
         subst (λ (t : List (List ℕ)). 2 < length t) (sym all) (omega arith),
         refl,
       ),
