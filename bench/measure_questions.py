@@ -1,5 +1,5 @@
 #!/usr/bin/env -S python3 -B
-"""Times matches, executions, lists, lifecycles and reports of large records beside another question, most beside `count all`.
+"""Times matches, executions, which of them overlap, lists, lifecycles and reports of large records beside another question, most beside `count all`.
 
 It leaves nothing behind. Each line: what is asked of which record and beside what, the seconds of both in processor time and by the clock
 (medians of five runs in turn), their ratio with the least and the greatest of a round and with the goal where there is one, and the most
@@ -51,6 +51,7 @@ ROWS = [
     Row("loosely, 50 such conditions that look into ids, beside one", "large", loosely(50, LAST_BY_ID), "yes", 3, loosely(1, LAST_BY_ID)),
     Row("in-order, 1,000 conditions over the whole record", "large", IN_ORDER, "yes 1 641 ", 1.2),
     Row("executions", "large", ["executions"], "0 failed 0 1\n", 1.3),
+    Row("exclusive", "large", ["exclusive", "any(name(test 1),name(test 2))", "test"], "yes\n", 1.3, ["executions"]),
 ]
 for record in ("tree", "one_test", "one_parent"):
     ROWS += [

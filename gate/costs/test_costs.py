@@ -133,6 +133,14 @@ def tests_of_an_engine(count: int) -> bytes:
     return f"{RECORD.replace('|T|', '|C|')}{nodes}E|1|0|0|start\n{events}E|1|0|0|finish|ok\n".encode()
 
 
+def tests_side_by_side(count: int) -> bytes:
+    """A record of this number of tests, which all start before the first finishes."""
+    nodes = "".join(f"N|T|[engine:e]/[t:{number}]|n\n" for number in range(count))
+    starts = "".join(f"E|1|{key}|0|start\n" for key in range(1, count + 1))
+    finishes = "".join(f"E|1|{key}|0|finish|ok\n" for key in range(1, count + 1))
+    return f"{RECORD.replace('|T|', '|C|')}{nodes}{starts}{finishes}".encode()
+
+
 def registrations(count: int) -> bytes:
     """A record of an engine that registers this number of tests, each of which starts and finishes."""
     rounds = "".join(
@@ -162,6 +170,14 @@ REPORTS = repeated(f"{RECORD}E|1|0|7|start\n", "E|1|0|7|report\n", "E|1|0|8|fini
 ROWS = [
     Row("record/stats", ["ask", "stats"], EVENTS, Costs(0.8, 25_000, 200, 312, 2), "skipped 0\n"),
     Row("record/executions", ["ask", "executions"], EVENTS, Costs(0.8, 49_400, 210, 312, 153), "0 succeeded 7 8\n"),
+    Row("record/exclusive", ["ask", "exclusive", "test"], EVENTS, Costs(0.8, 49_400, 210, 312, 2), "yes\n"),
+    Row(
+        "record/exclusive of 65,000 readers side by side",
+        ["ask", "exclusive", "engine", "test"],
+        lambda: tests_side_by_side(65_000),
+        Costs(0.8, 49_400, 391_000, 312, 2),
+        "yes\n",
+    ),
     Row("record/list of all", ["ask", "list", "all"], EVENTS, Costs(0.8, 25_000, 190, 312, 442), "0 E|1|0|7|start\n1 E|1|0|8|finish|ok\n"),
     Row("record/list by 100 conditions", ["ask", "list", "all", *["started"] * 99, "not(started)"], EVENTS, Costs(0.8, 25_000, 570, 312, 0), ""),
     Row("record/lifecycle of 65,000 tests", ["ask", "lifecycle"], lambda: tests_of_an_engine(65_000), Costs(1.5, 29_300, 469_000, 285, 2), "yes\n"),

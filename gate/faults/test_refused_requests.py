@@ -255,6 +255,7 @@ COMMANDS = [
     Command("ask list all", TWO_TESTS, OF_A_RECORD),
     Command("ask list tests not(started) any(failed(boom),skipped(off))", TWO_TESTS, OF_A_RECORD),
     Command("ask executions", TWO_TESTS, OF_A_RECORD),
+    Command("ask exclusive all(test,started) any(failed(boom),not(entry(k,v)))", TWO_TESTS, OF_A_RECORD),
     Command("ask lifecycle", TWO_TESTS, OF_A_RECORD),
     Command("ask report", TWO_TESTS, OF_A_RECORD),
     Command("ask stats", LONG_RECORD, OF_A_LONG_RECORD),

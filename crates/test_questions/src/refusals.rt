@@ -2,7 +2,9 @@
 //! one answers `Memory` are made once more, and then all have to succeed.
 use std::alloc::Global;
 use test_support::{again_if_refused, is_written, read_again, two_tests_report};
-use tk_query::{Condition, InOrder, executions, match_in_order, read_condition, select};
+use tk_query::{
+    Condition, Exclusive, InOrder, exclusive, executions, match_in_order, read_condition, select,
+};
 use tk_record_columns::{Events, Record};
 use tk_report_text::write_report_of;
 use tk_streams::ByteTarget;
@@ -37,12 +39,24 @@ fn are_executed(alloc: Global, record: &Record) -> Option<bool> {
     Some(list.len() == 3 && list.failed(alloc).ok()?.len() == 1)
 }
 
+// Whether the test that ran overlaps its engine, and no other test.
+fn is_overlapping(alloc: Global, record: &Record) -> Option<bool> {
+    let events = Events::all(alloc, record).ok()?;
+    let tests = events.tests(alloc).ok()?;
+    let nobody = Condition::Failed(None);
+    let of_all = exclusive(alloc, &events, &Condition::Started, &nobody).ok()?;
+    let of_tests = exclusive(alloc, &tests, &Condition::Started, &nobody).ok()?;
+    Some(of_all == Exclusive::No(0, 1) && of_tests == Exclusive::Yes)
+}
+
 // Whether the questions are answered, also where one request for memory is refused.
 fn questions_hold(alloc: Global, record: &Record) -> bool {
     let selected = again_if_refused(|| are_selected(alloc, record));
     let matched = again_if_refused(|| is_matched(alloc, record));
     let executed = again_if_refused(|| are_executed(alloc, record));
-    selected == Some(true) && matched == Some(true) && executed == Some(true)
+    let overlapping = again_if_refused(|| is_overlapping(alloc, record));
+    let holds = [selected, matched, executed, overlapping];
+    holds.iter().all(|it| *it == Some(true))
 }
 
 #[test]

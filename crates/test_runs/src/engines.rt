@@ -7,10 +7,10 @@ use std::alloc::{AllocError, Global};
 use std::sync::atomic::{AtomicU64, Ordering};
 use std::sync::{Arc, Wait};
 use std::thread;
-use test_support::{one_node, start};
+use test_support::start;
 use tk_book::{BookSeat, Need};
 use tk_engine_execute::{Engine, Sink, UnitFault};
-use tk_events::Event;
+use tk_events::{Event, Kind, Payload, Status};
 use tk_ids::{DType, Segment, Table};
 
 /// What a unit does next.
@@ -20,6 +20,8 @@ pub enum UnitStep {
     Start(u64),
     /// Emits a start of the descriptor with this key.
     StartOf(u32),
+    /// Emits a successful finish of the descriptor with this key.
+    FinishOf(u32),
     /// Counts as a unit that has begun.
     Begin,
     /// Counts as a unit that has come to its end.
@@ -108,7 +110,7 @@ impl AskedCounter {
     }
 }
 
-/// An engine of such units, over a table of one node.
+/// An engine of such units, over a table of a root and two tests below it.
 #[derive(Drop)]
 pub struct StepEngine<'a> {
     table: Arc<Table>,
@@ -121,13 +123,27 @@ pub struct StepEngine<'a> {
     ghost few: { units.count ≤ 65536 },
 }
 
+// A root, with key 0, and two tests below it.
+fn two_tests(alloc: Global) -> Option<Arc<Table>> {
+    let mut table = Table::new(alloc);
+    let engine = Segment::new(alloc, "engine", "e").ok()?;
+    let root = table.add(alloc, None, &engine, "e", DType::Container).ok()?;
+    for name in ["1", "2"] {
+        let segment = Segment::new(alloc, "t", name).ok()?;
+        let _key = table
+            .add(alloc, Some(root), &segment, name, DType::Test)
+            .ok()?;
+    }
+    Arc::new(alloc, table).ok()
+}
+
 /// Makes an engine of at most 65,536 units; none where there are more, or memory was refused.
 pub fn engine<'a>(alloc: Global, units: Units<'a>) -> Option<StepEngine<'a>> {
     if units.count > 65_536 {
         return None;
     }
     let segment = Segment::new(alloc, "d", "1").ok()?;
-    let table = one_node(alloc, DType::Test)?;
+    let table = two_tests(alloc)?;
     Some(StepEngine {
         table,
         segment,
@@ -202,11 +218,20 @@ impl StepEngine<'_> {
     }
 }
 
+fn finish(key: u32) -> Event {
+    Event {
+        kind: Kind::Finished,
+        key,
+        stamp: 0,
+        payload: Payload::Outcome(Status::Successful, None),
+    }
+}
+
 #[tactic(auto, using(tk_engine_execute::proofs::Growing::grew_same, tk_engine_execute::proofs::Growing::grew_one))]
-fn emit<R: Wait, S: Sink>(rt: &R, sink: &mut S, key: u32, stamp: u64) -> Result<(), UnitFault>
+fn emit<R: Wait, S: Sink>(rt: &R, sink: &mut S, event: Event) -> Result<(), UnitFault>
     ensures { Grew (S.view sink.old) (S.view sink.new) }
 {
-    sink.emit(rt, start(key, stamp))?;
+    sink.emit(rt, event)?;
     Ok(())
 }
 
@@ -240,8 +265,9 @@ fn play_one<R: Wait, S: Sink>(
     ensures { Grew (S.view sink.old) (S.view sink.new) }
 {
     match step {
-        UnitStep::Start(stamp) => emit(rt, sink, 0, stamp),
-        UnitStep::StartOf(key) => emit(rt, sink, key, 0),
+        UnitStep::Start(stamp) => emit(rt, sink, start(0, stamp)),
+        UnitStep::StartOf(key) => emit(rt, sink, start(key, 0)),
+        UnitStep::FinishOf(key) => emit(rt, sink, finish(key)),
         UnitStep::FailForMemory => Err(UnitFault::Memory),
         UnitStep::FailAsWorker => fail_as_worker(rt, &engine.segment, unit, sink),
         _ => match engine.fault_of(step, unit) {

@@ -8,6 +8,8 @@ mod books;
 #[cfg(test)]
 mod engines;
 #[cfg(test)]
+mod exclusive_runs;
+#[cfg(test)]
 mod faults;
 #[cfg(test)]
 mod hostile_samples;

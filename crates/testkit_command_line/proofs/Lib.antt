@@ -1,2 +1,3 @@
 mod OwningIterators
 mod Lines
+pub mod Commands

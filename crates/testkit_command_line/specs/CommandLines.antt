@@ -1,20 +1,21 @@
 -- What the words of a command line ask for.
-use Rattle.std.specs.Prelude.{
-  ◌≡◌,
-  ℕ,
-  ◌^◌,
-  List,
-  ◌∷◌,
-  codes,
-  map,
-  string_bytes,
-  Option,
-  Some,
-  None,
-  Result,
-  Ok,
-  Err,
+use Rattle.std.specs.Prelude.{◌≡◌, ℕ, ◌^◌, List, ◌∷◌, codes, map, string_bytes, Option, Some, None, Result, Ok, Err, true, if◌then◌else◌}
+use Rattle.std.specs.Str.{bytes_eq}
+use Rattle.clap.specs.Simple.{on_top}
+use Rattle.clap.specs.Walk.{is_empty}
+use Rattle.clap.specs.Words.{
+  App,
+  Row,
+  Rule,
+  fault_of,
+  first_of,
+  new_app,
+  new_rule,
+  subcommand_of,
+  with_rule,
+  with_subcommand,
 }
+use Rattle.clap.specs.declared.builder.action.ArgAction.TheVariants.{Set}
 use Rattle.clap.specs.declared.error.kind.ErrorKind.{ErrorKind as ParseKind}
 use Rattle.clap.specs.declared.error.kind.ErrorKind.TheVariants as parse
 use Rattle.tk_record.specs.Reading.{number_of}
@@ -31,18 +32,6 @@ IsAskLine words question = (name : List ℕ) × (words ≡ name ∷ codes "ask" 
 abbrev pub IsNoAskLine : List (List ℕ) → Type 0
 IsNoAskLine words = (question : List (List ℕ)) → ¬ IsAskLine words question
 
--- no question
-abbrev pub IsOther : Job → Type 0
-IsOther (jobs.Ask question) = ⊥
-IsOther jobs.Replay = Unit {0}
-IsOther (jobs.Run workers) = Unit {0}
-
--- what follows ask is the question; a replay or a run is no such line
-abbrev pub IsJobOf : List (List ℕ) → Job → Type 0
-IsJobOf words (jobs.Ask question) = IsAskLine words (map string_bytes question.now)
-IsJobOf words jobs.Replay = IsNoAskLine words
-IsJobOf words (jobs.Run workers) = IsNoAskLine words
-
 -- a run by as many workers as the number says
 abbrev pub run_by_number : Option ℕ → Result Job CommandLineFault
 run_by_number None = Err faults.BadWords
@@ -53,6 +42,47 @@ run_by_number (Some workers) = Ok (jobs.Run workers)
 abbrev pub run_by : Option (List ℕ) → Result Job CommandLineFault
 run_by None = Ok (jobs.Run 1)
 run_by (Some text) = run_by_number (number_of (2 ^ 8) text)
+
+-- the option `--workers N`
+abbrev pub workers_option : Rule
+workers_option =
+    record (new_rule (codes "workers")) { long = Some (codes "workers"); action = Some Set }
+
+-- the command `run`
+abbrev pub run_command : App
+run_command = with_rule (new_app (codes "run")) workers_option
+
+-- the commands that the command-line crate reads, one of which is wanted: `run` and `replay`
+unfoldable pub commands : App
+commands =
+    with_subcommand (with_subcommand
+    (on_top (λ s. record s { subcommand_required = true }) (new_app (codes "testkit")))
+    run_command.top) (new_app (codes "replay")).top
+
+-- what a command of this name asks for, with these values of options
+abbrev pub job_of_command : Option (List ℕ × List Row) → Result Job CommandLineFault
+job_of_command None = Err faults.BadWords
+job_of_command (Some command) =
+    if bytes_eq command.0 (codes "replay") then Ok jobs.Replay
+    else if bytes_eq command.0 (codes "run") then run_by (first_of (codes "workers") command.1)
+    else Err faults.BadWords
+
+-- What words ask for that are no question: what the command asks for that the command-line crate
+-- finds in them, and nothing where it refuses them.
+unfoldable pub other_job : List (List ℕ) → Result Job CommandLineFault
+other_job words =
+    if is_empty (fault_of commands words) then job_of_command (subcommand_of commands words)
+    else Err faults.BadWords
+
+-- what follows ask is the question; a replay or a run is no such line
+abbrev pub IsJobOf : List (List ℕ) → Job → Type 0
+IsJobOf words (jobs.Ask question) = IsAskLine words (map string_bytes question.now)
+IsJobOf words job = IsNoAskLine words × (other_job words ≡ Ok job)
+
+-- the words are bad, or memory was refused
+abbrev pub IsNoJob : List (List ℕ) → CommandLineFault → Type 0
+IsNoJob words faults.Memory = IsNoAskLine words
+IsNoJob words faults.BadWords = IsNoAskLine words × (other_job words ≡ Err faults.BadWords)
 
 -- why the command-line crate refuses words: an allocation failed, or the words are bad
 abbrev pub fault_of_parse : ParseKind → CommandLineFault

@@ -18,7 +18,9 @@ use Rattle.std.specs.Prelude.{
 use Rattle.std.specs.Io.KnownBytes.{Appends}
 use Rattle.testkit_command_line.specs.declared.jobs.Job.{Job}
 use Rattle.testkit_command_line.specs.declared.jobs.Job.TheVariants as jobs
-use Rattle.testkit_command_line.specs.CommandLines.{IsJobOf, IsNoAskLine}
+use Rattle.testkit_command_line.specs.CommandLines.{IsJobOf, IsNoJob}
+use Rattle.testkit_command_line.specs.declared.faults.CommandLineFault.{CommandLineFault}
+use Rattle.testkit_program.specs.Statuses.{fault_of_line}
 use Rattle.testkit_program.specs.declared.faults.Fault.{Fault}
 use Rattle.testkit_program.specs.declared.faults.Fault.TheVariants as faults
 use Rattle.tk_record.specs.declared.reading.ReadFault.TheVariants as reads
@@ -135,12 +137,6 @@ IsBroken d t (faults.Load loads.Device) = d.source ≡ true
 IsBroken d t (faults.Report reports.Device) = d.target ≡ true
 IsBroken d t _ = Unit {0}
 
--- the fault is of the command line, or memory was refused
-abbrev pub IsOfLine : Fault → Type 0
-IsOfLine faults.CommandLine = Unit {0}
-IsOfLine faults.Memory = Unit {0}
-IsOfLine _ = ⊥
-
 -- the words ask for a job that was done
 abbrev pub IsPerformed : List (List ℕ) → Transfer → Bool → Type 0
 IsPerformed words t is_yes = (job : Job) × IsJobOf words job × IsDone job t is_yes
@@ -148,5 +144,5 @@ IsPerformed words t is_yes = (job : Job) × IsJobOf words job × IsDone job t is
 -- the words ask for no job, or they ask for a job that was refused
 abbrev pub IsNotPerformed : List (List ℕ) → Transfer → Fault → Type 0
 IsNotPerformed words t fault =
-    (IsNoAskLine words × IsOfLine fault)
+    ((line : CommandLineFault) × IsNoJob words line × (fault ≡ fault_of_line line))
     ⊎ ((job : Job) × IsJobOf words job × IsRefused job t fault)

@@ -91,7 +91,8 @@ refused_words words input (faults.Condition i fault) asked = (
   asked,
   elim asked [
     | inl of_match ↦ of_match.1.2.2.read
-    | inr of_list ↦ of_list.1.2.2.read
+    | inr (inl of_list) ↦ of_list.1.2.2.read
+    | inr (inr of_exclusive) ↦ of_exclusive.3.read
   ],
 )
 refused_words words input (faults.Read fault) asked = absurd asked

@@ -1,5 +1,5 @@
 -- Words are read in one way.
-use Rattle.std.proofs.Common.{◌≡◌, ◌≢◌, ◌<◌, ◌+◌, ◌++◌, ◌∷◌, [], ℕ, zero, suc, List, length, take, get_or, Some, None, Result, Ok, Err, Vec, Global, refl, sym, ap, subst, ◌∙◌, arith, inl, inr}
+use Rattle.std.proofs.Common.{◌≡◌, ◌≢◌, ◌<◌, ◌≤◌, ◌+◌, ◌++◌, ◌∷◌, [], ℕ, zero, suc, List, length, take, get_or, Some, None, Result, Ok, Err, Vec, Global, refl, sym, ap, subst, ◌∙◌, arith, inl, inr}
 use Rattle.std.specs.Prelude.{codes, bytes_eq, if◌then◌else◌}
 use Rattle.std.specs.List.{slice_get}
 use Rattle.std.specs.Fmt.{decimal}
@@ -22,7 +22,7 @@ use Rattle.testkit_questions.specs.declared.questions.Mode.{Mode}
 use Rattle.testkit_questions.specs.declared.questions.Mode.TheVariants.{Exactly, Loosely, InOrder}
 use Rattle.testkit_questions.specs.declared.questions.Question.{Question}
 use Rattle.testkit_questions.specs.declared.questions.Question.TheVariants as questions
-use Rattle.testkit_questions.specs.Questions.{Expecting, IsNextExpected, IsExpectation, IsBadExpectation, expecting, AreConditions, IsBadCondition, IsBadWord, IsNoName, IsNoQuestion, IsAskedAs, mode_name, stats, count, match_word, list_word, overview_name}
+use Rattle.testkit_questions.specs.Questions.{Expecting, IsNextExpected, IsExpectation, IsBadExpectation, expecting, AreConditions, IsBadCondition, IsBadWord, IsNoName, IsNoQuestion, IsAskedAs, AreHolders, IsBadHolder, mode_name, stats, count, match_word, list_word, exclusive_word, overview_name}
 use Rattle.testkit_questions.specs.declared.questions.Overview.{Overview}
 use Rattle.testkit_questions.specs.declared.questions.Overview.TheVariants as overviews
 use Rattle.testkit_questions.proofs.WordLemmas.{name_lacks}
@@ -203,6 +203,7 @@ AreSame (questions.Stats e) (questions.Stats f) = e ≡ f
 AreSame (questions.Count s) (questions.Count t) = s ≡ t
 AreSame (questions.Match m cs) (questions.Match n ds) = (m ≡ n) × AreAlike cs.items ds.items
 AreSame (questions.List s cs) (questions.List t ds) = (s ≡ t) × AreAlike cs.items ds.items
+AreSame (questions.Exclusive w r) (questions.Exclusive v s) = (cond_of w ≡ cond_of v) × (cond_of r ≡ cond_of s)
 AreSame (questions.Overview o) (questions.Overview n) = o ≡ n
 AreSame _ _ = ⊥
 
@@ -239,6 +240,12 @@ data OfConditions {A : Type 0} (name : A → List ℕ) (question : OfNamed A) (r
   conditions_good : (a : A) (cs : Vec Condition Global) (texts : List (List ℕ)) → x ≡ Ok (question a cs) → rest ≡ name a ∷ texts → AreConditions texts cs.items → OfConditions name question rest x
   conditions_none : x ≡ Err (faults.Word 0) → IsNoName name rest → OfConditions name question rest x
   conditions_fault : (a : A) (texts : List (List ℕ)) (at i : ℕ) (f : CondFault) → x ≡ Err (faults.Condition i f) → rest ≡ name a ∷ texts → i ≡ at + 1 → IsBadCondition texts at f → OfConditions name question rest x
+
+data OfExclusive (rest : List (List ℕ)) (x : Result Question AskFault) : Type 0 where
+  exclusive_good : (w r : Condition) → x ≡ Ok (questions.Exclusive w r) → AreHolders rest w r → OfExclusive rest x
+  exclusive_none : x ≡ Err (faults.Word 0) → rest ≡ [] → OfExclusive rest x
+  exclusive_more : (cs : List Condition) → x ≡ Err (faults.Word 2) → AreConditions (take 2 rest) cs → 2 < length rest → OfExclusive rest x
+  exclusive_fault : (i : ℕ) (f : CondFault) → x ≡ Err (faults.Condition i f) → i < 2 → IsBadCondition rest i f → OfExclusive rest x
 
 data OfOverview (o : Overview) (rest : List (List ℕ)) (x : Result Question AskFault) : Type 0 where
   overview_good : x ≡ Ok (questions.Overview o) → rest ≡ [] → OfOverview o rest x
@@ -310,6 +317,65 @@ one_matching = record { names = one_mode; questions = λ m n cs ds same like. (s
 one_listing : AreOne selection_name (λ s cs. questions.List s cs)
 one_listing = record { names = one_selection; questions = λ s t cs ds same like. (same, like) }
 
+-- ---- the conditions of writers and of readers
+
+holders_same : (rest : List (List ℕ)) (w r v s : Condition) → AreHolders rest w r → AreHolders rest v s → (cond_of w ≡ cond_of v) × (cond_of r ≡ cond_of s)
+holders_same rest w r v s (inl h) (inl k) = let like = one_conditions rest (w ∷ r ∷ []) (v ∷ s ∷ []) h k in (like.0, like.1.0)
+holders_same rest w r v s (inl h) (inr k) = let like = one_conditions rest (w ∷ r ∷ []) (v ∷ []) h k.0 in absurd like.1
+holders_same rest w r v s (inr h) (inl k) = let like = one_conditions rest (w ∷ []) (v ∷ s ∷ []) h.0 k in absurd like.1
+holders_same rest w r v s (inr h) (inr k) = let like = one_conditions rest (w ∷ []) (v ∷ []) h.0 k.0 in (like.0, h.1 ∙ sym k.1)
+
+as_many_texts : (texts : List (List ℕ)) (cs : List Condition) → AreConditions texts cs → length texts ≡ length cs
+as_many_texts [] [] h = refl
+as_many_texts [] (c ∷ cs) h = absurd h
+as_many_texts (t ∷ texts) [] h = absurd h
+as_many_texts (t ∷ texts) (c ∷ cs) h = ap suc (as_many_texts texts cs h.1)
+
+few_holders : (rest : List (List ℕ)) (w r : Condition) → AreHolders rest w r → (0 < length rest) × (length rest ≤ 2)
+few_holders rest w r (inl h) = let many = as_many_texts rest (w ∷ r ∷ []) h in (omega arith, omega arith)
+few_holders rest w r (inr h) = let many = as_many_texts rest (w ∷ []) h.0 in (omega arith, omega arith)
+
+good_holders : (rest : List (List ℕ)) (w r : Condition) (i : ℕ) (f : CondFault) → AreHolders rest w r → IsBadCondition rest i f → ⊥
+good_holders rest w r i f (inl h) bad = good_not_faulty rest rest (w ∷ r ∷ []) i f refl h bad
+good_holders rest w r i f (inr h) bad = good_not_faulty rest rest (w ∷ []) i f refl h.0 bad
+
+early_text : (n i : ℕ) (texts : List (List ℕ)) → i < n → slice_get (take n texts) i ≡ slice_get texts i
+early_text zero i texts lt = absurd (omega arith)
+early_text (suc n) i [] lt = refl
+early_text (suc n) zero (t ∷ texts) lt = refl
+early_text (suc n) (suc i) (t ∷ texts) lt = early_text n i texts (omega arith)
+
+first_good : (rest : List (List ℕ)) (cs : List Condition) (i : ℕ) (f : CondFault) → AreConditions (take 2 rest) cs → i < 2 → IsBadCondition rest i f → ⊥
+first_good rest cs i f good lt bad =
+    let c = condition_at (take 2 rest) cs i bad.text good (early_text 2 i rest lt ∙ bad.at) in
+    not_faulty bad.text c.0 f c.1 bad.bad bad.read
+
+no_texts : (rest : List (List ℕ)) → rest ≡ [] → 0 < length rest → ⊥
+no_texts rest none some = let long = ap length none in omega arith
+
+no_text : (rest : List (List ℕ)) (i : ℕ) (f : CondFault) → rest ≡ [] → IsBadCondition rest i f → ⊥
+no_text rest i f none bad = none-some bad.text (ap (λ (t : List (List ℕ)). slice_get t i) (sym none) ∙ bad.at)
+
+one_exclusive : (rest : List (List ℕ)) (a b : Result Question AskFault) → OfExclusive rest a → OfExclusive rest b → SameReading a b
+one_exclusive rest a b (exclusive_good w r p h) (exclusive_good v s q k) = alike a b (Ok (questions.Exclusive w r)) (Ok (questions.Exclusive v s)) p q (holders_same rest w r v s h k)
+one_exclusive rest a b (exclusive_good w r p h) (exclusive_none q k) = absurd (no_texts rest k (few_holders rest w r h).0)
+one_exclusive rest a b (exclusive_good w r p h) (exclusive_more cs q k many) = let few = (few_holders rest w r h).1 in absurd (omega arith)
+one_exclusive rest a b (exclusive_good w r p h) (exclusive_fault j g q lt bad) = absurd (good_holders rest w r j g h bad)
+one_exclusive rest a b (exclusive_none p h) (exclusive_good v s q k) = absurd (no_texts rest h (few_holders rest v s k).0)
+one_exclusive rest a b (exclusive_none p h) (exclusive_none q k) = alike a b (Err (faults.Word 0)) (Err (faults.Word 0)) p q refl
+one_exclusive rest a b (exclusive_none p h) (exclusive_more cs q k many) = absurd (no_texts rest h (omega arith))
+one_exclusive rest a b (exclusive_none p h) (exclusive_fault j g q lt bad) = absurd (no_text rest j g h bad)
+one_exclusive rest a b (exclusive_more cs p h many) (exclusive_good v s q k) = let few = (few_holders rest v s k).1 in absurd (omega arith)
+one_exclusive rest a b (exclusive_more cs p h many) (exclusive_none q k) = absurd (no_texts rest k (omega arith))
+one_exclusive rest a b (exclusive_more cs p h many) (exclusive_more ds q k more) = alike a b (Err (faults.Word 2)) (Err (faults.Word 2)) p q refl
+one_exclusive rest a b (exclusive_more cs p h many) (exclusive_fault j g q lt bad) = absurd (first_good rest cs j g h lt bad)
+one_exclusive rest a b (exclusive_fault i f p lt bad) (exclusive_good v s q k) = absurd (good_holders rest v s i f k bad)
+one_exclusive rest a b (exclusive_fault i f p lt bad) (exclusive_none q k) = absurd (no_text rest i f k bad)
+one_exclusive rest a b (exclusive_fault i f p lt bad) (exclusive_more ds q k many) = absurd (first_good rest ds i f k lt bad)
+one_exclusive rest a b (exclusive_fault i f p lt bad) (exclusive_fault j g q less worse) =
+    let both = both_faulty rest i j bad.conditions worse.conditions bad.text worse.text f g bad.before worse.before bad.at worse.at bad.bad worse.bad bad.read worse.read in
+    alike a b (Err (faults.Condition i f)) (Err (faults.Condition j g)) p q (condition_fault_same i j f g both.0 both.1)
+
 one_of_overview : (o : Overview) (rest : List (List ℕ)) (a b : Result Question AskFault) → OfOverview o rest a → OfOverview o rest b → SameReading a b
 one_of_overview o rest a b (overview_good p h) (overview_good q k) = alike a b (Ok (questions.Overview o)) (Ok (questions.Overview o)) p q refl
 one_of_overview o rest a b (overview_good p h) (overview_more extra more q k) = absurd (no_tail extra more rest h k)
@@ -322,6 +388,7 @@ data Reading (words : List (List ℕ)) (x : Result Question AskFault) : Type 0 w
   of_count : (rest : List (List ℕ)) → words ≡ count ∷ rest → OfCount rest x → Reading words x
   of_match : (rest : List (List ℕ)) → words ≡ match_word ∷ rest → OfConditions mode_name (λ m cs. questions.Match m cs) rest x → Reading words x
   of_list : (rest : List (List ℕ)) → words ≡ list_word ∷ rest → OfConditions selection_name (λ s cs. questions.List s cs) rest x → Reading words x
+  of_exclusive : (rest : List (List ℕ)) → words ≡ exclusive_word ∷ rest → OfExclusive rest x → Reading words x
   of_overview : (o : Overview) (rest : List (List ℕ)) → words ≡ overview_name o ∷ rest → OfOverview o rest x → Reading words x
   of_none : x ≡ Err faults.Question → IsNoQuestion words → Reading words x
 
@@ -334,17 +401,21 @@ word_reading words i (inr (inl h)) = of_count h.0 h.1 (count_none (word_error i 
 word_reading words i (inr (inr (inl h))) = of_count (selection_name h.0 ∷ h.1 ∷ h.2) h.3 (count_more h.0 h.1 h.2 (word_error i 1 h.4) refl)
 word_reading words i (inr (inr (inr (inl h)))) = of_match h.0 h.1 (conditions_none (word_error i 0 h.2) h.3)
 word_reading words i (inr (inr (inr (inr (inl h))))) = of_list h.0 h.1 (conditions_none (word_error i 0 h.2) h.3)
-word_reading words i (inr (inr (inr (inr (inr h))))) = of_overview h.0 (h.1 ∷ h.2) h.3 (overview_more h.1 h.2 (word_error i 0 h.4) refl)
+word_reading words i (inr (inr (inr (inr (inr (inr (rest, is, inl h))))))) = of_exclusive rest is (exclusive_none (word_error i 0 h.1) h.0)
+word_reading words i (inr (inr (inr (inr (inr (inr (rest, is, inr h))))))) = of_exclusive rest is (exclusive_more h.0 (word_error i 2 h.3) h.1 h.2)
+word_reading words i (inr (inr (inr (inr (inr (inl h)))))) = of_overview h.0 (h.1 ∷ h.2) h.3 (overview_more h.1 h.2 (word_error i 0 h.4) refl)
 
 condition_reading : (words : List (List ℕ)) (i : ℕ) (f : CondFault) → IsAskedAs words (Err (faults.Condition i f)) → Reading words (Err (faults.Condition i f))
 condition_reading words i f (inl p) = of_match (mode_name p.0 ∷ p.1.0) p.1.1 (conditions_fault p.0 p.1.0 p.1.2.0 i f refl refl p.1.2.1 p.1.2.2)
-condition_reading words i f (inr p) = of_list (selection_name p.0 ∷ p.1.0) p.1.1 (conditions_fault p.0 p.1.0 p.1.2.0 i f refl refl p.1.2.1 p.1.2.2)
+condition_reading words i f (inr (inr p)) = of_exclusive p.0 p.1 (exclusive_fault i f refl p.2 p.3)
+condition_reading words i f (inr (inl p)) = of_list (selection_name p.0 ∷ p.1.0) p.1.1 (conditions_fault p.0 p.1.0 p.1.2.0 i f refl refl p.1.2.1 p.1.2.2)
 
 reading : (words : List (List ℕ)) (x : Result Question AskFault) → IsOfWords x → IsAskedAs words x → Reading words x
 reading words (Ok (questions.Stats e)) s p = of_stats p.0 p.1 (stats_good e refl p.2)
 reading words (Ok (questions.Count c)) s p = of_count (selection_name c ∷ []) p (count_good c refl refl)
 reading words (Ok (questions.Match m cs)) s p = of_match (mode_name m ∷ p.0) p.1 (conditions_good m cs p.0 refl refl p.2)
 reading words (Ok (questions.List c cs)) s p = of_list (selection_name c ∷ p.0) p.1 (conditions_good c cs p.0 refl refl p.2)
+reading words (Ok (questions.Exclusive w r)) s p = of_exclusive p.0 p.1 (exclusive_good w r refl p.2)
 reading words (Ok (questions.Overview o)) s p = of_overview o [] p (overview_good refl refl)
 reading words (Err faults.Question) s p = of_none refl p
 reading words (Err (faults.Word i)) s p = word_reading words i p
@@ -378,6 +449,10 @@ first_apart o c e l r is = letter_apart o 0 c e l r is
 -- its third letter is not that of `list`
 third_apart : (o : Overview) → get_or (overview_name o) 2 0 ≡ 115 → ⊥
 third_apart o is = letter_apart o 2 115 (λ (e : 101 ≡ 115). omega arith) (λ (e : 102 ≡ 115). omega arith) (λ (e : 112 ≡ 115). omega arith) is
+
+-- its third letter is not that of `exclusive`
+third_apart_too : (o : Overview) → get_or (overview_name o) 2 0 ≡ 99 → ⊥
+third_apart_too o is = letter_apart o 2 99 (λ (e : 101 ≡ 99). omega arith) (λ (e : 102 ≡ 99). omega arith) (λ (e : 112 ≡ 99). omega arith) is
 
 one_of : (words : List (List ℕ)) (a b : Result Question AskFault) → Reading words a → Reading words b → SameReading a b
 one_of words a b (of_stats r p h) (of_stats s q k) = one_stats r a b h (subst (λ (t : List (List ℕ)). OfStats t b) (rest_same words stats r s p q) k)
@@ -418,8 +493,21 @@ one_of words a b (of_none p h) (of_list s q k) = let n = none_here words list_wo
 one_of words a b (of_overview o r p h) (of_stats s q k) = absurd (clash words (overview_name o) stats r s p q (λ (e : get_or (overview_name o) 0 0 ≡ 115). first_apart o 115 (omega arith) (omega arith) (omega arith) e))
 one_of words a b (of_overview o r p h) (of_count s q k) = absurd (clash words (overview_name o) count r s p q (λ (e : get_or (overview_name o) 0 0 ≡ 99). first_apart o 99 (omega arith) (omega arith) (omega arith) e))
 one_of words a b (of_overview o r p h) (of_match s q k) = absurd (clash words (overview_name o) match_word r s p q (λ (e : get_or (overview_name o) 0 0 ≡ 109). first_apart o 109 (omega arith) (omega arith) (omega arith) e))
-one_of words a b (of_overview o r p h) (of_none q k) = let n = none_here words (overview_name o) r k p in absurd (n.4 o refl)
-one_of words a b (of_none p h) (of_overview o s q k) = let n = none_here words (overview_name o) s h q in absurd (n.4 o refl)
+one_of words a b (of_overview o r p h) (of_none q k) = let n = none_here words (overview_name o) r k p in absurd (n.5 o refl)
+one_of words a b (of_none p h) (of_overview o s q k) = let n = none_here words (overview_name o) s h q in absurd (n.5 o refl)
+one_of words a b (of_exclusive r p h) (of_exclusive s q k) = one_exclusive r a b h (subst (λ (t : List (List ℕ)). OfExclusive t b) (rest_same words exclusive_word r s p q) k)
+one_of words a b (of_exclusive r p h) (of_stats s q k) = absurd (clash words exclusive_word stats r s p q (λ (e : 101 ≡ 115). omega arith))
+one_of words a b (of_exclusive r p h) (of_count s q k) = absurd (clash words exclusive_word count r s p q (λ (e : 101 ≡ 99). omega arith))
+one_of words a b (of_exclusive r p h) (of_match s q k) = absurd (clash words exclusive_word match_word r s p q (λ (e : 101 ≡ 109). omega arith))
+one_of words a b (of_exclusive r p h) (of_list s q k) = absurd (clash words exclusive_word list_word r s p q (λ (e : 101 ≡ 108). omega arith))
+one_of words a b (of_exclusive r p h) (of_overview o s q k) = absurd (clash_at 2 words exclusive_word (overview_name o) r s p q (λ (e : 99 ≡ get_or (overview_name o) 2 0). third_apart_too o (sym e)))
+one_of words a b (of_exclusive r p h) (of_none q k) = let n = none_here words exclusive_word r k p in absurd (n.4 refl)
+one_of words a b (of_stats r p h) (of_exclusive s q k) = absurd (clash words stats exclusive_word r s p q (λ (e : 115 ≡ 101). omega arith))
+one_of words a b (of_count r p h) (of_exclusive s q k) = absurd (clash words count exclusive_word r s p q (λ (e : 99 ≡ 101). omega arith))
+one_of words a b (of_match r p h) (of_exclusive s q k) = absurd (clash words match_word exclusive_word r s p q (λ (e : 109 ≡ 101). omega arith))
+one_of words a b (of_list r p h) (of_exclusive s q k) = absurd (clash words list_word exclusive_word r s p q (λ (e : 108 ≡ 101). omega arith))
+one_of words a b (of_overview o r p h) (of_exclusive s q k) = absurd (clash_at 2 words (overview_name o) exclusive_word r s p q (λ (e : get_or (overview_name o) 2 0 ≡ 99). third_apart_too o e))
+one_of words a b (of_none p h) (of_exclusive s q k) = let n = none_here words exclusive_word s h q in absurd (n.4 refl)
 
 -- the same words never have two readings
 pub one_reading : (words : List (List ℕ)) (a b : Result Question AskFault) → IsOfWords a → IsOfWords b → IsAskedAs words a → IsAskedAs words b → SameReading a b

@@ -16,26 +16,29 @@ use Rattle.tk_query_conditions.specs.Cond.{Cond}
 use Rattle.tk_query_conditions.specs.CondOf.{cond_of}
 use Rattle.tk_query.specs.declared.answers.Exact.{Exact}
 use Rattle.tk_query.specs.declared.answers.Exact.TheVariants as exact
+use Rattle.tk_query.specs.declared.answers.Exclusive.{Exclusive}
+use Rattle.tk_query.specs.declared.answers.Exclusive.TheVariants as exclusives
 use Rattle.tk_query.specs.declared.answers.Loose.{Loose}
 use Rattle.tk_query.specs.declared.answers.Loose.TheVariants as loose
 use Rattle.tk_query.specs.declared.answers.InOrder.{InOrder}
 use Rattle.tk_query.specs.declared.answers.InOrder.TheVariants as in_order
 use Rattle.tk_query.specs.declared.execution.Execution.{Execution}
 use Rattle.tk_query.specs.Asked.{event_at, is_there, fits}
+use Rattle.tk_query.specs.Exclusive.{Collide, CollideAt, IsExclusive, conflict}
 use Rattle.tk_query.specs.Holds.{cond_holds, holds}
 use Rattle.tk_query.specs.InOrder.{HoldInTurn}
 use Rattle.tk_query.specs.Laws as laws
 use Rattle.tk_query.specs.Matches.{HoldsAt, IsFirstUnlike, IsExact, HoldsSomewhere, IsFirstNowhere, IsLoose, IsInOrder}
-use Rattle.tk_query.proofs.AnswerIsUnique.{one_exact, one_loose, one_in_order, one_list}
+use Rattle.tk_query.proofs.AnswerIsUnique.{one_exact, one_loose, one_in_order, one_list, one_exclusive}
 use Rattle.testkit_questions.specs.declared.questions.Mode.{Mode}
 use Rattle.testkit_questions.specs.declared.questions.Mode.TheVariants.{Exactly, Loosely, InOrder as InTheirOrder}
 use Rattle.testkit_questions.specs.declared.questions.Question.{Question}
-use Rattle.testkit_questions.specs.declared.questions.Question.TheVariants.{Stats, Count, Match, List as Listed, Overview as OfRecord}
+use Rattle.testkit_questions.specs.declared.questions.Question.TheVariants.{Stats, Count, Match, List as Listed, Exclusive as OfHolders, Overview as OfRecord}
 use Rattle.testkit_questions.specs.declared.questions.Overview.{Overview}
 use Rattle.testkit_questions.specs.declared.questions.Overview.TheVariants as overviews
 use Rattle.tk_query_lifecycle.specs.declared.lifecycle_rules.Lifecycle.{Lifecycle}
 use Rattle.tk_query_lifecycle.proofs.LifecycleIsUnique.{lifecycle_is_unique}
-use Rattle.testkit_questions.specs.Answers.{IsMatchAnswer, events_where, IsAnswerTo, exact_line, exact_yes, loose_line, loose_yes, position_text, in_order_line, in_order_yes, execution_line, IsOverviewOf, lifecycle_line, lifecycle_yes}
+use Rattle.testkit_questions.specs.Answers.{IsMatchAnswer, events_where, IsAnswerTo, IsExclusiveAnswer, exact_line, exact_yes, exclusive_line, exclusive_yes, loose_line, loose_yes, position_text, in_order_line, in_order_yes, execution_line, IsOverviewOf, lifecycle_line, lifecycle_yes}
 use Rattle.testkit_questions.proofs.OneReading.{AreAlike, AreSame}
 
 -- ---- conditions that say the same hold alike
@@ -147,6 +150,33 @@ same_events s cs ds r like =
     (filter_agree (λ x. selects s r x.entry && list_all (λ c. holds r c x.entry) cs) (λ x. selects s r x.entry && list_all (λ d. holds r d x.entry) ds)
     (λ x. ap (λ b. selects s r x.entry && b) (all_alike r cs ds x.entry like)) (positioned r.entries))
 
+-- ---- conditions of writers and of readers that say the same
+
+module _ (asked : Selected) (w v r s : Condition) (writers : cond_of w ≡ cond_of v) (readers : cond_of r ≡ cond_of s) where
+  conflict_same : (p q : ℕ) → conflict asked w r p q ≡ conflict asked v s p q
+  conflict_same p q = rw (same_fits asked w v p writers, same_fits asked w v q writers, same_fits asked r s p readers, same_fits asked r s q readers) refl
+
+  collide_too : (x y : Execution) → Collide asked w r x y → Collide asked v s x y
+  collide_too x y c = record {
+    first = c.first;
+    second = c.second;
+    different = c.different;
+    overlap = c.overlap;
+    conflicts = sym (conflict_same x.first y.first) ∙ c.conflicts;
+  }
+
+  collide_at_too : (p q : ℕ) → CollideAt asked w r p q → CollideAt asked v s p q
+  collide_at_too p q c = record { x = c.x; y = c.y; first = c.first; second = c.second; collide = collide_too c.x c.y c.collide }
+
+exclusive_too : (asked : Selected) (w v r s : Condition) → cond_of w ≡ cond_of v → cond_of r ≡ cond_of s → (a : Exclusive) → IsExclusive asked w r a → IsExclusive asked v s a
+exclusive_too asked w v r s writers readers exclusives.Yes h = λ x y c. h x y (collide_too asked v w s r (sym writers) (sym readers) x y c)
+exclusive_too asked w v r s writers readers (exclusives.No p q) h = record {
+  order = h.order;
+  collide = collide_at_too asked w v r s writers readers p q h.collide;
+  least_second = λ i j order c. h.least_second i j order (collide_at_too asked v w s r (sym writers) (sym readers) i j c);
+  least_first = λ i order c. h.least_first i order (collide_at_too asked v w s r (sym writers) (sym readers) i q c);
+}
+
 -- ---- answers
 
 in_order_same : (a b : InOrder) → laws.AreAlike a b → (in_order_yes a ≡ in_order_yes b) × (in_order_line a ≡ in_order_line b)
@@ -165,6 +195,11 @@ one_match_answer Loosely cs ds r y z o p like a b =
 one_match_answer InTheirOrder cs ds r y z o p like a b =
     let e = in_order_same a.0 b.0 (one_in_order (all_of r) ds a.0 b.0 (in_order_too (all_of r) cs ds a.0 like a.1) b.1) in
     (a.2 ∙ e.0 ∙ sym b.2, a.3 ∙ e.1 ∙ sym b.3)
+
+one_exclusive_answer : (w v x s : Condition) (r : Recorded) (y z : Bool) (o p : List ℕ) → (cond_of w ≡ cond_of v) × (cond_of x ≡ cond_of s) → IsExclusiveAnswer w x r y o → IsExclusiveAnswer v s r z p → (y ≡ z) × (o ≡ p)
+one_exclusive_answer w v x s r y z o p same a b =
+    let e = one_exclusive (all_of r) v s a.0 b.0 (exclusive_too (all_of r) w v x s same.0 same.1 a.0 a.1) b.1 in
+    (a.2 ∙ ap (λ (t : Exclusive). exclusive_yes t) e ∙ sym b.2, a.3 ∙ ap (λ (t : Exclusive). exclusive_line t) e ∙ sym b.3)
 
 one_overview_answer : (o : Overview) (r : Recorded) (y z : Bool) (u v : List ℕ) → IsOverviewOf o r y u → IsOverviewOf o r z v → (y ≡ z) × (u ≡ v)
 one_overview_answer overviews.Executions r y z u v a b =
@@ -210,3 +245,14 @@ one_reply (OfRecord v) (OfRecord w) r y z o u same a b =
 one_reply (OfRecord v) (Stats f) r y z o u same a b = absurd same
 one_reply (OfRecord v) (Count t) r y z o u same a b = absurd same
 one_reply (OfRecord v) (Match n ds) r y z o u same a b = absurd same
+one_reply (OfHolders w x) (OfHolders v s) r y z o u same a b = one_exclusive_answer w v x s r y z o u same a b
+one_reply (OfHolders w x) (Stats f) r y z o u same a b = absurd same
+one_reply (OfHolders w x) (Count t) r y z o u same a b = absurd same
+one_reply (OfHolders w x) (Match n ds) r y z o u same a b = absurd same
+one_reply (OfHolders w x) (Listed t ds) r y z o u same a b = absurd same
+one_reply (OfHolders w x) (OfRecord v) r y z o u same a b = absurd same
+one_reply (Stats e) (OfHolders v s) r y z o u same a b = absurd same
+one_reply (Count t) (OfHolders v s) r y z o u same a b = absurd same
+one_reply (Match m cs) (OfHolders v s) r y z o u same a b = absurd same
+one_reply (Listed t cs) (OfHolders v s) r y z o u same a b = absurd same
+one_reply (OfRecord t) (OfHolders v s) r y z o u same a b = absurd same

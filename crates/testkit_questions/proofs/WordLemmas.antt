@@ -13,7 +13,10 @@ use Rattle.tk_query_conditions.specs.declared.faults.CondFault.TheVariants as co
 use Rattle.tk_query_conditions.specs.Answer.{IsReadAs}
 use Rattle.testkit_questions.specs.declared.faults.AskFault.{AskFault}
 use Rattle.testkit_questions.specs.declared.faults.AskFault.TheVariants as faults
-use Rattle.testkit_questions.specs.Questions.{Expecting, IsNextExpected, AreConditions, IsConditionFault, IsWordFault, IsBadWord, count, overview_name}
+use Rattle.testkit_questions.specs.Questions.{Asks, Expecting, IsAskedAs, IsNextExpected, AreConditions, IsConditionFault, IsWordFault, IsBadWord, count, exclusive_word, overview_name}
+use Rattle.testkit_questions.specs.declared.questions.Question.TheVariants as questions
+use Rattle.tk_query_conditions.specs.Cond.{Any, Nothing}
+use Rattle.tk_query_conditions.specs.CondOf.{cond_of}
 use Rattle.testkit_questions.specs.declared.questions.Overview.{Overview}
 
 lacks : (name : List ℕ) → list_all (λ b. not (b == 61)) name ≡ true → (i : ℕ) → i < length name → get_or name i 0 ≢ 61
@@ -95,4 +98,86 @@ one_too_many f words word s (extra ∷ more) e n some = inr (inr (inl (s, f extr
 -- a word after the name of an overview
 pub none_wanted : {A : Type 0} (f : A → List ℕ) → (o : Overview) (words : List A) → 0 < length words → IsBadWord (overview_name o ∷ map f words) 0
 none_wanted f o [] some = absurd (omega arith)
-none_wanted f o (extra ∷ more) some = inr (inr (inr (inr (inr (o, f extra, map f more, refl, refl)))))
+none_wanted f o (extra ∷ more) some = inr (inr (inr (inr (inr (inl (o, f extra, map f more, refl, refl))))))
+
+-- ---- the conditions of writers and of readers
+
+pub no_condition : {A : Type 0} (f : A → List ℕ) → (words : List A) → words ≡ [] → IsBadWord (exclusive_word ∷ map f words) 0
+no_condition f words none = inr (inr (inr (inr (inr (inr (map f words, refl, inl (ap (map f) none, refl)))))))
+
+-- words that begin with a condition
+pub record BeginsWith {A : Type 0} (f : A → List ℕ) (words : List A) (c : Condition) (more : List A) : Type 0 where
+  pub first : A
+  pub cut : words ≡ first ∷ more
+  pub read : IsReadAs (f first) (Ok c)
+
+pub begins : {A : Type 0} (f : A → List ℕ) → (words : List A) (first : A) (more : List A) (text : List ℕ) (c : Condition) → words ≡ first ∷ more → text ≡ f first → IsReadAs text (Ok c) → BeginsWith f words c more
+begins f words first more text c cut is read = record { first = first; cut = cut; read = subst (λ (t : List ℕ). IsReadAs t (Ok c)) is read }
+
+pub asks_one : {A : Type 0} (f : A → List ℕ) → (words more : List A) (w r : Condition) → BeginsWith f words w more → more ≡ [] → cond_of r ≡ Any Nothing → Asks (exclusive_word ∷ map f words) (questions.Exclusive w r)
+asks_one f words more w r b none nobody =
+    (map f words, refl, inr (subst (λ (t : List (List ℕ)). AreConditions t (w ∷ [])) (sym (ap (map f) (b.cut ∙ ap (λ l. b.first ∷ l) none))) (b.read, tt), nobody))
+
+pub asks_two : {A : Type 0} (f : A → List ℕ) → (words more rest : List A) (w r : Condition) → BeginsWith f words w more → BeginsWith f more r rest → rest ≡ [] → Asks (exclusive_word ∷ map f words) (questions.Exclusive w r)
+asks_two f words more rest w r b d none =
+    (map f words, refl, inl (subst (λ (t : List (List ℕ)). AreConditions t (w ∷ r ∷ [])) (sym (ap (map f) (b.cut ∙ ap (λ l. b.first ∷ l) (d.cut ∙ ap (λ l. d.first ∷ l) none)))) (b.read, (d.read, tt))))
+
+pub third_condition : {A : Type 0} (f : A → List ℕ) → (words more rest : List A) (w r : Condition) → BeginsWith f words w more → BeginsWith f more r rest → 0 < length rest → IsBadWord (exclusive_word ∷ map f words) 2
+third_condition f words more [] w r b d some = absurd (omega arith)
+third_condition f words more (x ∷ rest) w r b d some =
+    let all : map f words ≡ f b.first ∷ f d.first ∷ f x ∷ map f rest = ap (map f) (b.cut ∙ ap (λ l. b.first ∷ l) d.cut) in
+    inr (inr (inr (inr (inr (inr (
+      map f words,
+      refl,
+      inr (
+        w ∷ r ∷ [],
+        subst (λ (t : List (List ℕ)). AreConditions (take 2 t) (w ∷ r ∷ [])) (sym all) (b.read, (d.read, tt)),
+        subst (λ (t : List (List ℕ)). 2 < length t) (sym all) (omega arith),
+        refl,
+      ),
+    ))))))
+
+pub first_fault : {A : Type 0} (f : A → List ℕ) → (words more : List A) (first : A) (text : List ℕ) (fault : AskFault) → words ≡ first ∷ more → text ≡ f first → IsWordFault 0 text fault → IsAskedAs (exclusive_word ∷ map f words) (Err fault)
+first_fault f words more first text (faults.Condition number fault) cut is bad =
+    let at : number ≡ 0 = bad.0 in
+    inr (inr (
+      map f words,
+      refl,
+      omega arith,
+      record {
+        conditions = [];
+        before = subst (λ (n : ℕ). AreConditions (take n (map f words)) []) (sym at) tt;
+        text = text;
+        at = ap (slice_get (map f words)) at ∙ ap (λ (l : List (List ℕ)). slice_get l 0) (ap (map f) cut) ∙ ap (λ t. Some t) (sym is);
+        bad = bad.1;
+        read = bad.2;
+      },
+    ))
+first_fault f words more first text faults.Memory cut is bad = tt
+first_fault f words more first text faults.Question cut is bad = absurd bad
+first_fault f words more first text (faults.Word k) cut is bad = absurd bad
+first_fault f words more first text (faults.Read fault) cut is bad = absurd bad
+first_fault f words more first text faults.Device cut is bad = absurd bad
+
+pub second_fault : {A : Type 0} (f : A → List ℕ) → (words more rest : List A) (second : A) (text : List ℕ) (w : Condition) (fault : AskFault) → BeginsWith f words w more → more ≡ second ∷ rest → text ≡ f second → IsWordFault 1 text fault → IsAskedAs (exclusive_word ∷ map f words) (Err fault)
+second_fault f words more rest second text w (faults.Condition number fault) b cut is bad =
+    let at : number ≡ 1 = bad.0 in
+    let all : map f words ≡ f b.first ∷ f second ∷ map f rest = ap (map f) (b.cut ∙ ap (λ l. b.first ∷ l) cut) in
+    inr (inr (
+      map f words,
+      refl,
+      omega arith,
+      record {
+        conditions = w ∷ [];
+        before = subst (λ (n : ℕ). AreConditions (take n (map f words)) (w ∷ [])) (sym at) (subst (λ (t : List (List ℕ)). AreConditions (take 1 t) (w ∷ [])) (sym all) (b.read, tt));
+        text = text;
+        at = ap (slice_get (map f words)) at ∙ ap (λ (l : List (List ℕ)). slice_get l 1) all ∙ ap (λ t. Some t) (sym is);
+        bad = bad.1;
+        read = bad.2;
+      },
+    ))
+second_fault f words more rest second text w faults.Memory b cut is bad = tt
+second_fault f words more rest second text w faults.Question b cut is bad = absurd bad
+second_fault f words more rest second text w (faults.Word k) b cut is bad = absurd bad
+second_fault f words more rest second text w (faults.Read fault) b cut is bad = absurd bad
+second_fault f words more rest second text w faults.Device b cut is bad = absurd bad

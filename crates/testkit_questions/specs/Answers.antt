@@ -33,6 +33,8 @@ use Rattle.tk_record.specs.EventLists.{event_list}
 use Rattle.tk_query_conditions.specs.declared.conditions.Condition.{Condition}
 use Rattle.tk_query.specs.declared.answers.Exact.{Exact}
 use Rattle.tk_query.specs.declared.answers.Exact.TheVariants as exact
+use Rattle.tk_query.specs.declared.answers.Exclusive.{Exclusive}
+use Rattle.tk_query.specs.declared.answers.Exclusive.TheVariants as exclusives
 use Rattle.tk_query.specs.declared.answers.Loose.{Loose}
 use Rattle.tk_query.specs.declared.answers.Loose.TheVariants as loose
 use Rattle.tk_query.specs.declared.answers.InOrder.{InOrder}
@@ -45,6 +47,7 @@ use Rattle.tk_query.specs.declared.execution.Ending.TheVariants.{
   Failed,
 }
 use Rattle.tk_query.specs.declared.execution.Execution.{Execution}
+use Rattle.tk_query.specs.Exclusive.{IsExclusive}
 use Rattle.tk_query.specs.ExecutionSteps.{step_at}
 use Rattle.tk_query.specs.Executions.{AreExecutions}
 use Rattle.tk_query.specs.Holds.{holds}
@@ -69,6 +72,7 @@ use Rattle.testkit_questions.specs.declared.questions.Question.TheVariants.{
   Count,
   Match,
   List as Listed,
+  Exclusive as OfHolders,
   Overview as OfRecord,
 }
 
@@ -148,6 +152,22 @@ abbrev pub lifecycle_yes : Lifecycle → Bool
 lifecycle_yes lifecycles.Kept = true
 lifecycle_yes _ = false
 
+-- executions that conflict kept away from each other, or the starts of the first two that didn't
+abbrev pub exclusive_line : Exclusive → List ℕ
+exclusive_line exclusives.Yes = codes "yes" ++ line_feed ∷ []
+exclusive_line (exclusives.No p q) =
+    codes "no " ++ decimal p ++ blank ∷ decimal q ++ line_feed ∷ []
+
+abbrev pub exclusive_yes : Exclusive → Bool
+exclusive_yes exclusives.Yes = true
+exclusive_yes (exclusives.No _ _) = false
+
+-- whether all executions of writers and readers in the record kept away from each other
+abbrev pub IsExclusiveAnswer : Condition → Condition → Recorded → Bool → List ℕ → Type 0
+IsExclusiveAnswer writers readers r is_yes output =
+    (answer : Exclusive) × IsExclusive (all_of r) writers readers answer
+    × (is_yes ≡ exclusive_yes answer) × (output ≡ exclusive_line answer)
+
 -- an overview of a record, and whether it is a yes
 abbrev pub IsOverviewOf : Overview → Recorded → Bool → List ℕ → Type 0
 IsOverviewOf overviews.Executions r is_yes output =
@@ -172,4 +192,6 @@ IsAnswerTo (Match mode conditions) r is_yes output =
     IsMatchAnswer mode conditions.items r is_yes output
 IsAnswerTo (Listed selection conditions) r is_yes output =
     (is_yes ≡ true) × (output ≡ event_list (events_where selection conditions.items r))
+IsAnswerTo (OfHolders writers readers) r is_yes output =
+    IsExclusiveAnswer writers readers r is_yes output
 IsAnswerTo (OfRecord overview) r is_yes output = IsOverviewOf overview r is_yes output

@@ -22,6 +22,7 @@ use Rattle.std.specs.Prelude.{
   is_none,
   ◌&&◌,
   if◌then◌else◌,
+  length,
 }
 use Rattle.std.specs.List.{slice_get}
 use Rattle.std.specs.Fmt.{decimal}
@@ -29,6 +30,8 @@ use Rattle.tk_query_conditions.specs.declared.faults.CondFault.{CondFault}
 use Rattle.tk_query_conditions.specs.declared.faults.CondFault.TheVariants as condition_faults
 use Rattle.tk_query_conditions.specs.declared.conditions.Condition.{Condition}
 use Rattle.tk_query_conditions.specs.Answer.{IsReadAs}
+use Rattle.tk_query_conditions.specs.Cond.{Any, Nothing}
+use Rattle.tk_query_conditions.specs.CondOf.{cond_of}
 use Rattle.tk_record_columns.specs.declared.selections.Selection.{Selection}
 use Rattle.tk_record_columns.specs.declared.statistics.Expected.{Expected}
 use Rattle.tk_record_columns.specs.Selections.{selection_name}
@@ -128,6 +131,20 @@ IsConditionFault texts (faults.Condition i fault) =
 IsConditionFault texts faults.Memory = Unit {0}
 IsConditionFault texts _ = ⊥
 
+-- The texts are those of the conditions of writers and of readers. Without a second text the
+-- readers' condition is `any()`, which holds of no event.
+abbrev pub AreHolders : List (List ℕ) → Condition → Condition → Type 0
+AreHolders texts writers readers =
+    AreConditions texts (writers ∷ readers ∷ [])
+    ⊎ (AreConditions texts (writers ∷ []) × (cond_of readers ≡ Any Nothing))
+
+-- there is no text, or the first of the texts after two conditions
+abbrev pub IsBadHolder : List (List ℕ) → ℕ → Type 0
+IsBadHolder texts i =
+    ((texts ≡ []) × (i ≡ 0))
+    ⊎ ((conditions : List Condition) × AreConditions (take 2 texts) conditions
+    × (2 < length texts) × (i ≡ 2))
+
 -- there is no first word, or it is none of the names
 abbrev pub IsNoName : {A : Type 0} → (A → List ℕ) → List (List ℕ) → Type 0
 IsNoName name [] = Unit {0}
@@ -144,6 +161,9 @@ match_word = codes "match"
 
 abbrev pub list_word : List ℕ
 list_word = codes "list"
+
+abbrev pub exclusive_word : List ℕ
+exclusive_word = codes "exclusive"
 
 abbrev pub overview_name : Overview → List ℕ
 overview_name overviews.Executions = codes "executions"
@@ -166,6 +186,8 @@ Asks words (questions.Match mode conditions) =
 Asks words (questions.List selection conditions) =
     (texts : List (List ℕ)) × (words ≡ list_word ∷ selection_name selection ∷ texts)
     × AreConditions texts conditions.items
+Asks words (questions.Exclusive writers readers) =
+    (texts : List (List ℕ)) × (words ≡ exclusive_word ∷ texts) × AreHolders texts writers readers
 Asks words (questions.Overview overview) = words ≡ overview_name overview ∷ []
 
 -- there is no first word, or it names no question
@@ -173,7 +195,7 @@ abbrev pub IsNoQuestion : List (List ℕ) → Type 0
 IsNoQuestion [] = Unit {0}
 IsNoQuestion (word ∷ _) =
     (word ≢ stats) × (word ≢ count) × (word ≢ match_word) × (word ≢ list_word)
-    × ((overview : Overview) → word ≢ overview_name overview)
+    × (word ≢ exclusive_word) × ((overview : Overview) → word ≢ overview_name overview)
 
 -- Word i after the question is the first bad one; a word that should be a condition isn't one of
 -- these.
@@ -190,6 +212,7 @@ IsBadWord words i =
     × IsNoName selection_name rest)
     ⊎ ((overview : Overview) × (extra : List ℕ) × (more : List (List ℕ))
     × (words ≡ overview_name overview ∷ extra ∷ more) × (i ≡ 0))
+    ⊎ ((rest : List (List ℕ)) × (words ≡ exclusive_word ∷ rest) × IsBadHolder rest i)
 
 -- A word that should be a condition isn't one: those before it are, and stand after the question's
 -- word and word 0.
@@ -207,5 +230,7 @@ IsAskedAs words (Err (faults.Condition i fault)) =
     (faults.Condition i fault))
     ⊎ ((selection : Selection) × HasConditionFault list_word (selection_name selection) words
     (faults.Condition i fault))
+    ⊎ ((rest : List (List ℕ)) × (words ≡ exclusive_word ∷ rest) × (i < 2)
+    × IsBadCondition rest i fault)
 IsAskedAs words (Err faults.Memory) = Unit {0}
 IsAskedAs words (Err _) = ⊥

@@ -1,7 +1,7 @@
 //! What can be asked of a record, and how words ask it.
 ghost use Rattle.std.specs.Prelude.{◌≡◌, ◌∷◌, map, string_bytes, IfOk, IfErr, Ok};
 ghost use Rattle.tk_query_conditions.specs.Answer.{IsReadAs};
-ghost use Rattle.testkit_questions.specs.Questions.{IsAskedAs, IsMode, IsOverview, AreConditions, IsConditionFault, IsWordFault, count, list_word, match_word, overview_name};
+ghost use Rattle.testkit_questions.specs.Questions.{IsAskedAs, IsMode, IsOverview, AreConditions, IsConditionFault, IsWordFault, count, exclusive_word, list_word, match_word, overview_name};
 
 use crate::expectations::read_expectations;
 use crate::faults::AskFault;
@@ -42,6 +42,9 @@ pub enum Question {
     Match(Mode, Vec<Condition>),
     /// Which events a selection keeps of which each condition holds.
     List(Selection, Vec<Condition>),
+    /// Whether executions that conflict kept away from each other: those of writers, which the
+    /// first condition names, and those of readers, which the second names.
+    Exclusive(Condition, Condition),
     /// The executions, the lifecycle or the report.
     Overview(Overview),
 }
@@ -143,6 +146,26 @@ fn read_count(words: &[String]) -> Result<Question, AskFault>
     }
 }
 
+// Reads the conditions of writers and of readers. Without the second there are no readers.
+fn read_exclusive(alloc: Global, words: &[String]) -> Result<Question, AskFault>
+    ensures { IsAskedAs (exclusive_word ∷ map string_bytes words.now) result }
+{
+    let Some((writers, more)) = words.split_first() else {
+        return Err(AskFault::Word(0));
+    };
+    let writers = read_numbered_condition(alloc, 0, writers.as_str())?;
+    let Some((readers, more)) = more.split_first() else {
+        let nobody = Condition::Any(Vec::new(alloc));
+        return Ok(Question::Exclusive(writers, nobody));
+    };
+    let readers = read_numbered_condition(alloc, 1, readers.as_str())?;
+    if more.is_empty() {
+        Ok(Question::Exclusive(writers, readers))
+    } else {
+        Err(AskFault::Word(2))
+    }
+}
+
 // Reads the words after the name of an overview, of which there are none.
 fn read_overview(overview: Overview, words: &[String]) -> Result<Question, AskFault>
     ensures { IsAskedAs (overview_name overview ∷ map string_bytes words.now) result }
@@ -172,6 +195,7 @@ pub fn read_question(alloc: Global, words: &[String]) -> Result<Question, AskFau
         "count" => read_count(words),
         "match" => read_match(alloc, words),
         "list" => read_list(alloc, words),
+        "exclusive" => read_exclusive(alloc, words),
         name => match Overview::read(name) {
             Some(overview) => read_overview(overview, words),
             None => Err(AskFault::Question),

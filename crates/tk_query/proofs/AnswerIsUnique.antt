@@ -10,11 +10,13 @@ use Rattle.tk_query_conditions.specs.declared.conditions.Condition.{Condition}
 use Rattle.tk_query.specs.declared.answers.Exact.TheVariants as exact
 use Rattle.tk_query.specs.declared.answers.Loose.TheVariants as loose
 use Rattle.tk_query.specs.declared.answers.InOrder.TheVariants as in_order
+use Rattle.tk_query.specs.declared.answers.Exclusive.TheVariants as exclusive
 use Rattle.tk_query.specs.declared.execution.Execution.{Execution}
 use Rattle.tk_query.specs.Asked.{fits}
+use Rattle.tk_query.specs.Exclusive.{CollideAt, IsFirstCollision}
 use Rattle.tk_query.specs.Holds.{holds}
 use Rattle.tk_query.specs.InOrder.{HoldInTurn, IsNotAfter, IsFirstStuck}
-use Rattle.tk_query.specs.Laws.{ExactIsUnique, LooseIsUnique, InOrderIsUnique, ListIsUnique}
+use Rattle.tk_query.specs.Laws.{ExactIsUnique, LooseIsUnique, InOrderIsUnique, ListIsUnique, ExclusiveIsUnique}
 use Rattle.tk_query.specs.Matches.{HoldsAt, IsFirstUnlike, HoldsSomewhere, IsFirstNowhere}
 
 within_list : {A : Type 0} (xs : List A) (k : ℕ) (x : A) → slice_get xs k ≡ Some x → k < length xs
@@ -113,7 +115,7 @@ at_head x xs = (0, omega arith, refl)
 after_head : (x : Execution) (xs : List Execution) (z : Execution) → Contains xs z → Contains (x ∷ xs) z
 after_head x xs z has = let lt = has.1 in (suc has.0, omega arith, has.2)
 
-head_or_rest : (x : Execution) (xs : List Execution) (z : Execution) → Contains (x ∷ xs) z → (x ≡ z) ⊎ Contains xs z
+pub head_or_rest : (x : Execution) (xs : List Execution) (z : Execution) → Contains (x ∷ xs) z → (x ≡ z) ⊎ Contains xs z
 head_or_rest x xs z (zero, lt, e) = inl e
 head_or_rest x xs z (suc k, lt, e) = inr (k, omega arith, e)
 
@@ -148,3 +150,18 @@ same_lists (x ∷ xs) (y ∷ ys) first second to back =
 
 pub one_list : ListIsUnique
 one_list asked xs ys a b = same_lists xs ys a.order b.order (λ z has. (b.each z).1 ((a.each z).0 has)) (λ z has. (a.each z).1 ((b.each z).0 has))
+
+pub one_exclusive : ExclusiveIsUnique
+one_exclusive asked writers readers exclusive.Yes exclusive.Yes h k = refl
+one_exclusive asked writers readers exclusive.Yes (exclusive.No p q) h k = absurd (h k.collide.x k.collide.y k.collide.collide)
+one_exclusive asked writers readers (exclusive.No p q) exclusive.Yes h k = absurd (k h.collide.x h.collide.y h.collide.collide)
+one_exclusive asked writers readers (exclusive.No p q) (exclusive.No i j) h k =
+    let up : q ≤ j = h.least_second i j k.order k.collide in
+    let down : j ≤ q = k.least_second p q h.order h.collide in
+    let second : q ≡ j = omega arith in
+    let p_low = h.order in
+    let i_low = k.order in
+    let left : p ≤ i = h.least_first i (omega arith) (subst (λ n. CollideAt asked writers readers i n) (sym second) k.collide) in
+    let right : i ≤ p = k.least_first p (omega arith) (subst (λ n. CollideAt asked writers readers p n) second h.collide) in
+    let first : p ≡ i = omega arith in
+    ap (λ n. exclusive.No n q) first ∙ ap (λ n. exclusive.No i n) second

@@ -7,3 +7,4 @@ pub mod RuleLemmas
 pub mod KeyLemmas
 pub mod MaskLemmas
 pub mod AnswerIsUnique
+pub mod ExclusionLemmas

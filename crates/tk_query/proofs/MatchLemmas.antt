@@ -188,6 +188,11 @@ module _ (asked : Selected) (flags : List Bool) (are : AreFlags asked flags) (r 
   clear_fits k true set clear = fits_set asked flags are r same c k false set (clear_there k clear set (slice_get r.entries k) refl)
   clear_fits k false off clear = fits_clear asked flags are c k off
 
+  pub mask_fits : (k : ℕ) → fits asked c k ≡ get_or both k false
+  mask_fits k = elim (get_or both k false) as (λ b. get_or both k false ≡ b → fits asked c k ≡ b)
+      [ true ↦ λ set. set_fits k set | false ↦ λ clear. clear_fits k (get_or flags k false) refl clear ]
+      refl
+
   pub mask_tells : (o : Option ℕ) (b : Bool) → MatchOption o (IsNoneSet 0 both) (IsNextSet 0 both) → b ≡ is_some o → HoldsOfSome asked c b
   mask_tells None b none is = subst (HoldsOfSome asked c) (sym is) (λ k. clear_fits k (get_or flags k false) refl (none.none k (omega arith)))
   mask_tells (Some at) b next is = subst (HoldsOfSome asked c) (sym is) (at, set_fits at next.set)

@@ -1,13 +1,15 @@
--- What follows from the definitions of the matchers' answers and of executions.
+-- What follows from the definitions of the answers and of executions.
 use Rattle.std.specs.Prelude.{◌≡◌, List}
 use Rattle.tk_record_columns.specs.Selections.{Selected}
 use Rattle.tk_query_conditions.specs.declared.conditions.Condition.{Condition}
 use Rattle.tk_query.specs.declared.answers.Exact.{Exact}
+use Rattle.tk_query.specs.declared.answers.Exclusive.{Exclusive}
 use Rattle.tk_query.specs.declared.answers.Loose.{Loose}
 use Rattle.tk_query.specs.declared.answers.InOrder.{InOrder}
 use Rattle.tk_query.specs.declared.answers.InOrder.TheVariants.{Yes, No}
 use Rattle.tk_query.specs.declared.execution.Execution.{Execution}
 use Rattle.tk_query.specs.ExecutionSteps.{step_at}
+use Rattle.tk_query.specs.Exclusive.{IsExclusive}
 use Rattle.tk_query.specs.Executions.{AreExecutions}
 use Rattle.tk_query.specs.Matches.{IsExact, IsLoose, IsInOrder}
 
@@ -40,3 +42,9 @@ abbrev pub ListIsUnique : Type 0
 ListIsUnique =
     (asked : Selected) (xs ys : List Execution) →
     AreExecutions (step_at asked) xs → AreExecutions (step_at asked) ys → xs ≡ ys
+
+-- the same events and conditions have one answer whether executions kept apart
+abbrev pub ExclusiveIsUnique : Type 0
+ExclusiveIsUnique =
+    (asked : Selected) (writers readers : Condition) (a b : Exclusive) →
+    IsExclusive asked writers readers a → IsExclusive asked writers readers b → a ≡ b

@@ -9,4 +9,6 @@ pub mod Matches
 pub mod ExecutionSteps
 pub mod Executions
 pub mod Pairing
+pub mod Exclusive
+pub mod Holders
 pub mod Laws

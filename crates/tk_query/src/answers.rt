@@ -28,3 +28,13 @@ pub enum InOrder {
     /// The least number K such that the conditions 0 to K hold in turn nowhere.
     No(usize),
 }
+
+/// Whether executions that conflict kept away from each other.
+#[derive(Clone, Copy, Debug, PartialEq, Eq)]
+pub enum Exclusive {
+    /// No two executions that conflict overlap.
+    Yes,
+    /// The positions of the starts of two executions that conflict and overlap: the least second
+    /// one, and the least first one for it.
+    No(usize, usize),
+}

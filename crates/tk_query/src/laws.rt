@@ -1,5 +1,5 @@
 //! What the definitions of the answers imply.
-ghost use Rattle.tk_query.specs.Laws.{ExactIsUnique, LooseIsUnique, InOrderIsUnique, ListIsUnique};
+ghost use Rattle.tk_query.specs.Laws.{ExactIsUnique, LooseIsUnique, InOrderIsUnique, ListIsUnique, ExclusiveIsUnique};
 
 /// The same events and the same conditions have one answer.
 pub fn answer_is_unique()
@@ -7,4 +7,5 @@ pub fn answer_is_unique()
     ensures loose { LooseIsUnique }
     ensures in_order { InOrderIsUnique }
     ensures executions { ListIsUnique }
+    ensures exclusive { ExclusiveIsUnique }
 {}

@@ -2,6 +2,7 @@
 #![tactic(auto)]
 
 mod answers;
+mod exclusion;
 mod execution;
 mod execution_steps;
 mod judging;
@@ -12,7 +13,8 @@ mod open_starts;
 mod pairing;
 mod rules;
 
-pub use answers::{Exact, InOrder, Loose};
+pub use answers::{Exact, Exclusive, InOrder, Loose};
+pub use exclusion::exclusive;
 pub use execution::{Ending, Execution, Executions};
 pub use masks::select;
 pub use matching::{match_exactly, match_in_order, match_loosely};

@@ -77,7 +77,7 @@ pub(crate) struct Pairing {
 
 impl Pairing {
     /// Begins at the first of the events.
-    fn begin(alloc: Global, events: &Events) -> Result<Pairing, AllocError>
+    pub(crate) fn begin(alloc: Global, events: &Events) -> Result<Pairing, AllocError>
         ensures slots { IfOk result (λ p. HaveSlots events.now.recorded p.starts) }
         ensures all { IfOk result (λ p. AreExecutions (step_at events.now) (rest_of events.now p)) }
     {
@@ -90,7 +90,7 @@ impl Pairing {
     }
 
     /// Gives the next of the executions that the events show.
-    fn next(&mut self, events: &Events) -> Option<Execution>
+    pub(crate) fn next(&mut self, events: &Events) -> Option<Execution>
         requires { HaveSlots events.now.recorded self.old.starts }
         ensures slots { HaveSlots events.now.recorded self.new.starts }
         ensures next { YieldsFirst (rest_of events.now) self.old result self.new }

@@ -4,15 +4,16 @@
 - `recordings`, `conditions`: records and conditions.
 - `questions`: selections, statistics, conditions, matches, lists, executions and reports of generated records.
 - `lifecycles`: records that keep the lifecycle, whole or spoiled.
+- `exclusives`: executions of writers and readers that overlap, and some that don't.
 - `replays`, `plans`: generated replay texts and plans.
 - `changes`: texts of all kinds with a byte changed, dropped or doubled, and texts made of loose parts.
 """
 
 from typing import List
 
-from generated import changes, lifecycles, plans, questions, replays
+from generated import changes, exclusives, lifecycles, plans, questions, replays
 
 
 def cases() -> List:
     """All generated cases, in their order."""
-    return [case for module in (questions, lifecycles, replays, plans, changes) for case in module.cases()]
+    return [case for module in (questions, lifecycles, exclusives, replays, plans, changes) for case in module.cases()]

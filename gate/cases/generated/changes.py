@@ -39,6 +39,7 @@ def question(numbers: Numbers) -> List[str]:
         ["ask", "executions"],
         ["ask", "lifecycle"],
         ["ask", "report"],
+        ["ask", "exclusive", condition_text(numbers, 1), condition_text(numbers, 1)],
         ["ask", "list", numbers.one_of(form.SELECTIONS), condition_text(numbers, 1)],
         ["ask", "match", "loosely", condition_text(numbers, 2)],
         ["ask", "match", "exactly", condition_text(numbers, 1)],

@@ -1,4 +1,4 @@
-use Rattle.tk_query.proofs.AnswerIsUnique.{one_exact, one_loose, one_in_order, one_list}
+use Rattle.tk_query.proofs.AnswerIsUnique.{one_exact, one_loose, one_in_order, one_list, one_exclusive}
 use Rattle.tk_query.proofs.laws.answer_is_unique.Goals as goal
 
 pub returns-clause-exact : goal.returns-clause-exact
@@ -12,3 +12,6 @@ returns-clause-in_order c = one_in_order
 
 pub returns-clause-executions : goal.returns-clause-executions
 returns-clause-executions c = one_list
+
+pub returns-clause-exclusive : goal.returns-clause-exclusive
+returns-clause-exclusive c = one_exclusive

@@ -1,0 +1,69 @@
+-- The executions that may conflict, by the positions of their starts.
+use Rattle.std.specs.Prelude.{◌≡◌, ℕ, ◌<◌, ◌≤◌, Bool, true, false, ◌&&◌, ◌||◌, nat_lt, List, get_or, length}
+use Rattle.tk_record_columns.specs.Selections.{Selected}
+use Rattle.tk_query_conditions.specs.declared.conditions.Condition.{Condition}
+use Rattle.tk_query.specs.declared.answers.Exclusive.{Exclusive}
+use Rattle.tk_query.specs.declared.answers.Exclusive.TheVariants.{Yes, No}
+use Rattle.tk_query.specs.declared.exclusion.Holders.{Holders}
+use Rattle.tk_query.specs.declared.exclusion.Ends.{Ends}
+use Rattle.tk_query.specs.declared.execution.Execution.{Execution}
+use Rattle.tk_query.specs.Asked.{fits}
+use Rattle.tk_query.specs.ExecutionSteps.{step_at}
+use Rattle.tk_query.specs.Executions.{IsSpan}
+
+-- an execution of the events asked starts at p and finishes at n
+pub record Spans (asked : Selected) (p n : ℕ) : Type 0 where
+  pub x : Execution
+  pub span : IsSpan (step_at asked) x
+  pub starts : x.first ≡ p
+  pub finishes : x.last ≡ n
+
+-- Under the position of each start stands that of its finish, and 0 where no execution starts that
+-- finishes.
+pub record AreFinishes (asked : Selected) (finishes : List ℕ) : Type 0 where
+  pub each :
+      (x : Execution) → IsSpan (step_at asked) x → get_or finishes x.first 0 ≡ x.last
+  pub only : (p : ℕ) → 0 < get_or finishes p 0 → Spans asked p (get_or finishes p 0)
+
+-- the flags say of which of the events asked the condition holds
+pub record TellFits (asked : Selected) (c : Condition) (flags : List Bool) : Type 0 where
+  pub tell : (p : ℕ) → fits asked c p ≡ get_or flags p false
+
+-- the finish of the execution that starts here, or 0
+abbrev pub finish_of : Holders → ℕ → ℕ
+finish_of h p = get_or h.finishes.items p 0
+
+abbrev pub writes : Holders → ℕ → Bool
+writes h p = get_or h.writers p false
+
+abbrev pub reads : Holders → ℕ → Bool
+reads h p = get_or h.readers p false
+
+abbrev pub holds_any : Holders → ℕ → Bool
+holds_any h p = writes h p || reads h p
+
+-- an execution that starts at p, and has not finished at q, conflicts with one that starts at q
+abbrev pub meet : Holders → ℕ → ℕ → Bool
+meet h p q =
+    nat_lt q (finish_of h p) && nat_lt 0 (finish_of h q)
+    && ((writes h p && holds_any h q) || (writes h q && holds_any h p))
+
+-- the last finishes of the writers, and of all, that start before a position
+pub record AreEnds (h : Holders) (before : ℕ) (ends : Ends) : Type 0 where
+  pub writers : (p : ℕ) → p < before → writes h p ≡ true → finish_of h p ≤ ends.writers
+  pub all : (p : ℕ) → p < before → holds_any h p ≡ true → finish_of h p ≤ ends.all
+
+-- no execution that starts before q, and has not finished there, conflicts with one that starts at q
+abbrev pub MeetsNone : Holders → ℕ → Type 0
+MeetsNone h q = (p : ℕ) → p < q → meet h p q ≡ false
+
+-- the first execution that conflicts with one that starts at q, and has not finished there
+pub record IsFirstMet (h : Holders) (q p : ℕ) : Type 0 where
+  pub order : p < q
+  pub met : meet h p q ≡ true
+  pub first : (i : ℕ) → i < p → meet h i q ≡ false
+
+-- no execution conflicts with one that has not finished, or the first that does
+abbrev pub IsAnswerOf : Holders → Exclusive → Type 0
+IsAnswerOf h Yes = (q : ℕ) → q < length h.finishes.items → MeetsNone h q
+IsAnswerOf h (No p q) = IsFirstMet h q p × ((j : ℕ) → j < q → MeetsNone h j)

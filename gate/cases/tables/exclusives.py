@@ -1,0 +1,80 @@
+"""What `ask exclusive` answers: which executions conflict, which overlap, and which pair comes first."""
+
+from typing import List
+
+from tables.building import Text, answer, fault, no, record
+from tables.texts import EMPTY, TWO_TESTS
+
+NODES = ["N|C|[engine:e]|e"] + [f"N|T|[engine:e]/[t:{key}]|t{key}" for key in (1, 2, 3)]
+
+
+def events(text: str) -> Text:
+    """A record of a container and three tests below it; the events are their keys and tails, of worker 1."""
+    pairs = [pair.strip().partition(" ") for pair in text.split(",") if pair]
+    return record(*NODES, *[f"E|1|{key}|0|{tail}" for key, _, tail in pairs])
+
+
+APART = events("1 start, 1 finish|ok, 2 start, 2 finish|ok")
+OVERLAPPING = events("1 start, 2 start, 1 finish|ok, 2 finish|ok")
+NESTED = events("1 start, 2 start, 3 start, 2 finish|ok, 1 finish|ok, 3 finish|ok")
+BELOW = events("0 start, 1 start, 1 finish|ok, 0 finish|ok")
+
+YES = [
+    ("no event", "test", events("")),
+    ("one after the other", "test", APART),
+    ("one writer beside another test", "name(t1)", OVERLAPPING),
+    ("readers alone", "any() test", OVERLAPPING),
+    ("a reader's test that another reads beside it", "name(t3) test", OVERLAPPING),
+    ("nobody", "any() any()", OVERLAPPING),
+    ("a test within its container", "test", BELOW),
+    ("one that never finishes", "test", events("1 start, 2 start, 1 finish|ok")),
+    ("one that finishes and never started", "test", events("1 start, 2 finish|ok, 1 finish|ok")),
+    ("a skip before a test", "test", events("1 skip|off, 2 start, 2 finish|ok")),
+    ("a skip within a test", "test", events("1 start, 2 skip|off, 1 finish|ok")),
+    ("a test that is both a writer's and a reader's", "test test", APART),
+    ("a test that runs twice", "test", events("1 start, 1 finish|ok, 1 start, 1 finish|ok")),
+    ("a start that a skip ends", "test", events("1 start, 1 skip|off, 2 start, 1 finish|ok, 2 finish|ok")),
+    ("a condition of finishes", "succeeded", OVERLAPPING),
+    ("two tests", "test", TWO_TESTS),
+    ("no record's events", "test", EMPTY),
+]
+
+NO = [
+    ("two writers", "test", OVERLAPPING, "0 1"),
+    ("a reader that starts after the writer", "name(t1) name(t2)", OVERLAPPING, "0 1"),
+    ("a writer that starts after the reader", "name(t2) name(t1)", OVERLAPPING, "0 1"),
+    ("the first reader of two beside a writer", "name(t3) test", NESTED, "0 2"),
+    ("the first pair of three", "test", NESTED, "0 1"),
+    ("a container over its test", "all()", BELOW, "0 1"),
+    ("a second start", "test", events("1 start, 1 start, 2 start, 2 finish|ok, 1 finish|ok"), "1 2"),
+    (
+        "the first position at which a pair overlaps, though an earlier start has a later pair",
+        "any(name(t1),name(t3)) name(t2)",
+        events("3 start, 3 finish|ok, 1 start, 2 start, 2 finish|ok, 3 start, 3 finish|ok, 1 finish|ok"),
+        "2 3",
+    ),
+    (
+        "a writer that outlives one that starts after it",
+        "name(t3) test",
+        events("1 start, 2 start, 2 finish|ok, 3 start, 3 finish|fail, 1 finish|abort"),
+        "0 3",
+    ),
+    ("a test that failed", "test", events("1 start, 2 start, 1 finish|fail|boom, 2 finish|abort"), "0 1"),
+]
+
+CASES: List = (
+    [answer(f"exclusive/{name}", f"ask exclusive {words}", text, "yes\n") for name, words, text in YES]
+    + [no(f"exclusive/{name}", f"ask exclusive {words}", text, f"no {pair}\n") for name, words, text, pair in NO]
+    + [
+        fault("exclusive/no condition", "ask exclusive", OVERLAPPING, "bad word 0"),
+        fault("exclusive/three conditions", "ask exclusive test test test", OVERLAPPING, "bad word 2"),
+        fault("exclusive/four conditions", "ask exclusive test test test test", OVERLAPPING, "bad word 2"),
+        fault("exclusive/a bad first condition", "ask exclusive tesx test", OVERLAPPING, "condition 0 is bad at 3"),
+        fault("exclusive/a bad second condition", "ask exclusive test tesx", OVERLAPPING, "condition 1 is bad at 3"),
+        fault("exclusive/a bad condition before a word too many", "ask exclusive test tesx test", OVERLAPPING, "condition 1 is bad at 3"),
+        fault("exclusive/an empty condition", ["ask", "exclusive", ""], OVERLAPPING, "condition 0 is bad at 0"),
+        fault("exclusive/a deep first condition", "ask exclusive " + "not(" * 33, OVERLAPPING, "condition 0 is too deep"),
+        fault("exclusive/a deep second condition", "ask exclusive test " + "not(" * 33, OVERLAPPING, "condition 1 is too deep"),
+        fault("exclusive/a record that is cut", "ask exclusive test", TWO_TESTS[:-3], "line 9 is bad"),
+    ]
+)
