@@ -105,9 +105,6 @@ none_wanted f o (extra ∷ more) some = inr (inr (inr (inr (inr (inl (o, f extra
 
 -- ---- the conditions of writers and of readers
 
-pub no_condition : {A : Type 0} (f : A → List ℕ) → (words : List A) → words ≡ [] → IsBadWord (exclusive_word ∷ map f words) 0
-no_condition f words none = inr (inr (inr (inr (inr (inr (map f words, refl, inl (ap (map f) none, refl)))))))
-
 -- words that begin with a condition
 pub record BeginsWith {A : Type 0} (f : A → List ℕ) (words : List A) (c : Condition) (more : List A) : Type 0 where
   pub first : A
@@ -124,10 +121,6 @@ of_nobody members none = cond_of-Any members ∙ ap (λ (ms : List Condition). A
 pub asks_one : {A : Type 0} (f : A → List ℕ) → (words more : List A) (w r : Condition) → BeginsWith f words w more → more ≡ [] → cond_of r ≡ Any Nothing → Asks (exclusive_word ∷ map f words) (questions.Exclusive w r)
 asks_one f words more w r b none nobody =
     (map f words, refl, inr (subst (λ (t : List (List ℕ)). AreConditions t (w ∷ [])) (sym (ap (map f) (b.cut ∙ ap (λ l. b.first ∷ l) none))) (b.read, tt), nobody))
-
-pub asks_two : {A : Type 0} (f : A → List ℕ) → (words more rest : List A) (w r : Condition) → BeginsWith f words w more → BeginsWith f more r rest → rest ≡ [] → Asks (exclusive_word ∷ map f words) (questions.Exclusive w r)
-asks_two f words more rest w r b d none =
-    (map f words, refl, inl (subst (λ (t : List (List ℕ)). AreConditions t (w ∷ r ∷ [])) (sym (ap (map f) (b.cut ∙ ap (λ l. b.first ∷ l) (d.cut ∙ ap (λ l. d.first ∷ l) none)))) (b.read, (d.read, tt))))
 
 pub not_empty : {A : Type 0} (xs : List A) (b : Bool) → b ≡ (length xs == 0) → b ≡ false → 0 < length xs
 not_empty xs b is e = let some = eqb-false (length xs) 0 (sym is ∙ e) in omega arith
