@@ -1,12 +1,14 @@
 -- Words of questions: what one word more does.
-use Rattle.std.proofs.Common.{◌≡◌, ◌≢◌, ◌+◌, ◌<◌, ◌++◌, ◌∷◌, [], ℕ, zero, suc, List, length, map, take, get_or, true, Some, Ok, Err, refl, sym, ap, subst, ◌∙◌, arith, inl, inr}
+use Rattle.std.proofs.Common.{◌≡◌, ◌≢◌, ◌+◌, ◌<◌, ◌++◌, ◌∷◌, [], ℕ, zero, suc, List, length, map, take, get_or, Bool, true, false, Some, Ok, Err, Vec, Global, refl, sym, ap, subst, ◌∙◌, arith, inl, inr}
 use Rattle.std.specs.Prelude.{not, ◌==◌}
 use Rattle.std.specs.List.{list_all, slice_get}
+use Rattle.std.proofs.lemmas.Bool.{eqb-false}
 use Rattle.std.proofs.lemmas.List.Folds.{list_all_at}
 use Rattle.tk_record_columns.specs.declared.statistics.Expected.{Expected}
 use Rattle.tk_record_columns.specs.declared.selections.Selection.{Selection}
 use Rattle.tk_record_columns.specs.declared.selections.Selection.TheVariants.{All, Tests, Containers, Skipped, Started, Finished, Aborted, Succeeded, Failed, Reporting, Dynamic, Files}
 use Rattle.tk_record_columns.specs.Selections.{selection_name}
+use Rattle.tk_query_conditions.specs.declared.conditions.Condition as real
 use Rattle.tk_query_conditions.specs.declared.conditions.Condition.{Condition}
 use Rattle.tk_query_conditions.specs.declared.faults.CondFault.{CondFault}
 use Rattle.tk_query_conditions.specs.declared.faults.CondFault.TheVariants as condition_faults
@@ -16,7 +18,8 @@ use Rattle.testkit_questions.specs.declared.faults.AskFault.TheVariants as fault
 use Rattle.testkit_questions.specs.Questions.{Asks, Expecting, IsAskedAs, IsNextExpected, AreConditions, IsConditionFault, IsWordFault, IsBadWord, count, exclusive_word, overview_name}
 use Rattle.testkit_questions.specs.declared.questions.Question.TheVariants as questions
 use Rattle.tk_query_conditions.specs.Cond.{Any, Nothing}
-use Rattle.tk_query_conditions.specs.CondOf.{cond_of}
+use Rattle.tk_query_conditions.specs.CondOf.{cond_of, conds_from}
+use Rattle.tk_query_conditions.proofs.Members.{cond_of-Any}
 use Rattle.testkit_questions.specs.declared.questions.Overview.{Overview}
 
 lacks : (name : List ℕ) → list_all (λ b. not (b == 61)) name ≡ true → (i : ℕ) → i < length name → get_or name i 0 ≢ 61
@@ -102,9 +105,6 @@ none_wanted f o (extra ∷ more) some = inr (inr (inr (inr (inr (inl (o, f extra
 
 -- ---- the conditions of writers and of readers
 
-pub no_condition : {A : Type 0} (f : A → List ℕ) → (words : List A) → words ≡ [] → IsBadWord (exclusive_word ∷ map f words) 0
-no_condition f words none = inr (inr (inr (inr (inr (inr (map f words, refl, inl (ap (map f) none, refl)))))))
-
 -- words that begin with a condition
 pub record BeginsWith {A : Type 0} (f : A → List ℕ) (words : List A) (c : Condition) (more : List A) : Type 0 where
   pub first : A
@@ -114,13 +114,16 @@ pub record BeginsWith {A : Type 0} (f : A → List ℕ) (words : List A) (c : Co
 pub begins : {A : Type 0} (f : A → List ℕ) → (words : List A) (first : A) (more : List A) (text : List ℕ) (c : Condition) → words ≡ first ∷ more → text ≡ f first → IsReadAs text (Ok c) → BeginsWith f words c more
 begins f words first more text c cut is read = record { first = first; cut = cut; read = subst (λ (t : List ℕ). IsReadAs t (Ok c)) is read }
 
+-- without a second condition there are no readers
+pub of_nobody : (members : Vec Condition Global) → members.items ≡ [] → cond_of (real.Any members) ≡ Any Nothing
+of_nobody members none = cond_of-Any members ∙ ap (λ (ms : List Condition). Any (conds_from Nothing ms)) none
+
 pub asks_one : {A : Type 0} (f : A → List ℕ) → (words more : List A) (w r : Condition) → BeginsWith f words w more → more ≡ [] → cond_of r ≡ Any Nothing → Asks (exclusive_word ∷ map f words) (questions.Exclusive w r)
 asks_one f words more w r b none nobody =
     (map f words, refl, inr (subst (λ (t : List (List ℕ)). AreConditions t (w ∷ [])) (sym (ap (map f) (b.cut ∙ ap (λ l. b.first ∷ l) none))) (b.read, tt), nobody))
 
-pub asks_two : {A : Type 0} (f : A → List ℕ) → (words more rest : List A) (w r : Condition) → BeginsWith f words w more → BeginsWith f more r rest → rest ≡ [] → Asks (exclusive_word ∷ map f words) (questions.Exclusive w r)
-asks_two f words more rest w r b d none =
-    (map f words, refl, inl (subst (λ (t : List (List ℕ)). AreConditions t (w ∷ r ∷ [])) (sym (ap (map f) (b.cut ∙ ap (λ l. b.first ∷ l) (d.cut ∙ ap (λ l. d.first ∷ l) none)))) (b.read, (d.read, tt))))
+pub not_empty : {A : Type 0} (xs : List A) (b : Bool) → b ≡ (length xs == 0) → b ≡ false → 0 < length xs
+not_empty xs b is e = let some = eqb-false (length xs) 0 (sym is ∙ e) in omega arith
 
 pub third_condition : {A : Type 0} (f : A → List ℕ) → (words more rest : List A) (w r : Condition) → BeginsWith f words w more → BeginsWith f more r rest → 0 < length rest → IsBadWord (exclusive_word ∷ map f words) 2
 third_condition f words more [] w r b d some = absurd (omega arith)
