@@ -24,7 +24,7 @@ use Rattle.tk_engine_hierarchical.specs.Shapes.{ShapeView, frame, keys_in, may_e
 use Rattle.tk_engine_hierarchical.specs.Steps.{FitsPlan, MayStepAs}
 use Rattle.tk_engine_hierarchical.specs.Units.{RunsUnit}
 use Rattle.tk_engine_hierarchical.specs.TreeRuns.{FinishesNode, PlanState, RunsBody, RunsForest, RunsNode, RunsTree, RunsUnitTree, StartsNode, TestRuns, after_each, after_publishing, begun, plan_state}
-use Rattle.tk_engine_hierarchical.specs.declared.hierarchical.TestEnd.{TestEnd}
+use Rattle.tk_engine_hierarchical.specs.declared.planned_units.TestEnd.{TestEnd}
 use Rattle.tk_engine_hierarchical.specs.declared.tests.Outcome.{Outcome}
 use Rattle.tk_engine_hierarchical.proofs.Nested.{of_worker_mid}
 use Rattle.tk_engine_hierarchical.proofs.Recorded.{run_more, unit_ran}

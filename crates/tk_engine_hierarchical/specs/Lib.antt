@@ -11,5 +11,6 @@ pub mod Nesting
 pub mod Units
 pub mod Reporting
 pub mod UnitViews
+pub mod Standing
 pub mod TreeRuns
 pub mod Laws

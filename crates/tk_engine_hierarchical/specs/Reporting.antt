@@ -1,5 +1,7 @@
 -- What a reporter emits.
 use Rattle.std.specs.Prelude.{◌≡◌, ◌⊎◌, ℕ, ◌≤◌, Bool, true, false, List, ◌∷◌, Ok, Option}
+use Rattle.tk_ids.specs.IdText.{SegmentView}
+use Rattle.tk_ids.specs.declared.descriptors.DType.{DType}
 use Rattle.tk_events.specs.declared.events.Event.{Event}
 use Rattle.tk_events.specs.declared.kinds.Kind.{Kind}
 use Rattle.tk_events.specs.declared.kinds.Kind.TheVariants.{Dynamic, File, Finished}
@@ -23,6 +25,25 @@ pub record UnitView : Type 0 where
 abbrev pub event : Kind → ℕ → ℕ → Payload → Event
 event kind key stamp payload =
     record { kind = kind; key = key; stamp = stamp; payload = payload }
+
+-- what is registered below a running key
+pub record ChildView : Type 0 where
+  pub segment : SegmentView
+  pub name : List ℕ
+  pub dtype : DType
+
+abbrev pub child : DType → SegmentView → List ℕ → ChildView
+child dtype segment name = record { segment = segment; name = name; dtype = dtype }
+
+-- what is asked for, to register a child below a key at this stamp
+abbrev pub child_request : ChildView → ℕ → ℕ → RegisterRequest
+child_request c above stamp = record {
+  parent = above;
+  segment = c.segment;
+  name = c.name;
+  dtype = c.dtype;
+  stamp = stamp;
+}
 
 -- the events of this kind are those of what a running key publishes
 abbrev pub publishes : Kind → Bool
@@ -78,6 +99,11 @@ pub record HasRunChild (may_run : BodyRuns) (old new : UnitView) (ask : Register
   pub ran : may_run started before outcome
   pub finish : HasFinished before new (event Finished key before.stamp (payload_of outcome))
 
+-- a child was registered below the innermost running key and started, ran its body, and finished
+abbrev pub HasRunDynamic : BodyRuns → UnitView → UnitView → ChildView → Type 0
+HasRunDynamic may_run old new c =
+    (above : ℕ) × HasRunChild may_run old new (child_request c above old.stamp)
+
 -- what was asked for was registered below the innermost running key, then skipped with this event,
 -- and nothing else happened
 pub record HasSkipped (old new : UnitView) (ask : RegisterRequest) (skip : Event) : Type 0 where
@@ -108,6 +134,10 @@ pub record HasBegunChild (old new : UnitView) (ask : RegisterRequest) : Type 0 w
 -- what was asked for wasn't started, or it was, and its body or its finish was refused
 abbrev pub HasBrokenOff : UnitView → UnitView → RegisterRequest → Type 0
 HasBrokenOff old new ask = Grew old new ⊎ HasBegunChild old new ask
+
+-- a child wasn't started, or it was, and its body or its finish was refused
+abbrev pub HasLeftDynamic : UnitView → UnitView → ChildView → Type 0
+HasLeftDynamic old new c = (above : ℕ) × HasBrokenOff old new (child_request c above old.stamp)
 
 -- The last that the sink took is the finish of a dynamic descriptor, whose key is past those of the
 -- static ones, with an outcome that its body may have.

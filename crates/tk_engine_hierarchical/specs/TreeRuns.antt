@@ -13,13 +13,12 @@ use Rattle.tk_plan_units.specs.Cutting.{Piece, pieces_of}
 use Rattle.tk_plan_units.specs.Planned.{Outline}
 use Rattle.tk_plan_units.specs.Trees.{Forest, Tree, forest, more, no_trees, tree}
 use Rattle.tk_queue_session.specs.Emission.{registrations}
-use Rattle.tk_queue_session.specs.Registering.{RegisterRequest}
 use Rattle.tk_queue_session.specs.Senders.{SenderView, sends}
 use Rattle.tk_engine_execute.specs.Engines.{Extends}
 use Rattle.tk_engine_hierarchical.specs.Endings.{IsStaticTest, payload_of}
 use Rattle.tk_engine_hierarchical.specs.Reporting.{BodyRuns, HasFinished, HasSkipped, HasStarted}
-use Rattle.tk_engine_hierarchical.specs.Reporting.{UnitView, event}
-use Rattle.tk_engine_hierarchical.specs.declared.hierarchical.TestEnd.{TestEnd}
+use Rattle.tk_engine_hierarchical.specs.Reporting.{ChildView, UnitView, child, child_request, event}
+use Rattle.tk_engine_hierarchical.specs.declared.planned_units.TestEnd.{TestEnd}
 
 -- how the body of each static test may run, by the test's key
 abbrev pub TestRuns : Type 1
@@ -65,15 +64,9 @@ after_publishing n key p =
     after_each (λ path. after_next File key (payloads.Path path)) n.files
     (after_each (λ pairs. after_next Reporting key (payloads.Report pairs)) n.entries p)
 
--- what is asked for a dynamic node below a key, at this stamp
-abbrev pub request_of : Node → ℕ → ℕ → RegisterRequest
-request_of n above stamp = record {
-  parent = above;
-  segment = n.segment;
-  name = n.name;
-  dtype = n.dtype;
-  stamp = stamp;
-}
+-- what is registered for a dynamic node
+abbrev pub child_of_node : Node → ChildView
+child_of_node n = child n.dtype n.segment n.name
 
 -- A static node starts under its number. Any other is registered first, one stamp before it starts.
 abbrev pub StartsNode : Bool → Node → ℕ → ℕ → PlanState → PlanState → Type 0
@@ -84,7 +77,7 @@ StartsNode true n number key old new =
     (stamp_after old.next))
 StartsNode false n number key old new =
     let start = stamp_after old.next in
-    ((above : ℕ) × HasStarted (with_stamp old.unit start) new.unit (request_of n above old.next)
+    ((above : ℕ) × HasStarted (with_stamp old.unit start) new.unit (child_request (child_of_node n) above old.next)
     (event Started key start payloads.Nothing))
     × (new.next ≡ stamp_after start)
 
@@ -94,7 +87,7 @@ SkipsNode true n number reason old new =
     new ≡ after_next Skipped number (payloads.Reason reason) old
 SkipsNode false n number reason old new =
     let skip = stamp_after old.next in
-    ((above : ℕ) × (key : ℕ) × HasSkipped old.unit new.unit (request_of n above old.next)
+    ((above : ℕ) × (key : ℕ) × HasSkipped old.unit new.unit (child_request (child_of_node n) above old.next)
     (event Skipped key skip (payloads.Reason reason)))
     × (new.next ≡ stamp_after skip)
 

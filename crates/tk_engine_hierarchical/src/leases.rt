@@ -5,12 +5,12 @@ ghost use Rattle.tk_ids.specs.Table.{HasId as TableHasId};
 ghost use Rattle.tk_queue_session.specs.Senders.{SenderView, sends};
 ghost use Rattle.tk_queue_session.specs.Registering.{IsRegisteredAs};
 ghost use Rattle.tk_engine_execute.specs.Engines.{Extends};
-ghost use Rattle.tk_engine_hierarchical.specs.Events.{IsRunning};
 ghost use Rattle.tk_engine_hierarchical.specs.RegisteredIds.{is_registered};
-ghost use Rattle.tk_engine_hierarchical.specs.Running.{with_id, with_ids};
+ghost use Rattle.tk_engine_hierarchical.specs.Reporting.{child_request};
+ghost use Rattle.tk_engine_hierarchical.specs.Running.{with_id};
 ghost use Rattle.tk_engine_hierarchical.specs.Shapes.{frame};
+ghost use Rattle.tk_engine_hierarchical.specs.Standing.{StandsAt};
 ghost use Rattle.tk_engine_hierarchical.specs.UnitViews.{unit_view};
-ghost use Rattle.tk_engine_hierarchical.specs.Units.{HasPlayed};
 
 use crate::registered_ids::RegisteredIds;
 use crate::reporters::Reporter;
@@ -26,7 +26,7 @@ use std::mem;
 use std::sync::Wait;
 use tk_engine_execute::{Sink, UnitFault};
 use tk_events::Event;
-use tk_ids::{DType, Segment, UniqueId};
+use tk_ids::UniqueId;
 
 /// A sink that is lent to a unit: it stays the same sink as long as the unit runs.
 #[derive(Drop)]
@@ -46,29 +46,24 @@ impl<'a, S: Sink> Lease<'a, S> {
         Ok(())
     }
 
-    /// Registers a descriptor below its parent, and returns its key.
+    /// Registers a child of a key, and returns its key.
     pub(crate) fn register<R: Wait>(
         &mut self,
         rt: &R,
         parent: u32,
-        segment: &Segment,
-        name: &str,
-        dtype: DType,
+        child: &Child<'_>,
         stamp: u64,
     ) -> Result<u32, UnitFault>
         ensures ok { IfOk result (λ key.
             IsRegisteredAs (S.view self.old.sink.now) (S.view self.new.sink.now)
-            (record {
-              parent = parent;
-              segment = segment.now;
-              name = name.now;
-              dtype = dtype;
-              stamp = stamp;
-            }) (Ok key)) }
+            (child_request child.now parent stamp) (Ok key)) }
         ensures err { OnErr result (S.view self.new.sink.now ≡ S.view self.old.sink.now) }
         ensures same { self.new.sink.ghost_name ≡ self.old.sink.ghost_name }
     {
-        Ok(self.sink.register(rt, parent, segment, name, dtype, stamp)?)
+        let child_key = self
+            .sink
+            .register(rt, parent, child.segment, child.name, child.dtype, stamp)?;
+        Ok(child_key)
     }
 
     /// Registers a child of a running key, and notes its id. Returns its key and its id.
@@ -86,15 +81,9 @@ impl<'a, S: Sink> Lease<'a, S> {
     ) -> Result<(u32, UniqueId), UnitFault>
         ensures registration { IfOk result (λ new.
             IsRegisteredAs (S.view self.old.sink.now) (S.view self.new.sink.now)
-            (record {
-              parent = above.now.key;
-              segment = child.now.segment.now;
-              name = child.now.name.now;
-              dtype = child.now.dtype;
-              stamp = stamp;
-            }) (Ok new.0)) }
+            (child_request child.now above.now.key stamp) (Ok new.0)) }
         ensures id { IfOk result (λ new. new.1
-            ≡ (with_id shape.now.plan.table above.now).id ++ child.now.segment.now ∷ []) }
+            ≡ (with_id shape.now.plan.table above.now).id ++ child.now.segment ∷ []) }
         ensures not_static { IfOk result (λ new. ¬ TableHasId shape.now.plan.table new.1) }
         ensures not_registered { IfOk result (λ new.
             is_registered registered.old (id_text new.1) ≡ false) }
@@ -109,7 +98,7 @@ impl<'a, S: Sink> Lease<'a, S> {
     {
         let id = new_child(alloc, shape, registered, above, child.segment)?;
         registered.add(&id)?;
-        match self.register(rt, above.key, child.segment, child.name, child.dtype, stamp) {
+        match self.register(rt, above.key, child, stamp) {
             Ok(key) => Ok((key, id)),
             Err(fault) => {
                 registered.remove(&id);
@@ -128,27 +117,15 @@ impl<'a, S: Sink> Lease<'a, S> {
         shape: &Shape,
         run: &mut BodyRun,
     )
-        requires frame { frame shape.now ≡ K.frame }
-        requires unit { run.old.progress.unit ≡ K.keys.unit }
-        requires end { run.old.progress.end ≡ K.keys.end }
-        requires running { IsRunning K.frame K.keys.unit K.start (S.view self.old.sink.now)
-            (with_ids K.frame.table run.old.progress.running) run.old.progress.registered
-            run.old.progress.next }
-        requires played { HasPlayed K.frame.table K.may_step K.keys.first run.old.progress.next
-            K.start (S.view self.old.sink.now) }
+        requires frame { frame shape.now ≡ K.unit.frame }
+        requires stands { StandsAt K.unit (S.view self.old.sink.now) run.old.progress }
         ensures same { self.new.sink.ghost_name ≡ self.old.sink.ghost_name }
-        ensures unit { run.new.progress.unit ≡ K.keys.unit }
-        ensures end { run.new.progress.end ≡ K.keys.end }
-        ensures running { IsRunning K.frame K.keys.unit K.start (S.view self.new.sink.now)
-            (with_ids K.frame.table run.new.progress.running) run.new.progress.registered
-            run.new.progress.next }
-        ensures played { HasPlayed K.frame.table K.may_step K.keys.first run.new.progress.next
-            K.start (S.view self.new.sink.now) }
+        ensures stands { StandsAt K.unit (S.view self.new.sink.now) run.new.progress }
         ensures since { Extends (S.view self.old.sink.now) (S.view self.new.sink.now) }
         ensures may { IfOk run.new.outcome (λ outcome. B.may_end body.now outcome) }
         ensures ran { IfOk run.new.outcome (λ outcome. B.may_run body.now
-            (unit_view K.frame.table (S.view self.old.sink.now) run.old.progress)
-            (unit_view K.frame.table (S.view self.new.sink.now) run.new.progress) outcome) }
+            (unit_view K.unit.frame.table (S.view self.old.sink.now) run.old.progress)
+            (unit_view K.unit.frame.table (S.view self.new.sink.now) run.new.progress) outcome) }
     {
         run_into::<R, S, K, B>(rt, alloc, body, shape, self.sink, run);
     }
@@ -163,26 +140,14 @@ fn run_into<R: Wait, S: Sink, K: UnitRun, B: Body>(
     sink: &mut S,
     run: &mut BodyRun,
 )
-    requires frame { frame shape.now ≡ K.frame }
-    requires unit { run.old.progress.unit ≡ K.keys.unit }
-    requires end { run.old.progress.end ≡ K.keys.end }
-    requires running { IsRunning K.frame K.keys.unit K.start (S.view sink.old)
-        (with_ids K.frame.table run.old.progress.running) run.old.progress.registered
-        run.old.progress.next }
-    requires played { HasPlayed K.frame.table K.may_step K.keys.first run.old.progress.next K.start
-        (S.view sink.old) }
-    ensures unit { run.new.progress.unit ≡ K.keys.unit }
-    ensures end { run.new.progress.end ≡ K.keys.end }
-    ensures running { IsRunning K.frame K.keys.unit K.start (S.view sink.new)
-        (with_ids K.frame.table run.new.progress.running) run.new.progress.registered
-        run.new.progress.next }
-    ensures played { HasPlayed K.frame.table K.may_step K.keys.first run.new.progress.next K.start
-        (S.view sink.new) }
+    requires frame { frame shape.now ≡ K.unit.frame }
+    requires stands { StandsAt K.unit (S.view sink.old) run.old.progress }
+    ensures stands { StandsAt K.unit (S.view sink.new) run.new.progress }
     ensures since { Extends (S.view sink.old) (S.view sink.new) }
     ensures may { IfOk run.new.outcome (λ outcome. B.may_end body.now outcome) }
     ensures ran { IfOk run.new.outcome (λ outcome. B.may_run body.now
-        (unit_view K.frame.table (S.view sink.old) run.old.progress)
-        (unit_view K.frame.table (S.view sink.new) run.new.progress) outcome) }
+        (unit_view K.unit.frame.table (S.view sink.old) run.old.progress)
+        (unit_view K.unit.frame.table (S.view sink.new) run.new.progress) outcome) }
 {
     let lease = Lease { sink };
     let _lease = run_lent::<R, S, Brand, B>(rt, alloc, body, shape, lease, run);
@@ -198,28 +163,16 @@ fn run_lent<'a, R: Wait, S: Sink, K: UnitRun, B: Body>(
     run: &mut BodyRun,
 ) -> Lease<'a, S>
     requires name { lease.sink.ghost_name ≡ K.name }
-    requires frame { frame shape.now ≡ K.frame }
-    requires unit { run.old.progress.unit ≡ K.keys.unit }
-    requires end { run.old.progress.end ≡ K.keys.end }
-    requires running { IsRunning K.frame K.keys.unit K.start (S.view lease.sink.now)
-        (with_ids K.frame.table run.old.progress.running) run.old.progress.registered
-        run.old.progress.next }
-    requires played { HasPlayed K.frame.table K.may_step K.keys.first run.old.progress.next K.start
-        (S.view lease.sink.now) }
+    requires frame { frame shape.now ≡ K.unit.frame }
+    requires stands { StandsAt K.unit (S.view lease.sink.now) run.old.progress }
     requires since { K.since ≡ S.view lease.sink.now }
     ensures name { result.sink.ghost_name ≡ K.name }
-    ensures unit { run.new.progress.unit ≡ K.keys.unit }
-    ensures end { run.new.progress.end ≡ K.keys.end }
-    ensures running { IsRunning K.frame K.keys.unit K.start (S.view result.sink.now)
-        (with_ids K.frame.table run.new.progress.running) run.new.progress.registered
-        run.new.progress.next }
-    ensures played { HasPlayed K.frame.table K.may_step K.keys.first run.new.progress.next K.start
-        (S.view result.sink.now) }
+    ensures stands { StandsAt K.unit (S.view result.sink.now) run.new.progress }
     ensures since { Extends K.since (S.view result.sink.now) }
     ensures may { IfOk run.new.outcome (λ outcome. B.may_end body.now outcome) }
     ensures ran { IfOk run.new.outcome (λ outcome. B.may_run body.now
-        (unit_view K.frame.table K.since run.old.progress)
-        (unit_view K.frame.table (S.view result.sink.now) run.new.progress) outcome) }
+        (unit_view K.unit.frame.table K.since run.old.progress)
+        (unit_view K.unit.frame.table (S.view result.sink.now) run.new.progress) outcome) }
 {
     let begun = mem::replace(&mut run.progress, UnitProgress::nothing(alloc));
     let mut reporter: Reporter<'a, S, K> = Reporter {

@@ -5,6 +5,7 @@ mod engines;
 mod hierarchical;
 pub mod laws;
 mod leases;
+mod planned_units;
 mod registered_ids;
 mod reporters;
 mod running_keys;

@@ -5,7 +5,7 @@ ghost use Rattle.tk_events.specs.declared.kinds.Kind.TheVariants as kinds;
 ghost use Rattle.tk_events.specs.declared.payloads.Payload.TheVariants as payloads;
 ghost use Rattle.tk_engine_execute.specs.Engines.{Extends, IsSameSender};
 ghost use Rattle.tk_engine_hierarchical.specs.Endings.{payload_of};
-ghost use Rattle.tk_engine_hierarchical.specs.Reporting.{EndsChild, Grew, HasBrokenOff, HasFinished, HasRunChild, HasSkipped, Published, event};
+ghost use Rattle.tk_engine_hierarchical.specs.Reporting.{EndsChild, Grew, HasFinished, HasLeftDynamic, HasRunDynamic, HasSkipped, Published, child, child_request, event};
 
 use crate::tests::{Body, Outcome, payload_of};
 use crate::unit_events::{Child, UnitEvents};
@@ -32,7 +32,7 @@ impl<'a, S: Sink, K: UnitRun> Reporter<'a, S, K> {
         key: u32,
         outcome: Outcome,
     ) -> Result<(), UnitFault>
-        requires { length K.frame.table ≤ key }
+        requires { length K.unit.frame.table ≤ key }
         ensures ok { OnOk result (HasFinished self.old.events self.new.events
             (event kinds.Finished key self.old.events.stamp (payload_of outcome))) }
         ensures err { OnErr result (self.new.events ≡ self.old.events) }
@@ -50,25 +50,11 @@ impl<'a, S: Sink, K: UnitRun> Reporter<'a, S, K> {
         body: &B,
     ) -> Result<(), UnitFault>
         ensures ok { OnOk result
-            (EndsChild (length K.frame.table) (B.may_end body.now) self.new.events) }
-        ensures child { OnOk result ((above : ℕ)
-            × HasRunChild (B.may_run body.now) self.old.events self.new.events
-            (record {
-              parent = above;
-              segment = child.now.segment.now;
-              name = child.now.name.now;
-              dtype = child.now.dtype;
-              stamp = self.old.events.stamp;
-            })) }
-        ensures err { OnErr result ((above : ℕ)
-            × HasBrokenOff self.old.events self.new.events
-            (record {
-              parent = above;
-              segment = child.now.segment.now;
-              name = child.now.name.now;
-              dtype = child.now.dtype;
-              stamp = self.old.events.stamp;
-            })) }
+            (EndsChild (length K.unit.frame.table) (B.may_end body.now) self.new.events) }
+        ensures child { OnOk result (HasRunDynamic (B.may_run body.now)
+            self.old.events self.new.events child.now) }
+        ensures err { OnErr result
+            (HasLeftDynamic self.old.events self.new.events child.now) }
     {
         let stamp = self.events.stamp();
         let key = self.events.start_child(rt, alloc, child, stamp, stamp)?;
@@ -133,28 +119,14 @@ impl<'a, S: Sink, K: UnitRun> Reporter<'a, S, K> {
         body: &B,
     ) -> Result<(), UnitFault>
         ensures ok { OnOk result
-            (EndsChild (length K.frame.table) (B.may_end body.now) self.new.events) }
-        ensures child { OnOk result ((above : ℕ)
-            × HasRunChild (B.may_run body.now) self.old.events self.new.events
-            (record {
-              parent = above;
-              segment = segment.now;
-              name = name.now;
-              dtype = Test;
-              stamp = self.old.events.stamp;
-            })) }
-        ensures err { OnErr result ((above : ℕ)
-            × HasBrokenOff self.old.events self.new.events
-            (record {
-              parent = above;
-              segment = segment.now;
-              name = name.now;
-              dtype = Test;
-              stamp = self.old.events.stamp;
-            })) }
+            (EndsChild (length K.unit.frame.table) (B.may_end body.now) self.new.events) }
+        ensures child { OnOk result (HasRunDynamic (B.may_run body.now)
+            self.old.events self.new.events (child Test segment.now name.now)) }
+        ensures err { OnErr result (HasLeftDynamic
+            self.old.events self.new.events (child Test segment.now name.now)) }
         // Whatever the body does.
-        ensures same { IsSameSender K.start self.new.events.sink }
-        ensures some { Extends K.start self.new.events.sink }
+        ensures same { IsSameSender K.unit.start self.new.events.sink }
+        ensures some { Extends K.unit.start self.new.events.sink }
     {
         let child = Child {
             segment,
@@ -182,28 +154,14 @@ impl<'a, S: Sink, K: UnitRun> Reporter<'a, S, K> {
         body: &B,
     ) -> Result<(), UnitFault>
         ensures ok { OnOk result
-            (EndsChild (length K.frame.table) (B.may_end body.now) self.new.events) }
-        ensures child { OnOk result ((above : ℕ)
-            × HasRunChild (B.may_run body.now) self.old.events self.new.events
-            (record {
-              parent = above;
-              segment = segment.now;
-              name = name.now;
-              dtype = Container;
-              stamp = self.old.events.stamp;
-            })) }
-        ensures err { OnErr result ((above : ℕ)
-            × HasBrokenOff self.old.events self.new.events
-            (record {
-              parent = above;
-              segment = segment.now;
-              name = name.now;
-              dtype = Container;
-              stamp = self.old.events.stamp;
-            })) }
+            (EndsChild (length K.unit.frame.table) (B.may_end body.now) self.new.events) }
+        ensures child { OnOk result (HasRunDynamic (B.may_run body.now)
+            self.old.events self.new.events (child Container segment.now name.now)) }
+        ensures err { OnErr result (HasLeftDynamic
+            self.old.events self.new.events (child Container segment.now name.now)) }
         // Whatever the body does.
-        ensures same { IsSameSender K.start self.new.events.sink }
-        ensures some { Extends K.start self.new.events.sink }
+        ensures same { IsSameSender K.unit.start self.new.events.sink }
+        ensures some { Extends K.unit.start self.new.events.sink }
     {
         let child = Child {
             segment,
@@ -229,13 +187,8 @@ impl<'a, S: Sink, K: UnitRun> Reporter<'a, S, K> {
     ) -> Result<(), UnitFault>
         ensures ok { OnOk result ((above : ℕ) × (key : ℕ)
             × HasSkipped self.old.events self.new.events
-            (record {
-              parent = above;
-              segment = segment.now;
-              name = name.now;
-              dtype = Test;
-              stamp = self.old.events.stamp;
-            }) (event kinds.Skipped key self.old.events.stamp (payloads.Reason reason))) }
+            (child_request (child Test segment.now name.now) above self.old.events.stamp)
+            (event kinds.Skipped key self.old.events.stamp (payloads.Reason reason))) }
         ensures err { OnErr result (Grew self.old.events self.new.events) }
     {
         let child = Child {

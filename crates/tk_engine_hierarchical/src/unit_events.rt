@@ -4,13 +4,11 @@ ghost use Rattle.tk_engine_execute.specs.Engines.{Extends, IsSameSender};
 ghost use Rattle.tk_events.specs.declared.kinds.Kind.TheVariants.{Finished, Skipped, Started};
 ghost use Rattle.tk_events.specs.declared.payloads.Payload.TheVariants.{Nothing};
 ghost use Rattle.tk_engine_hierarchical.specs.Endings.{IsStaticTest};
-ghost use Rattle.tk_engine_hierarchical.specs.Events.{HasRun, IsRunning};
-ghost use Rattle.tk_engine_hierarchical.specs.Reporting.{Grew, HasFinished, HasSkipped, HasStarted, Published, event, publishes};
-ghost use Rattle.tk_engine_hierarchical.specs.Running.{with_ids};
+ghost use Rattle.tk_engine_hierarchical.specs.Reporting.{Grew, HasFinished, HasSkipped, HasStarted, Published, child_request, event, publishes};
 ghost use Rattle.tk_engine_hierarchical.specs.Shapes.{count_units, frame, keys_in};
+ghost use Rattle.tk_engine_hierarchical.specs.Standing.{IsComplete, StandsAt};
 ghost use Rattle.tk_engine_hierarchical.specs.TreeRuns.{after_event, after_start, begun};
 ghost use Rattle.tk_engine_hierarchical.specs.UnitViews.{unit_view};
-ghost use Rattle.tk_engine_hierarchical.specs.Units.{HasPlayed};
 ghost use Rattle.tk_engine_hierarchical.specs.declared.running_keys.RunningKey.{RunningKey};
 
 use crate::leases::Lease;
@@ -30,11 +28,19 @@ use tk_events::{Event, Kind, Payload};
 use tk_ids::{DType, Segment};
 
 /// What is registered below a running key.
-#[derive(Clone, Copy, Drop)]
+#[derive(Drop)]
 pub(crate) struct Child<'a> {
     pub(crate) segment: &'a Segment,
     pub(crate) name: &'a str,
     pub(crate) dtype: DType,
+}
+
+impl<'a> Model for Child<'a> {
+    ghost use Rattle.tk_engine_hierarchical.specs.Reporting.{ChildView, child};
+
+    ghost Value = { ChildView };
+
+    ghost view = { λ c. child c.dtype c.segment.now c.name.now };
 }
 
 /// Where a unit stands: its number, the end of its static keys, which keys run, which ids it has
@@ -95,29 +101,23 @@ pub(crate) struct UnitEvents<'a, S: Sink, K: UnitRun> {
 impl<'a, S: Sink, K: UnitRun> Model for UnitEvents<'a, S, K> {
     ghost use Rattle.std.specs.Prelude.{◌≡◌};
     ghost use Rattle.tk_engine_execute.specs.Engines.{Extends};
-    ghost use Rattle.tk_engine_hierarchical.specs.Events.{IsRunning};
     ghost use Rattle.tk_engine_hierarchical.specs.Reporting.{UnitView};
     ghost use Rattle.tk_engine_hierarchical.specs.Running.{keys_of, with_ids};
-    ghost use Rattle.tk_engine_hierarchical.specs.Shapes.{count_units, frame};
-    ghost use Rattle.tk_engine_hierarchical.specs.Units.{HasPlayed};
+    ghost use Rattle.tk_engine_hierarchical.specs.Shapes.{frame};
+    ghost use Rattle.tk_engine_hierarchical.specs.Standing.{StandsAt};
 
     ghost Value = { UnitView };
 
     ghost view = { λ e. record {
       sink = S.view e.lease.sink.now;
-      running = keys_of (with_ids K.frame.table e.progress.running);
+      running = keys_of (with_ids K.unit.frame.table e.progress.running);
       stamp = e.progress.stamp;
       own_stamp = e.progress.own_stamp;
     } };
 
     ghost invariant = { λ e. (e.lease.sink.ghost_name ≡ K.name)
-        × (frame e.shape.now ≡ K.frame)
-        × (e.progress.unit ≡ K.keys.unit)
-        × (e.progress.end ≡ K.keys.end)
-        × IsRunning K.frame K.keys.unit K.start (S.view e.lease.sink.now)
-        (with_ids K.frame.table e.progress.running) e.progress.registered e.progress.next
-        × HasPlayed K.frame.table K.may_step K.keys.first e.progress.next K.start
-        (S.view e.lease.sink.now)
+        × (frame e.shape.now ≡ K.unit.frame)
+        × StandsAt K.unit (S.view e.lease.sink.now) e.progress
         × Extends K.since (S.view e.lease.sink.now) };
 }
 
@@ -130,13 +130,13 @@ impl<'a, S: Sink, K: UnitRun> UnitEvents<'a, S, K> {
         unit: u32,
     ) -> UnitEvents<'a, S, K>
         requires name { lease.sink.ghost_name ≡ K.name }
-        requires start { S.view lease.sink.now ≡ K.start }
-        requires since { K.since ≡ K.start }
-        requires frame { frame shape.now ≡ K.frame }
-        requires keys { keys_in shape.now unit ≡ K.keys }
+        requires start { S.view lease.sink.now ≡ K.unit.start }
+        requires since { K.since ≡ K.unit.start }
+        requires frame { frame shape.now ≡ K.unit.frame }
+        requires keys { keys_in shape.now unit ≡ K.unit.keys }
         requires is_unit { unit < count_units shape.now }
-        requires table { K.start.table ≡ K.frame.table }
-        ensures { result ≡ begun K.start }
+        requires table { K.unit.start.table ≡ K.unit.frame.table }
+        ensures { result ≡ begun K.unit.start }
     {
         shape.shows_shape();
         let (next, end) = shape.keys_of(unit);
@@ -164,15 +164,10 @@ impl<'a, S: Sink, K: UnitRun> UnitEvents<'a, S, K> {
         progress: UnitProgress,
     ) -> UnitEvents<'a, S, K>
         requires name { lease.sink.ghost_name ≡ K.name }
-        requires frame { frame shape.now ≡ K.frame }
-        requires unit { progress.unit ≡ K.keys.unit }
-        requires end { progress.end ≡ K.keys.end }
-        requires running { IsRunning K.frame K.keys.unit K.start (S.view lease.sink.now)
-            (with_ids K.frame.table progress.running) progress.registered progress.next }
-        requires played { HasPlayed K.frame.table K.may_step K.keys.first progress.next K.start
-            (S.view lease.sink.now) }
+        requires frame { frame shape.now ≡ K.unit.frame }
+        requires stands { StandsAt K.unit (S.view lease.sink.now) progress }
         requires since { K.since ≡ S.view lease.sink.now }
-        ensures { result ≡ unit_view K.frame.table K.since progress }
+        ensures { result ≡ unit_view K.unit.frame.table K.since progress }
     {
         UnitEvents {
             lease,
@@ -185,14 +180,10 @@ impl<'a, S: Sink, K: UnitRun> UnitEvents<'a, S, K> {
     /// Gives the sink back, and where the unit stands.
     pub(crate) fn suspend(self) -> (Lease<'a, S>, UnitProgress)
         ensures name { result.0.sink.ghost_name ≡ K.name }
-        ensures unit { result.1.unit ≡ K.keys.unit }
-        ensures end { result.1.end ≡ K.keys.end }
-        ensures running { IsRunning K.frame K.keys.unit K.start (S.view result.0.sink.now)
-            (with_ids K.frame.table result.1.running) result.1.registered result.1.next }
-        ensures played { HasPlayed K.frame.table K.may_step K.keys.first result.1.next K.start
-            (S.view result.0.sink.now) }
+        ensures stands { StandsAt K.unit (S.view result.0.sink.now) result.1 }
         ensures since { Extends K.since (S.view result.0.sink.now) }
-        ensures view { self.entry ≡ unit_view K.frame.table (S.view result.0.sink.now) result.1 }
+        ensures view { self.entry
+            ≡ unit_view K.unit.frame.table (S.view result.0.sink.now) result.1 }
     {
         let UnitEvents {
             lease,
@@ -228,10 +219,9 @@ impl<'a, S: Sink, K: UnitRun> UnitEvents<'a, S, K> {
     /// had its turn.
     pub(crate) fn end(self) -> (Lease<'a, S>, bool)
         ensures name { result.0.sink.ghost_name ≡ K.name }
-        ensures same { IsSameSender K.start (S.view result.0.sink.now) }
-        ensures some { Extends K.start (S.view result.0.sink.now) }
-        ensures run { IsTrue result.1
-            → HasRun K.frame K.may_step K.keys K.start (S.view result.0.sink.now) }
+        ensures same { IsSameSender K.unit.start (S.view result.0.sink.now) }
+        ensures some { Extends K.unit.start (S.view result.0.sink.now) }
+        ensures run { IsTrue result.1 → IsComplete K.unit (S.view result.0.sink.now) }
         ensures sink { S.view result.0.sink.now ≡ self.entry.sink }
     {
         let rests = self.progress.running.top().is_none();
@@ -242,16 +232,16 @@ impl<'a, S: Sink, K: UnitRun> UnitEvents<'a, S, K> {
 
     /// Shows what holds of the sink since the unit began.
     pub(crate) fn shows_sink(&self)
-        ensures same { IsSameSender K.start self.now.sink }
-        ensures some { Extends K.start self.now.sink }
+        ensures same { IsSameSender K.unit.start self.now.sink }
+        ensures some { Extends K.unit.start self.now.sink }
     {
         let _lease = &self.lease;
     }
 
     /// Whether the key is that of a static test.
     pub(crate) fn is_static_test(&self, key: u32) -> bool
-        ensures test { IsTrue result → IsStaticTest K.frame.table key }
-        ensures other { result ≡ false → ¬ IsStaticTest K.frame.table key }
+        ensures test { IsTrue result → IsStaticTest K.unit.frame.table key }
+        ensures other { result ≡ false → ¬ IsStaticTest K.unit.frame.table key }
     {
         match self.shape.table().get(key) {
             Some(descriptor) => descriptor.dtype.is_test(),
@@ -292,7 +282,7 @@ impl<'a, S: Sink, K: UnitRun> UnitEvents<'a, S, K> {
 
     /// Starts the next static descriptor, below the innermost running key.
     pub(crate) fn start<R: Wait>(&mut self, rt: &R, key: u32, stamp: u64) -> Result<(), UnitFault>
-        requires { K.may_step (event Started key stamp Nothing) }
+        requires { K.unit.may_step (event Started key stamp Nothing) }
         ensures { OnOk result
             (self.new ≡ after_start self.old (event Started key stamp Nothing)) }
     {
@@ -335,7 +325,7 @@ impl<'a, S: Sink, K: UnitRun> UnitEvents<'a, S, K> {
         stamp: u64,
         reason: Payload,
     ) -> Result<(), UnitFault>
-        requires { K.may_step (event Skipped key stamp reason) }
+        requires { K.unit.may_step (event Skipped key stamp reason) }
         ensures { OnOk result
             (self.new ≡ after_event self.old (event Skipped key stamp reason)) }
     {
@@ -411,8 +401,8 @@ impl<'a, S: Sink, K: UnitRun> UnitEvents<'a, S, K> {
         stamp: u64,
         outcome: Payload,
     ) -> Result<(), UnitFault>
-        requires { key < length K.frame.table
-            → K.may_step (event Finished key stamp outcome) }
+        requires { key < length K.unit.frame.table
+            → K.unit.may_step (event Finished key stamp outcome) }
         ensures ok { OnOk result
             (HasFinished self.old self.new (event Finished key stamp outcome)) }
         ensures err { OnErr result (self.new ≡ self.old) }
@@ -442,15 +432,9 @@ impl<'a, S: Sink, K: UnitRun> UnitEvents<'a, S, K> {
         registered: u64,
         stamp: u64,
     ) -> Result<u32, UnitFault>
-        ensures dynamic { IfOk result (λ key. length K.frame.table ≤ key) }
+        ensures dynamic { IfOk result (λ key. length K.unit.frame.table ≤ key) }
         ensures started { IfOk result (λ key. (above : ℕ) × HasStarted self.old self.new
-            (record {
-              parent = above;
-              segment = child.now.segment.now;
-              name = child.now.name.now;
-              dtype = child.now.dtype;
-              stamp = registered;
-            }) (event Started key stamp Nothing)) }
+            (child_request child.now above registered) (event Started key stamp Nothing)) }
         ensures err { OnErr result (Grew self.old self.new) }
     {
         let innermost = innermost(&self.progress.running)?;
@@ -494,13 +478,7 @@ impl<'a, S: Sink, K: UnitRun> UnitEvents<'a, S, K> {
         reason: Payload,
     ) -> Result<(), UnitFault>
         ensures ok { OnOk result ((above : ℕ) × (key : ℕ) × HasSkipped self.old self.new
-            (record {
-              parent = above;
-              segment = child.now.segment.now;
-              name = child.now.name.now;
-              dtype = child.now.dtype;
-              stamp = registered;
-            }) (event Skipped key stamp reason)) }
+            (child_request child.now above registered) (event Skipped key stamp reason)) }
         ensures err { OnErr result (Grew self.old self.new) }
     {
         let innermost = innermost(&self.progress.running)?;

@@ -1,3 +1,4 @@
+use Rattle.tk_engine_hierarchical.specs.Reporting.{child_request}
 use Rattle.tk_engine_hierarchical.proofs.Reported.{body_broken, ends_child, finish_broken, has_run_child, not_begun, on_ok}
 use Rattle.tk_engine_hierarchical.proofs.reporters.Reporter.run_child.Goals as goal
 
@@ -11,26 +12,26 @@ returns-clause-child g c =
     (λ f. (
       s.0,
       has_run_child (g.B.Body.may_run c.args.body.now) _ _ _ _
-          (λ n. record { parent = s.0; segment = c.args.child.now.segment.now; name = c.args.child.now.name.now; dtype = c.args.child.now.dtype; stamp = n })
+          (λ n. child_request c.args.child.now s.0 n)
           c.in_ok-key.key _ _ _ c.stamp-stamp.ensures s.1 c.in_ok-outcome.ensures.more c.in_ok-outcome.ensures.ran f,
     ))
 
 pub returns-in_err-key-clause-err : goal.returns-in_err-key-clause-err
 returns-in_err-key-clause-err g c =
     not_begun _ _ _
-    (λ above. record { parent = above; segment = c.args.child.now.segment.now; name = c.args.child.now.name.now; dtype = c.args.child.now.dtype; stamp = c.args.self.now.events.stamp })
+    (λ above. child_request c.args.child.now above c.args.self.now.events.stamp)
     c.in_err-key.ensures.err
 
 pub returns-in_err-outcome-clause-err : goal.returns-in_err-outcome-clause-err
 returns-in_err-outcome-clause-err g c =
     let s = c.in_ok-key.ensures.started in
     body_broken _ _ _ _
-    (λ above n. record { parent = above; segment = c.args.child.now.segment.now; name = c.args.child.now.name.now; dtype = c.args.child.now.dtype; stamp = n })
+    (λ above n. child_request c.args.child.now above n)
     s.0 c.in_ok-key.key _ _ c.stamp-stamp.ensures s.1 c.in_err-outcome.ensures.more
 
 pub returns-clause-err : goal.returns-clause-err
 returns-clause-err g c =
     let s = c.in_ok-key.ensures.started in
     finish_broken c.finish.result _ _ _ _
-    (λ above n. record { parent = above; segment = c.args.child.now.segment.now; name = c.args.child.now.name.now; dtype = c.args.child.now.dtype; stamp = n })
+    (λ above n. child_request c.args.child.now above n)
     s.0 c.in_ok-key.key _ _ c.stamp-stamp.ensures s.1 c.in_ok-outcome.ensures.more c.finish.ensures.err

@@ -1,4 +1,5 @@
 use Rattle.tk_ids.specs.declared.descriptors.DType.TheVariants.{Test}
+use Rattle.tk_engine_hierarchical.specs.Reporting.{child, child_request}
 use Rattle.tk_engine_hierarchical.proofs.Reported.{on_ok, skipped_at}
 use Rattle.tk_engine_hierarchical.proofs.reporters.Reporter.skip_test.Goals as goal
 
@@ -6,5 +7,5 @@ pub returns-clause-ok : goal.returns-clause-ok
 returns-clause-ok g c =
     on_ok c.skip_child.result c.skip_child.ensures.ok
     (λ s.
-    let t = skipped_at _ _ (λ n. record { parent = s.0; segment = c.args.segment.now; name = c.args.name.now; dtype = Test; stamp = n }) _ _ _ c.stamp-stamp.ensures (s.1, s.2) in
+    let t = skipped_at _ _ (λ n. child_request (child Test c.args.segment.now c.args.name.now) s.0 n) _ _ _ c.stamp-stamp.ensures (s.1, s.2) in
     (s.0, t.0, t.1))

@@ -12,10 +12,12 @@ invariant_of-result g c =
     let unit = ap (λ (k : UnitKeys). k.unit) keys in (
       c.requires.name,
       c.requires.frame,
-      unit,
-      ap (λ (k : UnitKeys). k.end) keys,
-      began c.args.shape.now g.K.UnitRun.frame c.args.unit g.K.UnitRun.keys.unit g.K.UnitRun.start _ (with_ids g.K.UnitRun.frame.table c.new.result) c.new-2.result c.keys_of-next.result.0 c.requires.frame unit c.requires.start (ap (with_ids g.K.UnitRun.frame.table) c.new.ensures)
-          c.shows_shape.ensures.around c.requires.is_unit c.requires.table,
-      played_none g.K.UnitRun.frame.table g.K.UnitRun.may_step g.K.UnitRun.keys.first g.K.UnitRun.start _ c.keys_of-next.result.0 c.requires.start (ap (λ (k : UnitKeys). k.first) keys),
+      record {
+        number = unit;
+        end = ap (λ (k : UnitKeys). k.end) keys;
+        running = began c.args.shape.now g.K.UnitRun.unit.frame c.args.unit g.K.UnitRun.unit.keys.unit g.K.UnitRun.unit.start _ (with_ids g.K.UnitRun.unit.frame.table c.new.result) c.new-2.result c.keys_of-next.result.0 c.requires.frame unit c.requires.start (ap (with_ids g.K.UnitRun.unit.frame.table) c.new.ensures)
+            c.shows_shape.ensures.around c.requires.is_unit c.requires.table;
+        played = played_none g.K.UnitRun.unit.frame.table g.K.UnitRun.unit.may_step g.K.UnitRun.unit.keys.first g.K.UnitRun.unit.start _ c.keys_of-next.result.0 c.requires.start (ap (λ (k : UnitKeys). k.first) keys);
+      },
       extends_same _ _ (c.requires.start ∙ sym c.requires.since),
     )

@@ -9,11 +9,8 @@ invariant_of-self g c =
     let i = c.self.invariant in (
       c.run_body.ensures.same ∙ i.0,
       i.1,
-      c.run_body.ensures.unit,
-      c.run_body.ensures.end,
-      c.run_body.ensures.running,
-      c.run_body.ensures.played,
-      extends_extends _ _ _ i.6 c.run_body.ensures.since,
+      c.run_body.ensures.stands,
+      extends_extends _ _ _ i.3 c.run_body.ensures.since,
     )
 
 pub returns-clause-more : goal.returns-clause-more

@@ -12,7 +12,7 @@ use Rattle.tk_engine_hierarchical.proofs.unit_events.UnitEvents.skip.Goals as go
 pub invariant_of-self-2 : goal.invariant_of-self-2
 invariant_of-self-2 g c =
     let i = c.self.invariant in
-    let f = g.K.UnitRun.frame in
+    let f = g.K.UnitRun.unit.frame in
     let t = f.table in
     let p = c.self.inside.progress in
     let d = c.in-Some.descriptor.now in
@@ -20,13 +20,15 @@ invariant_of-self-2 g c =
     let is : slice_get t c.args.key ≡ Some d = ap (λ (l : List Descriptor). slice_get l c.args.key) (sym (c.deref.ensures ∙ c.table.ensures ∙ table)) ∙ sym c.in-Some.ensures in (
       c.emit.ensures.same ∙ i.0,
       i.1,
-      i.2,
-      i.3,
-      skipped f g.K.UnitRun.keys.unit g.K.UnitRun.start _ _ (with_ids t p.running) p.registered p.next c.end_below-next.result c.args.key _
-          c.in_ok-emit.ensures.ok c.end_below-next.ensures.more refl refl i.4
-          (may_here c.self.inside.shape.now f p.unit g.K.UnitRun.keys.unit c.args.key p.running i.1 i.2 (c.may_start.ensures c.if-not-may_start.false)) (omega (arith, c.if-key-self.false)),
-      played_skip t g.K.UnitRun.may_step g.K.UnitRun.keys.first g.K.UnitRun.start _ _ p.next c.end_below-next.result c.args.key d.id _ c.in_ok-emit.ensures.ok c.if-key-self.false refl refl
-          (described_here t c.args.key d is)
-          (λ other a b. subst (λ (l : List Descriptor). IsKeyBelow l d.id other) (c.deref-2.ensures ∙ c.table-2.ensures ∙ table) (c.end_below-next.ensures.below other a b)) c.requires i.5,
-      subst (λ s. Extends g.K.UnitRun.since s) (sym c.in_ok-emit.ensures.ok) (extends_more _ _ _ i.6),
+      record {
+        number = i.2.number;
+        end = i.2.end;
+        running = skipped f g.K.UnitRun.unit.keys.unit g.K.UnitRun.unit.start _ _ (with_ids t p.running) p.registered p.next c.end_below-next.result c.args.key _
+            c.in_ok-emit.ensures.ok c.end_below-next.ensures.more refl refl i.2.running
+            (may_here c.self.inside.shape.now f p.unit g.K.UnitRun.unit.keys.unit c.args.key p.running i.1 i.2.number (c.may_start.ensures c.if-not-may_start.false)) (omega (arith, c.if-key-self.false));
+        played = played_skip t g.K.UnitRun.unit.may_step g.K.UnitRun.unit.keys.first g.K.UnitRun.unit.start _ _ p.next c.end_below-next.result c.args.key d.id _ c.in_ok-emit.ensures.ok c.if-key-self.false refl refl
+            (described_here t c.args.key d is)
+            (λ other a b. subst (λ (l : List Descriptor). IsKeyBelow l d.id other) (c.deref-2.ensures ∙ c.table-2.ensures ∙ table) (c.end_below-next.ensures.below other a b)) c.requires i.2.played;
+      },
+      subst (λ s. Extends g.K.UnitRun.since s) (sym c.in_ok-emit.ensures.ok) (extends_more _ _ _ i.3),
     )
