@@ -50,7 +50,7 @@ LINES = [
 ]
 """The lines of docs/FORMATS.md, with N for a number, and their statuses.
 
-A unit fails only where memory is refused: `refuse_requests` shows its line. No input of 16 MiB has an entry too many.
+A unit fails only where memory is refused: `gate/faults` shows its line. No input of 16 MiB has an entry too many.
 """
 
 
