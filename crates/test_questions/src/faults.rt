@@ -68,7 +68,8 @@ fn are_selections_debugged(alloc: Global) -> bool {
         Selection::Dynamic,
         Selection::Files,
     ];
-    let text = "[Skipped, Started, Finished, Aborted, Succeeded, Failed, Reporting, Dynamic, Files]";
+    let text =
+        "[Skipped, Started, Finished, Aborted, Succeeded, Failed, Reporting, Dynamic, Files]";
     is_debugged_as(alloc, &selections.as_slice(), text)
 }
 
