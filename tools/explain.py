@@ -27,33 +27,27 @@ from typing import Sequence
 sys.dont_write_bytecode = True
 
 from explaining import executions, lifecycles, matches
-from explaining.asking import Failed, Record, Refused, run_script, say, show
-
-EXPLAINED = {**dict.fromkeys(matches.MODES, matches), "lifecycle": lifecycles, "executions": executions}
-"""The module that explains each question."""
+from explaining.asking import Failed, Record, run_script, say
 
 USAGE = "usage: tools/explain exactly|loosely|in-order CONDITION .., or lifecycle, or executions, with a record on standard input"
 
 
 def main(words: Sequence[str]) -> int:
-    module = EXPLAINED.get(words[0]) if words else None
-    if module is None:
+    question, *rest = map(os.fsencode, words or [""])
+    if question.decode(errors="replace") not in (*matches.MODES, "lifecycle", "executions"):
         say(f"{USAGE}\n".encode())
         return 2
     if sys.stdin is None:
         raise Failed("standard input is closed")
     record = Record.read(sys.stdin.buffer)
-    asked = [os.fsencode(word) for word in words]
-    answer = module.ask(record, asked)
-    if str(answer):
-        show(str(answer).encode())
-        sys.stdout.flush()
-    try:
-        module.explain(record, asked, answer)
-    except Refused as fault:
-        raise Failed(str(fault)) from fault
+    if question == b"lifecycle":
+        status = lifecycles.explain(record, *rest)
+    elif question == b"executions":
+        status = executions.explain(record, *rest)
+    else:
+        status = matches.explain(record, question, *rest)
     sys.stdout.flush()
-    return answer.status
+    return status
 
 
 if __name__ == "__main__":

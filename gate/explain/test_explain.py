@@ -149,22 +149,13 @@ FAULTS = [
 
 OTHERWISE = [
     ("exactly", ["echo maybe", "exit 1"], 70, "tools/explain: ./program answers b'maybe\\\\n' with status 1"),
-    ("exactly", ["echo yes", "exit 1"], 70, "tools/explain: .*"),
-    ("exactly", ["echo no 0"], 70, "tools/explain: .*"),
-    ("in-order test", ["echo yes"], 70, "tools/explain: .*"),
-    ("lifecycle", ["echo no end 0"], 70, "tools/explain: .*"),
     ("lifecycle", ["echo no 0 id-unknown", "exit 1"], 70, "tools/explain: .*"),
-    ("executions", ["echo 0 running 0 0"], 70, "tools/explain: .*"),
-    ("executions", ["printf '0 failed 0 0'"], 70, "tools/explain: .*"),
+    ("executions", ["echo running 0 failed 0 0"], 70, "tools/explain: .*"),
     ("lifecycle", ["kill -9 $$"], 70, "tools/explain: ./program was stopped by signal 9"),
     ("exactly", ["kill -INT $PPID", "sleep 1"], 130, ""),
     ("exactly", ["echo 'testkit: out of memory' >&2", "exit 3"], 3, "testkit: out of memory"),
-    ("exactly", ["echo 'testkit: not built' >&2", "exit 70"], 70, "testkit: not built"),
 ]
 """A question, what stands for the program, the status, and the line on standard error."""
-
-LISTS = ["1 E|1|1|0|start\n0 E|1|0|0|start\n", "00 E|1|0|0|start\n", "5 E|1|1|0|start\n", "0 E|1|0|0|skip\n", "0 E|1|0|0|start", "0 E|1|0|0|start\n" * 2]
-"""What no list of the events of `FIVE` is."""
 
 CALLS = [
     ("no Python", 'PATH=. exec /bin/sh "$0" exactly', 70, "tools/explain: it needs Python 3.7 or later"),
@@ -172,7 +163,6 @@ CALLS = [
     ("closed input", 'exec "$0" exactly <&-', 70, "tools/explain: standard input is closed"),
     ("no program", 'PROGRAM=/nowhere exec "$0" exactly', 70, "tools/explain: .*"),
     ("a full device", 'exec "$0" exactly >/dev/full', 70, "tools/explain: .*"),
-    ("a full device, and Python told not to buffer", 'PYTHONUNBUFFERED=1 exec "$0" exactly >/dev/full', 70, "tools/explain: .*"),
     ("closed output", 'exec "$0" exactly >&-', 70, "tools/explain: .*"),
     ("a full device for the line", 'exec "$0" 2>/dev/full', 2, ""),
     ("a symbolic link", 'ln -s "$0" why && exec ./why exactly', 0, ""),
@@ -252,27 +242,17 @@ class Explain(WithProgram):
         self.refused(ran, status, line if line.endswith(".*") else re.escape(line))
         self.assertEqual(ran.output, b"")
 
-    def otherwise(self, question, lines):
+    @parameterized(OTHERWISE, name=lambda row: f"{row[0]}: {'; '.join(row[1])}")
+    def test_other_answers(self, row):
         """Asks a script in place of the program, which is run in its folder."""
+        question, lines, status, said = row
         room = folder(self)
         with open(f"{room}/program", "w", encoding="utf-8") as file:
             file.write("\n".join(("#!/bin/sh", "cat >/dev/null", *lines, "")))
         os.chmod(f"{room}/program", 0o755)
-        return run([EXPLAIN, *question.split()], FIVE.encode(), cwd=room, env={**os.environ, "PROGRAM": "./program"})
-
-    @parameterized(OTHERWISE, name=lambda row: f"{row[0]}: {'; '.join(row[1])}")
-    def test_other_answers(self, row):
-        question, lines, status, said = row
-        ran = self.otherwise(question, lines)
+        ran = run([EXPLAIN, question], FIVE.encode(), cwd=room, env={**os.environ, "PROGRAM": "./program"})
         self.refused(ran, status, said)
         self.assertEqual(ran.output, b"")
-
-    @parameterized(LISTS, name=repr)
-    def test_other_lists(self, text):
-        """The answer is out before a list that is none."""
-        ran = self.otherwise("loosely test", ['if mkdir first 2>/dev/null; then echo no 0; exit 1; fi', f"printf {shlex.quote(text)}"])
-        self.refused(ran, 70, "tools/explain: .*")
-        self.assertEqual(ran.output, b"no 0\n0 test\n")
 
     @parameterized(CALLS, name=itemgetter(0))
     def test_calls(self, row):
