@@ -24,7 +24,7 @@ from fixtures import PROGRAM, TOP, WithProgram, folder, parameterized
 
 sys.path.append(f"{TOP}/gate/faults")
 
-from compiling import compile_library, compile_program
+from compiling import WithLibrary
 
 KIB = 1024
 SIZE = 16 * KIB * KIB
@@ -298,37 +298,25 @@ ROWS = [
 def costs_of(row: Row, program: str, library: str, room: str) -> Tuple[Costs, int, str]:
     """Runs a row; answers its costs, its status, and what it wrote first. The status is -1 where not one run alone was counted."""
     status = -1
-    reading, writing = os.pipe()
     with open(f"{room}/input", "wb") as file:
         file.write(row.input())
-    environment = {"PATH": "/usr/bin:/bin", "LD_PRELOAD": library, "COUNTED_TO": str(writing)}
-    if row.late:
-        environment["THREADS_BEGIN_LATE"] = str(row.late)
-    try:
+    with open(f"{room}/counts", "w+b") as counts, open(f"{room}/wrote", "w+b") as wrote, open(f"{room}/input", "rb") as source:
+        environment = {"PATH": "/usr/bin:/bin", "LD_PRELOAD": library, "COUNTED_TO": str(counts.fileno())}
+        if row.late:
+            environment["THREADS_BEGIN_LATE"] = str(row.late)
+        how = {"env": environment, "pass_fds": [counts.fileno()], "preexec_fn": row.prepare}
         before, begun = resource.getrusage(resource.RUSAGE_CHILDREN), time.monotonic()
-        with open(f"{room}/input", "rb") as source, open(f"{room}/output", "wb") as output, open(f"{room}/error", "wb") as error:
-            how = {"stdin": source, "stdout": output, "stderr": error, "env": environment, "pass_fds": [writing], "preexec_fn": row.prepare}
-            with contextlib.suppress(subprocess.TimeoutExpired):
-                status = subprocess.run([program, *row.words], timeout=MOST_SECONDS, check=False, **how).returncode
+        with contextlib.suppress(subprocess.TimeoutExpired):
+            status = subprocess.run([program, *row.words], stdin=source, stdout=wrote, stderr=wrote, timeout=MOST_SECONDS, **how).returncode
         after, clock = resource.getrusage(resource.RUSAGE_CHILDREN), time.monotonic() - begun
-        os.set_blocking(reading, False)
-        try:
-            counted = [int(word) for word in os.read(reading, 100).split()]
-        except BlockingIOError:
-            counted = []
-    finally:
-        os.close(reading)
-        os.close(writing)
+        counts.seek(0)
+        wrote.seek(0)
+        counted, begins = [int(word) for word in counts.read().split()], wrote.read(200).decode(errors="replace")
     seconds = after.ru_utime - before.ru_utime + after.ru_stime - before.ru_stime
     if len(counted) != 4:
         status, counted = -1, [0, 0, 0, 0]
     peak, requests, reads, writes = counted
-    wrote = b""
-    for name in ("output", "error"):
-        with open(f"{room}/{name}", "rb") as file:
-            wrote = wrote or file.read(200)
-    costs = Costs(round(seconds, 2), math.ceil(peak / KIB), requests, reads, writes, round(clock, 2))
-    return costs, status, wrote.decode(errors="replace")
+    return Costs(round(seconds, 2), math.ceil(peak / KIB), requests, reads, writes, round(clock, 2)), status, begins
 
 
 def faults_of(row: Row, costs: Costs, status: int, wrote: str) -> List[str]:
@@ -338,22 +326,13 @@ def faults_of(row: Row, costs: Costs, status: int, wrote: str) -> List[str]:
     return costs.above(row.limit) + little + ([] if answered else [f"status {status}, and it writes {wrote!r}"])
 
 
-class WithLibrary(unittest.TestCase):
+class WithCounts(WithLibrary):
     """Tests for which `count.c` is compiled."""
 
-    @classmethod
-    def setUpClass(cls) -> None:
-        super().setUpClass()
-        cls.room = tempfile.TemporaryDirectory(prefix="costs-")
-        cls.library = f"{cls.room.name}/count.so"
-        compile_library(f"{TOP}/gate/costs/count.c", cls.library)
-
-    @classmethod
-    def tearDownClass(cls) -> None:
-        cls.room.cleanup()
+    SOURCE = f"{TOP}/gate/costs/count.c"
 
 
-class OfTheProgram(WithProgram, WithLibrary):
+class OfTheProgram(WithProgram, WithCounts):
     @parameterized(ROWS)
     def test_costs(self, row):
         came = costs_of(row, PROGRAM, self.library, folder(self))
@@ -387,47 +366,37 @@ BEGIN_THREAD = "import threading, time; begun = time.monotonic(); thread = threa
 """Starts a thread that begins `time.monotonic() - begun` seconds later."""
 
 
-@dataclass(frozen=True)
-class Example:
-    """A command that is no program of ours, and a part of what is wrong with its costs; empty where nothing is."""
-
-    name: str
-    command: Sequence[str]
-    fault: str
-    limit: Costs = SMALL
-    is_alone: bool = False
-    least_memory: int = 0
-    late: int = 0
+def example(name: str, command: Sequence[str], fault: str, limit: Costs = SMALL, **how) -> Tuple[str, Row, str]:
+    """A command that is no program of ours, a row of it, and a part of what is wrong with its costs; empty where nothing is."""
+    return command[0], Row(name, command[1:], lambda: b"x" * 2_000_000, limit, "xx", **how), fault
 
 
 EXAMPLES = [
-    Example("little of all", ["/bin/dd", "bs=64K", "status=none"], ""),
-    Example("many reads", ["/bin/dd", "bs=4K", "status=none"], "reads 490, and may be 40"),
-    Example("many writes", ["/bin/dd", "ibs=64K", "obs=4K", "status=none"], "writes 489, and may be 40"),
-    Example("much memory", ["/bin/dd", "bs=3M", "status=none"], ", and may be 2000"),
-    Example("little memory", ["/bin/dd", "bs=64K", "status=none"], ", and has to be 1000", least_memory=1_000),
-    Example("many requests", python("print('xx')"), "and may be 200"),
-    Example("many seconds", python("import time; print('xx')\nwhile time.process_time() < 0.6: pass"), "seconds"),
-    Example("too many seconds", ["/bin/sh", "-c", "printf xx; while :; do :; done"], "status -"),
-    Example("a wait", ["/bin/sh", "-c", "printf xx; exec sleep 1"], "clock", Costs(0.4, 2_000, 200, 40, 40, 0.5)),
-    Example("another status", ["/bin/sh", "-c", "printf xx; exit 1"], "status 1"),
-    Example("another answer", ["/bin/sh", "-c", "printf yxx"], "it writes 'yxx'"),
-    Example("no counts", ["/usr/bin/env", "-u", "LD_PRELOAD", "/bin/dd", "bs=64K", "status=none"], "status -1"),
-    Example("counts of two programs", ["/bin/sh", "-c", "/bin/true; printf xx"], "status -1"),
-    Example("one processor", python("import os; print('xx' if len(os.sched_getaffinity(0)) == 1 else 'many')"), "requests", is_alone=True),
-    Example("a late thread", python(f"{BEGIN_THREAD}; print('xx' if time.monotonic() - begun > 1.4 else 'early')"), "requests", late=1_500),
+    example("little of all", ["/bin/dd", "bs=64K", "status=none"], ""),
+    example("many reads", ["/bin/dd", "bs=4K", "status=none"], "reads 490, and may be 40"),
+    example("many writes", ["/bin/dd", "ibs=64K", "obs=4K", "status=none"], "writes 489, and may be 40"),
+    example("much memory", ["/bin/dd", "bs=3M", "status=none"], ", and may be 2000"),
+    example("little memory", ["/bin/dd", "bs=64K", "status=none"], ", and has to be 1000", least_memory=1_000),
+    example("many requests", python("print('xx')"), "and may be 200"),
+    example("many seconds", python("import time; print('xx')\nwhile time.process_time() < 0.6: pass"), "seconds"),
+    example("too many seconds", ["/bin/sh", "-c", "printf xx; while :; do :; done"], "status -"),
+    example("a wait", ["/bin/sh", "-c", "printf xx; exec sleep 1"], "clock", Costs(0.4, 2_000, 200, 40, 40, 0.5)),
+    example("another status", ["/bin/sh", "-c", "printf xx; exit 1"], "status 1"),
+    example("another answer", ["/bin/sh", "-c", "printf yxx"], "it writes 'yxx'"),
+    example("no counts", ["/usr/bin/env", "-u", "LD_PRELOAD", "/bin/dd", "bs=64K", "status=none"], "status -1"),
+    example("counts of two programs", ["/bin/sh", "-c", "/bin/true; printf xx"], "status -1"),
+    example("one processor", python("import os; print('xx' if len(os.sched_getaffinity(0)) == 1 else 'many')"), "requests", is_alone=True),
+    example("a late thread", python(f"{BEGIN_THREAD}; print('xx' if time.monotonic() - begun > 1.4 else 'early')"), "requests", late=1_500),
 ]
 
 
-class OfExamples(WithLibrary):
+class OfExamples(WithCounts):
     """The counts and the limits themselves."""
 
     @parameterized(list(COUNTED.items()), name=lambda row: row[0])
     def test_counts(self, row):
         by, wanted = row
-        room = folder(self)
-        compile_program(f"{TOP}/gate/faults/requests.c", f"{room}/requests")
-        costs, _, _ = costs_of(Row("counts", [by], lambda: b"x", SMALL, ""), f"{room}/requests", self.library, room)
+        costs, _, _ = costs_of(Row("counts", [by], lambda: b"x", SMALL, ""), self.requests, self.library, folder(self))
         self.assertEqual((costs.requests, costs.reads, costs.writes, costs.memory), (*wanted, wanted[0]))
 
     def test_memory_that_is_given_back(self):
@@ -435,17 +404,16 @@ class OfExamples(WithLibrary):
         costs, _, _ = costs_of(Row("memory", command[1:], lambda: b"", Costs(9, 0, 0, 0, 0), ""), command[0], self.library, folder(self))
         self.assertLess(costs.memory, 50_000)
 
-    @parameterized(EXAMPLES)
-    def test_limits(self, example):
-        how = {"is_alone": example.is_alone, "least_memory": example.least_memory, "late": example.late}
-        row = Row(example.name, example.command[1:], lambda: b"x" * 2_000_000, example.limit, "xx", **how)
-        faults = faults_of(row, *costs_of(row, example.command[0], self.library, folder(self)))
-        if not example.fault:
+    @parameterized(EXAMPLES, name=lambda row: row[1].name)
+    def test_limits(self, it):
+        program, row, fault = it
+        faults = faults_of(row, *costs_of(row, program, self.library, folder(self)))
+        if not fault:
             self.assertEqual([], faults)
         else:
-            self.assertIn(example.fault, "; ".join(faults))
+            self.assertIn(fault, "; ".join(faults))
             # (what is right besides is found right: the answer, where it isn't what is wrong)
-            is_answered = "status" in example.fault or "it writes" in example.fault
+            is_answered = "status" in fault or "it writes" in fault
             self.assertTrue(is_answered or "it writes" not in "; ".join(faults), faults)
 
     def test_the_largest_input(self):

@@ -53,35 +53,25 @@ NO = [
     ("exactly started started all(started,name(one),not(test)) started started", FIVE, "no 2", "2 name(one), not(test)"),
     ("exactly test all(test,succeeded)", record_of("1 1 finish|ok", "1 1 start"), "no 1", "1 succeeded"),
     ("exactly all(failed,test,failed)", record_of("1 0 start"), "no 0", "0 failed, test, failed"),
-    ("exactly not(all(engine,started))", record_of("1 0 start"), "no 0", "0 not(all(engine,started))"),
     ("exactly started 'all(name(dynamic é),started)' all() all() all() all() all() all()", KINDS, "no 1", "1 started"),
     # most parts, then what lacks a message's text alone
     ("loosely started all(test,failed(bang),id(t:1))", TWO, "no 1", "2 failed(bang); 1 failed(bang); 3 failed(bang), id(t:1)"),
-    ("loosely all(engine,failed,succeeded)", TWO, "no 0", "4 failed; 2 engine, succeeded; 0 failed, succeeded"),
-    ("loosely all(started,failed)", FIVE, "no 0", "0 failed; 1 failed; 2 failed"),
     ("loosely all(test,started)", EMPTY, "no 0", ""),
     # in order only what stands after the event of the condition before
     ("in-order started started all(test,started)", TWO, "no 2", "2 started; 3 started; 4 test, started"),
     ("in-order succeeded started", TWO, "no 1", ""),
-    ("in-order skipped(off) all(started,engine)", TWO, "no 1", "4 started"),
     ("in-order kind(dynamic) all(test,kind(dynamic))", KINDS, "no 1", "2 kind(dynamic); 3 kind(dynamic); 4 kind(dynamic)"),
     # another message before another status, and that before another kind
     ("loosely failed(bang)", ENDS, "no 0", "1 failed(bang); 2 failed(bang); 0 failed(bang)"),
-    ("loosely aborted(boom)", ENDS, "no 0", "3 aborted(boom); 0 aborted(boom); 1 aborted(boom)"),
-    ("loosely skipped(on)", ENDS, "no 0", "4 skipped(on); 0 skipped(on); 1 skipped(on)"),
     ("loosely entry(k,w)", ENDS, "no 0", "6 entry(k,w); 0 entry(k,w); 1 entry(k,w)"),
     ("loosely all(file(a/c),test)", ENDS, "no 0", "5 file(a/c); 0 file(a/c); 1 file(a/c)"),
     ("loosely all(failed(bang),name(two))", ENDS, "no 0", "3 failed(bang); 1 failed(bang), name(two); 2 failed(bang), name(two)"),
     ("loosely all(failed(bang),name(two))", record_of("1 1 finish|fail|bang", "1 2 finish|fail|boom"), "no 0", "1 failed(bang); 0 name(two)"),
     ("loosely all(succeeded,name(two))", record_of("1 1 finish|ok", "1 2 finish|fail"), "no 0", "0 name(two); 1 succeeded"),
-    ("loosely all(started,failed)", record_of("1 1 skip|off", "1 1 finish|ok"), "no 0", "1 started, failed; 0 started, failed"),
     # the kinds that are asked for within others
     ("loosely any(all(started,name(two)),file(x))", ENDS, "no 0", "5 *; 7 *; 0 *"),
     ("loosely any(all(kind(file),name(two)),skipped(x))", ENDS, "no 0", "4 *; 5 *; 0 *"),
-    ("loosely any(all(started,kind(file)),skipped(x))", ENDS, "no 0", "4 *; 0 *; 1 *"),
     ("loosely any(all(name(x),engine),file(x))", ENDS, "no 0", "0 *; 1 *; 2 *"),
-    ("loosely any(any(),file(x))", ENDS, "no 0", "5 *; 0 *; 1 *"),
-    ("loosely all(name(two),any(started,kind(file)))", ENDS, "no 0", "5 name(two); 7 name(two); 3 any(started,kind(file))"),
     ("loosely all(all(started,test),all(skipped(off),not(any())))", TWO, "no 0", "1 skipped(off); 3 started; 0 test, skipped(off)"),
     ("loosely all(entry(k,v,l,w),not(test))", KINDS, "no 0", "4 not(test); 0 entry(k,v,l,w); 7 entry(k,v,l,w)"),
     ("in-order kind(dynamic) all(test,failed(bang),name(two))", MANY, "no 1",
@@ -92,12 +82,10 @@ NO = [
 BAR, SLASH, LINE = "| as \\p", "\\ as \\\\", "a line feed as \\n"
 SPELLED = [
     ("skipped(x\\py)", [("skipped(x\\py)", BAR, "2 events")]),
-    ("name(a\\pb)", [("name(a\\pb)", BAR, "3 events")]),
     ("failed(C:\\\\new\\nline)", [("failed(C:\\\\new\\nline)", f"{SLASH}, {LINE}", "1 event")]),
     ("skipped(z\\p)", [("skipped(z\\p)", BAR, "0 events")]),
     ("any(skipped(x\\py),name(a\\pb))", [("skipped(x\\py)", BAR, "2 events"), ("name(a\\pb)", BAR, "3 events")]),
     ("skipped(x\\q)", []),
-    ("skipped(x\\)", []),
     ("skipped(x\\py\\q)", []),
 ]
 """Conditions that hold of no event of `ESCAPED`, and the atoms of each that are spelled as a record's fields are."""
@@ -113,12 +101,10 @@ LIFECYCLES = [
         (f"{A} started at 1 and never finished", E, "1"),
         (f"{ONE} started at 3 and never finished", A, "3"),
     ]),
-    (["65536 dynamic|C|[engine:f]|f", "65536 start"], "no end 65536", [('[engine:f] "f" started at 1 and never finished', "", "1")]),
     (["0 start", "1 start", "1 report|k|v", "1 start"], "no 3 ran-already", [(f"{A} started at 3, but started at 1 already", E, "1 3")]),
     (["0 start", "0 skip|off"], "no 1 ran-already", [(f"{E} was skipped at 1, but started at 0 already", "", "0 1")]),
     (["0 start", "1 start", "1 finish|ok", "1 finish|ok"], "no 3 not-running", [(f"{A} finished at 3, but finished at 2 already", E, "1 2 3")]),
     (["0 finish|ok", "0 start"], "no 0 not-running", [(f"{E} finished at 0, but had not started", "", "0")]),
-    (["0 skip|off", "0 finish|ok"], "no 1 not-running", [(f"{E} finished at 1, but was skipped at 0 already", "", "0 1")]),
     (["0 start", "1 start", "3 start", "2 start", "1 finish|ok"], "no 4 child-running", [
         (f"{A} finished at 4, but its child {ONE}, which started at 3, still ran", E, "3 4")]),
     (["0 start", "1 start", "3 start", "1 finish|ok"], "no 3 child-running", [
@@ -162,7 +148,6 @@ CALLS = [
     ("a folder as input", 'exec "$0" exactly </', 70, "tools/explain: standard input is a folder"),
     ("closed input", 'exec "$0" exactly <&-', 70, "tools/explain: standard input is closed"),
     ("no program", 'PROGRAM=/nowhere exec "$0" exactly', 70, "tools/explain: .*"),
-    ("a full device", 'exec "$0" exactly >/dev/full', 70, "tools/explain: .*"),
     ("closed output", 'exec "$0" exactly >&-', 70, "tools/explain: .*"),
     ("a full device for the line", 'exec "$0" 2>/dev/full', 2, ""),
     ("a symbolic link", 'ln -s "$0" why && exec ./why exactly', 0, ""),
