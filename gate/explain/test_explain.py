@@ -72,6 +72,7 @@ NO = [
     ("loosely any(all(started,name(two)),file(x))", ENDS, "no 0", "5 *; 7 *; 0 *"),
     ("loosely any(all(kind(file),name(two)),skipped(x))", ENDS, "no 0", "4 *; 5 *; 0 *"),
     ("loosely any(all(name(x),engine),file(x))", ENDS, "no 0", "0 *; 1 *; 2 *"),
+    ("loosely any(any(),file(x))", ENDS, "no 0", "5 *; 0 *; 1 *"),
     ("loosely all(all(started,test),all(skipped(off),not(any())))", TWO, "no 0", "1 skipped(off); 3 started; 0 test, skipped(off)"),
     ("loosely all(entry(k,v,l,w),not(test))", KINDS, "no 0", "4 not(test); 0 entry(k,v,l,w); 7 entry(k,v,l,w)"),
     ("in-order kind(dynamic) all(test,failed(bang),name(two))", MANY, "no 1",

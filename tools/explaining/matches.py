@@ -5,7 +5,7 @@ import sys
 from typing import List, Sequence, Tuple
 
 from explaining.asking import Record, show, show_event
-from explaining.conditions import FIELD_ESCAPES, LETTERS, Part, atoms_of, distance, field_escapes_of, parts_of, without_field_escapes
+from explaining.conditions import FIELD_ESCAPES, LETTERS, atoms_of, distance, field_escapes_of, parts_of, without_field_escapes
 
 MODES = ("exactly", "loosely", "in-order")
 FORM = rb"yes( [0-9]+)*\n|no [0-9]+\n|wrong-count\n"
@@ -14,11 +14,11 @@ MOST_SHOWN = 3
 """How many events that came near are shown."""
 
 
-def nearest(record: Record, parts: Sequence[Part], places: range) -> List[Tuple[int, List[Part]]]:
+def nearest(record: Record, parts: Sequence[bytes], places: range) -> List[Tuple[int, List[bytes]]]:
     """The events at these places that come nearest to a condition of these parts, each with the parts that don't hold of it."""
-    held = {part: set(record.positions(part.text)) for part in parts}
+    held = {part: set(record.positions(part)) for part in parts}
 
-    def lacking(place: int) -> List[Part]:
+    def lacking(place: int) -> List[bytes]:
         return [part for part in parts if place not in held[part]]
 
     first = heapq.nsmallest(MOST_SHOWN, places, key=lambda place: (*distance(record.events[place], lacking(place)), place))
@@ -57,7 +57,7 @@ def show_no(record: Record, mode: str, conditions: Sequence[bytes], number: int)
         before = record.ask(FORM, b"match", b"in-order", *conditions[:number])
         places = range(int(before.split()[-1]) + 1, len(record.events))
     for place, lacking in nearest(record, parts_of(condition), places):
-        show_event(record, place, b"   does not hold: " + b", ".join(part.text for part in lacking))
+        show_event(record, place, b"   does not hold: " + b", ".join(lacking))
     if not places:
         show(b"    no event is left")
     show_escapes(record, condition)
