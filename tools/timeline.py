@@ -1,18 +1,13 @@
 """Draws a run as a page: `tools/timeline [--unit UNIT] < RECORD > run.html`.
 
-UNIT is what a stamp counts, as `microseconds` of the listener for JUnit; without it durations are numbers of stamps.
+UNIT is what a stamp counts, as `microseconds` of the listener for JUnit; without it durations are numbers of stamps. Stamps are times where
+two of them differ, none falls in a worker, and no execution's last stamp is below its first. Else positions in the record stand for them,
+and the page says so. Events of one stamp stand side by side, in the order of the record, so that no bar hides another.
 
 The page needs nothing from outside and may fetch nothing. It has a lane for each worker and in it a bar for each execution that
-`./testkit ask executions` answers, from its first to its last stamp; the environment variable PROGRAM names another program to ask. A start
-without a finish has a bar too, which ends at the next mark of its key or at the end of the record. An execution of a container is a frame
-round those executions below it that its own worker ran within it.
-
-Stamps are times where two of them differ, none falls in a worker, and no execution's last stamp is below its first. Else positions in the
-record stand for them, and the page says so. Events of one stamp stand side by side, in the order of the record, so that no bar hides
-another.
-
-A gap is the time from a worker's event to the start or skip that is its next event, while no test of this worker runs: the worker waits
-for a lock or a child, or has nothing to do.
+`./testkit ask executions` answers (the environment variable PROGRAM names another program to ask), and for each start without a finish, up
+to the next mark of its key or the end of the record. An execution of a container is a frame round those below it that its own worker ran
+within it. A gap is the time from a worker's event to the start or skip that is its next event, while no test of this worker runs.
 
 Where the program refuses the record, its line and its status are handed on, and no page is written. The status is 2 after bad words, and
 70, with one line on standard error, where the script itself fails.

@@ -9,7 +9,6 @@ Of the built test crates the tests whose path has the word `refused` or `refusal
 once as they are. `requests.c` shows that each function of `refuse.c` refuses its requests.
 """
 
-import functools
 import os
 import re
 import subprocess
@@ -34,8 +33,7 @@ KEPT_BY_RUN = 30
 """How many blocks of memory the record of the demo plan's run has, with any number of workers.
 
 The program keeps them at its end, when the system takes all at once: to free the whole run one by one took up to a fifth of its time. The
-plan is freed before: its nodes, their order, the five lists of its cutting and a lock, 8 blocks. Its names, segments, reason, message and key
-have at most 16 bytes, so that they stand in their values.
+plan is freed before. Its texts have at most 16 bytes, so that they stand in their values.
 """
 
 KEPT_LONG = KEPT_BY_RUN + 10
@@ -47,16 +45,7 @@ MOST_REQUESTS = 5_000
 ROUNDS = 4
 """How many rounds a sweep has at most: a unit makes few requests, and the schedule may put others before them each time."""
 
-TESTS_OF_REFUSALS = {
-    "test_records": 4,
-    "test_questions": 3,
-    "test_sessions": 7,
-    "test_plans": 1,
-    "test_runs": 3,
-    "test_hierarchical": 2,
-    "test_example_engine": 0,
-}
-"""The test crates, and how many tests of refusals each has at least."""
+TEST_CRATES = ("test_records", "test_questions", "test_sessions", "test_plans", "test_runs", "test_hierarchical", "test_example_engine")
 
 OUT_OF_MEMORY = re.compile(rb"testkit: out of memory\n")
 NO_THREAD = re.compile(rb"testkit: no thread\n")
@@ -290,31 +279,22 @@ def sweeps_of_program() -> List[Sweep]:
     return found
 
 
-def program_of(crate: str) -> str:
-    return f"{TOP}/crates/{crate}/out/{crate}_tests"
-
-
-@functools.lru_cache(maxsize=None)
-def names_of(crate: str) -> Tuple[str, ...]:
+def names_of(program: str) -> List[str]:
     """The tests of a built test crate."""
-    listed = subprocess.run([program_of(crate), "--list"], stdout=subprocess.PIPE, check=True, text=True).stdout
-    return tuple(re.findall(r"[\w:]+::\w+", listed))
-
-
-def is_of_refusals(name: str) -> bool:
-    return bool(re.search("refused|refusals", name))
+    listed = subprocess.run([program, "--list"], stdout=subprocess.PIPE, check=True, text=True).stdout
+    return re.findall(r"[\w:]+::\w+", listed)
 
 
 def sweeps_of_tests() -> List[Sweep]:
     """The tests of the built test crates, those of refusals with each request refused and the others once."""
     sweeps = []
-    for crate in TESTS_OF_REFUSALS:
-        program = program_of(crate)
+    for crate in TEST_CRATES:
+        program = f"{TOP}/crates/{crate}/out/{crate}_tests"
         if not os.access(program, os.X_OK):
-            sweeps.append(Sweep(crate, "", [], b"", passes, unbuilt=program_of(crate)))
+            sweeps.append(Sweep(crate, "", [], b"", passes, unbuilt=program))
             continue
-        for name in names_of(crate):
-            for kind in ("memory", "thread") if is_of_refusals(name) else ("",):
+        for name in names_of(program):
+            for kind in ("memory", "thread") if re.search("refused|refusals", name) else ("",):
                 command = [os.fsencode(program), os.fsencode(name)]
                 sweeps.append(Sweep(f"{crate} {name} {kind}".rstrip(), kind, command, b"", passes, int(kind == "memory")))
     return sweeps
@@ -341,14 +321,6 @@ class OfTests(WithRefusals):
     @parameterized(sweeps_of_tests)
     def test_each_request(self, sweep):
         self.check(sweep)
-
-    @parameterized(list(TESTS_OF_REFUSALS.items()), name=lambda row: row[0])
-    def test_numbers(self, row):
-        crate, least = row
-        if not os.access(program_of(crate), os.X_OK):
-            self.skipTest(f"not built: {os.path.relpath(program_of(crate), TOP)}")
-        self.assertTrue(names_of(crate))
-        self.assertGreaterEqual(len([name for name in names_of(crate) if is_of_refusals(name)]), least)
 
 
 class OfRequests(WithRefusals):
