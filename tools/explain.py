@@ -21,10 +21,20 @@ from typing import Sequence
 
 sys.dont_write_bytecode = True
 
-from explaining import executions, lifecycles, matches
-from explaining.asking import Failed, Record, run_script, say
+from explaining import lifecycles, matches
+from explaining.asking import Failed, Record, ask, run_script, say, show
 
 USAGE = "usage: tools/explain exactly|loosely|in-order CONDITION .., or lifecycle, or executions, with a record on standard input"
+
+
+def explain_executions(record: Record, *words: bytes) -> int:
+    """Prints the answer of `ask executions`, with the id after each key."""
+    status, answer = ask(record.file, b"executions", *words)
+    descriptors = lifecycles.descriptors_before(record, len(record.events))
+    for line in filter(None, answer.split(b"\n")):
+        key, _, rest = line.partition(b" ")
+        show(key, b" ", descriptors[int(key)].id, b" ", rest)
+    return status
 
 
 def main(words: Sequence[str]) -> int:
@@ -38,7 +48,7 @@ def main(words: Sequence[str]) -> int:
     if question == b"lifecycle":
         status = lifecycles.explain(record, *rest)
     elif question == b"executions":
-        status = executions.explain(record, *rest)
+        status = explain_executions(record, *rest)
     else:
         status = matches.explain(record, question, *rest)
     sys.stdout.flush()

@@ -42,9 +42,6 @@ UNFINISHED = "unfinished"
 ENDINGS = {"ok": "succeeded", "abort": "aborted", "fail": "failed"}
 """The endings of a finish by the word of its tail."""
 
-PLACES_OF_A_STAMP = 6
-"""With how many places after the point the page has the place of an event."""
-
 COLUMNS = "descriptor ending worker worker_of_end first last start stop message begin end row height".split()
 """What the page has of each execution: positions, stamps less the least one as texts, since they may have 64 bits, and where it is drawn."""
 
@@ -253,7 +250,7 @@ def gaps_of(record: Record) -> List[Tuple[int, int]]:
 def row_of(record: Record, it: Execution, descriptor: int, origin: int) -> List[object]:
     """What the page has of an execution, in the order of `COLUMNS`."""
     start, stop = record.events[it.first], record.events[it.last] if it.last is not None and it.ending != UNFINISHED else None
-    drawn = [round(it.begin, PLACES_OF_A_STAMP), round(it.end, PLACES_OF_A_STAMP), it.row, it.height]
+    drawn = [round(it.begin, 6), round(it.end, 6), it.row, it.height]
     if not stop:
         return [descriptor, it.ending, start.worker, None, it.first, None, str(start.stamp - origin), None, None, *drawn]
     # (the reason of a skip, or the message of a finish)

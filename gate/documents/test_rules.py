@@ -107,7 +107,6 @@ WRONG = [
     ("a figure of another command", "docs/SPEED.md has no 4.2 of ask first", changed("README.md", "1.5", "4.2")),
     ("no figures", "README.md has no figures of docs/SPEED.md", changed("README.md", "Measured (", "Found (")),
     ("a quote with another word", "low/README.md:3: the block is no quote of", changed("crates/low/README.md", "append(at)", "append(to)")),
-    ("a quote whose source changed", "is no quote of", changed(CODE, "at < first_bits", "at <= first_bits")),
     ("a quote of no crate", "is no file of a crate", changed("crates/low/README.md", "crates/high", "crates/unlisted")),
     ("no block after its line", "low/README.md:3: no block of code follows", {**changed("crates/low/README.md", "```rust", "words\n\n```")}),
     ("code of nobody", "low/README.md:11: no line 'From crates/..:'", more("crates/low/README.md", "\n```rust\nappend(at)\n```")),

@@ -36,13 +36,10 @@ MANY = record_of(*["1 1 start"] * 50_000, "2 131072 dynamic|T|[engine:e]/[d:1]|d
 
 YES = [
     ("exactly container any(started,skipped(x)) failed(boom) not(started) all(engine,succeeded)", TWO, "yes", "0 1 2 3 4"),
-    ("exactly", EMPTY, "yes", ""),
     ("exactly", TWO, "wrong-count\n0 conditions, 5 events", ""),
     ("exactly test test", EMPTY, "wrong-count\n2 conditions, 0 events", ""),
     ("loosely succeeded test skipped(off) started test", TWO, "yes", "4 1 3 0 1"),
-    ("loosely", TWO, "yes", ""),
     ("in-order started failed(boom) succeeded", TWO, "yes 0 2 4", "0 2 4"),
-    ("in-order test test", TWO, "yes 1 2", "1 2"),
     ("in-order kind(dynamic) entry(k,v%2C%28w%29) entry(l,w,k,v) file(out/log.txt) 'aborted(a|b)'", KINDS, "yes 1 3 4 5 6", "1 3 4 5 6"),
     ("loosely test not(started)", MANY, "yes", "0 50000"),
 ]
@@ -52,28 +49,21 @@ NO = [
     # of an exact match the event at the position, though others come nearer
     ("exactly started started all(started,name(one),not(test)) started started", FIVE, "no 2", "2 name(one), not(test)"),
     ("exactly test all(test,succeeded)", record_of("1 1 finish|ok", "1 1 start"), "no 1", "1 succeeded"),
-    ("exactly all(failed,test,failed)", record_of("1 0 start"), "no 0", "0 failed, test, failed"),
-    ("exactly started 'all(name(dynamic é),started)' all() all() all() all() all() all()", KINDS, "no 1", "1 started"),
     # most parts, then what lacks a message's text alone
     ("loosely started all(test,failed(bang),id(t:1))", TWO, "no 1", "2 failed(bang); 1 failed(bang); 3 failed(bang), id(t:1)"),
     ("loosely all(test,started)", EMPTY, "no 0", ""),
     # in order only what stands after the event of the condition before
     ("in-order started started all(test,started)", TWO, "no 2", "2 started; 3 started; 4 test, started"),
     ("in-order succeeded started", TWO, "no 1", ""),
-    ("in-order kind(dynamic) all(test,kind(dynamic))", KINDS, "no 1", "2 kind(dynamic); 3 kind(dynamic); 4 kind(dynamic)"),
     # another message before another status, and that before another kind
     ("loosely failed(bang)", ENDS, "no 0", "1 failed(bang); 2 failed(bang); 0 failed(bang)"),
     ("loosely entry(k,w)", ENDS, "no 0", "6 entry(k,w); 0 entry(k,w); 1 entry(k,w)"),
-    ("loosely all(file(a/c),test)", ENDS, "no 0", "5 file(a/c); 0 file(a/c); 1 file(a/c)"),
     ("loosely all(failed(bang),name(two))", ENDS, "no 0", "3 failed(bang); 1 failed(bang), name(two); 2 failed(bang), name(two)"),
-    ("loosely all(failed(bang),name(two))", record_of("1 1 finish|fail|bang", "1 2 finish|fail|boom"), "no 0", "1 failed(bang); 0 name(two)"),
     ("loosely all(succeeded,name(two))", record_of("1 1 finish|ok", "1 2 finish|fail"), "no 0", "0 name(two); 1 succeeded"),
     # the kinds that are asked for within others
-    ("loosely any(all(started,name(two)),file(x))", ENDS, "no 0", "5 *; 7 *; 0 *"),
     ("loosely any(all(kind(file),name(two)),skipped(x))", ENDS, "no 0", "4 *; 5 *; 0 *"),
     ("loosely any(all(name(x),engine),file(x))", ENDS, "no 0", "0 *; 1 *; 2 *"),
     ("loosely any(any(),file(x))", ENDS, "no 0", "5 *; 0 *; 1 *"),
-    ("loosely all(all(started,test),all(skipped(off),not(any())))", TWO, "no 0", "1 skipped(off); 3 started; 0 test, skipped(off)"),
     ("loosely all(entry(k,v,l,w),not(test))", KINDS, "no 0", "4 not(test); 0 entry(k,v,l,w); 7 entry(k,v,l,w)"),
     ("in-order kind(dynamic) all(test,failed(bang),name(two))", MANY, "no 1",
      "100000 failed(bang); 50001 failed(bang), name(two); 50002 failed(bang), name(two)"),
@@ -93,10 +83,9 @@ SPELLED = [
 
 TREE = 'N|C|[engine:e]|e\nN|C|[engine:e]/[class:A]|A "a"\nN|T|[engine:e]/[class:A]/[t:1]|one\nN|T|[engine:e]/[class:A]/[t:2]|\n'
 E, A = '[engine:e] "e"', '[engine:e]/[class:A] "A "a""'
-ONE, TWICE, D, B = '[engine:e]/[class:A]/[t:1] "one"', '[engine:e]/[class:A]/[t:2] ""', "[engine:e]/[d:1]", "dynamic|T|[engine:e]/[class:A]|b"
+ONE, D, B = '[engine:e]/[class:A]/[t:1] "one"', "[engine:e]/[d:1]", "dynamic|T|[engine:e]/[class:A]|b"
 LIFECYCLES = [
     (["0 start", "0 finish|ok"], "yes", []),
-    ([], "yes", []),
     (["0 start", "1 start", "3 skip|off", "2 start"], "no end 0", [
         (f"{E} started at 0 and never finished", "", "0"),
         (f"{A} started at 1 and never finished", E, "1"),
@@ -108,8 +97,6 @@ LIFECYCLES = [
     (["0 finish|ok", "0 start"], "no 0 not-running", [(f"{E} finished at 0, but had not started", "", "0")]),
     (["0 start", "1 start", "3 start", "2 start", "1 finish|ok"], "no 4 child-running", [
         (f"{A} finished at 4, but its child {ONE}, which started at 3, still ran", E, "3 4")]),
-    (["0 start", "1 start", "3 start", "1 finish|ok"], "no 3 child-running", [
-        (f"{A} finished at 3, but its child {TWICE}, which started at 2, still ran", E, "2 3")]),
     (["0 start", "65536 dynamic|T|[engine:e]/[d:1]|a\\pb", "65536 start", "0 finish|ok"], "no 3 child-running", [
         (f'{E} finished at 3, but its child {D} "a\\pb", which started at 2, still ran', "", "2 3")]),
     (["0 start", "2 report|k|v"], "no 1 parent-not-running", [(f"{ONE} published entries at 1, but its parent had not started", A, "1")]),

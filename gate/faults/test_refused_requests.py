@@ -350,7 +350,6 @@ def example(name: str, is_passed: bool, rule: Callable, ended: Ended, first: End
 
 EXAMPLES = [
     example("its answer", True, MEMORY, REFUSED),
-    example("its answer beside a no", True, MEMORY, REFUSED, replace(ORDINARY, status=1)),
     example("another status", False, MEMORY, replace(REFUSED, status=2)),
     example("no end", False, MEMORY, replace(REFUSED, status=None, kept=None)),
     example("the line of another fault", False, MEMORY, replace(REFUSED, error=b"testkit: no thread\n")),
@@ -363,7 +362,6 @@ EXAMPLES = [
     example("an ordinary run that fails", False, MEMORY, REFUSED, FAULT),
     example("the unit of a worker", True, OF_A_PLAN, OF_UNIT, units=frozenset({1})),
     example("a unit of another number", False, OF_A_PLAN, OF_UNIT, units=frozenset({0})),
-    example("no thread where a worker has no memory", False, OF_A_PLAN, replace(OF_UNIT, error=b"testkit: no thread\n")),
     example("a unit where no worker was refused", False, OF_A_PLAN, replace(OF_UNIT, refused_of="first")),
     example("no line where none can be written", True, keeps_status, SILENT, FAULT),
     example("a line where none can be written", False, keeps_status, replace(SILENT, error=FAULT.error), FAULT),

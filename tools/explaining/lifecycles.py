@@ -1,7 +1,7 @@
 """Which rule of the lifecycle a record breaks, in a sentence about the descriptors, with the lines of the events."""
 
 from dataclasses import dataclass, field
-from typing import Dict, Iterable, List, NamedTuple, Optional, Tuple
+from typing import Dict, Iterable, List, Optional, Tuple
 
 from explaining.asking import Record, show, show_event
 
@@ -21,14 +21,13 @@ DONE = {
 """What an event of each kind says of its descriptor."""
 
 
-class Mark(NamedTuple):
-    """What an event did, and its position."""
+Mark = Tuple[int, bytes]
+"""What an event did: its position and kind."""
 
-    position: int
-    kind: bytes
 
-    def __bytes__(self) -> bytes:
-        return DONE[self.kind] + f" at {self.position}".encode()
+def done_at(mark: Mark) -> bytes:
+    position, kind = mark
+    return DONE[kind] + f" at {position}".encode()
 
 
 @dataclass
@@ -50,7 +49,7 @@ class Descriptor:
 
     @property
     def runs(self) -> bool:
-        return bool(self.marks) and self.marks[-1].kind == b"start"
+        return bool(self.marks) and self.marks[-1][1] == b"start"
 
 
 Descriptors = Dict[int, Descriptor]
@@ -64,7 +63,7 @@ def descriptors_before(record: Record, position: int) -> Descriptors:
         key, mark, registered = event_at(record, at)
         if registered:
             found[key] = registered
-        elif mark.kind in (b"start", b"finish", b"skip"):
+        elif mark[1] in (b"start", b"finish", b"skip"):
             found[key].marks.append(mark)
     return found
 
@@ -72,8 +71,8 @@ def descriptors_before(record: Record, position: int) -> Descriptors:
 def event_at(record: Record, position: int) -> Tuple[int, Mark, Optional[Descriptor]]:
     """The key of an event, what it did, and the descriptor that it registered, if it did."""
     fields = record.events[position].split(b"|")
-    mark = Mark(position, fields[4])
-    return int(fields[2]), mark, Descriptor(fields[6], fields[7], position) if mark.kind == b"dynamic" else None
+    registered = Descriptor(fields[6], fields[7], position) if fields[4] == b"dynamic" else None
+    return int(fields[2]), (position, fields[4]), registered
 
 
 def of_id(descriptors: Descriptors, id_text: bytes) -> Optional[Descriptor]:
@@ -102,14 +101,14 @@ def why_it_breaks(descriptors: Descriptors, of: Descriptor, rule: str) -> Tuple[
         return b"no descriptor before has the id of its parent, " + of.parent_id, []
     if rule == "child-running":
         child = next(it for it in descriptors.values() if it.parent_id == of.id and it.runs)
-        return b"its child " + bytes(child) + b", which " + bytes(child.marks[-1]) + b", still ran", [child.marks[-1].position]
+        return b"its child " + bytes(child) + b", which " + done_at(child.marks[-1]) + b", still ran", [child.marks[-1][0]]
     concerned = of_id(descriptors, of.parent_id) if rule == "parent-not-running" else of
-    positions = [mark.position for mark in concerned.marks]
+    positions = [position for position, _ in concerned.marks]
     if rule == "parent-not-running":
-        return b"its parent " + (bytes(concerned.marks[-1]) if positions else b"had not started"), positions
+        return b"its parent " + (done_at(concerned.marks[-1]) if positions else b"had not started"), positions
     if not positions:
         return b"had not started", []
-    return bytes(concerned.marks[0 if rule == "ran-already" else -1]) + b" already", positions
+    return done_at(concerned.marks[0 if rule == "ran-already" else -1]) + b" already", positions
 
 
 def explain_break(record: Record, position: int, rule: str) -> None:
@@ -118,7 +117,7 @@ def explain_break(record: Record, position: int, rule: str) -> None:
     descriptors = descriptors_before(record, position)
     of = registered or descriptors[key]
     why, others = why_it_breaks(descriptors, of, rule)
-    show_sentence(record, descriptors, of, bytes(mark) + b", but " + why, [*others, position])
+    show_sentence(record, descriptors, of, done_at(mark) + b", but " + why, [*others, position])
 
 
 def explain_end(record: Record) -> None:
@@ -126,7 +125,7 @@ def explain_end(record: Record) -> None:
     descriptors = descriptors_before(record, len(record.events))
     running = [it for _, it in sorted(descriptors.items()) if it.runs]
     for it in running[:MOST_UNFINISHED]:
-        show_sentence(record, descriptors, it, bytes(it.marks[-1]) + b" and never finished", [it.marks[-1].position])
+        show_sentence(record, descriptors, it, done_at(it.marks[-1]) + b" and never finished", [it.marks[-1][0]])
     if len(running) > MOST_UNFINISHED:
         show(f"{len(running) - MOST_UNFINISHED} more were never finished".encode())
 
