@@ -21,8 +21,8 @@ from typing import Sequence
 
 sys.dont_write_bytecode = True
 
+from asking import Failed, Record, ask, run_script, say, show
 from explaining import lifecycles, matches
-from explaining.asking import Failed, Record, ask, run_script, say, show
 
 USAGE = "usage: tools/explain exactly|loosely|in-order CONDITION .., or lifecycle, or executions, with a record on standard input"
 

@@ -30,7 +30,7 @@ HERE = os.path.dirname(os.path.realpath(__file__))
 sys.path.insert(0, HERE)
 sys.dont_write_bytecode = True
 
-from explaining.asking import Failed, ask, not_an_answer, run_script
+from asking import Failed, ask, not_an_answer, run_script
 
 UNITS = {"nanoseconds": 1, "microseconds": 1_000, "milliseconds": 1_000_000, "seconds": 1_000_000_000}
 """The units of stamps, in nanoseconds."""

@@ -116,7 +116,6 @@ FAULTS = [
     ("report", TWO, 2, "usage: .*"),
     ("lifecycle x", TWO, 2, "testkit: bad word 0"),
     ("loosely test tests", TWO, 2, "testkit: condition 2 is bad at 4"),
-    ("executions", TWO[:-1], 2, "testkit: line 9 is bad"),
     ("loosely test", "", 2, "testkit: no header"),
 ]
 """A question that is refused, its record, the status and the line."""

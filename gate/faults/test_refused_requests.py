@@ -126,11 +126,7 @@ def shown(ended: Ended) -> str:
     return f"status {ended.status}, output {ended.output[:200]!r}, error {ended.error[:200]!r}, {ended.kept} blocks kept"
 
 
-Run = Callable[[int], Ended]
-"""Runs a sweep with the request of this number refused, or with none where it is 0."""
-
-
-def round_of(run_number: Run, sweep: Sweep, ordinary: Ended) -> Tuple[List[str], Set[int]]:
+def round_of(run_number: Callable[[int], Ended], sweep: Sweep, ordinary: Ended) -> Tuple[List[str], Set[int]]:
     """Refuses each request in turn; answers what failed, and which units did."""
     number, failed, units, survived = 0, [], set(), 0
     while not failed and number < MOST_REQUESTS:
@@ -154,8 +150,8 @@ def round_of(run_number: Run, sweep: Sweep, ordinary: Ended) -> Tuple[List[str],
     return failed, units
 
 
-def failures_of(run_number: Run, sweep: Sweep) -> List[str]:
-    """Runs a sweep, in further rounds while a unit has not failed; answers what failed."""
+def failures_of(run_number: Callable[[int], Ended], sweep: Sweep) -> List[str]:
+    """Runs a sweep with each request refused (none at 0), in further rounds while a unit has not failed; answers what failed."""
     ordinary = run_number(0)
     if not sweep.kind:
         return [] if sweep.is_right(ordinary, ordinary) and ordinary.kept == sweep.kept else [shown(ordinary)]

@@ -2,8 +2,7 @@
 
 import tempfile
 import unittest
-from dataclasses import dataclass
-from typing import Callable
+from operator import itemgetter
 
 import cases
 import records
@@ -16,15 +15,6 @@ TEXT = "".join(f"{line}\n" for line in [*STARTED[:2], "E|1|0|5|start", "E|1|0|7|
 POSITIONS = [*STARTED[:3], "E|1|0|1|finish|ok"]
 CASE = Case("case", ["whole true"], ["testkit: FOLDER/a", "testkit: one .."], records={"record": STARTED})
 FACTS = ["whole true", "microseconds 7"]
-
-
-@dataclass(frozen=True)
-class Check:
-    """A comparison, and whether it has to pass."""
-
-    name: str
-    compare: Callable[[], None]
-    is_right: bool = False
 
 
 def of_record(old="", new="", wanted=STARTED):
@@ -75,41 +65,45 @@ def of_crowd(workers=15, first=0):
     return compare
 
 
-CHECKS = [
-    Check("a record", of_record(), True),
-    Check("another line", of_record("|ok", "|fail")),
-    Check("the last line feed is missing", of_record("|ok\n", "|ok")),
-    Check("a stamp that falls", of_record("|7|", "|4|")),
-    Check("a stamp after the end", of_record("|7|", "|8|")),
-    Check("positions", of_record("5|start\nE|1|0|7", "0|start\nE|1|0|1", POSITIONS), True),
-    Check("times in place of positions", of_record(wanted=POSITIONS)),
-    Check("a case", of_case(), True),
-    Check("another record", of_case(record=TEXT.replace("|ok", "|fail"))),
-    Check("a record that isn't wanted", of_case(**{"2.record": TEXT})),
-    Check("another message", of_case(messages="testkit: FOLDER/b\ntestkit: one that goes on\n")),
-    Check("another fact", of_case(facts=["whole false", FACTS[1]])),
-    Check("no end", of_case(facts=FACTS[:1])),
-    Check("events of two threads in another order", of_ids(BY_ID[0], *BY_ID[2:4], BY_ID[1], BY_ID[4]), True),
-    Check("events of one id in another order", of_ids(BY_ID[0], BY_ID[4], *BY_ID[2:4], BY_ID[1])),
-    Check("a key that another worker registers", of_ids(*(line.replace("131072", "196608") for line in BY_ID))),
-    Check("workers in turn", of_workers(samples.THREAD_STARTS), True),
-    Check("workers in another turn", of_workers([*samples.THREAD_STARTS[1:], 2])),
-    Check("a thread of two workers", of_workers(samples.THREAD_STARTS, 7)),
-    Check("a crowd", of_crowd(), True),
-    Check("a crowd in which a stamp stands twice", of_crowd(first=1)),
-    Check("a crowd of fourteen workers", of_crowd(14)),
-    Check("a pause", lambda: samples.check_pause([1, 2, 100_002, 100_003], 110_000, 250_000), True),
-    Check("a pause in milliseconds", lambda: samples.check_pause([0, 0, 100, 100], 110_000, 250_000)),
-    Check("stamps that go on from the first run", lambda: samples.check_pause([100_001, 100_002, 200_003, 200_004], 110_000, 250_000)),
+RIGHT = [
+    ("a record", of_record()),
+    ("positions", of_record("5|start\nE|1|0|7", "0|start\nE|1|0|1", POSITIONS)),
+    ("a case", of_case()),
+    ("events of two threads in another order", of_ids(BY_ID[0], *BY_ID[2:4], BY_ID[1], BY_ID[4])),
+    ("workers in turn", of_workers(samples.THREAD_STARTS)),
+    ("a crowd", of_crowd()),
+    ("a pause", lambda: samples.check_pause([1, 2, 100_002, 100_003], 110_000, 250_000)),
 ]
+WRONG = [
+    ("another line", of_record("|ok", "|fail")),
+    ("the last line feed is missing", of_record("|ok\n", "|ok")),
+    ("a stamp that falls", of_record("|7|", "|4|")),
+    ("a stamp after the end", of_record("|7|", "|8|")),
+    ("times in place of positions", of_record(wanted=POSITIONS)),
+    ("another record", of_case(record=TEXT.replace("|ok", "|fail"))),
+    ("a record that isn't wanted", of_case(**{"2.record": TEXT})),
+    ("another message", of_case(messages="testkit: FOLDER/b\ntestkit: one that goes on\n")),
+    ("another fact", of_case(facts=["whole false", FACTS[1]])),
+    ("no end", of_case(facts=FACTS[:1])),
+    ("events of one id in another order", of_ids(BY_ID[0], BY_ID[4], *BY_ID[2:4], BY_ID[1])),
+    ("a key that another worker registers", of_ids(*(line.replace("131072", "196608") for line in BY_ID))),
+    ("workers in another turn", of_workers([*samples.THREAD_STARTS[1:], 2])),
+    ("a thread of two workers", of_workers(samples.THREAD_STARTS, 7)),
+    ("a crowd in which a stamp stands twice", of_crowd(first=1)),
+    ("a crowd of fourteen workers", of_crowd(14)),
+    ("a pause in milliseconds", lambda: samples.check_pause([0, 0, 100, 100], 110_000, 250_000)),
+    ("stamps that go on from the first run", lambda: samples.check_pause([100_001, 100_002, 200_003, 200_004], 110_000, 250_000)),
+]
+"""A comparison, after its name."""
 
 
 class OfChecks(unittest.TestCase):
     """Each comparison at something right and at something wrong."""
 
-    @parameterized(CHECKS)
-    def test_check(self, check):
-        if check.is_right:
-            check.compare()
-        else:
-            self.assertRaises(AssertionError, check.compare)
+    @parameterized(RIGHT, name=itemgetter(0))
+    def test_right(self, row):
+        row[1]()
+
+    @parameterized(WRONG, name=itemgetter(0))
+    def test_wrong(self, row):
+        self.assertRaises(AssertionError, row[1])

@@ -20,7 +20,7 @@ VERSION = read(f"{TOP}/VERSION").decode().strip()
 INSIDE = f"testkit-{VERSION}"
 TAR, DEB, JAR = f"{INSIDE}-x86_64-linux.tar.gz", f"testkit_{VERSION}_amd64.deb", "testkit-listener.jar"
 COMMANDS = ("explain", "timeline")
-TOOLS = {*COMMANDS, "explain.py", "timeline.py", "timeline.css", "timeline.html", "timeline.js"}
+TOOLS = {*COMMANDS, "asking.py", "explain.py", "timeline.py", "timeline.css", "timeline.html", "timeline.js"}
 DOCUMENTS = "usr/share/doc/testkit"
 JUNIT = ("junit-platform-commons", "junit-platform-engine", "junit-platform-launcher", "opentest4j", "apiguardian-api")
 CONSOLE = "/usr/share/java/junit-platform-console-standalone.jar"
@@ -228,7 +228,7 @@ REFUSED = [
     ("a link", 70, "examples/a.record is no file", committed(lambda it: os.symlink("x", it.path("examples/a.record")))),
     ("no tool", 70, "the commit has no tools/timeline.css", committed(lambda it: os.remove(it.path("tools/timeline.css")))),
     ("no version", 70, "VERSION is no version: '1.0.0-new'", committed(lambda it: it.write("VERSION", b"1.0.0-new\n"))),
-    ("no place", 70, "FileExistsError: ", committed(lambda it: it.write("out", b""))),
+    ("no place", 70, "[Errno 17] File exists: ", committed(lambda it: it.write("out", b""))),
 ]
 """Where no package comes: the status, what is said, and what was done."""
 

@@ -1,1 +1,1 @@
-"""What `tools/explain` is made of; `tools/timeline` asks the program by `asking` too."""
+"""What `tools/explain` is made of."""

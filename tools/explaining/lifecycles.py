@@ -3,7 +3,7 @@
 from dataclasses import dataclass, field
 from typing import Dict, Iterable, List, Optional, Tuple
 
-from explaining.asking import Record, show, show_event
+from asking import Record, show, show_event
 
 FORM = rb"yes\n|no end [0-9]+\n|no [0-9]+ (id-known|parent-unknown|parent-not-running|ran-already|not-running|child-running)\n"
 

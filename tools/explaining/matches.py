@@ -4,7 +4,7 @@ import heapq
 import sys
 from typing import List, Sequence, Tuple
 
-from explaining.asking import Record, show, show_event
+from asking import Record, show, show_event
 from explaining.conditions import FIELD_ESCAPES, LETTERS, atoms_of, distance, field_escapes_of, parts_of, without_field_escapes
 
 MODES = ("exactly", "loosely", "in-order")

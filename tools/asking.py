@@ -1,4 +1,4 @@
-"""Asking the program about a record, and the lines of the record's text."""
+"""How the scripts of tools/ ask the program about a record, print the lines of its text, and end."""
 
 import contextlib
 import os
@@ -9,7 +9,7 @@ import tempfile
 from dataclasses import dataclass, field
 from typing import BinaryIO, Callable, Dict, List, Sequence, Tuple
 
-TOP = os.path.dirname(os.path.dirname(os.path.dirname(os.path.realpath(__file__))))
+TOP = os.path.dirname(os.path.dirname(os.path.realpath(__file__)))
 PROGRAM = os.environ.get("PROGRAM", f"{TOP}/testkit")
 
 
@@ -18,7 +18,7 @@ class Failed(Exception):
 
 
 class Refused(Exception):
-    """The program answered a fault: its status, and its line on standard error."""
+    """What was asked for is refused: the status, and the line on standard error."""
 
 
 def ask(file: BinaryIO, *words: bytes) -> Tuple[int, bytes]:
@@ -77,7 +77,7 @@ def say(text: bytes) -> None:
 
 
 def run_script(name: str, main: Callable[[Sequence[str]], int]) -> None:
-    """Ends with the status of `main`, with the program's line and status where it refuses, and with 70 and a line where the script fails."""
+    """Ends with the status of `main`, with the line and the status of a refusal, and with 70 and a line where the script fails."""
     try:
         sys.exit(main(sys.argv[1:]))
     except KeyboardInterrupt:
