@@ -13,9 +13,7 @@ import os
 import resource
 import subprocess
 import sys
-import tempfile
 import time
-import unittest
 from dataclasses import dataclass, fields
 from typing import Callable, List, Sequence, Tuple
 
@@ -32,6 +30,7 @@ SIZE = 16 * KIB * KIB
 
 MOST_SECONDS = 300
 """How many seconds by the clock a run may take: far more than any needs, so that one that only waits has an end."""
+
 
 @dataclass(frozen=True)
 class Costs:

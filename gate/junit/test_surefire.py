@@ -3,7 +3,6 @@
 import glob
 import os
 import shutil
-import tempfile
 import unittest
 
 import fixtures

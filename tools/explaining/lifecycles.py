@@ -20,7 +20,6 @@ DONE = {
 }
 """What an event of each kind says of its descriptor."""
 
-
 Mark = Tuple[int, bytes]
 """What an event did: its position and kind."""
 
