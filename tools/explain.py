@@ -1,23 +1,18 @@
 """Shows what stands behind an answer about a record: `tools/explain QUESTION < RECORD`.
 
 QUESTION is `exactly`, `loosely` or `in-order` with conditions, as of `./testkit ask match`, or `lifecycle`, or `executions`. The program is
-asked: `./testkit`, or the one that the environment variable PROGRAM names. It reads the record once for the answer, once more for each
-condition at most, and in order once more for the conditions that were found. What is printed first is the program's answer.
+asked: `./testkit`, or the one that the environment variable PROGRAM names. What is printed first is the program's answer.
 
-- At a yes of a match, each condition follows with the line of an event of which it holds: of an exact match the event at its position, of
-  a match in order the event that was found, and else the first.
-- At `no K` of a match, condition K follows, and the lines of the three events that came nearest, each with what does not hold: the event at
-  position K of an exact match, those after the one of condition K-1 of a match in order, and else any. The nearest are those of which most
-  of the conditions hold that it joins by `all`; of these, those that lack no more than the text of a message, a reason, a path or entries;
-  of these, those of the kind of event that is asked for; and of these the first. Where an atom holds of no event since it is spelled as
-  a record's field is, with an escape, a line says so.
-- At `wrong-count`, both numbers follow.
-- At a `no` of `lifecycle`, a sentence says which descriptor breaks the rule, or never finishes, and where; then its parent, and the lines
-  of the events that are concerned.
+- At a yes of a match each condition follows, with the line of an event of which it holds: the one that was found, or else the first.
+- At `no K` condition K follows, and the lines of the three events that came nearest (of an exact match the event at position K, in order
+  only those after the one of condition K-1), each with what does not hold. The nearest are those of which most of the conditions hold that
+  it joins by `all`; of these those that lack no more than a text; of these those of the kind that is asked for; and then the first. Where
+  an atom holds of no event since it is spelled with an escape of a record's field, a line says so.
+- At `wrong-count` both numbers follow.
+- At a `no` of `lifecycle` a sentence says which descriptor breaks the rule, or never finishes, and where; then its parent, and the events.
 - Of `executions` each line has the id behind the key.
 
-Positions and conditions count from 0. The status is that of the program; it is 70, with one line on standard error, where the script
-itself fails.
+Positions and conditions count from 0. The status is the program's, or 70, with one line on standard error, where the script itself fails.
 """
 
 import os
@@ -26,34 +21,38 @@ from typing import Sequence
 
 sys.dont_write_bytecode = True
 
-from explaining import executions, lifecycles, matches
-from explaining.asking import Failed, Record, Refused, run_script, say, show
-
-EXPLAINED = {**dict.fromkeys(matches.MODES, matches), "lifecycle": lifecycles, "executions": executions}
-"""The module that explains each question."""
+from asking import Failed, Record, ask, run_script, say, show
+from explaining import lifecycles, matches
 
 USAGE = "usage: tools/explain exactly|loosely|in-order CONDITION .., or lifecycle, or executions, with a record on standard input"
 
 
+def explain_executions(record: Record, *words: bytes) -> int:
+    """Prints the answer of `ask executions`, with the id after each key."""
+    status, answer = ask(record.file, b"executions", *words)
+    descriptors = lifecycles.descriptors_before(record, len(record.events))
+    for line in filter(None, answer.split(b"\n")):
+        key, _, rest = line.partition(b" ")
+        show(key, b" ", descriptors[int(key)].id, b" ", rest)
+    return status
+
+
 def main(words: Sequence[str]) -> int:
-    module = EXPLAINED.get(words[0]) if words else None
-    if module is None:
+    question, *rest = map(os.fsencode, words or [""])
+    if question.decode(errors="replace") not in (*matches.MODES, "lifecycle", "executions"):
         say(f"{USAGE}\n".encode())
         return 2
     if sys.stdin is None:
         raise Failed("standard input is closed")
     record = Record.read(sys.stdin.buffer)
-    asked = [os.fsencode(word) for word in words]
-    answer = module.ask(record, asked)
-    if str(answer):
-        show(str(answer).encode())
-        sys.stdout.flush()
-    try:
-        module.explain(record, asked, answer)
-    except Refused as fault:
-        raise Failed(str(fault)) from fault
+    if question == b"lifecycle":
+        status = lifecycles.explain(record, *rest)
+    elif question == b"executions":
+        status = explain_executions(record, *rest)
+    else:
+        status = matches.explain(record, question, *rest)
     sys.stdout.flush()
-    return answer.status
+    return status
 
 
 if __name__ == "__main__":

@@ -1,18 +1,13 @@
 """Draws a run as a page: `tools/timeline [--unit UNIT] < RECORD > run.html`.
 
-UNIT is what a stamp counts, as `microseconds` of the listener for JUnit; without it durations are numbers of stamps.
+UNIT is what a stamp counts, as `microseconds` of the listener for JUnit; without it durations are numbers of stamps. Stamps are times where
+two of them differ, none falls in a worker, and no execution's last stamp is below its first. Else positions in the record stand for them,
+and the page says so. Events of one stamp stand side by side, in the order of the record, so that no bar hides another.
 
 The page needs nothing from outside and may fetch nothing. It has a lane for each worker and in it a bar for each execution that
-`./testkit ask executions` answers, from its first to its last stamp; the environment variable PROGRAM names another program to ask. A start
-without a finish has a bar too, which ends at the next mark of its key or at the end of the record. An execution of a container is a frame
-round those executions below it that its own worker ran within it.
-
-Stamps are times where two of them differ, none falls in a worker, and no execution's last stamp is below its first. Else positions in the
-record stand for them, and the page says so. Events of one stamp stand side by side, in the order of the record, so that no bar hides
-another.
-
-A gap is the time from a worker's event to the start or skip that is its next event, while no test of this worker runs: the worker waits
-for a lock or a child, or has nothing to do.
+`./testkit ask executions` answers (the environment variable PROGRAM names another program to ask), and for each start without a finish, up
+to the next mark of its key or the end of the record. An execution of a container is a frame round those below it that its own worker ran
+within it. A gap is the time from a worker's event to the start or skip that is its next event, while no test of this worker runs.
 
 Where the program refuses the record, its line and its status are handed on, and no page is written. The status is 2 after bad words, and
 70, with one line on standard error, where the script itself fails.
@@ -35,7 +30,7 @@ HERE = os.path.dirname(os.path.realpath(__file__))
 sys.path.insert(0, HERE)
 sys.dont_write_bytecode = True
 
-from explaining.asking import Failed, ask, not_an_answer, run_script
+from asking import Failed, ask, not_an_answer, run_script
 
 UNITS = {"nanoseconds": 1, "microseconds": 1_000, "milliseconds": 1_000_000, "seconds": 1_000_000_000}
 """The units of stamps, in nanoseconds."""
@@ -46,9 +41,6 @@ MOST_LISTED = 50
 UNFINISHED = "unfinished"
 ENDINGS = {"ok": "succeeded", "abort": "aborted", "fail": "failed"}
 """The endings of a finish by the word of its tail."""
-
-PLACES_OF_A_STAMP = 6
-"""With how many places after the point the page has the place of an event."""
 
 COLUMNS = "descriptor ending worker worker_of_end first last start stop message begin end row height".split()
 """What the page has of each execution: positions, stamps less the least one as texts, since they may have 64 bits, and where it is drawn."""
@@ -258,7 +250,7 @@ def gaps_of(record: Record) -> List[Tuple[int, int]]:
 def row_of(record: Record, it: Execution, descriptor: int, origin: int) -> List[object]:
     """What the page has of an execution, in the order of `COLUMNS`."""
     start, stop = record.events[it.first], record.events[it.last] if it.last is not None and it.ending != UNFINISHED else None
-    drawn = [round(it.begin, PLACES_OF_A_STAMP), round(it.end, PLACES_OF_A_STAMP), it.row, it.height]
+    drawn = [round(it.begin, 6), round(it.end, 6), it.row, it.height]
     if not stop:
         return [descriptor, it.ending, start.worker, None, it.first, None, str(start.stamp - origin), None, None, *drawn]
     # (the reason of a skip, or the message of a finish)

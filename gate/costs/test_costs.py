@@ -13,9 +13,7 @@ import os
 import resource
 import subprocess
 import sys
-import tempfile
 import time
-import unittest
 from dataclasses import dataclass, fields
 from typing import Callable, List, Sequence, Tuple
 
@@ -24,7 +22,7 @@ from fixtures import PROGRAM, TOP, WithProgram, folder, parameterized
 
 sys.path.append(f"{TOP}/gate/faults")
 
-from compiling import compile_library, compile_program
+from compiling import WithLibrary
 
 KIB = 1024
 SIZE = 16 * KIB * KIB
@@ -32,6 +30,7 @@ SIZE = 16 * KIB * KIB
 
 MOST_SECONDS = 300
 """How many seconds by the clock a run may take: far more than any needs, so that one that only waits has an end."""
+
 
 @dataclass(frozen=True)
 class Costs:
@@ -108,9 +107,38 @@ def plan_of_entries(last: str = "") -> bytes:
     return plan(node(f',"entries":[{entries}]{last}'))
 
 
+def bad_plan() -> bytes:
+    """Such a plan, whose last member is bad."""
+    return plan_of_entries(',"files":[""]')
+
+
+def plan_of_a_text(value: str) -> bytes:
+    """A plan of one node with one entry of this value."""
+    return plan(node(f',"entries":[[["k","{value}"]]]'))
+
+
 def pairs() -> bytes:
     """A record whose one entry has as many pairs as it has room for."""
     return (RECORD + "E|1|0|0|report" + "".join(f"|{number:07}|v" for number in range(1_500_000)) + "\n").encode()
+
+
+def one_event() -> bytes:
+    return (RECORD + "E|1|0|7|start\n").encode()
+
+
+def descriptors() -> bytes:
+    """A record of 65,000 tests, each with a long name, and no event."""
+    return (RECORD + "".join(f"N|T|[engine:e]/[t:{number}]|{'n' * 200}\n" for number in range(65_000))).encode()
+
+
+def registered() -> bytes:
+    """A record of 65,000 registrations, each of a long name."""
+    lines = (f"E|1|{65_536 + number}|0|dynamic|T|[engine:e]/[t:{number}]|{'n' * 180}\n" for number in range(65_000))
+    return (RECORD + "".join(lines)).encode()
+
+
+def small_replay() -> bytes:
+    return b"testkit-replay|2\nW|1\nN|T|[engine:e]|e\nE|1|0|7|start\nS|1|1|t|t\n"
 
 
 def waiting_replay() -> bytes:
@@ -120,38 +148,39 @@ def waiting_replay() -> bytes:
     return f"testkit-replay|2\nW|1\nN|T|[engine:e]|e\n{entries}S{turns}\n".encode()
 
 
-def one_lock(count: int) -> bytes:
-    """A plan of units that all write one resource, each with many entries."""
+def one_lock() -> bytes:
+    """A plan of 100 units that all write one resource, each with many entries."""
     entries = ",".join('[["k","v"]]' for _ in range(2_000))
-    return plan_of_nodes(count, f',"mode":"concurrent","locks":[{{"key":"db"}}],"entries":[{entries}]')
+    return plan_of_nodes(100, f',"mode":"concurrent","locks":[{{"key":"db"}}],"entries":[{entries}]')
 
 
-def tests_of_an_engine(count: int) -> bytes:
-    """A record of an engine and of this number of tests below it, each with a long name, a start and a finish."""
-    nodes = "".join(f"N|T|[engine:e]/[t:{number}]|{'n' * 170}\n" for number in range(count))
-    events = "".join(f"E|1|{key}|0|start\nE|1|{key}|0|finish|ok\n" for key in range(1, count + 1))
+def tests_of_an_engine() -> bytes:
+    """A record of an engine and of 65,000 tests below it, each with a long name, a start and a finish."""
+    nodes = "".join(f"N|T|[engine:e]/[t:{number}]|{'n' * 170}\n" for number in range(65_000))
+    events = "".join(f"E|1|{key}|0|start\nE|1|{key}|0|finish|ok\n" for key in range(1, 65_001))
     return f"{RECORD.replace('|T|', '|C|')}{nodes}E|1|0|0|start\n{events}E|1|0|0|finish|ok\n".encode()
 
 
-def tests_side_by_side(count: int) -> bytes:
-    """A record of this number of tests, which all start before the first finishes."""
-    nodes = "".join(f"N|T|[engine:e]/[t:{number}]|n\n" for number in range(count))
-    starts = "".join(f"E|1|{key}|0|start\n" for key in range(1, count + 1))
-    finishes = "".join(f"E|1|{key}|0|finish|ok\n" for key in range(1, count + 1))
+def tests_side_by_side() -> bytes:
+    """A record of 65,000 tests, which all start before the first finishes."""
+    nodes = "".join(f"N|T|[engine:e]/[t:{number}]|n\n" for number in range(65_000))
+    starts = "".join(f"E|1|{key}|0|start\n" for key in range(1, 65_001))
+    finishes = "".join(f"E|1|{key}|0|finish|ok\n" for key in range(1, 65_001))
     return f"{RECORD.replace('|T|', '|C|')}{nodes}{starts}{finishes}".encode()
 
 
-def registrations(count: int) -> bytes:
-    """A record of an engine that registers this number of tests, each of which starts and finishes."""
-    rounds = "".join(
-        f"E|1|{key}|0|dynamic|T|[engine:e]/[t:{key}]|{'n' * 160}\nE|1|{key}|0|start\nE|1|{key}|0|finish|ok\n" for key in range(65_536, 65_536 + count)
-    )
+def registrations() -> bytes:
+    """A record of an engine that registers 60,000 tests, each of which starts and finishes."""
+    entries = ("0|dynamic|T|[engine:e]/[t:{0}]|" + "n" * 160, "0|start", "0|finish|ok")
+    lines = "".join(f"E|1|{{0}}|{entry}\n" for entry in entries)
+    rounds = "".join(lines.format(key) for key in range(65_536, 65_536 + 60_000))
     return f"{RECORD.replace('|T|', '|C|')}E|1|0|0|start\n{rounds}E|1|0|0|finish|ok\n".encode()
 
 
 def one_long_unit() -> bytes:
     """A plan of 15 concurrent units, one of which has 1,000,000 entries."""
-    tests = [node(',"mode":"concurrent"' + (',"entries":[' + ",".join(["[]"] * 1_000_000) + "]" if number == 7 else ""), str(number), "test") for number in range(15)]
+    entries = ',"entries":[' + ",".join(["[]"] * 1_000_000) + "]"
+    tests = [node(',"mode":"concurrent"' + (entries if number == 7 else ""), str(number), "test") for number in range(15)]
     return plan(node(',"children":[' + ",".join(tests) + "]"))
 
 
@@ -167,168 +196,89 @@ FAILURES = repeated(RECORD, "E|1|0|7|start\nE|1|0|8|finish|ok\n", "E|1|0|9|finis
 STARTS = repeated(RECORD, "E|1|0|7|start\n")
 REPORTS = repeated(f"{RECORD}E|1|0|7|start\n", "E|1|0|7|report\n", "E|1|0|8|finish|ok\n")
 
+BAD = "testkit: line 3 is bad\n"
+RARE = "ask match loosely" + 1_000 * " all(failed(boom),name(e))"
+OF_NO_COLUMN = "ask match loosely" + 1_000 * " any(name(x),name(e))"
+
+
+def row(name: str, words: str, input: Callable[[], bytes], limit: Costs, begins: str, **how) -> Row:
+    """A row of the program, whose words stand with blanks between them; a line on standard error has the status 2, and a no 1."""
+    status = 2 if begins.startswith("testkit: ") else int(begins.startswith("no "))
+    return Row(name, words.split(), input, limit, begins, status, **how)
+
+
 ROWS = [
-    Row("record/stats", ["ask", "stats"], EVENTS, Costs(0.8, 25_000, 200, 312, 2), "skipped 0\n"),
-    Row("record/executions", ["ask", "executions"], EVENTS, Costs(0.8, 49_400, 210, 312, 153), "0 succeeded 7 8\n"),
-    Row("record/exclusive", ["ask", "exclusive", "test"], EVENTS, Costs(0.8, 49_400, 210, 312, 2), "yes\n"),
-    Row(
-        "record/exclusive of 65,000 readers side by side",
-        ["ask", "exclusive", "engine", "test"],
-        lambda: tests_side_by_side(65_000),
-        Costs(0.8, 49_400, 391_000, 312, 2),
-        "yes\n",
-    ),
-    Row("record/list of all", ["ask", "list", "all"], EVENTS, Costs(0.8, 25_000, 190, 312, 442), "0 E|1|0|7|start\n1 E|1|0|8|finish|ok\n"),
-    Row("record/list by 100 conditions", ["ask", "list", "all", *["started"] * 99, "not(started)"], EVENTS, Costs(0.8, 25_000, 570, 312, 0), ""),
-    Row("record/lifecycle of 65,000 tests", ["ask", "lifecycle"], lambda: tests_of_an_engine(65_000), Costs(1.5, 29_300, 469_000, 285, 2), "yes\n"),
-    Row("record/lifecycle of one test", ["ask", "lifecycle"], REPORTS, Costs(1.2, 168_000, 230, 312, 2), "yes\n"),
-    Row(
-        "record/report of 65,000 tests", ["ask", "report"], lambda: tests_of_an_engine(65_000),
-        Costs(1.6, 35_400, 391_000, 285, 50), "skipped 0\nstarted 65001\n",
-    ),
-    Row(
-        "record/100 conditions in order", ["ask", "match", "in-order", *["started"] * 99, "failed"], EVENTS,
-        Costs(0.7, 25_000, 470, 312, 2), "no 99\n", status=1,
-    ),
-    Row(
-        "record/100 conditions loosely", ["ask", "match", "loosely", *["started"] * 99, "failed"], EVENTS,
-        Costs(0.6, 25_000, 460, 312, 2), "no 99\n", status=1,
-    ),
-    Row(
-        "record/1,000 rare conditions loosely", ["ask", "match", "loosely", *["all(failed(boom),name(e))"] * 1_000], FAILING,
-        Costs(1.3, 25_600, 11_000, 312, 2), "yes\n",
-    ),
-    Row(
-        "record/1,000 rare conditions loosely, 1,000 failures", ["ask", "match", "loosely", *["all(failed(boom),name(e))"] * 1_000], FAILURES,
-        Costs(1.3, 25_700, 11_000, 312, 2), "yes\n",
-    ),
-    Row(
-        "record/1,000 conditions without a test of a column", ["ask", "match", "loosely", *["any(name(x),name(e))"] * 1_000], EVENTS,
-        Costs(0.8, 25_500, 9_800, 312, 2), "yes\n",
-    ),
-    Row("record/lifecycle of 60,000 registrations", ["ask", "lifecycle"], lambda: registrations(60_000), Costs(0.8, 34_600, 288_300, 272, 2), "yes\n"),
-    Row(
-        "record/report of 60,000 registrations", ["ask", "report"], lambda: registrations(60_000),
-        Costs(0.8, 65_000, 504_400, 272, 261), "skipped 0\nstarted 60001\n",
-    ),
-    Row("record/report of one id", ["ask", "report"], STARTS, Costs(0.8, 64_200, 220, 312, 3), "skipped 0\nstarted 1198"),
-    Row(
-        "record/many conditions", ["ask", "match", "loosely", *["started"] * 10_000], lambda: (RECORD + "E|1|0|7|start\n").encode(),
-        Costs(0.4, 4_400, 25_000, 6, 2), "yes\n",
-    ),
-    Row(
-        "record/a long condition", ["ask", "match", "loosely", "any(" + "started," * 12_000 + "started)"],
-        lambda: (RECORD + "E|1|0|7|start\n").encode(),
-        Costs(0.4, 930, 15_000, 6, 2), "yes\n",
-    ),
-    Row(
-        "record/descriptors", ["ask", "count", "tests"],
-        lambda: (RECORD + "".join(f"N|T|[engine:e]/[t:{number}]|{'n' * 200}\n" for number in range(65_000))).encode(),
-        Costs(1, 25_800, 313_000, 273, 2), "0\n",
-    ),
-    Row("record/long ids", ["ask", "count", "all"], long_ids, Costs(1.6, 19_700, 19_300, 297, 2), "0\n"),
-    Row(
-        "record/registrations", ["ask", "count", "dynamic"],
-        lambda: (RECORD + "".join(f"E|1|{65_536 + number}|0|dynamic|T|[engine:e]/[t:{number}]|{'n' * 180}\n" for number in range(65_000))).encode(),
-        Costs(1, 25_000, 313_000, 272, 2), "65000\n",
-    ),
-    Row(
-        "record/reasons", ["ask", "count", "skipped"], repeated(RECORD, "E|1|0|7|skip|a reason of some length\n"),
-        Costs(1.1, 55_000, 550_000, 312, 2), "4",
-    ),
-    Row("long line/reason", ["ask", "count", "skipped"], repeated(RECORD + "E|1|0|7|skip|", "x", "\n"), Costs(0.8, 40_000, 70, 312, 2), "1\n"),
-    Row("long line/escapes", ["ask", "count", "skipped"], repeated(RECORD + "E|1|0|7|skip|", "\\p", "\n"), Costs(0.9, 30_000, 90, 312, 2), "1\n"),
-    Row("long line/pairs", ["ask", "count", "reporting"], pairs, Costs(2.7, 230_000, 3_700_000, 279, 2), "1\n"),
-    Row(
-        "long line/number", ["ask", "count", "all"], repeated(RECORD + "E|", "1", "|0|7|start\n"),
-        Costs(0.4, 20_000, 50, 312, 0), "testkit: line 3 is bad\n", status=2,
-    ),
-    Row(
-        "long line/id", ["ask", "count", "all"], repeated(RECORD + "N|T|[engine:", "e", "]|e\n"),
-        Costs(1.4, 39_400, 80, 312, 0), "testkit: line 3 is bad\n", status=2,
-    ),
-    Row(
-        "long line/no line feed", ["ask", "count", "all"], repeated(RECORD + "E|1|0|7|skip|", "x"),
-        Costs(0.7, 20_000, 50, 313, 0), "testkit: line 3 is bad\n", status=2,
-    ),
-    Row(
-        "record/a bad line first", ["ask", "count", "all"], repeated(RECORD + "X\n", "x"),
-        Costs(0.2, 1_000, 50, 312, 0), "testkit: line 3 is bad\n", status=2,
-    ),
-    Row(
-        "record/16 MiB too many", ["ask", "count", "all"], lambda: EVENTS() + b"\n" * SIZE,
-        Costs(0.6, 25_000, 200, 312, 0), "testkit: input too large\n", status=2,
-    ),
-    Row("replay/waiting", ["replay"], waiting_replay, Costs(0.6, 84_000, 330, 87, 69), "testkit-record|2\n"),
-    Row("plan/entries", ["run"], plan_of_entries, Costs(3.9, 370_000, 3_700_000, 278, 3), "skipped 0\n"),
-    Row(
-        "plan/entries and a fault", ["run"], lambda: plan_of_entries(',"files":[""]'),
-        Costs(2.8, 370_000, 3_700_000, 278, 0), "testkit: plan member /root/files/0 is bad\n", status=2,
-    ),
-    Row(
-        "plan/a long text", ["run"], lambda: plan(node(',"entries":[[["k","' + "x" * 16_000_000 + '"]]]')),
-        Costs(0.6, 57_200, 170, 299, 3), "skipped 0\n",
-    ),
-    Row(
-        "plan/a long text with escapes", ["run"], lambda: plan(node(',"entries":[[["k","' + "\\n" * 8_000_000 + '"]]]')),
-        Costs(1.5, 47_900, 190, 299, 3), "skipped 0\n",
-    ),
-    Row("plan/nodes", ["run"], lambda: plan_of_nodes(65_000, ""), Costs(1.5, 59_000, 625_000, 72, 56), "skipped 0\n"),
-    Row("plan/units", ["run"], lambda: plan_of_nodes(65_000, ',"mode":"concurrent"'), Costs(1.8, 65_000, 1_100_000, 96, 56), "skipped 0\n"),
-    Row("plan/one long unit of 15", ["run", "--workers", "15"], one_long_unit, Costs(3, 212_300, 1_200_600, 57, 4), "skipped 0\nstarted 16\n"),
-    Row("small/record", ["ask", "stats"], lambda: (RECORD + "E|1|0|7|start\n").encode(), Costs(0.4, 10, 60, 6, 2), "skipped 0\n"),
-    Row(
-        "small/replay", ["replay"], lambda: b"testkit-replay|2\nW|1\nN|T|[engine:e]|e\nE|1|0|7|start\nS|1|1|t|t\n",
-        Costs(0.4, 20, 100, 6, 2), "testkit-record|2\n",
-    ),
-    Row("small/plan", ["run"], lambda: plan_of_nodes(2, ""), Costs(0.4, 20, 190, 6, 2), "skipped 0\n", least_memory=15),
-    Row("waiting/1 worker", ["run"], lambda: one_lock(100), Costs(1.2, 80_000, 1_210_000, 49, 60, 20), "skipped 0\n", is_alone=True),
-    Row(
-        "waiting/4 workers for one lock", ["run", "--workers", "4"], lambda: one_lock(100),
-        Costs(1.1, 80_000, 1_210_000, 49, 60, 20), "skipped 0\n", is_alone=True,
-    ),
-    Row(
-        "waiting/15 workers for one lock", ["run", "--workers", "15"], lambda: one_lock(100),
-        Costs(1.3, 80_000, 1_210_000, 49, 60, 20), "skipped 0\n", is_alone=True,
-    ),
-    Row("waiting/a worker that begins late", ["run"], lambda: plan_of_nodes(2, ""), Costs(0.5, 20, 190, 6, 2, 6), "skipped 0\n", late=2_000),
+    row("record/stats", "ask stats", EVENTS, Costs(0.8, 25_000, 200, 312, 2), "skipped 0\n"),
+    row("record/executions", "ask executions", EVENTS, Costs(0.8, 49_400, 210, 312, 153), "0 succeeded 7 8\n"),
+    row("record/exclusive", "ask exclusive test", EVENTS, Costs(0.8, 49_400, 210, 312, 2), "yes\n"),
+    row("record/exclusive of 65,000 readers side by side", "ask exclusive engine test", tests_side_by_side, Costs(0.8, 49_400, 391_000, 312, 2), "yes\n"),
+    row("record/list of all", "ask list all", EVENTS, Costs(0.8, 25_000, 190, 312, 442), "0 E|1|0|7|start\n1 E|1|0|8|finish|ok\n"),
+    row("record/list by 100 conditions", "ask list all" + 99 * " started" + " not(started)", EVENTS, Costs(0.8, 25_000, 570, 312, 0), ""),
+    row("record/lifecycle of 65,000 tests", "ask lifecycle", tests_of_an_engine, Costs(1.5, 29_300, 469_000, 285, 2), "yes\n"),
+    row("record/lifecycle of one test", "ask lifecycle", REPORTS, Costs(1.2, 168_000, 230, 312, 2), "yes\n"),
+    row("record/report of 65,000 tests", "ask report", tests_of_an_engine, Costs(1.6, 35_400, 391_000, 285, 50), "skipped 0\nstarted 65001\n"),
+    row("record/100 conditions in order", "ask match in-order" + 99 * " started" + " failed", EVENTS, Costs(0.7, 25_000, 470, 312, 2), "no 99\n"),
+    row("record/100 conditions loosely", "ask match loosely" + 99 * " started" + " failed", EVENTS, Costs(0.6, 25_000, 460, 312, 2), "no 99\n"),
+    row("record/1,000 rare conditions loosely", RARE, FAILING, Costs(1.3, 25_600, 11_000, 312, 2), "yes\n"),
+    row("record/1,000 rare conditions loosely, 1,000 failures", RARE, FAILURES, Costs(1.3, 25_700, 11_000, 312, 2), "yes\n"),
+    row("record/1,000 conditions without a test of a column", OF_NO_COLUMN, EVENTS, Costs(0.8, 25_500, 9_800, 312, 2), "yes\n"),
+    row("record/lifecycle of 60,000 registrations", "ask lifecycle", registrations, Costs(0.8, 34_600, 288_300, 272, 2), "yes\n"),
+    row("record/report of 60,000 registrations", "ask report", registrations, Costs(0.8, 65_000, 504_400, 272, 261), "skipped 0\nstarted 60001\n"),
+    row("record/report of one id", "ask report", STARTS, Costs(0.8, 64_200, 220, 312, 3), "skipped 0\nstarted 1198"),
+    row("record/many conditions", "ask match loosely" + 10_000 * " started", one_event, Costs(0.4, 4_400, 25_000, 6, 2), "yes\n"),
+    row("record/a long condition", f"ask match loosely any({'started,' * 12_000}started)", one_event, Costs(0.4, 930, 15_000, 6, 2), "yes\n"),
+    row("record/descriptors", "ask count tests", descriptors, Costs(1, 25_800, 313_000, 273, 2), "0\n"),
+    row("record/long ids", "ask count all", long_ids, Costs(1.6, 19_700, 19_300, 297, 2), "0\n"),
+    row("record/registrations", "ask count dynamic", registered, Costs(1, 25_000, 313_000, 272, 2), "65000\n"),
+    row("record/reasons", "ask count skipped", repeated(RECORD, "E|1|0|7|skip|a reason of some length\n"), Costs(1.1, 55_000, 550_000, 312, 2), "4"),
+    row("long line/reason", "ask count skipped", repeated(RECORD + "E|1|0|7|skip|", "x", "\n"), Costs(0.8, 40_000, 70, 312, 2), "1\n"),
+    row("long line/escapes", "ask count skipped", repeated(RECORD + "E|1|0|7|skip|", "\\p", "\n"), Costs(0.9, 30_000, 90, 312, 2), "1\n"),
+    row("long line/pairs", "ask count reporting", pairs, Costs(2.7, 230_000, 3_700_000, 279, 2), "1\n"),
+    row("long line/number", "ask count all", repeated(RECORD + "E|", "1", "|0|7|start\n"), Costs(0.4, 20_000, 50, 312, 0), BAD),
+    row("long line/id", "ask count all", repeated(RECORD + "N|T|[engine:", "e", "]|e\n"), Costs(1.4, 39_400, 80, 312, 0), BAD),
+    row("long line/no line feed", "ask count all", repeated(RECORD + "E|1|0|7|skip|", "x"), Costs(0.7, 20_000, 50, 313, 0), BAD),
+    row("record/a bad line first", "ask count all", repeated(RECORD + "X\n", "x"), Costs(0.2, 1_000, 50, 312, 0), BAD),
+    row("record/16 MiB too many", "ask count all", lambda: EVENTS() + b"\n" * SIZE, Costs(0.6, 25_000, 200, 312, 0), "testkit: input too large\n"),
+    row("replay/waiting", "replay", waiting_replay, Costs(0.6, 84_000, 330, 87, 69), "testkit-record|2\n"),
+    row("plan/entries", "run", plan_of_entries, Costs(3.9, 370_000, 3_700_000, 278, 3), "skipped 0\n"),
+    row("plan/entries and a fault", "run", bad_plan, Costs(2.8, 370_000, 3_700_000, 278, 0), "testkit: plan member /root/files/0 is bad\n"),
+    row("plan/a long text", "run", lambda: plan_of_a_text("x" * 16_000_000), Costs(0.6, 57_200, 170, 299, 3), "skipped 0\n"),
+    row("plan/a long text with escapes", "run", lambda: plan_of_a_text("\\n" * 8_000_000), Costs(1.5, 47_900, 190, 299, 3), "skipped 0\n"),
+    row("plan/nodes", "run", lambda: plan_of_nodes(65_000, ""), Costs(1.5, 59_000, 625_000, 72, 56), "skipped 0\n"),
+    row("plan/units", "run", lambda: plan_of_nodes(65_000, ',"mode":"concurrent"'), Costs(1.8, 65_000, 1_100_000, 96, 56), "skipped 0\n"),
+    row("plan/one long unit of 15", "run --workers 15", one_long_unit, Costs(3, 212_300, 1_200_600, 57, 4), "skipped 0\nstarted 16\n"),
+    row("small/record", "ask stats", one_event, Costs(0.4, 10, 60, 6, 2), "skipped 0\n"),
+    row("small/replay", "replay", small_replay, Costs(0.4, 20, 100, 6, 2), "testkit-record|2\n"),
+    row("small/plan", "run", lambda: plan_of_nodes(2, ""), Costs(0.4, 20, 190, 6, 2), "skipped 0\n", least_memory=15),
+    row("waiting/1 worker", "run", one_lock, Costs(1.2, 80_000, 1_210_000, 49, 60, 20), "skipped 0\n", is_alone=True),
+    row("waiting/4 workers for one lock", "run --workers 4", one_lock, Costs(1.1, 80_000, 1_210_000, 49, 60, 20), "skipped 0\n", is_alone=True),
+    row("waiting/15 workers for one lock", "run --workers 15", one_lock, Costs(1.3, 80_000, 1_210_000, 49, 60, 20), "skipped 0\n", is_alone=True),
+    row("waiting/a worker that begins late", "run", lambda: plan_of_nodes(2, ""), Costs(0.5, 20, 190, 6, 2, 6), "skipped 0\n", late=2_000),
 ]
 
 
 def costs_of(row: Row, program: str, library: str, room: str) -> Tuple[Costs, int, str]:
     """Runs a row; answers its costs, its status, and what it wrote first. The status is -1 where not one run alone was counted."""
     status = -1
-    reading, writing = os.pipe()
     with open(f"{room}/input", "wb") as file:
         file.write(row.input())
-    environment = {"PATH": "/usr/bin:/bin", "LD_PRELOAD": library, "COUNTED_TO": str(writing)}
-    if row.late:
-        environment["THREADS_BEGIN_LATE"] = str(row.late)
-    try:
+    with open(f"{room}/counts", "w+b") as counts, open(f"{room}/wrote", "w+b") as wrote, open(f"{room}/input", "rb") as source:
+        environment = {"PATH": "/usr/bin:/bin", "LD_PRELOAD": library, "COUNTED_TO": str(counts.fileno())}
+        if row.late:
+            environment["THREADS_BEGIN_LATE"] = str(row.late)
+        how = {"env": environment, "pass_fds": [counts.fileno()], "preexec_fn": row.prepare}
         before, begun = resource.getrusage(resource.RUSAGE_CHILDREN), time.monotonic()
-        with open(f"{room}/input", "rb") as source, open(f"{room}/output", "wb") as output, open(f"{room}/error", "wb") as error:
-            how = {"stdin": source, "stdout": output, "stderr": error, "env": environment, "pass_fds": [writing], "preexec_fn": row.prepare}
-            with contextlib.suppress(subprocess.TimeoutExpired):
-                status = subprocess.run([program, *row.words], timeout=MOST_SECONDS, check=False, **how).returncode
+        with contextlib.suppress(subprocess.TimeoutExpired):
+            status = subprocess.run([program, *row.words], stdin=source, stdout=wrote, stderr=wrote, timeout=MOST_SECONDS, **how).returncode
         after, clock = resource.getrusage(resource.RUSAGE_CHILDREN), time.monotonic() - begun
-        os.set_blocking(reading, False)
-        try:
-            counted = [int(word) for word in os.read(reading, 100).split()]
-        except BlockingIOError:
-            counted = []
-    finally:
-        os.close(reading)
-        os.close(writing)
+        counts.seek(0)
+        wrote.seek(0)
+        counted, begins = [int(word) for word in counts.read().split()], wrote.read(200).decode(errors="replace")
     seconds = after.ru_utime - before.ru_utime + after.ru_stime - before.ru_stime
     if len(counted) != 4:
         status, counted = -1, [0, 0, 0, 0]
     peak, requests, reads, writes = counted
-    wrote = b""
-    for name in ("output", "error"):
-        with open(f"{room}/{name}", "rb") as file:
-            wrote = wrote or file.read(200)
-    costs = Costs(round(seconds, 2), math.ceil(peak / KIB), requests, reads, writes, round(clock, 2))
-    return costs, status, wrote.decode(errors="replace")
+    return Costs(round(seconds, 2), math.ceil(peak / KIB), requests, reads, writes, round(clock, 2)), status, begins
 
 
 def faults_of(row: Row, costs: Costs, status: int, wrote: str) -> List[str]:
@@ -338,22 +288,13 @@ def faults_of(row: Row, costs: Costs, status: int, wrote: str) -> List[str]:
     return costs.above(row.limit) + little + ([] if answered else [f"status {status}, and it writes {wrote!r}"])
 
 
-class WithLibrary(unittest.TestCase):
+class WithCounts(WithLibrary):
     """Tests for which `count.c` is compiled."""
 
-    @classmethod
-    def setUpClass(cls) -> None:
-        super().setUpClass()
-        cls.room = tempfile.TemporaryDirectory(prefix="costs-")
-        cls.library = f"{cls.room.name}/count.so"
-        compile_library(f"{TOP}/gate/costs/count.c", cls.library)
-
-    @classmethod
-    def tearDownClass(cls) -> None:
-        cls.room.cleanup()
+    SOURCE = f"{TOP}/gate/costs/count.c"
 
 
-class OfTheProgram(WithProgram, WithLibrary):
+class OfTheProgram(WithProgram, WithCounts):
     @parameterized(ROWS)
     def test_costs(self, row):
         came = costs_of(row, PROGRAM, self.library, folder(self))
@@ -387,47 +328,37 @@ BEGIN_THREAD = "import threading, time; begun = time.monotonic(); thread = threa
 """Starts a thread that begins `time.monotonic() - begun` seconds later."""
 
 
-@dataclass(frozen=True)
-class Example:
-    """A command that is no program of ours, and a part of what is wrong with its costs; empty where nothing is."""
-
-    name: str
-    command: Sequence[str]
-    fault: str
-    limit: Costs = SMALL
-    is_alone: bool = False
-    least_memory: int = 0
-    late: int = 0
+def example(name: str, command: Sequence[str], fault: str, limit: Costs = SMALL, **how) -> Tuple[str, Row, str]:
+    """A command that is no program of ours, a row of it, and a part of what is wrong with its costs; empty where nothing is."""
+    return command[0], Row(name, command[1:], lambda: b"x" * 2_000_000, limit, "xx", **how), fault
 
 
 EXAMPLES = [
-    Example("little of all", ["/bin/dd", "bs=64K", "status=none"], ""),
-    Example("many reads", ["/bin/dd", "bs=4K", "status=none"], "reads 490, and may be 40"),
-    Example("many writes", ["/bin/dd", "ibs=64K", "obs=4K", "status=none"], "writes 489, and may be 40"),
-    Example("much memory", ["/bin/dd", "bs=3M", "status=none"], ", and may be 2000"),
-    Example("little memory", ["/bin/dd", "bs=64K", "status=none"], ", and has to be 1000", least_memory=1_000),
-    Example("many requests", python("print('xx')"), "and may be 200"),
-    Example("many seconds", python("import time; print('xx')\nwhile time.process_time() < 0.6: pass"), "seconds"),
-    Example("too many seconds", ["/bin/sh", "-c", "printf xx; while :; do :; done"], "status -"),
-    Example("a wait", ["/bin/sh", "-c", "printf xx; exec sleep 1"], "clock", Costs(0.4, 2_000, 200, 40, 40, 0.5)),
-    Example("another status", ["/bin/sh", "-c", "printf xx; exit 1"], "status 1"),
-    Example("another answer", ["/bin/sh", "-c", "printf yxx"], "it writes 'yxx'"),
-    Example("no counts", ["/usr/bin/env", "-u", "LD_PRELOAD", "/bin/dd", "bs=64K", "status=none"], "status -1"),
-    Example("counts of two programs", ["/bin/sh", "-c", "/bin/true; printf xx"], "status -1"),
-    Example("one processor", python("import os; print('xx' if len(os.sched_getaffinity(0)) == 1 else 'many')"), "requests", is_alone=True),
-    Example("a late thread", python(f"{BEGIN_THREAD}; print('xx' if time.monotonic() - begun > 1.4 else 'early')"), "requests", late=1_500),
+    example("little of all", ["/bin/dd", "bs=64K", "status=none"], ""),
+    example("many reads", ["/bin/dd", "bs=4K", "status=none"], "reads 490, and may be 40"),
+    example("many writes", ["/bin/dd", "ibs=64K", "obs=4K", "status=none"], "writes 489, and may be 40"),
+    example("much memory", ["/bin/dd", "bs=3M", "status=none"], ", and may be 2000"),
+    example("little memory", ["/bin/dd", "bs=64K", "status=none"], ", and has to be 1000", least_memory=1_000),
+    example("many requests", python("print('xx')"), "and may be 200"),
+    example("many seconds", python("import time; print('xx')\nwhile time.process_time() < 0.6: pass"), "seconds"),
+    example("too many seconds", ["/bin/sh", "-c", "printf xx; while :; do :; done"], "status -"),
+    example("a wait", ["/bin/sh", "-c", "printf xx; exec sleep 1"], "clock", Costs(0.4, 2_000, 200, 40, 40, 0.5)),
+    example("another status", ["/bin/sh", "-c", "printf xx; exit 1"], "status 1"),
+    example("another answer", ["/bin/sh", "-c", "printf yxx"], "it writes 'yxx'"),
+    example("no counts", ["/usr/bin/env", "-u", "LD_PRELOAD", "/bin/dd", "bs=64K", "status=none"], "status -1"),
+    example("counts of two programs", ["/bin/sh", "-c", "/bin/true; printf xx"], "status -1"),
+    example("one processor", python("import os; print('xx' if len(os.sched_getaffinity(0)) == 1 else 'many')"), "requests", is_alone=True),
+    example("a late thread", python(f"{BEGIN_THREAD}; print('xx' if time.monotonic() - begun > 1.4 else 'early')"), "requests", late=1_500),
 ]
 
 
-class OfExamples(WithLibrary):
+class OfExamples(WithCounts):
     """The counts and the limits themselves."""
 
     @parameterized(list(COUNTED.items()), name=lambda row: row[0])
     def test_counts(self, row):
         by, wanted = row
-        room = folder(self)
-        compile_program(f"{TOP}/gate/faults/requests.c", f"{room}/requests")
-        costs, _, _ = costs_of(Row("counts", [by], lambda: b"x", SMALL, ""), f"{room}/requests", self.library, room)
+        costs, _, _ = costs_of(Row("counts", [by], lambda: b"x", SMALL, ""), self.requests, self.library, folder(self))
         self.assertEqual((costs.requests, costs.reads, costs.writes, costs.memory), (*wanted, wanted[0]))
 
     def test_memory_that_is_given_back(self):
@@ -435,17 +366,16 @@ class OfExamples(WithLibrary):
         costs, _, _ = costs_of(Row("memory", command[1:], lambda: b"", Costs(9, 0, 0, 0, 0), ""), command[0], self.library, folder(self))
         self.assertLess(costs.memory, 50_000)
 
-    @parameterized(EXAMPLES)
-    def test_limits(self, example):
-        how = {"is_alone": example.is_alone, "least_memory": example.least_memory, "late": example.late}
-        row = Row(example.name, example.command[1:], lambda: b"x" * 2_000_000, example.limit, "xx", **how)
-        faults = faults_of(row, *costs_of(row, example.command[0], self.library, folder(self)))
-        if not example.fault:
+    @parameterized(EXAMPLES, name=lambda row: row[1].name)
+    def test_limits(self, it):
+        program, row, fault = it
+        faults = faults_of(row, *costs_of(row, program, self.library, folder(self)))
+        if not fault:
             self.assertEqual([], faults)
         else:
-            self.assertIn(example.fault, "; ".join(faults))
+            self.assertIn(fault, "; ".join(faults))
             # (what is right besides is found right: the answer, where it isn't what is wrong)
-            is_answered = "status" in example.fault or "it writes" in example.fault
+            is_answered = "status" in fault or "it writes" in fault
             self.assertTrue(is_answered or "it writes" not in "; ".join(faults), faults)
 
     def test_the_largest_input(self):

@@ -4,7 +4,6 @@ import re
 from dataclasses import dataclass
 from typing import Callable, Dict, List, Sequence, Set, Tuple
 
-from commands import examples_of
 from documents import Document
 from names import name_faults
 from quotes import from_lines
@@ -21,8 +20,8 @@ COMMAND_OR_FIGURE = re.compile(r"`([^`]+)`|(\d+(?:\.\d+)?)")
 class Limits:
     """What is asked of the documents."""
 
-    fewest_commands: Dict[str, int]
-    """The documents that there are besides the crates' READMEs, and how many commands each shows at least."""
+    documents: Sequence[str]
+    """The documents that there are besides the crates' READMEs."""
     most_words: int
     most_readme_bytes: int
     most_crate_lines: int
@@ -37,7 +36,6 @@ def rules_of(tree: Tree, documents: Sequence[Document], limits: Limits) -> Dict[
     """The rules by their names: each is a function that answers what breaks it."""
     return {
         "each document is there, and in the list": lambda: missing_faults(tree, documents, limits),
-        "no document shows fewer commands than it did": lambda: fewer_commands(documents, limits.fewest_commands),
         "each name in backquotes is there": lambda: name_faults(tree, documents),
         "each figure of README.md stands in docs/SPEED.md": lambda: figure_faults(documents),
         "each head of a family quotes a caller": lambda: head_faults(documents, limits.heads),
@@ -50,18 +48,12 @@ def rules_of(tree: Tree, documents: Sequence[Document], limits: Limits) -> Dict[
 def missing_faults(tree: Tree, documents: Sequence[Document], limits: Limits) -> List[str]:
     """What is wrong with the list of documents."""
     found, readmes = [it.path for it in documents], [f"crates/{crate}/README.md" for crate in tree.crates]
-    faults = [f"{path} is missing" for path in limits.fewest_commands if path not in found]
-    faults += [f"{path} is in no list of documents" for path in found if path not in [*limits.fewest_commands, *readmes]]
+    faults = [f"{path} is missing" for path in limits.documents if path not in found]
+    faults += [f"{path} is in no list of documents" for path in found if path not in [*limits.documents, *readmes]]
     without = [path for path in readmes if path not in found]
     if len(readmes) - len(without) < limits.fewest_crate_readmes:
         faults.append(f"{len(without)} crates have no README, of {len(readmes)}: {', '.join(without)}")
     return faults
-
-
-def fewer_commands(documents: Sequence[Document], fewest: Dict[str, int]) -> List[str]:
-    """Documents that show fewer commands than they have to."""
-    counts = {it.path: len(examples_of(it)) for it in documents}
-    return [f"{path} shows {counts[path]} commands, and has to show {least}" for path, least in fewest.items() if counts.get(path, least) < least]
 
 
 def form_faults(document: Document) -> List[str]:

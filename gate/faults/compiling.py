@@ -1,8 +1,12 @@
-"""Compiles C: libraries that are put before the C library, and programs that call it."""
+"""Compiles C: a library that is put before the C library, and the program `requests.c`, which calls it."""
 
 import os
 import shutil
 import subprocess
+import tempfile
+import unittest
+
+HERE = os.path.dirname(os.path.realpath(__file__))
 
 
 def compiler() -> str:
@@ -14,11 +18,19 @@ def compiler() -> str:
     return os.path.join(os.path.dirname(page), "toolchain", "bin", "clang")
 
 
-def compile_library(source: str, to: str) -> None:
-    """Compiles a library that `LD_PRELOAD` can name."""
-    subprocess.run([compiler(), "-shared", "-fPIC", "-O", source, "-o", to], check=True)
+class WithLibrary(unittest.TestCase):
+    """Tests with `library`, compiled of `SOURCE`, which `LD_PRELOAD` can name, and with the program `requests`."""
 
+    SOURCE = ""
 
-def compile_program(source: str, to: str) -> None:
-    """Compiles a program that may have threads."""
-    subprocess.run([compiler(), "-O", "-pthread", source, "-o", to], check=True)
+    @classmethod
+    def setUpClass(cls) -> None:
+        super().setUpClass()
+        cls.room = tempfile.TemporaryDirectory(prefix="counted-")
+        cls.library, cls.requests = f"{cls.room.name}/library.so", f"{cls.room.name}/requests"
+        subprocess.run([compiler(), "-shared", "-fPIC", "-O", cls.SOURCE, "-o", cls.library], check=True)
+        subprocess.run([compiler(), "-O", "-pthread", f"{HERE}/requests.c", "-o", cls.requests], check=True)
+
+    @classmethod
+    def tearDownClass(cls) -> None:
+        cls.room.cleanup()

@@ -3,14 +3,12 @@
 `refuse.c` is put before the C library, and refuses the first request of a kind (memory, a thread, a read of standard input, a write), then
 the second, and so on, until a run meets no refusal and gives its ordinary answer. Each run has to end in time with the answer that
 docs/FORMATS.md puts there, and what it wrote has to be a prefix of the ordinary output. And each run has to give back each block of memory
-that it took, but for what a run of a plan keeps on purpose (`KEPT_BY_RUN`): so a value that is forgotten is seen, on ordinary and on
-refused paths.
+that it took, but for what a run of a plan keeps on purpose (`KEPT_BY_RUN`).
 
 Of the built test crates the tests whose path has the word `refused` or `refusals` have to pass whichever request is refused; the others run
 once as they are. `requests.c` shows that each function of `refuse.c` refuses its requests.
 """
 
-import functools
 import os
 import re
 import subprocess
@@ -20,11 +18,11 @@ import unittest
 from dataclasses import dataclass, replace
 from typing import Callable, Dict, FrozenSet, List, Optional, Sequence, Set, Tuple
 
-from fixtures import PROGRAM, TOP, WithProgram, folder, parameterized
+from fixtures import PROGRAM, TOP, WithProgram, parameterized
 
 sys.path.append(f"{TOP}/gate/cases")
 
-from compiling import compile_library, compile_program
+from compiling import HERE, WithLibrary
 from tables.building import as_bytes, as_words
 from tables.texts import DEMO_PLAN, SMALL_REPLAY, TWO_TESTS
 
@@ -35,8 +33,7 @@ KEPT_BY_RUN = 30
 """How many blocks of memory the record of the demo plan's run has, with any number of workers.
 
 The program keeps them at its end, when the system takes all at once: to free the whole run one by one took up to a fifth of its time. The
-plan is freed before: its nodes, their order, the five lists of its cutting and a lock, 8 blocks. Its names, segments, reason, message and key
-have at most 16 bytes, so that they stand in their values.
+plan is freed before. Its texts have at most 16 bytes, so that they stand in their values.
 """
 
 KEPT_LONG = KEPT_BY_RUN + 10
@@ -48,16 +45,7 @@ MOST_REQUESTS = 5_000
 ROUNDS = 4
 """How many rounds a sweep has at most: a unit makes few requests, and the schedule may put others before them each time."""
 
-TESTS_OF_REFUSALS = {
-    "test_records": 4,
-    "test_questions": 3,
-    "test_sessions": 7,
-    "test_plans": 1,
-    "test_runs": 3,
-    "test_hierarchical": 2,
-    "test_example_engine": 0,
-}
-"""The test crates, and how many tests of refusals each has at least."""
+TEST_CRATES = ("test_records", "test_questions", "test_sessions", "test_plans", "test_runs", "test_hierarchical", "test_example_engine")
 
 OUT_OF_MEMORY = re.compile(rb"testkit: out of memory\n")
 NO_THREAD = re.compile(rb"testkit: no thread\n")
@@ -119,40 +107,26 @@ class Sweep:
 
 def run(library: str, sweep: Sweep, number: int) -> Ended:
     """Runs a command line with the request of this number refused, or with none where it is 0."""
-    reading, writing = os.pipe()
-    try:
-        environment = {"PATH": "/usr/bin:/bin", "LD_PRELOAD": library, "REFUSE": f"{sweep.kind} {number}", "REFUSED_TO": str(writing)}
-        how = {"env": environment, "pass_fds": [writing], "stdin": subprocess.PIPE, "stdout": subprocess.PIPE, "stderr": subprocess.PIPE}
-        with subprocess.Popen(sweep.command, **how) as started:
-            try:
-                output, error = started.communicate(sweep.input, timeout=TIME_LIMIT)
-                status = started.returncode
-            except subprocess.TimeoutExpired:
-                started.kill()
-                output, error = started.communicate()
-                status = None
-        os.set_blocking(reading, False)
+    with tempfile.TemporaryFile() as notices:
+        environment = {"PATH": "/usr/bin:/bin", "LD_PRELOAD": library, "REFUSE": f"{sweep.kind} {number}", "REFUSED_TO": str(notices.fileno())}
+        how = {"env": environment, "pass_fds": [notices.fileno()], "stdout": subprocess.PIPE, "stderr": subprocess.PIPE}
         try:
-            notice = os.read(reading, 64)
-        except BlockingIOError:
-            notice = b""
-        kept = re.search(rb"kept (-?[0-9]+)\n", notice)
-        refused_of = {b"f": "first", b"w": "worker"}.get(notice[:1], "")
-        return Ended(status, output, error, refused_of, int(kept[1]) if kept else None)
-    finally:
-        os.close(reading)
-        os.close(writing)
+            ran = subprocess.run(sweep.command, input=sweep.input, timeout=TIME_LIMIT, **how)
+            status, output, error = ran.returncode, ran.stdout, ran.stderr
+        except subprocess.TimeoutExpired as over:
+            status, output, error = None, over.stdout or b"", over.stderr or b""
+        notices.seek(0)
+        notice = notices.read()
+    kept = re.search(rb"kept (-?[0-9]+)\n", notice)
+    refused_of = {b"f": "first", b"w": "worker"}.get(notice[:1], "")
+    return Ended(status, output, error, refused_of, int(kept[1]) if kept else None)
 
 
 def shown(ended: Ended) -> str:
     return f"status {ended.status}, output {ended.output[:200]!r}, error {ended.error[:200]!r}, {ended.kept} blocks kept"
 
 
-Run = Callable[[int], Ended]
-"""Runs a sweep with the request of this number refused, or with none where it is 0."""
-
-
-def round_of(run_number: Run, sweep: Sweep, ordinary: Ended) -> Tuple[List[str], Set[int]]:
+def round_of(run_number: Callable[[int], Ended], sweep: Sweep, ordinary: Ended) -> Tuple[List[str], Set[int]]:
     """Refuses each request in turn; answers what failed, and which units did."""
     number, failed, units, survived = 0, [], set(), 0
     while not failed and number < MOST_REQUESTS:
@@ -176,8 +150,8 @@ def round_of(run_number: Run, sweep: Sweep, ordinary: Ended) -> Tuple[List[str],
     return failed, units
 
 
-def failures_of(run_number: Run, sweep: Sweep) -> List[str]:
-    """Runs a sweep, in further rounds while a unit has not failed; answers what failed."""
+def failures_of(run_number: Callable[[int], Ended], sweep: Sweep) -> List[str]:
+    """Runs a sweep with each request refused (none at 0), in further rounds while a unit has not failed; answers what failed."""
     ordinary = run_number(0)
     if not sweep.kind:
         return [] if sweep.is_right(ordinary, ordinary) and ordinary.kept == sweep.kept else [shown(ordinary)]
@@ -301,50 +275,31 @@ def sweeps_of_program() -> List[Sweep]:
     return found
 
 
-def program_of(crate: str) -> str:
-    return f"{TOP}/crates/{crate}/out/{crate}_tests"
-
-
-@functools.lru_cache(maxsize=None)
-def names_of(crate: str) -> Tuple[str, ...]:
+def names_of(program: str) -> List[str]:
     """The tests of a built test crate."""
-    listed = subprocess.run([program_of(crate), "--list"], stdout=subprocess.PIPE, check=True, text=True).stdout
-    return tuple(re.findall(r"[\w:]+::\w+", listed))
-
-
-def is_of_refusals(name: str) -> bool:
-    return bool(re.search("refused|refusals", name))
+    listed = subprocess.run([program, "--list"], stdout=subprocess.PIPE, check=True, text=True).stdout
+    return re.findall(r"[\w:]+::\w+", listed)
 
 
 def sweeps_of_tests() -> List[Sweep]:
     """The tests of the built test crates, those of refusals with each request refused and the others once."""
     sweeps = []
-    for crate in TESTS_OF_REFUSALS:
-        program = program_of(crate)
+    for crate in TEST_CRATES:
+        program = f"{TOP}/crates/{crate}/out/{crate}_tests"
         if not os.access(program, os.X_OK):
-            sweeps.append(Sweep(crate, "", [], b"", passes, unbuilt=program_of(crate)))
+            sweeps.append(Sweep(crate, "", [], b"", passes, unbuilt=program))
             continue
-        for name in names_of(crate):
-            for kind in ("memory", "thread") if is_of_refusals(name) else ("",):
+        for name in names_of(program):
+            for kind in ("memory", "thread") if re.search("refused|refusals", name) else ("",):
                 command = [os.fsencode(program), os.fsencode(name)]
                 sweeps.append(Sweep(f"{crate} {name} {kind}".rstrip(), kind, command, b"", passes, int(kind == "memory")))
     return sweeps
 
 
-class WithLibrary(unittest.TestCase):
+class WithRefusals(WithLibrary):
     """Tests for which `refuse.c` is compiled."""
 
-    @classmethod
-    def setUpClass(cls) -> None:
-        super().setUpClass()
-        cls.room = tempfile.TemporaryDirectory(prefix="faults-")
-        cls.library, cls.requests = f"{cls.room.name}/refuse.so", f"{cls.room.name}/requests"
-        compile_library(f"{TOP}/gate/faults/refuse.c", cls.library)
-        compile_program(f"{TOP}/gate/faults/requests.c", cls.requests)
-
-    @classmethod
-    def tearDownClass(cls) -> None:
-        cls.room.cleanup()
+    SOURCE = f"{HERE}/refuse.c"
 
     def check(self, sweep: Sweep) -> None:
         if sweep.unbuilt:
@@ -352,27 +307,19 @@ class WithLibrary(unittest.TestCase):
         self.assertEqual([], failures_of(lambda number: run(self.library, sweep, number), sweep))
 
 
-class OfTheProgram(WithProgram, WithLibrary):
+class OfTheProgram(WithProgram, WithRefusals):
     @parameterized(sweeps_of_program)
     def test_each_request(self, sweep):
         self.check(sweep)
 
 
-class OfTests(WithLibrary):
+class OfTests(WithRefusals):
     @parameterized(sweeps_of_tests)
     def test_each_request(self, sweep):
         self.check(sweep)
 
-    @parameterized(list(TESTS_OF_REFUSALS.items()), name=lambda row: row[0])
-    def test_numbers(self, row):
-        crate, least = row
-        if not os.access(program_of(crate), os.X_OK):
-            self.skipTest(f"not built: {os.path.relpath(program_of(crate), TOP)}")
-        self.assertTrue(names_of(crate))
-        self.assertGreaterEqual(len([name for name in names_of(crate) if is_of_refusals(name)]), least)
 
-
-class OfRequests(WithLibrary):
+class OfRequests(WithRefusals):
     @parameterized(REQUESTS, name=lambda row: row[0])
     def test_first_of_its_kind(self, row):
         """The first request of its kind is refused where it is asked for, and nothing else."""
@@ -392,57 +339,38 @@ KEEPS_ONE = replace(ORDINARY, kept=1)
 MEMORY, OF_A_PLAN = refused_with(OUT_OF_MEMORY), refused_memory_of_a_run
 
 
-@dataclass(frozen=True)
-class Example:
-    """Runs of a sweep: the ordinary one, and those in which each request is refused; whether they are right."""
-
-    name: str
-    is_passed: bool
-    rule: Callable[[Ended, Ended], bool]
-    runs: Sequence[Ended]
-    units: FrozenSet[int] = frozenset()
-    kept: int = 0
-    survived: int = 0
-    least: int = 1
-
-
-def example(name: str, is_passed: bool, rule: Callable, ended: Ended, first: Ended = ORDINARY, **how) -> Example:
-    """An example with one request."""
-    return Example(name, is_passed, rule, [first, ended, first], **how)
+def example(name: str, is_passed: bool, rule: Callable, ended: Ended, first: Ended = ORDINARY, more: Sequence[Ended] = (), **how):
+    """A sweep, its runs (the ordinary one, and those in which each request is refused), and whether they are right."""
+    return Sweep(name, "memory", [], b"", rule, **how), [first, ended, *more, first], is_passed
 
 
 EXAMPLES = [
     example("its answer", True, MEMORY, REFUSED),
-    example("its answer beside a no", True, MEMORY, REFUSED, replace(ORDINARY, status=1)),
     example("another status", False, MEMORY, replace(REFUSED, status=2)),
     example("no end", False, MEMORY, replace(REFUSED, status=None, kept=None)),
     example("the line of another fault", False, MEMORY, replace(REFUSED, error=b"testkit: no thread\n")),
-    example("its line twice", False, MEMORY, replace(REFUSED, error=2 * REFUSED.error)),
     example("output that is no prefix", False, MEMORY, replace(REFUSED, output=b"answer")),
     example("a block that it keeps", False, MEMORY, replace(REFUSED, kept=1)),
     example("a block that the ordinary run keeps too", True, MEMORY, replace(REFUSED, kept=1), KEEPS_ONE, kept=1),
-    example("two blocks, of which the ordinary run keeps one", False, MEMORY, replace(REFUSED, kept=2), KEEPS_ONE, kept=1),
     example("no block, of which the ordinary run keeps one and may not", False, MEMORY, REFUSED, KEEPS_ONE),
     example("the ordinary answer", False, MEMORY, SURVIVED),
     example("the ordinary answer, once", True, MEMORY, SURVIVED, survived=1),
-    example("the ordinary answer, once, and a block", False, MEMORY, replace(SURVIVED, kept=1), survived=1),
     example("an ordinary run that fails", False, MEMORY, REFUSED, FAULT),
     example("the unit of a worker", True, OF_A_PLAN, OF_UNIT, units=frozenset({1})),
     example("a unit of another number", False, OF_A_PLAN, OF_UNIT, units=frozenset({0})),
-    example("no thread where a worker has no memory", False, OF_A_PLAN, replace(OF_UNIT, error=b"testkit: no thread\n")),
     example("a unit where no worker was refused", False, OF_A_PLAN, replace(OF_UNIT, refused_of="first")),
     example("no line where none can be written", True, keeps_status, SILENT, FAULT),
     example("a line where none can be written", False, keeps_status, replace(SILENT, error=FAULT.error), FAULT),
     example("fewer requests than there are at least", False, MEMORY, REFUSED, least=2),
-    Example("the ordinary answer twice, and may be once", False, MEMORY, [ORDINARY, SURVIVED, SURVIVED, ORDINARY], survived=1),
-    Example("another answer where no request is left", False, MEMORY, [ORDINARY, REFUSED, FAULT]),
-    Example("requests without an end", False, MEMORY, [ORDINARY] + [REFUSED] * MOST_REQUESTS),
+    example("the ordinary answer twice, and may be once", False, MEMORY, SURVIVED, more=[SURVIVED], survived=1),
+    example("another answer where no request is left", False, MEMORY, REFUSED, more=[FAULT]),
+    example("requests without an end", False, MEMORY, REFUSED, more=[REFUSED] * MOST_REQUESTS),
 ]
 
 
 class OfExamples(unittest.TestCase):
-    @parameterized(EXAMPLES)
+    @parameterized(EXAMPLES, name=lambda row: row[0].name)
     def test_runs(self, row):
-        sweep = Sweep(row.name, "memory", [], b"", row.rule, row.least, row.units, row.kept, row.survived)
+        sweep, runs, is_passed = row
         # (a further round has the same runs)
-        self.assertEqual(row.is_passed, not failures_of(lambda number: row.runs[number], sweep))
+        self.assertEqual(is_passed, not failures_of(lambda number: runs[number], sweep))

@@ -138,11 +138,12 @@ class OfSamples(WithClasses, fixtures.WithProgram):
             with open(path, "wb") as file:
                 file.write(b"x" * LONGER)
         counts = self.classes.run("RunSamples", name, path).split()
-        lines = self.lines(f"{name}.record")
+        lines, record = self.lines(f"{name}.record"), cases.read(path).encode()
         # (no report and no file is counted)
         self.assertEqual(len(counts), 7)
-        self.assertEqual(self.ask(name, "stats", *counts)[0], 0, counts)
-        self.assertEqual(self.ask(name, "lifecycle"), (int(LIFECYCLES[name] != "yes"), f"{LIFECYCLES[name]}\n"))
+        self.assertEqual(fixtures.ask(["ask", "stats", *counts], record).status, 0, counts)
+        said = fixtures.ask(["ask", "lifecycle"], record)
+        self.assertEqual((said.status, said.output.decode()), (int(LIFECYCLES[name] != "yes"), f"{LIFECYCLES[name]}\n"))
         check_stamps(lines)
         if name == "sample":
             samples.check_stored(lines)
@@ -151,9 +152,3 @@ class OfSamples(WithClasses, fixtures.WithProgram):
         if name == "odd":
             check_lines(by_id(lines), samples.odd_run())
             samples.check_workers(lines)
-
-    def ask(self, name, *words):
-        """The program's status and its answer to a question about a record."""
-        with open(f"{self.out}/{name}.record", "rb") as record:
-            ran = fixtures.ask(["ask", *words], stdin=record)
-        return ran.status, ran.output.decode()

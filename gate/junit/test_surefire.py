@@ -3,13 +3,12 @@
 import glob
 import os
 import shutil
-import tempfile
 import unittest
 
 import fixtures
 import java
 from cases import read
-from records import HEADER, by_id, entries
+from records import HEADER, entries
 
 REPOSITORY = "/usr/share/maven-repo"
 PLUGIN = "org.apache.maven.plugins:maven-surefire-plugin"
@@ -88,11 +87,11 @@ class OfSurefire(unittest.TestCase):
         self.assertEqual(len({os.path.basename(it).split("-")[1] for it in records}), 2, records)
         endings = []
         for record in records:
-            text = read(record).split("\n")
-            self.assertEqual(text[0], HEADER)
-            endings += [it.tail for it in entries(text) if it.tail.startswith("finish|fail")]
-            # (each id of a test once in its record, with its start and its finish)
-            tests = [at for at, line in enumerate(by_id(text)) if line.endswith("/[method:passes()]") and not line.startswith("N|")]
-            self.assertTrue(all(by_id(text)[at + 1 : at + 3] == ["  start", "  finish|ok"] for at in tests), record)
-            endings += ["finish|ok"] * len(tests)
+            lines = read(record).split("\n")
+            self.assertEqual(lines[0], HEADER)
+            statics = [line for line in lines if line.startswith("N|")]
+            for key in [key for key, line in enumerate(statics) if "/[method:" in line]:
+                start, end = [it.tail for it in entries(lines) if it.key == key]
+                self.assertEqual(start, "start")
+                endings.append(end)
         self.assertEqual(sorted(endings), sorted([f"finish|fail|boom {name}" for name in CLASSES] + ["finish|ok"] * len(CLASSES)))

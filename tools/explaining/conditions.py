@@ -1,9 +1,8 @@
-"""The parts of a condition, and how near an event comes to it."""
+"""The parts of a condition, and how near an event comes to it. A condition, also one within another, is its text."""
 
 import re
-from dataclasses import dataclass
 from functools import lru_cache
-from typing import Dict, FrozenSet, List, Optional, Tuple
+from typing import FrozenSet, List, Optional, Tuple
 
 KINDS = {
     b"started": b"start",
@@ -19,33 +18,15 @@ KINDS = {
 STATUSES = {b"succeeded": b"ok", b"failed": b"fail", b"aborted": b"abort"}
 """The status of the finishes of which an atom can hold."""
 
-FIELD_ESCAPES: Dict[bytes, bytes] = {b"\\p": b"|", b"\\n": b"\n", b"\\\\": b"\\"}
+FIELD_ESCAPES = {b"\\p": b"|", b"\\n": b"\n", b"\\\\": b"\\"}
 """How a field of a record spells three letters, which stand for themselves in a condition."""
 
 LETTERS = {b"|": b"|", b"\n": b"a line feed", b"\\": b"\\"}
 """How these letters are shown."""
 
 
-@dataclass(frozen=True)
-class Part:
-    """A condition that another one joins by `all`, or that stands alone."""
-
-    text: bytes
-
-    @property
-    def word(self) -> bytes:
-        return self.text.partition(b"(")[0]
-
-    def may_hold_of_kind(self, event: bytes) -> bool:
-        """Whether it can hold of an event of this one's kind."""
-        kinds = kinds_of(self.text)
-        return kinds is None or event.split(b"|", 5)[4] in kinds
-
-    def lacks_text_alone(self, event: bytes) -> bool:
-        """Whether an event of which this doesn't hold has all that it asks but the text: a message, a reason, a path or entries."""
-        if self.word not in KINDS or not self.may_hold_of_kind(event):
-            return False
-        return self.word not in STATUSES or event.split(b"|", 6)[5] == STATUSES[self.word]
+def word_of(condition: bytes) -> bytes:
+    return condition.partition(b"(")[0]
 
 
 def members_of(condition: bytes) -> List[bytes]:
@@ -64,7 +45,7 @@ def members_of(condition: bytes) -> List[bytes]:
 @lru_cache(maxsize=None)
 def kinds_of(condition: bytes) -> Optional[FrozenSet[bytes]]:
     """The kinds of the events of which a condition can hold, where its atoms say so."""
-    word = condition.partition(b"(")[0]
+    word = word_of(condition)
     if word == b"kind":
         return frozenset([condition[len(b"kind(") : -1]])
     if word in KINDS:
@@ -76,16 +57,16 @@ def kinds_of(condition: bytes) -> Optional[FrozenSet[bytes]]:
     return frozenset().union(*known) if len(known) == len(members) else None
 
 
-def parts_of(condition: bytes) -> List[Part]:
+def parts_of(condition: bytes) -> List[bytes]:
     """The conditions that a condition joins by `all`, also by an `all` within; the condition itself where it joins none."""
-    if not condition.startswith(b"all("):
-        return [Part(condition)]
+    if word_of(condition) != b"all":
+        return [condition]
     return [part for member in members_of(condition) for part in parts_of(member)]
 
 
 def atoms_of(condition: bytes) -> List[bytes]:
     """The atoms of a condition, each once, in their order."""
-    if not condition.startswith((b"all(", b"any(", b"not(")):
+    if word_of(condition) not in (b"all", b"any", b"not"):
         return [condition]
     return list(dict.fromkeys(atom for member in members_of(condition) for atom in atoms_of(member)))
 
@@ -101,12 +82,13 @@ def without_field_escapes(atom: bytes) -> bytes:
     return re.sub(rb"\\.", lambda escape: FIELD_ESCAPES[escape[0]], atom)
 
 
-def distance(event: bytes, lacking: List[Part]) -> Tuple[int, int, int]:
+def distance(event: bytes, lacking: List[bytes]) -> Tuple[int, int, int]:
     """How far an event is from a condition of which these parts don't hold: the least is the nearest.
 
-    First counts how many parts don't hold, then how many of them lack more than their text, and then how many are of another kind of
-    event.
+    First counts how many parts don't hold, then how many of them lack more than a text (a message, a reason, a path or entries), and then
+    how many are of another kind of event.
     """
-    more_than_text = sum(not part.lacks_text_alone(event) for part in lacking)
-    of_other_kinds = sum(not part.may_hold_of_kind(event) for part in lacking)
-    return len(lacking), more_than_text, of_other_kinds
+    _, _, _, _, kind, status, *_ = [*event.split(b"|"), b""]
+    of_kind = [part for part in lacking if kinds_of(part) is None or kind in kinds_of(part)]
+    of_status = [part for part in of_kind if word_of(part) in KINDS and STATUSES.get(word_of(part), status) == status]
+    return len(lacking), len(lacking) - len(of_status), len(lacking) - len(of_kind)

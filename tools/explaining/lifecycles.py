@@ -1,12 +1,11 @@
 """Which rule of the lifecycle a record breaks, in a sentence about the descriptors, with the lines of the events."""
 
-import re
 from dataclasses import dataclass, field
-from typing import Dict, List, Optional, Sequence, Tuple
+from typing import Dict, Iterable, List, Optional, Tuple
 
-from explaining.asking import NUMBER, Failed, Record, not_an_answer, show, show_event
+from asking import Record, show, show_event
 
-RULES = ("id-known", "parent-unknown", "parent-not-running", "ran-already", "not-running", "child-running")
+FORM = rb"yes\n|no end [0-9]+\n|no [0-9]+ (id-known|parent-unknown|parent-not-running|ran-already|not-running|child-running)\n"
 
 MOST_UNFINISHED = 20
 """How many descriptors that never finish are named."""
@@ -21,32 +20,23 @@ DONE = {
 }
 """What an event of each kind says of its descriptor."""
 
-
-@dataclass(frozen=True)
-class Answer:
-    """An answer of `ask lifecycle`: the event and the rule that it breaks, or the least key that runs at the end, or neither."""
-
-    text: str
-    position: Optional[int] = None
-    rule: str = ""
-    key: Optional[int] = None
-
-    def __str__(self) -> str:
-        return self.text
-
-    @property
-    def status(self) -> int:
-        return 0 if self.text == "yes" else 1
+Mark = Tuple[int, bytes]
+"""What an event did: its position and kind."""
 
 
-@dataclass(frozen=True)
+def done_at(mark: Mark) -> bytes:
+    position, kind = mark
+    return DONE[kind] + f" at {position}".encode()
+
+
+@dataclass
 class Descriptor:
-    """A descriptor as the record's fields spell it, and the position of its registration; a static one has none."""
+    """A descriptor as the record's fields spell it, the position of its registration, if it has one, and its starts, finishes and skips."""
 
-    key: int
     id: bytes
     name: bytes
     registered: Optional[int] = None
+    marks: List[Mark] = field(default_factory=list)
 
     def __bytes__(self) -> bytes:
         return self.id + b' "' + self.name + b'"'
@@ -56,140 +46,98 @@ class Descriptor:
         """The id without its last segment, in which a slash is escaped; nothing where it has one segment."""
         return self.id.rpartition(b"/")[0]
 
-
-@dataclass
-class History:
-    """What the events before a position did."""
-
-    by_key: Dict[int, Descriptor] = field(default_factory=dict)
-    by_id: Dict[bytes, Descriptor] = field(default_factory=dict)
-    """The first descriptor of each id."""
-    marks: Dict[int, List[Tuple[int, bytes]]] = field(default_factory=dict)
-    """The starts, finishes and skips of each key: positions and kinds."""
-
-    def add(self, descriptor: Descriptor) -> None:
-        self.by_key.setdefault(descriptor.key, descriptor)
-        self.by_id.setdefault(descriptor.id, descriptor)
-
-    def marks_of(self, descriptor: Descriptor) -> List[Tuple[int, bytes]]:
-        return self.marks.get(descriptor.key, [])
-
-    def runs(self, descriptor: Descriptor) -> bool:
-        marks = self.marks_of(descriptor)
-        return bool(marks) and marks[-1][1] == b"start"
-
-    def parent(self, descriptor: Descriptor) -> Optional[Descriptor]:
-        return self.by_id.get(descriptor.parent_id)
-
-    def running_child(self, descriptor: Descriptor) -> Optional[Descriptor]:
-        """The first registered or static child that runs."""
-        return next((it for it in self.by_id.values() if it.parent_id == descriptor.id and self.runs(it)), None)
+    @property
+    def runs(self) -> bool:
+        return bool(self.marks) and self.marks[-1][1] == b"start"
 
 
-@dataclass(frozen=True)
-class Event:
-    """An event: its position, key and kind, and of a registration the descriptor."""
-
-    position: int
-    key: int
-    kind: bytes
-    descriptor: Optional[Descriptor]
+Descriptors = Dict[int, Descriptor]
+"""Descriptors by their keys, first the static ones, then in the order of their registrations."""
 
 
-def event_at(record: Record, position: int) -> Event:
+def descriptors_before(record: Record, position: int) -> Descriptors:
+    """The descriptors as the events before a position left them."""
+    found = {key: Descriptor(*line.split(b"|")[2:]) for key, line in enumerate(record.descriptors)}
+    for at in range(position):
+        key, mark, registered = event_at(record, at)
+        if registered:
+            found[key] = registered
+        elif mark[1] in (b"start", b"finish", b"skip"):
+            found[key].marks.append(mark)
+    return found
+
+
+def event_at(record: Record, position: int) -> Tuple[int, Mark, Optional[Descriptor]]:
+    """The key of an event, what it did, and the descriptor that it registered, if it did."""
     fields = record.events[position].split(b"|")
-    key, kind = int(fields[2]), fields[4]
-    return Event(position, key, kind, Descriptor(key, fields[6], fields[7], position) if kind == b"dynamic" else None)
+    registered = Descriptor(fields[6], fields[7], position) if fields[4] == b"dynamic" else None
+    return int(fields[2]), (position, fields[4]), registered
 
 
-def history_before(record: Record, position: int) -> History:
-    """What the static descriptors are, and what the events before a position did."""
-    history = History()
-    for key, line in enumerate(record.descriptors):
-        _, _, id_text, name = line.split(b"|")
-        history.add(Descriptor(key, id_text, name))
-    for event in (event_at(record, it) for it in range(position)):
-        if event.descriptor:
-            history.add(event.descriptor)
-        if event.kind in (b"start", b"finish", b"skip"):
-            history.marks.setdefault(event.key, []).append((event.position, event.kind))
-    return history
+def of_id(descriptors: Descriptors, id_text: bytes) -> Optional[Descriptor]:
+    """The first descriptor of an id."""
+    return next((it for it in descriptors.values() if it.id == id_text), None)
 
 
-def ask(record: Record, words: Sequence[bytes]) -> Answer:
-    """Asks whether the record keeps the lifecycle."""
-    status, output = record.ask(*words)
-    found = re.fullmatch(rb"(yes)|no end (" + NUMBER + rb")|no (" + NUMBER + rb") ([a-z-]+)", output[:-1])
-    if found and output.endswith(b"\n"):
-        text = output[:-1].decode()
-        if found[1]:
-            answer = Answer(text)
-        elif found[2]:
-            answer = Answer(text, key=int(found[2]))
-        else:
-            answer = Answer(text, int(found[3]), found[4].decode())
-        if status == answer.status and (not answer.rule or answer.rule in RULES):
-            return answer
-    raise not_an_answer(status, output)
-
-
-def at(mark: Tuple[int, bytes]) -> bytes:
-    """What a mark says, and where."""
-    return DONE[mark[1]] + f" at {mark[0]}".encode()
-
-
-def show_sentence(record: Record, history: History, descriptor: Descriptor, rest: bytes, positions: Sequence[Optional[int]]) -> None:
+def show_sentence(record: Record, descriptors: Descriptors, of: Descriptor, rest: bytes, positions: Iterable[int]) -> None:
     """Prints a sentence about a descriptor, its parent, and the lines of the events that are concerned."""
-    parent = history.parent(descriptor)
-    show(bytes(descriptor), b" ", rest)
+    parent = of_id(descriptors, of.parent_id)
+    show(bytes(of), b" ", rest)
     if parent:
         show(b"    its parent is ", bytes(parent))
-    for position in sorted({it for it in positions if it is not None}):
+    for position in sorted(positions):
         show_event(record, position)
 
 
-def what_breaks(history: History, event: Event, rule: str) -> Tuple[bytes, List[Optional[int]]]:
-    """Why an event breaks a rule, after what it did itself, and the positions of the other events that are concerned."""
-    descriptor = event.descriptor or history.by_key[event.key]
-    marks = history.marks_of(descriptor)
+def why_it_breaks(descriptors: Descriptors, of: Descriptor, rule: str) -> Tuple[bytes, List[int]]:
+    """Why an event of a descriptor breaks a rule, after what it did itself, and the positions of the other events that are concerned."""
     if rule == "id-known":
-        known = history.by_id[descriptor.id]
-        where = "a static descriptor has its id" if known.registered is None else f"its id was registered at {known.registered}"
-        return f", but {where}, with the name ".encode() + b'"' + known.name + b'"', [known.registered]
+        known = of_id(descriptors, of.id)
+        if known.registered is None:
+            return b'a static descriptor has its id, with the name "' + known.name + b'"', []
+        return f"its id was registered at {known.registered}, with the name ".encode() + b'"' + known.name + b'"', [known.registered]
     if rule == "parent-unknown":
-        return b", but no descriptor before has the id of its parent, " + descriptor.parent_id, []
+        return b"no descriptor before has the id of its parent, " + of.parent_id, []
+    if rule == "child-running":
+        child = next(it for it in descriptors.values() if it.parent_id == of.id and it.runs)
+        return b"its child " + bytes(child) + b", which " + done_at(child.marks[-1]) + b", still ran", [child.marks[-1][0]]
+    concerned = of_id(descriptors, of.parent_id) if rule == "parent-not-running" else of
+    positions = [position for position, _ in concerned.marks]
     if rule == "parent-not-running":
-        parent = history.by_id[descriptor.parent_id]
-        last = history.marks_of(parent)
-        return b", but its parent " + (at(last[-1]) if last else b"had not started"), [position for position, _ in last]
-    if rule == "ran-already":
-        return b", but " + at(marks[0]) + b" already", [position for position, _ in marks]
-    if rule == "not-running":
-        return b", but " + (at(marks[-1]) + b" already" if marks else b"had not started"), [position for position, _ in marks]
-    child = history.running_child(descriptor)
-    return b", but its child " + bytes(child) + b", which " + at(history.marks_of(child)[-1]) + b", still ran", [history.marks_of(child)[-1][0]]
+        return b"its parent " + (done_at(concerned.marks[-1]) if positions else b"had not started"), positions
+    if not positions:
+        return b"had not started", []
+    return done_at(concerned.marks[0 if rule == "ran-already" else -1]) + b" already", positions
 
 
-def explain(record: Record, _words: Sequence[bytes], answer: Answer) -> None:
-    """Prints what stands behind an answer."""
-    if answer.position is not None:
-        if answer.position >= len(record.events):
-            raise Failed(f"there is no event at position {answer.position}")
-        event = event_at(record, answer.position)
-        history = history_before(record, event.position)
-        reason, others = what_breaks(history, event, answer.rule)
-        descriptor = event.descriptor or history.by_key[event.key]
-        show_sentence(record, history, descriptor, at((event.position, event.kind)) + reason, [*others, event.position])
-    elif answer.key is not None:
-        explain_end(record)
+def explain_break(record: Record, position: int, rule: str) -> None:
+    """Says why the event at a position breaks a rule."""
+    key, mark, registered = event_at(record, position)
+    descriptors = descriptors_before(record, position)
+    of = registered or descriptors[key]
+    why, others = why_it_breaks(descriptors, of, rule)
+    show_sentence(record, descriptors, of, done_at(mark) + b", but " + why, [*others, position])
 
 
 def explain_end(record: Record) -> None:
     """Names the descriptors that run at the end, by their keys."""
-    history = history_before(record, len(record.events))
-    running = [descriptor for _, descriptor in sorted(history.by_key.items()) if history.runs(descriptor)]
-    for descriptor in running[:MOST_UNFINISHED]:
-        start = history.marks_of(descriptor)[-1]
-        show_sentence(record, history, descriptor, at(start) + b" and never finished", [start[0]])
+    descriptors = descriptors_before(record, len(record.events))
+    running = [it for _, it in sorted(descriptors.items()) if it.runs]
+    for it in running[:MOST_UNFINISHED]:
+        show_sentence(record, descriptors, it, done_at(it.marks[-1]) + b" and never finished", [it.marks[-1][0]])
     if len(running) > MOST_UNFINISHED:
         show(f"{len(running) - MOST_UNFINISHED} more were never finished".encode())
+
+
+def explain(record: Record, *words: bytes) -> int:
+    """Prints the answer of `ask lifecycle`, and what stands behind it."""
+    answer = record.ask(FORM, b"lifecycle", *words)
+    show(answer)
+    if answer == b"yes":
+        return 0
+    _, where, rule = answer.decode().split()
+    if where == "end":
+        explain_end(record)
+    else:
+        explain_break(record, int(where), rule)
+    return 1

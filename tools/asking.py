@@ -1,4 +1,4 @@
-"""Asking the program about a record, and the lines of the record's text."""
+"""How the scripts of tools/ ask the program about a record, print the lines of its text, and end."""
 
 import contextlib
 import os
@@ -9,12 +9,8 @@ import tempfile
 from dataclasses import dataclass, field
 from typing import BinaryIO, Callable, Dict, List, Sequence, Tuple
 
-TOP = os.path.dirname(os.path.dirname(os.path.dirname(os.path.realpath(__file__))))
+TOP = os.path.dirname(os.path.dirname(os.path.realpath(__file__)))
 PROGRAM = os.environ.get("PROGRAM", f"{TOP}/testkit")
-
-NUMBER = rb"(?:0|[1-9][0-9]*)"
-LISTED = re.compile(rb"(" + NUMBER + rb") (.*)", re.DOTALL)
-"""A line of `ask list`: the position of an event, and its line in the record."""
 
 
 class Failed(Exception):
@@ -22,12 +18,7 @@ class Failed(Exception):
 
 
 class Refused(Exception):
-    """The program answered a fault, with this status and its line on standard error."""
-
-    def __init__(self, status: int, line: bytes):
-        super().__init__(line.decode(errors="replace"))
-        self.status = status
-        self.line = line
+    """What was asked for is refused: the status, and the line on standard error."""
 
 
 def ask(file: BinaryIO, *words: bytes) -> Tuple[int, bytes]:
@@ -39,6 +30,10 @@ def ask(file: BinaryIO, *words: bytes) -> Tuple[int, bytes]:
     if ran.returncode > 1:
         raise Refused(ran.returncode, ran.stderr)
     return ran.returncode, ran.stdout
+
+
+def not_an_answer(status: int, output: bytes) -> Failed:
+    return Failed(f"{PROGRAM} answers {output[:80]!r} with status {status}")
 
 
 @dataclass(frozen=True)
@@ -59,33 +54,19 @@ class Record:
         lines = text.split(b"\n")
         return Record(file, *([line for line in lines if line.startswith(letter)] for letter in (b"N|", b"E|")))
 
-    def ask(self, *words: bytes) -> Tuple[int, bytes]:
-        """Asks a question about it, as `ask` does."""
-        return ask(self.file, *words)
+    def ask(self, form: bytes, *words: bytes) -> bytes:
+        """Asks a question about it, whose answer has this form; answers it without its last line feed."""
+        status, output = ask(self.file, *words)
+        if not re.fullmatch(form, output):
+            raise not_an_answer(status, output)
+        return output[:-1]
 
     def positions(self, condition: bytes) -> List[int]:
         """The positions at which a condition holds. The program is asked once for each condition."""
         if condition not in self.held:
-            status, output = self.ask(b"list", b"all", condition)
-            self.held[condition] = self.listed(status, output)
+            _, listed = ask(self.file, b"list", b"all", condition)
+            self.held[condition] = [int(line.partition(b" ")[0]) for line in listed.split(b"\n") if line]
         return self.held[condition]
-
-    def listed(self, status: int, output: bytes) -> List[int]:
-        """The positions of a list of events, whose lines are the record's."""
-        *lines, rest = output.split(b"\n")
-        found: List[int] = []
-        for line in lines:
-            parts = LISTED.fullmatch(line)
-            if not parts or int(parts[1]) >= len(self.events) or self.events[int(parts[1])] != parts[2]:
-                raise not_an_answer(status, output)
-            found.append(int(parts[1]))
-        if status or rest or any(first >= second for first, second in zip(found, found[1:])):
-            raise not_an_answer(status, output)
-        return found
-
-
-def not_an_answer(status: int, output: bytes) -> Failed:
-    return Failed(f"{PROGRAM} answers {output[:80]!r} with status {status}")
 
 
 def say(text: bytes) -> None:
@@ -96,14 +77,15 @@ def say(text: bytes) -> None:
 
 
 def run_script(name: str, main: Callable[[Sequence[str]], int]) -> None:
-    """Ends with the status of `main`, with the program's line and status where it refuses, and with 70 and a line where the script fails."""
+    """Ends with the status of `main`, with the line and the status of a refusal, and with 70 and a line where the script fails."""
     try:
         sys.exit(main(sys.argv[1:]))
     except KeyboardInterrupt:
         sys.exit(130)
     except Refused as fault:
-        say(fault.line)
-        sys.exit(fault.status)
+        status, line = fault.args
+        say(line)
+        sys.exit(status)
     except Exception as error:
         say(f"{name}: {' '.join(str(error).split()) or type(error).__name__}\n".encode(errors="backslashreplace"))
         with contextlib.suppress(OSError, AttributeError):
