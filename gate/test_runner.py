@@ -1,8 +1,8 @@
 """The runner and `./check` meet what is wrong: modules, `rt`, and a program in whose place scripts stand."""
 
 import hashlib
+import json
 import os
-import re
 import shutil
 import subprocess
 import time
@@ -10,7 +10,7 @@ import unittest
 from dataclasses import dataclass, field
 from typing import Callable, Dict, Sequence
 
-from fixtures import TOP, Ran, folder, parameterized, run
+from fixtures import TOP, Ran, folder, parameterized, run, write
 
 HEAD = """
 import os, signal, time, unittest
@@ -46,23 +46,19 @@ class Runs:
 RUNS = [
     Runs("a test", {"a/test_a": ONE}, "1 passed, 0 failed", says="a/test_a: 1 passed, 0 failed"),
     Runs("a test that fails", {"a/test_a": ONE + "    def test_two(self): self.assertEqual(1, 2)\n"}, "1 passed, 1 failed", says="1 != 2", status=1),
-    Runs("an exception", {"a/test_a": ONE + "    def test_two(self): raise OSError('x')\n"}, "1 passed, 1 failed", says="OSError: x", status=1),
     Runs("rows", {"a/test_a": ROWS.format([1, 2, 3])}, "3 passed, 0 failed", "a/test_a 3\n"),
     Runs("a row that fails", {"a/test_a": ROWS.format([1, 2, 9])}, "2 passed, 1 failed", "a/test_a 3\n", says="[9]", status=1),
-    Runs("shares of rows", {"a/test_a": ONE + ROWS.format("list(range(-300, 9))")}, "310 passed, 0 failed", "a/test_a 310\n"),
-    Runs("a row that fails in a share", {"a/test_a": ONE + ROWS.format("list(range(-299, 10))")}, "309 passed, 1 failed", "a/test_a 310\n", status=1),
-    Runs("no row", {"a/test_a": ONE + ROWS.format([])}, "1 passed, 1 failed", says="test_rows has no row", status=1),
-    Runs("two rows of one name", {"a/test_a": ROWS.format([1, 1])}, "2 passed, 1 failed", says="2 rows '1'", status=1),
-    Runs("subtests", {"a/test_a": SUBTESTS.format(2)}, "2 passed, 0 failed", "a/test_a 2\n"),
+    Runs("no row", {"a/test_a": ONE + ROWS.format([])}, "1 passed, 1 failed", says="the table has no row", status=1),
+    Runs("two rows of one name", {"a/test_a": ROWS.format([1, 1])}, "0 passed, 1 failed", says="rows have one name", status=1),
     Runs("a subtest that fails", {"a/test_a": SUBTESTS.format(3)}, "2 passed, 1 failed", "a/test_a 3\n", says="[2]", status=1),
-    Runs("no test", {"a/test_a": "    pass\n"}, "0 passed, 1 failed", says="it has no test", status=1),
+    Runs("no test", {"a/test_a": "    pass\n"}, "0 passed, 1 failed", says="a/test_a: nothing ran", status=1),
     Runs("a case too few", {"a/test_a": ONE}, "1 passed, 1 failed", "a/test_a 2\n", says="it has 1 cases, and gate/least says 2", status=1),
     Runs("a module that isn't in the list", {"a/test_a": ONE, "a/test_b": ONE}, "2 passed, 1 failed", says="gate/least doesn't name it", status=1),
     Runs("a module that is missing", {"a/test_a": ONE}, "1 passed, 1 failed", "a/test_a 1\na/test_b 1\n", says="a/test_b: ", status=1),
     Runs("a module that can't be read", {"a/test_a": "# (\nraise OSError('x')\n"}, "0 passed, 1 failed", says="OSError: x", status=1),
-    Runs("a module that is killed", {"a/test_a": "    def test_one(self): os.kill(os.getpid(), signal.SIGKILL)\n"}, "0 passed, 1 failed", says="signal 9", status=1),
+    Runs("a module that is killed", {"a/test_a": "    def test_one(self): os.kill(os.getpid(), signal.SIGKILL)\n"}, "0 passed, 1 failed", says="its status is -9", status=1),
     Runs("a module that ends early", {"a/test_a": ONE + "    def test_two(self): os._exit(0)\n"}, "0 passed, 1 failed", says="it doesn't end", status=1),
-    Runs("a module with a status", {"a/test_a": ONE + "import atexit\natexit.register(os._exit, 3)\n"}, "1 passed, 1 failed", says="its status is 3", status=1),
+    Runs("a module with a status", {"a/test_a": ONE + "import atexit\natexit.register(os._exit, 3)\n"}, "1 passed, 1 failed", says="with status 3", status=1),
     Runs("a class that can't be prepared", {"a/test_a": ONE + "    def setUpClass(): 1 // 0\n"}, "0 passed, 1 failed", status=1),
     Runs("a failure that is expected", {"a/test_a": "    @unittest.expectedFailure\n    def test_one(self): 1 // 0\n"}, "0 passed, 1 failed", status=1),
     Runs("a skip", {"a/test_a": ONE + SKIPPED.format("no javac")}, "1 passed, 0 failed", says="a/test_a: 1 skipped: no javac\n"),
@@ -74,8 +70,7 @@ RUNS = [
     Runs("a word of a test", {"a/test_a": ONE + TWO}, "1 passed, 0 failed", "a/test_a 2\n", ["-k", "two"]),
     Runs("a word of rows", {"a/test_a": ONE + ROWS.format([10, 20, 30])}, "0 passed, 1 failed", "a/test_a 4\n", ["-k", "rows 20"], status=1),
     Runs("a word of nothing", {"a/test_a": ONE}, "0 passed, 1 failed", words=["-k", "three"], says="nothing ran", status=1),
-    Runs("one subject", {"a/test_a": ONE, "b/test_b": ONE}, "1 passed, 0 failed", "a/test_a 1\nb/test_b 1\n", ["b"]),
-    Runs("one module", {"a/test_a": ONE, "a/test_b": ONE}, "1 passed, 0 failed", "a/test_a 1\na/test_b 1\n", ["a/test_b"]),
+    Runs("a subject and a module", {"a/test_a": ONE, "a/test_b": ONE, "c/test_c": ONE}, "2 passed, 0 failed", "a/test_a 1\na/test_b 1\nc/test_c 1\n", ["a/test_b", "c"]),
     Runs("a subject that is none", {"a/test_a": ONE}, "there is no subject c", words=["c"], status=70),
     Runs("a word that is none", {"a/test_a": ONE}, "--none", words=["--none"], status=70),
     Runs("another program", {"a/test_a": "    def test_one(self): self.assertEqual('/bin/x', fixtures.PROGRAM)\n"}, "1 passed, 0 failed", words=["--program", "/bin/x"]),
@@ -103,35 +98,13 @@ class Runner(unittest.TestCase):
 
 class Fixtures(unittest.TestCase):
     def test_a_command_without_an_end(self):
-        """It is killed with what it started."""
-        at, begun = folder(self), time.monotonic()
-        self.assertEqual(Ran(-9, b"a\n", b""), run(["sh", "-c", f"echo a; sleep 60 & echo $! >{at}/started; wait"], seconds=0.5))
-        with open(f"{at}/started", encoding="utf-8") as file:
-            self.assertFalse(is_running(file.read().strip()))
+        """It is killed with what it started, which else keeps its output open."""
+        begun = time.monotonic()
+        self.assertEqual(Ran(-9, b"a\n", b""), run(["sh", "-c", "echo a; sleep 60 & wait"], seconds=0.5))
         self.assertLess(time.monotonic() - begun, 50)
 
     def test_what_a_command_is_given(self):
         self.assertEqual(Ran(3, b"in", b"err"), run(["sh", "-c", "cat; printf err >&2; exit 3"], b"in"))
-
-
-def is_running(number: str) -> bool:
-    """Whether a process runs, and isn't only waited for."""
-    try:
-        with open(f"/proc/{number}/stat", encoding="utf-8") as file:
-            return file.read().rsplit(")", 1)[1].split()[0] not in "ZX"
-    except FileNotFoundError:
-        return False
-
-
-def write(path: str, text: str) -> None:
-    os.makedirs(os.path.dirname(path), exist_ok=True)
-    with open(path, "w", encoding="utf-8") as file:
-        file.write(text)
-
-
-def write_script(path: str, text: str) -> None:
-    write(path, "#!/bin/sh\n" + text)
-    os.chmod(path, 0o755)
 
 
 GOOD = 'echo "a line"; echo "30 passed, 0 failed"'
@@ -140,12 +113,6 @@ PROGRAM = "crates/testkit/out/testkit"
 RUN = "crates/testkit/out/checked"
 ANSWERS = 'read -r line && [ "$* $line" = "ask count all a record" ] && echo 5'
 
-RT = """case $1 in
-ci) {ci} ;;
-version) {version} ;;
-try) {tries} ;;
-esac
-"""
 TRIED = 'printf "tests: 2\\ntest a::b ... ok\\ntest c ... ok\\nrun=ended proved=no\\n"'
 
 
@@ -170,7 +137,6 @@ class Checks:
     """Whether it leaves what `tools/package` asks for."""
     words: Sequence[str] = ("check",)
     ci: str = GOOD
-    version: str = f'echo "{KIT}"; echo more'
     tries: str = TRIED
     gate: str = GOOD
     testkit: str = ANSWERS
@@ -187,36 +153,24 @@ def quick(name: str, counted: str, says: str = "", status: int = 1, **how) -> Ch
 
 CHECKS = [
     Checks("all pass"),
-    Checks("all pass, .ci/run", words=(".ci/run",)),
-    fails("rt ci fails", "33 passed, 1 failed", ci='echo "2 passed, 1 failed"; exit 1'),
     fails("rt ci fails, .ci/run", "33 passed, 1 failed", words=(".ci/run",), ci='echo "2 passed, 1 failed"; exit 1'),
-    fails("rt ci does nothing", "31 passed, 1 failed", "rt was not counted", ci="exit 0"),
-    fails("the runner does nothing", "31 passed, 1 failed", "gate/run was not counted", gate="exit 0"),
-    fails("the runner is missing", "31 passed, 1 failed", "gate/run can't be run", before=lambda at: os.remove(f"{at}/gate/run")),
+    fails("the runner does nothing", "31 passed, 1 failed", "gate/run was not counted: its status is 0", gate="exit 0"),
     fails("nothing ran", "31 passed, 1 failed", "nothing passed", gate='echo "0 passed, 0 failed"'),
     fails("a failure, and status 0", "33 passed, 2 failed", "its status is 0", gate='echo "2 passed, 1 failed"'),
     fails("none, and status 1", "61 passed, 1 failed", "its status is 1", gate=f"{GOOD}; exit 1"),
-    fails("a kill after the line", "31 passed, 1 failed", "stopped by signal 9", gate=f"{GOOD}; kill -KILL $$"),
-    fails("two counts", "31 passed, 1 failed", "it has 2 lines", gate=f"{GOOD}; {GOOD}"),
     fails("a line after the count", "31 passed, 1 failed", "was not counted", gate=f"{GOOD}; echo a line >&2"),
-    fails("another form", "31 passed, 1 failed", "was not counted", gate='echo "all 3 passed, 0 failed"'),
+    Checks("the runner is missing", "gate/run", 70, leaves=False, before=lambda at: os.remove(f"{at}/gate/run")),
     fails("no program", "30 passed, 1 failed", "there is no", before=lambda at: os.remove(f"{at}/{PROGRAM}")),
     fails("./testkit says something else", "60 passed, 1 failed", testkit="echo 6"),
     fails("./testkit has a line more", "60 passed, 1 failed", testkit=f"echo a line >&2; {ANSWERS}"),
-    fails("./testkit calls rt", "60 passed, 1 failed", "rt is called", testkit=f"rt try; {ANSWERS}"),
-    fails("./testkit has status 1", "60 passed, 1 failed", testkit=f"{ANSWERS}; exit 1"),
-    fails("./testkit is missing", "60 passed, 1 failed", before=lambda at: os.remove(f"{at}/testkit")),
-    Checks("a file changed", leaves=False, says=": HANDLES is not as it was", before=lambda at: write(f"{at}/HANDLES", "more\n")),
     Checks("a file added", leaves=False, says=": new is not as it was", before=lambda at: write(f"{at}/new", "")),
     Checks("a commit by a checker", leaves=False, says="it began with", gate=f"git -C {{at}} -c user.name=a -c user.email=a commit -q --allow-empty -m new; {GOOD}"),
     Checks("no repository", leaves=False, says="not a git repository", before=lambda at: shutil.rmtree(f"{at}/.git")),
-    Checks("a kit without a name", leaves=False, says="version", version="exit 1"),
     quick("quick", "44 passed, 0 failed", "check: nothing is proved by this run", 0),
     quick("a test that fails", "37 passed, 7 failed", "1 failed", tries=told("tests: 2", "test a ... ok", "test c ... FAILED", "    checked: stopped", "run=stopped proved=no")),
     quick("a test without an end", "37 passed, 0 failed", "not tried: c had not", 0, tries=told("tests: 2", "test a ... ok", *SLOW, NO_ANSWER)),
-    quick("no test that ends", "30 passed, 7 failed", "no test passed", tries=told("tests: 1", *SLOW, NO_ANSWER)),
-    quick("a test of which nothing is said", "37 passed, 7 failed", "of each test", tries=told("tests: 2", "test a ... ok", "run=ended proved=no", status=0)),
-    quick("no line at the end", "37 passed, 7 failed", "doesn't end", tries=told("tests: 1", "test a ... ok", status=0)),
+    quick("no test that ends", "30 passed, 7 failed", "nothing passed", tries=told("tests: 1", *SLOW, NO_ANSWER)),
+    quick("a test of which nothing is said", "37 passed, 14 failed", "1 failed, and its status is 0", tries=told("tests: 2", "test a ... ok", "run=ended proved=no", status=0)),
     quick("tests that pass, and status 1", "37 passed, 7 failed", "its status is 1", tries=told("tests: 1", "test a ... ok", "run=ended proved=no")),
     quick("crates that don't compile", "30 passed, 7 failed", "error", tries=told("error: no type")),
     quick("a module that fails", "16 passed, 1 failed", gate='[ "$1" = --quick ] && echo "2 passed, 1 failed"; exit 1'),
@@ -243,33 +197,32 @@ class Check(unittest.TestCase):
 
     def check_left(self, at: str, row: Checks) -> None:
         """What `tools/package` asks for is left where all passed; else nothing is, also of an earlier run, save where nothing was proved."""
-        if "quick" in row.words or row.words[-1] == "quickly":
+        left = None
+        if os.path.exists(f"{at}/{RUN}"):
             with open(f"{at}/{RUN}", encoding="utf-8") as file:
-                self.assertEqual("an older run\n", file.read())
-            return
-        self.assertEqual(row.leaves, os.path.exists(f"{at}/{RUN}"))
-        if row.leaves:
+                left = json.load(file)
+        if row.words[1:]:
+            self.assertEqual("an older run", left)
+        elif row.leaves:
             commit, tree = git(at, "rev-parse", "HEAD", "HEAD^{tree}").split()
+            self.assertRegex(left.pop("date"), r"\A\d{4}-\d\d-\d\dT\d\d:\d\d:\d\dZ\Z")
             program = hashlib.sha256(b"#!/bin/sh\nexit 1\n").hexdigest()
-            with open(f"{at}/{RUN}", encoding="utf-8") as file:
-                wanted = f"commit {commit}\ntree {tree}\nkit {KIT}\nprogram {program}\npassed 61\n"
-                self.assertRegex(file.read(), re.escape(wanted) + r"date \d{4}-\d\d-\d\dT\d\d:\d\d:\d\dZ\n\Z")
+            self.assertEqual({"commit": commit, "tree": tree, "kit": KIT, "program": program, "passed": 61}, left)
+        else:
+            self.assertIsNone(left)
 
     def repository(self, row: Checks) -> str:
         """Makes a clean repository in which each command is a script."""
         at = folder(self)
-        for path in ("check", ".ci/run", ".gitignore", "HANDLES", "tools/checked.py", "gate/fixtures.py"):
+        for path in ("check", ".ci/run", ".gitignore", "tools/checked.py", "gate/fixtures.py"):
             os.makedirs(os.path.dirname(f"{at}/{path}"), exist_ok=True)
             shutil.copy(f"{TOP}/{path}", f"{at}/{path}")
-        rt = RT
-        for name in ("ci", "version", "tries"):
-            rt = rt.replace(f"{{{name}}}", getattr(row, name))
-        write_script(f"{at}/bin/rt", rt)
-        write_script(f"{at}/gate/run", row.gate.replace("{at}", at) + "\n")
-        write_script(f"{at}/{PROGRAM}", "exit 1\n")
-        write_script(f"{at}/testkit", row.testkit + "\n")
+        rt = f'ci) {row.ci} ;;\nversion) echo "{KIT}"; echo more ;;\n"try --test --seconds 10") {row.tries} ;;'
+        scripts = {"bin/rt": f'case "$*" in\n{rt}\nesac', "gate/run": row.gate.replace("{at}", at), PROGRAM: "exit 1", "testkit": row.testkit}
+        for path, text in scripts.items():
+            write(f"{at}/{path}", f"#!/bin/sh\n{text}\n", 0o755)
         write(f"{at}/examples/two_tests.record", "a record\n")
-        write(f"{at}/{RUN}", "an older run\n")
+        write(f"{at}/{RUN}", '"an older run"')
         for crate in os.listdir(f"{TOP}/crates"):
             os.makedirs(f"{at}/crates/{crate}", exist_ok=True)
         git(at, "init", "-q")
