@@ -192,7 +192,7 @@ class Check(unittest.TestCase):
             self.assertIn(row.counted, said.splitlines()[-1])
         else:
             self.assertEqual(row.counted, said.splitlines()[-1], said)
-            self.assertRegex(said, r"\ncheck: \d+ minutes by the clock on \d+ processors; minutes of processor time: \d+ of the programs, \d+ of the system\n")
+            self.assertRegex(said, r"\ncheck: \d+ minutes by the clock on \d+ processors\n")
         self.check_left(at, row)
 
     def check_left(self, at: str, row: Checks) -> None:

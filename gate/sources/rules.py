@@ -1,13 +1,13 @@
 """The rules for sources: what would break silently. `rt ci` doesn't refuse these things itself."""
 
 from dataclasses import dataclass, field
-from typing import Callable, Dict, List, Sequence
+from typing import Callable, Dict, List, Mapping, Sequence
 
 import calls
 import edits
 import files
 import memory
-from facade import Facade, facade_faults
+from facade import facade_faults
 from sources import sources_of
 from tree import Tree
 
@@ -17,7 +17,8 @@ class Limits:
     """What is asked of a tree: its exceptions, where names belong, and how much there has to be."""
 
     handles: str
-    facade: Facade
+    modules: Mapping[str, str]
+    """The module of the facade for each library."""
     uncalled: Sequence[str] = ()
     """Public functions that nothing calls."""
     without_clause: Sequence[str] = ()
@@ -37,7 +38,7 @@ def rules_of(tree: Tree, limits: Limits) -> Dict[str, Rule]:
     return {
         "each public function is called": lambda: calls.uncalled(sources, limits.uncalled),
         "each public function has a clause": lambda: calls.without_clause(sources, limits.without_clause),
-        "each public name is given out in its module": lambda: facade_faults(limits.facade, sources, parts),
+        "each public name is given out in its module": lambda: facade_faults(limits.modules, sources, parts),
         "each fault of memory that is made has a reason": lambda: memory.unexplained(sources),
         "each wrong body can be applied, and changes code alone": lambda: edits.edit_faults(tree),
         "no fewer wrong bodies than there were": lambda: fewer_edits(tree, limits.fewest_edits),

@@ -3,13 +3,12 @@
 import unittest
 from operator import itemgetter
 
-from facade import Facade
 from fixtures import folder, parameterized, write
 from rules import Limits, rules_of
 from tree import Tree
 
 LIMITS = Limits(
-    "Handles allowed: Threads, Wait.\n", Facade("engine_testkit", {"tk_low": "lower", "tk_high": "upper"}, ["Lane", "high"]),
+    "Handles allowed: Threads, Wait.\n", {"tk_low": "lower", "tk_high": "upper"},
     ["Lane::spare"], ["crates/tk_low/src/lanes.rt spare"], 2, {"test_low": 2},
 )
 
@@ -130,8 +129,6 @@ WRONG = [
     ("a name that isn't given out", "tk_low::boxed is public, and not engine_testkit::lower alone but no module", changed(LOWER, "    boxed,\n", "")),
     ("a name in two modules", "not engine_testkit::lower alone but ['lower', 'upper']", {UPPER: TREE[UPPER] + "pub use tk_low::boxed;\n"}),
     ("a name that no library has", "gives out spare, which is no library's own", {LOWER: TREE[LOWER] + "pub use tk_low::spare;\n"}),
-    ("a name that the top lacks", "engine_testkit doesn't give out Lane at its top", changed(ROOT, "pub use lower::Lane;\n", "")),
-    ("a name too many at the top", "engine_testkit gives out TOP at its top", changed(ROOT, "upper::high", "upper::{TOP, high}")),
     ("no reason", "lanes.rt:21: a fault of memory is made", changed(LOW, f"// No allocation failed here:{REASON}", "//")),
     ("an error of memory for any", "a fault of memory is made", changed(LOW, "Err(LaneFault::Memory) =>", "Err(LaneFault::NoMemory) =>")),
     ("a fault of memory of another error", "a fault of memory is made", changed(LOW, "impl From<AllocError>", "impl From<ParseError>")),
