@@ -9,7 +9,7 @@ from tree import Tree
 
 LIMITS = Limits(
     "Handles allowed: Threads, Wait.\n", {"tk_low": "lower", "tk_high": "upper"},
-    ["Lane::spare"], ["crates/tk_low/src/lanes.rt spare"], 2, {"test_low": 2},
+    ["Lane::spare"], ["crates/tk_low/src/lanes.rt spare"], 2, 2,
 )
 
 LANES = """//! Lanes.
@@ -141,7 +141,7 @@ WRONG = [
     ("a wrong body without a new text", "count.edit: it has other lines", {EDIT: "file: src/lanes.rt\nold: self.count\n"}),
     ("a wrong body in a deeper folder", "must-fail/more/count.edit is no wrong body", {"crates/tk_low/must-fail/more/count.edit": TREE[EDIT]}),
     ("fewer wrong bodies", "there are 1 wrong bodies, and have to be 2", {EDIT: None}),
-    ("fewer tests", "test_low has 1 tests, and has to have 2", changed(TESTS, "    #[test]\n    fn highs", "    // #[test]\n    fn highs")),
+    ("fewer tests", "there are 1 tests, and have to be 2", changed(TESTS, "    #[test]\n    fn highs", "    // #[test]\n    fn highs")),
     ("a source that a comment names", "tk_low/src/laws.rt is named by no root", changed("crates/tk_low/src/lib.rt", "pub mod laws;", "// mod laws;")),
     ("a source in a folder that the root names", "lanes/parts.rt is named by no root", {
         **changed(LOW, "mod parts;", ""), "crates/tk_low/src/lib.rt": TREE["crates/tk_low/src/lib.rt"] + "mod parts;\n",

@@ -25,15 +25,7 @@ LIMITS = Limits(
         "crates/example_engine/src/evens.rt even_numbers",
     ],
     fewest_edits=210,
-    fewest_tests={
-        "test_example_engine": 10,
-        "test_hierarchical": 13,
-        "test_plans": 16,
-        "test_questions": 19,
-        "test_records": 41,
-        "test_runs": 34,
-        "test_sessions": 28,
-    },
+    fewest_tests=161,
 )
 
 
