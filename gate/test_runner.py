@@ -13,7 +13,7 @@ from typing import Callable, Dict, Sequence
 from fixtures import TOP, Ran, folder, parameterized, run, write
 
 HEAD = """
-import os, signal, time, unittest
+import os, unittest
 import fixtures
 from fixtures import needs, parameterized
 
@@ -56,15 +56,13 @@ RUNS = [
     Runs("a module that isn't in the list", {"a/test_a": ONE, "a/test_b": ONE}, "2 passed, 1 failed", says="gate/least doesn't name it", status=1),
     Runs("a module that is missing", {"a/test_a": ONE}, "1 passed, 1 failed", "a/test_a 1\na/test_b 1\n", says="a/test_b: ", status=1),
     Runs("a module that can't be read", {"a/test_a": "# (\nraise OSError('x')\n"}, "0 passed, 1 failed", says="OSError: x", status=1),
-    Runs("a module that is killed", {"a/test_a": "    def test_one(self): os.kill(os.getpid(), signal.SIGKILL)\n"}, "0 passed, 1 failed", says="its status is -9", status=1),
-    Runs("a module that ends early", {"a/test_a": ONE + "    def test_two(self): os._exit(0)\n"}, "0 passed, 1 failed", says="it doesn't end", status=1),
+    Runs("a module that ends early", {"a/test_a": ONE + "    def test_two(self): os._exit(0)\n"}, "0 passed, 1 failed", says="it doesn't end: its status is 0", status=1),
     Runs("a module with a status", {"a/test_a": ONE + "import atexit\natexit.register(os._exit, 3)\n"}, "1 passed, 1 failed", says="with status 3", status=1),
     Runs("a class that can't be prepared", {"a/test_a": ONE + "    def setUpClass(): 1 // 0\n"}, "0 passed, 1 failed", status=1),
     Runs("a failure that is expected", {"a/test_a": "    @unittest.expectedFailure\n    def test_one(self): 1 // 0\n"}, "0 passed, 1 failed", status=1),
-    Runs("a skip", {"a/test_a": ONE + SKIPPED.format("no javac")}, "1 passed, 0 failed", says="a/test_a: 1 skipped: no javac\n"),
     Runs("a skip in place of cases", {"a/test_a": ONE + SKIPPED.format("no javac")}, "1 passed, 0 failed", "a/test_a 9\n", says="\n1 skipped\n"),
     Runs("a skip for another reason", {"a/test_a": ONE + SKIPPED.format("it fails")}, "1 passed, 1 failed", says="isn't known: it fails", status=1),
-    Runs("a command that is missing", {"a/test_a": ONE + "    @needs('nosuch')\n    def test_two(self): 1 // 0\n"}, "1 passed, 0 failed", says="1 skipped: no nosuch"),
+    Runs("a command that is missing", {"a/test_a": ONE + "    @needs('nosuch')\n    def test_two(self): 1 // 0\n"}, "1 passed, 0 failed", says="a/test_a: 1 skipped: no nosuch\n"),
     Runs("no program", {"a/test_a": ONE + SKIPPED.format("no proved program")}, "1 passed, 1 failed", says="--quick alone allows", status=1),
     Runs("no program, and may be none", {"a/test_a": ONE + SKIPPED.format("no proved program")}, "1 passed, 0 failed", words=["--quick"]),
     Runs("a word of a test", {"a/test_a": ONE + TWO}, "1 passed, 0 failed", "a/test_a 2\n", ["-k", "two"]),
