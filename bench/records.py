@@ -56,7 +56,7 @@ def one_test() -> Iterator[str]:
 def one_parent() -> Iterator[str]:
     """Tests that all stand below the engine."""
     ids = ["[engine:junit-jupiter]"]
-    ids += [f"[engine:junit-jupiter]/[method:worksForTheCaseThatHasTheNumber{number}InOneEngineThatHasAllTestsBelowItself()]" for number in range(DESCRIPTORS - 1)]
+    ids += [f"[engine:junit-jupiter]/[method:worksForTheCaseThatHasTheNumber{it}InOneEngineThatHasAllTestsBelowItself()]" for it in range(DESCRIPTORS - 1)]
     return text_of(ids, ["0|#|start", *runs(range(1, DESCRIPTORS)), "0|#|finish|ok"])
 
 
