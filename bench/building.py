@@ -12,10 +12,6 @@ from typing import Callable, Sequence
 BENCH = os.path.dirname(os.path.realpath(__file__))
 ROOT = os.path.dirname(BENCH)
 
-LINES_SHOWN = 20
-"""How many of the last lines of a command that failed are shown."""
-
-
 class NotMeasured(Exception):
     """Nothing was measured, for the reason given."""
 
@@ -44,7 +40,7 @@ def call(command: Sequence[str], folder: str = ".", **how) -> bytes:
     ran = subprocess.run(command, cwd=folder, stdout=subprocess.PIPE, stderr=subprocess.PIPE, check=False, **how)
     if ran.returncode:
         lines = (ran.stdout + ran.stderr).decode(errors="replace").splitlines(True)
-        sys.stderr.write("".join(lines[-LINES_SHOWN:]))
+        sys.stderr.write("".join(lines[-20:]))
         raise NotMeasured(f"{' '.join(command[:2])} ended with status {ran.returncode}")
     return ran.stdout
 

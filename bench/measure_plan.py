@@ -17,7 +17,6 @@ import plans
 import timing
 from plans import Node, test
 
-MOST_BYTES = 16 * 2**20
 LINE = "plan_bench: tk_plan tk_plan_units tk_book tk_events tk_ids serde_json indexmap"
 
 
@@ -48,8 +47,6 @@ def measure(folder: str) -> None:
     program = building.build_crate(folder, LINE, "plan/main.rt.in", input_path=f"{folder}/static-small") + "/plan_bench"
     for shape in SHAPES:
         path = f"{folder}/{shape}"
-        if os.path.getsize(path) > MOST_BYTES:
-            raise building.NotMeasured(f"{shape} has {os.path.getsize(path)} bytes")
         rounds = [seconds([program, "json"], path) + seconds([program], path) for _ in range(timing.ROUNDS)]
         alone, both, plan = map(statistics.median, zip(*rounds))
         print(

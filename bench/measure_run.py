@@ -1,9 +1,8 @@
 #!/usr/bin/env -S python3 -B
 """Times `run` with 1, 2 and 4 workers on three plans beside a plain Rust program that does the same.
 
-It wants rustc, and leaves nothing behind. The reports of both have to be the same. Each line: workers and events of a run; seconds of
-processor time and by the clock, medians of five runs in turn; the ratios plain / ours (above 1 we are faster); the most memory; events a
-second by the clock.
+It wants rustc, and leaves nothing behind. The reports of both have to be the same. Each line: workers; seconds of processor time and by
+the clock, medians of five runs in turn; the ratios plain / ours (above 1 we are faster); the most memory.
 """
 
 import filecmp
@@ -16,8 +15,6 @@ import timing
 from plans import Node, container, test
 
 WORKERS = [1, 2, 4]
-STATISTICS = ["skipped", "started", "finished", "reporting", "dynamic", "files"]
-"""The lines of a report whose numbers together are that of the events."""
 
 
 def tests(number: int, **members: Any) -> List[Node]:
@@ -36,13 +33,6 @@ PLANS: Dict[str, Callable[[], Node]] = {
 """The members of the root of each plan."""
 
 
-def count_events(report: str) -> int:
-    """How many events a report has. (Its other lines aren't read: the system counts this memory with that of the programs.)"""
-    with open(report, encoding="utf-8") as file:
-        rows = dict(next(file).split() for _ in range(9))
-    return sum(int(rows[name]) for name in STATISTICS)
-
-
 def measure(folder: str, program: str) -> None:
     plain = building.compile_plain(folder, "run/plain/main.rs")
     print(timing.load())
@@ -55,13 +45,8 @@ def measure(folder: str, program: str) -> None:
             ours, theirs = timing.take([[program, *of_run], [plain, *of_run]], plan, folder)
             if not filecmp.cmp(ours.output, theirs.output, shallow=False):
                 raise building.NotMeasured(f"{name}: the reports differ")
-            events = count_events(ours.output)
-            print(
-                f"  {workers} workers, {events} events: {timing.beside(ours, theirs)};"
-                f" memory {ours.memory:.0f} MiB, plain {theirs.memory:.0f} MiB;"
-                f" {events / ours.clock / 1e6:.2f} million events a second, plain {events / theirs.clock / 1e6:.2f}",
-                flush=True,
-            )
+            memory = f"memory {ours.memory:.0f} MiB, plain {theirs.memory:.0f} MiB"
+            print(f"  {workers} workers: {timing.beside(ours, theirs)}; {memory}", flush=True)
 
 
 if __name__ == "__main__":

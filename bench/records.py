@@ -8,8 +8,6 @@ STEPS = 1_000
 """How many events of `large` carry a message of their own, spread evenly."""
 
 DESCRIPTORS = 65_000
-LARGEST = 16 * 1024 * 1024
-"""How many bytes a record may have."""
 
 
 def large() -> Iterator[str]:
@@ -58,7 +56,7 @@ def one_test() -> Iterator[str]:
 def one_parent() -> Iterator[str]:
     """Tests that all stand below the engine."""
     ids = ["[engine:junit-jupiter]"]
-    ids += [f"[engine:junit-jupiter]/[method:worksForTheCaseThatHasTheNumber{number}InOneEngineThatHasAllTestsBelowItself()]" for number in range(DESCRIPTORS - 1)]
+    ids += [f"[engine:junit-jupiter]/[method:worksForTheCaseThatHasTheNumber{it}InOneEngineThatHasAllTestsBelowItself()]" for it in range(DESCRIPTORS - 1)]
     return text_of(ids, ["0|#|start", *runs(range(1, DESCRIPTORS)), "0|#|finish|ok"])
 
 
@@ -101,4 +99,3 @@ RECORDS: Dict[str, Callable[[], Iterator[str]]] = {
 def write(path: str, name: str) -> None:
     with open(path, "w", encoding="utf-8") as file:
         file.writelines(RECORDS[name]())
-        assert file.tell() <= LARGEST, f"{name} has {file.tell()} bytes"

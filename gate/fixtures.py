@@ -4,13 +4,16 @@ A module `gate/SUBJECT/test_NAME.py` has classes of `unittest.TestCase`. `gate/r
 `@parameterized`, each `subTest`, and each test that has neither.
 """
 
+import argparse
 import functools
 import os
 import shutil
 import signal
 import subprocess
+import sys
 import tempfile
 import unittest
+from collections import Counter
 from dataclasses import dataclass
 from typing import Callable, Iterable, List, Sequence, Union
 
@@ -29,20 +32,12 @@ NO_PROGRAM = "no proved program"
 CHOSEN: List[str] = []
 """Parts of names, as `gate/run -k` has them: of a table the rows run whose name has one; all rows where there are none."""
 
-SHARE: List[int] = [0, 1]
-"""Which share of the rows of each table runs in this process, counted from 0, and how many shares there are."""
-
-
-def has_program() -> bool:
-    return os.access(PROGRAM, os.X_OK)
-
-
 class WithProgram(unittest.TestCase):
     """Tests of the proved program, which are skipped where there is none."""
 
     @classmethod
     def setUpClass(cls) -> None:
-        if not has_program():
+        if not os.access(PROGRAM, os.X_OK):
             raise unittest.SkipTest(NO_PROGRAM)
         super().setUpClass()
 
@@ -55,27 +50,28 @@ def needs(command: str) -> Callable:
 def parameterized(table: Union[Sequence, Callable[[], Sequence]], name: Callable[[object], str] = lambda row: row.name) -> Callable:
     """Runs a test once for each row of a table, or of what a function makes; each row is a case.
 
-    The runner fails a table without a row, and one with two rows of one name.
+    A table without a row fails, and one with two rows of one name.
     """
 
     def decorate(method: Callable) -> Callable:
         @functools.wraps(method)
         def test(self: unittest.TestCase) -> None:
-            for row in rows_here(test, self.id()):
-                with self.subTest(name(row)):
-                    method(self, row)
+            names = names_of(self.id())
+            self.assertTrue(names, "the table has no row")
+            self.assertEqual([], [it for it, number in Counter(names).items() if number > 1], "rows have one name")
+            for row, row_name in zip(rows(), names):
+                if is_chosen(row_name):
+                    with self.subTest(name(row)):
+                        method(self, row)
+
+        def names_of(test_name: str) -> List[str]:
+            return [f"{test_name} {name(row)}" for row in rows()]
 
         rows = functools.lru_cache(maxsize=None)(lambda: list(table() if callable(table) else table))
-        test.rows, test.name_of = rows, name
+        test.names_of = names_of
         return test
 
     return decorate
-
-
-def rows_here(test: Callable, of: str) -> List:
-    """The rows of a parameterized test that run in this process; `of` is the name of the test."""
-    share, shares = SHARE
-    return [row for row in test.rows() if is_chosen(f"{of} {test.name_of(row)}")][share::shares]
 
 
 def is_chosen(name: str) -> bool:
@@ -88,6 +84,14 @@ def folder(test: unittest.TestCase) -> str:
     made = tempfile.TemporaryDirectory(prefix="gate-")
     test.addCleanup(made.cleanup)
     return made.name
+
+
+def write(path: str, text: str, mode: int = 0o644) -> None:
+    """Writes a file, and makes the folders above it."""
+    os.makedirs(os.path.dirname(path), exist_ok=True)
+    with open(path, "w", encoding="utf-8") as file:
+        file.write(text)
+    os.chmod(path, mode)
 
 
 @dataclass(frozen=True)
@@ -120,3 +124,20 @@ def run(words: Iterable[Union[str, bytes]], input: bytes = b"", seconds: float =
 def ask(words: Iterable[Union[str, bytes]], input: bytes = b"", **how) -> Ran:
     """Runs the proved program."""
     return run([PROGRAM, *words], input, **how)
+
+
+class Words(argparse.ArgumentParser):
+    """The words of a command line; wrong ones end with status 70 and one line."""
+
+    def error(self, message: str) -> None:
+        self.exit(70, f"{self.prog}: {message}\n")
+
+
+def end_with(main: Callable[[], int]) -> None:
+    """Ends a script with the status of its main function, or with 70 and one line where that fails."""
+    try:
+        sys.exit(main())
+    except (Exception, KeyboardInterrupt) as fault:
+        print(f"{os.path.relpath(os.path.realpath(sys.argv[0]), TOP)}: it can't be run: {type(fault).__name__}: {fault}", file=sys.stderr, flush=True)
+        # (what can't be written is not tried once more at the end of Python)
+        os._exit(70)

@@ -7,6 +7,11 @@ from sources import Source
 from tree import Tree
 
 
+REPLACEMENT = r"old: (.*)\nnew:(?: (.*))?\n+"
+PART = rf"file: (src/[\w/]+\.rt)\n+((?:{REPLACEMENT})+)"
+"""A source, and the texts in it that have others in their place; a wrong body has one or more of these."""
+
+
 def edits_of(tree: Tree) -> List[str]:
     """The wrong bodies of the crates."""
     return [path for path in tree.files if re.fullmatch(r"crates/\w+/must-fail/\w+\.edit", path)]
@@ -21,28 +26,19 @@ def edit_faults(tree: Tree) -> List[str]:
 
 def edit_fault(tree: Tree, path: str) -> str:
     """Why a wrong body can't be applied, or doesn't change code alone; nothing where it can and does."""
-    crate = path.partition("/must-fail/")[0]
+    crate, text = path.partition("/must-fail/")[0], tree.text(path)
+    if not re.fullmatch(f"(?:{PART})+", text):
+        return "it has other lines than 'file: src/..', and below 'old: ..' and 'new: ..' in turn"
     before: Dict[str, str] = {}
     now: Dict[str, str] = {}
-    file = old = ""
-    for line in tree.text(path).split("\n"):
-        word, _, rest = line.partition(": ")
-        if word == "file" and not old:
-            file = rest
-            if not re.fullmatch(r"src/[\w/]+\.rt", file):
-                return f"{file} is no source"
-            before.setdefault(file, tree.text(f"{crate}/{file}"))
-            now.setdefault(file, before[file])
-        elif word == "old" and not old:
-            old = rest
-        elif word in ("new", "new:") and file and old:
+    for found in re.finditer(PART, text):
+        file = found[1]
+        before.setdefault(file, tree.text(f"{crate}/{file}"))
+        now.setdefault(file, before[file])
+        for old, new in re.findall(REPLACEMENT, found[2]):
             if now[file].count(old) != 1:
                 return f"{old.strip()!r} stands {now[file].count(old)} times in {file}"
-            now[file], old = now[file].replace(old, rest), ""
-        elif line.strip():
-            return f"{line!r} is no line of a wrong body"
-    if old:
-        return "an 'old:' has no 'new:'"
+            now[file] = now[file].replace(old, new)
     pairs = [(Source(f"{crate}/{it}", before[it]), Source(f"{crate}/{it}", now[it])) for it in now]
     if any(first.clauses != second.clauses for first, second in pairs):
         return "it changes a clause"

@@ -1,24 +1,15 @@
 """The public names of libraries, and the modules of the library that gives them out to authors of engines."""
 
 import re
-from dataclasses import dataclass
 from typing import Dict, List, Mapping, Sequence, Set
 
 from sources import Source
 
+FACADE = "engine_testkit"
 ITEM = re.compile(r"^pub (?:const )?(?:fn|struct|enum|trait|const|type|static) (\w+)", re.MULTILINE)
 """(Modules are not given out: the libraries' modules of laws have one name.)"""
 USE = re.compile(r"^pub use ([^;]*);", re.MULTILINE)
 MODULE = re.compile(r"^pub mod (\w+);", re.MULTILINE)
-
-
-@dataclass(frozen=True)
-class Facade:
-    """The library that gives out the names of others: the module for each library's own names, and the names at its top besides."""
-
-    crate: str
-    homes: Mapping[str, str]
-    top: Sequence[str]
 
 
 def uses_of(source: Source) -> Dict[str, str]:
@@ -31,7 +22,7 @@ def uses_of(source: Source) -> Dict[str, str]:
     return found
 
 
-def homes_of(facade: Facade, sources: Sequence[Source], parts: Sequence[str]) -> Dict[str, str]:
+def homes_of(sources: Sequence[Source], parts: Sequence[str]) -> Dict[str, str]:
     """The public names of these libraries, each with the library whose own it is: those that it has of no other library."""
     found = {}
     for source in [it for it in sources if it.crate in parts and it.path.endswith("/src/lib.rt")]:
@@ -40,25 +31,21 @@ def homes_of(facade: Facade, sources: Sequence[Source], parts: Sequence[str]) ->
     return found
 
 
-def given_names(facade: Facade, sources: Sequence[Source]) -> Dict[str, Set[str]]:
-    """The names that each public module of the facade gives out, and its top under the empty name."""
-    uses = {it.path: set(uses_of(it)) for it in sources if it.crate == facade.crate}
-    roots = [it for it in sources if it.path == f"crates/{facade.crate}/src/lib.rt"]
-    modules = [module for root in roots for module in MODULE.findall("\n".join(root.code))]
-    found = {module: uses.get(f"crates/{facade.crate}/src/{module}.rt", set()) for module in modules}
-    return {"": set().union(*(uses[root.path] for root in roots)), **found}
+def given_names(sources: Sequence[Source]) -> Dict[str, Set[str]]:
+    """The names that each public module of the facade gives out."""
+    files = {it.path: it for it in sources if it.crate == FACADE}
+    modules = MODULE.findall("\n".join(files[f"crates/{FACADE}/src/lib.rt"].code))
+    return {module: set(uses_of(files[f"crates/{FACADE}/src/{module}.rt"])) for module in modules}
 
 
-def facade_faults(facade: Facade, sources: Sequence[Source], parts: Sequence[str]) -> List[str]:
-    """Names that their module doesn't give out alone, and names at the top or in a module that have no place there."""
-    homes, given = homes_of(facade, sources, parts), given_names(facade, sources)
+def facade_faults(modules: Mapping[str, str], sources: Sequence[Source], parts: Sequence[str]) -> List[str]:
+    """Names that the module for their library doesn't give out alone, and names of no library; `modules` has the module for each library."""
+    homes, given = homes_of(sources, parts), given_names(sources)
     faults = []
     for name, library in homes.items():
-        modules = [module for module, names in given.items() if module and name in names]
-        if modules != [facade.homes.get(library)]:
-            place = f"{facade.crate}::{facade.homes.get(library, '(no module)')}"
-            faults.append(f"{library}::{name} is public, and not {place} alone but {modules or 'no module'} gives it out")
-    faults += [f"{facade.crate} doesn't give out {name} at its top" for name in facade.top if name not in given[""]]
-    faults += [f"{facade.crate} gives out {name} at its top, where it has no place" for name in sorted(given[""] - set(facade.top))]
-    unknown = set().union(*(names for module, names in given.items() if module)) - set(homes)
-    return faults + [f"{facade.crate} gives out {name}, which is no library's own" for name in sorted(unknown)]
+        found = [module for module, names in given.items() if name in names]
+        if found != [modules.get(library)]:
+            place = f"{FACADE}::{modules.get(library, '(no module)')}"
+            faults.append(f"{library}::{name} is public, and not {place} alone but {found or 'no module'} gives it out")
+    unknown = set().union(*given.values()) - set(homes)
+    return faults + [f"{FACADE} gives out {name}, which is no library's own" for name in sorted(unknown)]

@@ -3,7 +3,6 @@
 import unittest
 from operator import itemgetter
 
-from facade import Facade
 from fixtures import TOP, parameterized
 from rules import Limits, rules_of
 from tree import Tree
@@ -17,35 +16,16 @@ HOMES = {
 }
 """The modules of `engine_testkit`, and the libraries whose names each gives out."""
 
-AT_THE_TOP = """
-BookSeat Engine Need Results RunFault Sink UnitFault execute
-emit file_published finish finished publish_file register report reported skip skipped
-start started DType Descriptor Event Events Expected Kind Mismatch Pairs Payload
-Segment Selection Status Table TableFault Text Condition Ending Exact Execution
-Executions InOrder Lifecycle LifecycleRule Loose executions match_exactly match_in_order match_loosely
-Body Hierarchical Outcome Reporter Tests UnitRun
-ExecutionMode LockMode Plan PlanFault PlanNode build_plan
-"""
-"""The names that `engine_testkit` gives out at its top besides."""
-
 LIMITS = Limits(
     handles="Handles allowed: Threads, Wait.\n",
-    facade=Facade("engine_testkit", {library: module for module, them in HOMES.items() for library in them.split()}, AT_THE_TOP.split()),
+    modules={library: module for module, them in HOMES.items() for library in them.split()},
     # (an author needs no clause to make an engine of tests)
     without_clause=[
         *("crates/example_engine/src/by_hand/broken.rt new", "crates/example_engine/src/case_tests.rt case_engine"),
         "crates/example_engine/src/evens.rt even_numbers",
     ],
     fewest_edits=210,
-    fewest_tests={
-        "test_example_engine": 10,
-        "test_hierarchical": 13,
-        "test_plans": 16,
-        "test_questions": 19,
-        "test_records": 41,
-        "test_runs": 34,
-        "test_sessions": 28,
-    },
+    fewest_tests=161,
 )
 
 
