@@ -23,7 +23,7 @@ def is_made(lines: Sequence[str], at: int) -> bool:
     pattern, arrow, value = lines[at].rpartition("=>")
     if PATTERN.search(lines[at]) or not MADE.search(value):
         return False
-    return not (arrow and HANDED.search(pattern)) and not any(TEST.search(line) for line in lines[max(0, at - 2) : at])
+    return not (arrow and (HANDED.search(pattern) or TEST.search(pattern))) and not any(TEST.search(line) for line in lines[max(0, at - 2) : at])
 
 
 def made_in(source: Source) -> List[int]:

@@ -23,6 +23,8 @@ class Limits:
     """Public functions that nothing calls."""
     without_clause: Sequence[str] = ()
     """Public functions without a clause, by file and name."""
+    long_lines: Sequence[str] = ()
+    """Lines of clauses and definitions that are too long, by file and number."""
     fewest_edits: int = 0
     fewest_tests: int = 0
 
@@ -45,7 +47,7 @@ def rules_of(tree: Tree, limits: Limits) -> Dict[str, Rule]:
         "no fewer tests than there were": lambda: fewer("tests", len(tests), limits.fewest_tests),
         "each file is read": lambda: files.unread(tree),
         "no code is unsafe or foreign": lambda: files.unsafe(sources),
-        "lines of clauses and definitions can be read": lambda: files.long_lines(tree, sources),
+        "lines of clauses and definitions can be read": lambda: files.long_lines(tree, sources, limits.long_lines),
         "HANDLES is unchanged": lambda: [] if tree.text("HANDLES") == limits.handles else [f"HANDLES differs from {limits.handles!r}"],
     }
 

@@ -24,7 +24,14 @@ LIMITS = Limits(
         *("crates/example_engine/src/by_hand/broken.rt new", "crates/example_engine/src/case_tests.rt case_engine"),
         "crates/example_engine/src/evens.rt even_numbers",
     ],
-    fewest_edits=210,
+    # (to be laid out when these crates are proved anew)
+    long_lines=[
+        "crates/tk_engine_hierarchical/specs/TreeRuns.antt:80",
+        "crates/tk_engine_hierarchical/specs/TreeRuns.antt:90",
+        "crates/tk_plan_members/src/json_members.rt:226",
+        "crates/tk_query/specs/Holders.antt:56",
+    ],
+    fewest_edits=230,
     fewest_tests=161,
 )
 
