@@ -45,23 +45,25 @@ pub struct Units<'a> {
     pub count: u32,
     pub need: Need,
     pub need_of_others: Need,
-    pub steps: [&'a [UnitStep]; 2],
+    pub first: &'a [UnitStep],
+    pub others: &'a [UnitStep],
 }
 
 impl<'a> Units<'a> {
     /// Units that run side by side. Unit 0 does the first steps, each other unit the second.
-    pub fn beside(count: u32, steps: [&'a [UnitStep]; 2]) -> Units<'a> {
+    pub fn beside(count: u32, first: &'a [UnitStep], others: &'a [UnitStep]) -> Units<'a> {
         Units {
             count,
             need: Need::of(1, 0),
             need_of_others: Need::of(1, 0),
-            steps,
+            first,
+            others,
         }
     }
 
     /// Units that run side by side, and do the same steps.
     pub fn alike(count: u32, steps: &'a [UnitStep]) -> Units<'a> {
-        Units::beside(count, [steps, steps])
+        Units::beside(count, steps, steps)
     }
 }
 
@@ -115,12 +117,16 @@ impl AskedCounter {
 pub struct StepEngine<'a> {
     table: Arc<Table>,
     segment: Segment,
-    units: Units<'a>,
+    units: u32,
+    need: Need,
+    need_of_others: Need,
+    first: &'a [UnitStep],
+    others: &'a [UnitStep],
     begun: AtomicU64,
     ended: AtomicU64,
     before: AskedCounter,
     after: AskedCounter,
-    ghost few: { units.count ≤ 65536 },
+    ghost few: { units ≤ 65536 },
 }
 
 // A root, with key 0, and two tests below it.
@@ -138,7 +144,7 @@ fn two_tests(alloc: Global) -> Option<Arc<Table>> {
 }
 
 /// Makes an engine of at most 65,536 units; none where there are more, or memory was refused.
-pub fn engine<'a>(alloc: Global, units: Units<'a>) -> Option<StepEngine<'a>> {
+pub fn engine<'a>(alloc: Global, units: &Units<'a>) -> Option<StepEngine<'a>> {
     if units.count > 65_536 {
         return None;
     }
@@ -147,7 +153,11 @@ pub fn engine<'a>(alloc: Global, units: Units<'a>) -> Option<StepEngine<'a>> {
     Some(StepEngine {
         table,
         segment,
-        units,
+        units: units.count,
+        need: units.need,
+        need_of_others: units.need_of_others,
+        first: units.first,
+        others: units.others,
         begun: AtomicU64::new(0),
         ended: AtomicU64::new(0),
         before: AskedCounter::new(),
@@ -210,11 +220,7 @@ impl StepEngine<'_> {
     }
 
     fn steps(&self, unit: u32) -> &[UnitStep] {
-        if unit == 0 {
-            self.units.steps[0]
-        } else {
-            self.units.steps[1]
-        }
+        if unit == 0 { self.first } else { self.others }
     }
 }
 
@@ -295,13 +301,13 @@ fn play<R: Wait, S: Sink>(
 impl Engine for StepEngine<'_> {
     ghost table = { λ e. arc_value e.table };
 
-    ghost units = { λ e. e.units.count };
+    ghost units = { λ e. e.units };
 
     ghost before = { λ e. [] };
 
     ghost after = { λ e. [] };
 
-    ghost need = { λ e u. if nat_eq u 0 then e.units.need else e.units.need_of_others };
+    ghost need = { λ e u. if nat_eq u 0 then e.need else e.need_of_others };
 
     ghost may = { λ e u w k l. Unit {0} };
 
@@ -310,7 +316,7 @@ impl Engine for StepEngine<'_> {
     }
 
     fn units(&self) -> u32 {
-        self.units.count
+        self.units
     }
 
     fn before(&self, alloc: Global) -> Result<Vec<Event>, AllocError> {
@@ -325,9 +331,9 @@ impl Engine for StepEngine<'_> {
 
     fn need(&self, unit: u32) -> Need {
         if unit == 0 {
-            self.units.need
+            self.need
         } else {
-            self.units.need_of_others
+            self.need_of_others
         }
     }
 

@@ -101,9 +101,10 @@ fn answer_of_two<R: Threads + Wait + Sync>(
         count: 2,
         need,
         need_of_others: need,
-        steps: [&first, &other],
+        first: &first,
+        others: &other,
     };
-    let engine = engine(alloc, units)?;
+    let engine = engine(alloc, &units)?;
     let ran = execute(rt, alloc, &engine, 2, 64);
     let answer = match &ran {
         Ok(results) => answer_of(alloc, results, "test", "any()"),

@@ -71,7 +71,7 @@ impl Recorded {
 fn run<R: Threads + Wait + Sync>(
     rt: &R,
     alloc: Global,
-    units: Units<'_>,
+    units: &Units<'_>,
     workers: usize,
     capacity: usize,
 ) -> Ran {
@@ -96,7 +96,7 @@ fn run<R: Threads + Wait + Sync>(
 fn one_to_fifteen_workers_run_all_units(rt: HostRuntime) {
     let steps = [UnitStep::Start(0), UnitStep::Start(1)];
     for workers in 1..=15usize {
-        let ran = run(&rt, rt.alloc(), Units::alike(300, &steps), workers, 3);
+        let ran = run(&rt, rt.alloc(), &Units::alike(300, &steps), workers, 3);
         assert!(rt;
             matches!(
                 ran.answer,
@@ -113,7 +113,7 @@ fn one_to_fifteen_workers_run_all_units(rt: HostRuntime) {
 
 #[test]
 fn no_unit_is_a_run(rt: HostRuntime) {
-    let ran = run(&rt, rt.alloc(), Units::alike(0, &[]), 15, 1);
+    let ran = run(&rt, rt.alloc(), &Units::alike(0, &[]), 15, 1);
     assert!(rt;
         matches!(
             ran.answer,
@@ -128,8 +128,8 @@ fn no_unit_is_a_run(rt: HostRuntime) {
 
 #[test]
 fn side_by_side(rt: HostRuntime) {
-    let units = Units::beside(2, [&[UnitStep::Await(1, 1)], &[UnitStep::Begin]]);
-    let ran = run(&rt, rt.alloc(), units, 2, 64);
+    let units = Units::beside(2, &[UnitStep::Await(1, 1)], &[UnitStep::Begin]);
+    let ran = run(&rt, rt.alloc(), &units, 2, 64);
     assert!(rt; matches!(ran.answer, Ok(_)));
 }
 
@@ -142,8 +142,8 @@ fn events_as_they_are_emitted(rt: HostRuntime) {
         UnitStep::Start(3),
     ];
     let other = [UnitStep::Await(1, 3), UnitStep::Start(2), UnitStep::Begin];
-    let units = Units::beside(2, [&first, &other]);
-    let ran = run(&rt, rt.alloc(), units, 2, 64);
+    let units = Units::beside(2, &first, &other);
+    let ran = run(&rt, rt.alloc(), &units, 2, 64);
     assert!(rt;
         matches!(
             ran.answer,
@@ -165,9 +165,10 @@ fn one_shared_book(rt: HostRuntime) {
         count: 2,
         need: Need::of(0, 1),
         need_of_others: Need::of(0, 1),
-        steps: [&first, &other],
+        first: &first,
+        others: &other,
     };
-    let ran = run(&rt, rt.alloc(), units, 2, 64);
+    let ran = run(&rt, rt.alloc(), &units, 2, 64);
     assert!(rt;
         matches!(
             ran.answer,
@@ -183,23 +184,23 @@ fn one_shared_book(rt: HostRuntime) {
 fn workers_and_capacity(rt: HostRuntime) {
     let units = Units::alike(1, &[UnitStep::Start(0)]);
     for workers in [0, 16] {
-        let ran = run(&rt, rt.alloc(), units, workers, 1);
+        let ran = run(&rt, rt.alloc(), &units, workers, 1);
         assert!(rt; matches!(ran.answer, Err(RunFault::Workers)), "{workers}");
     }
     for capacity in [0, 1025] {
-        let ran = run(&rt, rt.alloc(), units, 1, capacity);
+        let ran = run(&rt, rt.alloc(), &units, 1, capacity);
         assert!(rt; matches!(ran.answer, Err(RunFault::Capacity)), "{capacity}");
     }
-    let ran = run(&rt, rt.alloc(), units, 15, 1024);
+    let ran = run(&rt, rt.alloc(), &units, 15, 1024);
     assert!(rt; matches!(ran.answer, Ok(Recorded { entries: 1, .. })));
 }
 
 #[test]
 fn a_failure_names_its_unit(rt: HostRuntime) {
     let fails = [UnitStep::Start(1), UnitStep::Fail(3)];
-    let ran = run(&rt, rt.alloc(), Units::alike(2, &fails), 1, 64);
+    let ran = run(&rt, rt.alloc(), &Units::alike(2, &fails), 1, 64);
     assert!(rt; matches!(ran.answer, Err(RunFault::Engine(0, UnitFault::Own(3)))));
-    let ran = run(&rt, rt.alloc(), Units::beside(3, [&[], &fails]), 1, 64);
+    let ran = run(&rt, rt.alloc(), &Units::beside(3, &[], &fails), 1, 64);
     assert!(rt; matches!(ran.answer, Err(RunFault::Engine(1, UnitFault::Own(3)))));
 }
 
@@ -207,25 +208,25 @@ fn a_failure_names_its_unit(rt: HostRuntime) {
 #[test]
 fn a_failure_is_handed_on(rt: HostRuntime) {
     let own = Units::alike(1, &[UnitStep::Fail(u32::MAX)]);
-    let ran = run(&rt, rt.alloc(), own, 1, 64);
+    let ran = run(&rt, rt.alloc(), &own, 1, 64);
     assert!(rt;
         matches!(
             ran.answer,
             Err(RunFault::Engine(0, UnitFault::Own(u32::MAX)))
         )
     );
-    let memory = Units::beside(2, [&[], &[UnitStep::FailForMemory]]);
-    let ran = run(&rt, rt.alloc(), memory, 1, 64);
+    let memory = Units::beside(2, &[], &[UnitStep::FailForMemory]);
+    let ran = run(&rt, rt.alloc(), &memory, 1, 64);
     assert!(rt; matches!(ran.answer, Err(RunFault::Engine(1, UnitFault::Memory))));
-    let sink = Units::beside(2, [&[], &[UnitStep::StartOf(9)]]);
-    let ran = run(&rt, rt.alloc(), sink, 15, 64);
+    let sink = Units::beside(2, &[], &[UnitStep::StartOf(9)]);
+    let ran = run(&rt, rt.alloc(), &sink, 15, 64);
     assert!(rt; matches!(ran.answer, Err(RunFault::Engine(1, UnitFault::Sink(_)))));
 }
 
 #[test]
 fn as_many_units_as_may_be(rt: HostRuntime) {
     let units = Units::alike(65_536, &[UnitStep::Start(0)]);
-    let ran = run(&rt, rt.alloc(), units, 2, 1024);
+    let ran = run(&rt, rt.alloc(), &units, 2, 1024);
     assert!(rt;
         matches!(
             ran.answer,
@@ -243,7 +244,7 @@ fn run_of_many<R: Threads + Wait + Sync>(rt: &R, alloc: Global, count: usize) ->
     steps.push(UnitStep::Begin).ok()?;
     steps.push(UnitStep::Await(2, 1)).ok()?;
     steps.resize(count, UnitStep::Start(0)).ok()?;
-    Some(run(rt, alloc, Units::alike(2, steps.as_slice()), 2, 1024))
+    Some(run(rt, alloc, &Units::alike(2, steps.as_slice()), 2, 1024))
 }
 
 /// More than 2^20 entries are recorded.
@@ -272,9 +273,10 @@ fn writers_of_different_resources(rt: HostRuntime) {
         count: 2,
         need: Need::of(1, 2),
         need_of_others: Need::of(1, 4),
-        steps: [&steps, &steps],
+        first: &steps,
+        others: &steps,
     };
-    let ran = run(&rt, rt.alloc(), units, 2, 64);
+    let ran = run(&rt, rt.alloc(), &units, 2, 64);
     assert!(rt; matches!(ran.answer, Ok(_)));
 }
 
@@ -284,7 +286,7 @@ fn each_unit_is_run_once(rt: HostRuntime) {
     for workers in [1u32, 2, 15] {
         let steps = [UnitStep::Begin, UnitStep::Await(workers, 1)];
         let units = Units::alike(60, &steps);
-        let ran = run(&rt, rt.alloc(), units, workers as usize, 64);
+        let ran = run(&rt, rt.alloc(), &units, workers as usize, 64);
         assert!(rt; matches!(ran.answer, Ok(_)), "{workers}");
         assert!(rt; ran.seen.begun == ALL_OF_60, "{workers}");
     }
@@ -301,10 +303,10 @@ fn before_and_after_are_asked_once(rt: HostRuntime) {
     };
     for workers in [1usize, 2, 15] {
         let units = Units::alike(60, &[UnitStep::Begin, UnitStep::End]);
-        let seen = run(&rt, rt.alloc(), units, workers, 64).seen;
+        let seen = run(&rt, rt.alloc(), &units, workers, 64).seen;
         assert!(rt; seen.before == before && seen.after == after, "{workers}");
         let failing = Units::alike(60, &[UnitStep::Begin, UnitStep::End, UnitStep::Fail(1)]);
-        let seen = run(&rt, rt.alloc(), failing, workers, 64).seen;
+        let seen = run(&rt, rt.alloc(), &failing, workers, 64).seen;
         assert!(rt;
             seen.before == before && seen.after == NOT_ASKED,
             "{workers}"
@@ -322,7 +324,7 @@ fn all_workers_fail(rt: HostRuntime) {
             UnitStep::FailAsWorker,
         ];
         let units = Units::alike(60, &steps);
-        let ran = run(&rt, rt.alloc(), units, workers as usize, 64);
+        let ran = run(&rt, rt.alloc(), &units, workers as usize, 64);
         assert!(rt;
             matches!(
                 ran.answer,
@@ -341,7 +343,7 @@ fn run_of_starts<R: Threads + Wait + Sync>(rt: &R, alloc: Global, last: UnitStep
     let mut steps = [UnitStep::Start(0); 1_002];
     steps[0] = UnitStep::Begin;
     steps[1_001] = last;
-    run(rt, alloc, Units::alike(2, &steps), 2, 1)
+    run(rt, alloc, &Units::alike(2, &steps), 2, 1)
 }
 
 /// Such a run with ample memory, and with any one request for memory or any one thread refused. The workers that were
