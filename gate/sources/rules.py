@@ -23,10 +23,10 @@ class Limits:
     """Public functions that nothing calls."""
     without_clause: Sequence[str] = ()
     """Public functions without a clause, by file and name."""
-    long_lines: Sequence[str] = ()
-    """Lines of clauses and definitions that are too long, by file and number."""
     fewest_edits: int = 0
     fewest_tests: int = 0
+    long_lines: Sequence[str] = ()
+    """Lines of clauses and definitions that are too long, by file and number."""
 
 
 Rule = Callable[[], List[str]]
