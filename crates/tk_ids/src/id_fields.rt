@@ -55,7 +55,7 @@ fn without_escapes(alloc: Global, text: &str) -> Result<Text, AllocError>
 }
 
 impl IdFields {
-    /// Keeps the text of an id, which has so many segments.
+    /// Keeps the text of an id, which has `segment_count` segments.
     pub(crate) fn new(
         alloc: Global,
         text: Text,

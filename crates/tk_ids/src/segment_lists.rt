@@ -66,7 +66,7 @@ pub(crate) struct PartLengths {
     plain: usize,
 }
 
-// Measures the tag or the value at the front of a text, which `stop` ends.
+// Measures the tag or the value with which a text begins, and which `stop` ends.
 fn part_lengths(text: &[u8], stop: u8) -> PartLengths
     requires { stop ≡ colon ⊎ stop ≡ close_bracket }
     ensures { AreLengths text.now stop result }
