@@ -1,21 +1,20 @@
 -- Candidates, and the positions of the events that come nearest.
-use Rattle.std.proofs.Common.{◌≡◌, ℕ, zero, suc, ◌+◌, ◌<◌, ◌≤◌, ◌⊎◌, Bool, true, false, List, [], ◌∷◌, length, get_or, map, take, Option, Some, None, refl, sym, ap, ◌∙◌, subst, arith, inl, inr, ⊎_elim}
+use Rattle.std.proofs.Common.{◌≡◌, ℕ, zero, suc, ◌+◌, ◌<◌, ◌≤◌, ◌⊎◌, Bool, true, false, List, [], ◌∷◌, length, get_or, map, take, MatchOption, refl, sym, ap, ◌∙◌, subst, arith, inl, inr, ⊎_elim}
 use Rattle.std.specs.Prelude.{if◌then◌else◌}
 use Rattle.std.specs.List.{slice_get}
 use Rattle.std.proofs.lemmas.Bool.{cases_lt, true≢false}
 use Rattle.std.proofs.lemmas.List.{take-map}
 use Rattle.std.proofs.lemmas.Option.{none-some}
 use Rattle.tk_lanes.specs.Flags.{IsNextSet, IsNoneSet}
-use Rattle.tk_events.specs.declared.events.Entry.{Entry}
 use Rattle.tk_record_columns.specs.Recorded.{Recorded}
 use Rattle.tk_record_columns.specs.Selections.{Selected}
 use Rattle.tk_query_conditions.specs.Cond.{Cond}
-use Rattle.tk_query.specs.Asked.{event_at}
+use Rattle.tk_query_nearest.specs.Parts.{distance}
 use Rattle.tk_query.proofs.AskedLemmas.{AreFlags, asked_set, asked_clear}
-use Rattle.tk_query_lifecycle.proofs.ListLemmas.{there}
 use Rattle.tk_query_nearest.specs.declared.candidates.Candidate.{Candidate}
 use Rattle.tk_query_nearest.specs.Candidates.{is_nearer, inserted}
 use Rattle.tk_query_nearest.specs.Nearness.{IsAskedFrom, IsNearest, IsNearer, distance_at, distance_of}
+use Rattle.tk_query_nearest.proofs.ViewLemmas.{there, told}
 use Rattle.tk_query_nearest.proofs.RankLemmas.{Has, Each, each_all, each_has, has_contains, near, put, AreBest, IsPast, best_more, best_none, best_same, ranked_pairs}
 
 abbrev pub position_of : Candidate → ℕ
@@ -99,10 +98,10 @@ module _ (asked : Selected) (flags : List Bool) (are : AreFlags asked flags) (si
         record { from = omega arith; event = entry.0; event_is = asked_set asked flags are at next.set ∙ entry.1 }
 
     -- the event at the next flag
-    module _ (r : Recorded) (same : r ≡ asked.recorded) (a : Candidate) (is_at : a.position ≡ at) (far : a.distance ≡ distance_of r c (slice_get r.entries at)) (new : List Candidate) (new_is : new ≡ take 3 (inserted a list)) where
+    module _ (r : Recorded) (same : r ≡ asked.recorded) (a : Candidate) (is_at : a.position ≡ at) (far : MatchOption (slice_get r.entries at) (a.distance ≡ 0) (λ e. a.distance ≡ distance r c e)) (new : List Candidate) (new_is : new ≡ take 3 (inserted a list)) where
       measured_here : a.distance ≡ distance_at asked c a.position
       measured_here =
-          far ∙ ap (λ (s : Recorded). distance_of s c (slice_get s.entries at)) same
+          told r c (slice_get r.entries at) a.distance far ∙ ap (λ (s : Recorded). distance_of s c (slice_get s.entries at)) same
           ∙ ap (distance_of asked.recorded c) (sym (asked_set asked flags are at next.set))
           ∙ ap (distance_at asked c) (sym is_at)
 

@@ -1,12 +1,12 @@
 -- The members of a condition.
-use Rattle.std.proofs.Common.{◌≡◌, ◌↔◌, ℕ, Bool, true, false, not, ◌&&◌, List, [], ◌∷◌, ◌++◌, refl, sym, ap, ◌∙◌}
-use Rattle.std.specs.List.{Contains, filter, list_all}
+use Rattle.std.proofs.Common.{◌≡◌, Bool, true, false, not, ◌&&◌, refl, sym, ap, ◌∙◌}
+use Rattle.std.specs.List.{list_all}
 use Rattle.std.proofs.lemmas.List.Folds.{list_all-append}
 use Rattle.tk_events.specs.declared.events.Entry.{Entry}
 use Rattle.tk_record_columns.specs.Recorded.{Recorded}
-use Rattle.tk_query_conditions.specs.Cond.{Cond, Plain, With, OfKind, HasPairs, All, Any, Not, Conds, Nothing, More}
+use Rattle.tk_query_conditions.specs.Cond.{Plain, With, OfKind, HasPairs, All, Any, Not, Conds, Nothing, More}
 use Rattle.tk_query.specs.Holds.{cond_holds, all_hold}
-use Rattle.tk_query_nearest.specs.Members.{members, members_of, lacking}
+use Rattle.tk_query_nearest.specs.Members.{members, members_of}
 use Rattle.tk_query_nearest.specs.Laws.{HoldsByMembers, LackingIsExact}
 use Rattle.tk_query_nearest.proofs.ElementLemmas.{filtered, in_filter}
 

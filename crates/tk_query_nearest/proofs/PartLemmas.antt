@@ -4,11 +4,12 @@ use Rattle.std.specs.List.{flat_map, list_all}
 use Rattle.std.proofs.lemmas.List.Sums.{sum_by-append}
 use Rattle.std.proofs.lemmas.Grind.{flat_map-append}
 use Rattle.tk_events.specs.declared.events.Entry.{Entry}
+use Rattle.tk_events.specs.declared.kinds.Kind.TheVariants as kind
 use Rattle.tk_record_columns.specs.Recorded.{Recorded}
-use Rattle.tk_query_conditions.specs.Cond.{Test, Container, Engine, Started, Succeeded, Failed, Aborted, Id, Name, Skipped, FailedWith, AbortedWith, File, Cond, Plain, With, OfKind, HasPairs, All, Any, Not, Conds, Nothing, More}
+use Rattle.tk_query_conditions.specs.Cond.{Test, Container, Engine, Started, Succeeded, Failed, Aborted, Id, Name, Skipped, FailedWith, AbortedWith, File, Cond, Plain, With, OfKind, HasPairs, All, Any, Not, Conds, More}
 use Rattle.tk_query.specs.Holds.{cond_holds}
 use Rattle.tk_query_nearest.specs.Members.{members, members_of}
-use Rattle.tk_query_nearest.specs.Parts.{Part, IsKind, Meets, part_holds, member_parts, parts, missing, distance}
+use Rattle.tk_query_nearest.specs.Parts.{Part, IsKind, MessageContains, ReasonContains, PathContains, NameContains, Meets, part_holds, member_parts, parts, missing, distance}
 use Rattle.tk_query_nearest.specs.declared.parts.TheConstants.{MAX_DISTANCE}
 use Rattle.tk_query_nearest.specs.Laws.{NoneMissingHolds}
 use Rattle.tk_query_nearest.proofs.MemberLemmas.{by_members}
@@ -34,17 +35,17 @@ own_last (Plain Test) = ([], refl)
 own_last (Plain Container) = ([], refl)
 own_last (Plain Engine) = ([], refl)
 own_last (Plain Started) = ([], refl)
-own_last (Plain Succeeded) = (_, refl)
-own_last (Plain Failed) = (_, refl)
-own_last (Plain Aborted) = (_, refl)
+own_last (Plain Succeeded) = (IsKind kind.Finished ∷ [], refl)
+own_last (Plain Failed) = (IsKind kind.Finished ∷ [], refl)
+own_last (Plain Aborted) = (IsKind kind.Finished ∷ [], refl)
 own_last (With Id text) = ([], refl)
-own_last (With Name text) = (_, refl)
-own_last (With Skipped text) = (_, refl)
-own_last (With FailedWith text) = (_, refl)
-own_last (With AbortedWith text) = (_, refl)
-own_last (With File text) = (_, refl)
+own_last (With Name text) = (NameContains text ∷ [], refl)
+own_last (With Skipped text) = (IsKind kind.Skipped ∷ ReasonContains text ∷ [], refl)
+own_last (With FailedWith text) = (IsKind kind.Finished ∷ Meets (Plain Failed) ∷ MessageContains text ∷ [], refl)
+own_last (With AbortedWith text) = (IsKind kind.Finished ∷ Meets (Plain Aborted) ∷ MessageContains text ∷ [], refl)
+own_last (With File text) = (IsKind kind.File ∷ PathContains text ∷ [], refl)
 own_last (OfKind kind) = ([], refl)
-own_last (HasPairs pairs) = (_, refl)
+own_last (HasPairs pairs) = (IsKind kind.Reporting ∷ [], refl)
 own_last (All cs) = ([], refl)
 own_last (Any cs) = ([], refl)
 own_last (Not c) = ([], refl)

@@ -1,11 +1,11 @@
 -- Positions in the order of their nearness. `d` says how far the event at a position is.
-use Rattle.std.proofs.Common.{◌≡◌, ℕ, zero, suc, ◌+◌, ◌<◌, ◌≤◌, ◌⊎◌, Bool, true, false, cond, eqb, eqb-true, eq-eqb, ltb, List, [], ◌∷◌, length, take, refl, sym, ap, ◌∙◌, subst, arith, inl, inr, ⊎_elim}
+use Rattle.std.proofs.Common.{◌≡◌, ℕ, zero, suc, ◌<◌, ◌≤◌, ◌⊎◌, Bool, true, false, eqb, eqb-true, eq-eqb, ltb, List, [], ◌∷◌, length, take, refl, sym, ap, ◌∙◌, subst, arith, inl, inr, ⊎_elim}
 use Rattle.std.specs.Prelude.{◌==◌, ◌&&◌, ◌||◌, nat_lt, if◌then◌else◌}
 use Rattle.std.specs.List.{All, AllPairs, Contains}
 use Rattle.std.proofs.lemmas.List.Elements.{All-nil, All-cons}
 use Rattle.std.proofs.lemmas.List.Kept.{AllPairs-cons}
 use Rattle.std.proofs.lemmas.Bool.{cases_lt, ltb-true, lt-ltb, true≢false, and_parts, or_cases}
-use Rattle.tk_query_nearest.proofs.ElementLemmas.{at_head, after_head, none_in}
+use Rattle.tk_query_nearest.proofs.ElementLemmas.{after_head}
 
 -- x is one of them
 abbrev pub Has : List ℕ → ℕ → Type 0
@@ -118,7 +118,7 @@ module _ (d : ℕ → ℕ) where
   Ranked (p ∷ ps) = Each (Near p) ps × Ranked ps
 
   pub ranked_pairs : (ps : List ℕ) → Ranked ps → AllPairs (λ p q. Near p q) ps
-  ranked_pairs [] h i j x lt within = absurd (omega arith)
+  ranked_pairs [] h = λ i j x lt within. absurd (omega arith)
   ranked_pairs (p ∷ ps) h = AllPairs-cons (λ p q. Near p q) p ps (each_all (Near p) ps h.0) (ranked_pairs ps h.1)
 
   ranked_take : (n : ℕ) (ps : List ℕ) → Ranked ps → Ranked (take n ps)
@@ -172,11 +172,11 @@ module _ (d : ℕ → ℕ) where
 
   put_has_only : (q : ℕ) (ps : List ℕ) (x : ℕ) → Has (put q ps) x → (q ≡ x) ⊎ Has ps x
   put_has_only q [] x h = h
-  put_has_only q (p ∷ ps) x = either (λ l. Has l x → (q ≡ x) ⊎ Has (p ∷ ps) x) (near q p) (q ∷ p ∷ ps) (p ∷ put q ps) (λ e h. h)
+  put_has_only q (p ∷ ps) x has = either (λ l. Has l x → (q ≡ x) ⊎ Has (p ∷ ps) x) (near q p) (q ∷ p ∷ ps) (p ∷ put q ps) (λ e h. h)
       (λ e h. ⊎_elim {C = (q ≡ x) ⊎ Has (p ∷ ps) x}
       (λ (here : p ≡ x). inr (inl here))
       (λ (later : Has (put q ps) x). ⊎_elim {C = (q ≡ x) ⊎ Has (p ∷ ps) x} (λ (new : q ≡ x). inl new) (λ (old : Has ps x). inr (inr old)) (put_has_only q ps x later))
-      h)
+      h) has
 
   put_long : (q : ℕ) (ps : List ℕ) → length (put q ps) ≡ suc (length ps)
   put_long q [] = refl
