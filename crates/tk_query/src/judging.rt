@@ -179,7 +179,7 @@ pub(crate) fn rule_holds(record: &Record, rule: Rule, event: &EntryView) -> bool
 
 /// Whether a condition holds of an event of a record.
 #[cycle(holds)]
-fn holds(record: &Record, condition: &Condition, event: &EntryView) -> bool
+pub fn holds(record: &Record, condition: &Condition, event: &EntryView) -> bool
     ensures { result ≡ holds «record».now condition.now (entry_of_view event.now) }
 {
     match condition {
