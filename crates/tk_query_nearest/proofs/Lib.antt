@@ -1,6 +1,7 @@
 pub mod ElementLemmas
 pub mod MemberLemmas
 pub mod PartLemmas
+pub mod HoldingLemmas
 pub mod WritingLemmas
 pub mod TakenLemmas
 pub mod ViewLemmas

@@ -28,6 +28,11 @@ abbrev pub NoneMissingHolds : Type 0
 NoneMissingHolds =
     (r : Recorded) (c : Cond) (e : Entry) → distance r c e ≡ 0 → cond_holds r c e ≡ true
 
+-- no part is missing where the condition holds
+abbrev pub HoldsMissesNone : Type 0
+HoldsMissesNone =
+    (r : Recorded) (c : Cond) (e : Entry) → cond_holds r c e ≡ true → distance r c e ≡ 0
+
 -- the same events and the same condition have one list of nearest events
 abbrev pub NearestIsUnique : Type 0
 NearestIsUnique =

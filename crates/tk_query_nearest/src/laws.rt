@@ -2,7 +2,7 @@
 ghost use Rattle.std.specs.Prelude.{◌≡◌, ◌^◌, ◌-◌};
 ghost use Rattle.tk_query_nearest.specs.declared.candidates.TheConstants.{MAX_NEAREST};
 ghost use Rattle.tk_query_nearest.specs.declared.parts.TheConstants.{MAX_DISTANCE};
-ghost use Rattle.tk_query_nearest.specs.Laws.{HoldsByMembers, LackingIsExact, NoneMissingHolds, NearestIsUnique};
+ghost use Rattle.tk_query_nearest.specs.Laws.{HoldsByMembers, LackingIsExact, NoneMissingHolds, HoldsMissesNone, NearestIsUnique};
 
 /// A condition holds of an event exactly where all its members do.
 pub fn holds_by_members()
@@ -17,6 +17,11 @@ pub fn lacking_is_exact()
 /// A condition holds of an event where none of its parts fails to hold.
 pub fn none_missing_holds()
     ensures { NoneMissingHolds }
+{}
+
+/// No part is missing where the condition holds.
+pub fn holds_misses_none()
+    ensures { HoldsMissesNone }
 {}
 
 /// The same events and the same condition have one list of nearest events.
