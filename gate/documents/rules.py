@@ -12,6 +12,9 @@ from tree import Tree
 MEASURED = re.compile(r"^Measured \(`docs/SPEED\.md`\): (.*)", re.MULTILINE)
 """The line of README.md with figures of docs/SPEED.md."""
 
+HEADLINE = "crates/testkit_headline/specs/Headline.antt"
+"""The theorem, whose fields have the parts of README.md's headline as their comments."""
+
 COMMAND_OR_FIGURE = re.compile(r"`([^`]+)`|(\d+(?:\.\d+)?)")
 """A command in backquotes, or a figure."""
 
@@ -38,6 +41,7 @@ def rules_of(tree: Tree, documents: Sequence[Document], limits: Limits) -> Dict[
         "each document is there, and in the list": lambda: missing_faults(tree, documents, limits),
         "each name in backquotes is there": lambda: name_faults(tree, documents),
         "each figure of README.md stands in docs/SPEED.md": lambda: figure_faults(documents),
+        "the headline of README.md is that of the theorem": lambda: headline_faults(tree),
         "each head of a family quotes a caller": lambda: head_faults(documents, limits.heads),
         "each backquote and each fence has an end": lambda: [fault for it in documents for fault in form_faults(it)],
         "no document is too large": lambda: size_faults(documents, limits),
@@ -102,6 +106,16 @@ def figure_faults(documents: Sequence[Document]) -> List[str]:
     if not repeated:
         return ["README.md has no figures of docs/SPEED.md"]
     return [f"README.md: docs/SPEED.md has no {figure} of {command}" for command, figure in sorted(repeated - measured)]
+
+
+def headline_faults(tree: Tree) -> List[str]:
+    """Parts of README.md's headline, in italics, that the comments of the theorem's fields don't say, and fields whose names aren't in theirs."""
+    fields = re.findall(r"((?:^  -- .*\n)*)  pub (\w+)", tree.text(HEADLINE), re.MULTILINE)
+    parts = [(" ".join(comment.replace("--", "").split()), name) for comment, name in fields]
+    headline = " ".join(part for part, _ in parts)
+    faults = [] if parts and f"\n*{headline}*\n" in tree.text("README.md") else [f"README.md doesn't say in italics: {headline}"]
+    unsaid = [name for part, name in parts if not re.search(r"\b.*\b".join(name.split("_")), part.replace("'", ""), re.IGNORECASE)]
+    return faults + [f"{HEADLINE}: its part of the headline doesn't say {name}" for name in unsaid]
 
 
 def head_faults(documents: Sequence[Document], heads: Sequence[str]) -> List[str]:

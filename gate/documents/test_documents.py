@@ -14,7 +14,7 @@ from tree import Tree
 LIMITS = Limits(
     documents=(
         "README.md",
-        *(f"docs/{it}.md" for it in "ARCHITECTURE DECISIONS ENGINES FORMATS JUNIT PROVED SPECIFICATION SPEED TESTING".split()),
+        *(f"docs/{it}.md" for it in "ARCHITECTURE DECISIONS ENGINES FORMATS JUNIT PROVED SPEED TESTING".split()),
     ),
     most_words=18_500,
     most_readme_bytes=14_336,

@@ -33,6 +33,8 @@ Two words of others: `JUnitName`, and `Assertion`.
 $ no command `last_bits`
 ```
 
+*Each first bit is low. No bit's first.*
+
 Measured (`docs/SPEED.md`): `run` is 4 times as fast. `ask first` takes 1.5 times the time and 0.9 times the memory; `run` 4.2.
 """
 SPEED = """# Speed
@@ -41,6 +43,7 @@ SPEED = """# Speed
 | `ask first` likewise; `ask second` | 1.50 times, 1.5 (1.4-1.6) |
 | and in no more memory | 0.9 times |
 """
+HEADLINE = "pub record Headline : Type 0 where\n  -- Each first bit\n  -- is low.\n  pub first_is_low : A\n  -- No bit's first.\n  pub no_bits_first :\n      B\n"
 USE = "# Use\n\nAlso many; so manyfold: `all the words of it`.\n\n    $ cat tools/list\n    first\n    ..\n    fourth\n"
 CODE = "crates/high/src/lib.rt"
 LOW = f"# low\n\nFrom {CODE}:\n\n```rust\nif at < first_bits {{\n    append(at)\n}}\n```\n"
@@ -58,6 +61,7 @@ TREE = {
     CODE: "impl Record {\n    fn append() {\n        if at < first_bits {\n            append(at)\n        }\n    }\n}\n",
     "crates/top/src/lib.rt": "fn above_name() {}\n",
     "gate/documents/other_names.txt": "# names of others\nJUnitName Assertion\n",
+    "crates/testkit_headline/specs/Headline.antt": HEADLINE,
     "tools/list": "first\nsecond\nthird\nfourth\n",
     "tools/run": "run()\n",
     "crates/unlisted/src/lib.rt": "if at < first_bits {\n    append(at)\n}\n",
@@ -104,6 +108,8 @@ WRONG = [
     ("a figure that isn't there", "docs/SPEED.md has no 1.7 of ask first", changed("README.md", "1.5", "1.7")),
     ("a figure of another command", "docs/SPEED.md has no 4.2 of ask first", changed("README.md", "1.5", "4.2")),
     ("no figures", "README.md has no figures of docs/SPEED.md", changed("README.md", "Measured (", "Found (")),
+    ("another headline", "README.md doesn't say in italics: Each first bit is low. No bit's first.", changed("README.md", "is low. ", "is high. ")),
+    ("a field that its part doesn't say", "doesn't say low_is_first", changed("crates/testkit_headline/specs/Headline.antt", "first_is_low", "low_is_first")),
     ("a quote with another word", "low/README.md:3: the block is no quote of", changed("crates/low/README.md", "append(at)", "append(to)")),
     ("a quote of no crate", "is no file of a crate", changed("crates/low/README.md", "crates/high", "crates/unlisted")),
     ("no block after its line", "low/README.md:3: no block of code follows", {**changed("crates/low/README.md", "```rust", "words\n\n```")}),

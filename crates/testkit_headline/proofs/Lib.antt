@@ -1,0 +1,3 @@
+pub mod Sessions
+pub mod Books
+pub mod Records

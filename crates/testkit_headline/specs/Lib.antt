@@ -1,0 +1,4 @@
+pub mod Schedules
+pub mod Counting
+pub mod PlanReports
+pub mod Headline

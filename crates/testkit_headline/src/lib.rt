@@ -1,0 +1,4 @@
+//! The headline of README.md as one theorem.
+#![tactic(auto)]
+
+pub mod laws;
