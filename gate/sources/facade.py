@@ -32,10 +32,10 @@ def homes_of(sources: Sequence[Source], parts: Sequence[str]) -> Dict[str, str]:
 
 
 def given_names(sources: Sequence[Source]) -> Dict[str, Set[str]]:
-    """The names that each public module of the facade gives out."""
+    """The names that each public module of the facade gives out. (Its module of laws gives out no other name.)"""
     files = {it.path: it for it in sources if it.crate == FACADE}
     modules = MODULE.findall("\n".join(files[f"crates/{FACADE}/src/lib.rt"].code))
-    return {module: set(uses_of(files[f"crates/{FACADE}/src/{module}.rt"])) for module in modules}
+    return {module: set(uses_of(files[f"crates/{FACADE}/src/{module}.rt"])) for module in modules if module != "laws"}
 
 
 def facade_faults(modules: Mapping[str, str], sources: Sequence[Source], parts: Sequence[str]) -> List[str]:

@@ -107,6 +107,7 @@ RIGHT = [
     ("the tree", {}),
     ("a method after an apostrophe and a quote", changed(TESTS, "lane.count()", "'\\'' + '\"' + lane.count() + '\"'")),
     ("a wrong body that changes a text", edit(('"Memory"', '"memory"'))),
+    ("a module of laws", {ROOT: TREE[ROOT] + "pub mod laws;\n", "crates/engine_testkit/src/laws.rt": "pub use tk_low::laws::law;\n"}),
     ("a wrong body in two files", {EDIT: TREE[EDIT] + "file: src/lib.rt\nold: mod lanes;\nnew: pub mod lanes;\n"}),
 ]
 WRONG = [

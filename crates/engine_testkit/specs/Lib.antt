@@ -19,3 +19,4 @@ pub use Rattle.tk_engine_events.specs.Events
 pub use Rattle.tk_engine_events.specs.Emitted
 pub use Rattle.tk_engine_hierarchical.specs.declared.tests.Outcome
 pub use Rattle.tk_engine_hierarchical.specs.Reporting
+pub mod Laws

@@ -9,7 +9,7 @@ pub use tk_engine_execute::{
     execute,
 };
 pub use tk_engine_hierarchical::{
-    Body, Hierarchical, OUT_OF_ORDER, Outcome, Reporter, TWICE, Tests, UnitRun,
+    Body, Hierarchical, OUT_OF_ORDER, Outcome, Reporter, TWICE, Tests, UnitRun, run_tests,
 };
 pub use tk_events::MAX_WORKERS;
 pub use tk_queue::MAX_EVENTS;

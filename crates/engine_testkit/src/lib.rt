@@ -2,13 +2,15 @@
 //!
 //! An author implements [`Tests`], and [`Hierarchical`] makes an [`Engine`] of them and a [`Plan`];
 //! an engine by hand implements [`Engine`] and emits into a [`Sink`]. [`execute`] runs either by 1
-//! to `MAX_WORKERS` workers, and [`Results`] has the record. `crates/example_engine` has examples.
-//! What clauses cite is in `specs/Lib.antt`. JUnit: `EngineTestKit`.
+//! to `MAX_WORKERS` workers, and [`Results`] has the record; [`run_tests`] runs an engine of tests,
+//! and says what holds of its record. `crates/example_engine` has examples. What clauses cite is in
+//! `specs/Lib.antt`. JUnit: `EngineTestKit`.
 //!
 //! Here stand the names that most engines and their tests need; the modules have every name.
 #![tactic(auto)]
 
 pub mod engine;
+pub mod laws;
 pub mod plans;
 pub mod questions;
 pub mod queue;
@@ -17,7 +19,7 @@ pub mod record;
 pub use engine::{
     Body, BookSeat, Engine, Hierarchical, Need, Outcome, Reporter, Results, RunFault, Sink, Tests,
     UnitFault, UnitRun, emit, execute, file_published, finish, finished, publish_file, register,
-    report, reported, skip, skipped, start, started,
+    report, reported, run_tests, skip, skipped, start, started,
 };
 pub use plans::{ExecutionMode, LockMode, Plan, PlanFault, PlanNode, build_plan};
 pub use questions::{

@@ -9,3 +9,5 @@ mod limits;
 mod planned;
 #[cfg(test)]
 mod refusals;
+#[cfg(test)]
+mod runs;

@@ -14,3 +14,4 @@ pub mod UnitViews
 pub mod Standing
 pub mod TreeRuns
 pub mod Laws
+pub mod Runs

@@ -9,6 +9,7 @@ mod planned_units;
 mod registered_ids;
 mod reporters;
 mod running_keys;
+mod runs;
 mod shapes;
 mod stacks;
 mod tests;
@@ -18,6 +19,7 @@ mod unit_runs;
 
 pub use engines::Hierarchical;
 pub use reporters::Reporter;
+pub use runs::run_tests;
 pub use tests::{Body, Outcome, Tests};
 pub use tk_engine_execute::{OUT_OF_ORDER, TWICE};
 pub use unit_runs::UnitRun;

@@ -1,0 +1,13 @@
+-- Which records are runs of an engine of tests by so many workers.
+use Rattle.std.specs.Prelude.{ℕ}
+use Rattle.tk_record_columns.specs.Recorded.{Recorded}
+use Rattle.tk_engine_runs.specs.Run.{IsRun}
+use Rattle.tk_engine_hierarchical.specs.Laws.{TestRules, may_of}
+use Rattle.tk_engine_hierarchical.specs.Shapes.{ShapeView, frame}
+
+-- The record is that of a run of the engine of a plan by this many workers, in which each unit
+-- emits what it may.
+abbrev pub IsRunBy : ShapeView → TestRules → ℕ → Recorded → Type 0
+IsRunBy shape rules workers r =
+    let f = frame shape in
+    IsRun (may_of shape rules) f.table f.before f.after f.units workers r
