@@ -7,11 +7,11 @@ use crate::parts::distance_at;
 use tk_query_conditions::Condition;
 use tk_record_columns::Events;
 
-/// Finds the three events that come nearest to a condition, or all if there are fewer, of those that
-/// stand at the position `first` or after it.
+/// Finds the three events that come nearest to a condition, or all if there are fewer, of those
+/// that stand at the position `first` or after it.
 ///
-/// An event comes nearer than another one where fewer parts of the condition don't hold of it, or as
-/// many, and its position is lower.
+/// An event comes nearer than another one where fewer parts of the condition don't hold of it, or
+/// as many, and its position is lower.
 pub fn nearest(events: &Events, first: usize, condition: &Condition) -> Nearest
     ensures { IsNearest events.now first (cond_of condition.now) result }
 {
