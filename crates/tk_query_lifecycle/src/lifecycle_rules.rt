@@ -48,8 +48,8 @@ pub enum Lifecycle {
     Broken(usize, LifecycleRule),
     /// No event breaks a rule, and this is the least key that runs at the end.
     Unfinished(u32),
-    /// No event breaks a rule, no key runs at the end, and this is the least static key that neither
-    /// starts nor is skipped, though its parent finishes successfully.
+    /// No event breaks a rule, no key runs at the end, and this is the least static key that
+    /// neither starts nor is skipped, though its parent finishes successfully.
     NeverRan(u32),
 }
 
