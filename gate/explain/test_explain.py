@@ -85,7 +85,8 @@ TREE = 'N|C|[engine:e]|e\nN|C|[engine:e]/[class:A]|A "a"\nN|T|[engine:e]/[class:
 E, A = '[engine:e] "e"', '[engine:e]/[class:A] "A "a""'
 ONE, D, B = '[engine:e]/[class:A]/[t:1] "one"', "[engine:e]/[d:1]", "dynamic|T|[engine:e]/[class:A]|b"
 LIFECYCLES = [
-    (["0 start", "0 finish|ok"], "yes", []),
+    (["0 start", "0 finish|fail"], "yes", []),
+    (["0 start", "0 finish|ok"], "no start 1", [(f"{A} neither started nor was skipped, but its parent succeeded at 1", E, "1")]),
     (["0 start", "1 start", "3 skip|off", "2 start"], "no end 0", [
         (f"{E} started at 0 and never finished", "", "0"),
         (f"{A} started at 1 and never finished", E, "1"),

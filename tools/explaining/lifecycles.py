@@ -5,7 +5,7 @@ from typing import Dict, Iterable, List, Optional, Tuple
 
 from asking import Record, show, show_event
 
-FORM = rb"yes\n|no end [0-9]+\n|no [0-9]+ (id-known|parent-unknown|parent-not-running|ran-already|not-running|child-running)\n"
+FORM = rb"yes\n|no (end|start) [0-9]+\n|no [0-9]+ (id-known|parent-unknown|parent-not-running|ran-already|not-running|child-running)\n"
 
 MOST_UNFINISHED = 20
 """How many descriptors that never finish are named."""
@@ -129,6 +129,14 @@ def explain_end(record: Record) -> None:
         show(f"{len(running) - MOST_UNFINISHED} more were never finished".encode())
 
 
+def explain_start(record: Record, key: int) -> None:
+    """Names a descriptor that never ran, and when its parent succeeded."""
+    descriptors = descriptors_before(record, len(record.events))
+    position = of_id(descriptors, descriptors[key].parent_id).marks[-1][0]
+    why = f"neither started nor was skipped, but its parent succeeded at {position}".encode()
+    show_sentence(record, descriptors, descriptors[key], why, [position])
+
+
 def explain(record: Record, *words: bytes) -> int:
     """Prints the answer of `ask lifecycle`, and what stands behind it."""
     answer = record.ask(FORM, b"lifecycle", *words)
@@ -138,6 +146,8 @@ def explain(record: Record, *words: bytes) -> int:
     _, where, rule = answer.decode().split()
     if where == "end":
         explain_end(record)
+    elif where == "start":
+        explain_start(record, int(rule))
     else:
         explain_break(record, int(where), rule)
     return 1

@@ -62,7 +62,7 @@ use Rattle.testkit_questions.specs.declared.questions.Mode.TheVariants.{
 use Rattle.tk_query_lifecycle.specs.declared.lifecycle_rules.Lifecycle.{Lifecycle}
 use Rattle.tk_query_lifecycle.specs.declared.lifecycle_rules.Lifecycle.TheVariants as lifecycles
 use Rattle.tk_query_lifecycle.specs.Lifecycle.{IsLifecycle}
-use Rattle.tk_query_lifecycle.specs.LifecycleTexts.{rule_text}
+use Rattle.tk_query_lifecycle.specs.LifecycleTexts.{lifecycle_text}
 use Rattle.tk_report_text.specs.Reports.{report_of_record}
 use Rattle.testkit_questions.specs.declared.questions.Overview.{Overview}
 use Rattle.testkit_questions.specs.declared.questions.Overview.TheVariants as overviews
@@ -143,10 +143,7 @@ events_where selection conditions r =
 
 -- the record keeps the lifecycle, or where it first doesn't
 abbrev pub lifecycle_line : Lifecycle → List ℕ
-lifecycle_line lifecycles.Kept = codes "yes" ++ line_feed ∷ []
-lifecycle_line (lifecycles.Broken position rule) =
-    codes "no " ++ decimal position ++ blank ∷ rule_text rule ++ line_feed ∷ []
-lifecycle_line (lifecycles.Unfinished key) = codes "no end " ++ decimal key ++ line_feed ∷ []
+lifecycle_line lifecycle = lifecycle_text lifecycle ++ line_feed ∷ []
 
 abbrev pub lifecycle_yes : Lifecycle → Bool
 lifecycle_yes lifecycles.Kept = true

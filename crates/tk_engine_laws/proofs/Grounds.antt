@@ -85,6 +85,16 @@ there (m ∷ ns) (p ∷ ps) (i ∷ is) (suc at) n h e =
     let t = there ns ps is at n h.1 e in
     record { numbered_node = t.numbered_node; in_nodes = t.in_nodes; in_ids = t.in_ids; number = t.number; node = t.node; static = t.static }
 
+item_at : (ns : List Item) (ps : List NumberedNode) (is : List (List SegmentView)) (at : ℕ) (id : List SegmentView) → Beside ns ps is → slice_get is at ≡ Some id
+    → (n : Item) × (slice_get ns at ≡ Some n) × (n.id ≡ id)
+item_at [] [] [] at id h e = cc
+item_at [] [] (i ∷ is) at id h e = absurd h
+item_at [] (p ∷ ps) is at id h e = absurd h
+item_at (n ∷ ns) [] is at id h e = absurd h
+item_at (n ∷ ns) (p ∷ ps) [] at id h e = absurd h
+item_at (n ∷ ns) (p ∷ ps) (i ∷ is) zero id h e = (n, refl, h.0.2 ∙ some_same e)
+item_at (n ∷ ns) (p ∷ ps) (i ∷ is) (suc at) id h e = item_at ns ps is at id h.1 e
+
 -- ---- numbers
 
 -- where the numbers of some nodes lie
@@ -313,6 +323,13 @@ module _ (all : List NumberedNode) (table : List Descriptor) (p : IsPlanned all 
   item_apart i n e s k g =
       let t = there (nodes_below (trees_of all)) all (ids.ids_below [] (plan.forest all)) i n near e in
       (keyed all table p numbers i t.numbered_node n.id t.in_nodes t.in_ids).dynamic (sym t.static ∙ s) (k, g)
+
+  -- each id of the table is that of an item
+  pub item_of : (key : ℕ) (id : List SegmentView) → slice_get (ids_of table) key ≡ Some id → (i : ℕ) × (n : Item) × (slice_get (nodes_below (trees_of all)) i ≡ Some n) × (n.id ≡ id)
+  item_of key id e =
+      let at = somewhere (ids_of table) (ids.ids_below [] (plan.forest all)) key id (subst (λ t. Within (ids_of t) (ids.ids_below [] (plan.forest all))) (sym p.described) (within_below [] (plan.forest all))) e in
+      let n = item_at (nodes_below (trees_of all)) all (ids.ids_below [] (plan.forest all)) at.0 id near at.1 in
+      (at.0, n.0, n.1, n.2)
 
   pub models : Models all table (trees_of all)
   models =

@@ -206,16 +206,16 @@ name_next r p e key id at h = name_longer r (take p r.entries ++ e ∷ []) (drop
 
 -- ---- entries and their labels
 
-label_at : (r : Recorded) (p : ℕ) (e : Entry) → slice_get r.entries p ≡ Some e → slice_get (labels r) p ≡ Some (label (name r) e.event)
+pub label_at : (r : Recorded) (p : ℕ) (e : Entry) → slice_get r.entries p ≡ Some e → slice_get (labels r) p ≡ Some (label (name r) e.event)
 label_at r p e at = map_get (label (name r)) (events r.entries) p e.event (map_get (λ (x : Entry). x.event) r.entries p e at)
 
 -- the entry of a label
-record IsLabelled (r : Recorded) (p : ℕ) (l : Label) : Type 0 where
-  entry : Entry
-  stands : slice_get r.entries p ≡ Some entry
-  label_is : label (name r) entry.event ≡ l
+pub record IsLabelled (r : Recorded) (p : ℕ) (l : Label) : Type 0 where
+  pub entry : Entry
+  pub stands : slice_get r.entries p ≡ Some entry
+  pub label_is : label (name r) entry.event ≡ l
 
-labelled : (r : Recorded) (p : ℕ) (l : Label) → slice_get (labels r) p ≡ Some l → IsLabelled r p l
+pub labelled : (r : Recorded) (p : ℕ) (l : Label) → slice_get (labels r) p ≡ Some l → IsLabelled r p l
 labelled r p l at =
     let x = of_map (label (name r)) (events r.entries) p l at in
     let y = of_map (λ (e : Entry). e.event) r.entries p x.0 x.1 in
@@ -226,7 +226,7 @@ is_registered r e i is dynamic = and_from (same_id (name r e.event.key) i) (of_k
 
 -- ---- ids and their parents
 
-last_segment : (id : List SegmentView) → 0 < length id → (s : SegmentView) × (id ≡ parent_of id ++ s ∷ [])
+pub last_segment : (id : List SegmentView) → 0 < length id → (s : SegmentView) × (id ≡ parent_of id ++ s ∷ [])
 last_segment [] h = let no : ⊥ = omega (arith, h) in absurd no
 last_segment (x ∷ []) h = (x, refl)
 last_segment (x ∷ (y ∷ ys)) h =

@@ -16,6 +16,7 @@ pub mod ListenerSteps
 pub mod OneKey
 pub mod ByKey
 pub mod Keeping
+pub mod ChildrenRun
 pub mod Stamps
 pub mod Samples
 pub mod Playing

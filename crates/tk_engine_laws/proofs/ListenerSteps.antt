@@ -21,7 +21,7 @@ use Rattle.tk_report_text.specs.Labels.{Label, labels, same_id, same_kind}
 use Rattle.tk_engine_laws.specs.Listening.{IsOnce, Listens, finishes, is_followed, is_of, is_ran, precedes, registers, skips, starts}
 use Rattle.tk_engine_laws.specs.Scripts.{IsRunOf}
 
-and_left : (b c : Bool) → (b && c) ≡ true → b ≡ true
+pub and_left : (b c : Bool) → (b && c) ≡ true → b ≡ true
 and_left true c h = refl
 and_left false c h = cc
 
@@ -29,7 +29,7 @@ or_left : (b c : Bool) → b ≡ true → (b || c) ≡ true
 or_left true c h = refl
 or_left false c h = cc
 
-or_right : (b c : Bool) → c ≡ true → (b || c) ≡ true
+pub or_right : (b c : Bool) → c ≡ true → (b || c) ≡ true
 or_right true c h = refl
 or_right false c h = h
 
@@ -87,22 +87,22 @@ register_own i n h =
 
 -- ---- skipped
 
-start_or_skip : (k : Kind) → same_kind k Started ≡ true → same_kind k Skipped ≡ true → ⊥
+pub start_or_skip : (k : Kind) → same_kind k Started ≡ true → same_kind k Skipped ≡ true → ⊥
 start_or_skip k s h = let a : kind_code k ≡ 3 = grind (arith, tests, s) in let b : kind_code k ≡ 2 = grind (arith, tests, h) in omega (arith, a, b)
 
-finish_or : (k : Kind) → same_kind k Finished ≡ true → (same_kind k Skipped ≡ false) × (same_kind k Started ≡ false)
+pub finish_or : (k : Kind) → same_kind k Finished ≡ true → (same_kind k Skipped ≡ false) × (same_kind k Started ≡ false)
 finish_or k h = let a : kind_code k ≡ 4 = grind (arith, tests, h) in (grind (arith, tests, a), grind (arith, tests, a))
 
-any_two : (b c : Bool) → (b || (c || false)) ≡ true → (b ≡ true) ⊎ (c ≡ true)
+pub any_two : (b c : Bool) → (b || (c || false)) ≡ true → (b ≡ true) ⊎ (c ≡ true)
 any_two true c h = inl refl
 any_two false true h = inr refl
 any_two false false h = cc
 
-any_one : (b : Bool) → (b || false) ≡ true → b ≡ true
+pub any_one : (b : Bool) → (b || false) ≡ true → b ≡ true
 any_one true h = refl
 any_one false h = cc
 
-and_right : (b c : Bool) → (b && c) ≡ true → c ≡ true
+pub and_right : (b c : Bool) → (b && c) ≡ true → c ≡ true
 and_right true c h = h
 and_right false c h = cc
 
@@ -118,7 +118,7 @@ not_both i (x ∷ (y ∷ (z ∷ zs))) o s k = o
 start_ran : (i : List SegmentView) → Only (starts i) (ran_of i)
 start_ran i l h = ap₂ (λ b c. b && c) (and_left (is_of i l) (same_kind l.kind Started) h) (or_left (same_kind l.kind Started) _ (and_right (is_of i l) (same_kind l.kind Started) h))
 
-skip_ran : (i : List SegmentView) → Only (skips i) (ran_of i)
+pub skip_ran : (i : List SegmentView) → Only (skips i) (ran_of i)
 skip_ran i l h = ap₂ (λ b c. b && c) (and_left (is_of i l) (same_kind l.kind Skipped) h) (or_right (same_kind l.kind Started) _ (or_right (same_kind l.kind Finished) _ (and_right (is_of i l) (same_kind l.kind Skipped) h)))
 
 started_any : (i : List SegmentView) → Only (starts i) (is_of i)

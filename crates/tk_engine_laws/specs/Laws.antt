@@ -5,6 +5,7 @@ use Rattle.tk_events.specs.declared.events.Event.{Event}
 use Rattle.tk_record_columns.specs.Recorded.{Recorded}
 use Rattle.tk_record_columns.specs.Entries.{desc}
 use Rattle.tk_query_lifecycle.specs.KeepsLifecycle.{KeepsLifecycle}
+use Rattle.tk_query_lifecycle.specs.NeverRan.{EachChildRuns}
 use Rattle.tk_query_lifecycle.specs.Lifecycle.{IsLifecycle}
 use Rattle.tk_query_lifecycle.specs.declared.lifecycle_rules.Lifecycle.{Lifecycle}
 use Rattle.tk_query_lifecycle.specs.declared.lifecycle_rules.Lifecycle.TheVariants.{Kept}
@@ -84,6 +85,13 @@ RunsKeepLifecycle =
     (nodes : List NumberedNode) (table : List Descriptor) (workers : ℕ) (r : Recorded)
     → IsPlanned nodes table → IsNumbered nodes
     → IsRunOf nodes table workers r → KeepsLifecycle r
+
+-- in the record of a run each static child of what finishes successfully starts or is skipped
+abbrev pub ChildrenRun : Type 0
+ChildrenRun =
+    (nodes : List NumberedNode) (table : List Descriptor) (workers : ℕ) (r : Recorded)
+    → IsPlanned nodes table → IsNumbered nodes
+    → IsRunOf nodes table workers r → EachChildRuns r
 
 -- `Kept` is what is said of the record's lifecycle, and nothing else is
 abbrev pub IsKept : Recorded → Type 0

@@ -1,5 +1,5 @@
 -- What one more event does to the states of keys.
-use Rattle.std.proofs.Common.{◌≡◌, ℕ, ◌+◌, Bool, true, false, ◌&&◌, List, [], ◌∷◌, ◌++◌, Some, None, refl, sym, ap, ◌∙◌, subst, arith, eqb-true}
+use Rattle.std.proofs.Common.{◌≡◌, ℕ, ◌+◌, Bool, true, false, ◌&&◌, ◌||◌, List, [], ◌∷◌, ◌++◌, Some, None, refl, sym, ap, ◌∙◌, subst, arith, eqb-true}
 use Rattle.std.specs.Prelude.{◌==◌, if◌then◌else◌}
 use Rattle.std.specs.List.{sum_by}
 use Rattle.std.proofs.lemmas.Bool.{true≢false}
@@ -8,18 +8,19 @@ use Rattle.tk_ids.specs.IdText.{SegmentView, parent_of}
 use Rattle.tk_events.specs.declared.kinds.Kind.{Kind}
 use Rattle.tk_events.specs.declared.kinds.Kind.TheVariants.{Dynamic, Skipped, Started, Finished, Reporting, File}
 use Rattle.tk_events.specs.declared.events.Entry.{Entry}
-use Rattle.tk_record_columns.specs.Entries.{with_entry}
+use Rattle.tk_events.specs.declared.statuses.Status.TheVariants.{Successful}
+use Rattle.tk_record_columns.specs.Entries.{of_status, with_entry}
 use Rattle.tk_record_columns.specs.Recorded.{Recorded}
 use Rattle.tk_query_lifecycle.specs.Lifecycle.{HasId, has_run}
 use Rattle.tk_query_lifecycle.specs.KeyStates.{state_of, is_key, is_running, running_child, phase_after, advanced, refusal, children_after, counted, ArePut, IsCounted}
-use Rattle.tk_query_lifecycle.specs.Progress.{AreAdvanced, AreStates, IsKnownParent, IsParent, IsParentOf, IsPhase}
+use Rattle.tk_query_lifecycle.specs.Progress.{AreAdvanced, AreStates, IsKnownParent, IsParent, IsParentOf, IsPhase, has_success}
 use Rattle.tk_query_lifecycle.specs.declared.key_states.KeyState.{KeyState}
 use Rattle.tk_query_lifecycle.specs.declared.key_states.Phase.{Phase}
 use Rattle.tk_query_lifecycle.specs.declared.key_states.Phase.TheVariants.{Idle, Running, Ended}
 use Rattle.tk_query_lifecycle.specs.declared.key_states.Parent.{Parent}
 use Rattle.tk_query_lifecycle.specs.declared.key_states.Parent.TheVariants.{Unsought, Root, Key}
 use Rattle.tk_query_lifecycle.proofs.FirstEntries.{has_id_more}
-use Rattle.tk_query_lifecycle.proofs.PhaseLemmas.{phase_same, phase_other, run_other}
+use Rattle.tk_query_lifecycle.proofs.PhaseLemmas.{phase_same, phase_other, run_other, success_other, success_same}
 
 abbrev one_if : Bool → ℕ
 one_if b = if b then 1 else 0
@@ -76,7 +77,7 @@ module _ (past : Recorded) (e : Entry) (id : List SegmentView) (states new : Lis
   own = state_of states e.event.key
 
   abbrev next : KeyState
-  next = advanced e.event.kind parent own
+  next = advanced e parent own
 
   -- the states between: the event's key has its new state
   between_sums : (mid : List KeyState) → ArePut states mid e.event.key next → (k : ℕ) → sum_by (running_child k) mid + share k own.phase parent ≡ sum_by (running_child k) states + share k (phase_after e.event.kind own.phase) parent
@@ -102,12 +103,19 @@ module _ (past : Recorded) (e : Entry) (id : List SegmentView) (states new : Lis
 
   -- the phase and the parent of each key after the event
   abbrev IsAfter : ℕ → KeyState → Type 0
-  IsAfter k s = IsPhase (past.entries ++ e ∷ []) k s.phase × IsParentOf (with_entry past e) k s.parent
+  IsAfter k s = IsPhase (past.entries ++ e ∷ []) k s.phase × IsParentOf (with_entry past e) k s.parent × (s.succeeded ≡ has_success k (past.entries ++ e ∷ []))
 
   after_at : (k : ℕ) (same : Bool) → (e.event.key == k) ≡ same → IsAfter k (if same then next else state_of states k)
-  after_at k true same = subst (λ j. IsAfter j next) (eqb-true e.event.key k same)
-      (phase_same past.entries e own none (are.phases e.event.key), own_parent parent is_parent)
-  after_at k false other = (phase_other past.entries e k (state_of states k).phase other (are.phases k), more_parent_of k (state_of states k).parent other (are.parents k))
+  after_at k true same = subst (λ j. IsAfter j next) (eqb-true e.event.key k same) (
+    phase_same past.entries e own none (are.phases e.event.key),
+    own_parent parent is_parent,
+    ap (λ b. b || of_status Successful e) (are.successes e.event.key) ∙ sym (success_same past.entries e),
+  )
+  after_at k false other = (
+    phase_other past.entries e k (state_of states k).phase other (are.phases k),
+    more_parent_of k (state_of states k).parent other (are.parents k),
+    are.successes k ∙ sym (success_other past.entries e k other),
+  )
 
   between_at : (mid : List KeyState) → ArePut states mid e.event.key next → (k : ℕ) → IsAfter k (state_of mid k)
   between_at mid put k = subst (IsAfter k) (sym (put.at k)) (after_at k (e.event.key == k) refl)
@@ -124,7 +132,7 @@ module _ (past : Recorded) (e : Entry) (id : List SegmentView) (states new : Lis
   counted_at mid p put k h = subst (IsAfter k) (sym (put.at k)) (by (p == k) refl)
     where
       by : (same : Bool) → (p == k) ≡ same → IsAfter k (if same then counted e.event.kind (state_of mid p) else state_of mid k)
-      by true same = subst (λ j. IsAfter k (counted e.event.kind (state_of mid j))) (sym (eqb-true p k same)) (h.0, h.1)
+      by true same = subst (λ j. IsAfter k (counted e.event.kind (state_of mid j))) (sym (eqb-true p k same)) (h.0, h.1, h.2)
       by false other = h
 
   after_all : (mid : List KeyState) (p : Parent) → ArePut states mid e.event.key next → IsCounted e.event.kind p mid new → (k : ℕ) → IsAfter k (state_of new k)
@@ -160,5 +168,6 @@ module _ (past : Recorded) (e : Entry) (id : List SegmentView) (states new : Lis
   states_more adv = record {
     phases = λ k. (after_all adv.0 parent adv.1 adv.2 k).0;
     parents = λ k. (after_all adv.0 parent adv.1 adv.2 k).1;
+    successes = λ k. (after_all adv.0 parent adv.1 adv.2 k).2;
     children = λ k. children_at adv.0 parent refl adv.1 adv.2 k;
   }

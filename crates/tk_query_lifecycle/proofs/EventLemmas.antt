@@ -354,7 +354,7 @@ module _ (past : Recorded) (e : Entry) (id : List SegmentView) (states : List Ke
 -- before the first event
 pub progress_first : (r : Recorded) (states : List KeyState) (ids : List (List ℕ × ℕ)) → states ≡ [] → ids ≡ [] → AreDifferent r.table → IsProgress (first_entries 0 r) states ids
 progress_first r states ids none empty different = record {
-  states_are = subst (AreStates (first_entries 0 r)) (sym none) (record { phases = λ key. (refl, refl); parents = λ key. refl; children = λ key. refl });
+  states_are = subst (AreStates (first_entries 0 r)) (sym none) (record { phases = λ key. (refl, refl); parents = λ key. refl; successes = λ key. refl; children = λ key. refl });
   ids_are = ids_first r.table ids empty different;
 }
 

@@ -15,10 +15,9 @@ use Rattle.tk_events.specs.declared.events.Entry.{Entry}
 use Rattle.tk_events.specs.Event.{kind_code}
 use Rattle.tk_record_columns.specs.Entries.{of_kind, desc, with_entry}
 use Rattle.tk_record_columns.specs.Recorded.{Recorded}
-use Rattle.tk_query_lifecycle.specs.Lifecycle.{is_event, has_event, has_run, runs, HasId, BreaksNone, NoneBreaks, IsLifecycle, HasNoRunningParent, RunsAgain, EndsNothing, LeavesChild, first_entries}
+use Rattle.tk_query_lifecycle.specs.Lifecycle.{is_event, has_event, has_run, runs, HasId, BreaksNone, NoneBreaks, IsInOrder, HasNoRunningParent, RunsAgain, EndsNothing, LeavesChild, first_entries}
 use Rattle.tk_query_lifecycle.specs.KeepsLifecycle.{is_step, steps_of, IsBelowRunning, KeepsLifecycle}
-use Rattle.tk_query_lifecycle.specs.LifecycleLaws.{KeptByItsEvents}
-use Rattle.tk_query_lifecycle.specs.declared.lifecycle_rules.Lifecycle.TheVariants.{Kept}
+use Rattle.tk_query_lifecycle.specs.LifecycleLaws.{InOrderByItsEvents, KeptByItsEvents}
 use Rattle.tk_query_lifecycle.specs.declared.lifecycle_rules.LifecycleRule.TheVariants.{IdKnown, ParentUnknown, ParentNotRunning, RanAlready, NotRunning, ChildRunning}
 use Rattle.tk_query_lifecycle.proofs.FirstEntries.{first_more, desc_first, has_id_more, one_id}
 use Rattle.tk_query_lifecycle.proofs.IdMapLemmas.{ids_first, known_or_new}
@@ -147,13 +146,13 @@ so_far r key (suc n) le none =
     subst (λ l. SoFar (steps_of key l)) (sym e.2)
     (one_more (first_entries n r) e.0 key (none n e.0 (omega (arith, le)) e.1) (so_far r key n (omega (arith, le)) none))
 
-kept_keeps : (r : Recorded) → IsLifecycle r Kept → KeepsLifecycle r
+kept_keeps : (r : Recorded) → IsInOrder r → KeepsLifecycle r
 kept_keeps r h = record {
-  ids = λ p e at. h.0 p e (slice_get_within r.entries p e at) at IdKnown;
-  below = λ p e at. below_running r p e (h.0 p e (slice_get_within r.entries p e at) at);
+  ids = λ p e at. h.none p e (slice_get_within r.entries p e at) at IdKnown;
+  below = λ p e at. below_running r p e (h.none p e (slice_get_within r.entries p e at) at);
   whole = λ key. whole_at_end (steps_of key r.entries)
-      (subst (λ l. SoFar (steps_of key l)) (take_all (length r.entries) r.entries (omega arith)) (so_far r key (length r.entries) (omega arith) h.0))
-      (sym (runs_steps key r.entries) ∙ h.1 key);
+      (subst (λ l. SoFar (steps_of key l)) (take_all (length r.entries) r.entries (omega arith)) (so_far r key (length r.entries) (omega arith) h.none))
+      (sym (runs_steps key r.entries) ∙ h.at_rest key);
 }
 
 begins_kind : (kind : Kind) → ((kind_code kind == kind_code Started) || (kind_code kind == kind_code Skipped)) ≡ true → (is_step kind ≡ true) × ((kind ≡ Started) ⊎ (kind ≡ Skipped))
@@ -173,14 +172,14 @@ ends_kind Reporting h = absurd (true≢false (sym h))
 ends_kind File h = absurd (true≢false (sym h))
 
 -- an event that passes a test
-any_at : (q : Entry → Bool) (es : List Entry) → list_any q es ≡ true → (i : ℕ) × (e : Entry) × (slice_get es i ≡ Some e) × (q e ≡ true)
+pub any_at : (q : Entry → Bool) (es : List Entry) → list_any q es ≡ true → (i : ℕ) × (e : Entry) × (slice_get es i ≡ Some e) × (q e ≡ true)
 any_at q [] h = absurd (true≢false (sym h))
 any_at q (x ∷ es) h = ⊎_elim {C = (i : ℕ) × (e : Entry) × (slice_get (x ∷ es) i ≡ Some e) × (q e ≡ true)}
     (λ (here : q x ≡ true). (0, x, refl, here))
     (λ (later : list_any q es ≡ true). let r = any_at q es later in (suc r.0, r.1, r.2, r.3))
     (or_cases (q x) (list_any q es) h)
 
-any_from : (q : Entry → Bool) (es : List Entry) (i : ℕ) (e : Entry) → slice_get es i ≡ Some e → q e ≡ true → list_any q es ≡ true
+pub any_from : (q : Entry → Bool) (es : List Entry) (i : ℕ) (e : Entry) → slice_get es i ≡ Some e → q e ≡ true → list_any q es ≡ true
 any_from q [] i e at h = absurd (none-some e at)
 any_from q (x ∷ es) zero e at h = ap (λ b. b || list_any q es) (ap q (same_Some x e at) ∙ h)
 any_from q (x ∷ es) (suc i) e at h = ap (λ b. q x || b) (any_from q es i e at h) ∙ or_true (q x)
@@ -272,8 +271,8 @@ no_left r different keeps p e at h =
     and_false true = refl
     and_false false = refl
 
-keeping_kept : (r : Recorded) → AreDifferent r.table → KeepsLifecycle r → IsLifecycle r Kept
-keeping_kept r different keeps = (none, λ key. runs_steps key r.entries ∙ whole_rests (steps_of key r.entries) (to_whole (steps_of key r.entries) (keeps.whole key)))
+keeping_kept : (r : Recorded) → AreDifferent r.table → KeepsLifecycle r → IsInOrder r
+keeping_kept r different keeps = record { none = none; at_rest = λ key. runs_steps key r.entries ∙ whole_rests (steps_of key r.entries) (to_whole (steps_of key r.entries) (keeps.whole key)) }
   where
     none : NoneBreaks r (length r.entries)
     none p e lt at IdKnown h = keeps.ids p e at h
@@ -292,5 +291,8 @@ keeping_kept r different keeps = (none, λ key. runs_steps key r.entries ∙ who
         ∙ sym (runs_steps e.event.key (take p r.entries)) ∙ h.at_rest)
     none p e lt at ChildRunning h = no_left r different keeps p e at h
 
+pub in_order_by_its_events : InOrderByItsEvents
+in_order_by_its_events r different = (kept_keeps r, keeping_kept r different)
+
 pub kept_by_its_events : KeptByItsEvents
-kept_by_its_events r different = (kept_keeps r, keeping_kept r different)
+kept_by_its_events r different = (λ h. (kept_keeps r h.0, h.1), λ h. (keeping_kept r different h.0, h.1))

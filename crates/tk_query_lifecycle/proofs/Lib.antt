@@ -10,3 +10,4 @@ pub mod LoopLemmas
 pub mod LifecycleIsUnique
 pub mod StepLemmas
 pub mod KeepLemmas
+pub mod NeverRanLemmas

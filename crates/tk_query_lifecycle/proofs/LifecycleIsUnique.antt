@@ -7,7 +7,7 @@ use Rattle.tk_events.specs.declared.events.Entry.{Entry}
 use Rattle.tk_record_columns.specs.Recorded.{Recorded}
 use Rattle.tk_query_lifecycle.specs.Lifecycle.{Breaks, BreaksFirst, NoneBreaks, IsBrokenAt, first_entries, rank}
 use Rattle.tk_query_lifecycle.specs.LifecycleLaws.{LifecycleIsUnique, BreakIsFinal}
-use Rattle.tk_query_lifecycle.specs.declared.lifecycle_rules.Lifecycle.TheVariants.{Kept, Broken, Unfinished}
+use Rattle.tk_query_lifecycle.specs.declared.lifecycle_rules.Lifecycle.TheVariants.{Kept, Broken, Unfinished, NeverRan}
 use Rattle.tk_query_lifecycle.specs.declared.lifecycle_rules.LifecycleRule.{LifecycleRule}
 use Rattle.tk_query_lifecycle.specs.declared.lifecycle_rules.LifecycleRule.TheVariants.{IdKnown, ParentUnknown, ParentNotRunning, RanAlready, NotRunning, ChildRunning}
 
@@ -46,16 +46,23 @@ pair_same p q a b e f = ap (λ n. Broken n a) e ∙ ap (Broken q) f
 
 pub lifecycle_is_unique : LifecycleIsUnique
 lifecycle_is_unique r Kept Kept h k = refl
-lifecycle_is_unique r Kept (Broken q b) h k = absurd (broken_kept r q b k h.0)
-lifecycle_is_unique r Kept (Unfinished key) h k = absurd (true≢false (sym k.1 ∙ h.1 key))
-lifecycle_is_unique r (Broken p a) Kept h k = absurd (broken_kept r p a h k.0)
+lifecycle_is_unique r Kept (Broken q b) h k = absurd (broken_kept r q b k h.0.none)
+lifecycle_is_unique r Kept (Unfinished key) h k = absurd (true≢false (sym k.1 ∙ h.0.at_rest key))
+lifecycle_is_unique r Kept (NeverRan key) h k = absurd (h.1 key k.1.never)
+lifecycle_is_unique r (Broken p a) Kept h k = absurd (broken_kept r p a h k.0.none)
 lifecycle_is_unique r (Broken p a) (Broken q b) h k =
     let same = between p q (λ lt. broken_not r p q a h k.before lt) (λ lt. broken_not r q p b k h.before lt) in
     pair_same p q a b same (one_rule r p q a b h k same)
 lifecycle_is_unique r (Broken p a) (Unfinished key) h k = absurd (broken_kept r p a h k.0)
-lifecycle_is_unique r (Unfinished key) Kept h k = absurd (true≢false (sym h.1 ∙ k.1 key))
+lifecycle_is_unique r (Broken p a) (NeverRan key) h k = absurd (broken_kept r p a h k.0.none)
+lifecycle_is_unique r (Unfinished key) Kept h k = absurd (true≢false (sym h.1 ∙ k.0.at_rest key))
 lifecycle_is_unique r (Unfinished key) (Broken q b) h k = absurd (broken_kept r q b k h.0)
 lifecycle_is_unique r (Unfinished i) (Unfinished j) h k = ap Unfinished (between i j (λ lt. true≢false (sym h.1 ∙ k.2 i lt)) (λ lt. true≢false (sym k.1 ∙ h.2 j lt)))
+lifecycle_is_unique r (Unfinished key) (NeverRan j) h k = absurd (true≢false (sym h.1 ∙ k.0.at_rest key))
+lifecycle_is_unique r (NeverRan key) Kept h k = absurd (k.1 key h.1.never)
+lifecycle_is_unique r (NeverRan key) (Broken q b) h k = absurd (broken_kept r q b k h.0.none)
+lifecycle_is_unique r (NeverRan i) (Unfinished key) h k = absurd (true≢false (sym k.1 ∙ h.0.at_rest key))
+lifecycle_is_unique r (NeverRan i) (NeverRan j) h k = ap NeverRan (between i j (λ lt. k.1.first i lt h.1.never) (λ lt. h.1.first j lt k.1.never))
 
 -- an event within the first ones
 first_at : (es ds : List Entry) (p : ℕ) (e : Entry) → take (suc p) ds ≡ take (suc p) es → slice_get es p ≡ Some e → slice_get ds p ≡ Some e
@@ -82,4 +89,4 @@ break_is_final r s p rule b table same kept =
     let past : first_entries p r ≡ first_entries p s =
     ap (λ t. let x : Recorded = record { table = t; entries = take p r.entries } in x) (sym table)
     ∙ ap (λ l. let x : Recorded = record { table = s.table; entries = l } in x) (sym (take_less r.entries s.entries p firsts)) in
-    kept.0 p b.event (slice_get_within s.entries p b.event at) at rule (subst (λ x. Breaks x b.event rule) past b.breaks.broken)
+    kept.0.none p b.event (slice_get_within s.entries p b.event at) at rule (subst (λ x. Breaks x b.event rule) past b.breaks.broken)

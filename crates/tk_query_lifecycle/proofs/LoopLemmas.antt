@@ -9,9 +9,9 @@ use Rattle.tk_record_columns.specs.declared.records.EntryView.{EntryView}
 use Rattle.tk_record_columns.specs.Record.{IsViewOf}
 use Rattle.tk_record_columns.specs.Recorded.{Recorded}
 use Rattle.tk_record_columns.specs.Record.{entry_of_view}
-use Rattle.tk_query_lifecycle.specs.Lifecycle.{BreaksFirst, BreaksNone, NoneBreaks, IsLifecycle, first_entries}
-use Rattle.tk_query_lifecycle.specs.Progress.{IsFirstOfRuns, IsProgress, IsTaken, next_event}
-use Rattle.tk_query_lifecycle.specs.declared.lifecycle_rules.Lifecycle.TheVariants.{Kept, Broken, Unfinished}
+use Rattle.tk_query_lifecycle.specs.Lifecycle.{BreaksFirst, BreaksNone, NoneBreaks, IsInOrder, IsLifecycle, first_entries}
+use Rattle.tk_query_lifecycle.specs.Progress.{IsFirstOfNeverRun, IsFirstOfRuns, IsProgress, IsTaken, next_event}
+use Rattle.tk_query_lifecycle.specs.declared.lifecycle_rules.Lifecycle.TheVariants.{Kept, Broken, Unfinished, NeverRan}
 use Rattle.tk_query_lifecycle.specs.declared.lifecycle_rules.LifecycleRule.{LifecycleRule}
 use Rattle.tk_query_lifecycle.specs.declared.key_states.KeyState.{KeyState}
 use Rattle.tk_query_lifecycle.proofs.FirstEntries.{first_more}
@@ -68,8 +68,14 @@ module _ (r : Recorded) (n : ℕ) (states : List KeyState) (ids : List (List ℕ
   pub unfinished : (first : Option ℕ) (key : ℕ) → IsFirstOfRuns r first → first ≡ Some key → IsLifecycle r (Unfinished key)
   unfinished first key f is = let k = subst (IsFirstOfRuns r) is f in (none_at_end, k.0, k.1)
 
-  pub kept : (first : Option ℕ) → IsFirstOfRuns r first → first ≡ None → IsLifecycle r Kept
-  kept first f is = (none_at_end, subst (IsFirstOfRuns r) is f)
+  in_order : (first : Option ℕ) → IsFirstOfRuns r first → first ≡ None → IsInOrder r
+  in_order first f is = record { none = none_at_end; at_rest = subst (IsFirstOfRuns r) is f }
+
+  pub never_ran : (first never : Option ℕ) (key : ℕ) → IsFirstOfRuns r first → first ≡ None → IsFirstOfNeverRun r never → never ≡ Some key → IsLifecycle r (NeverRan key)
+  never_ran first never key f is h at = (in_order first f is, subst (IsFirstOfNeverRun r) at h)
+
+  pub kept : (first never : Option ℕ) → IsFirstOfRuns r first → first ≡ None → IsFirstOfNeverRun r never → never ≡ None → IsLifecycle r Kept
+  kept first never f is h at = (in_order first f is, subst (IsFirstOfNeverRun r) at h)
 
 -- where there is no event, none stands at or after the position
 pub past_all : {A : Type 0} (o : Option A) (p n : ℕ) → o ≡ None → (p < n → is_some o ≡ true) → n ≤ p

@@ -5,10 +5,12 @@ use Rattle.std.proofs.lemmas.List.Folds.{list_any-append}
 use Rattle.tk_events.specs.declared.kinds.Kind.{Kind}
 use Rattle.tk_events.specs.declared.kinds.Kind.TheVariants.{Dynamic, Skipped, Started, Finished, Reporting, File}
 use Rattle.tk_events.specs.declared.events.Entry.{Entry}
+use Rattle.tk_events.specs.declared.statuses.Status.TheVariants.{Successful}
 use Rattle.tk_events.specs.Event.{kind_code}
+use Rattle.tk_record_columns.specs.Entries.{of_status}
 use Rattle.tk_query_lifecycle.specs.Lifecycle.{is_event, has_event, has_run}
 use Rattle.tk_query_lifecycle.specs.KeyStates.{phase_after, refusal}
-use Rattle.tk_query_lifecycle.specs.Progress.{IsPhase}
+use Rattle.tk_query_lifecycle.specs.Progress.{IsPhase, has_success, is_success}
 use Rattle.tk_query_lifecycle.specs.declared.key_states.KeyState.{KeyState}
 use Rattle.tk_query_lifecycle.specs.declared.key_states.Phase.{Phase}
 use Rattle.tk_query_lifecycle.specs.declared.key_states.Phase.TheVariants.{Idle, Running, Ended}
@@ -98,6 +100,20 @@ stepped Finished s k f state Ended is none h = cc
 stepped Dynamic s k f state phase is none h = same s k f phase h
 stepped Reporting s k f state phase is none h = same s k f phase h
 stepped File s k f state phase is none h = same s k f phase h
+
+-- a successful finish of another key
+pub success_other : (es : List Entry) (e : Entry) (key : ℕ) → (e.event.key == key) ≡ false → has_success key (es ++ e ∷ []) ≡ has_success key es
+success_other es e key other =
+    list_any-append (is_success key) es (e ∷ [])
+    ∙ ap (λ b. has_success key es || b) (or_nothing (is_success key e) ∙ ap (λ b. of_status Successful e && b) other ∙ and_nothing (of_status Successful e))
+    ∙ or_nothing (has_success key es)
+
+-- a successful finish of the key, or another event of it
+pub success_same : (es : List Entry) (e : Entry) → has_success e.event.key (es ++ e ∷ []) ≡ (has_success e.event.key es || of_status Successful e)
+success_same es e =
+    list_any-append (is_success e.event.key) es (e ∷ [])
+    ∙ ap (λ b. has_success e.event.key es || b)
+    (or_nothing (is_success e.event.key e) ∙ ap (λ b. of_status Successful e && b) (eq-eqb e.event.key e.event.key refl) ∙ and_all (of_status Successful e))
 
 pub phase_same : (es : List Entry) (e : Entry) (state : KeyState) → refusal e.event.kind state ≡ None → IsPhase es e.event.key state.phase → IsPhase (es ++ e ∷ []) e.event.key (phase_after e.event.kind state.phase)
 phase_same es e state none h =

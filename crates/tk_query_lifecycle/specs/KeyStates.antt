@@ -9,6 +9,7 @@ use Rattle.std.specs.Prelude.{
   true,
   false,
   ◌&&◌,
+  ◌||◌,
   ◌==◌,
   if◌then◌else◌,
   List,
@@ -29,6 +30,9 @@ use Rattle.tk_events.specs.declared.kinds.Kind.TheVariants.{
   Reporting,
   File,
 }
+use Rattle.tk_events.specs.declared.statuses.Status.TheVariants.{Successful}
+use Rattle.tk_events.specs.declared.events.Entry.{Entry}
+use Rattle.tk_record_columns.specs.Entries.{of_status}
 use Rattle.tk_query_lifecycle.specs.declared.lifecycle_rules.LifecycleRule.{LifecycleRule}
 use Rattle.tk_query_lifecycle.specs.declared.lifecycle_rules.LifecycleRule.TheVariants.{
   RanAlready,
@@ -47,7 +51,7 @@ key_under entries text = lookup (bytes_eq text) entries
 
 -- the state of a key without an event
 abbrev pub idle : KeyState
-idle = record { phase = Idle; parent = Unsought; running_children = 0 }
+idle = record { phase = Idle; succeeded = false; parent = Unsought; running_children = 0 }
 
 -- the state of a key
 abbrev pub state_of : List KeyState → ℕ → KeyState
@@ -62,6 +66,10 @@ abbrev pub is_running : Phase → Bool
 is_running Running = true
 is_running _ = false
 
+abbrev pub is_idle : Phase → Bool
+is_idle Idle = true
+is_idle _ = false
+
 -- 1 for a running child of the key, 0 for each other key
 abbrev pub running_child : ℕ → KeyState → ℕ
 running_child key s = if is_running s.phase && is_key key s.parent then 1 else 0
@@ -75,11 +83,12 @@ phase_after Dynamic phase = phase
 phase_after Reporting phase = phase
 phase_after File phase = phase
 
--- the state of a key after an event of this kind, where the parent was looked up
-abbrev pub advanced : Kind → Parent → KeyState → KeyState
-advanced kind parent s =
+-- the state of a key after an event of it, where the parent was looked up
+abbrev pub advanced : Entry → Parent → KeyState → KeyState
+advanced e parent s =
     record {
-      phase = phase_after kind s.phase;
+      phase = phase_after e.event.kind s.phase;
+      succeeded = s.succeeded || of_status Successful e;
       parent = parent;
       running_children = s.running_children;
     }
@@ -126,6 +135,7 @@ abbrev pub counted : Kind → KeyState → KeyState
 counted kind s =
     record {
       phase = s.phase;
+      succeeded = s.succeeded;
       parent = s.parent;
       running_children = children_after kind s.running_children;
     }

@@ -1,3 +1,4 @@
+pub mod NeverRan
 pub mod Lifecycle
 pub mod KeepsLifecycle
 pub mod LifecycleTexts

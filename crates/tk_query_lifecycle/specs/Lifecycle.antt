@@ -25,11 +25,13 @@ use Rattle.tk_events.specs.declared.kinds.Kind.TheVariants.{Dynamic, Skipped, St
 use Rattle.tk_events.specs.declared.events.Entry.{Entry}
 use Rattle.tk_record_columns.specs.Entries.{of_kind, desc, with_entry}
 use Rattle.tk_record_columns.specs.Recorded.{Recorded}
+use Rattle.tk_query_lifecycle.specs.NeverRan.{EachChildRuns, IsFirstNeverRun}
 use Rattle.tk_query_lifecycle.specs.declared.lifecycle_rules.Lifecycle.{Lifecycle}
 use Rattle.tk_query_lifecycle.specs.declared.lifecycle_rules.Lifecycle.TheVariants.{
   Kept,
   Broken,
   Unfinished,
+  NeverRan,
 }
 use Rattle.tk_query_lifecycle.specs.declared.lifecycle_rules.LifecycleRule.{LifecycleRule}
 use Rattle.tk_query_lifecycle.specs.declared.lifecycle_rules.LifecycleRule.TheVariants.{
@@ -150,11 +152,16 @@ pub record IsBrokenAt (r : Recorded) (p : ℕ) (rule : LifecycleRule) : Type 0 w
   pub breaks : BreaksFirst (first_entries p r) event rule
   pub before : NoneBreaks r p
 
+-- no event breaks a rule, and no key runs at the end
+pub record IsInOrder (r : Recorded) : Type 0 where
+  pub none : NoneBreaks r (length r.entries)
+  pub at_rest : (key : ℕ) → runs key r.entries ≡ false
+
 -- what is said of a record
 abbrev pub IsLifecycle : Recorded → Lifecycle → Type 0
-IsLifecycle r Kept =
-    NoneBreaks r (length r.entries) × ((key : ℕ) → runs key r.entries ≡ false)
+IsLifecycle r Kept = IsInOrder r × EachChildRuns r
 IsLifecycle r (Broken p rule) = IsBrokenAt r p rule
 IsLifecycle r (Unfinished key) =
     NoneBreaks r (length r.entries) × (runs key r.entries ≡ true)
     × ((lower : ℕ) → lower < key → runs lower r.entries ≡ false)
+IsLifecycle r (NeverRan key) = IsInOrder r × IsFirstNeverRun r key

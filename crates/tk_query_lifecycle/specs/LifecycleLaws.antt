@@ -3,7 +3,8 @@ use Rattle.std.specs.Prelude.{◌≡◌, ◌↔◌, ℕ, ◌+◌, take}
 use Rattle.tk_record_columns.specs.Recorded.{Recorded}
 use Rattle.tk_ids.specs.Table.{AreDifferent}
 use Rattle.tk_query_lifecycle.specs.KeepsLifecycle.{KeepsLifecycle}
-use Rattle.tk_query_lifecycle.specs.Lifecycle.{IsBrokenAt, IsLifecycle}
+use Rattle.tk_query_lifecycle.specs.NeverRan.{EachChildRuns}
+use Rattle.tk_query_lifecycle.specs.Lifecycle.{IsBrokenAt, IsInOrder, IsLifecycle}
 use Rattle.tk_query_lifecycle.specs.declared.lifecycle_rules.Lifecycle.{Lifecycle}
 use Rattle.tk_query_lifecycle.specs.declared.lifecycle_rules.Lifecycle.TheVariants.{Kept}
 use Rattle.tk_query_lifecycle.specs.declared.lifecycle_rules.LifecycleRule.{LifecycleRule}
@@ -20,7 +21,14 @@ BreakIsFinal =
     IsBrokenAt r p rule → s.table ≡ r.table →
     take (p + 1) s.entries ≡ take (p + 1) r.entries → ¬ IsLifecycle s Kept
 
--- `Kept` is the answer exactly where the record keeps the lifecycle. No two descriptors of a table
--- have one id.
+-- No event breaks a rule, and no key runs at the end, exactly where the record keeps the lifecycle.
+-- No two descriptors of a table have one id.
+abbrev pub InOrderByItsEvents : Type 0
+InOrderByItsEvents = (r : Recorded) → AreDifferent r.table → IsInOrder r ↔ KeepsLifecycle r
+
+-- `Kept` is the answer exactly where the record keeps the lifecycle, and each static key below a
+-- key that finishes successfully starts or is skipped.
 abbrev pub KeptByItsEvents : Type 0
-KeptByItsEvents = (r : Recorded) → AreDifferent r.table → IsLifecycle r Kept ↔ KeepsLifecycle r
+KeptByItsEvents =
+    (r : Recorded) → AreDifferent r.table
+    → IsLifecycle r Kept ↔ (KeepsLifecycle r × EachChildRuns r)

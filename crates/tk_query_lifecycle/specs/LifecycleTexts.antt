@@ -1,5 +1,13 @@
--- The words of the lifecycle's rules.
-use Rattle.std.specs.Prelude.{ℕ, List, codes}
+-- The words of the lifecycle's rules and of what is said of a record.
+use Rattle.std.specs.Prelude.{ℕ, List, ◌++◌, codes}
+use Rattle.std.specs.Fmt.{decimal}
+use Rattle.tk_query_lifecycle.specs.declared.lifecycle_rules.Lifecycle.{Lifecycle}
+use Rattle.tk_query_lifecycle.specs.declared.lifecycle_rules.Lifecycle.TheVariants.{
+  Kept,
+  Broken,
+  Unfinished,
+  NeverRan,
+}
 use Rattle.tk_query_lifecycle.specs.declared.lifecycle_rules.LifecycleRule.{LifecycleRule}
 use Rattle.tk_query_lifecycle.specs.declared.lifecycle_rules.LifecycleRule.TheVariants.{
   IdKnown,
@@ -17,3 +25,10 @@ rule_text ParentNotRunning = codes "parent-not-running"
 rule_text RanAlready = codes "ran-already"
 rule_text NotRunning = codes "not-running"
 rule_text ChildRunning = codes "child-running"
+
+abbrev pub lifecycle_text : Lifecycle → List ℕ
+lifecycle_text Kept = codes "yes"
+lifecycle_text (Broken position rule) =
+    codes "no " ++ decimal position ++ codes " " ++ rule_text rule
+lifecycle_text (Unfinished key) = codes "no end " ++ decimal key
+lifecycle_text (NeverRan key) = codes "no start " ++ decimal key

@@ -8,6 +8,7 @@ use Rattle.std.specs.Prelude.{
   false,
   not,
   ◌&&◌,
+  ◌==◌,
   if◌then◌else◌,
   List,
   length,
@@ -20,12 +21,13 @@ use Rattle.std.specs.Prelude.{
   Ok,
   Err,
 }
-use Rattle.std.specs.List.{sum_by}
+use Rattle.std.specs.List.{list_any, sum_by}
 use Rattle.tk_ids.specs.IdText.{SegmentView, IsId, id_text, parent_of}
 use Rattle.tk_ids.specs.declared.descriptors.Descriptor.{Descriptor}
 use Rattle.tk_events.specs.declared.kinds.Kind.TheVariants.{Dynamic, Finished}
 use Rattle.tk_events.specs.declared.events.Entry.{Entry}
-use Rattle.tk_record_columns.specs.Entries.{of_kind, with_entry}
+use Rattle.tk_events.specs.declared.statuses.Status.TheVariants.{Successful}
+use Rattle.tk_record_columns.specs.Entries.{of_kind, of_status, with_entry}
 use Rattle.tk_record_columns.specs.Recorded.{Recorded}
 use Rattle.tk_query_lifecycle.specs.Lifecycle.{
   BreaksFirst,
@@ -35,6 +37,7 @@ use Rattle.tk_query_lifecycle.specs.Lifecycle.{
   has_run,
   runs,
 }
+use Rattle.tk_query_lifecycle.specs.NeverRan.{EachChildRuns, IsFirstNeverRun, NeverRuns}
 use Rattle.tk_query_lifecycle.specs.KeyStates.{
   key_under,
   ArePut,
@@ -74,9 +77,18 @@ abbrev pub IsParentOf : Recorded → ℕ → Parent → Type 0
 IsParentOf r key Unsought = has_run key r.entries ≡ false
 IsParentOf r key parent = (id : List SegmentView) × HasId r key id × IsParent r id parent
 
+-- whether the event finishes the key successfully
+abbrev pub is_success : ℕ → Entry → Bool
+is_success key e = of_status Successful e && (e.event.key == key)
+
+-- whether one of the entries finishes the key successfully
+abbrev pub has_success : ℕ → List Entry → Bool
+has_success key entries = list_any (is_success key) entries
+
 -- what the states say after the entries of a record
 pub record AreStates (r : Recorded) (states : List KeyState) : Type 0 where
   pub phases : (key : ℕ) → IsPhase r.entries key (state_of states key).phase
+  pub successes : (key : ℕ) → (state_of states key).succeeded ≡ has_success key r.entries
   pub parents : (key : ℕ) → IsParentOf r key (state_of states key).parent
   pub children :
       (key : ℕ) → (state_of states key).running_children ≡ sum_by (running_child key) states
@@ -161,7 +173,7 @@ abbrev pub AreAdvanced : List KeyState → List KeyState → Entry → Parent �
 AreAdvanced old new e parent =
     (between : List KeyState)
     × ArePut old between e.event.key
-    (advanced e.event.kind parent (state_of old e.event.key))
+    (advanced e parent (state_of old e.event.key))
     × IsCounted e.event.kind parent between new
 
 -- what taking an event answers and leaves
@@ -176,3 +188,18 @@ abbrev pub IsFirstOfRuns : Recorded → Option ℕ → Type 0
 IsFirstOfRuns r (Some key) =
     (runs key r.entries ≡ true) × ((lower : ℕ) → lower < key → runs lower r.entries ≡ false)
 IsFirstOfRuns r None = (key : ℕ) → runs key r.entries ≡ false
+
+-- whether there is a parent, and it finished successfully
+abbrev pub has_succeeded : List KeyState → Parent → Bool
+has_succeeded states (Key parent) = (state_of states parent).succeeded
+has_succeeded states _ = false
+
+-- whether the key never runs
+abbrev pub IsWhetherNeverRun : Recorded → ℕ → Bool → Type 0
+IsWhetherNeverRun r key true = NeverRuns r key
+IsWhetherNeverRun r key false = ¬ NeverRuns r key
+
+-- the least key that never runs, or none
+abbrev pub IsFirstOfNeverRun : Recorded → Option ℕ → Type 0
+IsFirstOfNeverRun r (Some key) = IsFirstNeverRun r key
+IsFirstOfNeverRun r None = EachChildRuns r

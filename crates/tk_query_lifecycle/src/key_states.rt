@@ -1,11 +1,15 @@
 //! What is kept of each key while the events of a record are gone through.
-ghost use Rattle.std.specs.Prelude.{◌≡◌, ℕ, ◌≤◌, ◌^◌, [], length, OnOk};
-ghost use Rattle.tk_query_lifecycle.specs.KeyStates.{idle, is_running, state_of, advanced, refusal, ArePut, IsCounted, IsFirstRunning};
+ghost use Rattle.std.specs.Prelude.{◌≡◌, ℕ, ◌≤◌, ◌^◌, [], length, not, OnOk};
+ghost use Rattle.tk_events.specs.declared.statuses.Status.TheVariants.{Successful};
+ghost use Rattle.tk_record_columns.specs.Entries.{of_status};
+ghost use Rattle.tk_record_columns.specs.Record.{entry_of_view};
+ghost use Rattle.tk_query_lifecycle.specs.KeyStates.{idle, is_idle, is_running, state_of, advanced, refusal, ArePut, IsCounted, IsFirstRunning};
 
 use crate::lifecycle_rules::LifecycleRule;
 use std::alloc::{AllocError, Global};
 use std::marker::Model;
-use tk_events::Kind;
+use tk_events::{Kind, Payload, Status};
+use tk_record_columns::EntryView;
 
 /// Where a key is in its execution.
 #[derive(Clone, Copy)]
@@ -33,8 +37,19 @@ pub(crate) enum Parent {
 #[derive(Clone, Copy)]
 pub(crate) struct KeyState {
     pub(crate) phase: Phase,
+    pub(crate) succeeded: bool,
     pub(crate) parent: Parent,
     pub(crate) running_children: usize,
+}
+
+// Whether an event is a successful finish.
+fn succeeds(event: &EntryView) -> bool
+    ensures { result ≡ of_status Successful (entry_of_view event.now) }
+{
+    match (event.kind, event.payload) {
+        (Kind::Finished, Payload::Outcome(status, _)) => matches!(status, Status::Successful),
+        _ => false,
+    }
 }
 
 impl KeyState {
@@ -44,6 +59,7 @@ impl KeyState {
     {
         KeyState {
             phase: Phase::Idle,
+            succeeded: false,
             parent: Parent::Unsought,
             running_children: 0,
         }
@@ -54,6 +70,13 @@ impl KeyState {
         ensures { result ≡ is_running self.now.phase }
     {
         matches!(self.phase, Phase::Running)
+    }
+
+    /// Whether the key was started or skipped.
+    pub(crate) fn has_run(&self) -> bool
+        ensures { result ≡ not (is_idle self.now.phase) }
+    {
+        !matches!(self.phase, Phase::Idle)
     }
 
     /// Answers which rule an event of this kind breaks, by the state of its key alone.
@@ -72,17 +95,18 @@ impl KeyState {
         }
     }
 
-    // Makes the state after an event of this kind, where the parent was looked up.
-    fn advance(self, kind: Kind, parent: Parent) -> KeyState
-        ensures { result ≡ advanced kind parent self }
+    // Makes the state after an event of the key, where the parent was looked up.
+    fn advance(self, event: &EntryView, parent: Parent) -> KeyState
+        ensures { result ≡ advanced (entry_of_view event.now) parent self }
     {
-        let phase = match kind {
+        let phase = match event.kind {
             Kind::Started => Phase::Running,
             Kind::Skipped | Kind::Finished => Phase::Ended,
             _ => self.phase,
         };
         KeyState {
             phase,
+            succeeded: self.succeeded || succeeds(event),
             parent,
             running_children: self.running_children,
         }
@@ -144,15 +168,15 @@ impl KeyStates {
         Ok(())
     }
 
-    /// Takes an event of this kind of a key whose parent was looked up.
-    pub(crate) fn advance(&mut self, key: u32, kind: Kind, parent: Parent) -> Result<(), AllocError>
-        ensures put { OnOk result (ArePut self.old self.new key
-            (advanced kind parent (state_of self.old key))) }
+    /// Takes an event of a key whose parent was looked up.
+    pub(crate) fn advance(&mut self, event: &EntryView, parent: Parent) -> Result<(), AllocError>
+        ensures put { OnOk result (ArePut self.old self.new event.now.key
+            (advanced (entry_of_view event.now) parent (state_of self.old event.now.key))) }
         ensures short { length self.new ≤ 2 ^ 32 }
         ensures grows { OnOk result (length self.old ≤ length self.new) }
     {
-        let state = self.at(key).advance(kind, parent);
-        self.put(key, state)
+        let state = self.at(event.key).advance(event, parent);
+        self.put(event.key, state)
     }
 
     /// Counts a child of `parent` that starts, and no longer one that finishes.

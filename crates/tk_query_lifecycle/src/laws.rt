@@ -1,5 +1,5 @@
 //! What the definition of a record's lifecycle implies.
-ghost use Rattle.tk_query_lifecycle.specs.LifecycleLaws.{LifecycleIsUnique, BreakIsFinal, KeptByItsEvents};
+ghost use Rattle.tk_query_lifecycle.specs.LifecycleLaws.{LifecycleIsUnique, BreakIsFinal, InOrderByItsEvents, KeptByItsEvents};
 
 /// A record has one lifecycle, and a record that breaks a rule breaks it whatever events follow.
 pub fn lifecycle_is_unique()
@@ -7,7 +7,10 @@ pub fn lifecycle_is_unique()
     ensures broken { BreakIsFinal }
 {}
 
-/// A record's lifecycle is kept exactly where its ids, parents and executions are in order.
+/// No event of a record breaks a rule, and no key runs at its end, exactly where its ids, parents
+/// and executions are in order. The lifecycle is kept where each child of a key that succeeds also
+/// runs.
 pub fn kept_by_its_events()
-    ensures { KeptByItsEvents }
+    ensures in_order { InOrderByItsEvents }
+    ensures kept { KeptByItsEvents }
 {}

@@ -24,8 +24,12 @@ pub fn lifecycle(alloc: Global, record: &Record) -> Result<Lifecycle, AllocError
         }
         position += 1;
     }
-    match progress.first_running() {
-        Some(key) => Ok(Lifecycle::Unfinished(key)),
+    if let Some(key) = progress.first_running() {
+        return Ok(Lifecycle::Unfinished(key));
+    }
+    let never_ran = progress.first_never_run(alloc, record)?;
+    match never_ran {
+        Some(key) => Ok(Lifecycle::NeverRan(key)),
         None => Ok(Lifecycle::Kept),
     }
 }

@@ -1,6 +1,6 @@
 //! The rules that a listener of an engine may rely on, and what a record keeps of them.
 ghost use Rattle.std.specs.Prelude.{Some};
-ghost use Rattle.tk_query_lifecycle.specs.LifecycleTexts.{rule_text};
+ghost use Rattle.tk_query_lifecycle.specs.LifecycleTexts.{lifecycle_text, rule_text};
 
 use std::fmt;
 
@@ -41,10 +41,29 @@ impl fmt::Display for LifecycleRule {
 /// Whether a record keeps the lifecycle, and where it first doesn't.
 #[derive(Clone, Copy, Debug, PartialEq, Eq)]
 pub enum Lifecycle {
-    /// No event breaks a rule, and no key runs at the end.
+    /// No event breaks a rule, no key runs at the end, and each static key below one that finishes
+    /// successfully starts or is skipped.
     Kept,
     /// The least position of an event that breaks a rule, and the first rule that it breaks.
     Broken(usize, LifecycleRule),
     /// No event breaks a rule, and this is the least key that runs at the end.
     Unfinished(u32),
+    /// No event breaks a rule, no key runs at the end, and this is the least static key that
+    /// neither starts nor is skipped, though its parent finishes successfully.
+    NeverRan(u32),
+}
+
+/// `yes`, or `no` and what comes first of the position and its rule, the key that doesn't end, and
+/// the key that doesn't start.
+impl fmt::Display for Lifecycle {
+    ghost output = { λ lifecycle. Some (lifecycle_text lifecycle) };
+
+    fn fmt<W: fmt::Write>(&self, f: &mut fmt::Formatter<W>) -> fmt::Result {
+        match self {
+            Lifecycle::Kept => f.write_str("yes"),
+            Lifecycle::Broken(position, rule) => write!(f, "no {position} {rule}"),
+            Lifecycle::Unfinished(key) => write!(f, "no end {key}"),
+            Lifecycle::NeverRan(key) => write!(f, "no start {key}"),
+        }
+    }
 }

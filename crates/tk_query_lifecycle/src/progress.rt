@@ -7,7 +7,7 @@ ghost use Rattle.tk_record_columns.specs.Entries.{of_kind, with_entry};
 ghost use Rattle.tk_record_columns.specs.Recorded.{Recorded};
 ghost use Rattle.tk_record_columns.specs.Record.{entry_of_view};
 ghost use Rattle.tk_query_lifecycle.specs.Lifecycle.{HasId, first_entries};
-ghost use Rattle.tk_query_lifecycle.specs.Progress.{AreAdvanced, AreIds, AreNoted, IsChecked, IsFirstOfRuns, IsFound, IsKnownId, IsKnownParent, IsProgress, IsSought, IsTaken, is_at_rest, missing_parent, next_event};
+ghost use Rattle.tk_query_lifecycle.specs.Progress.{AreAdvanced, AreIds, AreNoted, IsChecked, IsFirstOfNeverRun, IsFirstOfRuns, IsFound, IsKnownId, IsKnownParent, IsProgress, IsSought, IsTaken, IsWhetherNeverRun, has_succeeded, is_at_rest, missing_parent, next_event};
 ghost use Rattle.tk_query_lifecycle.specs.KeyStates.{state_of};
 
 use crate::key_states::{KeyStates, Parent};
@@ -168,7 +168,7 @@ impl Progress {
         if registers(event) {
             self.ids.note(&descriptor.id, event.key)?;
         }
-        self.states.advance(event.key, event.kind, parent)?;
+        self.states.advance(event, parent)?;
         self.states.count_child(parent, event.kind)
     }
 
@@ -206,5 +206,58 @@ impl Progress {
             → IsFirstOfRuns r result }
     {
         self.states.first_running()
+    }
+
+    // Whether there is a parent, and it finished successfully.
+    fn has_succeeded(&self, parent: Parent) -> bool
+        ensures { result ≡ has_succeeded self.now.states parent }
+    {
+        match parent {
+            Parent::Key(key) => self.states.at(key).succeeded,
+            _ => false,
+        }
+    }
+
+    // Whether a static key neither starts nor is skipped, though its parent succeeds.
+    fn never_ran(
+        &self,
+        alloc: Global,
+        record: &Record,
+        key: u32,
+        descriptor: &Descriptor,
+    ) -> Result<bool, AllocError>
+        requires stands { slice_get «record».now.table key ≡ Some descriptor.now }
+        requires progress { IsProgress «record».now self.now.states self.now.ids }
+        ensures { IfOk result (IsWhetherNeverRun «record».now key) }
+    {
+        if self.states.at(key).has_run() {
+            return Ok(false);
+        }
+        match self.seek_parent(alloc, record, &descriptor.id)? {
+            Some(parent) => Ok(self.has_succeeded(parent)),
+            None => Ok(false),
+        }
+    }
+
+    /// The least static key that neither starts nor is skipped, though its parent succeeds.
+    pub(crate) fn first_never_run(
+        &self,
+        alloc: Global,
+        record: &Record,
+    ) -> Result<Option<u32>, AllocError>
+        requires { IsProgress «record».now self.now.states self.now.ids }
+        ensures { IfOk result (IsFirstOfNeverRun «record».now) }
+    {
+        // For the proof: that a table is short.
+        record.shows_record();
+        let table = record.table();
+        let mut key = 0;
+        'statics: while let Some(descriptor) = table.get(key) {
+            if self.never_ran(alloc, record, key, descriptor)? {
+                return Ok(Some(key));
+            }
+            key += 1;
+        }
+        Ok(None)
     }
 }

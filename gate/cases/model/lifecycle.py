@@ -73,6 +73,13 @@ RULES: List[Tuple[str, Rule]] = [
 """The rules in the order in which the first that is broken is answered."""
 
 
+def never_ran(events: List[Event], record: Record, key: int) -> bool:
+    """Whether a static key neither starts nor is skipped, though its parent finishes successfully."""
+    parent = key_of_id(events, record, record.table[key].id[:-1])
+    succeeds = any(it.key == parent and it.kind == "finish" and it.status == "ok" for it in events)
+    return succeeds and not any(it.key == key and it.kind in ("start", "skip") for it in events)
+
+
 def lifecycle(record: Record) -> Tuple[str, bool]:
     """The answer of `ask lifecycle`."""
     events = [entry.event for entry in record.entries]
@@ -81,4 +88,7 @@ def lifecycle(record: Record) -> Tuple[str, bool]:
             if is_broken(events[:position], record, event):
                 return f"no {position} {name}\n", False
     running = sorted({event.key for event in events if runs(events, event.key)})
-    return (f"no end {running[0]}\n", False) if running else ("yes\n", True)
+    if running:
+        return f"no end {running[0]}\n", False
+    idle = next((key for key in range(len(record.table)) if never_ran(events, record, key)), None)
+    return ("yes\n", True) if idle is None else (f"no start {idle}\n", False)

@@ -6,12 +6,14 @@ from tables.building import Text, answer, fault, no, record
 from tables.texts import EMPTY, REGISTERED_TEST, TWO_TESTS
 
 NODES = ["N|C|[engine:e]|e", "N|T|[engine:e]/[t:1]|one"]
+SECOND = "N|T|[engine:e]/[t:2]|two"
+BELOW = "N|T|[engine:e]/[t:1]/[u:1]|three"
 
 
-def events(*key_tails: str) -> Text:
-    """A record of a container and a test below it; each event is its key, a blank and its tail, of worker 1."""
+def events(*key_tails: str, third: str = "") -> Text:
+    """A record of a container and a test below it, and of a third node; each event is its key, a blank and its tail, of worker 1."""
     lines = [f"E|1|{key}|0|{tail}" for key, _, tail in (it.partition(" ") for it in key_tails)]
-    return record(*NODES, *lines)
+    return record(*NODES, *([third] if third else []), *lines)
 
 
 def dynamic(id_text: str, letter: str = "T") -> str:
@@ -23,8 +25,13 @@ KEPT = [
     ("a test within its container", events("0 start", "1 start", "1 finish|ok", "0 finish|ok")),
     ("a skip within its container", events("0 start", "1 skip|off", "0 finish|ok")),
     ("a skipped container", events("0 skip|off")),
-    ("a report of what doesn't run", events("0 start", "1 report|k|v", "0 finish|ok")),
-    ("reports of a root before it ran and afterwards", events("0 report|k|v", "0 start", "0 finish|ok", "0 report|k|v")),
+    ("a report of what doesn't run", events("0 start", "1 report|k|v", "0 finish|fail")),
+    ("reports of a root before it ran and afterwards", events("0 report|k|v", "0 start", "1 skip|off", "0 finish|ok", "0 report|k|v")),
+    ("a test that never ran, in a container that fails", events("0 start", "0 finish|fail")),
+    ("a test that never ran, in a container that is aborted", events("0 start", "0 finish|abort")),
+    ("a test that never ran, below one that is aborted", events("0 start", "1 start", "1 finish|abort", "0 finish|ok", third=BELOW)),
+    ("a test below a skipped one", events("0 start", "1 skip|off", "0 finish|ok", third=BELOW)),
+    ("a registered test that never ran", events("0 start", "1 skip|off", dynamic("[engine:e]/[d:1]"), "0 finish|ok")),
     ("a registered root", events("65536 dynamic|C|[engine:f]|f", "65536 start", "65536 finish|ok")),
     ("two tests", TWO_TESTS),
     ("nothing at all", EMPTY),
@@ -33,6 +40,13 @@ KEPT = [
 BROKEN = [
     ("a container that isn't finished", events("0 start"), "end 0"),
     ("the least key that isn't finished", events("0 start", "1 start"), "end 0"),
+    ("a test that never ran", events("0 start", "0 finish|ok"), "start 1"),
+    ("a test that reports and never ran", events("0 start", "1 report|k|v", "0 finish|ok"), "start 1"),
+    ("the least key that never ran", events("0 start", "0 finish|ok", third=SECOND), "start 1"),
+    ("a test that never ran, before one that did", events("0 start", "2 start", "2 finish|ok", "0 finish|ok", third=SECOND), "start 1"),
+    ("a test that never ran, after a skipped one", events("0 start", "1 skip|off", "0 finish|ok", third=SECOND), "start 2"),
+    ("a test that never ran, deeper", events("0 start", "1 start", "1 finish|ok", "0 finish|fail", third=BELOW), "start 2"),
+    ("a root that isn't finished, and a test that never ran", events("0 start", "0 finish|ok", "2 start", third="N|T|[engine:f]|f"), "end 2"),
     ("a test before its container", events("1 start"), "0 parent-not-running"),
     ("a test below a skipped container", events("0 skip|off", "1 start"), "1 parent-not-running"),
     ("a test after its container", events("0 start", "0 finish|ok", "1 start"), "2 parent-not-running"),

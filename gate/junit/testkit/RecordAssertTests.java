@@ -60,6 +60,7 @@ class RecordAssertTests {
     private static final String TWO_TESTS = "testkit-record|2\nN|C|[engine:e]|e\nN|T|[engine:e]/[t:1]|one\nN|T|[engine:e]/[t:2]|two\n"
             + "E|1|0|0|start\nE|1|1|0|start\nE|2|2|0|start\nE|1|1|0|finish|fail|boom\nE|2|2|0|finish|ok\nE|1|0|0|finish|ok\n";
     private static final String BROKEN = "testkit-record|2\nN|T|[engine:e]|e\nE|1|0|0|start\n";
+    private static final String FORGOTTEN = "testkit-record|2\nN|C|[engine:e]|e\nN|T|[engine:e]/[t:1]|one\nE|1|0|0|start\nE|1|0|0|finish|ok\n";
     private static final String STATISTICS = "skipped 0";
 
     @TempDir
@@ -333,6 +334,8 @@ class RecordAssertTests {
                 .matchesExactly(isEngine(), hasId("t:1"), hasId("t:2"), hasFailed("boom"), hasSucceeded(), isContainer());
         Path broken = Files.write(folder.resolve("broken.record"), BROKEN.getBytes(UTF_8));
         assertRefused("no end 0", () -> RecordAssert.assertThat(broken).keepsLifecycle());
+        Path forgotten = Files.write(folder.resolve("forgotten.record"), FORGOTTEN.getBytes(UTF_8));
+        assertRefused("no start 1", () -> RecordAssert.assertThat(forgotten).keepsLifecycle());
         assertRefused("mismatch failed expected 2 actual 1", () -> asserting.hasStatistics("failed=2"));
         assertRefused("wrong-count", () -> asserting.matchesExactly(isTest()));
         assertRefused("no 1", () -> asserting.matchesLoosely(isTest(), wasAborted()));

@@ -1,5 +1,8 @@
-use Rattle.tk_query_lifecycle.proofs.KeepLemmas.{kept_by_its_events}
+use Rattle.tk_query_lifecycle.proofs.KeepLemmas.{in_order_by_its_events, kept_by_its_events}
 use Rattle.tk_query_lifecycle.proofs.laws.kept_by_its_events.Goals as goal
 
-pub returns : goal.returns
-returns c = kept_by_its_events
+pub returns-clause-in_order : goal.returns-clause-in_order
+returns-clause-in_order c = in_order_by_its_events
+
+pub returns-clause-kept : goal.returns-clause-kept
+returns-clause-kept c = kept_by_its_events

@@ -1,0 +1,143 @@
+-- Which static keys never ran, by what is known at the end of a record.
+use Rattle.std.proofs.Common.{◌≡◌, ℕ, ◌+◌, ◌<◌, ◌≤◌, ◌⊎◌, ⊎_elim, Bool, true, false, ◌||◌, not, List, length, get_or, Option, Some, None, refl, sym, ap, ◌∙◌, subst, arith, eq-eqb, eqb-true}
+use Rattle.std.specs.Prelude.{◌==◌, slice_get}
+use Rattle.std.proofs.lemmas.Bool.{true≢false, and_from, and_parts, or_cases}
+use Rattle.std.proofs.lemmas.Option.{none-some, same_Some, slice_get-get_or, slice_get_within}
+use Rattle.tk_ids.specs.IdText.{parent_of}
+use Rattle.tk_ids.specs.declared.descriptors.Descriptor.{Descriptor}
+use Rattle.tk_events.specs.declared.kinds.Kind.TheVariants.{Skipped, Started}
+use Rattle.tk_events.specs.declared.statuses.Status.TheVariants.{Successful}
+use Rattle.tk_events.specs.declared.events.Entry.{Entry}
+use Rattle.tk_record_columns.specs.Entries.{of_kind, of_status}
+use Rattle.tk_record_columns.specs.Recorded.{Recorded}
+use Rattle.tk_query_lifecycle.specs.Lifecycle.{HasId, has_event, has_run, is_event}
+use Rattle.tk_query_lifecycle.specs.NeverRan.{HasNoTurn, NeverRuns, Succeeds}
+use Rattle.tk_query_lifecycle.specs.KeyStates.{is_idle, state_of}
+use Rattle.tk_query_lifecycle.specs.Progress.{IsFirstOfNeverRun, IsParent, IsPhase, IsProgress, IsSought, IsWhetherNeverRun, has_succeeded, has_success, is_success}
+use Rattle.tk_query_lifecycle.specs.declared.key_states.KeyState.{KeyState}
+use Rattle.tk_query_lifecycle.specs.declared.key_states.Phase.{Phase}
+use Rattle.tk_query_lifecycle.specs.declared.key_states.Phase.TheVariants.{Idle, Running, Ended}
+use Rattle.tk_query_lifecycle.specs.declared.key_states.Parent.{Parent}
+use Rattle.tk_query_lifecycle.specs.declared.key_states.Parent.TheVariants.{Unsought, Root, Key}
+use Rattle.tk_query_lifecycle.proofs.KeepLemmas.{any_at, any_from}
+
+neither : (a b : Bool) → (a || b) ≡ false → (a ≡ false) × (b ≡ false)
+neither false false h = (refl, refl)
+neither a b h = cc
+
+-- a key that wasn't started or skipped, by each event
+pub no_turn : (r : Recorded) (key : ℕ) → has_run key r.entries ≡ false → HasNoTurn r key
+no_turn r key none =
+    let n = neither (has_event Started key r.entries) (has_event Skipped key r.entries) none in record {
+      unstarted = λ p e at own h. true≢false (sym (any_from (is_event Started key) r.entries p e at (and_from (of_kind Started e) (e.event.key == key) h (eq-eqb e.event.key key own))) ∙ n.0);
+      unskipped = λ p e at own h. true≢false (sym (any_from (is_event Skipped key) r.entries p e at (and_from (of_kind Skipped e) (e.event.key == key) h (eq-eqb e.event.key key own))) ∙ n.1);
+    }
+
+pub turn : (r : Recorded) (key : ℕ) → has_run key r.entries ≡ true → ¬ HasNoTurn r key
+turn r key ran none = ⊎_elim {C = ⊥}
+    (λ (started : has_event Started key r.entries ≡ true). by_start (any_at (is_event Started key) r.entries started))
+    (λ (skipped : has_event Skipped key r.entries ≡ true). by_skip (any_at (is_event Skipped key) r.entries skipped))
+    (or_cases (has_event Started key r.entries) (has_event Skipped key r.entries) ran)
+  where
+    by_start : ((i : ℕ) × (e : Entry) × (slice_get r.entries i ≡ Some e) × (is_event Started key e ≡ true)) → ⊥
+    by_start f = let h = and_parts (of_kind Started f.1) (f.1.event.key == key) f.3 in none.unstarted f.0 f.1 f.2 (eqb-true f.1.event.key key h.1) h.0
+
+    by_skip : ((i : ℕ) × (e : Entry) × (slice_get r.entries i ≡ Some e) × (is_event Skipped key e ≡ true)) → ⊥
+    by_skip f = let h = and_parts (of_kind Skipped f.1) (f.1.event.key == key) f.3 in none.unskipped f.0 f.1 f.2 (eqb-true f.1.event.key key h.1) h.0
+
+succeeds : (r : Recorded) (key : ℕ) → has_success key r.entries ≡ true → Succeeds r key
+succeeds r key h =
+    let f = any_at (is_success key) r.entries h in
+    let parts = and_parts (of_status Successful f.1) (f.1.event.key == key) f.3 in
+    record { position = f.0; event = f.1; stands = f.2; of_key = eqb-true f.1.event.key key parts.1; successful = parts.0 }
+
+success : (r : Recorded) (key : ℕ) → Succeeds r key → has_success key r.entries ≡ true
+success r key s = any_from (is_success key) r.entries s.position s.event s.stands
+    (and_from (of_status Successful s.event) (s.event.event.key == key) s.successful (eq-eqb s.event.event.key key s.of_key))
+
+phase_ran : (es : List Entry) (key : ℕ) (phase : Phase) → IsPhase es key phase → not (is_idle phase) ≡ has_run key es
+phase_ran es key Idle h = sym h.0
+phase_ran es key Running h = sym h.1
+phase_ran es key Ended h = sym h.1
+
+-- whether a static key never runs
+module _ (r : Recorded) (states : List KeyState) (ids : List (List ℕ × ℕ)) (p : IsProgress r states ids) (key : ℕ) (child : Descriptor)
+    (static : slice_get r.table key ≡ Some child) (ran : Bool) (ran_is : ran ≡ not (is_idle (state_of states key).phase)) where
+  ran_run : ran ≡ has_run key r.entries
+  ran_run = ran_is ∙ phase_ran r.entries key (state_of states key).phase (p.states_are.phases key)
+
+  pub where_it_ran : ran ≡ true → IsWhetherNeverRun r key false
+  where_it_ran is h = turn r key (sym ran_run ∙ is) h.no_turn
+
+  -- the child that never ran is the one that is looked at
+  its_child : (h : NeverRuns r key) → h.child ≡ child
+  its_child h = same_Some h.child child (sym h.static ∙ static)
+
+  its_parent : (h : NeverRuns r key) → HasId r h.parent (parent_of child.id)
+  its_parent h = record {
+    descriptor = h.above;
+    described = h.described;
+    id_is = h.is_parent ∙ ap (λ (d : Descriptor). parent_of d.id) (its_child h);
+  }
+
+  pub without_parent : (found : Option Parent) → IsSought r child.id found → found ≡ None → IsWhetherNeverRun r key false
+  without_parent found sought is h = (subst (IsSought r child.id) is sought).1 h.parent (its_parent h)
+
+  -- below a parent that succeeded, or didn't
+  below_key : ran ≡ false → (parent : ℕ) → IsParent r child.id (Key parent) → (b : Bool) → (state_of states parent).succeeded ≡ b → IsWhetherNeverRun r key b
+  below_key is parent above true succeeded = record {
+    child = child;
+    static = static;
+    below = above.0;
+    parent = parent;
+    above = above.1.descriptor;
+    described = above.1.described;
+    is_parent = above.1.id_is;
+    succeeds = succeeds r parent (sym (p.states_are.successes parent) ∙ succeeded);
+    no_turn = no_turn r key (sym ran_run ∙ is);
+  }
+  below_key is parent above false failed = λ h.
+      let same = p.ids_are.unique (parent_of child.id) h.parent parent (its_parent h) above.1 in
+      true≢false (sym (success r parent (subst (Succeeds r) same h.succeeds)) ∙ sym (p.states_are.successes parent) ∙ failed)
+
+  not_root : (h : NeverRuns r key) → length child.id ≡ 1 → ⊥
+  not_root h one = let b = h.below in let e = ap (λ (d : Descriptor). length d.id) (its_child h) in omega (arith, b, e, one)
+
+  below : ran ≡ false → (parent : Parent) → IsParent r child.id parent → (b : Bool) → b ≡ has_succeeded states parent → IsWhetherNeverRun r key b
+  below is Unsought above b same = absurd above
+  below is Root above b same = subst (IsWhetherNeverRun r key) (sym same) (λ h. not_root h above)
+  below is (Key parent) above b same = below_key is parent above b (sym same)
+
+  pub with_parent : ran ≡ false → (found : Option Parent) (parent : Parent) → IsSought r child.id found → found ≡ Some parent → (b : Bool) → b ≡ has_succeeded states parent → IsWhetherNeverRun r key b
+  with_parent is found parent sought some b same = below is parent (subst (IsSought r child.id) some sought) b same
+
+-- each key below the limit runs, or need not
+pub record EachRunsBelow (r : Recorded) (limit : ℕ) : Type 0 where
+  pub below : (lower : ℕ) → lower < limit → ¬ NeverRuns r lower
+
+pub each_first : (r : Recorded) → EachRunsBelow r 0
+each_first r = record { below = λ lower lt. absurd (omega (arith, lt)) }
+
+pub each_more : (r : Recorded) (key : ℕ) (b : Bool) → EachRunsBelow r key → IsWhetherNeverRun r key b → b ≡ false → EachRunsBelow r (key + 1)
+each_more r key b each h is = record {
+  below = λ lower lt. ⊎_elim {C = ¬ NeverRuns r lower}
+      (λ (before : lower < key). each.below lower before)
+      (λ (here : lower ≡ key). subst (λ k. ¬ NeverRuns r k) (sym here) (subst (IsWhetherNeverRun r key) is h))
+      (below_or_at lower key lt);
+}
+  where
+    below_or_at : (a c : ℕ) → a < c + 1 → (a < c) ⊎ (a ≡ c)
+    below_or_at a c lt = grind (arith, lt)
+
+pub first_here : (r : Recorded) (key : ℕ) (b : Bool) → EachRunsBelow r key → IsWhetherNeverRun r key b → b ≡ true → IsFirstOfNeverRun r (Some key)
+first_here r key b each h is = record { never = subst (IsWhetherNeverRun r key) is h; first = each.below }
+
+pub each_runs : (r : Recorded) (key : ℕ) → EachRunsBelow r key → slice_get r.table key ≡ None → IsFirstOfNeverRun r None
+each_runs r key each past k h = ⊎_elim {C = ⊥}
+    (λ (lt : k < key). each.below k lt h)
+    (λ (le : key ≤ k). let within = slice_get_within r.table k h.child h.static in
+    none-some (get_or r.table key h.child) (sym past ∙ slice_get-get_or r.table key h.child (omega (arith, within, le))))
+    (cases_le k key)
+  where
+    cases_le : (a b : ℕ) → (a < b) ⊎ (b ≤ a)
+    cases_le a b = grind arith
