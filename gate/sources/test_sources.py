@@ -28,7 +28,6 @@ LIMITS = Limits(
     long_lines=[
         "crates/tk_engine_hierarchical/specs/TreeRuns.antt:80",
         "crates/tk_engine_hierarchical/specs/TreeRuns.antt:90",
-        "crates/tk_plan_members/src/json_members.rt:226",
         "crates/tk_query/specs/Holders.antt:56",
     ],
     fewest_edits=230,

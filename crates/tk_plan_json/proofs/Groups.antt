@@ -1,7 +1,11 @@
 -- The rows of a node in groups.
-use Rattle.std.proofs.Common.{◌≡◌, ℕ, List, map, Bool, true, false, Option, Some, None, refl, ap, ◌∙◌}
+use Rattle.std.proofs.Common.{◌≡◌, ℕ, List, map, Bool, true, false, Option, Some, None, Bor, refl, sym, ap, ◌∙◌}
 use Rattle.serde_json.specs.Data.{Data}
-use Rattle.tk_plan_members.specs.Checks.{or_else, first, row, unknown}
+use Rattle.serde_json.specs.Find.{get}
+use Rattle.serde_json.specs.declared.value.Value.{Value}
+use Rattle.tk_plan_members.specs.Checks.{Row, or_else, first, row, unknown, member_at, member_wrong}
+use Rattle.tk_plan_members.specs.Pointers.{pointer, viewed, wrong_at}
+use Rattle.tk_plan_members.specs.declared.json_paths.JsonPath.{JsonPath}
 use Rattle.tk_plan_members.specs.Rows.{dtype_row, segment_row, name_row, mode_row, isolated_row, locks_row, skip_row, result_row, entries_row, files_row, children_row, dynamic_row, static_rows, dynamic_rows, static_node, dynamic_node}
 use Rattle.tk_plan_json.specs.Fields.{heading_rows, concurrency_rows, content_rows}
 
@@ -12,6 +16,10 @@ passes x later o e l = ap (λ y. or_else y later) e ∙ l
 -- the first of two is wrong
 pub stops : {A : Type 0} (x later : Option A) (v : A) → x ≡ Some v → or_else x later ≡ Some v
 stops x later v e = ap (λ y. or_else y later) e
+
+-- what is wrong with a member, from the value that was found for it
+pub row_found : (at : JsonPath) (r : Row) (value : Option (Bor Value)) (d : Data) → viewed value ≡ get r.name d → row (pointer at) d r ≡ wrong_at at r value
+row_found at r value d e = ap (member_wrong r (member_at (pointer at) r.name)) (sym e)
 
 three : {A : Type 0} (a b c later : Option A) → or_else a (or_else b (or_else c later)) ≡ or_else (or_else a (or_else b (or_else c None))) later
 three (Some x) b c later = refl

@@ -5,3 +5,4 @@ pub mod Verdicts
 pub mod CheckSteps
 pub mod Going
 pub mod Distinct
+pub mod OnePass

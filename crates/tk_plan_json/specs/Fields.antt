@@ -2,6 +2,7 @@
 use Rattle.std.specs.Prelude.{◌≡◌, ◌==◌, ◌&&◌, ℕ, Bool, List, [], ◌∷◌, length, codes}
 use Rattle.serde_json.specs.Data.{Data}
 use Rattle.serde_json.specs.Find.{get}
+use Rattle.serde_json.specs.View.{view}
 use Rattle.tk_plan_members.specs.Checks.{Row}
 use Rattle.tk_plan_members.specs.Contents.{json_text, json_optional, json_dtype, listed}
 use Rattle.tk_plan_members.specs.Rows.{dtype_row, segment_row, name_row, mode_row, isolated_row}
@@ -9,12 +10,13 @@ use Rattle.tk_plan_members.specs.Rows.{locks_row, skip_row, result_row, entries_
 use Rattle.tk_plan_members.specs.Rows.{children_row, dynamic_row}
 use Rattle.tk_plan_json.specs.NodeInputs.{concurrent_of, isolated_of, locks_of}
 use Rattle.tk_plan_json.specs.NodeInputs.{children_of, dynamic_of}
-use Rattle.tk_plan_members.specs.Pointers.{IsPairOf}
+use Rattle.tk_plan_members.specs.Pointers.{viewed, IsPairOf}
 use Rattle.tk_plan_members.specs.MemberValues.{IsNodeResult, AreReports, AreFiles}
 use Rattle.tk_plan_json.specs.declared.node_fields.Heading.{Heading}
 use Rattle.tk_plan_json.specs.declared.node_fields.Concurrency.{Concurrency}
 use Rattle.tk_plan_json.specs.declared.node_fields.Content.{Content}
 use Rattle.tk_plan_json.specs.declared.node_fields.Fields.{Fields}
+use Rattle.tk_plan_json.specs.declared.node_members.NodeMembers.{NodeMembers}
 use Rattle.tk_plan_json.specs.declared.read_nodes.Checked.{Checked}
 use Rattle.tk_plan_json.specs.declared.read_nodes.Named.{Named}
 
@@ -37,6 +39,20 @@ below_rows = children_row ∷ dynamic_row ∷ []
 -- no node stands right below one
 abbrev pub has_no_below : Bool → Data → Bool
 has_no_below is_static d = length (children_of is_static d) == 0 && length (dynamic_of d) == 0
+
+-- each member of a node is the one of its name
+pub record AreMembers (m : NodeMembers) : Type 0 where
+  pub dtype : viewed m.dtype ≡ get (codes "type") (view m.value.now)
+  pub segment : viewed m.segment ≡ get (codes "segment") (view m.value.now)
+  pub name : viewed m.name ≡ get (codes "name") (view m.value.now)
+  pub mode : viewed m.mode ≡ get (codes "mode") (view m.value.now)
+  pub isolated : viewed m.isolated ≡ get (codes "isolated") (view m.value.now)
+  pub locks : viewed m.locks ≡ get (codes "locks") (view m.value.now)
+  pub skip : viewed m.skip ≡ get (codes "skip") (view m.value.now)
+  pub result : viewed m.result ≡ get (codes "result") (view m.value.now)
+  pub entries : viewed m.entries ≡ get (codes "entries") (view m.value.now)
+  pub children : viewed m.children ≡ get (codes "children") (view m.value.now)
+  pub dynamic : viewed m.dynamic ≡ get (codes "dynamic") (view m.value.now)
 
 -- a type, a segment and a name, as a node's members say
 pub record IsHeading (d : Data) (h : Heading) : Type 0 where

@@ -1,7 +1,8 @@
 //! The nodes of a plan, read from their JSON value.
 //!
 //! - All nodes in preorder: `node_reading`, which drops the value of each as soon as it was read.
-//! - One node: its members together in `node_fields`, its checks in `node_checks`.
+//! - One node: its members found in `node_members` and read in `node_fields`, its checks in
+//!   `node_checks`.
 //! - Where a node stands, and the value that stands for it: `node_inputs`.
 //! - What is kept while reading: `read_nodes`, the segments of one parent's children in
 //!   `siblings`, lock keys in `lock_keys`.
@@ -13,6 +14,7 @@ mod lock_keys;
 mod node_checks;
 mod node_fields;
 mod node_inputs;
+mod node_members;
 pub mod node_reading;
 pub mod read_nodes;
 mod siblings;

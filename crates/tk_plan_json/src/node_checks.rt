@@ -19,6 +19,7 @@ use crate::limits::MAX_LEVELS;
 use crate::lock_keys::note_all;
 use crate::node_fields::{Fields, dynamic_fields, static_fields};
 use crate::node_inputs::NodeInput;
+use crate::node_members::NodeMembers;
 use crate::read_nodes::{Checked, Named, ReadNodes};
 use crate::siblings::Siblings;
 use std::alloc::Global;
@@ -34,10 +35,11 @@ fn fields_of<'v>(alloc: Global, node_input: NodeInput<'v>) -> Result<Fields<'v>,
         (view node_input.entry.value.now)) result }
 {
     let NodeInput { place, value } = node_input;
+    let members = NodeMembers::of(value);
     if place.is_static {
-        static_fields(alloc, place.path, value, place.takes_files)
+        static_fields(alloc, place.path, members, place.takes_files)
     } else {
-        dynamic_fields(alloc, place.path, value, place.takes_files)
+        dynamic_fields(alloc, place.path, members, place.takes_files)
     }
 }
 

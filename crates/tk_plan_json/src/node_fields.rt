@@ -6,8 +6,9 @@ ghost use Rattle.tk_plan_members.specs.Rows.{static_rows, dynamic_rows, static_n
 ghost use Rattle.tk_plan_json.specs.NodeInputs.{children_of, dynamic_of};
 ghost use Rattle.tk_plan_members.specs.Pointers.{pointer};
 ghost use Rattle.tk_plan_members.specs.Answers.{Reads};
-ghost use Rattle.tk_plan_json.specs.Fields.{heading_rows, concurrency_rows, content_rows, below_rows, has_no_below, IsHeading, IsConcurrency, IsContent, HasFields};
+ghost use Rattle.tk_plan_json.specs.Fields.{heading_rows, concurrency_rows, content_rows, below_rows, has_no_below, AreMembers, IsHeading, IsConcurrency, IsContent, HasFields};
 
+use crate::node_members::NodeMembers;
 use serde_json::Value;
 use std::alloc::Global;
 use tk_ids::{DType, Text};
@@ -63,14 +64,15 @@ pub(crate) struct Fields<'v> {
 fn heading_members<'v>(
     alloc: Global,
     at: JsonPath<'_>,
-    object: &'v Value,
+    members: NodeMembers<'v>,
 ) -> Result<Heading<'v>, PlanFault>
-    ensures { Reads (members_wrong heading_rows (pointer at.entry) (view object.now))
-        (IsHeading (view object.now)) result }
+    requires { AreMembers members }
+    ensures { let d = view members.entry.value.now in
+        Reads (members_wrong heading_rows (pointer at.entry) d) (IsHeading d) result }
 {
-    let dtype = dtype_member(alloc, at, object)?;
-    let segment = segment_member(alloc, at, object)?;
-    let name = text_member(alloc, at, object, "name")?;
+    let dtype = dtype_member(alloc, at, members.dtype)?;
+    let segment = segment_member(alloc, at, members.segment)?;
+    let name = text_member(alloc, at, "name", members.name)?;
     Ok(Heading {
         dtype,
         segment,
@@ -82,14 +84,15 @@ fn heading_members<'v>(
 fn concurrency_members(
     alloc: Global,
     at: JsonPath<'_>,
-    object: &Value,
+    members: NodeMembers<'_>,
 ) -> Result<Concurrency, PlanFault>
-    ensures { Reads (members_wrong concurrency_rows (pointer at.entry) (view object.now))
-        (IsConcurrency true (view object.now)) result }
+    requires { AreMembers members }
+    ensures { let d = view members.entry.value.now in
+        Reads (members_wrong concurrency_rows (pointer at.entry) d) (IsConcurrency true d) result }
 {
-    let is_concurrent = mode_member(alloc, at, object)?;
-    let is_isolated = isolated_member(alloc, at, object)?;
-    let locks = locks_member(alloc, at, object)?;
+    let is_concurrent = mode_member(alloc, at, members.mode)?;
+    let is_isolated = isolated_member(alloc, at, members.isolated)?;
+    let locks = locks_member(alloc, at, members.locks)?;
     Ok(Concurrency {
         is_concurrent,
         is_isolated,
@@ -101,16 +104,18 @@ fn concurrency_members(
 fn content_members(
     alloc: Global,
     at: JsonPath<'_>,
-    object: &Value,
+    members: NodeMembers<'_>,
     takes_files: bool,
 ) -> Result<Content, PlanFault>
-    ensures { Reads (members_wrong (content_rows takes_files) (pointer at.entry) (view object.now))
-        (IsContent takes_files (view object.now)) result }
+    requires { AreMembers members }
+    ensures { let d = view members.entry.value.now in
+        Reads (members_wrong (content_rows takes_files) (pointer at.entry) d)
+        (IsContent takes_files d) result }
 {
-    let skip = optional_member(alloc, at, object, "skip")?;
-    let result = result_member(alloc, at, object)?;
-    let reports = entries_member(alloc, at, object)?;
-    let files = files_member(alloc, at, object, takes_files)?;
+    let skip = optional_member(alloc, at, "skip", members.skip)?;
+    let result = result_member(alloc, at, members.result)?;
+    let reports = entries_member(alloc, at, members.entries)?;
+    let files = files_member(alloc, at, members.value, takes_files)?;
     Ok(Content {
         skip,
         result,
@@ -171,12 +176,18 @@ fn check_dynamic_members(
 
 /// Refuses the members `children` and `dynamic` of a static node where they are no arrays. Answers
 /// whether no node stands below it.
-fn below_members(alloc: Global, at: JsonPath<'_>, object: &Value) -> Result<bool, PlanFault>
-    ensures { Reads (members_wrong below_rows (pointer at.entry) (view object.now))
-        (λ is_leaf. is_leaf ≡ has_no_below true (view object.now)) result }
+fn below_members(
+    alloc: Global,
+    at: JsonPath<'_>,
+    members: NodeMembers<'_>,
+) -> Result<bool, PlanFault>
+    requires { AreMembers members }
+    ensures { let d = view members.entry.value.now in
+        Reads (members_wrong below_rows (pointer at.entry) d)
+        (λ is_leaf. is_leaf ≡ has_no_below true d) result }
 {
-    let has_no_children = array_member(alloc, at, object, "children")?;
-    let has_no_dynamic = array_member(alloc, at, object, "dynamic")?;
+    let has_no_children = array_member(alloc, at, "children", members.children)?;
+    let has_no_dynamic = array_member(alloc, at, "dynamic", members.dynamic)?;
     Ok(has_no_children && has_no_dynamic)
 }
 
@@ -199,17 +210,18 @@ impl Concurrency {
 pub(crate) fn static_fields<'v>(
     alloc: Global,
     at: JsonPath<'_>,
-    value: &'v Value,
+    members: NodeMembers<'v>,
     takes_files: bool,
 ) -> Result<Fields<'v>, PlanFault>
-    ensures { Reads (static_node takes_files (pointer at.entry) (view value.now))
-        (HasFields true takes_files (view value.now)) result }
+    requires { AreMembers members }
+    ensures { let d = view members.entry.value.now in
+        Reads (static_node takes_files (pointer at.entry) d) (HasFields true takes_files d) result }
 {
-    check_static_members(alloc, at, value, takes_files)?;
-    let heading = heading_members(alloc, at, value)?;
-    let concurrency = concurrency_members(alloc, at, value)?;
-    let content = content_members(alloc, at, value, takes_files)?;
-    let is_leaf = below_members(alloc, at, value)?;
+    check_static_members(alloc, at, members.value, takes_files)?;
+    let heading = heading_members(alloc, at, members)?;
+    let concurrency = concurrency_members(alloc, at, members)?;
+    let content = content_members(alloc, at, members, takes_files)?;
+    let is_leaf = below_members(alloc, at, members)?;
     Ok(Fields {
         heading,
         concurrency,
@@ -222,16 +234,18 @@ pub(crate) fn static_fields<'v>(
 pub(crate) fn dynamic_fields<'v>(
     alloc: Global,
     at: JsonPath<'_>,
-    value: &'v Value,
+    members: NodeMembers<'v>,
     takes_files: bool,
 ) -> Result<Fields<'v>, PlanFault>
-    ensures { Reads (dynamic_node takes_files (pointer at.entry) (view value.now))
-        (HasFields false takes_files (view value.now)) result }
+    requires { AreMembers members }
+    ensures { let d = view members.entry.value.now in
+        Reads (dynamic_node takes_files (pointer at.entry) d) (HasFields false takes_files d)
+        result }
 {
-    check_dynamic_members(alloc, at, value, takes_files)?;
-    let heading = heading_members(alloc, at, value)?;
-    let content = content_members(alloc, at, value, takes_files)?;
-    let is_leaf = array_member(alloc, at, value, "dynamic")?;
+    check_dynamic_members(alloc, at, members.value, takes_files)?;
+    let heading = heading_members(alloc, at, members)?;
+    let content = content_members(alloc, at, members, takes_files)?;
+    let is_leaf = array_member(alloc, at, "dynamic", members.dynamic)?;
     Ok(Fields {
         heading,
         concurrency: Concurrency::none(alloc),

@@ -1,12 +1,11 @@
 //! Readers of single members.
-ghost use Rattle.std.specs.Prelude.{◌≡◌, ◌==◌, ℕ, List, Some, None, IfSome, codes, flat_map, length, map};
+ghost use Rattle.std.specs.Prelude.{◌≡◌, ◌==◌, ℕ, List, Some, None, IfSome, flat_map, length, map};
 ghost use Rattle.std.specs.List.{list_any};
 ghost use Rattle.std.specs.Str.{bytes_eq};
-ghost use Rattle.serde_json.specs.Find.{get};
 ghost use Rattle.serde_json.specs.View.{view, members_view};
-ghost use Rattle.tk_plan_members.specs.Checks.{escape, item_at, text as is_text, any_array, pair_of, row, must, may, unknown};
+ghost use Rattle.tk_plan_members.specs.Checks.{escape, item_at, text as is_text, any_array, pair_of, must, may, unknown};
 ghost use Rattle.tk_plan_members.specs.Rows.{dtype_row, segment_row, mode_row, isolated_row};
-ghost use Rattle.tk_plan_members.specs.Pointers.{pointer, IsPairOf, IsFirstUnknown};
+ghost use Rattle.tk_plan_members.specs.Pointers.{pointer, viewed, wrong_at, IsPairOf, IsFirstUnknown};
 ghost use Rattle.tk_plan_members.specs.Answers.{Reads};
 ghost use Rattle.tk_plan_members.specs.Contents.{json_text, json_optional, json_truth, json_dtype, json_concurrent, listed};
 
@@ -27,14 +26,14 @@ use tk_ids::{DType, Text};
 pub fn text_member(
     alloc: Global,
     at: JsonPath<'_>,
-    object: &Value,
     name: &str,
+    value: Option<&Value>,
 ) -> Result<Text, PlanFault>
     requires { flat_map escape name.now ≡ name.now }
-    ensures { Reads (row (pointer at.entry) (view object.now) (must name.now is_text))
-        (λ t. t ≡ json_text (get name.now (view object.now))) result }
+    ensures { Reads (wrong_at at.entry (must name.now is_text) value.entry)
+        (λ t. t ≡ json_text (viewed value.entry)) result }
 {
-    match object.get(name).and_then(Value::as_str) {
+    match value.and_then(Value::as_str) {
         Some(text) => Ok(Text::copy(alloc, text)?),
         None => Err(wrong_member(alloc, at, name)),
     }
@@ -48,14 +47,14 @@ pub fn text_member(
 pub fn optional_member(
     alloc: Global,
     at: JsonPath<'_>,
-    object: &Value,
     name: &str,
+    value: Option<&Value>,
 ) -> Result<Option<Text>, PlanFault>
     requires { flat_map escape name.now ≡ name.now }
-    ensures { Reads (row (pointer at.entry) (view object.now) (may name.now is_text))
-        (λ t. t ≡ json_optional (get name.now (view object.now))) result }
+    ensures { Reads (wrong_at at.entry (may name.now is_text) value.entry)
+        (λ t. t ≡ json_optional (viewed value.entry)) result }
 {
-    let Some(value) = object.get(name) else {
+    let Some(value) = value else {
         return Ok(None);
     };
     match value.as_str() {
@@ -69,11 +68,15 @@ pub fn optional_member(
 /// # Errors
 /// `Field` with the place of the member where it is missing or no name of a type; `Memory` where a
 /// request for memory is refused.
-pub fn dtype_member(alloc: Global, at: JsonPath<'_>, object: &Value) -> Result<DType, PlanFault>
-    ensures { Reads (row (pointer at.entry) (view object.now) dtype_row)
-        (λ t. t ≡ json_dtype (get (codes "type") (view object.now))) result }
+pub fn dtype_member(
+    alloc: Global,
+    at: JsonPath<'_>,
+    value: Option<&Value>,
+) -> Result<DType, PlanFault>
+    ensures { Reads (wrong_at at.entry dtype_row value.entry)
+        (λ t. t ≡ json_dtype (viewed value.entry)) result }
 {
-    match object.get("type").and_then(Value::as_str) {
+    match value.and_then(Value::as_str) {
         Some("container") => Ok(DType::Container),
         Some("test") => Ok(DType::Test),
         Some("both") => Ok(DType::Both),
@@ -86,11 +89,15 @@ pub fn dtype_member(alloc: Global, at: JsonPath<'_>, object: &Value) -> Result<D
 /// # Errors
 /// `Field` with the place of the member where it is there and no name of a mode; `Memory` where a
 /// request for memory is refused.
-pub fn mode_member(alloc: Global, at: JsonPath<'_>, object: &Value) -> Result<bool, PlanFault>
-    ensures { Reads (row (pointer at.entry) (view object.now) mode_row)
-        (λ b. b ≡ json_concurrent (get (codes "mode") (view object.now))) result }
+pub fn mode_member(
+    alloc: Global,
+    at: JsonPath<'_>,
+    value: Option<&Value>,
+) -> Result<bool, PlanFault>
+    ensures { Reads (wrong_at at.entry mode_row value.entry)
+        (λ b. b ≡ json_concurrent (viewed value.entry)) result }
 {
-    let Some(value) = object.get("mode") else {
+    let Some(value) = value else {
         return Ok(false);
     };
     match value.as_str() {
@@ -105,11 +112,15 @@ pub fn mode_member(alloc: Global, at: JsonPath<'_>, object: &Value) -> Result<bo
 /// # Errors
 /// `Field` with the place of the member where it is there and neither true nor false; `Memory`
 /// where a request for memory is refused.
-pub fn isolated_member(alloc: Global, at: JsonPath<'_>, object: &Value) -> Result<bool, PlanFault>
-    ensures { Reads (row (pointer at.entry) (view object.now) isolated_row)
-        (λ b. b ≡ json_truth (get (codes "isolated") (view object.now))) result }
+pub fn isolated_member(
+    alloc: Global,
+    at: JsonPath<'_>,
+    value: Option<&Value>,
+) -> Result<bool, PlanFault>
+    ensures { Reads (wrong_at at.entry isolated_row value.entry)
+        (λ b. b ≡ json_truth (viewed value.entry)) result }
 {
-    let Some(value) = object.get("isolated") else {
+    let Some(value) = value else {
         return Ok(false);
     };
     match value.as_bool() {
@@ -173,12 +184,12 @@ fn pair_in(value: &Value) -> Option<TwoTexts<'_>>
 pub fn segment_member<'v>(
     alloc: Global,
     at: JsonPath<'_>,
-    object: &'v Value,
+    value: Option<&'v Value>,
 ) -> Result<TwoTexts<'v>, PlanFault>
-    ensures { Reads (row (pointer at.entry) (view object.now) segment_row)
-        (IsPairOf (get (codes "segment") (view object.now))) result }
+    ensures { Reads (wrong_at at.entry segment_row value.entry)
+        (IsPairOf (viewed value.entry)) result }
 {
-    let Some(value) = object.get("segment") else {
+    let Some(value) = value else {
         return Err(wrong_member(alloc, at, "segment"));
     };
     match pair_in(value) {
@@ -198,14 +209,14 @@ pub fn segment_member<'v>(
 pub fn array_member(
     alloc: Global,
     at: JsonPath<'_>,
-    object: &Value,
     name: &str,
+    value: Option<&Value>,
 ) -> Result<bool, PlanFault>
     requires { flat_map escape name.now ≡ name.now }
-    ensures { Reads (row (pointer at.entry) (view object.now) (may name.now any_array))
-        (λ is_empty. is_empty ≡ (length (listed (get name.now (view object.now))) == 0)) result }
+    ensures { Reads (wrong_at at.entry (may name.now any_array) value.entry)
+        (λ is_empty. is_empty ≡ (length (listed (viewed value.entry)) == 0)) result }
 {
-    match object.get(name) {
+    match value {
         Some(value) => match items_in(value) {
             Some(items) => Ok(items.is_empty()),
             None => Err(wrong_member(alloc, at, name)),
@@ -223,7 +234,8 @@ fn is_among(names: &[&str], name: &str) -> bool
 
 /// The first name, in byte order, of a member that has none of `names`.
 fn first_unknown<'v>(members: &'v Map<String, Value>, names: &[&str]) -> Option<&'v str>
-    ensures { IsFirstUnknown (map (λ n. n.now) names.now) (members_view members.now.entries) result }
+    ensures { IsFirstUnknown (map (λ n. n.now) names.now) (members_view members.now.entries)
+        result }
 {
     for name in members.keys() {
         if !is_among(names, name.as_str()) {

@@ -4,7 +4,7 @@ ghost use Rattle.serde_json.specs.Find.{get};
 ghost use Rattle.serde_json.specs.View.{view};
 ghost use Rattle.tk_plan_members.specs.Checks.{array_of, row};
 ghost use Rattle.tk_plan_members.specs.Rows.{lock_mode_row, locks_row, lock as is_lock};
-ghost use Rattle.tk_plan_members.specs.Pointers.{pointer};
+ghost use Rattle.tk_plan_members.specs.Pointers.{pointer, viewed, wrong_at};
 ghost use Rattle.tk_plan_members.specs.Answers.{Reads};
 ghost use Rattle.tk_plan_members.specs.Contents.{json_writes, json_lock, json_locks};
 
@@ -37,7 +37,7 @@ fn lock(alloc: Global, at: JsonPath<'_>, value: &Value) -> Result<Lock, PlanFaul
         (λ l. l ≡ json_lock (view value.now)) result }
 {
     check_members(alloc, at, value, &["key", "mode"])?;
-    let key = text_member(alloc, at, value, "key")?;
+    let key = text_member(alloc, at, "key", value.get("key"))?;
     let writes = lock_mode_member(alloc, at, value)?;
     Ok(Lock { key, writes })
 }
@@ -61,11 +61,15 @@ fn locks(alloc: Global, at: &str, value: &Value) -> Result<Locks, PlanFault>
 /// # Errors
 /// `Field` with the first place in the member where something is wrong or missing; `Memory` where a
 /// request for memory is refused.
-pub fn locks_member(alloc: Global, at: JsonPath<'_>, object: &Value) -> Result<Locks, PlanFault>
-    ensures { Reads (row (pointer at.entry) (view object.now) locks_row)
-        (λ l. l ≡ json_locks (get (codes "locks") (view object.now))) result }
+pub fn locks_member(
+    alloc: Global,
+    at: JsonPath<'_>,
+    value: Option<&Value>,
+) -> Result<Locks, PlanFault>
+    ensures { Reads (wrong_at at.entry locks_row value.entry)
+        (λ l. l ≡ json_locks (viewed value.entry)) result }
 {
-    match object.get("locks") {
+    match value {
         Some(value) => {
             let path = member_path(alloc, at, "locks")?;
             locks(alloc, &path, value)

@@ -8,7 +8,7 @@ ghost use Rattle.serde_json.specs.View.{view};
 ghost use Rattle.tk_events.specs.Event.{is_strictly_increasing};
 ghost use Rattle.tk_plan_members.specs.Checks.{array_of, item_at, pair_of, row, text as is_text};
 ghost use Rattle.tk_plan_members.specs.Rows.{status_row, result_row, entries_row, entry as is_entry, result as is_result};
-ghost use Rattle.tk_plan_members.specs.Pointers.{pointer};
+ghost use Rattle.tk_plan_members.specs.Pointers.{pointer, viewed, wrong_at};
 ghost use Rattle.tk_plan_members.specs.Answers.{Reads};
 ghost use Rattle.tk_plan_members.specs.Contents.{json_status, listed};
 ghost use Rattle.tk_plan_members.specs.MemberValues.{has_key, IsNodeResult, IsOnlyPair, IsReport, AreReports};
@@ -44,7 +44,7 @@ fn node_result(alloc: Global, at: JsonPath<'_>, value: &Value) -> Result<NodeRes
 {
     check_members(alloc, at, value, &["status", "message"])?;
     let status = status_member(alloc, at, value)?;
-    let message = optional_member(alloc, at, value, "message")?;
+    let message = optional_member(alloc, at, "message", value.get("message"))?;
     if status == Status::Successful && message.is_some() {
         return Err(wrong_member(alloc, at, "message"));
     }
@@ -59,12 +59,12 @@ fn node_result(alloc: Global, at: JsonPath<'_>, value: &Value) -> Result<NodeRes
 pub fn result_member(
     alloc: Global,
     at: JsonPath<'_>,
-    object: &Value,
+    value: Option<&Value>,
 ) -> Result<NodeResult, PlanFault>
-    ensures { Reads (row (pointer at.entry) (view object.now) result_row)
-        (IsNodeResult (get (codes "result") (view object.now))) result }
+    ensures { Reads (wrong_at at.entry result_row value.entry)
+        (IsNodeResult (viewed value.entry)) result }
 {
-    match object.get("result") {
+    match value {
         Some(value) => {
             let path = member_path(alloc, at, "result")?;
             node_result(alloc, JsonPath::Whole(&path), value)
@@ -163,11 +163,15 @@ fn entries(alloc: Global, at: &str, value: &Value) -> Result<Reports, PlanFault>
 /// # Errors
 /// `Field` with the first place in the member where something is wrong or missing; `Memory` where a
 /// request for memory is refused.
-pub fn entries_member(alloc: Global, at: JsonPath<'_>, object: &Value) -> Result<Reports, PlanFault>
-    ensures { Reads (row (pointer at.entry) (view object.now) entries_row)
-        (AreReports (listed (get (codes "entries") (view object.now)))) result }
+pub fn entries_member(
+    alloc: Global,
+    at: JsonPath<'_>,
+    value: Option<&Value>,
+) -> Result<Reports, PlanFault>
+    ensures { Reads (wrong_at at.entry entries_row value.entry)
+        (AreReports (listed (viewed value.entry))) result }
 {
-    match object.get("entries") {
+    match value {
         Some(value) => {
             let path = member_path(alloc, at, "entries")?;
             entries(alloc, &path, value)
