@@ -1,5 +1,5 @@
 -- In a record that keeps the lifecycle, in which each static key has its turn, no static child of what succeeds is left out.
-use Rattle.std.proofs.Common.{◌≡◌, ℕ, zero, suc, ◌+◌, ◌-◌, ◌<◌, ◌≤◌, ◌⊎◌, ⊎_elim, inl, inr, Bool, true, false, ◌&&◌, ◌||◌, not, List, [], ◌∷◌, ◌++◌, length, take, map, Option, Some, None, slice_get, if◌then◌else◌, refl, sym, ap, ◌∙◌, subst, arith, eq-eqb, eqb-true}
+use Rattle.std.proofs.Common.{◌≡◌, ℕ, zero, suc, ◌+◌, ◌-◌, ◌<◌, ◌≤◌, ◌⊎◌, ⊎_elim, inl, inr, true, false, ◌||◌, not, List, [], ◌∷◌, ◌++◌, length, take, Some, slice_get, if◌then◌else◌, refl, sym, ap, ◌∙◌, subst, arith, eq-eqb, eqb-true}
 use Rattle.std.specs.Prelude.{◌==◌}
 use Rattle.std.specs.Option.{option_or}
 use Rattle.std.proofs.lemmas.Bool.{true≢false, and_from, and_parts}
@@ -13,10 +13,10 @@ use Rattle.tk_events.specs.declared.kinds.Kind.TheVariants.{Dynamic, File, Finis
 use Rattle.tk_events.specs.declared.payloads.Payload.{Payload}
 use Rattle.tk_events.specs.declared.events.Entry.{Entry}
 use Rattle.tk_events.specs.Event.{kind_code}
-use Rattle.tk_record_columns.specs.Entries.{desc, desc_in, of_kind, status_number, with_entry}
+use Rattle.tk_record_columns.specs.Entries.{desc_in, of_kind, status_number, with_entry}
 use Rattle.tk_record_columns.specs.Record.{IsRecord}
 use Rattle.tk_record_columns.specs.Recorded.{Recorded}
-use Rattle.tk_query_lifecycle.specs.Lifecycle.{HasId, first_entries, has_event, has_run, is_event, runs}
+use Rattle.tk_query_lifecycle.specs.Lifecycle.{HasId, first_entries, has_event, has_run, is_event}
 use Rattle.tk_query_lifecycle.specs.KeepsLifecycle.{IsWhole, KeepsLifecycle, steps_of}
 use Rattle.tk_query_lifecycle.specs.NeverRan.{EachChildRuns, NeverRuns}
 use Rattle.tk_query_lifecycle.proofs.FirstEntries.{desc_first, first_more, its_id}
