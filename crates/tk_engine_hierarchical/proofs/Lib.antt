@@ -10,3 +10,4 @@ pub mod Shaped
 pub mod Stepped
 pub mod TreeRuns
 pub mod UnitsOfKeys
+pub mod ChildrenRun

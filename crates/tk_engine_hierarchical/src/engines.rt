@@ -1,5 +1,6 @@
 //! The engine of a plan whose tests have bodies, as `execute` takes it.
 ghost use Rattle.std.specs.Prelude.{◌≡◌, IfOk};
+ghost use Rattle.tk_plan_units.specs.Planned.{IsPlanned};
 ghost use Rattle.tk_engine_lifecycle.specs.Units.{KeepsAround};
 ghost use Rattle.tk_engine_hierarchical.specs.Shapes.{frame, HavePlaces};
 
@@ -42,6 +43,7 @@ impl<T> Hierarchical<T> {
     pub(crate) fn shows_shape(&self)
         ensures around { KeepsAround (frame self.now.shape) }
         ensures places { HavePlaces self.now.shape }
+        ensures planned { IsPlanned self.now.shape.plan.nodes self.now.shape.plan.table }
     {
         self.shape.shows_shape();
     }

@@ -1,6 +1,7 @@
 //! The engine of a plan whose tests have bodies in Rust.
 #![tactic(auto)]
 
+pub mod child_laws;
 mod engines;
 mod hierarchical;
 pub mod laws;

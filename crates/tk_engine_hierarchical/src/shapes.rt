@@ -7,6 +7,7 @@ ghost use Rattle.tk_query_lifecycle.specs.Lifecycle.{runs};
 ghost use Rattle.tk_engine_laws.specs.Spines.{count_static, end_of};
 ghost use Rattle.tk_engine_lifecycle.specs.Units.{KeepsAround};
 ghost use Rattle.tk_plan_units.specs.Parents.{HasParentAt};
+ghost use Rattle.tk_plan_units.specs.Planned.{IsPlanned};
 ghost use Rattle.tk_plan_units.specs.Trees.{IsForest, tree_of};
 ghost use Rattle.tk_engine_hierarchical.specs.Owners.{AreOwners};
 ghost use Rattle.tk_engine_hierarchical.specs.Shapes.{HavePlaces, count_units, frame, keys_in};
@@ -178,6 +179,7 @@ impl Shape {
         ensures around { KeepsAround (frame self.now) }
         ensures places { HavePlaces self.now }
         ensures different { AreDifferent self.now.plan.table }
+        ensures planned { IsPlanned self.now.plan.nodes self.now.plan.table }
     {
         spine();
         self.scripted.plan().table().shows_different_ids();

@@ -17,6 +17,7 @@ pub mod OneKey
 pub mod ByKey
 pub mod Keeping
 pub mod ChildrenRun
+pub mod Turns
 pub mod Stamps
 pub mod Samples
 pub mod Playing

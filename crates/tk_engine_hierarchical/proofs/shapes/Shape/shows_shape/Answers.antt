@@ -32,3 +32,6 @@ returns-clause-places c =
 
 pub returns-clause-different : goal.returns-clause-different
 returns-clause-different c = different c
+
+pub returns-clause-planned : goal.returns-clause-planned
+returns-clause-planned c = planned c
