@@ -10,6 +10,7 @@ ghost use Rattle.tk_engine_hierarchical.specs.Laws.{UnitsNest, UnitsRanTrees, te
 ghost use Rattle.tk_engine_hierarchical.specs.Runs.{IsRunBy};
 ghost use Rattle.tk_engine_hierarchical.specs.Shapes.{count_units};
 
+use crate::child_laws::children_run;
 use crate::engines::Hierarchical;
 use crate::laws::{lifecycle, nesting, outcomes, steps, trees, turns};
 use crate::tests::Tests;
@@ -18,19 +19,7 @@ use std::sync::Wait;
 use std::thread::Threads;
 use tk_engine::{Results, RunFault, execute};
 use tk_events::MAX_WORKERS;
-use tk_query_lifecycle::laws::{kept_by_its_events, lifecycle_is_unique};
 use tk_queue_session::MAX_CAPACITY;
-
-// Shows that `Kept` is the one answer of `Results::lifecycle` on a record that keeps the lifecycle.
-fn shows_kept(results: &Results)
-    requires { KeepsLifecycle results.now.recorded }
-    ensures { IsKept results.now.recorded }
-{
-    // For the proof: no two descriptors of a table have one id.
-    results.recorded().table().shows_different_ids();
-    kept_by_its_events();
-    lifecycle_is_unique();
-}
 
 // Shows what holds of the record of each run of the engine.
 fn shows_laws<T: Tests + Sync>(engine: &Hierarchical<T>, results: &Results)
@@ -48,7 +37,7 @@ fn shows_laws<T: Tests + Sync>(engine: &Hierarchical<T>, results: &Results)
         results.now.recorded }
 {
     lifecycle(engine, results);
-    shows_kept(results);
+    children_run(engine, results);
     turns(engine, results);
     outcomes(engine, results);
     steps(engine, results);
