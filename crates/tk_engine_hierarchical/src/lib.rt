@@ -4,20 +4,12 @@
 mod engines;
 mod hierarchical;
 pub mod laws;
-mod leases;
 mod planned_units;
-mod registered_ids;
 mod reporters;
-mod running_keys;
-mod shapes;
-mod stacks;
 mod tests;
-mod unit_events;
-mod unit_ids;
-mod unit_runs;
 
 pub use engines::Hierarchical;
 pub use reporters::Reporter;
-pub use tests::{Body, Outcome, Tests};
+pub use tests::{Body, Tests};
 pub use tk_engine_execute::{OUT_OF_ORDER, TWICE};
-pub use unit_runs::UnitRun;
+pub use tk_engine_unit_events::{Outcome, UnitRun};
