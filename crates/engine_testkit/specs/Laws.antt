@@ -5,8 +5,8 @@ pub use Rattle.tk_query_lifecycle.specs.Lifecycle.{HasId, IsLifecycle}
 pub use Rattle.tk_engine_laws.specs.Laws.{IsKept}
 pub use Rattle.tk_engine_lifecycle.specs.Units.{Frame, KeepsAlone, KeepsAround, UnitsKeepLifecycle}
 pub use Rattle.tk_engine_lifecycle.specs.UnderWay.{IsUnderWay, UnitState}
-pub use Rattle.tk_engine_hierarchical.specs.Endings.{EndsAsItMay, HasOutcome, IsStaticTest}
-pub use Rattle.tk_engine_hierarchical.specs.Nesting.{BelongsTo, EventsNest}
+pub use Rattle.tk_engine_unit_events.specs.Endings.{EndsAsItMay, HasOutcome, IsStaticTest}
+pub use Rattle.tk_engine_unit_events.specs.Nesting.{BelongsTo, EventsNest}
 pub use Rattle.tk_engine_hierarchical.specs.Laws.{HasTurn, HaveTurns, HasOutcomes, FollowsPlan}
 pub use Rattle.tk_engine_hierarchical.specs.Laws.{IsRunOf, TestRules, test_rules}
 pub use Rattle.tk_engine_hierarchical.specs.Laws.{UnitsNest, UnitsRanTrees}

@@ -17,6 +17,7 @@ pub use Rattle.tk_engine_execute.specs.Engines
 pub use Rattle.tk_engine_execute.specs.Grown
 pub use Rattle.tk_engine_events.specs.Events
 pub use Rattle.tk_engine_events.specs.Emitted
-pub use Rattle.tk_engine_hierarchical.specs.declared.tests.Outcome
+pub use Rattle.tk_engine_unit_events.specs.declared.outcomes.Outcome
+pub use Rattle.tk_engine_unit_events.specs.UnitSteps
 pub use Rattle.tk_engine_hierarchical.specs.Reporting
 pub mod Laws

@@ -4,8 +4,8 @@ ghost use Rattle.engine_testkit.specs.Outcome.TheVariants.{Successful};
 
 use crate::cases::{Case, CaseTable, Function};
 use engine_testkit::{
-    Body, ExecutionMode, Hierarchical, LockMode, Outcome, Pairs, PlanNode, Reporter, Segment, Sink,
-    Tests, Text, UnitFault, UnitRun, build_plan,
+    Body, ExecutionMode, Hierarchical, LockMode, Outcome, Pairs, PlanFault, PlanNode, Reporter,
+    Segment, Sink, Tests, Text, UnitFault, UnitRun, build_plan,
 };
 use std::alloc::{AllocError, Global};
 use std::sync::Wait;
@@ -32,6 +32,12 @@ struct CaseBody<'a, F> {
 }
 
 impl<F: Function> Body for CaseBody<'_, F> {
+    ghost use Rattle.std.specs.Prelude.{◌≡◌, ◌↔◌};
+    ghost use Rattle.engine_testkit.specs.Outcome.TheVariants.{Successful};
+
+    ghost may_end = { λ body outcome. (outcome ≡ Successful)
+        ↔ (F.value body.function.now body.case.argument ≡ body.case.expected) };
+
     fn run<R: Wait, S: Sink, K: UnitRun>(
         &self,
         _rt: &R,
@@ -60,6 +66,16 @@ fn run_cases<F: Function, R: Wait, S: Sink, K: UnitRun>(
     Ok(())
 }
 
+// The table of this name.
+fn table_of<'t>(tables: &'t [CaseTable<'t>], name: &str) -> Option<&'t CaseTable<'t>> {
+    for table in tables {
+        if table.name == name {
+            return Some(table);
+        }
+    }
+    None
+}
+
 /// Tables of cases of a function.
 #[derive(Drop)]
 pub struct CaseTests<'a, F> {
@@ -76,8 +92,7 @@ impl<F: Function> Tests for CaseTests<'_, F> {
         key: u32,
         reporter: &mut Reporter<'_, S, K>,
     ) -> Result<Outcome, UnitFault> {
-        // The root's key is 0, so table i has the key i + 1.
-        let Some(table) = self.tables.get((key as usize).saturating_sub(1)) else {
+        let Some(table) = table_of(self.tables, reporter.descriptor()?.name.as_str()) else {
             return Err(UnitFault::Own(key));
         };
         let (name, cases) = (table.name, table.cases.len());
@@ -109,18 +124,19 @@ fn node_of<'t>(
 
 /// Makes an engine that runs each table under the lock with this key.
 ///
-/// It answers `None` where a table's name is empty, too long or that of another table, there are
+/// # Errors
+/// A fault of the plan: a table's name is empty, too long or that of another table, there are
 /// 65,536 tables, or memory is refused.
 pub fn case_engine<'a, F: Function>(
     alloc: Global,
     function: &'a F,
     tables: &'a [CaseTable<'a>],
     lock: &'a str,
-) -> Option<Hierarchical<CaseTests<'a, F>>> {
+) -> Result<Hierarchical<CaseTests<'a, F>>, PlanFault> {
     let mut root = PlanNode::container(alloc, ("engine", "cases"), "cases");
     for table in tables {
-        root = root.child(node_of(alloc, *table, lock).ok()?).ok()?;
+        root = root.child(node_of(alloc, *table, lock)?)?;
     }
-    let plan = build_plan(alloc, &root).ok()?;
-    Hierarchical::new(alloc, plan, CaseTests { function, tables }).ok()
+    let plan = build_plan(alloc, &root)?;
+    Ok(Hierarchical::new(alloc, plan, CaseTests { function, tables })?)
 }

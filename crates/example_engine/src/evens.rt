@@ -1,6 +1,7 @@
 //! An engine of two tests: are the numbers 4 and 5 even?
 use engine_testkit::{
-    Hierarchical, Outcome, PlanNode, Reporter, Sink, Tests, Text, UnitFault, UnitRun, build_plan,
+    Hierarchical, Outcome, PlanFault, PlanNode, Reporter, Sink, Tests, Text, UnitFault, UnitRun,
+    build_plan,
 };
 use std::alloc::Global;
 use std::sync::Wait;
@@ -14,11 +15,11 @@ impl Tests for EvenNumbers {
         &self,
         _rt: &R,
         alloc: Global,
-        key: u32,
-        _reporter: &mut Reporter<'_, S, K>,
+        _key: u32,
+        reporter: &mut Reporter<'_, S, K>,
     ) -> Result<Outcome, UnitFault> {
-        // Keys count the plan's nodes in preorder: the root has 0, the tests have 1 and 2.
-        let number = if key == 1 { 4 } else { 5 };
+        let name = reporter.descriptor()?.name.as_str();
+        let number = if name == "four" { 4 } else { 5 };
         if number % 2 == 0 {
             return Ok(Outcome::Successful);
         }
@@ -26,12 +27,11 @@ impl Tests for EvenNumbers {
     }
 }
 
-/// Makes the engine, or `None` where memory is refused.
-pub fn even_numbers(alloc: Global) -> Option<Hierarchical<EvenNumbers>> {
+/// Makes the engine.
+pub fn even_numbers(alloc: Global) -> Result<Hierarchical<EvenNumbers>, PlanFault> {
     let four = PlanNode::test(alloc, ("number", "4"), "four");
     let five = PlanNode::test(alloc, ("number", "5"), "five");
     let root = PlanNode::container(alloc, ("engine", "even"), "even");
-    let root = root.child(four).ok()?.child(five).ok()?;
-    let plan = build_plan(alloc, &root).ok()?;
-    Hierarchical::new(alloc, plan, EvenNumbers).ok()
+    let plan = build_plan(alloc, &root.child(four)?.child(five)?)?;
+    Ok(Hierarchical::new(alloc, plan, EvenNumbers)?)
 }

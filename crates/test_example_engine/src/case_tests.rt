@@ -19,7 +19,7 @@ pub(crate) fn run<R: Threads + Wait + Sync>(
     workers: usize,
 ) -> Option<Results> {
     let tables = tables();
-    let engine = case_engine(alloc, &Halves, &tables, "numbers")?;
+    let engine = case_engine(alloc, &Halves, &tables, "numbers").ok()?;
     execute(rt, alloc, &engine, workers, 16).ok()
 }
 
@@ -165,7 +165,7 @@ fn one_worker_is_asked(rt: HostRuntime) {
 // The resources that each table writes and reads; resource 0 is read by all, the lock is 1.
 fn needs(alloc: Global) -> Option<[(u16, u16); 3]> {
     let tables = tables();
-    let engine = case_engine(alloc, &Halves, &tables, "numbers")?;
+    let engine = case_engine(alloc, &Halves, &tables, "numbers").ok()?;
     if engine.units() != 3 {
         return None;
     }

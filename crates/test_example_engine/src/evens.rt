@@ -12,7 +12,7 @@ fn has_events<R: Threads + Wait + Sync>(rt: &R, alloc: Global, texts: &[&str]) -
     for text in texts {
         conditions.push(read_condition(alloc, text).ok()?).ok()?;
     }
-    let results = execute(rt, alloc, &even_numbers(alloc)?, 1, 16).ok()?;
+    let results = execute(rt, alloc, &even_numbers(alloc).ok()?, 1, 16).ok()?;
     let events = results.all_events(alloc).ok()?;
     Some(match_exactly(alloc, &events, conditions.as_slice()) == Ok(Exact::Yes))
 }

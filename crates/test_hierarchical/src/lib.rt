@@ -4,6 +4,8 @@
 #[cfg(test)]
 mod bodies;
 #[cfg(test)]
+mod descriptors;
+#[cfg(test)]
 mod limits;
 #[cfg(test)]
 mod planned;

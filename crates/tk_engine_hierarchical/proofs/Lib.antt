@@ -1,13 +1,6 @@
-pub mod Emitted
 pub mod Nested
-pub mod Nesting
-pub mod Owned
-pub mod Played
 pub mod Recorded
 pub mod Reported
-pub mod Running
-pub mod Shaped
 pub mod Stepped
 pub mod TreeRuns
-pub mod UnitsOfKeys
 pub mod ChildrenRun

@@ -19,9 +19,9 @@ use Rattle.tk_engine_lifecycle.proofs.Splits.{unfiltered}
 use Rattle.tk_engine_lifecycle.proofs.Turns.{Each, Turn, emitted, is_by, turned}
 use Rattle.tk_engine_lifecycle.proofs.Whole.{kept_run, turn_whole}
 use Rattle.tk_engine_hierarchical.specs.Laws.{UnitsNest}
-use Rattle.tk_engine_hierarchical.specs.Nesting.{BelongsTo, EachFinishes, EventsNest}
-use Rattle.tk_engine_hierarchical.specs.Shapes.{ShapeView, frame, may_emit}
-use Rattle.tk_engine_hierarchical.proofs.Nesting.{all_both, nest-append, nesting_none}
+use Rattle.tk_engine_unit_events.specs.Nesting.{BelongsTo, EachFinishes, EventsNest}
+use Rattle.tk_engine_unit_events.specs.Shapes.{ShapeView, frame, may_emit}
+use Rattle.tk_engine_unit_events.proofs.Nesting.{all_both, nest-append, nesting_none}
 
 -- the key of each event in the middle has an event in the list
 all_hit : (l pre during post : List Event) → l ≡ pre ++ (during ++ post) → All (λ e. Hit e.key l) during

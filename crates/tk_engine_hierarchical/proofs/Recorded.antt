@@ -22,13 +22,14 @@ use Rattle.tk_engine_claim.specs.Claims.{once_below, times}
 use Rattle.tk_engine_execute.proofs.Emitted.{registrations-append}
 use Rattle.tk_engine_runs.specs.Run.{Emits, IsRun, IsShared}
 use Rattle.tk_engine_lifecycle.proofs.Apart.{other_first, own_first}
-use Rattle.tk_engine_hierarchical.specs.Covered.{IsCovered}
-use Rattle.tk_engine_hierarchical.specs.Endings.{EndsAsItMay, IsStaticTest}
+use Rattle.tk_engine_unit_events.specs.Covered.{IsCovered}
+use Rattle.tk_engine_unit_events.specs.Endings.{EndsAsItMay, IsStaticTest}
 use Rattle.tk_engine_hierarchical.specs.Laws.{FollowsPlan, HasOutcomes, HasTurn, HaveTurns}
-use Rattle.tk_engine_hierarchical.specs.Shapes.{HavePlaces, IsInUnit, ShapeView, frame, may_emit}
-use Rattle.tk_engine_hierarchical.specs.Steps.{FitsPlan, StepsAs}
-use Rattle.tk_engine_hierarchical.specs.declared.tests.Outcome.{Outcome}
-use Rattle.tk_engine_hierarchical.proofs.Played.{any-append, any_kept, covered_by, or_cases, or_left, or_right}
+use Rattle.tk_engine_unit_events.specs.Shapes.{HavePlaces, IsInUnit, ShapeView, frame, may_emit}
+use Rattle.tk_engine_hierarchical.specs.Steps.{FitsPlan}
+use Rattle.tk_engine_unit_events.specs.Units.{StepsAs}
+use Rattle.tk_engine_unit_events.specs.declared.outcomes.Outcome.{Outcome}
+use Rattle.tk_engine_unit_events.proofs.Played.{any-append, any_kept, covered_by, or_cases, or_left, or_right}
 
 get_below : {A : Type 0} (xs : List A) (i : ℕ) → i < length xs → (x : A) × (slice_get xs i ≡ Some x)
 get_below [] i h = absurd (omega (arith, h))

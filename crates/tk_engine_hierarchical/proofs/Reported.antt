@@ -1,117 +1,21 @@
 -- What a reporter's calls promise.
-use Rattle.std.proofs.Common.{◌≡◌, ◌≤◌, inl, inr, ℕ, List, [], ◌∷◌, ◌++◌, sym, ap, ◌∙◌, subst, append_assoc, append-nil}
-use Rattle.std.specs.Prelude.{Result, Ok, Err, OnOk, OnErr}
-use Rattle.tk_events.specs.declared.events.Event.{Event}
-use Rattle.tk_events.specs.declared.kinds.Kind.{Kind}
+use Rattle.std.proofs.Common.{◌≡◌, ◌≤◌, inl, inr, ℕ, sym, ap, ◌∙◌, subst}
+use Rattle.std.specs.Prelude.{Result, OnErr}
 use Rattle.tk_events.specs.declared.kinds.Kind.TheVariants.{Finished, Skipped, Started}
 use Rattle.tk_events.specs.declared.payloads.Payload.{Payload}
 use Rattle.tk_events.specs.declared.payloads.Payload.TheVariants.{Nothing}
-use Rattle.tk_queue_session.specs.Registering.{IsRegisteredAs, RegisterRequest, child_of, registration}
-use Rattle.tk_queue_session.specs.Senders.{SenderView, sends}
+use Rattle.tk_queue_session.specs.Registering.{RegisterRequest}
+use Rattle.tk_queue_session.specs.Senders.{sends}
 use Rattle.tk_engine_execute.specs.Engines.{Extends}
-use Rattle.tk_engine_hierarchical.specs.Endings.{payload_of}
-use Rattle.tk_engine_hierarchical.specs.Reporting.{BodyRuns, EndsChild, Grew, HasBegunChild, HasBrokenOff, HasFinished, HasRunChild, HasSkipped, HasStarted, Published, UnitView, event}
-use Rattle.tk_engine_hierarchical.specs.declared.tests.Outcome.{Outcome}
-use Rattle.tk_engine_hierarchical.specs.Running.{RunningId, keys_of}
-
--- what follows from what holds at `Ok`
-pub on_ok : {F A B : Type 0} (r : Result (Unit {0}) F) → OnOk r A → (A → B) → OnOk r B
-on_ok (Ok _) a f = f a
-on_ok (Err _) a f = tt
-
-pub on_err : {F A B : Type 0} (r : Result (Unit {0}) F) → OnErr r A → (A → B) → OnErr r B
-on_err (Ok _) a f = tt
-on_err (Err _) a f = f a
-
-pub extends_same : (a b : SenderView) → b ≡ a → Extends a b
-extends_same a b e = ([], ap (λ (s : SenderView). s.sent) e ∙ sym (append-nil a.sent))
-
-pub extends_registered : (a b c : SenderView) (ask : RegisterRequest) (key : ℕ) → IsRegisteredAs a b ask (Ok key) → c ≡ b → Extends a c
-extends_registered a b c ask key r e =
-    (registration a ask.stamp (child_of ask r.0) ∷ [], ap (λ (s : SenderView). s.sent) (e ∙ r.5))
-
--- b is a, and events after it
-abbrev pub IsLonger : List Event → List Event → Type 0
-IsLonger a b = (l : List Event) × (b ≡ a ++ l)
-
-pub extends_more : (a b : List Event) (e : Event) → IsLonger a b → IsLonger a (b ++ e ∷ [])
-extends_more a b e x = (x.0 ++ e ∷ [], ap (λ l. l ++ e ∷ []) x.1 ∙ append_assoc a x.0 (e ∷ []))
-
-pub extends_extends : (a b c : List Event) → IsLonger a b → IsLonger b c → IsLonger a c
-extends_extends a b c x y = (x.0 ++ y.0, y.1 ∙ ap (λ l. l ++ y.0) x.1 ∙ append_assoc a x.0 y.0)
-
-pub extends_child : (a : List Event) (b c : SenderView) (ask : RegisterRequest) (key : ℕ) → IsRegisteredAs b c ask (Ok key) → IsLonger a b.sent → IsLonger a c.sent
-extends_child a b c ask key r x = subst (λ (s : SenderView). IsLonger a s.sent) (sym r.5) (extends_more a b.sent (registration b ask.stamp (child_of ask r.0)) x)
-
--- what holds holds at `Err`
-pub err_of : {R F A : Type 0} (r : Result R F) → A → OnErr r A
-err_of (Ok _) a = tt
-err_of (Err _) a = a
-
-pub grew_same : (old new : UnitView) → new.sink ≡ old.sink → new.running ≡ old.running → new.stamp ≡ old.stamp → new.own_stamp ≡ old.own_stamp → Grew old new
-grew_same old new sink running stamp own =
-    record { more = extends_same old.sink new.sink sink; running = running; stamp = stamp; own_stamp = own }
-
-pub grew_registered : (old new : UnitView) (sink registered : SenderView) (ask : RegisterRequest) (key : ℕ) → old.sink ≡ sink
-    → IsRegisteredAs sink registered ask (Ok key) → new.sink ≡ registered → new.running ≡ old.running → new.stamp ≡ old.stamp → new.own_stamp ≡ old.own_stamp → Grew old new
-grew_registered old new sink registered ask key was r now running stamp own = record {
-  more = subst (λ s. Extends s new.sink) (sym was) (extends_registered sink registered new.sink ask key r now);
-  running = running;
-  stamp = stamp;
-  own_stamp = own;
-}
-
-pub published : (old new : UnitView) (sink : SenderView) (running rest : List RunningId) (first : RunningId) (kind : Kind) (stamp : ℕ) (payload : Payload)
-    → old.sink ≡ sink → old.running ≡ keys_of running → running ≡ first ∷ rest → new.sink ≡ sends sink (event kind first.key stamp payload) → new.running ≡ old.running → new.stamp ≡ old.stamp → new.own_stamp ≡ old.own_stamp
-    → (key : ℕ) × Published old new (event kind key stamp payload)
-published old new sink running rest first kind stamp payload was view is took same kept own = (
-  first.key,
-  record {
-    outer = keys_of rest;
-    innermost = view ∙ ap keys_of is;
-    took = took ∙ ap (λ s. sends s (event kind first.key stamp payload)) (sym was);
-    running = same;
-    stamp = kept;
-    own_stamp = own;
-  },
-)
-
-pub skipped_child : (old new : UnitView) (sink registered : SenderView) (running rest : List RunningId) (first : RunningId) (ask : RegisterRequest) (key stamp : ℕ) (reason : Payload)
-    → old.sink ≡ sink → old.running ≡ keys_of running → running ≡ first ∷ rest → ask.parent ≡ first.key → IsRegisteredAs sink registered ask (Ok key)
-    → new.sink ≡ sends registered (event Skipped key stamp reason) → new.running ≡ old.running → new.stamp ≡ old.stamp → new.own_stamp ≡ old.own_stamp
-    → (key : ℕ) × HasSkipped old new ask (event Skipped key stamp reason)
-skipped_child old new sink registered running rest first ask key stamp reason was view is parent r took same kept own = (
-  key,
-  record {
-    outer = keys_of rest;
-    innermost = view ∙ ap keys_of is ∙ ap (λ k. k ∷ keys_of rest) (sym parent);
-    registered = registered;
-    registration = subst (λ s. IsRegisteredAs s registered ask (Ok key)) (sym was) r;
-    took = took;
-    running = same;
-    stamp = kept;
-    own_stamp = own;
-  },
-)
+use Rattle.tk_engine_unit_events.specs.Endings.{payload_of}
+use Rattle.tk_engine_unit_events.specs.UnitSteps.{BodyRuns, Grew, HasFinished, HasSkipped, HasStarted, UnitView, event}
+use Rattle.tk_engine_hierarchical.specs.Reporting.{EndsChild, HasBegunChild, HasBrokenOff, HasRunChild}
+use Rattle.tk_engine_unit_events.specs.declared.outcomes.Outcome.{Outcome}
+use Rattle.tk_engine_unit_events.proofs.UnitSteps.{err_of, on_err}
 
 pub skipped_at : (old new : UnitView) (ask : ℕ → RegisterRequest) (given stamp : ℕ) (reason : Payload) → given ≡ stamp
     → (key : ℕ) × HasSkipped old new (ask given) (event Skipped key given reason) → (key : ℕ) × HasSkipped old new (ask stamp) (event Skipped key stamp reason)
 skipped_at old new ask given stamp reason same s = subst (λ n. (key : ℕ) × HasSkipped old new (ask n) (event Skipped key n reason)) same s
-
-pub started_child : (old new : UnitView) (sink registered : SenderView) (running rest : List RunningId) (first : RunningId) (ask : RegisterRequest) (key stamp : ℕ)
-    → old.sink ≡ sink → old.running ≡ keys_of running → running ≡ first ∷ rest → ask.parent ≡ first.key → IsRegisteredAs sink registered ask (Ok key)
-    → new.sink ≡ sends registered (event Started key stamp Nothing) → new.running ≡ key ∷ keys_of running → new.stamp ≡ old.stamp → new.own_stamp ≡ old.own_stamp
-    → HasStarted old new ask (event Started key stamp Nothing)
-started_child old new sink registered running rest first ask key stamp was view is parent r took more kept own = record {
-  outer = keys_of rest;
-  innermost = view ∙ ap keys_of is ∙ ap (λ k. k ∷ keys_of rest) (sym parent);
-  registered = registered;
-  registration = subst (λ s. IsRegisteredAs s registered ask (Ok key)) (sym was) r;
-  took = took;
-  running = more ∙ ap (λ l. key ∷ l) (sym view);
-  stamp = kept;
-  own_stamp = own;
-}
 
 pub has_run_child : (may_run : BodyRuns) (old started before new : UnitView) (ask : ℕ → RegisterRequest) (key given stamp : ℕ) (outcome : Outcome) → given ≡ stamp
     → HasStarted old started (ask given) (event Started key (ask given).stamp Nothing) → Extends started.sink before.sink → may_run started before outcome
@@ -146,9 +50,6 @@ finish_broken r old started before new ask above key given stamp same s x refuse
     let broken : (a : ℕ) × HasBrokenOff old new (ask a stamp)
     = (above, inr (has_begun_child old started new (ask above) key given stamp same s (subst (λ (v : UnitView). Extends started.sink v.sink) (sym e) x))) in
     broken)
-
-pub tails_same : {A : Type 0} {x y : A} {xs ys : List A} → x ∷ xs ≡ y ∷ ys → xs ≡ ys
-tails_same e = cc
 
 pub finished_as : (old new : UnitView) (key given stamp : ℕ) (payload outcome : Payload) → given ≡ stamp → payload ≡ outcome
     → HasFinished old new (event Finished key given payload) → HasFinished old new (event Finished key stamp outcome)

@@ -13,7 +13,7 @@ use Rattle.tk_plan_units.proofs.Ordering.{all_numbered}
 use Rattle.tk_plan_units.proofs.Parting.{all_back, all_prefix, all_single}
 use Rattle.tk_engine_execute.proofs.Positions.{all_at}
 use Rattle.tk_engine_hierarchical.specs.Steps.{FitsNode, FitsPlan, MayStepAs}
-use Rattle.tk_engine_hierarchical.specs.declared.tests.Outcome.{Outcome}
+use Rattle.tk_engine_unit_events.specs.declared.outcomes.Outcome.{Outcome}
 
 -- what holds of the nodes of some trees holds of those of their units
 module _ (P : NumberedNode → Type 0) where

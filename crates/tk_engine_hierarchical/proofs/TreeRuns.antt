@@ -16,19 +16,19 @@ use Rattle.tk_record_columns.specs.Recorded.{Recorded}
 use Rattle.tk_engine_runs.specs.Run.{IsRun}
 use Rattle.tk_engine_execute.specs.Engines.{ExtendsAs}
 use Rattle.tk_engine_lifecycle.specs.Units.{KeepsAround, UnitsKeepLifecycle}
-use Rattle.tk_engine_hierarchical.specs.Endings.{IsStaticTest}
-use Rattle.tk_engine_hierarchical.specs.Events.{HasRun}
+use Rattle.tk_engine_unit_events.specs.Endings.{IsStaticTest}
+use Rattle.tk_engine_unit_events.specs.Events.{HasRun}
 use Rattle.tk_engine_hierarchical.specs.Laws.{RanTree, TestRules, may_of}
-use Rattle.tk_engine_hierarchical.specs.Reporting.{UnitView, event}
-use Rattle.tk_engine_hierarchical.specs.Shapes.{ShapeView, frame, keys_in, may_emit}
+use Rattle.tk_engine_unit_events.specs.UnitSteps.{UnitView, event, begun}
+use Rattle.tk_engine_unit_events.specs.Shapes.{ShapeView, frame, keys_in, may_emit}
 use Rattle.tk_engine_hierarchical.specs.Steps.{FitsPlan, MayStepAs}
-use Rattle.tk_engine_hierarchical.specs.Units.{RunsUnit}
-use Rattle.tk_engine_hierarchical.specs.TreeRuns.{FinishesNode, PlanState, RunsBody, RunsForest, RunsNode, RunsTree, RunsUnitTree, StartsNode, TestRuns, after_each, after_publishing, begun, plan_state}
+use Rattle.tk_engine_unit_events.specs.Units.{RunsUnit}
+use Rattle.tk_engine_hierarchical.specs.TreeRuns.{FinishesNode, PlanState, RunsBody, RunsForest, RunsNode, RunsTree, RunsUnitTree, StartsNode, TestRuns, after_each, after_publishing, plan_state}
 use Rattle.tk_engine_hierarchical.specs.declared.planned_units.TestEnd.{TestEnd}
-use Rattle.tk_engine_hierarchical.specs.declared.tests.Outcome.{Outcome}
+use Rattle.tk_engine_unit_events.specs.declared.outcomes.Outcome.{Outcome}
 use Rattle.tk_engine_hierarchical.proofs.Nested.{of_worker_mid}
 use Rattle.tk_engine_hierarchical.proofs.Recorded.{run_more, unit_ran}
-use Rattle.tk_engine_hierarchical.proofs.Reported.{on_ok}
+use Rattle.tk_engine_unit_events.proofs.UnitSteps.{on_ok}
 
 -- ---- loops
 

@@ -10,13 +10,14 @@ use Rattle.tk_record_columns.specs.Mixing.{of_worker}
 use Rattle.tk_record_columns.specs.Recorded.{Recorded}
 use Rattle.tk_query_lifecycle.specs.KeepsLifecycle.{steps_of}
 use Rattle.tk_queue_session.specs.Emission.{registrations}
-use Rattle.tk_engine_hierarchical.specs.Covered.{IsBelowSkipped}
-use Rattle.tk_engine_hierarchical.specs.Endings.{EndsAsItMay}
-use Rattle.tk_engine_hierarchical.specs.Nesting.{EventsNest}
-use Rattle.tk_engine_hierarchical.specs.Shapes.{ShapeView, frame, may_emit}
-use Rattle.tk_engine_hierarchical.specs.Steps.{FitsPlan, StepsAs}
+use Rattle.tk_engine_unit_events.specs.Covered.{IsBelowSkipped}
+use Rattle.tk_engine_unit_events.specs.Endings.{EndsAsItMay}
+use Rattle.tk_engine_unit_events.specs.Nesting.{EventsNest}
+use Rattle.tk_engine_unit_events.specs.Shapes.{ShapeView, frame, may_emit}
+use Rattle.tk_engine_hierarchical.specs.Steps.{FitsPlan}
+use Rattle.tk_engine_unit_events.specs.Units.{StepsAs}
 use Rattle.tk_engine_hierarchical.specs.TreeRuns.{IsOfUnitTree, TestRuns, UnitWorker}
-use Rattle.tk_engine_hierarchical.specs.declared.tests.Outcome.{Outcome}
+use Rattle.tk_engine_unit_events.specs.declared.outcomes.Outcome.{Outcome}
 
 -- what tests promise, by their keys: with which outcomes each may end, and how its body may run
 pub record TestRules : Type 1 where

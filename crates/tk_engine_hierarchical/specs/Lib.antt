@@ -1,17 +1,5 @@
-pub mod Emitting
-pub mod Owners
-pub mod RegisteredIds
-pub mod Shapes
-pub mod Running
-pub mod Events
-pub mod Endings
 pub mod Steps
-pub mod Covered
-pub mod Nesting
-pub mod Units
 pub mod Reporting
-pub mod UnitViews
-pub mod Standing
 pub mod TreeRuns
 pub mod Laws
 pub mod Runs

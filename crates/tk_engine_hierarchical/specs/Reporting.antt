@@ -1,90 +1,14 @@
 -- What a reporter emits.
-use Rattle.std.specs.Prelude.{◌≡◌, ◌⊎◌, ℕ, ◌≤◌, Bool, true, false, List, ◌∷◌, Ok, Option}
-use Rattle.tk_ids.specs.IdText.{SegmentView}
-use Rattle.tk_ids.specs.declared.descriptors.DType.{DType}
-use Rattle.tk_events.specs.declared.events.Event.{Event}
-use Rattle.tk_events.specs.declared.kinds.Kind.{Kind}
-use Rattle.tk_events.specs.declared.kinds.Kind.TheVariants.{Dynamic, File, Finished}
-use Rattle.tk_events.specs.declared.kinds.Kind.TheVariants.{Reporting, Skipped, Started}
-use Rattle.tk_events.specs.declared.payloads.Payload.{Payload}
+use Rattle.std.specs.Prelude.{◌≡◌, ◌⊎◌, ℕ, ◌≤◌}
+use Rattle.tk_events.specs.declared.kinds.Kind.TheVariants.{Finished, Started}
 use Rattle.tk_events.specs.declared.payloads.Payload.TheVariants.{Nothing}
-use Rattle.tk_queue_session.specs.Registering.{IsRegisteredAs, RegisterRequest}
+use Rattle.tk_queue_session.specs.Registering.{RegisterRequest}
 use Rattle.tk_queue_session.specs.Senders.{SenderView, sends}
 use Rattle.tk_engine_execute.specs.Engines.{Extends}
-use Rattle.tk_engine_hierarchical.specs.Endings.{payload_of}
-use Rattle.tk_engine_hierarchical.specs.declared.tests.Outcome.{Outcome}
-
--- what contracts see of a unit that runs: its sink, the keys that run, innermost first, the stamp
--- of what a body publishes, and the one that the static test that runs has set
-pub record UnitView : Type 0 where
-  pub sink : SenderView
-  pub running : List ℕ
-  pub stamp : ℕ
-  pub own_stamp : Option ℕ
-
-abbrev pub event : Kind → ℕ → ℕ → Payload → Event
-event kind key stamp payload =
-    record { kind = kind; key = key; stamp = stamp; payload = payload }
-
--- what is registered below a running key
-pub record ChildView : Type 0 where
-  pub segment : SegmentView
-  pub name : List ℕ
-  pub dtype : DType
-
-abbrev pub child : DType → SegmentView → List ℕ → ChildView
-child dtype segment name = record { segment = segment; name = name; dtype = dtype }
-
--- what is asked for, to register a child below a key at this stamp
-abbrev pub child_request : ChildView → ℕ → ℕ → RegisterRequest
-child_request c above stamp = record {
-  parent = above;
-  segment = c.segment;
-  name = c.name;
-  dtype = c.dtype;
-  stamp = stamp;
-}
-
--- the events of this kind are those of what a running key publishes
-abbrev pub publishes : Kind → Bool
-publishes Reporting = true
-publishes File = true
-publishes Dynamic = false
-publishes Skipped = false
-publishes Started = false
-publishes Finished = false
-
--- the innermost running key published this event, and nothing else happened
-pub record Published (old new : UnitView) (e : Event) : Type 0 where
-  pub outer : List ℕ
-  pub innermost : old.running ≡ e.key ∷ outer
-  pub took : new.sink ≡ sends old.sink e
-  pub running : new.running ≡ old.running
-  pub stamp : new.stamp ≡ old.stamp
-  pub own_stamp : new.own_stamp ≡ old.own_stamp
-
--- the innermost running key finished with this event, and nothing else happened
-pub record HasFinished (old new : UnitView) (e : Event) : Type 0 where
-  pub running : old.running ≡ e.key ∷ new.running
-  pub took : new.sink ≡ sends old.sink e
-  pub stamp : new.stamp ≡ old.stamp
-  pub own_stamp : new.own_stamp ≡ old.own_stamp
-
--- what was asked for was registered below the innermost running key, then started with this event,
--- and nothing else happened
-pub record HasStarted (old new : UnitView) (ask : RegisterRequest) (start : Event) : Type 0 where
-  pub outer : List ℕ
-  pub innermost : old.running ≡ ask.parent ∷ outer
-  pub registered : SenderView
-  pub registration : IsRegisteredAs old.sink registered ask (Ok start.key)
-  pub took : new.sink ≡ sends registered start
-  pub running : new.running ≡ start.key ∷ old.running
-  pub stamp : new.stamp ≡ old.stamp
-  pub own_stamp : new.own_stamp ≡ old.own_stamp
-
--- how a body may run: from which unit to which one, with which outcome
-abbrev pub BodyRuns : Type 1
-BodyRuns = UnitView → UnitView → Outcome → Type 0
+use Rattle.tk_engine_unit_events.specs.Endings.{payload_of}
+use Rattle.tk_engine_unit_events.specs.UnitSteps.{BodyRuns, ChildView, Grew, HasFinished, HasStarted}
+use Rattle.tk_engine_unit_events.specs.UnitSteps.{UnitView, child_request, event}
+use Rattle.tk_engine_unit_events.specs.declared.outcomes.Outcome.{Outcome}
 
 -- what was asked for was registered below the innermost running key and started; then its body ran
 -- once, and its finish with the body's outcome is the last event
@@ -103,25 +27,6 @@ pub record HasRunChild (may_run : BodyRuns) (old new : UnitView) (ask : Register
 abbrev pub HasRunDynamic : BodyRuns → UnitView → UnitView → ChildView → Type 0
 HasRunDynamic may_run old new c =
     (above : ℕ) × HasRunChild may_run old new (child_request c above old.stamp)
-
--- what was asked for was registered below the innermost running key, then skipped with this event,
--- and nothing else happened
-pub record HasSkipped (old new : UnitView) (ask : RegisterRequest) (skip : Event) : Type 0 where
-  pub outer : List ℕ
-  pub innermost : old.running ≡ ask.parent ∷ outer
-  pub registered : SenderView
-  pub registration : IsRegisteredAs old.sink registered ask (Ok skip.key)
-  pub took : new.sink ≡ sends registered skip
-  pub running : new.running ≡ old.running
-  pub stamp : new.stamp ≡ old.stamp
-  pub own_stamp : new.own_stamp ≡ old.own_stamp
-
--- the sink took events, the same keys run, and the stamps stay
-pub record Grew (old new : UnitView) : Type 0 where
-  pub more : Extends old.sink new.sink
-  pub running : new.running ≡ old.running
-  pub stamp : new.stamp ≡ old.stamp
-  pub own_stamp : new.own_stamp ≡ old.own_stamp
 
 -- what was asked for was registered below the innermost running key and started, and then the sink
 -- took what its body emitted

@@ -1,17 +1,17 @@
 -- Which steps a plan has for its static nodes.
-use Rattle.std.specs.Prelude.{◌≡◌, ◌<◌, ℕ, true, List, Some, None, length, slice_get}
+use Rattle.std.specs.Prelude.{◌≡◌, ℕ, List, Some, None, slice_get}
 use Rattle.tk_ids.specs.declared.descriptors.Descriptor.{Descriptor}
 use Rattle.tk_events.specs.declared.events.Event.{Event}
 use Rattle.tk_events.specs.declared.kinds.Kind.TheVariants.{Finished, Skipped, Started}
 use Rattle.tk_events.specs.declared.payloads.Payload.{Payload}
 use Rattle.tk_events.specs.declared.payloads.Payload.TheVariants as payloads
-use Rattle.tk_query_lifecycle.specs.KeepsLifecycle.{is_step}
 use Rattle.tk_plan_units.specs.declared.nodes.Node.{Node}
 use Rattle.tk_plan_units.specs.declared.nodes.NumberedNode.{NumberedNode}
 use Rattle.tk_plan_units.specs.Numbers.{in_order}
 use Rattle.tk_plan_units.specs.Planned.{Outline}
-use Rattle.tk_engine_hierarchical.specs.Endings.{HasOutcome, IsStaticTest}
-use Rattle.tk_engine_hierarchical.specs.declared.tests.Outcome.{Outcome}
+use Rattle.tk_engine_unit_events.specs.Endings.{HasOutcome, IsStaticTest}
+use Rattle.tk_engine_unit_events.specs.Standing.{BegunUnit}
+use Rattle.tk_engine_unit_events.specs.declared.outcomes.Outcome.{Outcome}
 
 -- the node is skipped, and the payload has the reason
 abbrev pub HasReason : Node → Payload → Type 0
@@ -35,12 +35,12 @@ pub record FitsPlan (plan : Outline) (may_end : ℕ → Outcome → Type 0) (e :
   pub its : slice_get (in_order plan.nodes) e.key ≡ Some node
   pub fits : FitsNode plan.table may_end node e
 
--- where the event is a start, a skip or a finish of a static key, this holds of it
-abbrev pub StepsAs : List Descriptor → (Event → Type 0) → Event → Type 0
-StepsAs table may_step e = e.key < length table → is_step e.kind ≡ true → may_step e
-
 -- each event that may be one of the node's may be emitted
 abbrev pub MayStepAs :
     List Descriptor → (ℕ → Outcome → Type 0) → (Event → Type 0) → NumberedNode → Type 0
 MayStepAs table may_end may_step p =
     (e : Event) → e.key ≡ p.number → FitsNode table may_end p.node e → may_step e
+
+-- each step of this node is one that the unit may emit, with these outcomes of tests
+abbrev pub MayRun : BegunUnit → (ℕ → Outcome → Type 0) → NumberedNode → Type 0
+MayRun unit may_end n = MayStepAs unit.frame.table may_end unit.may_step n

@@ -13,11 +13,12 @@ use Rattle.tk_plan_units.specs.Cutting.{Piece, pieces_of}
 use Rattle.tk_plan_units.specs.Planned.{Outline}
 use Rattle.tk_plan_units.specs.Trees.{Forest, Tree, forest, more, no_trees, tree}
 use Rattle.tk_queue_session.specs.Emission.{registrations}
-use Rattle.tk_queue_session.specs.Senders.{SenderView, sends}
+use Rattle.tk_queue_session.specs.Senders.{SenderView}
 use Rattle.tk_engine_execute.specs.Engines.{Extends}
-use Rattle.tk_engine_hierarchical.specs.Endings.{IsStaticTest, payload_of}
-use Rattle.tk_engine_hierarchical.specs.Reporting.{BodyRuns, HasFinished, HasSkipped, HasStarted}
-use Rattle.tk_engine_hierarchical.specs.Reporting.{ChildView, UnitView, child, child_request, event}
+use Rattle.tk_engine_unit_events.specs.Endings.{IsStaticTest, payload_of}
+use Rattle.tk_engine_unit_events.specs.UnitSteps.{BodyRuns, ChildView, HasFinished, HasSkipped}
+use Rattle.tk_engine_unit_events.specs.UnitSteps.{HasStarted, UnitView, after_event, after_start}
+use Rattle.tk_engine_unit_events.specs.UnitSteps.{begun, child, child_request, event}
 use Rattle.tk_engine_hierarchical.specs.declared.planned_units.TestEnd.{TestEnd}
 
 -- how the body of each static test may run, by the test's key
@@ -39,14 +40,6 @@ stamp_after stamp = min (stamp + 1) (2 ^ 64 - 1)
 -- a body publishes at this stamp, until it sets its own
 abbrev pub with_stamp : UnitView → ℕ → UnitView
 with_stamp u stamp = record u { stamp = stamp; own_stamp = None }
-
--- the sink took this event, and nothing else happened
-abbrev pub after_event : UnitView → Event → UnitView
-after_event u e = record u { sink = sends u.sink e }
-
--- the sink took this event, and its key runs, as the innermost one
-abbrev pub after_start : UnitView → Event → UnitView
-after_start u e = record u { sink = sends u.sink e; running = e.key ∷ u.running }
 
 -- the key's event at the next stamp was emitted, and nothing else happened
 abbrev pub after_next : Kind → ℕ → Payload → PlanState → PlanState
@@ -77,7 +70,8 @@ StartsNode true n number key old new =
     (stamp_after old.next))
 StartsNode false n number key old new =
     let start = stamp_after old.next in
-    ((above : ℕ) × HasStarted (with_stamp old.unit start) new.unit (child_request (child_of_node n) above old.next)
+    ((above : ℕ) × HasStarted (with_stamp old.unit start) new.unit
+    (child_request (child_of_node n) above old.next)
     (event Started key start payloads.Nothing))
     × (new.next ≡ stamp_after start)
 
@@ -87,7 +81,8 @@ SkipsNode true n number reason old new =
     new ≡ after_next Skipped number (payloads.Reason reason) old
 SkipsNode false n number reason old new =
     let skip = stamp_after old.next in
-    ((above : ℕ) × (key : ℕ) × HasSkipped old.unit new.unit (child_request (child_of_node n) above old.next)
+    ((above : ℕ) × (key : ℕ) × HasSkipped old.unit new.unit
+    (child_request (child_of_node n) above old.next)
     (event Skipped key skip (payloads.Reason reason)))
     × (new.next ≡ stamp_after skip)
 
@@ -149,10 +144,6 @@ module _ (table : List Descriptor) (may_run : TestRuns) where
     RunsForest no_trees old new = new ≡ old
     RunsForest (more t others) old new =
         (mid : PlanState) × RunsTree t old mid × RunsForest others mid new
-
--- a unit of which no key runs
-abbrev pub begun : SenderView → UnitView
-begun sink = record { sink = sink; running = []; stamp = 0; own_stamp = None }
 
 -- The unit of this number ran its tree, from one sink to another. Its first event has the stamp
 -- that is its position in the root's script.

@@ -2,17 +2,16 @@
 ghost use Rattle.std.specs.Prelude.{◌≡◌, IfOk};
 ghost use Rattle.tk_plan_units.specs.Planned.{IsPlanned};
 ghost use Rattle.tk_engine_lifecycle.specs.Units.{KeepsAround};
-ghost use Rattle.tk_engine_hierarchical.specs.Shapes.{frame, HavePlaces};
+ghost use Rattle.tk_engine_unit_events.specs.Shapes.{frame, HavePlaces};
 
 use crate::hierarchical::run_unit;
-use crate::leases::Lease;
-use crate::shapes::Shape;
 use crate::tests::Tests;
 use std::alloc::{AllocError, Global};
 use std::marker::Brand;
 use std::sync::{Arc, Wait};
 use tk_book::{BookSeat, Need};
 use tk_engine::{Engine, Sink, UnitFault};
+use tk_engine_unit_events::{Lease, Shape};
 use tk_events::Event;
 use tk_ids::Table;
 use tk_plan_units::Plan;
@@ -52,7 +51,7 @@ impl<T> Hierarchical<T> {
 impl<T: Tests + Sync> Engine for Hierarchical<T> {
     ghost use Rattle.tk_engine.specs.Masks.{need_of};
     ghost use Rattle.tk_engine_hierarchical.specs.Laws.{may_of, test_rules};
-    ghost use Rattle.tk_engine_hierarchical.specs.Shapes.{frame};
+    ghost use Rattle.tk_engine_unit_events.specs.Shapes.{frame};
 
     ghost table = { λ e. (frame e.shape).table };
 

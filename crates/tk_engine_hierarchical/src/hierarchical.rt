@@ -6,22 +6,18 @@ ghost use Rattle.tk_engine_execute.specs.Engines.{Extends, IsSameSender};
 ghost use Rattle.tk_events.specs.declared.events.Event.{Event};
 ghost use Rattle.tk_plan_units.specs.Cutting.{units_of};
 ghost use Rattle.tk_plan_units.specs.Trees.{IsForest, forest, tree_of};
-ghost use Rattle.tk_engine_hierarchical.specs.Shapes.{count_units, frame, keys_in};
-ghost use Rattle.tk_engine_hierarchical.specs.Standing.{IsComplete, MayRun};
-ghost use Rattle.tk_engine_hierarchical.specs.Steps.{FitsPlan};
-ghost use Rattle.tk_engine_hierarchical.specs.TreeRuns.{RunsForest, RunsNode, RunsTree};
-ghost use Rattle.tk_engine_hierarchical.specs.TreeRuns.{RunsUnitTree};
+ghost use Rattle.tk_engine_unit_events.specs.Shapes.{count_units, frame, keys_in};
+ghost use Rattle.tk_engine_unit_events.specs.Standing.{IsComplete};
+ghost use Rattle.tk_engine_hierarchical.specs.Steps.{MayRun, FitsPlan};
+ghost use Rattle.tk_engine_hierarchical.specs.TreeRuns.{RunsForest, RunsNode, RunsTree, RunsUnitTree};
 
-use crate::leases::Lease;
 use crate::planned_units::PlannedUnit;
 use crate::reporters::Reporter;
-use crate::shapes::Shape;
 use crate::tests::Tests;
-use crate::unit_events::UnitEvents;
-use crate::unit_runs::UnitRun;
 use std::alloc::Global;
 use std::sync::Wait;
 use tk_engine_execute::{OUT_OF_ORDER, Sink, UnitFault};
+use tk_engine_unit_events::{Lease, Shape, UnitEvents, UnitRun};
 use tk_plan_units::{NumberedNode, Plan};
 
 // Runs a node that isn't skipped, and what stands below it, from its start to its finish.

@@ -5,21 +5,17 @@ ghost use Rattle.tk_events.specs.declared.kinds.Kind.TheVariants.{File, Finished
 ghost use Rattle.tk_events.specs.declared.kinds.Kind.TheVariants.{Skipped, Started};
 ghost use Rattle.tk_events.specs.declared.payloads.Payload.TheVariants.{Nothing, Outcome as Ended};
 ghost use Rattle.tk_events.specs.declared.payloads.Payload.TheVariants.{Path, Reason, Report};
-ghost use Rattle.tk_engine_hierarchical.specs.Endings.{IsStaticTest, payload_of};
-ghost use Rattle.tk_engine_hierarchical.specs.Reporting.{HasFinished, event};
-ghost use Rattle.tk_engine_hierarchical.specs.TreeRuns.{FinishesNode, RunsBody, SkipsNode};
-ghost use Rattle.tk_engine_hierarchical.specs.TreeRuns.{StartsNode, after_each, after_next};
-ghost use Rattle.tk_engine_hierarchical.specs.TreeRuns.{after_publishing, child_of_node};
-ghost use Rattle.tk_engine_hierarchical.specs.TreeRuns.{plan_state, stamp_after};
+ghost use Rattle.tk_engine_unit_events.specs.Endings.{IsStaticTest, payload_of};
+ghost use Rattle.tk_engine_unit_events.specs.UnitSteps.{HasFinished, event};
+ghost use Rattle.tk_engine_hierarchical.specs.TreeRuns.{FinishesNode, RunsBody, SkipsNode, StartsNode, after_each, after_next, after_publishing, child_of_node, plan_state, stamp_after};
 
 use crate::reporters::Reporter;
-use crate::tests::{Body, Outcome, Tests, payload_of};
-use crate::unit_events::Child;
-use crate::unit_runs::UnitRun;
+use crate::tests::{Tests, payload_of};
 use std::alloc::Global;
 use std::marker::Model;
 use std::sync::Wait;
 use tk_engine_execute::{Sink, UnitFault};
+use tk_engine_unit_events::{Child, Outcome, UnitBody, UnitEvents, UnitRun};
 use tk_events::{Kind, Pairs, Payload, try_clone_message};
 use tk_ids::Text;
 use tk_plan_units::{Node, NumberedNode};
@@ -38,18 +34,22 @@ struct TestBody<'t, T> {
     key: u32,
 }
 
-impl<'t, T: Tests> Body for TestBody<'t, T> {
+impl<'t, T: Tests> UnitBody for TestBody<'t, T> {
     ghost may_end = { λ body. T.may_end body.tests.now body.key };
 
     ghost may_run = { λ body. T.may_run body.tests.now body.key };
 
-    fn run<R: Wait, S: Sink, K: UnitRun>(
+    fn run_with<'a, R: Wait, S: Sink, K: UnitRun>(
         &self,
         rt: &R,
         alloc: Global,
-        reporter: &mut Reporter<'_, S, K>,
-    ) -> Result<Outcome, UnitFault> {
-        self.tests.run(rt, alloc, self.key, reporter)
+        events: UnitEvents<'a, S, K>,
+        ended: &mut Result<Outcome, UnitFault>,
+    ) -> UnitEvents<'a, S, K> {
+        let mut reporter = Reporter { events };
+        *ended = self.tests.run(rt, alloc, self.key, &mut reporter);
+        let Reporter { events } = reporter;
+        events
     }
 }
 

@@ -1,20 +1,21 @@
 //! What a test publishes while it runs.
-ghost use Rattle.std.specs.Prelude.{◌≡◌, ◌≤◌, ℕ, OnErr, OnOk, Some, length};
+ghost use Rattle.std.specs.Prelude.{◌≡◌, ◌≤◌, ℕ, IfOk, OnErr, OnOk, Some, length};
+ghost use Rattle.tk_ids.specs.declared.descriptors.Descriptor.{Descriptor as DescriptorView};
 ghost use Rattle.tk_ids.specs.declared.descriptors.DType.TheVariants.{Container, Test};
 ghost use Rattle.tk_events.specs.declared.kinds.Kind.TheVariants as kinds;
 ghost use Rattle.tk_events.specs.declared.payloads.Payload.TheVariants as payloads;
 ghost use Rattle.tk_engine_execute.specs.Engines.{Extends, IsSameSender};
-ghost use Rattle.tk_engine_hierarchical.specs.Endings.{payload_of};
-ghost use Rattle.tk_engine_hierarchical.specs.Reporting.{EndsChild, Grew, HasFinished, HasLeftDynamic, HasRunDynamic, HasSkipped, Published, child, child_request, event};
+ghost use Rattle.tk_engine_unit_events.specs.Endings.{payload_of};
+ghost use Rattle.tk_engine_hierarchical.specs.Reporting.{EndsChild, HasLeftDynamic, HasRunDynamic};
+ghost use Rattle.tk_engine_unit_events.specs.UnitSteps.{Grew, HasFinished, HasSkipped, IsInnermost, Published, child, child_request, event};
 
-use crate::tests::{Body, Outcome, payload_of};
-use crate::unit_events::{Child, UnitEvents};
-use crate::unit_runs::UnitRun;
+use crate::tests::{Body, payload_of};
 use std::alloc::Global;
 use std::sync::Wait;
 use tk_engine_execute::{Sink, UnitFault};
+use tk_engine_unit_events::{Child, Outcome, UnitBody, UnitEvents, UnitRun};
 use tk_events::{Kind, Pairs, Payload};
-use tk_ids::{DType, Segment, Text};
+use tk_ids::{DType, Descriptor, Segment, Text};
 
 /// Publishes what belongs to the test or container that runs.
 ///
@@ -22,6 +23,31 @@ use tk_ids::{DType, Segment, Text};
 #[derive(Drop)]
 pub struct Reporter<'a, S: Sink, K: UnitRun> {
     pub(crate) events: UnitEvents<'a, S, K>,
+}
+
+// A body that publishes through a reporter.
+#[derive(Drop)]
+struct ReportingBody<'b, B> {
+    body: &'b B,
+}
+
+impl<'b, B: Body> UnitBody for ReportingBody<'b, B> {
+    ghost may_end = { λ reporting. B.may_end reporting.body.now };
+
+    ghost may_run = { λ reporting. B.may_run reporting.body.now };
+
+    fn run_with<'a, R: Wait, S: Sink, K: UnitRun>(
+        &self,
+        rt: &R,
+        alloc: Global,
+        events: UnitEvents<'a, S, K>,
+        ended: &mut Result<Outcome, UnitFault>,
+    ) -> UnitEvents<'a, S, K> {
+        let mut reporter = Reporter { events };
+        *ended = self.body.run(rt, alloc, &mut reporter);
+        let Reporter { events } = reporter;
+        events
+    }
 }
 
 impl<'a, S: Sink, K: UnitRun> Reporter<'a, S, K> {
@@ -58,8 +84,23 @@ impl<'a, S: Sink, K: UnitRun> Reporter<'a, S, K> {
     {
         let stamp = self.events.stamp();
         let key = self.events.start_child(rt, alloc, child, stamp, stamp)?;
-        let outcome = self.events.run_body(rt, alloc, body)?;
+        let body = ReportingBody { body };
+        let outcome = self.events.run_body(rt, alloc, &body)?;
         self.finish(rt, key, outcome)
+    }
+
+    /// The static descriptor that runs: in [`Tests::run`](crate::Tests::run) that of the test, with
+    /// its id and its name.
+    ///
+    /// # Errors
+    /// `Own(OUT_OF_ORDER)` in the body of a dynamic test or container.
+    pub fn descriptor(&self) -> Result<&Descriptor, UnitFault>
+        ensures ok { IfOk result (λ d.
+            IsInnermost K.unit.frame.table self.now.events.running d.now) }
+        ensures err { OnErr result ((d : DescriptorView)
+            → ¬ IsInnermost K.unit.frame.table self.now.events.running d) }
+    {
+        self.events.descriptor()
     }
 
     /// Sets the stamp of what is published from now on, by the bodies below too, and of the finish

@@ -8,7 +8,7 @@ ghost use Rattle.tk_engine_laws.specs.Laws.{IsKept};
 ghost use Rattle.tk_engine_hierarchical.specs.Laws.{FollowsPlan, HasOutcomes, HaveTurns, IsRunOf};
 ghost use Rattle.tk_engine_hierarchical.specs.Laws.{UnitsNest, UnitsRanTrees, test_rules};
 ghost use Rattle.tk_engine_hierarchical.specs.Runs.{IsRunBy};
-ghost use Rattle.tk_engine_hierarchical.specs.Shapes.{count_units};
+ghost use Rattle.tk_engine_unit_events.specs.Shapes.{count_units};
 
 use crate::child_laws::children_run;
 use crate::engines::Hierarchical;

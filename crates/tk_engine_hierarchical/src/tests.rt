@@ -1,27 +1,13 @@
 //! What an author writes: tests, and the bodies of dynamic ones.
 ghost use Rattle.std.specs.Prelude.{◌≡◌, IfOk};
-ghost use Rattle.tk_engine_hierarchical.specs.Endings.{payload_of};
+ghost use Rattle.tk_engine_unit_events.specs.Endings.{payload_of};
 
 use crate::reporters::Reporter;
-use crate::unit_runs::UnitRun;
 use std::alloc::Global;
 use std::sync::Wait;
 use tk_engine_execute::{Sink, UnitFault};
+use tk_engine_unit_events::{Outcome, UnitRun};
 use tk_events::{Payload, Status};
-use tk_ids::Text;
-
-/// How a test ended.
-///
-/// JUnit: `TestExecutionResult`.
-#[derive(Debug, Drop)]
-pub enum Outcome {
-    /// The test succeeded.
-    Successful,
-    /// The test was aborted, with a message where there is one.
-    Aborted(Option<Text>),
-    /// The test failed, with a message where there is one.
-    Failed(Option<Text>),
-}
 
 /// The tests of an engine: what each static test of its plan does.
 ///
@@ -30,8 +16,8 @@ pub enum Outcome {
 /// nothing. JUnit: the bodies of a `HierarchicalTestEngine`'s nodes.
 pub trait Tests {
     ghost use Rattle.std.specs.Prelude.{ℕ, IfOk};
-    ghost use Rattle.tk_engine_hierarchical.specs.Reporting.{BodyRuns};
-    ghost use Rattle.tk_engine_hierarchical.specs.declared.tests.Outcome.{Outcome};
+    ghost use Rattle.tk_engine_unit_events.specs.UnitSteps.{BodyRuns};
+    ghost use Rattle.tk_engine_unit_events.specs.declared.outcomes.Outcome.{Outcome};
 
     ghost may_end: { Self → ℕ → Outcome → Type 0 } = { λ tests key outcome. Unit {0} };
 
@@ -66,8 +52,8 @@ pub trait Tests {
 /// `may_end` says which outcomes it may have, and `may_run` how it may run, as those of [`Tests`].
 pub trait Body {
     ghost use Rattle.std.specs.Prelude.{IfOk};
-    ghost use Rattle.tk_engine_hierarchical.specs.Reporting.{BodyRuns};
-    ghost use Rattle.tk_engine_hierarchical.specs.declared.tests.Outcome.{Outcome};
+    ghost use Rattle.tk_engine_unit_events.specs.UnitSteps.{BodyRuns};
+    ghost use Rattle.tk_engine_unit_events.specs.declared.outcomes.Outcome.{Outcome};
 
     ghost may_end: { Self → Outcome → Type 0 } = { λ body outcome. Unit {0} };
 
@@ -86,6 +72,22 @@ pub trait Body {
         ensures end { IfOk result (λ outcome. may_end self.now outcome) }
         ensures run { IfOk result (λ outcome.
             may_run self.now reporter.old.events reporter.new.events outcome) };
+}
+
+/// The body that ends with this outcome, and publishes nothing.
+impl Body for Outcome {
+    ghost may_end = { λ body outcome. outcome ≡ body };
+
+    ghost may_run = { λ body before after outcome. after ≡ before };
+
+    fn run<R: Wait, S: Sink, K: UnitRun>(
+        &self,
+        _rt: &R,
+        _alloc: Global,
+        _reporter: &mut Reporter<'_, S, K>,
+    ) -> Result<Outcome, UnitFault> {
+        Ok(self.try_clone()?)
+    }
 }
 
 /// The payload of a finish with this outcome.

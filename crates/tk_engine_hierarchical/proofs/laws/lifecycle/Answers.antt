@@ -1,5 +1,5 @@
 use Rattle.tk_engine_hierarchical.specs.Laws.{test_rules}
-use Rattle.tk_engine_hierarchical.specs.Shapes.{frame}
+use Rattle.tk_engine_unit_events.specs.Shapes.{frame}
 use Rattle.tk_engine_hierarchical.proofs.TreeRuns.{kept_trees}
 use Rattle.tk_engine_hierarchical.proofs.laws.lifecycle.Goals as goal
 

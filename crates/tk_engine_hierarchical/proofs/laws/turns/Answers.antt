@@ -1,5 +1,5 @@
 use Rattle.tk_engine_hierarchical.specs.Laws.{test_rules}
-use Rattle.tk_engine_hierarchical.specs.Shapes.{frame}
+use Rattle.tk_engine_unit_events.specs.Shapes.{frame}
 use Rattle.tk_engine_hierarchical.specs.Steps.{FitsPlan}
 use Rattle.tk_engine_hierarchical.proofs.Recorded.{have_turns}
 use Rattle.tk_engine_hierarchical.proofs.TreeRuns.{run_by_shape}

@@ -1,4 +1,4 @@
-use Rattle.tk_engine_hierarchical.specs.Shapes.{frame, keys_in}
+use Rattle.tk_engine_unit_events.specs.Shapes.{frame, keys_in}
 use Rattle.tk_engine_hierarchical.specs.Steps.{FitsPlan}
 use Rattle.tk_engine_hierarchical.proofs.engines.HierarchicalEngine.run.Given as goal
 

@@ -1,6 +1,6 @@
 use Rattle.std.proofs.Common.{subst, sym}
 use Rattle.tk_events.specs.declared.kinds.Kind.TheVariants.{Finished}
-use Rattle.tk_engine_hierarchical.specs.Reporting.{event}
+use Rattle.tk_engine_unit_events.specs.UnitSteps.{event}
 use Rattle.tk_engine_hierarchical.proofs.planned_units.PlannedUnit.finish_test.Goals as goal
 
 pub finish-requires : goal.finish-requires

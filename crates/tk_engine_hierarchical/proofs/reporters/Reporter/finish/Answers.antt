@@ -1,5 +1,6 @@
 use Rattle.std.proofs.Common.{arith}
-use Rattle.tk_engine_hierarchical.proofs.Reported.{finished_as, on_ok}
+use Rattle.tk_engine_unit_events.proofs.UnitSteps.{on_ok}
+use Rattle.tk_engine_hierarchical.proofs.Reported.{finished_as}
 use Rattle.tk_engine_hierarchical.proofs.reporters.Reporter.finish.Goals as goal
 
 pub finish-requires : goal.finish-requires

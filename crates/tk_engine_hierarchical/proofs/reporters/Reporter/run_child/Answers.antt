@@ -1,5 +1,6 @@
-use Rattle.tk_engine_hierarchical.specs.Reporting.{child_request}
-use Rattle.tk_engine_hierarchical.proofs.Reported.{body_broken, ends_child, finish_broken, has_run_child, not_begun, on_ok}
+use Rattle.tk_engine_unit_events.specs.UnitSteps.{child_request}
+use Rattle.tk_engine_unit_events.proofs.UnitSteps.{on_ok}
+use Rattle.tk_engine_hierarchical.proofs.Reported.{body_broken, ends_child, finish_broken, has_run_child, not_begun}
 use Rattle.tk_engine_hierarchical.proofs.reporters.Reporter.run_child.Goals as goal
 
 pub returns-clause-ok : goal.returns-clause-ok

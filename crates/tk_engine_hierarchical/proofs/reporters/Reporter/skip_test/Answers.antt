@@ -1,6 +1,7 @@
 use Rattle.tk_ids.specs.declared.descriptors.DType.TheVariants.{Test}
-use Rattle.tk_engine_hierarchical.specs.Reporting.{child, child_request}
-use Rattle.tk_engine_hierarchical.proofs.Reported.{on_ok, skipped_at}
+use Rattle.tk_engine_unit_events.specs.UnitSteps.{child, child_request}
+use Rattle.tk_engine_unit_events.proofs.UnitSteps.{on_ok}
+use Rattle.tk_engine_hierarchical.proofs.Reported.{skipped_at}
 use Rattle.tk_engine_hierarchical.proofs.reporters.Reporter.skip_test.Goals as goal
 
 pub returns-clause-ok : goal.returns-clause-ok

@@ -1,0 +1,84 @@
+//! What a test learns of itself, and outcomes as bodies.
+use std::alloc::Global;
+use std::sync::Wait;
+use std::thread::Threads;
+use test_support::is_written_as;
+use tk_engine::{Sink, UnitFault, execute};
+use tk_engine_hierarchical::{Body, Hierarchical, Outcome, Reporter, Tests, UnitRun};
+use tk_ids::{Segment, Text};
+use tk_plan::{ExecutionMode, PlanNode, build_plan};
+
+// A body that succeeds where no static descriptor runs.
+struct Nameless;
+
+impl Body for Nameless {
+    fn run<R: Wait, S: Sink, K: UnitRun>(
+        &self,
+        _rt: &R,
+        _alloc: Global,
+        reporter: &mut Reporter<'_, S, K>,
+    ) -> Result<Outcome, UnitFault> {
+        match reporter.descriptor() {
+            Ok(_) => Ok(Outcome::Failed(None)),
+            Err(_) => Ok(Outcome::Successful),
+        }
+    }
+}
+
+// A test that fails with its own name.
+#[derive(Drop)]
+struct Named;
+
+impl Tests for Named {
+    fn run<R: Wait, S: Sink, K: UnitRun>(
+        &self,
+        rt: &R,
+        alloc: Global,
+        _key: u32,
+        reporter: &mut Reporter<'_, S, K>,
+    ) -> Result<Outcome, UnitFault> {
+        let name = reporter.descriptor()?.name.try_clone()?;
+        let first = Segment::new(alloc, "d", "1")?;
+        reporter.dynamic_test(rt, alloc, &first, "nameless", &Nameless)?;
+        let second = Segment::new(alloc, "d", "2")?;
+        let gone = Outcome::Aborted(Some(Text::copy(alloc, "gone")?));
+        reporter.dynamic_test(rt, alloc, &second, "aborted", &gone)?;
+        Ok(Outcome::Failed(Some(name)))
+    }
+}
+
+// The record of a run by one worker.
+fn record() -> &'static [u8] {
+    b"testkit-record|2
+N|C|[engine:e]|e
+N|T|[engine:e]/[t:1]|one
+E|0|0|0|start
+E|1|1|1|start
+E|1|65536|1|dynamic|T|[engine:e]/[t:1]/[d:1]|nameless
+E|1|65536|1|start
+E|1|65536|1|finish|ok
+E|1|65537|1|dynamic|T|[engine:e]/[t:1]/[d:2]|aborted
+E|1|65537|1|start
+E|1|65537|1|finish|abort|gone
+E|1|1|2|finish|fail|one
+E|0|0|3|finish|ok
+"
+}
+
+fn engine(alloc: Global) -> Option<Hierarchical<Named>> {
+    let root = PlanNode::container(alloc, ("engine", "e"), "e");
+    let one = PlanNode::test(alloc, ("t", "1"), "one").mode(ExecutionMode::Concurrent);
+    let plan = build_plan(alloc, &root.child(one).ok()?).ok()?;
+    Hierarchical::new(alloc, plan, Named).ok()
+}
+
+// Whether a run by one worker has that record.
+fn has_record<R: Threads + Wait + Sync>(rt: &R, alloc: Global) -> Option<bool> {
+    let results = execute(rt, alloc, &engine(alloc)?, 1, 4).ok()?;
+    Some(is_written_as(alloc, results.recorded(), record()))
+}
+
+#[test]
+fn a_test_has_its_name_and_bodies_end_as_outcomes(rt: HostRuntime) {
+    assert!(rt; has_record(&rt, rt.alloc()) == Some(true));
+}

@@ -1,6 +1,0 @@
-use Rattle.std.proofs.Common.{◌≤◌}
-use Rattle.tk_engine_hierarchical.proofs.UnitsOfKeys.{AreSet}
-use Rattle.tk_engine_hierarchical.proofs.shapes.set_owner.Given as goal
-
-abbrev pub invariant-loop-key : goal.invariant-loop-key
-invariant-loop-key l = AreSet l.fn.owners.items l.owners.items l.first l.key l.unit × (l.first ≤ l.key) × (l.key ≤ l.end)

@@ -1,0 +1,15 @@
+use Rattle.tk_ids.specs.IdText.{id_text}
+use Rattle.tk_engine_unit_events.proofs.Running.{noted_more, unnoted, unnoted_more}
+use Rattle.tk_engine_unit_events.proofs.leases.Lease.register_child.Goals as goal
+
+pub returns-in-Ok-clause-kept : goal.returns-in-Ok-clause-kept
+returns-in-Ok-clause-kept g c = noted_more c.args.registered.now c.add.new.self (id_text c.in_ok-id.id) c.in_ok-add.ensures.ok
+
+pub returns-in-Err-clause-kept : goal.returns-in-Err-clause-kept
+returns-in-Err-clause-kept g c =
+    unnoted_more c.args.registered.now c.remove.new.self
+    (unnoted c.args.registered.now c.add.new.self c.remove.new.self (id_text c.in_ok-id.id) c.in_ok-id.ensures.not_registered c.in_ok-add.ensures.ok c.remove.ensures)
+
+pub returns-in-Err-clause-refused : goal.returns-in-Err-clause-refused
+returns-in-Err-clause-refused g c =
+    unnoted c.args.registered.now c.add.new.self c.remove.new.self (id_text c.in_ok-id.id) c.in_ok-id.ensures.not_registered c.in_ok-add.ensures.ok c.remove.ensures

@@ -1,0 +1,28 @@
+use Rattle.std.proofs.Common.{ap, refl, sym, subst, ◌∙◌, arith}
+use Rattle.tk_engine_unit_events.specs.Running.{keys_of, id_at, with_ids}
+use Rattle.tk_engine_unit_events.proofs.Played.{played_start}
+use Rattle.tk_engine_unit_events.proofs.Running.{may_here, started, static_is}
+use Rattle.tk_engine_execute.specs.Engines.{Extends}
+use Rattle.tk_engine_unit_events.proofs.UnitSteps.{extends_more}
+use Rattle.tk_engine_unit_events.proofs.unit_events.UnitEvents.start.Goals as goal
+
+pub invariant_of-self-in-Ok : goal.invariant_of-self-in-Ok
+invariant_of-self-in-Ok g c =
+    let i = c.self.invariant in
+    let f = g.K.UnitRun.unit.frame in
+    let t = f.table in
+    let p = c.self.inside.progress in
+    let may = may_here c.self.inside.shape.now f p.unit g.K.UnitRun.unit.keys.unit c.args.key p.running i.1 i.2.number (c.may_start.ensures c.if-not-may_start.false) in (
+      c.emit.ensures.same ∙ i.0,
+      i.1,
+      record {
+        number = i.2.number;
+        end = i.2.end;
+        running = started f g.K.UnitRun.unit.keys.unit g.K.UnitRun.unit.start _ _ (with_ids t p.running) (with_ids t c.push.new.self) p.registered p.next c.in-Some.next c.args.key (id_at t c.args.key) _
+            c.in-Ok.ensures.ok (ap (with_ids t) c.in_ok-push.ensures.ok) c.in-Some.ensures.1 refl refl i.2.running
+            may (omega (arith, c.if-key-self.false))
+            (static_is f g.K.UnitRun.unit.keys.unit c.args.key (keys_of (with_ids t p.running)) may);
+        played = played_start t g.K.UnitRun.unit.may_step g.K.UnitRun.unit.keys.first g.K.UnitRun.unit.start _ _ p.next c.in-Some.next c.args.key _ c.in-Ok.ensures.ok c.in-Some.ensures.1 c.if-key-self.false refl refl c.requires i.2.played;
+      },
+      subst (λ s. Extends g.K.UnitRun.since s) (sym c.in-Ok.ensures.ok) (extends_more _ _ _ i.3),
+    )

@@ -1,0 +1,12 @@
+pub mod Emitting
+pub mod Owners
+pub mod RegisteredIds
+pub mod Shapes
+pub mod Running
+pub mod Events
+pub mod Endings
+pub mod Covered
+pub mod Nesting
+pub mod Units
+pub mod UnitSteps
+pub mod Standing
