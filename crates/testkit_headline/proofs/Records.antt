@@ -19,38 +19,64 @@ use Rattle.testkit_headline.specs.Counting.{IsCount}
 use Rattle.testkit_headline.specs.PlanReports.{report_of, report_in}
 
 -- the entries with their positions are the entries
-unpositioned : (n : ℕ) (es : List Entry) → map (λ (x : PositionedEntry). x.entry) (positioned_from n es) ≡ es
+unpositioned :
+    (n : ℕ) (es : List Entry)
+    → map (λ (x : PositionedEntry). x.entry) (positioned_from n es) ≡ es
 unfolding positioned_from
 unpositioned n [] = refl
 unpositioned n (e ∷ es) = ap (λ l. e ∷ l) (unpositioned (n + 1) es)
 
-filtered : (p : Entry → Bool) (n : ℕ) (es : List Entry) → map (λ (x : PositionedEntry). x.entry) (filter (λ (x : PositionedEntry). p x.entry) (positioned_from n es)) ≡ filter p es
+-- those with their positions that pass are those that pass
+filtered :
+    (p : Entry → Bool) (n : ℕ) (es : List Entry)
+    → map (λ (x : PositionedEntry). x.entry)
+    (filter (λ (x : PositionedEntry). p x.entry) (positioned_from n es)) ≡ filter p es
 unfolding positioned_from
 filtered p n [] = refl
 filtered p n (e ∷ es) =
     let rest = filter (λ (x : PositionedEntry). p x.entry) (positioned_from (n + 1) es) in
-    elim (p e) as (λ b. map (λ (x : PositionedEntry). x.entry) (cond b (record { position = n; entry = e } ∷ rest) rest) ≡ cond b (e ∷ filter p es) (filter p es))
+    let first : PositionedEntry = record { position = n; entry = e } in
+    elim (p e) as
+    (λ b. map (λ (x : PositionedEntry). x.entry) (cond b (first ∷ rest) rest)
+    ≡ cond b (e ∷ filter p es) (filter p es))
     [ true ↦ ap (λ l. e ∷ l) (filtered p (n + 1) es) | false ↦ filtered p (n + 1) es ]
 
-pub counts : (r : Recorded) → All (IsCount r) (statistic_rows (statistics_of (events_of (all_of r))))
-counts r = subst (λ (es : List Entry). All (IsCount r) (statistic_rows (statistics_of es))) (sym (unpositioned 0 r.entries))
-    (All-from_recursion (IsCount r) (statistic_rows (statistics_of r.entries)) (refl, (refl, (refl, (refl, (refl, (refl, (refl, (refl, (refl, tt))))))))))
+pub counts :
+    (r : Recorded) → All (IsCount r) (statistic_rows (statistics_of (events_of (all_of r))))
+counts r = subst
+    (λ (es : List Entry). All (IsCount r) (statistic_rows (statistics_of es)))
+    (sym (unpositioned 0 r.entries))
+    (All-from_recursion (IsCount r) (statistic_rows (statistics_of r.entries))
+    (refl, (refl, (refl, (refl, (refl, (refl, (refl, (refl, (refl, tt))))))))))
 
-pub filters : (r : Recorded) (s : Selection) → events_of (filtered_by (selects s r) (all_of r)) ≡ filter (selects s r) r.entries
+pub filters :
+    (r : Recorded) (s : Selection)
+    → events_of (filtered_by (selects s r) (all_of r)) ≡ filter (selects s r) r.entries
 filters r s = filtered (selects s r) 0 r.entries
 
 module _ {C : Type 0} (fits : C → ℕ → Bool) where
   -- what holds in turn holds so as far as any of the conditions
-  hold_prefix : (from n : ℕ) (cs : List C) (ps : List ℕ) → HoldInTurn fits from cs ps → HoldInTurn fits from (take n cs) (take n ps)
+  hold_prefix :
+      (from n : ℕ) (cs : List C) (ps : List ℕ)
+      → HoldInTurn fits from cs ps → HoldInTurn fits from (take n cs) (take n ps)
   hold_prefix from zero cs ps h = tt
   hold_prefix from (suc n) [] [] h = tt
   hold_prefix from (suc n) [] (p ∷ ps) h = absurd h
   hold_prefix from (suc n) (c ∷ cs) [] h = absurd h
   hold_prefix from (suc n) (c ∷ cs) (p ∷ ps) h = (h.0, h.1, hold_prefix (p + 1) n cs ps h.2)
 
-pub yes_exactly : (asked : Selected) (cs : List Condition) (answer : InOrder) → IsInOrder asked cs answer → (in_order_yes answer ≡ true) ↔ CanHoldInTurn (fits asked) cs
+pub yes_exactly :
+    (asked : Selected) (cs : List Condition) (answer : InOrder)
+    → IsInOrder asked cs answer → (in_order_yes answer ≡ true) ↔ CanHoldInTurn (fits asked) cs
 yes_exactly asked cs (Yes positions) h = ((λ _. (positions.items, h.holds)), (λ _. refl))
-yes_exactly asked cs (No k) h = ((λ e. absurd (true≢false (sym e))), (λ can. absurd (h.stuck (take (k + 1) can.0, hold_prefix (fits asked) 0 (k + 1) cs can.0 can.1))))
+yes_exactly asked cs (No k) h = (
+  (λ e. absurd (true≢false (sym e))),
+  (λ can. absurd (h.stuck
+      (take (k + 1) can.0, hold_prefix (fits asked) 0 (k + 1) cs can.0 can.1))),
+)
 
-pub reported : (bytes : List ℕ) (workers : ℕ) (old new : Option (List ℕ)) → IsReported bytes workers old new (Ok tt) → (text : List ℕ) × (report_in bytes ≡ Some text) × Appends old new text
+pub reported :
+    (bytes : List ℕ) (workers : ℕ) (old new : Option (List ℕ))
+    → IsReported bytes workers old new (Ok tt)
+    → (text : List ℕ) × (report_in bytes ≡ Some text) × Appends old new text
 reported bytes workers old new h = (plan_text h.0.0, ap report_of h.0.1, h.0.2)

@@ -14,7 +14,8 @@ use Rattle.testkit_headline.specs.Schedules.{IsPush, IsTake, IsSchedule, Complet
 
 -- each state of a schedule is one of the core
 core_of : (n : ℕ) (c : Core) (earlier : List Core) → IsSchedule n c earlier → IsCore n c
-core_of n c [] h = subst (IsCore n) (sym h) (record { kept = λ w. refl; others = λ w not_one. (refl, refl) })
+core_of n c [] h =
+    subst (IsCore n) (sym h) (record { kept = λ w. refl; others = λ w not_one. (refl, refl) })
 core_of n c (old ∷ earlier) h =
     let k = core_of n old earlier h.1 in
     ⊎_elim
@@ -23,29 +24,49 @@ core_of n c (old ∷ earlier) h =
     h.0
 
 -- in a script nothing comes after the mark
-last_mark : (w : ℕ) (es : List Event) (ended : Bool) (before after : List Item) → script w es ended ≡ before ++ End w ∷ after → after ≡ []
+last_mark :
+    (w : ℕ) (es : List Event) (ended : Bool) (before after : List Item)
+    → script w es ended ≡ before ++ End w ∷ after → after ≡ []
 last_mark w [] true [] after e = cc
 last_mark w [] true (x ∷ before) after e = absurd (append_cons_ne_nil before (End w) after (cc))
 last_mark w [] false before after e = absurd (append_cons_ne_nil before (End w) after (sym e))
 last_mark w (a ∷ es) ended [] after e = cc
 last_mark w (a ∷ es) ended (x ∷ before) after e = last_mark w es ended before after (cc)
 
+-- of two lists one after the other
+items_of-append :
+    (w : ℕ) (xs ys : List Item) → items_of w (xs ++ ys) ≡ items_of w xs ++ items_of w ys
+items_of-append w xs ys = filter-append (λ x. worker_of x == w) xs ys
+
+-- the mark of w is an item of w
+items_of-mark : (w : ℕ) (xs : List Item) → items_of w (End w ∷ xs) ≡ End w ∷ items_of w xs
+items_of-mark w xs =
+    ap (λ (b : Bool). if b then End w ∷ items_of w xs else items_of w xs) (eq-eqb w w refl)
+
 -- where a worker's items are a script, none of them comes after its mark
-after_mark : (w : ℕ) (es : List Event) (ended : Bool) (xs before after : List Item) → items_of w xs ≡ script w es ended → xs ≡ before ++ End w ∷ after → items_of w after ≡ []
+after_mark :
+    (w : ℕ) (es : List Event) (ended : Bool) (xs before after : List Item)
+    → items_of w xs ≡ script w es ended → xs ≡ before ++ End w ∷ after → items_of w after ≡ []
 after_mark w es ended xs before after are is =
     let split : items_of w xs ≡ items_of w before ++ End w ∷ items_of w after =
-    ap (items_of w) is ∙ filter-append (λ x. worker_of x == w) before (End w ∷ after)
-    ∙ ap (λ l. items_of w before ++ l) (ap (λ (b : Bool). if b then End w ∷ items_of w after else items_of w after) (eq-eqb w w refl)) in
+    ap (items_of w) is ∙ items_of-append w before (End w ∷ after)
+    ∙ ap (λ l. items_of w before ++ l) (items_of-mark w after) in
     last_mark w es ended (items_of w before) (items_of w after) (sym are ∙ split)
 
--- a mark that is among the items stands somewhere
-mark_at : (w : ℕ) (xs : List Item) → is_marked w xs ≡ true → (before : List Item) × (after : List Item) × (xs ≡ before ++ End w ∷ after)
+-- the mark of w stands in the list, between these
+abbrev HasMark : ℕ → List Item → Type 0
+HasMark w xs = (before : List Item) × (after : List Item) × (xs ≡ before ++ End w ∷ after)
+
+mark_at : (w : ℕ) (xs : List Item) → is_marked w xs ≡ true → HasMark w xs
 mark_at w [] marked = absurd (true≢false (sym marked))
-mark_at w (Emitted e ∷ xs) marked = let rest = mark_at w xs marked in (Emitted e ∷ rest.0, rest.1, ap (λ l. Emitted e ∷ l) rest.2)
-mark_at w (End v ∷ xs) marked = ⊎_elim {C = (before : List Item) × (after : List Item) × (End v ∷ xs ≡ before ++ End w ∷ after)}
+mark_at w (Emitted e ∷ xs) marked =
+    let rest = mark_at w xs marked in
+    (Emitted e ∷ rest.0, rest.1, ap (λ l. Emitted e ∷ l) rest.2)
+mark_at w (End v ∷ xs) marked = ⊎_elim {C = HasMark w (End v ∷ xs)}
     (λ (same : v ≡ w). ([], xs, ap (λ u. End u ∷ xs) same))
     (λ (apart : v ≢ w).
-    let rest = mark_at w xs (sym (ap (λ (b : Bool). b || is_marked w xs) (ne_eqb v w apart)) ∙ marked) in
+    let no = ap (λ (b : Bool). b || is_marked w xs) (ne_eqb v w apart) in
+    let rest = mark_at w xs (sym no ∙ marked) in
     (End v ∷ rest.0, rest.1, ap (λ l. End v ∷ l) rest.2))
     (cases_eq v w)
 
@@ -53,31 +74,55 @@ suffix_nil : (xs ys : List Item) → xs ++ ys ≡ [] → ys ≡ []
 suffix_nil [] ys e = e
 suffix_nil (x ∷ xs) ys e = cc
 
+-- where the mark of w was taken, nothing of w waits
+none_waits :
+    (n w : ℕ) (c : Core) → IsCore n c → is_marked w c.taken ≡ true → items_of w c.waiting ≡ []
+none_waits n w c k marked =
+    let mark = mark_at w c.taken marked in
+    let whole = ap (λ l. l ++ c.waiting) mark.2 ∙ append_assoc mark.0 (End w ∷ mark.1) c.waiting in
+    let later : items_of w (mark.1 ++ c.waiting) ≡ [] =
+    after_mark w (c.sent w) (c.ended w) (c.taken ++ c.waiting) mark.0 (mark.1 ++ c.waiting)
+    (k.kept w) whole in
+    suffix_nil (items_of w mark.1) (items_of w c.waiting)
+    (sym (items_of-append w mark.1 c.waiting) ∙ later)
+
 -- what was taken of a worker whose mark was taken is all that it sent
-taken_is_sent : (n w : ℕ) (c : Core) → IsCore n c → is_marked w c.taken ≡ true → of_worker w (entries c.taken) ≡ c.sent w
+taken_is_sent :
+    (n w : ℕ) (c : Core) → IsCore n c → is_marked w c.taken ≡ true
+    → of_worker w (entries c.taken) ≡ c.sent w
 taken_is_sent n w c k marked =
-    let at = mark_at w c.taken marked in
-    let later : items_of w (at.1 ++ c.waiting) ≡ [] =
-    after_mark w (c.sent w) (c.ended w) (c.taken ++ c.waiting) at.0 (at.1 ++ c.waiting) (k.kept w) (ap (λ l. l ++ c.waiting) at.2 ∙ append_assoc at.0 (End w ∷ at.1) c.waiting) in
-    let waits : items_of w c.waiting ≡ [] = suffix_nil (items_of w at.1) (items_of w c.waiting) (sym (filter-append (λ x. worker_of x == w) at.1 c.waiting) ∙ later) in
     let all : items_of w c.taken ≡ script w (c.sent w) (c.ended w) =
-    sym (append-nil (items_of w c.taken)) ∙ ap (λ l. items_of w c.taken ++ l) (sym waits) ∙ sym (filter-append (λ x. worker_of x == w) c.taken c.waiting) ∙ k.kept w in
+    sym (append-nil (items_of w c.taken))
+    ∙ ap (λ l. items_of w c.taken ++ l) (sym (none_waits n w c k marked))
+    ∙ sym (items_of-append w c.taken c.waiting) ∙ k.kept w in
     events_among w c.taken ∙ ap events_in all ∙ events_scripted w (c.sent w) (c.ended w)
 
 -- each entry that was taken is of one of the workers
-all_workers : (n : ℕ) (c : Core) → IsCore n c → (before xs : List Item) → c.taken ≡ before ++ xs → All (λ e. IsWorkerOf n e.worker) (entries xs)
+all_workers :
+    (n : ℕ) (c : Core) → IsCore n c → (before xs : List Item) → c.taken ≡ before ++ xs
+    → All (λ e. IsWorkerOf n e.worker) (entries xs)
 all_workers n c k before [] whole = All-nil (λ e. IsWorkerOf n e.worker)
 all_workers n c k before (Emitted e ∷ xs) whole =
+    let more = ap (λ l. l ++ c.waiting) whole ∙ append_assoc before (Emitted e ∷ xs) c.waiting in
     All-cons (λ a. IsWorkerOf n a.worker) e (entries xs)
-    (holder_worker n before (Emitted e) (xs ++ c.waiting) c (ap (λ l. l ++ c.waiting) whole ∙ append_assoc before (Emitted e ∷ xs) c.waiting) k)
-    (all_workers n c k (before ++ Emitted e ∷ []) xs (whole ∙ sym (append_assoc before (Emitted e ∷ []) xs)))
-all_workers n c k before (End w ∷ xs) whole = all_workers n c k (before ++ End w ∷ []) xs (whole ∙ sym (append_assoc before (End w ∷ []) xs))
+    (holder_worker n before (Emitted e) (xs ++ c.waiting) c more k)
+    (all_workers n c k (before ++ Emitted e ∷ []) xs
+    (whole ∙ sym (append_assoc before (Emitted e ∷ []) xs)))
+all_workers n c k before (End w ∷ xs) whole =
+    all_workers n c k (before ++ End w ∷ []) xs
+    (whole ∙ sym (append_assoc before (End w ∷ []) xs))
 
-pub mixes : (n : ℕ) (c : Core) (earlier : List Core) → IsSchedule n c earlier → Completes n c → Mix n (entries c.taken) c.sent
+pub mixes :
+    (n : ℕ) (c : Core) (earlier : List Core) → IsSchedule n c earlier → Completes n c
+    → Mix n (entries c.taken) c.sent
 mixes n c earlier schedule completes = let k = core_of n c earlier schedule in record {
   workers = all_workers n c k [] c.taken refl;
   each = λ w is. taken_is_sent n w c k (completes w is);
 }
 
-pub nothing_after : (n : ℕ) (c : Core) (earlier : List Core) → IsSchedule n c earlier → NothingAfterMarks (c.taken ++ c.waiting)
-nothing_after n c earlier schedule w before after is = let k = core_of n c earlier schedule in after_mark w (c.sent w) (c.ended w) (c.taken ++ c.waiting) before after (k.kept w) is
+pub nothing_after :
+    (n : ℕ) (c : Core) (earlier : List Core) → IsSchedule n c earlier
+    → NothingAfterMarks (c.taken ++ c.waiting)
+nothing_after n c earlier schedule w before after is =
+    let k = core_of n c earlier schedule in
+    after_mark w (c.sent w) (c.ended w) (c.taken ++ c.waiting) before after (k.kept w) is

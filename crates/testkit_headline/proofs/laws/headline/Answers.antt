@@ -11,7 +11,9 @@ returns c = record {
   every_statistic_equals_plain_counting = counts;
   every_selection_equals_plain_filtering = filters;
   match_says_yes_exactly_where_its_conditions_hold = yes_exactly;
-  no_resource_has_a_writer_beside_another_holder = λ seats held earlier schedule. (c.writers_are_alone.ensures held).0 (compatible_in seats held earlier schedule);
+  no_resource_has_a_writer_beside_another_holder =
+      λ seats held earlier schedule.
+      (c.writers_are_alone.ensures held).0 (compatible_in seats held earlier schedule);
   answer_of_ask_is_a_function = c.answer_is_unique.ensures;
   report_of_a_plan_is_a_function_of_bytes_alone = reported;
 }
