@@ -73,7 +73,7 @@ module _ (asked : Selected) (flags : List Bool) (are : AreFlags asked flags) whe
   pub asked_set : (i : ℕ) → get_or flags i false ≡ true → event_at asked.kept i ≡ slice_get asked.recorded.entries i
   asked_set i set = asked_is i ∙ entry_set flags asked.recorded.entries i set
 
-  asked_clear : (i : ℕ) → get_or flags i false ≡ false → event_at asked.kept i ≡ None
+  pub asked_clear : (i : ℕ) → get_or flags i false ≡ false → event_at asked.kept i ≡ None
   asked_clear i clear = asked_is i ∙ entry_clear flags asked.recorded.entries i clear
 
   -- what a test of the entry at a set flag says

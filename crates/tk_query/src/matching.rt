@@ -36,6 +36,14 @@ fn next_fit(
     None
 }
 
+/// Finds the first of the events, from a position on, of which the condition holds.
+pub fn find(events: &Events, condition: &Condition, from: usize) -> Option<usize>
+    ensures { MatchOption result (HasNoFit (fits events.now) condition.now from)
+        (IsNextFit (fits events.now) condition.now from) }
+{
+    next_fit(events, events.flags(), condition, from)
+}
+
 /// Whether each event has a condition, which holds of it. JUnit: `assertEventsMatchExactly`.
 ///
 /// # Errors

@@ -1,0 +1,6 @@
+pub mod Members
+pub mod Parts
+pub mod Nearness
+pub mod Candidates
+pub mod Writing
+pub mod Laws
