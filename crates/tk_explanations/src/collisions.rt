@@ -35,10 +35,13 @@ fn starting_at_both(
         StartsAt events.now first both.0 × StartsAt events.now second both.1) }
 {
     let list = executions(alloc, events)?;
-    match (starting_at(&list, first), starting_at(&list, second)) {
-        (Some(first), Some(second)) => Ok((first, second)),
-        _ => unreachable!(),
-    }
+    let Some(starting) = starting_at(&list, first) else {
+        unreachable!()
+    };
+    let Some(later) = starting_at(&list, second) else {
+        unreachable!()
+    };
+    Ok((starting, later))
 }
 
 // Adds that two executions overlap, and the rows of their four events.

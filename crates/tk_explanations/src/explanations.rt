@@ -1,5 +1,7 @@
 //! Explanations as rows, written in pieces.
-ghost use Rattle.std.specs.Prelude.{◌≡◌, true, IsErrOf, OnErr, OnOk};
+ghost use Rattle.std.specs.Prelude.{◌≡◌, ◌++◌, ◌∷◌, true, codes, IsErrOf, OnErr, OnOk};
+ghost use Rattle.std.specs.Fmt.{decimal};
+ghost use Rattle.tk_query.specs.AnswerTexts.{blank};
 ghost use Rattle.std.specs.Io.KnownBytes.{Appends};
 ghost use Rattle.tk_streams.specs.Pieces.{Adds, outgoing};
 ghost use Rattle.tk_streams.specs.Stream.{AppendsPrefix};
@@ -160,8 +162,8 @@ impl Explanation {
         record: &Record,
         target: &mut T,
     ) -> Result<bool, ExplainFault>
-        ensures written { IsWritten self.entry.is_yes
-            (rows_text «record».now self.entry.rows.items) (T.contents target.old) (T.contents target.new) result }
+        ensures written { IsWritten self.is_yes
+            (rows_text «record».now self.rows.items) (T.contents target.old) (T.contents target.new) result }
         ensures device { IsErrOf result ExplainFault.Device → T.broken target.new ≡ true }
     {
         write_rows(self.rows.as_slice(), record, target)?;
