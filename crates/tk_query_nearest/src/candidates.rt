@@ -52,7 +52,7 @@ impl Candidates {
 
 /// The positions of the events that come nearest to a condition, the nearest first. A contract sees
 /// them as a list.
-#[derive(Clone, Copy, Drop)]
+#[derive(Drop)]
 pub struct Nearest {
     pub(crate) candidates: Candidates,
 }

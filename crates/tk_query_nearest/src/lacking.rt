@@ -34,7 +34,7 @@ fn push_member(
     ensures { OnOk result (string_bytes out.new
         ≡ appended (string_bytes out.old)
         (filter (λ c. not (cond_holds «record».now c (entry_of_view event.now)))
-            (cond_of member.now ∷ []))) }
+        (cond_of member.now ∷ []))) }
 {
     if holds(record, member, event) {
         return Ok(());

@@ -1,11 +1,10 @@
 //! How many parts of a condition don't hold of an event.
-ghost use Rattle.std.specs.Prelude.{◌≡◌, ◌≤◌, ◌+◌, if◌then◌else◌, slice_get};
+ghost use Rattle.std.specs.Prelude.{◌≡◌, ◌≤◌, ◌+◌, if◌then◌else◌, slice_get, MatchOption};
 ghost use Rattle.tk_record_columns.specs.Entries.{of_kind, of_status, desc};
 ghost use Rattle.tk_record_columns.specs.Record.{entry_of_view};
 ghost use Rattle.tk_query_conditions.specs.Cond.{All, Nothing};
 ghost use Rattle.tk_query_conditions.specs.CondOf.{cond_of, conds_from};
 ghost use Rattle.tk_query.specs.Holds.{has_within, has_descriptor};
-ghost use Rattle.tk_query_nearest.specs.Nearness.{distance_of};
 ghost use Rattle.tk_query_nearest.specs.Parts.{distance, member_parts, missing, message_contains, path_contains, reason_contains};
 
 use tk_events::{Kind, Payload, Status};
@@ -17,17 +16,17 @@ use tk_record_columns::{EntryView, Record};
 /// Where the count of missing parts ends.
 pub const MAX_DISTANCE: usize = 18_446_744_073_709_551_615;
 
-fn contains(text: &Text, part: &Text) -> bool
+fn contains(text: &str, part: &str) -> bool
     ensures { result ≡ has_within part.now text.now }
 {
-    text.as_str().contains(part.as_str())
+    text.contains(part)
 }
 
 fn message_contains(payload: &Payload, text: &Text) -> bool
     ensures { result ≡ message_contains text.now payload.now }
 {
     match payload {
-        Payload::Outcome(_, Some(given)) => contains(given, text),
+        Payload::Outcome(_, Some(given)) => contains(given.as_str(), text.as_str()),
         _ => false,
     }
 }
@@ -36,7 +35,7 @@ fn reason_contains(payload: &Payload, text: &Text) -> bool
     ensures { result ≡ reason_contains text.now payload.now }
 {
     match payload {
-        Payload::Reason(given) => contains(given, text),
+        Payload::Reason(given) => contains(given.as_str(), text.as_str()),
         _ => false,
     }
 }
@@ -45,7 +44,7 @@ fn path_contains(payload: &Payload, text: &Text) -> bool
     ensures { result ≡ path_contains text.now payload.now }
 {
     match payload {
-        Payload::Path(given) => contains(given, text),
+        Payload::Path(given) => contains(given.as_str(), text.as_str()),
         _ => false,
     }
 }
@@ -54,7 +53,7 @@ fn name_contains(record: &Record, key: u32, text: &Text) -> bool
     ensures { result ≡ has_descriptor (λ d. has_within text.now d.name) (desc «record».now key) }
 {
     match record.describe(key) {
-        Some(descriptor) => contains(&descriptor.name, text),
+        Some(descriptor) => contains(descriptor.name.as_str(), text.as_str()),
         None => false,
     }
 }
@@ -146,8 +145,8 @@ fn distance_of_all(record: &Record, members: &[Condition], event: &EntryView) ->
 
 /// How many parts of a condition don't hold of the entry at a position, 0 past the last one.
 pub(crate) fn distance_at(record: &Record, condition: &Condition, position: usize) -> usize
-    ensures { result ≡ distance_of «record».now (cond_of condition.now)
-        (slice_get «record».now.entries position) }
+    ensures { MatchOption (slice_get «record».now.entries position) (result ≡ 0) (λ e.
+        result ≡ distance «record».now (cond_of condition.now) e) }
 {
     match record.entry(position) {
         Some(event) => distance(record, condition, &event),

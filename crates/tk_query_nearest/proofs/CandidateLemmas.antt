@@ -1,0 +1,153 @@
+-- Candidates, and the positions of the events that come nearest.
+use Rattle.std.proofs.Common.{◌≡◌, ℕ, zero, suc, ◌+◌, ◌<◌, ◌≤◌, ◌⊎◌, Bool, true, false, List, [], ◌∷◌, length, get_or, map, take, MatchOption, refl, sym, ap, ◌∙◌, subst, arith, inl, inr, ⊎_elim}
+use Rattle.std.specs.Prelude.{if◌then◌else◌}
+use Rattle.std.specs.List.{slice_get}
+use Rattle.std.proofs.lemmas.Bool.{cases_lt, true≢false}
+use Rattle.std.proofs.lemmas.List.{take-map}
+use Rattle.std.proofs.lemmas.Option.{none-some}
+use Rattle.tk_lanes.specs.Flags.{IsNextSet, IsNoneSet}
+use Rattle.tk_record_columns.specs.Recorded.{Recorded}
+use Rattle.tk_record_columns.specs.Selections.{Selected}
+use Rattle.tk_query_conditions.specs.Cond.{Cond}
+use Rattle.tk_query_nearest.specs.Parts.{distance}
+use Rattle.tk_query.proofs.AskedLemmas.{AreFlags, asked_set, asked_clear}
+use Rattle.tk_query_nearest.specs.declared.candidates.Candidate.{Candidate}
+use Rattle.tk_query_nearest.specs.Candidates.{is_nearer, inserted}
+use Rattle.tk_query_nearest.specs.Nearness.{IsAskedFrom, IsNearest, IsNearer, distance_at, distance_of}
+use Rattle.tk_query_nearest.proofs.ViewLemmas.{there, told}
+use Rattle.tk_query_nearest.proofs.RankLemmas.{Has, Each, each_all, each_has, has_contains, near, put, AreBest, IsPast, best_more, best_none, best_same, ranked_pairs}
+
+abbrev pub position_of : Candidate → ℕ
+position_of a = a.position
+
+abbrev pub positions : List Candidate → List ℕ
+positions list = map position_of list
+
+-- each candidate has the distance of the event at its position
+abbrev pub Measured : (ℕ → ℕ) → List Candidate → Type 0
+Measured d [] = Unit {0}
+Measured d (a ∷ list) = (a.distance ≡ d a.position) × Measured d list
+
+module _ (d : ℕ → ℕ) where
+  measured_take : (n : ℕ) (list : List Candidate) → Measured d list → Measured d (take n list)
+  measured_take zero list h = tt
+  measured_take (suc n) [] h = tt
+  measured_take (suc n) (a ∷ list) h = (h.0, measured_take n list h.1)
+
+  near_same : (a b : Candidate) → a.distance ≡ d a.position → b.distance ≡ d b.position → is_nearer a b ≡ near d a.position b.position
+  near_same a b e f = rw (e, f) refl
+
+  either : (P : List Candidate → Type 0) (b : Bool) (xs ys : List Candidate) → P xs → P ys → P (if b then xs else ys)
+  either P true xs ys f g = f
+  either P false xs ys f g = g
+
+  measured_inserted : (a : Candidate) (list : List Candidate) → a.distance ≡ d a.position → Measured d list → Measured d (inserted a list)
+  measured_inserted a [] e h = (e, tt)
+  measured_inserted a (b ∷ list) e h = either (Measured d) (is_nearer a b) (a ∷ b ∷ list) (b ∷ inserted a list) (e, h) (h.0, measured_inserted a list e h.1)
+
+  map_choice : (b : Bool) (xs ys : List Candidate) → positions (if b then xs else ys) ≡ (if b then positions xs else positions ys)
+  map_choice true xs ys = refl
+  map_choice false xs ys = refl
+
+  inserted_put : (a : Candidate) (list : List Candidate) → a.distance ≡ d a.position → Measured d list → positions (inserted a list) ≡ put d a.position (positions list)
+  inserted_put a [] e h = refl
+  inserted_put a (b ∷ list) e h =
+      map_choice (is_nearer a b) (a ∷ b ∷ list) (b ∷ inserted a list)
+      ∙ ap (λ t. if t then a.position ∷ b.position ∷ positions list else b.position ∷ positions (inserted a list)) (near_same a b e h.0)
+      ∙ ap (λ l. if near d a.position b.position then a.position ∷ b.position ∷ positions list else b.position ∷ l) (inserted_put a list e h.1)
+
+  pub measured_with : (n : ℕ) (a : Candidate) (old new : List Candidate) → new ≡ take n (inserted a old) → a.distance ≡ d a.position → Measured d old → Measured d new
+  measured_with n a old new is e h = subst (Measured d) (sym is) (measured_take n (inserted a old) (measured_inserted a old e h))
+
+  pub positions_with : (n : ℕ) (a : Candidate) (old new : List Candidate) → new ≡ take n (inserted a old) → a.distance ≡ d a.position → Measured d old → take n (put d a.position (positions old)) ≡ positions new
+  positions_with n a old new is e h = ap (take n) (sym (inserted_put a old e h)) ∙ take-map position_of n (inserted a old) ∙ ap positions (sym is)
+
+-- an event asked stands at this position, at `first` or after it and before `low`
+pub record IsSeen (asked : Selected) (first low position : ℕ) : Type 0 where
+  pub asked_from : IsAskedFrom asked first position
+  pub below : position < low
+
+-- the candidates are the nearest of the events up to a position
+pub record AreNearest (asked : Selected) (first : ℕ) (c : Cond) (low : ℕ) (list : List Candidate) : Type 0 where
+  pub on : first ≤ low
+  pub measured : Measured (distance_at asked c) list
+  pub best : AreBest (distance_at asked c) (IsSeen asked first low) 3 (positions list)
+
+pub nearest_none : (asked : Selected) (first : ℕ) (c : Cond) → AreNearest asked first c first []
+nearest_none asked first c = record {
+  on = omega arith;
+  measured = tt;
+  best = best_none (distance_at asked c) (IsSeen asked first first) 3 (λ x seen. let from = seen.asked_from.from in let below = seen.below in omega arith);
+}
+
+module _ (asked : Selected) (flags : List Bool) (are : AreFlags asked flags) (size : length flags ≡ length asked.recorded.entries) (first : ℕ) (c : Cond) (low : ℕ) (list : List Candidate) (so_far : AreNearest asked first c low list) where
+  not_asked : (x : ℕ) → get_or flags x false ≡ false → IsAskedFrom asked first x → ⊥
+  not_asked x clear h = none-some h.event (sym (asked_clear asked flags are x clear) ∙ h.event_is)
+
+  set_within : (flags : List Bool) (x : ℕ) → get_or flags x false ≡ true → x < length flags
+  set_within [] x set = absurd (true≢false (sym set))
+  set_within (f ∷ flags) zero set = omega arith
+  set_within (f ∷ flags) (suc x) set = let rest = set_within flags x set in omega arith
+
+  module _ (at : ℕ) (next : IsNextSet low flags at) where
+    asked_here : IsAskedFrom asked first at
+    asked_here =
+        let entry = there asked.recorded.entries at (let within = set_within flags at next.set in omega arith) in
+        let on = so_far.on in
+        let from = next.from in
+        record { from = omega arith; event = entry.0; event_is = asked_set asked flags are at next.set ∙ entry.1 }
+
+    -- the event at the next flag
+    module _ (r : Recorded) (same : r ≡ asked.recorded) (a : Candidate) (is_at : a.position ≡ at) (far : MatchOption (slice_get r.entries at) (a.distance ≡ 0) (λ e. a.distance ≡ distance r c e)) (new : List Candidate) (new_is : new ≡ take 3 (inserted a list)) where
+      measured_here : a.distance ≡ distance_at asked c a.position
+      measured_here =
+          told r c (slice_get r.entries at) a.distance far ∙ ap (λ (s : Recorded). distance_of s c (slice_get s.entries at)) same
+          ∙ ap (distance_of asked.recorded c) (sym (asked_set asked flags are at next.set))
+          ∙ ap (distance_at asked c) (sym is_at)
+
+      pub nearest_more : AreNearest asked first c (at + 1) new
+      nearest_more =
+          let d = distance_at asked c in
+          let on = so_far.on in
+          let from = next.from in
+          record {
+            on = omega arith;
+            measured = measured_with d 3 a list new new_is measured_here so_far.measured;
+            best = subst (AreBest d (IsSeen asked first (at + 1)) 3) (ap (λ n. take 3 (put d n (positions list))) (sym is_at) ∙ positions_with d 3 a list new new_is measured_here so_far.measured)
+                (best_more d (IsSeen asked first low) (IsSeen asked first (at + 1)) 3 at (positions list) so_far.best
+                (λ x seen. let below = seen.below in record { asked_from = seen.asked_from; below = omega arith })
+                (record { asked_from = asked_here; below = omega arith })
+                (λ seen. let below = seen.below in omega arith)
+                (λ x seen. only x seen));
+          }
+        where
+          only : (x : ℕ) → IsSeen asked first (at + 1) x → (at ≡ x) ⊎ IsSeen asked first low x
+          only x seen = ⊎_elim {C = (at ≡ x) ⊎ IsSeen asked first low x}
+              (λ (below : x < low). inr (record { asked_from = seen.asked_from; below = below }))
+              (λ (above : low ≤ x). ⊎_elim {C = (at ≡ x) ⊎ IsSeen asked first low x}
+              (λ (before : x < at). absurd (not_asked x (next.least x above before) seen.asked_from))
+              (λ (after : at ≤ x). let below = seen.below in inl (omega arith))
+              (cases_lt x at))
+              (cases_lt x low)
+
+  pub nearest_all : IsNoneSet low flags → IsNearest asked first c (positions list)
+  nearest_all none =
+      let d = distance_at asked c in
+      let all : AreBest d (IsAskedFrom asked first) 3 (positions list) =
+      best_same d (IsSeen asked first low) (IsAskedFrom asked first) 3 (positions list) (λ x seen. seen.asked_from) (λ x h. record { asked_from = h; below = below x h }) so_far.best in
+      record {
+        asked_from = each_all (IsAskedFrom asked first) (positions list) (each_has (IsAskedFrom asked first) (positions list) all.each);
+        order = ranked_pairs d (positions list) all.ranked;
+        others = λ q h not_in. each_all (λ p. IsNearer asked c p q) (positions list) (⊎_elim {C = Each (λ p. IsNearer asked c p q) (positions list)}
+            (λ (has : Has (positions list) q). absurd (not_in (has_contains (positions list) q has)))
+            (λ (past : IsPast d 3 (positions list) q). past.after)
+            (all.others q h));
+        at_most = all.at_most;
+        all_if_fewer = λ fewer q h. has_contains (positions list) q (⊎_elim {C = Has (positions list) q}
+            (λ (has : Has (positions list) q). has)
+            (λ (past : IsPast d 3 (positions list) q). let full = past.full in absurd (omega arith))
+            (all.others q h));
+      }
+    where
+      below : (x : ℕ) → IsAskedFrom asked first x → x < low
+      below x h = ⊎_elim {C = x < low} (λ (lt : x < low). lt) (λ (le : low ≤ x). absurd (not_asked x (none.none x le) h)) (cases_lt x low)

@@ -1,0 +1,9 @@
+pub mod ElementLemmas
+pub mod MemberLemmas
+pub mod PartLemmas
+pub mod WritingLemmas
+pub mod TakenLemmas
+pub mod ViewLemmas
+pub mod RankLemmas
+pub mod CandidateLemmas
+pub mod NearestIsUnique
