@@ -1,3 +1,3 @@
 mod Explaining
-mod PieceRows
 mod Spans
+mod PieceRows

@@ -13,24 +13,24 @@ use Rattle.tk_explanations.specs.Collisions.{StartsAt, is_from}
 -- what a search finds is in the list and passes
 found_some : {X : Type 0} (p : X → Bool) (xs : List X) (x : X) → find p xs ≡ Some x → Contains xs x × (p x ≡ true)
 found_some p [] x e = absurd (none-some x e)
-found_some {X = X} p (y ∷ ys) x e = by (p y) refl e
+found_some {X = X} p (y ∷ ys) x e = by (p y) refl (found_some p ys x) e
   where
-    by : (b : Bool) → p y ≡ b → cond b (Some y) (find p ys) ≡ Some x → Contains (y ∷ ys) x × (p x ≡ true)
-    by true t s = let same : y ≡ x = same_Some y x s in ((0, omega arith, same), ap p (sym same) ∙ t)
-    by false t s = let rest = found_some p ys x s in let within = rest.0.1 in ((suc rest.0.0, omega arith, rest.0.2), rest.1)
+    by : (b : Bool) → p y ≡ b → (find p ys ≡ Some x → Contains ys x × (p x ≡ true)) → cond b (Some y) (find p ys) ≡ Some x → Contains (y ∷ ys) x × (p x ≡ true)
+    by true t later s = let same : y ≡ x = same_Some y x s in ((0, omega arith, same), ap p (sym same) ∙ t)
+    by false t later s = let rest = later s in let within = rest.0.1 in ((suc rest.0.0, omega arith, rest.0.2), rest.1)
 
 -- where a search finds none, no element passes
 found_none : {X : Type 0} (p : X → Bool) (xs : List X) (x : X) → find p xs ≡ None → Contains xs x → p x ≡ false
 found_none p [] x e h = let within = h.1 in absurd (omega arith)
-found_none {X = X} p (y ∷ ys) x e h = by (p y) refl e
+found_none {X = X} p (y ∷ ys) x e h = by (p y) refl (found_none p ys x) e
   where
-    at : (k : ℕ) → k < length (y ∷ ys) → get_or (y ∷ ys) k x ≡ x → p y ≡ false → find p ys ≡ None → p x ≡ false
-    at zero lt is t s = ap p (sym is) ∙ t
-    at (suc k) lt is t s = found_none p ys x s (k, omega arith, is)
+    at : (k : ℕ) → k < length (y ∷ ys) → get_or (y ∷ ys) k x ≡ x → p y ≡ false → (Contains ys x → p x ≡ false) → p x ≡ false
+    at zero lt is t later = ap p (sym is) ∙ t
+    at (suc k) lt is t later = later (k, omega arith, is)
 
-    by : (b : Bool) → p y ≡ b → cond b (Some y) (find p ys) ≡ None → p x ≡ false
-    by true t s = absurd (none-some y (sym s))
-    by false t s = at h.0 h.1 h.2 t s
+    by : (b : Bool) → p y ≡ b → (find p ys ≡ None → Contains ys x → p x ≡ false) → cond b (Some y) (find p ys) ≡ None → p x ≡ false
+    by true t later s = absurd (none-some y (sym s))
+    by false t later s = at h.0 h.1 h.2 t (later s)
 
 module _ (asked : Selected) (start : ℕ) where
   starts : (x : Execution) → StartsAt asked start x → is_from start x ≡ true

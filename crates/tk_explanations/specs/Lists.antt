@@ -14,7 +14,8 @@ use Rattle.tk_explanations.specs.Rows.{event_text, id_field}
 
 -- the position of an event, a blank, its line in a record's text, three blanks, and its descriptor
 abbrev pub listed_event : Recorded → PositionedEntry → List ℕ
-listed_event r x = decimal x.position ++ blank ∷ event_text r x.entry ++ line_feed ∷ []
+listed_event r x =
+    decimal x.position ++ (blank ∷ []) ++ event_text r x.entry ++ (line_feed ∷ [])
 
 -- a line for each of the events, in their order
 abbrev pub ExplainsList : Selected → Bool → List ℕ → Type 0
@@ -29,7 +30,7 @@ execution_head x =
 
 -- the key of an execution, its ending, its two stamps, and the id of its descriptor
 abbrev pub listed_execution : Recorded → Execution → List ℕ
-listed_execution r x = execution_head x ++ id_field (desc r x.key) ++ line_feed ∷ []
+listed_execution r x = execution_head x ++ id_field (desc r x.key) ++ (line_feed ∷ [])
 
 -- a line for each execution that the events show, in the order of their ends
 abbrev pub ExplainsExecutions : Selected → Bool → List ℕ → Type 0

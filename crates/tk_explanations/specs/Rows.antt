@@ -49,7 +49,8 @@ id_field (Some d) = field_text (id_text d.id)
 abbrev pub descriptor_text : Option Descriptor → List ℕ
 descriptor_text None = []
 descriptor_text (Some d) =
-    field_text (id_text d.id) ++ blank ∷ quotation_mark ∷ field_text d.name ++ quotation_mark ∷ []
+    field_text (id_text d.id) ++ (blank ∷ quotation_mark ∷ []) ++ field_text d.name
+    ++ (quotation_mark ∷ [])
 
 -- the line of an event in a record's text, three blanks, and its descriptor
 abbrev pub event_text : Recorded → Entry → List ℕ

@@ -1,6 +1,8 @@
 //! Why executions that conflict did not keep away from each other.
 ghost use Rattle.std.specs.Prelude.{◌≡◌, ◌++◌, true, IfOk, OnOk, IsErrOf};
 ghost use Rattle.std.specs.List.{find};
+ghost use Rattle.tk_query.specs.ExecutionSteps.{step_at};
+ghost use Rattle.tk_query.specs.Executions.{AreExecutions};
 ghost use Rattle.tk_query.specs.declared.execution.Execution.{Execution};
 ghost use Rattle.tk_explanations.specs.Explained.{IsExplained};
 ghost use Rattle.tk_explanations.specs.Collisions.{ExplainsExclusive, IsExclusiveExplanation, StartsAt, is_from, overlap_rows};
@@ -22,6 +24,18 @@ fn starting_at(list: &Executions, start: usize) -> Option<Execution>
         .find(|x| x.first == start && start < x.last)
 }
 
+// The execution of the events that starts at this position, where there is one.
+fn start_of(_events: &Events<'_>, list: &Executions, start: usize) -> Execution
+    requires list { AreExecutions (step_at _events.now) list.now }
+    requires start { (x : Execution) × StartsAt _events.now start x }
+    ensures { StartsAt _events.now start result }
+{
+    let Some(found) = starting_at(list, start) else {
+        unreachable!()
+    };
+    found
+}
+
 // The executions that start at these positions.
 fn starting_at_both(
     alloc: Global,
@@ -35,12 +49,8 @@ fn starting_at_both(
         StartsAt events.now first both.0 × StartsAt events.now second both.1) }
 {
     let list = executions(alloc, events)?;
-    let Some(starting) = starting_at(&list, first) else {
-        unreachable!()
-    };
-    let Some(later) = starting_at(&list, second) else {
-        unreachable!()
-    };
+    let starting = start_of(events, &list, first);
+    let later = start_of(events, &list, second);
     Ok((starting, later))
 }
 

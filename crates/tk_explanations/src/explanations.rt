@@ -1,5 +1,5 @@
 //! Explanations as rows, written in pieces.
-ghost use Rattle.std.specs.Prelude.{◌≡◌, ◌++◌, ◌∷◌, true, codes, IsErrOf, OnErr, OnOk};
+ghost use Rattle.std.specs.Prelude.{◌≡◌, ◌++◌, ◌∷◌, Some, true, codes, slice_get, IsErrOf, OnErr, OnOk};
 ghost use Rattle.std.specs.Fmt.{decimal};
 ghost use Rattle.tk_query.specs.AnswerTexts.{blank};
 ghost use Rattle.std.specs.Io.KnownBytes.{Appends};
@@ -13,7 +13,7 @@ use crate::faults::ExplainFault;
 use crate::pieces::{put_descriptor_of, put_event_text, put_number};
 use crate::rows::{Note, Row};
 use tk_query::Execution;
-use tk_record::{Record, Target};
+use tk_record::{EntryView, Record, Target};
 use tk_streams::{Broken, Piece};
 
 fn put_note<T: Target>(piece: &mut Piece, target: &mut T, note: &Note)
@@ -34,6 +34,26 @@ fn put_note<T: Target>(piece: &mut Piece, target: &mut T, note: &Note)
     }
 }
 
+// Adds the row of an event.
+fn put_view_row<T: Target>(
+    piece: &mut Piece,
+    target: &mut T,
+    record: &Record,
+    position: usize,
+    view: &EntryView<'_>,
+    note: &Note,
+)
+    ensures { Adds (outgoing (T.contents target.old) (T.broken target.old) piece.old)
+        (outgoing (T.contents target.new) (T.broken target.new) piece.new)
+        (event_row «record».now position (Some (entry_of_view view.now)) note.now) }
+{
+    piece.put(target, b"    ");
+    put_number(piece, target, position as u64);
+    piece.put(target, b": ");
+    put_event_text(piece, target, record, view);
+    put_note(piece, target, note);
+}
+
 // Adds the row of the event at a position, where the record has one there.
 fn put_event_row<T: Target>(
     piece: &mut Piece,
@@ -44,14 +64,10 @@ fn put_event_row<T: Target>(
 )
     ensures { Adds (outgoing (T.contents target.old) (T.broken target.old) piece.old)
         (outgoing (T.contents target.new) (T.broken target.new) piece.new)
-        (row_text «record».now (Row.Event position note.now)) }
+        (event_row «record».now position (slice_get «record».now.entries position) note.now) }
 {
     if let Some(view) = record.entry(position) {
-        piece.put(target, b"    ");
-        put_number(piece, target, position as u64);
-        piece.put(target, b": ");
-        put_event_text(piece, target, record, &view);
-        put_note(piece, target, note);
+        put_view_row(piece, target, record, position, &view, note);
     }
 }
 

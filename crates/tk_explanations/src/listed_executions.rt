@@ -94,6 +94,8 @@ pub fn explain_executions<T: Target>(
 {
     let record = events.record();
     let executions = ExecutionIter::new(alloc, events)?;
-    write_executions(record, executions, target)?;
-    Ok(true)
+    match write_executions(record, executions, target) {
+        Ok(()) => Ok(true),
+        Err(_) => Err(ExplainFault::Device),
+    }
 }

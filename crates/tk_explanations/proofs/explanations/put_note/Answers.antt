@@ -6,7 +6,7 @@ use Rattle.tk_explanations.proofs.explanations.put_note.Goals as goal
 
 pub returns-in-Lacks : goal.returns-in-Lacks
 returns-in-Lacks g c =
-    rw c.in-Lacks.is (adds_both _ _ _ (codes "   does not hold: ") c.in-Lacks.members c.put-in-Lacks.ensures (adds_as _ _ _ _ (c.as_bytes.ensures.value ∙ c.as_str.ensures) c.put-in-Lacks-2.ensures))
+    rw c.in-Lacks.is (adds_both _ _ _ (codes "   does not hold: ") c.in-Lacks.members c.put.ensures (adds_as _ _ _ _ (c.as_bytes.ensures.value ∙ c.as_str.ensures) c.put-in-Lacks.ensures))
 
 pub returns-in-NotAfter : goal.returns-in-NotAfter
 returns-in-NotAfter g c =
