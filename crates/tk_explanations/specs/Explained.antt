@@ -17,7 +17,8 @@ IsExplained Explains old new (Err Device) =
 IsExplained Explains old new (Err Memory) = Unit {0}
 
 -- the text was added, or a prefix of it, and the target broke
-abbrev pub IsWritten : Bool → List ℕ → Option (List ℕ) → Option (List ℕ) → Result Bool ExplainFault → Type 0
+abbrev pub IsWritten :
+    Bool → List ℕ → Option (List ℕ) → Option (List ℕ) → Result Bool ExplainFault → Type 0
 IsWritten is_yes text old new (Ok answer) = (answer ≡ is_yes) × Appends old new text
 IsWritten is_yes text old new (Err Device) = AppendsPrefix old new text
 IsWritten is_yes text old new (Err Memory) = ⊥

@@ -55,11 +55,7 @@ fn starting_at_both(
 }
 
 // Adds that two executions overlap, and the rows of their four events.
-fn add_overlap(
-    rows: &mut Vec<Row>,
-    first: Execution,
-    second: Execution,
-) -> Result<(), AllocError>
+fn add_overlap(rows: &mut Vec<Row>, first: Execution, second: Execution) -> Result<(), AllocError>
     ensures { OnOk result (rows.new.items ≡ rows.old.items ++ overlap_rows first second) }
 {
     let sooner = first.last.min(second.last);

@@ -178,8 +178,8 @@ impl Explanation {
         record: &Record,
         target: &mut T,
     ) -> Result<bool, ExplainFault>
-        ensures written { IsWritten self.is_yes
-            (rows_text «record».now self.rows.items) (T.contents target.old) (T.contents target.new) result }
+        ensures written { IsWritten self.is_yes (rows_text «record».now self.rows.items)
+            (T.contents target.old) (T.contents target.new) result }
         ensures device { IsErrOf result ExplainFault.Device → T.broken target.new ≡ true }
     {
         write_rows(self.rows.as_slice(), record, target)?;
