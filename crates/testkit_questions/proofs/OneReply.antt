@@ -38,7 +38,8 @@ use Rattle.testkit_questions.specs.declared.questions.Overview.{Overview}
 use Rattle.testkit_questions.specs.declared.questions.Overview.TheVariants as overviews
 use Rattle.tk_query_lifecycle.specs.declared.lifecycle_rules.Lifecycle.{Lifecycle}
 use Rattle.tk_query_lifecycle.proofs.LifecycleIsUnique.{lifecycle_is_unique}
-use Rattle.testkit_questions.specs.Answers.{IsMatchAnswer, events_where, IsAnswerTo, IsExclusiveAnswer, exact_line, exact_yes, exclusive_line, exclusive_yes, loose_line, loose_yes, position_text, in_order_line, in_order_yes, execution_line, IsOverviewOf, lifecycle_line, lifecycle_yes}
+use Rattle.tk_query.specs.AnswerTexts.{exact_yes, exclusive_yes, in_order_yes, loose_yes, position_text}
+use Rattle.testkit_questions.specs.Answers.{IsMatchAnswer, events_where, IsAnswerTo, IsExclusiveAnswer, exact_line, exclusive_line, loose_line, in_order_line, execution_line, IsOverviewOf, lifecycle_line, lifecycle_yes}
 use Rattle.testkit_questions.proofs.OneReading.{AreAlike, AreSame}
 
 -- ---- conditions that say the same hold alike
@@ -180,7 +181,7 @@ exclusive_too asked w v r s writers readers (exclusives.No p q) h = record {
 -- ---- answers
 
 in_order_same : (a b : InOrder) → laws.AreAlike a b → (in_order_yes a ≡ in_order_yes b) × (in_order_line a ≡ in_order_line b)
-in_order_same (in_order.Yes p) (in_order.Yes q) e = (refl, ap (λ (l : List ℕ). codes "yes" ++ flat_map position_text l ++ 10 ∷ []) e)
+in_order_same (in_order.Yes p) (in_order.Yes q) e = (refl, ap (λ (l : List ℕ). (codes "yes" ++ flat_map position_text l) ++ 10 ∷ []) e)
 in_order_same (in_order.Yes p) (in_order.No k) e = absurd e
 in_order_same (in_order.No j) (in_order.Yes q) e = absurd e
 in_order_same (in_order.No j) (in_order.No k) e = (refl, ap (λ (n : ℕ). codes "no " ++ decimal n ++ 10 ∷ []) e)

@@ -32,21 +32,21 @@ use Rattle.tk_record.specs.StatisticsText.{statistics_text}
 use Rattle.tk_record.specs.EventLists.{event_list}
 use Rattle.tk_query_conditions.specs.declared.conditions.Condition.{Condition}
 use Rattle.tk_query.specs.declared.answers.Exact.{Exact}
-use Rattle.tk_query.specs.declared.answers.Exact.TheVariants as exact
 use Rattle.tk_query.specs.declared.answers.Exclusive.{Exclusive}
-use Rattle.tk_query.specs.declared.answers.Exclusive.TheVariants as exclusives
 use Rattle.tk_query.specs.declared.answers.Loose.{Loose}
-use Rattle.tk_query.specs.declared.answers.Loose.TheVariants as loose
 use Rattle.tk_query.specs.declared.answers.InOrder.{InOrder}
-use Rattle.tk_query.specs.declared.answers.InOrder.TheVariants as in_order
-use Rattle.tk_query.specs.declared.execution.Ending.{Ending}
-use Rattle.tk_query.specs.declared.execution.Ending.TheVariants.{
-  Skipped,
-  Aborted,
-  Successful,
-  Failed,
-}
 use Rattle.tk_query.specs.declared.execution.Execution.{Execution}
+use Rattle.tk_query.specs.AnswerTexts.{
+  ending_name,
+  exact_text,
+  exact_yes,
+  exclusive_text,
+  exclusive_yes,
+  in_order_text,
+  in_order_yes,
+  loose_text,
+  loose_yes,
+}
 use Rattle.tk_query.specs.Exclusive.{IsExclusive}
 use Rattle.tk_query.specs.ExecutionSteps.{step_at}
 use Rattle.tk_query.specs.Executions.{AreExecutions}
@@ -82,41 +82,18 @@ mismatch_line m =
     codes "mismatch " ++ selection_name m.selection ++ codes " expected " ++ decimal m.expected
     ++ codes " actual " ++ decimal m.actual ++ line_feed ∷ []
 
+-- an answer's words as a line
 abbrev pub exact_line : Exact → List ℕ
-exact_line exact.Yes = codes "yes" ++ line_feed ∷ []
-exact_line exact.WrongCount = codes "wrong-count" ++ line_feed ∷ []
-exact_line (exact.No k) = codes "no " ++ decimal k ++ line_feed ∷ []
-
-abbrev pub exact_yes : Exact → Bool
-exact_yes exact.Yes = true
-exact_yes _ = false
+exact_line answer = exact_text answer ++ line_feed ∷ []
 
 abbrev pub loose_line : Loose → List ℕ
-loose_line loose.Yes = codes "yes" ++ line_feed ∷ []
-loose_line (loose.No k) = codes "no " ++ decimal k ++ line_feed ∷ []
-
-abbrev pub loose_yes : Loose → Bool
-loose_yes loose.Yes = true
-loose_yes (loose.No _) = false
-
--- a position after a blank
-abbrev pub position_text : ℕ → List ℕ
-position_text position = blank ∷ decimal position
+loose_line answer = loose_text answer ++ line_feed ∷ []
 
 abbrev pub in_order_line : InOrder → List ℕ
-in_order_line (in_order.Yes positions) =
-    codes "yes" ++ flat_map position_text positions.items ++ line_feed ∷ []
-in_order_line (in_order.No k) = codes "no " ++ decimal k ++ line_feed ∷ []
+in_order_line answer = in_order_text answer ++ line_feed ∷ []
 
-abbrev pub in_order_yes : InOrder → Bool
-in_order_yes (in_order.Yes _) = true
-in_order_yes (in_order.No _) = false
-
-abbrev pub ending_name : Ending → List ℕ
-ending_name Skipped = codes "skipped"
-ending_name Aborted = codes "aborted"
-ending_name Successful = codes "succeeded"
-ending_name Failed = codes "failed"
+abbrev pub exclusive_line : Exclusive → List ℕ
+exclusive_line answer = exclusive_text answer ++ line_feed ∷ []
 
 -- the key, the ending and the two stamps
 abbrev pub execution_line : Execution → List ℕ
@@ -148,16 +125,6 @@ lifecycle_line lifecycle = lifecycle_text lifecycle ++ line_feed ∷ []
 abbrev pub lifecycle_yes : Lifecycle → Bool
 lifecycle_yes lifecycles.Kept = true
 lifecycle_yes _ = false
-
--- executions that conflict kept away from each other, or the starts of the first two that didn't
-abbrev pub exclusive_line : Exclusive → List ℕ
-exclusive_line exclusives.Yes = codes "yes" ++ line_feed ∷ []
-exclusive_line (exclusives.No p q) =
-    codes "no " ++ decimal p ++ blank ∷ decimal q ++ line_feed ∷ []
-
-abbrev pub exclusive_yes : Exclusive → Bool
-exclusive_yes exclusives.Yes = true
-exclusive_yes (exclusives.No _ _) = false
 
 -- whether all executions of writers and readers in the record kept away from each other
 abbrev pub IsExclusiveAnswer : Condition → Condition → Recorded → Bool → List ℕ → Type 0

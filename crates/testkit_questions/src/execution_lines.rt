@@ -1,29 +1,13 @@
 //! Executions as lines, written in pieces.
-ghost use Rattle.std.specs.Prelude.{◌≡◌, ◌≤◌, length, true, OnErr, OnOk};
+ghost use Rattle.std.specs.Prelude.{◌≡◌, true, OnErr, OnOk};
 ghost use Rattle.std.specs.Io.KnownBytes.{Appends};
 ghost use Rattle.std.specs.List.{flat_map};
 ghost use Rattle.tk_streams.specs.Stream.{AppendsPrefix};
-ghost use Rattle.testkit_questions.specs.Answers.{ending_name, execution_line};
-ghost use Rattle.testkit_questions.specs.declared.execution_lines.TheConstants.{ENDING_NAME};
+ghost use Rattle.testkit_questions.specs.Answers.{execution_line};
 ghost use Rattle.tk_streams.specs.Pieces.{Adds, outgoing};
 
-use tk_query::{Ending, Execution, ExecutionIter};
+use tk_query::{Execution, ExecutionIter};
 use tk_streams::{Broken, Piece, ShortLine, Target};
-
-// How many bytes the name of an ending has at most.
-const ENDING_NAME: usize = 9;
-
-fn ending_name(ending: Ending) -> &'static str
-    ensures name { result.now ≡ ending_name ending }
-    ensures length { length result.now ≤ ENDING_NAME }
-{
-    match ending {
-        Ending::Skipped => "skipped",
-        Ending::Aborted => "aborted",
-        Ending::Successful => "succeeded",
-        Ending::Failed => "failed",
-    }
-}
 
 // Makes the line of an execution, from its end to its start.
 fn line_of(execution: Execution) -> ShortLine
@@ -35,7 +19,7 @@ fn line_of(execution: Execution) -> ShortLine
     line.push_front(b' ');
     line.push_front_number(execution.start);
     line.push_front(b' ');
-    line.push_front_text(ending_name(execution.ending));
+    line.push_front_text(execution.ending.name());
     line.push_front(b' ');
     line.push_front_number(execution.key as u64);
     line

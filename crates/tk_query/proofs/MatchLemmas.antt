@@ -1,5 +1,5 @@
 -- Matching event by event.
-use Rattle.std.proofs.Common.{◌≡◌, ℕ, zero, suc, ◌+◌, ◌<◌, ◌≤◌, Bool, true, false, ◌&&◌, List, [], ◌∷◌, length, get_or, map, drop, length-drop, add-one, Option, Some, None, MatchOption, refl, sym, ap, ◌∙◌, subst, arith, ⊎_elim}
+use Rattle.std.proofs.Common.{◌≡◌, ℕ, zero, suc, ◌+◌, ◌<◌, ◌≤◌, Bool, true, false, not, ◌&&◌, List, [], ◌∷◌, length, get_or, map, drop, length-drop, add-one, Option, Some, None, MatchOption, refl, sym, ap, ◌∙◌, subst, arith, ⊎_elim}
 use Rattle.std.specs.List.{slice_get, items_where_true}
 use Rattle.std.proofs.lemmas.List.{length-map}
 use Rattle.std.specs.Option.{is_some}
@@ -11,12 +11,12 @@ use Rattle.tk_record_columns.specs.Selections.{PositionedEntry, Selected, passes
 use Rattle.tk_query_conditions.specs.declared.conditions.Condition.{Condition}
 use Rattle.tk_query.specs.Holds.{holds}
 use Rattle.tk_lanes.specs.Flags.{IsNextSet, IsNoneSet}
-use Rattle.tk_query.specs.Asked.{fits, AreLeft, HoldsOfSome}
+use Rattle.tk_query.specs.Asked.{fits, AreLeft, IsFirstFit}
 use Rattle.tk_query.specs.InOrder.{HasNoFit, IsNextFit}
 use Rattle.tk_query.specs.Rules.{HoldsWithin}
 use Rattle.tk_record_columns.specs.declared.selections.ColumnTest.{ColumnTest}
 use Rattle.tk_query.specs.Matches.{HoldsAt, IsFirstUnlike, IsFirstNowhere, HoldsSomewhere}
-use Rattle.tk_query.proofs.AskedLemmas.{AreFlags, asked_set, fits_clear, fits_set, map_get}
+use Rattle.tk_query.proofs.AskedLemmas.{AreFlags, asked_set, fits_clear, fits_set, map_get, next_is, none_first, none_left}
 use Rattle.tk_query.proofs.MaskLemmas.{and_true}
 
 pub get_some : {A : Type 0} (xs : List A) (k : ℕ) (d : A) → k < length xs → slice_get xs k ≡ Some (get_or xs k d)
@@ -37,16 +37,16 @@ entries_kept (true ∷ flags) (e ∷ es) n = ap (λ l. e ∷ l) (entries_kept fl
 entries_kept (false ∷ flags) (e ∷ es) n = entries_kept flags es (n + 1)
 
 -- the elements at the flags that are set from a place on
-abbrev kept_from : {A : Type 0} → ℕ → List Bool → List A → List A
+abbrev pub kept_from : {A : Type 0} → ℕ → List Bool → List A → List A
 kept_from low flags xs = items_where_true (drop low flags) (drop low xs)
 
 -- the first of them stands at the next set flag
-record IsNextKept {A : Type 0} (low at : ℕ) (flags : List Bool) (xs : List A) : Type 0 where
-  item : A
-  item_is : slice_get xs at ≡ Some item
-  kept : kept_from low flags xs ≡ item ∷ kept_from (suc at) flags xs
+pub record IsNextKept {A : Type 0} (low at : ℕ) (flags : List Bool) (xs : List A) : Type 0 where
+  pub item : A
+  pub item_is : slice_get xs at ≡ Some item
+  pub kept : kept_from low flags xs ≡ item ∷ kept_from (suc at) flags xs
 
-next_kept : {A : Type 0} (flags : List Bool) (xs : List A) (low at : ℕ) → length flags ≡ length xs → IsNextSet low flags at → IsNextKept low at flags xs
+pub next_kept : {A : Type 0} (flags : List Bool) (xs : List A) (low at : ℕ) → length flags ≡ length xs → IsNextSet low flags at → IsNextKept low at flags xs
 next_kept [] xs low at same next = absurd (true≢false (sym next.set))
 next_kept (f ∷ flags) [] low at same next = absurd (omega arith)
 next_kept (f ∷ flags) (x ∷ xs) zero zero same next = record { item = x; item_is = refl; kept = ap (λ b. items_where_true (b ∷ flags) (x ∷ xs)) next.set }
@@ -59,7 +59,7 @@ next_kept (f ∷ flags) (x ∷ xs) (suc low) (suc at) same next =
     let later = next_kept flags xs low at (omega arith) (record { from = omega arith; set = next.set; least = λ i le lt. next.least (suc i) (omega arith) (omega arith) }) in
     record { item = later.item; item_is = later.item_is; kept = later.kept }
 
-none_kept : {A : Type 0} (flags : List Bool) (xs : List A) (low : ℕ) → length flags ≡ length xs → IsNoneSet low flags → kept_from low flags xs ≡ []
+pub none_kept : {A : Type 0} (flags : List Bool) (xs : List A) (low : ℕ) → length flags ≡ length xs → IsNoneSet low flags → kept_from low flags xs ≡ []
 none_kept [] xs zero same none = refl
 none_kept [] xs (suc low) same none = refl
 none_kept (f ∷ flags) [] low same none = absurd (omega arith)
@@ -139,18 +139,20 @@ module _ (asked : Selected) (flags : List Bool) (size : length flags ≡ length 
       pub matched_no : b ≡ false → IsFirstUnlike asked.recorded cs (events_of asked) k
       matched_no e = record { condition = c; event = following.item; condition_is = condition_here; event_is = event_here; fails = tested_here ∙ e; before = matched.before }
 
-pub loose_more : (asked : Selected) (cs : List Condition) (k : ℕ) (c : Condition) (b : Bool) → ((j : ℕ) → j < k → HoldsSomewhere asked cs j) → k < length cs → c ≡ get_or cs k c → HoldsOfSome asked c b → b ≡ true → (j : ℕ) → j < k + 1 → HoldsSomewhere asked cs j
-loose_more asked cs k c b below within is h e =
-    let fit = subst (HoldsOfSome asked c) e h in
-    below_more (HoldsSomewhere asked cs) k below (c, fit.0, get_some cs k c within ∙ ap (λ x. Some x) (sym is), fit.1)
+pub loose_more : (asked : Selected) (cs : List Condition) (k : ℕ) (c : Condition) (o : Option ℕ) (b : Bool) → ((j : ℕ) → j < k → HoldsSomewhere asked cs j) → k < length cs → c ≡ get_or cs k c → IsFirstFit asked c o → is_some o ≡ not b → b ≡ false
+    → (j : ℕ) → j < k + 1 → HoldsSomewhere asked cs j
+loose_more asked cs k c None b below within is h none e = absurd (true≢false (sym (none ∙ ap not e)))
+loose_more asked cs k c (Some p) b below within is h none e =
+    below_more (HoldsSomewhere asked cs) k below (c, p, get_some cs k c within ∙ ap (λ x. Some x) (sym is), h.fit)
 
-pub loose_no : (asked : Selected) (cs : List Condition) (k : ℕ) (c : Condition) (b : Bool) → ((j : ℕ) → j < k → HoldsSomewhere asked cs j) → k < length cs → c ≡ get_or cs k c → HoldsOfSome asked c b → b ≡ false → IsFirstNowhere asked cs k
-loose_no asked cs k c b below within is h e = record {
+pub loose_no : (asked : Selected) (cs : List Condition) (k : ℕ) (c : Condition) (o : Option ℕ) (b : Bool) → ((j : ℕ) → j < k → HoldsSomewhere asked cs j) → k < length cs → c ≡ get_or cs k c → IsFirstFit asked c o → is_some o ≡ not b → b ≡ true → IsFirstNowhere asked cs k
+loose_no asked cs k c None b below within is h none e = record {
   condition = c;
   condition_is = get_some cs k c within ∙ ap (λ x. Some x) (sym is);
-  nowhere = subst (HoldsOfSome asked c) e h;
+  nowhere = λ position. h position (omega arith);
   before = below;
 }
+loose_no asked cs k c (Some p) b below within is h none e = absurd (true≢false (none ∙ ap not e))
 
 pub and_false : (a : Bool) → false ≡ (a && false)
 and_false true = refl
@@ -193,9 +195,12 @@ module _ (asked : Selected) (flags : List Bool) (are : AreFlags asked flags) (r 
       [ true ↦ λ set. set_fits k set | false ↦ λ clear. clear_fits k (get_or flags k false) refl clear ]
       refl
 
-  pub mask_tells : (o : Option ℕ) (b : Bool) → MatchOption o (IsNoneSet 0 both) (IsNextSet 0 both) → b ≡ is_some o → HoldsOfSome asked c b
-  mask_tells None b none is = subst (HoldsOfSome asked c) (sym is) (λ k. clear_fits k (get_or flags k false) refl (none.none k (omega arith)))
-  mask_tells (Some at) b next is = subst (HoldsOfSome asked c) (sym is) (at, set_fits at next.set)
+  mask_only : (k : ℕ) → get_or both k false ≡ false → fits asked c k ≡ false
+  mask_only k clear = clear_fits k (get_or flags k false) refl clear
+
+  pub mask_tells : (o : Option ℕ) → MatchOption o (IsNoneSet 0 both) (IsNextSet 0 both) → IsFirstFit asked c o
+  mask_tells None none = none_left asked c both mask_only 0 0 (none_first asked c 0) none
+  mask_tells (Some at) next = next_is asked c both mask_only 0 0 at (none_first asked c 0) next (set_fits at next.set)
 
 -- the candidates that pass a test of a column, and of them those of the events asked
 module _ (asked : Selected) (flags : List Bool) (are : AreFlags asked flags) (r : Recorded) (same : r ≡ asked.recorded) (c : Condition) (column_test : ColumnTest) (within : HoldsWithin column_test r c) (candidates both : List Bool)
@@ -223,8 +228,3 @@ module _ (asked : Selected) (flags : List Bool) (are : AreFlags asked flags) (r 
 -- all events asked are left where no test narrows them
 pub all_left : (asked : Selected) (flags : List Bool) → AreFlags asked flags → (c : Condition) → AreLeft asked c flags
 all_left asked flags are c = record { there = asked_set asked flags are; others = fits_clear asked flags are c }
-
--- what the first fit tells of some event
-pub fit_tells : (asked : Selected) (c : Condition) (o : Option ℕ) (b : Bool) → MatchOption o (HasNoFit (fits asked) c 0) (IsNextFit (fits asked) c 0) → b ≡ is_some o → HoldsOfSome asked c b
-fit_tells asked c None b none is = subst (HoldsOfSome asked c) (sym is) (λ k. none k (omega arith))
-fit_tells asked c (Some at) b next is = subst (HoldsOfSome asked c) (sym is) (at, next.fit)

@@ -15,11 +15,13 @@ use Rattle.std.specs.Prelude.{
   Some,
   None,
   slice_get,
+  MatchOption,
 }
 use Rattle.tk_events.specs.declared.events.Entry.{Entry}
 use Rattle.tk_record_columns.specs.Selections.{PositionedEntry, Selected}
 use Rattle.tk_query_conditions.specs.declared.conditions.Condition.{Condition}
 use Rattle.tk_query.specs.Holds.{holds}
+use Rattle.tk_query.specs.InOrder.{HasNoFit, IsNextFit}
 
 -- the event that stands at this position
 abbrev pub event_at : List PositionedEntry → ℕ → Option Entry
@@ -36,10 +38,10 @@ is_there p (Some e) = p e
 abbrev pub fits : Selected → Condition → ℕ → Bool
 fits asked c position = is_there (holds asked.recorded c) (event_at asked.kept position)
 
--- whether the condition holds of one of the events asked
-abbrev pub HoldsOfSome : Selected → Condition → Bool → Type 0
-HoldsOfSome asked c true = (position : ℕ) × (fits asked c position ≡ true)
-HoldsOfSome asked c false = (position : ℕ) → fits asked c position ≡ false
+-- the first position at which an event asked stands of which the condition holds, if there is one
+abbrev pub IsFirstFit : Selected → Condition → Option ℕ → Type 0
+IsFirstFit asked c found =
+    MatchOption found (HasNoFit (fits asked) c 0) (IsNextFit (fits asked) c 0)
 
 -- where a flag is set stands an event asked, and the condition holds of none where no flag is set
 pub record AreLeft (asked : Selected) (c : Condition) (flags : List Bool) : Type 0 where

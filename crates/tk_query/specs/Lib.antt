@@ -11,4 +11,5 @@ pub mod Executions
 pub mod Pairing
 pub mod Exclusive
 pub mod Holders
+pub mod AnswerTexts
 pub mod Laws

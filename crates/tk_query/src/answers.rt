@@ -1,4 +1,10 @@
 //! What the matchers answer.
+ghost use Rattle.std.specs.Prelude.{◌≡◌, Some, ◌≤◌, length};
+ghost use Rattle.std.specs.Fmt.{WritesOnOk};
+ghost use Rattle.std.specs.List.{flat_map};
+ghost use Rattle.tk_query.specs.AnswerTexts.{exact_text, exact_yes, exclusive_text, exclusive_yes, in_order_text, in_order_yes, loose_text, loose_yes, position_text};
+
+use std::fmt;
 
 /// Whether the conditions are those of the events, one for each, in their order.
 #[derive(Clone, Copy, Debug, PartialEq, Eq)]
@@ -11,6 +17,28 @@ pub enum Exact {
     No(usize),
 }
 
+impl Exact {
+    /// Whether the answer is a yes.
+    pub fn is_yes(&self) -> bool
+        ensures { result ≡ exact_yes self.now }
+    {
+        matches!(self, Exact::Yes)
+    }
+}
+
+/// The words of the answer: `yes`, `wrong-count` or `no K`.
+impl fmt::Display for Exact {
+    ghost output = { λ answer. Some (exact_text answer) };
+
+    fn fmt<W: fmt::Write>(&self, f: &mut fmt::Formatter<W>) -> fmt::Result {
+        match self {
+            Exact::Yes => f.write_str("yes"),
+            Exact::WrongCount => f.write_str("wrong-count"),
+            Exact::No(k) => write!(f, "no {k}"),
+        }
+    }
+}
+
 /// Whether each condition holds of some event.
 #[derive(Clone, Copy, Debug, PartialEq, Eq)]
 pub enum Loose {
@@ -18,6 +46,27 @@ pub enum Loose {
     Yes,
     /// The number of the first condition that holds of no event.
     No(usize),
+}
+
+impl Loose {
+    /// Whether the answer is a yes.
+    pub fn is_yes(&self) -> bool
+        ensures { result ≡ loose_yes self.now }
+    {
+        matches!(self, Loose::Yes)
+    }
+}
+
+/// The words of the answer: `yes` or `no K`.
+impl fmt::Display for Loose {
+    ghost output = { λ answer. Some (loose_text answer) };
+
+    fn fmt<W: fmt::Write>(&self, f: &mut fmt::Formatter<W>) -> fmt::Result {
+        match self {
+            Loose::Yes => f.write_str("yes"),
+            Loose::No(k) => write!(f, "no {k}"),
+        }
+    }
 }
 
 /// Whether conditions hold in turn, each at a later event than the one before it, and where.
@@ -29,6 +78,41 @@ pub enum InOrder {
     No(usize),
 }
 
+// Writes each position after a blank.
+fn write_positions<W: fmt::Write>(positions: &[usize], f: &mut fmt::Formatter<W>) -> fmt::Result
+    ensures { WritesOnOk W.write_str_gives f.old result
+        (flat_map position_text positions.now) f.new }
+{
+    for position in positions {
+        write!(f, " {position}")?;
+    }
+    Ok(())
+}
+
+impl InOrder {
+    /// Whether the answer is a yes.
+    pub fn is_yes(&self) -> bool
+        ensures { result ≡ in_order_yes self.now }
+    {
+        matches!(self, InOrder::Yes(_))
+    }
+}
+
+/// The words of the answer: `yes`, a blank and each position; or `no K`.
+impl fmt::Display for InOrder {
+    ghost output = { λ answer. Some (in_order_text answer) };
+
+    fn fmt<W: fmt::Write>(&self, f: &mut fmt::Formatter<W>) -> fmt::Result {
+        match self {
+            InOrder::Yes(positions) => {
+                f.write_str("yes")?;
+                write_positions(positions.as_slice(), f)
+            }
+            InOrder::No(k) => write!(f, "no {k}"),
+        }
+    }
+}
+
 /// Whether executions that conflict kept away from each other.
 #[derive(Clone, Copy, Debug, PartialEq, Eq)]
 pub enum Exclusive {
@@ -37,4 +121,25 @@ pub enum Exclusive {
     /// The positions of the starts of two executions that conflict and overlap: the least second
     /// one, and the least first one for it.
     No(usize, usize),
+}
+
+impl Exclusive {
+    /// Whether the answer is a yes.
+    pub fn is_yes(&self) -> bool
+        ensures { result ≡ exclusive_yes self.now }
+    {
+        matches!(self, Exclusive::Yes)
+    }
+}
+
+/// The words of the answer: `yes` or `no P Q`.
+impl fmt::Display for Exclusive {
+    ghost output = { λ answer. Some (exclusive_text answer) };
+
+    fn fmt<W: fmt::Write>(&self, f: &mut fmt::Formatter<W>) -> fmt::Result {
+        match self {
+            Exclusive::Yes => f.write_str("yes"),
+            Exclusive::No(first, second) => write!(f, "no {first} {second}"),
+        }
+    }
 }

@@ -1,8 +1,10 @@
 //! Executions, and how they ended.
-ghost use Rattle.std.specs.Prelude.{◌≡◌, ◌==◌, length, filter, slice_get, IfOk};
+ghost use Rattle.std.specs.Prelude.{◌≡◌, ◌==◌, ◌≤◌, length, filter, slice_get, IfOk};
 ghost use Rattle.std.specs.Slice.Iter.{iter_rest};
 ghost use Rattle.tk_query.specs.declared.execution.Ending.TheVariants.{Skipped, Aborted, Successful, Failed};
+ghost use Rattle.tk_query.specs.AnswerTexts.{ending_name};
 ghost use Rattle.tk_query.specs.Executions.{has_ending, has_started};
+ghost use Rattle.tk_query.specs.declared.execution.TheConstants.{ENDING_NAME};
 
 use std::alloc::{AllocError, Global};
 use std::marker::Model;
@@ -19,6 +21,24 @@ pub enum Ending {
     Successful,
     /// It finished as failed.
     Failed,
+}
+
+/// How many bytes the name of an ending has at most.
+pub const ENDING_NAME: usize = 9;
+
+impl Ending {
+    /// The word of the ending, as the program shows it.
+    pub fn name(self) -> &'static str
+        ensures name { result.now ≡ ending_name self }
+        ensures length { length result.now ≤ ENDING_NAME }
+    {
+        match self {
+            Ending::Skipped => "skipped",
+            Ending::Aborted => "aborted",
+            Ending::Successful => "succeeded",
+            Ending::Failed => "failed",
+        }
+    }
 }
 
 /// A start and a finish of one key that belong together, or a skip. JUnit: `Execution`.

@@ -217,7 +217,7 @@ fn any_holds(record: &Record, members: &[Condition], event: &EntryView) -> bool
 }
 
 /// Whether a condition holds of the entry at a position. Past the last one it holds of none.
-pub(crate) fn holds_at(record: &Record, condition: &Condition, position: usize) -> bool
+pub fn holds_at(record: &Record, condition: &Condition, position: usize) -> bool
     ensures { MatchOption (slice_get «record».now.entries position) (result ≡ false) (λ e.
         result ≡ holds «record».now condition.now e) }
 {

@@ -15,10 +15,10 @@ mod rules;
 
 pub use answers::{Exact, Exclusive, InOrder, Loose};
 pub use exclusion::exclusive;
-pub use execution::{Ending, Execution, Executions};
-pub use judging::holds;
+pub use execution::{ENDING_NAME, Ending, Execution, Executions};
+pub use judging::{holds, holds_at};
 pub use masks::select;
-pub use matching::{find, match_exactly, match_in_order, match_loosely};
+pub use matching::{find, first_fit, match_exactly, match_in_order, match_loosely};
 pub use pairing::{ExecutionIter, executions};
 pub use tk_query_conditions::{CondFault, Condition, MAX_DEPTH, read_condition, write_condition};
 pub use tk_query_lifecycle::{Lifecycle, LifecycleRule, lifecycle};

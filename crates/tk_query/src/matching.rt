@@ -1,6 +1,6 @@
 //! Matching events with conditions.
 ghost use Rattle.std.specs.Prelude.{◌<◌, ◌^◌, IfOk, IsOk, OnOk, IfSome, MatchOption};
-ghost use Rattle.tk_query.specs.Asked.{AreLeft, fits, HoldsOfSome};
+ghost use Rattle.tk_query.specs.Asked.{AreLeft, fits, IsFirstFit};
 ghost use Rattle.tk_query.specs.InOrder.{IsNextFit, HasNoFit};
 ghost use Rattle.tk_query.specs.Matches.{IsExact, IsLoose, IsInOrder};
 
@@ -76,17 +76,17 @@ pub fn match_exactly(
 /// holds early is found sooner so.
 const TRIED_FIRST: usize = 1_000;
 
-/// Whether the condition holds of some event, where the first events show it.
-fn try_first(events: &Events, condition: &Condition) -> Option<bool>
-    ensures { IfSome result (HoldsOfSome events.now condition.now) }
+/// The first position at which the condition holds, where the first events show whether it does.
+fn try_first(events: &Events, condition: &Condition) -> Option<Option<usize>>
+    ensures { IfSome result (IsFirstFit events.now condition.now) }
 {
     let mut low = 0;
     for _ in 0..TRIED_FIRST {
         let Some(position) = events.flags().first_from(low) else {
-            return Some(false);
+            return Some(None);
         };
         if holds_at(events.record(), condition, position) {
-            return Some(true);
+            return Some(Some(position));
         }
         low = position + 1;
     }
@@ -96,14 +96,14 @@ fn try_first(events: &Events, condition: &Condition) -> Option<bool>
 /// How many candidates are asked one by one.
 const MAX_CANDIDATES: usize = 10_000;
 
-/// Whether the condition holds of some event, where it implies a test of a column that few events
-/// pass.
+/// The first position at which the condition holds, where it implies a test of a column that few
+/// events pass.
 fn try_column_test(
     alloc: Global,
     events: &Events,
     condition: &Condition,
-) -> Result<Option<bool>, AllocError>
-    ensures { IfOk result (λ found. IfSome found (HoldsOfSome events.now condition.now)) }
+) -> Result<Option<Option<usize>>, AllocError>
+    ensures { IfOk result (λ found. IfSome found (IsFirstFit events.now condition.now)) }
 {
     let Some(column_test) = column_test_of(condition) else {
         return Ok(None);
@@ -115,31 +115,42 @@ fn try_column_test(
     if MAX_CANDIDATES < candidates.count() {
         return Ok(None);
     }
-    Ok(Some(next_fit(events, &candidates, condition, 0).is_some()))
+    Ok(Some(next_fit(events, &candidates, condition, 0)))
 }
 
-/// Whether the condition holds of some event, by its mask.
-fn holds_by_mask(alloc: Global, events: &Events, condition: &Condition) -> Result<bool, AllocError>
-    ensures { IfOk result (HoldsOfSome events.now condition.now) }
+/// The first position at which the condition holds, by its mask.
+fn first_by_mask(
+    alloc: Global,
+    events: &Events,
+    condition: &Condition,
+) -> Result<Option<usize>, AllocError>
+    ensures { IfOk result (IsFirstFit events.now condition.now) }
 {
     let record = events.record();
     prove!(events.flags().len() == record.len());
     let mut flags = mask(alloc, record, condition)?;
     flags.and(events.flags());
-    Ok(flags.first_from(0).is_some())
+    Ok(flags.first_from(0))
 }
 
-/// Whether the condition holds of some event.
-fn holds_of_some(alloc: Global, events: &Events, condition: &Condition) -> Result<bool, AllocError>
-    ensures { IfOk result (HoldsOfSome events.now condition.now) }
+/// Finds the position of the first event of which the condition holds.
+///
+/// # Errors
+/// `AllocError` where a request for memory is refused.
+pub fn first_fit(
+    alloc: Global,
+    events: &Events,
+    condition: &Condition,
+) -> Result<Option<usize>, AllocError>
+    ensures { IfOk result (IsFirstFit events.now condition.now) }
 {
-    if let Some(answer) = try_first(events, condition) {
-        return Ok(answer);
+    if let Some(found) = try_first(events, condition) {
+        return Ok(found);
     }
-    if let Some(answer) = try_column_test(alloc, events, condition)? {
-        return Ok(answer);
+    if let Some(found) = try_column_test(alloc, events, condition)? {
+        return Ok(found);
     }
-    holds_by_mask(alloc, events, condition)
+    first_by_mask(alloc, events, condition)
 }
 
 /// Whether each condition holds of some event, maybe the same. JUnit: `assertEventsMatchLoosely`.
@@ -154,7 +165,7 @@ pub fn match_loosely(
     ensures { IfOk result (λ answer. IsLoose events.now conditions.now answer) }
 {
     for (k, condition) in conditions.iter().enumerate() {
-        if !holds_of_some(alloc, events, condition)? {
+        if first_fit(alloc, events, condition)?.is_none() {
             return Ok(Loose::No(k));
         }
     }

@@ -4,10 +4,10 @@ use Rattle.tk_query.proofs.matching.match_loosely.Goals as goal
 
 pub loop-k-preserved : goal.loop-k-preserved
 loop-k-preserved c =
-    loose_more c.args.events.now c.args.conditions.now c.loop-k.k c.index-conditions-k.result c.in_ok-holds_of_some.field-0 c.loop-k.invariant (omega arith) c.index-conditions-k.is
-    c.in_ok-holds_of_some.ensures c.if-not-branch.false
+    loose_more c.args.events.now c.args.conditions.now c.loop-k.k c.index-conditions-k.result c.in_ok-first_fit.field-0 c.is_none.result c.loop-k.invariant (omega arith) c.index-conditions-k.is
+    c.in_ok-first_fit.ensures c.is_none.ensures c.if-is_none.false
 
-pub returns-then-not-branch : goal.returns-then-not-branch
-returns-then-not-branch c =
-    loose_no c.args.events.now c.args.conditions.now c.loop-k.k c.index-conditions-k.result c.in_ok-holds_of_some.field-0 c.loop-k.invariant (omega arith) c.index-conditions-k.is
-    c.in_ok-holds_of_some.ensures c.if-not-branch.true
+pub returns-then-is_none : goal.returns-then-is_none
+returns-then-is_none c =
+    loose_no c.args.events.now c.args.conditions.now c.loop-k.k c.index-conditions-k.result c.in_ok-first_fit.field-0 c.is_none.result c.loop-k.invariant (omega arith) c.index-conditions-k.is
+    c.in_ok-first_fit.ensures c.is_none.ensures c.if-is_none.true

@@ -1,5 +1,5 @@
 use Rattle.tk_query.proofs.AskedLemmas.{AreFlags}
-use Rattle.tk_query.proofs.MatchLemmas.{are_left, fit_tells}
+use Rattle.tk_query.proofs.MatchLemmas.{are_left}
 use Rattle.tk_query.proofs.matching.try_column_test.Goals as goal
 
 pub next_fit-requires : goal.next_fit-requires
@@ -11,4 +11,4 @@ next_fit-requires c =
     are_left asked flags are r c.record-record.ensures c.args.condition.now c.in-Some.column_test (c.in-Some.ensures r) c.in_ok-candidates.candidates c.and.new.self c.in_ok-candidates.ensures c.and.ensures
 
 pub returns : goal.returns
-returns c = fit_tells c.args.events.now c.args.condition.now c.next_fit.result c.is_some.result c.next_fit.ensures.fit c.is_some.ensures
+returns c = c.next_fit.ensures.fit

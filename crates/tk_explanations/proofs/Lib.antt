@@ -1,0 +1,3 @@
+mod Explaining
+mod Spans
+mod PieceRows

@@ -1,0 +1,41 @@
+-- Bytes that are added one after another.
+use Rattle.std.proofs.Common.{◌≡◌, ◌+◌, ◌<◌, ℕ, zero, suc, true, false, List, [], ◌∷◌, ◌++◌, length, get_or, take, refl, sym, ap, ◌∙◌, arith}
+use Rattle.std.specs.Prelude.{slice_get, Option, Some, None}
+use Rattle.std.proofs.lemmas.Bool.{true≢false}
+use Rattle.std.proofs.lemmas.List.{flat_map_more}
+use Rattle.tk_streams.specs.Pieces.{Adds, Outgoing}
+use Rattle.tk_streams.proofs.PieceLemmas.{adds_as, adds_both, adds_none}
+use Rattle.tk_record_columns.specs.Recorded.{Recorded}
+use Rattle.tk_record.proofs.WritingLemmas.{taken_item}
+use Rattle.tk_events.specs.declared.events.Entry.{Entry}
+use Rattle.tk_explanations.specs.Rows.{event_row, row_line, row_text, rows_text}
+use Rattle.tk_explanations.specs.declared.rows.Note.{Note}
+use Rattle.tk_explanations.specs.declared.rows.Row.{Row}
+
+pub adds_three : (a b c d : Outgoing) (xs ys zs : List ℕ) → Adds a b xs → Adds b c ys → Adds c d zs → Adds a d (xs ++ ys ++ zs)
+adds_three a b c d xs ys zs p q r = adds_both a c d (xs ++ ys) zs (adds_both a b c xs ys p q) r
+
+pub adds_four : (a b c d e : Outgoing) (ws xs ys zs : List ℕ) → Adds a b ws → Adds b c xs → Adds c d ys → Adds d e zs → Adds a e (ws ++ xs ++ ys ++ zs)
+adds_four a b c d e ws xs ys zs p q r s = adds_both a d e (ws ++ xs ++ ys) zs (adds_three a b c d ws xs ys p q r) s
+
+pub adds_five : (a b c d e f : Outgoing) (vs ws xs ys zs : List ℕ) → Adds a b vs → Adds b c ws → Adds c d xs → Adds d e ys → Adds e f zs → Adds a f (vs ++ ws ++ xs ++ ys ++ zs)
+adds_five a b c d e f vs ws xs ys zs p q r s t = adds_both a e f (vs ++ ws ++ xs ++ ys) zs (adds_four a b c d e vs ws xs ys p q r s) t
+
+pub adds_six : (a b c d e f g : Outgoing) (us vs ws xs ys zs : List ℕ) → Adds a b us → Adds b c vs → Adds c d ws → Adds d e xs → Adds e f ys → Adds f g zs → Adds a g (us ++ vs ++ ws ++ xs ++ ys ++ zs)
+adds_six a b c d e f g us vs ws xs ys zs p q r s t u = adds_both a f g (us ++ vs ++ ws ++ xs ++ ys) zs (adds_five a b c d e f us vs ws xs ys p q r s t) u
+
+-- one row more
+pub row_added : (a b c d : Outgoing) (r : Recorded) (rows : List Row) (i : ℕ) (row : Row) → i < length rows → row ≡ get_or rows i row → Adds a b (rows_text r (take i rows)) → Adds b c (row_text r row) → Adds c d (10 ∷ []) → Adds a d (rows_text r (take (i + 1) rows))
+row_added a b c d r rows i row lt is before here feed =
+    adds_as a d _ _ (flat_map_more (row_line r) [] (take i rows) row ∙ ap (rows_text r) (sym (taken_item rows i row lt is)))
+    (adds_both a b d _ _ before (adds_both b c d (row_text r row) (10 ∷ []) here feed))
+
+-- past the end there is none
+get_past : {X : Type 0} (xs : List X) (k : ℕ) → (k < length xs → false ≡ true) → slice_get xs k ≡ None
+get_past [] k h = refl
+get_past (x ∷ xs) zero h = absurd (true≢false (sym (h (omega arith))))
+get_past (x ∷ xs) (suc k) h = get_past xs k (λ lt. h (omega arith))
+
+-- no event stands past the end, so that nothing is added
+pub none_added : (a : Outgoing) (r : Recorded) (position : ℕ) (note : Note) → (position < length r.entries → false ≡ true) → Adds a a (event_row r position (slice_get r.entries position) note)
+none_added a r position note past = adds_as a a _ _ (ap (λ (o : Option Entry). event_row r position o note) (sym (get_past r.entries position past))) (adds_none a)

@@ -1,0 +1,96 @@
+-- The rows of explanations, as text.
+use Rattle.std.specs.Prelude.{
+  ◌≡◌,
+  ℕ,
+  Bool,
+  List,
+  [],
+  ◌∷◌,
+  ◌++◌,
+  codes,
+  Option,
+  Some,
+  None,
+  slice_get,
+}
+use Rattle.std.specs.List.{flat_map}
+use Rattle.std.specs.Fmt.{decimal}
+use Rattle.tk_ids.specs.IdText.{id_text}
+use Rattle.tk_ids.specs.declared.descriptors.Descriptor.{Descriptor}
+use Rattle.tk_events.specs.declared.events.Entry.{Entry}
+use Rattle.tk_events.specs.Fields.{field_text, line_feed}
+use Rattle.tk_record_columns.specs.Entries.{desc}
+use Rattle.tk_record_columns.specs.Recorded.{Recorded}
+use Rattle.tk_record.specs.Spelling.{entry_line}
+use Rattle.tk_query.specs.AnswerTexts.{blank}
+use Rattle.tk_query.specs.declared.execution.Execution.{Execution}
+use Rattle.tk_explanations.specs.declared.rows.Note.{Note}
+use Rattle.tk_explanations.specs.declared.rows.Note.TheVariants.{Nothing, Lacks, NotAfter}
+use Rattle.tk_explanations.specs.declared.rows.Row.{Row}
+use Rattle.tk_explanations.specs.declared.rows.Row.TheVariants.{
+  Line,
+  Condition,
+  Event,
+  NoneLeft,
+  Counts,
+  Overlap,
+}
+
+-- `"`
+abbrev pub quotation_mark : ℕ
+quotation_mark = 34
+
+-- the id of a descriptor, as a field of a record's text
+abbrev pub id_field : Option Descriptor → List ℕ
+id_field None = []
+id_field (Some d) = field_text (id_text d.id)
+
+-- the id of a descriptor, a blank, and the display name in double quotes
+abbrev pub descriptor_text : Option Descriptor → List ℕ
+descriptor_text None = []
+descriptor_text (Some d) =
+    field_text (id_text d.id) ++ (blank ∷ quotation_mark ∷ []) ++ field_text d.name
+    ++ (quotation_mark ∷ [])
+
+-- the line of an event in a record's text, three blanks, and its descriptor
+abbrev pub event_text : Recorded → Entry → List ℕ
+event_text r e = entry_line e ++ codes "   " ++ descriptor_text (desc r e.event.key)
+
+-- what is said of an event: the members that don't hold of it, or the event that it isn't after
+abbrev pub note_text : Note → List ℕ
+note_text Nothing = []
+note_text (Lacks members) = codes "   does not hold: " ++ members
+note_text (NotAfter q) = codes "   holds, but is not after " ++ decimal q
+
+-- four blanks, the position of the entry and its text, and what is said of it
+abbrev pub event_row : Recorded → ℕ → Option Entry → Note → List ℕ
+event_row r position None note = []
+event_row r position (Some e) note =
+    codes "    " ++ decimal position ++ codes ": " ++ event_text r e ++ note_text note
+
+-- the descriptor of an execution, and its first and its last position
+abbrev pub span_text : Recorded → Execution → List ℕ
+span_text r x =
+    descriptor_text (desc r x.key) ++ codes " (" ++ decimal x.first ++ codes " to "
+    ++ decimal x.last ++ codes ")"
+
+abbrev pub row_text : Recorded → Row → List ℕ
+row_text r (Line text) = text
+row_text r (Condition k text) = decimal k ++ blank ∷ text
+row_text r (Event position note) = event_row r position (slice_get r.entries position) note
+row_text r NoneLeft = codes "    no event is left"
+row_text r (Counts n m) = decimal n ++ codes " conditions, " ++ decimal m ++ codes " events"
+row_text r (Overlap x y) = span_text r x ++ codes " and " ++ span_text r y ++ codes " overlap"
+
+-- a row as a line
+abbrev pub row_line : Recorded → Row → List ℕ
+row_line r row = row_text r row ++ line_feed ∷ []
+
+-- rows as lines
+abbrev pub rows_text : Recorded → List Row → List ℕ
+rows_text r rows = flat_map (row_line r) rows
+
+-- rows that explain an answer, which is a yes or not, as text
+abbrev pub AsText : (Bool → List Row → Type 0) → Recorded → Bool → List ℕ → Type 0
+AsText Explains r is_yes text =
+    (rows : List Row) × Explains is_yes rows × (text ≡ rows_text r rows)

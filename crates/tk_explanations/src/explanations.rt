@@ -1,0 +1,188 @@
+//! Explanations as rows, written in pieces.
+ghost use Rattle.std.specs.Prelude.{◌≡◌, ◌++◌, ◌∷◌, Some, true, codes, slice_get, IsErrOf, OnErr, OnOk};
+ghost use Rattle.std.specs.Fmt.{decimal};
+ghost use Rattle.tk_query.specs.AnswerTexts.{blank};
+ghost use Rattle.std.specs.Io.KnownBytes.{Appends};
+ghost use Rattle.tk_streams.specs.Pieces.{Adds, outgoing};
+ghost use Rattle.tk_streams.specs.Stream.{AppendsPrefix};
+ghost use Rattle.tk_record_columns.specs.Record.{entry_of_view};
+ghost use Rattle.tk_explanations.specs.Explained.{IsWritten};
+ghost use Rattle.tk_explanations.specs.Rows.{event_row, note_text, row_line, row_text, rows_text, span_text};
+
+use crate::faults::ExplainFault;
+use crate::pieces::{put_descriptor_of, put_event_text, put_number};
+use crate::rows::{Note, Row};
+use tk_query::Execution;
+use tk_record::{EntryView, Record, Target};
+use tk_streams::{Broken, Piece};
+
+fn put_note<T: Target>(piece: &mut Piece, target: &mut T, note: &Note)
+    ensures { Adds (outgoing (T.contents target.old) (T.broken target.old) piece.old)
+        (outgoing (T.contents target.new) (T.broken target.new) piece.new)
+        (note_text note.now) }
+{
+    match note {
+        Note::Nothing => {}
+        Note::Lacks(members) => {
+            piece.put(target, b"   does not hold: ");
+            piece.put(target, members.as_str().as_bytes());
+        }
+        Note::NotAfter(position) => {
+            piece.put(target, b"   holds, but is not after ");
+            put_number(piece, target, *position as u64);
+        }
+    }
+}
+
+// Adds the row of an event.
+fn put_view_row<T: Target>(
+    piece: &mut Piece,
+    target: &mut T,
+    record: &Record,
+    position: usize,
+    view: &EntryView<'_>,
+    note: &Note,
+)
+    ensures { Adds (outgoing (T.contents target.old) (T.broken target.old) piece.old)
+        (outgoing (T.contents target.new) (T.broken target.new) piece.new)
+        (event_row «record».now position (Some (entry_of_view view.now)) note.now) }
+{
+    piece.put(target, b"    ");
+    put_number(piece, target, position as u64);
+    piece.put(target, b": ");
+    put_event_text(piece, target, record, view);
+    put_note(piece, target, note);
+}
+
+// Adds the row of the event at a position, where the record has one there.
+fn put_event_row<T: Target>(
+    piece: &mut Piece,
+    target: &mut T,
+    record: &Record,
+    position: usize,
+    note: &Note,
+)
+    ensures { Adds (outgoing (T.contents target.old) (T.broken target.old) piece.old)
+        (outgoing (T.contents target.new) (T.broken target.new) piece.new)
+        (event_row «record».now position (slice_get «record».now.entries position) note.now) }
+{
+    if let Some(view) = record.entry(position) {
+        put_view_row(piece, target, record, position, &view, note);
+    }
+}
+
+fn put_condition<T: Target>(piece: &mut Piece, target: &mut T, number: usize, text: &str)
+    ensures { Adds (outgoing (T.contents target.old) (T.broken target.old) piece.old)
+        (outgoing (T.contents target.new) (T.broken target.new) piece.new)
+        (decimal number ++ blank ∷ text.now) }
+{
+    put_number(piece, target, number as u64);
+    piece.put_byte(target, b' ');
+    piece.put(target, text.as_bytes());
+}
+
+fn put_counts<T: Target>(piece: &mut Piece, target: &mut T, conditions: usize, events: usize)
+    ensures { Adds (outgoing (T.contents target.old) (T.broken target.old) piece.old)
+        (outgoing (T.contents target.new) (T.broken target.new) piece.new)
+        (decimal conditions ++ codes " conditions, " ++ decimal events ++ codes " events") }
+{
+    put_number(piece, target, conditions as u64);
+    piece.put(target, b" conditions, ");
+    put_number(piece, target, events as u64);
+    piece.put(target, b" events");
+}
+
+// Adds the descriptor of an execution, and its first and its last position.
+fn put_span<T: Target>(piece: &mut Piece, target: &mut T, record: &Record, execution: Execution)
+    ensures { Adds (outgoing (T.contents target.old) (T.broken target.old) piece.old)
+        (outgoing (T.contents target.new) (T.broken target.new) piece.new)
+        (span_text «record».now execution) }
+{
+    put_descriptor_of(piece, target, record, execution.key);
+    piece.put(target, b" (");
+    put_number(piece, target, execution.first as u64);
+    piece.put(target, b" to ");
+    put_number(piece, target, execution.last as u64);
+    piece.put(target, b")");
+}
+
+fn put_overlap<T: Target>(
+    piece: &mut Piece,
+    target: &mut T,
+    record: &Record,
+    first: Execution,
+    second: Execution,
+)
+    ensures { Adds (outgoing (T.contents target.old) (T.broken target.old) piece.old)
+        (outgoing (T.contents target.new) (T.broken target.new) piece.new)
+        (row_text «record».now (Row.Overlap first second)) }
+{
+    put_span(piece, target, record, first);
+    piece.put(target, b" and ");
+    put_span(piece, target, record, second);
+    piece.put(target, b" overlap");
+}
+
+fn put_row<T: Target>(piece: &mut Piece, target: &mut T, record: &Record, row: &Row)
+    ensures { Adds (outgoing (T.contents target.old) (T.broken target.old) piece.old)
+        (outgoing (T.contents target.new) (T.broken target.new) piece.new)
+        (row_text «record».now row.now) }
+{
+    match row {
+        Row::Line(text) => piece.put(target, text.as_str().as_bytes()),
+        Row::Condition(number, text) => put_condition(piece, target, *number, text.as_str()),
+        Row::Event(position, note) => put_event_row(piece, target, record, *position, note),
+        Row::NoneLeft => piece.put(target, b"    no event is left"),
+        Row::Counts(conditions, events) => put_counts(piece, target, *conditions, *events),
+        Row::Overlap(first, second) => put_overlap(piece, target, record, *first, *second),
+    }
+}
+
+fn put_rows<T: Target>(piece: &mut Piece, target: &mut T, record: &Record, rows: &[Row])
+    ensures { Adds (outgoing (T.contents target.old) (T.broken target.old) piece.old)
+        (outgoing (T.contents target.new) (T.broken target.new) piece.new)
+        (rows_text «record».now rows.now) }
+{
+    'rows: for row in rows {
+        put_row(piece, target, record, row);
+        piece.put_byte(target, b'\n');
+    }
+}
+
+fn write_rows<T: Target>(rows: &[Row], record: &Record, target: &mut T) -> Result<(), Broken>
+    ensures ok { OnOk result (Appends (T.contents target.old) (T.contents target.new)
+        (rows_text «record».now rows.now)) }
+    ensures err { OnErr result (AppendsPrefix (T.contents target.old) (T.contents target.new)
+        (rows_text «record».now rows.now)) }
+    ensures broken { OnErr result (T.broken target.new ≡ true) }
+{
+    let mut piece = Piece::new();
+    put_rows(&mut piece, target, record, rows);
+    piece.finish(target)
+}
+
+/// The rows of an explanation, for which no more memory is needed, and whether the answer is a yes.
+#[derive(Drop)]
+pub(crate) struct Explanation {
+    pub(crate) is_yes: bool,
+    pub(crate) rows: Vec<Row>,
+}
+
+impl Explanation {
+    /// Writes the rows, a line each, and gives whether the answer is a yes.
+    ///
+    /// # Errors
+    /// `Device` where the target broke. A prefix of the lines was then written.
+    pub(crate) fn write<T: Target>(
+        self,
+        record: &Record,
+        target: &mut T,
+    ) -> Result<bool, ExplainFault>
+        ensures written { IsWritten self.is_yes (rows_text «record».now self.rows.items)
+            (T.contents target.old) (T.contents target.new) result }
+        ensures device { IsErrOf result ExplainFault.Device → T.broken target.new ≡ true }
+    {
+        write_rows(self.rows.as_slice(), record, target)?;
+        Ok(self.is_yes)
+    }
+}

@@ -1,0 +1,76 @@
+//! The parts of rows, written in pieces.
+ghost use Rattle.std.specs.Fmt.{decimal};
+ghost use Rattle.std.specs.Prelude.{◌≡◌, Some};
+ghost use Rattle.tk_streams.specs.Pieces.{Adds, outgoing};
+ghost use Rattle.tk_record_columns.specs.Entries.{desc};
+ghost use Rattle.tk_record_columns.specs.Record.{entry_of_view};
+ghost use Rattle.tk_explanations.specs.Rows.{descriptor_text, event_text, id_field};
+
+use tk_ids::Descriptor;
+use tk_record::{EntryView, Record, put_event, put_text};
+use tk_streams::{Piece, ShortLine, Target};
+
+/// Adds a number.
+pub(crate) fn put_number<T: Target>(piece: &mut Piece, target: &mut T, number: u64)
+    ensures { Adds (outgoing (T.contents target.old) (T.broken target.old) piece.old)
+        (outgoing (T.contents target.new) (T.broken target.new) piece.new)
+        (decimal number) }
+{
+    let mut digits = ShortLine::new();
+    digits.push_front_number(number);
+    piece.put(target, digits.as_bytes());
+}
+
+/// Adds the id of a key's descriptor.
+pub(crate) fn put_id<T: Target>(piece: &mut Piece, target: &mut T, record: &Record, key: u32)
+    ensures { Adds (outgoing (T.contents target.old) (T.broken target.old) piece.old)
+        (outgoing (T.contents target.new) (T.broken target.new) piece.new)
+        (id_field (desc «record».now key)) }
+{
+    if let Some(descriptor) = record.describe(key) {
+        put_text(piece, target, descriptor.id.as_text().as_str());
+    }
+}
+
+fn put_descriptor<T: Target>(piece: &mut Piece, target: &mut T, descriptor: &Descriptor)
+    ensures { Adds (outgoing (T.contents target.old) (T.broken target.old) piece.old)
+        (outgoing (T.contents target.new) (T.broken target.new) piece.new)
+        (descriptor_text (Some descriptor.now)) }
+{
+    put_text(piece, target, descriptor.id.as_text().as_str());
+    piece.put(target, b" \"");
+    put_text(piece, target, descriptor.name.as_str());
+    piece.put_byte(target, b'"');
+}
+
+/// Adds the id and the display name of a key's descriptor.
+pub(crate) fn put_descriptor_of<T: Target>(
+    piece: &mut Piece,
+    target: &mut T,
+    record: &Record,
+    key: u32,
+)
+    ensures { Adds (outgoing (T.contents target.old) (T.broken target.old) piece.old)
+        (outgoing (T.contents target.new) (T.broken target.new) piece.new)
+        (descriptor_text (desc «record».now key)) }
+{
+    if let Some(descriptor) = record.describe(key) {
+        put_descriptor(piece, target, descriptor);
+    }
+}
+
+/// Adds the line of an event, three blanks and its descriptor.
+pub(crate) fn put_event_text<T: Target>(
+    piece: &mut Piece,
+    target: &mut T,
+    record: &Record,
+    view: &EntryView<'_>,
+)
+    ensures { Adds (outgoing (T.contents target.old) (T.broken target.old) piece.old)
+        (outgoing (T.contents target.new) (T.broken target.new) piece.new)
+        (event_text «record».now (entry_of_view view.now)) }
+{
+    put_event(piece, target, view);
+    piece.put(target, b"   ");
+    put_descriptor_of(piece, target, record, view.key);
+}

@@ -1,0 +1,32 @@
+//! The rows of explanations.
+
+use tk_ids::Text;
+use tk_query::Execution;
+
+/// What is said of an event after its row.
+#[derive(Debug, Drop)]
+pub(crate) enum Note {
+    /// Nothing.
+    Nothing,
+    /// These members of the condition don't hold of it.
+    Lacks(Text),
+    /// The condition holds of it, but it doesn't stand after the event at this position.
+    NotAfter(usize),
+}
+
+/// A line of an explanation, but for its line feed. Positions are those of the record.
+#[derive(Debug, Drop)]
+pub(crate) enum Row {
+    /// This text.
+    Line(Text),
+    /// The condition of this number, as its text.
+    Condition(usize, Text),
+    /// The event at this position, and what is said of it.
+    Event(usize, Note),
+    /// There is no further event.
+    NoneLeft,
+    /// How many conditions there are, and how many events.
+    Counts(usize, usize),
+    /// These executions overlap.
+    Overlap(Execution, Execution),
+}
