@@ -10,7 +10,7 @@ from tree import Tree
 HOMES = {
     "engine": "tk_limits tk_waiting tk_book tk_engine_claim tk_engine_execute tk_engine_events tk_engine_unit_events tk_engine_hierarchical",
     "record": "tk_lanes tk_streams tk_ids tk_events tk_record_columns tk_record",
-    "questions": "tk_query_conditions tk_query_lifecycle tk_query testkit_questions",
+    "questions": "tk_query_conditions tk_query_lifecycle tk_query tk_query_nearest tk_explanations testkit_questions",
     "plans": "tk_plan_units tk_plan_nodes tk_plan_members tk_plan_json tk_plan tk_engine tk_report_text tk_report",
     "queue": "tk_queue_core tk_queue_session tk_queue_replay tk_queue",
 }
@@ -24,10 +24,7 @@ LIMITS = Limits(
         *("crates/example_engine/src/by_hand/broken.rt new", "crates/example_engine/src/case_tests.rt case_engine"),
         "crates/example_engine/src/evens.rt even_numbers",
     ],
-    # (to be laid out when these crates are proved anew)
-    long_lines=[
-        "crates/tk_query/specs/Holders.antt:56",
-    ],
+    long_lines=[],
     fewest_edits=230,
     fewest_tests=161,
 )

@@ -2,12 +2,13 @@
 //! one answers `Memory` are made once more, and then all have to succeed.
 use std::alloc::Global;
 use test_support::{again_if_refused, is_written, read_again, two_tests_report};
+use tk_explanations::{ExplainFault, explain_exclusive};
 use tk_query::{
     Condition, Exclusive, InOrder, exclusive, executions, match_in_order, read_condition, select,
 };
 use tk_record_columns::{Events, Record};
 use tk_report_text::write_report_of;
-use tk_streams::ByteTarget;
+use tk_streams::{ByteTarget, Target};
 
 // Whether the only failure among the events is at position 2.
 fn is_failure_selected(alloc: Global, events: &Events) -> Option<bool> {
@@ -49,13 +50,27 @@ fn is_overlapping(alloc: Global, record: &Record) -> Option<bool> {
     Some(of_all == Exclusive::No(0, 1) && of_tests == Exclusive::Yes)
 }
 
+// Whether it is explained that the test that ran overlaps its engine.
+fn is_explained(alloc: Global, record: &Record) -> Option<bool> {
+    let events = Events::all(alloc, record).ok()?;
+    let mut target = ByteTarget::new(alloc);
+    let nobody = Condition::Failed(None);
+    match explain_exclusive(alloc, &events, &Condition::Started, &nobody, &mut target) {
+        Ok(is_yes) => Some(!is_yes && target.bytes().starts_with(b"no 0 1\n")),
+        Err(ExplainFault::Memory) if target.bytes().is_empty() => None,
+        Err(ExplainFault::Device) if target.is_broken() => None,
+        Err(_) => Some(false),
+    }
+}
+
 // Whether the questions are answered, also where one request for memory is refused.
 fn questions_hold(alloc: Global, record: &Record) -> bool {
     let selected = again_if_refused(|| are_selected(alloc, record));
     let matched = again_if_refused(|| is_matched(alloc, record));
     let executed = again_if_refused(|| are_executed(alloc, record));
     let overlapping = again_if_refused(|| is_overlapping(alloc, record));
-    let holds = [selected, matched, executed, overlapping];
+    let explained = again_if_refused(|| is_explained(alloc, record));
+    let holds = [selected, matched, executed, overlapping, explained];
     holds.iter().all(|it| *it == Some(true))
 }
 

@@ -1,5 +1,22 @@
 -- What the words of a command line ask for.
-use Rattle.std.specs.Prelude.{◌≡◌, ℕ, ◌^◌, List, ◌∷◌, codes, map, string_bytes, Option, Some, None, Result, Ok, Err, true, if◌then◌else◌}
+use Rattle.std.specs.Prelude.{
+  ◌≡◌,
+  ℕ,
+  ◌^◌,
+  List,
+  ◌∷◌,
+  codes,
+  map,
+  string_bytes,
+  Option,
+  Some,
+  None,
+  Result,
+  Ok,
+  Err,
+  true,
+  if◌then◌else◌,
+}
 use Rattle.std.specs.Str.{bytes_eq}
 use Rattle.clap.specs.Simple.{on_top}
 use Rattle.clap.specs.Walk.{is_empty}

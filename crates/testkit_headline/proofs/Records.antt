@@ -14,7 +14,7 @@ use Rattle.tk_query.specs.Asked.{fits}
 use Rattle.tk_query.specs.InOrder.{HoldInTurn, CanHoldInTurn}
 use Rattle.tk_query.specs.Matches.{IsInOrder}
 use Rattle.tk_report.specs.Answers.{plan_text, IsReported}
-use Rattle.testkit_questions.specs.Answers.{in_order_yes}
+use Rattle.tk_query.specs.AnswerTexts.{in_order_yes}
 use Rattle.testkit_headline.specs.Counting.{IsCount}
 use Rattle.testkit_headline.specs.PlanReports.{report_of, report_in}
 

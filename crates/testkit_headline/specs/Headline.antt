@@ -16,7 +16,7 @@ use Rattle.tk_book.specs.Holdings.{WritersAreAlone}
 use Rattle.tk_queue_core.specs.Core.{Core, entries}
 use Rattle.tk_engine_runs.specs.Parts.{EachHasItsList}
 use Rattle.tk_report.specs.Answers.{IsReported}
-use Rattle.testkit_questions.specs.Answers.{in_order_yes}
+use Rattle.tk_query.specs.AnswerTexts.{in_order_yes}
 use Rattle.testkit_questions.specs.Laws.{AnswerIsUnique}
 use Rattle.testkit_headline.specs.Schedules.{
   IsSchedule,

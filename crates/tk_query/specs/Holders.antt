@@ -53,7 +53,8 @@ pub record AreEnds (h : Holders) (before : ℕ) (ends : Ends) : Type 0 where
   pub writers : (p : ℕ) → p < before → writes h p ≡ true → finish_of h p ≤ ends.writers
   pub all : (p : ℕ) → p < before → holds_any h p ≡ true → finish_of h p ≤ ends.all
 
--- no execution that starts before q, and has not finished there, conflicts with one that starts at q
+-- no execution that starts before q, and has not finished there, conflicts with one that starts
+-- at q
 abbrev pub MeetsNone : Holders → ℕ → Type 0
 MeetsNone h q = (p : ℕ) → p < q → meet h p q ≡ false
 
