@@ -3,8 +3,9 @@
 pub use testkit_questions::{AskFault, AskFaultText, Mode, Overview, Question, ask, read_question};
 pub use tk_explanations::{ExplainFault, explain_exclusive, explain_executions, explain_list};
 pub use tk_query::{
-    CondFault, Condition, Ending, Exact, Exclusive, Execution, ExecutionIter, Executions, InOrder,
-    Lifecycle, LifecycleRule, Loose, MAX_DEPTH, exclusive, executions, find, holds, lifecycle,
-    match_exactly, match_in_order, match_loosely, read_condition, select, write_condition,
+    CondFault, Condition, ENDING_NAME, Ending, Exact, Exclusive, Execution, ExecutionIter,
+    Executions, InOrder, Lifecycle, LifecycleRule, Loose, MAX_DEPTH, exclusive, executions, find,
+    first_fit, holds, holds_at, lifecycle, match_exactly, match_in_order, match_loosely,
+    read_condition, select, write_condition,
 };
 pub use tk_query_nearest::{MAX_DISTANCE, MAX_NEAREST, Nearest, distance, lacking_text, nearest};

@@ -13,9 +13,9 @@ pub use tk_lanes::{
 };
 pub use tk_record::{
     Fields, LineFault, MAX_TEXT, NodesFault, ReadFault, Version, WriteFault, add_statistics,
-    cut_at, cut_header, cut_line, push_tail, push_text, put_text, read_event_line, read_node_line,
-    read_nodes, read_number, read_record, read_u8, read_u32, read_u64, write_event_list,
-    write_field, write_record, write_tail,
+    cut_at, cut_header, cut_line, push_tail, push_text, put_event, put_text, read_event_line,
+    read_node_line, read_nodes, read_number, read_record, read_u8, read_u32, read_u64,
+    write_event_list, write_field, write_record, write_tail,
 };
 pub use tk_record_columns::{
     AppendFault, ColumnTest, EntryView, EntryViews, Events, Expected, MAX_ENTRIES, Mismatch,
