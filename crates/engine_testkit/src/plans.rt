@@ -5,6 +5,6 @@ pub use tk_plan::{
     read_plan,
 };
 pub use tk_report::{
-    DEFAULT_CAPACITY, PlanRun, Report, ReportFault, ReportFaultText, Scripted, final_plan_report,
-    plan_report, run_plan, write_report, write_report_of,
+    DEFAULT_CAPACITY, PlanRun, Report, ReportFault, ReportFaultText, Scripted, plan_report,
+    run_plan, write_report, write_report_of,
 };

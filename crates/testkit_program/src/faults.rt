@@ -40,22 +40,6 @@ impl From<CommandLineFault> for Fault {
     }
 }
 
-impl From<LoadFault> for Fault {
-    ghost from_gives = { λ fault e. e ≡ Load fault };
-
-    fn from(fault: LoadFault) -> Fault {
-        Fault::Load(fault)
-    }
-}
-
-impl From<ReportFault> for Fault {
-    ghost from_gives = { λ fault e. e ≡ Report fault };
-
-    fn from(fault: ReportFault) -> Fault {
-        Fault::Report(fault)
-    }
-}
-
 impl Fault {
     /// The exit status: 2 for bad words or bad input, 3 where a device, memory, a thread or a unit
     /// failed.

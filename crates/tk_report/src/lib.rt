@@ -10,6 +10,6 @@ mod reporting;
 pub use fault_texts::ReportFaultText;
 pub use faults::ReportFault;
 pub use plan_runs::{DEFAULT_CAPACITY, PlanRun, run_plan};
-pub use reporting::{final_plan_report, plan_report, write_report};
+pub use reporting::{plan_report, write_report};
 pub use tk_engine::{Results, RunFault, Scripted, execute};
 pub use tk_report_text::{Report, write_report_of};

@@ -8,7 +8,6 @@ ghost use Rattle.tk_report.specs.Answers.{IsReported, IsRunReport};
 use crate::faults::ReportFault;
 use crate::plan_runs::run_plan;
 use std::alloc::Global;
-use std::mem;
 use std::sync::Wait;
 use std::thread::Threads;
 use tk_engine_execute::Results;
@@ -63,33 +62,4 @@ pub fn plan_report<R: Threads + Wait + Sync, T: Target>(
 {
     let run = run_plan(rt, alloc, bytes, workers)?;
     write_report(alloc, &run.results, target)
-}
-
-/// As [`plan_report`], for a program that ends after it: the run's record isn't freed.
-///
-/// The system takes all memory at once when a program ends. Freeing plan and record block by block
-/// took up to a fifth of the program's time, freeing the plan alone no time that could be measured.
-///
-/// # Errors
-/// Those of [`plan_report`].
-pub fn final_plan_report<R: Threads + Wait + Sync, T: Target>(
-    rt: &R,
-    alloc: Global,
-    bytes: Vec<u8>,
-    workers: usize,
-    target: &mut T,
-) -> Result<(), ReportFault>
-    ensures answer { IsReported bytes.items workers (T.contents target.old)
-        (T.contents target.new) result }
-    ensures unwritten { IfErr result (λ fault.
-        (fault ≡ ReportFault.Device) ⊎ (target.new ≡ target.old)) }
-    ensures device { IsErrOf result ReportFault.Device → T.broken target.new ≡ true }
-{
-    let run = run_plan(rt, alloc, bytes.as_slice(), workers)?;
-    // The report gets the memory of the plan and of its text.
-    drop(bytes);
-    drop(run.engine);
-    let written = write_report(alloc, &run.results, target);
-    mem::forget(run.results);
-    written
 }
