@@ -78,7 +78,7 @@ fn explaining_to_a_broken_target(rt: HostRuntime) {
         assert!(rt; false);
         return;
     };
-    for bytes in [0, 1, 7, 80, collision().len() - 1].as_slice() {
+    for bytes in [0, 1, 7, 80, collision().len().saturating_sub(1)].as_slice() {
         assert!(rt; is_cut(alloc, &record, *bytes) == Some(true), "{bytes}");
     }
     assert!(rt; is_cut(alloc, &record, collision().len()) == Some(false));
