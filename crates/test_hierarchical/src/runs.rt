@@ -23,7 +23,7 @@ fn the_same_record_as_of_execute(rt: HostRuntime) {
     assert!(rt; has_record(&rt, rt.alloc()) == Some(true));
 }
 
-// Whether a run by so many workers, through a queue of so many items, is refused as `execute` does.
+// Whether a run with these numbers of workers and of items is refused as `execute` refuses it.
 fn are_refused<R: Threads + Wait + Sync>(rt: &R, alloc: Global) -> Option<bool> {
     let engine = sample_engine(alloc)?;
     let workers = run_tests(rt, alloc, &engine, 16, 4);

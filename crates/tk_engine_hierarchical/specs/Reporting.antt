@@ -6,7 +6,13 @@ use Rattle.tk_queue_session.specs.Registering.{RegisterRequest}
 use Rattle.tk_queue_session.specs.Senders.{SenderView, sends}
 use Rattle.tk_engine_execute.specs.Engines.{Extends}
 use Rattle.tk_engine_unit_events.specs.Endings.{payload_of}
-use Rattle.tk_engine_unit_events.specs.UnitSteps.{BodyRuns, ChildView, Grew, HasFinished, HasStarted}
+use Rattle.tk_engine_unit_events.specs.UnitSteps.{
+  BodyRuns,
+  ChildView,
+  Grew,
+  HasFinished,
+  HasStarted,
+}
 use Rattle.tk_engine_unit_events.specs.UnitSteps.{UnitView, child_request, event}
 use Rattle.tk_engine_unit_events.specs.declared.outcomes.Outcome.{Outcome}
 

@@ -1,4 +1,4 @@
--- Which records are runs of an engine of tests by so many workers.
+-- Which records are runs of an engine of tests by this many workers.
 use Rattle.std.specs.Prelude.{ℕ}
 use Rattle.tk_record_columns.specs.Recorded.{Recorded}
 use Rattle.tk_engine_runs.specs.Run.{IsRun}

@@ -51,7 +51,7 @@ fn shows_laws<T: Tests + Sync>(engine: &Hierarchical<T>, results: &Results)
 /// Whatever the tests do, and in whatever order the workers come, it is proved of each record that
 /// this answers:
 ///
-/// - `run`: it is that of a run of the engine by so many workers.
+/// - `run`: it is that of a run of the engine by this many workers.
 /// - `lifecycle`, `kept`: it keeps the lifecycle, and `Results::lifecycle` answers `Kept`.
 /// - `turns`: each static descriptor starts once and then finishes once, or is skipped once, or
 ///   stands below one that was skipped.
