@@ -69,7 +69,7 @@ pub enum Explainable {
 impl Explainable {
     /// The question itself.
     pub fn into_question(self) -> Question
-        ensures { result ≡ question_of self.entry }
+        ensures { result ≡ question_of self }
     {
         match self {
             Explainable::Match(mode, conditions) => Question::Match(mode, conditions),

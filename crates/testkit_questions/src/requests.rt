@@ -1,14 +1,13 @@
 //! Words that ask for an answer, or for its explanation.
 ghost use Rattle.std.specs.Prelude.{◌≡◌, ◌∷◌, ◌+◌, ◌<◌, ◌^◌, map, string_bytes, IfErr};
 ghost use Rattle.testkit_questions.specs.declared.questions.Overview.TheVariants.{Executions, Lifecycle};
-ghost use Rattle.testkit_questions.specs.declared.questions.Question.TheVariants as questions;
-ghost use Rattle.testkit_questions.specs.Explainables.{asking, question_of};
+ghost use Rattle.testkit_questions.specs.Explainables.{asking};
 ghost use Rattle.testkit_questions.specs.Questions.{IsAskedAs, overview_name};
-ghost use Rattle.testkit_questions.specs.Requests.{IsExplainedAs, IsRequestedAs, explaining_later, one_later, word_number};
+ghost use Rattle.testkit_questions.specs.Requests.{IsExplainedAs, IsRequestedAs, answering, explaining, explaining_later, one_later, word_number};
 
 use crate::faults::AskFault;
 use crate::questions::{
-    Explainable, Mode, Overview, Question, read_exclusive, read_list, read_match, read_question,
+    Explainable, Mode, Question, read_exclusive, read_list, read_match, read_question,
 };
 use std::alloc::Global;
 
@@ -19,6 +18,26 @@ pub enum Request {
     Answer(Question),
     /// The answer to a question, and below it why it is the answer.
     Explain(Explainable),
+}
+
+// Asks for the answer to a question.
+fn answer(reading: Result<Question, AskFault>) -> Result<Request, AskFault>
+    ensures { result ≡ answering reading }
+{
+    match reading {
+        Ok(question) => Ok(Request::Answer(question)),
+        Err(fault) => Err(fault),
+    }
+}
+
+// Asks for the explanation of a question.
+fn explain(reading: Result<Explainable, AskFault>) -> Result<Request, AskFault>
+    ensures { result ≡ explaining reading }
+{
+    match reading {
+        Ok(explainable) => Ok(Request::Explain(explainable)),
+        Err(fault) => Err(fault),
+    }
 }
 
 // The fault of a word that has one more word before it.
@@ -44,32 +63,24 @@ fn explain_later(reading: Result<Explainable, AskFault>) -> Result<Request, AskF
     }
 }
 
-// Reads the words after the name of an overview that can be explained, of which there are none.
-fn read_explained_overview(
-    overview: Overview,
-    explainable: Explainable,
-    words: &[String],
-) -> Result<Explainable, AskFault>
-    requires { question_of explainable ≡ questions.Overview overview }
-    ensures { IsAskedAs (overview_name overview ∷ map string_bytes words.now) (asking result) }
+fn read_executions(words: &[String]) -> Result<Explainable, AskFault>
+    ensures { IsAskedAs (overview_name Executions ∷ map string_bytes words.now) (asking result) }
 {
     if words.is_empty() {
-        Ok(explainable)
+        Ok(Explainable::Executions)
     } else {
         Err(AskFault::Word(0))
     }
 }
 
-fn read_executions(words: &[String]) -> Result<Explainable, AskFault>
-    ensures { IsAskedAs (overview_name Executions ∷ map string_bytes words.now) (asking result) }
-{
-    read_explained_overview(Overview::Executions, Explainable::Executions, words)
-}
-
 fn read_lifecycle(words: &[String]) -> Result<Explainable, AskFault>
     ensures { IsAskedAs (overview_name Lifecycle ∷ map string_bytes words.now) (asking result) }
 {
-    read_explained_overview(Overview::Lifecycle, Explainable::Lifecycle, words)
+    if words.is_empty() {
+        Ok(Explainable::Lifecycle)
+    } else {
+        Err(AskFault::Word(0))
+    }
 }
 
 // Reads the words after `explain`.
@@ -85,7 +96,7 @@ fn read_explanation(alloc: Global, words: &[String]) -> Result<Request, AskFault
         "executions" => explain_later(read_executions(more)),
         "lifecycle" => explain_later(read_lifecycle(more)),
         name => match Mode::read(name) {
-            Some(_) => Ok(Request::Explain(read_match(alloc, words)?)),
+            Some(_) => explain(read_match(alloc, words)),
             None => Err(AskFault::Word(0)),
         },
     }
@@ -99,8 +110,11 @@ fn read_explanation(alloc: Global, words: &[String]) -> Result<Request, AskFault
 pub fn read_request(alloc: Global, words: &[String]) -> Result<Request, AskFault>
     ensures { IsRequestedAs (map string_bytes words.now) result }
 {
-    match words.split_first() {
-        Some((first, rest)) if first.as_str() == "explain" => read_explanation(alloc, rest),
-        _ => Ok(Request::Answer(read_question(alloc, words)?)),
+    let Some((first, rest)) = words.split_first() else {
+        return Err(AskFault::Question);
+    };
+    match first.as_str() {
+        "explain" => read_explanation(alloc, rest),
+        _ => answer(read_question(alloc, words)),
     }
 }
