@@ -4,13 +4,19 @@ use Rattle.std.specs.List.{slice_get}
 use Rattle.std.proofs.lemmas.Bool.{true≢false}
 use Rattle.std.proofs.lemmas.List.{append-nil, append_assoc}
 use Rattle.std.proofs.lemmas.Option.{same_Some}
+use Rattle.tk_record_columns.specs.Recorded.{Recorded}
 use Rattle.tk_record_columns.specs.Selections.{Selected}
+use Rattle.tk_query_conditions.specs.CondOf.{cond_of}
 use Rattle.tk_query_conditions.specs.declared.conditions.Condition.{Condition}
 use Rattle.tk_query.specs.Asked.{fits, IsFirstFit}
 use Rattle.tk_query.specs.InOrder.{IsNextFit}
 use Rattle.tk_query.specs.Matches.{HoldsSomewhere}
-use Rattle.tk_explanations.specs.Matches.{AreFirstFits}
-use Rattle.tk_explanations.proofs.RowLemmas.{dropped_all, dropped_at}
+use Rattle.tk_query.specs.declared.answers.Loose.TheVariants.{No}
+use Rattle.tk_query_nearest.specs.Nearness.{IsNearest}
+use Rattle.tk_explanations.specs.MatchRows.{AddsRows, condition_row, near_rows}
+use Rattle.tk_explanations.specs.Matches.{AreFirstFits, AreLooseRows}
+use Rattle.tk_explanations.specs.declared.rows.Row.{Row}
+use Rattle.tk_explanations.proofs.RowLemmas.{dropped_all, dropped_at, row_and_more}
 
 -- where a condition holds of some event, it holds of a first one
 pub first_there : (asked : Selected) (c : Condition) (p : ℕ) → fits asked c p ≡ true → IsFirstFit asked c None → ⊥
@@ -32,3 +38,12 @@ pub first_all : (asked : Selected) (cs : List Condition) (k : ℕ) (found : List
 first_all asked cs k found le so_far =
     subst (AreFirstFits asked cs) (append-nil found)
     (so_far [] (subst (λ (ds : List Condition). AreFirstFits asked ds []) (sym (dropped_all cs k le)) tt))
+
+-- the rows that are added where a condition holds of no event
+pub missing_added : (asked : Selected) (cs : List Condition) (k : ℕ) (c : Condition) (near : List ℕ) (r : Recorded) (old first second : List Row) → slice_get cs k ≡ Some c → IsNearest asked 0 (cond_of c) near → r ≡ asked.recorded
+    → first ≡ old ++ condition_row k c ∷ [] → second ≡ first ++ near_rows r c near → AddsRows (AreLooseRows asked cs (No k)) old second
+missing_added asked cs k c near r old first second has nearest same one two = (
+  condition_row k c ∷ near_rows r c near,
+  (c, has, near, nearest, ap (λ (s : Recorded). condition_row k c ∷ near_rows s c near) same),
+  row_and_more old first second (near_rows r c near) (condition_row k c) one two,
+)

@@ -65,8 +65,15 @@ pub all_added : (whole old left : List Row) → old ++ left ≡ whole → left �
 all_added whole old left is none = sym (append-nil old) ∙ ap (λ (l : List Row). old ++ l) (sym none) ∙ is
 
 -- two rows below others
-pub two_rows : (old first second : List Row) (a b : Row) → first ≡ old ++ a ∷ [] → second ≡ first ++ b ∷ [] → second ≡ old ++ a ∷ b ∷ []
-two_rows old first second a b one two = two ∙ ap (λ (l : List Row). l ++ b ∷ []) one ∙ append_assoc old (a ∷ []) (b ∷ [])
+pub two_rows : (old now first second more : List Row) (a b : Row) → now ≡ old → first ≡ now ++ a ∷ [] → second ≡ first ++ b ∷ [] → more ≡ a ∷ b ∷ [] → second ≡ old ++ more
+two_rows old now first second more a b same one two is =
+    two ∙ ap (λ (l : List Row). l ++ b ∷ []) one ∙ append_assoc now (a ∷ []) (b ∷ []) ∙ ap (λ (l : List Row). l ++ a ∷ b ∷ []) same ∙ ap (λ (l : List Row). old ++ l) (sym is)
+
+pub one_row : (old now new more : List Row) (a : Row) → now ≡ old → new ≡ now ++ a ∷ [] → more ≡ a ∷ [] → new ≡ old ++ more
+one_row old now new more a same one is = one ∙ ap (λ (l : List Row). l ++ a ∷ []) same ∙ ap (λ (l : List Row). old ++ l) (sym is)
+
+pub no_row : (old now more : List Row) → now ≡ old → more ≡ [] → now ≡ old ++ more
+no_row old now more same is = same ∙ sym (append-nil old) ∙ ap (λ (l : List Row). old ++ l) (sym is)
 
 -- a row, and further ones below it
 pub row_and_more : (old first second more : List Row) (a : Row) → first ≡ old ++ a ∷ [] → second ≡ first ++ more → second ≡ old ++ a ∷ more
@@ -84,7 +91,7 @@ near_none r c (p ∷ ps) e = absurd (omega arith)
 -- the last element, by its place
 pub last_is : {X : Type 0} (xs : List X) → slice_get xs (length xs - 1) ≡ last_or None xs
 last_is [] = refl
-last_is {X = X} (x ∷ xs) = from x xs
+last_is {X = X} (x ∷ xs) = let at : length (x ∷ xs) - 1 ≡ length xs = omega arith in ap (slice_get (x ∷ xs)) at ∙ from x xs
   where
     from : (y : X) (ys : List X) → slice_get (y ∷ ys) (length ys) ≡ last_or (Some y) ys
     from y [] = refl

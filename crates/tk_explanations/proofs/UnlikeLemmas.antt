@@ -76,7 +76,7 @@ module _ (asked : Selected) (flags : List Bool) (size : length flags ≡ length 
     following : IsNextKept low position flags (positioned asked.recorded.entries)
     following = next_kept flags (positioned asked.recorded.entries) low position long next
 
-    item : PositionedEntry
+    abbrev item : PositionedEntry
     item = following.item
 
     stands : (item.position ≡ 0 + position) × (slice_get asked.recorded.entries position ≡ Some item.entry)
@@ -108,14 +108,14 @@ module _ (asked : Selected) (flags : List Bool) (size : length flags ≡ length 
           ∙ step asked.recorded k c (drop (k + 1) cs) item (further asked flags (suc position)) b test_is
 
       pub passed_more : b ≡ true → ArePassed asked flags cs (k + 1) (position + 1)
-      passed_more yes =
+      passed_more is_true =
           here
-          ∙ ap (λ (t : Bool). if t then unlike_rows asked.recorded (k + 1) (drop (k + 1) cs) (further asked flags (suc position)) else condition_row k c ∷ lacking_row asked.recorded c item.position ∷ []) yes
+          ∙ ap (λ (t : Bool). if t then unlike_rows asked.recorded (k + 1) (drop (k + 1) cs) (further asked flags (suc position)) else condition_row k c ∷ lacking_row asked.recorded c item.position ∷ []) is_true
           ∙ ap (λ (n : ℕ). unlike_rows asked.recorded (k + 1) (drop (k + 1) cs) (further asked flags n)) (sym (add-one position))
 
       pub unlike_here : b ≡ false → unlike_rows asked.recorded 0 cs asked.kept ≡ condition_row k c ∷ lacking_row r c position ∷ []
-      unlike_here no =
+      unlike_here is_false =
           here
-          ∙ ap (λ (t : Bool). if t then unlike_rows asked.recorded (k + 1) (drop (k + 1) cs) (further asked flags (suc position)) else condition_row k c ∷ lacking_row asked.recorded c item.position ∷ []) no
+          ∙ ap (λ (t : Bool). if t then unlike_rows asked.recorded (k + 1) (drop (k + 1) cs) (further asked flags (suc position)) else condition_row k c ∷ lacking_row asked.recorded c item.position ∷ []) is_false
           ∙ ap (λ (n : ℕ). condition_row k c ∷ lacking_row asked.recorded c n ∷ []) at
           ∙ ap (λ (s : Recorded). condition_row k c ∷ lacking_row s c position ∷ []) (sym same)

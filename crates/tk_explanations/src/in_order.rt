@@ -1,5 +1,7 @@
 //! Why conditions hold in turn, each at a later event than the one before it, or why not.
-ghost use Rattle.std.specs.Prelude.{◌≡◌, ◌++◌, true, IfOk, OnOk, IsErrOf, option_copied};
+ghost use Rattle.std.specs.Prelude.{◌≡◌, ◌≤◌, ◌++◌, true, length, IfOk, OnOk, IsErrOf};
+ghost use Rattle.std.specs.Option.{ForSome};
+ghost use Rattle.tk_query_conditions.specs.declared.conditions.Condition.{Condition};
 ghost use Rattle.tk_query.specs.Asked.{fits};
 ghost use Rattle.tk_query.specs.InOrder.{CanHoldInTurn, IsFirstStuck, IsLeastInTurn};
 ghost use Rattle.tk_query.specs.Matches.{IsInOrder};
@@ -32,6 +34,20 @@ fn positions_in_turn(
     Ok(positions)
 }
 
+// The position after one at which an event stands of which a condition holds, or 0.
+fn after(events: &Events<'_>, found: Option<usize>) -> usize
+    requires { ForSome found (λ p. (c : Condition) × (fits events.now c p ≡ true)) }
+    ensures value { result ≡ after found }
+    ensures within { result ≤ length events.now.recorded.entries }
+{
+    let _flags = events.flags();
+    let _len = events.record().len();
+    match found {
+        Some(position) => position + 1,
+        None => 0,
+    }
+}
+
 // The position of the last event of which the condition holds.
 fn last_fit(events: &Events<'_>, condition: &Condition) -> Option<usize>
     ensures { IsLastFit events.now condition.now result }
@@ -40,19 +56,9 @@ fn last_fit(events: &Events<'_>, condition: &Condition) -> Option<usize>
     let mut low = 0;
     'fits: while let Some(position) = find(events, condition, low) {
         last = Some(position);
-        low = position + 1;
+        low = after(events, last);
     }
     last
-}
-
-// The position after another one, or 0.
-fn after(found: Option<usize>) -> usize
-    ensures { result ≡ after found }
-{
-    match found {
-        Some(position) => position + 1,
-        None => 0,
-    }
 }
 
 // Adds the row of an event of which a condition holds, but which is not after the last one found.
@@ -84,7 +90,7 @@ fn add_stuck(
     let condition = &conditions[number];
     let found = positions_in_turn(alloc, events, &conditions[..number])?;
     let last_found = found.as_slice().last().copied();
-    let near = nearest(events, after(last_found), condition);
+    let near = nearest(events, after(events, last_found), condition);
     add_found(rows, alloc, conditions, found.as_slice())?;
     add_condition(rows, alloc, number, condition)?;
     add_early(rows, last_found, last_fit(events, condition))?;
