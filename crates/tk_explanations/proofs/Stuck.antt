@@ -16,6 +16,7 @@ use Rattle.tk_query_conditions.specs.CondOf.{cond_of}
 use Rattle.tk_explanations.specs.MatchRows.{AddsRows, condition_row, found_rows, near_rows}
 use Rattle.tk_explanations.specs.Matches.{AreStuckRows, IsLastFit, after, early_rows, last_of}
 use Rattle.tk_explanations.specs.declared.rows.Row.{Row}
+use Rattle.tk_explanations.proofs.RowLemmas.{row_and_more}
 
 module _ {C : Type 0} (fits : C → ℕ → Bool) where
   hold_prefix : (from n : ℕ) (cs : List C) (ps : List ℕ) → HoldInTurn fits from cs ps → HoldInTurn fits from (take n cs) (take n ps)
@@ -84,10 +85,9 @@ stuck_added asked cs k c found near last early from r old one two three four has
         rows_are = ap₂ (λ (o : Option ℕ) (s : Recorded). found_rows 0 cs found ++ condition_row k c ∷ early_rows o early ++ near_rows s c near) is same;
       },
       e
-      ∙ ap (λ (l : List Row). l ++ near_rows r c near) d
-      ∙ append_assoc two (early_rows last early) (near_rows r c near)
-      ∙ ap (λ (l : List Row). l ++ early_rows last early ++ near_rows r c near) b
-      ∙ append_assoc one (condition_row k c ∷ []) (early_rows last early ++ near_rows r c near)
-      ∙ ap (λ (l : List Row). l ++ condition_row k c ∷ early_rows last early ++ near_rows r c near) a
-      ∙ append_assoc old (found_rows 0 cs found) (condition_row k c ∷ early_rows last early ++ near_rows r c near),
+          ∙ ap (λ (l : List Row). l ++ near_rows r c near)
+          (row_and_more one two three (early_rows last early) (condition_row k c) b d
+          ∙ ap (λ (l : List Row). l ++ condition_row k c ∷ early_rows last early) a
+          ∙ append_assoc old (found_rows 0 cs found) (condition_row k c ∷ early_rows last early))
+          ∙ append_assoc old (found_rows 0 cs found ++ condition_row k c ∷ early_rows last early) (near_rows r c near),
     )

@@ -112,7 +112,7 @@ ExplainsLoosely asked cs = AsText (IsLooseExplanation asked cs) asked.recorded
 abbrev pub IsLastFit : Selected → Condition → Option ℕ → Type 0
 IsLastFit asked c last =
     MatchOption last (HasNoFit (fits asked) c 0) (λ p.
-        (fits asked c p ≡ true) × HasNoFit (fits asked) c (p + 1))
+    (fits asked c p ≡ true) × HasNoFit (fits asked) c (p + 1))
 
 -- the last of the positions, if there is one
 abbrev pub last_of : List ℕ → Option ℕ
