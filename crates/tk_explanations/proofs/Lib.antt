@@ -1,3 +1,5 @@
 mod Explaining
 mod Spans
 mod PieceRows
+mod SearchLemmas
+mod LifecycleIsUnique

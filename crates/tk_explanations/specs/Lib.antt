@@ -1,6 +1,13 @@
 pub mod FaultTexts
+pub mod DescriptorTexts
+pub mod Sentences
 pub mod Rows
 pub mod Explained
 pub mod Lists
 pub mod Listing
 pub mod Collisions
+pub mod EventSearches
+pub mod EventTests
+pub mod Causes
+pub mod Lifecycles
+pub mod LifecycleLaw
