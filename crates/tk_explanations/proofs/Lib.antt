@@ -6,3 +6,5 @@ mod UnlikeLemmas
 mod FirstFits
 mod Stuck
 pub mod OneExplanation
+mod SearchLemmas
+mod LifecycleIsUnique
