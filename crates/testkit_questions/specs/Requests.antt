@@ -51,7 +51,7 @@ abbrev pub answering : Result Question AskFault → Result Request AskFault
 answering (Ok question) = Ok (requests.Answer question)
 answering (Err fault) = Err fault
 
--- what they are read as where they ask for its explanation
+-- what words are read as that ask for the explanation of an answer
 abbrev pub explaining : Result Explainable AskFault → Result Request AskFault
 explaining (Ok explainable) = Ok (requests.Explain explainable)
 explaining (Err fault) = Err fault
@@ -68,7 +68,7 @@ one_later (faults.Word i) = faults.Word (i + 1)
 one_later (faults.Condition i fault) = faults.Condition (i + 1) fault
 one_later fault = fault
 
--- what they are read as where they ask for it after one more word
+-- what words are read as that ask for an explanation, and have one more word before them
 abbrev pub explaining_later : Result Explainable AskFault → Result Request AskFault
 explaining_later (Ok explainable) = Ok (requests.Explain explainable)
 explaining_later (Err fault) = Err (one_later fault)

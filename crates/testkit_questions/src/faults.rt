@@ -16,7 +16,8 @@ use tk_record::ReadFault;
 pub enum AskFault {
     /// The question is missing, or its name is that of none.
     Question,
-    /// The word of this number, counted from 0 after the question, is bad or missing.
+    /// The word of this number is bad or missing. Words are counted from 0 after the question, and
+    /// after `explain` where its answer is to be explained.
     Word(usize),
     /// The word of this number is no condition.
     Condition(usize, CondFault),
