@@ -44,10 +44,10 @@ plan_outcome bytes workers old new (Ok run) (Err faults.Memory) of is outcome = 
 pub broken_target : (bytes : List ℕ) (workers : ℕ) (run : Result PlanRun ReportFault) (result : Result Bool Fault) (Broken : Type 0) → IsPlanRun bytes workers run
     → IfErr run (λ fault. result ≡ Err (faults.Report fault)) → IfOk run (λ _. result ≡ Err (faults.Report Device) → Broken) → result ≡ Err (faults.Report Device) → Broken
 broken_target bytes workers (Ok run) result Broken of is broken e = broken e
-broken_target bytes workers (Err (Plan f)) result Broken of is broken e = let both : Err {T = Bool} (faults.Report (Plan f)) ≡ Err (faults.Report Device) = sym is ∙ e in absurd cc
-broken_target bytes workers (Err (Run f)) result Broken of is broken e = let both : Err {T = Bool} (faults.Report (Run f)) ≡ Err (faults.Report Device) = sym is ∙ e in absurd cc
+broken_target bytes workers (Err (Plan f)) result Broken of is broken e = let both : ◌≡◌ {A = Result Bool Fault} (Err (faults.Report (Plan f))) (Err (faults.Report Device)) = sym is ∙ e in absurd cc
+broken_target bytes workers (Err (Run f)) result Broken of is broken e = let both : ◌≡◌ {A = Result Bool Fault} (Err (faults.Report (Run f))) (Err (faults.Report Device)) = sym is ∙ e in absurd cc
 broken_target bytes workers (Err Device) result Broken of is broken e = absurd of
-broken_target bytes workers (Err Memory) result Broken of is broken e = let both : Err {T = Bool} (faults.Report Memory) ≡ Err (faults.Report Device) = sym is ∙ e in absurd cc
+broken_target bytes workers (Err Memory) result Broken of is broken e = let both : ◌≡◌ {A = Result Bool Fault} (Err (faults.Report Memory)) (Err (faults.Report Device)) = sym is ∙ e in absurd cc
 
 -- why the plan of loaded bytes has no report is why the plan of the input has none
 report_fault : (workers : ℕ) (input left : Option (List ℕ)) (bytes : List ℕ) (old new : Option (List ℕ)) (fault : ReportFault) → IsLoaded input left bytes → length bytes ≤ MAX_TEXT
@@ -66,7 +66,7 @@ module _ {A : Type 0} (items : A → List ℕ) (workers : ℕ) (input left old n
   run_done (Err fault) result all within is outcome = subst (λ (r : Result Bool Fault). IfOk r (IsDone (jobs.Run workers) (transfer input old new))) (sym is) tt
   run_done (Ok bytes) (Err fault) all within is outcome = tt
   run_done (Ok bytes) (Ok is_yes) all within is outcome =
-      (outcome.0, of_input input (items bytes) (λ all. (length all ≤ MAX_TEXT) × OfPlan all (Appends old new)) (all_loaded input left (items bytes) all) (within, outcome.1.0), outcome.1.1)
+      (outcome.0, (of_input input (items bytes) (λ text. (length text ≤ MAX_TEXT) × OfPlan text (Appends old new)) (all_loaded input left (items bytes) all) (within, outcome.1.0), outcome.1.1))
 
   pub run_refused : (loaded : Result A LoadFault) (result : Result Bool Fault) → IfOk loaded (λ bytes. IsLoaded input left (items bytes)) → IfOk loaded (λ bytes. length (items bytes) ≤ MAX_TEXT)
       → (loaded ≡ Err loads.TooLarge → IfSome input (λ bytes. MAX_TEXT < length bytes))

@@ -18,6 +18,6 @@ performed words t (Ok job) (Err fault) of is done = tt
 -- the words ask for no job, or their job was refused
 pub not_performed : (words : List (List ℕ)) (t : Transfer) (job : Result Job CommandLineFault) (result : Result Bool Fault) → IfOk job (IsJobOf words) → IfErr job (IsNoJob words)
     → IfErr job (λ fault. result ≡ Err (fault_of_line fault)) → IfOk job (λ job. IfErr result (IsRefused job t)) → IfErr result (IsNotPerformed words t)
-not_performed words t (Err line) result of no is refused = subst (λ (r : Result Bool Fault). IfErr r (IsNotPerformed words t)) (sym is) (inl (line, no, refl))
-not_performed words t (Ok job) (Ok is_yes) of no is refused = tt
-not_performed words t (Ok job) (Err fault) of no is refused = inr (job, of, refused)
+not_performed words t (Err line) result of none is refused = subst (λ (r : Result Bool Fault). IfErr r (IsNotPerformed words t)) (sym is) (inl (line, none, refl))
+not_performed words t (Ok job) (Ok is_yes) of none is refused = tt
+not_performed words t (Ok job) (Err fault) of none is refused = inr (job, of, refused)

@@ -1,5 +1,5 @@
 //! The jobs of the program.
-ghost use Rattle.std.specs.Prelude.{◌≡◌, ◌+◌, ◌⊎◌, map, string_bytes, Err, IfErr, IfOk, OnOk};
+ghost use Rattle.std.specs.Prelude.{◌≡◌, ◌+◌, ◌⊎◌, true, map, string_bytes, Err, IfErr, IfOk, OnOk};
 ghost use Rattle.tk_record.specs.declared.reading.TheConstants.{MAX_TEXT};
 ghost use Rattle.tk_streams.specs.Stream.{ConsumesUpTo};
 ghost use Rattle.tk_streams.specs.declared.transfers.LoadFault.{LoadFault};

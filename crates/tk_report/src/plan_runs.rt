@@ -1,8 +1,5 @@
 //! Running a plan from its bytes.
-ghost use Rattle.std.specs.Prelude.{◌≡◌, ℕ, List, Err, IfErr};
-ghost use Rattle.tk_plan.specs.PlanAnswers.{plan_in, Answered};
 ghost use Rattle.tk_report.specs.Answers.{IsPlanRun};
-ghost use Rattle.tk_report.specs.Faults.{fault_of_plan};
 
 use crate::faults::ReportFault;
 use std::alloc::Global;
@@ -11,7 +8,7 @@ use std::thread::Threads;
 use tk_engine::Scripted;
 use tk_engine_execute::{Results, execute};
 use tk_engine_laws::laws::{lifecycle, report_is_unique};
-use tk_plan::{Plan, PlanFault, read_plan};
+use tk_plan::read_plan;
 
 /// How many items the queue of a run holds where the caller gives no number, as in [`run_plan`].
 pub const DEFAULT_CAPACITY: usize = 64;
@@ -23,26 +20,6 @@ pub struct PlanRun {
     pub engine: Scripted,
     /// What the run left: its record, and how many events each worker emitted.
     pub results: Results,
-}
-
-/// Runs the plan that was read, or answers why there is none.
-fn run_read<R: Threads + Wait + Sync>(
-    rt: &R,
-    alloc: Global,
-    plan: Result<Plan, PlanFault>,
-    workers: usize,
-) -> Result<PlanRun, ReportFault>
-    ensures no_plan { IfErr plan (λ fault. result ≡ Err (fault_of_plan fault)) }
-    ensures run { (bytes : List ℕ) → Answered (plan_in bytes) plan
-        → IsPlanRun bytes workers result }
-{
-    let engine = Scripted::new(plan?);
-    let results = execute(rt, alloc, &engine, workers, DEFAULT_CAPACITY)?;
-    report_is_unique();
-    lifecycle();
-    // For the proof: the plan's invariant, which a call on the plan shows.
-    let _table = engine.plan().table();
-    Ok(PlanRun { engine, results })
 }
 
 /// Reads a plan and runs it by 1 to `MAX_WORKERS` workers, each in a thread of its own.
@@ -61,6 +38,12 @@ pub fn run_plan<R: Threads + Wait + Sync>(
 ) -> Result<PlanRun, ReportFault>
     ensures { IsPlanRun bytes.now workers result }
 {
-    let plan = read_plan(alloc, bytes);
-    run_read(rt, alloc, plan, workers)
+    let plan = read_plan(alloc, bytes)?;
+    let engine = Scripted::new(plan);
+    let results = execute(rt, alloc, &engine, workers, DEFAULT_CAPACITY)?;
+    report_is_unique();
+    lifecycle();
+    // For the proof: the plan's invariant, which a call on the plan shows.
+    let _table = engine.plan().table();
+    Ok(PlanRun { engine, results })
 }
