@@ -1,12 +1,12 @@
 -- The commands that the command-line crate reads, and what it makes of words.
 use Rattle.std.proofs.Common.{length, arith, subst, ◌^◌, ◌≡◌, ◌⊎◌, ℕ, Bool, true, false, List, [], ◌∷◌, Option, Some, None, Result, Ok, Err, refl, sym, ap, ◌∙◌, inl, inr, ⊎_elim, ap₂, codes}
-use Rattle.std.specs.Prelude.{option_map, if◌then◌else◌, IfOk}
+use Rattle.std.specs.Prelude.{option_map, if◌then◌else◌, IfOk, IfErr}
 use Rattle.std.specs.Str.{bytes_eq}
 use Rattle.std.specs.Box.{box_value}
 use Rattle.std.proofs.lemmas.Bool.{ne_eqb}
 use Rattle.std.proofs.lemmas.Option.{same_Some}
 use Rattle.clap.specs.Walk.{is_empty}
-use Rattle.clap.specs.Words.{App, HasKind, HasMatchesOf, IsAmong, Kinds, Row, fault_of, first_of, found_of, is_simple, is_simple_and_free, kind_of, rows_of, subcommand_name_of, subcommand_of, subcommand_rows}
+use Rattle.clap.specs.Words.{App, FailsBy, HasMatchesOf, IsAmong, Kinds, Row, fault_of, first_of, found_of, is_simple, is_simple_and_free, kind_of, rows_of, subcommand_name_of, subcommand_of, subcommand_rows}
 use Rattle.clap.specs.declared.error.Error.{Error}
 use Rattle.clap.specs.declared.error.kind.ErrorKind.{ErrorKind}
 use Rattle.clap.specs.declared.error.kind.ErrorKind.TheVariants as parse
@@ -83,19 +83,18 @@ found words m o matches none name rows =
     ∙ both_mapped (λ p. p.0.now) (λ p. rows_of (found_of p.1.now)) (λ b. (out-SubCommand (box_value b)).name.now) (λ b. rows_of (found_of (out-SubCommand (box_value b)).matches)) o (out-ArgMatches m).subcommand name
     (rows ∙ mapped_twice {B = List ℕ × List Row} (λ b. ((out-SubCommand (box_value b)).name.now, rows_of (found_of (out-SubCommand (box_value b)).matches))) (λ p. p.1) (out-ArgMatches m).subcommand))
 
--- the same, of a command that is the one above
+-- what was found in words is their job, and what they were refused for is no job of theirs
+pub asked_or_refused : (words : List (List ℕ)) (matches : Result ArgMatches Error) (result : Result Job CommandLineFault) → IfOk matches (HasMatchesOf commands words)
+    → FailsBy (fault_of commands words) matches → IfErr matches (λ error. result ≡ Err (fault_of_parse (kind_of error)))
+    → IfOk matches (λ m. (asked : List (List ℕ)) → HasMatchesOf commands asked m → fault_of commands asked ≡ [] → result ≡ other_job asked)
+    → (result ≡ other_job words) ⊎ (result ≡ refusal faults.Memory)
+asked_or_refused words (Ok m) result has kinds bad found = inl (found words has kinds)
+asked_or_refused words (Err error) result has kinds bad found =
+    subst (λ (r : Result Job CommandLineFault). (r ≡ other_job words) ⊎ (r ≡ refusal faults.Memory)) (sym bad) (refused words (kind_of error) (fault_of_parse (kind_of error)) refl kinds)
 
-pub refused_by : (words : List (List ℕ)) (a : App) → a ≡ commands → (error : Error) (fault : CommandLineFault) → fault ≡ fault_of_parse (kind_of error) → (is_simple_and_free a ≡ true → HasKind (fault_of a words) error)
-    → (refusal fault ≡ other_job words) ⊎ (refusal fault ≡ refusal faults.Memory)
-refused_by words a is error fault fault_is kinds =
-    refused words (kind_of error) fault fault_is (subst (λ (b : App). is_simple_and_free b ≡ true → HasKind (fault_of b words) error) is kinds commands_are_free)
-
-pub found_by : (words : List (List ℕ)) (a : App) → a ≡ commands → (m : ArgMatches) (o : Option (Bor (List ℕ) × Bor ArgMatches)) → HasMatchesOf a words m → (is_simple_and_free a ≡ true → fault_of a words ≡ [])
-    → option_map (λ p. p.0.now) o ≡ subcommand_name_of m → option_map (λ p. rows_of (found_of p.1.now)) o ≡ option_map (λ p. p.1) (subcommand_rows (out-ArgMatches m).subcommand)
-    → other_job words ≡ job_of_command (option_map {U = List ℕ × List Row} (λ p. (p.0.now, rows_of (found_of p.1.now))) o)
-found_by words a is m o matches none name rows =
-    found words m o (subst (λ (b : App). HasMatchesOf b words m) is matches)
-    (subst (λ (b : App). is_simple_and_free b ≡ true → fault_of b words ≡ []) is none commands_are_free) name rows
+-- a command that is the one above fails as it does
+pub fails_by : (words : List (List ℕ)) (a : App) → a ≡ commands → {M : Type 0} (matches : Result M Error) → (is_simple_and_free a ≡ true → FailsBy (fault_of a words) matches) → FailsBy (fault_of commands words) matches
+fails_by words a is matches kinds = subst (λ (b : App). is_simple_and_free b ≡ true → FailsBy (fault_of b words) matches) is kinds commands_are_free
 
 -- no question
 abbrev IsOther : Job → Type 0

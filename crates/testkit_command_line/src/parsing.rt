@@ -1,9 +1,9 @@
 //! How the words of a command line are read.
-ghost use Rattle.std.specs.Prelude.{◌≡◌, codes, map, string_bytes, false, IfErr, IfOk, Err, Some, ◌⊎◌};
-ghost use Rattle.clap.specs.Words.{app_of, first_value, found_of, kind_of, rows_of};
+ghost use Rattle.std.specs.Prelude.{◌≡◌, ℕ, List, [], codes, map, string_bytes, false, IfErr, IfOk, Err, Some, ◌⊎◌};
+ghost use Rattle.clap.specs.Words.{FailsBy, HasMatchesOf, app_of, fault_of, first_value, found_of, kind_of, rows_of};
 ghost use Rattle.clap.specs.declared.builder.command.Command.TheViews.{out-Command as fields_of};
 ghost use Rattle.testkit_command_line.specs.declared.faults.CommandLineFault.TheVariants.{Memory};
-ghost use Rattle.testkit_command_line.specs.CommandLines.{IsJobOf, IsNoJob, commands, job_of_command, other_job, run_by, run_command};
+ghost use Rattle.testkit_command_line.specs.CommandLines.{IsJobOf, IsNoJob, commands, fault_of_parse, job_of_command, other_job, run_by, run_command};
 
 use crate::faults::{CommandLineFault, parse_fault};
 use crate::jobs::Job;
@@ -59,21 +59,37 @@ fn job_of_command<'w>(name: &str, matches: &ArgMatches<'w>) -> Result<Job<'w>, C
     }
 }
 
-/// The job of a command line that is not a question.
-fn other_job<'w>(alloc: Global, words: &'w [String]) -> Result<Job<'w>, CommandLineFault>
-    ensures job { (result ≡ other_job (map string_bytes words.now)) ⊎ (result ≡ Err Memory) }
+/// What the command-line crate finds in words, or why it refuses them.
+fn matches_of<'w>(alloc: Global, words: &'w [String]) -> Result<ArgMatches<'w>, Error>
+    ensures matches { IfOk result (HasMatchesOf commands (map string_bytes words.now)) }
+    ensures kinds { FailsBy (fault_of commands (map string_bytes words.now)) result }
 {
-    let command = match command(alloc) {
-        Ok(command) => command,
-        Err(error) => return Err(parse_fault(&error)),
-    };
-    match command.try_get_matches_from(words) {
+    command(alloc)?.try_get_matches_from(words)
+}
+
+/// The job that was found in words, or why they were refused.
+fn job_of_matches<'w>(matches: Result<ArgMatches<'w>, Error>) -> Result<Job<'w>, CommandLineFault>
+    ensures refused { IfErr matches.entry (λ error.
+        result ≡ Err (fault_of_parse (kind_of error))) }
+    ensures found { IfOk matches.entry (λ matches. (words : List (List ℕ))
+        → HasMatchesOf commands words matches → fault_of commands words ≡ []
+        → result ≡ other_job words) }
+{
+    match matches {
         Ok(matches) => match matches.subcommand() {
             Some((name, matches)) => job_of_command(name, matches),
             None => Err(CommandLineFault::BadWords),
         },
         Err(error) => Err(parse_fault(&error)),
     }
+}
+
+/// The job of a command line that is not a question.
+fn other_job<'w>(alloc: Global, words: &'w [String]) -> Result<Job<'w>, CommandLineFault>
+    ensures job { (result ≡ other_job (map string_bytes words.now)) ⊎ (result ≡ Err Memory) }
+{
+    let matches = matches_of(alloc, words);
+    job_of_matches(matches)
 }
 
 /// Reads the job that a command line asks for; its first word is the program's name.

@@ -1,3 +1,4 @@
 mod Loads
 mod Replays
 mod Runs
+mod Wanted

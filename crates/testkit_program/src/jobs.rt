@@ -1,11 +1,12 @@
 //! The jobs of the program.
-ghost use Rattle.std.specs.Prelude.{◌≡◌, ◌+◌, ◌⊎◌, map, string_bytes, Err, IfErr, IfOk, OnOk};
+ghost use Rattle.std.specs.Prelude.{◌≡◌, ◌+◌, ◌⊎◌, true, map, string_bytes, Err, IfErr, IfOk, OnOk};
 ghost use Rattle.tk_record.specs.declared.reading.TheConstants.{MAX_TEXT};
 ghost use Rattle.tk_streams.specs.Stream.{ConsumesUpTo};
 ghost use Rattle.tk_streams.specs.declared.transfers.LoadFault.{LoadFault};
 ghost use Rattle.tk_streams.specs.declared.transfers.TheConstants.{CHUNK};
-ghost use Rattle.testkit_program.specs.declared.faults.Fault.TheVariants.{Load};
-ghost use Rattle.testkit_program.specs.Jobs.{IsBroken, IsDone, IsInWriting, IsNotPerformed, IsOfWords, IsPerformed, IsPlanReported, IsRefused, devices, transfer};
+ghost use Rattle.testkit_program.specs.declared.faults.Fault.TheVariants.{Load, Report};
+ghost use Rattle.testkit_program.specs.Jobs.{IsBroken, IsDone, IsInWriting, IsNotPerformed, IsOfWords, IsPerformed, IsPlanOutcome, IsRefused, IsRunOutcome, devices, transfer};
+ghost use Rattle.testkit_program.specs.Statuses.{fault_of_line};
 ghost use Rattle.testkit_command_line.specs.declared.jobs.Job.TheVariants as jobs;
 
 use crate::faults::Fault;
@@ -13,29 +14,82 @@ use std::alloc::Global;
 use std::mem;
 use std::sync::Wait;
 use std::thread::Threads;
-use testkit_command_line::{Job, job_of};
+use testkit_command_line::{CommandLineFault, Job, job_of};
 use testkit_questions::ask;
 use tk_queue_replay::replay_text;
-use tk_record::{MAX_TEXT, Source, Target, load};
-use tk_report::{run_plan, write_report};
+use tk_record::{LoadFault, MAX_TEXT, Source, Target, load};
+use tk_report::{PlanRun, ReportFault, run_plan, write_report};
 
-/// Runs the plan of the source's bytes and writes its report.
+/// Writes the report of a plan's run, or answers why the plan was not run.
 ///
 /// The run's record isn't freed: the program ends after its job, and the system then takes all
 /// memory at once. Freeing plan and record block by block took up to a fifth of the program's time,
 /// freeing the plan alone no time that could be measured.
+fn report_run<T: Target>(
+    alloc: Global,
+    run: Result<PlanRun, ReportFault>,
+    target: &mut T,
+) -> Result<bool, Fault>
+    ensures not_run { IfErr run (λ fault. result ≡ Err (Report fault)) }
+    ensures run { IfOk run (λ run. IsRunOutcome run (T.contents target.old)
+        (T.contents target.new) result) }
+    ensures unwritten { IfErr result (λ fault.
+        IsInWriting fault ⊎ (target.new ≡ target.old)) }
+    ensures device { IfOk run (λ _.
+        result ≡ Err (Report ReportFault.Device) → T.broken target.new ≡ true) }
+{
+    let run = match run {
+        Ok(run) => run,
+        Err(fault) => return Err(Fault::Report(fault)),
+    };
+    // The report gets the memory of the plan.
+    drop(run.engine);
+    let written = write_report(alloc, &run.results, target);
+    mem::forget(run.results);
+    match written {
+        Ok(()) => Ok(true),
+        Err(fault) => Err(Fault::Report(fault)),
+    }
+}
+
+/// Runs the plan of loaded bytes and writes its report, or answers why the bytes were not loaded.
+fn report_loaded<R: Threads + Wait + Sync, T: Target>(
+    rt: &R,
+    alloc: Global,
+    workers: u8,
+    loaded: Result<Vec<u8>, LoadFault>,
+    target: &mut T,
+) -> Result<bool, Fault>
+    ensures not_loaded { IfErr loaded (λ fault. result ≡ Err (Load fault)) }
+    ensures loaded { IfOk loaded (λ bytes. IsPlanOutcome bytes.items workers
+        (T.contents target.old) (T.contents target.new) result) }
+    ensures unwritten { IfErr result (λ fault.
+        IsInWriting fault ⊎ (target.new ≡ target.old)) }
+    ensures device { result ≡ Err (Report ReportFault.Device) → T.broken target.new ≡ true }
+{
+    let bytes = match loaded {
+        Ok(bytes) => bytes,
+        Err(fault) => return Err(Fault::Load(fault)),
+    };
+    let run = run_plan(rt, alloc, bytes.as_slice(), workers as usize);
+    // The report gets the memory of the plan's text.
+    drop(bytes);
+    report_run(alloc, run, target)
+}
+
+/// Runs the plan of the source's bytes and writes its report.
 fn report_plan<R: Threads + Wait + Sync, S: Source, T: Target>(
     rt: &R,
     alloc: Global,
     workers: u8,
     source: &mut S,
     target: &mut T,
-) -> Result<(), Fault>
-    ensures reported { OnOk result (IsPlanReported workers
+) -> Result<bool, Fault>
+    ensures reported { IfOk result (IsDone (jobs.Run workers)
         (transfer (S.remaining source.old) (T.contents target.old) (T.contents target.new))) }
-    ensures unread { IfErr result (λ fault. IsOfWords fault → source.new ≡ source.old) }
     ensures refused { IfErr result (IsRefused (jobs.Run workers)
         (transfer (S.remaining source.old) (T.contents target.old) (T.contents target.new))) }
+    ensures unread { IfErr result (λ fault. IsOfWords fault → source.new ≡ source.old) }
     ensures unwritten { IfErr result (λ fault.
         IsInWriting fault ⊎ (target.new ≡ target.old)) }
     ensures device { IfErr result (IsBroken (devices (S.broken source.new) (T.broken target.new))
@@ -43,23 +97,8 @@ fn report_plan<R: Threads + Wait + Sync, S: Source, T: Target>(
     ensures stops { (fault : LoadFault) → result ≡ Err (Load fault)
         → ConsumesUpTo (MAX_TEXT + CHUNK) (S.remaining source.old) (S.remaining source.new) }
 {
-    let bytes = match load(alloc, source, MAX_TEXT) {
-        Ok(bytes) => bytes,
-        Err(fault) => return Err(Fault::Load(fault)),
-    };
-    let run = match run_plan(rt, alloc, bytes.as_slice(), workers as usize) {
-        Ok(run) => run,
-        Err(fault) => return Err(Fault::Report(fault)),
-    };
-    // The report gets the memory of the plan and of its text.
-    drop(bytes);
-    drop(run.engine);
-    let written = write_report(alloc, &run.results, target);
-    mem::forget(run.results);
-    match written {
-        Ok(()) => Ok(()),
-        Err(fault) => Err(Fault::Report(fault)),
-    }
+    let loaded = load(alloc, source, MAX_TEXT);
+    report_loaded(rt, alloc, workers, loaded, target)
 }
 
 /// Does a job: answers a question, replays a script of the queue, or runs a plan with the job's
@@ -99,10 +138,34 @@ pub fn do_job<R: Threads + Wait + Sync, S: Source, T: Target>(
             Ok(()) => Ok(true),
             Err(fault) => Err(Fault::Replay(fault)),
         },
-        Job::Run(workers) => match report_plan(rt, alloc, workers, source, target) {
-            Ok(()) => Ok(true),
-            Err(fault) => Err(fault),
-        },
+        Job::Run(workers) => report_plan(rt, alloc, workers, source, target),
+    }
+}
+
+/// Does the job that was read from a command line, or answers why there is none.
+fn do_wanted<R: Threads + Wait + Sync, S: Source, T: Target>(
+    rt: &R,
+    alloc: Global,
+    job: Result<Job<'_>, CommandLineFault>,
+    source: &mut S,
+    target: &mut T,
+) -> Result<bool, Fault>
+    ensures no_job { IfErr job.entry (λ fault. result ≡ Err (fault_of_line fault)) }
+    ensures done { IfOk job.entry (λ job. IfOk result (IsDone job
+        (transfer (S.remaining source.old) (T.contents target.old) (T.contents target.new)))) }
+    ensures refused { IfOk job.entry (λ job. IfErr result (IsRefused job
+        (transfer (S.remaining source.old) (T.contents target.old) (T.contents target.new)))) }
+    ensures unread { IfErr result (λ fault. IsOfWords fault → source.new ≡ source.old) }
+    ensures unwritten { IfErr result (λ fault.
+        IsInWriting fault ⊎ (target.new ≡ target.old)) }
+    ensures device { IfErr result (IsBroken (devices (S.broken source.new) (T.broken target.new))
+        (transfer (S.remaining source.old) (T.contents target.old) (T.contents target.new))) }
+    ensures stops { (fault : LoadFault) → result ≡ Err (Load fault)
+        → ConsumesUpTo (MAX_TEXT + CHUNK) (S.remaining source.old) (S.remaining source.new) }
+{
+    match job {
+        Ok(job) => do_job(rt, alloc, job, source, target),
+        Err(fault) => Err(Fault::from(fault)),
     }
 }
 
@@ -130,6 +193,6 @@ pub fn perform<R: Threads + Wait + Sync, S: Source, T: Target>(
     ensures stops { (fault : LoadFault) → result ≡ Err (Load fault)
         → ConsumesUpTo (MAX_TEXT + CHUNK) (S.remaining source.old) (S.remaining source.new) }
 {
-    let job = job_of(alloc, words)?;
-    do_job(rt, alloc, job, source, target)
+    let job = job_of(alloc, words);
+    do_wanted(rt, alloc, job, source, target)
 }

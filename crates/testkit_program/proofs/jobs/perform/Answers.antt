@@ -1,13 +1,16 @@
-use Rattle.std.proofs.Common.{refl, inl}
-use Rattle.std.proofs.lemmas.Result.{err_from_is_err_and}
+use Rattle.std.specs.Prelude.{map, string_bytes}
+use Rattle.testkit_program.specs.Jobs.{transfer}
+use Rattle.testkit_program.proofs.Wanted.{not_performed, performed}
 use Rattle.testkit_program.proofs.jobs.perform.Goals as goal
 
-pub returns-in_err-job-clause-unread : goal.returns-in_err-job-clause-unread
-returns-in_err-job-clause-unread g c =
-    let p = err_from_is_err_and c.from_residual.result c.from_residual.ensures.1 in
-    rw (p.1, p.2) (λ of. refl)
+pub returns-clause-done : goal.returns-clause-done
+returns-clause-done g c =
+    performed (map string_bytes c.args.words.now)
+    (transfer (g.S.Source.remaining c.args.source.now) (g.T.Target.contents c.args.target.now) (g.T.Target.contents c.do_wanted.new.target))
+    c.job_of-job.result c.do_wanted.result c.job_of-job.ensures.job c.do_wanted.ensures.no_job c.do_wanted.ensures.done
 
-pub returns-in_err-job-clause-refused : goal.returns-in_err-job-clause-refused
-returns-in_err-job-clause-refused g c =
-    let p = err_from_is_err_and c.from_residual.result c.from_residual.ensures.1 in
-    rw (p.1, p.2) (inl (c.in_err-job.field-0.0, c.in_err-job.ensures.refused, refl))
+pub returns-clause-refused : goal.returns-clause-refused
+returns-clause-refused g c =
+    not_performed (map string_bytes c.args.words.now)
+    (transfer (g.S.Source.remaining c.args.source.now) (g.T.Target.contents c.args.target.now) (g.T.Target.contents c.do_wanted.new.target))
+    c.job_of-job.result c.do_wanted.result c.job_of-job.ensures.job c.job_of-job.ensures.refused c.do_wanted.ensures.no_job c.do_wanted.ensures.refused

@@ -1,23 +1,25 @@
-use Rattle.std.proofs.Common.{ℕ, List, ap, Err, subst, sym}
-use Rattle.tk_streams.specs.Stream.{IsLoaded}
+use Rattle.std.specs.Prelude.{ℕ, Vec}
+use Rattle.std.specs.Global.{Global}
 use Rattle.testkit_program.specs.Jobs.{devices, transfer}
-use Rattle.testkit_program.proofs.Loads.{load_broken, load_refused}
-use Rattle.testkit_program.proofs.Runs.{not_written}
+use Rattle.testkit_program.proofs.Runs.{run_broken, run_done, run_refused, run_stops, run_unread}
 use Rattle.testkit_program.proofs.jobs.report_plan.Goals as goal
 
-pub returns-in-Err-clause-refused : goal.returns-in-Err-clause-refused
-returns-in-Err-clause-refused g c =
-    load_refused c.args.workers (transfer (g.S.Source.remaining c.args.source.now) (g.T.Target.contents c.args.target.now) (g.T.Target.contents c.args.target.now)) c.in-Err.fault (λ is. c.in-Err.ensures.too_large (ap Err is))
-
-pub returns-in-Err-clause-device : goal.returns-in-Err-clause-device
-returns-in-Err-clause-device g c =
-    load_broken (devices (g.S.Source.broken c.load.new.source) (g.T.Target.broken c.args.target.now))
-    (transfer (g.S.Source.remaining c.args.source.now) (g.T.Target.contents c.args.target.now) (g.T.Target.contents c.args.target.now)) c.in-Err.fault (λ is. c.in-Err.ensures.device (ap Err is))
-
-pub returns-in-Err-written-clause-refused : goal.returns-in-Err-written-clause-refused
-returns-in-Err-written-clause-refused g c =
+pub returns : goal.returns
+returns g c =
+    let items : Vec ℕ Global → _ = λ bytes. bytes.items in
     let input = g.S.Source.remaining c.args.source.now in
-    let left = g.S.Source.remaining c.load.new.source in
-    let loaded = subst (λ (bytes : List ℕ). IsLoaded input left bytes) (sym c.as_slice.ensures.value) c.in-Ok.ensures.ok in
-    not_written c.args.workers input left c.as_slice.result.now (g.T.Target.contents c.args.target.now) (g.T.Target.contents c.write_report-written.new.target)
-    c.in-Ok-run_plan.run' c.in-Err-written.fault loaded (rw c.as_slice.ensures.value c.in-Ok.ensures.within) c.in-Ok-run_plan.ensures c.in-Err-written.ensures.answer
+    let left = g.S.Source.remaining c.load-loaded.new.source in
+    let old = g.T.Target.contents c.args.target.now in
+    let new = g.T.Target.contents c.report_loaded.new.target in
+    let loaded = c.load-loaded.ensures in
+    let ran = c.report_loaded.ensures in
+    let refused = run_refused items c.args.workers input left old new c.load-loaded.result c.report_loaded.result loaded.ok loaded.within loaded.too_large ran.not_loaded ran.loaded in
+    let broken = devices (g.S.Source.broken c.load-loaded.new.source) (g.T.Target.broken c.report_loaded.new.target) in
+    record {
+      reported = run_done items c.args.workers input left old new c.load-loaded.result c.report_loaded.result loaded.ok loaded.within ran.not_loaded ran.loaded;
+      unread = run_unread c.args.workers (transfer input old new) c.report_loaded.result _ refused;
+      refused = refused;
+      unwritten = ran.unwritten;
+      device = run_broken items c.args.workers input left old new broken c.load-loaded.result c.report_loaded.result loaded.device ran.device ran.not_loaded ran.loaded;
+      stops = run_stops items c.args.workers input left old new c.load-loaded.result c.report_loaded.result _ loaded.stops ran.loaded;
+    }
