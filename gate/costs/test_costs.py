@@ -6,7 +6,7 @@ same on each machine, so a limit is a fifth above what was counted, or one; the 
 queue has. The seconds were measured on one machine: a limit is four times what they were, twice for a machine half as fast, and twice
 for what the program may need more. Where a run waits, its seconds by the clock have a limit too.
 
-`PAIRS` has questions of which one may take at most some times as long as the other, whatever the machine.
+`BESIDE` has questions of which one may take at most some times as long as the other, whatever the machine.
 """
 
 import contextlib
@@ -347,7 +347,7 @@ def seconds_of(command: Sequence[str], path: str) -> float:
 ROUNDS = 7
 """How often each question of a pair is asked."""
 
-PAIRS = [
+BESIDE = [
     Pair("ask exclusive test", "ask executions", EVENTS, 1.3),
     Pair("ask explain loosely" + LAST_FAILS, "ask match loosely" + LAST_FAILS, EVENTS, 3),
     Pair("ask explain in-order" + LAST_FAILS, "ask match in-order" + LAST_FAILS, EVENTS, 3),
@@ -382,7 +382,7 @@ class OfTheProgram(WithProgram, WithCounts):
             print(f"{row.name}: {came[0]}")
         self.assertEqual([], faults_of(row, *came))
 
-    @parameterized(PAIRS)
+    @parameterized(BESIDE)
     def test_beside(self, pair):
         ratio = pair.ratio(PROGRAM, folder(self))
         if fixtures.CHOSEN:
