@@ -465,6 +465,11 @@ class OfExamples(WithCounts):
             is_answered = "status" in fault or "it writes" in fault
             self.assertTrue(is_answered or "it writes" not in "; ".join(faults), faults)
 
+    def test_ratio(self):
+        short, long = "-c pass", "-c sum(range(5_000_000))"
+        ratios = [Pair(*words, lambda: b"", 1).ratio(sys.executable, folder(self)) for words in ((long, short), (short, long))]
+        self.assertTrue(ratios[1] < 1 < ratios[0], ratios)
+
     def test_the_largest_input(self):
         text = repeated("ä", "äöü", "x")()
         self.assertTrue(text.startswith("ää".encode()) and text.endswith("üx".encode()))

@@ -124,7 +124,9 @@ def of_exclusives() -> Cases:
     cases: Cases = []
     for number in range(300):
         words = [exclusives.word(numbers) for _ in range(1 + numbers.below(2))]
-        cases.append(modelled(f"generated explanation, exclusive/{number}", ["ask", "explain", "exclusive", *words], exclusives.text_of(numbers)))
+        cases.append(
+            modelled(f"generated explanation, exclusive/{number}", ["ask", "explain", "exclusive", *words], exclusives.text_of(numbers)),
+        )
     met = [case.output.decode()[:2] for case in cases]
     return cases + [each_is_met("generated explanation, exclusive", met, ["ye", "no"], 30)]
 
@@ -144,7 +146,14 @@ def of_lists() -> Cases:
 def cases() -> Cases:
     """Two thousand and two hundred explanations."""
     return (
-        matches("in-order", 58, 300, 13, in_turn, ["yes", "condition", "event", "too early", "none left", *(f"no and {it} nearest" for it in range(4))])
+        matches(
+            "in-order",
+            58,
+            300,
+            13,
+            in_turn,
+            ["yes", "condition", "event", "too early", "none left", *(f"no and {it} nearest" for it in range(4))],
+        )
         + matches("exactly", 59, 300, 9, of_events, ["yes", "wrong-count", "condition", "event", "nearest", "none left", "no and 1 nearest"])
         + matches("loosely", 60, 300, 60, of_some, ["yes", "condition", "event", "none left", *(f"no and {it} nearest" for it in range(4))])
         + of_lifecycles()

@@ -124,7 +124,12 @@ def finishes(lacking: str, *positions: int) -> List[str]:
 
 
 EXPLAINED = [
-    answer("300,000 events/explained list by 100 conditions", ["ask", "explain", "list", "skipped"] + ["not(started)"] * 100, many_events, many_explained_skips),
+    answer(
+        "300,000 events/explained list by 100 conditions",
+        ["ask", "explain", "list", "skipped"] + ["not(started)"] * 100,
+        many_events,
+        many_explained_skips,
+    ),
     answer("300,000 events/explained executions", "ask explain executions", many_events, many_explained_executions),
     no(
         "300,000 events/explained loosely, the last fails",
