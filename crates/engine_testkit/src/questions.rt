@@ -1,6 +1,9 @@
 //! Questions about a record: conditions, matchers, executions, which of them overlap, lifecycle, and
 //! what `ask` answers.
-pub use testkit_questions::{AskFault, AskFaultText, Mode, Overview, Question, ask, read_question};
+pub use testkit_questions::{
+    AskFault, AskFaultText, Explainable, Mode, Overview, Question, Request, ask, read_question,
+    read_request,
+};
 pub use tk_explanations::{ExplainFault, explain_exclusive, explain_executions, explain_list};
 pub use tk_query::{
     CondFault, Condition, ENDING_NAME, Ending, Exact, Exclusive, Execution, ExecutionIter,

@@ -8,18 +8,18 @@ use Rattle.tk_record.specs.Text.{IsAnswer}
 use Rattle.tk_record.proofs.AnswerIsUnique as recorded
 use Rattle.testkit_questions.specs.declared.faults.AskFault.{AskFault}
 use Rattle.testkit_questions.specs.declared.faults.AskFault.TheVariants as faults
-use Rattle.testkit_questions.specs.declared.questions.Question.{Question}
-use Rattle.testkit_questions.specs.Questions.{Asks, IsAskedAs}
-use Rattle.testkit_questions.specs.Answers.{IsAnswerTo}
+use Rattle.testkit_questions.specs.declared.requests.Request.{Request}
+use Rattle.testkit_questions.specs.Requests.{IsRequestedAs, Requests}
+use Rattle.testkit_questions.specs.Explanations.{IsResponseTo}
 use Rattle.testkit_questions.specs.Asked.{IsAnswered, IsRefusal}
 use Rattle.testkit_questions.specs.Laws.{Answered, Refused, IsSettled, AnswerIsUnique}
-use Rattle.testkit_questions.proofs.OneReading.{IsOfWords, one_reading}
-use Rattle.testkit_questions.proofs.OneReply.{one_reply}
+use Rattle.testkit_questions.proofs.OneRequest.{IsOfWordsAlone, one_request}
+use Rattle.testkit_questions.proofs.OneResponse.{AreUnique, one_response}
 
 -- what a settled refusal is of: the words, or the input after good words
 data Cause (words : List (List ℕ)) (input : List ℕ) (fault : AskFault) : Type 0 where
-  of_words : IsOfWords (Err fault) → IsAskedAs words (Err fault) → Cause words input fault
-  of_input : (f : ReadFault) (q : Question) → fault ≡ faults.Read f → Asks words q → record_laws.IsSettled (Err f) → IsAnswer input (Err f) → Cause words input fault
+  of_words : IsOfWordsAlone (Err fault) → IsRequestedAs words (Err fault) → Cause words input fault
+  of_input : (f : ReadFault) (q : Request) → fault ≡ faults.Read f → Requests words q → record_laws.IsSettled (Err f) → IsAnswer input (Err f) → Cause words input fault
 
 settled_read : (f : ReadFault) → IsSettled (Refused (faults.Read f)) → record_laws.IsSettled (Err f)
 settled_read read.NoHeader s = tt
@@ -47,24 +47,24 @@ same_error : (f g : ReadFault) → (let x : Result Recorded ReadFault = Err f in
 same_error f g e = cc
 
 not_refused : (words : List (List ℕ)) (input : List ℕ) (y : Bool) (o : List ℕ) (fault : AskFault) → IsAnswered words input y o → Cause words input fault → ⊥
-not_refused words input y o fault a (of_words s h) = one_reading words (Ok a.0) (Err fault) tt s a.1 h
+not_refused words input y o fault a (of_words s h) = one_request words (Ok a.0) (Err fault) tt s a.1 h
 not_refused words input y o fault a (of_input f q is asks s h) = ok_err a.2.0 f (recorded.answer_is_unique input (Ok a.2.0) (Err f) tt s a.2.1 h)
 
 one_refusal : (words : List (List ℕ)) (input : List ℕ) (f g : AskFault) → Cause words input f → Cause words input g → f ≡ g
-one_refusal words input f g (of_words s h) (of_words t k) = one_reading words (Err f) (Err g) s t h k
-one_refusal words input f g (of_words s h) (of_input j q is asks t k) = absurd (one_reading words (Err f) (Ok q) s tt h asks)
-one_refusal words input f g (of_input i p at asks s h) (of_words t k) = absurd (one_reading words (Ok p) (Err g) tt t asks k)
+one_refusal words input f g (of_words s h) (of_words t k) = one_request words (Err f) (Err g) s t h k
+one_refusal words input f g (of_words s h) (of_input j q is asks t k) = absurd (one_request words (Err f) (Ok q) s tt h asks)
+one_refusal words input f g (of_input i p at asks s h) (of_words t k) = absurd (one_request words (Ok p) (Err g) tt t asks k)
 one_refusal words input f g (of_input i p at asks s h) (of_input j q is too t k) =
     at ∙ ap (λ (x : ReadFault). faults.Read x) (same_error i j (recorded.answer_is_unique input (Err i) (Err j) s t h k)) ∙ sym is
 
 answered_same : (y z : Bool) (o p : List ℕ) → y ≡ z → o ≡ p → Answered y o ≡ Answered z p
 answered_same y z o p e f = rw (e, f) refl
 
-pub answer_is_unique : AnswerIsUnique
-answer_is_unique words input (Answered y o) (Answered z u) s t a b =
+pub answer_is_unique : AreUnique → AnswerIsUnique
+answer_is_unique unique words input (Answered y o) (Answered z u) s t a b =
     let r = (recorded.text_is_unique a.2.1.1.0 b.2.1.1.0 a.2.0 b.2.0 a.2.1.1.1 b.2.1.1.1 (sym a.2.1.1.2 ∙ b.2.1.1.2)).1 in
-    let same = one_reply a.0 b.0 b.2.0 y z o u (one_reading words (Ok a.0) (Ok b.0) tt tt a.1 b.1) (subst (λ (x : Recorded). IsAnswerTo a.0 x y o) r a.2.2) b.2.2 in
+    let same = one_response unique a.0 b.0 b.2.0 y z o u (one_request words (Ok a.0) (Ok b.0) tt tt a.1 b.1) (subst (λ (x : Recorded). IsResponseTo a.0 x y o) r a.2.2) b.2.2 in
     answered_same y z o u same.0 same.1
-answer_is_unique words input (Answered y o) (Refused g) s t a b = absurd (not_refused words input y o g a (cause words input g t b))
-answer_is_unique words input (Refused f) (Answered z u) s t a b = absurd (not_refused words input z u f b (cause words input f s a))
-answer_is_unique words input (Refused f) (Refused g) s t a b = ap (λ (x : AskFault). Refused x) (one_refusal words input f g (cause words input f s a) (cause words input g t b))
+answer_is_unique unique words input (Answered y o) (Refused g) s t a b = absurd (not_refused words input y o g a (cause words input g t b))
+answer_is_unique unique words input (Refused f) (Answered z u) s t a b = absurd (not_refused words input z u f b (cause words input f s a))
+answer_is_unique unique words input (Refused f) (Refused g) s t a b = ap (λ (x : AskFault). Refused x) (one_refusal words input f g (cause words input f s a) (cause words input g t b))

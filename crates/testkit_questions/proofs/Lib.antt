@@ -1,6 +1,10 @@
 pub mod AnswerLemmas
 pub mod AskLemmas
 pub mod WordLemmas
+pub mod RequestLemmas
 pub mod OneReading
+pub mod OneRequest
 pub mod OneReply
+pub mod LikeExplanations
+pub mod OneResponse
 pub mod AnswerIsUnique

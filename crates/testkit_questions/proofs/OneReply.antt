@@ -26,7 +26,7 @@ use Rattle.tk_query.specs.declared.execution.Execution.{Execution}
 use Rattle.tk_query.specs.Asked.{event_at, is_there, fits}
 use Rattle.tk_query.specs.Exclusive.{Collide, CollideAt, IsExclusive, conflict}
 use Rattle.tk_query.specs.Holds.{cond_holds, holds}
-use Rattle.tk_query.specs.InOrder.{HoldInTurn}
+use Rattle.tk_query.specs.InOrder.{HoldInTurn, IsLeastInTurn}
 use Rattle.tk_query.specs.Laws as laws
 use Rattle.tk_query.specs.Matches.{HoldsAt, IsFirstUnlike, IsExact, HoldsSomewhere, IsFirstNowhere, IsLoose, IsInOrder}
 use Rattle.tk_query.proofs.AnswerIsUnique.{one_exact, one_loose, one_in_order, one_list, one_exclusive}
@@ -44,7 +44,7 @@ use Rattle.testkit_questions.proofs.OneReading.{AreAlike, AreSame}
 
 -- ---- conditions that say the same hold alike
 
-as_many : (cs ds : List Condition) → AreAlike cs ds → length cs ≡ length ds
+pub as_many : (cs ds : List Condition) → AreAlike cs ds → length cs ≡ length ds
 as_many [] [] h = refl
 as_many [] (d ∷ ds) h = absurd h
 as_many (c ∷ cs) [] h = absurd h
@@ -56,23 +56,23 @@ back [] (d ∷ ds) h = absurd h
 back (c ∷ cs) [] h = absurd h
 back (c ∷ cs) (d ∷ ds) h = (sym h.0, back cs ds h.1)
 
-prefix : (n : ℕ) (cs ds : List Condition) → AreAlike cs ds → AreAlike (take n cs) (take n ds)
+pub prefix : (n : ℕ) (cs ds : List Condition) → AreAlike cs ds → AreAlike (take n cs) (take n ds)
 prefix zero cs ds h = tt
 prefix (suc n) [] [] h = tt
 prefix (suc n) [] (d ∷ ds) h = absurd h
 prefix (suc n) (c ∷ cs) [] h = absurd h
 prefix (suc n) (c ∷ cs) (d ∷ ds) h = (h.0, prefix n cs ds h.1)
 
-like_at : (cs ds : List Condition) (k : ℕ) (c : Condition) → AreAlike cs ds → slice_get cs k ≡ Some c → (d : Condition) × (slice_get ds k ≡ Some d) × (cond_of c ≡ cond_of d)
+pub like_at : (cs ds : List Condition) (k : ℕ) (c : Condition) → AreAlike cs ds → slice_get cs k ≡ Some c → (d : Condition) × (slice_get ds k ≡ Some d) × (cond_of c ≡ cond_of d)
 like_at [] ds k c h e = absurd (none-some c e)
 like_at (x ∷ cs) [] k c h e = absurd h
 like_at (x ∷ cs) (y ∷ ds) zero c h e = (y, refl, ap (λ (z : Condition). cond_of z) (sym (same_Some x c e)) ∙ h.0)
 like_at (x ∷ cs) (y ∷ ds) (suc k) c h e = like_at cs ds k c h.1 e
 
-same_holds : (r : Recorded) (c d : Condition) (e : Entry) → cond_of c ≡ cond_of d → holds r c e ≡ holds r d e
+pub same_holds : (r : Recorded) (c d : Condition) (e : Entry) → cond_of c ≡ cond_of d → holds r c e ≡ holds r d e
 same_holds r c d e same = ap (λ (x : Cond). cond_holds r x e) same
 
-same_fits : (asked : Selected) (c d : Condition) (position : ℕ) → cond_of c ≡ cond_of d → fits asked c position ≡ fits asked d position
+pub same_fits : (asked : Selected) (c d : Condition) (position : ℕ) → cond_of c ≡ cond_of d → fits asked c position ≡ fits asked d position
 same_fits asked c d position same = ap (λ (x : Cond). is_there (λ (e : Entry). cond_holds asked.recorded x e) (event_at asked.kept position)) same
 
 module _ (cs ds : List Condition) (like : AreAlike cs ds) where
@@ -96,7 +96,7 @@ module _ (cs ds : List Condition) (like : AreAlike cs ds) where
         before = λ j lt. holds_at r l j (u.before j lt);
       }
 
-  exact_too : (asked : Selected) (a : Exact) → IsExact asked cs a → IsExact asked ds a
+  pub exact_too : (asked : Selected) (a : Exact) → IsExact asked cs a → IsExact asked ds a
   exact_too asked exact.Yes h = (sym (as_many cs ds like) ∙ h.0, λ k lt. holds_at asked.recorded (events_of asked) k (h.1 k (below k lt)))
   exact_too asked exact.WrongCount h = λ e. h (as_many cs ds like ∙ e)
   exact_too asked (exact.No k) h = (sym (as_many cs ds like) ∙ h.0, unlike asked.recorded (events_of asked) k h.1)
@@ -116,7 +116,7 @@ module _ (cs ds : List Condition) (like : AreAlike cs ds) where
         before = λ j lt. somewhere asked j (u.before j lt);
       }
 
-  loose_too : (asked : Selected) (a : Loose) → IsLoose asked cs a → IsLoose asked ds a
+  pub loose_too : (asked : Selected) (a : Loose) → IsLoose asked cs a → IsLoose asked ds a
   loose_too asked loose.Yes h = λ k lt. somewhere asked k (h k (below k lt))
   loose_too asked (loose.No k) h = nowhere asked k h
 
@@ -127,11 +127,14 @@ in_turn asked from (c ∷ cs) [] ps like h = absurd like
 in_turn asked from (c ∷ cs) (d ∷ ds) [] like h = absurd h
 in_turn asked from (c ∷ cs) (d ∷ ds) (p ∷ ps) like h = (h.0, sym (same_fits asked c d p like.0) ∙ h.1, in_turn asked (p + 1) cs ds ps like.1 h.2)
 
-in_order_too : (asked : Selected) (cs ds : List Condition) (a : InOrder) → AreAlike cs ds → IsInOrder asked cs a → IsInOrder asked ds a
-in_order_too asked cs ds (in_order.Yes ps) like h = record {
-  holds = in_turn asked 0 cs ds ps.items like h.holds;
+pub least_too : (asked : Selected) (cs ds : List Condition) (ps : List ℕ) → AreAlike cs ds → IsLeastInTurn (fits asked) cs ps → IsLeastInTurn (fits asked) ds ps
+least_too asked cs ds ps like h = record {
+  holds = in_turn asked 0 cs ds ps like h.holds;
   least = λ qs k. h.least qs (in_turn asked 0 ds cs qs (back cs ds like) k);
 }
+
+pub in_order_too : (asked : Selected) (cs ds : List Condition) (a : InOrder) → AreAlike cs ds → IsInOrder asked cs a → IsInOrder asked ds a
+in_order_too asked cs ds (in_order.Yes ps) like h = least_too asked cs ds ps.items like h
 in_order_too asked cs ds (in_order.No k) like h = record {
   within = subst (λ (n : ℕ). k < n) (as_many cs ds like) h.within;
   stuck = λ can. h.stuck (can.0, in_turn asked 0 (take (k + 1) ds) (take (k + 1) cs) can.0 (prefix (k + 1) ds cs (back cs ds like)) can.1);
@@ -145,7 +148,7 @@ all_alike r [] (d ∷ ds) e like = absurd like
 all_alike r (c ∷ cs) [] e like = absurd like
 all_alike r (c ∷ cs) (d ∷ ds) e like = ap₂ (λ x y. x && y) (same_holds r c d e like.0) (all_alike r cs ds e like.1)
 
-same_events : (s : Selection) (cs ds : List Condition) (r : Recorded) → AreAlike cs ds → events_where s cs r ≡ events_where s ds r
+pub same_events : (s : Selection) (cs ds : List Condition) (r : Recorded) → AreAlike cs ds → events_where s cs r ≡ events_where s ds r
 same_events s cs ds r like =
     ap (λ (kept : List PositionedEntry). record { recorded = r; kept = kept })
     (filter_agree (λ x. selects s r x.entry && list_all (λ c. holds r c x.entry) cs) (λ x. selects s r x.entry && list_all (λ d. holds r d x.entry) ds)
@@ -169,7 +172,7 @@ module _ (asked : Selected) (w v r s : Condition) (writers : cond_of w ≡ cond_
   collide_at_too : (p q : ℕ) → CollideAt asked w r p q → CollideAt asked v s p q
   collide_at_too p q c = record { x = c.x; y = c.y; first = c.first; second = c.second; collide = collide_too c.x c.y c.collide }
 
-exclusive_too : (asked : Selected) (w v r s : Condition) → cond_of w ≡ cond_of v → cond_of r ≡ cond_of s → (a : Exclusive) → IsExclusive asked w r a → IsExclusive asked v s a
+pub exclusive_too : (asked : Selected) (w v r s : Condition) → cond_of w ≡ cond_of v → cond_of r ≡ cond_of s → (a : Exclusive) → IsExclusive asked w r a → IsExclusive asked v s a
 exclusive_too asked w v r s writers readers exclusives.Yes h = λ x y c. h x y (collide_too asked v w s r (sym writers) (sym readers) x y c)
 exclusive_too asked w v r s writers readers (exclusives.No p q) h = record {
   order = h.order;

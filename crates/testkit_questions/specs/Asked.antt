@@ -11,19 +11,19 @@ use Rattle.tk_record.specs.declared.reading.TheConstants.{MAX_TEXT}
 use Rattle.tk_record.specs.Text.{IsAnswer}
 use Rattle.testkit_questions.specs.declared.faults.AskFault.{AskFault}
 use Rattle.testkit_questions.specs.declared.faults.AskFault.TheVariants as faults
-use Rattle.testkit_questions.specs.declared.questions.Question.{Question}
-use Rattle.testkit_questions.specs.Questions.{Asks, IsAskedAs}
-use Rattle.testkit_questions.specs.Answers.{IsAnswerTo}
+use Rattle.testkit_questions.specs.declared.requests.Request.{Request}
+use Rattle.testkit_questions.specs.Requests.{IsRequestedAs, Requests}
+use Rattle.testkit_questions.specs.Explanations.{IsResponseTo}
 
--- the input is read as a record, and this is the answer to the question about it
-abbrev pub IsAnswerAbout : Question → List ℕ → Bool → List ℕ → Type 0
-IsAnswerAbout question input is_yes output =
-    (r : Recorded) × IsAnswer input (Ok r) × IsAnswerTo question r is_yes output
+-- the input is read as a record, and this is the response to the request about it
+abbrev pub IsResponseAbout : Request → List ℕ → Bool → List ℕ → Type 0
+IsResponseAbout request input is_yes output =
+    (r : Recorded) × IsAnswer input (Ok r) × IsResponseTo request r is_yes output
 
--- the words ask a question, and this is the answer to it about the record that the input is read as
+-- the words ask for a response, and this is the one about the record that the input is read as
 abbrev pub IsAnswered : List (List ℕ) → List ℕ → Bool → List ℕ → Type 0
 IsAnswered words input is_yes output =
-    (question : Question) × Asks words question × IsAnswerAbout question input is_yes output
+    (request : Request) × Requests words request × IsResponseAbout request input is_yes output
 
 -- the answer was added to what was written, and nothing else
 abbrev pub AddsAnswer :
@@ -45,16 +45,16 @@ pub record Written : Type 0 where
 abbrev pub written : Option (List ℕ) → Option (List ℕ) → Written
 written old new = record { old = old; new = new }
 
--- What answering a question about a record gives: the answer was added; or a prefix of it, and the
--- target broke; or an allocation failed.
-abbrev pub IsReply : Question → Recorded → Written → Result Bool AskFault → Type 0
-IsReply question r w (Ok is_yes) =
-    (output : List ℕ) × IsAnswerTo question r is_yes output × Appends w.old w.new output
-IsReply question r w (Err faults.Device) =
+-- What responding to a request about a record gives: the response was added; or a prefix of it, and
+-- the target broke; or an allocation failed.
+abbrev pub IsReply : Request → Recorded → Written → Result Bool AskFault → Type 0
+IsReply request r w (Ok is_yes) =
+    (output : List ℕ) × IsResponseTo request r is_yes output × Appends w.old w.new output
+IsReply request r w (Err faults.Device) =
     (is_yes : Bool) × (output : List ℕ)
-    × IsAnswerTo question r is_yes output × AppendsPrefix w.old w.new output
-IsReply question r w (Err faults.Memory) = Unit {0}
-IsReply question r w (Err _) = ⊥
+    × IsResponseTo request r is_yes output × AppendsPrefix w.old w.new output
+IsReply request r w (Err faults.Memory) = Unit {0}
+IsReply request r w (Err _) = ⊥
 
 -- No more was taken of the source than a record text may have and one read past that, or all of an
 -- input that has no more than a record text may have.
@@ -83,11 +83,11 @@ IsReadRefusal input _ = ⊥
 -- fails while a condition or the input is read gives `Memory`, never `Condition i Memory` or
 -- `Read Memory`.
 abbrev pub IsRefusal : List (List ℕ) → Option (List ℕ) → AskFault → Type 0
-IsRefusal words input faults.Question = IsAskedAs words (Err faults.Question)
-IsRefusal words input (faults.Word i) = IsAskedAs words (Err (faults.Word i))
+IsRefusal words input faults.Question = IsRequestedAs words (Err faults.Question)
+IsRefusal words input (faults.Word i) = IsRequestedAs words (Err (faults.Word i))
 IsRefusal words input (faults.Condition i fault) =
-    IsAskedAs words (Err (faults.Condition i fault)) × (fault ≢ conditions.Memory)
+    IsRequestedAs words (Err (faults.Condition i fault)) × (fault ≢ conditions.Memory)
 IsRefusal words input (faults.Read fault) =
-    ((question : Question) × Asks words question) × IsReadRefusal input (faults.Read fault)
-IsRefusal words input faults.Device = (question : Question) × Asks words question
+    ((request : Request) × Requests words request) × IsReadRefusal input (faults.Read fault)
+IsRefusal words input faults.Device = (request : Request) × Requests words request
 IsRefusal words input faults.Memory = Unit {0}

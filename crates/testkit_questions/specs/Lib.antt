@@ -1,7 +1,11 @@
 pub mod Characters
 pub mod Questions
+pub mod Explainables
+pub mod Requests
 pub mod Answers
+pub mod Explanations
 pub mod Replies
 pub mod Asked
 pub mod Laws
 pub mod FaultTexts
+pub mod FaultsOfExplanations

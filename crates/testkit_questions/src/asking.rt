@@ -6,11 +6,14 @@ ghost use Rattle.tk_record.specs.declared.reading.ReadFault.TheVariants as read_
 ghost use Rattle.tk_record.specs.declared.reading.TheConstants.{MAX_TEXT};
 ghost use Rattle.tk_streams.specs.Stream.{ConsumesUpTo};
 ghost use Rattle.tk_streams.specs.declared.transfers.TheConstants.{CHUNK};
+ghost use Rattle.testkit_questions.specs.declared.requests.Request.TheVariants as requests;
 ghost use Rattle.testkit_questions.specs.Asked.{AddsAnswer, AddsPrefix, IsOfWords, IsReadInTime, IsReadRefusal, IsRefusal, IsReply, written};
 
 use crate::answers::reply_to;
+use crate::explanations::explain;
 use crate::faults::AskFault;
-use crate::questions::{Question, read_question};
+use crate::questions::{Explainable, Question};
+use crate::requests::{Request, read_request};
 use std::alloc::Global;
 use tk_record::{ReadFault, Record, Source, Target, read_record};
 
@@ -39,7 +42,7 @@ fn write_answer<T: Target>(
     question: &Question,
     target: &mut T,
 ) -> Result<bool, AskFault>
-    ensures answer { IsReply question.now «record».now
+    ensures answer { IsReply (requests.Answer question.now) «record».now
         (written (T.contents target.old) (T.contents target.new)) result }
     ensures unwritten { IsErrOf result AskFault.Memory → target.new ≡ target.old }
     ensures device { IsErrOf result AskFault.Device → T.broken target.new ≡ true }
@@ -52,11 +55,47 @@ fn write_answer<T: Target>(
     }
 }
 
+// Writes the explanation of the answer to a question about a record.
+fn write_explanation<T: Target>(
+    alloc: Global,
+    record: &Record,
+    explainable: &Explainable,
+    target: &mut T,
+) -> Result<bool, AskFault>
+    ensures answer { IsReply (requests.Explain explainable.now) «record».now
+        (written (T.contents target.old) (T.contents target.new)) result }
+    ensures unwritten { IsErrOf result AskFault.Memory → target.new ≡ target.old }
+    ensures device { IsErrOf result AskFault.Device → T.broken target.new ≡ true }
+{
+    let is_yes = explain(alloc, record, explainable, target)?;
+    Ok(is_yes)
+}
+
+// Writes what is asked for about a record.
+fn respond<T: Target>(
+    alloc: Global,
+    record: &Record,
+    request: &Request,
+    target: &mut T,
+) -> Result<bool, AskFault>
+    ensures answer { IsReply request.now «record».now
+        (written (T.contents target.old) (T.contents target.new)) result }
+    ensures unwritten { IsErrOf result AskFault.Memory → target.new ≡ target.old }
+    ensures device { IsErrOf result AskFault.Device → T.broken target.new ≡ true }
+{
+    match request {
+        Request::Answer(question) => write_answer(alloc, record, question, target),
+        Request::Explain(explainable) => write_explanation(alloc, record, explainable, target),
+    }
+}
+
 /// Answers the question that the words ask about the record whose text the source gives, and says
-/// whether the answer is a yes: false where a match says no, or an expectation fails.
+/// whether the answer is a yes: false where a match says no, or an expectation fails. After the
+/// word `explain` it writes below the answer why it is the answer.
 ///
 /// The words are judged before the input is read. Nothing is written before all memory was had:
-/// executions, lists and reports then go out in pieces of 64 KiB, and other answers as a whole.
+/// executions, lists, reports and explanations then go out in pieces of 64 KiB, and other answers
+/// as a whole.
 ///
 /// # Errors
 /// `Question`, `Word` or `Condition` for bad words, `Read` for an input that is no record text or a
@@ -85,7 +124,7 @@ pub fn ask<S: Source, T: Target>(
         → S.broken source.new ≡ true }
     ensures stops { IsReadInTime (S.remaining source.old) (S.remaining source.new) }
 {
-    let question = read_question(alloc, words)?;
+    let request = read_request(alloc, words)?;
     let recorded = read_input(alloc, source)?;
-    write_answer(alloc, &recorded, &question, target)
+    respond(alloc, &recorded, &request, target)
 }

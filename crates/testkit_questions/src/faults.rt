@@ -1,10 +1,12 @@
 //! Why a question is not answered.
 ghost use Rattle.std.specs.Prelude.{◌≡◌};
 ghost use Rattle.testkit_questions.specs.declared.faults.AskFault.TheVariants.{Memory as MemoryFault};
+ghost use Rattle.testkit_questions.specs.FaultsOfExplanations.{ask_fault_of};
 
 use crate::fault_texts::AskFaultText;
 use std::alloc::AllocError;
 use thiserror::Error;
+use tk_explanations::ExplainFault;
 use tk_query::CondFault;
 use tk_record::ReadFault;
 
@@ -31,5 +33,16 @@ impl From<AllocError> for AskFault {
 
     fn from(_error: AllocError) -> AskFault {
         AskFault::Memory
+    }
+}
+
+impl From<ExplainFault> for AskFault {
+    ghost from_gives = { λ fault e. e ≡ ask_fault_of fault };
+
+    fn from(fault: ExplainFault) -> AskFault {
+        match fault {
+            ExplainFault::Device => AskFault::Device,
+            ExplainFault::Memory => AskFault::Memory,
+        }
     }
 }

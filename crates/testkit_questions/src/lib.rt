@@ -5,13 +5,16 @@ mod answers;
 mod asking;
 mod execution_lines;
 mod expectations;
+mod explanations;
 mod fault_texts;
 mod faults;
 pub mod laws;
 mod questions;
 mod replies;
+mod requests;
 
 pub use asking::ask;
 pub use fault_texts::AskFaultText;
 pub use faults::AskFault;
-pub use questions::{Mode, Overview, Question, read_question};
+pub use questions::{Explainable, Mode, Overview, Question, read_question};
+pub use requests::{Request, read_request};

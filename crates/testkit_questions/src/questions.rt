@@ -2,6 +2,7 @@
 ghost use Rattle.std.specs.Prelude.{◌≡◌, ◌∷◌, map, string_bytes, IfOk, IfErr, Ok};
 ghost use Rattle.tk_query_conditions.specs.Answer.{IsReadAs};
 ghost use Rattle.testkit_questions.specs.Questions.{IsAskedAs, IsMode, IsOverview, AreConditions, IsConditionFault, IsWordFault, count, exclusive_word, list_word, match_word, overview_name};
+ghost use Rattle.testkit_questions.specs.Explainables.{asking, question_of};
 
 use crate::expectations::read_expectations;
 use crate::faults::AskFault;
@@ -47,6 +48,37 @@ pub enum Question {
     Exclusive(Condition, Condition),
     /// The executions, the lifecycle or the report.
     Overview(Overview),
+}
+
+/// A question whose answer can be explained.
+#[derive(Drop)]
+pub enum Explainable {
+    /// Whether the events match conditions.
+    Match(Mode, Vec<Condition>),
+    /// Which events a selection keeps of which each condition holds.
+    List(Selection, Vec<Condition>),
+    /// Whether executions that conflict kept away from each other: those of writers, which the
+    /// first condition names, and those of readers, which the second names.
+    Exclusive(Condition, Condition),
+    /// The executions.
+    Executions,
+    /// Whether the record keeps the lifecycle that a listener of an engine may rely on.
+    Lifecycle,
+}
+
+impl Explainable {
+    /// The question itself.
+    pub fn into_question(self) -> Question
+        ensures { result ≡ question_of self }
+    {
+        match self {
+            Explainable::Match(mode, conditions) => Question::Match(mode, conditions),
+            Explainable::List(selection, conditions) => Question::List(selection, conditions),
+            Explainable::Exclusive(writers, readers) => Question::Exclusive(writers, readers),
+            Explainable::Executions => Question::Overview(Overview::Executions),
+            Explainable::Lifecycle => Question::Overview(Overview::Lifecycle),
+        }
+    }
 }
 
 impl Mode {
@@ -104,8 +136,8 @@ fn read_conditions(alloc: Global, words: &[String]) -> Result<Vec<Condition>, As
     Ok(conditions)
 }
 
-fn read_match(alloc: Global, words: &[String]) -> Result<Question, AskFault>
-    ensures { IsAskedAs (match_word ∷ map string_bytes words.now) result }
+pub(crate) fn read_match(alloc: Global, words: &[String]) -> Result<Explainable, AskFault>
+    ensures { IsAskedAs (match_word ∷ map string_bytes words.now) (asking result) }
 {
     let Some((mode, texts)) = words.split_first() else {
         return Err(AskFault::Word(0));
@@ -114,11 +146,11 @@ fn read_match(alloc: Global, words: &[String]) -> Result<Question, AskFault>
         return Err(AskFault::Word(0));
     };
     let conditions = read_conditions(alloc, texts)?;
-    Ok(Question::Match(mode, conditions))
+    Ok(Explainable::Match(mode, conditions))
 }
 
-fn read_list(alloc: Global, words: &[String]) -> Result<Question, AskFault>
-    ensures { IsAskedAs (list_word ∷ map string_bytes words.now) result }
+pub(crate) fn read_list(alloc: Global, words: &[String]) -> Result<Explainable, AskFault>
+    ensures { IsAskedAs (list_word ∷ map string_bytes words.now) (asking result) }
 {
     let Some((selection, texts)) = words.split_first() else {
         return Err(AskFault::Word(0));
@@ -127,7 +159,7 @@ fn read_list(alloc: Global, words: &[String]) -> Result<Question, AskFault>
         return Err(AskFault::Word(0));
     };
     let conditions = read_conditions(alloc, texts)?;
-    Ok(Question::List(selection, conditions))
+    Ok(Explainable::List(selection, conditions))
 }
 
 fn read_count(words: &[String]) -> Result<Question, AskFault>
@@ -147,8 +179,8 @@ fn read_count(words: &[String]) -> Result<Question, AskFault>
 }
 
 // Reads the conditions of writers and of readers. Without the second there are no readers.
-fn read_exclusive(alloc: Global, words: &[String]) -> Result<Question, AskFault>
-    ensures { IsAskedAs (exclusive_word ∷ map string_bytes words.now) result }
+pub(crate) fn read_exclusive(alloc: Global, words: &[String]) -> Result<Explainable, AskFault>
+    ensures { IsAskedAs (exclusive_word ∷ map string_bytes words.now) (asking result) }
 {
     let Some((writers, more)) = words.split_first() else {
         return Err(AskFault::Word(0));
@@ -156,11 +188,11 @@ fn read_exclusive(alloc: Global, words: &[String]) -> Result<Question, AskFault>
     let writers = read_numbered_condition(alloc, 0, writers.as_str())?;
     let Some((readers, more)) = more.split_first() else {
         let nobody = Condition::Any(Vec::new(alloc));
-        return Ok(Question::Exclusive(writers, nobody));
+        return Ok(Explainable::Exclusive(writers, nobody));
     };
     let readers = read_numbered_condition(alloc, 1, readers.as_str())?;
     if more.is_empty() {
-        Ok(Question::Exclusive(writers, readers))
+        Ok(Explainable::Exclusive(writers, readers))
     } else {
         Err(AskFault::Word(2))
     }
@@ -193,9 +225,9 @@ pub fn read_question(alloc: Global, words: &[String]) -> Result<Question, AskFau
             Err(at) => Err(AskFault::Word(at)),
         },
         "count" => read_count(words),
-        "match" => read_match(alloc, words),
-        "list" => read_list(alloc, words),
-        "exclusive" => read_exclusive(alloc, words),
+        "match" => Ok(read_match(alloc, words)?.into_question()),
+        "list" => Ok(read_list(alloc, words)?.into_question()),
+        "exclusive" => Ok(read_exclusive(alloc, words)?.into_question()),
         name => match Overview::read(name) {
             Some(overview) => read_overview(overview, words),
             None => Err(AskFault::Question),

@@ -15,15 +15,15 @@ use Rattle.std.specs.Prelude.{
 }
 use Rattle.std.specs.List.{flat_map}
 use Rattle.std.specs.Fmt.{decimal}
-use Rattle.tk_ids.specs.IdText.{id_text}
-use Rattle.tk_ids.specs.declared.descriptors.Descriptor.{Descriptor}
 use Rattle.tk_events.specs.declared.events.Entry.{Entry}
-use Rattle.tk_events.specs.Fields.{field_text, line_feed}
+use Rattle.tk_events.specs.Fields.{line_feed}
 use Rattle.tk_record_columns.specs.Entries.{desc}
 use Rattle.tk_record_columns.specs.Recorded.{Recorded}
 use Rattle.tk_record.specs.Spelling.{entry_line}
 use Rattle.tk_query.specs.AnswerTexts.{blank}
 use Rattle.tk_query.specs.declared.execution.Execution.{Execution}
+pub use Rattle.tk_explanations.specs.DescriptorTexts.{quotation_mark, id_field, descriptor_text}
+use Rattle.tk_explanations.specs.Sentences.{sentence_text}
 use Rattle.tk_explanations.specs.declared.rows.Note.{Note}
 use Rattle.tk_explanations.specs.declared.rows.Note.TheVariants.{Nothing, Lacks, NotAfter}
 use Rattle.tk_explanations.specs.declared.rows.Row.{Row}
@@ -34,23 +34,8 @@ use Rattle.tk_explanations.specs.declared.rows.Row.TheVariants.{
   NoneLeft,
   Counts,
   Overlap,
+  Sentence,
 }
-
--- `"`
-abbrev pub quotation_mark : ℕ
-quotation_mark = 34
-
--- the id of a descriptor, as a field of a record's text
-abbrev pub id_field : Option Descriptor → List ℕ
-id_field None = []
-id_field (Some d) = field_text (id_text d.id)
-
--- the id of a descriptor, a blank, and the display name in double quotes
-abbrev pub descriptor_text : Option Descriptor → List ℕ
-descriptor_text None = []
-descriptor_text (Some d) =
-    field_text (id_text d.id) ++ (blank ∷ quotation_mark ∷ []) ++ field_text d.name
-    ++ (quotation_mark ∷ [])
 
 -- the line of an event in a record's text, three blanks, and its descriptor
 abbrev pub event_text : Recorded → Entry → List ℕ
@@ -81,6 +66,7 @@ row_text r (Event position note) = event_row r position (slice_get r.entries pos
 row_text r NoneLeft = codes "    no event is left"
 row_text r (Counts n m) = decimal n ++ codes " conditions, " ++ decimal m ++ codes " events"
 row_text r (Overlap x y) = span_text r x ++ codes " and " ++ span_text r y ++ codes " overlap"
+row_text r (Sentence sentence) = sentence_text r sentence
 
 -- a row as a line
 abbrev pub row_line : Recorded → Row → List ℕ

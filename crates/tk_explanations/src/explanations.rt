@@ -12,6 +12,7 @@ ghost use Rattle.tk_explanations.specs.Rows.{event_row, note_text, row_line, row
 use crate::faults::ExplainFault;
 use crate::pieces::{put_descriptor_of, put_event_text, put_number};
 use crate::rows::{Note, Row};
+use crate::sentence_texts::put_sentence;
 use tk_query::Execution;
 use tk_record::{EntryView, Record, Target};
 use tk_streams::{Broken, Piece};
@@ -135,6 +136,7 @@ fn put_row<T: Target>(piece: &mut Piece, target: &mut T, record: &Record, row: &
         Row::NoneLeft => piece.put(target, b"    no event is left"),
         Row::Counts(conditions, events) => put_counts(piece, target, *conditions, *events),
         Row::Overlap(first, second) => put_overlap(piece, target, record, *first, *second),
+        Row::Sentence(sentence) => put_sentence(piece, target, record, sentence),
     }
 }
 

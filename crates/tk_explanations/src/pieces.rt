@@ -4,6 +4,7 @@ ghost use Rattle.std.specs.Prelude.{◌≡◌, Some};
 ghost use Rattle.tk_streams.specs.Pieces.{Adds, outgoing};
 ghost use Rattle.tk_record_columns.specs.Entries.{desc};
 ghost use Rattle.tk_record_columns.specs.Record.{entry_of_view};
+ghost use Rattle.tk_explanations.specs.DescriptorTexts.{quoted_name};
 ghost use Rattle.tk_explanations.specs.Rows.{descriptor_text, event_text, id_field};
 
 use tk_ids::Descriptor;
@@ -56,6 +57,27 @@ pub(crate) fn put_descriptor_of<T: Target>(
 {
     if let Some(descriptor) = record.describe(key) {
         put_descriptor(piece, target, descriptor);
+    }
+}
+
+fn put_quoted<T: Target>(piece: &mut Piece, target: &mut T, descriptor: &Descriptor)
+    ensures { Adds (outgoing (T.contents target.old) (T.broken target.old) piece.old)
+        (outgoing (T.contents target.new) (T.broken target.new) piece.new)
+        (quoted_name (Some descriptor.now)) }
+{
+    piece.put_byte(target, b'"');
+    put_text(piece, target, descriptor.name.as_str());
+    piece.put_byte(target, b'"');
+}
+
+/// Adds the display name of a key's descriptor in double quotes.
+pub(crate) fn put_name<T: Target>(piece: &mut Piece, target: &mut T, record: &Record, key: u32)
+    ensures { Adds (outgoing (T.contents target.old) (T.broken target.old) piece.old)
+        (outgoing (T.contents target.new) (T.broken target.new) piece.new)
+        (quoted_name (desc «record».now key)) }
+{
+    if let Some(descriptor) = record.describe(key) {
+        put_quoted(piece, target, descriptor);
     }
 }
 

@@ -1,5 +1,6 @@
 //! The rows of explanations.
 
+use crate::sentences::Sentence;
 use tk_ids::Text;
 use tk_query::Execution;
 
@@ -29,4 +30,6 @@ pub(crate) enum Row {
     Counts(usize, usize),
     /// These executions overlap.
     Overlap(Execution, Execution),
+    /// Why the record doesn't keep the lifecycle.
+    Sentence(Sentence),
 }

@@ -1,0 +1,93 @@
+-- The sentences about a record that doesn't keep the lifecycle, as text.
+use Rattle.std.specs.Prelude.{ℕ, List, ◌++◌, codes, Option, Some, None}
+use Rattle.std.specs.Fmt.{decimal}
+use Rattle.tk_events.specs.declared.kinds.Kind.{Kind}
+use Rattle.tk_events.specs.declared.kinds.Kind.TheVariants.{
+  Dynamic,
+  Skipped,
+  Started,
+  Finished,
+  Reporting,
+  File,
+}
+use Rattle.tk_events.specs.Fields.{field_text}
+use Rattle.tk_record_columns.specs.Entries.{desc}
+use Rattle.tk_record_columns.specs.Recorded.{Recorded}
+use Rattle.tk_query_lifecycle.specs.LifecycleTexts.{rule_text}
+use Rattle.tk_explanations.specs.DescriptorTexts.{descriptor_text, quoted_name}
+use Rattle.tk_explanations.specs.declared.sentences.EventAt.{EventAt}
+use Rattle.tk_explanations.specs.declared.sentences.Cause.{Cause}
+use Rattle.tk_explanations.specs.declared.sentences.Cause.TheVariants.{
+  StaticId,
+  RegisteredId,
+  UnknownParent,
+  ParentStep,
+  ParentIdle,
+  OwnStep,
+  Idle,
+  ChildRan,
+  Rule,
+}
+use Rattle.tk_explanations.specs.declared.sentences.Sentence.{Sentence}
+use Rattle.tk_explanations.specs.declared.sentences.Sentence.TheVariants.{
+  Breaks,
+  NeverFinished,
+  NeverRan,
+}
+
+-- what an event of the kind did, said of its descriptor
+abbrev pub deed : Kind → List ℕ
+deed Dynamic = codes "was registered"
+deed Skipped = codes "was skipped"
+deed Started = codes "started"
+deed Finished = codes "finished"
+deed Reporting = codes "published entries"
+deed File = codes "published a file"
+
+-- what an event did, and its position
+abbrev pub deed_at : EventAt → List ℕ
+deed_at x = deed x.kind ++ codes " at " ++ decimal x.position
+
+-- the descriptor of an event, what it did, and the position
+abbrev pub deed_text : Recorded → EventAt → List ℕ
+deed_text r x = descriptor_text (desc r x.key) ++ codes " " ++ deed_at x
+
+-- why an event breaks a rule
+abbrev pub cause_text : Recorded → Cause → List ℕ
+cause_text r (StaticId key) =
+    codes "a static descriptor has its id, with the name " ++ quoted_name (desc r key)
+cause_text r (RegisteredId x) =
+    codes "its id was registered at " ++ decimal x.position ++ codes ", with the name "
+    ++ quoted_name (desc r x.key)
+cause_text r (UnknownParent id) =
+    codes "no descriptor before has the id of its parent, " ++ field_text id
+cause_text r (ParentStep x) = codes "its parent " ++ deed_text r x
+cause_text r (ParentIdle key) =
+    codes "its parent " ++ descriptor_text (desc r key) ++ codes " had not started"
+cause_text r (OwnStep x) = deed_at x ++ codes " already"
+cause_text r Idle = codes "had not started"
+cause_text r (ChildRan x) =
+    codes "its child " ++ descriptor_text (desc r x.key) ++ codes ", which started at "
+    ++ decimal x.position ++ codes ", still ran"
+cause_text r (Rule rule) = codes "that breaks the rule " ++ rule_text rule
+
+-- what is said of a key that started and never finished
+abbrev pub unfinished_text : Recorded → ℕ → Option EventAt → List ℕ
+unfinished_text r key None =
+    descriptor_text (desc r key) ++ codes " started and never finished"
+unfinished_text r key (Some x) =
+    descriptor_text (desc r key) ++ codes " started at " ++ decimal x.position
+    ++ codes " and never finished"
+
+-- what is said of the parent of a key that never ran
+abbrev pub success_text : Recorded → Option EventAt → List ℕ
+success_text r None = codes "succeeded"
+success_text r (Some x) =
+    descriptor_text (desc r x.key) ++ codes " succeeded at " ++ decimal x.position
+
+abbrev pub sentence_text : Recorded → Sentence → List ℕ
+sentence_text r (Breaks x cause) = deed_text r x ++ codes ", but " ++ cause_text r cause
+sentence_text r (NeverFinished key start) = unfinished_text r key start
+sentence_text r (NeverRan key finish) =
+    descriptor_text (desc r key) ++ codes " neither started nor was skipped, but its parent "
+    ++ success_text r finish
