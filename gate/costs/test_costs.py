@@ -255,7 +255,7 @@ ROWS = [
     row("explained/wrong count", "ask explain exactly" + 50 * " started", EVENTS, Costs(0.8, 26_000, 600, 312, 2), "wrong-count\n50 conditions, "),
     row("explained/list of all", "ask explain list all", EVENTS, Costs(1.5, 25_000, 200, 312, 800), '0 E|1|0|7|start   [engine:e] "e"\n'),
     row("explained/executions", "ask explain executions", EVENTS, Costs(1.2, 49_400, 210, 312, 300), "0 succeeded 7 8 [engine:e]\n"),
-    row("explained/exclusive", "ask explain exclusive test", OVERLAPPING, Costs(1.2, 60_000, 230, 312, 2), "no "),
+    row("explained/exclusive", "ask explain exclusive test", OVERLAPPING, Costs(1.5, 110_000, 260, 312, 2), "no "),
     row("explained/lifecycle, a child that runs", "ask explain lifecycle", a_test_still_runs, Costs(1.5, 40_000, 480_000, 285, 2), "no 130000 child-running\n"),
     row("record/many conditions", "ask match loosely" + 10_000 * " started", one_event, Costs(0.4, 4_400, 25_000, 6, 2), "yes\n"),
     row("record/a long condition", f"ask match loosely any({'started,' * 12_000}started)", one_event, Costs(0.4, 930, 15_000, 6, 2), "yes\n"),
