@@ -1,5 +1,5 @@
 #!/usr/bin/env -S python3 -B
-"""Times matches, executions, which of them overlap, lists, lifecycles and reports of large records beside another question, most beside `count all`.
+"""Times matches, executions, overlaps, lists, lifecycles, reports and explanations of large records beside another question, most beside `count all`.
 
 It leaves nothing behind. Each line: what is asked of which record and beside what, the seconds of both in processor time and by the clock
 (medians of five runs in turn), their ratio with the least and the greatest of a round and with the goal where there is one, and the most
@@ -49,7 +49,9 @@ IN_ORDER = ["match", "in-order", *(f"failed(step {number})" for number in range(
 ROWS = [
     Row("loosely, 50 conditions that hold of the last event alone, beside one", "large", loosely(50, LAST), "yes", 3, loosely(1, LAST)),
     Row("loosely, 50 such conditions that look into ids, beside one", "large", loosely(50, LAST_BY_ID), "yes", 3, loosely(1, LAST_BY_ID)),
+    Row("explained loosely, 50 such conditions, beside their match", "large", ["explain", *loosely(50, LAST)[1:]], "yes\n0 all(", 3, loosely(50, LAST)),
     Row("in-order, 1,000 conditions over the whole record", "large", IN_ORDER, "yes 1 641 ", 1.2),
+    Row("explained in-order, 1,000 conditions, beside their match", "large", ["explain", *IN_ORDER[1:]], "yes 1 641 ", 3, IN_ORDER),
     Row("executions", "large", ["executions"], "0 failed 0 1\n", 1.3),
     Row("exclusive", "large", ["exclusive", "any(name(test 1),name(test 2))", "test"], "yes\n", 1.3, ["executions"]),
 ]

@@ -1,13 +1,10 @@
-"""How the scripts of tools/ ask the program about a record, print the lines of its text, and end."""
+"""How the scripts of tools/ ask the program about a record, and end."""
 
 import contextlib
 import os
-import re
 import subprocess
 import sys
-import tempfile
-from dataclasses import dataclass, field
-from typing import BinaryIO, Callable, Dict, List, Sequence, Tuple
+from typing import BinaryIO, Callable, Sequence, Tuple
 
 TOP = os.path.dirname(os.path.dirname(os.path.realpath(__file__)))
 PROGRAM = os.environ.get("PROGRAM", f"{TOP}/testkit")
@@ -36,39 +33,6 @@ def not_an_answer(status: int, output: bytes) -> Failed:
     return Failed(f"{PROGRAM} answers {output[:80]!r} with status {status}")
 
 
-@dataclass(frozen=True)
-class Record:
-    """A record text in a file, which the program reads anew for each question, with its lines of descriptors and of events."""
-
-    file: BinaryIO
-    descriptors: Sequence[bytes]
-    events: Sequence[bytes]
-    held: Dict[bytes, List[int]] = field(default_factory=dict)
-    """The positions at which a condition holds, of those that were asked for."""
-
-    @staticmethod
-    def read(source: BinaryIO) -> "Record":
-        text = source.read()
-        file = tempfile.TemporaryFile()
-        file.write(text)
-        lines = text.split(b"\n")
-        return Record(file, *([line for line in lines if line.startswith(letter)] for letter in (b"N|", b"E|")))
-
-    def ask(self, form: bytes, *words: bytes) -> bytes:
-        """Asks a question about it, whose answer has this form; answers it without its last line feed."""
-        status, output = ask(self.file, *words)
-        if not re.fullmatch(form, output):
-            raise not_an_answer(status, output)
-        return output[:-1]
-
-    def positions(self, condition: bytes) -> List[int]:
-        """The positions at which a condition holds. The program is asked once for each condition."""
-        if condition not in self.held:
-            _, listed = ask(self.file, b"list", b"all", condition)
-            self.held[condition] = [int(line.partition(b" ")[0]) for line in listed.split(b"\n") if line]
-        return self.held[condition]
-
-
 def say(text: bytes) -> None:
     """Writes on standard error, where that is open and takes it; the status stays what it is."""
     if sys.stderr:
@@ -92,13 +56,3 @@ def run_script(name: str, main: Callable[[Sequence[str]], int]) -> None:
             sys.stdout.flush()
         # (what can't be written is not tried once more at the end of Python)
         os._exit(70)
-
-
-def show(*texts: bytes) -> None:
-    """Prints a line in which words and texts stand as they were given, whatever the language of the terminal."""
-    sys.stdout.buffer.write(b"".join(texts) + b"\n")
-
-
-def show_event(record: Record, position: int, more: bytes = b"") -> None:
-    """Prints the line of an event, after its position."""
-    show(f"    {position}: ".encode(), record.events[position], more)

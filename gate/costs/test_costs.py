@@ -5,6 +5,8 @@ the reads and the writes that it may take. `count.c` is put before the C library
 same on each machine, so a limit is a fifth above what was counted, or one; the least memory of a small plan shows how many places its
 queue has. The seconds were measured on one machine: a limit is four times what they were, twice for a machine half as fast, and twice
 for what the program may need more. Where a run waits, its seconds by the clock have a limit too.
+
+`BESIDE` has questions of which one may take at most some times as long as the other, whatever the machine.
 """
 
 import contextlib
@@ -184,6 +186,19 @@ def one_long_unit() -> bytes:
     return plan(node(',"children":[' + ",".join(tests) + "]"))
 
 
+def a_test_still_runs() -> bytes:
+    """A record of an engine and of 65,000 tests that all start, of which all but the last finish before the engine does."""
+    nodes = "".join(f"N|T|[engine:e]/[t:{number}]|n\n" for number in range(65_000))
+    starts = "".join(f"E|1|{key}|0|start\n" for key in range(1, 65_001))
+    finishes = "".join(f"E|1|{key}|0|finish|ok\n" for key in range(1, 65_000))
+    return f"{RECORD.replace('|T|', '|C|')}{nodes}E|1|0|0|start\n{starts}{finishes}E|1|0|0|finish|ok\n".encode()
+
+
+def fifty_skips() -> bytes:
+    """A record of fifty skips, each with a reason of some 300,000 bytes."""
+    return (RECORD + 50 * f"E|1|0|7|skip|{'x' * 300_000}\n").encode()
+
+
 def long_ids() -> bytes:
     """A record without an event, whose descriptors have ids of nearly as many bytes as they may have."""
     nodes = "".join(f"N|T|[engine:e]/[t:{number:04}{'v' * 4_000}]|n\n" for number in range(4_000))
@@ -194,16 +209,24 @@ EVENTS = repeated(RECORD, "E|1|0|7|start\nE|1|0|8|finish|ok\n")
 FAILING = repeated(RECORD, "E|1|0|7|start\nE|1|0|8|finish|ok\n", "E|1|0|9|finish|fail|boom\n")
 FAILURES = repeated(RECORD, "E|1|0|7|start\nE|1|0|8|finish|ok\n", "E|1|0|9|finish|fail|boom\n" * 1_000)
 STARTS = repeated(RECORD, "E|1|0|7|start\n")
+OVERLAPPING = repeated(
+    f"{RECORD}N|T|[engine:f]|f\n",
+    "E|1|0|7|start\nE|1|0|8|finish|ok\n",
+    "E|1|0|9|start\nE|1|1|9|start\nE|1|0|9|finish|ok\nE|1|1|9|finish|ok\n",
+)
 REPORTS = repeated(f"{RECORD}E|1|0|7|start\n", "E|1|0|7|report\n", "E|1|0|8|finish|ok\n")
 
 BAD = "testkit: line 3 is bad\n"
 RARE = "ask match loosely" + 1_000 * " all(failed(boom),name(e))"
 OF_NO_COLUMN = "ask match loosely" + 1_000 * " any(name(x),name(e))"
+LAST_FAILS = 49 * " started" + " failed"
+TOO_EARLY = " failed(boom)" + 49 * " started"
+LAST_DIFFERS = 49 * " kind(skip)" + " failed"
 
 
 def row(name: str, words: str, input: Callable[[], bytes], limit: Costs, begins: str, **how) -> Row:
     """A row of the program, whose words stand with blanks between them; a line on standard error has the status 2, and a no 1."""
-    status = 2 if begins.startswith("testkit: ") else int(begins.startswith("no "))
+    status = 2 if begins.startswith("testkit: ") else int(begins.startswith(("no ", "wrong-count")))
     return Row(name, words.split(), input, limit, begins, status, **how)
 
 
@@ -225,6 +248,15 @@ ROWS = [
     row("record/lifecycle of 60,000 registrations", "ask lifecycle", registrations, Costs(0.8, 34_600, 288_300, 272, 2), "yes\n"),
     row("record/report of 60,000 registrations", "ask report", registrations, Costs(0.8, 65_000, 504_400, 272, 261), "skipped 0\nstarted 60001\n"),
     row("record/report of one id", "ask report", STARTS, Costs(0.8, 64_200, 220, 312, 3), "skipped 0\nstarted 1198"),
+    row("explained/loosely, the last of 50 conditions fails", "ask explain loosely" + LAST_FAILS, EVENTS, Costs(1.8, 26_000, 600, 312, 2), "no 49\n49 failed\n    1: "),
+    row("explained/in order, the last of 50 conditions fails", "ask explain in-order" + LAST_FAILS, EVENTS, Costs(1.8, 26_000, 1_000, 312, 2), "no 49\n0 started\n    0: "),
+    row("explained/in order, too early", "ask explain in-order" + TOO_EARLY, FAILING, Costs(1.8, 26_000, 600, 312, 2), "no 1\n0 failed(boom)\n"),
+    row("explained/exactly, the last of 50 differs", "ask explain exactly" + LAST_DIFFERS, fifty_skips, Costs(1.2, 40_000, 600, 312, 9), "no 49\n49 failed\n    49: "),
+    row("explained/wrong count", "ask explain exactly" + 50 * " started", EVENTS, Costs(0.8, 26_000, 600, 312, 2), "wrong-count\n50 conditions, "),
+    row("explained/list of all", "ask explain list all", EVENTS, Costs(1.5, 25_000, 200, 312, 800), '0 E|1|0|7|start   [engine:e] "e"\n'),
+    row("explained/executions", "ask explain executions", EVENTS, Costs(1.2, 49_400, 210, 312, 300), "0 succeeded 7 8 [engine:e]\n"),
+    row("explained/exclusive", "ask explain exclusive test", OVERLAPPING, Costs(1.5, 110_000, 260, 312, 2), "no "),
+    row("explained/lifecycle, a child that runs", "ask explain lifecycle", a_test_still_runs, Costs(1.5, 40_000, 480_000, 285, 2), "no 130000 child-running\n"),
     row("record/many conditions", "ask match loosely" + 10_000 * " started", one_event, Costs(0.4, 4_400, 25_000, 6, 2), "yes\n"),
     row("record/a long condition", f"ask match loosely any({'started,' * 12_000}started)", one_event, Costs(0.4, 930, 15_000, 6, 2), "yes\n"),
     row("record/descriptors", "ask count tests", descriptors, Costs(1, 25_800, 313_000, 273, 2), "0\n"),
@@ -281,6 +313,54 @@ def costs_of(row: Row, program: str, library: str, room: str) -> Tuple[Costs, in
     return Costs(round(seconds, 2), math.ceil(peak / KIB), requests, reads, writes, round(clock, 2)), status, begins
 
 
+@dataclass(frozen=True)
+class Pair:
+    """Two questions about a record, and how many times the seconds of the second one the first may take."""
+
+    words: str
+    other: str
+    input: Callable[[], bytes]
+    most: float
+
+    @property
+    def name(self) -> str:
+        return f"{self.words[:40]} beside {self.other[:40]}"
+
+    def ratio(self, program: str, room: str) -> float:
+        """The least seconds of some runs of the first, by those of the other; they run in turn, so that both meet the same load."""
+        with open(f"{room}/input", "wb") as file:
+            file.write(self.input())
+        rounds = [[seconds_of([program, *words.split()], f"{room}/input") for words in (self.words, self.other)] for _ in range(ROUNDS)]
+        ours, theirs = map(min, zip(*rounds))
+        return ours / theirs
+
+
+def seconds_of(command: Sequence[str], path: str) -> float:
+    """The seconds of processor time of an answer."""
+    with open(path, "rb") as source:
+        ran = subprocess.Popen(command, stdin=source, stdout=subprocess.DEVNULL, stderr=subprocess.DEVNULL)
+        _, _, usage = os.wait4(ran.pid, 0)
+        ran.returncode = 0
+    return usage.ru_utime + usage.ru_stime
+
+
+ROUNDS = 7
+"""How often each question of a pair is asked."""
+
+BESIDE = [
+    Pair("ask exclusive test", "ask executions", EVENTS, 1.3),
+    Pair("ask explain loosely" + LAST_FAILS, "ask match loosely" + LAST_FAILS, EVENTS, 3),
+    Pair("ask explain in-order" + LAST_FAILS, "ask match in-order" + LAST_FAILS, EVENTS, 3),
+    Pair("ask explain in-order" + TOO_EARLY, "ask match in-order" + TOO_EARLY, FAILING, 3),
+    Pair("ask explain exactly" + LAST_DIFFERS, "ask match exactly" + LAST_DIFFERS, fifty_skips, 3),
+    Pair("ask explain exactly" + 50 * " started", "ask match exactly" + 50 * " started", EVENTS, 3),
+    Pair("ask explain list all", "ask list all", EVENTS, 3),
+    Pair("ask explain executions", "ask executions", EVENTS, 3),
+    Pair("ask explain exclusive test", "ask exclusive test", OVERLAPPING, 3),
+    Pair("ask explain lifecycle", "ask lifecycle", a_test_still_runs, 3),
+]
+
+
 def faults_of(row: Row, costs: Costs, status: int, wrote: str) -> List[str]:
     """What is wrong with a run of a row."""
     answered = status == row.status and wrote.startswith(row.begins)
@@ -301,6 +381,13 @@ class OfTheProgram(WithProgram, WithCounts):
         if fixtures.CHOSEN:
             print(f"{row.name}: {came[0]}")
         self.assertEqual([], faults_of(row, *came))
+
+    @parameterized(BESIDE)
+    def test_beside(self, pair):
+        ratio = pair.ratio(PROGRAM, folder(self))
+        if fixtures.CHOSEN:
+            print(f"{pair.name}: {ratio:.2f} times")
+        self.assertLessEqual(ratio, pair.most)
 
 
 COUNTED = {
@@ -377,6 +464,11 @@ class OfExamples(WithCounts):
             # (what is right besides is found right: the answer, where it isn't what is wrong)
             is_answered = "status" in fault or "it writes" in fault
             self.assertTrue(is_answered or "it writes" not in "; ".join(faults), faults)
+
+    def test_ratio(self):
+        short, long = "-c pass", "-c sum(range(5_000_000))"
+        ratios = [Pair(*words, lambda: b"", 1).ratio(sys.executable, folder(self)) for words in ((long, short), (short, long))]
+        self.assertTrue(ratios[1] < 1 < ratios[0], ratios)
 
     def test_the_largest_input(self):
         text = repeated("ä", "äöü", "x")()

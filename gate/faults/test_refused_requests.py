@@ -216,6 +216,10 @@ LONG_RECORD = re.sub(r"\b(e|one|two|boom|off)$", rf"\1{LONGER}", TWO_TESTS, flag
 LONG_PLAN = re.sub(r'"(?:name|skip|message|key)":"\w+|"segment":\["\w+","\w+', rf"\g<0>{LONGER}", DEMO_PLAN)
 """The demo plan with such texts."""
 
+NEVER_FINISHES = TWO_TESTS.rpartition("E|")[0]
+CHILD_RUNS = TWO_TESTS.replace("E|1|1|2|finish|fail|boom\n", "")
+"""The record of two tests without the finish of its container, and without that of its first test."""
+
 SKIP_REPLAY = f"testkit-replay|2\nW|1\nN|T|[engine:e]|e\nE|1|0|7|skip|off{LONGER}\nS|1|t\n"
 """The first event that waits has a text of its own, which goes back where there is no memory for the list of what waits."""
 
@@ -232,6 +236,17 @@ COMMANDS = [
     Command("ask exclusive all(test,started) any(failed(boom),not(entry(k,v)))", TWO_TESTS, OF_A_RECORD),
     Command("ask lifecycle", TWO_TESTS, OF_A_RECORD),
     Command("ask report", TWO_TESTS, OF_A_RECORD),
+    Command("ask explain exactly container started any() skipped(off) engine", TWO_TESTS, OF_A_RECORD),
+    Command("ask explain exactly started", TWO_TESTS, OF_A_RECORD),
+    Command("ask explain loosely started all(test,failed(bang),id(t:1))", TWO_TESTS, OF_A_RECORD),
+    Command("ask explain loosely started failed(boom)", TWO_TESTS, OF_A_RECORD),
+    Command("ask explain in-order started succeeded started", TWO_TESTS, OF_A_RECORD),
+    Command("ask explain list all", TWO_TESTS, OF_A_RECORD),
+    Command("ask explain exclusive all()", TWO_TESTS, OF_A_RECORD),
+    Command("ask explain executions", TWO_TESTS, OF_A_RECORD),
+    Command("ask explain lifecycle", CHILD_RUNS, OF_A_RECORD),
+    Command("ask explain lifecycle", NEVER_FINISHES, OF_A_RECORD),
+    Command("ask explain loosely failed(bang)", LONG_RECORD, OF_A_LONG_RECORD),
     Command("ask stats", LONG_RECORD, OF_A_LONG_RECORD),
     Command("ask executions", LONG_RECORD, OF_A_LONG_RECORD),
     Command("ask report", LONG_RECORD, OF_A_LONG_RECORD),
@@ -247,6 +262,7 @@ FAULTS = [
     ("ask", TWO_TESTS),
     ("ask count x", TWO_TESTS),
     ("ask list x", TWO_TESTS),
+    ("ask explain lifecycle x", TWO_TESTS),
     ("replay", b""),
     ("run", b"{"),
     ("run --workers 0", DEMO_PLAN),

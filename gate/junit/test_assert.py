@@ -7,14 +7,14 @@ import java
 from records import HEADER, entries
 from test_listener import WithClasses as Compiled
 
-TESTS = 22
+TESTS = 18
 """How many tests RecordAssertTests has."""
 
 REAL = fixtures.PROGRAM if os.access(fixtures.PROGRAM, os.X_OK) else ""
 """The program, if there is one."""
 
-MAY_ABORT = {"theProgramIsOnThePathWithoutAProperty", "theProgramSaysWhatOverlaps", *([] if REAL else ["theProgramAnswers"])}
-"""Tests that a program on the path, one that doesn't know a question, or no program leaves out."""
+MAY_ABORT = {"theProgramIsOnThePathWithoutAProperty", *([] if REAL else ["theProgramAnswers"])}
+"""Tests that a program on the path, or no program, leaves out."""
 
 
 @java.needs_junit

@@ -19,8 +19,8 @@ from repository import BUILT, MOMENT, RUN, Repository, read
 VERSION = read(f"{TOP}/VERSION").decode().strip()
 INSIDE = f"testkit-{VERSION}"
 TAR, DEB, JAR = f"{INSIDE}-x86_64-linux.tar.gz", f"testkit_{VERSION}_amd64.deb", "testkit-listener.jar"
-COMMANDS = ("explain", "timeline")
-TOOLS = {*COMMANDS, "asking.py", "explain.py", "timeline.py", "timeline.css", "timeline.html", "timeline.js"}
+TOOLS = {"asking.py", "timeline", "timeline.py", "timeline.css", "timeline.html", "timeline.js"}
+EXPLAIN = "usr/bin/testkit-explain"
 DOCUMENTS = "usr/share/doc/testkit"
 JUNIT = ("junit-platform-commons", "junit-platform-engine", "junit-platform-launcher", "opentest4j", "apiguardian-api")
 CONSOLE = "/usr/share/java/junit-platform-console-standalone.jar"
@@ -63,7 +63,7 @@ class Made(unittest.TestCase):
         cls.tar, cls.deb = cls.of.path(f"tar/{INSIDE}"), cls.of.path("deb")
         cls.packed = ["LICENSE", "docs/FORMATS.md", "docs/JUNIT.md", "docs/testkit.1"]
         cls.packed += [f"examples/{name}" for name in files_below(cls.of.path("examples"))]
-        cls.packed += [f"tools/{it}" for it in files_below(cls.of.path("tools")) if it in TOOLS or it.startswith("explaining/")]
+        cls.packed += [f"tools/{it}" for it in files_below(cls.of.path("tools")) if it in TOOLS]
         cls.programs = {name for name in cls.packed if os.access(cls.of.path(name), os.X_OK)}
 
     @classmethod
@@ -100,17 +100,17 @@ class Made(unittest.TestCase):
         return places.get(name) or f"{DOCUMENTS}/{name[5:] if name.startswith('docs/') else name}"
 
     def test_files_in_debian(self):
-        """It has the files of the archive in other places, and links."""
-        links = ["usr/bin/testkit", *(link for it in COMMANDS for link in (f"usr/bin/testkit-{it}", f"usr/share/man/man1/testkit-{it}.1.gz"))]
+        """It has the files of the archive in other places, links, and a command."""
+        links = ["usr/bin/testkit", "usr/bin/testkit-timeline", *(f"usr/share/man/man1/testkit-{it}.1.gz" for it in ("explain", "timeline"))]
         names = files_below(self.tar)
-        self.assertEqual(files_below(self.deb), sorted([*map(self.place, names), *links]))
+        self.assertEqual(files_below(self.deb), sorted([*map(self.place, names), *links, EXPLAIN]))
         self.assertEqual([it for it in links if not os.path.islink(f"{self.deb}/{it}") or not os.path.exists(f"{self.deb}/{it}")], [])
         for name in names:
             data = read(f"{self.deb}/{self.place(name)}")
             self.assertEqual(gzip.decompress(data) if name == "docs/testkit.1" else data, read(f"{self.tar}/{name}"), name)
         owners = {(it.uid, it.gid, it.uname, it.gname, it.mtime) for it in self.in_deb}
         modes = {it.name: it.mode for it in self.in_deb if it.isfile()}
-        programs = {f"./{self.place(it)}" for it in ("testkit", *self.programs)}
+        programs = {f"./{EXPLAIN}", *(f"./{self.place(it)}" for it in ("testkit", *self.programs))}
         self.assertEqual(owners, {(0, 0, "root", "root", MOMENT)})
         self.assertEqual({it.mode for it in self.in_deb if it.isdir()}, {0o755})
         self.assertEqual(modes, {name: 0o755 if name in programs else 0o644 for name in modes})
@@ -140,10 +140,11 @@ class Made(unittest.TestCase):
         for program, tools, examples in ((f"{self.tar}/testkit", f"{self.tar}/tools/", f"{self.tar}/examples"), in_debian):
             record = read(f"{examples}/two_tests.record")
             self.assertEqual(run([program, "ask", "count", "all"], record).output, b"5\n")
-            explained = run([f"{tools}explain", "loosely", "failed(boom)"], record, env={"PATH": os.environ["PATH"]})
-            self.assertEqual(explained.output, b"yes\n0 failed(boom)\n    2: E|1|1|2|finish|fail|boom\n", explained.error)
             drawn = run([f"{tools}timeline"], record, env={"PATH": os.environ["PATH"]})
             self.assertTrue(drawn.output.startswith(b"<!doctype html>") and b"[engine:e]/[t:1]" in drawn.output, drawn.error)
+        record = read(f"{self.tar}/examples/two_tests.record")
+        explained = run([f"{self.deb}/{EXPLAIN}", "list", "failed"], record, env={"PATH": f"{self.deb}/usr/bin:{os.environ['PATH']}"})
+        self.assertEqual(explained.output, b'2 E|1|1|2|finish|fail|boom   [engine:e]/[t:1] "one"\n', explained.error)
 
     @unittest.skipUnless(HAS_JAVA, "no javac")
     def test_jar(self):
@@ -310,7 +311,7 @@ class ManPage(unittest.TestCase):
         self.assertEqual([it for it in shown if not re.search(rf"^{it} ", self.TEXT, re.MULTILINE)], [])
         words = "all tests containers skipped started finished aborted succeeded failed reporting dynamic files exactly loosely in-order "
         words += "test container engine id(TEXT) name(TEXT) failed(TEXT) aborted(TEXT) skipped(TEXT) entry(KEY,VALUE,..) file(TEXT) kind(K) "
-        words += "skip start finish report file %25 %28 %29 %2C testkit-explain testkit-timeline"
+        words += "skip start finish report file %25 %28 %29 %2C QUESTION testkit-explain testkit-timeline"
         self.assertEqual([it for it in words.split() if not re.search(rf"(?<!\w){re.escape(it)}(?!\w)", self.TEXT)], [])
 
     @needs("groff")

@@ -28,7 +28,7 @@ import org.junit.platform.testkit.engine.EngineExecutionResults;
  *         .matchesInOrder(all(hasName("one"), hasStarted()), hasFailed("boom"));
  * }</pre>
  *
- * <p>Where the program says no, an {@link AssertionError} has its answer and what stands behind it. Where it refuses the words or the
+ * <p>Where the program says no, an {@link AssertionError} has its answer with its explanation. Where it refuses the words or the
  * record, that is an {@link IllegalArgumentException}; where it can't be run, breaks or takes too long, an {@link IllegalStateException}.
  *
  * <p>A condition is a text ({@code docs/FORMATS.md}); {@link Conditions} writes it. The system property {@link #PROGRAM_PROPERTY} names
@@ -38,8 +38,6 @@ public final class RecordAssert {
 
     /** The system property that names the program. */
     public static final String PROGRAM_PROPERTY = "testkit.program";
-    /** The system property that names the program {@code testkit-explain}, which else stands beside the program. */
-    public static final String EXPLAIN_PROPERTY = "testkit.explain";
     /** The system property that says how many seconds an answer may take; it is 60 where it is missing. */
     public static final String SECONDS_PROPERTY = "testkit.seconds";
 
@@ -102,7 +100,7 @@ public final class RecordAssert {
         if (!unregistered.isEmpty()) {
             throw refused("nobody registered " + String.join(", ", unregistered) + " before the first event");
         }
-        return ask("yes", Arrays.asList("lifecycle"));
+        return ask("yes", Arrays.asList("explain", "lifecycle"));
     }
 
     /** Asserts that the events are so many, as {@code "failed=1"}. */
@@ -112,27 +110,27 @@ public final class RecordAssert {
 
     /** Asserts that there are as many events as conditions, and each condition holds of the event in its place. */
     public RecordAssert matchesExactly(String... conditions) {
-        return ask("yes", question(conditions, "match", "exactly"));
+        return ask("yes", question(conditions, "explain", "exactly"));
     }
 
     /** Asserts that each condition holds of some event. */
     public RecordAssert matchesLoosely(String... conditions) {
-        return ask("yes", question(conditions, "match", "loosely"));
+        return ask("yes", question(conditions, "explain", "loosely"));
     }
 
     /** Asserts that the conditions hold of events that follow each other, in this order. */
     public RecordAssert matchesInOrder(String... conditions) {
-        return ask("yes", question(conditions, "match", "in-order"));
+        return ask("yes", question(conditions, "explain", "in-order"));
     }
 
     /** Asserts that no two executions overlap of those whose start meets the condition. */
     public RecordAssert exclusive(String writers) {
-        return ask("yes", question(new String[] {writers}, "exclusive"));
+        return ask("yes", question(new String[] {writers}, "explain", "exclusive"));
     }
 
     /** Asserts that no execution whose start meets the first condition overlaps another one that meets the first or the second. */
     public RecordAssert exclusive(String writers, String readers) {
-        return ask("yes", question(new String[] {writers, readers}, "exclusive"));
+        return ask("yes", question(new String[] {writers, readers}, "explain", "exclusive"));
     }
 
     /** Returns the words of a question, which has to ask for something: without a condition the program says yes. */
@@ -147,7 +145,7 @@ public final class RecordAssert {
 
     /** Asks the program a question, whose yes begins with {@code yes}. */
     private RecordAssert ask(String yes, List<String> question) {
-        List<String> words = new ArrayList<>(Arrays.asList(program(), "ask"));
+        List<String> words = new ArrayList<>(Arrays.asList(System.getProperty(PROGRAM_PROPERTY, PROGRAM), "ask"));
         words.addAll(question);
         String called = String.join(" ", words) + " < " + record;
         Ran ran;
@@ -160,7 +158,7 @@ public final class RecordAssert {
             return this;
         }
         if (ran.status == 1 && !ran.output.isEmpty()) {
-            throw refused(called + "\n" + explanation(question, ran.output));
+            throw refused(called + "\n" + ran.output);
         }
         String why = called + " ends with status " + ran.status + ": " + ran.errors + ran.output;
         throw ran.status == 2 ? new IllegalArgumentException(why) : new IllegalStateException(why);
@@ -170,23 +168,6 @@ public final class RecordAssert {
     private AssertionError refused(String why) {
         TEMPORARY.remove(record);
         return new AssertionError(why);
-    }
-
-    /** Returns the answer with what stands behind it, or the answer alone where no {@code testkit-explain} explains it. */
-    private String explanation(List<String> question, String answer) {
-        File beside = new File(new File(program()).getParentFile(), PROGRAM + "-explain");
-        List<String> words = new ArrayList<>(Arrays.asList(System.getProperty(EXPLAIN_PROPERTY, beside.getPath())));
-        words.addAll(question.subList(question.get(0).equals("match") ? 1 : 0, question.size()));
-        try {
-            Ran ran = run(words);
-            return ran.status == 1 && !ran.output.isEmpty() ? ran.output : answer;
-        } catch (IOException | RuntimeException fault) {
-            return answer;
-        }
-    }
-
-    private static String program() {
-        return System.getProperty(PROGRAM_PROPERTY, PROGRAM);
     }
 
     /** Runs a program with the record as its input. */

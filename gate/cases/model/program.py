@@ -4,10 +4,10 @@ from dataclasses import dataclass
 from typing import List, Optional
 
 from model.plans import run
-from model.questions import ask
 from model.records import Refused
 from model.replays import replay
 from model.texts import read_number
+from model.words import ask
 
 
 @dataclass(frozen=True)

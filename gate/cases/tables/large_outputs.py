@@ -4,13 +4,14 @@ from harness import Case, Output
 from tables.building import as_words
 from tables.large_plans import CONCURRENT, nodes, plan, static_report
 from tables.long_replays import long_replay, long_replay_record
-from tables.many_events import many_events, many_executions, many_skips
+from tables.many_events import many_events, many_executions, many_explained_skips, many_skips
 
 FULL_DEVICE = [
     Case(f"full device/{name}", as_words(words), data, error=b"testkit: device failed\n", status=3, standard_output=Output.FULL)
     for name, words, data in [
         ("a long list of events", "ask list all", many_events),
         ("a long list of executions", "ask executions", many_events),
+        ("a long explained list", "ask explain list all", many_events),
         ("a long replay", "replay", long_replay),
         ("a long report", "run --workers 2", lambda: plan(nodes("children", 10_000, CONCURRENT))),
     ]
@@ -29,6 +30,7 @@ CUT_PIPE = [
     for name, words, data, output in [
         ("a long list of skips", "ask list skipped", many_events, many_skips),
         ("a long list of executions", "ask executions", many_events, many_executions),
+        ("a long explained list", "ask explain list skipped", many_events, many_explained_skips),
         ("a long replay", "replay", long_replay, long_replay_record),
         ("a long report", "run --workers 2", lambda: plan(nodes("children", 20_000)), lambda: static_report(20_000)),
     ]

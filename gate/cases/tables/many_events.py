@@ -1,5 +1,7 @@
 """Questions about records of 300,000 and of 100 events."""
 
+from typing import List
+
 import form
 from tables.building import HEADER, answer, no, stats
 
@@ -35,6 +37,16 @@ def many_executions() -> bytes:
 def many_skips() -> bytes:
     """The list of the skips."""
     return "".join(f"{position} E|3|3|{position}|skip|off\n" for position in range(5, 6 * ROUNDS, 6)).encode()
+
+
+def many_explained_skips() -> bytes:
+    """The list of the skips with their descriptor."""
+    return many_skips().replace(b"\n", b'   [engine:e]/[t:3] "t3"\n')
+
+
+def many_explained_executions() -> bytes:
+    """The executions with their ids."""
+    return b"".join(line + b" [engine:e]/[t:" + line[:1] + b"]\n" for line in many_executions().split(b"\n")[:-1])
 
 
 MANY_NUMBERS = dict(
@@ -99,6 +111,54 @@ MANY_EVENTS = [
 ] + [answer(f"300,000 events/count {name}", f"ask count {name}", many_events, f"{MANY_NUMBERS.get(name, 0)}\n") for name in form.SELECTIONS]
 
 
+def skips(*more: str) -> str:
+    """The rows of the first 99 skips, each after its condition, and more lines after them."""
+    found = [f'{at} skipped(off)\n    {5 + 6 * at}: E|3|3|{5 + 6 * at}|skip|off   [engine:e]/[t:3] "t3"\n' for at in range(99)]
+    return "".join(found) + "".join(f"{line}\n" for line in more)
+
+
+def finishes(lacking: str, *positions: int) -> List[str]:
+    """The rows of finishes, of which a condition doesn't hold."""
+    tails = {2: "1|1|{}|finish|ok   [engine:e]/[t:1] \"t1\"", 4: "2|2|{}|finish|fail|boom   [engine:e]/[t:2] \"t2\""}
+    return [f"    {it}: E|{tails[it % 6].format(it)}   does not hold: {lacking}" for it in positions]
+
+
+EXPLAINED = [
+    answer(
+        "300,000 events/explained list by 100 conditions",
+        ["ask", "explain", "list", "skipped"] + ["not(started)"] * 100,
+        many_events,
+        many_explained_skips,
+    ),
+    answer("300,000 events/explained executions", "ask explain executions", many_events, many_explained_executions),
+    no(
+        "300,000 events/explained loosely, the last fails",
+        ["ask", "explain", "loosely"] + (TEN_CONDITIONS * 10)[:99] + ["aborted"],
+        many_events,
+        "".join(f"{line}\n" for line in ["no 99", "99 aborted", *finishes("aborted", 2, 4, 8)]),
+    ),
+    no(
+        "300,000 events/explained in-order, the last fails",
+        ["ask", "explain", "in-order"] + ["skipped(off)"] * 99 + ["all(aborted,test)"],
+        many_events,
+        "no 99\n" + skips("99 all(aborted,test)", *finishes("aborted", 596, 598, 602)),
+    ),
+    no(
+        "300,000 events/explained exactly",
+        "ask explain exactly started entry(k,v) failed",
+        many_events,
+        "".join(f"{line}\n" for line in ["wrong-count", "3 conditions, 300000 events", "2 failed", *finishes("failed", 2)]),
+    ),
+    no(
+        "300,000 events/explained lifecycle",
+        "ask explain lifecycle",
+        many_events,
+        'no 0 parent-not-running\n[engine:e]/[t:1] "t1" started at 0, but its parent [engine:e] "e" had not started\n'
+        '    0: E|1|1|0|start   [engine:e]/[t:1] "t1"\n',
+    ),
+]
+
+
 def hundred_events() -> bytes:
     lines = [f"E|1|0|{stamp}|" + ("start\n" if stamp % 2 == 0 else "finish|ok\n") for stamp in range(100)]
     return (HEADER + NODE + "".join(lines)).encode()
@@ -120,4 +180,4 @@ HUNDRED_EVENTS = [
     ),
 ]
 
-CASES = MANY_EVENTS + HUNDRED_EVENTS
+CASES = MANY_EVENTS + EXPLAINED + HUNDRED_EVENTS

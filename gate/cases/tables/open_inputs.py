@@ -28,6 +28,9 @@ WORDS = [
         ("ask list", "bad word 0"),
         ("ask list tests test tesx", "condition 2 is bad at 3"),
         ("ask executions x", "bad word 0"),
+        ("ask explain", "bad word 0"),
+        ("ask explain lifecycle x", "bad word 1"),
+        ("ask explain list tests test tesx", "condition 3 is bad at 3"),
     ]
 ]
 """A fault of the words needs no input."""
@@ -38,6 +41,7 @@ TOO_LARGE = [
         ("ask stats", ONE_START),
         ("ask match in-order started", ONE_START),
         ("ask list all", ONE_START),
+        ("ask explain loosely started", ONE_START),
         ("replay", SMALL_REPLAY),
         ("run", ONE_TEST_PLAN),
         ("run --workers 0", ONE_TEST_PLAN),

@@ -76,7 +76,6 @@ class RecordAssertTests {
     @AfterEach
     void clearProperties() {
         System.clearProperty("testkit.program");
-        System.clearProperty("testkit.explain");
         System.clearProperty("testkit.seconds");
     }
 
@@ -104,13 +103,13 @@ class RecordAssertTests {
     /** Each method with the words that it has to ask. */
     private static Map<String, Function<RecordAssert, RecordAssert>> methods() {
         Map<String, Function<RecordAssert, RecordAssert>> found = new LinkedHashMap<>();
-        found.put("ask lifecycle", RecordAssert::keepsLifecycle);
+        found.put("ask explain lifecycle", RecordAssert::keepsLifecycle);
         found.put("ask stats failed=1 skipped=0", it -> it.hasStatistics("failed=1", "skipped=0"));
-        found.put("ask match exactly a b", it -> it.matchesExactly("a", "b"));
-        found.put("ask match loosely c", it -> it.matchesLoosely("c"));
-        found.put("ask match in-order d e f", it -> it.matchesInOrder("d", "e", "f"));
-        found.put("ask exclusive g", it -> it.exclusive("g"));
-        found.put("ask exclusive h i", it -> it.exclusive("h", "i"));
+        found.put("ask explain exactly a b", it -> it.matchesExactly("a", "b"));
+        found.put("ask explain loosely c", it -> it.matchesLoosely("c"));
+        found.put("ask explain in-order d e f", it -> it.matchesInOrder("d", "e", "f"));
+        found.put("ask explain exclusive g", it -> it.exclusive("g"));
+        found.put("ask explain exclusive h i", it -> it.exclusive("h", "i"));
         return found;
     }
 
@@ -126,41 +125,11 @@ class RecordAssertTests {
     }
 
     @Test
-    void eachMethodRefusesANoWithTheAnswer() throws IOException {
-        program("echo no 4", "exit 1");
+    void eachMethodRefusesANoWithItsExplanation() throws IOException {
+        program("echo no 4", "echo why", "exit 1");
         for (Map.Entry<String, Function<RecordAssert, RecordAssert>> method : methods().entrySet()) {
             AssertionError fault = assertThrows(AssertionError.class, () -> method.getValue().apply(RecordAssert.assertThat(record)));
-            assertEquals(folder.resolve("program") + " " + method.getKey() + " < " + record + "\nno 4\n", fault.getMessage());
-        }
-    }
-
-    @Test
-    void aNoIsExplained() throws IOException {
-        program("echo no 4", "exit 1");
-        System.setProperty("testkit.explain", script("explain", "echo no 4", "echo why", "exit 1").toString());
-        AssertionError fault = assertThrows(AssertionError.class, () -> RecordAssert.assertThat(record).matchesLoosely("a", "b"));
-        assertTrue(fault.getMessage().endsWith("run.record\nno 4\nwhy\n"), fault.getMessage());
-        assertEquals(Arrays.asList("loosely", "a", "b"), words("explain"));
-        assertEquals(TWO_TESTS, text(folder.resolve("explain.input")));
-        assertThrows(AssertionError.class, () -> RecordAssert.assertThat(record).keepsLifecycle());
-        assertEquals(Arrays.asList("lifecycle"), words("explain"));
-    }
-
-    @Test
-    void whatExplainsMayStandBesideTheProgram() throws IOException {
-        program("echo no 4", "exit 1");
-        script("testkit-explain", "echo no 4", "echo why beside", "exit 1");
-        AssertionError fault = assertThrows(AssertionError.class, () -> RecordAssert.assertThat(record).matchesLoosely("a"));
-        assertTrue(fault.getMessage().endsWith("run.record\nno 4\nwhy beside\n"), fault.getMessage());
-    }
-
-    @Test
-    void whatDoesNotExplainIsLeftOut() throws IOException {
-        program("echo no 4", "exit 1");
-        for (String[] lines : new String[][] {{"echo why", "exit 70"}, {"exit 1"}, {"echo no 5"}}) {
-            System.setProperty("testkit.explain", script("explain", lines).toString());
-            AssertionError fault = assertThrows(AssertionError.class, () -> RecordAssert.assertThat(record).exclusive("a"));
-            assertTrue(fault.getMessage().endsWith("run.record\nno 4\n"), fault.getMessage());
+            assertEquals(folder.resolve("program") + " " + method.getKey() + " < " + record + "\nno 4\nwhy\n", fault.getMessage());
         }
     }
 
@@ -179,7 +148,7 @@ class RecordAssertTests {
         for (String[] lines : scripts) {
             program(lines);
             RuntimeException fault = assertThrows(IllegalStateException.class, () -> RecordAssert.assertThat(record).matchesLoosely("x"));
-            assertTrue(fault.getMessage().contains("ask match loosely x < " + record), fault.getMessage());
+            assertTrue(fault.getMessage().contains("ask explain loosely x < " + record), fault.getMessage());
         }
         program("echo yes");
         assertThrows(IllegalStateException.class, () -> RecordAssert.assertThat(record).hasStatistics("failed=1"));
@@ -189,7 +158,7 @@ class RecordAssertTests {
     void aMissingProgramIsAnIllegalState() {
         System.setProperty("testkit.program", folder.resolve("nowhere").toString());
         RuntimeException fault = assertThrows(IllegalStateException.class, () -> RecordAssert.assertThat(record).exclusive("x"));
-        assertTrue(fault.getMessage().contains("ask exclusive x < " + record), fault.getMessage());
+        assertTrue(fault.getMessage().contains("ask explain exclusive x < " + record), fault.getMessage());
         assertTrue(fault.getMessage().contains("testkit.program"), fault.getMessage());
     }
 
@@ -197,7 +166,7 @@ class RecordAssertTests {
     void theProgramIsOnThePathWithoutAProperty() {
         assumeTrue(Arrays.stream(System.getenv("PATH").split(":")).noneMatch(it -> Files.exists(Paths.get(it, "testkit"))));
         RuntimeException fault = assertThrows(IllegalStateException.class, () -> RecordAssert.assertThat(record).keepsLifecycle());
-        assertTrue(fault.getMessage().startsWith("testkit ask lifecycle < "), fault.getMessage());
+        assertTrue(fault.getMessage().startsWith("testkit ask explain lifecycle < "), fault.getMessage());
     }
 
     @Test
@@ -296,7 +265,7 @@ class RecordAssertTests {
     /** (The records of results that are not refused go when the process ends, which {@code test_assert.py} sees.) */
     @Test
     void theRecordOfRefusedResultsStays() throws IOException {
-        program("[ \"$2\" = lifecycle ] && echo yes && exit 0", "echo no 0", "exit 1");
+        program("[ \"$3\" = lifecycle ] && echo yes && exit 0", "echo no 0", "exit 1");
         RecordAssert asserting = RecordAssert.assertThat(results((calls, root) -> calls.skip(root, "refused")));
         AssertionError fault = assertThrows(AssertionError.class, () -> asserting.keepsLifecycle().matchesLoosely("x"));
         Path kept = Paths.get(fault.getMessage().split("\n")[0].split(" < ")[1]);
@@ -333,38 +302,23 @@ class RecordAssertTests {
                 .matchesLoosely(all(isTest(), hasFailed("boom")), hasSucceeded()).matchesInOrder(hasFailed(), all(hasName("two"), hasSucceeded()))
                 .matchesExactly(isEngine(), hasId("t:1"), hasId("t:2"), hasFailed("boom"), hasSucceeded(), isContainer());
         Path broken = Files.write(folder.resolve("broken.record"), BROKEN.getBytes(UTF_8));
-        assertRefused("no end 0", () -> RecordAssert.assertThat(broken).keepsLifecycle());
+        assertRefused("no end 0\n[engine:e] \"e\" started at 0 and never finished", () -> RecordAssert.assertThat(broken).keepsLifecycle());
         Path forgotten = Files.write(folder.resolve("forgotten.record"), FORGOTTEN.getBytes(UTF_8));
         assertRefused("no start 1", () -> RecordAssert.assertThat(forgotten).keepsLifecycle());
         assertRefused("mismatch failed expected 2 actual 1", () -> asserting.hasStatistics("failed=2"));
-        assertRefused("wrong-count", () -> asserting.matchesExactly(isTest()));
-        assertRefused("no 1", () -> asserting.matchesLoosely(isTest(), wasAborted()));
-        assertRefused("no 1", () -> asserting.matchesInOrder(hasSucceeded(), hasFailed()));
+        assertRefused("wrong-count\n1 conditions, 6 events", () -> asserting.matchesExactly(isTest()));
+        assertRefused("no 1\n1 aborted", () -> asserting.matchesLoosely(isTest(), wasAborted()));
+        assertRefused("no 1\n0 succeeded", () -> asserting.matchesInOrder(hasSucceeded(), hasFailed()));
+        asserting.exclusive(hasName("one")).exclusive(any(), isTest());
+        assertRefused("no 1 2", () -> asserting.exclusive(isTest()));
+        assertRefused("no 1 2", () -> asserting.exclusive(hasName("two"), hasName("one")));
         assertThrows(IllegalArgumentException.class, () -> asserting.matchesLoosely("tests"));
         Path none = Files.write(folder.resolve("none.record"), new byte[0]);
         assertThrows(IllegalArgumentException.class, () -> RecordAssert.assertThat(none).keepsLifecycle());
     }
 
-    /** Asks the program {@code ask exclusive}, where it knows it. */
-    @Test
-    void theProgramSaysWhatOverlaps() {
-        String program = System.getProperty("testkit.real", "");
-        assumeTrue(!program.isEmpty(), "no program");
-        System.setProperty("testkit.program", program);
-        RecordAssert asserting = RecordAssert.assertThat(record);
-        try {
-            asserting.exclusive(hasName("one"));
-        } catch (IllegalArgumentException fault) {
-            assumeTrue(!fault.getMessage().contains("unknown question"), "this program doesn't know it");
-            throw fault;
-        }
-        asserting.exclusive(any(), isTest());
-        assertRefused("no 1 2", () -> asserting.exclusive(isTest()));
-        assertRefused("no 1 2", () -> asserting.exclusive(hasName("two"), hasName("one")));
-    }
-
     private static void assertRefused(String answer, Runnable asserting) {
         AssertionError fault = assertThrows(AssertionError.class, asserting::run);
-        assertTrue(Arrays.asList(fault.getMessage().split("\n")).contains(answer), fault.getMessage());
+        assertTrue(fault.getMessage().contains("\n" + answer + "\n"), fault.getMessage());
     }
 }

@@ -1,0 +1,162 @@
+"""Explanations of generated records: of matches, lifecycles, executions that overlap, lists and executions."""
+
+from typing import Callable, List, Sequence, Union
+
+import form
+from generated import exclusives, lifecycles
+from generated.conditions import ATOMS, condition_text
+from generated.numbers import Numbers, each_is_met, modelled
+from generated.questions import conditions_in_turn, conditions_of_events, fitting
+from generated.recordings import record_text, short_record
+from harness import Case, Check
+from model.conditions import write_condition
+from model.records import Record, read_record
+
+Cases = List[Union[Case, Check]]
+Words = Callable[[Numbers, Record], List[str]]
+
+
+def of_atoms(numbers: Numbers) -> str:
+    """A condition that joins two to five atoms, a few of which hold of one event."""
+    members = tuple(numbers.one_of(ATOMS) for _ in range(2 + numbers.below(4)))
+    inner = members if numbers.below(4) else (("all", members[:2]), *members[2:])
+    return write_condition(("all", inner))
+
+
+def in_turn(numbers: Numbers, record: Record) -> List[str]:
+    """Up to four conditions, most of which hold at increasing positions, or at the same positions in another turn."""
+    words = conditions_in_turn(numbers, record)
+    if numbers.below(3) == 0 and words:
+        words += [numbers.one_of(words)]
+    return words if numbers.below(4) else words + [of_atoms(numbers)]
+
+
+def of_events(numbers: Numbers, record: Record) -> List[str]:
+    """A condition for each event, of which one may be of atoms, and then some too few or too many."""
+    words = conditions_of_events(numbers, record)
+    if words and numbers.below(2) == 0:
+        words[numbers.below(len(words))] = of_atoms(numbers)
+    extra = numbers.below(6)
+    return words[:-1] if extra == 0 else words + ["test"] if extra == 1 else words
+
+
+def of_some(numbers: Numbers, record: Record) -> List[str]:
+    """Up to three conditions that mostly hold of an event, and mostly one of atoms after them."""
+    words = [fitting(numbers, record, numbers.below(1 + len(record.entries))) for _ in range(numbers.below(4))]
+    return words if numbers.below(4) == 0 else words + [of_atoms(numbers)]
+
+
+def forms_of(output: str) -> List[str]:
+    """The forms that stand in the explanation of a match."""
+    lines = output.split("\n")[:-1]
+    shown = [form_of(line) for line in lines[1:]]
+    return [lines[0].split()[0], *shown, *([f"no and {shown.count('nearest')} nearest"] if lines[0].startswith("no") else [])]
+
+
+def form_of(line: str) -> str:
+    forms = {"   does not hold: ": "nearest", "   holds, but is not after ": "too early", "no event is left": "none left"}
+    named = [name for part, name in forms.items() if part in line]
+    return named[0] if named else "event" if line.startswith("    ") else "condition"
+
+
+def matches(mode: str, seed: int, count: int, most: int, words_for: Words, wanted: Sequence[str]) -> Cases:
+    """Matches of records of up to `most` events."""
+    numbers = Numbers(seed)
+    cases: Cases = []
+    for number in range(count):
+        text = short_record(numbers) if numbers.below(2) else record_text(numbers, numbers.below(most))
+        words = words_for(numbers, read_record(text))
+        cases.append(modelled(f"generated explanation, {mode}/{number}", ["ask", "explain", mode, *words], text))
+    met = [form for case in cases for form in set(forms_of(case.output.decode()))]
+    return cases + [each_is_met(f"generated explanation, {mode}", met, wanted, 10)]
+
+
+TAILS = ["start", "start", "skip|off", "finish|ok", "finish|fail|boom", "report|k|v", "file|out/log.txt"]
+IDS = ["[engine:e]/[d:1]", "[engine:e]/[d:1]/[d:2]", "[engine:e]/[d:1]", "[engine:e]/[class:A]", "[f:%2F\\p]", "[f:%2F\\p]/[d:1]", "[g:1]/[d:1]"]
+
+
+def loose_lines(numbers: Numbers) -> List[str]:
+    """The lines of some events that a run begins with, and of a few of any kind after them."""
+    keys, registered = list(range(len(lifecycles.STATIC))), 0
+    lines = [f"E|1|{key}|{key}|start" for key in range(numbers.below(3))]
+    for stamp in range(1 + numbers.below(6)):
+        if numbers.below(3) == 0:
+            keys.append(form.MAX_DESCRIPTORS + registered)
+            registered += 1
+            lines.append(f"E|1|{keys[-1]}|{stamp}|dynamic|{numbers.one_of('CTB')}|{numbers.one_of(IDS)}|d\\n{keys[-1]}")
+        else:
+            lines.append(f"E|1|{numbers.one_of(keys)}|{stamp}|{numbers.one_of(TAILS)}")
+    return lines
+
+
+SENTENCES = [
+    "and never finished",
+    "neither started nor was skipped",
+    "but a static descriptor has its id",
+    "but its id was registered at",
+    "but no descriptor before has the id of its parent",
+    "had not started",
+    '" started at',
+    '" was skipped at',
+    '" was registered at',
+    '" published entries at',
+    "but its parent",
+    "but its child",
+    "already",
+]
+"""What sentences of the lifecycle have in them."""
+
+
+def of_lifecycles() -> Cases:
+    """Records of which most break the lifecycle."""
+    numbers = Numbers(61)
+    cases: Cases = []
+    for number in range(700):
+        lines = loose_lines(numbers) if numbers.below(3) == 0 else lifecycles.spoiled(numbers, lifecycles.kept_lines(numbers))
+        cases.append(modelled(f"generated explanation, lifecycle/{number}", ["ask", "explain", "lifecycle"], lifecycles.text_of(lines)))
+    met = [part for case in cases for part in SENTENCES if part in case.output.decode()]
+    return cases + [each_is_met("generated explanation, lifecycle", met, SENTENCES, 3)]
+
+
+def of_exclusives() -> Cases:
+    """Executions of writers and readers, of which some overlap."""
+    numbers = Numbers(62)
+    cases: Cases = []
+    for number in range(300):
+        words = [exclusives.word(numbers) for _ in range(1 + numbers.below(2))]
+        cases.append(
+            modelled(f"generated explanation, exclusive/{number}", ["ask", "explain", "exclusive", *words], exclusives.text_of(numbers)),
+        )
+    met = [case.output.decode()[:2] for case in cases]
+    return cases + [each_is_met("generated explanation, exclusive", met, ["ye", "no"], 30)]
+
+
+def of_lists() -> Cases:
+    """Lists of events, and of executions."""
+    numbers = Numbers(63)
+    cases: Cases = []
+    for number in range(150):
+        text = record_text(numbers, numbers.below(100))
+        words = [numbers.one_of(("all",) * 9 + form.SELECTIONS), *(condition_text(numbers, 2) for _ in range(numbers.below(3)))]
+        cases.append(modelled(f"generated explanation, list/{number}", ["ask", "explain", "list", *words], text))
+        cases.append(modelled(f"generated explanation, executions/{number}", ["ask", "explain", "executions"], text))
+    return cases
+
+
+def cases() -> Cases:
+    """Two thousand and two hundred explanations."""
+    return (
+        matches(
+            "in-order",
+            58,
+            300,
+            13,
+            in_turn,
+            ["yes", "condition", "event", "too early", "none left", *(f"no and {it} nearest" for it in range(4))],
+        )
+        + matches("exactly", 59, 300, 9, of_events, ["yes", "wrong-count", "condition", "event", "nearest", "none left", "no and 1 nearest"])
+        + matches("loosely", 60, 300, 60, of_some, ["yes", "condition", "event", "none left", *(f"no and {it} nearest" for it in range(4))])
+        + of_lifecycles()
+        + of_exclusives()
+        + of_lists()
+    )

@@ -1,0 +1,16 @@
+"""The rows of explanations that show events and descriptors."""
+
+from model.records import Record
+from model.texts import write_field, write_id
+
+
+def described(record: Record, key: int) -> str:
+    """The id of a key's descriptor, and its display name in double quotes."""
+    descriptor = record.descriptor(key)
+    return f'{write_field(write_id(descriptor.id))} "{write_field(descriptor.name)}"'
+
+
+def event_row(record: Record, position: int, more: str = "") -> str:
+    """The event at a position, its descriptor, and what more is said of it."""
+    entry = record.entries[position]
+    return f"    {position}: {entry.line()}   {described(record, entry.event.key)}{more}\n"

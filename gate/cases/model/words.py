@@ -1,0 +1,122 @@
+"""The words after `ask`: which question they ask, or why they are refused."""
+
+from typing import Callable, Dict, List
+
+import form
+from model import explanations, questions
+from model.conditions import BadAtom, Condition, Deep, read_condition
+from model.lifecycle import lifecycle
+from model.lifecycle_explanations import explain_lifecycle
+from model.questions import Answer
+from model.records import Record, Refused, read_record
+from model.texts import read_number
+
+Question = Callable[[Record], Answer]
+
+MATCHERS = {"exactly": questions.match_exactly, "loosely": questions.match_loosely, "in-order": questions.match_in_order}
+EXPLAINED_MATCHERS = {
+    "exactly": explanations.explain_exactly,
+    "loosely": explanations.explain_loosely,
+    "in-order": explanations.explain_in_order,
+}
+
+
+def read_question(words: List[str]) -> Question:
+    """The question of the words after `ask`, or `Refused`."""
+    readers = {
+        "stats": read_stats,
+        "count": read_count,
+        "match": lambda words: read_match(words, MATCHERS),
+        "list": lambda words: read_list(words, 0, questions.list_events),
+        "exclusive": lambda words: read_exclusive(words, 0, questions.exclusive),
+        "executions": lambda words: read_no_word(words, 0, questions.executions),
+        "lifecycle": lambda words: read_no_word(words, 0, lifecycle),
+        "report": lambda words: read_no_word(words, 0, questions.report),
+        "explain": read_explain,
+    }
+    if not words or words[0] not in readers:
+        raise Refused("unknown question")
+    return readers[words[0]](words[1:])
+
+
+def read_explain(words: List[str]) -> Question:
+    """A mode with its conditions, as of `match`, or a question whose first word has the number 1 here."""
+    readers = {
+        "list": lambda words: read_list(words, 1, explanations.explain_list),
+        "exclusive": lambda words: read_exclusive(words, 1, explanations.explain_exclusive),
+        "executions": lambda words: read_no_word(words, 1, explanations.explain_executions),
+        "lifecycle": lambda words: read_no_word(words, 1, explain_lifecycle),
+    }
+    if words and words[0] in readers:
+        return readers[words[0]](words[1:])
+    return read_match(words, EXPLAINED_MATCHERS)
+
+
+def read_stats(words: List[str]) -> Question:
+    expected: Dict[str, int] = {}
+    for number, word in enumerate(words):
+        name, _, text = word.partition("=")
+        value = read_number(text, 64)
+        if name not in form.STATISTICS or name in expected or value is None:
+            raise Refused(f"bad word {number}")
+        expected[name] = value
+    return lambda record: questions.stats(record, expected)
+
+
+def read_count(words: List[str]) -> Question:
+    if not words or words[0] not in form.SELECTIONS:
+        raise Refused("bad word 0")
+    if len(words) > 1:
+        raise Refused("bad word 1")
+    return lambda record: (f"{questions.count(record, words[0])}\n", True)
+
+
+def read_conditions(words: List[str], first: int) -> List[Condition]:
+    """The conditions of the words, of which the first has this number."""
+    conditions = []
+    for number, word in enumerate(words, start=first):
+        try:
+            conditions.append(read_condition(word))
+        except BadAtom as fault:
+            raise Refused(f"condition {number} is bad at {fault.args[0]}")
+        except Deep:
+            raise Refused(f"condition {number} is too deep")
+    return conditions
+
+
+def read_match(words: List[str], matchers: Dict[str, Callable[[Record, List[Condition]], Answer]]) -> Question:
+    if not words or words[0] not in matchers:
+        raise Refused("bad word 0")
+    conditions = read_conditions(words[1:], 1)
+    return lambda record: matchers[words[0]](record, conditions)
+
+
+def read_list(words: List[str], first: int, answer: Callable[[Record, str, List[Condition]], Answer]) -> Question:
+    """A selection, whose word has the number `first`, and conditions."""
+    if not words or words[0] not in form.SELECTIONS:
+        raise Refused(f"bad word {first}")
+    conditions = read_conditions(words[1:], first + 1)
+    return lambda record: answer(record, words[0], conditions)
+
+
+def read_exclusive(words: List[str], first: int, answer: Callable[[Record, Condition, Condition], Answer]) -> Question:
+    """One condition or two, of which the first has the number `first`."""
+    if not words:
+        raise Refused(f"bad word {first}")
+    conditions = read_conditions(words[:2], first)
+    if len(words) > 2:
+        raise Refused(f"bad word {first + 2}")
+    nobody: Condition = ("any", ())
+    return lambda record: answer(record, conditions[0], (conditions + [nobody])[1])
+
+
+def read_no_word(words: List[str], first: int, question: Question) -> Question:
+    if words:
+        raise Refused(f"bad word {first}")
+    return question
+
+
+def ask(words: List[str], data: bytes) -> Answer:
+    """The answer of `ask` with these words to a record text, or `Refused`."""
+    question = read_question(words)
+    return question(read_record(data))

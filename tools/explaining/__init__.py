@@ -1,1 +1,0 @@
-"""What `tools/explain` is made of."""
