@@ -14,7 +14,8 @@ NAME = re.compile(r"[^\s(){};,.λ]+(?:\.[^\s(){};,.λ]+)*")
 """A name, or a path with dots."""
 BEGINS = re.compile(r"(?:abbrev|unfoldable|data|record|mutual|module|pub (?!use |mod ))\b")
 """How a definition begins, or a block of them."""
-DECLARED = re.compile(r"(?:(?:abbrev|unfoldable|pub|data|record) )+(?!mutual)(\S+)")
+BLOCK = re.compile(r"(?:abbrev )?(?:mutual|module)\b")
+DECLARED = re.compile(r"(?:(?:abbrev|unfoldable|pub|data|record) )+(\S+)")
 
 
 class Scope:
@@ -79,16 +80,17 @@ class Module:
 
 def names_of(lines: Sequence[str]) -> List[str]:
     """The names that a definition declares: its own, those in its block, and the constructors of data, but no fields."""
-    found, within, depth = [], "", 0
+    found, depth, is_data = [], 0, False
     for line in lines:
-        word, indent = line.lstrip(), len(line) - len(line.lstrip())
-        if word and within and indent > depth:
-            constructor = re.match(r"(\S+) :", word)
-            found += [constructor[1]] if constructor and within == "data" and indent == depth + 2 else []
-        elif DECLARED.match(word):
-            found.append(DECLARED.match(word)[1])
-            kind = re.search(r"^(?:pub )?(data|record) ", word)
-            within, depth = kind[1] if kind else "", indent
+        text, indent = line.lstrip(), len(line) - len(line.lstrip())
+        declared, constructor = DECLARED.match(text), re.match(r"(\S+) :", text)
+        if BLOCK.match(text):
+            depth = indent + 2
+        elif declared and indent <= depth:
+            found.append(declared[1])
+            depth, is_data = indent, " data " in f" {text}"
+        elif constructor and is_data and indent == depth + 2:
+            found.append(constructor[1])
     return found
 
 
