@@ -13,7 +13,7 @@ import re
 import sys
 from collections import defaultdict
 from dataclasses import dataclass
-from typing import Dict, Iterator, List, Mapping, Sequence, Set
+from typing import Dict, Iterator, List, Mapping, Optional, Sequence, Set
 
 if __name__ == "__main__":
     sys.dont_write_bytecode = True
@@ -40,18 +40,23 @@ class Item:
     name: str
     lines: Sequence[str]
 
-    def words(self) -> Set[str]:
-        """The words before its body; of a type those of its fields too."""
+    def head(self) -> str:
+        """What stands before its body; all of a type."""
         text = "\n".join(self.lines)
-        return set(re.findall(r"\w+", text if self.kind in ("struct", "enum") else re.split(r"\{$", text, 1, re.MULTILINE)[0]))
+        return text if self.kind in ("struct", "enum") else re.split(r"\{$", text, 1, re.MULTILINE)[0]
+
+    def is_given(self, names: Optional[Set[str]]) -> bool:
+        """Whether it is one of the names that a crate gives out; of an example all count."""
+        return names is None or self.is_pub and self.name in names
 
     def contracts(self) -> str:
         """Its clauses and ghost members; of an impl without a trait those of public methods."""
+        is_own = self.kind == "impl" and not re.search(r"\bfor ", self.head())
         found, is_open, depth, within = [], True, 0, False
         for line in self.lines:
             method = METHOD.match(line)
             if method:
-                is_open = self.kind != "impl" or " for " in self.lines[0] or method[1] is not None
+                is_open = not is_own or method[1] is not None
             if within or CONTRACT.match(line):
                 found += [line] if is_open else []
                 depth += line.count("{") - line.count("}")
@@ -72,6 +77,10 @@ def public_names(sources: Mapping[str, Source], path: str) -> Set[str]:
     names = set(uses_of(source)) | {it.name for it in items_of(source) if it.is_pub}
     below = re.findall(r"^pub mod (\w+);", "\n".join(source.code), re.MULTILINE)
     return names.union(*(public_names(sources, f"{folder}/{it}.rt") for it in below))
+
+
+def words(text: str) -> Set[str]:
+    return set(re.findall(r"\w+", text))
 
 
 class Reach:
@@ -96,24 +105,22 @@ class Reach:
 
     def _roots_of(self, crate: str, sources: Mapping[str, Source]) -> List[str]:
         """The public types and the other public items of a crate; what they name is noted."""
+        given = None if crate.startswith("example_") else public_names(sources, f"crates/{crate}/src/lib.rt")
         items = [(it, Scope("\n".join(source.lines))) for source in sources.values() if source.crate == crate for it in items_of(source)]
-        given = public_names(sources, f"crates/{crate}/src/lib.rt")
-        public = [it for it, _ in items if crate.startswith("example_") or it.is_pub and it.name in given]
         own = {it.name for it, _ in items if it.kind in ("struct", "enum", "trait")}
-        private = own - {it.name for it in public}
+        public = {it.name for it, _ in items if it.is_given(given)}
         roots = []
         for it, scope in items:
-            types, text = it.words() & own, it.contracts()
-            named = scope.named(text) | {f"{crate}::{name}" for name in set(re.findall(r"\w+", text)) & own}
+            types, text = own & words(it.head()), it.contracts()
+            named = scope.named(text) | {f"{crate}::{name}" for name in own & words(text)}
+            holders = [f"{it.path}: {it.lines[0]}"]
             if it.kind in ("struct", "enum"):
-                self.named[f"{crate}::{it.name}"] |= named | {f"{crate}::{name}" for name in types}
-                roots += [f"{crate}::{it.name}"] if it in public else []
-            elif it.kind == "impl" and (it.name == "Model" or types & private):
-                for name in types if it.name == "Model" else types & private:
-                    self.named[f"{crate}::{name}"] |= named
-            elif it.kind == "impl" or it in public:
-                roots.append(f"{it.path}: {it.lines[0]}")
-                self.named[roots[-1]] |= named
+                holders, named = [f"{crate}::{it.name}"], named | {f"{crate}::{name}" for name in types}
+            elif it.kind == "impl" and types - public:
+                holders = [f"{crate}::{name}" for name in types - public]
+            for holder in holders:
+                self.named[holder] |= named
+            roots += holders if (types <= public if it.kind == "impl" else it.is_given(given)) else []
         return roots
 
     def meant(self, path: str) -> Set[str]:
