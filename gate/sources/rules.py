@@ -8,6 +8,7 @@ import edits
 import files
 import memory
 from facade import facade_faults
+from reach import reach_faults
 from sources import sources_of
 from tree import Tree
 
@@ -27,6 +28,8 @@ class Limits:
     fewest_tests: int = 0
     long_lines: Sequence[str] = ()
     """Lines of clauses and definitions that are too long, by file and number."""
+    without_steps: Sequence[str] = ()
+    """Crates whose `specs/steps/` hasn't yet all that no public contract reaches."""
 
 
 Rule = Callable[[], List[str]]
@@ -48,6 +51,7 @@ def rules_of(tree: Tree, limits: Limits) -> Dict[str, Rule]:
         "each file is read": lambda: files.unread(tree),
         "no code is unsafe or foreign": lambda: files.unsafe(sources),
         "lines of clauses and definitions can be read": lambda: files.long_lines(tree, sources, limits.long_lines),
+        "specs/steps has what no public contract reaches, and nothing else": lambda: reach_faults(tree, limits.without_steps),
         "HANDLES is unchanged": lambda: [] if tree.text("HANDLES") == limits.handles else [f"HANDLES differs from {limits.handles!r}"],
     }
 

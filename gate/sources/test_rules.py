@@ -9,12 +9,12 @@ from tree import Tree
 
 LIMITS = Limits(
     "Handles allowed: Threads, Wait.\n", {"tk_low": "lower", "tk_high": "upper"},
-    ["Lane::spare"], ["crates/tk_low/src/lanes.rt spare"], 2, 2,
+    ["Lane::spare"], ["crates/tk_low/src/lanes.rt spare"], 2, 2, without_steps=["tk_high"],
 )
 
 LANES = """//! Lanes.
 mod parts;
-
+ghost use Rattle.tk_low.specs.Lanes.{lanes};
 /// A "lane".
 pub struct Lane {
     count: u32,
@@ -38,7 +38,7 @@ impl Lane {
     }
 
     pub fn count(&self) -> u32
-        ensures { result ≡ self.count }
+        ensures { result ≡ lanes self.count }
     {
         self.count
     }
@@ -64,6 +64,7 @@ pub fn boxed(alloc: Global) -> Result<u32, LaneFault>
 """
 LOW, ROOT, UPPER, LOWER = "crates/tk_low/src/lanes.rt", *(f"crates/engine_testkit/src/{it}.rt" for it in ("lib", "upper", "lower"))
 HIGH, TESTS, EDIT = "crates/tk_high/src/lib.rt", "crates/test_low/src/lib.rt", "crates/tk_low/must-fail/count.edit"
+BOXES, HIGHS = "crates/tk_low/specs/steps/Boxes.antt", "crates/tk_high/specs/Highs.antt"
 TREE = {
     "HANDLES": LIMITS.handles,
     "crates.txt": "tk_low:\n# a comment\ntk_high: tk_low indexmap\nengine_testkit: tk_low tk_high\ntest_low tests_may=Wait: tk_low\n",
@@ -71,13 +72,17 @@ TREE = {
     "crates/tk_low/src/laws.rt": "pub fn law()\n    ensures { Unit {0} }\n{\n}\n",
     LOW: LANES,
     "crates/tk_low/src/lanes/parts.rt": "// unsafe\n",
-    "crates/tk_low/specs/Lib.antt": "pub mod Lanes\n",
+    "crates/tk_low/specs/Lib.antt": "pub mod Lanes\npub mod steps\n",
     "crates/tk_low/specs/Lanes.antt": "-- " + "x" * 97 + "\nabbrev pub lanes : ℕ\n",
+    "crates/tk_low/specs/steps.antt": "pub mod Boxes\n",
+    BOXES: "use Rattle.tk_low.specs.Lanes.{lanes}\nabbrev pub boxes : ℕ\nboxes = lanes\n",
     "crates/tk_low/proofs/Lib.antt": "mod Steps\n",
     "crates/tk_low/proofs/Steps.antt": "y" * 200 + "\n",
     "crates/tk_low/proofs/lanes/boxed/Answers.antt": "",
     EDIT: "file: src/lanes.rt\nold:         self.count\nnew:         self.count + 1\n",
     HIGH: "pub use tk_low::{Lane, LaneFault};\n\npub const TOP: u32 = 4;\n\npub fn high() -> u32\n    ensures { result ≡ 1 }\n{\n    1\n}\n",
+    "crates/tk_high/specs/Lib.antt": "pub mod Highs\n",
+    HIGHS: "abbrev pub highs : ℕ\n",
     "crates/tk_high/must-fail/high.edit": "file: src/lib.rt\nold: u32 = 4\nnew: u32 = 5\nold: u32 = 5;\nnew: u32 = 6;\n",
     ROOT: "pub mod lower;\npub mod upper;\n\npub use lower::Lane;\npub use upper::high;\n",
     UPPER: "pub use tk_high::TOP;\npub use tk_high::high;\n",
@@ -138,10 +143,14 @@ WRONG = [
         **changed(LOW, "mod parts;", ""), "crates/tk_low/src/lib.rt": TREE["crates/tk_low/src/lib.rt"] + "mod parts;\n",
     }),
     ("definitions that no root names", "Lanes.antt is named by no root", changed("crates/tk_low/specs/Lib.antt", "Lanes", "Lane")),
+    ("steps that no root names", "Boxes.antt is named by no root", changed("crates/tk_low/specs/steps.antt", "Boxes", "Box")),
     ("two roots", "main.rt stands beside lib.rt", {"crates/tk_low/src/main.rt": ""}),
     ("unsafe code", "lanes/parts.rt:2: unsafe", {"crates/tk_low/src/lanes/parts.rt": "\nunsafe impl Sync for Lane {}\n"}),
     ("a long second line of a clause", "lanes.rt:45 has 101 columns", changed(LOW, "≡ 1) }", "≡ 1" + "0" * 59 + ") }")),
     ("a long definition", "specs/Lanes.antt:1 has 101 columns", changed("crates/tk_low/specs/Lanes.antt", "x\n", "xx\n")),
+    ("a definition that a private clause names", "Lanes.antt: lanes: no public contract", changed(LOW, "pub fn count", "fn count")),
+    ("steps that a clause names", "Boxes.antt: boxes: a public contract", changed(LOW, "specs.Lanes.{lanes}", "specs.steps.Boxes.{boxes as lanes}")),
+    ("a crate with its steps that is an exception", "tk_high has its steps, and is an exception", {HIGHS: ""}),
     ("other handles", "HANDLES differs", changed("HANDLES", "Wait.", "Wait, Net.")),
 ]
 
