@@ -25,11 +25,7 @@ LIMITS = Limits(
         "crates/example_engine/src/evens.rt even_numbers",
     ],
     long_lines=[],
-    without_steps=[
-        *"tk_lanes tk_streams tk_ids tk_record_columns tk_record tk_query_conditions tk_query_lifecycle tk_query tk_query_nearest".split(),
-        *"tk_explanations tk_plan_units tk_plan_members tk_plan_json tk_plan tk_queue_replay tk_queue_session tk_engine_execute".split(),
-        *"tk_report_text tk_engine tk_engine_unit_events tk_engine_hierarchical testkit_questions testkit_command_line".split(),
-    ],
+    without_steps=[],
     fewest_edits=230,
     fewest_tests=161,
 )

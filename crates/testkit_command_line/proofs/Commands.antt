@@ -19,7 +19,9 @@ use Rattle.testkit_command_line.specs.declared.jobs.Job.{Job}
 use Rattle.testkit_command_line.specs.declared.jobs.Job.TheVariants as jobs
 use Rattle.testkit_command_line.specs.declared.faults.CommandLineFault.{CommandLineFault}
 use Rattle.testkit_command_line.specs.declared.faults.CommandLineFault.TheVariants as faults
-use Rattle.testkit_command_line.specs.CommandLines.{IsJobOf, IsNoAskLine, commands, fault_of_parse, job_of_command, other_job, run_by, run_by_number}
+use Rattle.testkit_command_line.specs.CommandLines.{IsJobOf, IsNoAskLine, commands, job_of_command}
+use Rattle.testkit_command_line.specs.CommandLines.{other_job, run_by, run_by_number}
+use Rattle.testkit_command_line.specs.steps.CommandLines.{fault_of_parse}
 
 pub commands_are_simple : is_simple commands ≡ true
 unfolding commands clap_on_literals

@@ -33,8 +33,6 @@ use Rattle.clap.specs.Words.{
   with_subcommand,
 }
 use Rattle.clap.specs.declared.builder.action.ArgAction.TheVariants.{Set}
-use Rattle.clap.specs.declared.error.kind.ErrorKind.{ErrorKind as ParseKind}
-use Rattle.clap.specs.declared.error.kind.ErrorKind.TheVariants as parse
 use Rattle.tk_record.specs.Reading.{number_of}
 use Rattle.testkit_command_line.specs.declared.jobs.Job.{Job}
 use Rattle.testkit_command_line.specs.declared.jobs.Job.TheVariants as jobs
@@ -100,8 +98,3 @@ IsJobOf words job = IsNoAskLine words × (other_job words ≡ Ok job)
 abbrev pub IsNoJob : List (List ℕ) → CommandLineFault → Type 0
 IsNoJob words faults.Memory = IsNoAskLine words
 IsNoJob words faults.BadWords = IsNoAskLine words × (other_job words ≡ Err faults.BadWords)
-
--- why the command-line crate refuses words: an allocation failed, or the words are bad
-abbrev pub fault_of_parse : ParseKind → CommandLineFault
-fault_of_parse parse.OutOfMemory = faults.Memory
-fault_of_parse _ = faults.BadWords

@@ -1,2 +1,3 @@
 pub mod Arguments
 pub mod CommandLines
+pub mod steps

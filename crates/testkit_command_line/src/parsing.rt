@@ -3,7 +3,8 @@ ghost use Rattle.std.specs.Prelude.{◌≡◌, ℕ, List, [], codes, map, string
 ghost use Rattle.clap.specs.Words.{FailsBy, HasMatchesOf, app_of, fault_of, first_value, found_of, kind_of, rows_of};
 ghost use Rattle.clap.specs.declared.builder.command.Command.TheViews.{out-Command as fields_of};
 ghost use Rattle.testkit_command_line.specs.declared.faults.CommandLineFault.TheVariants.{Memory};
-ghost use Rattle.testkit_command_line.specs.CommandLines.{IsJobOf, IsNoJob, commands, fault_of_parse, job_of_command, other_job, run_by, run_command};
+ghost use Rattle.testkit_command_line.specs.CommandLines.{IsJobOf, IsNoJob, commands, job_of_command, other_job, run_by, run_command};
+ghost use Rattle.testkit_command_line.specs.steps.CommandLines.{fault_of_parse};
 
 use crate::faults::{CommandLineFault, parse_fault};
 use crate::jobs::Job;

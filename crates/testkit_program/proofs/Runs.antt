@@ -14,7 +14,9 @@ use Rattle.tk_report.specs.Answers.{IsNoPlan, IsNotRun, IsPlanRun, IsReported, O
 use Rattle.tk_report.proofs.RunEvents.{not_reported, reported}
 use Rattle.testkit_program.specs.declared.faults.Fault.{Fault}
 use Rattle.testkit_program.specs.declared.faults.Fault.TheVariants as faults
-use Rattle.testkit_program.specs.Jobs.{Devices, IsBroken, IsDone, IsOfWords, IsPlanOutcome, IsRefused, IsReportFault, IsRunOutcome, Transfer, transfer}
+use Rattle.testkit_program.specs.Jobs.{Devices, IsBroken, IsDone, IsOfWords, IsRefused}
+use Rattle.testkit_program.specs.Jobs.{IsReportFault, Transfer, transfer}
+use Rattle.testkit_program.specs.steps.Jobs.{IsPlanOutcome, IsRunOutcome}
 use Rattle.testkit_program.proofs.Loads.{load_broken, load_refused}
 
 -- all bytes of a source were loaded, where its bytes are known

@@ -1,22 +1,6 @@
 -- What doing a job of the program answers, and what was written then.
-use Rattle.std.specs.Prelude.{
-  ◌≡◌,
-  ◌<◌,
-  ◌≤◌,
-  ◌⊎◌,
-  ℕ,
-  Bool,
-  true,
-  List,
-  Option,
-  Result,
-  Ok,
-  Err,
-  IfSome,
-  length,
-  map,
-  string_bytes,
-}
+use Rattle.std.specs.Prelude.{◌≡◌, ◌<◌, ◌≤◌, ◌⊎◌, ℕ, Bool, true, List, Option, Err, IfSome, length}
+use Rattle.std.specs.Prelude.{map, string_bytes}
 use Rattle.std.specs.Io.KnownBytes.{Appends}
 use Rattle.testkit_command_line.specs.declared.jobs.Job.{Job}
 use Rattle.testkit_command_line.specs.declared.jobs.Job.TheVariants as jobs
@@ -37,8 +21,7 @@ use Rattle.tk_record.specs.declared.reading.TheConstants.{MAX_TEXT}
 use Rattle.tk_streams.specs.Stream.{AppendsPrefix}
 use Rattle.tk_queue_replay.specs.ReplayText.{IsWritten, IsPartlyWritten, Plays}
 use Rattle.tk_queue_replay.specs.ReplayText.{IsAnswer as IsPlayedAs}
-use Rattle.tk_report.specs.declared.plan_runs.PlanRun.{PlanRun}
-use Rattle.tk_report.specs.Answers.{OfPlan, MayWork, IsNoPlan, IsNotRun, IsReported, IsRunReport}
+use Rattle.tk_report.specs.Answers.{OfPlan, MayWork, IsNoPlan, IsNotRun}
 use Rattle.testkit_questions.specs.Asked.{AddsAnswer, AddsPrefix, IsRefusal}
 use Rattle.testkit_questions.specs.Asked as asked
 
@@ -119,26 +102,6 @@ IsRefused (jobs.Run workers) t (faults.Load loads.TooLarge) =
 IsRefused (jobs.Run workers) t (faults.Load fault) = Unit {0}
 IsRefused (jobs.Run workers) t (faults.Report fault) = IsReportFault workers t fault
 IsRefused job t _ = ⊥
-
--- What writing the report of a run answers: a yes, or why the report was not written. No fault of
--- another kind is answered.
-abbrev pub IsRunOutcome :
-    PlanRun → Option (List ℕ) → Option (List ℕ) → Result Bool Fault → Type 0
-IsRunOutcome run old new (Ok is_yes) =
-    (is_yes ≡ true) × IsRunReport run.results.recorded old new (Ok tt)
-IsRunOutcome run old new (Err (faults.Report fault)) =
-    IsRunReport run.results.recorded old new (Err fault)
-IsRunOutcome run old new (Err _) = ⊥
-
--- What running the plan of loaded bytes and writing its report answers: a yes, or why there is no
--- report. No fault of another kind is answered, so none of loading.
-abbrev pub IsPlanOutcome :
-    List ℕ → ℕ → Option (List ℕ) → Option (List ℕ) → Result Bool Fault → Type 0
-IsPlanOutcome bytes workers old new (Ok is_yes) =
-    (is_yes ≡ true) × IsReported bytes workers old new (Ok tt)
-IsPlanOutcome bytes workers old new (Err (faults.Report fault)) =
-    IsReported bytes workers old new (Err fault)
-IsPlanOutcome bytes workers old new (Err _) = ⊥
 
 -- which of a job's devices are broken
 pub record Devices : Type 0 where

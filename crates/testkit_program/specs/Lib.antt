@@ -1,3 +1,4 @@
 pub mod Jobs
 pub mod Lines
 pub mod Statuses
+pub mod steps

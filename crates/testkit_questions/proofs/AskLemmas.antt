@@ -18,7 +18,9 @@ use Rattle.testkit_questions.specs.Explanations.{Explains}
 use Rattle.testkit_questions.specs.FaultsOfExplanations.{ask_fault_of}
 use Rattle.testkit_questions.proofs.RequestLemmas.{condition_read, of_no_device, of_no_source}
 use Rattle.std.specs.Io.KnownBytes.{Consumes, IsAtEnd}
-use Rattle.testkit_questions.specs.Asked.{AddsAnswer, AddsPrefix, IsOfWords, IsReadInTime, IsReadRefusal, IsRefusal, IsReply, Written}
+use Rattle.testkit_questions.specs.Asked.{AddsAnswer, AddsPrefix, IsOfWords, IsReadInTime}
+use Rattle.testkit_questions.specs.Asked.{IsReadRefusal, IsRefusal}
+use Rattle.testkit_questions.specs.steps.Asked.{IsReply, Written}
 
 -- the fault that a result has
 pub same_fault : {T : Type 0} (a b : AskFault) → IsErrOf {T = T} (Err a) b → a ≡ b

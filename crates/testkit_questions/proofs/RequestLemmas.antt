@@ -14,7 +14,10 @@ use Rattle.testkit_questions.specs.declared.requests.Request.{Request}
 use Rattle.testkit_questions.specs.Explainables.{asking}
 use Rattle.testkit_questions.specs.declared.questions.Mode.{Mode}
 use Rattle.testkit_questions.specs.Questions.{IsAskedAs, IsBadCondition, IsBadWord, match_word, mode_name}
-use Rattle.testkit_questions.specs.Requests.{IsExplainedAs, IsRequestedAs, IsUnexplained, NamesExplainable, NamesMode, answering, explain_word, explaining, explaining_later, one_later, word_number}
+use Rattle.testkit_questions.specs.Requests.{IsExplainedAs, IsRequestedAs, IsUnexplained}
+use Rattle.testkit_questions.specs.Requests.{NamesExplainable, NamesMode, answering, explain_word}
+use Rattle.testkit_questions.specs.Requests.{explaining, explaining_later, one_later}
+use Rattle.testkit_questions.specs.steps.Requests.{word_number}
 
 -- a fault of words that ask for something, as one of words that ask a question
 data FaultOf (fault : AskFault) : Type 0 where
@@ -113,7 +116,6 @@ pub condition_read : (words : List (List ℕ)) (i : ℕ) (fault : CondFault) →
 condition_read words i fault h = is_read i fault (fault_of words (faults.Condition i fault) h)
 
 -- ---- the number of a fault's word
-
 
 named_length : {X : Type 0} (words : List X) (name : X) (rest : List X) → words ≡ name ∷ rest → length words ≡ length rest + 1
 named_length words name rest e = ap length e ∙ omega arith

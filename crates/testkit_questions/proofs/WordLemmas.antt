@@ -15,10 +15,14 @@ use Rattle.tk_query_conditions.specs.declared.faults.CondFault.TheVariants as co
 use Rattle.tk_query_conditions.specs.Answer.{IsReadAs}
 use Rattle.testkit_questions.specs.declared.faults.AskFault.{AskFault}
 use Rattle.testkit_questions.specs.declared.faults.AskFault.TheVariants as faults
-use Rattle.testkit_questions.specs.Questions.{Asks, Expecting, IsAskedAs, IsNextExpected, AreConditions, IsConditionFault, IsWordFault, IsBadWord, count, exclusive_word, overview_name}
+use Rattle.testkit_questions.specs.Questions.{Asks, Expecting, IsAskedAs, IsNextExpected}
+use Rattle.testkit_questions.specs.Questions.{AreConditions, IsConditionFault, IsBadWord, count}
+use Rattle.testkit_questions.specs.Questions.{exclusive_word, overview_name}
+use Rattle.testkit_questions.specs.steps.Questions.{IsWordFault}
 use Rattle.testkit_questions.specs.declared.questions.Question.TheVariants as questions
 use Rattle.tk_query_conditions.specs.Cond.{Any, Nothing}
-use Rattle.tk_query_conditions.specs.CondOf.{cond_of, conds_from}
+use Rattle.tk_query_conditions.specs.CondOf.{cond_of}
+use Rattle.tk_query_conditions.specs.steps.CondOf.{conds_from}
 use Rattle.tk_query_conditions.proofs.Members.{cond_of-Any}
 use Rattle.testkit_questions.specs.declared.questions.Overview.{Overview}
 

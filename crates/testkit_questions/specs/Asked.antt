@@ -1,5 +1,5 @@
 -- What asking a question does: it reads a record text to its end, and writes the answer.
-use Rattle.std.specs.Prelude.{◌≢◌, ◌≤◌, ◌+◌, ◌⊎◌, ℕ, Bool, List, length, Option, Result, Ok, Err}
+use Rattle.std.specs.Prelude.{◌≢◌, ◌≤◌, ◌+◌, ◌⊎◌, ℕ, Bool, List, length, Option, Ok, Err}
 use Rattle.std.specs.Prelude.{IfSome}
 use Rattle.std.specs.Io.KnownBytes.{Appends, IsAtEnd}
 use Rattle.tk_record_columns.specs.Recorded.{Recorded}
@@ -36,25 +36,6 @@ abbrev pub AddsPrefix : List (List ℕ) → List ℕ → Option (List ℕ) → O
 AddsPrefix words input old new =
     (is_yes : Bool) × (output : List ℕ)
     × IsAnswered words input is_yes output × AppendsPrefix old new output
-
--- what a target held before and after, where that is known
-pub record Written : Type 0 where
-  pub old : Option (List ℕ)
-  pub new : Option (List ℕ)
-
-abbrev pub written : Option (List ℕ) → Option (List ℕ) → Written
-written old new = record { old = old; new = new }
-
--- What responding to a request about a record gives: the response was added; or a prefix of it, and
--- the target broke; or an allocation failed.
-abbrev pub IsReply : Request → Recorded → Written → Result Bool AskFault → Type 0
-IsReply request r w (Ok is_yes) =
-    (output : List ℕ) × IsResponseTo request r is_yes output × Appends w.old w.new output
-IsReply request r w (Err faults.Device) =
-    (is_yes : Bool) × (output : List ℕ)
-    × IsResponseTo request r is_yes output × AppendsPrefix w.old w.new output
-IsReply request r w (Err faults.Memory) = Unit {0}
-IsReply request r w (Err _) = ⊥
 
 -- No more was taken of the source than a record text may have and one read past that, or all of an
 -- input that has no more than a record text may have.

@@ -4,8 +4,8 @@ pub mod Explainables
 pub mod Requests
 pub mod Answers
 pub mod Explanations
-pub mod Replies
 pub mod Asked
 pub mod Laws
 pub mod FaultTexts
 pub mod FaultsOfExplanations
+pub mod steps

@@ -117,13 +117,6 @@ pub record IsBadCondition (texts : List (List ℕ)) (i : ℕ) (fault : CondFault
   pub bad : IsReadAs text (Err fault)
   pub read : fault ≢ condition_faults.Memory
 
--- why the word of this number is no condition
-abbrev pub IsWordFault : ℕ → List ℕ → AskFault → Type 0
-IsWordFault number word (faults.Condition i fault) =
-    (i ≡ number) × IsReadAs word (Err fault) × (fault ≢ condition_faults.Memory)
-IsWordFault number word faults.Memory = Unit {0}
-IsWordFault number word _ = ⊥
-
 -- the fault of words after word 0, which is a mode or a selection
 abbrev pub IsConditionFault : List (List ℕ) → AskFault → Type 0
 IsConditionFault texts (faults.Condition i fault) =

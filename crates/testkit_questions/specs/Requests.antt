@@ -56,12 +56,6 @@ abbrev pub explaining : Result Explainable AskFault → Result Request AskFault
 explaining (Ok explainable) = Ok (requests.Explain explainable)
 explaining (Err fault) = Err fault
 
--- the number of the word that a fault is of, if it is of one
-abbrev pub word_number : AskFault → ℕ
-word_number (faults.Word i) = i
-word_number (faults.Condition i fault) = i
-word_number fault = 0
-
 -- the fault of a word that has one more word before it
 abbrev pub one_later : AskFault → AskFault
 one_later (faults.Word i) = faults.Word (i + 1)

@@ -7,7 +7,8 @@ ghost use Rattle.tk_record.specs.declared.reading.TheConstants.{MAX_TEXT};
 ghost use Rattle.tk_streams.specs.Stream.{ConsumesUpTo};
 ghost use Rattle.tk_streams.specs.declared.transfers.TheConstants.{CHUNK};
 ghost use Rattle.testkit_questions.specs.declared.requests.Request.TheVariants as requests;
-ghost use Rattle.testkit_questions.specs.Asked.{AddsAnswer, AddsPrefix, IsOfWords, IsReadInTime, IsReadRefusal, IsRefusal, IsReply, written};
+ghost use Rattle.testkit_questions.specs.Asked.{AddsAnswer, AddsPrefix, IsOfWords, IsReadInTime, IsReadRefusal, IsRefusal};
+ghost use Rattle.testkit_questions.specs.steps.Asked.{IsReply, written};
 
 use crate::answers::reply_to;
 use crate::explanations::explain;

@@ -1,7 +1,8 @@
 //! What can be asked of a record, and how words ask it.
 ghost use Rattle.std.specs.Prelude.{◌≡◌, ◌∷◌, map, string_bytes, IfOk, IfErr, Ok};
 ghost use Rattle.tk_query_conditions.specs.Answer.{IsReadAs};
-ghost use Rattle.testkit_questions.specs.Questions.{IsAskedAs, IsMode, IsOverview, AreConditions, IsConditionFault, IsWordFault, count, exclusive_word, list_word, match_word, overview_name};
+ghost use Rattle.testkit_questions.specs.Questions.{IsAskedAs, IsMode, IsOverview, AreConditions, IsConditionFault, count, exclusive_word, list_word, match_word, overview_name};
+ghost use Rattle.testkit_questions.specs.steps.Questions.{IsWordFault};
 ghost use Rattle.testkit_questions.specs.Explainables.{asking, question_of};
 
 use crate::expectations::read_expectations;

@@ -3,7 +3,8 @@ ghost use Rattle.std.specs.Prelude.{◌≡◌, ◌∷◌, ◌+◌, ◌<◌, ◌^
 ghost use Rattle.testkit_questions.specs.declared.questions.Overview.TheVariants.{Executions, Lifecycle};
 ghost use Rattle.testkit_questions.specs.Explainables.{asking};
 ghost use Rattle.testkit_questions.specs.Questions.{IsAskedAs, overview_name};
-ghost use Rattle.testkit_questions.specs.Requests.{IsExplainedAs, IsRequestedAs, answering, explaining, explaining_later, one_later, word_number};
+ghost use Rattle.testkit_questions.specs.Requests.{IsExplainedAs, IsRequestedAs, answering, explaining, explaining_later, one_later};
+ghost use Rattle.testkit_questions.specs.steps.Requests.{word_number};
 
 use crate::faults::AskFault;
 use crate::questions::{

@@ -33,8 +33,8 @@ use Rattle.tk_engine_laws.specs.Scripts.{ArePlayable, IsPlayable, HasKey, id_at,
 use Rattle.tk_engine_laws.specs.Laws.{ScriptsArePlayable, NodesAreFound}
 use Rattle.tk_engine_execute.specs.Engines.{IsSameSender}
 use Rattle.tk_engine_execute.proofs.Emitted.{registrations-append}
-use Rattle.tk_engine.specs.Keys.{key_in, noted, key_found}
-use Rattle.tk_engine.specs.Plays.{IsPlayed, IsRegistered, IsEmitted, begun, next_key}
+use Rattle.tk_engine.specs.steps.Keys.{key_in, noted, key_found}
+use Rattle.tk_engine.specs.steps.Plays.{IsPlayed, IsRegistered, IsEmitted, begun, next_key}
 use Rattle.tk_engine.proofs.Noting.{key_in_more, has_its_key, is_found}
 
 -- ---- scripts

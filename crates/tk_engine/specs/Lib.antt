@@ -4,12 +4,11 @@ pub use Rattle.tk_engine_execute.specs.Engines
 pub use Rattle.tk_engine_execute.specs.Grown
 pub use Rattle.tk_engine_execute.specs.Sinks
 pub use Rattle.tk_engine_execute.specs.Results
-pub use Rattle.tk_engine_execute.specs.Outcomes
 pub use Rattle.tk_engine_execute.specs.FaultTexts
 pub use Rattle.tk_engine_laws.specs.Scripts
 pub use Rattle.tk_engine_laws.specs.Listening
 pub use Rattle.tk_engine_laws.specs.Reports
 pub use Rattle.tk_engine_laws.specs.Laws
 pub mod Masks
-pub mod Keys
 pub mod Plays
+pub mod steps

@@ -8,8 +8,9 @@ ghost use Rattle.tk_plan_units.specs.Numbers.{IsNumbered};
 ghost use Rattle.tk_plan_units.specs.Planned.{IsPlanned};
 ghost use Rattle.tk_plan_units.specs.Trees.{forest};
 ghost use Rattle.tk_engine_laws.specs.Scripts.{may, played};
-ghost use Rattle.tk_engine.specs.Keys.{kept};
-ghost use Rattle.tk_engine.specs.Plays.{IsPlayFault, IsPlayed, IsRegistered, IsEmitted, begun, next_key};
+ghost use Rattle.tk_engine.specs.steps.Keys.{kept};
+ghost use Rattle.tk_engine.specs.Plays.{IsPlayFault};
+ghost use Rattle.tk_engine.specs.steps.Plays.{IsPlayed, IsRegistered, IsEmitted, begun, next_key};
 
 use crate::keys::Keys;
 use std::alloc::Global;

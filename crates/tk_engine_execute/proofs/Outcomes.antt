@@ -7,9 +7,9 @@ use Rattle.atomic_table.specs.Seated.{TableId}
 use Rattle.tk_engine_execute.specs.declared.event_collectors.EventCollector.{EventCollector}
 use Rattle.tk_engine_execute.specs.declared.worker_threads.Collected.{Collected}
 use Rattle.tk_engine_execute.specs.declared.workers.WorkerEnd.{WorkerEnd}
-use Rattle.tk_engine_execute.specs.EventCollectors.{TookMore, CanCollect, NoneIsAwaited}
-use Rattle.tk_engine_execute.specs.WorkerThreads.{WorkersWereRun}
-use Rattle.tk_engine_execute.specs.Workers.{RunUnits, IsDone, AreDone}
+use Rattle.tk_engine_execute.specs.steps.EventCollectors.{TookMore, CanCollect, NoneIsAwaited}
+use Rattle.tk_engine_execute.specs.steps.WorkerThreads.{WorkersWereRun}
+use Rattle.tk_engine_execute.specs.steps.Workers.{RunUnits, IsDone, AreDone}
 use Rattle.tk_engine_execute.proofs.Positions.{nil_of_length, snoc_all}
 use Rattle.tk_engine_execute.proofs.Collecting.{took_more-trans}
 

@@ -23,14 +23,16 @@ use Rattle.tk_engine_execute.specs.declared.engines.UnitFault.{UnitFault}
 use Rattle.tk_engine_execute.specs.declared.workers.WorkerEnd.{WorkerEnd}
 use Rattle.tk_engine_execute.specs.declared.workers.FailedUnit.{FailedUnit}
 use Rattle.tk_engine_execute.specs.declared.event_collectors.EventCollector.{EventCollector}
-use Rattle.tk_engine_execute.specs.EventCollectors.{CanCollect, NoneIsAwaited}
+use Rattle.tk_engine_execute.specs.steps.EventCollectors.{CanCollect, NoneIsAwaited}
 use Rattle.tk_engine_execute.specs.Results.{IsTallied}
 use Rattle.tk_queue_session.specs.Emission.{entries_by}
 use Rattle.tk_engine_runs.proofs.Workers.{in_the_middle}
 use Rattle.tk_engine_execute.specs.declared.run_faults.RunFault.{RunFault}
 use Rattle.tk_engine_execute.specs.declared.run_faults.RunFault.TheVariants as fault
-use Rattle.tk_engine_execute.specs.Outcomes.{AllCompleted, NoneFailed, CanClose, IsFirstFailure, IsFaultOfWorkers, IsFaultOfRunning}
-use Rattle.tk_engine_execute.specs.Workers.{RunUnits, AllDone, AreDone, IsDone}
+use Rattle.tk_engine_execute.specs.steps.Outcomes.{AllCompleted, NoneFailed, CanClose}
+use Rattle.tk_engine_execute.specs.steps.Outcomes.{IsFirstFailure, IsFaultOfWorkers}
+use Rattle.tk_engine_execute.specs.steps.Outcomes.{IsFaultOfRunning}
+use Rattle.tk_engine_execute.specs.steps.Workers.{RunUnits, AllDone, AreDone, IsDone}
 use Rattle.tk_engine_execute.proofs.Positions.{map_at, all_from}
 use Rattle.tk_engine_execute.proofs.Emitted.{emits_along}
 

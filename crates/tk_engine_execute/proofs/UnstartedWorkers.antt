@@ -8,7 +8,7 @@ use Rattle.tk_engine_claim.specs.Claims.{ClaimSeatView, fresh}
 use Rattle.tk_queue_session.specs.Senders.{SenderView, fresh_senders}
 use Rattle.tk_engine_execute.specs.declared.unstarted_workers.UnstartedWorkers.{UnstartedWorkers}
 use Rattle.tk_engine_execute.specs.declared.workers.WorkerHandles.{WorkerHandles}
-use Rattle.tk_engine_execute.specs.Workers.{SharedParts, IsReady, AreUnstarted, IsLastWorker}
+use Rattle.tk_engine_execute.specs.steps.Workers.{SharedParts, IsReady, AreUnstarted, IsLastWorker}
 use Rattle.tk_engine_execute.proofs.Positions.{all_prefix, all_last, same_last}
 
 -- two lists are as long without their last

@@ -2,11 +2,7 @@ pub use Rattle.tk_engine_claim.specs.Claims
 pub use Rattle.tk_engine_runs.specs.Run
 pub mod Engines
 pub mod Grown
-pub mod EventCollectors
 pub mod Results
 pub mod Sinks
-pub mod Outcomes
-pub mod PreparedRuns
-pub mod WorkerThreads
-pub mod Workers
 pub mod FaultTexts
+pub mod steps

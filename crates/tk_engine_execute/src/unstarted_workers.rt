@@ -1,6 +1,6 @@
 //! The workers that are still to start.
 ghost use Rattle.std.specs.Prelude.{◌≡◌, length, vec_len, IfSome, IfNone};
-ghost use Rattle.tk_engine_execute.specs.Workers.{IsLastWorker};
+ghost use Rattle.tk_engine_execute.specs.steps.Workers.{IsLastWorker};
 
 use crate::workers::WorkerHandles;
 use tk_book::BookSeat;

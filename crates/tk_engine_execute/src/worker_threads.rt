@@ -1,7 +1,7 @@
 //! The threads of a run's workers.
 ghost use Rattle.std.specs.Prelude.{◌≡◌, ◌≤◌, vec_len, vec_capacity};
-ghost use Rattle.tk_engine_execute.specs.WorkerThreads.{CanRunWorkers, WorkersWereRun};
-ghost use Rattle.tk_engine_execute.specs.Workers.{shared_parts, run_units, IsReady, IsDone};
+ghost use Rattle.tk_engine_execute.specs.steps.WorkerThreads.{CanRunWorkers, WorkersWereRun};
+ghost use Rattle.tk_engine_execute.specs.steps.Workers.{shared_parts, run_units, IsReady, IsDone};
 
 use crate::engines::Engine;
 use crate::event_collectors::EventCollector;

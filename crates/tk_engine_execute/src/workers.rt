@@ -2,7 +2,7 @@
 ghost use Rattle.std.specs.Prelude.{◌≡◌, ◌<◌, None, Some, true, IfNone, IfSome, IfOk, IfErr, OnOk, OnErr};
 ghost use Rattle.tk_engine_runs.specs.Run.{Emits};
 ghost use Rattle.tk_engine_execute.specs.Engines.{IsSameSender, Extends, ExtendsAs, MayFail};
-ghost use Rattle.tk_engine_execute.specs.Workers.{shared_parts, run_units, IsReady, IsDone, IsStopped};
+ghost use Rattle.tk_engine_execute.specs.steps.Workers.{shared_parts, run_units, IsReady, IsDone, IsStopped};
 
 use crate::engines::{Engine, UnitFault};
 use std::alloc::Global;

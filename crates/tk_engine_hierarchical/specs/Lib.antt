@@ -3,3 +3,4 @@ pub mod Reporting
 pub mod TreeRuns
 pub mod Laws
 pub mod Runs
+pub mod steps

@@ -6,11 +6,9 @@ use Rattle.tk_events.specs.declared.kinds.Kind.TheVariants.{Finished, Skipped, S
 use Rattle.tk_events.specs.declared.payloads.Payload.{Payload}
 use Rattle.tk_events.specs.declared.payloads.Payload.TheVariants as payloads
 use Rattle.tk_plan_units.specs.declared.nodes.Node.{Node}
-use Rattle.tk_plan_units.specs.declared.nodes.NumberedNode.{NumberedNode}
 use Rattle.tk_plan_units.specs.Numbers.{in_order}
 use Rattle.tk_plan_units.specs.Planned.{Outline}
 use Rattle.tk_engine_unit_events.specs.Endings.{HasOutcome, IsStaticTest}
-use Rattle.tk_engine_unit_events.specs.Standing.{BegunUnit}
 use Rattle.tk_engine_unit_events.specs.declared.outcomes.Outcome.{Outcome}
 
 -- the node is skipped, and the payload has the reason
@@ -34,13 +32,3 @@ pub record FitsPlan (plan : Outline) (may_end : ℕ → Outcome → Type 0) (e :
   pub node : Node
   pub its : slice_get (in_order plan.nodes) e.key ≡ Some node
   pub fits : FitsNode plan.table may_end node e
-
--- each event that may be one of the node's may be emitted
-abbrev pub MayStepAs :
-    List Descriptor → (ℕ → Outcome → Type 0) → (Event → Type 0) → NumberedNode → Type 0
-MayStepAs table may_end may_step p =
-    (e : Event) → e.key ≡ p.number → FitsNode table may_end p.node e → may_step e
-
--- each step of this node is one that the unit may emit, with these outcomes of tests
-abbrev pub MayRun : BegunUnit → (ℕ → Outcome → Type 0) → NumberedNode → Type 0
-MayRun unit may_end n = MayStepAs unit.frame.table may_end unit.may_step n

@@ -114,6 +114,8 @@ module _ (table : List Descriptor) (may_run : TestRuns) where
 
   -- A node that isn't skipped starts, runs its body where it is a static test, publishes its
   -- entries and files, runs the nodes below it, and finishes: in this order, and nothing else.
+  -- So each static node has its turn once, and what stands between is of the nodes below
+  -- (`HaveTurns`, `UnitsNest`).
   pub record RunsNode (n : Node) (number : ℕ) (below : PlanState → PlanState → Type 0)
       (old new : PlanState) : Type 0 where
     pub key : ℕ

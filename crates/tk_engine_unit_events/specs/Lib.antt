@@ -10,3 +10,4 @@ pub mod Nesting
 pub mod Units
 pub mod UnitSteps
 pub mod Standing
+pub mod steps

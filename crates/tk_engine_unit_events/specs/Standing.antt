@@ -1,12 +1,10 @@
 -- Where a unit of a hierarchical engine stands.
-use Rattle.std.specs.Prelude.{◌≡◌, List, []}
-use Rattle.tk_ids.specs.declared.descriptors.Descriptor.{Descriptor}
+use Rattle.std.specs.Prelude.{◌≡◌, []}
 use Rattle.tk_events.specs.declared.events.Event.{Event}
 use Rattle.tk_queue_session.specs.Senders.{SenderView}
 use Rattle.tk_engine_lifecycle.specs.Units.{Frame}
 use Rattle.tk_engine_unit_events.specs.Events.{HasRun, IsRunning}
-use Rattle.tk_engine_unit_events.specs.Running.{keys_of, with_ids}
-use Rattle.tk_engine_unit_events.specs.UnitSteps.{UnitView}
+use Rattle.tk_engine_unit_events.specs.Running.{with_ids}
 use Rattle.tk_engine_unit_events.specs.Units.{HasPlayed, UnitKeys}
 use Rattle.tk_engine_unit_events.specs.declared.unit_events.UnitProgress.{UnitProgress}
 
@@ -55,13 +53,4 @@ no_unit = record {
   keys = record { unit = 0; first = 0; end = 0 };
   may_step = λ _. Unit {0};
   start = no_sink;
-}
-
--- a unit that stands there, with this sink
-abbrev pub unit_view : List Descriptor → SenderView → UnitProgress → UnitView
-unit_view table sink progress = record {
-  sink = sink;
-  running = keys_of (with_ids table progress.running);
-  stamp = progress.stamp;
-  own_stamp = progress.own_stamp;
 }

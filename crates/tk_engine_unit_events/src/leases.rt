@@ -9,7 +9,8 @@ ghost use Rattle.tk_engine_unit_events.specs.RegisteredIds.{is_registered};
 ghost use Rattle.tk_engine_unit_events.specs.UnitSteps.{child_request};
 ghost use Rattle.tk_engine_unit_events.specs.Running.{with_id};
 ghost use Rattle.tk_engine_unit_events.specs.Shapes.{frame};
-ghost use Rattle.tk_engine_unit_events.specs.Standing.{StandsAt, unit_view};
+ghost use Rattle.tk_engine_unit_events.specs.Standing.{StandsAt};
+ghost use Rattle.tk_engine_unit_events.specs.steps.Standing.{unit_view};
 
 use crate::registered_ids::RegisteredIds;
 use crate::running_keys::RunningKey;

@@ -7,7 +7,8 @@ ghost use Rattle.tk_events.specs.declared.payloads.Payload.TheVariants.{Nothing}
 ghost use Rattle.tk_engine_unit_events.specs.Endings.{IsStaticTest};
 ghost use Rattle.tk_engine_unit_events.specs.UnitSteps.{Grew, HasFinished, HasSkipped, HasStarted, IsInnermost, Published, child_request, event, publishes, after_event, after_start, begun};
 ghost use Rattle.tk_engine_unit_events.specs.Shapes.{count_units, frame, keys_in};
-ghost use Rattle.tk_engine_unit_events.specs.Standing.{IsComplete, StandsAt, unit_view};
+ghost use Rattle.tk_engine_unit_events.specs.Standing.{IsComplete, StandsAt};
+ghost use Rattle.tk_engine_unit_events.specs.steps.Standing.{unit_view};
 ghost use Rattle.tk_engine_unit_events.specs.declared.running_keys.RunningKey.{RunningKey};
 
 use crate::leases::Lease;

@@ -3,7 +3,7 @@ ghost use Rattle.std.specs.Prelude.{◌≡◌, ◌<◌, ◌≤◌, ◌++◌, ◌
 ghost use Rattle.tk_ids.specs.IdText.{id_text};
 ghost use Rattle.tk_ids.specs.Table.{HasId as TableHasId, ids_of};
 ghost use Rattle.tk_engine_unit_events.specs.Covered.{IsKeyBelow};
-ghost use Rattle.tk_engine_unit_events.specs.Events.{HasInnermostParent, HasParentAmong, MayStart};
+ghost use Rattle.tk_engine_unit_events.specs.steps.Events.{HasInnermostParent, HasParentAmong, MayStart};
 ghost use Rattle.tk_engine_unit_events.specs.RegisteredIds.{is_registered};
 ghost use Rattle.tk_engine_unit_events.specs.Running.{keys_of, with_id, with_ids};
 ghost use Rattle.tk_engine_unit_events.specs.Shapes.{frame};

@@ -1,17 +1,5 @@
 -- The explanation of whether executions that conflict kept away from each other.
-use Rattle.std.specs.Prelude.{
-  ◌≡◌,
-  ℕ,
-  Bool,
-  ◌&&◌,
-  ◌==◌,
-  nat_lt,
-  List,
-  [],
-  ◌∷◌,
-  max,
-  min,
-}
+use Rattle.std.specs.Prelude.{◌≡◌, ℕ, Bool, List, [], ◌∷◌, max, min}
 use Rattle.tk_record_columns.specs.Selections.{Selected}
 use Rattle.tk_query_conditions.specs.declared.conditions.Condition.{Condition}
 use Rattle.tk_query.specs.AnswerTexts.{exclusive_text, exclusive_yes}
@@ -30,10 +18,6 @@ use Rattle.tk_explanations.specs.declared.rows.Row.TheVariants.{Line, Event, Ove
 pub record StartsAt (asked : Selected) (start : ℕ) (x : Execution) : Type 0 where
   pub span : IsSpan (step_at asked) x
   pub first : x.first ≡ start
-
--- whether an execution that is a start and a finish, or a skip, starts at this position
-abbrev pub is_from : ℕ → Execution → Bool
-is_from start x = (x.first == start) && nat_lt start x.last
 
 -- that two executions overlap, and the rows of their four events in order
 abbrev pub overlap_rows : Execution → Execution → List Row

@@ -1,5 +1,5 @@
 -- What writing an explanation does.
-use Rattle.std.specs.Prelude.{◌≡◌, ℕ, Bool, List, Option, Result, Ok, Err}
+use Rattle.std.specs.Prelude.{ℕ, Bool, List, Option, Result, Ok, Err}
 use Rattle.std.specs.Io.KnownBytes.{Appends}
 use Rattle.tk_streams.specs.Stream.{AppendsPrefix}
 use Rattle.tk_explanations.specs.declared.faults.ExplainFault.{ExplainFault}
@@ -15,10 +15,3 @@ IsExplained Explains old new (Ok is_yes) =
 IsExplained Explains old new (Err Device) =
     (is_yes : Bool) × (text : List ℕ) × Explains is_yes text × AppendsPrefix old new text
 IsExplained Explains old new (Err Memory) = Unit {0}
-
--- the text was added, or a prefix of it, and the target broke
-abbrev pub IsWritten :
-    Bool → List ℕ → Option (List ℕ) → Option (List ℕ) → Result Bool ExplainFault → Type 0
-IsWritten is_yes text old new (Ok answer) = (answer ≡ is_yes) × Appends old new text
-IsWritten is_yes text old new (Err Device) = AppendsPrefix old new text
-IsWritten is_yes text old new (Err Memory) = ⊥

@@ -4,13 +4,12 @@ pub mod Sentences
 pub mod Rows
 pub mod Explained
 pub mod Lists
-pub mod Listing
 pub mod Collisions
 pub mod MatchRows
 pub mod Matches
 pub mod Laws
 pub mod EventSearches
-pub mod EventTests
 pub mod Causes
 pub mod Lifecycles
 pub mod LifecycleLaw
+pub mod steps

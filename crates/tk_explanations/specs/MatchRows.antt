@@ -1,18 +1,5 @@
 -- The rows of conditions, and of the events found for them or nearest to them.
-use Rattle.std.specs.Prelude.{
-  ◌≡◌,
-  ℕ,
-  ◌+◌,
-  List,
-  [],
-  ◌∷◌,
-  ◌++◌,
-  map,
-  Option,
-  Some,
-  None,
-  slice_get,
-}
+use Rattle.std.specs.Prelude.{ℕ, ◌+◌, List, [], ◌∷◌, map, Option, Some, None, slice_get}
 use Rattle.tk_events.specs.declared.events.Entry.{Entry}
 use Rattle.tk_record_columns.specs.Recorded.{Recorded}
 use Rattle.tk_query_conditions.specs.Cond.{cond_text}
@@ -47,7 +34,3 @@ lacking_row r c position = row.Event position (lacks r c (slice_get r.entries po
 abbrev pub near_rows : Recorded → Condition → List ℕ → List Row
 near_rows r c [] = row.NoneLeft ∷ []
 near_rows r c (p ∷ ps) = lacking_row r c p ∷ map (lacking_row r c) ps
-
--- rows of which P holds were added
-abbrev pub AddsRows : (List Row → Type 0) → List Row → List Row → Type 0
-AddsRows P old new = (below : List Row) × P below × (new ≡ old ++ below)

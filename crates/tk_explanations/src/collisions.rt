@@ -5,7 +5,8 @@ ghost use Rattle.tk_query.specs.ExecutionSteps.{step_at};
 ghost use Rattle.tk_query.specs.Executions.{AreExecutions};
 ghost use Rattle.tk_query.specs.declared.execution.Execution.{Execution};
 ghost use Rattle.tk_explanations.specs.Explained.{IsExplained};
-ghost use Rattle.tk_explanations.specs.Collisions.{ExplainsExclusive, IsExclusiveExplanation, StartsAt, is_from, overlap_rows};
+ghost use Rattle.tk_explanations.specs.Collisions.{ExplainsExclusive, IsExclusiveExplanation, StartsAt, overlap_rows};
+ghost use Rattle.tk_explanations.specs.steps.Collisions.{is_from};
 
 use crate::explanations::Explanation;
 use crate::faults::ExplainFault;

@@ -6,7 +6,7 @@ ghost use Rattle.std.specs.Io.KnownBytes.{Appends};
 ghost use Rattle.tk_streams.specs.Pieces.{Adds, outgoing};
 ghost use Rattle.tk_streams.specs.Stream.{AppendsPrefix};
 ghost use Rattle.tk_record_columns.specs.Record.{entry_of_view};
-ghost use Rattle.tk_explanations.specs.Explained.{IsWritten};
+ghost use Rattle.tk_explanations.specs.steps.Explained.{IsWritten};
 ghost use Rattle.tk_explanations.specs.Rows.{event_row, note_text, row_line, row_text, rows_text, span_text};
 
 use crate::faults::ExplainFault;

@@ -6,7 +6,8 @@ use Rattle.tk_ids.specs.declared.id_faults.IdFault.TheVariants.{Empty, BadSegmen
 use Rattle.tk_ids.specs.Prefix.{IsLongestPrefix}
 use Rattle.tk_ids.specs.IdText.{SegmentView, IsId, IsIdText, id_text, FitsLimits, EndsInEscape}
 use Rattle.tk_ids.specs.Reading.{State, Closed, step}
-use Rattle.tk_ids.specs.Answer.{IsBadAt, IsReadAs, IsFaultAfter}
+use Rattle.tk_ids.specs.Answer.{IsBadAt, IsReadAs}
+use Rattle.tk_ids.specs.steps.Answer.{IsFaultAfter}
 use Rattle.tk_ids.proofs.ReadingLemmas.{HasRead, stuck_longest, stuck_refutes, end_is, text_is_unique}
 
 pub bad_where_stuck : (text : List ℕ) (n : ℕ) (s : State) → HasRead text n s → n < length text → step s (get_or text n 0) ≡ None → IsBadAt text n

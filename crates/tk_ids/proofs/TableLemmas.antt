@@ -15,7 +15,9 @@ use Rattle.tk_ids.specs.declared.tables.TableFault.{TableFault}
 use Rattle.tk_ids.specs.declared.tables.TableFault.TheVariants.{NoParent, Twice, Full, Id, Memory}
 use Rattle.tk_ids.specs.declared.id_faults.IdFault.TheVariants as id_faults
 use Rattle.tk_ids.specs.IdText.{SegmentView, IsId, id_text, FitsLimits}
-use Rattle.tk_ids.specs.Table.{ids_of, HasId, AreDifferent, IsKept, child_id, IsChildId, addition, IsAddedAs, HasParent, IsFreeAs, IsInsertableAs, IsInsertedAs}
+use Rattle.tk_ids.specs.Table.{ids_of, HasId, AreDifferent, IsKept, child_id, addition, IsAddedAs}
+use Rattle.tk_ids.specs.Table.{HasParent, IsInsertedAs}
+use Rattle.tk_ids.specs.steps.Table.{IsChildId, IsFreeAs, IsInsertableAs}
 use Rattle.tk_ids.proofs.ReadingLemmas.{text_is_unique}
 
 abbrev pub texts : List (List ℕ × Descriptor) → List (List ℕ)

@@ -23,12 +23,6 @@ IsReadAs text (Err TooLong) =
     (id : List SegmentView) × IsId id × (text ≡ id_text id) × ¬ FitsLimits id
 IsReadAs text (Err Memory) = Unit {0}
 
--- the fault of a text that goes wrong after this prefix
-abbrev pub IsFaultAfter : List ℕ → IdFault → Type 0
-IsFaultAfter prefix (BadSegment at) = (at ≡ length prefix) × ¬ EndsInEscape prefix
-IsFaultAfter prefix (BadEscape at) = (at ≡ length prefix) × EndsInEscape prefix
-IsFaultAfter prefix _ = ⊥
-
 -- what making a segment of a tag and a value answers; at any of them it may be `Memory`
 abbrev pub IsSegmentOf : List ℕ → List ℕ → Result SegmentView IdFault → Type 0
 IsSegmentOf tag value (Ok s) =

@@ -29,22 +29,6 @@ child_id table None segment = Some (segment ∷ [])
 child_id table (Some parent) segment =
     option_map (λ d. d.id ++ segment ∷ []) (slice_get table parent)
 
--- what making the id of a child answers, at a table that may be full; the answer may always be
--- `Memory`
-abbrev pub IsChildId :
-    List Descriptor → Option ℕ → SegmentView → Result (List SegmentView) TableFault → Type 0
-IsChildId table parent segment (Ok id) = (child_id table parent segment ≡ Some id) × FitsLimits id
-IsChildId table parent segment (Err NoParent) = child_id table parent segment ≡ None
-IsChildId table parent segment (Err Twice) = ⊥
-IsChildId table parent segment (Err Full) =
-    (id : List SegmentView) × (child_id table parent segment ≡ Some id)
-    × ¬ (FitsLimits id) × (length table ≡ MAX_DESCRIPTORS)
-IsChildId table parent segment (Err (Id id_faults.TooLong)) =
-    (id : List SegmentView) × (child_id table parent segment ≡ Some id)
-    × ¬ (FitsLimits id) × (length table < MAX_DESCRIPTORS)
-IsChildId table parent segment (Err (Id _)) = ⊥
-IsChildId table parent segment (Err Memory) = Unit {0}
-
 -- What is added to a table: a descriptor with this name and type, below the parent with this key or
 -- as a root. Its id is the parent's with the segment appended, or the segment alone.
 pub record Addition : Type 0 where
@@ -84,21 +68,6 @@ IsKept e = (e.0 ≡ id_text e.1.id) × IsId e.1.id × FitsLimits e.1.id
 -- the id is a root's, or a descriptor has the id without its last segment
 abbrev pub HasParent : List Descriptor → List SegmentView → Type 0
 HasParent table id = 1 < length id → HasId table (parent_of id)
-
--- what looking for room for an id answers
-abbrev pub IsFreeAs : List Descriptor → List SegmentView → Result (Unit {0}) TableFault → Type 0
-IsFreeAs table id (Ok _) = ¬ (HasId table id) × (length table < MAX_DESCRIPTORS)
-IsFreeAs table id (Err Twice) = HasId table id
-IsFreeAs table id (Err Full) = ¬ (HasId table id) × (length table ≡ MAX_DESCRIPTORS)
-IsFreeAs table id (Err _) = ⊥
-
--- what looking for the parent of an id, and for room for the id, answers; the answer may always be
--- `Memory`
-abbrev pub IsInsertableAs :
-    List Descriptor → List SegmentView → Result (Unit {0}) TableFault → Type 0
-IsInsertableAs table id (Err NoParent) = ¬ HasParent table id
-IsInsertableAs table id (Err Memory) = Unit {0}
-IsInsertableAs table id answer = HasParent table id × IsFreeAs table id answer
 
 -- the descriptor may stand after those of the table
 pub record TakesNext (table : List Descriptor) (d : Descriptor) : Type 0 where

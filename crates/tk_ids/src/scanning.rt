@@ -2,7 +2,7 @@
 ghost use Rattle.std.specs.Prelude.{◌≡◌, ◌<◌, ◌≤◌, length, MatchResult, IsTrue, ◌↔◌};
 ghost use Rattle.tk_ids.specs.declared.scanning.ScanState.TheVariants.{End};
 ghost use Rattle.tk_ids.specs.Answer.{IsBadAt};
-ghost use Rattle.tk_ids.specs.Scanning.{part, part_after, is_ended, state_after, ended_segments, KeepsPlainBytes, ArePlain, HasSegments};
+ghost use Rattle.tk_ids.specs.steps.Scanning.{part, part_after, is_ended, state_after, ended_segments, KeepsPlainBytes, ArePlain, HasSegments};
 
 use crate::escapes::{Escape, byte_of_digits, digits_of_byte};
 

@@ -97,7 +97,8 @@ impl Model for Table {
 }
 
 impl Table {
-    ghost use Rattle.tk_ids.specs.Table.{ids_of, HasId, AreDifferent, child_id, IsChildId, addition, IsAddedAs, HasParent, IsFreeAs, IsInsertableAs, IsInsertedAs};
+    ghost use Rattle.tk_ids.specs.Table.{ids_of, HasId, AreDifferent, child_id, addition, IsAddedAs, HasParent, IsInsertedAs};
+    ghost use Rattle.tk_ids.specs.steps.Table.{IsChildId, IsFreeAs, IsInsertableAs};
     ghost use Rattle.tk_ids.specs.IdText.{SegmentView, IsId, id_text};
     ghost use Rattle.tk_ids.specs.Answer.{IsMadeOf};
 

@@ -3,3 +3,4 @@ pub mod Flags
 pub mod Lanes
 pub mod Lists
 pub mod Picks
+pub mod steps

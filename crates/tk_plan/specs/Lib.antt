@@ -19,6 +19,5 @@ pub use Rattle.tk_plan_members.specs.Refusals
 pub use Rattle.tk_plan_members.specs.FaultTexts
 pub mod PlanOf
 pub mod PlanAnswers
-pub mod Tables
-pub mod ReadNodes
 pub mod PlanLaws
+pub mod steps

@@ -18,7 +18,9 @@ use Rattle.tk_plan_units.specs.Trees.{contents}
 use Rattle.tk_plan_members.specs.Answers.{Refuses}
 use Rattle.tk_plan_members.specs.Refusals.{Faults, Meets}
 use Rattle.tk_plan_members.specs.Checks.{first}
-use Rattle.tk_plan_json.specs.Progress.{Addition, state, addition_of, IsNoted, IsChecked, IsAdded, HasBelow, IsStarted, room_checks}
+use Rattle.tk_plan_json.specs.Progress.{IsNoted}
+use Rattle.tk_plan_json.specs.steps.Progress.{Addition, state, addition_of, IsChecked, IsAdded}
+use Rattle.tk_plan_json.specs.steps.Progress.{HasBelow, IsStarted, room_checks}
 use Rattle.tk_plan_json.specs.NodeInputs.{NodeInput, segment_of, repeats_key}
 use Rattle.tk_plan_json.specs.Verdicts.{checks, node_check, id_fault, same_segment, is_kind}
 use Rattle.tk_plan_json.specs.declared.read_nodes.ReadNodes.{ReadNodes}

@@ -19,7 +19,8 @@ use Rattle.tk_plan_members.specs.declared.faults.PlanFault.{PlanFault}
 use Rattle.tk_plan_json.specs.declared.read_nodes.ReadNodes.{ReadNodes}
 use Rattle.tk_plan_json.specs.NodeInputs.{NodeInput, NodeArray, node_input, segment_in, id_of, node_of, below, node_inputs, node_inputs_in, children_of, dynamic_of, children_in, dynamic_in, grown}
 use Rattle.tk_plan_json.specs.Verdicts.{checks, verdict, joined}
-use Rattle.tk_plan_json.specs.Progress.{state, IsNoted, IsStarted, IsSpanned, AddsNodes}
+use Rattle.tk_plan_json.specs.Progress.{IsNoted}
+use Rattle.tk_plan_json.specs.steps.Progress.{state, IsStarted, IsSpanned, AddsNodes}
 use Rattle.tk_plan_json.proofs.CheckSteps.{noted_same}
 use Rattle.tk_plan_json.proofs.Verdicts.{verdict-append, verdict-cons, nodes-grown, nodes-all, flats-forest, descriptors-forest}
 

@@ -7,7 +7,7 @@ use Rattle.tk_plan_members.specs.Checks.{Row, or_else, first, row, unknown, memb
 use Rattle.tk_plan_members.specs.Pointers.{pointer, viewed, wrong_at}
 use Rattle.tk_plan_members.specs.declared.json_paths.JsonPath.{JsonPath}
 use Rattle.tk_plan_members.specs.Rows.{dtype_row, segment_row, name_row, mode_row, isolated_row, locks_row, skip_row, result_row, entries_row, files_row, children_row, dynamic_row, static_rows, dynamic_rows, static_node, dynamic_node}
-use Rattle.tk_plan_json.specs.Fields.{heading_rows, concurrency_rows, content_rows}
+use Rattle.tk_plan_json.specs.steps.Fields.{heading_rows, concurrency_rows, content_rows}
 
 -- nothing is wrong with the first of two
 pub passes : {A : Type 0} (x later o : Option A) → x ≡ None → later ≡ o → or_else x later ≡ o

@@ -8,7 +8,7 @@ use Rattle.tk_ids.specs.declared.id_faults.IdFault.{IdFault}
 use Rattle.tk_ids.specs.declared.id_faults.IdFault.TheVariants.{Empty, BadSegment, BadEscape, TooLong, Memory}
 use Rattle.tk_plan_json.specs.Verdicts.{is_empty, fits, id_fault, when}
 use Rattle.tk_plan_members.specs.Refusals.{Faults}
-use Rattle.tk_plan_json.specs.CodeValues.{as_plan_fault}
+use Rattle.tk_plan_json.specs.steps.CodeValues.{as_plan_fault}
 use Rattle.tk_plan_members.specs.declared.faults.PlanFault.TheVariants.{Id}
 
 or_true : (b : Bool) → b || true ≡ true

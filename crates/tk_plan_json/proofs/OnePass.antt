@@ -9,7 +9,7 @@ use Rattle.serde_json.specs.Find.{get}
 use Rattle.serde_json.specs.View.{view}
 use Rattle.serde_json.specs.declared.value.Value.{Value, Object}
 use Rattle.serde_json.proofs.Views.{Entry, view-Object, view-lookup}
-use Rattle.tk_plan_json.specs.Fields.{AreMembers}
+use Rattle.tk_plan_json.specs.steps.Fields.{AreMembers}
 use Rattle.tk_plan_json.specs.declared.node_members.NodeMembers.{NodeMembers}
 
 -- whether an entry has this name

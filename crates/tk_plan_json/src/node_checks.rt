@@ -8,12 +8,13 @@ ghost use Rattle.tk_plan_units.specs.Keys.{note_locks};
 ghost use Rattle.tk_plan_units.specs.Trees.{contents};
 ghost use Rattle.tk_plan_members.specs.Answers.{Reads};
 ghost use Rattle.tk_plan_members.specs.Checks.{first};
-ghost use Rattle.tk_plan_json.specs.Fields.{HasFields, checked_of};
+ghost use Rattle.tk_plan_json.specs.steps.Fields.{HasFields, checked_of};
 ghost use Rattle.tk_plan_json.specs.Verdicts.{id_fault, node_check, is_kind, checks};
 ghost use Rattle.tk_plan_members.specs.Refusals.{Meets};
 ghost use Rattle.tk_plan_json.specs.declared.limits.TheConstants.{MAX_LEVELS};
-ghost use Rattle.tk_plan_json.specs.CodeValues.{seen, above_of, json_segment_text, as_plan_fault, IsNamed};
-ghost use Rattle.tk_plan_json.specs.Progress.{state, addition, IsNoted, IsEntered, IsAdmitted, IsChecked, room_checks};
+ghost use Rattle.tk_plan_json.specs.steps.CodeValues.{seen, above_of, json_segment_text, as_plan_fault, IsNamed};
+ghost use Rattle.tk_plan_json.specs.Progress.{IsNoted};
+ghost use Rattle.tk_plan_json.specs.steps.Progress.{state, addition, IsEntered, IsAdmitted, IsChecked, room_checks};
 
 use crate::limits::MAX_LEVELS;
 use crate::lock_keys::note_all;

@@ -6,7 +6,7 @@ ghost use Rattle.tk_plan_members.specs.Rows.{static_rows, dynamic_rows, static_n
 ghost use Rattle.tk_plan_json.specs.NodeInputs.{children_of, dynamic_of};
 ghost use Rattle.tk_plan_members.specs.Pointers.{pointer};
 ghost use Rattle.tk_plan_members.specs.Answers.{Reads};
-ghost use Rattle.tk_plan_json.specs.Fields.{heading_rows, concurrency_rows, content_rows, below_rows, has_no_below, AreMembers, IsHeading, IsConcurrency, IsContent, HasFields};
+ghost use Rattle.tk_plan_json.specs.steps.Fields.{heading_rows, concurrency_rows, content_rows, below_rows, has_no_below, AreMembers, IsHeading, IsConcurrency, IsContent, HasFields};
 
 use crate::node_members::NodeMembers;
 use serde_json::Value;

@@ -1,6 +1,6 @@
 //! The members of a node.
 ghost use Rattle.std.specs.Prelude.{◌≡◌};
-ghost use Rattle.tk_plan_json.specs.Fields.{AreMembers};
+ghost use Rattle.tk_plan_json.specs.steps.Fields.{AreMembers};
 
 use serde_json::Value;
 

@@ -7,10 +7,11 @@ ghost use Rattle.tk_plan_members.specs.Checks.{first};
 ghost use Rattle.tk_plan_json.specs.Verdicts.{checks, verdict};
 ghost use Rattle.tk_ids.specs.declared.tables.TheConstants.{MAX_DESCRIPTORS};
 ghost use Rattle.tk_plan_json.specs.declared.limits.TheConstants.{MAX_LEVELS};
-ghost use Rattle.tk_plan_json.specs.Progress.{AddsGroup, AddsTree, NodeGroup, verdict_of_group, verdict_of_node, levels_below, levels_from};
-ghost use Rattle.tk_plan_json.specs.Progress.{state, IsNoted, IsDescribed, IsAdded, IsStarted, IsSpanned, HasRead};
+ghost use Rattle.tk_plan_json.specs.steps.Progress.{AddsGroup, AddsTree, NodeGroup, verdict_of_group, verdict_of_node, levels_below, levels_from};
+ghost use Rattle.tk_plan_json.specs.Progress.{IsNoted, HasRead};
+ghost use Rattle.tk_plan_json.specs.steps.Progress.{state, IsDescribed, IsAdded, IsStarted, IsSpanned};
 ghost use Rattle.tk_plan_members.specs.Refusals.{Meets};
-ghost use Rattle.tk_plan_json.specs.CodeValues.{seen, node_at, array_at};
+ghost use Rattle.tk_plan_json.specs.steps.CodeValues.{seen, node_at, array_at};
 ghost use Rattle.tk_plan_json.specs.NodeInputs.{node_inputs, node_inputs_in, root_at, below, grown, id_of, segment_in, segment_of};
 
 use crate::node_checks::check_node;

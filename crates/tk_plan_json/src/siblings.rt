@@ -2,7 +2,7 @@
 ghost use Rattle.std.specs.Prelude.{◌≡◌, ◌++◌, ◌∷◌, [], not, IfOk, if◌then◌else◌};
 ghost use Rattle.std.specs.List.{list_any};
 ghost use Rattle.tk_plan_json.specs.Verdicts.{same_segment};
-ghost use Rattle.tk_plan_json.specs.CodeValues.{json_segment_text};
+ghost use Rattle.tk_plan_json.specs.steps.CodeValues.{json_segment_text};
 
 use indexmap::IndexSet;
 use std::alloc::{AllocError, Global};
@@ -19,7 +19,7 @@ pub(crate) struct Siblings {
 impl Model for Siblings {
     ghost use Rattle.std.specs.Prelude.{List, map, ℕ};
     ghost use Rattle.tk_ids.specs.IdText.{SegmentView};
-    ghost use Rattle.tk_plan_json.specs.SegmentSets.{segments_of};
+    ghost use Rattle.tk_plan_json.specs.steps.SegmentSets.{segments_of};
 
     ghost Value = { List SegmentView };
 

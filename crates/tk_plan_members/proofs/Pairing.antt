@@ -19,7 +19,7 @@ use Rattle.tk_plan_members.proofs.Items.{listed_items, array_items}
 use Rattle.tk_events.specs.Event.{is_strictly_increasing, is_before}
 use Rattle.tk_plan_members.specs.Checks.{text, pair_of, array_of, items_wrong, or_else, item_at}
 use Rattle.tk_plan_members.specs.Rows.{entry}
-use Rattle.tk_plan_members.specs.MemberValues.{has_key, IsOnlyPair, IsReport}
+use Rattle.tk_plan_members.specs.steps.MemberValues.{has_key, IsOnlyPair, IsReport}
 use Rattle.tk_plan_members.specs.Answers.{Reads}
 use Rattle.tk_plan_members.specs.declared.faults.PlanFault.{PlanFault}
 use Rattle.tk_plan_members.specs.declared.member_values.Report.{Report}

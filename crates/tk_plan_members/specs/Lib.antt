@@ -7,3 +7,4 @@ pub mod Answers
 pub mod Pointers
 pub mod MemberValues
 pub mod FaultTexts
+pub mod steps

@@ -1,40 +1,20 @@
 -- What readers of a node's result, entries and files hand on.
-use Rattle.std.specs.Prelude.{◌≡◌, Bool, true, false, ℕ, List, [], ◌∷◌, Option, Some, is_some, map}
+use Rattle.std.specs.Prelude.{◌≡◌, Bool, true, ℕ, List, Option, map}
 use Rattle.std.specs.List.{list_all, list_any}
-use Rattle.std.specs.Ordering.{nat_cmp}
-use Rattle.std.specs.Cmp.Lexicographic.{slice_cmp}
-use Rattle.std.specs.Map.{lookup}
-use Rattle.std.specs.BTreeMap.{is_at}
 use Rattle.serde_json.specs.Data.{Data}
 use Rattle.tk_events.specs.Event.{is_strictly_increasing, is_lawful}
 use Rattle.tk_events.specs.declared.kinds.Kind.TheVariants.{Finished, File}
 use Rattle.tk_events.specs.declared.payloads.Payload.TheVariants.{Outcome, Path}
-use Rattle.tk_plan_members.specs.Contents.{status_in, message_in, json_pair, json_entry, files_of}
+use Rattle.tk_plan_members.specs.Contents.{status_in, message_in, json_entry, files_of}
 use Rattle.tk_plan_members.specs.Contents.{repeats as repeats_in}
 use Rattle.tk_plan_members.specs.declared.member_values.NodeResult.{NodeResult}
-use Rattle.tk_plan_members.specs.declared.member_values.Report.{Report}
 use Rattle.tk_plan_members.specs.declared.member_values.Reports.{Reports}
-
--- one of the pairs has the key
-abbrev pub has_key : List ℕ → List (List ℕ × List ℕ) → Bool
-has_key k es = is_some (lookup (is_at (slice_cmp nat_cmp k)) es)
 
 -- the status and the message of a result, which a finish may have
 pub record IsNodeResult (d : Option Data) (e : NodeResult) : Type 0 where
   pub status : e.status ≡ status_in d
   pub message : e.message ≡ message_in d
   pub lawful : is_lawful Finished (Outcome e.status e.message) ≡ true
-
--- the pairs of an entry by their keys, and whether a key stands there twice
-pub record IsReport (d : Data) (r : Report) : Type 0 where
-  pub pairs : r.pairs ≡ json_entry d
-  pub increasing : is_strictly_increasing r.pairs ≡ true
-  pub repeats : r.repeats ≡ repeats_in d
-
--- the report of an entry whose one pair is this
-pub record IsOnlyPair (pair : Data) (r : Report) : Type 0 where
-  pub pairs : r.pairs ≡ json_pair (Some pair) ∷ []
-  pub repeats : r.repeats ≡ false
 
 -- the pairs of the entries, and whether an entry has a key twice
 pub record AreReports (ds : List Data) (r : Reports) : Type 0 where

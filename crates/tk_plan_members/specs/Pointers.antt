@@ -1,10 +1,10 @@
 -- What the code's places, names and pairs of texts stand for.
 use Rattle.std.specs.Prelude.{◌≡◌, ℕ, List, Option, option_map}
 use denote.Ref.{Bor}
-use Rattle.serde_json.specs.Data.{Data, Members}
+use Rattle.serde_json.specs.Data.{Data}
 use Rattle.serde_json.specs.View.{view}
 use Rattle.serde_json.specs.declared.value.Value.{Value}
-use Rattle.tk_plan_members.specs.Checks.{Row, item_at, member_at, member_wrong, unknown_in}
+use Rattle.tk_plan_members.specs.Checks.{Row, item_at, member_at, member_wrong}
 use Rattle.tk_plan_members.specs.Contents.{json_pair}
 use Rattle.tk_plan_members.specs.declared.json_paths.JsonPath.{JsonPath}
 use Rattle.tk_plan_members.specs.declared.json_paths.JsonPath.TheVariants.{Whole, Item, Inner}
@@ -28,8 +28,3 @@ wrong_at at r value = member_wrong r (member_at (pointer at) r.name) (viewed val
 pub record IsPairOf (d : Option Data) (p : TwoTexts) : Type 0 where
   pub first : p.first.now ≡ (json_pair d).0
   pub second : p.second.now ≡ (json_pair d).1
-
--- the name is that of the first member that has none of the names
-abbrev pub IsFirstUnknown : List (List ℕ) → Members → Option (Bor (List ℕ)) → Type 0
-IsFirstUnknown names ms name =
-    (at : List ℕ) → unknown_in names at ms ≡ option_map (λ n. member_at at n.now) name

@@ -11,7 +11,8 @@ ghost use Rattle.tk_plan_members.specs.Rows.{status_row, result_row, entries_row
 ghost use Rattle.tk_plan_members.specs.Pointers.{pointer, viewed, wrong_at};
 ghost use Rattle.tk_plan_members.specs.Answers.{Reads};
 ghost use Rattle.tk_plan_members.specs.Contents.{json_status, listed};
-ghost use Rattle.tk_plan_members.specs.MemberValues.{has_key, IsNodeResult, IsOnlyPair, IsReport, AreReports};
+ghost use Rattle.tk_plan_members.specs.MemberValues.{IsNodeResult, AreReports};
+ghost use Rattle.tk_plan_members.specs.steps.MemberValues.{has_key, IsOnlyPair, IsReport};
 
 use crate::faults::PlanFault;
 use crate::json_members::{check_members, optional_member, two_texts};

@@ -11,7 +11,10 @@ use Rattle.tk_plan_units.specs.Trees.{Tree, tree, Forest, no_trees, more, forest
 use Rattle.tk_plan_units.specs.Script.{move, opening, moves, moves_below}
 use Rattle.tk_plan_units.specs.Weights.{publications, weight, weights}
 use Rattle.tk_plan_units.specs.Cutting.{Part, Piece, spine_begins, whole_unit, spine_ends, parts, parts_below, moves_of, from_each, piece, begin_events, end_events, spine_numbers, all_static, all_concurrent, on_spine, is_free, is_leaf}
-use Rattle.tk_plan_units.specs.CuttingSteps.{AddsParts, keyed, Fits, HasStampAt, HasNode, pieces_of_units, piece_of_nodes, begin_events_of_spine, end_events_of_spine, begin_events_at, end_events_at}
+use Rattle.tk_plan_units.specs.CuttingSteps.{Fits, HasStampAt, HasNode, pieces_of_units}
+use Rattle.tk_plan_units.specs.CuttingSteps.{piece_of_nodes, begin_events_of_spine}
+use Rattle.tk_plan_units.specs.CuttingSteps.{end_events_of_spine, begin_events_at, end_events_at}
+use Rattle.tk_plan_units.specs.steps.CuttingSteps.{AddsParts, keyed}
 use Rattle.tk_plan_units.specs.Events.{opening_events, finish_event}
 use Rattle.tk_plan_units.specs.LockNeeds.{IsNeed}
 use Rattle.tk_plan_units.specs.declared.cuttings.PlanUnit.{PlanUnit}

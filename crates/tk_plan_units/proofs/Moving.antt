@@ -9,8 +9,11 @@ use Rattle.tk_plan_units.specs.declared.nodes.Node.{Node}
 use Rattle.tk_plan_units.specs.declared.nodes.NumberedNode.{NumberedNode}
 use Rattle.tk_plan_units.specs.declared.steps.Move.{Move}
 use Rattle.tk_plan_units.specs.Trees.{Tree, tree, Forest, no_trees, more, flat, flats, grow, forest, IsForest, IsSplit}
-use Rattle.tk_plan_units.specs.Script.{IsShort, each_act, move, opening, registration, moves, moves_below, stamped}
-use Rattle.tk_plan_units.specs.Weights.{registered, publications, own, weight, weights}
+use Rattle.tk_plan_units.specs.Script.{each_act, move, opening, registration, moves, moves_below}
+use Rattle.tk_plan_units.specs.Script.{stamped}
+use Rattle.tk_plan_units.specs.steps.Script.{IsShort}
+use Rattle.tk_plan_units.specs.Weights.{registered, publications, weight, weights}
+use Rattle.tk_plan_units.specs.steps.Weights.{own}
 
 pub length-acts : {A : Type 0} (act : ℕ → Act) (k i : ℕ) (xs : List A) → length (each_act act k i xs) ≡ length xs
 length-acts act k i [] = refl

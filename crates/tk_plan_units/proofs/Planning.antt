@@ -6,11 +6,14 @@ use Rattle.tk_plan_units.specs.declared.steps.Step.{Step}
 use Rattle.tk_plan_units.specs.declared.nodes.NumberedNode.{NumberedNode}
 use Rattle.tk_plan_units.specs.declared.cuttings.Cutting.{Cutting}
 use Rattle.tk_plan_units.specs.declared.cuttings.PlanUnit.{PlanUnit}
-use Rattle.tk_plan_units.specs.Trees.{forest, IsForest, contents, number_of, tree, HasTreeAt}
+use Rattle.tk_plan_units.specs.Trees.{forest, IsForest, contents, number_of, tree}
+use Rattle.tk_plan_units.specs.steps.Trees.{HasTreeAt}
 use Rattle.tk_plan_units.specs.Weights.{weight, weights}
 use Rattle.tk_plan_units.specs.Script.{moves, stamped}
 use Rattle.tk_plan_units.specs.Cutting.{Piece, Part, spine_begins, whole_unit, spine_ends, moves_of, all_static, root_script, parts_below, from_each, piece, begin_events, end_events, spine_of, units_of, pieces_of, script_of, steps_of}
-use Rattle.tk_plan_units.specs.CuttingSteps.{AddsParts, keyed, Fits, HasStampAt, HasNode, pieces_of_units, begin_events_of_spine, end_events_of_spine}
+use Rattle.tk_plan_units.specs.CuttingSteps.{Fits, HasStampAt, HasNode, pieces_of_units}
+use Rattle.tk_plan_units.specs.CuttingSteps.{begin_events_of_spine, end_events_of_spine}
+use Rattle.tk_plan_units.specs.steps.CuttingSteps.{AddsParts, keyed}
 use Rattle.tk_plan_units.specs.CutPlans.{IsCut}
 use Rattle.tk_plan_units.specs.Keys.{lock_keys}
 use Rattle.tk_plan_units.specs.Planned.{IsWithin, IsNeedOf, piece_asks}

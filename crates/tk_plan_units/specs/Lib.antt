@@ -10,7 +10,6 @@ pub mod Events
 pub mod StepEvents
 pub mod Cutting
 pub mod LockNeeds
-pub mod MaskAccess
 pub mod CuttingSteps
 pub mod Keys
 pub mod Numbers
@@ -20,3 +19,4 @@ pub mod Parents
 pub mod Planned
 pub mod CutPlans
 pub mod Laws
+pub mod steps

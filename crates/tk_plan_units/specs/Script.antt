@@ -1,7 +1,6 @@
 -- What a tree does.
-use Rattle.std.specs.Prelude.{◌≡◌, ℕ, ◌+◌, List, [], ◌∷◌, ◌++◌, None, is_some, if◌then◌else◌}
+use Rattle.std.specs.Prelude.{ℕ, ◌+◌, List, [], ◌∷◌, ◌++◌, is_some, if◌then◌else◌}
 use Rattle.tk_plan_units.specs.declared.nodes.Node.{Node}
-use Rattle.tk_plan_units.specs.declared.nodes.NumberedNode.{NumberedNode}
 use Rattle.tk_plan_units.specs.declared.steps.Act.{Act}
 use Rattle.tk_plan_units.specs.declared.steps.Act.TheVariants.{Register, Skip, Start, Report, File}
 use Rattle.tk_plan_units.specs.declared.steps.Act.TheVariants.{Finish}
@@ -36,13 +35,6 @@ abbrev mutual
   pub moves_below : ℕ → Forest → List Move
   moves_below parent no_trees = []
   moves_below parent (more t f) = registration parent t ++ (moves t ++ moves_below parent f)
-
--- a node that starts, finishes and does nothing else
-pub record IsShort (n : Node) (below : List NumberedNode) : Type 0 where
-  pub alone : below ≡ []
-  pub runs : n.skip ≡ None
-  pub no_entries : n.entries ≡ []
-  pub no_files : n.files ≡ []
 
 -- moves with their positions, from a first one on
 abbrev pub stamped : ℕ → List Move → List Step

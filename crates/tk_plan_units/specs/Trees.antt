@@ -60,11 +60,3 @@ number_of (tree n k f) = k
 -- what the plan says of the nodes, without their numbers
 abbrev pub contents : List NumberedNode → List Node
 contents = map (λ p. p.node)
-
--- a tree stands at the position
-pub record HasTreeAt (all : List NumberedNode) (at : ℕ) : Type 0 where
-  pub top : NumberedNode
-  pub below : List NumberedNode
-  pub rest : List NumberedNode
-  pub position : drop at all ≡ top ∷ (below ++ rest)
-  pub span : top.span ≡ suc (length below)

@@ -11,10 +11,6 @@ registered (tree n k f) = if n.is_static then 0 else 1
 abbrev pub publications : Node → ℕ
 publications n = length n.entries + length n.files
 
--- how many moves a node makes by itself, its registration among them
-abbrev pub own : Node → ℕ
-own n = (if n.is_static then 0 else 1) + (if is_some n.skip then 1 else 2 + publications n)
-
 abbrev mutual
   pub weight : Tree → ℕ
   weight (tree n k f) = if is_some n.skip then 1 else 2 + publications n + weights f

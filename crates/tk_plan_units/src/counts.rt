@@ -2,7 +2,8 @@
 ghost use Rattle.std.specs.Prelude.{◌≡◌, ◌+◌, ◌≤◌, ◌<◌, ◌^◌, min, MatchOption, length};
 ghost use Rattle.tk_plan_units.specs.Trees.{IsForest, forest, tree_of};
 ghost use Rattle.tk_plan_units.specs.Script.{moves_below};
-ghost use Rattle.tk_plan_units.specs.Weights.{own, publications, weight, weights};
+ghost use Rattle.tk_plan_units.specs.Weights.{publications, weight, weights};
+ghost use Rattle.tk_plan_units.specs.steps.Weights.{own};
 
 use crate::nodes::{Node, NumberedNode};
 use tk_limits::MAX_EVENTS;

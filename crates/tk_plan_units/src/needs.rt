@@ -5,7 +5,7 @@ ghost use Rattle.tk_book.specs.Needs.{access_of};
 ghost use Rattle.tk_plan_units.specs.LockNeeds as LockNeeds;
 ghost use Rattle.tk_plan_units.specs.LockNeeds.{over, at_resource, access_for, lock_asks, node_asks, IsNeed};
 ghost use Rattle.tk_plan_units.specs.Trees.{contents};
-ghost use Rattle.tk_plan_units.specs.MaskAccess.{access_of_masks};
+ghost use Rattle.tk_plan_units.specs.steps.MaskAccess.{access_of_masks};
 
 use crate::nodes::{Lock, Node, NumberedNode};
 use tk_book::Need;

@@ -2,7 +2,8 @@
 ghost use Rattle.std.specs.Prelude.{◌≡◌, ◌++◌, ◌+◌, ◌≤◌, ◌<◌, ◌^◌, OnOk, IfOk, IsTrue, ◌↔◌, length};
 ghost use Rattle.tk_plan_units.specs.Trees.{IsForest, forest, tree_of};
 ghost use Rattle.tk_plan_units.specs.Script as Script;
-ghost use Rattle.tk_plan_units.specs.Script.{moves_below, stamped, IsShort};
+ghost use Rattle.tk_plan_units.specs.Script.{moves_below, stamped};
+ghost use Rattle.tk_plan_units.specs.steps.Script.{IsShort};
 ghost use Rattle.tk_plan_units.specs.Weights.{publications, weight, weights};
 ghost use Rattle.tk_limits.specs.declared.limits.TheConstants.{MAX_EVENTS};
 

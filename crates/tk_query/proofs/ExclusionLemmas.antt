@@ -20,7 +20,8 @@ use Rattle.tk_query.specs.Asked.{fits}
 use Rattle.tk_query.specs.Exclusive.{Collide, CollideAt, IsExclusive, conflict}
 use Rattle.tk_query.specs.ExecutionSteps.{step_at}
 use Rattle.tk_query.specs.Executions.{IsSpan, IsSkip, IsExecution}
-use Rattle.tk_query.specs.Holders.{AreFinishes, IsAnswerOf, MeetsNone, Spans, TellFits, finish_of, holds_any, meet, reads, writes}
+use Rattle.tk_query.specs.steps.Holders.{AreFinishes, IsAnswerOf, MeetsNone, Spans, TellFits}
+use Rattle.tk_query.specs.steps.Holders.{finish_of, holds_any, meet, reads, writes}
 use Rattle.tk_query.specs.Pairing.{HaveSlots, rest_of}
 use Rattle.tk_query.proofs.AnswerIsUnique.{head_or_rest}
 use Rattle.tk_query.proofs.AskedLemmas.{AreFlags, step_clear}

@@ -7,7 +7,7 @@ use Rattle.std.proofs.lemmas.List.{length-map}
 use Rattle.tk_events.specs.declared.events.Entry.{Entry}
 use Rattle.tk_record_columns.specs.Recorded.{Recorded}
 use Rattle.tk_query.specs.declared.rules.DescriptorTest.{DescriptorTest}
-use Rattle.tk_query.specs.Rules.{key_passes, AreAnswers}
+use Rattle.tk_query.specs.steps.Rules.{key_passes, AreAnswers}
 use Rattle.tk_query.specs.Pairing.{open_of, HasSlot, HaveSlots}
 use Rattle.tk_query_lifecycle.proofs.ListLemmas.{get_or_more, get_or_put}
 

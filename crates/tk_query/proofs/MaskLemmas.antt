@@ -11,7 +11,7 @@ use Rattle.tk_record_columns.specs.Recorded.{Recorded}
 use Rattle.tk_query_conditions.specs.declared.conditions.Condition.{Condition}
 use Rattle.tk_query.specs.Holds.{holds}
 use Rattle.tk_query.specs.declared.rules.Rule.{Rule}
-use Rattle.tk_query.specs.Rules.{rule_holds}
+use Rattle.tk_query.specs.steps.Rules.{rule_holds}
 use Rattle.tk_query.proofs.AskedLemmas.{map_same}
 
 replicated : (b : Bool) (es : List Entry) → replicate (length es) b ≡ map (λ _. b) es

@@ -6,7 +6,7 @@ use Rattle.tk_record_columns.specs.Recorded.{Recorded}
 use Rattle.tk_query_conditions.specs.declared.conditions.Condition.{Condition}
 use Rattle.tk_query.specs.declared.rules.Rule.{Rule}
 use Rattle.tk_query.specs.Holds.{holds}
-use Rattle.tk_query.specs.Rules.{IsRuleOf, rule_holds}
+use Rattle.tk_query.specs.steps.Rules.{IsRuleOf, rule_holds}
 use Rattle.tk_query.proofs.MatchLemmas.{and_false}
 
 pub some_map : {A : Type 0} (o : Option A) (P Q : A → Type 0) → ((a : A) → P a → Q a) → IfSome o P → IfSome o Q

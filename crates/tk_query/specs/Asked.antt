@@ -1,22 +1,6 @@
 -- The events that are asked, at their positions in the record.
-use Rattle.std.specs.Prelude.{
-  ◌≡◌,
-  ℕ,
-  Bool,
-  true,
-  false,
-  ◌==◌,
-  if◌then◌else◌,
-  List,
-  [],
-  ◌∷◌,
-  get_or,
-  Option,
-  Some,
-  None,
-  slice_get,
-  MatchOption,
-}
+use Rattle.std.specs.Prelude.{ℕ, Bool, false, ◌==◌, if◌then◌else◌, List, [], ◌∷◌, Option, Some}
+use Rattle.std.specs.Prelude.{None, MatchOption}
 use Rattle.tk_events.specs.declared.events.Entry.{Entry}
 use Rattle.tk_record_columns.specs.Selections.{PositionedEntry, Selected}
 use Rattle.tk_query_conditions.specs.declared.conditions.Condition.{Condition}
@@ -42,11 +26,3 @@ fits asked c position = is_there (holds asked.recorded c) (event_at asked.kept p
 abbrev pub IsFirstFit : Selected → Condition → Option ℕ → Type 0
 IsFirstFit asked c found =
     MatchOption found (HasNoFit (fits asked) c 0) (IsNextFit (fits asked) c 0)
-
--- where a flag is set stands an event asked, and the condition holds of none where no flag is set
-pub record AreLeft (asked : Selected) (c : Condition) (flags : List Bool) : Type 0 where
-  pub there :
-      (position : ℕ) → get_or flags position false ≡ true →
-      event_at asked.kept position ≡ slice_get asked.recorded.entries position
-  pub others :
-      (position : ℕ) → get_or flags position false ≡ false → fits asked c position ≡ false

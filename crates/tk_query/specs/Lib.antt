@@ -2,7 +2,6 @@ pub use Rattle.tk_query_conditions.specs.Answer
 pub use Rattle.tk_query_conditions.specs.Cond
 pub use Rattle.tk_query_conditions.specs.CondOf
 pub mod Holds
-pub mod Rules
 pub mod Asked
 pub mod InOrder
 pub mod Matches
@@ -10,6 +9,6 @@ pub mod ExecutionSteps
 pub mod Executions
 pub mod Pairing
 pub mod Exclusive
-pub mod Holders
 pub mod AnswerTexts
 pub mod Laws
+pub mod steps

@@ -2,7 +2,7 @@
 ghost use Rattle.std.specs.Prelude.{◌≡◌, ◌<◌, ◌+◌, false, IfOk, MatchOption, length};
 ghost use Rattle.tk_query.specs.Exclusive.{IsExclusive};
 ghost use Rattle.tk_query.specs.ExecutionSteps.{step_at};
-ghost use Rattle.tk_query.specs.Holders.{AreEnds, AreFinishes, IsAnswerOf, IsFirstMet, MeetsNone, TellFits, holds_any, meet};
+ghost use Rattle.tk_query.specs.steps.Holders.{AreEnds, AreFinishes, IsAnswerOf, IsFirstMet, MeetsNone, TellFits, holds_any, meet};
 
 use crate::answers::Exclusive;
 use crate::masks::mask;

@@ -5,7 +5,7 @@ ghost use Rattle.tk_ids.specs.DTypes.{is_test, is_container};
 ghost use Rattle.tk_record_columns.specs.Entries.{of_kind, of_status, desc};
 ghost use Rattle.tk_record_columns.specs.Selections.{has_type, passes};
 ghost use Rattle.tk_query.specs.Holds.{holds, has_within, has_reason, has_path, has_message, is_engine, same_pair, all_within, reports};
-ghost use Rattle.tk_query.specs.Rules.{descriptor_passes, key_passes, payload_passes, rule_holds};
+ghost use Rattle.tk_query.specs.steps.Rules.{descriptor_passes, key_passes, payload_passes, rule_holds};
 ghost use Rattle.tk_record_columns.specs.Record.{entry_of_view};
 
 use crate::rules::{DescriptorTest, PayloadTest, Rule, rule_of};

@@ -4,7 +4,7 @@ ghost use Rattle.std.specs.List.{list_all, list_any};
 ghost use Rattle.tk_record_columns.specs.Selections.{filtered_by, passes};
 ghost use Rattle.tk_query.specs.declared.rules.Rule.{Rule};
 ghost use Rattle.tk_query.specs.Holds.{holds};
-ghost use Rattle.tk_query.specs.Rules.{key_passes, rule_holds, AreAnswers};
+ghost use Rattle.tk_query.specs.steps.Rules.{key_passes, rule_holds, AreAnswers};
 
 use crate::judging::{key_passes, payload_passes};
 use crate::rules::{DescriptorTest, PayloadTest, Rule, rule_of};

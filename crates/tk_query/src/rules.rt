@@ -1,7 +1,7 @@
 //! By what each condition is judged.
 ghost use Rattle.std.specs.Prelude.{◌≡◌, IfSome};
 ghost use Rattle.tk_record_columns.specs.Recorded.{Recorded};
-ghost use Rattle.tk_query.specs.Rules.{AcceptsWithin, AllHoldWithin, HoldsWithin, IsRuleOf};
+ghost use Rattle.tk_query.specs.steps.Rules.{AcceptsWithin, AllHoldWithin, HoldsWithin, IsRuleOf};
 
 use crate::rules::PayloadTest::{Message, Path, Reason, Report};
 use tk_events::{Kind, Pairs, Status};

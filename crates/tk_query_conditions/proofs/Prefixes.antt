@@ -11,7 +11,14 @@ use Rattle.tk_query_conditions.specs.declared.partial_texts.Escape.TheVariants.{
 use Rattle.tk_events.specs.declared.kinds.Kind.{Kind}
 use Rattle.tk_events.specs.declared.kinds.Kind.TheVariants as event
 use Rattle.tk_query_conditions.specs.Cond.{Test, Container, Engine, Started, Succeeded, Failed, Aborted, TextAtom, Id, Name, Skipped, FailedWith, AbortedWith, File, Pairs, NoPairs, MorePairs, Cond, Plain, With, OfKind, HasPairs, All, Any, Not, Nothing, More, bare_text, text_atom_text, kind_text, spelled_by, escaped, pairs_lead, cond_text, lead_text, IsCondText}
-use Rattle.tk_query_conditions.specs.Reading.{all_kinds, OpenGroup, OpenNot, OpenAll, OpenAny, State, Word, InText, InKind, InPairs, After, text_step, special_of, look, bares, kinds, openers, Opener, OfText, OfKinds, OfPairs, OfAll, OfAny, OfNot, opened, close, close_empty, after_word, begins_with, is_prefix, step, next_text, last_text}
+use Rattle.tk_query_conditions.specs.Reading.{begins_with}
+use Rattle.tk_query_conditions.specs.steps.Reading.{all_kinds, OpenGroup, OpenNot, OpenAll, OpenAny}
+use Rattle.tk_query_conditions.specs.steps.Reading.{State, Word, InText, InKind, InPairs, After}
+use Rattle.tk_query_conditions.specs.steps.Reading.{text_step, special_of, look, bares, kinds}
+use Rattle.tk_query_conditions.specs.steps.Reading.{openers, Opener, OfText, OfKinds, OfPairs}
+use Rattle.tk_query_conditions.specs.steps.Reading.{OfAll, OfAny, OfNot, opened, close, close_empty}
+use Rattle.tk_query_conditions.specs.steps.Reading.{after_word, is_prefix, step, next_text}
+use Rattle.tk_query_conditions.specs.steps.Reading.{last_text}
 
 abbrev pub spelled_stack : List OpenGroup → List ℕ
 spelled_stack [] = []

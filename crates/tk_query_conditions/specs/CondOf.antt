@@ -70,11 +70,6 @@ abbrev mutual
   row_from cs end_of-Condition = cs
   row_from cs (more_of-Condition member rest) = row_from (More cs (cond_of member)) rest
 
--- members, after others
-abbrev pub conds_from : Conds → List Condition → Conds
-conds_from cs [] = cs
-conds_from cs (c ∷ rest) = conds_from (More cs (cond_of c)) rest
-
 -- the two of them
 abbrev pub both : Cond → Cond → Cond
 both a b = All (More (More Nothing a) b)

@@ -3,9 +3,8 @@ pub mod Brackets
 pub mod Characters
 pub mod Cond
 pub mod CondOf
-pub mod Reader
 pub mod Reading
-pub mod Writing
 pub mod FaultTexts
 pub mod Laws
 pub use Rattle.tk_ids.specs.Prefix
+pub mod steps

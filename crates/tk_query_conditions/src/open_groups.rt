@@ -1,8 +1,8 @@
 //! Open brackets of a condition that is read.
 ghost use Rattle.std.specs.Prelude.{◌≡◌, IfOk, option_map, if◌then◌else◌, Some, None};
 ghost use Rattle.tk_query_conditions.specs.CondOf.{cond_of};
-ghost use Rattle.tk_query_conditions.specs.Reader.{group_of};
-ghost use Rattle.tk_query_conditions.specs.Reading.{closed, closed_empty, joined};
+ghost use Rattle.tk_query_conditions.specs.steps.Reader.{group_of};
+ghost use Rattle.tk_query_conditions.specs.steps.Reading.{closed, closed_empty, joined};
 
 use crate::conditions::Condition;
 use std::alloc::{AllocError, Global};

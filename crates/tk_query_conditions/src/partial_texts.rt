@@ -1,6 +1,6 @@
 //! A text in brackets, as far as it is read.
 ghost use Rattle.std.specs.Prelude.{◌≡◌, ◌==◌, length, [], IfOk, if◌then◌else◌, Some, None, IsUtf8};
-ghost use Rattle.tk_query_conditions.specs.Reading.{special_of, text_step, ends_at};
+ghost use Rattle.tk_query_conditions.specs.steps.Reading.{special_of, text_step, ends_at};
 
 use std::alloc::{AllocError, Global};
 use std::marker::Model;

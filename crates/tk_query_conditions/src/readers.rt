@@ -2,8 +2,8 @@
 ghost use Rattle.std.specs.Prelude.{◌≡◌, [], ◌∷◌, IfOk, option_map, Some, length, MatchOption};
 ghost use Rattle.tk_query_conditions.specs.Cond.{Cond, NoPairs, Plain};
 ghost use Rattle.tk_query_conditions.specs.CondOf.{cond_of, pairs_from};
-ghost use Rattle.tk_query_conditions.specs.Reader.{group_of, groups_of, text_atom_of, opener_of, in_pairs, state_of, depth_of, ContinuesAsText, CanContinue};
-ghost use Rattle.tk_query_conditions.specs.Reading.{Word, InText, InKind, InPairs, After, start, step, close, close_empty, after_word, opened, next_text, last_text, ended, look};
+ghost use Rattle.tk_query_conditions.specs.steps.Reader.{group_of, groups_of, text_atom_of, opener_of, in_pairs, state_of, depth_of, ContinuesAsText, CanContinue};
+ghost use Rattle.tk_query_conditions.specs.steps.Reading.{Word, InText, InKind, InPairs, After, start, step, close, close_empty, after_word, opened, next_text, last_text, ended, look};
 
 use crate::conditions::Condition;
 use crate::open_groups::OpenGroup;

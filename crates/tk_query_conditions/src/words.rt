@@ -2,8 +2,9 @@
 ghost use Rattle.std.specs.Prelude.{◌≡◌, ◌||◌, option_map, bytes_eq};
 ghost use Rattle.tk_query_conditions.specs.Cond.{Plain, With};
 ghost use Rattle.tk_query_conditions.specs.CondOf.{cond_of};
-ghost use Rattle.tk_query_conditions.specs.Reader.{opener_of, text_atom_of};
-ghost use Rattle.tk_query_conditions.specs.Reading.{bares, openers, kinds, look, begins_with, is_prefix};
+ghost use Rattle.tk_query_conditions.specs.steps.Reader.{opener_of, text_atom_of};
+ghost use Rattle.tk_query_conditions.specs.Reading.{begins_with};
+ghost use Rattle.tk_query_conditions.specs.steps.Reading.{bares, openers, kinds, look, is_prefix};
 
 use crate::conditions::Condition;
 use tk_events::Kind;

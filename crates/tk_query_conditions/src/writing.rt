@@ -2,8 +2,9 @@
 ghost use Rattle.std.specs.Prelude.{◌≡◌, ◌++◌, ◌∷◌, [], IfOk, OnOk, string_bytes, encode_utf8};
 ghost use Rattle.tk_query_conditions.specs.Characters.{closing_bracket, opening_bracket};
 ghost use Rattle.tk_query_conditions.specs.Cond.{NoPairs, Nothing, cond_text, escaped, list_text, pairs_text};
-ghost use Rattle.tk_query_conditions.specs.CondOf.{cond_of, conds_from, pairs_from};
-ghost use Rattle.tk_query_conditions.specs.Writing.{separator, word_of, operand_text};
+ghost use Rattle.tk_query_conditions.specs.CondOf.{cond_of, pairs_from};
+ghost use Rattle.tk_query_conditions.specs.steps.CondOf.{conds_from};
+ghost use Rattle.tk_query_conditions.specs.steps.Writing.{separator, word_of, operand_text};
 
 use crate::conditions::Condition;
 use std::alloc::{AllocError, Global};

@@ -15,8 +15,8 @@ use Rattle.tk_record_columns.specs.Entries.{of_kind, described, registered, desc
 use Rattle.tk_record_columns.specs.Recorded.{Recorded, without_entries}
 use Rattle.tk_record_columns.proofs.Registrations.{desc_more}
 use Rattle.tk_query_lifecycle.specs.Lifecycle.{HasId}
-use Rattle.tk_query_lifecycle.specs.KeyStates.{key_under}
-use Rattle.tk_query_lifecycle.specs.Progress.{AreIds, AreNoted, IsFound}
+use Rattle.tk_query_lifecycle.specs.steps.KeyStates.{key_under}
+use Rattle.tk_query_lifecycle.specs.steps.Progress.{AreIds, AreNoted, IsFound}
 use Rattle.tk_query_lifecycle.proofs.FirstEntries.{has_id_more, one_id}
 
 -- the id of a static descriptor

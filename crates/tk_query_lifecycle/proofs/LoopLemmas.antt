@@ -10,7 +10,8 @@ use Rattle.tk_record_columns.specs.Record.{IsViewOf}
 use Rattle.tk_record_columns.specs.Recorded.{Recorded}
 use Rattle.tk_record_columns.specs.Record.{entry_of_view}
 use Rattle.tk_query_lifecycle.specs.Lifecycle.{BreaksFirst, BreaksNone, NoneBreaks, IsInOrder, IsLifecycle, first_entries}
-use Rattle.tk_query_lifecycle.specs.Progress.{IsFirstOfNeverRun, IsFirstOfRuns, IsProgress, IsTaken, next_event}
+use Rattle.tk_query_lifecycle.specs.steps.Progress.{IsFirstOfNeverRun, IsFirstOfRuns, IsProgress}
+use Rattle.tk_query_lifecycle.specs.steps.Progress.{IsTaken, next_event}
 use Rattle.tk_query_lifecycle.specs.declared.lifecycle_rules.Lifecycle.TheVariants.{Kept, Broken, Unfinished, NeverRan}
 use Rattle.tk_query_lifecycle.specs.declared.lifecycle_rules.LifecycleRule.{LifecycleRule}
 use Rattle.tk_query_lifecycle.specs.declared.key_states.KeyState.{KeyState}

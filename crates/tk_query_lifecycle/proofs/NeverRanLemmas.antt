@@ -12,8 +12,10 @@ use Rattle.tk_record_columns.specs.Entries.{of_kind, of_status}
 use Rattle.tk_record_columns.specs.Recorded.{Recorded}
 use Rattle.tk_query_lifecycle.specs.Lifecycle.{HasId, has_event, has_run, is_event}
 use Rattle.tk_query_lifecycle.specs.NeverRan.{HasNoTurn, NeverRuns, Succeeds}
-use Rattle.tk_query_lifecycle.specs.KeyStates.{is_idle, state_of}
-use Rattle.tk_query_lifecycle.specs.Progress.{IsFirstOfNeverRun, IsParent, IsPhase, IsProgress, IsSought, IsWhetherNeverRun, has_succeeded, has_success, is_success}
+use Rattle.tk_query_lifecycle.specs.steps.KeyStates.{is_idle, state_of}
+use Rattle.tk_query_lifecycle.specs.steps.Progress.{IsFirstOfNeverRun, IsParent, IsPhase}
+use Rattle.tk_query_lifecycle.specs.steps.Progress.{IsProgress, IsSought, IsWhetherNeverRun}
+use Rattle.tk_query_lifecycle.specs.steps.Progress.{has_succeeded, has_success, is_success}
 use Rattle.tk_query_lifecycle.specs.declared.key_states.KeyState.{KeyState}
 use Rattle.tk_query_lifecycle.specs.declared.key_states.Phase.{Phase}
 use Rattle.tk_query_lifecycle.specs.declared.key_states.Phase.TheVariants.{Idle, Running, Ended}

@@ -9,8 +9,8 @@ use Rattle.tk_events.specs.declared.statuses.Status.TheVariants.{Successful}
 use Rattle.tk_events.specs.Event.{kind_code}
 use Rattle.tk_record_columns.specs.Entries.{of_status}
 use Rattle.tk_query_lifecycle.specs.Lifecycle.{is_event, has_event, has_run}
-use Rattle.tk_query_lifecycle.specs.KeyStates.{phase_after, refusal}
-use Rattle.tk_query_lifecycle.specs.Progress.{IsPhase, has_success, is_success}
+use Rattle.tk_query_lifecycle.specs.steps.KeyStates.{phase_after, refusal}
+use Rattle.tk_query_lifecycle.specs.steps.Progress.{IsPhase, has_success, is_success}
 use Rattle.tk_query_lifecycle.specs.declared.key_states.KeyState.{KeyState}
 use Rattle.tk_query_lifecycle.specs.declared.key_states.Phase.{Phase}
 use Rattle.tk_query_lifecycle.specs.declared.key_states.Phase.TheVariants.{Idle, Running, Ended}

@@ -4,7 +4,8 @@ use Rattle.std.specs.Prelude.{◌==◌, if◌then◌else◌}
 use Rattle.std.specs.List.{sum_by}
 use Rattle.std.proofs.lemmas.List.{get_or_default, get_or_past}
 use Rattle.std.proofs.lemmas.List.Sums.{sum_by_push, sum_by-set}
-use Rattle.tk_query_lifecycle.specs.KeyStates.{idle, is_running, state_of, ArePut, IsFirstRunning}
+use Rattle.tk_query_lifecycle.specs.steps.KeyStates.{idle, is_running, state_of, ArePut}
+use Rattle.tk_query_lifecycle.specs.steps.KeyStates.{IsFirstRunning}
 use Rattle.tk_query_lifecycle.specs.declared.key_states.KeyState.{KeyState}
 use Rattle.tk_query_lifecycle.proofs.ListLemmas.{get_or_more, get_or_put}
 

@@ -3,5 +3,4 @@ pub mod Lifecycle
 pub mod KeepsLifecycle
 pub mod LifecycleTexts
 pub mod LifecycleLaws
-pub mod KeyStates
-pub mod Progress
+pub mod steps

@@ -3,7 +3,7 @@ ghost use Rattle.std.specs.Prelude.{◌≡◌, ℕ, ◌≤◌, ◌^◌, [], leng
 ghost use Rattle.tk_events.specs.declared.statuses.Status.TheVariants.{Successful};
 ghost use Rattle.tk_record_columns.specs.Entries.{of_status};
 ghost use Rattle.tk_record_columns.specs.Record.{entry_of_view};
-ghost use Rattle.tk_query_lifecycle.specs.KeyStates.{idle, is_idle, is_running, state_of, advanced, refusal, ArePut, IsCounted, IsFirstRunning};
+ghost use Rattle.tk_query_lifecycle.specs.steps.KeyStates.{idle, is_idle, is_running, state_of, advanced, refusal, ArePut, IsCounted, IsFirstRunning};
 
 use crate::lifecycle_rules::LifecycleRule;
 use std::alloc::{AllocError, Global};

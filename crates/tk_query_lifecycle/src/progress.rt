@@ -7,8 +7,8 @@ ghost use Rattle.tk_record_columns.specs.Entries.{of_kind, with_entry};
 ghost use Rattle.tk_record_columns.specs.Recorded.{Recorded};
 ghost use Rattle.tk_record_columns.specs.Record.{entry_of_view};
 ghost use Rattle.tk_query_lifecycle.specs.Lifecycle.{HasId, first_entries};
-ghost use Rattle.tk_query_lifecycle.specs.Progress.{AreAdvanced, AreIds, AreNoted, IsChecked, IsFirstOfNeverRun, IsFirstOfRuns, IsFound, IsKnownId, IsKnownParent, IsProgress, IsSought, IsTaken, IsWhetherNeverRun, has_succeeded, is_at_rest, missing_parent, next_event};
-ghost use Rattle.tk_query_lifecycle.specs.KeyStates.{state_of};
+ghost use Rattle.tk_query_lifecycle.specs.steps.Progress.{AreAdvanced, AreIds, AreNoted, IsChecked, IsFirstOfNeverRun, IsFirstOfRuns, IsFound, IsKnownId, IsKnownParent, IsProgress, IsSought, IsTaken, IsWhetherNeverRun, has_succeeded, is_at_rest, missing_parent, next_event};
+ghost use Rattle.tk_query_lifecycle.specs.steps.KeyStates.{state_of};
 
 use crate::key_states::{KeyStates, Parent};
 use crate::lifecycle_rules::LifecycleRule;

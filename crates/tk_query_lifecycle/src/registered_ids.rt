@@ -1,7 +1,7 @@
 //! The keys of registered ids.
 ghost use Rattle.std.specs.Prelude.{◌≡◌, ℕ, List, [], Some, OnOk, if◌then◌else◌, bytes_eq};
 ghost use Rattle.tk_ids.specs.IdText.{IsId, id_text};
-ghost use Rattle.tk_query_lifecycle.specs.KeyStates.{key_under};
+ghost use Rattle.tk_query_lifecycle.specs.steps.KeyStates.{key_under};
 
 use indexmap::IndexMap;
 use std::alloc::{AllocError, Global};

@@ -12,7 +12,7 @@ use Rattle.tk_query_conditions.specs.Cond.{Cond}
 use Rattle.tk_query_nearest.specs.Parts.{distance}
 use Rattle.tk_query.proofs.AskedLemmas.{AreFlags, asked_set, asked_clear}
 use Rattle.tk_query_nearest.specs.declared.candidates.Candidate.{Candidate}
-use Rattle.tk_query_nearest.specs.Candidates.{is_nearer, inserted}
+use Rattle.tk_query_nearest.specs.steps.Candidates.{is_nearer, inserted}
 use Rattle.tk_query_nearest.specs.Nearness.{IsAskedFrom, IsNearest, IsNearer, distance_at, distance_of}
 use Rattle.tk_query_nearest.proofs.ViewLemmas.{there, told}
 use Rattle.tk_query_nearest.proofs.RankLemmas.{Has, Each, each_all, each_has, has_contains, near, put, AreBest, IsPast, best_more, best_none, best_same, ranked_pairs}

@@ -7,12 +7,13 @@ use Rattle.tk_record_columns.specs.Recorded.{Recorded}
 use Rattle.tk_query_conditions.specs.declared.conditions.Condition as real
 use Rattle.tk_query_conditions.specs.declared.conditions.Condition.{Condition}
 use Rattle.tk_query_conditions.specs.Cond.{Cond, All, Nothing, More}
-use Rattle.tk_query_conditions.specs.CondOf.{cond_of, conds_from}
+use Rattle.tk_query_conditions.specs.CondOf.{cond_of}
+use Rattle.tk_query_conditions.specs.steps.CondOf.{conds_from}
 use Rattle.tk_query_conditions.proofs.Members.{cond_of-All, conds_more}
 use Rattle.tk_query.specs.Holds.{cond_holds}
 use Rattle.tk_query_nearest.specs.Members.{members, members_of, lacking}
 use Rattle.tk_query_nearest.specs.Parts.{distance}
-use Rattle.tk_query_nearest.specs.Writing.{appended}
+use Rattle.tk_query_nearest.specs.steps.Writing.{appended}
 use Rattle.tk_query_nearest.specs.declared.parts.TheConstants.{MAX_DISTANCE}
 use Rattle.tk_query_nearest.proofs.PartLemmas.{distance_more}
 use Rattle.tk_query_nearest.proofs.WritingLemmas.{appended-append}

@@ -2,5 +2,5 @@ pub mod Members
 pub mod Parts
 pub mod Nearness
 pub mod Candidates
-pub mod Writing
 pub mod Laws
+pub mod steps

@@ -1,6 +1,7 @@
 //! The candidates for the nearest events.
 ghost use Rattle.std.specs.Prelude.{◌≡◌, ◌≤◌, ◌==◌, length, slice_get, take};
-ghost use Rattle.tk_query_nearest.specs.Candidates.{inserted, is_nearer, listed, positions_of};
+ghost use Rattle.tk_query_nearest.specs.Candidates.{listed, positions_of};
+ghost use Rattle.tk_query_nearest.specs.steps.Candidates.{inserted, is_nearer};
 
 use std::marker::Model;
 

@@ -3,9 +3,10 @@ ghost use Rattle.std.specs.Prelude.{◌≡◌, ◌∷◌, [], not, filter, IfOk,
 ghost use Rattle.tk_record_columns.specs.Record.{entry_of_view};
 ghost use Rattle.tk_query.specs.Holds.{cond_holds};
 ghost use Rattle.tk_query_conditions.specs.Cond.{All, Nothing};
-ghost use Rattle.tk_query_conditions.specs.CondOf.{cond_of, conds_from};
+ghost use Rattle.tk_query_conditions.specs.CondOf.{cond_of};
+ghost use Rattle.tk_query_conditions.specs.steps.CondOf.{conds_from};
 ghost use Rattle.tk_query_nearest.specs.Members.{lacking, lacking_text};
-ghost use Rattle.tk_query_nearest.specs.Writing.{appended, separated};
+ghost use Rattle.tk_query_nearest.specs.steps.Writing.{appended, separated};
 
 use std::alloc::{AllocError, Global};
 use tk_ids::Text;

@@ -3,7 +3,8 @@ ghost use Rattle.std.specs.Prelude.{◌≡◌, ◌≤◌, ◌+◌, if◌then◌e
 ghost use Rattle.tk_record_columns.specs.Entries.{of_kind, of_status, desc};
 ghost use Rattle.tk_record_columns.specs.Record.{entry_of_view};
 ghost use Rattle.tk_query_conditions.specs.Cond.{All, Nothing};
-ghost use Rattle.tk_query_conditions.specs.CondOf.{cond_of, conds_from};
+ghost use Rattle.tk_query_conditions.specs.CondOf.{cond_of};
+ghost use Rattle.tk_query_conditions.specs.steps.CondOf.{conds_from};
 ghost use Rattle.tk_query.specs.Holds.{has_within, has_descriptor};
 ghost use Rattle.tk_query_nearest.specs.Parts.{distance, member_parts, missing, message_contains, path_contains, reason_contains};
 

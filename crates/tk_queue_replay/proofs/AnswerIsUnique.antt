@@ -8,7 +8,7 @@ use Rattle.tk_events.specs.declared.events.Entry.{Entry}
 use Rattle.tk_record_columns.specs.Recorded.{Recorded}
 use Rattle.tk_record.specs.Spelling.{node_line, entry_line}
 use Rattle.tk_record.specs.declared.versions.Version.{Version}
-use Rattle.tk_record.specs.Reading.{in_line}
+use Rattle.tk_record.specs.steps.Reading.{in_line}
 use Rattle.tk_record.specs.Text.{with_line_feed, nodes_text, entries_text, AreNodes}
 use Rattle.tk_record.specs.NodeLines.{LacksNode}
 use Rattle.tk_record.proofs.Forms.{one_value}
@@ -20,7 +20,8 @@ use Rattle.tk_queue_replay.specs.declared.replays.ReplayFault.{ReplayFault}
 use Rattle.tk_queue_replay.specs.declared.replays.ReplayFault.TheVariants as faults
 use Rattle.tk_queue_core.specs.Limits.{most_workers}
 use Rattle.tk_queue_replay.specs.Replay.{Moment, Stop, Faulty, Refuses, turn_step, after, plays, start, StopsAt}
-use Rattle.tk_queue_replay.specs.Script.{IsCount, workers_line, workers_of, AreTurns, turns_line, turns_of}
+use Rattle.tk_queue_replay.specs.Script.{IsCount, workers_line, AreTurns, turns_line}
+use Rattle.tk_queue_replay.specs.steps.Script.{workers_of, turns_of}
 use Rattle.tk_queue_replay.specs.ReplayText.{Scenario, header, TextHead, text_head, IsOwn, AreOwn, scripts_by, input_of, NoCount, NoLineOf, IsBad, IsTextOf, IsPlayed}
 use Rattle.tk_queue_replay.specs.Laws.{IsSettled, AnswerIsUnique}
 use Rattle.tk_queue_replay.proofs.ScriptForms.{workers_line_form, turns_line_form, workers_no_feed, turns_no_feed}

@@ -16,7 +16,10 @@ use Rattle.tk_queue_replay.specs.declared.replays.ReplayFault.{ReplayFault}
 use Rattle.tk_queue_replay.specs.declared.replays.ReplayFault.TheVariants as faults
 use Rattle.tk_record_columns.specs.Recorded.{Recorded}
 use Rattle.tk_queue_core.specs.CoreState.{CoreState, fresh}
-use Rattle.tk_queue_replay.specs.Replay.{Moment, Stop, Faulty, Refuses, turn_step, take_item, append_to, after, plays, start, Suits, IsStop, replay_input, StopsAt, IsReplayed}
+use Rattle.tk_queue_replay.specs.Replay.{Moment, Stop, Faulty, Refuses, turn_step, take_item}
+use Rattle.tk_queue_replay.specs.Replay.{append_to, after, plays, start, replay_input, StopsAt}
+use Rattle.tk_queue_replay.specs.Replay.{IsReplayed}
+use Rattle.tk_queue_replay.specs.steps.Replay.{Suits, IsStop}
 
 pub plays_more : (scripts : List (List Event)) (turns : List Turn) (t : Turn) (m n o : Moment) → plays scripts turns m ≡ Some n → turn_step scripts n t ≡ Ok o → plays scripts (turns ++ t ∷ []) m ≡ Some o
 plays_more scripts [] t m n o e step = ap (λ x. after (turn_step scripts x t) (plays scripts [])) (same_Some m n e) ∙ ap (λ r. after r (plays scripts [])) step

@@ -13,15 +13,19 @@ use Rattle.tk_queue_core.specs.Limits.{most_workers}
 use Rattle.tk_queue_replay.specs.declared.turns.Turn.{Turn}
 use Rattle.tk_queue_replay.specs.declared.turns.Turn.TheVariants.{Worker, Take}
 use Rattle.tk_queue_replay.specs.Replay.{IsTurn}
-use Rattle.tk_record.specs.Form.{IsForm}
-use Rattle.tk_record.specs.Reading.{◌>>=◌, number_of, in_line}
+use Rattle.tk_record.specs.steps.Form.{IsForm}
+use Rattle.tk_record.specs.Reading.{number_of}
+use Rattle.tk_record.specs.steps.Reading.{◌>>=◌, in_line}
 use Rattle.tk_record.proofs.Choices.{guarded, chosen, both, stepped, same_bytes}
 use Rattle.tk_record.proofs.NumberForms.{number_found, number_again}
 use Rattle.tk_record.proofs.Clean.{is_false, decimal_clean, decimal_utf8}
 use Rattle.tk_record.proofs.TailForms.{IsField, word}
 use Rattle.tk_record.specs.NodeLines.{LacksFeed}
 use Rattle.tk_record.proofs.LineForms.{line_form, line_no_feed}
-use Rattle.tk_queue_replay.specs.Script.{workers_fields, IsCount, workers_line, turn_field, turns_fields, AreTurns, turns_line, within, worker_of, workers_of, turn_of, turns_from, turns_of}
+use Rattle.tk_queue_replay.specs.Script.{workers_fields, IsCount, workers_line, turn_field}
+use Rattle.tk_queue_replay.specs.Script.{turns_fields, AreTurns, turns_line}
+use Rattle.tk_queue_replay.specs.steps.Script.{within, worker_of, workers_of, turn_of, turns_from}
+use Rattle.tk_queue_replay.specs.steps.Script.{turns_of}
 
 two : (a a2 b b2 : List ℕ) → a ≡ a2 → b ≡ b2 → a ∷ b ∷ [] ≡ a2 ∷ b2 ∷ []
 two a a2 b b2 p q = rw (p, q) refl

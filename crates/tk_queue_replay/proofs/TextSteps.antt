@@ -13,7 +13,7 @@ use Rattle.tk_record_columns.specs.Recorded.{Recorded}
 use Rattle.tk_record.specs.Spelling.{joined, entry_line, HasEntryLine}
 use Rattle.tk_record.specs.declared.versions.Version.{Version}
 use Rattle.tk_record.specs.Versions.{HasLineIn}
-use Rattle.tk_record.specs.Reading.{in_line, entry_of}
+use Rattle.tk_record.specs.steps.Reading.{in_line, entry_of}
 use Rattle.tk_record.specs.Text.{with_line_feed, nodes_text, entries_text}
 use Rattle.tk_record.specs.NodeLines.{LacksFeed, LacksNodeStart, IsNodesPrefix, IsNodesFault}
 use Rattle.tk_record.specs.declared.node_lines.NodesFault.{NodesFault}
@@ -26,10 +26,16 @@ use Rattle.tk_queue_replay.specs.declared.replays.Replayed.{Replayed}
 use Rattle.tk_queue_replay.specs.declared.replays.ReplayFault.{ReplayFault}
 use Rattle.tk_queue_replay.specs.declared.replays.ReplayFault.TheVariants as faults
 use Rattle.tk_queue_core.specs.Limits.{most_workers}
-use Rattle.tk_queue_replay.specs.Script.{IsCount, workers_line, workers_of, AreTurns, turns_line, turns_of}
+use Rattle.tk_queue_replay.specs.Script.{IsCount, workers_line, AreTurns, turns_line}
+use Rattle.tk_queue_replay.specs.steps.Script.{workers_of, turns_of}
 use Rattle.tk_queue_replay.specs.Replay.{replay_input, IsReplayed, plays, start}
-use Rattle.tk_queue_replay.specs.ReplayText.{Scenario, header, TextHead, text_head, IsOwn, AreOwn, scripts_by, input_of, NoCount, IsTextOf, IsPlayed, IsPlayedAs, nodes_fault}
-use Rattle.tk_queue_replay.specs.Reading.{LacksEntryStart, IsEntriesPrefix, IsCountFault, IsListFault, IsFaultAfter, NoTurns, IsFollowed, IsEndFault}
+use Rattle.tk_queue_replay.specs.ReplayText.{Scenario, header, TextHead, text_head, IsOwn, AreOwn}
+use Rattle.tk_queue_replay.specs.ReplayText.{scripts_by, input_of, NoCount, IsTextOf, IsPlayed}
+use Rattle.tk_queue_replay.specs.ReplayText.{nodes_fault}
+use Rattle.tk_queue_replay.specs.steps.ReplayText.{IsPlayedAs}
+use Rattle.tk_queue_replay.specs.steps.Reading.{LacksEntryStart, IsEntriesPrefix, IsCountFault}
+use Rattle.tk_queue_replay.specs.steps.Reading.{IsListFault, IsFaultAfter, NoTurns, IsFollowed}
+use Rattle.tk_queue_replay.specs.steps.Reading.{IsEndFault}
 use Rattle.tk_queue_replay.proofs.ScriptForms.{workers_line_form, turns_line_form, workers_no_feed, turns_no_feed}
 
 -- ---- single lines

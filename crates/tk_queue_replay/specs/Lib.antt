@@ -2,6 +2,6 @@ pub mod Replay
 pub mod Script
 pub mod TurnItems
 pub mod ReplayText
-pub mod Reading
 pub mod Laws
 pub mod FaultTexts
+pub mod steps

@@ -25,7 +25,6 @@ use Rattle.tk_ids.specs.declared.descriptors.Descriptor.{Descriptor}
 use Rattle.tk_events.specs.declared.events.Event.{Event}
 use Rattle.tk_events.specs.declared.events.Entry.{Entry}
 use Rattle.tk_record_columns.specs.declared.records.AppendFault.{AppendFault}
-use Rattle.tk_record_columns.specs.declared.records.AppendFault.TheVariants as appends
 use Rattle.tk_record_columns.specs.Recorded.{Recorded}
 use Rattle.tk_record_columns.specs.Record.{fault_of}
 use Rattle.tk_record_columns.specs.Entries.{with_entry}
@@ -97,7 +96,8 @@ abbrev pub after : {A : Type 0} → Result A Stop → (A → Option A) → Optio
 after (Ok a) f = f a
 after (Err stop) f = None
 
--- the moment after all of the turns, where none stops
+-- The moment after all of the turns, where none stops. It is a state of the queue's core: each
+-- worker's items are its events in its order, then its mark if it ended (`ReplaysCore`).
 abbrev pub plays : List (List Event) → List Turn → Moment → Option Moment
 plays scripts [] m = Some m
 plays scripts (t ∷ turns) m = after (turn_step scripts m t) (plays scripts turns)
@@ -150,26 +150,3 @@ IsReplayed table scripts turns (Err _) = ⊥
 abbrev pub IsTurn : ℕ → Turn → Type 0
 IsTurn n (Worker w) = IsWorkerOf n w
 IsTurn n Take = Unit {0}
-
--- the record refuses the entry for memory alone
-abbrev pub IsMemory : AppendFault → Type 0
-IsMemory (appends.Memory e) = Unit {0}
-IsMemory _ = ⊥
-
--- the fault of a replay where the record refuses the entry at turn n
-abbrev pub refusal : ℕ → AppendFault → ReplayFault
-refusal n (appends.Memory _) = faults.Memory
-refusal n (appends.UnknownKey e) = faults.Append n (appends.UnknownKey e)
-refusal n (appends.Unlawful e) = faults.Append n (appends.Unlawful e)
-refusal n (appends.Full e) = faults.Append n (appends.Full e)
-
--- the fault of a replay where turn n makes no step
-abbrev pub IsStop : ℕ → Result Moment Stop → ReplayFault → Type 0
-IsStop n step (faults.AfterEnd i) = (i ≡ n) × (step ≡ Err Faulty)
-IsStop n step (faults.Append i fault) = (i ≡ n) × (step ≡ Err (Refuses fault))
-IsStop n step faults.Memory = Unit {0}
-IsStop n step _ = ⊥
-
--- the moment has as many workers and counts as there are scripts
-abbrev pub Suits : Moment → List (List Event) → Type 0
-Suits m scripts = (m.core.workers ≡ length scripts) × (length m.emitted ≡ length scripts)

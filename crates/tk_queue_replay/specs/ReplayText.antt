@@ -171,16 +171,6 @@ abbrev pub input_of : Scenario → ReplayInput
 input_of p =
     record { table = p.table; scripts = scripts_by p.entries p.workers; turns = p.turns }
 
--- what a replay answers with the record of what is taken; `Memory` may always come
-abbrev pub IsPlayedAs : ReplayInput → Result Recorded ReplayFault → Type 0
-IsPlayedAs p (Ok r) =
-    (m : Moment) × (plays p.scripts p.turns (start p.table (length p.scripts)) ≡ Some m)
-    × (r ≡ m.taken)
-IsPlayedAs p (Err (faults.AfterEnd i)) = StopsAt p i Faulty
-IsPlayedAs p (Err (faults.Append i fault)) = StopsAt p i (Refuses fault)
-IsPlayedAs p (Err faults.Memory) = Unit {0}
-IsPlayedAs p (Err _) = ⊥
-
 -- what playing an input within the limit answers, with the record of what is taken; `Memory`
 -- may always come
 abbrev pub IsPlayed : List ℕ → Result Recorded ReplayFault → Type 0

@@ -4,7 +4,8 @@ ghost use Rattle.std.specs.Arc.{arc_value};
 ghost use Rattle.tk_record_columns.specs.Entries.{with_entry};
 ghost use Rattle.tk_record_columns.specs.Mixing.{IsWorkerOf};
 ghost use Rattle.tk_queue_core.specs.CoreState.{has_ended, fresh};
-ghost use Rattle.tk_queue_replay.specs.Replay.{IsReplayed, IsTurn, next, count_of, take_item, turn_step, refusal, IsStop, Suits, Refuses, IsMemory, start};
+ghost use Rattle.tk_queue_replay.specs.Replay.{IsReplayed, IsTurn, next, count_of, take_item, turn_step, Refuses, start};
+ghost use Rattle.tk_queue_replay.specs.steps.Replay.{refusal, IsStop, Suits, IsMemory};
 ghost use Rattle.tk_queue_replay.specs.FaultTexts.{replay_fault_text};
 ghost use Rattle.tk_queue_replay.specs.declared.replays.ReplayFault.TheVariants.{Memory};
 

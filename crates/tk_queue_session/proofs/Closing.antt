@@ -11,7 +11,8 @@ use Rattle.tk_queue_session.specs.SessionRule.{Stands, Concludes}
 use Rattle.tk_queue_session.specs.PassViews.{pass_of_receiver}
 use Rattle.tk_queue_session.specs.Closing.{Least}
 use Rattle.tk_queue_session.specs.Senders.{SenderView}
-use Rattle.tk_queue_session.specs.Tokens.{sent_by, tokens_of, pass_of_token}
+use Rattle.tk_queue_session.specs.Tokens.{sent_by, tokens_of}
+use Rattle.tk_queue_session.specs.steps.Tokens.{pass_of_token}
 use Rattle.tk_queue_session.specs.Receivers.{is_marked, is_mark_of}
 use Rattle.tk_events.specs.declared.events.Event.{Event}
 use Rattle.tk_queue_core.specs.declared.items.Item.{Item}

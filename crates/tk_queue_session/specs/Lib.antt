@@ -11,3 +11,4 @@ pub mod Closing
 pub mod Steps
 pub mod Recordable
 pub mod FaultTexts
+pub mod steps

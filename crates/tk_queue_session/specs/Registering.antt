@@ -75,21 +75,3 @@ IsRegisteredAs old new ask (Err (unregistered.Id id_faults.TooLong)) =
 IsRegisteredAs old new ask (Err (unregistered.Id _)) = ⊥
 IsRegisteredAs old new ask (Err unregistered.Memory) =
     (is_some (parent_of old ask.parent) ≡ true) × HasRoom old × (new ≡ old)
-
--- What making the descriptor below a parent answers, with its id once more. `below` is the
--- descriptor that is asked for, below each parent.
-abbrev pub IsChildMade :
-    SenderView → ℕ → (Descriptor → Descriptor)
-    → Result (List SegmentView × Descriptor) RegisterFault → Type 0
-IsChildMade s parent below (Ok made) =
-    (above : Descriptor) × (parent_of s parent ≡ Some above) × HasRoom s
-    × FitsLimits (below above).id × (made.0 ≡ (below above).id) × (made.1 ≡ below above)
-IsChildMade s parent below (Err unregistered.UnknownNode) = parent_of s parent ≡ None
-IsChildMade s parent below (Err unregistered.Limit) =
-    (is_some (parent_of s parent) ≡ true) × ¬ HasRoom s
-IsChildMade s parent below (Err (unregistered.Id id_faults.TooLong)) =
-    (above : Descriptor) × (parent_of s parent ≡ Some above) × HasRoom s
-    × ¬ FitsLimits (below above).id
-IsChildMade s parent below (Err (unregistered.Id _)) = ⊥
-IsChildMade s parent below (Err unregistered.Memory) =
-    (is_some (parent_of s parent) ≡ true) × HasRoom s

@@ -15,7 +15,6 @@ use Rattle.std.specs.Prelude.{
 use Rattle.tk_ids.specs.declared.descriptors.Descriptor.{Descriptor}
 use Rattle.tk_events.specs.declared.events.Event.{Event}
 use Rattle.tk_queue_core.specs.Limits.{most_workers}
-use Rattle.tk_queue_session.specs.declared.session_rules.SenderPass.{SenderPass}
 use Rattle.tk_queue_session.specs.declared.session_rules.PassView.{PassView}
 use Rattle.tk_queue_session.specs.Emission.{Emission}
 use Rattle.tk_queue_session.specs.PassViews.{pass_of_sender}
@@ -36,8 +35,3 @@ tokens_of w tokens = count_by (λ t. t.worker == w) tokens
 abbrev pub sent_by : List SenderView → ℕ → List Event
 sent_by [] w = []
 sent_by (t ∷ ts) w = if t.worker == w then t.sent else sent_by ts w
-
--- what the pass of a token knows
-abbrev pub pass_of_token : SenderView → SenderPass
-pass_of_token t =
-    record { statics = length t.table; worker = t.worker; sent = t.sent; ended = true }

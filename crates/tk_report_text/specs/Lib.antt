@@ -4,3 +4,4 @@ pub mod Labels
 pub mod Reports
 pub mod GroupedLines
 pub mod Laws
+pub mod steps

@@ -1,3 +1,4 @@
 pub mod Stream
 pub mod FaultTexts
 pub mod Pieces
+pub mod steps

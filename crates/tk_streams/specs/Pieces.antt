@@ -1,17 +1,5 @@
 -- What goes to a target in pieces.
-use Rattle.std.specs.Prelude.{
-  ◌≡◌,
-  ◌⊎◌,
-  ℕ,
-  Bool,
-  true,
-  false,
-  List,
-  [],
-  ◌++◌,
-  Option,
-  MatchBool,
-}
+use Rattle.std.specs.Prelude.{◌≡◌, ℕ, Bool, List, ◌++◌, Option, MatchBool}
 use Rattle.std.specs.Io.KnownBytes.{Appends}
 use Rattle.tk_streams.specs.Stream.{AppendsPrefix}
 
@@ -36,11 +24,3 @@ IsSent start text o =
 pub record Adds (old new : Outgoing) (bytes : List ℕ) : Type 0 where
   pub follow : (start : Option (List ℕ)) (text : List ℕ) →
       IsSent start text old → IsSent start (text ++ bytes) new
-
--- what waited was written and nothing waits, or the target broke or was broken
-pub record IsWrittenTo (old new : Outgoing) : Type 0 where
-  pub none_waits : new.waiting ≡ []
-  pub stays_broken : old.broken ≡ true → (new.contents ≡ old.contents) × (new.broken ≡ true)
-  pub written : old.broken ≡ false →
-      Appends old.contents new.contents old.waiting
-      ⊎ (AppendsPrefix old.contents new.contents old.waiting × (new.broken ≡ true))

@@ -3,7 +3,8 @@ ghost use Rattle.std.specs.Prelude.{◌≡◌, ◌<◌, length, ◌++◌, ◌∷
 ghost use Rattle.std.specs.Io.KnownBytes.{Appends};
 ghost use Rattle.tk_streams.specs.Stream.{AppendsPrefix};
 ghost use Rattle.tk_streams.specs.declared.pieces.TheConstants.{PIECE};
-ghost use Rattle.tk_streams.specs.Pieces.{Adds, IsSent, IsWrittenTo, outgoing};
+ghost use Rattle.tk_streams.specs.Pieces.{Adds, IsSent, outgoing};
+ghost use Rattle.tk_streams.specs.steps.Pieces.{IsWrittenTo};
 
 use crate::streams::{Broken, Target};
 use crate::transfers::write_all;

@@ -1,7 +1,7 @@
 use Rattle.std.proofs.Common.{Bool, refl, subst, sym}
 use Rattle.std.proofs.lemmas.Result.{err_from_is_err_and}
 use Rattle.testkit_questions.specs.Answers.{IsAnswerTo}
-use Rattle.testkit_questions.specs.Replies.{reply_is_yes, reply_text}
+use Rattle.testkit_questions.specs.steps.Replies.{reply_is_yes, reply_text}
 use Rattle.testkit_questions.proofs.AskLemmas.{device_not_memory, memory_not_device, no_fault}
 use Rattle.testkit_questions.proofs.asking.write_answer.Goals as goal
 

@@ -1,6 +1,6 @@
 use Rattle.std.proofs.lemmas.Result.{err_from_is_err_and}
 use Rattle.testkit_questions.proofs.AskLemmas.{explained_device, explained_fault, explained_unwritten}
-use Rattle.testkit_questions.specs.Asked.{written}
+use Rattle.testkit_questions.specs.steps.Asked.{written}
 use Rattle.testkit_questions.proofs.asking.write_explanation.Goals as goal
 
 pub returns-in_err-is_yes : goal.returns-in_err-is_yes

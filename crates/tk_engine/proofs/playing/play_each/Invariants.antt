@@ -1,7 +1,7 @@
 use Rattle.std.proofs.Common.{take}
 use Rattle.tk_engine_execute.specs.Engines.{IsSameSender}
-use Rattle.tk_engine.specs.Keys.{kept}
-use Rattle.tk_engine.specs.Plays.{IsPlayed, begun}
+use Rattle.tk_engine.specs.steps.Keys.{kept}
+use Rattle.tk_engine.specs.steps.Plays.{IsPlayed, begun}
 use Rattle.tk_engine.proofs.playing.play_each.Given as goal
 
 abbrev pub ghost-play : goal.ghost-play

@@ -1,7 +1,7 @@
 use Rattle.std.proofs.lemmas.Result.{IfErr-at_err}
 use Rattle.std.proofs.Common.{refl}
 use Rattle.tk_engine_execute.specs.Engines.{MayFail}
-use Rattle.tk_engine_execute.specs.Outcomes.{IsFaultOfRunning}
+use Rattle.tk_engine_execute.specs.steps.Outcomes.{IsFaultOfRunning}
 use Rattle.tk_engine_execute.proofs.Tokens.{unit_may_fail}
 use Rattle.tk_engine_execute.proofs.runs.execute.Goals as goal
 

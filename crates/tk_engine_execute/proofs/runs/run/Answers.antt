@@ -12,13 +12,13 @@ use Rattle.tk_queue_session.specs.Limits.{most_events, capacity_of}
 use Rattle.tk_queue_session.specs.Emission.{entries_by}
 use Rattle.tk_engine_runs.specs.Run.{IsRun, IsShared}
 use Rattle.tk_engine_execute.specs.declared.event_collectors.EventCollector.{EventCollector}
-use Rattle.tk_engine_execute.specs.EventCollectors.{TookMore}
+use Rattle.tk_engine_execute.specs.steps.EventCollectors.{TookMore}
 use Rattle.tk_engine_execute.specs.Results.{RunResults, IsTallied}
-use Rattle.tk_engine_execute.specs.PreparedRuns.{RunRequest, IsFreshCollector}
+use Rattle.tk_engine_execute.specs.steps.PreparedRuns.{RunRequest, IsFreshCollector}
 use Rattle.tk_engine_execute.proofs.Collecting.{fresh_collector, room_left}
 use Rattle.tk_engine_execute.specs.Engines.{MayFail}
-use Rattle.tk_engine_execute.specs.Workers.{run_units}
-use Rattle.tk_engine_execute.specs.Outcomes.{IsFaultOfWorkers, IsFaultOfRunning}
+use Rattle.tk_engine_execute.specs.steps.Workers.{run_units}
+use Rattle.tk_engine_execute.specs.steps.Outcomes.{IsFaultOfWorkers, IsFaultOfRunning}
 use Rattle.tk_engine_execute.proofs.Tokens.{is_running, out_of_memory, tallied_whole}
 use Rattle.tk_engine_execute.proofs.runs.run.Goals as goal
 

@@ -1,7 +1,7 @@
 use Rattle.std.proofs.Common.{rules, arith, ◌≡◌, ◌+◌, refl, ap, sym, ◌∙◌}
 use Rattle.std.specs.Prelude.{vec_len}
 use Rattle.tk_queue_session.specs.Senders.{SenderView}
-use Rattle.tk_engine_execute.specs.Workers.{shared_parts, run_units, IsReady, IsDone}
+use Rattle.tk_engine_execute.specs.steps.Workers.{shared_parts, run_units, IsReady, IsDone}
 use Rattle.tk_engine_execute.proofs.UnstartedWorkers.{unstarted_ready, unstarted_sender, unstarted_rest, one_fewer}
 use Rattle.tk_engine_execute.proofs.Outcomes.{nobody_joined, one_joined, one_lacks_thread}
 use Rattle.tk_engine_execute.proofs.worker_threads.+spawn_workers.Goals as goal

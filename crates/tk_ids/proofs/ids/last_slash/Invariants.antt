@@ -1,5 +1,5 @@
 use Rattle.std.proofs.Common.{ℕ, List, ◌≤◌, length}
-use Rattle.tk_ids.specs.IdSegments.{HasNoSlashFrom}
+use Rattle.tk_ids.specs.steps.IdSegments.{HasNoSlashFrom}
 use Rattle.tk_ids.proofs.ids.last_slash.Given as goal
 
 pub record Seeks (bytes : List ℕ) (at : ℕ) : Type 0 where

@@ -2,7 +2,7 @@ use Rattle.std.proofs.Common.{◌≡◌, ℕ, ◌+◌, ◌<◌, List, length, ge
 use Rattle.std.proofs.lemmas.Bool.{false≢true}
 use Rattle.tk_ids.specs.declared.scanning.ScanState.{ScanState}
 use Rattle.tk_ids.specs.Answer.{IsBadAt}
-use Rattle.tk_ids.specs.Scanning.{state_after, ended_segments, HasSegments}
+use Rattle.tk_ids.specs.steps.Scanning.{state_after, ended_segments, HasSegments}
 use Rattle.tk_ids.proofs.ScanningLemmas.{IsScanned, scan_none, scan_more, scan_plain, scan_stuck, scan_end, scan_open}
 use Rattle.tk_ids.proofs.scanning.count_segments.Goals as goal
 

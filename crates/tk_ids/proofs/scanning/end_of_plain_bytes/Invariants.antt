@@ -1,5 +1,5 @@
 use Rattle.std.proofs.Common.{length, ◌-◌}
-use Rattle.tk_ids.specs.Scanning.{ArePlain}
+use Rattle.tk_ids.specs.steps.Scanning.{ArePlain}
 use Rattle.tk_ids.proofs.scanning.end_of_plain_bytes.Given as goal
 
 abbrev pub invariant-plain : goal.invariant-plain

@@ -6,7 +6,7 @@ use Rattle.tk_plan_units.specs.Script.{moves_below}
 use Rattle.tk_plan_json.specs.Verdicts.{verdict}
 use Rattle.tk_plan.specs.PlanOf.{PlanOf, ok_unless}
 use Rattle.tk_plan_json.specs.NodeInputs.{root_at, node_inputs, grown}
-use Rattle.tk_plan.specs.Tables.{Follow}
+use Rattle.tk_plan.specs.steps.Tables.{Follow}
 use Rattle.tk_plan.proofs.Tabling.{plan_follows}
 use Rattle.tk_plan.proofs.Planning.{refuses_as, fault_as, top_fault, node_fault, no_node_fault, trees, too_many, not_many, planned}
 use Rattle.tk_plan.proofs.plan_reading.nodes_of.Goals as goal

@@ -1,7 +1,7 @@
 use Rattle.std.proofs.Common.{subst, sym}
 use Rattle.std.proofs.lemmas.Bool.{false≢true}
 use Rattle.serde_json.specs.View.{view}
-use Rattle.tk_plan.specs.ReadNodes.{IsReadFrom}
+use Rattle.tk_plan.specs.steps.ReadNodes.{IsReadFrom}
 use Rattle.tk_plan.proofs.Values.{value_here, no_value}
 use Rattle.tk_plan.proofs.plan_reading.read_text.Goals as goal
 

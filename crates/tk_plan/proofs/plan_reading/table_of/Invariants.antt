@@ -1,5 +1,5 @@
 use Rattle.std.proofs.Common.{◌≡◌, ◌++◌}
-use Rattle.tk_plan.specs.Tables.{Follow}
+use Rattle.tk_plan.specs.steps.Tables.{Follow}
 use Rattle.tk_plan.proofs.plan_reading.table_of.Given as goal
 
 abbrev pub invariant-loop-descriptor : goal.invariant-loop-descriptor

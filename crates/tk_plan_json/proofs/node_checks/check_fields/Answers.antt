@@ -4,8 +4,8 @@ use Rattle.tk_plan_units.specs.Keys.{note_locks}
 use Rattle.tk_plan_units.specs.Trees.{contents}
 use Rattle.tk_plan_members.specs.Checks.{first}
 use Rattle.tk_plan_json.specs.Verdicts.{id_fault}
-use Rattle.tk_plan_json.specs.Progress.{addition, room_checks}
-use Rattle.tk_plan_json.specs.CodeValues.{seen, json_segment_text}
+use Rattle.tk_plan_json.specs.steps.Progress.{addition, room_checks}
+use Rattle.tk_plan_json.specs.steps.CodeValues.{seen, json_segment_text}
 use Rattle.tk_plan_json.specs.NodeInputs as spec
 use Rattle.tk_plan_json.specs.NodeInputs.{node_of, segment_of}
 use Rattle.tk_plan_json.proofs.CheckSteps.{Passes, faults_also, repeat_fault, id_fault_here, room_verdict, keys_as}

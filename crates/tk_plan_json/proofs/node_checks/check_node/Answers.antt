@@ -1,5 +1,5 @@
 use Rattle.std.proofs.lemmas.Result.{err_from_is_err_and}
-use Rattle.tk_plan_json.specs.CodeValues.{seen}
+use Rattle.tk_plan_json.specs.steps.CodeValues.{seen}
 use Rattle.tk_plan_json.specs.NodeInputs as spec
 use Rattle.tk_plan_json.proofs.CheckSteps.{faults_also, faults_from_path, deep_fault, field_fault}
 use Rattle.tk_plan_members.proofs.ChecksInTurn.{both}

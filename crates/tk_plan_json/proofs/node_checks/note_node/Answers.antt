@@ -1,8 +1,8 @@
 use Rattle.std.proofs.Common.{◌++◌, ◌∷◌, [], ◌≤◌, ◌<◌, length, cond, refl, sym, ap, ◌∙◌, subst}
 use Rattle.tk_plan_units.specs.Keys.{note_locks}
 use Rattle.tk_plan_units.specs.Trees.{contents}
-use Rattle.tk_plan_json.specs.CodeValues.{json_segment_text}
-use Rattle.tk_plan_json.specs.Progress.{addition}
+use Rattle.tk_plan_json.specs.steps.CodeValues.{json_segment_text}
+use Rattle.tk_plan_json.specs.steps.Progress.{addition}
 use Rattle.tk_plan_json.proofs.CheckSteps.{twice_fault, full_fault, resource_fault, no_fault, below_limit, not_false, not_true}
 use Rattle.tk_plan_json.proofs.node_checks.note_node.Goals as goal
 

@@ -8,7 +8,7 @@ use Rattle.tk_plan_members.specs.Rows.{dynamic_row}
 use Rattle.tk_plan_members.specs.declared.json_paths.JsonPath.{JsonPath}
 use Rattle.tk_plan_members.proofs.Passing.{refuses_whole}
 use Rattle.tk_plan_json.proofs.Groups.{passes, stops, dynamic_groups, row_found}
-use Rattle.tk_plan_json.specs.Fields.{AreMembers}
+use Rattle.tk_plan_json.specs.steps.Fields.{AreMembers}
 use Rattle.tk_plan_json.specs.declared.node_members.NodeMembers.{NodeMembers}
 use Rattle.tk_plan_json.proofs.node_fields.dynamic_fields.Goals as goal
 

@@ -7,10 +7,11 @@ use Rattle.tk_plan_units.specs.declared.nodes.NumberedNode.{NumberedNode}
 use Rattle.tk_plan_units.specs.Trees.{contents}
 use Rattle.tk_plan_members.specs.Checks.{item_at, first}
 use Rattle.tk_plan_json.specs.Verdicts.{checks}
-use Rattle.tk_plan_json.specs.Progress.{IsNoted, HasBelow}
+use Rattle.tk_plan_json.specs.Progress.{IsNoted}
+use Rattle.tk_plan_json.specs.steps.Progress.{HasBelow}
 use Rattle.tk_plan_json.specs.NodeInputs as spec
 use Rattle.tk_plan_json.specs.NodeInputs.{node_inputs, node_input, node_inputs_in, segment_in, segment_of, id_of, node_of, grown, below}
-use Rattle.tk_plan_json.specs.CodeValues.{node_at, array_at}
+use Rattle.tk_plan_json.specs.steps.CodeValues.{node_at, array_at}
 use Rattle.tk_plan_json.proofs.CheckSteps.{faults_also, meets_also}
 use Rattle.tk_plan_json.proofs.Going.{Goes, met_next, met_end, goes_next, goes_fault, goes_end, goes_nowhere, node_input_next, check_fault, parts_of, first_fault, second_verdict, both_added, below_verdict, leaf_verdict, leaf_added, node_added, no_values}
 use Rattle.tk_plan_json.proofs.node_reading.+reading.Goals as goal

@@ -1,7 +1,7 @@
 use Rattle.std.proofs.Common.{◌∙◌, sym, ap}
 use Rattle.std.proofs.lemmas.List.{drop_all}
 use Rattle.tk_plan_units.specs.LockNeeds.{over, nodes_ask}
-use Rattle.tk_plan_units.specs.MaskAccess.{access_of_masks}
+use Rattle.tk_plan_units.specs.steps.MaskAccess.{access_of_masks}
 use Rattle.tk_plan_units.specs.Trees.{contents}
 use Rattle.tk_plan_units.proofs.Marking.{over-nothing, none_marked}
 use Rattle.tk_plan_units.proofs.needs.need_of.Goals as goal

@@ -1,6 +1,6 @@
 use Rattle.std.proofs.Common.{◌≡◌, ◌<◌, ℕ, drop}
 use Rattle.tk_plan_units.specs.LockNeeds.{over, nodes_ask}
-use Rattle.tk_plan_units.specs.MaskAccess.{access_of_masks}
+use Rattle.tk_plan_units.specs.steps.MaskAccess.{access_of_masks}
 use Rattle.tk_plan_units.specs.Trees.{contents}
 use Rattle.tk_plan_units.proofs.needs.need_of.Given as goal
 

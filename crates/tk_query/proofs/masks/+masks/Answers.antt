@@ -2,7 +2,7 @@ use Rattle.std.proofs.Common.{true, false, not, map, sym, ap, ◌∙◌}
 use Rattle.std.specs.List.{list_all, list_any}
 use Rattle.std.proofs.lemmas.Result.{err_from_is_err_and}
 use Rattle.tk_query.specs.Holds.{holds}
-use Rattle.tk_query.specs.Rules.{rule_holds}
+use Rattle.tk_query.specs.steps.Rules.{rule_holds}
 use Rattle.tk_query.proofs.AskedLemmas.{map_same}
 use Rattle.tk_query.proofs.HoldsLemmas.{holds-All, holds-Any}
 use Rattle.tk_query.proofs.MaskLemmas.{same_length, all_of_first, any_of_first, mask_first, all_more, any_more, all_done, any_done, if_ok_same, map-map}

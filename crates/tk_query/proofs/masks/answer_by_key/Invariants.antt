@@ -1,6 +1,6 @@
 use Rattle.std.proofs.Common.{◌+◌, ◌-◌}
 use Rattle.std.specs.Vec.{vec_len}
-use Rattle.tk_query.specs.Rules.{AreAnswers}
+use Rattle.tk_query.specs.steps.Rules.{AreAnswers}
 use Rattle.tk_query.proofs.masks.answer_by_key.Given as goal
 
 abbrev pub invariant-loop-answers : goal.invariant-loop-answers

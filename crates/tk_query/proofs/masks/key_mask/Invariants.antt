@@ -1,6 +1,6 @@
 use Rattle.std.proofs.Common.{◌≡◌, take, map}
 use Rattle.std.specs.Prelude.{if◌then◌else◌}
-use Rattle.tk_query.specs.Rules.{key_passes, AreAnswers}
+use Rattle.tk_query.specs.steps.Rules.{key_passes, AreAnswers}
 use Rattle.tk_query.proofs.masks.key_mask.Given as goal
 
 abbrev pub invariant-loop-key : goal.invariant-loop-key

@@ -1,7 +1,7 @@
 use Rattle.std.proofs.Common.{◌≡◌, take, map}
 use Rattle.std.specs.Prelude.{if◌then◌else◌}
 use Rattle.tk_query.specs.declared.rules.Rule.TheVariants.{Payload}
-use Rattle.tk_query.specs.Rules.{rule_holds}
+use Rattle.tk_query.specs.steps.Rules.{rule_holds}
 use Rattle.tk_query.proofs.masks.payload_mask.Given as goal
 
 abbrev pub invariant-loop-position : goal.invariant-loop-position

@@ -1,9 +1,11 @@
 use Rattle.std.proofs.Common.{[], ◌∷◌, Some, None, sym, ap, ◌∙◌}
 use Rattle.tk_query_conditions.specs.declared.partial_texts.Escape.TheVariants.{Outside}
 use Rattle.tk_query_conditions.specs.Cond.{NoPairs, Nothing}
-use Rattle.tk_query_conditions.specs.CondOf.{conds_from, pairs_from}
-use Rattle.tk_query_conditions.specs.Reader.{groups_of, opener_of, text_atom_of}
-use Rattle.tk_query_conditions.specs.Reading.{OpenAll, OpenAny, Word, InText, InKind, InPairs, opened}
+use Rattle.tk_query_conditions.specs.CondOf.{pairs_from}
+use Rattle.tk_query_conditions.specs.steps.CondOf.{conds_from}
+use Rattle.tk_query_conditions.specs.steps.Reader.{groups_of, opener_of, text_atom_of}
+use Rattle.tk_query_conditions.specs.steps.Reading.{OpenAll, OpenAny, Word, InText, InKind, InPairs}
+use Rattle.tk_query_conditions.specs.steps.Reading.{opened}
 use Rattle.tk_query_conditions.proofs.ReaderLemmas.{step_made}
 use Rattle.tk_query_conditions.proofs.readers.after_opener.Goals as goal
 

@@ -1,6 +1,6 @@
 use Rattle.std.proofs.Common.{Some, ◌∙◌}
 use Rattle.tk_query_conditions.specs.CondOf.{cond_of}
-use Rattle.tk_query_conditions.specs.Reader.{groups_of}
+use Rattle.tk_query_conditions.specs.steps.Reader.{groups_of}
 use Rattle.tk_query_conditions.proofs.ReaderLemmas.{after_nothing, after_atom, not_empty, step_made}
 use Rattle.tk_query_conditions.proofs.readers.after_word.Goals as goal
 

@@ -1,7 +1,7 @@
 use Rattle.std.proofs.Common.{[], ◌∷◌, Some, None, if◌then◌else◌, option_map, sym, ap, ◌∙◌}
 use Rattle.tk_query_conditions.specs.CondOf.{cond_of}
-use Rattle.tk_query_conditions.specs.Reader.{group_of, groups_of}
-use Rattle.tk_query_conditions.specs.Reading.{Word, After, close}
+use Rattle.tk_query_conditions.specs.steps.Reader.{group_of, groups_of}
+use Rattle.tk_query_conditions.specs.steps.Reading.{Word, After, close}
 use Rattle.tk_query_conditions.proofs.ReaderLemmas.{popped, close_group, step_made}
 use Rattle.tk_query_conditions.proofs.readers.close.Goals as goal
 

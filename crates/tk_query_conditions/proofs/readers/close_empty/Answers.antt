@@ -1,6 +1,6 @@
 use Rattle.std.proofs.Common.{◌∷◌, Some, option_map, sym, ap, ◌∙◌}
-use Rattle.tk_query_conditions.specs.Reader.{group_of, groups_of, state_of}
-use Rattle.tk_query_conditions.specs.Reading.{After, close_empty}
+use Rattle.tk_query_conditions.specs.steps.Reader.{group_of, groups_of, state_of}
+use Rattle.tk_query_conditions.specs.steps.Reading.{After, close_empty}
 use Rattle.tk_query_conditions.proofs.ReaderLemmas.{popped, close_empty_group}
 use Rattle.tk_query_conditions.proofs.readers.close_empty.Goals as goal
 

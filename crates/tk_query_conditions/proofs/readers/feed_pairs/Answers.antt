@@ -1,8 +1,8 @@
 use Rattle.std.proofs.Common.{Some, None, sym, ap, ◌∙◌, if◌then◌else◌, option_map, arith}
 use Rattle.tk_query_conditions.specs.Cond.{NoPairs}
 use Rattle.tk_query_conditions.specs.CondOf.{pairs_from}
-use Rattle.tk_query_conditions.specs.Reader.{groups_of}
-use Rattle.tk_query_conditions.specs.Reading.{InPairs}
+use Rattle.tk_query_conditions.specs.steps.Reader.{groups_of}
+use Rattle.tk_query_conditions.specs.steps.Reading.{InPairs}
 use Rattle.tk_query_conditions.proofs.ReaderLemmas.{ended_part, step_made, pairs_comma, pairs_close, pairs_go}
 use Rattle.tk_query_conditions.proofs.readers.feed_pairs.Goals as goal
 

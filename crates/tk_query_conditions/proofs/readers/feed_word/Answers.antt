@@ -1,8 +1,9 @@
 use Rattle.std.proofs.Common.{Some, None, sym, ap, ◌∙◌, if◌then◌else◌, arith}
 use Rattle.std.specs.Option.{option_map}
-use Rattle.tk_query_conditions.specs.Reading.{Word, opened, look, bares, openers, is_prefix, after_word}
+use Rattle.tk_query_conditions.specs.steps.Reading.{Word, opened, look, bares, openers, is_prefix}
+use Rattle.tk_query_conditions.specs.steps.Reading.{after_word}
 use Rattle.std.specs.Prelude.{◌||◌}
-use Rattle.tk_query_conditions.specs.Reader.{groups_of}
+use Rattle.tk_query_conditions.specs.steps.Reader.{groups_of}
 use Rattle.tk_query_conditions.proofs.ReaderLemmas.{step_made, word_ends, word_opens, word_goes}
 use Rattle.tk_query_conditions.proofs.readers.feed_word.Goals as goal
 

@@ -1,8 +1,8 @@
 use Rattle.std.proofs.Common.{ℕ, List, length, Some, sym, ap, ◌∙◌, ◌⊎◌, inl, inr, ◌<◌, ◌==◌}
 use Rattle.tk_query_conditions.specs.Cond.{NoPairs, HasPairs}
 use Rattle.tk_query_conditions.specs.CondOf.{pairs_from}
-use Rattle.tk_query_conditions.specs.Reader.{groups_of}
-use Rattle.tk_query_conditions.specs.Reading.{After, last_text}
+use Rattle.tk_query_conditions.specs.steps.Reader.{groups_of}
+use Rattle.tk_query_conditions.specs.steps.Reading.{After, last_text}
 use Rattle.tk_query_conditions.proofs.ReaderLemmas.{pairs_push, last_none, not_empty}
 use Rattle.tk_query_conditions.proofs.readers.last_text.Goals as goal
 use Rattle.tk_query_conditions.proofs.readers.last_text.Goals.{else-is_empty-via-then-is_empty+else-is_empty-2, else-is_empty-via-else-is_empty}

@@ -2,8 +2,8 @@ use Rattle.std.proofs.Common.{[], Some, None, sym, ap, ◌∙◌}
 use Rattle.tk_query_conditions.specs.declared.partial_texts.Escape.TheVariants.{Outside}
 use Rattle.tk_query_conditions.specs.Cond.{NoPairs}
 use Rattle.tk_query_conditions.specs.CondOf.{pairs_from}
-use Rattle.tk_query_conditions.specs.Reader.{groups_of}
-use Rattle.tk_query_conditions.specs.Reading.{InPairs, next_text}
+use Rattle.tk_query_conditions.specs.steps.Reader.{groups_of}
+use Rattle.tk_query_conditions.specs.steps.Reading.{InPairs, next_text}
 use Rattle.tk_query_conditions.proofs.ReaderLemmas.{pairs_push}
 use Rattle.tk_query_conditions.proofs.readers.next_text.Goals as goal
 

@@ -1,6 +1,6 @@
 use Rattle.std.proofs.Common.{[], Some, sym, ap, ◌∙◌}
-use Rattle.tk_query_conditions.specs.Reader.{groups_of}
-use Rattle.tk_query_conditions.specs.Reading.{Word}
+use Rattle.tk_query_conditions.specs.steps.Reader.{groups_of}
+use Rattle.tk_query_conditions.specs.steps.Reading.{Word}
 use Rattle.tk_query_conditions.proofs.ReaderLemmas.{popped}
 use Rattle.tk_query_conditions.proofs.readers.within.Goals as goal
 

@@ -1,7 +1,7 @@
 use Rattle.std.proofs.Common.{◌≡◌, length, Ok, Err, option_map, sym, ap, ◌∙◌, subst, arith}
 use Rattle.tk_query_conditions.specs.declared.faults.CondFault.TheVariants.{BadAtom, Deep}
 use Rattle.tk_query_conditions.specs.Answer.{IsReadAs}
-use Rattle.tk_query_conditions.specs.Reader.{state_of}
+use Rattle.tk_query_conditions.specs.steps.Reader.{state_of}
 use Rattle.tk_query_conditions.proofs.EndLemmas.{HasRead, bad_here, bad_at_end, good_at_end}
 use Rattle.tk_query_conditions.proofs.ReaderLemmas.{IsRead, read_none, read_goes, read_more, read_deep}
 use Rattle.tk_query_conditions.proofs.reading.read_condition.Goals as goal

@@ -1,4 +1,4 @@
-use Rattle.tk_query_conditions.specs.Reader.{state_of}
+use Rattle.tk_query_conditions.specs.steps.Reader.{state_of}
 use Rattle.tk_query_conditions.proofs.ReaderLemmas.{IsRead}
 use Rattle.tk_query_conditions.proofs.reading.read_condition.Given as goal
 

@@ -1,5 +1,5 @@
 use Rattle.std.proofs.Common.{◌≡◌, drop}
-use Rattle.tk_query_conditions.specs.Reading.{kinds, look}
+use Rattle.tk_query_conditions.specs.steps.Reading.{kinds, look}
 use Rattle.tk_query_conditions.proofs.words.kind_named.Given as goal
 
 abbrev pub invariant-loop-kind : goal.invariant-loop-kind

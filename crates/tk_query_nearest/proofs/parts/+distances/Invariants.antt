@@ -1,7 +1,7 @@
 use Rattle.std.proofs.Common.{◌≡◌, take}
 use Rattle.tk_record_columns.specs.Record.{entry_of_view}
 use Rattle.tk_query_conditions.specs.Cond.{All, Nothing}
-use Rattle.tk_query_conditions.specs.CondOf.{conds_from}
+use Rattle.tk_query_conditions.specs.steps.CondOf.{conds_from}
 use Rattle.tk_query_nearest.specs.Parts.{distance}
 use Rattle.tk_query_nearest.proofs.parts.+distances.Given as goal
 

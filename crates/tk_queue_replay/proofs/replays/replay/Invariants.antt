@@ -1,6 +1,7 @@
 use Rattle.std.proofs.Common.{◌≡◌, length, take, map, Some}
 use Rattle.std.specs.Arc.{arc_value}
-use Rattle.tk_queue_replay.specs.Replay.{plays, start, Suits}
+use Rattle.tk_queue_replay.specs.Replay.{plays, start}
+use Rattle.tk_queue_replay.specs.steps.Replay.{Suits}
 use Rattle.tk_queue_replay.proofs.replays.replay.Given as goal
 
 abbrev pub invariant-turns : goal.invariant-turns

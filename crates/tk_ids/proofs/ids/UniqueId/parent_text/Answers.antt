@@ -1,7 +1,7 @@
 use Rattle.std.proofs.Common.{◌≡◌, ◌∙◌, sym, ap, take, subst, arith}
 use Rattle.std.specs.List.{slice_range}
 use Rattle.tk_ids.specs.IdText.{id_text}
-use Rattle.tk_ids.specs.IdSegments.{IsLastSlash}
+use Rattle.tk_ids.specs.steps.IdSegments.{IsLastSlash}
 use Rattle.tk_ids.proofs.ParentLemmas.{above, no_above}
 use Rattle.tk_ids.proofs.ids.UniqueId.parent_text.Goals as goal
 

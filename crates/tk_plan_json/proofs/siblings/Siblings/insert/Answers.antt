@@ -1,8 +1,8 @@
 use Rattle.std.proofs.Common.{◌≡◌, ◌∙◌, not, ap}
 use Rattle.std.specs.List.{list_any}
 use Rattle.tk_ids.specs.IdText.{SegmentView}
-use Rattle.tk_plan_json.specs.SegmentSets.{segments_of}
-use Rattle.tk_plan_json.specs.CodeValues.{json_segment_text}
+use Rattle.tk_plan_json.specs.steps.SegmentSets.{segments_of}
+use Rattle.tk_plan_json.specs.steps.CodeValues.{json_segment_text}
 use Rattle.tk_plan_json.specs.Verdicts.{same_segment}
 use Rattle.tk_plan_json.proofs.Meeting.{any_met}
 use Rattle.tk_plan_json.proofs.siblings.Siblings.insert.Goals as goal

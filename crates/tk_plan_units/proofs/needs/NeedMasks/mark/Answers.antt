@@ -1,6 +1,6 @@
 use Rattle.std.proofs.Common.{sym, ap, ◌∙◌}
 use Rattle.tk_plan_units.specs.LockNeeds.{over, at_resource, access_for}
-use Rattle.tk_plan_units.specs.MaskAccess.{access_of_masks}
+use Rattle.tk_plan_units.specs.steps.MaskAccess.{access_of_masks}
 use Rattle.std.proofs.Common.{Some}
 use Rattle.tk_plan_units.proofs.Marking.{marks_read, marks_write}
 use Rattle.tk_plan_units.proofs.needs.NeedMasks.mark.Goals as goal

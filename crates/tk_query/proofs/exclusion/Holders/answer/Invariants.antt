@@ -1,5 +1,5 @@
 use Rattle.std.proofs.Common.{ℕ, ◌<◌}
-use Rattle.tk_query.specs.Holders.{AreEnds, MeetsNone}
+use Rattle.tk_query.specs.steps.Holders.{AreEnds, MeetsNone}
 use Rattle.tk_query.proofs.exclusion.Holders.answer.Given as goal
 
 abbrev pub invariant-loop-second : goal.invariant-loop-second

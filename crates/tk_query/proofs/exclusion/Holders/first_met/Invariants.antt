@@ -1,5 +1,5 @@
 use Rattle.std.proofs.Common.{◌≡◌, ℕ, ◌<◌, false}
-use Rattle.tk_query.specs.Holders.{meet}
+use Rattle.tk_query.specs.steps.Holders.{meet}
 use Rattle.tk_query.proofs.exclusion.Holders.first_met.Given as goal
 
 abbrev pub invariant-loop-first : goal.invariant-loop-first

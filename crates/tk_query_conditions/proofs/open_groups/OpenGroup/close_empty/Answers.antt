@@ -1,6 +1,6 @@
 use Rattle.std.proofs.Common.{sym, ap, ◌∙◌}
-use Rattle.tk_query_conditions.specs.Reader.{group_of}
-use Rattle.tk_query_conditions.specs.Reading.{closed_empty}
+use Rattle.tk_query_conditions.specs.steps.Reader.{group_of}
+use Rattle.tk_query_conditions.specs.steps.Reading.{closed_empty}
 use Rattle.tk_query_conditions.proofs.ReaderLemmas.{no_items, some_items, empty_All, empty_Any, some_All, some_Any}
 use Rattle.tk_query_conditions.proofs.open_groups.OpenGroup.close_empty.Goals as goal
 

@@ -1,5 +1,5 @@
 use Rattle.std.proofs.Common.{sym, ◌∙◌, arith}
-use Rattle.tk_query_conditions.specs.Reader.{state_of}
+use Rattle.tk_query_conditions.specs.steps.Reader.{state_of}
 use Rattle.tk_query_conditions.proofs.ReaderLemmas.{depth_is, ended_depth}
 use Rattle.std.proofs.lemmas.Bool.{eqb-false}
 use Rattle.tk_query_conditions.proofs.readers.Reader.end.Goals as goal

@@ -1,6 +1,6 @@
 use Rattle.std.proofs.Common.{refl, ap, ◌∙◌}
 use Rattle.std.specs.Prelude.{not}
-use Rattle.tk_query_lifecycle.specs.KeyStates.{is_idle}
+use Rattle.tk_query_lifecycle.specs.steps.KeyStates.{is_idle}
 use Rattle.tk_query_lifecycle.specs.declared.key_states.KeyState.{KeyState}
 use Rattle.tk_query_lifecycle.proofs.NeverRanLemmas.{where_it_ran, with_parent, without_parent}
 use Rattle.tk_query_lifecycle.proofs.progress.Progress.never_ran.Goals as goal

@@ -1,6 +1,6 @@
 use Rattle.std.proofs.Common.{◌≡◌, ◌∙◌, List, [], ◌∷◌, length, map, refl, sym, ap, subst, append-nil, arith}
 use Rattle.std.specs.Vec.Iter.{into_iter_items}
-use Rattle.tk_queue_session.specs.Tokens.{pass_of_token}
+use Rattle.tk_queue_session.specs.steps.Tokens.{pass_of_token}
 use Rattle.tk_queue_session.specs.PassViews.{IsReader, pass_of_receiver}
 use Rattle.tk_queue_session.specs.SessionRule.{Concludes}
 use Rattle.tk_queue_session.proofs.Closing.{mixes, ends_with_marks}

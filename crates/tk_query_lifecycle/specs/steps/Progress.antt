@@ -38,16 +38,8 @@ use Rattle.tk_query_lifecycle.specs.Lifecycle.{
   runs,
 }
 use Rattle.tk_query_lifecycle.specs.NeverRan.{EachChildRuns, IsFirstNeverRun, NeverRuns}
-use Rattle.tk_query_lifecycle.specs.KeyStates.{
-  key_under,
-  ArePut,
-  IsCounted,
-  advanced,
-  is_running,
-  refusal,
-  running_child,
-  state_of,
-}
+use Rattle.tk_query_lifecycle.specs.steps.KeyStates.{key_under, ArePut, IsCounted, advanced}
+use Rattle.tk_query_lifecycle.specs.steps.KeyStates.{is_running, refusal, running_child, state_of}
 use Rattle.tk_query_lifecycle.specs.declared.lifecycle_rules.LifecycleRule.{LifecycleRule}
 use Rattle.tk_query_lifecycle.specs.declared.lifecycle_rules.LifecycleRule.TheVariants.{
   ParentUnknown,

@@ -16,7 +16,8 @@ use Rattle.tk_query_conditions.specs.declared.readers.PartialPairs.{PartialPairs
 use Rattle.tk_query_conditions.specs.declared.readers.Position.{Position}
 use Rattle.tk_query_conditions.specs.declared.readers.Position.TheVariants as positions
 use Rattle.tk_query_conditions.specs.declared.readers.Reader.{Reader}
-use Rattle.tk_query_conditions.specs.Characters.{percent, digit_two}
+use Rattle.tk_query_conditions.specs.Characters.{percent}
+use Rattle.tk_query_conditions.specs.steps.Characters.{digit_two}
 use Rattle.tk_query_conditions.specs.Cond.{
   TextAtom,
   Id,
@@ -28,26 +29,11 @@ use Rattle.tk_query_conditions.specs.Cond.{
   NoPairs,
   Nothing,
 }
-use Rattle.tk_query_conditions.specs.CondOf.{cond_of, conds_from, pairs_from}
-use Rattle.tk_query_conditions.specs.Reading.{
-  OpenGroup,
-  OpenNot,
-  OpenAll,
-  OpenAny,
-  Opener,
-  OfText,
-  OfKinds,
-  OfPairs,
-  OfAll,
-  OfAny,
-  OfNot,
-  State,
-  Word,
-  InText,
-  InKind,
-  InPairs,
-  After,
-}
+use Rattle.tk_query_conditions.specs.CondOf.{cond_of, pairs_from}
+use Rattle.tk_query_conditions.specs.steps.CondOf.{conds_from}
+use Rattle.tk_query_conditions.specs.steps.Reading.{OpenGroup, OpenNot, OpenAll, OpenAny, Opener}
+use Rattle.tk_query_conditions.specs.steps.Reading.{OfText, OfKinds, OfPairs, OfAll, OfAny, OfNot}
+use Rattle.tk_query_conditions.specs.steps.Reading.{State, Word, InText, InKind, InPairs, After}
 
 abbrev pub text_atom_of : text_atom.TextAtom → TextAtom
 text_atom_of text_atoms.Id = Id

@@ -5,7 +5,7 @@ use Rattle.tk_plan_units.specs.Planned.{IsPlanned}
 use Rattle.tk_plan_units.specs.Trees.{Tree, flat}
 use Rattle.tk_plan_json.specs.Progress.{IsNoted}
 use Rattle.tk_plan_members.specs.Refusals.{IsFault}
-use Rattle.tk_plan.specs.Tables.{Follow}
+use Rattle.tk_plan.specs.steps.Tables.{Follow}
 use Rattle.tk_plan_members.specs.declared.faults.PlanFault.{PlanFault}
 use Rattle.tk_plan_json.specs.declared.read_nodes.ReadNodes.{ReadNodes}
 

@@ -24,7 +24,7 @@ use Rattle.tk_queue_session.specs.Limits.{capacity_of}
 use Rattle.tk_engine_execute.specs.declared.event_collectors.EventCollector.{EventCollector}
 use Rattle.tk_engine_execute.specs.declared.prepared_runs.PreparedRun.{PreparedRun}
 use Rattle.tk_engine_execute.specs.Engines.{AreOfWorkerZero}
-use Rattle.tk_engine_execute.specs.Workers.{shared_parts, AreUnstarted}
+use Rattle.tk_engine_execute.specs.steps.Workers.{shared_parts, AreUnstarted}
 
 -- a number of workers that a run may have
 pub record IsWorkerCount (workers : ℕ) : Type 0 where

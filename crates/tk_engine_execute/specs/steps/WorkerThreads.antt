@@ -2,14 +2,9 @@
 use Rattle.std.specs.Prelude.{◌≡◌, ℕ, ◌<◌, ◌≤◌, true, false, vec_len, vec_capacity}
 use Rattle.tk_engine_execute.specs.declared.unstarted_workers.UnstartedWorkers.{UnstartedWorkers}
 use Rattle.tk_engine_execute.specs.declared.worker_threads.Collected.{Collected}
-use Rattle.tk_engine_execute.specs.EventCollectors.{TookMore, CanCollect, NoneIsAwaited}
-use Rattle.tk_engine_execute.specs.Workers.{
-  SharedParts,
-  RunUnits,
-  AreUnstarted,
-  AllDone,
-  AreDone,
-}
+use Rattle.tk_engine_execute.specs.steps.EventCollectors.{TookMore, CanCollect, NoneIsAwaited}
+use Rattle.tk_engine_execute.specs.steps.Workers.{SharedParts, RunUnits, AreUnstarted, AllDone}
+use Rattle.tk_engine_execute.specs.steps.Workers.{AreDone}
 
 -- no worker was joined yet, and there is room for the end of each
 pub record CanRunWorkers (shared : SharedParts) (c : UnstartedWorkers) (t : Collected)

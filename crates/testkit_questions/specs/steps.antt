@@ -1,0 +1,4 @@
+pub mod Questions
+pub mod Requests
+pub mod Replies
+pub mod Asked

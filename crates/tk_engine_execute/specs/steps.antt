@@ -1,0 +1,5 @@
+pub mod EventCollectors
+pub mod Outcomes
+pub mod PreparedRuns
+pub mod WorkerThreads
+pub mod Workers

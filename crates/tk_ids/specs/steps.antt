@@ -1,0 +1,5 @@
+pub mod Scanning
+pub mod IdSegments
+pub mod LentSegments
+pub mod Answer
+pub mod Table

@@ -1,0 +1,4 @@
+pub mod Fields
+pub mod SegmentSets
+pub mod CodeValues
+pub mod Progress

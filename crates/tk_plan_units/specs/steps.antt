@@ -1,0 +1,5 @@
+pub mod Trees
+pub mod Script
+pub mod Weights
+pub mod MaskAccess
+pub mod CuttingSteps

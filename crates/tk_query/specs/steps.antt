@@ -1,0 +1,3 @@
+pub mod Rules
+pub mod Asked
+pub mod Holders

@@ -1,0 +1,2 @@
+pub mod KeyStates
+pub mod Progress

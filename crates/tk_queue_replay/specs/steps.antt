@@ -1,0 +1,4 @@
+pub mod Replay
+pub mod Script
+pub mod ReplayText
+pub mod Reading
