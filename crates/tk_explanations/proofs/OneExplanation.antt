@@ -1,5 +1,5 @@
 -- The same events and the same conditions have one explanation.
-use Rattle.std.proofs.Common.{◌≡◌, ℕ, suc, ◌+◌, ◌<◌, ◌≤◌, ◌⊎◌, Bool, true, false, List, [], ◌∷◌, ◌++◌, length, take, Some, None, Option, refl, sym, ap, ap₂, ◌∙◌, subst, arith, inl, inr, ⊎_elim}
+use Rattle.std.proofs.Common.{◌≡◌, ℕ, suc, ◌+◌, ◌<◌, ◌≤◌, Bool, List, [], ◌∷◌, ◌++◌, length, take, Some, None, Option, refl, sym, ap, ap₂, ◌∙◌, subst, arith, ⊎_elim}
 use Rattle.std.specs.Prelude.{codes}
 use Rattle.std.specs.List.{flat_map}
 use Rattle.std.proofs.lemmas.Bool.{cases_lt, true≢false}
@@ -19,9 +19,8 @@ use Rattle.tk_query.specs.declared.execution.Execution.{Execution}
 use Rattle.tk_query.specs.AnswerTexts.{exact_text, exact_yes, exclusive_text, exclusive_yes, in_order_text, in_order_yes, loose_text, loose_yes, position_text}
 use Rattle.tk_query.specs.Asked.{fits}
 use Rattle.tk_query.specs.ExecutionSteps.{step_at}
-use Rattle.tk_query.specs.InOrder.{HasNoFit, HoldInTurn, IsLeastInTurn, IsNextFit, IsNotAfter}
+use Rattle.tk_query.specs.InOrder.{HoldInTurn, IsLeastInTurn, IsNextFit, IsNotAfter}
 use Rattle.tk_query.specs.Laws.{AreAlike}
-use Rattle.tk_query.specs.Matches.{IsInOrder}
 use Rattle.tk_query.proofs.AnswerIsUnique.{one_exact, one_exclusive, one_in_order, one_list, one_loose}
 use Rattle.tk_query.proofs.ExclusionLemmas.{one_span}
 use Rattle.tk_query_nearest.specs.Nearness.{IsNearest}

@@ -1,5 +1,5 @@
 -- Where conditions hold in turn no further.
-use Rattle.std.proofs.Common.{◌≡◌, ℕ, zero, suc, ◌+◌, ◌<◌, ◌≤◌, Bool, true, false, List, [], ◌∷◌, length, take, get_or, add-one, ◌++◌, Some, None, MatchOption, Option, refl, sym, ap, ap₂, ◌∙◌, subst, arith, ⊎_elim}
+use Rattle.std.proofs.Common.{◌≡◌, ℕ, zero, suc, ◌+◌, ◌<◌, ◌≤◌, Bool, true, false, List, [], ◌∷◌, length, take, add-one, ◌++◌, Some, None, MatchOption, Option, sym, ap, ap₂, ◌∙◌, subst, arith, ⊎_elim}
 use Rattle.std.specs.List.{slice_get, last_or}
 use Rattle.std.specs.Option.{ForSome}
 use Rattle.std.proofs.lemmas.Bool.{cases_lt, true≢false}
@@ -9,7 +9,7 @@ use Rattle.tk_record_columns.specs.Recorded.{Recorded}
 use Rattle.tk_record_columns.specs.Selections.{Selected}
 use Rattle.tk_query_conditions.specs.declared.conditions.Condition.{Condition}
 use Rattle.tk_query.specs.Asked.{fits}
-use Rattle.tk_query.specs.InOrder.{CanHoldInTurn, HasNoFit, HoldInTurn, IsFirstStuck, IsLeastInTurn}
+use Rattle.tk_query.specs.InOrder.{CanHoldInTurn, HoldInTurn, IsFirstStuck, IsLeastInTurn}
 use Rattle.tk_query.proofs.AskedLemmas.{AreFlags, fits_clear}
 use Rattle.tk_query_nearest.specs.Nearness.{IsNearest}
 use Rattle.tk_query_conditions.specs.CondOf.{cond_of}
@@ -61,10 +61,6 @@ last_fits asked cs ps o turn is = subst (λ (u : Option ℕ). ForSome u (FitsSom
 pub record IsLastSoFar (asked : Selected) (c : Condition) (low : ℕ) (last : Option ℕ) : Type 0 where
   pub next : low ≡ after last
   pub fit : MatchOption last (Unit {0}) (λ p. fits asked c p ≡ true)
-
-pub last_all : (asked : Selected) (c : Condition) (low : ℕ) (last : Option ℕ) → IsLastSoFar asked c low last → HasNoFit (fits asked) c low → IsLastFit asked c last
-last_all asked c low None h none = subst (HasNoFit (fits asked) c) h.next none
-last_all asked c low (Some p) h none = (h.fit, subst (HasNoFit (fits asked) c) h.next none)
 
 -- the rows that are added where conditions are stuck
 pub stuck_added :

@@ -1,8 +1,7 @@
 -- Conditions beside the events in their places.
-use Rattle.std.proofs.Common.{◌≡◌, ℕ, zero, suc, ◌+◌, ◌<◌, ◌≤◌, Bool, true, false, List, [], ◌∷◌, length, drop, add-one, zero-add, Option, Some, None, MatchOption, refl, sym, ap, ◌∙◌, subst, arith}
+use Rattle.std.proofs.Common.{◌≡◌, ℕ, zero, suc, ◌+◌, ◌≤◌, Bool, true, false, List, [], ◌∷◌, length, drop, add-one, zero-add, Option, Some, MatchOption, refl, sym, ap, ◌∙◌, subst, arith}
 use Rattle.std.specs.Prelude.{if◌then◌else◌}
 use Rattle.std.specs.List.{slice_get}
-use Rattle.std.proofs.lemmas.Bool.{true≢false}
 use Rattle.std.proofs.lemmas.Option.{none-some, same_Some}
 use Rattle.tk_lanes.specs.Flags.{IsNextSet, IsNoneSet}
 use Rattle.tk_events.specs.declared.events.Entry.{Entry}
@@ -15,7 +14,6 @@ use Rattle.tk_query.proofs.MatchLemmas.{IsNextKept, kept_from, next_kept, none_k
 use Rattle.tk_explanations.specs.MatchRows.{condition_row, lacking_row}
 use Rattle.tk_explanations.specs.Matches.{unlike_rows}
 use Rattle.tk_explanations.specs.declared.rows.Note.TheVariants.{Nothing}
-use Rattle.tk_explanations.specs.declared.rows.Row.{Row}
 use Rattle.tk_explanations.specs.declared.rows.Row.TheVariants as row
 use Rattle.tk_explanations.proofs.RowLemmas.{dropped_all, dropped_at}
 

@@ -16,7 +16,6 @@ use Rattle.std.specs.Prelude.{
   Some,
   None,
   slice_get,
-  MatchOption,
 }
 use Rattle.std.specs.List.{last_or}
 use Rattle.tk_record_columns.specs.Recorded.{Recorded}
@@ -60,7 +59,8 @@ unlike_rows r k [] (x ∷ xs) = Event x.position Nothing ∷ []
 unlike_rows r k (c ∷ cs) [] = condition_row k c ∷ NoneLeft ∷ []
 unlike_rows r k [] [] = []
 
--- what is said below the answer of the exact matcher
+-- What is said below the answer of the exact matcher. At `No k` the first condition that doesn't
+-- hold of its event is the k-th.
 abbrev pub exact_rows : Selected → List Condition → Exact → List Row
 exact_rows asked cs exact.Yes = found_rows 0 cs (positions_of asked)
 exact_rows asked cs exact.WrongCount =
@@ -110,11 +110,10 @@ ExplainsLoosely asked cs = AsText (IsLooseExplanation asked cs) asked.recorded
 
 -- the last position at which an event asked stands of which the condition holds, if there is one
 abbrev pub IsLastFit : Selected → Condition → Option ℕ → Type 0
-IsLastFit asked c last =
-    MatchOption last (HasNoFit (fits asked) c 0) (λ p.
-    (fits asked c p ≡ true) × HasNoFit (fits asked) c (p + 1))
+IsLastFit asked c None = HasNoFit (fits asked) c 0
+IsLastFit asked c (Some p) = (fits asked c p ≡ true) × HasNoFit (fits asked) c (p + 1)
 
--- the last of the positions, if there is one
+-- the last of some positions, if there is one
 abbrev pub last_of : List ℕ → Option ℕ
 last_of positions = last_or None positions
 
@@ -123,13 +122,13 @@ abbrev pub after : Option ℕ → ℕ
 after None = 0
 after (Some p) = p + 1
 
--- an event of which a condition holds, but which doesn't stand after the last event found
+-- the row of an event of which a condition holds, but which isn't after the last event found
 abbrev pub early_rows : Option ℕ → Option ℕ → List Row
 early_rows (Some found) (Some p) = Event p (NotAfter found) ∷ []
 early_rows _ _ = []
 
--- The conditions before the k-th one with the events found for them; condition k; the last event of
--- which it holds, none of which stands after the last event found; and the nearest after that.
+-- The conditions before the k-th one with the events found for them; condition k; the last event
+-- of which it holds, which isn't after the last one found; and the nearest events after that.
 pub record AreStuckRows (asked : Selected) (cs : List Condition) (k : ℕ) (rows : List Row) :
     Type 0 where
   pub condition : Condition
