@@ -71,7 +71,8 @@ abbrev pub has_id_text : List ℕ → Option Descriptor → Bool
 has_id_text text None = false
 has_id_text text (Some d) = bytes_eq (id_text d.id) text
 
--- whether there is a descriptor, and its id without the last segment has this text
+-- Whether there is a descriptor, and its id without the last segment has this text. The text is
+-- empty where the id has one segment, and no id has the empty text.
 abbrev pub has_parent_text : List ℕ → Option Descriptor → Bool
 has_parent_text text None = false
 has_parent_text text (Some d) = bytes_eq (id_text (parent_of d.id)) text
