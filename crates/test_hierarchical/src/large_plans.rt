@@ -1,4 +1,4 @@
-//! Plans at their limits, whose tests have bodies: none is given up before its end.
+//! Large plans, whose tests have bodies: none is given up before its end.
 use crate::bodies::seen;
 use crate::planned::Silent;
 use std::alloc::{AllocError, Global};
@@ -116,22 +116,22 @@ fn of_tests<R: Threads + Wait + Sync>(
 }
 
 #[test]
-fn as_many_static_nodes_as_may_be(rt: HostRuntime) {
-    let of_one_unit = of_tests(&rt, rt.alloc(), 65_535, Below::Tests);
-    assert!(rt; of_one_unit == Some(all_succeed(65_536)));
+fn many_static_nodes(rt: HostRuntime) {
+    let of_one_unit = of_tests(&rt, rt.alloc(), 10_000, Below::Tests);
+    assert!(rt; of_one_unit == Some(all_succeed(10_001)));
 }
 
 #[test]
-fn as_many_units_as_may_be(rt: HostRuntime) {
-    let of_units = of_tests(&rt, rt.alloc(), 65_535, Below::Units);
-    assert!(rt; of_units == Some(all_succeed(65_536)));
+fn many_units(rt: HostRuntime) {
+    let of_units = of_tests(&rt, rt.alloc(), 10_000, Below::Units);
+    assert!(rt; of_units == Some(all_succeed(10_001)));
 }
 
 #[test]
-fn as_many_dynamic_nodes_as_may_be(rt: HostRuntime) {
-    let of_dynamic = of_tests(&rt, rt.alloc(), 65_536, Below::Dynamic);
-    let mut expected = all_succeed(65_537);
-    expected.dynamic = 65_536;
+fn many_dynamic_nodes(rt: HostRuntime) {
+    let of_dynamic = of_tests(&rt, rt.alloc(), 10_000, Below::Dynamic);
+    let mut expected = all_succeed(10_001);
+    expected.dynamic = 10_000;
     assert!(rt; of_dynamic == Some(expected));
 }
 
@@ -151,9 +151,9 @@ fn of_entries<R: Threads + Wait + Sync>(rt: &R, alloc: Global, count: u32) -> Op
 #[test]
 fn many_entries_and_files(rt: HostRuntime) {
     let mut expected = all_succeed(1);
-    expected.reporting = 100_000;
-    expected.files = 100_000;
-    assert!(rt; of_entries(&rt, rt.alloc(), 100_000) == Some(expected));
+    expected.reporting = 10_000;
+    expected.files = 10_000;
+    assert!(rt; of_entries(&rt, rt.alloc(), 10_000) == Some(expected));
 }
 
 // A skipped container with so many tests below it, and a test after it.
@@ -170,5 +170,5 @@ fn of_skipped<R: Threads + Wait + Sync>(rt: &R, alloc: Global, count: u32) -> Op
 fn a_test_after_a_skipped_container(rt: HostRuntime) {
     let mut expected = all_succeed(2);
     expected.skipped = 1;
-    assert!(rt; of_skipped(&rt, rt.alloc(), 60_000) == Some(expected));
+    assert!(rt; of_skipped(&rt, rt.alloc(), 5_000) == Some(expected));
 }
