@@ -1,5 +1,6 @@
 pub mod Characters
 pub mod Questions
+pub mod Conditions
 pub mod Answers
 pub mod Replies
 pub mod Asked

@@ -3,6 +3,7 @@
 
 mod answers;
 mod asking;
+mod conditions;
 mod execution_lines;
 mod expectations;
 mod fault_texts;
@@ -12,6 +13,7 @@ mod questions;
 mod replies;
 
 pub use asking::ask;
+pub use conditions::{ConditionsFault, read_conditions};
 pub use fault_texts::AskFaultText;
 pub use faults::AskFault;
 pub use questions::{Mode, Overview, Question, read_question};
