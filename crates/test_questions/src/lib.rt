@@ -8,6 +8,8 @@ mod devices;
 #[cfg(test)]
 mod executions;
 #[cfg(test)]
+mod explained_matches;
+#[cfg(test)]
 mod explanations;
 #[cfg(test)]
 mod faults;

@@ -1,5 +1,5 @@
 -- Rows that were written explain an answer.
-use Rattle.std.proofs.Common.{◌≡◌, ℕ, Bool, List, refl, ap, sym, subst}
+use Rattle.std.proofs.Common.{◌≡◌, ℕ, Bool, List, ap, sym, subst}
 use Rattle.std.specs.Prelude.{Option, Result, Ok, Err}
 use Rattle.tk_record_columns.specs.Recorded.{Recorded}
 use Rattle.tk_explanations.specs.Explained.{IsExplained, IsWritten}

@@ -1,3 +1,8 @@
 mod Explaining
 mod Spans
 mod PieceRows
+mod RowLemmas
+mod UnlikeLemmas
+mod FirstFits
+mod Stuck
+pub mod OneExplanation

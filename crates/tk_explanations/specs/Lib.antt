@@ -4,3 +4,6 @@ pub mod Explained
 pub mod Lists
 pub mod Listing
 pub mod Collisions
+pub mod MatchRows
+pub mod Matches
+pub mod Laws

@@ -1,4 +1,3 @@
-use Rattle.std.proofs.Common.{ap}
 use Rattle.tk_explanations.specs.Collisions.{IsExclusiveExplanation}
 use Rattle.tk_explanations.proofs.Explaining.{explained}
 use Rattle.tk_explanations.proofs.collisions.explain_exclusive.Goals as goal

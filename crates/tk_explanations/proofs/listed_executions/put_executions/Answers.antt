@@ -1,4 +1,4 @@
-use Rattle.std.proofs.Common.{ap, sym, ◌∙◌}
+use Rattle.std.proofs.Common.{ap, sym}
 use Rattle.std.specs.List.{flat_map}
 use Rattle.tk_streams.proofs.PieceLemmas.{adds_as, adds_both, adds_none}
 use Rattle.tk_explanations.specs.Lists.{listed_execution}

@@ -1,4 +1,4 @@
-use Rattle.std.proofs.Common.{◌++◌, ◌∷◌, [], List, ℕ, ap, ◌∙◌}
+use Rattle.std.proofs.Common.{◌∷◌, [], ap, ◌∙◌}
 use Rattle.tk_streams.proofs.PieceLemmas.{adds_as}
 use Rattle.tk_ids.specs.IdText.{id_text}
 use Rattle.tk_events.specs.Fields.{field_text}

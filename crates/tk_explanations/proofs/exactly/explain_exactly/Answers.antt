@@ -1,0 +1,8 @@
+use Rattle.tk_explanations.specs.Matches.{IsExactExplanation}
+use Rattle.tk_explanations.proofs.Explaining.{explained}
+use Rattle.tk_explanations.proofs.exactly.explain_exactly.Goals as goal
+
+pub returns-clause-written : goal.returns-clause-written
+returns-clause-written g c =
+    explained (IsExactExplanation c.args.events.now c.args.conditions.now) c.args.events.now.recorded c.«record».result.now c.in_ok-explanation.explanation.is_yes c.in_ok-explanation.explanation.rows.items
+    (g.T.Target.contents c.args.target.now) (g.T.Target.contents c.write.new.target) c.write.result c.«record».ensures c.in_ok-explanation.ensures c.write.ensures.written

@@ -1,0 +1,39 @@
+//! What the definitions of the explanations imply.
+ghost use Rattle.std.specs.Prelude.{List};
+ghost use Rattle.tk_record_columns.specs.Selections.{Selected};
+ghost use Rattle.tk_query_conditions.specs.declared.conditions.Condition.{Condition};
+ghost use Rattle.tk_explanations.specs.Collisions.{ExplainsExclusive};
+ghost use Rattle.tk_explanations.specs.Laws.{IsUnique};
+ghost use Rattle.tk_explanations.specs.Lists.{ExplainsExecutions, ExplainsList};
+ghost use Rattle.tk_explanations.specs.Matches.{ExplainsExactly, ExplainsInOrder, ExplainsLoosely};
+
+/// The same events and conditions have one explanation of an exact match.
+pub fn exactly_is_unique()
+    ensures { (asked : Selected) (cs : List Condition) → IsUnique (ExplainsExactly asked cs) }
+{}
+
+/// The same events and conditions have one explanation of a loose match.
+pub fn loosely_is_unique()
+    ensures { (asked : Selected) (cs : List Condition) → IsUnique (ExplainsLoosely asked cs) }
+{}
+
+/// The same events and conditions have one explanation of a match in order.
+pub fn in_order_is_unique()
+    ensures { (asked : Selected) (cs : List Condition) → IsUnique (ExplainsInOrder asked cs) }
+{}
+
+/// The same events have one list of lines.
+pub fn list_is_unique()
+    ensures { (asked : Selected) → IsUnique (ExplainsList asked) }
+{}
+
+/// The same events have one list of lines of executions.
+pub fn executions_is_unique()
+    ensures { (asked : Selected) → IsUnique (ExplainsExecutions asked) }
+{}
+
+/// The same events and conditions have one explanation whether executions kept apart.
+pub fn exclusive_is_unique()
+    ensures { (asked : Selected) (writers readers : Condition)
+        → IsUnique (ExplainsExclusive asked writers readers) }
+{}
