@@ -1,10 +1,13 @@
 //! Questions about a record: conditions, matchers, executions, which of them overlap, lifecycle, and
 //! what `ask` answers.
 pub use testkit_questions::{
-    AskFault, AskFaultText, Explainable, Mode, Overview, Question, Request, ask, read_question,
-    read_request,
+    AskFault, AskFaultText, ConditionsFault, Explainable, Mode, Overview, Question, Request, ask,
+    read_conditions, read_question, read_request,
 };
-pub use tk_explanations::{ExplainFault, explain_exclusive, explain_executions, explain_list};
+pub use tk_explanations::{
+    ExplainFault, explain_exactly, explain_exclusive, explain_executions, explain_in_order,
+    explain_lifecycle, explain_list, explain_loosely,
+};
 pub use tk_query::{
     CondFault, Condition, ENDING_NAME, Ending, Exact, Exclusive, Execution, ExecutionIter,
     Executions, InOrder, Lifecycle, LifecycleRule, Loose, MAX_DEPTH, exclusive, executions, find,

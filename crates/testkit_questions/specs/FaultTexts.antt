@@ -7,6 +7,8 @@ use Rattle.tk_query_conditions.specs.FaultTexts.{condition_fault_text}
 use Rattle.tk_record.specs.FaultTexts.{read_fault_text}
 use Rattle.testkit_questions.specs.declared.faults.AskFault.{AskFault}
 use Rattle.testkit_questions.specs.declared.faults.AskFault.TheVariants as asks
+use Rattle.testkit_questions.specs.declared.conditions.ConditionsFault.{ConditionsFault}
+use Rattle.testkit_questions.specs.declared.conditions.ConditionsFault.TheVariants as several
 
 -- why the word of this number is no condition
 abbrev pub condition_text : ℕ → CondFault → List ℕ
@@ -21,3 +23,7 @@ ask_fault_text (asks.Condition word fault) = condition_text word fault
 ask_fault_text (asks.Read fault) = read_fault_text fault
 ask_fault_text asks.Device = codes "device failed"
 ask_fault_text asks.Memory = codes "out of memory"
+
+abbrev pub conditions_fault_text : ConditionsFault → List ℕ
+conditions_fault_text (several.Condition number fault) = condition_text number fault
+conditions_fault_text several.Memory = codes "out of memory"

@@ -2,6 +2,7 @@ pub mod Characters
 pub mod Questions
 pub mod Explainables
 pub mod Requests
+pub mod Conditions
 pub mod Answers
 pub mod Explanations
 pub mod Asked

@@ -7,8 +7,8 @@ use crate::faults::AskFault;
 use std::fmt;
 use tk_query::CondFault;
 
-// Writes why the word of this number is no condition.
-fn write_condition_fault<W: fmt::Write>(
+/// Writes why the word of this number is no condition.
+pub(crate) fn write_condition_fault<W: fmt::Write>(
     word: usize,
     fault: &CondFault,
     f: &mut fmt::Formatter<W>,

@@ -3,6 +3,7 @@
 
 mod answers;
 mod asking;
+mod conditions;
 mod execution_lines;
 mod expectations;
 mod explanations;
@@ -14,6 +15,7 @@ mod replies;
 mod requests;
 
 pub use asking::ask;
+pub use conditions::{ConditionsFault, read_conditions};
 pub use fault_texts::AskFaultText;
 pub use faults::AskFault;
 pub use questions::{Explainable, Mode, Overview, Question, read_question};
