@@ -7,7 +7,8 @@ use Rattle.tk_query_conditions.specs.Answer.{IsReadAs}
 use Rattle.testkit_questions.specs.declared.conditions.ConditionsFault.{ConditionsFault}
 use Rattle.testkit_questions.specs.declared.conditions.ConditionsFault.TheVariants as faults
 use Rattle.testkit_questions.specs.Questions.{AreConditions}
-use Rattle.testkit_questions.specs.Conditions.{IsConditionsFault, IsTextFault, texts_of}
+use Rattle.testkit_questions.specs.Conditions.{IsConditionsFault, texts_of}
+use Rattle.testkit_questions.specs.steps.Conditions.{IsTextFault}
 use Rattle.testkit_questions.proofs.WordLemmas.{conditions_more, text_at, texts_more}
 
 -- an item within a list doesn't depend on the default

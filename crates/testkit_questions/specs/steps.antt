@@ -2,3 +2,4 @@ pub mod Questions
 pub mod Requests
 pub mod Replies
 pub mod Asked
+pub mod Conditions
