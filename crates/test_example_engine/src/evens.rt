@@ -9,6 +9,7 @@ use std::test::Fail;
 fn four_is_even_and_five_is_odd(rt: HostRuntime) -> Result<(), Fail> {
     let alloc = rt.alloc();
     let results = execute(&rt, alloc, &even_numbers(alloc)?, 1, 16)?;
+    let events = results.all_events(alloc)?;
     let expected = [
         "all(engine,started)",
         "all(started,id([engine:even]/[number:4]),name(four))",
@@ -17,5 +18,5 @@ fn four_is_even_and_five_is_odd(rt: HostRuntime) -> Result<(), Fail> {
         "all(failed(odd),name(five))",
         "all(engine,succeeded)",
     ];
-    assert_matches(&rt, alloc, Mode::Exactly, &results.all_events(alloc)?, &expected)
+    assert_matches(&rt, alloc, Mode::Exactly, &events, &expected)
 }
