@@ -1,38 +1,38 @@
 -- Conditions that say the same have the same explanations.
-use Rattle.std.proofs.Common.{◌≡◌, ℕ, zero, suc, ◌+◌, ◌++◌, ◌∷◌, [], Bool, true, false, cond, List, map, take, length, Option, Some, None, refl, sym, ap, ap₂, subst, ◌∙◌}
+use Rattle.std.proofs.Common.{◌≡◌, ℕ, ◌+◌, ◌++◌, ◌∷◌, [], Bool, cond, List, map, take, Option, Some, None, refl, sym, ap₂, subst, ◌∙◌}
 use Rattle.std.specs.List.{slice_get}
 use Rattle.tk_events.specs.declared.events.Entry.{Entry}
 use Rattle.tk_record_columns.specs.Recorded.{Recorded}
 use Rattle.tk_record_columns.specs.Selections.{PositionedEntry, Selected, positions_of}
 use Rattle.tk_query_conditions.specs.declared.conditions.Condition.{Condition}
-use Rattle.tk_query_conditions.specs.Cond.{Cond, cond_text}
+use Rattle.tk_query_conditions.specs.Cond.{Cond}
 use Rattle.tk_query_conditions.specs.CondOf.{cond_of}
-use Rattle.tk_query.specs.AnswerTexts.{exact_text, in_order_text, loose_text}
 use Rattle.tk_query.specs.Asked.{fits}
-use Rattle.tk_query.specs.Holds.{holds}
-use Rattle.tk_query.specs.InOrder.{HasNoFit, IsLeastInTurn, IsNextFit}
+use Rattle.tk_query.specs.InOrder.{HasNoFit, IsNextFit}
 use Rattle.tk_query.specs.declared.answers.Exact.{Exact}
 use Rattle.tk_query.specs.declared.answers.Exact.TheVariants as exact
-use Rattle.tk_query.specs.declared.answers.Loose.{Loose}
 use Rattle.tk_query.specs.declared.answers.Loose.TheVariants as loose
-use Rattle.tk_query.specs.declared.answers.InOrder.{InOrder}
 use Rattle.tk_query.specs.declared.answers.InOrder.TheVariants as in_order
-use Rattle.tk_query_nearest.specs.Members.{lacking_text}
 use Rattle.tk_query_nearest.specs.Nearness.{IsNearest}
 use Rattle.tk_explanations.specs.MatchRows.{condition_row, found_rows, lacking_row, lacks, near_rows}
-use Rattle.tk_explanations.specs.Matches.{AreFirstFits, AreInOrderRows, AreLooseRows, AreStuckRows, ExplainsExactly, ExplainsInOrder, ExplainsLoosely, IsLastFit, after, early_rows, exact_rows, last_of, unlike_rows}
+use Rattle.tk_explanations.specs.Matches.{AreFirstFits, ExplainsExactly, ExplainsInOrder, ExplainsLoosely, IsLastFit, after, early_rows, exact_rows, last_of, unlike_rows}
 use Rattle.tk_explanations.specs.Collisions.{ExplainsExclusive}
-use Rattle.tk_explanations.specs.declared.rows.Note.{Note}
-use Rattle.tk_explanations.specs.declared.rows.Note.TheVariants.{Nothing, Lacks}
-use Rattle.tk_explanations.specs.declared.rows.Row.{Row}
-use Rattle.tk_explanations.specs.declared.rows.Row.TheVariants as row
 use Rattle.testkit_questions.proofs.OneReading.{AreAlike}
 use Rattle.testkit_questions.proofs.OneReply.{as_many, exact_too, exclusive_too, in_order_too, like_at, loose_too, least_too, prefix, same_fits, same_holds}
 
 -- ---- rows
 
+cons_same : {X : Type 0} (x y : X) (xs ys : List X) → x ≡ y → xs ≡ ys → x ∷ xs ≡ y ∷ ys
+cons_same x y xs ys e f = cc
+
+append_same : {X : Type 0} (a b c d : List X) → a ≡ b → c ≡ d → a ++ c ≡ b ++ d
+append_same {X = X} a b c d e f = ap₂ (λ (x y : List X). x ++ y) e f
+
+cond_same : {X : Type 0} (b c : Bool) (x y u v : X) → b ≡ c → x ≡ y → u ≡ v → cond b x u ≡ cond c y v
+cond_same b c x y u v e f g = rw (e, f, g) refl
+
 condition_same : (k : ℕ) (c d : Condition) → cond_of c ≡ cond_of d → condition_row k c ≡ condition_row k d
-condition_same k c d e = ap (λ (x : Cond). row.Condition k (cond_text x)) e
+condition_same k c d e = rw e refl
 
 found_same : (k : ℕ) (cs ds : List Condition) (ps : List ℕ) → AreAlike cs ds → found_rows k cs ps ≡ found_rows k ds ps
 found_same k [] [] ps like = refl
@@ -40,45 +40,44 @@ found_same k [] (d ∷ ds) ps like = absurd like
 found_same k (c ∷ cs) [] ps like = absurd like
 found_same k (c ∷ cs) (d ∷ ds) [] like = refl
 found_same k (c ∷ cs) (d ∷ ds) (p ∷ ps) like =
-    ap₂ (λ (x : Row) (rows : List Row). x ∷ row.Event p Nothing ∷ rows) (condition_same k c d like.0) (found_same (k + 1) cs ds ps like.1)
+    cons_same _ _ _ _ (condition_same k c d like.0) (cons_same _ _ _ _ refl (found_same (k + 1) cs ds ps like.1))
 
 lacks_same : (r : Recorded) (c d : Condition) (x : Option Entry) → cond_of c ≡ cond_of d → lacks r c x ≡ lacks r d x
 lacks_same r c d None e = refl
-lacks_same r c d (Some x) e = ap (λ (y : Cond). Lacks (lacking_text r y x)) e
+lacks_same r c d (Some x) e = rw e refl
 
 lacking_same : (r : Recorded) (c d : Condition) (p : ℕ) → cond_of c ≡ cond_of d → lacking_row r c p ≡ lacking_row r d p
-lacking_same r c d p e = ap (λ (n : Note). row.Event p n) (lacks_same r c d (slice_get r.entries p) e)
+lacking_same r c d p e = cc (lacks_same r c d (slice_get r.entries p) e)
 
 all_lacking_same : (r : Recorded) (c d : Condition) (ps : List ℕ) → cond_of c ≡ cond_of d → map (lacking_row r c) ps ≡ map (lacking_row r d) ps
 all_lacking_same r c d [] e = refl
-all_lacking_same r c d (p ∷ ps) e = ap₂ (λ (x : Row) (rows : List Row). x ∷ rows) (lacking_same r c d p e) (all_lacking_same r c d ps e)
+all_lacking_same r c d (p ∷ ps) e = cons_same _ _ _ _ (lacking_same r c d p e) (all_lacking_same r c d ps e)
 
 near_same : (r : Recorded) (c d : Condition) (ps : List ℕ) → cond_of c ≡ cond_of d → near_rows r c ps ≡ near_rows r d ps
 near_same r c d [] e = refl
-near_same r c d (p ∷ ps) e = all_lacking_same r c d (p ∷ ps) e
+near_same r c d (p ∷ ps) e = cons_same _ _ _ _ (lacking_same r c d p e) (all_lacking_same r c d ps e)
 
 unlike_same : (r : Recorded) (k : ℕ) (cs ds : List Condition) (xs : List PositionedEntry) → AreAlike cs ds → unlike_rows r k cs xs ≡ unlike_rows r k ds xs
 unlike_same r k [] [] [] like = refl
 unlike_same r k [] [] (x ∷ xs) like = refl
 unlike_same r k [] (d ∷ ds) xs like = absurd like
 unlike_same r k (c ∷ cs) [] xs like = absurd like
-unlike_same r k (c ∷ cs) (d ∷ ds) [] like = ap (λ (x : Row). x ∷ row.NoneLeft ∷ []) (condition_same k c d like.0)
+unlike_same r k (c ∷ cs) (d ∷ ds) [] like = cons_same _ _ _ _ (condition_same k c d like.0) refl
 unlike_same r k (c ∷ cs) (d ∷ ds) (x ∷ xs) like =
-    ap (λ (b : Bool). cond b (unlike_rows r (k + 1) cs xs) (condition_row k c ∷ lacking_row r c x.position ∷ [])) (same_holds r c d x.entry like.0)
-    ∙ ap₂ (λ (rest here : List Row). cond (holds r d x.entry) rest here) (unlike_same r (k + 1) cs ds xs like.1)
-    (ap₂ (λ (a b : Row). a ∷ b ∷ []) (condition_same k c d like.0) (lacking_same r c d x.position like.0))
+    cond_same _ _ _ _ _ _ (same_holds r c d x.entry like.0) (unlike_same r (k + 1) cs ds xs like.1)
+    (cons_same _ _ _ _ (condition_same k c d like.0) (cons_same _ _ _ _ (lacking_same r c d x.position like.0) refl))
 
 -- ---- exactly
 
 exact_rows_same : (asked : Selected) (cs ds : List Condition) (a : Exact) → AreAlike cs ds → exact_rows asked cs a ≡ exact_rows asked ds a
 exact_rows_same asked cs ds exact.Yes like = found_same 0 cs ds (positions_of asked) like
 exact_rows_same asked cs ds exact.WrongCount like =
-    ap₂ (λ (n : ℕ) (rows : List Row). row.Counts n (length asked.kept) ∷ rows) (as_many cs ds like) (unlike_same asked.recorded 0 cs ds asked.kept like)
+    cons_same _ _ _ _ (rw (as_many cs ds like) refl) (unlike_same asked.recorded 0 cs ds asked.kept like)
 exact_rows_same asked cs ds (exact.No k) like = unlike_same asked.recorded 0 cs ds asked.kept like
 
 pub exactly_too : (asked : Selected) (cs ds : List Condition) (y : Bool) (t : List ℕ) → AreAlike cs ds → ExplainsExactly asked cs y t → ExplainsExactly asked ds y t
-exactly_too asked cs ds y t like (rows, (a, is, yes, rows_are), text) =
-    (rows, (a, exact_too cs ds like asked a is, yes, rows_are ∙ ap (λ (below : List Row). row.Line (exact_text a) ∷ below) (exact_rows_same asked cs ds a like)), text)
+exactly_too asked cs ds y t like (rows, (a, is, told, rows_are), text) =
+    (rows, (a, exact_too cs ds like asked a is, told, rows_are ∙ cons_same _ _ _ _ refl (exact_rows_same asked cs ds a like)), text)
 
 -- ---- loosely
 
@@ -99,15 +98,22 @@ first_fits_too asked (c ∷ cs) (d ∷ ds) (p ∷ ps) like h = (next_too asked c
 near_too : (asked : Selected) (c d : Condition) (from : ℕ) (near : List ℕ) → cond_of c ≡ cond_of d → IsNearest asked from (cond_of c) near → IsNearest asked from (cond_of d) near
 near_too asked c d from near e h = subst (λ (x : Cond). IsNearest asked from x near) e h
 
-loose_rows_too : (asked : Selected) (cs ds : List Condition) (a : Loose) (rows : List Row) → AreAlike cs ds → AreLooseRows asked cs a rows → AreLooseRows asked ds a rows
-loose_rows_too asked cs ds loose.Yes rows like (found, are, is) = (found, first_fits_too asked cs ds found like are, is ∙ found_same 0 cs ds found like)
-loose_rows_too asked cs ds (loose.No k) rows like (c, at, near, are, is) =
-    let d = like_at cs ds k c like at in
-    (d.0, d.1, near, near_too asked c d.0 0 near d.2 are, is ∙ ap₂ (λ (x : Row) (l : List Row). x ∷ l) (condition_same k c d.0 d.2) (near_same asked.recorded c d.0 near d.2))
-
 pub loosely_too : (asked : Selected) (cs ds : List Condition) (y : Bool) (t : List ℕ) → AreAlike cs ds → ExplainsLoosely asked cs y t → ExplainsLoosely asked ds y t
-loosely_too asked cs ds y t like (rows, (a, is, yes, below, below_are, rows_are), text) =
-    (rows, (a, loose_too cs ds like asked a is, yes, below, loose_rows_too asked cs ds a below like below_are, rows_are), text)
+loosely_too asked cs ds y t like (rows, (loose.Yes, is, told, below, (found, are, below_are), rows_are), text) =
+    (rows, (loose.Yes, loose_too cs ds like asked loose.Yes is, told, below, (found, first_fits_too asked cs ds found like are, below_are ∙ found_same 0 cs ds found like), rows_are), text)
+loosely_too asked cs ds y t like (rows, (loose.No k, is, told, below, (c, at, near, are, below_are), rows_are), text) =
+    let d = like_at cs ds k c like at in (
+      rows,
+      (
+        loose.No k,
+        loose_too cs ds like asked (loose.No k) is,
+        told,
+        below,
+        (d.0, d.1, near, near_too asked c d.0 0 near d.2 are, below_are ∙ cons_same _ _ _ _ (condition_same k c d.0 d.2) (near_same asked.recorded c d.0 near d.2)),
+        rows_are,
+      ),
+      text,
+    )
 
 -- ---- in order
 
@@ -118,31 +124,37 @@ last_too : (asked : Selected) (c d : Condition) (last : Option ℕ) → cond_of 
 last_too asked c d None e h = no_fit_too asked c d 0 e h
 last_too asked c d (Some p) e h = (sym (same_fits asked c d p e) ∙ h.0, no_fit_too asked c d (p + 1) e h.1)
 
-stuck_too : (asked : Selected) (cs ds : List Condition) (k : ℕ) (rows : List Row) → AreAlike cs ds → AreStuckRows asked cs k rows → AreStuckRows asked ds k rows
-stuck_too asked cs ds k rows like h =
-    let d = like_at cs ds k h.condition like h.condition_is in
-    record {
-      condition = d.0;
-      condition_is = d.1;
-      found = h.found;
-      found_in_turn = least_too asked (take k cs) (take k ds) h.found (prefix k cs ds like) h.found_in_turn;
-      early = h.early;
-      early_is_last = last_too asked h.condition d.0 h.early d.2 h.early_is_last;
-      near = h.near;
-      near_are = near_too asked h.condition d.0 (after (last_of h.found)) h.near d.2 h.near_are;
-      rows_are = h.rows_are ∙ ap₂ (λ (found below : List Row). found ++ below) (found_same 0 cs ds h.found like)
-          (ap₂ (λ (x : Row) (near : List Row). x ∷ early_rows (last_of h.found) h.early ++ near) (condition_same k h.condition d.0 d.2) (near_same asked.recorded h.condition d.0 h.near d.2));
-    }
-
-in_order_rows_too : (asked : Selected) (cs ds : List Condition) (a : InOrder) (rows : List Row) → AreAlike cs ds → AreInOrderRows asked cs a rows → AreInOrderRows asked ds a rows
-in_order_rows_too asked cs ds (in_order.Yes ps) rows like h = h ∙ found_same 0 cs ds ps.items like
-in_order_rows_too asked cs ds (in_order.No k) rows like h = stuck_too asked cs ds k rows like h
-
 pub in_turn_too : (asked : Selected) (cs ds : List Condition) (y : Bool) (t : List ℕ) → AreAlike cs ds → ExplainsInOrder asked cs y t → ExplainsInOrder asked ds y t
-in_turn_too asked cs ds y t like (rows, (a, is, yes, below, below_are, rows_are), text) =
-    (rows, (a, in_order_too asked cs ds a like is, yes, below, in_order_rows_too asked cs ds a below like below_are, rows_are), text)
+in_turn_too asked cs ds y t like (rows, (in_order.Yes ps, is, told, below, below_are, rows_are), text) =
+    (rows, (in_order.Yes ps, in_order_too asked cs ds (in_order.Yes ps) like is, told, below, below_are ∙ found_same 0 cs ds ps.items like, rows_are), text)
+in_turn_too asked cs ds y t like (rows, (in_order.No k, is, told, below, h, rows_are), text) =
+    let d = like_at cs ds k h.condition like h.condition_is in (
+      rows,
+      (
+        in_order.No k,
+        in_order_too asked cs ds (in_order.No k) like is,
+        told,
+        below,
+        record {
+          condition = d.0;
+          condition_is = d.1;
+          found = h.found;
+          found_in_turn = least_too asked (take k cs) (take k ds) h.found (prefix k cs ds like) h.found_in_turn;
+          early = h.early;
+          early_is_last = last_too asked h.condition d.0 h.early d.2 h.early_is_last;
+          near = h.near;
+          near_are = near_too asked h.condition d.0 (after (last_of h.found)) h.near d.2 h.near_are;
+          rows_are = h.rows_are ∙ append_same _ _ _ _
+              (append_same _ _ _ _ (found_same 0 cs ds h.found like) (cons_same _ _ (early_rows (last_of h.found) h.early) (early_rows (last_of h.found) h.early) (condition_same k h.condition d.0 d.2) refl))
+              (near_same asked.recorded h.condition d.0 h.near d.2);
+        },
+        rows_are,
+      ),
+      text,
+    )
 
 -- ---- writers and readers
 
 pub holders_too : (asked : Selected) (w v r s : Condition) (y : Bool) (t : List ℕ) → cond_of w ≡ cond_of v → cond_of r ≡ cond_of s → ExplainsExclusive asked w r y t → ExplainsExclusive asked v s y t
-holders_too asked w v r s y t writers readers (rows, (a, is, yes, below), text) = (rows, (a, exclusive_too asked w v r s writers readers a is, yes, below), text)
+holders_too asked w v r s y t writers readers (rows, (a, is, told, below, below_are, rows_are), text) =
+    (rows, (a, exclusive_too asked w v r s writers readers a is, told, below, below_are, rows_are), text)

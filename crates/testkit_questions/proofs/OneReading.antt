@@ -22,7 +22,7 @@ use Rattle.testkit_questions.specs.declared.questions.Mode.{Mode}
 use Rattle.testkit_questions.specs.declared.questions.Mode.TheVariants.{Exactly, Loosely, InOrder}
 use Rattle.testkit_questions.specs.declared.questions.Question.{Question}
 use Rattle.testkit_questions.specs.declared.questions.Question.TheVariants as questions
-use Rattle.testkit_questions.specs.Questions.{Expecting, IsNextExpected, IsExpectation, IsBadExpectation, expecting, AreConditions, IsBadCondition, IsBadWord, IsNoName, IsNoQuestion, IsAskedAs, AreHolders, IsBadHolder, mode_name, stats, count, match_word, list_word, exclusive_word, overview_name}
+use Rattle.testkit_questions.specs.Questions.{Expecting, IsNextExpected, IsExpectation, IsBadExpectation, expecting, AreConditions, IsBadCondition, IsBadWord, IsNoName, IsNoQuestion, IsAskedAs, AreHolders, mode_name, stats, count, match_word, list_word, exclusive_word, overview_name}
 use Rattle.testkit_questions.specs.declared.questions.Overview.{Overview}
 use Rattle.testkit_questions.specs.declared.questions.Overview.TheVariants as overviews
 use Rattle.testkit_questions.proofs.WordLemmas.{name_lacks}

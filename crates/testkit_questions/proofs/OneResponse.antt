@@ -1,10 +1,9 @@
 -- What words ask for has one response about a record.
-use Rattle.std.proofs.Common.{◌≡◌, ℕ, Bool, List, refl, sym, ap, subst, ◌∙◌}
+use Rattle.std.proofs.Common.{◌≡◌, ℕ, Bool, List, ap, subst, ◌∙◌}
 use Rattle.tk_record_columns.specs.declared.selections.Selection.{Selection}
 use Rattle.tk_record_columns.specs.Recorded.{Recorded}
 use Rattle.tk_record_columns.specs.Selections.{Selected, all_of}
 use Rattle.tk_query_conditions.specs.declared.conditions.Condition.{Condition}
-use Rattle.tk_query_conditions.specs.CondOf.{cond_of}
 use Rattle.tk_explanations.specs.Collisions.{ExplainsExclusive}
 use Rattle.tk_explanations.specs.Lifecycles.{ExplainsLifecycle}
 use Rattle.tk_explanations.specs.Lists.{ExplainsExecutions, ExplainsList}

@@ -15,4 +15,6 @@ returns-in-Loosely-clause-written g c = rw c.in-Loosely.is (
     c.in_ok-events.ensures c.explain_loosely.ensures.written)
 
 pub returns-clause-written : goal.returns-clause-written
-returns-clause-written g c = ?
+returns-clause-written g c = rw c.in-InOrder.is (
+    subst (λ (s : Selected). IsExplained (ExplainsInOrder s c.args.conditions.now) (g.T.Target.contents c.args.target.now) (g.T.Target.contents c.explain_in_order.new.target) c.explain_in_order.result)
+    c.in_ok-events.ensures c.explain_in_order.ensures.written)
