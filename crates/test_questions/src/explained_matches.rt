@@ -4,7 +4,7 @@ use test_support::{again_if_refused, read_again};
 use tk_explanations::{ExplainFault, explain_exactly, explain_in_order, explain_loosely};
 use tk_query::{Condition, read_condition};
 use tk_record_columns::{Events, Record};
-use tk_streams::ByteTarget;
+use tk_streams::{ByteTarget, Target};
 
 #[derive(Clone, Copy)]
 enum Mode {
@@ -78,7 +78,15 @@ fn loose_matches(rt: HostRuntime) {
     let found = ["test", "succeeded"];
     assert!(rt; explains(alloc, &record, Mode::Loosely, found.as_slice(), loose_yes()));
     let missing = ["started", "all(test,failed(bang),id(t:1))"];
-    assert!(rt; explains(alloc, &record, Mode::Loosely, missing.as_slice(), loose_no()));
+    assert!(rt;
+        explains(
+            alloc,
+            &record,
+            Mode::Loosely,
+            missing.as_slice(),
+            loose_no()
+        )
+    );
     assert!(rt; explains(alloc, &record, Mode::Loosely, [].as_slice(), b"yes\n"));
 }
 
@@ -102,11 +110,27 @@ fn matches_in_order(rt: HostRuntime) {
         return;
     };
     let found = ["test", "succeeded"];
-    assert!(rt; explains(alloc, &record, Mode::InOrder, found.as_slice(), yes_in_order()));
+    assert!(rt;
+        explains(
+            alloc,
+            &record,
+            Mode::InOrder,
+            found.as_slice(),
+            yes_in_order()
+        )
+    );
     let early = ["succeeded", "started"];
     assert!(rt; explains(alloc, &record, Mode::InOrder, early.as_slice(), too_early()));
     let nowhere = ["aborted", "started"];
-    assert!(rt; explains(alloc, &record, Mode::InOrder, nowhere.as_slice(), nowhere_in_order()));
+    assert!(rt;
+        explains(
+            alloc,
+            &record,
+            Mode::InOrder,
+            nowhere.as_slice(),
+            nowhere_in_order()
+        )
+    );
 }
 
 fn exact_no() -> &'static [u8] {
@@ -134,8 +158,32 @@ fn exact_matches(rt: HostRuntime) {
     };
     let unlike = ["all()", "skipped(o)", "all()", "skipped(o)", "test"];
     assert!(rt; explains(alloc, &record, Mode::Exactly, unlike.as_slice(), exact_no()));
-    assert!(rt; explains(alloc, &record, Mode::Exactly, ["test"].as_slice(), first_that_differs()));
-    assert!(rt; explains(alloc, &record, Mode::Exactly, ["all()"].as_slice(), event_left_over()));
+    assert!(rt;
+        explains(
+            alloc,
+            &record,
+            Mode::Exactly,
+            ["test"].as_slice(),
+            first_that_differs()
+        )
+    );
+    assert!(rt;
+        explains(
+            alloc,
+            &record,
+            Mode::Exactly,
+            ["all()"].as_slice(),
+            event_left_over()
+        )
+    );
     let six = ["all()", "all()", "all()", "all()", "all()", "test"];
-    assert!(rt; explains(alloc, &record, Mode::Exactly, six.as_slice(), condition_left_over()));
+    assert!(rt;
+        explains(
+            alloc,
+            &record,
+            Mode::Exactly,
+            six.as_slice(),
+            condition_left_over()
+        )
+    );
 }
