@@ -6,7 +6,7 @@ use Rattle.tk_queue_core.specs.declared.items.Item.{Item}
 use Rattle.tk_queue_core.specs.declared.items.Item.TheVariants.{End}
 use Rattle.tk_queue_core.specs.Core.{Core, worker_of, items_of, push, take_first}
 use Rattle.tk_queue_session.specs.Marks.{is_marked}
-use Rattle.tk_queue_session.specs.Steps.{fresh_core}
+use Rattle.tk_queue_session.specs.CoreSteps.{fresh_core}
 use Rattle.tk_book.specs.NeedView.{NeedView}
 use Rattle.tk_book.specs.Holdings.{Grants, Releases}
 

@@ -26,7 +26,7 @@ use Rattle.tk_engine_unit_events.specs.Covered.{IsCovered}
 use Rattle.tk_engine_unit_events.specs.Endings.{EndsAsItMay, IsStaticTest}
 use Rattle.tk_engine_hierarchical.specs.Laws.{FollowsPlan, HasOutcomes, HasTurn, HaveTurns}
 use Rattle.tk_engine_unit_events.specs.Shapes.{HavePlaces, IsInUnit, ShapeView, frame, may_emit}
-use Rattle.tk_engine_hierarchical.specs.Steps.{FitsPlan}
+use Rattle.tk_engine_hierarchical.specs.StaticSteps.{FitsPlan}
 use Rattle.tk_engine_unit_events.specs.Units.{StepsAs}
 use Rattle.tk_engine_unit_events.specs.declared.outcomes.Outcome.{Outcome}
 use Rattle.tk_engine_unit_events.proofs.Played.{any-append, any_kept, covered_by, or_cases, or_left, or_right}

@@ -12,8 +12,8 @@ use Rattle.tk_plan_units.specs.Trees.{Forest, IsForest, IsSplit, Tree, flat, fla
 use Rattle.tk_plan_units.proofs.Ordering.{all_numbered}
 use Rattle.tk_plan_units.proofs.Parting.{all_back, all_prefix, all_single}
 use Rattle.tk_engine_execute.proofs.Positions.{all_at}
-use Rattle.tk_engine_hierarchical.specs.Steps.{FitsNode, FitsPlan}
-use Rattle.tk_engine_hierarchical.specs.steps.Steps.{MayStepAs}
+use Rattle.tk_engine_hierarchical.specs.StaticSteps.{FitsNode, FitsPlan}
+use Rattle.tk_engine_hierarchical.specs.steps.StaticSteps.{MayStepAs}
 use Rattle.tk_engine_unit_events.specs.declared.outcomes.Outcome.{Outcome}
 
 -- what holds of the nodes of some trees holds of those of their units

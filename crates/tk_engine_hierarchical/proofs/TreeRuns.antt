@@ -21,8 +21,8 @@ use Rattle.tk_engine_unit_events.specs.Events.{HasRun}
 use Rattle.tk_engine_hierarchical.specs.Laws.{RanTree, TestRules, may_of}
 use Rattle.tk_engine_unit_events.specs.UnitSteps.{UnitView, event, begun}
 use Rattle.tk_engine_unit_events.specs.Shapes.{ShapeView, frame, keys_in, may_emit}
-use Rattle.tk_engine_hierarchical.specs.Steps.{FitsPlan}
-use Rattle.tk_engine_hierarchical.specs.steps.Steps.{MayStepAs}
+use Rattle.tk_engine_hierarchical.specs.StaticSteps.{FitsPlan}
+use Rattle.tk_engine_hierarchical.specs.steps.StaticSteps.{MayStepAs}
 use Rattle.tk_engine_unit_events.specs.Units.{RunsUnit}
 use Rattle.tk_engine_hierarchical.specs.TreeRuns.{FinishesNode, PlanState, RunsBody, RunsForest, RunsNode, RunsTree, RunsUnitTree, StartsNode, TestRuns, after_each, after_publishing, plan_state}
 use Rattle.tk_engine_hierarchical.specs.declared.planned_units.TestEnd.{TestEnd}

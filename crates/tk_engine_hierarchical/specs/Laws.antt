@@ -14,7 +14,7 @@ use Rattle.tk_engine_unit_events.specs.Covered.{IsBelowSkipped}
 use Rattle.tk_engine_unit_events.specs.Endings.{EndsAsItMay}
 use Rattle.tk_engine_unit_events.specs.Nesting.{EventsNest}
 use Rattle.tk_engine_unit_events.specs.Shapes.{ShapeView, frame, may_emit}
-use Rattle.tk_engine_hierarchical.specs.Steps.{FitsPlan}
+use Rattle.tk_engine_hierarchical.specs.StaticSteps.{FitsPlan}
 use Rattle.tk_engine_unit_events.specs.Units.{StepsAs}
 use Rattle.tk_engine_hierarchical.specs.TreeRuns.{IsOfUnitTree, TestRuns, UnitWorker}
 use Rattle.tk_engine_unit_events.specs.declared.outcomes.Outcome.{Outcome}

@@ -1,4 +1,4 @@
-pub mod Steps
+pub mod StaticSteps
 pub mod Reporting
 pub mod TreeRuns
 pub mod Laws

@@ -8,8 +8,8 @@ ghost use Rattle.tk_plan_units.specs.Cutting.{units_of};
 ghost use Rattle.tk_plan_units.specs.Trees.{IsForest, forest, tree_of};
 ghost use Rattle.tk_engine_unit_events.specs.Shapes.{count_units, frame, keys_in};
 ghost use Rattle.tk_engine_unit_events.specs.Standing.{IsComplete};
-ghost use Rattle.tk_engine_hierarchical.specs.Steps.{FitsPlan};
-ghost use Rattle.tk_engine_hierarchical.specs.steps.Steps.{MayRun};
+ghost use Rattle.tk_engine_hierarchical.specs.StaticSteps.{FitsPlan};
+ghost use Rattle.tk_engine_hierarchical.specs.steps.StaticSteps.{MayRun};
 ghost use Rattle.tk_engine_hierarchical.specs.TreeRuns.{RunsForest, RunsNode, RunsTree, RunsUnitTree};
 
 use crate::planned_units::PlannedUnit;

@@ -20,7 +20,7 @@ use Rattle.tk_queue_core.specs.Core.{Core, IsCore, worker_of, push, put, take_fi
 use Rattle.tk_queue_session.specs.Limits.{most_events}
 use Rattle.tk_queue_session.specs.SessionRule.{SessionLayout, Session, Fits, Stands, Concludes}
 use Rattle.tk_queue_session.specs.PassViews.{pass_of_receiver, pass_of_sender, new_receiver, pushed, popped, Pops, with_worker, next_sender, with_token, MayPush, MayTake, IsNext, IsReader, IsFirst, MayTakeIn, MayBeEmittedNext, with_bit}
-use Rattle.tk_queue_session.specs.Steps.{IsStateOf, HoldsStates, fresh_core, BeginsFresh, PushIsStep, FullIsNone, TakeIsStep, EmptyIsNone, SplitIsNone, BitIsNone, JoinIsNone}
+use Rattle.tk_queue_session.specs.CoreSteps.{IsStateOf, HoldsStates, fresh_core, BeginsFresh, PushIsStep, FullIsNone, TakeIsStep, EmptyIsNone, SplitIsNone, BitIsNone, JoinIsNone}
 use Rattle.tk_queue_session.specs.Emission.{MayEmit, Emission}
 use Rattle.tk_queue_session.proofs.KnownKeys.{emission_none, emission_more}
 use Rattle.tk_queue_core.proofs.CoreSteps.{filter-append, pushes_core, takes, put-same, put-other}

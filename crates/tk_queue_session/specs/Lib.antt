@@ -8,7 +8,7 @@ pub mod Registering
 pub mod Tokens
 pub mod Receivers
 pub mod Closing
-pub mod Steps
+pub mod CoreSteps
 pub mod Recordable
 pub mod FaultTexts
 pub mod steps

@@ -1,6 +1,6 @@
 //! Laws of sessions, which hold of the definitions alone.
 ghost use Rattle.std.specs.Prelude.{◌≡◌};
-ghost use Rattle.tk_queue_session.specs.Steps.{HoldsStates, BeginsFresh, PushIsStep, FullIsNone, TakeIsStep, EmptyIsNone, SplitIsNone, BitIsNone, JoinIsNone};
+ghost use Rattle.tk_queue_session.specs.CoreSteps.{HoldsStates, BeginsFresh, PushIsStep, FullIsNone, TakeIsStep, EmptyIsNone, SplitIsNone, BitIsNone, JoinIsNone};
 ghost use Rattle.tk_queue_session.specs.Recordable.{IsNeverRefused, IsShort};
 
 use crate::limits::MAX_CAPACITY;

@@ -1,5 +1,5 @@
 use Rattle.std.proofs.Common.{◌-◌, length, ap, ◌∙◌, arith}
-use Rattle.tk_engine_hierarchical.specs.steps.Steps.{MayStepAs}
+use Rattle.tk_engine_hierarchical.specs.steps.StaticSteps.{MayStepAs}
 use Rattle.tk_engine_hierarchical.specs.TreeRuns.{after_publishing, plan_state}
 use Rattle.tk_engine_hierarchical.proofs.Stepped.{others_few, split_others}
 use Rattle.tk_engine_hierarchical.proofs.TreeRuns.{first_ran, may_finish, nothing_ran, ran_node}

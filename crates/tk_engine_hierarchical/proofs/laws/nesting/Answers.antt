@@ -1,7 +1,7 @@
 use Rattle.std.proofs.Common.{subst}
 use Rattle.tk_record_columns.specs.Record.{IsRecord}
 use Rattle.tk_engine_hierarchical.specs.Laws.{test_rules}
-use Rattle.tk_engine_hierarchical.specs.Steps.{FitsPlan}
+use Rattle.tk_engine_hierarchical.specs.StaticSteps.{FitsPlan}
 use Rattle.tk_engine_hierarchical.proofs.Nested.{units_nest}
 use Rattle.tk_engine_unit_events.proofs.Shaped.{kept_units}
 use Rattle.tk_engine_hierarchical.proofs.TreeRuns.{run_by_shape}

@@ -1,6 +1,6 @@
 use Rattle.tk_engine_hierarchical.specs.Laws.{test_rules}
 use Rattle.tk_engine_unit_events.specs.Shapes.{frame}
-use Rattle.tk_engine_hierarchical.specs.Steps.{FitsPlan}
+use Rattle.tk_engine_hierarchical.specs.StaticSteps.{FitsPlan}
 use Rattle.tk_engine_hierarchical.proofs.Recorded.{have_turns}
 use Rattle.tk_engine_hierarchical.proofs.TreeRuns.{run_by_shape}
 use Rattle.tk_engine_hierarchical.proofs.laws.turns.Goals as goal

@@ -1,5 +1,5 @@
 use Rattle.tk_engine_unit_events.specs.Shapes.{frame, keys_in}
-use Rattle.tk_engine_hierarchical.specs.Steps.{FitsPlan}
+use Rattle.tk_engine_hierarchical.specs.StaticSteps.{FitsPlan}
 use Rattle.tk_engine_hierarchical.proofs.engines.HierarchicalEngine.run.Given as goal
 
 abbrev pub ghosts-run_unit : goal.ghosts-run_unit

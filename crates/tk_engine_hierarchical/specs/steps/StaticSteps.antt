@@ -1,11 +1,11 @@
--- What private clauses and proofs alone name of Steps.
+-- What private clauses and proofs alone name of StaticSteps.
 use Rattle.std.specs.Prelude.{◌≡◌, ℕ, List}
 use Rattle.tk_ids.specs.declared.descriptors.Descriptor.{Descriptor}
 use Rattle.tk_events.specs.declared.events.Event.{Event}
 use Rattle.tk_plan_units.specs.declared.nodes.NumberedNode.{NumberedNode}
 use Rattle.tk_engine_unit_events.specs.Standing.{BegunUnit}
 use Rattle.tk_engine_unit_events.specs.declared.outcomes.Outcome.{Outcome}
-use Rattle.tk_engine_hierarchical.specs.Steps.{FitsNode}
+use Rattle.tk_engine_hierarchical.specs.StaticSteps.{FitsNode}
 
 -- each event that may be one of the node's may be emitted
 abbrev pub MayStepAs :
