@@ -8,8 +8,6 @@ mod devices;
 #[cfg(test)]
 mod executions;
 #[cfg(test)]
-mod explained_matches;
-#[cfg(test)]
 mod explanations;
 #[cfg(test)]
 mod faults;
