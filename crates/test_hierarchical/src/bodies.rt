@@ -168,11 +168,6 @@ pub(crate) fn sample_engine(alloc: Global) -> Option<Hierarchical<Sample>> {
     engine(alloc, Then::Aborts)
 }
 
-/// The engine of the sample, whose second test answers the fault `Own(7)`.
-pub(crate) fn faulty_engine(alloc: Global) -> Option<Hierarchical<Sample>> {
-    engine(alloc, Then::Faults)
-}
-
 // The record of a run by one worker. A body's events have the stamp of its test's start until a body
 // sets another, which is that of the test's finish too.
 fn record() -> &'static [u8] {
@@ -234,8 +229,7 @@ fn each_event_of_a_run(rt: HostRuntime) {
     assert!(rt; has_record(&rt, rt.alloc()) == Some(true));
 }
 
-/// The lifecycle and the statistics of a run.
-pub(crate) fn seen(alloc: Global, results: &Results) -> Option<(Lifecycle, Statistics)> {
+fn seen(alloc: Global, results: &Results) -> Option<(Lifecycle, Statistics)> {
     let lifecycle = results.lifecycle(alloc).ok()?;
     let events = results.all_events(alloc).ok()?;
     Some((lifecycle, events.statistics()))

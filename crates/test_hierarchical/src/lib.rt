@@ -6,8 +6,6 @@ mod bodies;
 #[cfg(test)]
 mod descriptors;
 #[cfg(test)]
-mod large_plans;
-#[cfg(test)]
 mod limits;
 #[cfg(test)]
 mod planned;

@@ -14,8 +14,6 @@ use tk_queue::{RegisterFault, SendFault};
 enum Amount {
     /// Registers a segment of this many letters.
     Letters(u32),
-    /// Runs a dynamic test with a name of this many letters.
-    Name(u32),
     /// Registers a container, and below it three, or four.
     Levels(bool),
     /// Registers this many tests, which it skips.
@@ -114,11 +112,6 @@ impl Tests for Amount {
                 let value = letters(alloc, *count)?;
                 skip(rt, alloc, value.as_str(), reporter)?;
             }
-            Amount::Name(count) => {
-                let segment = Segment::new(alloc, "d", "d")?;
-                let name = letters(alloc, *count)?;
-                reporter.dynamic_test(rt, alloc, &segment, name.as_str(), &Idle)?;
-            }
             Amount::Levels(false) => {
                 return Above(Above(Above(Above(Idle)))).run(rt, alloc, reporter);
             }
@@ -184,12 +177,6 @@ fn long_ids(rt: HostRuntime) {
     let alloc = rt.alloc();
     assert!(rt; run(&rt, alloc, 2, Amount::Letters(4_080)) == Some(Ending::Done));
     assert!(rt; run(&rt, alloc, 2, Amount::Letters(4_081)) == Some(Ending::LongId));
-}
-
-#[test]
-fn a_long_name(rt: HostRuntime) {
-    let ended = run(&rt, rt.alloc(), 2, Amount::Name(1_000_000));
-    assert!(rt; ended == Some(Ending::Done));
 }
 
 #[test]

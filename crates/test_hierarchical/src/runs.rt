@@ -1,9 +1,9 @@
 //! The run of an engine of tests, whose contract says what holds of its record.
-use crate::bodies::{faulty_engine, is_recorded, sample_engine};
+use crate::bodies::{is_recorded, sample_engine};
 use std::alloc::Global;
 use std::sync::Wait;
 use std::thread::Threads;
-use tk_engine::{RunFault, UnitFault};
+use tk_engine::RunFault;
 use tk_engine_hierarchical::run_tests;
 
 // Whether a run by one worker has the record of the sample.
@@ -38,18 +38,4 @@ fn are_refused<R: Threads + Wait + Sync>(rt: &R, alloc: Global) -> Option<bool> 
 #[test]
 fn numbers_beyond_the_limits(rt: HostRuntime) {
     assert!(rt; are_refused(&rt, rt.alloc()) == Some(true));
-}
-
-// Whether a run by one worker is answered with the unit that failed, and with its fault.
-fn names_its_unit<R: Threads + Wait + Sync>(rt: &R, alloc: Global) -> Option<bool> {
-    let engine = faulty_engine(alloc)?;
-    let ran = run_tests(rt, alloc, &engine, 1, 4);
-    let found = matches!(&ran, Err(RunFault::Engine(1, UnitFault::Own(7))));
-    drop(ran);
-    Some(found)
-}
-
-#[test]
-fn a_unit_that_fails(rt: HostRuntime) {
-    assert!(rt; names_its_unit(&rt, rt.alloc()) == Some(true));
 }

@@ -1,7 +1,6 @@
 //! Conditions under JUnit's names, and texts of conditions that are written.
 use std::alloc::{AllocError, Global};
-use testkit_questions::{ConditionsFault, read_conditions};
-use tk_query::{CondFault, Condition, read_condition, write_condition};
+use tk_query::{Condition, read_condition, write_condition};
 
 fn is_written_as(alloc: Global, condition: &Condition, text: &str) -> bool {
     match write_condition(alloc, condition) {
@@ -31,33 +30,6 @@ fn texts_written_again(rt: HostRuntime) {
     for text in texts().lines() {
         assert!(rt; is_written_again(rt.alloc(), text), "{text}");
     }
-}
-
-// The first text that is no condition has its number in the fault, and what follows isn't read.
-fn number_of_bad_text(alloc: Global, texts: &[&str]) -> Option<(usize, CondFault)> {
-    match read_conditions(alloc, texts) {
-        Err(ConditionsFault::Condition(number, fault)) => Some((number, fault)),
-        _ => None,
-    }
-}
-
-// Whether texts are read in their order.
-fn are_read_in_order(alloc: Global) -> bool {
-    match read_conditions(alloc, &["started", "failed(m)"]) {
-        Ok(conditions) => {
-            is_written_as(alloc, &Condition::All(conditions), "all(started,failed(m))")
-        }
-        Err(_) => false,
-    }
-}
-
-#[test]
-fn several_texts(rt: HostRuntime) {
-    let alloc = rt.alloc();
-    assert!(rt; are_read_in_order(alloc));
-    let bad = number_of_bad_text(alloc, &["started", "begun", "ended"]);
-    assert!(rt; bad == Some((1, CondFault::BadAtom(0))));
-    assert!(rt; number_of_bad_text(alloc, &[]) == None);
 }
 
 // Whether a constructor's condition has this text.

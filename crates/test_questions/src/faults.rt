@@ -1,7 +1,7 @@
 //! Faults of questions and conditions as texts.
 use std::alloc::Global;
 use test_support::{are_shown, are_shown_as, is_debugged_as};
-use testkit_questions::{AskFault, ConditionsFault};
+use testkit_questions::AskFault;
 use tk_query::{CondFault, Ending, Loose};
 use tk_record::ReadFault;
 use tk_record_columns::{Mismatch, Selection};
@@ -38,22 +38,9 @@ fn show_condition_faults(alloc: Global) -> bool {
     are_shown(alloc, &faults)
 }
 
-// Whether the faults of several conditions have their texts.
-fn show_conditions_faults(alloc: Global) -> bool {
-    let bad = ConditionsFault::Condition(1, CondFault::BadAtom(3));
-    let deep = ConditionsFault::Condition(0, CondFault::Deep);
-    let rows = [
-        (bad, "condition 1 is bad at 3"),
-        (deep, "condition 0 is too deep"),
-        (ConditionsFault::Memory, "out of memory"),
-    ];
-    are_shown_as(alloc, &rows)
-}
-
 #[test]
 fn condition_faults(rt: HostRuntime) {
     assert!(rt; show_condition_faults(rt.alloc()));
-    assert!(rt; show_conditions_faults(rt.alloc()));
 }
 
 // Each ending of an execution is printed by its name.
