@@ -14,17 +14,6 @@ snoc_all P [] x all last (suc i) y e = cc
 snoc_all P (z ∷ xs) x all last zero y e = all 0 y e
 snoc_all P (z ∷ xs) x all last (suc i) y e = snoc_all (λ k. P (suc k)) xs x (λ k v h. all (suc k) v h) last i y e
 
--- what stands in the prefix of a list stands in it
-pub slice_get-prefix : {X : Type 0} (xs ys : List X) (i : ℕ) (x : X) → slice_get xs i ≡ Some x → slice_get (xs ++ ys) i ≡ Some x
-slice_get-prefix [] ys i x e = cc
-slice_get-prefix (z ∷ xs) ys zero x e = e
-slice_get-prefix (z ∷ xs) ys (suc i) x e = slice_get-prefix xs ys i x e
-
--- the last element
-pub slice_get-last : {X : Type 0} (xs : List X) (x : X) → slice_get (xs ++ x ∷ []) (length xs) ≡ Some x
-slice_get-last [] x = refl
-slice_get-last (z ∷ xs) x = slice_get-last xs x
-
 -- what stands in a mapped list is the image of what stands there
 pub map_at : {X : Type 0} {Y : Type 0} (f : X → Y) (xs : List X) (i : ℕ) (y : Y) → slice_get (map f xs) i ≡ Some y
     → (x : X) × (slice_get xs i ≡ Some x) × (y ≡ f x)

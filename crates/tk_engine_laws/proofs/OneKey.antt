@@ -19,7 +19,7 @@ use Rattle.tk_ids.specs.declared.descriptors.Descriptor.{Descriptor}
 use Rattle.tk_engine_laws.proofs.ListenerSteps.{no_register, same_one}
 use Rattle.tk_report_text.proofs.Ids.{same_decides}
 use Rattle.tk_engine_laws.proofs.Keyed.{get_prefix, key_for_known, named, static_after_below, static_before_below}
-use Rattle.tk_engine_laws.proofs.Lists.{each-append, each_at}
+use Rattle.tk_engine_laws.proofs.Lists.{each-append}
 use Rattle.tk_engine_laws.proofs.Mixed.{no_events}
 use Rattle.tk_engine_laws.proofs.Model.{Each, Forest, IsStatic, Item, Models, Named, Step, after_below, before_below, count, drawn_ids, hits, id_emitted, ids_emitted, item_label, part_steps, plain, registered, static_events, event_of_step, emitted_after}
 use Rattle.tk_engine_laws.proofs.Naming.{registered_played, registrations_is}
@@ -237,6 +237,3 @@ module _ (all : List NumberedNode) (table : List Descriptor) (f : Forest) (worke
       let p = subst (λ i. 0 < length (event_of_step i (events r.entries))) (sym a.6) (emitted_some a.0 a.2 a.1 a.3 a.4 a.5) in
       let q = subst (λ i. 0 < length (event_of_step i (events r.entries))) (sym b.6) (emitted_some b.0 b.2 b.1 b.3 b.4 b.5) in
       absurd (two _ _ _ p q l (counted x))) (cases_Bool (j == k))
-
-  pub one_key : (i k : ℕ) (x y : Event) → slice_get (events r.entries) i ≡ Some x → slice_get (events r.entries) k ≡ Some y → name r x.key ≡ name r y.key → x.key ≡ y.key
-  one_key i k x y a b e = same_key x.key y.key (each_at (HasKey all table Comes from_table) (events r.entries) i x all_keys a) (each_at (HasKey all table Comes from_table) (events r.entries) k y all_keys b) e

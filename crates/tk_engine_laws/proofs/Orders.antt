@@ -87,9 +87,6 @@ module _ {A : Type 0} (e l : A → Bool) where
   pub precedes_here : (x : A) (xs : List A) → l x ≡ false → e x ≡ true → precedes e l (x ∷ xs) ≡ true
   precedes_here x xs n y = ap₂ (λ b c. not b && (c || precedes e l xs)) n y
 
-  pub any_before : (x : A) (xs : List A) → l x ≡ false → precedes e l xs ≡ true → precedes e l (x ∷ xs) ≡ true
-  any_before x xs n h = ap₂ (λ b c. not b && (e x || c)) n h ∙ or_true (e x)
-
   -- where one comes that has to be preceded, one has come that precedes
   pub preceded : (xs : List A) → precedes e l xs ≡ true → list_any l xs ≡ true → list_any e xs ≡ true
   preceded [] h a = a
@@ -121,8 +118,3 @@ module _ {A : Type 0} (e l : A → Bool) where
   pub followed_end : (xs : List A) (y : A) → l y ≡ true → e y ≡ false → is_followed e l (xs ++ y ∷ []) ≡ true
   followed_end [] y h n = ap (λ b. (not b || false) && true) n
   followed_end (x ∷ xs) y h n = and_true (ap (λ b. not (e x) || b) (any_end xs y h) ∙ or_true (not (e x))) (followed_end xs y h n)
-
-pub any-append : {A : Type 0} (p : A → Bool) (xs ys : List A) → list_any p xs ≡ false → list_any p ys ≡ false → list_any p (xs ++ ys) ≡ false
-any-append p [] ys h g = g
-any-append p (x ∷ xs) ys h g = let more = any-append p xs ys in
-    elim (p x) as (λ b. (b || list_any p xs) ≡ false → (b || list_any p (xs ++ ys)) ≡ false) [ true ↦ (λ k. k) | false ↦ (λ k. more k g) ] h

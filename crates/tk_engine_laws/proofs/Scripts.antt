@@ -30,10 +30,6 @@ not_eq x y n = ⊎_elim (λ t. absurd (n ((same_decides x y).0 t))) (λ f. f) (c
 pub eq_not : (x y : List SegmentView) → same_id x y ≡ false → x ≢ y
 eq_not x y f e = let t = (same_decides x y).1 e in let bad : true ≡ false = sym t ∙ f in cc
 
-pub grows : (p : List SegmentView) (s : SegmentView) → p ≢ p ++ s ∷ []
-grows [] s e = cc
-grows (x ∷ p) s e = let rest : p ≡ p ++ s ∷ [] = cc in grows p s rest
-
 -- ---- a fact of lists of labels that goes on, that holds where a child has no label, and of what its parent does
 
 module _ (p : List SegmentView) (s : SegmentView) (F : List Label → Type 0)

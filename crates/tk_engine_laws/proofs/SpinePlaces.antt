@@ -12,7 +12,7 @@ use Rattle.tk_plan_units.proofs.Cuts.{if_both, spine_facts}
 use Rattle.tk_plan_units.proofs.Describing.{statics-append, statics_length}
 use Rattle.tk_plan_units.proofs.Founding.{rooted_static}
 use Rattle.tk_engine_laws.proofs.Grounds.{some_same}
-use Rattle.tk_engine_laws.specs.Spines.{count_static, end_of, IsOnSpine, ArePlaced}
+use Rattle.tk_engine_laws.specs.Spines.{count_static, end_of, ArePlaced}
 
 -- ---- the numbers of some nodes
 
@@ -182,10 +182,6 @@ plan_walks nodes table plan numbers =
     let numbers_follow : Follow 0 nodes = subst (Follow 0) (sym numbers) (follow 0 (count_static nodes) nodes) in
     subst (Walks 0 (parts_below true (forest nodes))) (omega (arith, len, same))
     (walks_below true (forest nodes) 0 (rooted_static (forest nodes) plan.root) (subst (Follow 0) plan.trees numbers_follow))
-
--- the key of a node on the spine is one of the table's
-pub spine_within : (nodes : List NumberedNode) (table : List Descriptor) → IsPlanned nodes table → IsNumbered nodes → (key : ℕ) → IsOnSpine nodes key → key < length table
-spine_within nodes table plan numbers key on = (spine_range (parts_below true (forest nodes)) 0 (length table) on.0 key (plan_walks nodes table plan numbers) on.1).1
 
 -- each static node stands on the spine or in a unit, and none does both
 pub are_placed : (nodes : List NumberedNode) (table : List Descriptor) → IsPlanned nodes table → IsNumbered nodes → ArePlaced nodes table

@@ -2,7 +2,7 @@
 use Rattle.std.proofs.Common.{◌≡◌, ◌==◌, ◌&&◌, ◌||◌, not, ℕ, ◌⊎◌, inl, inr, Bool, true, false, cond, if◌then◌else◌, List, [], ◌∷◌, ◌++◌, map, filter, Option, Some, None, slice_get, refl, sym, ap, ap₂, ◌∙◌, arith, tests}
 use Rattle.std.specs.List.{list_any}
 use Rattle.std.specs.Option.{option_or}
-use Rattle.tk_engine_lifecycle.proofs.Splits.{unfiltered, right_nil}
+use Rattle.tk_engine_lifecycle.proofs.Splits.{unfiltered}
 use Rattle.std.proofs.lemmas.List.{map-append}
 use Rattle.std.proofs.lemmas.List.Elements.{filter-append}
 use Rattle.tk_ids.specs.IdText.{SegmentView}
@@ -207,10 +207,3 @@ pub hit_in : (key : ℕ) (es : List Event) (e : Event) (more : List Event) → h
 hit_in key es e more h =
     let u = unfiltered (is_at key) es [] e more h in
     (u.prefix, u.suffix, u.is, grind (arith, tests, u.passes))
-
--- an event of the key is among the key's events
-pub hit_there : (key : ℕ) (p : List Event) (e : Event) (q : List Event) → e.key ≡ key → hits key (p ++ e ∷ q) ≡ [] → ⊥
-hit_there key p e q same none =
-    let own : is_at key e ≡ true = grind (arith, tests, same) in
-    let gone = right_nil (hits key p) (hits key (e ∷ q)) (sym (hits-append key p (e ∷ q)) ∙ none) in
-    let bad : e ∷ hits key q ≡ [] = ap (λ b. cond b (e ∷ hits key q) (hits key q)) (sym own) ∙ gone in cc

@@ -12,7 +12,7 @@ use Rattle.tk_engine_lifecycle.proofs.Splits.{Gives, none_or_one}
 use Rattle.tk_engine_lifecycle.proofs.ByKey.{Registration, hit_in, hits, is_dynamic}
 use Rattle.tk_engine_lifecycle.proofs.Registered.{once, same_worker}
 use Rattle.tk_engine_lifecycle.proofs.Turns.{Turn, emitted, is_by}
-use Rattle.tk_engine_lifecycle.proofs.Apart.{Hit, KeptRun, at_worker, common_apart, hit_or_none, own, registered_alone}
+use Rattle.tk_engine_lifecycle.proofs.Apart.{Hit, KeptRun, at_worker, common_apart, own, registered_alone}
 
 -- the entry of an event in the middle of a run
 pub record InRun (f : Frame) (entries : List Entry) (w : ℕ) (e : Event) : Type 0 where
@@ -157,10 +157,3 @@ none_common f entries c key h =
     (λ (g : Gives (hits_of key) c.ts). let k = c.each g.prefix g.one g.suffix g.is in
     absurd (common_apart f g.one key c.around k.0 k.1 h (given_hit key g.one g.first g.rest g.given)))
     (none_or_one (hits_of key) c.ts)
-
-pub none_around : (f : Frame) (entries : List Entry) (c : KeptRun f entries) (p : List Turn) (t : Turn) (q : List Turn) (key : ℕ)
-    → c.ts ≡ p ++ t ∷ q → Hit key t.list → hits key (f.before ++ f.after) ≡ []
-none_around f entries c p t q key is h =
-    ⊎_elim (λ n. n)
-    (λ g. let k = c.each p t q is in absurd (common_apart f t key c.around k.0 k.1 g h))
-    (hit_or_none key (f.before ++ f.after))

@@ -1,5 +1,5 @@
 -- Registrations in a record: each has a key of its own.
-use Rattle.std.proofs.Common.{◌≡◌, ◌<◌, ◌≤◌, ◌+◌, ◌*◌, ◌&&◌, not, ℕ, Bool, true, false, cond, if◌then◌else◌, List, [], ◌∷◌, ◌++◌, length, filter, length-append, Option, Some, None, count_by, refl, sym, ap, ◌∙◌, subst, append_assoc, append-nil, arith, tests}
+use Rattle.std.proofs.Common.{◌≡◌, ◌<◌, ◌≤◌, ◌+◌, ◌*◌, not, ℕ, Bool, true, false, cond, if◌then◌else◌, List, [], ◌∷◌, ◌++◌, length, filter, length-append, Option, Some, None, count_by, refl, sym, ap, ◌∙◌, subst, append_assoc, append-nil, arith, tests}
 use Rattle.std.proofs.lemmas.List.Elements.{filter-append}
 use Rattle.std.proofs.lemmas.List.Sums.{length-filter}
 use Rattle.tk_events.specs.declared.kinds.Kind.TheVariants.{Dynamic}
@@ -34,10 +34,6 @@ pub record IsNumbered (past : List Entry) (e : Entry) : Type 0 where
   pub own : 0 < e.worker
   pub few : count_by (registers e.worker) past < MAX_DESCRIPTORS
   pub key : e.event.key ≡ registered_key e.worker (count_by (registers e.worker) past)
-
-both : (a b : Bool) → (a && b) ≡ true → (a ≡ true) × (b ≡ true)
-both true b e = (refl, e)
-both false b e = cc
 
 next_when : (b : Bool) (r : Recorded) (e : Entry) (other : Bool) → of_kind Dynamic e ≡ b → b ≡ true → (if b then is_next r e else other) ≡ true → is_next r e ≡ true
 next_when true r e other is d h = h

@@ -1,5 +1,5 @@
 -- The lines of a replay text, and where reading one stops.
-use Rattle.std.proofs.Common.{◌≡◌, ◌≢◌, ◌≤◌, ◌+◌, ℕ, zero, suc, Bool, true, false, List, [], ◌∷◌, ◌++◌, length, drop, eqb, map, Some, None, Result, Ok, Err, refl, sym, ap, subst, ◌∙◌, arith, inl, inr, ⊎_elim}
+use Rattle.std.proofs.Common.{◌≡◌, ◌≢◌, ◌≤◌, ◌+◌, ℕ, zero, suc, Bool, true, List, [], ◌∷◌, ◌++◌, length, drop, eqb, map, Some, None, Result, Ok, Err, refl, sym, ap, subst, ◌∙◌, arith, inl, inr, ⊎_elim}
 use Rattle.std.specs.List.{starts_with}
 use Rattle.std.proofs.lemmas.Option.{none-some}
 use Rattle.std.proofs.lemmas.List.{length-append, length-map}
@@ -20,7 +20,7 @@ use Rattle.tk_record.specs.declared.node_lines.NodesFault.{NodesFault}
 use Rattle.tk_record.specs.declared.node_lines.NodesFault.TheVariants as listing
 use Rattle.tk_record.proofs.Forms.{one_value}
 use Rattle.tk_record.proofs.RecordLines.{entry_line_form, entry_no_feed}
-use Rattle.tk_record.proofs.After.{same_line, regroup, feed_stands, no_entry_at_node, no_node_start, one_more, push_nonempty}
+use Rattle.tk_record.proofs.After.{same_line, regroup, feed_stands, no_entry_at_node, no_node_start}
 use Rattle.tk_queue_replay.specs.declared.turns.Turn.{Turn}
 use Rattle.tk_queue_replay.specs.declared.replays.Replayed.{Replayed}
 use Rattle.tk_queue_replay.specs.declared.replays.ReplayFault.{ReplayFault}
@@ -33,7 +33,7 @@ use Rattle.tk_queue_replay.specs.ReplayText.{Scenario, header, TextHead, text_he
 use Rattle.tk_queue_replay.specs.ReplayText.{scripts_by, input_of, NoCount, IsTextOf, IsPlayed}
 use Rattle.tk_queue_replay.specs.ReplayText.{nodes_fault}
 use Rattle.tk_queue_replay.specs.steps.ReplayText.{IsPlayedAs}
-use Rattle.tk_queue_replay.specs.steps.Reading.{LacksEntryStart, IsEntriesPrefix, IsCountFault}
+use Rattle.tk_queue_replay.specs.steps.Reading.{LacksEntryStart, IsEntriesPrefix}
 use Rattle.tk_queue_replay.specs.steps.Reading.{IsListFault, IsFaultAfter, NoTurns, IsFollowed}
 use Rattle.tk_queue_replay.specs.steps.Reading.{IsEndFault}
 use Rattle.tk_queue_replay.proofs.ScriptForms.{workers_line_form, turns_line_form, workers_no_feed, turns_no_feed}
@@ -52,9 +52,6 @@ pub count_none : (input line more : List ℕ) → input ≡ line ++ 10 ∷ more 
 count_none input line more is lacks read n m has eq =
     let s = same_line line (workers_line n) more m lacks (workers_no_feed n has) (sym is ∙ eq ∙ regroup (workers_line n) m) in
     none-some n (sym read ∙ ap (in_line workers_of) s.0 ∙ workers_line_form.again n has)
-
-pub count_unfed : (input : List ℕ) → LacksFeed input → NoCount input
-count_unfed input lacks n m has = unfed (workers_line n) m input lacks
 
 pub turns_found : (n : ℕ) (input line more : List ℕ) (ts : List Turn) → n ≤ most_workers → input ≡ line ++ 10 ∷ more → in_line (turns_of n) line ≡ Some ts → AreTurns n ts × (input ≡ with_line_feed (turns_line ts) ++ more)
 turns_found n input line more ts few is read =
@@ -90,30 +87,16 @@ no_turns_at b rest t other is n ts m are eq = let s = turns_begins ts m in other
 pub entry_start : (r : Bool) (rest : List ℕ) → r ≡ starts_with eqb rest (69 ∷ 124 ∷ []) → r ≡ true → (t : List ℕ) × (rest ≡ 69 ∷ 124 ∷ t)
 entry_start r rest e is = (drop 2 rest, (starts_is Decides-eqb rest (69 ∷ 124 ∷ []) r e).0 is)
 
-pub lacks_entry_start : (r : Bool) (rest : List ℕ) → r ≡ starts_with eqb rest (69 ∷ 124 ∷ []) → r ≡ false → LacksEntryStart rest
-lacks_entry_start r rest e is = λ more eq. let t : r ≡ true = (starts_is Decides-eqb rest (69 ∷ 124 ∷ []) r e).1 more eq in absurd cc
-
 no_entry_start : (rest : List ℕ) → LacksEntryStart rest → (e : Entry) (m : List ℕ) → rest ≢ with_line_feed (entry_line e) ++ m
 no_entry_start rest lacks e m eq = let b = entry_begins e m in lacks b.0 (eq ∙ b.1)
 
 -- ---- lines of entries
-
-pub AreOwn-push : (head : TextHead) (entries : List Entry) (e : Entry) → AreOwn head entries → IsOwn head e → AreOwn head (entries ++ e ∷ [])
-AreOwn-push head [] e own is = (is, tt)
-AreOwn-push head (x ∷ xs) e own is = (own.0, AreOwn-push head xs e own.1 is)
 
 -- what the loop over the entries keeps
 pub record SoFar (head : TextHead) (input : List ℕ) (entries : List Entry) (rest : List ℕ) : Type 0 where
   pub prefix : input ≡ entries_text entries ++ rest
   pub own : AreOwn head entries
   pub no_node : entries ≡ [] → LacksNodeStart rest
-
-pub so_more : (head : TextHead) (input : List ℕ) (entries : List Entry) (rest line more : List ℕ) (e : Entry) → SoFar head input entries rest → rest ≡ line ++ 10 ∷ more → HasLineIn head.version e × (line ≡ entry_line e) → IsWorkerOf head.workers e.worker → SoFar head input (entries ++ e ∷ []) more
-so_more head input entries rest line more e so split found is = record {
-  prefix = one_more entry_line entries e input line more (so.prefix ∙ ap (λ (t : List ℕ). entries_text entries ++ t) split) found.1;
-  own = AreOwn-push head entries e so.own (found.0, is);
-  no_node = λ none. absurd (push_nonempty entries e none);
-}
 
 pub bad_entry : (head : TextHead) (nodes : ℕ) (input : List ℕ) (entries : List Entry) (rest : List ℕ) (k : ℕ) → SoFar head input entries rest → ((e : Entry) (m : List ℕ) → IsOwn head e → rest ≢ with_line_feed (entry_line e) ++ m) → NoTurns head.workers rest
     → k ≡ nodes + length entries + 3 → IsFaultAfter head nodes input (faults.BadLine k)
@@ -170,15 +153,6 @@ end_fault head nodes number input entries rest faults.Device f is fault = absurd
 
 -- ---- the whole
 
-pub count_played : (version : Version) (input body : List ℕ) (fault : ReplayFault) → input ≡ header version ++ body → IsCountFault body fault → IsPlayed input (Err fault)
-count_played version input body (faults.BadLine k) is fault = (version, body, is, inl fault)
-count_played version input body faults.Memory is fault = absurd fault
-count_played version input body faults.NoHeader is fault = absurd fault
-count_played version input body (faults.AfterEnd i) is fault = absurd fault
-count_played version input body (faults.Append i x) is fault = absurd fault
-count_played version input body faults.TooLarge is fault = absurd fault
-count_played version input body faults.Device is fault = absurd fault
-
 pub list_played : (version : Version) (n : ℕ) (input body rest : List ℕ) (fault : ReplayFault) → input ≡ header version ++ body → IsCount n × (body ≡ with_line_feed (workers_line n) ++ rest) → IsListFault (text_head version n) rest fault → IsPlayed input (Err fault)
 list_played version n input body rest (faults.BadLine k) is count fault = (version, body, is, inr (n, rest, count.0, count.1, fault))
 list_played version n input body rest faults.Memory is count fault = tt
@@ -206,11 +180,6 @@ nodes_played version n input body rest (listing.BadLine k) is count bad = list_p
 }))
 nodes_played version n input body rest listing.Memory is count bad = tt
 
-pub after_played : (version : Version) (n nodes : ℕ) (input body rest more : List ℕ) (table : List Descriptor) (fault : ReplayFault) → input ≡ header version ++ body → IsCount n × (body ≡ with_line_feed (workers_line n) ++ rest) → IsNodesPrefix rest table more → nodes ≡ length table
-    → IsFaultAfter (text_head version n) nodes more fault → IsPlayed input (Err fault)
-after_played version n nodes input body rest more table fault is count prefix long f =
-    list_played version n input body rest fault is count (subst (λ (t : List ℕ). IsListFault (text_head version n) t fault) (sym prefix.prefix) (f table prefix.fitting (sym long)))
-
 pub says : (version : Version) (n : ℕ) (input body rest more last : List ℕ) (table : List Descriptor) (entries : List Entry) (turns : List Turn) → input ≡ header version ++ body → IsCount n × (body ≡ with_line_feed (workers_line n) ++ rest) → IsNodesPrefix rest table more
     → IsEntriesPrefix (text_head version n) more entries last → AreTurns n turns × (last ≡ with_line_feed (turns_line turns)) → IsTextOf input (record { version = version; workers = n; table = table; entries = entries; turns = turns })
 says version n input body rest more last table entries turns is count nodes own ends = (
@@ -224,9 +193,6 @@ scripts_long entries (suc n) = let h = scripts_long entries n in omega (arith, l
 
 pub scripts_count : {S : Type 0} (f : S → List Event) (scripts : List S) (entries : List Entry) (n : ℕ) → map f scripts ≡ scripts_by entries n → length scripts ≡ n
 scripts_count f scripts entries n is = sym (length-map scripts f) ∙ ap length is ∙ scripts_long entries n
-
-pub scripts_here : {S : Type 0} (f : S → List Event) (scripts : List S) (entries others : List Entry) (n : ℕ) → entries ≡ others → map f scripts ≡ scripts_by entries n → map f scripts ≡ scripts_by others n
-scripts_here f scripts entries others n same is = is ∙ ap (λ (es : List Entry). scripts_by es n) same
 
 pub replay_here : (t u : List Descriptor) (s r : List (List Event)) (x y : List Turn) (a : Result Replayed ReplayFault) → t ≡ u → s ≡ r → x ≡ y → IsReplayed t s x a → IsReplayed u r y a
 replay_here t u s r x y a p q e is = subst (λ (z : List Descriptor × List (List Event) × List Turn). IsReplayed z.0 z.1 z.2 a) (λ i. (p i, q i, e i)) is

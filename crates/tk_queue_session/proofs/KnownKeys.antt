@@ -73,10 +73,6 @@ own_entries w (e ∷ es) = ⊎_elim
       ap₂' : {x y : Entry} {xs ys : List Entry} → x ≡ y → xs ≡ ys → x ∷ xs ≡ y ∷ ys
       ap₂' p q = λ i. p i ∷ q i
 
-or_true : (b : Bool) → (b || true) ≡ true
-or_true true = refl
-or_true false = refl
-
 -- what some of the entries register, all of them do
 pub some_among : (p : Entry → Bool) (es : List Entry) (key : ℕ) → is_some (desc_in (filter p es) key) ≡ true → is_some (desc_in es key) ≡ true
 some_among p [] key h = h

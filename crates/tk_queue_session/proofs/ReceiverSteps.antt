@@ -3,7 +3,7 @@ use Rattle.std.proofs.Common.{◌≡◌, ◌≢◌, ◌==◌, ℕ, zero, suc, �
 use Rattle.std.specs.Prelude.{slice_index_or, filter, nat_lt, is_some, nat_le}
 use Rattle.std.proofs.lemmas.Bool.{cases_eq}
 use Rattle.std.proofs.lemmas.List.{map-append, get_or-set_same, get_or-set_other}
-use Rattle.std.proofs.lemmas.List.Elements.{All-nil, All-push}
+use Rattle.std.proofs.lemmas.List.Elements.{All-push}
 use Rattle.tk_ids.specs.declared.descriptors.Descriptor.{Descriptor}
 use Rattle.tk_ids.specs.declared.tables.TheConstants.{MAX_DESCRIPTORS}
 use Rattle.tk_events.specs.declared.kinds.Kind.TheVariants.{Dynamic}
@@ -59,15 +59,6 @@ or_false false = refl
 or_true : (b : Bool) → (b || true) ≡ true
 or_true true = refl
 or_true false = refl
-
-pub receiver_fresh : (v : PassView) (table : List Descriptor) (workers : ℕ) (marked : List Bool) → v ≡ pass_of_receiver (length table) workers [] [] → workers ≤ most_workers → length marked ≡ worker_slots
-    → ((w : ℕ) → w < worker_slots → slice_index_or marked w false ≡ false) → IsReceiver v table workers marked
-receiver_fresh v table workers marked e few long none = subst (λ u. IsReceiver u table workers marked) (sym e) (record {
-  is = refl;
-  recordable = record { limit = few; workers = All-nil (λ x. IsWorkerOf workers x.worker); few = λ w. omega arith };
-  long = long;
-  marks = none;
-})
 
 taken_now : (v w : PassView) (table : List Descriptor) (workers : ℕ) (marked : List Bool) (x : Item) → IsReceiver v table workers marked → Pops v x w → w ≡ pass_of_receiver (length table) workers (taken_of v ++ x ∷ []) []
 taken_now v w table workers marked x h p = p.0 ∙ ap (λ u. popped u x) h.is

@@ -27,7 +27,7 @@ use Rattle.tk_queue_session.specs.Limits.{most_events}
 use Rattle.tk_queue_session.specs.Emission.{MayEmit, Emission, is_dynamic, is_plain, registrations, entry_by, entries_by}
 use Rattle.tk_queue_session.specs.PassViews.{pass_of_sender, pushed, MayPush}
 use Rattle.tk_queue_session.specs.Senders.{SenderView, SenderFields, EmitsLawfully, fresh_senders, knows, refusal_of, id_registered, IsSender, sent_of}
-use Rattle.tk_queue_session.specs.Registering.{HasRoom, IsNew}
+use Rattle.tk_queue_session.specs.Registering.{HasRoom}
 use Rattle.tk_queue_session.specs.steps.Registering.{IsChildMade}
 use Rattle.tk_queue_session.proofs.KnownKeys.{emission_none, emission_more, some_desc, known_after}
 
@@ -169,14 +169,6 @@ registration_may v table worker emitted key stamp ids d h is few =
 next_unregistered : (v : PassView) (table : List Descriptor) (worker emitted key : ℕ) (ids : List (List SegmentView)) → IsSender v (fields table worker ids emitted) → key ≡ registered_key worker (length ids) → desc_in (entries_by worker (sent_of v)) key ≡ None
 next_unregistered v table worker emitted key ids h is =
     no_id (desc_in (entries_by worker (sent_of v)) key) (h.leads key ∙ id_at worker ids (length ids) key is ∙ slice_get_past ids (length ids) (omega arith))
-
--- nor is that key a static one
-pub next_is_new : (t : TableId) (v : PassView) (table : List Descriptor) (worker emitted key : ℕ) (ids : List (List SegmentView)) (s : SenderView) → IsSender v (fields table worker ids emitted)
-    → record { session = t; table = table; worker = worker; sent = sent_of v } ≡ s → length table ≤ MAX_DESCRIPTORS → key ≡ registered_key worker (length ids) → IsNew s key
-next_is_new t v table worker emitted key ids s h is few at =
-    let low = h.low in
-    subst (λ (y : SenderView). IsNew y key) is
-    (ap (λ o. option_or o (desc_in (entries_by worker (sent_of v)) key)) (slice_get_past table key (omega arith)) ∙ next_unregistered v table worker emitted key ids h at)
 
 -- the next key by the sender's ids
 pub next_key_is : (t : TableId) (v : PassView) (table : List Descriptor) (worker emitted : ℕ) (ids : List (List SegmentView)) (s : SenderView) {key : ℕ} → IsSender v (fields table worker ids emitted)
