@@ -2,7 +2,7 @@
 ghost use Rattle.std.specs.Prelude.{◌≡◌};
 
 use std::alloc::Global;
-use tk_engine_claim::{Claim, ClaimFault, ClaimSeat};
+use tk_engine_runs::{Claim, ClaimFault, ClaimSeat};
 
 // Whether the number is drawn next.
 fn draws(claim: &Claim, seat: &mut ClaimSeat, number: u32) -> bool

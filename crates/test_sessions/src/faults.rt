@@ -2,7 +2,7 @@
 use std::alloc::Global;
 use test_support::{are_shown, are_shown_as, start};
 use tk_book::BookFault;
-use tk_engine_claim::ClaimFault;
+use tk_engine_runs::ClaimFault;
 use tk_ids::IdFault;
 use tk_queue::{CoreFault, OpenFault, RegisterFault, ReplayFault, SendFault};
 

@@ -9,7 +9,7 @@ use test_support::{
     small_replay_taken, start,
 };
 use tk_book::{Book, BookFault, Holdings, Need};
-use tk_engine_claim::{Claim, ClaimFault};
+use tk_engine_runs::{Claim, ClaimFault};
 use tk_events::Kind;
 use tk_ids::{DType, Segment};
 use tk_queue::{

@@ -3,6 +3,7 @@ use Rattle.std.proofs.Common.{◌≡◌, ℕ, ◌+◌, ◌<◌, ◌≤◌, true,
 use Rattle.std.specs.Prelude.{vec_len}
 use Rattle.std.proofs.lemmas.List.Elements.{All-nil, All-push, All-weaker}
 use Rattle.std.proofs.lemmas.List.Quantifiers.{all_pairs_push}
+use Rattle.tk_lemmas.proofs.Lists.{nil_from_length}
 use Rattle.atomic_table.specs.Seated.{TableId}
 use Rattle.tk_engine_execute.specs.declared.event_collectors.EventCollector.{EventCollector}
 use Rattle.tk_engine_execute.specs.declared.worker_threads.Collected.{Collected}
@@ -10,7 +11,7 @@ use Rattle.tk_engine_execute.specs.declared.workers.WorkerEnd.{WorkerEnd}
 use Rattle.tk_engine_execute.specs.steps.EventCollectors.{TookMore, CanCollect, NoneIsAwaited}
 use Rattle.tk_engine_execute.specs.steps.WorkerThreads.{WorkersWereRun}
 use Rattle.tk_engine_execute.specs.steps.Workers.{RunUnits, IsDone, AreDone}
-use Rattle.tk_engine_execute.proofs.Positions.{nil_of_length, snoc_all}
+use Rattle.tk_engine_execute.proofs.Positions.{snoc_all}
 use Rattle.tk_engine_execute.proofs.Collecting.{took_more-trans}
 
 module _ (units : RunUnits) (session : TableId) where
@@ -40,7 +41,7 @@ module _ (units : RunUnits) where
   pub nobody_joined : (n : ℕ) (old : Collected) (last : EventCollector) → n ≡ 0 → vec_len old.worker_ends ≡ 0 → TookMore old.collector last → CanCollect last → NoneIsAwaited last → last.lacks_thread ≡ old.collector.lacks_thread
       → WorkersWereRun units n old (record { collector = last; worker_ends = old.worker_ends })
   nobody_joined n old last none empty took_more collector none_is_awaited same =
-      let nil : old.worker_ends.items ≡ [] = nil_of_length old.worker_ends.items (sym (old.worker_ends.ok.0) ∙ empty) in
+      let nil : old.worker_ends.items ≡ [] = nil_from_length old.worker_ends.items (sym (old.worker_ends.ok.0) ∙ empty) in
       record {
         took_more = took_more;
         collector = collector;

@@ -21,16 +21,6 @@ map_at f [] i y e = cc
 map_at f (x ∷ xs) zero y e = (x, refl, cc)
 map_at f (x ∷ xs) (suc i) y e = map_at f xs i y e
 
-pub nil_of_length : {X : Type 0} (xs : List X) → length xs ≡ 0 → xs ≡ []
-nil_of_length [] e = refl
-nil_of_length (x ∷ xs) e = absurd (omega arith)
-
--- what holds of each element holds of the one at a place
-pub all_at : {X : Type 0} (P : X → Type 0) (xs : List X) → All P xs → (i : ℕ) (x : X) → slice_get xs i ≡ Some x → P x
-all_at P [] all i x e = cc
-all_at P (z ∷ xs) all zero x e = let same : z ≡ x = cc in subst P same (All-head P z xs all)
-all_at P (z ∷ xs) all (suc i) x e = all_at P xs (All-tail P z xs all) i x e
-
 -- what holds of each place holds of each element
 pub all_from : {X : Type 0} (P : X → Type 0) (xs : List X) → ((i : ℕ) (x : X) → slice_get xs i ≡ Some x → P x) → All P xs
 all_from P [] each = All-nil P

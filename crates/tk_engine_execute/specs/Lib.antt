@@ -1,4 +1,4 @@
-pub use Rattle.tk_engine_claim.specs.Claims
+pub use Rattle.tk_engine_runs.specs.Claims
 pub use Rattle.tk_engine_runs.specs.Run
 pub mod Engines
 pub mod Grown

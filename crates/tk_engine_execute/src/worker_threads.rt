@@ -13,7 +13,7 @@ use std::sync::Wait;
 use std::thread;
 use std::thread::{Promise, Scope, Threads};
 use tk_book::Book;
-use tk_engine_claim::Claim;
+use tk_engine_runs::Claim;
 
 /// What a worker's thread promises of the end that it returns.
 #[derive(Drop)]

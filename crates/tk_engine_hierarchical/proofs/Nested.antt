@@ -14,10 +14,10 @@ use Rattle.tk_engine_runs.specs.Run.{IsRun}
 use Rattle.tk_engine_lifecycle.specs.Units.{Frame, UnitsKeepLifecycle, run_alone}
 use Rattle.tk_engine_lifecycle.proofs.Apart.{Hit, KeptRun, other_first}
 use Rattle.tk_engine_lifecycle.proofs.ByKey.{same_id}
-use Rattle.tk_engine_lifecycle.proofs.Prefixes.{of_worker-append}
 use Rattle.tk_engine_lifecycle.proofs.Splits.{unfiltered}
 use Rattle.tk_engine_lifecycle.proofs.Turns.{Each, Turn, emitted, is_by, turned}
 use Rattle.tk_engine_lifecycle.proofs.Whole.{kept_run, turn_whole}
+use Rattle.tk_queue_session.proofs.ReceiverSteps.{of_worker-append}
 use Rattle.tk_engine_hierarchical.specs.Laws.{UnitsNest}
 use Rattle.tk_engine_unit_events.specs.Nesting.{BelongsTo, EachFinishes, EventsNest}
 use Rattle.tk_engine_unit_events.specs.Shapes.{ShapeView, frame, may_emit}

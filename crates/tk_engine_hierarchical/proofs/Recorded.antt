@@ -18,7 +18,7 @@ use Rattle.tk_record_columns.specs.Mixing.{IsWorkerOf, of_worker}
 use Rattle.tk_queue_session.specs.Emission.{entries_by, entry_by, registrations}
 use Rattle.tk_query_lifecycle.specs.Lifecycle.{has_event, is_event}
 use Rattle.tk_query_lifecycle.specs.KeepsLifecycle.{IsWhole, KeepsLifecycle, is_step, steps_of}
-use Rattle.tk_engine_claim.specs.Claims.{once_below, times}
+use Rattle.tk_engine_runs.specs.Claims.{once_below, times}
 use Rattle.tk_engine_execute.proofs.Emitted.{registrations-append}
 use Rattle.tk_engine_runs.specs.Run.{Emits, IsRun, IsShared}
 use Rattle.tk_engine_lifecycle.proofs.Apart.{other_first, own_first}

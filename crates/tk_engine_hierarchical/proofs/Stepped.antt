@@ -1,6 +1,7 @@
 -- Each node of a unit is a node of the plan, by its number.
 use Rattle.std.proofs.Common.{◌≡◌, ◌≤◌, ◌+◌, ℕ, zero, suc, Bool, true, false, cond, List, [], ◌∷◌, ◌++◌, length, take, drop, Some, slice_get, All, arith, length-append, sym, ap, ◌∙◌, subst}
 use Rattle.std.proofs.lemmas.List.Elements.{All-nil, All-cons, All-head, All-tail, All-append, All-drop, All-take, All-weaker}
+use Rattle.tk_lemmas.proofs.Lists.{All_at}
 use Rattle.tk_ids.specs.declared.descriptors.Descriptor.{Descriptor}
 use Rattle.tk_events.specs.declared.events.Event.{Event}
 use Rattle.tk_plan_units.specs.declared.nodes.Node.{Node}
@@ -11,7 +12,6 @@ use Rattle.tk_plan_units.specs.Planned.{Outline}
 use Rattle.tk_plan_units.specs.Trees.{Forest, IsForest, IsSplit, Tree, flat, flats, forest, more, no_trees, tree, tree_of}
 use Rattle.tk_plan_units.proofs.Ordering.{all_numbered}
 use Rattle.tk_plan_units.proofs.Parting.{all_back, all_prefix, all_single}
-use Rattle.tk_engine_execute.proofs.Positions.{all_at}
 use Rattle.tk_engine_hierarchical.specs.StaticSteps.{FitsNode, FitsPlan}
 use Rattle.tk_engine_hierarchical.specs.steps.StaticSteps.{MayStepAs}
 use Rattle.tk_engine_unit_events.specs.declared.outcomes.Outcome.{Outcome}
@@ -53,7 +53,7 @@ module _ (P : NumberedNode → Type 0) where
       (pieces_have (i + length (moves_of p)) ps (All-tail PartHas p ps h))
 
   pub unit_has : (root : Forest) (unit : ℕ) (u : Piece) → All P (flats root) → slice_get (pieces_of root) unit ≡ Some u → All P (flat u.tree)
-  unit_has root unit u h is = all_at PieceHas (pieces_of root) (pieces_have 0 (parts_below true root) (below_have true root h)) unit u is
+  unit_has root unit u h is = All_at PieceHas (pieces_of root) unit u (pieces_have 0 (parts_below true root) (below_have true root h)) is
 
 abbrev pub Found : List NumberedNode → NumberedNode → Type 0
 Found nodes p = slice_get (in_order nodes) p.number ≡ Some p.node

@@ -1,6 +1,6 @@
 -- A plan is a tree of nodes with their ids: what it does, and how it is cut.
 use Rattle.std.proofs.Common.{◌≡◌, ℕ, suc, ◌+◌, Bool, true, false, not, cond, ◌&&◌, List, [], ◌∷◌, ◌++◌, map, length, flat_map, Option, Some, None, is_some, refl, sym, ap, ap₂, ◌∙◌, subst, arith, append_assoc, append-nil, if◌then◌else◌, ⊎_elim}
-use Rattle.std.proofs.lemmas.Bool.{cases_Bool}
+use Rattle.std.proofs.lemmas.Bool.{cases_Bool, and_parts}
 use Rattle.std.proofs.lemmas.List.{map-append, length-map}
 use Rattle.tk_plan_units.specs.Trees as plan
 use Rattle.tk_plan_units.specs.Script as done
@@ -183,10 +183,6 @@ cuts_whole p n g t e same = record {
 static_moves : (parent : ℕ) (n : Node) (k : ℕ) (f : plan.Forest) → n.is_static ≡ true → done.registration parent (plan.tree n k f) ++ done.moves (plan.tree n k f) ≡ done.moves (plan.tree n k f)
 static_moves parent n k f e = ap (λ b. (if b then [] else done.move k (Register parent) ∷ []) ++ done.moves (plan.tree n k f)) e
 
-both_true : (a b : Bool) → (a && b) ≡ true → (a ≡ true) × (b ≡ true)
-both_true true b e = (refl, e)
-both_true false b e = cc
-
 abbrev is_static : plan.Tree → Bool
 is_static (plan.tree n k f) = n.is_static
 
@@ -211,7 +207,7 @@ mutual
   cuts_below b parent above p (plan.more (plan.tree n k g) f) e =
       let t = plan.tree n k g in
       let m = modelled b parent above t in
-      let static = both_true n.is_static (cut.all_static f) e in
+      let static = and_parts n.is_static (cut.all_static f) e in
       let one = cuts b parent above p (plan.tree n k g) static.0 in
       let q = p + length (steps p m) in
       let at : q ≡ p + length (flat_map cut.moves_of (cut.parts b t))

@@ -2,7 +2,7 @@
 use Rattle.std.proofs.Common.{◌≡◌, ◌≢◌, ℕ, ◌+◌, ◌⊎◌, Bool, true, false, ◌&&◌, ◌||◌, List, [], ◌∷◌, ◌++◌, map, filter, length, Option, Some, None, slice_get, if◌then◌else◌, refl, sym, ap, ◌∙◌, subst, inl, inr, ⊎_elim, arith, append_assoc}
 use Rattle.std.specs.List.{list_any}
 use Rattle.std.specs.Prelude.{◌==◌}
-use Rattle.std.proofs.lemmas.Bool.{true≢false, and_parts, and_from, or_cases}
+use Rattle.std.proofs.lemmas.Bool.{true≢false, and_parts, and_from, or_cases, or_left, or_right}
 use Rattle.std.proofs.lemmas.List.{map-append}
 use Rattle.std.proofs.lemmas.List.Folds.{list_any-append}
 use Rattle.tk_ids.specs.IdText.{IsBelow, SegmentView, parent_of}
@@ -24,7 +24,7 @@ use Rattle.tk_engine_laws.specs.Listening.{IsOnce, finishes, is_of, is_ran, skip
 use Rattle.tk_engine_laws.specs.Scripts.{IsRunOf}
 use Rattle.tk_engine_laws.proofs.ByKey.{map_get}
 use Rattle.tk_engine_laws.proofs.Keeping.{label_at, labelled, last_segment}
-use Rattle.tk_engine_laws.proofs.ListenerSteps.{and_left, and_right, any_one, any_two, finish_or, listener_law, once, or_right, ran_of, same_one, skip_ran, start_or_skip}
+use Rattle.tk_engine_laws.proofs.ListenerSteps.{any_one, any_two, finish_or, listener_law, once, ran_of, same_one, skip_ran, start_or_skip}
 use Rattle.tk_engine_laws.proofs.Lists.{each-append, each_at}
 use Rattle.tk_engine_laws.proofs.Model.{AreBuilt, Each, Forest, IsBuilt, Item, Models, Step, Tree, finish, item_label, more, no_trees, nodes, nodes_below, opening, performed, plan_labels, step, step_label, steps, steps_below, tree}
 use Rattle.tk_engine_laws.proofs.OneKey.{Comes, HasKey, all_keys, from_table, same_key}
@@ -46,12 +46,8 @@ record IsUnderSkip (ls : List Label) (i : List SegmentView) : Type 0 where
 abbrev IsCovered : List Label → List SegmentView → Type 0
 IsCovered ls i = (list_any (begins i) ls ≡ true) ⊎ IsUnderSkip ls i
 
-true_or : (b c : Bool) → b ≡ true → (b || c) ≡ true
-true_or true c h = refl
-true_or false c h = cc
-
 any_left : (p : Label → Bool) (xs ys : List Label) → list_any p xs ≡ true → list_any p (xs ++ ys) ≡ true
-any_left p xs ys h = list_any-append p xs ys ∙ true_or (list_any p xs) (list_any p ys) h
+any_left p xs ys h = list_any-append p xs ys ∙ or_left (list_any p xs) (list_any p ys) h
 
 any_right : (p : Label → Bool) (xs ys : List Label) → list_any p ys ≡ true → list_any p (xs ++ ys) ≡ true
 any_right p xs ys h = list_any-append p xs ys ∙ or_right (list_any p xs) (list_any p ys) h
@@ -176,14 +172,14 @@ finish_of Published payload h = absurd (true≢false (sym h))
 finish_ran : (i : List SegmentView) → Only (finishes i) (ran_of i)
 finish_ran i l h =
     let both = and_parts (is_of i l) (same_kind l.kind Finished) h in
-    and_from (is_of i l) (is_ran l.kind) both.0 (or_right (same_kind l.kind Started) _ (true_or (same_kind l.kind Finished) _ both.1))
+    and_from (is_of i l) (is_ran l.kind) both.0 (or_right (same_kind l.kind Started) _ (or_left (same_kind l.kind Finished) _ both.1))
 
 not_finished : (i : List SegmentView) (ls : List Label) → IsOnce ls → list_any (finishes i) ls ≡ true → list_any (skips i) ls ≡ true → ⊥
 not_finished i [] o f k = true≢false (sym f)
-not_finished i (x ∷ []) o f k = true≢false (sym o ∙ (finish_or x.kind (and_right (is_of i x) _ (any_one _ f))).0)
+not_finished i (x ∷ []) o f k = true≢false (sym o ∙ (finish_or x.kind (and_parts (is_of i x) _ (any_one _ f)).1).0)
 not_finished i (x ∷ (y ∷ [])) o f k = ⊎_elim {C = ⊥}
-    (λ (h : skips i x ≡ true). start_or_skip x.kind o.0 (and_right (is_of i x) _ h))
-    (λ (h : skips i y ≡ true). true≢false (sym (and_right (is_of i y) _ h) ∙ (finish_or y.kind o.1).0))
+    (λ (h : skips i x ≡ true). start_or_skip x.kind o.0 (and_parts (is_of i x) _ h).1)
+    (λ (h : skips i y ≡ true). true≢false (sym (and_parts (is_of i y) _ h).1 ∙ (finish_or y.kind o.1).0))
     (any_two _ _ k)
 not_finished i (x ∷ (y ∷ (z ∷ zs))) o f k = o
 
@@ -194,12 +190,12 @@ module _ (all : List NumberedNode) (table : List Descriptor) (f : Forest) (worke
   same_any i p only = any_kept (is_of i) p only (labels r) ∙ ap (list_any p) (same_one all table f workers r plan run i) ∙ sym (any_kept (is_of i) p only (plan_labels f))
 
   skip_of : (i : List SegmentView) → Only (skips i) (is_of i)
-  skip_of i l h = and_left (is_of i l) (same_kind l.kind Skipped) h
+  skip_of i l h = (and_parts (is_of i l) (same_kind l.kind Skipped) h).0
 
   begin_of : (i : List SegmentView) → Only (begins i) (is_of i)
   begin_of i l h = ⊎_elim {C = is_of i l ≡ true}
-      (λ (a : starts i l ≡ true). and_left (is_of i l) (same_kind l.kind Started) a)
-      (λ (b : skips i l ≡ true). and_left (is_of i l) (same_kind l.kind Skipped) b)
+      (λ (a : starts i l ≡ true). (and_parts (is_of i l) (same_kind l.kind Started) a).0)
+      (λ (b : skips i l ≡ true). (and_parts (is_of i l) (same_kind l.kind Skipped) b).0)
       (or_cases (starts i l) (skips i l) h)
 
   module _ (key : ℕ) (h : NeverRuns r key) where
@@ -224,8 +220,8 @@ module _ (all : List NumberedNode) (table : List Descriptor) (f : Forest) (worke
         (map_get (λ (y : Entry). y.event) r.entries found.position e x.stands) in
         let same = same_key all table f workers r plan run e.event.key key comes (from_table all table f workers r plan run key own its) (named ∙ sym own_name) in
         ⊎_elim {C = ⊥}
-        (λ (a : starts own (label (name r) e.event) ≡ true). h.no_turn.unstarted found.position e x.stands same (and_right (is_of own (label (name r) e.event)) _ a))
-        (λ (b : skips own (label (name r) e.event) ≡ true). h.no_turn.unskipped found.position e x.stands same (and_right (is_of own (label (name r) e.event)) _ b))
+        (λ (a : starts own (label (name r) e.event) ≡ true). h.no_turn.unstarted found.position e x.stands same (and_parts (is_of own (label (name r) e.event)) _ a).1)
+        (λ (b : skips own (label (name r) e.event) ≡ true). h.no_turn.unskipped found.position e x.stands same (and_parts (is_of own (label (name r) e.event)) _ b).1)
         (or_cases (starts own (label (name r) e.event)) (skips own (label (name r) e.event)) begun)
 
     -- the parent finishes

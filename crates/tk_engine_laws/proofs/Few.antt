@@ -115,31 +115,31 @@ abbrev weigh : List ℕ → List ℕ → ℕ
 weigh ws [] = 0
 weigh ws (u ∷ us) = weight_at ws u + weigh ws us
 
-nothing_twice : (b : Bool) (n : ℕ) → b ≡ true → (if b then 1 + n else n) ≡ 0 → ⊥
-nothing_twice true n e h = omega (arith, h)
-nothing_twice false n e h = cc
+pub not_none : (b : Bool) (n : ℕ) → b ≡ true → (if b then 1 + n else n) ≡ 0 → ⊥
+not_none true n e h = omega (arith, h)
+not_none false n e h = cc
 
-not_head : (b : Bool) (n : ℕ) → b ≡ false → (if b then 1 + n else n) ≡ 0 → n ≡ 0
-not_head true n e h = cc
-not_head false n e h = h
+pub none_tail : (b : Bool) (n : ℕ) → (if b then 1 + n else n) ≡ 0 → n ≡ 0
+none_tail true n h = let no : ⊥ = omega (arith, h) in absurd no
+none_tail false n h = h
 
 weigh_without : (ws : List ℕ) (u : ℕ) (us : List ℕ) → times u us ≡ 0 → weigh (without ws u) us ≡ weigh ws us
 weigh_without ws u [] h = refl
 weigh_without ws u (v ∷ us) h = ⊎_elim
-    (λ e. let no : ⊥ = nothing_twice (v == u) (times u us) e h in absurd no)
-    (λ e. let n : v ≢ u = grind (arith, tests, e) in ap₂ (λ a b. a + b) (without_other ws u v n) (weigh_without ws u us (not_head (v == u) (times u us) e h)))
+    (λ e. let no : ⊥ = not_none (v == u) (times u us) e h in absurd no)
+    (λ e. let n : v ≢ u = grind (arith, tests, e) in ap₂ (λ a b. a + b) (without_other ws u v n) (weigh_without ws u us (none_tail (v == u) (times u us) h)))
     (cases_Bool (v == u))
 
-once_by : (b : Bool) (n : ℕ) → b ≡ true → (if b then 1 + n else n) ≤ 1 → n ≡ 0
-once_by true n e h = omega (arith, h)
-once_by false n e h = cc
+pub none_left : (b : Bool) (n : ℕ) → b ≡ true → (if b then 1 + n else n) ≤ 1 → n ≡ 0
+none_left true n e h = omega (arith, h)
+none_left false n e h = cc
 
 once : (u : ℕ) (us : List ℕ) → times u (u ∷ us) ≤ 1 → times u us ≡ 0
-once u us h = let same : (u == u) ≡ true = grind (arith, tests) in once_by (u == u) (times u us) same h
+once u us h = let same : (u == u) ≡ true = grind (arith, tests) in none_left (u == u) (times u us) same h
 
-tail_once : (b : Bool) (n : ℕ) → (if b then 1 + n else n) ≤ 1 → n ≤ 1
-tail_once true n h = omega (arith, h)
-tail_once false n h = h
+pub at_most_tail : (b : Bool) (n : ℕ) → (if b then 1 + n else n) ≤ 1 → n ≤ 1
+at_most_tail true n h = omega (arith, h)
+at_most_tail false n h = h
 
 weighed : (a b c d e : ℕ) → a ≤ c → a ≡ b → c + d ≡ e → d + b ≤ e
 weighed a b c d e h g k = omega (arith, h, g, k)
@@ -147,7 +147,7 @@ weighed a b c d e h g k = omega (arith, h, g, k)
 weigh_at_most : (ws us : List ℕ) → ((u : ℕ) → times u us ≤ 1) → weigh ws us ≤ total ws
 weigh_at_most ws [] h = omega arith
 weigh_at_most ws (u ∷ us) h =
-    let rest = weigh_at_most (without ws u) us (λ v. tail_once (u == v) (times v us) (h v)) in
+    let rest = weigh_at_most (without ws u) us (λ v. at_most_tail (u == v) (times v us) (h v)) in
     let same = weigh_without ws u us (once u us (h u)) in
     let all = total-without ws u in
     weighed _ _ _ _ _ rest same all

@@ -2,6 +2,7 @@
 use Rattle.std.proofs.Common.{◌≡◌, ◌<◌, ℕ, zero, suc, ◌+◌, ◌*◌, Bool, true, false, ◌&&◌, ◌==◌, nat_lt, List, [], ◌∷◌, ◌++◌, map, length, Option, Some, None, slice_get, option_map, refl, sym, ap, ap₂, ◌∙◌, subst, arith, tests, append_assoc, append-nil, if◌then◌else◌, inl, inr}
 use Rattle.std.specs.Option.{option_or}
 use Rattle.std.proofs.lemmas.List.{map-append}
+use Rattle.tk_lemmas.proofs.Options.{option_or_none_left, option_or_none_right}
 use Rattle.tk_plan_units.specs.declared.steps.Step.{Step as PlanStep}
 use Rattle.tk_record_columns.specs.Entries.{desc, desc_in, described}
 use Rattle.tk_plan_units.specs.Cutting.{script_of}
@@ -24,6 +25,7 @@ use Rattle.tk_engine_laws.proofs.Naming.{emitted_played}
 use Rattle.tk_report_text.specs.Labels.{events}
 use Rattle.tk_engine_laws.specs.Scripts.{HasKey, id_at, is_registration, key_of, known_in, position, played, record_played}
 use Rattle.tk_queue_session.specs.Emission.{entries_by, entry_by, is_dynamic, registrations}
+pub use Rattle.tk_queue_session.proofs.KnownKeys.{desc_in-append}
 
 abbrev first : {A : Type 0} → List A → Option A
 first [] = None
@@ -44,14 +46,6 @@ found_by true (Path p) o l e = e
 found_in : (k : ℕ) (es : List Entry) → option_map (λ d. d.id) (desc_in es k) ≡ first (event_of_step k (events es))
 found_in k [] = refl
 found_in k (e ∷ es) = found_by (is_dynamic e.event && (e.event.key == k)) e.event.payload (desc_in es k) (event_of_step k (events es)) (found_in k es)
-
-or_assoc : {A : Type 0} (a b c : Option A) → option_or (option_or a b) c ≡ option_or a (option_or b c)
-or_assoc None b c = refl
-or_assoc (Some x) b c = refl
-
-desc_in-append : (xs ys : List Entry) (k : ℕ) → desc_in (xs ++ ys) k ≡ option_or (desc_in xs k) (desc_in ys k)
-desc_in-append [] ys k = refl
-desc_in-append (x ∷ xs) ys k = ap (option_or _) (desc_in-append xs ys k) ∙ sym (or_assoc _ (desc_in xs k) (desc_in ys k))
 
 in_table : (table : List Descriptor) (k : ℕ) (x : List SegmentView) (o : Option Descriptor) → slice_get (ids_of table) k ≡ Some x → option_map (λ d. d.id) (option_or (slice_get table k) o) ≡ Some x
 in_table [] k x o e = cc
@@ -92,14 +86,6 @@ known_emitted ids (s ∷ ss) =
       | false ↦ known_emitted ids ss
     ]
 
-left_none : {A : Type 0} (a b : Option A) → option_or a b ≡ None → a ≡ None
-left_none None b e = refl
-left_none (Some x) b e = cc
-
-right_none : {A : Type 0} (a b : Option A) → option_or a b ≡ None → b ≡ None
-right_none None b e = e
-right_none (Some x) b e = cc
-
 position_within : (known : List ℕ) (j k : ℕ) → slice_get known j ≡ Some k → j < length known
 position_within [] j k e = cc
 position_within (x ∷ xs) zero k e = omega arith
@@ -126,8 +112,8 @@ nodes_found all table unit w k sent prefix back p numbers old is (inr h) =
     let named = named_prefix all table [] f.begun f.rest (subst (Named all table []) f.whole (named_unit all table (trees_of all) m.keyed unit)) in
     let l = played all (length table) base [] prefix in
     let none = old (position k known) (position_within known (position k known) k h.1) in
-    let not_static = left_none (slice_get table key) (desc_in (entries_by w sent) key) none in
-    let not_sent = right_none (slice_get table key) (desc_in (entries_by w sent) key) none in
+    let not_static = option_or_none_left (slice_get table key) (desc_in (entries_by w sent) key) none in
+    let not_sent = option_or_none_right (slice_get table key) (desc_in (entries_by w sent) key) none in
     let at : slice_get (ids_emitted f.begun) (position k known) ≡ Some k = ap (λ i. slice_get i (position k known)) (sym (ap (known_in []) (sym f.same) ∙ known_emitted [] f.begun)) ∙ h.1 in
     ap (λ b. option_map (λ d. d.id) (desc (record_played all table w sent prefix) (if b then k else key))) lt
     ∙ (ap (λ o. option_map (λ d. d.id) (option_or o (desc_in (entries_by w (sent ++ l)) key))) not_static

@@ -1,7 +1,9 @@
 -- What every plan is makes it a tree of nodes whose numbers, keys and ids agree.
-use Rattle.std.proofs.Common.{◌≡◌, ◌≤◌, ◌<◌, ℕ, zero, suc, ◌+◌, ◌⊎◌, Bool, true, false, cond, ◌==◌, nat_lt, List, [], ◌∷◌, ◌++◌, map, length, Some, slice_get, All, refl, sym, ap, ap₂, ◌∙◌, subst, arith, tests, if◌then◌else◌, inl, inr, ⊎_elim}
+use Rattle.std.proofs.Common.{◌≡◌, ◌≤◌, ◌<◌, ℕ, zero, suc, ◌+◌, ◌⊎◌, Bool, true, false, cond, ◌==◌, nat_lt, List, [], ◌∷◌, ◌++◌, map, length, Some, slice_get, refl, sym, ap, ap₂, ◌∙◌, subst, arith, tests, if◌then◌else◌, inl, inr, ⊎_elim}
 use Rattle.std.proofs.lemmas.Bool.{cases_Bool}
 use Rattle.std.proofs.lemmas.List.{map-append, length-map}
+use Rattle.std.proofs.lemmas.Option.{same_Some}
+use Rattle.tk_lemmas.proofs.Lists.{All_at}
 use Rattle.tk_plan_units.specs.Trees as plan
 use Rattle.tk_plan_units.specs.Cutting as cut
 use Rattle.tk_plan_units.specs.Ids as ids
@@ -28,14 +30,6 @@ use Rattle.tk_report_text.specs.Labels.{same_id}
 use Rattle.tk_engine_laws.specs.Scripts.{id_at, id_of}
 
 -- ---- what stands at a place
-
-pub some_same : {A : Type 0} {x y : A} → Some x ≡ Some y → x ≡ y
-some_same e = cc
-
-all_at : {A : Type 0} (P : A → Type 0) (xs : List A) (i : ℕ) (x : A) → All P xs → slice_get xs i ≡ Some x → P x
-all_at P [] i x h e = cc
-all_at P (y ∷ ys) zero x h e = subst P (some_same e) (h 0 y (omega arith))
-all_at P (y ∷ ys) (suc i) x h e = all_at P ys i x (λ k d l. h (suc k) d (omega (arith, l))) e
 
 -- ---- items beside the plan's nodes and ids
 
@@ -78,7 +72,7 @@ there [] ps is at n h e = cc
 there (m ∷ ns) [] is at n h e = absurd h
 there (m ∷ ns) (p ∷ ps) [] at n h e = absurd h
 there (m ∷ ns) (p ∷ ps) (i ∷ is) zero n h e =
-    let same : m ≡ n = some_same e in
+    let same : m ≡ n = same_Some _ _ e in
     subst (λ x. There (m ∷ ns) (p ∷ ps) (i ∷ is) x 0) same
     (record { numbered_node = p; in_nodes = refl; in_ids = ap Some (sym h.0.2); number = h.0.0; node = h.0.1; static = h.0.3 })
 there (m ∷ ns) (p ∷ ps) (i ∷ is) (suc at) n h e =
@@ -92,7 +86,7 @@ item_at [] [] (i ∷ is) at id h e = absurd h
 item_at [] (p ∷ ps) is at id h e = absurd h
 item_at (n ∷ ns) [] is at id h e = absurd h
 item_at (n ∷ ns) (p ∷ ps) [] at id h e = absurd h
-item_at (n ∷ ns) (p ∷ ps) (i ∷ is) zero id h e = (n, refl, h.0.2 ∙ some_same e)
+item_at (n ∷ ns) (p ∷ ps) (i ∷ is) zero id h e = (n, refl, h.0.2 ∙ same_Some _ _ e)
 item_at (n ∷ ns) (p ∷ ps) (i ∷ is) (suc at) id h e = item_at ns ps is at id h.1 e
 
 -- ---- numbers
@@ -108,7 +102,7 @@ in_range_by : (b : Bool) (q : NumberedNode) (ps : List NumberedNode) (s d i : �
     → slice_get (cond b (with_number s q ∷ numbered_from (s + 1) d ps) (with_number d q ∷ numbered_from s (d + 1) ps)) i ≡ Some p
     → ((p.node.is_static ≡ true) × (s ≤ p.number) × (p.number < s + length (cond b (q.node ∷ of_kind true ps) (of_kind true ps)))) ⊎ ((p.node.is_static ≡ false) × (d ≤ p.number))
 in_range_by true q ps s d zero p f next e =
-    let same : with_number s q ≡ p = some_same e in
+    let same : with_number s q ≡ p = same_Some _ _ e in
     let number : s ≡ p.number = ap (λ w. w.number) same in
     inl (sym (ap (λ w. w.node.is_static) same) ∙ f, omega (arith, number), omega (arith, number))
 in_range_by true q ps s d (suc i) p f next e = ⊎_elim
@@ -116,7 +110,7 @@ in_range_by true q ps s d (suc i) p f next e = ⊎_elim
     (λ h. inr h)
     (next (s + 1) d i e)
 in_range_by false q ps s d zero p f next e =
-    let same : with_number d q ≡ p = some_same e in
+    let same : with_number d q ≡ p = same_Some _ _ e in
     let number : d ≡ p.number = ap (λ w. w.number) same in
     inr (sym (ap (λ w. w.node.is_static) same) ∙ f, omega (arith, number))
 in_range_by false q ps s d (suc i) p f next e = ⊎_elim
@@ -134,16 +128,16 @@ found_by : (b : Bool) (q : NumberedNode) (ps : List NumberedNode) (j : List Segm
     → slice_get (cond b (with_number s q ∷ numbered_from (s + 1) d ps) (with_number d q ∷ numbered_from s (d + 1) ps)) i ≡ Some p → slice_get (j ∷ is) i ≡ Some id
     → id_of (cond b (with_number s q ∷ numbered_from (s + 1) d ps) (with_number d q ∷ numbered_from s (d + 1) ps)) (j ∷ is) p.number ≡ id
 found_by true q ps j is s d zero p id next l e g =
-    let number : s ≡ p.number = ap (λ w. w.number) (some_same e) in
+    let number : s ≡ p.number = ap (λ w. w.number) (same_Some _ _ e) in
     let own : (s == p.number) ≡ true = grind (arith, tests, number) in
-    ap (λ b. if b then j else id_of (numbered_from (s + 1) d ps) is p.number) own ∙ some_same g
+    ap (λ b. if b then j else id_of (numbered_from (s + 1) d ps) is p.number) own ∙ same_Some _ _ g
 found_by true q ps j is s d (suc i) p id next l e g =
     let differ : (s == p.number) ≡ false = ⊎_elim (λ h. grind (arith, tests, h.1)) (λ h. grind (arith, tests, h.1, l)) (in_range ps (s + 1) d i p e) in
     ap (λ b. if b then j else id_of (numbered_from (s + 1) d ps) is p.number) differ ∙ next (s + 1) d i (omega (arith, l)) e g
 found_by false q ps j is s d zero p id next l e g =
-    let number : d ≡ p.number = ap (λ w. w.number) (some_same e) in
+    let number : d ≡ p.number = ap (λ w. w.number) (same_Some _ _ e) in
     let own : (d == p.number) ≡ true = grind (arith, tests, number) in
-    ap (λ b. if b then j else id_of (numbered_from s (d + 1) ps) is p.number) own ∙ some_same g
+    ap (λ b. if b then j else id_of (numbered_from s (d + 1) ps) is p.number) own ∙ same_Some _ _ g
 found_by false q ps j is s d (suc i) p id next l e g =
     let differ : (d == p.number) ≡ false = ⊎_elim (λ h. grind (arith, tests, h.2, l)) (λ h. grind (arith, tests, h.1)) (in_range ps s (d + 1) i p e) in
     ap (λ b. if b then j else id_of (numbered_from s (d + 1) ps) is p.number) differ ∙ next s (d + 1) i (omega (arith, l)) e g
@@ -281,7 +275,7 @@ steps_same (x ∷ xs) (y ∷ ys) e (suc u) = let rest : map run_of xs ≡ map ru
 
 id_key : (table : List Descriptor) (k : ℕ) (id : List SegmentView) (n : Node) → slice_get table k ≡ Some (ids.descriptor id n) → slice_get (ids_of table) k ≡ Some id
 id_key [] k id n e = cc
-id_key (d ∷ ds) zero id n e = ap (λ x. Some x.id) (some_same e)
+id_key (d ∷ ds) zero id n e = ap (λ x. Some x.id) (same_Some _ _ e)
 id_key (d ∷ ds) (suc k) id n e = id_key ds k id n e
 
 abbrev pub trees_of : List NumberedNode → Forest
@@ -313,7 +307,7 @@ module _ (all : List NumberedNode) (table : List Descriptor) (p : IsPlanned all 
       let q = t.numbered_node in
       let facts = keyed all table p numbers i q n.id t.in_nodes t.in_ids in
       record {
-        node = ap (slice_get (in_order all)) t.number ∙ (all_at (λ w. slice_get (in_order all) w.number ≡ Some w.node) all i q (all_numbered all numbers) t.in_nodes ∙ ap Some (sym t.node));
+        node = ap (slice_get (in_order all)) t.number ∙ (All_at (λ w. slice_get (in_order all) w.number ≡ Some w.node) all i q (all_numbered all numbers) t.in_nodes ∙ ap Some (sym t.node));
         id = ap (id_at all) t.number ∙ id_found i q n.id t.in_nodes t.in_ids;
         within = ap (λ k. nat_lt k (length table)) t.number ∙ (number_within i q t.in_nodes ∙ sym t.static);
         static = λ s. ap (slice_get (ids_of table)) t.number ∙ id_key table q.number n.id q.node (facts.static (sym t.static ∙ s));

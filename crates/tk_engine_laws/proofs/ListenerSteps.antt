@@ -1,7 +1,7 @@
 -- A run of a plan lets a listener rely on what the plan's script lets it rely on.
 use Rattle.std.proofs.Common.{◌≡◌, ◌≢◌, ℕ, ◌⊎◌, Bool, true, false, not, cond, ◌&&◌, ◌||◌, List, [], ◌∷◌, ◌++◌, filter, Option, Some, None, refl, sym, ap, ap₂, ◌∙◌, subst, append_assoc, if◌then◌else◌, inl, inr, ⊎_elim, arith, tests}
 use Rattle.std.specs.List.{list_any}
-use Rattle.std.proofs.lemmas.Bool.{cases_Bool}
+use Rattle.std.proofs.lemmas.Bool.{cases_Bool, and_parts, or_left, or_right}
 use Rattle.std.proofs.lemmas.List.Elements.{filter-append}
 use Rattle.tk_record_columns.specs.Recorded.{Recorded}
 use Rattle.tk_plan_units.specs.declared.nodes.NumberedNode.{NumberedNode}
@@ -20,18 +20,6 @@ use Rattle.tk_engine_laws.proofs.Through.{chain_law}
 use Rattle.tk_report_text.specs.Labels.{Label, labels, same_id, same_kind}
 use Rattle.tk_engine_laws.specs.Listening.{IsOnce, Listens, finishes, is_followed, is_of, is_ran, precedes, registers, skips, starts}
 use Rattle.tk_engine_laws.specs.Scripts.{IsRunOf}
-
-pub and_left : (b c : Bool) → (b && c) ≡ true → b ≡ true
-and_left true c h = refl
-and_left false c h = cc
-
-or_left : (b c : Bool) → b ≡ true → (b || c) ≡ true
-or_left true c h = refl
-or_left false c h = cc
-
-pub or_right : (b c : Bool) → c ≡ true → (b || c) ≡ true
-or_right true c h = refl
-or_right false c h = h
 
 abbrev pub ran_of : List SegmentView → Label → Bool
 ran_of i l = is_of i l && is_ran l.kind
@@ -102,27 +90,23 @@ pub any_one : (b : Bool) → (b || false) ≡ true → b ≡ true
 any_one true h = refl
 any_one false h = cc
 
-pub and_right : (b c : Bool) → (b && c) ≡ true → c ≡ true
-and_right true c h = h
-and_right false c h = cc
-
 not_both : (i : List SegmentView) (ls : List Label) → IsOnce ls → list_any (starts i) ls ≡ true → list_any (skips i) ls ≡ true → ⊥
 not_both i [] o s k = cc
-not_both i (x ∷ []) o s k = start_or_skip x.kind (and_right (is_of i x) _ (any_one _ s)) o
+not_both i (x ∷ []) o s k = start_or_skip x.kind (and_parts (is_of i x) _ (any_one _ s)).1 o
 not_both i (x ∷ (y ∷ [])) o s k = ⊎_elim
-    (λ h. start_or_skip x.kind o.0 (and_right (is_of i x) _ h))
-    (λ h. let bad : true ≡ false = sym (and_right (is_of i y) _ h) ∙ (finish_or y.kind o.1).0 in cc)
+    (λ h. start_or_skip x.kind o.0 (and_parts (is_of i x) _ h).1)
+    (λ h. let bad : true ≡ false = sym (and_parts (is_of i y) _ h).1 ∙ (finish_or y.kind o.1).0 in cc)
     (any_two _ _ k)
 not_both i (x ∷ (y ∷ (z ∷ zs))) o s k = o
 
 start_ran : (i : List SegmentView) → Only (starts i) (ran_of i)
-start_ran i l h = ap₂ (λ b c. b && c) (and_left (is_of i l) (same_kind l.kind Started) h) (or_left (same_kind l.kind Started) _ (and_right (is_of i l) (same_kind l.kind Started) h))
+start_ran i l h = ap₂ (λ b c. b && c) (and_parts (is_of i l) (same_kind l.kind Started) h).0 (or_left (same_kind l.kind Started) _ (and_parts (is_of i l) (same_kind l.kind Started) h).1)
 
 pub skip_ran : (i : List SegmentView) → Only (skips i) (ran_of i)
-skip_ran i l h = ap₂ (λ b c. b && c) (and_left (is_of i l) (same_kind l.kind Skipped) h) (or_right (same_kind l.kind Started) _ (or_right (same_kind l.kind Finished) _ (and_right (is_of i l) (same_kind l.kind Skipped) h)))
+skip_ran i l h = ap₂ (λ b c. b && c) (and_parts (is_of i l) (same_kind l.kind Skipped) h).0 (or_right (same_kind l.kind Started) _ (or_right (same_kind l.kind Finished) _ (and_parts (is_of i l) (same_kind l.kind Skipped) h).1))
 
 started_any : (i : List SegmentView) → Only (starts i) (is_of i)
-started_any i l h = and_left (is_of i l) (same_kind l.kind Started) h
+started_any i l h = (and_parts (is_of i l) (same_kind l.kind Started) h).0
 
 any_wider : (p q : Label → Bool) → Only p q → (ls : List Label) → list_any p ls ≡ true → list_any q ls ≡ true
 any_wider p q only [] h = cc
@@ -164,10 +148,10 @@ module _ (all : List NumberedNode) (table : List Descriptor) (f : Forest) (worke
   own i = ⊎_elim (λ e. inl (same_one i ∙ e)) (λ e. inr (e.0, e.1, same_one i ∙ e.2)) (own_law_below (λ n. Unit {0}) i 0 f (each_from (λ n. Unit {0}) (nodes_below f) (λ j n e. tt)) (plan.distinct i))
 
   ran_only : (i : List SegmentView) → Only (ran_of i) (is_of i)
-  ran_only i l h = and_left (is_of i l) (is_ran l.kind) h
+  ran_only i l h = (and_parts (is_of i l) (is_ran l.kind) h).0
 
   register_only : (i : List SegmentView) → Only (registers i) (is_of i)
-  register_only i l h = and_left (is_of i l) (same_kind l.kind Dynamic) h
+  register_only i l h = (and_parts (is_of i l) (same_kind l.kind Dynamic) h).0
 
   pub once : (i : List SegmentView) → IsOnce (filter (ran_of i) (labels r))
   once i = subst IsOnce (sym (filter_kept (is_of i) (ran_of i) (ran_only i) (labels r))) (⊎_elim
@@ -184,10 +168,10 @@ module _ (all : List NumberedNode) (table : List Descriptor) (f : Forest) (worke
       (own i)
 
   start_pair : (p : List SegmentView) (c : List SegmentView) → Only (starts p) (λ l. either p c l.id)
-  start_pair p c l h = or_left (same_id l.id p) _ (and_left (is_of p l) (same_kind l.kind Started) h)
+  start_pair p c l h = or_left (same_id l.id p) _ (and_parts (is_of p l) (same_kind l.kind Started) h).0
 
   finish_pair : (p : List SegmentView) (c : List SegmentView) → Only (finishes p) (λ l. either p c l.id)
-  finish_pair p c l h = or_left (same_id l.id p) _ (and_left (is_of p l) (same_kind l.kind Finished) h)
+  finish_pair p c l h = or_left (same_id l.id p) _ (and_parts (is_of p l) (same_kind l.kind Finished) h).0
 
   child_pair : (p : List SegmentView) (c : List SegmentView) → Only (is_of c) (λ l. either p c l.id)
   child_pair p c l h = or_right (same_id l.id p) _ h

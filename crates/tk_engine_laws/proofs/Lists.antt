@@ -1,15 +1,8 @@
 -- Lists of lists of which all but one are empty.
 use Rattle.std.proofs.Common.{◌≡◌, ◌≢◌, ◌≤◌, ◌<◌, ℕ, zero, suc, ◌+◌, ◌⊎◌, List, [], ◌∷◌, ◌++◌, flat_map, Option, Some, None, slice_get, refl, sym, ap, ap₂, ◌∙◌, arith, append-nil, inl, inr, ⊎_elim, ◌==◌, tests, subst}
 use Rattle.std.proofs.lemmas.Bool.{cases_Bool}
+use Rattle.tk_lemmas.proofs.Lists.{nil_left, nil_right}
 use Rattle.tk_engine_laws.proofs.Model.{AllNil, AtMostOne, Each, times, times_in}
-
-pub left_nil : {A : Type 0} (xs ys : List A) → xs ++ ys ≡ [] → xs ≡ []
-left_nil [] ys e = refl
-left_nil (x ∷ xs) ys e = cc
-
-pub right_nil : {A : Type 0} (xs ys : List A) → xs ++ ys ≡ [] → ys ≡ []
-right_nil [] ys e = e
-right_nil (x ∷ xs) ys e = cc
 
 pub each_at : {A : Type 0} (P : A → Type 0) (xs : List A) (i : ℕ) (x : A) → Each P xs → slice_get xs i ≡ Some x → P x
 each_at P [] i x h e = cc
@@ -32,7 +25,7 @@ each_split P (x ∷ xs) ys h = let e = each_split P xs ys h.1 in ((h.0, e.0), e.
 
 pub all_nil : {A B : Type 0} (g : A → List B) (xs : List A) → flat_map g xs ≡ [] → AllNil g xs
 all_nil g [] e = tt
-all_nil g (x ∷ xs) e = (left_nil (g x) _ e, all_nil g xs (right_nil (g x) _ e))
+all_nil g (x ∷ xs) e = (nil_left (g x) _ e, all_nil g xs (nil_right (g x) _ e))
 
 pub nil_of_all : {A B : Type 0} (g : A → List B) (xs : List A) → AllNil g xs → flat_map g xs ≡ []
 nil_of_all g [] h = refl
@@ -141,13 +134,13 @@ next_seat u l ls h s = record {
   none = λ e. let x = s.none e in omega (arith, h, x);
 }
 
-some_or_none : (n : ℕ) → (n ≡ 0) ⊎ (0 < n)
-some_or_none zero = inl refl
-some_or_none (suc n) = inr (omega arith)
+pub zero_or : (n : ℕ) → (n ≡ 0) ⊎ (0 < n)
+zero_or zero = inl refl
+zero_or (suc n) = inr (omega arith)
 
 pub seat : (u : ℕ) (lists : List (List ℕ)) → times_in u lists ≤ 1 → IsSeat u lists
 seat u [] h = record { seat = 0; others = λ i us e n. cc; here = λ us e. cc; none = λ e. refl }
 seat u (l ∷ ls) h = ⊎_elim
     (λ e. next_seat u l ls e (seat u ls (omega (arith, h))))
     (λ e. first_seat u l ls (omega (arith, h, e)))
-    (some_or_none (times u l))
+    (zero_or (times u l))

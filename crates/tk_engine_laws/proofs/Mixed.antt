@@ -2,15 +2,15 @@
 use Rattle.std.proofs.Common.{◌≡◌, ◌≢◌, ◌<◌, ℕ, suc, ◌⊎◌, Bool, true, false, cond, List, [], ◌∷◌, ◌++◌, flat_map, filter, All, refl, sym, ap, ◌∙◌, arith, tests, ⊎_elim, ◌==◌}
 use Rattle.std.proofs.lemmas.Bool.{cases_Bool}
 use Rattle.std.proofs.lemmas.List.{map-append}
+use Rattle.tk_lemmas.proofs.Lists.{nil_left, nil_right}
 use Rattle.tk_record_columns.specs.Mixing.{IsWorkerOf, of_worker}
 use Rattle.tk_events.specs.declared.events.Entry.{Entry}
 use Rattle.tk_events.specs.declared.events.Event.{Event}
-use Rattle.tk_engine_laws.proofs.Lists.{left_nil, right_nil}
 use Rattle.tk_report_text.specs.Labels.{events}
 use Rattle.tk_queue_session.specs.Emission.{entries_by}
 
 nil_of_cond : {B : Type 0} (b : Bool) (f : Event → List B) (x : Entry) (xs : List Entry) → flat_map f (events (cond b (x ∷ xs) xs)) ≡ [] → flat_map f (events xs) ≡ []
-nil_of_cond true f x xs h = right_nil (f x.event) _ h
+nil_of_cond true f x xs h = nil_right (f x.event) _ h
 nil_of_cond false f x xs h = h
 
 -- where the events of all other workers give nothing, the whole gives what the events of one worker give
@@ -26,7 +26,7 @@ mix_one f w (x ∷ xs) h =
     let own : (x.worker == x.worker) ≡ true = grind (arith, tests) in
     let nothing : flat_map f (x.event ∷ of_worker x.worker xs) ≡ []
     = ap (λ b. flat_map f (events (cond b (x ∷ filter (λ e. e.worker == x.worker) xs) (filter (λ e. e.worker == x.worker) xs)))) (sym own) ∙ h x.worker n in
-    ap (λ l. l ++ flat_map f (events xs)) (left_nil (f x.event) _ nothing) ∙ (more ∙ ap (λ b. flat_map f (events (cond b (x ∷ filter (λ e. e.worker == w) xs) (filter (λ e. e.worker == w) xs)))) (sym e)))
+    ap (λ l. l ++ flat_map f (events xs)) (nil_left (f x.event) _ nothing) ∙ (more ∙ ap (λ b. flat_map f (events (cond b (x ∷ filter (λ e. e.worker == w) xs) (filter (λ e. e.worker == w) xs)))) (sym e)))
     (cases_Bool (x.worker == w))
 
 -- a worker that is none of them has no event

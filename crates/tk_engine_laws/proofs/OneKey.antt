@@ -1,7 +1,7 @@
 -- In a run each id has one key.
 use Rattle.std.proofs.Common.{◌≡◌, ◌≢◌, ◌≤◌, ◌<◌, ℕ, zero, suc, ◌+◌, ◌*◌, ◌⊎◌, Bool, true, false, not, cond, ◌&&◌, ◌||◌, List, [], ◌∷◌, ◌++◌, map, filter, length, Some, slice_get, refl, sym, ap, ◌∙◌, arith, tests, subst, length-append, if◌then◌else◌, inl, inr, ⊎_elim, ◌==◌}
 use Rattle.std.specs.List.{list_any}
-use Rattle.std.proofs.lemmas.Bool.{cases_Bool}
+use Rattle.std.proofs.lemmas.Bool.{cases_Bool, and_parts}
 use Rattle.std.proofs.lemmas.List.{length-map}
 use Rattle.tk_record_columns.specs.Recorded.{Recorded}
 use Rattle.tk_record_columns.specs.Mixing.{of_worker}
@@ -144,10 +144,6 @@ count_own i n =
     elim n.is_static as (λ b. count (registers i) (if b then ran_labels n n.skip else item_label n (Register n.parent) ∷ ran_labels n n.skip) ≤ (if b then 0 else 1))
     [ true ↦ omega (arith, none) | false ↦ one_more (same_id n.id i && true) _ none ]
 
-and_left : (b c : Bool) → (b && c) ≡ true → b ≡ true
-and_left true c h = refl
-and_left false c h = cc
-
 -- ---- the law
 
 module _ (all : List NumberedNode) (table : List Descriptor) (f : Forest) (workers : ℕ) (r : Recorded) (plan : Models all table f) (run : IsRunOf all table workers r) where
@@ -183,7 +179,7 @@ module _ (all : List NumberedNode) (table : List Descriptor) (f : Forest) (worke
       (own_law_below IsApart i 0 f plan.apart (plan.distinct i))
 
   register_only : (i : List SegmentView) → Only (registers i) (is_of i)
-  register_only i l h = and_left (is_of i l) (same_kind l.kind Dynamic) h
+  register_only i l h = (and_parts (is_of i l) (same_kind l.kind Dynamic) h).0
 
   at_most : (b : Bool) (n : ℕ) → n ≤ (if b then 0 else 1) → n ≤ 1
   at_most true n h = omega (arith, h)

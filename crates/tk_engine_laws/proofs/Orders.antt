@@ -1,7 +1,7 @@
 -- Orders of elements in a list, and in its part that matters.
 use Rattle.std.proofs.Common.{◌≡◌, Bool, true, false, not, cond, ◌&&◌, ◌||◌, List, [], ◌∷◌, ◌++◌, filter, refl, sym, ap, ap₂, ◌∙◌, ⊎_elim}
 use Rattle.std.specs.List.{list_any}
-use Rattle.std.proofs.lemmas.Bool.{cases_Bool}
+use Rattle.std.proofs.lemmas.Bool.{cases_Bool, or_right, and_parts}
 use Rattle.tk_engine_laws.specs.Listening.{is_followed, precedes}
 
 -- a test that passes only where another does
@@ -49,13 +49,6 @@ module _ {A : Type 0} (q : A → Bool) where
       (cases_Bool (q x))
 
 module _ {A : Type 0} (e l : A → Bool) where
-  or_true : (b : Bool) → (b || true) ≡ true
-  or_true true = refl
-  or_true false = refl
-
-  and_both : (b c : Bool) → (b && c) ≡ true → (b ≡ true) × (c ≡ true)
-  and_both true c h = (refl, h)
-  and_both false c h = cc
 
   and_true : {b c : Bool} → b ≡ true → c ≡ true → (b && c) ≡ true
   and_true h g = ap₂ (λ b c. b && c) h g
@@ -82,7 +75,7 @@ module _ {A : Type 0} (e l : A → Bool) where
   precedes_none (x ∷ xs) h =
       let more = precedes_none xs in
       elim (l x) as (λ b. (b || list_any l xs) ≡ false → (not b && (e x || precedes e l xs)) ≡ true)
-      [ true ↦ (λ k. cc) | false ↦ (λ k. ap (λ c. e x || c) (more k) ∙ or_true (e x)) ] h
+      [ true ↦ (λ k. cc) | false ↦ (λ k. ap (λ c. e x || c) (more k) ∙ or_right (e x) true refl) ] h
 
   pub precedes_here : (x : A) (xs : List A) → l x ≡ false → e x ≡ true → precedes e l (x ∷ xs) ≡ true
   precedes_here x xs n y = ap₂ (λ b c. not b && (c || precedes e l xs)) n y
@@ -101,7 +94,7 @@ module _ {A : Type 0} (e l : A → Bool) where
   pub followed-append : (xs ys : List A) → is_followed e l xs ≡ true → is_followed e l ys ≡ true → is_followed e l (xs ++ ys) ≡ true
   followed-append [] ys h g = g
   followed-append (x ∷ xs) ys h g =
-      let k = and_both (not (e x) || list_any l xs) (is_followed e l xs) h in
+      let k = and_parts (not (e x) || list_any l xs) (is_followed e l xs) h in
       and_true (or_more (not (e x)) (list_any l xs) (list_any l (xs ++ ys)) k.0 (any_more xs ys)) (followed-append xs ys k.1 g)
 
   pub followed_none : (xs : List A) → list_any e xs ≡ false → is_followed e l xs ≡ true
@@ -113,8 +106,8 @@ module _ {A : Type 0} (e l : A → Bool) where
 
   any_end : (xs : List A) (y : A) → l y ≡ true → list_any l (xs ++ y ∷ []) ≡ true
   any_end [] y h = ap (λ b. b || false) h
-  any_end (x ∷ xs) y h = ap (λ b. l x || b) (any_end xs y h) ∙ or_true (l x)
+  any_end (x ∷ xs) y h = ap (λ b. l x || b) (any_end xs y h) ∙ or_right (l x) true refl
 
   pub followed_end : (xs : List A) (y : A) → l y ≡ true → e y ≡ false → is_followed e l (xs ++ y ∷ []) ≡ true
   followed_end [] y h n = ap (λ b. (not b || false) && true) n
-  followed_end (x ∷ xs) y h n = and_true (ap (λ b. not (e x) || b) (any_end xs y h) ∙ or_true (not (e x))) (followed_end xs y h n)
+  followed_end (x ∷ xs) y h n = and_true (ap (λ b. not (e x) || b) (any_end xs y h) ∙ or_right (not (e x)) true refl) (followed_end xs y h n)

@@ -1,5 +1,6 @@
 -- In a unit's script each step has what it needs to be played.
 use Rattle.std.proofs.Common.{◌≡◌, ℕ, zero, suc, ◌+◌, Bool, true, false, List, [], ◌∷◌, ◌++◌, map, length, Option, Some, None, slice_get, refl, sym, ap, ◌∙◌, subst, arith, tests, append_assoc, append-nil, if◌then◌else◌, inl, inr, not, ◌&&◌, is_some}
+use Rattle.std.proofs.lemmas.Bool.{and_parts}
 use Rattle.tk_plan_units.specs.Trees as plan
 use Rattle.tk_plan_units.specs.Cutting as cut
 use Rattle.tk_plan_units.proofs.Cuts.{spine_facts}
@@ -139,10 +140,6 @@ mutual
   under_below b m plan.no_trees = tt
   under_below b m (plan.more t f) = (under b m t, under_below b m f)
 
-both_true : (a b : Bool) → (a && b) ≡ true → (a ≡ true) × (b ≡ true)
-both_true true b e = (refl, e)
-both_true false b e = cc
-
 abbrev is_static : plan.Tree → Bool
 is_static (plan.tree n k f) = n.is_static
 
@@ -154,14 +151,14 @@ mutual
         (
           under_below false item f,
           λ y. top_below false k (above ++ n.segment ∷ []) f
-              (spine_facts b n f (both_true (not (is_some n.skip)) (cut.on_spine b n f) (both_true n.is_static (not (is_some n.skip) && cut.on_spine b n f) y).1).1).1,
+              (spine_facts b n f (and_parts (not (is_some n.skip)) (cut.on_spine b n f) (and_parts n.is_static (not (is_some n.skip) && cut.on_spine b n f) y).1).1).1,
         ),
       )
 
   pub top_below : (b : Bool) (parent : ℕ) (above : List SegmentView) (f : plan.Forest) → cut.all_static f ≡ true → AreTop (modelled_below b parent above f)
   top_below b parent above plan.no_trees e = tt
   top_below b parent above (plan.more (plan.tree n k g) f) e =
-      let both = both_true n.is_static (cut.all_static f) e in
+      let both = and_parts n.is_static (cut.all_static f) e in
       (top b parent above (plan.tree n k g) both.0, top_below b parent above f both.1)
 
 pub playable : (all : List NumberedNode) (table : List Descriptor) (u : ℕ) → IsPlanned all table → IsNumbered all → ArePlayable all table [] (script_of (forest all) u)

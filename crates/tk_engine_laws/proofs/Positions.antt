@@ -1,7 +1,7 @@
 -- Elements of lists at their positions.
 use Rattle.std.proofs.Common.{◌≡◌, ◌<◌, ◌≤◌, ℕ, zero, suc, ◌+◌, Bool, true, false, not, ◌||◌, List, [], ◌∷◌, map, take, Some, slice_get, refl, sym, ap, ◌∙◌, arith, if◌then◌else◌, ⊎_elim}
 use Rattle.std.specs.List.{list_any}
-use Rattle.std.proofs.lemmas.Bool.{true≢false, and_parts, or_cases}
+use Rattle.std.proofs.lemmas.Bool.{true≢false, and_parts, or_cases, or_right}
 use Rattle.std.proofs.lemmas.Option.{same_Some, none-some}
 use Rattle.tk_engine_laws.proofs.Model.{count}
 use Rattle.tk_engine_laws.specs.Listening.{is_followed, precedes}
@@ -26,14 +26,10 @@ any_at p (x ∷ xs) h = ⊎_elim {C = Found p (x ∷ xs)}
     (λ (later : list_any p xs ≡ true). next p x xs (any_at p xs later))
     (or_cases (p x) (list_any p xs) h)
 
-or_true : (b : Bool) → (b || true) ≡ true
-or_true true = refl
-or_true false = refl
-
 pub any_from : {A : Type 0} (p : A → Bool) (xs : List A) (i : ℕ) (x : A) → slice_get xs i ≡ Some x → p x ≡ true → list_any p xs ≡ true
 any_from p [] i x at h = absurd (none-some x at)
 any_from p (y ∷ ys) zero x at h = ap (λ b. b || list_any p ys) (ap p (same_Some y x at) ∙ h)
-any_from p (y ∷ ys) (suc i) x at h = ap (λ b. p y || b) (any_from p ys i x at h) ∙ or_true (p y)
+any_from p (y ∷ ys) (suc i) x at h = ap (λ b. p y || b) (any_from p ys i x at h) ∙ or_right (p y) true refl
 
 -- ---- what comes earlier and later
 

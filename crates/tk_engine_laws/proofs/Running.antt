@@ -1,6 +1,7 @@
 -- The demo plan is a plan, and a record of it by two workers is a run.
-use Rattle.std.proofs.Common.{◌≡◌, ◌<◌, ℕ, zero, suc, ◌+◌, Bool, true, false, not, ◌&&◌, ◌||◌, codes, ◌*◌, nat_lt, nat_le, ◌==◌, List, [], ◌∷◌, ◌++◌, flat_map, All, Some, None, slice_get, sum_by, refl, sym, ap, ◌∙◌, subst, arith, tests}
+use Rattle.std.proofs.Common.{◌≡◌, ◌<◌, ℕ, zero, suc, ◌+◌, Bool, true, false, not, ◌&&◌, codes, ◌*◌, nat_lt, nat_le, ◌==◌, List, [], ◌∷◌, ◌++◌, flat_map, All, Some, None, slice_get, sum_by, refl, sym, ap, ◌∙◌, subst, arith, tests}
 use Rattle.std.specs.List.{list_any, list_all}
+use Rattle.std.proofs.lemmas.Bool.{and_parts, or_right, not-true}
 use Rattle.tk_ids.specs.IdText.{SegmentView}
 use Rattle.tk_ids.specs.declared.descriptors.DType.TheVariants.{Test}
 use Rattle.tk_events.specs.declared.events.Event.{Event}
@@ -11,7 +12,7 @@ use Rattle.tk_events.specs.declared.payloads.Payload.TheVariants.{Nothing, Outco
 use Rattle.tk_record_columns.specs.Recorded.{Recorded}
 use Rattle.tk_record_columns.specs.Mixing.{IsWorkerOf, of_worker}
 use Rattle.tk_queue_session.specs.Emission.{entries_by}
-use Rattle.tk_engine_claim.specs.Claims.{IsStrictlyIncreasing, once_below, times}
+use Rattle.tk_engine_runs.specs.Claims.{IsStrictlyIncreasing, once_below, times}
 use Rattle.tk_engine_runs.specs.Run.{Emits}
 use Rattle.tk_plan_units.specs.Trees.{forest, grow, IsForest}
 use Rattle.tk_plan_units.specs.Cutting.{script_of, before_of, after_of}
@@ -45,35 +46,23 @@ abbrev differ : List (List SegmentView) → Bool
 differ [] = true
 differ (i ∷ is) = not (list_any (same_id i) is) && differ is
 
-both_true : (a b : Bool) → (a && b) ≡ true → (a ≡ true) × (b ≡ true)
-both_true true b e = (refl, e)
-both_true false b e = cc
-
-not_true : (b : Bool) → not b ≡ true → b ≡ false
-not_true true e = cc
-not_true false e = refl
-
-or_true : (b : Bool) → (b || true) ≡ true
-or_true true = refl
-or_true false = refl
-
 any_at : (i : List SegmentView) (is : List (List SegmentView)) (k : ℕ) → slice_get is k ≡ Some i → list_any (same_id i) is ≡ true
 any_at i [] k e = cc
 any_at i (j ∷ is) zero e = rw ((same_decides i j).1 (sym (some_same e))) refl
-any_at i (j ∷ is) (suc k) e = let more = any_at i is k e in rw more (or_true (same_id i j))
+any_at i (j ∷ is) (suc k) e = let more = any_at i is k e in rw more (or_right (same_id i j) true refl)
 
 pub distinct : (is : List (List SegmentView)) → differ is ≡ true → AreDistinct is
 distinct [] h j k id a b = cc
 distinct (i ∷ is) h zero zero id a b = refl
 distinct (i ∷ is) h zero (suc k) id a b =
-    let none = not_true (list_any (same_id i) is) (both_true _ (differ is) h).0 in
+    let none = not-true (list_any (same_id i) is) (and_parts _ (differ is) h).0 in
     let some = any_at i is k (b ∙ sym a) in
     let bad : true ≡ false = sym some ∙ none in cc
 distinct (i ∷ is) h (suc j) zero id a b =
-    let none = not_true (list_any (same_id i) is) (both_true _ (differ is) h).0 in
+    let none = not-true (list_any (same_id i) is) (and_parts _ (differ is) h).0 in
     let some = any_at i is j (a ∙ sym b) in
     let bad : true ≡ false = sym some ∙ none in cc
-distinct (i ∷ is) h (suc j) (suc k) id a b = ap suc (distinct is (both_true _ (differ is) h).1 j k id a b)
+distinct (i ∷ is) h (suc j) (suc k) id a b = ap suc (distinct is (and_parts _ (differ is) h).1 j k id a b)
 
 -- ---- the plan
 
@@ -150,12 +139,12 @@ is_within e = nat_lt 0 e.worker && nat_le e.worker 2
 within : (xs : List Entry) → list_all is_within xs ≡ true → All (λ e. IsWorkerOf 2 e.worker) xs
 within [] h k d l = absurd (omega (arith, l))
 within (x ∷ xs) h zero d l =
-    let b = both_true (is_within x) (list_all is_within xs) h in
-    let c = both_true (nat_lt 0 x.worker) (nat_le x.worker 2) b.0 in
+    let b = and_parts (is_within x) (list_all is_within xs) h in
+    let c = and_parts (nat_lt 0 x.worker) (nat_le x.worker 2) b.0 in
     let y = c.0 in
     let z = c.1 in
     (grind (arith, tests, y), grind (arith, tests, z))
-within (x ∷ xs) h (suc k) d l = within xs (both_true (is_within x) (list_all is_within xs) h).1 k d (omega (arith, l))
+within (x ∷ xs) h (suc k) d l = within xs (and_parts (is_within x) (list_all is_within xs) h).1 k d (omega (arith, l))
 
 all_within : All (λ e. IsWorkerOf 2 e.worker) mid
 unfolding forest grow

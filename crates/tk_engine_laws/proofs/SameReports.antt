@@ -1,5 +1,5 @@
 -- The record of a run says of each id what the script says, so it has the plan's report.
-use Rattle.std.proofs.Common.{◌≡◌, ◌≤◌, ◌<◌, ℕ, zero, suc, ◌+◌, ◌⊎◌, Bool, true, false, List, [], ◌∷◌, map, length, bytes_eq, Some, slice_get, refl, sym, ap, ◌∙◌, arith, if◌then◌else◌, inl, inr, ⊎_elim}
+use Rattle.std.proofs.Common.{◌≡◌, ◌≤◌, ◌<◌, ℕ, ◌+◌, ◌⊎◌, Bool, true, List, [], ◌∷◌, map, length, bytes_eq, Some, slice_get, refl, sym, ap, ◌∙◌, arith, inl, inr, ⊎_elim}
 use Rattle.std.specs.Option.{option_or}
 use Rattle.std.proofs.lemmas.Bool.{cases_Bool}
 use Rattle.std.specs.Cmp.Lexicographic.{bytes_decides}
@@ -22,12 +22,10 @@ use Rattle.tk_report_text.specs.Labels.{id_in, label, labels, name, same_id}
 use Rattle.tk_report_text.specs.Reports.{report_of_record}
 use Rattle.tk_queue_session.specs.Emission.{entries_by}
 use Rattle.tk_engine_laws.specs.Scripts.{IsRunOf, id_at, played, script_record}
+use Rattle.tk_engine_laws.proofs.Few.{at_most_tail, none_left, not_none, none_tail}
+use Rattle.tk_engine_laws.proofs.Lists.{zero_or}
 
 -- ---- one id is a chain
-
-pub at_most_tail : (b : Bool) (n : ℕ) → (if b then 1 + n else n) ≤ 1 → n ≤ 1
-at_most_tail true n h = omega (arith, h)
-at_most_tail false n h = h
 
 pub rest_one : (a b c : ℕ) → a ≡ b + c → a ≤ 1 → c ≤ 1
 rest_one a b c e h = omega (arith, e, h)
@@ -37,10 +35,6 @@ first_one a b c e h = omega (arith, e, h)
 
 pub rest_zero : (a b c : ℕ) → a ≡ b + c → a ≤ 1 → 0 < b → c ≡ 0
 rest_zero a b c e h z = omega (arith, e, h, z)
-
-pub zero_or : (n : ℕ) → (n ≡ 0) ⊎ (0 < n)
-zero_or zero = inl refl
-zero_or (suc n) = inr (omega arith)
 
 mutual
   pub chain_one : (q : List SegmentView → Bool) (t : Tree) → count (λ n. q n.id) (nodes t) ≤ 1 → IsChain q t
@@ -56,18 +50,6 @@ mutual
       (zero_or (count (λ n. q n.id) (nodes t)))
 
 -- ---- the law
-
-pub none_left : (b : Bool) (n : ℕ) → b ≡ true → (if b then 1 + n else n) ≤ 1 → n ≡ 0
-none_left true n e h = omega (arith, h)
-none_left false n e h = cc
-
-pub not_none : (b : Bool) (n : ℕ) → b ≡ true → (if b then 1 + n else n) ≡ 0 → ⊥
-not_none true n e h = omega (arith, h)
-not_none false n e h = cc
-
-pub none_tail : (b : Bool) (n : ℕ) → (if b then 1 + n else n) ≡ 0 → n ≡ 0
-none_tail true n h = let no : ⊥ = omega (arith, h) in absurd no
-none_tail false n h = h
 
 one_plus : (n : ℕ) → n ≡ 0 → 1 + n ≤ 1
 one_plus n e = omega (arith, e)

@@ -7,12 +7,13 @@ use Rattle.tk_plan_units.specs.declared.steps.Act.TheVariants.{Finish, Register,
 use Rattle.tk_ids.specs.IdText.{SegmentView}
 use Rattle.tk_engine_laws.proofs.Cut.{count-append, shown-append, shown_none, shown_none_below}
 use Rattle.tk_report_text.proofs.Ids.{same_decides}
-use Rattle.tk_engine_laws.proofs.Lists.{each_split}
+use Rattle.tk_engine_laws.proofs.Lists.{each_split, zero_or}
 use Rattle.tk_engine_laws.proofs.Model.{AreBuilt, Each, Forest, HasNone, IsBuilt, IsChain, IsChainBelow, Item, Publication, Step, Tree, act_of, count, finish, item_label, more, no_trees, nodes, nodes_below, opening, performed, publications, published, shown, step, step_label, steps, steps_below, tree}
 use Rattle.tk_engine_laws.proofs.Orders.{followed-append, followed_end, followed_none, precedes-append, precedes_here, precedes_none}
-use Rattle.tk_engine_laws.proofs.SameReports.{at_most_tail, chain_one_below, first_one, none_left, none_tail, rest_one, rest_zero, zero_or}
+use Rattle.tk_engine_laws.proofs.SameReports.{chain_one_below, first_one, rest_one, rest_zero}
 use Rattle.tk_report_text.specs.Labels.{Label, same_id}
 use Rattle.tk_engine_laws.specs.Listening.{finishes, is_followed, is_of, precedes, starts}
+use Rattle.tk_engine_laws.proofs.Few.{at_most_tail, none_left, none_tail}
 
 -- ---- ids
 

@@ -1,11 +1,12 @@
 -- The events around the units: whose they are, and which.
-use Rattle.std.proofs.Common.{◌≡◌, ◌≢◌, ℕ, ◌+◌, Bool, cond, true, false, ◌||◌, ◌==◌, List, [], ◌∷◌, ◌++◌, All, length, flat_map, Some, slice_get, slice_index_or, refl, sym, ap, ◌∙◌, subst, eq-eqb}
+use Rattle.std.proofs.Common.{◌≡◌, ◌≢◌, ℕ, ◌+◌, Bool, cond, true, false, ◌||◌, ◌==◌, List, [], ◌∷◌, ◌++◌, All, length, flat_map, slice_index_or, refl, sym, ap, ◌∙◌, subst, eq-eqb}
 use Rattle.std.proofs.lemmas.Bool.{and_from, not_from_false, or_from, or_left, or_right}
 use Rattle.std.proofs.lemmas.List.{map-append}
 use Rattle.std.proofs.lemmas.List.Elements.{All-nil, All-cons, All-head, All-tail, All-append}
 use Rattle.std.proofs.lemmas.List.Folds.{list_any-append}
-use Rattle.std.proofs.lemmas.Option.{slice_get-get_or, slice_get_within, get_or_from_slice_get}
+use Rattle.std.proofs.lemmas.Option.{slice_get-get_or}
 use Rattle.std.proofs.lemmas.Grind.{flat_map-append}
+use Rattle.tk_lemmas.proofs.Lists.{All_at}
 use Rattle.tk_ids.specs.declared.descriptors.Descriptor.{Descriptor}
 use Rattle.tk_events.specs.declared.kinds.Kind.{Kind}
 use Rattle.tk_events.specs.declared.kinds.Kind.TheVariants.{Dynamic, Skipped, Started, Finished, Reporting, File}
@@ -148,14 +149,10 @@ begins_each (spine_begins n k ∷ ps) =
 begins_each (whole_unit t ∷ ps) = λ j d l i. begins_each ps j d l (i + length (moves t))
 begins_each (spine_ends n k ∷ ps) = λ j d l i. begins_each ps j d l (i + 1)
 
--- what holds of all elements holds of that at a position
-all_at : {A : Type 0} (P : A → Type 0) (xs : List A) (i : ℕ) (x : A) → All P xs → slice_get xs i ≡ Some x → P x
-all_at P xs i x h at = subst P (get_or_from_slice_get xs i x x at) (h i x (slice_get_within xs i x at))
-
 -- each node on the spine starts before the units
 pub starts_before : (nodes : List NumberedNode) (key : ℕ) → IsOnSpine nodes key → has_event Started key (entries_by 0 (before_of (forest nodes))) ≡ true
 starts_before nodes key on =
-    all_at (Begins (parts_below true (forest nodes))) (spine_of (forest nodes)) on.0 key (begins_each (parts_below true (forest nodes))) on.1 0
+    All_at (Begins (parts_below true (forest nodes))) (spine_of (forest nodes)) on.0 key (begins_each (parts_below true (forest nodes))) on.1 0
 
 -- what publishes something of a node finishes none
 published_goes_on : {A : Type 0} (kind : Kind) (payload : A → Payload) → (kind_code kind == kind_code Finished) ≡ false → (key k i : ℕ) (xs : List A)
@@ -233,4 +230,4 @@ mutual
 -- each node on the spine finishes after the units
 pub spine_finishes : (nodes : List NumberedNode) (key : ℕ) → IsOnSpine nodes key → has_event Finished key (entries_by 0 (after_of (forest nodes))) ≡ true
 spine_finishes nodes key on =
-    all_at (Ends (parts_below true (forest nodes))) (spine_of (forest nodes)) on.0 key (ends_below true (forest nodes)) on.1 0
+    All_at (Ends (parts_below true (forest nodes))) (spine_of (forest nodes)) on.0 key (ends_below true (forest nodes)) on.1 0

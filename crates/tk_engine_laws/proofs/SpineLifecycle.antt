@@ -27,7 +27,7 @@ use Rattle.tk_query_lifecycle.proofs.IdMapLemmas.{ids_first, known_or_new}
 use Rattle.tk_query_lifecycle.proofs.ListLemmas.{there}
 use Rattle.tk_query_lifecycle.proofs.StepLemmas.{has, has_steps, runs_steps, steps_append, to_whole, Whole, none, skipped, ran}
 use Rattle.tk_queue_session.specs.Emission.{entry_by, entries_by, is_dynamic, registrations}
-use Rattle.tk_engine_claim.specs.Claims.{Claims, IsStrictlyIncreasing, once_below, times}
+use Rattle.tk_engine_runs.specs.Claims.{Claims, IsStrictlyIncreasing, once_below, times}
 use Rattle.tk_engine_runs.specs.Run.{Emits}
 use Rattle.tk_engine_runs.proofs.Workers.{own_events}
 use Rattle.tk_plan_units.specs.declared.nodes.NumberedNode.{NumberedNode}

@@ -5,6 +5,8 @@ use Rattle.std.proofs.lemmas.List.{map-append}
 use Rattle.std.proofs.lemmas.List.Elements.{filter-append}
 use Rattle.std.proofs.lemmas.Grind.{flat_map-append}
 use Rattle.std.proofs.lemmas.List.Recursion.{is_count_by, is_sum_by}
+use Rattle.std.proofs.lemmas.Option.{same_Some, slice_get_within}
+use Rattle.tk_lemmas.proofs.Lists.{nil_left, nil_right}
 use Rattle.tk_record_columns.specs.Recorded.{Recorded}
 use Rattle.tk_events.specs.declared.payloads.Payload.TheVariants.{Report}
 use Rattle.tk_record_columns.specs.Entries.{desc_in, described}
@@ -23,12 +25,12 @@ use Rattle.tk_ids.specs.declared.descriptors.Descriptor.{Descriptor}
 use Rattle.tk_engine_laws.proofs.Cut.{chain_none, chain_none_below, cut, cut_below, shown-append, shown_none, shown_none_below}
 use Rattle.tk_engine_laws.proofs.Few.{few_drawn}
 use Rattle.tk_engine_laws.proofs.Keyed.{get_prefix, labels_played, labels_static, named, named_unit, static_after_below, static_before_below}
-use Rattle.tk_engine_laws.proofs.Lists.{IsLone, IsSeat, all_nil, at, copies, copies_by, drawn_is, left_nil, lone, lone_is, one_after, one_before, right_nil, seat}
+use Rattle.tk_engine_laws.proofs.Lists.{IsLone, IsSeat, all_nil, at, copies, copies_by, drawn_is, lone, lone_is, one_after, one_before, seat}
 use Rattle.tk_engine_laws.proofs.Mixed.{events-append, events_by, mix_one, no_events}
 use Rattle.tk_engine_laws.proofs.Model.{AllNil, AtMostOne, Each, Forest, IsChain, IsChainBelow, IsStatic, Models, Named, Part, Step, Tree, about, after_below, before_below, drawn_ids, first_or_nil, hits, id_emitted, ids_emitted, is_open, more, no_trees, opening, part_steps, parts, parts_below, plain, plan_labels, registered, script, shown, static_event, static_events, step_label, steps, steps_of, registered_under, times, times_in, event_of_step, tree, units}
 use Rattle.tk_engine_laws.proofs.Naming.{dynamic_kind, hits_above, hits_at, hits_below, registered_played, registrations_is, event_of_step-append, emitted_emitted}
 use Rattle.tk_report_text.specs.Labels.{Label, events, id_in, label, labels, name}
-use Rattle.tk_engine_claim.specs.Claims.{Claims}
+use Rattle.tk_engine_runs.specs.Claims.{Claims}
 use Rattle.tk_engine_runs.specs.Run.{Emits}
 use Rattle.tk_queue_session.specs.Emission.{entries_by, is_dynamic, registrations}
 use Rattle.tk_engine_laws.specs.Scripts.{IsRunOf, id_at, may, played}
@@ -44,7 +46,7 @@ shown_flat q h (x ∷ xs) = shown-append q (h x) (flat_map h xs) ∙ ap (λ l. s
 
 nothing_shown : (q : List SegmentView → Bool) (s a c : List Step) (b : List Part) → shown q s ≡ shown q a ++ (shown q (flat_map script b) ++ shown q c) → shown q s ≡ [] → AllNil (shows q) b
 nothing_shown q s a c b e n =
-    all_nil (shows q) b (sym (shown_flat q script b) ∙ left_nil (shown q (flat_map script b)) (shown q c) (right_nil (shown q a) _ (sym e ∙ n)))
+    all_nil (shows q) b (sym (shown_flat q script b) ∙ nil_left (shown q (flat_map script b)) (shown q c) (nil_right (shown q a) _ (sym e ∙ n)))
 
 mutual
   one_part : (q : List SegmentView → Bool) (p : ℕ) (t : Tree) → IsChain q t → AtMostOne (shows q) (parts p t)
@@ -72,11 +74,6 @@ mutual
 pub get_back : {A : Type 0} (xs ys : List A) (i : ℕ) → slice_get (xs ++ ys) (length xs + i) ≡ slice_get ys i
 get_back [] ys i = ap (slice_get ys) (let e : 0 + i ≡ i = omega arith in e)
 get_back (x ∷ xs) ys i = ap (slice_get (x ∷ (xs ++ ys))) (let e : suc (length xs) + i ≡ suc (length xs + i) = omega arith in e) ∙ get_back xs ys i
-
-pub below_length : {A : Type 0} (xs : List A) (i : ℕ) (x : A) → slice_get xs i ≡ Some x → i < length xs
-below_length [] i x e = cc
-below_length (y ∷ ys) zero x e = omega arith
-below_length (y ∷ ys) (suc i) x e = let h = below_length ys i x e in omega (arith, h)
 
 pub some_below : {A : Type 0} (xs : List A) (i : ℕ) → ((x : A) × (slice_get xs i ≡ Some x)) ⊎ ((slice_get xs i ≡ None) × (length xs ≤ i))
 some_below [] i = inr (refl, omega arith)
@@ -135,9 +132,6 @@ above a b c h g = omega (arith, h, g)
 
 pub above_table : (i j n : ℕ) → n ≤ 65536 → n ≤ 65536 * (i + 1) + 0 + j
 above_table i j n h = omega (arith, h)
-
-some_same : {A : Type 0} {x y : A} → Some x ≡ Some y → x ≡ y
-some_same e = cc
 
 claimed : (b : Bool) (n : ℕ) → n ≡ (if b then 1 else 0) → n ≤ 1
 claimed true n e = omega (arith, e)
@@ -208,7 +202,7 @@ module _ (all : List NumberedNode) (table : List Descriptor) (f : Forest) (worke
   pub worker_did : (i : ℕ) → WorkerDid i
   worker_did i = ⊎_elim
       (λ us.
-      let l = below_length run.shared.drawn i us.0 us.1 in
+      let l = slice_get_within run.shared.drawn i us.0 us.1 in
       let own : of_worker (i + 1) run.mid ≡ run.shared.lists (i + 1) = run.shared.mix.each (i + 1) (omega arith, is_seat i _ _ l run.shared.seats) in
       inr (us.0, us.1, subst (Emits (may all table) (i + 1) 0 us.0) (sym own) (run.shared.emits i us.0 us.1)))
       (λ none. inl (none.0, no_events workers (i + 1) run.mid run.shared.mix.workers (inr (no_seat i _ _ none.1 run.shared.seats))))
@@ -252,7 +246,7 @@ module _ (all : List NumberedNode) (table : List Descriptor) (f : Forest) (worke
       (λ did. emitted_by v key did.0 did.2 ∙ ap (map (id_at all)) (⊎_elim
       (λ l. hits_below key (65536 * (v + 1) + 0) (drawn_ids f did.0) l)
       (λ l. hits_above key (65536 * (v + 1) + 0) (drawn_ids f did.0) (above _ _ _ l (few_ids v did.0 did.1)))
-      (key_of_other i v j (length (drawn_ids f us)) (below_length (drawn_ids f us) j x s) (few_ids i us e) (λ no. n (same ∙ ap (λ z. z + 1) no)))))
+      (key_of_other i v j (length (drawn_ids f us)) (slice_get_within (drawn_ids f us) j x s) (few_ids i us e) (λ no. n (same ∙ ap (λ z. z + 1) no)))))
       (worker_did v)
 
   pub emitted_drawn : (i j : ℕ) (us : List ℕ) (x : ℕ) → slice_get run.shared.drawn i ≡ Some us → slice_get (drawn_ids f us) j ≡ Some x
@@ -265,7 +259,7 @@ module _ (all : List NumberedNode) (table : List Descriptor) (f : Forest) (worke
       (event_of_step-append key (events run.mid) (static_events (after_below 0 f)) ∙ (ap₂ (λ a b. a ++ b) (mix_one (registered_under key) (i + 1) run.mid other) (emitted_static all table key (after_below 0 f) (static_after_below all table 0 f plan.keyed)) ∙ append-nil _)))) in
       let own : event_of_step key (of_worker (i + 1) run.mid) ≡ map (id_at all) (hits key (65536 * (i + 1) + 0) (drawn_ids f us)) = ⊎_elim
       (λ none. let bad : Some us ≡ None = sym e ∙ none.0 in cc)
-      (λ did. let same : did.0 ≡ us = some_same (sym did.1 ∙ e) in subst (λ z. event_of_step key (of_worker (i + 1) run.mid) ≡ map (id_at all) (hits key (65536 * (i + 1) + 0) (drawn_ids f z))) same (emitted_by i key did.0 did.2))
+      (λ did. let same : did.0 ≡ us = same_Some _ _ (sym did.1 ∙ e) in subst (λ z. event_of_step key (of_worker (i + 1) run.mid) ≡ map (id_at all) (hits key (65536 * (i + 1) + 0) (drawn_ids f z))) same (emitted_by i key did.0 did.2))
       (worker_did i) in
       whole ∙ own
 
@@ -337,7 +331,7 @@ module _ (all : List NumberedNode) (table : List Descriptor) (f : Forest) (worke
     copied : copies (times_in lone_unit.position run.shared.drawn) (gives lone_unit.position) ≡ gives lone_unit.position
     unfolding gives
     copied = copies_by _ _ (gives lone_unit.position) (claims lone_unit.position) ∙ ⊎_elim
-        (λ x. let l = below_length (units f) lone_unit.position x.0 x.1 in
+        (λ x. let l = slice_get_within (units f) lone_unit.position x.0 x.1 in
         let lt : nat_lt lone_unit.position (length (units f)) ≡ true = grind (arith, tests, l) in
         ap (λ b. copies (if b then 1 else 0) (gives lone_unit.position)) lt ∙ append-nil (gives lone_unit.position))
         (λ none. let lt : nat_lt lone_unit.position (length (units f)) ≡ false = grind (arith, tests, none.1) in

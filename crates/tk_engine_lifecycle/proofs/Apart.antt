@@ -1,6 +1,7 @@
 -- Each key has its events in one turn, or before and after all turns.
-use Rattle.std.proofs.Common.{◌≡◌, ◌<◌, ◌≤◌, ◌==◌, ◌&&◌, not, ℕ, zero, suc, ◌⊎◌, inl, inr, ⊎_elim, Bool, true, false, cond, List, [], ◌∷◌, ◌++◌, length, map, filter, Some, None, slice_get, All, refl, sym, ap, ap₂, ◌∙◌, subst, append_assoc, arith, tests}
+use Rattle.std.proofs.Common.{◌≡◌, ◌<◌, ◌≤◌, ◌==◌, ◌&&◌, not, ℕ, ◌⊎◌, inl, inr, ⊎_elim, Bool, true, false, cond, List, [], ◌∷◌, ◌++◌, length, map, filter, Some, None, slice_get, All, refl, sym, ap, ap₂, ◌∙◌, subst, append_assoc, arith, tests}
 use Rattle.std.proofs.lemmas.List.Elements.{All-head, All-tail}
+use Rattle.tk_lemmas.proofs.Lists.{get_below}
 use Rattle.tk_ids.specs.IdText.{SegmentView}
 use Rattle.tk_ids.specs.declared.descriptors.Descriptor.{Descriptor}
 use Rattle.tk_events.specs.declared.events.Event.{Event}
@@ -57,11 +58,6 @@ pub record IsCommon (f : Frame) (key : ℕ) : Type 0 where
   pub descriptor : Descriptor
   pub described : slice_get f.table key ≡ Some descriptor
   pub belongs : f.units ≤ f.owner descriptor.id
-
-get_below : {A : Type 0} (xs : List A) (i : ℕ) → i < length xs → (x : A) × (slice_get xs i ≡ Some x)
-get_below [] i h = absurd (omega (arith, h))
-get_below (x ∷ xs) zero h = (x, refl)
-get_below (x ∷ xs) (suc i) h = get_below xs i (omega (arith, h))
 
 pub common : (f : Frame) (key : ℕ) → KeepsAround f → Hit key (f.before ++ f.after) → IsCommon f key
 common f key k h =

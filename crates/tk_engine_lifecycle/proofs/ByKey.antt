@@ -1,10 +1,12 @@
 -- What a record says of a key, by the key's events.
-use Rattle.std.proofs.Common.{◌≡◌, ◌==◌, ◌&&◌, ◌||◌, not, ℕ, ◌⊎◌, inl, inr, Bool, true, false, cond, if◌then◌else◌, List, [], ◌∷◌, ◌++◌, map, filter, Option, Some, None, slice_get, refl, sym, ap, ap₂, ◌∙◌, arith, tests}
+use Rattle.std.proofs.Common.{◌≡◌, ◌==◌, ◌&&◌, ◌||◌, not, ℕ, ◌⊎◌, Bool, true, false, cond, if◌then◌else◌, List, [], ◌∷◌, ◌++◌, map, filter, Option, Some, None, slice_get, refl, sym, ap, ap₂, ◌∙◌, arith, tests}
 use Rattle.std.specs.List.{list_any}
 use Rattle.std.specs.Option.{option_or}
 use Rattle.tk_engine_lifecycle.proofs.Splits.{unfiltered}
 use Rattle.std.proofs.lemmas.List.{map-append}
 use Rattle.std.proofs.lemmas.List.Elements.{filter-append}
+use Rattle.std.proofs.lemmas.Option.{same_Some}
+use Rattle.tk_lemmas.proofs.Options.{option_or_cases}
 use Rattle.tk_ids.specs.IdText.{SegmentView}
 use Rattle.tk_ids.specs.declared.descriptors.Descriptor.{Descriptor}
 use Rattle.tk_events.specs.declared.kinds.Kind.{Kind}
@@ -17,6 +19,8 @@ use Rattle.tk_record_columns.specs.Entries.{of_kind, desc, desc_in, described, r
 use Rattle.tk_queue_session.specs.Emission.{entries_by}
 use Rattle.tk_query_lifecycle.specs.Lifecycle.{HasId, has_event, is_event, runs}
 use Rattle.tk_query_lifecycle.specs.KeepsLifecycle.{is_step, steps_of}
+pub use Rattle.tk_query_lifecycle.proofs.IdMapLemmas.{static_desc as from_table}
+pub use Rattle.tk_queue_session.proofs.KnownKeys.{desc_in-append}
 
 abbrev pub events : List Entry → List Event
 events es = map (λ (e : Entry). e.event) es
@@ -120,30 +124,15 @@ same_steps xs ys key same = steps_is key xs ∙ ap kinds same ∙ sym (steps_is 
 
 -- ---- descriptors
 
-some_of : {A : Type 0} (a b : Option A) (x : A) → option_or a b ≡ Some x → (a ≡ Some x) ⊎ ((a ≡ None) × (b ≡ Some x))
-some_of None b x e = inr (refl, e)
-some_of (Some y) b x e = inl e
-
 -- a descriptor stands in the table, or is registered
 pub table_or_entry : (r : Recorded) (key : ℕ) (d : Descriptor) → desc r key ≡ Some d
     → (slice_get r.table key ≡ Some d) ⊎ ((slice_get r.table key ≡ None) × (desc_in r.entries key ≡ Some d))
-table_or_entry r key d e = some_of (slice_get r.table key) (desc_in r.entries key) d e
-
-in_table : {A : Type 0} (a b : Option A) (x : A) → a ≡ Some x → option_or a b ≡ Some x
-in_table None b x e = cc
-in_table (Some y) b x e = e
-
--- what the table describes is described in each record over it
-pub from_table : (r : Recorded) (key : ℕ) (d : Descriptor) → slice_get r.table key ≡ Some d → desc r key ≡ Some d
-from_table r key d e = in_table (slice_get r.table key) (desc_in r.entries key) d e
-
-some_same : {A : Type 0} {x y : A} → Some x ≡ Some y → x ≡ y
-some_same e = cc
+table_or_entry r key d e = option_or_cases (slice_get r.table key) (desc_in r.entries key) d e
 
 -- one descriptor a key
 pub one_id : (r : Recorded) (key : ℕ) (a b : List SegmentView) → HasId r key a → HasId r key b → a ≡ b
 one_id r key a b x y =
-    let same : x.descriptor ≡ y.descriptor = some_same (sym x.described ∙ y.described) in
+    let same : x.descriptor ≡ y.descriptor = same_Some _ _ (sym x.described ∙ y.described) in
     sym x.id_is ∙ ap (λ (d : Descriptor). d.id) same ∙ y.id_is
 
 -- the same events of a key, over one table, give it the same id
@@ -159,14 +148,6 @@ more_in : {A : Type 0} (a b c : Option A) (x : A) → option_or a b ≡ Some x �
 more_in None None c x e = cc
 more_in None (Some y) c x e = e
 more_in (Some y) b c x e = e
-
-or_assoc : {A : Type 0} (a b c : Option A) → option_or a (option_or b c) ≡ option_or (option_or a b) c
-or_assoc None b c = refl
-or_assoc (Some x) b c = refl
-
-pub desc_in-append : (xs ys : List Entry) (key : ℕ) → desc_in (xs ++ ys) key ≡ option_or (desc_in xs key) (desc_in ys key)
-desc_in-append [] ys key = refl
-desc_in-append (x ∷ xs) ys key = ap (option_or (registered key x)) (desc_in-append xs ys key) ∙ or_assoc (registered key x) (desc_in xs key) (desc_in ys key)
 
 -- what a key is, it stays
 pub later_id : (table : List Descriptor) (xs ys : List Entry) (key : ℕ) (id : List SegmentView)

@@ -1,6 +1,7 @@
 -- A unit that has emitted what keeps the lifecycle, and of which no key runs, keeps it alone.
 use Rattle.std.proofs.Common.{◌≡◌, ◌<◌, ℕ, ⊎_elim, List, [], ◌∷◌, ◌++◌, take, All, refl, sym, ap, ap₂, ◌∙◌, subst, append-nil, arith}
 use Rattle.std.proofs.lemmas.List.Elements.{All-weaker}
+use Rattle.tk_lemmas.proofs.Lists.{nil_left, nil_right}
 use Rattle.tk_ids.specs.IdText.{SegmentView, parent_of}
 use Rattle.tk_events.specs.declared.events.Event.{Event}
 use Rattle.tk_events.specs.declared.events.Entry.{Entry}
@@ -10,7 +11,7 @@ use Rattle.tk_query_lifecycle.specs.KeepsLifecycle.{IsWhole, steps_of}
 use Rattle.tk_engine_lifecycle.specs.Units.{Frame, AreOf, KeepsAlone, KeepsAround, run_alone}
 use Rattle.tk_engine_lifecycle.proofs.States.{state}
 use Rattle.tk_engine_lifecycle.specs.UnderWay.{IsUnderWay, so_far}
-use Rattle.tk_engine_lifecycle.proofs.Splits.{InFirst, InSecond, get_split, in_parts, left_nil, right_nil}
+use Rattle.tk_engine_lifecycle.proofs.Splits.{InFirst, InSecond, get_split, in_parts}
 use Rattle.tk_engine_lifecycle.proofs.ByKey.{events, events-append, events_by, from_table, hits, hits-append, later_id, one_id, same_id, same_runs, same_steps}
 use Rattle.tk_engine_lifecycle.proofs.Apart.{Hit, all_at, alone_events, common, hit_or_none}
 use Rattle.tk_engine_lifecycle.proofs.Whole.{after_split, around_split, hit_after, plain_after, running_hit, three}
@@ -121,7 +122,7 @@ whole_alone f unit w l around low u key =
     (λ n.
     let parts = sym (hits-append key f.before f.after) ∙ n in
     let same : hits key (events (run_alone f w l).entries) ≡ hits key (events (entries_by w l))
-    = alone_hits f w l key ∙ ap₂ (λ a b. (a ++ hits key l) ++ b) (left_nil (hits key f.before) (hits key f.after) parts) (right_nil (hits key f.before) (hits key f.after) parts)
+    = alone_hits f w l key ∙ ap₂ (λ a b. (a ++ hits key l) ++ b) (nil_left (hits key f.before) (hits key f.after) parts) (nil_right (hits key f.before) (hits key f.after) parts)
     ∙ append-nil (hits key l) ∙ ap (hits key) (sym (events_by w l)) in
     subst IsWhole (sym (same_steps (run_alone f w l).entries (entries_by w l) key same)) (u.whole key (λ h. h)))
     (λ h.

@@ -1,6 +1,7 @@
 -- A run of an engine whose units keep the lifecycle keeps it.
 use Rattle.std.proofs.Common.{◌≡◌, ◌<◌, ◌==◌, ℕ, ◌⊎◌, inl, inr, ⊎_elim, true, List, [], ◌∷◌, ◌++◌, length, filter, flat_map, take, Some, slice_get, refl, sym, ap, ap₂, ◌∙◌, subst, append_assoc, arith, tests}
 use Rattle.std.proofs.lemmas.List.{map-append}
+use Rattle.tk_lemmas.proofs.Lists.{nil_left, nil_right, no_split}
 use Rattle.tk_ids.specs.IdText.{SegmentView, parent_of}
 use Rattle.tk_ids.specs.declared.descriptors.Descriptor.{Descriptor}
 use Rattle.tk_events.specs.declared.events.Event.{Event}
@@ -10,13 +11,14 @@ use Rattle.tk_record_columns.specs.Mixing.{of_worker}
 use Rattle.tk_queue_session.specs.Emission.{entries_by, entry_by}
 use Rattle.tk_query_lifecycle.specs.Lifecycle.{HasId, KnowsId, runs}
 use Rattle.tk_query_lifecycle.specs.KeepsLifecycle.{KeepsLifecycle}
+use Rattle.tk_queue_session.proofs.ReceiverSteps.{of_worker-append}
 use Rattle.tk_engine_lifecycle.specs.Units.{Frame, run_alone}
-use Rattle.tk_engine_lifecycle.proofs.Splits.{Joined, joined, left_nil, right_nil, split_get, split_take, unfiltered}
+use Rattle.tk_engine_lifecycle.proofs.Splits.{Joined, joined, split_get, split_take, unfiltered}
 use Rattle.tk_engine_lifecycle.proofs.ByKey.{events, events-append, events_by, has_run, hits, hits-append, same_id, same_runs}
 use Rattle.tk_engine_lifecycle.proofs.Turns.{Turn, emitted, is_by}
 use Rattle.tk_engine_lifecycle.proofs.Apart.{Hit, KeptRun, hit_or_none, own_first}
 use Rattle.tk_engine_lifecycle.proofs.Only.{hits_of, none_common}
-use Rattle.tk_engine_lifecycle.proofs.Prefixes.{StartsTo, none_in_start, of_worker-append, own_in_start}
+use Rattle.tk_engine_lifecycle.proofs.Prefixes.{StartsTo, none_in_start, own_in_start}
 
 -- ---- what is asked of an entry after others
 
@@ -100,9 +102,9 @@ same_before f entries c m x t key h =
     (λ o. own_in_start f entries c m t.t t.a key t.starts o)
     (λ b.
     let none = none_common f entries c key (hit_before f key b) in
-    let own : hits key t.t.list ≡ [] = left_nil (hits_of key t.t) _ (right_nil (flat_map (hits_of key) t.starts.prefix) _ (sym (split_none key t.starts.prefix t.t t.starts.suffix) ∙ ap (flat_map (hits_of key)) (sym t.starts.turn) ∙ none)) in
+    let own : hits key t.t.list ≡ [] = nil_left (hits_of key t.t) _ (nil_right (flat_map (hits_of key) t.starts.prefix) _ (sym (split_none key t.starts.prefix t.t t.starts.suffix) ∙ ap (flat_map (hits_of key)) (sym t.starts.turn) ∙ none)) in
     none_in_start f entries c m t.starts.rest key t.starts.is none
-    ∙ sym (left_nil (hits key t.a) (hits key (x.event ∷ t.b)) (sym (hits-append key t.a (x.event ∷ t.b)) ∙ ap (hits key) (sym t.list) ∙ own)))
+    ∙ sym (nil_left (hits key t.a) (hits key (x.event ∷ t.b)) (sym (hits-append key t.a (x.event ∷ t.b)) ∙ ap (hits key) (sym t.list) ∙ own)))
     h in
     ap (hits key) (start_events f m) ∙ hits-append key f.before (events m) ∙ ap (λ l. hits key f.before ++ l) there
     ∙ sym (hits-append key f.before t.a) ∙ ap (hits key) (sym (alone_start f t.t.worker t.a))
@@ -141,16 +143,13 @@ id_alone f entries c m x t id h =
     (record { table = f.table; entries = start_of f (entries_by t.t.worker t.a) ++ alone_entry f entries c m x t ∷ [] }) x.event.key id refl
     (one_more x.event.key (start_of f m) (start_of f (entries_by t.t.worker t.a)) x (alone_entry f entries c m x t) same refl) h
 
-no_hit : (e : Event) (more : List Event) → e ∷ more ≡ [] → ⊥
-no_hit e more h = cc
-
 -- a key that runs there has an event before, or in the turn
 runs_hit : (f : Frame) (w key : ℕ) (a : List Event) → runs key (start_of f (entries_by w a)) ≡ true → Hit key a ⊎ Hit key f.before
 runs_hit f w key a r =
     let h = has_run (start_of f (entries_by w a)) key r in
     ⊎_elim
     (λ n. ⊎_elim
-    (λ m. absurd (no_hit h.0 h.1 (sym h.2 ∙ ap (hits key) (alone_start f w a) ∙ hits-append key f.before a ∙ ap₂ (λ x y. x ++ y) m n)))
+    (λ m. absurd (no_split [] h.0 h.1 (sym (ap (hits key) (alone_start f w a) ∙ hits-append key f.before a ∙ ap₂ (λ x y. x ++ y) m n) ∙ h.2)))
     (λ b. inr b)
     (hit_or_none key f.before))
     (λ o. inl o)

@@ -2,6 +2,7 @@
 use Rattle.std.proofs.Common.{◌≡◌, ℕ, ⊎_elim, Bool, true, false, cond, List, [], ◌∷◌, ◌++◌, filter, flat_map, Some, None, slice_get, sym, ap, ◌∙◌, append_assoc, arith, tests}
 use Rattle.std.proofs.lemmas.List.Elements.{filter-append}
 use Rattle.std.proofs.lemmas.Grind.{flat_map-append}
+use Rattle.std.proofs.lemmas.Option.{same_Some}
 use Rattle.tk_ids.specs.declared.descriptors.Descriptor.{Descriptor}
 use Rattle.tk_events.specs.declared.events.Event.{Event}
 use Rattle.tk_events.specs.declared.events.Entry.{Entry}
@@ -92,11 +93,8 @@ two_turns f entries c p t q t' s key is worker r r' =
 pub second_at : (p : List Turn) (t : Turn) (q : List Turn) (t' : Turn) (s : List Turn) (ts : List Turn) → ts ≡ p ++ t ∷ (q ++ t' ∷ s) → ts ≡ (p ++ t ∷ q) ++ t' ∷ s
 second_at p t q t' s ts is = is ∙ sym (append_assoc p (t ∷ q) (t' ∷ s))
 
-some_same : {A : Type 0} {x y : A} → Some x ≡ Some y → x ≡ y
-some_same e = cc
-
 one_of : (f : Frame) (key : ℕ) (a b : Descriptor) → slice_get f.table key ≡ Some a → slice_get f.table key ≡ Some b → a.id ≡ b.id
-one_of f key a b x y = let same : Some a ≡ Some b = sym x ∙ y in ap (λ (d : Descriptor). d.id) (some_same same)
+one_of f key a b x y = let same : Some a ≡ Some b = sym x ∙ y in ap (λ (d : Descriptor). d.id) (same_Some _ _ same)
 
 none_some : (f : Frame) (key : ℕ) (d : Descriptor) → slice_get f.table key ≡ None → slice_get f.table key ≡ Some d → ⊥
 none_some f key d n s = cc

@@ -1,21 +1,18 @@
 -- What a key has among the entries before an event of a turn, it has before that event where the unit runs alone.
-use Rattle.std.proofs.Common.{◌≡◌, ◌≢◌, ◌==◌, ℕ, ⊎_elim, Bool, true, false, cond, List, [], ◌∷◌, ◌++◌, map, filter, flat_map, refl, sym, ap, ap₂, ◌∙◌, arith, tests}
+use Rattle.std.proofs.Common.{◌≡◌, ◌≢◌, ◌==◌, ℕ, ⊎_elim, Bool, true, false, cond, List, [], ◌∷◌, ◌++◌, filter, flat_map, refl, sym, ap, ap₂, ◌∙◌, arith, tests}
 use Rattle.std.proofs.lemmas.Bool.{cases_Bool}
-use Rattle.std.proofs.lemmas.List.{map-append}
 use Rattle.std.proofs.lemmas.List.Elements.{filter-append}
 use Rattle.std.proofs.lemmas.Grind.{flat_map-append}
+use Rattle.tk_lemmas.proofs.Lists.{nil_left, nil_right}
 use Rattle.tk_events.specs.declared.events.Event.{Event}
 use Rattle.tk_events.specs.declared.events.Entry.{Entry}
 use Rattle.tk_record_columns.specs.Mixing.{of_worker}
+use Rattle.tk_queue_session.proofs.ReceiverSteps.{of_worker-append}
 use Rattle.tk_engine_lifecycle.specs.Units.{Frame}
-use Rattle.tk_engine_lifecycle.proofs.Splits.{left_nil, right_nil}
 use Rattle.tk_engine_lifecycle.proofs.ByKey.{events, hits, hits-append}
 use Rattle.tk_engine_lifecycle.proofs.Turns.{Turn, emitted, is_by}
 use Rattle.tk_engine_lifecycle.proofs.Apart.{Hit, KeptRun, other_first, own_first}
 use Rattle.tk_engine_lifecycle.proofs.Only.{drop_first, hits_of, none_after, none_before}
-
-pub of_worker-append : (w : ℕ) (xs ys : List Entry) → of_worker w (xs ++ ys) ≡ of_worker w xs ++ of_worker w ys
-of_worker-append w xs ys = ap (map (λ (e : Entry). e.event)) (filter-append (λ e. e.worker == w) xs ys) ∙ map-append (λ (e : Entry). e.event) (filter (λ e. e.worker == w) xs) (filter (λ e. e.worker == w) ys)
 
 hits_one : (key : ℕ) (e : Event) (es : List Event) → hits key (e ∷ es) ≡ hits key (e ∷ []) ++ hits key es
 hits_one key e es = hits-append key (e ∷ []) es
@@ -26,7 +23,7 @@ own_worker x = grind (arith, tests)
 rest_nil : (key v : ℕ) (x : Entry) (xs : List Entry) → hits key (of_worker v (x ∷ xs)) ≡ [] → hits key (of_worker v xs) ≡ []
 rest_nil key v x xs h =
     ⊎_elim
-    (λ e. right_nil (hits key (x.event ∷ [])) (hits key (of_worker v xs)) (sym (hits_one key x.event (of_worker v xs)) ∙ ap (hits key) (sym (own_first v x xs e)) ∙ h))
+    (λ e. nil_right (hits key (x.event ∷ [])) (hits key (of_worker v xs)) (sym (hits_one key x.event (of_worker v xs)) ∙ ap (hits key) (sym (own_first v x xs e)) ∙ h))
     (λ e. ap (hits key) (sym (other_first v x xs e)) ∙ h)
     (cases_Bool (x.worker == v))
 
@@ -40,7 +37,7 @@ one_worker key w (x ∷ xs) h =
     (λ e.
     let n : x.worker ≢ w = grind (arith, tests, e) in
     let its : hits key (x.event ∷ of_worker x.worker xs) ≡ [] = ap (hits key) (sym (own_first x.worker x xs (own_worker x))) ∙ h x.worker n in
-    let none : hits key (x.event ∷ []) ≡ [] = left_nil (hits key (x.event ∷ [])) (hits key (of_worker x.worker xs)) (sym (hits_one key x.event (of_worker x.worker xs)) ∙ its) in
+    let none : hits key (x.event ∷ []) ≡ [] = nil_left (hits key (x.event ∷ [])) (hits key (of_worker x.worker xs)) (sym (hits_one key x.event (of_worker x.worker xs)) ∙ its) in
     hits_one key x.event (events xs) ∙ ap₂ (λ a b. a ++ b) none more ∙ ap (hits key) (sym (other_first w x xs e)))
     (cases_Bool (x.worker == w))
 
@@ -51,9 +48,9 @@ hits_emitted key (t ∷ ts) = hits-append key t.list (emitted ts) ∙ ap (λ l. 
 none_kept : (test : Turn → Bool) (key : ℕ) (ts : List Turn) → flat_map (hits_of key) ts ≡ [] → flat_map (hits_of key) (filter test ts) ≡ []
 none_kept test key [] h = refl
 none_kept test key (t ∷ ts) h =
-    let more = none_kept test key ts (right_nil (hits_of key t) (flat_map (hits_of key) ts) h) in
+    let more = none_kept test key ts (nil_right (hits_of key t) (flat_map (hits_of key) ts) h) in
     ⊎_elim
-    (λ e. ap (λ b. flat_map (hits_of key) (cond b (t ∷ filter test ts) (filter test ts))) e ∙ ap₂ (λ a b. a ++ b) (left_nil (hits_of key t) (flat_map (hits_of key) ts) h) more)
+    (λ e. ap (λ b. flat_map (hits_of key) (cond b (t ∷ filter test ts) (filter test ts))) e ∙ ap₂ (λ a b. a ++ b) (nil_left (hits_of key t) (flat_map (hits_of key) ts) h) more)
     (λ e. ap (λ b. flat_map (hits_of key) (cond b (t ∷ filter test ts) (filter test ts))) e ∙ more)
     (cases_Bool (test t))
 
@@ -64,7 +61,7 @@ none_emitted test key ts h = hits_emitted key (filter test ts) ∙ none_kept tes
 start_nil : (f : Frame) (entries : List Entry) (c : KeptRun f entries) (m n : List Entry) (key v : ℕ) → c.mid ≡ m ++ n
     → hits key (emitted (filter (is_by v) c.ts)) ≡ [] → hits key (of_worker v m) ≡ []
 start_nil f entries c m n key v is h =
-    left_nil (hits key (of_worker v m)) (hits key (of_worker v n))
+    nil_left (hits key (of_worker v m)) (hits key (of_worker v n))
     (sym (hits-append key (of_worker v m) (of_worker v n)) ∙ ap (hits key) (sym (of_worker-append v m n) ∙ ap (of_worker v) (sym is) ∙ sym (c.emits v)) ∙ h)
 
 -- a key that no turn has an event of has none in the middle

@@ -86,14 +86,6 @@ pub nil_or_cons : {A : Type 0} (xs : List A) → (xs ≡ []) ⊎ ((x : A) × (q 
 nil_or_cons [] = inl refl
 nil_or_cons (x ∷ q) = inr (x, q, refl)
 
-pub left_nil : {A : Type 0} (xs ys : List A) → xs ++ ys ≡ [] → xs ≡ []
-left_nil [] ys e = refl
-left_nil (x ∷ xs) ys e = cc
-
-pub right_nil : {A : Type 0} (xs ys : List A) → xs ++ ys ≡ [] → ys ≡ []
-right_nil [] ys e = e
-right_nil (x ∷ xs) ys e = cc
-
 -- one of the elements that gives something
 pub record Gives {A B : Type 0} (f : A → List B) (xs : List A) : Type 0 where
   pub prefix : List A

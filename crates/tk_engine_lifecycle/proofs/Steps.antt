@@ -2,6 +2,9 @@
 use Rattle.std.proofs.Common.{◌≡◌, ◌≢◌, ◌<◌, ◌-◌, ◌==◌, ◌&&◌, ◌||◌, not, ℕ, ◌⊎◌, inl, inr, ⊎_elim, Bool, true, false, if◌then◌else◌, List, [], ◌∷◌, ◌++◌, length, take, length-append, Option, Some, None, slice_get, refl, sym, ap, ap₂, ◌∙◌, subst, append-nil, arith, tests}
 use Rattle.std.specs.List.{list_any}
 use Rattle.std.specs.Option.{option_or}
+use Rattle.std.proofs.lemmas.Option.{none-some}
+use Rattle.tk_lemmas.proofs.Lists.{no_split}
+use Rattle.tk_lemmas.proofs.Options.{option_or-assoc}
 use Rattle.tk_ids.specs.IdText.{SegmentView, parent_of}
 use Rattle.tk_ids.specs.declared.descriptors.Descriptor.{Descriptor}
 use Rattle.tk_events.specs.declared.events.Event.{Event}
@@ -92,16 +95,13 @@ runs_there f unit w l running key around low u o =
     runs_by_steps key (so_far f w l).entries
     (ap kinds (so_far_hits f w l key ∙ ap (λ x. x ++ hits key l) none) ∙ sym (steps_by key w l) ∙ u.started key o)
 
-no_event : (e : Event) (more : List Event) → e ∷ more ≡ [] → ⊥
-no_event e more h = cc
-
 -- and so does one that runs before the units
 runs_before : (f : Frame) (unit w : ℕ) (l : List Event) (key : ℕ) → KeepsAround f → unit < f.units → AreOf (λ id. f.owner id ≡ unit) (so_far f w l) l
     → runs key (entries_by 0 f.before) ≡ true → runs key (so_far f w l).entries ≡ true
 runs_before f unit w l key around low own r =
     let h = has_run (entries_by 0 f.before) key r in
     ⊎_elim
-    (λ n. absurd (no_event h.0 h.1 (sym h.2 ∙ ap (hits key) (events_by 0 f.before) ∙ n)))
+    (λ n. absurd (no_split [] h.0 h.1 (sym (ap (hits key) (events_by 0 f.before) ∙ n) ∙ h.2)))
     (λ b.
     let none = no_own f unit w l key around low own (hit_before f key b) in
     same_runs (so_far f w l).entries (entries_by 0 f.before) key
@@ -161,10 +161,6 @@ no_step_added key w l e none =
     (λ same. own_steps key w l e same ∙ ap (λ b. steps_of key (entries_by w l) ++ (if b then e.kind ∷ [] else [])) none ∙ append-nil (steps_of key (entries_by w l)))
     (λ differ. other_steps key w l e differ)
     (same_key e.key key)
-
-no_split : (a : List Event) (e : Event) (b : List Event) → [] ≡ a ++ e ∷ b → ⊥
-no_split [] e b h = cc
-no_split (x ∷ a) e b h = cc
 
 -- nothing was emitted yet
 pub begins : (f : Frame) (unit w : ℕ) → IsUnderWay (state f unit w [] [])
@@ -318,10 +314,6 @@ registered_is true true d a b = refl
 registered_is true false d a b = cc
 registered_is false here d a b = cc
 
-pub or_or : {A : Type 0} (a b c : Option A) → option_or a (option_or b c) ≡ option_or (option_or a b) c
-or_or None b c = refl
-or_or (Some x) b c = refl
-
 pub its_own : (key w : ℕ) (e : Event) (d : Descriptor) → e.kind ≡ Dynamic → e.payload ≡ Described d → registered e.key (entry_by w e) ≡ Some d
 its_own key w e d kind payload =
     let own : (e.key == e.key) ≡ true = grind (arith, tests) in
@@ -335,7 +327,7 @@ described_now f w l e d kind payload free = record {
   descriptor = d;
   described =
       ap (option_or (slice_get f.table e.key)) (desc_in-append (so_far f w l).entries (entry_by w e ∷ []) e.key)
-      ∙ or_or (slice_get f.table e.key) (desc_in (so_far f w l).entries e.key) (option_or (registered e.key (entry_by w e)) None)
+      ∙ sym (option_or-assoc (slice_get f.table e.key) (desc_in (so_far f w l).entries e.key) (option_or (registered e.key (entry_by w e)) None))
       ∙ or_none (desc (so_far f w l) e.key) (option_or (registered e.key (entry_by w e)) None) free
       ∙ ap (λ x. option_or x None) (its_own e.key w e d kind payload);
   id_is = refl;
@@ -372,16 +364,12 @@ begins_registered f unit w l running e d kind payload m =
           (m.above, subst (HasId (so_far f w (l ++ e ∷ [])) m.above) above (kept_id f w l e m.above m.id m.above_is), inl m.runs);
     }
 
-none_some : {A : Type 0} (a : Option A) (x : A) → a ≡ None → a ≡ Some x → ⊥
-none_some None x e h = cc
-none_some (Some y) x e h = cc
-
 -- a key without a descriptor has no step yet
 pub no_steps_yet : (f : Frame) (unit w : ℕ) (l : List Event) (running : List ℕ) (key : ℕ) → IsUnderWay (state f unit w l running) → desc (so_far f w l) key ≡ None → steps_of key (entries_by w l) ≡ []
 no_steps_yet f unit w l running key u free =
     ⊎_elim
     (λ n. steps_by key w l ∙ ap kinds n)
-    (λ h. let o = own_id f unit w l key u.own h in absurd (none_some (desc (so_far f w l) key) o.1.descriptor free o.1.described))
+    (λ h. let o = own_id f unit w l key u.own h in absurd (none-some o.1.descriptor (sym free ∙ o.1.described)))
     (hit_or_none key l)
 
 pub dynamic_key_fresh : (f : Frame) (unit w : ℕ) (l : List Event) (running : List ℕ) (e : Event) → IsUnderWay (state f unit w l running) → e.kind ≡ Dynamic → desc (so_far f w l) e.key ≡ None

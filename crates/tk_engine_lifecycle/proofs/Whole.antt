@@ -1,6 +1,7 @@
 -- A run of an engine whose units keep the lifecycle keeps it: ids, the entries around the turns, and the keys' steps.
 use Rattle.std.proofs.Common.{◌≡◌, ℕ, inl, ⊎_elim, Bool, true, cond, List, [], ◌∷◌, ◌++◌, filter, take, refl, sym, ap, ap₂, ◌∙◌, subst, append_assoc, append-nil, arith, tests}
 use Rattle.std.proofs.lemmas.List.Elements.{filter-append}
+use Rattle.tk_lemmas.proofs.Lists.{nil_left, no_split}
 use Rattle.tk_ids.specs.IdText.{SegmentView, parent_of}
 use Rattle.tk_events.specs.declared.events.Event.{Event}
 use Rattle.tk_events.specs.declared.events.Entry.{Entry}
@@ -11,7 +12,7 @@ use Rattle.tk_query_lifecycle.specs.Lifecycle.{HasId, runs}
 use Rattle.tk_query_lifecycle.specs.KeepsLifecycle.{IsWhole, KeepsLifecycle, steps_of}
 use Rattle.tk_engine_runs.specs.Run.{IsRun}
 use Rattle.tk_engine_lifecycle.specs.Units.{Frame, KeepsAround, UnitsKeepLifecycle, run_alone}
-use Rattle.tk_engine_lifecycle.proofs.Splits.{Gives, InFirst, InSecond, get_split, in_parts, left_nil, none_or_one}
+use Rattle.tk_engine_lifecycle.proofs.Splits.{Gives, InFirst, InSecond, get_split, in_parts, none_or_one}
 use Rattle.tk_engine_lifecycle.proofs.ByKey.{Registration, events, events-append, events_by, from_table, has_run, hits, hits-append, is_dynamic, later_id, one_id, registration_of, same_id, same_runs, same_steps, table_or_entry}
 use Rattle.tk_engine_lifecycle.proofs.Turns.{Turn, emitted, is_by, turned}
 use Rattle.tk_engine_lifecycle.proofs.Apart.{Hit, KeptRun, alone_events, hit_or_none, own, plain}
@@ -203,16 +204,13 @@ hit_after f p x q is = record {
   key_is = refl;
 }
 
-no_hit : (e : Event) (more : List Event) → e ∷ more ≡ [] → ⊥
-no_hit e more h = cc
-
 pub running_hit : (f : Frame) (p : List Entry) (x : Entry) (q : List Entry) (key : ℕ) → entries_by 0 f.after ≡ p ++ x ∷ q → runs key (entries_by 0 f.before ++ p) ≡ true → Hit key (f.before ++ f.after)
 running_hit f p x q key is r =
     let h = has_run (entries_by 0 f.before ++ p) key r in
     let parts : events (entries_by 0 f.before ++ p) ≡ f.before ++ events p = events-append (entries_by 0 f.before) p ∙ ap (λ l. l ++ events p) (events_by 0 f.before) in
     let whole : f.before ++ f.after ≡ (f.before ++ events p) ++ x.event ∷ events q = ap (λ l. f.before ++ l) (after_events f p x q is) ∙ sym (append_assoc f.before (events p) (x.event ∷ events q)) in
     ⊎_elim
-    (λ n. absurd (no_hit h.0 h.1 (sym h.2 ∙ ap (hits key) parts ∙ left_nil (hits key (f.before ++ events p)) (hits key (x.event ∷ events q)) (sym (hits-append key (f.before ++ events p) (x.event ∷ events q)) ∙ ap (hits key) (sym whole) ∙ n))))
+    (λ n. absurd (no_split [] h.0 h.1 (sym (ap (hits key) parts ∙ nil_left (hits key (f.before ++ events p)) (hits key (x.event ∷ events q)) (sym (hits-append key (f.before ++ events p) (x.event ∷ events q)) ∙ ap (hits key) (sym whole) ∙ n)) ∙ h.2)))
     (λ o. o)
     (hit_or_none key (f.before ++ f.after))
 

@@ -1,16 +1,13 @@
 -- The entries of one worker, and of no other.
 use Rattle.std.proofs.Common.{◌≡◌, ◌≢◌, ◌==◌, ℕ, ◌<◌, Bool, if◌then◌else◌, List, [], ◌∷◌, ◌++◌, map, refl, ap, ap₂, ◌∙◌, arith, append-nil, eq-eqb, ne_eqb}
 use Rattle.std.specs.Prelude.{filter, All}
-use Rattle.std.proofs.lemmas.List.{map-append}
-use Rattle.std.proofs.lemmas.List.Elements.{filter-append, All-head, All-tail}
+use Rattle.std.proofs.lemmas.List.Elements.{All-head, All-tail}
 use Rattle.tk_events.specs.declared.events.Event.{Event}
 use Rattle.tk_events.specs.declared.events.Entry.{Entry}
 use Rattle.tk_record_columns.specs.Mixing.{IsWorkerOf, of_worker}
 use Rattle.tk_queue_session.specs.Emission.{entry_by, entries_by}
+use Rattle.tk_queue_session.proofs.ReceiverSteps.{of_worker-append}
 use Rattle.tk_engine_runs.specs.Parts.{EachHasItsList}
-
-pub of_worker-append : (w : ℕ) (xs ys : List Entry) → of_worker w (xs ++ ys) ≡ of_worker w xs ++ of_worker w ys
-of_worker-append w xs ys = ap (map (λ (e : Entry). e.event)) (filter-append (λ e. e.worker == w) xs ys) ∙ map-append (λ (e : Entry). e.event) (filter (λ e. e.worker == w) xs) (filter (λ e. e.worker == w) ys)
 
 -- what a worker emitted is its own
 pub own_events : (w : ℕ) (es : List Event) → of_worker w (entries_by w es) ≡ es

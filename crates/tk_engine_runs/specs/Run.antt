@@ -6,7 +6,7 @@ use Rattle.tk_events.specs.declared.events.Entry.{Entry}
 use Rattle.tk_record_columns.specs.Recorded.{Recorded}
 use Rattle.tk_record_columns.specs.Mixing.{Mix}
 use Rattle.tk_queue_session.specs.Emission.{registrations, entries_by}
-use Rattle.tk_engine_claim.specs.Claims.{Claims}
+use Rattle.tk_engine_runs.specs.Claims.{Claims}
 
 -- unit u may emit l for worker w that had registered k descriptors before: may u w k l
 module _ (may : ℕ → ℕ → ℕ → List Event → Type 0) where

@@ -2,6 +2,7 @@
 use Rattle.std.proofs.Common.{◌≡◌, ◌≢◌, ◌<◌, ◌≤◌, ◌+◌, ◌==◌, ◌&&◌, ℕ, zero, suc, ◌⊎◌, inl, inr, ⊎_elim, Bool, true, false, if◌then◌else◌, List, [], ◌∷◌, ◌++◌, length, Option, Some, None, slice_get, refl, sym, ap, ◌∙◌, subst, append_assoc, append-nil, arith, tests}
 use Rattle.std.specs.Option.{option_or}
 use Rattle.std.proofs.lemmas.List.{map-append}
+use Rattle.tk_lemmas.proofs.Options.{option_or-assoc}
 use Rattle.tk_ids.specs.IdText.{SegmentView, id_text}
 use Rattle.tk_ids.specs.declared.descriptors.Descriptor.{Descriptor}
 use Rattle.tk_events.specs.declared.events.Event.{Event}
@@ -23,7 +24,7 @@ use Rattle.tk_engine_lifecycle.specs.UnderWay.{IsOneOf, IsUnderWay, MayBegin, Ma
 use Rattle.tk_engine_unit_events.specs.Emitting.{IsEmitting, Progress, since}
 use Rattle.tk_engine_lifecycle.proofs.ByKey.{desc_in-append, later_id, one_id, from_table}
 use Rattle.tk_engine_lifecycle.proofs.Going.{other_steps, so_far_more}
-use Rattle.tk_engine_lifecycle.proofs.Steps.{begins, begins_registered, dynamic_key_fresh, dynamic_no_step, finishes, its_own, law_closes, no_step_added, or_none, or_or, registers_below, reports, running_id, skips, starts}
+use Rattle.tk_engine_lifecycle.proofs.Steps.{begins, begins_registered, dynamic_key_fresh, dynamic_no_step, finishes, its_own, law_closes, no_step_added, or_none, registers_below, reports, running_id, skips, starts}
 
 -- a unit that begins
 pub emitting_none : (f : Frame) (unit : ℕ) (start : SenderView) (none : List ℕ → Bool) (next : ℕ) → KeepsAround f → unit < f.units → start.table ≡ f.table
@@ -206,7 +207,7 @@ or_none_some None x e = cc
 or_none_some (Some y) x e = e
 
 desc_more : (table : List Descriptor) (es : List Entry) (x : Entry) (key : ℕ) → desc (record { table = table; entries = es ++ x ∷ [] }) key ≡ option_or (desc (record { table = table; entries = es }) key) (option_or (registered key x) None)
-desc_more table es x key = ap (option_or (slice_get table key)) (desc_in-append es (x ∷ []) key) ∙ or_or (slice_get table key) (desc_in es key) (option_or (registered key x) None)
+desc_more table es x key = ap (option_or (slice_get table key)) (desc_in-append es (x ∷ []) key) ∙ sym (option_or-assoc (slice_get table key) (desc_in es key) (option_or (registered key x) None))
 
 some_is : {A : Type 0} {x y : A} → Some x ≡ Some y → x ≡ y
 some_is e = cc

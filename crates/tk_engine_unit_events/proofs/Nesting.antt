@@ -1,13 +1,14 @@
 -- The events of a key from its start to its finish, after one event more.
 use Rattle.std.proofs.Common.{◌≡◌, ◌≢◌, ◌<◌, ◌-◌, ℕ, zero, suc, ◌⊎◌, inl, inr, ⊎_elim, List, [], ◌∷◌, ◌++◌, length, take, All, refl, sym, ap, ap₂, ◌∙◌, subst, append_assoc, append-nil, arith}
 use Rattle.std.proofs.lemmas.List.Elements.{All-nil, All-cons, All-head, All-tail, All-push, All-weaker}
+use Rattle.tk_lemmas.proofs.Lists.{nil_left}
 use Rattle.tk_ids.specs.IdText.{SegmentView, parent_of}
 use Rattle.tk_events.specs.declared.events.Event.{Event}
 use Rattle.tk_events.specs.declared.kinds.Kind.TheVariants.{Finished, Started}
 use Rattle.tk_record_columns.specs.Recorded.{Recorded}
 use Rattle.tk_query_lifecycle.specs.Lifecycle.{HasId}
 use Rattle.tk_engine_lifecycle.specs.UnderWay.{IsOneOf}
-use Rattle.tk_engine_lifecycle.proofs.Splits.{InFirst, InSecond, head_is, in_parts, left_nil, tail_is}
+use Rattle.tk_engine_lifecycle.proofs.Splits.{InFirst, InSecond, head_is, in_parts, tail_is}
 use Rattle.tk_engine_lifecycle.proofs.Apart.{all_at}
 use Rattle.tk_ids.specs.IdText.{IsBelow}
 use Rattle.tk_engine_unit_events.specs.Events.{AreChained, IsNesting}
@@ -50,7 +51,7 @@ only_one e (y ∷ []) x after h = cc
 only_one e (y ∷ (z ∷ s)) x after h = cc
 
 none_after : (e : Event) (s : List Event) (x : Event) (during after : List Event) → e ∷ [] ≡ s ++ x ∷ (during ++ after) → during ≡ []
-none_after e [] x during after h = left_nil during after (sym (tail_is h))
+none_after e [] x during after h = nil_left during after (sym (tail_is h))
 none_after e (y ∷ []) x during after h = cc
 none_after e (y ∷ (z ∷ s)) x during after h = cc
 

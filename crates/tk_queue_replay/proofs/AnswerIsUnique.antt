@@ -14,7 +14,7 @@ use Rattle.tk_record.specs.NodeLines.{LacksNode}
 use Rattle.tk_record.proofs.Forms.{one_value}
 use Rattle.tk_record.proofs.AnswerIsUnique.{same_entry, cons_same, one_nodes}
 use Rattle.tk_record.proofs.Headers.{one_header}
-use Rattle.tk_record.proofs.After.{same_line, regroup, no_node_at_entry, node_begins}
+use Rattle.tk_record.proofs.After.{same_line, regroup, no_node_at_entry, node_begins, cells}
 use Rattle.tk_queue_replay.specs.declared.turns.Turn.{Turn}
 use Rattle.tk_queue_replay.specs.declared.replays.ReplayFault.{ReplayFault}
 use Rattle.tk_queue_replay.specs.declared.replays.ReplayFault.TheVariants as faults
@@ -63,9 +63,6 @@ data Tail (head : TextHead) (table : List Descriptor) (entries : List Entry) (re
   bad : NoLineOf head table entries rest → Tail head table entries rest
   turned : (turns : List Turn) (last : List ℕ) → AreTurns head.workers turns → rest ≡ with_line_feed (turns_line turns) ++ last → Tail head table entries rest
 
-heads : (x y : ℕ) (a b : List ℕ) → x ∷ a ≡ y ∷ b → x ≡ y
-heads x y a b e = cc
-
 not_node : (b : ℕ) → b ≡ 83 → b ≡ 78 → ⊥
 not_node b p q = omega arith
 
@@ -74,11 +71,11 @@ not_entry b p q = omega arith
 
 no_node_at_turns : (turns : List Turn) (last : List ℕ) (d : Descriptor) (m : List ℕ) → with_line_feed (turns_line turns) ++ last ≢ with_line_feed (node_line d) ++ m
 no_node_at_turns turns last d m e =
-    let s = turns_begins turns last in let b = node_begins d m in not_node 83 refl (heads 83 78 s.0 (124 ∷ b.0) (sym s.1 ∙ e ∙ b.1))
+    let s = turns_begins turns last in let b = node_begins d m in not_node 83 refl (cells 83 78 s.0 (124 ∷ b.0) (sym s.1 ∙ e ∙ b.1))
 
 no_entry_at_turns : (turns : List Turn) (last : List ℕ) (x : Entry) (m : List ℕ) → with_line_feed (turns_line turns) ++ last ≢ with_line_feed (entry_line x) ++ m
 no_entry_at_turns turns last x m e =
-    let s = turns_begins turns last in let b = entry_begins x m in not_entry 83 refl (heads 83 69 s.0 (124 ∷ b.0) (sym s.1 ∙ e ∙ b.1))
+    let s = turns_begins turns last in let b = entry_begins x m in not_entry 83 refl (cells 83 69 s.0 (124 ∷ b.0) (sym s.1 ∙ e ∙ b.1))
 
 tail_blocks_entries : (head : TextHead) (table : List Descriptor) (entries : List Entry) (rest : List ℕ) → Tail head table entries rest → EntryBlock head rest
 tail_blocks_entries head table entries rest (bad none) = none.entry

@@ -30,7 +30,7 @@ plays_more scripts (x ∷ turns) t m n o e step =
 pub one_turn : (scripts : List (List Event)) (turns : List Turn) (i : ℕ) (d : Turn) (m n o : Moment) → i < length turns → plays scripts (take i turns) m ≡ Some n → turn_step scripts n (get_or turns i d) ≡ Ok o → plays scripts (take (i + 1) turns) m ≡ Some o
 one_turn scripts turns i d m n o lt e step = ap (λ ts. plays scripts ts m) (take_more turns i d lt) ∙ plays_more scripts (take i turns) (get_or turns i d) m n o e step
 
-same_Ok : (m n : Moment) → (let r : Result Moment Stop = Ok m in r) ≡ Ok n → m ≡ n
+pub same_Ok : (m n : Moment) → (let r : Result Moment Stop = Ok m in r) ≡ Ok n → m ≡ n
 same_Ok m n e = cc
 
 not_Err : (s : Stop) (n : Moment) → (let r : Result Moment Stop = Err s in r) ≡ Ok n → ⊥

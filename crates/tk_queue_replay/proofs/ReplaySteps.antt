@@ -1,5 +1,5 @@
 -- Each turn of a replay is a step of the core.
-use Rattle.std.proofs.Common.{◌≡◌, ◌≢◌, ◌<◌, ◌≤◌, ◌+◌, ◌-◌, ℕ, zero, suc, Bool, true, false, cond, List, [], ◌∷◌, ◌++◌, length, take, get_or, slice_get, slice_set, replicate, Option, Some, None, Result, Ok, Err, refl, sym, ap, subst, ◌∙◌, ⊎_elim, append_assoc, append-nil, arith, get_or-set_same, get_or-set_other, true≢false}
+use Rattle.std.proofs.Common.{◌≡◌, ◌≢◌, ◌<◌, ◌≤◌, ◌+◌, ◌-◌, ℕ, zero, suc, Bool, true, false, cond, List, [], ◌∷◌, ◌++◌, length, take, get_or, slice_get, slice_set, replicate, Option, Some, None, Ok, Err, refl, sym, ap, subst, ◌∙◌, ⊎_elim, append_assoc, append-nil, arith, get_or-set_same, get_or-set_other, true≢false}
 use Rattle.std.specs.List.{AllByRecursion}
 use Rattle.std.proofs.lemmas.Option.{same_Some, none-some, slice_get_past, slice_get_within, get_or_from_slice_get}
 use Rattle.std.proofs.lemmas.List.{take_more, length-set, length-take-le, length-replicate}
@@ -19,14 +19,12 @@ use Rattle.tk_queue_replay.specs.declared.turns.Turn.{Turn}
 use Rattle.tk_queue_replay.specs.declared.turns.Turn.TheVariants.{Worker, Take}
 use Rattle.tk_queue_core.specs.CoreState.{has_ended, fresh}
 use Rattle.tk_queue_core.specs.Core.{Core, put, entry, script, emit, finish, take_first, entries}
-use Rattle.tk_queue_replay.specs.Replay.{Moment, Stop, Faulty, IsTurn, script_of, count_of, next, append_to, take_item, turn_step, after, plays, start}
+use Rattle.tk_queue_replay.specs.Replay.{Moment, Faulty, IsTurn, script_of, count_of, next, append_to, take_item, turn_step, after, plays, start}
 use Rattle.tk_queue_replay.specs.Laws.{IsMomentOf, ReplaysCore, FaultyHasNoItem}
 use Rattle.tk_queue_replay.specs.TurnItems.{is_turn_of, item_after}
 use Rattle.tk_queue_replay.proofs.TurnItems.{Ordered, none_ordered, worker_ordered, take_ordered, scripted_event, scripted_mark, script_long}
 use Rattle.tk_queue_core.proofs.CoreSteps.{emits, finishes, takes, put-same, put-other}
-
-same_Ok : (m n : Moment) → (let r : Result Moment Stop = Ok m in r) ≡ Ok n → m ≡ n
-same_Ok m n e = cc
+use Rattle.tk_queue_replay.proofs.Plays.{same_Ok}
 
 -- the events sent, with one more
 one_more : (script sent : List Event) (i : ℕ) (e : Event) → slice_get script i ≡ Some e → sent ≡ take i script → sent ++ e ∷ [] ≡ take (i + 1) script

@@ -18,8 +18,8 @@ use Rattle.tk_record.specs.Reading.{number_of}
 use Rattle.tk_record.specs.steps.Reading.{◌>>=◌, in_line}
 use Rattle.tk_record.proofs.Choices.{guarded, chosen, both, stepped, same_bytes}
 use Rattle.tk_record.proofs.NumberForms.{number_found, number_again}
-use Rattle.tk_record.proofs.Clean.{is_false, decimal_clean, decimal_utf8}
-use Rattle.tk_record.proofs.TailForms.{IsField, word}
+use Rattle.tk_record.proofs.Clean.{is_false}
+use Rattle.tk_record.proofs.TailForms.{IsField, word, decimal_field}
 use Rattle.tk_record.specs.NodeLines.{LacksFeed}
 use Rattle.tk_record.proofs.LineForms.{line_form, line_no_feed}
 use Rattle.tk_queue_replay.specs.Script.{workers_fields, IsCount, workers_line, turn_field}
@@ -62,9 +62,6 @@ workers_found (l ∷ c ∷ []) n e = elim (chosen (bytes_eq l (codes "W")) (work
 workers_again : (n : ℕ) → IsCount n → workers_of (workers_fields n) ≡ Some n
 unfolding workers_of
 workers_again n is = worker_again most_workers n (omega arith) is
-
-decimal_field : (n : ℕ) → n < 2 ^ 64 → IsField (decimal n)
-decimal_field n lt = (decimal_clean n lt, decimal_utf8 n lt)
 
 -- the line with the number of workers: its form is had from that of its fields
 pub workers_line_form : IsForm (in_line workers_of) IsCount workers_line

@@ -20,7 +20,7 @@ use Rattle.tk_record.specs.declared.node_lines.NodesFault.{NodesFault}
 use Rattle.tk_record.specs.declared.node_lines.NodesFault.TheVariants as listing
 use Rattle.tk_record.proofs.Forms.{one_value}
 use Rattle.tk_record.proofs.RecordLines.{entry_line_form, entry_no_feed}
-use Rattle.tk_record.proofs.After.{same_line, regroup, feed_stands, no_entry_at_node, no_node_start}
+use Rattle.tk_record.proofs.After.{same_line, regroup, feed_stands, no_entry_at_node, no_node_start, cells}
 use Rattle.tk_queue_replay.specs.declared.turns.Turn.{Turn}
 use Rattle.tk_queue_replay.specs.declared.replays.Replayed.{Replayed}
 use Rattle.tk_queue_replay.specs.declared.replays.ReplayFault.{ReplayFault}
@@ -68,9 +68,6 @@ turns_unfed n input lacks ts m are = unfed (turns_line ts) m input lacks
 
 -- ---- which line a prefix may begin
 
-heads : (x y : ℕ) (a b : List ℕ) → x ∷ a ≡ y ∷ b → x ≡ y
-heads x y a b e = cc
-
 pub turns_begins : (ts : List Turn) (m : List ℕ) → (t : List ℕ) × (with_line_feed (turns_line ts) ++ m ≡ 83 ∷ t)
 unfolding joined
 turns_begins [] m = (_, refl)
@@ -81,7 +78,7 @@ unfolding joined
 entry_begins e m = (_, refl)
 
 no_turns_at : (b : ℕ) (rest t : List ℕ) → ¬ (b ≡ 83) → rest ≡ b ∷ t → (n : ℕ) → NoTurns n rest
-no_turns_at b rest t other is n ts m are eq = let s = turns_begins ts m in other (sym (heads 83 b s.0 t (sym s.1 ∙ sym eq ∙ is)))
+no_turns_at b rest t other is n ts m are eq = let s = turns_begins ts m in other (sym (cells 83 b s.0 t (sym s.1 ∙ sym eq ∙ is)))
 
 -- which bytes the test for an entry's line asks for
 pub entry_start : (r : Bool) (rest : List ℕ) → r ≡ starts_with eqb rest (69 ∷ 124 ∷ []) → r ≡ true → (t : List ℕ) × (rest ≡ 69 ∷ 124 ∷ t)

@@ -5,6 +5,7 @@ use Rattle.std.specs.Option.{option_or}
 use Rattle.std.proofs.lemmas.Bool.{cases_eq, lt-ltb, le-ltb}
 use Rattle.std.proofs.lemmas.Option.{slice_get_within}
 use Rattle.std.proofs.lemmas.List.Sums.{sum_by-cons}
+use Rattle.tk_lemmas.proofs.Options.{is_some-option_or, option_or-assoc}
 use Rattle.tk_ids.specs.declared.descriptors.Descriptor.{Descriptor}
 use Rattle.tk_events.specs.declared.kinds.Kind.TheVariants.{Dynamic}
 use Rattle.tk_events.specs.declared.events.Event.{Event}
@@ -30,9 +31,11 @@ emission_more n w es x m may room = record {
 
 -- ---- the table and its length
 
-or_some : {X : Type 0} (a b : Option X) → is_some (option_or a b) ≡ (is_some a || is_some b)
-or_some None b = refl
-or_some (Some x) b = refl
+pub desc_in-append : (xs ys : List Entry) (key : ℕ) → desc_in (xs ++ ys) key ≡ option_or (desc_in xs key) (desc_in ys key)
+desc_in-append [] ys key = refl
+desc_in-append (x ∷ xs) ys key =
+    ap (option_or (registered key x)) (desc_in-append xs ys key)
+    ∙ sym (option_or-assoc (registered key x) (desc_in xs key) (desc_in ys key))
 
 none_past : {X : Type 0} (xs : List X) (k : ℕ) → slice_get xs k ≡ None → length xs ≤ k
 none_past [] k e = omega arith
@@ -46,7 +49,7 @@ is_some_within {X} xs k =
 
 -- what has a descriptor is static, or was registered
 pub some_desc : (table : List Descriptor) (es : List Entry) (key : ℕ) → is_some (desc (record { table = table; entries = es }) key) ≡ (nat_lt key (length table) || is_some (desc_in es key))
-some_desc table es key = or_some (slice_get table key) (desc_in es key) ∙ ap (λ b. b || is_some (desc_in es key)) (is_some_within table key)
+some_desc table es key = is_some-option_or (slice_get table key) (desc_in es key) ∙ ap (λ b. b || is_some (desc_in es key)) (is_some_within table key)
 
 pub known_after : (table : List Descriptor) (es : List Entry) (e : Entry) → is_known (record { table = table; entries = es }) e ≡ is_known_after (length table) es e
 known_after table es e = ap (λ (b : Bool). if of_kind Dynamic e then is_next (record { table = []; entries = es }) e else b) (some_desc table es e.event.key)
@@ -77,12 +80,12 @@ own_entries w (e ∷ es) = ⊎_elim
 pub some_among : (p : Entry → Bool) (es : List Entry) (key : ℕ) → is_some (desc_in (filter p es) key) ≡ true → is_some (desc_in es key) ≡ true
 some_among p [] key h = h
 some_among p (e ∷ es) key h =
-    or_some (registered key e) (desc_in es key)
+    is_some-option_or (registered key e) (desc_in es key)
     ∙ elim (is_some (registered key e)) as (λ b. is_some (registered key e) ≡ b → (b || is_some (desc_in es key)) ≡ true) [
       | true ↦ λ _. refl
       | false ↦ λ none. some_among p es key
           (elim (p e) as (λ b. is_some (desc_in (if b then e ∷ filter p es else filter p es) key) ≡ true → is_some (desc_in (filter p es) key) ≡ true) [
-            | true ↦ λ k. sym (or_some (registered key e) (desc_in (filter p es) key) ∙ ap (λ b. b || is_some (desc_in (filter p es) key)) none) ∙ k
+            | true ↦ λ k. sym (is_some-option_or (registered key e) (desc_in (filter p es) key) ∙ ap (λ b. b || is_some (desc_in (filter p es) key)) none) ∙ k
             | false ↦ λ k. k
           ] h)
     ] refl

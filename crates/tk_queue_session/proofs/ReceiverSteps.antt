@@ -1,9 +1,10 @@
 -- The fields of the receiver stand for what its pass knows after each call.
 use Rattle.std.proofs.Common.{◌≡◌, ◌≢◌, ◌==◌, ℕ, zero, suc, ◌<◌, ◌≤◌, Bool, true, false, ◌||◌, ◌&&◌, ltb, if◌then◌else◌, List, [], ◌∷◌, ◌++◌, length, map, set, sym, refl, ap, ◌∙◌, subst, ⊎_elim, arith, length-append, append-nil, eq-eqb, ne_eqb}
 use Rattle.std.specs.Prelude.{slice_index_or, filter, nat_lt, is_some, nat_le}
-use Rattle.std.proofs.lemmas.Bool.{cases_eq}
+use Rattle.std.proofs.lemmas.Bool.{cases_eq, or_right}
 use Rattle.std.proofs.lemmas.List.{map-append, get_or-set_same, get_or-set_other}
 use Rattle.std.proofs.lemmas.List.Elements.{All-push}
+use Rattle.tk_lemmas.proofs.Truth.{or-false}
 use Rattle.tk_ids.specs.declared.descriptors.Descriptor.{Descriptor}
 use Rattle.tk_ids.specs.declared.tables.TheConstants.{MAX_DESCRIPTORS}
 use Rattle.tk_events.specs.declared.kinds.Kind.TheVariants.{Dynamic}
@@ -31,7 +32,7 @@ entries-append [] ys = refl
 entries-append (Emitted e ∷ xs) ys = ap (λ l. e ∷ l) (entries-append xs ys)
 entries-append (End w ∷ xs) ys = entries-append xs ys
 
-of_worker-append : (w : ℕ) (xs ys : List Entry) → of_worker w (xs ++ ys) ≡ of_worker w xs ++ of_worker w ys
+pub of_worker-append : (w : ℕ) (xs ys : List Entry) → of_worker w (xs ++ ys) ≡ of_worker w xs ++ of_worker w ys
 of_worker-append w xs ys = ap (map (λ (e : Entry). e.event)) (filter-append (λ e. e.worker == w) xs ys) ∙ map-append (λ (e : Entry). e.event) (filter (λ e. e.worker == w) xs) (filter (λ e. e.worker == w) ys)
 
 pub few_more : (taken : List Entry) (e : Entry) → ((w : ℕ) → length (of_worker w taken) ≤ most_events) → length (of_worker e.worker taken) < most_events → (w : ℕ) → length (of_worker w (taken ++ e ∷ [])) ≤ most_events
@@ -51,14 +52,6 @@ few_more taken e few room w =
 marked-append : (w : ℕ) (xs ys : List Item) → is_marked w (xs ++ ys) ≡ (is_marked w xs || is_marked w ys)
 marked-append w [] ys = refl
 marked-append w (x ∷ xs) ys = elim (is_mark_of w x) as (λ b. (b || is_marked w (xs ++ ys)) ≡ ((b || is_marked w xs) || is_marked w ys)) [ true ↦ refl | false ↦ marked-append w xs ys ]
-
-or_false : (b : Bool) → (b || false) ≡ b
-or_false true = refl
-or_false false = refl
-
-or_true : (b : Bool) → (b || true) ≡ true
-or_true true = refl
-or_true false = refl
 
 taken_now : (v w : PassView) (table : List Descriptor) (workers : ℕ) (marked : List Bool) (x : Item) → IsReceiver v table workers marked → Pops v x w → w ≡ pass_of_receiver (length table) workers (taken_of v ++ x ∷ []) []
 taken_now v w table workers marked x h p = p.0 ∙ ap (λ u. popped u x) h.is
@@ -80,7 +73,7 @@ takes_entry v w table workers marked e h p =
       is = refl;
       recordable = subst (IsRecordable workers) (sym (entries-append (taken_of v) (Emitted e ∷ []))) more;
       long = h.long;
-      marks = λ u lt. h.marks u lt ∙ sym (marked-append u (taken_of v) (Emitted e ∷ []) ∙ or_false (is_marked u (taken_of v)));
+      marks = λ u lt. h.marks u lt ∙ sym (marked-append u (taken_of v) (Emitted e ∷ []) ∙ or-false (is_marked u (taken_of v)));
     })
 
 pub takes_mark : (v w : PassView) (table : List Descriptor) (workers : ℕ) (marked : List Bool) (k : ℕ) → IsReceiver v table workers marked → Pops v (End k) w → (k < worker_slots) × IsReceiver w table workers (set marked k true)
@@ -96,10 +89,10 @@ takes_mark v w table workers marked k h p =
             marks = λ u lt. ⊎_elim
                 (λ (same : u ≡ k).
                 ap (λ j. slice_index_or (set marked k true) j false) same ∙ get_or-set_same marked k true false (subst (λ n. k < n) (sym h.long) within)
-                ∙ sym (marked-append u (taken_of v) (End k ∷ []) ∙ ap (λ (b : Bool). is_marked u (taken_of v) || (b || false)) (eq-eqb k u (sym same)) ∙ or_true (is_marked u (taken_of v))))
+                ∙ sym (marked-append u (taken_of v) (End k ∷ []) ∙ ap (λ (b : Bool). is_marked u (taken_of v) || (b || false)) (eq-eqb k u (sym same)) ∙ or_right (is_marked u (taken_of v)) true refl))
                 (λ (apart : u ≢ k).
                 get_or-set_other marked k u true false apart ∙ h.marks u lt
-                ∙ sym (marked-append u (taken_of v) (End k ∷ []) ∙ ap (λ (b : Bool). is_marked u (taken_of v) || (b || false)) (ne_eqb k u (λ e. apart (sym e))) ∙ or_false (is_marked u (taken_of v))))
+                ∙ sym (marked-append u (taken_of v) (End k ∷ []) ∙ ap (λ (b : Bool). is_marked u (taken_of v) || (b || false)) (ne_eqb k u (λ e. apart (sym e))) ∙ or-false (is_marked u (taken_of v))))
                 (cases_eq u k);
           }),
     ) where

@@ -1,10 +1,10 @@
 -- What is taken from a session can be recorded.
 use Rattle.std.proofs.Common.{◌≡◌, ◌≢◌, ◌==◌, ℕ, zero, suc, ◌<◌, ◌≤◌, ◌+◌, ◌*◌, Bool, true, false, ◌||◌, ◌&&◌, not, cond, ltb, if◌then◌else◌, List, [], ◌∷◌, ◌++◌, length, map, sym, refl, ap, ◌∙◌, subst, ⊎_elim, arith, length-append, eq-eqb, ne_eqb}
-use Rattle.std.specs.Prelude.{filter, nat_lt, nat_le, Option, Some, None, is_some, All, count_by}
-use Rattle.std.specs.Option.{option_or}
-use Rattle.std.proofs.lemmas.Bool.{cases_eq, lt-ltb, le-ltb}
+use Rattle.std.specs.Prelude.{filter, nat_lt, nat_le, Some, None, is_some, All, count_by}
+use Rattle.std.proofs.lemmas.Bool.{cases_eq, lt-ltb, le-ltb, or_right}
 use Rattle.std.proofs.lemmas.List.Elements.{All-nil, All-cons, All-head, All-tail, All-push}
 use Rattle.std.proofs.lemmas.List.Sums.{sum_by-cons, sum_by-append}
+use Rattle.tk_lemmas.proofs.Options.{is_some-option_or}
 use Rattle.tk_ids.specs.declared.descriptors.Descriptor.{Descriptor}
 use Rattle.tk_ids.specs.declared.tables.TheConstants.{MAX_DESCRIPTORS}
 use Rattle.tk_events.specs.declared.kinds.Kind.TheVariants.{Dynamic}
@@ -100,17 +100,9 @@ none_in_prefix w (x ∷ xs) all low =
 counted_after : (w : ℕ) (prefix taken : List Entry) → All (λ x. x.worker ≡ 0) prefix → 0 < w → count_by (registers w) (prefix ++ taken) ≡ count_by (registers w) taken
 counted_after w prefix taken all low = omega (arith, none_in_prefix w prefix all low, sum_by-append (λ (y : Entry). cond {A = ℕ} (registers w y) 1 0) prefix taken)
 
-or_some : {X : Type 0} (a b : Option X) → is_some (option_or a b) ≡ (is_some a || is_some b)
-or_some None b = refl
-or_some (Some x) b = refl
-
-or_true : (b : Bool) → (b || true) ≡ true
-or_true true = refl
-or_true false = refl
-
 some_after : (prefix taken : List Entry) (key : ℕ) → is_some (desc_in taken key) ≡ true → is_some (desc_in (prefix ++ taken) key) ≡ true
 some_after [] taken key h = h
-some_after (x ∷ xs) taken key h = or_some (registered key x) (desc_in (xs ++ taken) key) ∙ ap (λ b. is_some (registered key x) || b) (some_after xs taken key h) ∙ or_true (is_some (registered key x))
+some_after (x ∷ xs) taken key h = is_some-option_or (registered key x) (desc_in (xs ++ taken) key) ∙ ap (λ b. is_some (registered key x) || b) (some_after xs taken key h) ∙ or_right (is_some (registered key x)) true refl
 
 known_past : (table : List Descriptor) (prefix taken : List Entry) (e : Entry) → All (λ x. x.worker ≡ 0) prefix → 0 < e.worker → is_known (record { table = table; entries = taken }) e ≡ true
     → is_known (record { table = table; entries = prefix ++ taken }) e ≡ true

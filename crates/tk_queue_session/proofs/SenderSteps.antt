@@ -2,11 +2,12 @@
 use Rattle.std.proofs.Common.{◌≡◌, ◌≢◌, ◌==◌, ℕ, ◌<◌, ◌≤◌, ◌+◌, ◌-◌, Bool, true, false, ◌||◌, ◌&&◌, not, cond, ltb, if◌then◌else◌, List, [], ◌∷◌, ◌++◌, length, sym, refl, ap, ◌∙◌, subst, ⊎_elim, arith, length-append, eq-eqb, ne_eqb, add-one}
 use Rattle.std.specs.Prelude.{slice_get, nat_lt, Option, Some, None, option_map, is_some, count_by, Ok}
 use Rattle.std.specs.Option.{option_or}
-use Rattle.std.proofs.lemmas.Bool.{cases_eq, cases_lt, false≢true, lt-ltb, le-ltb, le-leb, ltb-true}
+use Rattle.std.proofs.lemmas.Bool.{cases_eq, cases_lt, lt-ltb, le-ltb, le-leb, ltb-true, and_parts, not-true}
 use Rattle.std.proofs.lemmas.Option.{slice_get_past}
-use Rattle.tk_record_columns.proofs.Registrations.{slice_get_prefix, slice_get_last}
+use Rattle.tk_record_columns.proofs.Registrations.{slice_get_prefix, slice_get_last, desc_in_more}
 use Rattle.std.proofs.lemmas.List.{map-append}
 use Rattle.std.proofs.lemmas.List.Sums.{sum_by-cons, sum_by-append}
+use Rattle.tk_lemmas.proofs.Options.{option_or-none}
 use Rattle.atomic_table.specs.Seated.{TableId}
 use Rattle.tk_ids.specs.declared.descriptors.Descriptor.{Descriptor}
 use Rattle.tk_ids.specs.declared.tables.TheConstants.{MAX_DESCRIPTORS}
@@ -57,16 +58,6 @@ pub fresh_more : (old new : TableId) (table : List Descriptor) (before : ℕ) (s
 fresh_more old new table before senders more one same are is next =
     is ∙ ap (λ l. l ++ one ∷ []) (are ∙ ap (λ s. fresh_senders s table before) same) ∙ ap (λ (x : SenderView). fresh_senders new table before ++ x ∷ []) next ∙ sym (rw add-one refl)
 
-desc_in_more : (es : List Entry) (e : Entry) (key : ℕ) → desc_in (es ++ e ∷ []) key ≡ option_or (desc_in es key) (registered key e)
-desc_in_more [] e key = or_none (registered key e) where
-  or_none : {X : Type 0} (o : Option X) → option_or o None ≡ o
-  or_none None = refl
-  or_none (Some x) = refl
-desc_in_more (x ∷ es) e key = ap (option_or (registered key x)) (desc_in_more es e key) ∙ sym (or_assoc (registered key x) (desc_in es key) (registered key e)) where
-  or_assoc : {X : Type 0} (a b c : Option X) → option_or (option_or a b) c ≡ option_or a (option_or b c)
-  or_assoc None b c = refl
-  or_assoc (Some x) b c = refl
-
 -- the descriptors of a worker's keys, after one event more
 desc_after : (worker : ℕ) (es : List Event) (e : Event) (key : ℕ) → desc_in (entries_by worker (es ++ e ∷ [])) key ≡ option_or (desc_in (entries_by worker es) key) (registered key (entry_by worker e))
 desc_after worker es e key = ap (λ l. desc_in l key) (map-append (entry_by worker) es (e ∷ [])) ∙ desc_in_more (entries_by worker es) (entry_by worker e) key
@@ -93,10 +84,6 @@ keeps v w table worker emitted ids later e h moved may room leads longer fits =
     subst (λ u. IsSender u (fields table worker later (emitted + 1))) (sym now)
     (record { is = refl; counted = counted; leads = leads; number = number; few_ids = fits; may = emission_more (length table) worker es e h.may may short; low = h.low; high = h.high })
 
-or_none : {X : Type 0} (o : Option X) → option_or o None ≡ o
-or_none None = refl
-or_none (Some x) = refl
-
 -- an event that registers nothing leads nowhere
 not_registered : (worker : ℕ) (e : Event) (key : ℕ) → is_dynamic e ≡ false → registered key (entry_by worker e) ≡ None
 not_registered worker e key plain = ap (λ (b : Bool). if b && (e.key == key) then described e.payload else None) plain
@@ -105,7 +92,7 @@ pub sender_sends : (v w : PassView) (table : List Descriptor) (worker emitted : 
     → MayEmit (length table) worker (sent_of v) e → emitted < most_events → is_dynamic e ≡ false → IsSender w (fields table worker ids (emitted + 1))
 sender_sends v w table worker emitted ids e h moved may room plain =
     keeps v w table worker emitted ids ids e h moved may room
-    (λ key. ap (option_map (λ (d : Descriptor). d.id)) (desc_after worker (sent_of v) e key ∙ ap (option_or (desc_in (entries_by worker (sent_of v)) key)) (not_registered worker e key plain) ∙ or_none (desc_in (entries_by worker (sent_of v)) key)) ∙ h.leads key)
+    (λ key. ap (option_map (λ (d : Descriptor). d.id)) (desc_after worker (sent_of v) e key ∙ ap (option_or (desc_in (entries_by worker (sent_of v)) key)) (not_registered worker e key plain) ∙ option_or-none (desc_in (entries_by worker (sent_of v)) key)) ∙ h.leads key)
     (let z : weight e ≡ 0 = ap (λ (b : Bool). cond {A = ℕ} b 1 0) plain in omega arith)
     h.few_ids
 
@@ -189,25 +176,13 @@ sender_registers v w table worker emitted key stamp ids d h is moved room few =
     ap (option_map (λ (x : Descriptor). x.id)) (desc_after worker es e k ∙ ap (λ o. option_or o (registered k (entry_by worker e))) past ∙ ap (λ (b : Bool). if b then Some d else None) (eq-eqb key k (sym same)))
     ∙ sym (id_at worker (ids ++ d.id ∷ []) (length ids) k (same ∙ is) ∙ slice_get_last ids d.id (length ids) refl))
     (λ (apart : k ≢ key).
-    ap (option_map (λ (x : Descriptor). x.id)) (desc_after worker es e k ∙ ap (λ (b : Bool). option_or (desc_in (entries_by worker es) k) (if b then Some d else None)) (ne_eqb key k (λ i. apart (sym i))) ∙ or_none (desc_in (entries_by worker es) k))
+    ap (option_map (λ (x : Descriptor). x.id)) (desc_after worker es e k ∙ ap (λ (b : Bool). option_or (desc_in (entries_by worker es) k) (if b then Some d else None)) (ne_eqb key k (λ i. apart (sym i))) ∙ option_or-none (desc_in (entries_by worker es) k))
     ∙ h.leads k ∙ sym (ids_more worker ids d.id k (λ i. apart (i ∙ sym is))))
     (cases_eq k key))
     (omega (arith, length-append ids (d.id ∷ [])))
     (omega (arith, length-append ids (d.id ∷ [])))
 
 -- ---- what a sender may push
-
-and_left : (a b : Bool) → (a && b) ≡ true → a ≡ true
-and_left true b h = refl
-and_left false b h = absurd (false≢true h)
-
-and_right : (a b : Bool) → (a && b) ≡ true → b ≡ true
-and_right true b h = h
-and_right false b h = absurd (false≢true h)
-
-not_true : (b : Bool) → not b ≡ true → b ≡ false
-not_true true h = absurd (false≢true h)
-not_true false h = refl
 
 -- what is not refused is known, plain and within the limit
 pub not_refused : (s : SenderView) (e : Event) → refusal_of s e ≡ None → (knows s e.key ≡ true) × (is_plain e ≡ true) × (length s.sent < most_events)
@@ -221,9 +196,9 @@ not_refused s e h = by_tests (knows s e.key) (is_plain e) (nat_lt (length s.sent
 
 pub plain_may : (table : List Descriptor) (w : ℕ) (es : List Event) (e : Event) → is_plain e ≡ true → is_some (desc (record { table = table; entries = entries_by w es }) e.key) ≡ true → MayEmit (length table) w es e
 plain_may table w es e plain known = record {
-  lawful = and_left (is_lawful e.kind e.payload) (not (is_dynamic e)) plain;
+  lawful = (and_parts (is_lawful e.kind e.payload) (not (is_dynamic e)) plain).0;
   known = ap (λ (b : Bool). if b then is_next (record { table = []; entries = entries_by w es }) (entry_by w e) else (nat_lt e.key (length table) || is_some (desc_in (entries_by w es) e.key)))
-      (not_true (is_dynamic e) (and_right (is_lawful e.kind e.payload) (not (is_dynamic e)) plain))
+      (not-true (is_dynamic e) (and_parts (is_lawful e.kind e.payload) (not (is_dynamic e)) plain).1)
       ∙ sym (some_desc table (entries_by w es) e.key) ∙ known;
 }
 
@@ -232,7 +207,7 @@ pub admitted_may : (t : TableId) (v : PassView) (table : List Descriptor) (worke
     → MayEmit (length table) worker (sent_of v) a × (emitted < most_events) × (is_dynamic a ≡ false)
 admitted_may t v table worker emitted ids s a b h is ok =
     let n = not_refused (record { session = t; table = table; worker = worker; sent = sent_of v }) a (subst (λ (y : SenderView × Event). refusal_of y.0 y.1 ≡ None) (λ i. (sym is i, sym ok.0 i)) ok.1) in
-    (plain_may table worker (sent_of v) a n.1 n.0, subst (λ k. k < most_events) (sym h.counted) n.2, not_true (is_dynamic a) (and_right (is_lawful a.kind a.payload) (not (is_dynamic a)) n.1))
+    (plain_may table worker (sent_of v) a n.1 n.0, subst (λ k. k < most_events) (sym h.counted) n.2, not-true (is_dynamic a) (and_parts (is_lawful a.kind a.payload) (not (is_dynamic a)) n.1).1)
 
 pub may_push : (v : PassView) (table : List Descriptor) (worker emitted : ℕ) (ids : List (List SegmentView)) (e : Event) → IsSender v (fields table worker ids emitted) → MayEmit (length table) worker (sent_of v) e → emitted < most_events → MayPush v (entry worker e)
 may_push v table worker emitted ids e h may room =

@@ -1,7 +1,8 @@
-use Rattle.std.proofs.Common.{◌≡◌, ◌≤◌, ◌<◌, ◌++◌, ◌+◌, ℕ, Bool, true, false, List, length, Option, Some, None, Ok, Err, sym, ap, subst, refl, inl, inr, ◌∙◌, append-nil, arith}
+use Rattle.std.proofs.Common.{◌≡◌, ◌≤◌, ◌<◌, ◌++◌, ◌+◌, ℕ, List, length, Option, Some, None, Ok, Err, sym, ap, subst, refl, inl, inr, ◌∙◌, append-nil, arith}
 use Rattle.std.specs.Prelude.{IfSome, IsErrOf}
 use Rattle.std.specs.Io.KnownBytes.{Appends}
 use Rattle.std.proofs.lemmas.Result.{err_from_is_err_and}
+use Rattle.std.proofs.lemmas.Bool.{both_ways}
 use Rattle.tk_record_columns.specs.Recorded.{Recorded}
 use Rattle.tk_record.specs.Text.{text}
 use Rattle.tk_record.specs.declared.reading.TheConstants.{MAX_TEXT}
@@ -101,9 +102,6 @@ same_fault a b e = cc
 no_fault : (x : Unit) (fault : ReplayFault) → ¬ (IsErrOf {T = Unit} (Ok x) fault)
 no_fault x fault e = cc
 
-not_both : (b : Bool) → b ≡ true → b ≡ false → ⊥
-not_both b e f = cc
-
 pub returns-in_err-input : goal.returns-in_err-input
 returns-in_err-input g c =
     let p = err_from_is_err_and c.from_residual.result c.from_residual.ensures.1 in
@@ -115,7 +113,7 @@ returns-in_err-input g c =
       nothing = λ _. refl;
       prefix = inl refl;
       unread = λ _. refl;
-      last = λ e ready. absurd {A = IfSome _ Plays} (not_both _ (c.in_err-input.ensures.device (ap (λ f. Err f) (load_device fault (same_fault _ _ e)))) ready);
+      last = λ e ready. absurd {A = IfSome _ Plays} (both_ways _ ready (c.in_err-input.ensures.device (ap (λ f. Err f) (load_device fault (same_fault _ _ e)))));
       device = λ e. inl (c.in_err-input.ensures.device (ap (λ f. Err f) (load_device fault (same_fault _ _ e))));
       stops = c.in_err-input.ensures.stops;
     })
@@ -148,7 +146,7 @@ returns-in_err-write_record g c =
       written = tt;
       nothing = λ h. absurd (not_of_input fault h);
       prefix = inr (partly _ taken _ _ played c.in_err-write_record.ensures.err);
-      unread = λ broken. absurd (not_both _ broken c.in_ok-input.ensures.ready);
+      unread = λ broken. absurd (both_ways _ c.in_ok-input.ensures.ready broken);
       last = λ _ _. some_plays _ taken played;
       device = λ e. inr (c.in_err-write_record.ensures.device (ap (λ f. Err f) (write_device fault (same_fault _ _ e))));
       stops = stops_of _ _ c.in_ok-input.input.items c.in_ok-input.ensures.ok c.in_ok-input.ensures.within;
@@ -164,7 +162,7 @@ returns g c =
       written = wholly _ taken _ _ played c.in_ok-write_record.ensures.ok;
       nothing = tt;
       prefix = tt;
-      unread = λ broken. absurd (not_both _ broken c.in_ok-input.ensures.ready);
+      unread = λ broken. absurd (both_ways _ c.in_ok-input.ensures.ready broken);
       last = λ e. absurd (no_fault _ _ e);
       device = λ e. absurd (no_fault _ _ e);
       stops = stops_of _ _ c.in_ok-input.input.items c.in_ok-input.ensures.ok c.in_ok-input.ensures.within;

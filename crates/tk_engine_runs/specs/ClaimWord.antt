@@ -5,9 +5,9 @@ use mathlib.Core.Option.{some}
 use lib.ListN.{get_elem?}
 use Rattle.atomic_table.specs.Table.{State, Me, Step}
 use Rattle.tk_limits.specs.declared.limits.TheConstants.{MAX_WORKERS}
-use Rattle.tk_engine_claim.specs.declared.rules.ClaimLimits.{ClaimLimits}
-use Rattle.tk_engine_claim.specs.declared.rules.Drawn.{Drawn}
-use Rattle.tk_engine_claim.specs.Claims.{times, once_below}
+use Rattle.tk_engine_runs.specs.declared.claim_rules.ClaimLimits.{ClaimLimits}
+use Rattle.tk_engine_runs.specs.declared.claim_rules.Drawn.{Drawn}
+use Rattle.tk_engine_runs.specs.Claims.{times, once_below}
 
 -- what a seat knows, of these fields
 abbrev pub drawn : ClaimLimits → ℕ → ℕ → List ℕ → Drawn

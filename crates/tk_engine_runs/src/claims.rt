@@ -1,12 +1,12 @@
 //! Numbers below a limit, each drawn once by one of the seats.
 ghost use Rattle.std.specs.Prelude.{◌≡◌, ◌<◌, ◌≤◌, ◌⊎◌, ◌↔◌, [], ◌∷◌, ◌++◌, true, false, length, map, All, IfOk, IfErr, IfSome, IfNone, Some};
-ghost use Rattle.tk_engine_claim.specs.Claims.{Claims, fresh};
-ghost use Rattle.tk_engine_claim.specs.ClaimViews.{claim_view};
-ghost use Rattle.tk_engine_claim.specs.ClaimWord.{drawn};
-ghost use Rattle.tk_engine_claim.specs.FaultTexts.{claim_fault_text};
-ghost use Rattle.tk_engine_claim.specs.declared.claims.ClaimFault.TheVariants.{Seats};
+ghost use Rattle.tk_engine_runs.specs.Claims.{Claims, fresh};
+ghost use Rattle.tk_engine_runs.specs.ClaimViews.{claim_view};
+ghost use Rattle.tk_engine_runs.specs.ClaimWord.{drawn};
+ghost use Rattle.tk_engine_runs.specs.FaultTexts.{claim_fault_text};
+ghost use Rattle.tk_engine_runs.specs.declared.claims.ClaimFault.TheVariants.{Seats};
 
-use crate::rules::{ClaimLimits, ClaimRule, DrawStep, Drawn};
+use crate::claim_rules::{ClaimLimits, ClaimRule, DrawStep, Drawn};
 use atomic_table::{Seat, Table};
 use std::alloc::{AllocError, Global};
 use std::error::Error;
@@ -24,11 +24,11 @@ pub struct Claim {
 }
 
 impl Model for Claim {
-    ghost use Rattle.tk_engine_claim.specs.Claims.{ClaimView};
+    ghost use Rattle.tk_engine_runs.specs.Claims.{ClaimView};
 
     ghost Value = { ClaimView };
 
-    ghost use Rattle.tk_engine_claim.specs.ClaimViews.{view_of, IsClaim};
+    ghost use Rattle.tk_engine_runs.specs.ClaimViews.{view_of, IsClaim};
 
     ghost view = { view_of };
 
@@ -43,11 +43,11 @@ pub struct ClaimSeat {
 }
 
 impl Model for ClaimSeat {
-    ghost use Rattle.tk_engine_claim.specs.Claims.{ClaimSeatView};
+    ghost use Rattle.tk_engine_runs.specs.Claims.{ClaimSeatView};
 
     ghost Value = { ClaimSeatView };
 
-    ghost use Rattle.tk_engine_claim.specs.ClaimViews.{seat_view_of, IsClaimant};
+    ghost use Rattle.tk_engine_runs.specs.ClaimViews.{seat_view_of, IsClaimant};
 
     ghost view = { seat_view_of };
 
@@ -77,7 +77,7 @@ impl fmt::Display for ClaimFault {
 impl Error for ClaimFault {}
 
 impl From<AllocError> for ClaimFault {
-    ghost use Rattle.tk_engine_claim.specs.declared.claims.ClaimFault.TheVariants.{Memory};
+    ghost use Rattle.tk_engine_runs.specs.declared.claims.ClaimFault.TheVariants.{Memory};
 
     ghost from_gives = { λ _ e. e ≡ Memory };
 

@@ -3,13 +3,13 @@ use Rattle.std.proofs.lemmas.List.Elements.{All-push}
 use Rattle.atomic_table.specs.Seated.{TableId}
 use Rattle.atomic_table.specs.Table.{Me}
 use Rattle.atomic_table.specs.declared.shared.Seat.{Seat}
-use Rattle.tk_engine_claim.specs.declared.rules.ClaimLimits.{ClaimLimits}
-use Rattle.tk_engine_claim.specs.declared.rules.Drawn.{Drawn}
-use Rattle.tk_engine_claim.specs.Claims.{ClaimSeatView, fresh}
-use Rattle.tk_engine_claim.specs.ClaimViews.{claim_view, seat_view_of}
-use Rattle.tk_engine_claim.specs.ClaimWord.{drawn}
-use Rattle.tk_engine_claim.proofs.Drawing.{splits}
-use Rattle.tk_engine_claim.proofs.claims.split_seats.Goals as goal
+use Rattle.tk_engine_runs.specs.declared.claim_rules.ClaimLimits.{ClaimLimits}
+use Rattle.tk_engine_runs.specs.declared.claim_rules.Drawn.{Drawn}
+use Rattle.tk_engine_runs.specs.Claims.{ClaimSeatView, fresh}
+use Rattle.tk_engine_runs.specs.ClaimViews.{claim_view, seat_view_of}
+use Rattle.tk_engine_runs.specs.ClaimWord.{drawn}
+use Rattle.tk_engine_runs.proofs.Drawing.{splits}
+use Rattle.tk_engine_runs.proofs.claims.split_seats.Goals as goal
 
 -- a seat that drew nothing
 undrawn : (seat : Seat (Unit {0}) Drawn) (table : TableId) (key : ClaimLimits) (parts : ℕ) → seat.table_id ≡ table → seat.me ≡ (drawn key parts 0 [], [])

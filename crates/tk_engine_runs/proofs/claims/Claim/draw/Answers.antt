@@ -1,8 +1,8 @@
 use Rattle.std.proofs.Common.{◌≡◌, ℕ, sym, ap, ◌∙◌, subst, cond, false, arith}
-use Rattle.tk_engine_claim.specs.Claims.{ClaimView, ClaimSeatView}
-use Rattle.tk_engine_claim.specs.ClaimViews.{IsClaimant}
-use Rattle.tk_engine_claim.proofs.Drawing.{draws, risen, stopped}
-use Rattle.tk_engine_claim.proofs.claims.Claim.draw.Goals as goal
+use Rattle.tk_engine_runs.specs.Claims.{ClaimView, ClaimSeatView}
+use Rattle.tk_engine_runs.specs.ClaimViews.{IsClaimant}
+use Rattle.tk_engine_runs.proofs.Drawing.{draws, risen, stopped}
+use Rattle.tk_engine_runs.proofs.claims.Claim.draw.Goals as goal
 
 pub fetch_add-found-requires : goal.fetch_add-found-requires
 fetch_add-found-requires c = let same = ap (λ (z : ClaimSeatView). z.claim) c.seat.view_is ∙ c.requires ∙ sym c.self.view_is in

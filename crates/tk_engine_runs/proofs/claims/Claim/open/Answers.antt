@@ -1,6 +1,6 @@
 use Rattle.std.proofs.Common.{arith, refl}
-use Rattle.tk_engine_claim.proofs.Drawing.{opens}
-use Rattle.tk_engine_claim.proofs.claims.Claim.open.Goals as goal
+use Rattle.tk_engine_runs.proofs.Drawing.{opens}
+use Rattle.tk_engine_runs.proofs.claims.Claim.open.Goals as goal
 
 pub of_words-requires : goal.of_words-requires
 of_words-requires c = opens _ (omega arith) (omega arith)

@@ -10,15 +10,15 @@ use Rattle.std.proofs.lemmas.List.Sums.{sum_by_push, sum_by-append, sum_by-cons}
 use Rattle.std.proofs.lemmas.List.Elements.{All-nil, All-cons, All-map, All-push, All-append, All-weaker}
 use Rattle.atomic_table.specs.Table.{State, Me, step, keeps, Allows, Splits, Joins, Seen, Final, opening}
 use Rattle.atomic_table.proofs.Lists.{at_set, at_snoc}
-use Rattle.tk_engine_claim.specs.declared.rules.ClaimLimits.{ClaimLimits}
-use Rattle.tk_engine_claim.specs.declared.rules.Drawn.{Drawn}
-use Rattle.tk_engine_claim.specs.Claims.{times, once_below, IsStrictlyIncreasing, Claims, ClaimView, ClaimSeatView}
-use Rattle.tk_engine_claim.specs.ClaimViews.{IsClaimant, seat_view_of}
+use Rattle.tk_engine_runs.specs.declared.claim_rules.ClaimLimits.{ClaimLimits}
+use Rattle.tk_engine_runs.specs.declared.claim_rules.Drawn.{Drawn}
+use Rattle.tk_engine_runs.specs.Claims.{times, once_below, IsStrictlyIncreasing, Claims, ClaimView, ClaimSeatView}
+use Rattle.tk_engine_runs.specs.ClaimViews.{IsClaimant, seat_view_of}
 use Rattle.tk_limits.specs.declared.limits.TheConstants.{MAX_WORKERS}
-use Rattle.tk_engine_claim.specs.declared.claims.ClaimSeat.TheInside as seat
+use Rattle.tk_engine_runs.specs.declared.claims.ClaimSeat.TheInside as seat
 use Rattle.atomic_table.specs.declared.shared.Seat.{Seat}
-use Rattle.tk_engine_claim.specs.ClaimWord.{drawn, no_limits, Fits, DrawsFitWord, Drew}
-use Rattle.tk_engine_claim.proofs.Turning.{sum_turn, sum_same, sums_le, sum_lone}
+use Rattle.tk_engine_runs.specs.ClaimWord.{drawn, no_limits, Fits, DrawsFitWord, Drew}
+use Rattle.tk_engine_runs.proofs.Turning.{sum_turn, sum_same, sums_le, sum_lone}
 
 abbrev hit : ℕ → ℕ → ℕ
 hit x y = cond (nat_eq x y) 1 0

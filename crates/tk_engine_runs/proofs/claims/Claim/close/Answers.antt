@@ -1,9 +1,9 @@
 use Rattle.std.proofs.Common.{◌≡◌, ◌∷◌, ◌++◌, [], arith, ap, sym, subst, ◌∙◌, append_assoc, min, ℕ, List, Some, All, map, true, length}
 use Rattle.std.proofs.lemmas.Grind.{common_steps}
 use Rattle.std.proofs.lemmas.List.Elements.{All-pop}
-use Rattle.tk_engine_claim.specs.Claims.{ClaimView, ClaimSeatView, Claims}
-use Rattle.tk_engine_claim.proofs.Drawing.{Pooled, joins, pools, pools_more, closes}
-use Rattle.tk_engine_claim.proofs.claims.Claim.close.Goals as goal
+use Rattle.tk_engine_runs.specs.Claims.{ClaimView, ClaimSeatView, Claims}
+use Rattle.tk_engine_runs.proofs.Drawing.{Pooled, joins, pools, pools_more, closes}
+use Rattle.tk_engine_runs.proofs.claims.Claim.close.Goals as goal
 
 pub join_seat-requires : goal.join_seat-requires
 join_seat-requires c = let held = c.loop-next.invariant in

@@ -2,10 +2,10 @@
 use Rattle.std.specs.Prelude.{◌≡◌, ◌^◌, ◌<◌, ◌≤◌, [], cond}
 use Rattle.tk_limits.specs.declared.limits.TheConstants.{MAX_WORKERS}
 use Rattle.atomic_table.specs.Seated.{TableId}
-use Rattle.tk_engine_claim.specs.declared.rules.ClaimLimits.{ClaimLimits}
-use Rattle.tk_engine_claim.specs.declared.claims.Claim.TheInside as claim
-use Rattle.tk_engine_claim.specs.declared.claims.ClaimSeat.TheInside as seat
-use Rattle.tk_engine_claim.specs.Claims.{ClaimView, ClaimSeatView, IsStrictlyIncreasing}
+use Rattle.tk_engine_runs.specs.declared.claim_rules.ClaimLimits.{ClaimLimits}
+use Rattle.tk_engine_runs.specs.declared.claims.Claim.TheInside as claim
+use Rattle.tk_engine_runs.specs.declared.claims.ClaimSeat.TheInside as seat
+use Rattle.tk_engine_runs.specs.Claims.{ClaimView, ClaimSeatView, IsStrictlyIncreasing}
 
 -- what a contract sees of a claim with this table and these limits
 abbrev pub claim_view : TableId → ClaimLimits → ClaimView

@@ -24,7 +24,7 @@ pub(crate) struct ClaimRule;
 
 impl TableRule<(), Drawn, ClaimLimits> for ClaimRule {
     ghost use Rattle.std.specs.Prelude.{[]};
-    ghost use Rattle.tk_engine_claim.specs.ClaimWord.{DrawsFitWord, drawn};
+    ghost use Rattle.tk_engine_runs.specs.ClaimWord.{DrawsFitWord, drawn};
 
     ghost holds = { DrawsFitWord };
 
@@ -35,14 +35,14 @@ impl TableRule<(), Drawn, ClaimLimits> for ClaimRule {
 pub(crate) struct DrawStep;
 
 impl Play<(), Drawn> for DrawStep {
-    ghost use Rattle.tk_engine_claim.specs.ClaimWord.{Drew};
+    ghost use Rattle.tk_engine_runs.specs.ClaimWord.{Drew};
 
     ghost then = { Drew };
 }
 
 impl Split<Drawn> for ClaimRule {
     ghost use Rattle.std.specs.Prelude.{◌-◌, []};
-    ghost use Rattle.tk_engine_claim.specs.ClaimWord.{drawn};
+    ghost use Rattle.tk_engine_runs.specs.ClaimWord.{drawn};
 
     ghost left = { λ v. drawn v.claim_limits (v.parts - 1) 0 [] };
 
@@ -51,7 +51,7 @@ impl Split<Drawn> for ClaimRule {
 
 impl Join<Drawn> for ClaimRule {
     ghost use Rattle.std.specs.Prelude.{◌+◌, ◌++◌, []};
-    ghost use Rattle.tk_engine_claim.specs.ClaimWord.{drawn, no_limits};
+    ghost use Rattle.tk_engine_runs.specs.ClaimWord.{drawn, no_limits};
 
     ghost both = { λ v w.
         drawn v.claim_limits (v.parts + w.parts) (v.spent + w.spent) (v.numbers ++ w.numbers) };

@@ -1,7 +1,7 @@
 use Rattle.std.proofs.Common.{◌≡◌, ◌++◌, vec_len, List, All}
-use Rattle.tk_engine_claim.specs.Claims.{ClaimSeatView}
-use Rattle.tk_engine_claim.proofs.Drawing.{Pooled}
-use Rattle.tk_engine_claim.proofs.claims.Claim.close.Given as goal
+use Rattle.tk_engine_runs.specs.Claims.{ClaimSeatView}
+use Rattle.tk_engine_runs.proofs.Drawing.{Pooled}
+use Rattle.tk_engine_runs.proofs.claims.Claim.close.Given as goal
 
 abbrev pub invariant-loop-next : goal.invariant-loop-next
 invariant-loop-next l = record {

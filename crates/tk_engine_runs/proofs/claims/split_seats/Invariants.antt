@@ -1,8 +1,8 @@
 use Rattle.std.proofs.Common.{◌≡◌, ◌+◌, ◌-◌, length, [], All}
-use Rattle.tk_engine_claim.specs.Claims.{fresh}
-use Rattle.tk_engine_claim.specs.ClaimViews.{claim_view}
-use Rattle.tk_engine_claim.specs.ClaimWord.{drawn}
-use Rattle.tk_engine_claim.proofs.claims.split_seats.Given as goal
+use Rattle.tk_engine_runs.specs.Claims.{fresh}
+use Rattle.tk_engine_runs.specs.ClaimViews.{claim_view}
+use Rattle.tk_engine_runs.specs.ClaimWord.{drawn}
+use Rattle.tk_engine_runs.proofs.claims.split_seats.Given as goal
 
 abbrev pub invariant-loop : goal.invariant-loop
 invariant-loop l = record {

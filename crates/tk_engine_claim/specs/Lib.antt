@@ -1,4 +1,0 @@
-pub mod Claims
-pub mod ClaimWord
-pub mod ClaimViews
-pub mod FaultTexts
