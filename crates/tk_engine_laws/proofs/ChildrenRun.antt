@@ -1,20 +1,17 @@
 -- In a run each static child of a node that succeeds starts or is skipped.
 use Rattle.std.proofs.Common.{◌≡◌, ◌≢◌, ℕ, ◌+◌, ◌⊎◌, Bool, true, false, ◌&&◌, ◌||◌, List, [], ◌∷◌, ◌++◌, map, filter, length, Option, Some, None, slice_get, if◌then◌else◌, refl, sym, ap, ◌∙◌, subst, inl, inr, ⊎_elim, arith, append_assoc}
 use Rattle.std.specs.List.{list_any}
-use Rattle.std.specs.Prelude.{◌==◌}
 use Rattle.std.proofs.lemmas.Bool.{true≢false, and_parts, and_from, or_cases, or_left, or_right}
 use Rattle.std.proofs.lemmas.List.{map-append}
 use Rattle.std.proofs.lemmas.List.Folds.{list_any-append}
 use Rattle.tk_ids.specs.IdText.{IsBelow, SegmentView, parent_of}
 use Rattle.tk_ids.specs.Table.{ids_of}
 use Rattle.tk_ids.specs.declared.descriptors.Descriptor.{Descriptor}
-use Rattle.tk_events.specs.declared.kinds.Kind.{Kind}
-use Rattle.tk_events.specs.declared.kinds.Kind.TheVariants.{Dynamic, Finished, File as Published, Reporting, Skipped, Started}
-use Rattle.tk_events.specs.declared.payloads.Payload.{Payload}
+use Rattle.tk_events.specs.declared.kinds.Kind.TheVariants.{Finished, Skipped, Started}
 use Rattle.tk_events.specs.declared.events.Entry.{Entry}
 use Rattle.tk_record_columns.specs.Recorded.{Recorded}
 use Rattle.std.specs.Option.{option_or}
-use Rattle.tk_record_columns.specs.Entries.{desc_in, status_number}
+use Rattle.tk_record_columns.specs.Entries.{desc_in}
 use Rattle.tk_query_lifecycle.specs.NeverRan.{EachChildRuns, NeverRuns}
 use Rattle.tk_plan_units.specs.declared.nodes.NumberedNode.{NumberedNode}
 use Rattle.tk_plan_units.specs.declared.steps.Act.TheVariants.{Register, Skip, Start}
@@ -31,6 +28,7 @@ use Rattle.tk_engine_laws.proofs.OneKey.{Comes, HasKey, all_keys, from_table, sa
 use Rattle.tk_engine_laws.proofs.Orders.{Only, any_kept}
 use Rattle.tk_engine_laws.proofs.Positions.{any_at, any_from}
 use Rattle.tk_engine_laws.proofs.Scripts.{snoc_same}
+use Rattle.tk_engine_laws.proofs.Turns.{finish_of}
 
 -- ---- labels that start or skip an id, or skip one above it
 
@@ -160,14 +158,6 @@ above_parent a p s t (m ∷ ms) e =
     inr (record { s = s; more = parent_of (m ∷ ms); id_is = sym (snoc_same (a ++ s ∷ parent_of (m ∷ ms)) p l.0 t (sym longer ∙ e)) })
 
 -- ---- a successful finish
-
-finish_of : (kind : Kind) (payload : Payload) → (status_number kind payload == 1) ≡ true → same_kind kind Finished ≡ true
-finish_of Finished payload h = refl
-finish_of Dynamic payload h = absurd (true≢false (sym h))
-finish_of Skipped payload h = absurd (true≢false (sym h))
-finish_of Started payload h = absurd (true≢false (sym h))
-finish_of Reporting payload h = absurd (true≢false (sym h))
-finish_of Published payload h = absurd (true≢false (sym h))
 
 finish_ran : (i : List SegmentView) → Only (finishes i) (ran_of i)
 finish_ran i l h =

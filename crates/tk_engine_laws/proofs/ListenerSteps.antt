@@ -137,6 +137,9 @@ skipped_from ls once first i s more n h = ⊎_elim
 
 -- ---- the law
 
+pub register_only : (i : List SegmentView) → Only (registers i) (is_of i)
+register_only i l h = (and_parts (is_of i l) (same_kind l.kind Dynamic) h).0
+
 module _ (all : List NumberedNode) (table : List Descriptor) (f : Forest) (workers : ℕ) (r : Recorded) (plan : Models all table f) (run : IsRunOf all table workers r) where
   pub same_one : (i : List SegmentView) → filter (is_of i) (labels r) ≡ filter (is_of i) (plan_labels f)
   same_one i = chain_law all table f workers r plan run (λ j. same_id j i) (chain_one_below (λ j. same_id j i) f (plan.distinct i))
@@ -149,9 +152,6 @@ module _ (all : List NumberedNode) (table : List Descriptor) (f : Forest) (worke
 
   ran_only : (i : List SegmentView) → Only (ran_of i) (is_of i)
   ran_only i l h = (and_parts (is_of i l) (is_ran l.kind) h).0
-
-  register_only : (i : List SegmentView) → Only (registers i) (is_of i)
-  register_only i l h = (and_parts (is_of i l) (same_kind l.kind Dynamic) h).0
 
   pub once : (i : List SegmentView) → IsOnce (filter (ran_of i) (labels r))
   once i = subst IsOnce (sym (filter_kept (is_of i) (ran_of i) (ran_only i) (labels r))) (⊎_elim

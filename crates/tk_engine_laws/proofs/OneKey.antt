@@ -1,7 +1,7 @@
 -- In a run each id has one key.
 use Rattle.std.proofs.Common.{◌≡◌, ◌≢◌, ◌≤◌, ◌<◌, ℕ, zero, suc, ◌+◌, ◌*◌, ◌⊎◌, Bool, true, false, not, cond, ◌&&◌, ◌||◌, List, [], ◌∷◌, ◌++◌, map, filter, length, Some, slice_get, refl, sym, ap, ◌∙◌, arith, tests, subst, length-append, if◌then◌else◌, inl, inr, ⊎_elim, ◌==◌}
 use Rattle.std.specs.List.{list_any}
-use Rattle.std.proofs.lemmas.Bool.{cases_Bool, and_parts}
+use Rattle.std.proofs.lemmas.Bool.{cases_Bool}
 use Rattle.std.proofs.lemmas.List.{length-map}
 use Rattle.tk_record_columns.specs.Recorded.{Recorded}
 use Rattle.tk_record_columns.specs.Mixing.{of_worker}
@@ -16,7 +16,7 @@ use Rattle.tk_events.specs.declared.payloads.Payload.TheVariants.{Described, Not
 use Rattle.tk_ids.specs.IdText.{SegmentView}
 use Rattle.tk_ids.specs.Table.{ids_of}
 use Rattle.tk_ids.specs.declared.descriptors.Descriptor.{Descriptor}
-use Rattle.tk_engine_laws.proofs.ListenerSteps.{no_register, same_one}
+use Rattle.tk_engine_laws.proofs.ListenerSteps.{no_register, same_one, register_only}
 use Rattle.tk_report_text.proofs.Ids.{same_decides}
 use Rattle.tk_engine_laws.proofs.Keyed.{get_prefix, key_for_known, named, static_after_below, static_before_below}
 use Rattle.tk_engine_laws.proofs.Lists.{each-append}
@@ -26,8 +26,7 @@ use Rattle.tk_engine_laws.proofs.Naming.{registered_played, registrations_is}
 use Rattle.tk_engine_laws.proofs.Orders.{Only}
 use Rattle.tk_engine_laws.proofs.Scripts.{own_labels, own_law_below, ran_labels}
 use Rattle.tk_engine_laws.proofs.Through.{get_back, name_table, named_all, names, three, emitted_drawn, worker_did}
-use Rattle.tk_report_text.specs.Labels.{Label, events, label, labels, name, same_id, same_kind}
-use Rattle.tk_events.specs.declared.kinds.Kind.TheVariants.{Dynamic}
+use Rattle.tk_report_text.specs.Labels.{Label, events, label, labels, name, same_id}
 use Rattle.tk_engine_laws.specs.Listening.{is_of, registers}
 use Rattle.tk_engine_runs.specs.Run.{Emits}
 use Rattle.tk_queue_session.specs.Emission.{is_dynamic, registrations}
@@ -177,9 +176,6 @@ module _ (all : List NumberedNode) (table : List Descriptor) (f : Forest) (worke
   own : (i : List SegmentView) → (filter (is_of i) (labels r) ≡ []) ⊎ ((n : Item) × (same_id n.id i ≡ true) × (filter (is_of i) (labels r) ≡ own_labels n) × IsApart n)
   own i = ⊎_elim (λ e. inl (same_one all table f workers r plan run i ∙ e)) (λ e. inr (e.0, e.1, same_one all table f workers r plan run i ∙ e.2, e.3))
       (own_law_below IsApart i 0 f plan.apart (plan.distinct i))
-
-  register_only : (i : List SegmentView) → Only (registers i) (is_of i)
-  register_only i l h = (and_parts (is_of i l) (same_kind l.kind Dynamic) h).0
 
   at_most : (b : Bool) (n : ℕ) → n ≤ (if b then 0 else 1) → n ≤ 1
   at_most true n h = omega (arith, h)

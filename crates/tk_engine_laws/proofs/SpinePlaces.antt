@@ -8,9 +8,10 @@ use Rattle.tk_plan_units.specs.Trees.{Tree, tree, Forest, no_trees, more, flat, 
 use Rattle.tk_plan_units.specs.Cutting.{Part, Piece, spine_begins, whole_unit, spine_ends, parts, parts_below, moves_of, from_each, piece, spine_numbers, all_static, on_spine}
 use Rattle.tk_plan_units.specs.Numbers.{IsNumbered, numbered_from, with_number, of_kind}
 use Rattle.tk_plan_units.specs.Planned.{IsPlanned}
-use Rattle.tk_plan_units.proofs.Cuts.{if_both, spine_facts}
+use Rattle.tk_plan_units.proofs.Cuts.{spine_facts}
 use Rattle.tk_plan_units.proofs.Describing.{statics-append, statics_length}
 use Rattle.tk_plan_units.proofs.Founding.{rooted_static}
+use Rattle.tk_plan_units.proofs.Sending.{static_both, top_static}
 use Rattle.tk_engine_laws.proofs.Grounds.{some_same}
 use Rattle.tk_engine_laws.specs.Spines.{count_static, end_of, ArePlaced}
 
@@ -38,7 +39,7 @@ count_by : (b : Bool) (p : NumberedNode) (ps : List NumberedNode) → p.node.is_
 count_by true p ps e = ap (λ b. length (cond b (p.node ∷ of_kind true ps) (of_kind true ps))) e ∙ omega arith
 count_by false p ps e = ap (λ b. length (cond b (p.node ∷ of_kind true ps) (of_kind true ps))) e
 
-count-append : (xs ys : List NumberedNode) → count_static (xs ++ ys) ≡ count_static xs + count_static ys
+pub count-append : (xs ys : List NumberedNode) → count_static (xs ++ ys) ≡ count_static xs + count_static ys
 count-append xs ys = ap length (statics-append xs ys) ∙ length-append (of_kind true xs) (of_kind true ys)
 
 -- so have both parts of a list
@@ -68,12 +69,6 @@ walks-append s m e [] ys h g = subst (λ n. Walks n ys e) (sym h) g
 walks-append s m e (spine_begins n k ∷ xs) ys h g = (h.0, walks-append (s + 1) m e xs ys h.1 g)
 walks-append s m e (whole_unit t ∷ xs) ys h g = (h.0, walks-append (s + count_static (flat t)) m e xs ys h.1 g)
 walks-append s m e (spine_ends n k ∷ xs) ys h g = walks-append s m e xs ys h g
-
-abbrev top_static : Tree → Bool
-top_static (tree n k f) = n.is_static
-
-static_both : (t : Tree) (f : Forest) → all_static (more t f) ≡ true → (top_static t ≡ true) × (all_static f ≡ true)
-static_both (tree n k g) f e = if_both n.is_static (all_static f) e
 
 walks_by : (b c : Bool) (n : Node) (k s e : ℕ) (f : Forest) → on_spine b n f ≡ c → k ≡ s → s + count_static (flat (tree n k f)) ≡ e
     → (all_static f ≡ true → Walks (s + 1) (parts_below false f) e)

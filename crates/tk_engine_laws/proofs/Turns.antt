@@ -89,7 +89,7 @@ alone (Finished ∷ ks) w h = absurd w
 alone (Reporting ∷ ks) w h = absurd w
 alone (File ∷ ks) w h = absurd w
 
-finish_of : (kind : Kind) (payload : Payload) → (status_number kind payload == 1) ≡ true → (kind_code kind == kind_code Finished) ≡ true
+pub finish_of : (kind : Kind) (payload : Payload) → (status_number kind payload == 1) ≡ true → (kind_code kind == kind_code Finished) ≡ true
 finish_of Finished payload h = refl
 finish_of Dynamic payload h = absurd (true≢false (sym h))
 finish_of Skipped payload h = absurd (true≢false (sym h))

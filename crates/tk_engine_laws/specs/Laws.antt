@@ -58,40 +58,32 @@ NodesAreFound =
     (key_of (length table) (next_key worker sent) (known_in [] prefix) node))
     ≡ Some (id_at nodes node)
 
--- the record of a run has the plan's report, for any number of workers
-abbrev pub ReportIsUnique : Type 0
-ReportIsUnique =
+-- P holds of a plan, its table and the record of each of its runs, for any number of workers
+abbrev pub OfEachRun : (List NumberedNode → List Descriptor → Recorded → Type 0) → Type 0
+OfEachRun P =
     (nodes : List NumberedNode) (table : List Descriptor) (workers : ℕ) (r : Recorded)
     → IsPlanned nodes table → IsNumbered nodes
-    → IsRunOf nodes table workers r → report_of_record r ≡ report_of_plan nodes table
+    → IsRunOf nodes table workers r → P nodes table r
+
+-- the record of a run has the plan's report
+abbrev pub ReportIsUnique : Type 0
+ReportIsUnique = OfEachRun (λ nodes table r. report_of_record r ≡ report_of_plan nodes table)
 
 -- in the record of a run the descriptors' ids keep the order that a listener may rely on
 abbrev pub Listener : Type 0
-Listener =
-    (nodes : List NumberedNode) (table : List Descriptor) (workers : ℕ) (r : Recorded)
-    → IsPlanned nodes table → IsNumbered nodes
-    → IsRunOf nodes table workers r → Listens (labels r)
+Listener = OfEachRun (λ nodes table r. Listens (labels r))
 
 -- in the record of a run the descriptors' keys keep the order that a listener may rely on
 abbrev pub ListenerByKey : Type 0
-ListenerByKey =
-    (nodes : List NumberedNode) (table : List Descriptor) (workers : ℕ) (r : Recorded)
-    → IsPlanned nodes table → IsNumbered nodes
-    → IsRunOf nodes table workers r → ListensByKey (length table) (name r) (events r.entries)
+ListenerByKey = OfEachRun (λ nodes table r. ListensByKey (length table) (name r) (events r.entries))
 
 -- the record of a run keeps the lifecycle
 abbrev pub RunsKeepLifecycle : Type 0
-RunsKeepLifecycle =
-    (nodes : List NumberedNode) (table : List Descriptor) (workers : ℕ) (r : Recorded)
-    → IsPlanned nodes table → IsNumbered nodes
-    → IsRunOf nodes table workers r → KeepsLifecycle r
+RunsKeepLifecycle = OfEachRun (λ nodes table r. KeepsLifecycle r)
 
 -- in the record of a run each static child of what finishes successfully starts or is skipped
 abbrev pub ChildrenRun : Type 0
-ChildrenRun =
-    (nodes : List NumberedNode) (table : List Descriptor) (workers : ℕ) (r : Recorded)
-    → IsPlanned nodes table → IsNumbered nodes
-    → IsRunOf nodes table workers r → EachChildRuns r
+ChildrenRun = OfEachRun (λ nodes table r. EachChildRuns r)
 
 -- `Kept` is what is said of the record's lifecycle, and nothing else is
 abbrev pub IsKept : Recorded → Type 0
@@ -99,7 +91,4 @@ IsKept r = (answer : Lifecycle) → IsLifecycle r answer ↔ (answer ≡ Kept)
 
 -- of the record of a run `Kept` is said, and nothing else
 abbrev pub RunsAreKept : Type 0
-RunsAreKept =
-    (nodes : List NumberedNode) (table : List Descriptor) (workers : ℕ) (r : Recorded)
-    → IsPlanned nodes table → IsNumbered nodes
-    → IsRunOf nodes table workers r → IsKept r
+RunsAreKept = OfEachRun (λ nodes table r. IsKept r)

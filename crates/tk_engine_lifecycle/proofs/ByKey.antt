@@ -5,7 +5,6 @@ use Rattle.std.specs.Option.{option_or}
 use Rattle.tk_engine_lifecycle.proofs.Splits.{unfiltered}
 use Rattle.std.proofs.lemmas.List.{map-append}
 use Rattle.std.proofs.lemmas.List.Elements.{filter-append}
-use Rattle.std.proofs.lemmas.Option.{same_Some}
 use Rattle.tk_lemmas.proofs.Options.{option_or_cases}
 use Rattle.tk_ids.specs.IdText.{SegmentView}
 use Rattle.tk_ids.specs.declared.descriptors.Descriptor.{Descriptor}
@@ -19,6 +18,7 @@ use Rattle.tk_record_columns.specs.Entries.{of_kind, desc, desc_in, described, r
 use Rattle.tk_queue_session.specs.Emission.{entries_by}
 use Rattle.tk_query_lifecycle.specs.Lifecycle.{HasId, has_event, is_event, runs}
 use Rattle.tk_query_lifecycle.specs.KeepsLifecycle.{is_step, steps_of}
+pub use Rattle.tk_query_lifecycle.proofs.FirstEntries.{one_id}
 pub use Rattle.tk_query_lifecycle.proofs.IdMapLemmas.{static_desc as from_table}
 pub use Rattle.tk_queue_session.proofs.KnownKeys.{desc_in-append}
 
@@ -128,12 +128,6 @@ same_steps xs ys key same = steps_is key xs ∙ ap kinds same ∙ sym (steps_is 
 pub table_or_entry : (r : Recorded) (key : ℕ) (d : Descriptor) → desc r key ≡ Some d
     → (slice_get r.table key ≡ Some d) ⊎ ((slice_get r.table key ≡ None) × (desc_in r.entries key ≡ Some d))
 table_or_entry r key d e = option_or_cases (slice_get r.table key) (desc_in r.entries key) d e
-
--- one descriptor a key
-pub one_id : (r : Recorded) (key : ℕ) (a b : List SegmentView) → HasId r key a → HasId r key b → a ≡ b
-one_id r key a b x y =
-    let same : x.descriptor ≡ y.descriptor = same_Some _ _ (sym x.described ∙ y.described) in
-    sym x.id_is ∙ ap (λ (d : Descriptor). d.id) same ∙ y.id_is
 
 -- the same events of a key, over one table, give it the same id
 pub same_id : (xs ys : Recorded) (key : ℕ) (id : List SegmentView) → xs.table ≡ ys.table → hits key (events xs.entries) ≡ hits key (events ys.entries)

@@ -3,6 +3,7 @@ use Rattle.std.proofs.Common.{◌≡◌, ◌≢◌, ◌<◌, ◌≤◌, ◌+◌,
 use Rattle.std.proofs.lemmas.List.Elements.{filter-append, All-head, All-tail}
 use Rattle.std.proofs.lemmas.List.Sums.{length-filter}
 use Rattle.std.proofs.lemmas.List.Recursion.{is_sum_by}
+use Rattle.std.proofs.lemmas.Bool.{cases_lt}
 use Rattle.tk_events.specs.declared.events.Event.{Event}
 use Rattle.tk_events.specs.declared.events.Entry.{Entry}
 use Rattle.tk_record_columns.specs.Mixing.{IsWorkerOf, of_worker}
@@ -37,9 +38,6 @@ each_cons P t ts here more (y ∷ p) x q e = let rest : ts ≡ p ++ x ∷ q = cc
 each_append : (P : Turn → Type 0) (xs ys : List Turn) → Each P xs → Each P ys → Each P (xs ++ ys)
 each_append P [] ys a b = b
 each_append P (x ∷ xs) ys a b = each_cons P x (xs ++ ys) (a [] x xs refl) (each_append P xs ys (λ p t q e. a (x ∷ p) t q (ap (λ l. x ∷ l) e)) b)
-
-less_or_not : (n v : ℕ) → (n < v) ⊎ (v ≤ n)
-less_or_not n v = grind (arith, tests)
 
 -- a worker that is none of them has no event
 no_events : (n w : ℕ) (r : List Entry) → All (λ (e : Entry). IsWorkerOf n e.worker) r → ((w ≡ 0) ⊎ (n < w)) → of_worker w r ≡ []
@@ -230,7 +228,7 @@ module _ (may : ℕ → ℕ → ℕ → List Event → Type 0) where
 
   outside : (n v : ℕ) → (v ≡ 0) ⊎ ((n < v) ⊎ ((0 < v) × (v ≤ n)))
   outside n zero = inl refl
-  outside n (suc v) = ⊎_elim (λ h. inr (inl h)) (λ h. inr (inr (omega arith, h))) (less_or_not n (suc v))
+  outside n (suc v) = ⊎_elim (λ h. inr (inl h)) (λ h. inr (inr (omega arith, h))) (cases_lt n (suc v))
 
   pub turned : (units workers : ℕ) (mid : List Entry) → IsShared may units workers mid → Turned units workers mid
   turned units workers mid s =

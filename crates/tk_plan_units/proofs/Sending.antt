@@ -28,10 +28,10 @@ use Rattle.tk_plan_units.proofs.Describing.{statics-append, statics_length}
 use Rattle.tk_plan_units.proofs.Planning.{counted}
 use Rattle.tk_plan_units.proofs.Parting.{all_prefix, all_back, all_single}
 
-abbrev top_static : Tree → Bool
+abbrev pub top_static : Tree → Bool
 top_static (tree n k f) = n.is_static
 
-static_both : (t : Tree) (f : Forest) → all_static (more t f) ≡ true → (top_static t ≡ true) × (all_static f ≡ true)
+pub static_both : (t : Tree) (f : Forest) → all_static (more t f) ≡ true → (top_static t ≡ true) × (all_static f ≡ true)
 static_both (tree n k g) f e = if_both n.is_static (all_static f) e
 
 module _ (table : List Descriptor) where
