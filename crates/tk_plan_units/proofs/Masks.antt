@@ -7,7 +7,7 @@ use Rattle.tk_book.specs.NeedView.{NeedView}
 use Rattle.tk_book.specs.Needs.{Access, access_of}
 use Rattle.tk_plan_units.specs.declared.nodes.NumberedNode.{NumberedNode}
 use Rattle.tk_plan_units.specs.Planned.{unit_asks, IsNeedOf}
-use Rattle.tk_engine.specs.Masks.{mask, is_read, is_write, need_of}
+use Rattle.tk_plan_units.specs.Masks.{mask, is_read, is_write, need_of}
 
 abbrev bit : Bool → ℕ
 bit b = if b then 1 else 0
