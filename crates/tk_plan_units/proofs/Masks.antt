@@ -5,7 +5,7 @@ use Rattle.std.specs.Int.{bit_at}
 use Rattle.std.proofs.lemmas.Nat.Bits.{bit_at-lt, bit_at_and, bit_at-zero, bit_at_lowest, bit_at-suc, same_from_bits_below}
 use Rattle.tk_book.specs.NeedView.{NeedView}
 use Rattle.tk_book.specs.Needs.{Access, access_of}
-use Rattle.tk_plan_units.specs.declared.nodes.NumberedNode.{NumberedNode}
+use Rattle.tk_plan_units.specs.declared.trees.nodes.NumberedNode.{NumberedNode}
 use Rattle.tk_plan_units.specs.Planned.{unit_asks, IsNeedOf}
 use Rattle.tk_plan_units.specs.Masks.{mask, is_read, is_write, need_of}
 

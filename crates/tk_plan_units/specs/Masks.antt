@@ -2,7 +2,7 @@
 use Rattle.std.specs.Prelude.{ℕ, zero, suc, ◌+◌, ◌*◌, Bool, true, false, List, if◌then◌else◌}
 use Rattle.tk_book.specs.NeedView.{NeedView}
 use Rattle.tk_book.specs.Needs.{Access, nothing, reads, writes}
-use Rattle.tk_plan_units.specs.declared.nodes.NumberedNode.{NumberedNode}
+use Rattle.tk_plan_units.specs.declared.trees.nodes.NumberedNode.{NumberedNode}
 use Rattle.tk_plan_units.specs.Planned.{unit_asks}
 
 -- the number whose bit i, below the k-th, is whether f holds at i

@@ -3,15 +3,15 @@ ghost use Rattle.std.specs.Prelude.{◌≡◌, ◌≢◌, ◌≤◌, ◌<◌, �
 ghost use Rattle.std.specs.Arc.{arc_value};
 ghost use Rattle.tk_ids.specs.declared.tables.TheConstants.{MAX_DESCRIPTORS};
 
-use crate::cuttings::{Cutting, cut};
-use crate::events::{payload, push_finish_event, push_opening_events};
-use crate::nodes::{Node, NumberedNode};
-use crate::numbering::set_numbers;
-use crate::orders::positions_of;
-use crate::parents::push_parents;
-use crate::scripts::{is_short, push_tree, stamp_all};
-use crate::steps::{Act, Step};
-use crate::unit_trees::{UnitTree, tree_at};
+use crate::units::cuttings::{Cutting, cut};
+use crate::scripts::events::{payload, push_finish_event, push_opening_events};
+use crate::trees::nodes::{Node, NumberedNode};
+use crate::trees::numbering::set_numbers;
+use crate::trees::positions::positions_of;
+use crate::trees::parents::push_parents;
+use crate::scripts::moves::{is_short, push_tree, stamp_all};
+use crate::scripts::steps::{Act, Step};
+use crate::units::unit_trees::{UnitTree, tree_at};
 use std::alloc::{AllocError, Global};
 use std::marker::Model;
 use std::sync::Arc;
