@@ -1,14 +1,10 @@
 -- Tries that were refused, one after another.
-use Rattle.std.proofs.Common.{ℕ, List, [], ◌∷◌, ◌++◌, flat_map, sym, ap, ◌∙◌, append_assoc}
+use Rattle.std.proofs.Common.{ℕ, List, ◌∷◌, ◌++◌, flat_map, sym, ap, ◌∙◌, append_assoc}
 use Rattle.std.proofs.lemmas.Grind.{flat_map-append}
 use Rattle.std.proofs.lemmas.List.{append-nil}
 use Rattle.std.proofs.lemmas.List.Elements.{All-append, All-cons, All-nil}
 use Rattle.tk_book.specs.declared.books.Busy.{Busy}
 use Rattle.tk_book.specs.Tries.{words_read, HasCause, WasBusy, WereBusy}
-
--- before the first try nothing was read
-pub none_busy : (words : List ℕ) (need : ℕ) → WereBusy words words need
-none_busy words need = ([], sym (append-nil words), All-nil (HasCause need))
 
 -- one refused try more
 pub busy_again : (old mid new : List ℕ) (need : ℕ) (busy : Busy) → WereBusy old mid need → WasBusy mid new need busy → WereBusy old new need

@@ -4,8 +4,8 @@ use Rattle.std.proofs.lemmas.List.Elements.{All-nil, All-cons, All-head, All-tai
 use Rattle.tk_lemmas.proofs.Lists.{All_at}
 use Rattle.tk_ids.specs.declared.descriptors.Descriptor.{Descriptor}
 use Rattle.tk_events.specs.declared.events.Event.{Event}
-use Rattle.tk_plan_units.specs.declared.nodes.Node.{Node}
-use Rattle.tk_plan_units.specs.declared.nodes.NumberedNode.{NumberedNode}
+use Rattle.tk_plan_units.specs.declared.trees.nodes.Node.{Node}
+use Rattle.tk_plan_units.specs.declared.trees.nodes.NumberedNode.{NumberedNode}
 use Rattle.tk_plan_units.specs.Cutting.{Part, Piece, from_each, moves_of, on_spine, parts, parts_below, piece, pieces_of, spine_begins, spine_ends, whole_unit}
 use Rattle.tk_plan_units.specs.Numbers.{IsNumbered, in_order}
 use Rattle.tk_plan_units.specs.Planned.{Outline}

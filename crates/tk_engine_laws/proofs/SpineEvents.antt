@@ -16,8 +16,8 @@ use Rattle.tk_events.specs.declared.events.Event.{Event}
 use Rattle.tk_events.specs.Event.{kind_code}
 use Rattle.tk_query_lifecycle.specs.Lifecycle.{has_event, is_event, runs}
 use Rattle.tk_queue_session.specs.Emission.{entries_by, entry_by}
-use Rattle.tk_plan_units.specs.declared.nodes.Node.{Node}
-use Rattle.tk_plan_units.specs.declared.nodes.NumberedNode.{NumberedNode}
+use Rattle.tk_plan_units.specs.declared.trees.nodes.Node.{Node}
+use Rattle.tk_plan_units.specs.declared.trees.nodes.NumberedNode.{NumberedNode}
 use Rattle.tk_plan_units.specs.Trees.{Tree, tree, Forest, no_trees, more, forest}
 use Rattle.tk_plan_units.specs.Script.{moves}
 use Rattle.tk_plan_units.specs.Events.{event, published, entry_event, file_event, opening_events, IsStatic}

@@ -10,8 +10,8 @@ use Rattle.serde_json.specs.View.{view}
 use Rattle.serde_json.specs.declared.value.Value.{Value}
 use Rattle.std.proofs.lemmas.Grind.{flat_map-append}
 use Rattle.tk_ids.specs.IdText.{SegmentView}
-use Rattle.tk_plan_units.specs.declared.nodes.Node.{Node}
-use Rattle.tk_plan_units.specs.declared.nodes.NumberedNode.{NumberedNode}
+use Rattle.tk_plan_units.specs.declared.trees.nodes.Node.{Node}
+use Rattle.tk_plan_units.specs.declared.trees.nodes.NumberedNode.{NumberedNode}
 use Rattle.tk_plan_units.specs.Trees.{flat, contents}
 use Rattle.tk_plan_units.specs.Ids.{descriptor_in, descriptors}
 use Rattle.tk_plan_members.specs.Checks.{first, or_else, member_at}

@@ -2,7 +2,7 @@
 use Rattle.std.proofs.Common.{◌≡◌, ℕ, zero, suc, List, [], ◌∷◌, ◌++◌, map, flat_map, Option, Some, None, refl, sym, ap, ap₂, ◌∙◌, append_assoc, append-nil}
 use Rattle.std.proofs.lemmas.List.{map-append}
 use Rattle.tk_ids.specs.IdText.{SegmentView}
-use Rattle.tk_plan_units.specs.declared.nodes.Node.{Node}
+use Rattle.tk_plan_units.specs.declared.trees.nodes.Node.{Node}
 use Rattle.tk_plan_units.specs.Trees.{Tree, flat, flats, contents}
 use Rattle.tk_plan_units.specs.Ids.{descriptors, descriptors_below}
 use Rattle.tk_plan_members.specs.Checks.{first, or_else}

@@ -1,5 +1,5 @@
 -- An entry's pairs, put one after another into a map, and a node's entries.
-use Rattle.std.proofs.Common.{◌≡◌, ℕ, ◌+◌, List, [], ◌∷◌, ◌++◌, map, Bool, true, false, cond, ◌||◌, ◌&&◌, Option, Some, None, is_some, Result, Ok, Err, length, get_or, refl, sym, ap, ap₂, ◌∙◌, append_assoc, append-nil, arith}
+use Rattle.std.proofs.Common.{◌≡◌, ℕ, ◌+◌, List, ◌∷◌, ◌++◌, map, Bool, true, false, cond, ◌||◌, ◌&&◌, Option, Some, None, is_some, refl, sym, ap, ap₂, ◌∙◌, append_assoc, append-nil}
 use Rattle.std.specs.List.{list_any, list_all}
 use Rattle.std.specs.List.Sorted.{IsStrictlySortedBy}
 use Rattle.std.specs.Str.{bytes_eq}
@@ -19,11 +19,7 @@ use Rattle.tk_plan_members.proofs.Items.{listed_items, array_items}
 use Rattle.tk_events.specs.Event.{is_strictly_increasing, is_before}
 use Rattle.tk_plan_members.specs.Checks.{text, pair_of, array_of, items_wrong, or_else, item_at}
 use Rattle.tk_plan_members.specs.Rows.{entry}
-use Rattle.tk_plan_members.specs.steps.MemberValues.{has_key, IsOnlyPair, IsReport}
-use Rattle.tk_plan_members.specs.Answers.{Reads}
-use Rattle.tk_plan_members.specs.declared.faults.PlanFault.{PlanFault}
-use Rattle.tk_plan_members.specs.declared.member_values.Report.{Report}
-use Rattle.tk_plan_members.proofs.Passing.{refuses_whole}
+use Rattle.tk_plan_members.specs.steps.MemberValues.{has_key}
 use Rattle.tk_plan_members.specs.Contents.{json_pair, json_entry, put_all, repeats, repeats_after}
 
 abbrev pub Texts : Type 0
@@ -131,30 +127,6 @@ unfolding IsStrictlySortedBy
 map_is_increasing [] h = refl
 map_is_increasing (p ∷ []) h = refl
 map_is_increasing (p ∷ q ∷ es) h = increasing_next p q (is_strictly_increasing (q ∷ es)) h.0.0 (map_is_increasing (q ∷ es) h.1)
-
--- an entry of one pair
-pub read_alone : (at : List ℕ) (d : Data) (vs : List Value) (v : Value) (r : Result Report PlanFault) → Some (items_view vs) ≡ as_array d → length vs ≡ 1 → v ≡ get_or vs 0 v
-    → Reads (pair_of text (item_at at 0) (view v)) (IsOnlyPair (view v)) r → Reads (entry at d) (IsReport d) r
-read_alone at d [] v r is one first h = absurd (omega arith)
-read_alone at d (x ∷ y ∷ vs) v r is one first h = absurd (omega arith)
-read_alone at d (x ∷ []) v r is one first h = by r h
-  where
-    wrong : entry at d ≡ or_else (pair_of text (item_at at 0) (view v)) None
-    wrong = array_items (pair_of text) at d (x ∷ []) is ∙ ap (λ u. or_else (pair_of text (item_at at 0) (view u)) None) (sym first)
-
-    all : listed (Some d) ≡ view v ∷ []
-    all = listed_items d (x ∷ []) is ∙ ap (λ u. view u ∷ []) (sym first)
-
-    by : (r : Result Report PlanFault) → Reads (pair_of text (item_at at 0) (view v)) (IsOnlyPair (view v)) r → Reads (entry at d) (IsReport d) r
-    by (Ok e) g = (
-      wrong ∙ ap (λ o. or_else o None) g.0,
-      record {
-        pairs = g.1.pairs ∙ sym (ap (λ ds. put_all [] (pairs_in ds)) all);
-        increasing = ap is_strictly_increasing g.1.pairs;
-        repeats = g.1.repeats ∙ sym (ap (λ ds. repeats_after [] (pairs_in ds)) all);
-      },
-    )
-    by (Err e) g = refuses_whole _ _ e (λ p w. wrong ∙ ap (λ o. or_else o None) w) g
 
 -- ---- all the entries of a node
 

@@ -3,10 +3,10 @@ use Rattle.std.proofs.Common.{◌≡◌, ℕ, zero, suc, ◌+◌, ◌-◌, ◌�
 use Rattle.std.proofs.lemmas.List.{map-append, drop-drop, drop_at}
 use Rattle.std.proofs.lemmas.Grind.{flat_map-append}
 use Rattle.tk_limits.specs.declared.limits.TheConstants.{MAX_EVENTS}
-use Rattle.tk_plan_units.specs.declared.nodes.Node.{Node}
-use Rattle.tk_plan_units.specs.declared.nodes.NumberedNode.{NumberedNode}
-use Rattle.tk_plan_units.specs.declared.steps.Act.TheVariants.{Finish, Register, Skip}
-use Rattle.tk_plan_units.specs.declared.cuttings.Cutting.{Cutting}
+use Rattle.tk_plan_units.specs.declared.trees.nodes.Node.{Node}
+use Rattle.tk_plan_units.specs.declared.trees.nodes.NumberedNode.{NumberedNode}
+use Rattle.tk_plan_units.specs.declared.scripts.steps.Act.TheVariants.{Finish, Register, Skip}
+use Rattle.tk_plan_units.specs.declared.units.cuttings.Cutting.{Cutting}
 use Rattle.tk_plan_units.specs.Trees.{Tree, tree, Forest, no_trees, more, forest, IsForest, IsSplit, first_tree, contents}
 use Rattle.tk_plan_units.specs.Script.{move, opening, moves, moves_below}
 use Rattle.tk_plan_units.specs.Weights.{publications, weight, weights}
@@ -17,8 +17,8 @@ use Rattle.tk_plan_units.specs.CuttingSteps.{end_events_of_spine, begin_events_a
 use Rattle.tk_plan_units.specs.steps.CuttingSteps.{AddsParts, keyed}
 use Rattle.tk_plan_units.specs.Events.{opening_events, finish_event}
 use Rattle.tk_plan_units.specs.LockNeeds.{IsNeed}
-use Rattle.tk_plan_units.specs.declared.cuttings.PlanUnit.{PlanUnit}
-use Rattle.tk_plan_units.specs.declared.cuttings.SpineStamp.{SpineStamp}
+use Rattle.tk_plan_units.specs.declared.units.cuttings.PlanUnit.{PlanUnit}
+use Rattle.tk_plan_units.specs.declared.units.cuttings.SpineStamp.{SpineStamp}
 use Rattle.std.proofs.lemmas.List.Elements.{All-append}
 use Rattle.std.proofs.Math.Seq.{take-append_seam}
 use Rattle.tk_plan_units.proofs.Grows.{forest_nil}

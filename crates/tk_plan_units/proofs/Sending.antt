@@ -11,8 +11,8 @@ use Rattle.tk_events.specs.declared.kinds.Kind.TheVariants.{Dynamic, Finished, R
 use Rattle.tk_events.specs.declared.payloads.Payload.{Payload}
 use Rattle.tk_events.specs.declared.payloads.Payload.TheVariants.{Outcome, Report, Path}
 use Rattle.tk_events.specs.Event.{is_lawful}
-use Rattle.tk_plan_units.specs.declared.nodes.Node.{Node}
-use Rattle.tk_plan_units.specs.declared.nodes.NumberedNode.{NumberedNode}
+use Rattle.tk_plan_units.specs.declared.trees.nodes.Node.{Node}
+use Rattle.tk_plan_units.specs.declared.trees.nodes.NumberedNode.{NumberedNode}
 use Rattle.tk_plan_units.specs.Trees.{Tree, tree, Forest, no_trees, more, flat, flats, forest, IsForest, contents}
 use Rattle.tk_plan_units.specs.Script.{moves, opening}
 use Rattle.tk_plan_units.specs.Events.{event, published, entry_event, file_event, opening_events, finish_event, IsStatic, AreStatic}
