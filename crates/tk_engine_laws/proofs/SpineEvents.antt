@@ -152,7 +152,8 @@ begins_each (spine_ends n k ∷ ps) = λ j d l i. begins_each ps j d l (i + 1)
 -- each node on the spine starts before the units
 pub starts_before : (nodes : List NumberedNode) (key : ℕ) → IsOnSpine nodes key → has_event Started key (entries_by 0 (before_of (forest nodes))) ≡ true
 starts_before nodes key on =
-    All_at (Begins (parts_below true (forest nodes))) (spine_of (forest nodes)) on.0 key (begins_each (parts_below true (forest nodes))) on.1 0
+    All_at (Begins (parts_below true (forest nodes))) (spine_of (forest nodes)) on.0 key
+    (begins_each (parts_below true (forest nodes))) on.1 0
 
 -- what publishes something of a node finishes none
 published_goes_on : {A : Type 0} (kind : Kind) (payload : A → Payload) → (kind_code kind == kind_code Finished) ≡ false → (key k i : ℕ) (xs : List A)

@@ -46,7 +46,8 @@ shown_flat q h (x ∷ xs) = shown-append q (h x) (flat_map h xs) ∙ ap (λ l. s
 
 nothing_shown : (q : List SegmentView → Bool) (s a c : List Step) (b : List Part) → shown q s ≡ shown q a ++ (shown q (flat_map script b) ++ shown q c) → shown q s ≡ [] → AllNil (shows q) b
 nothing_shown q s a c b e n =
-    all_nil (shows q) b (sym (shown_flat q script b) ∙ nil_left (shown q (flat_map script b)) (shown q c) (nil_right (shown q a) _ (sym e ∙ n)))
+    all_nil (shows q) b
+    (sym (shown_flat q script b) ∙ nil_left (shown q (flat_map script b)) (shown q c) (nil_right (shown q a) _ (sym e ∙ n)))
 
 mutual
   one_part : (q : List SegmentView → Bool) (p : ℕ) (t : Tree) → IsChain q t → AtMostOne (shows q) (parts p t)
@@ -246,7 +247,8 @@ module _ (all : List NumberedNode) (table : List Descriptor) (f : Forest) (worke
       (λ did. emitted_by v key did.0 did.2 ∙ ap (map (id_at all)) (⊎_elim
       (λ l. hits_below key (65536 * (v + 1) + 0) (drawn_ids f did.0) l)
       (λ l. hits_above key (65536 * (v + 1) + 0) (drawn_ids f did.0) (above _ _ _ l (few_ids v did.0 did.1)))
-      (key_of_other i v j (length (drawn_ids f us)) (slice_get_within (drawn_ids f us) j x s) (few_ids i us e) (λ no. n (same ∙ ap (λ z. z + 1) no)))))
+      (key_of_other i v j (length (drawn_ids f us)) (slice_get_within (drawn_ids f us) j x s) (few_ids i us e)
+      (λ no. n (same ∙ ap (λ z. z + 1) no)))))
       (worker_did v)
 
   pub emitted_drawn : (i j : ℕ) (us : List ℕ) (x : ℕ) → slice_get run.shared.drawn i ≡ Some us → slice_get (drawn_ids f us) j ≡ Some x
@@ -259,7 +261,10 @@ module _ (all : List NumberedNode) (table : List Descriptor) (f : Forest) (worke
       (event_of_step-append key (events run.mid) (static_events (after_below 0 f)) ∙ (ap₂ (λ a b. a ++ b) (mix_one (registered_under key) (i + 1) run.mid other) (emitted_static all table key (after_below 0 f) (static_after_below all table 0 f plan.keyed)) ∙ append-nil _)))) in
       let own : event_of_step key (of_worker (i + 1) run.mid) ≡ map (id_at all) (hits key (65536 * (i + 1) + 0) (drawn_ids f us)) = ⊎_elim
       (λ none. let bad : Some us ≡ None = sym e ∙ none.0 in cc)
-      (λ did. let same : did.0 ≡ us = same_Some _ _ (sym did.1 ∙ e) in subst (λ z. event_of_step key (of_worker (i + 1) run.mid) ≡ map (id_at all) (hits key (65536 * (i + 1) + 0) (drawn_ids f z))) same (emitted_by i key did.0 did.2))
+      (λ did.
+      let same : did.0 ≡ us = same_Some _ _ (sym did.1 ∙ e) in
+      subst (λ z. event_of_step key (of_worker (i + 1) run.mid) ≡ map (id_at all) (hits key (65536 * (i + 1) + 0) (drawn_ids f z)))
+      same (emitted_by i key did.0 did.2))
       (worker_did i) in
       whole ∙ own
 

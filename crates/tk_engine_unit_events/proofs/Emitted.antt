@@ -207,7 +207,9 @@ or_none_some None x e = cc
 or_none_some (Some y) x e = e
 
 desc_more : (table : List Descriptor) (es : List Entry) (x : Entry) (key : ℕ) → desc (record { table = table; entries = es ++ x ∷ [] }) key ≡ option_or (desc (record { table = table; entries = es }) key) (option_or (registered key x) None)
-desc_more table es x key = ap (option_or (slice_get table key)) (desc_in-append es (x ∷ []) key) ∙ sym (option_or-assoc (slice_get table key) (desc_in es key) (option_or (registered key x) None))
+desc_more table es x key =
+    ap (option_or (slice_get table key)) (desc_in-append es (x ∷ []) key)
+    ∙ sym (option_or-assoc (slice_get table key) (desc_in es key) (option_or (registered key x) None))
 
 some_is : {A : Type 0} {x y : A} → Some x ≡ Some y → x ≡ y
 some_is e = cc

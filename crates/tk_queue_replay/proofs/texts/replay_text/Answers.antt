@@ -113,7 +113,8 @@ returns-in_err-input g c =
       nothing = λ _. refl;
       prefix = inl refl;
       unread = λ _. refl;
-      last = λ e ready. absurd {A = IfSome _ Plays} (both_ways _ ready (c.in_err-input.ensures.device (ap (λ f. Err f) (load_device fault (same_fault _ _ e)))));
+      last = λ e ready. absurd {A = IfSome _ Plays}
+          (both_ways _ ready (c.in_err-input.ensures.device (ap (λ f. Err f) (load_device fault (same_fault _ _ e)))));
       device = λ e. inl (c.in_err-input.ensures.device (ap (λ f. Err f) (load_device fault (same_fault _ _ e))));
       stops = c.in_err-input.ensures.stops;
     })
