@@ -49,7 +49,6 @@ module _ {A : Type 0} (q : A → Bool) where
       (cases_Bool (q x))
 
 module _ {A : Type 0} (e l : A → Bool) where
-
   and_true : {b c : Bool} → b ≡ true → c ≡ true → (b && c) ≡ true
   and_true h g = ap₂ (λ b c. b && c) h g
 
