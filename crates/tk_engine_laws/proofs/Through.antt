@@ -25,7 +25,8 @@ use Rattle.tk_ids.specs.declared.descriptors.Descriptor.{Descriptor}
 use Rattle.tk_engine_laws.proofs.Cut.{chain_none, chain_none_below, cut, cut_below, shown-append, shown_none, shown_none_below}
 use Rattle.tk_engine_laws.proofs.Few.{few_drawn}
 use Rattle.tk_engine_laws.proofs.Keyed.{get_prefix, labels_played, labels_static, named, named_unit, static_after_below, static_before_below}
-use Rattle.tk_engine_laws.proofs.Lists.{IsLone, IsSeat, all_nil, at, copies, copies_by, drawn_is, lone, lone_is, one_after, one_before, seat}
+use Rattle.tk_engine_laws.proofs.Lists.{IsLone, IsSeat, all_nil, at, copies, copies_by, drawn_is, lone, lone_is, one_after, one_before}
+use Rattle.tk_engine_laws.proofs.Lists.{seat}
 use Rattle.tk_engine_laws.proofs.Mixed.{events-append, events_by, mix_one, no_events}
 use Rattle.tk_engine_laws.proofs.Model.{AllNil, AtMostOne, Each, Forest, IsChain, IsChainBelow, IsStatic, Models, Named, Part, Step, Tree, about, after_below, before_below, drawn_ids, first_or_nil, hits, id_emitted, ids_emitted, is_open, more, no_trees, opening, part_steps, parts, parts_below, plain, plan_labels, registered, script, shown, static_event, static_events, step_label, steps, steps_of, registered_under, times, times_in, event_of_step, tree, units}
 use Rattle.tk_engine_laws.proofs.Naming.{dynamic_kind, hits_above, hits_at, hits_below, registered_played, registrations_is, event_of_step-append, emitted_emitted}

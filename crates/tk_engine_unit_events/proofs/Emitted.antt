@@ -24,7 +24,8 @@ use Rattle.tk_engine_lifecycle.specs.UnderWay.{IsOneOf, IsUnderWay, MayBegin, Ma
 use Rattle.tk_engine_unit_events.specs.Emitting.{IsEmitting, Progress, since}
 use Rattle.tk_engine_lifecycle.proofs.ByKey.{desc_in-append, later_id, one_id, from_table}
 use Rattle.tk_engine_lifecycle.proofs.Going.{other_steps, so_far_more}
-use Rattle.tk_engine_lifecycle.proofs.Steps.{begins, begins_registered, dynamic_key_fresh, dynamic_no_step, finishes, its_own, law_closes, no_step_added, or_none, registers_below, reports, running_id, skips, starts}
+use Rattle.tk_engine_lifecycle.proofs.Steps.{begins, begins_registered, dynamic_key_fresh, dynamic_no_step, finishes, its_own, law_closes}
+use Rattle.tk_engine_lifecycle.proofs.Steps.{no_step_added, or_none, registers_below, reports, running_id, skips, starts}
 
 -- a unit that begins
 pub emitting_none : (f : Frame) (unit : ℕ) (start : SenderView) (none : List ℕ → Bool) (next : ℕ) → KeepsAround f → unit < f.units → start.table ≡ f.table
