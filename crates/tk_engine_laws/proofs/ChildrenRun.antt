@@ -210,8 +210,10 @@ module _ (all : List NumberedNode) (table : List Descriptor) (f : Forest) (worke
         (map_get (λ (y : Entry). y.event) r.entries found.position e x.stands) in
         let same = same_key all table f workers r plan run e.event.key key comes (from_table all table f workers r plan run key own its) (named ∙ sym own_name) in
         ⊎_elim {C = ⊥}
-        (λ (a : starts own (label (name r) e.event) ≡ true). h.no_turn.unstarted found.position e x.stands same (and_parts (is_of own (label (name r) e.event)) _ a).1)
-        (λ (b : skips own (label (name r) e.event) ≡ true). h.no_turn.unskipped found.position e x.stands same (and_parts (is_of own (label (name r) e.event)) _ b).1)
+        (λ (a : starts own (label (name r) e.event) ≡ true).
+        h.no_turn.unstarted found.position e x.stands same (and_parts (is_of own (label (name r) e.event)) _ a).1)
+        (λ (b : skips own (label (name r) e.event) ≡ true).
+        h.no_turn.unskipped found.position e x.stands same (and_parts (is_of own (label (name r) e.event)) _ b).1)
         (or_cases (starts own (label (name r) e.event)) (skips own (label (name r) e.event)) begun)
 
     -- the parent finishes

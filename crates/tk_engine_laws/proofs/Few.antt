@@ -127,7 +127,9 @@ weigh_without : (ws : List ℕ) (u : ℕ) (us : List ℕ) → times u us ≡ 0 �
 weigh_without ws u [] h = refl
 weigh_without ws u (v ∷ us) h = ⊎_elim
     (λ e. let no : ⊥ = not_none (v == u) (times u us) e h in absurd no)
-    (λ e. let n : v ≢ u = grind (arith, tests, e) in ap₂ (λ a b. a + b) (without_other ws u v n) (weigh_without ws u us (none_tail (v == u) (times u us) h)))
+    (λ e.
+    let n : v ≢ u = grind (arith, tests, e) in
+    ap₂ (λ a b. a + b) (without_other ws u v n) (weigh_without ws u us (none_tail (v == u) (times u us) h)))
     (cases_Bool (v == u))
 
 pub none_left : (b : Bool) (n : ℕ) → b ≡ true → (if b then 1 + n else n) ≤ 1 → n ≡ 0

@@ -1,5 +1,6 @@
 -- What every plan is makes it a tree of nodes whose numbers, keys and ids agree.
-use Rattle.std.proofs.Common.{◌≡◌, ◌≤◌, ◌<◌, ℕ, zero, suc, ◌+◌, ◌⊎◌, Bool, true, false, cond, ◌==◌, nat_lt, List, [], ◌∷◌, ◌++◌, map, length, Some, slice_get, refl, sym, ap, ap₂, ◌∙◌, subst, arith, tests, if◌then◌else◌, inl, inr, ⊎_elim}
+use Rattle.std.proofs.Common.{◌≡◌, ◌≤◌, ◌<◌, ℕ, zero, suc, ◌+◌, ◌⊎◌, Bool, true, false, cond, ◌==◌, nat_lt, List, [], ◌∷◌, ◌++◌, map}
+use Rattle.std.proofs.Common.{length, Some, slice_get, refl, sym, ap, ap₂, ◌∙◌, subst, arith, tests, if◌then◌else◌, inl, inr, ⊎_elim}
 use Rattle.std.proofs.lemmas.Bool.{cases_Bool}
 use Rattle.std.proofs.lemmas.List.{map-append, length-map}
 use Rattle.std.proofs.lemmas.Option.{same_Some}
@@ -307,7 +308,9 @@ module _ (all : List NumberedNode) (table : List Descriptor) (p : IsPlanned all 
       let q = t.numbered_node in
       let facts = keyed all table p numbers i q n.id t.in_nodes t.in_ids in
       record {
-        node = ap (slice_get (in_order all)) t.number ∙ (All_at (λ w. slice_get (in_order all) w.number ≡ Some w.node) all i q (all_numbered all numbers) t.in_nodes ∙ ap Some (sym t.node));
+        node = ap (slice_get (in_order all)) t.number
+            ∙ (All_at (λ w. slice_get (in_order all) w.number ≡ Some w.node) all i q (all_numbered all numbers) t.in_nodes
+            ∙ ap Some (sym t.node));
         id = ap (id_at all) t.number ∙ id_found i q n.id t.in_nodes t.in_ids;
         within = ap (λ k. nat_lt k (length table)) t.number ∙ (number_within i q t.in_nodes ∙ sym t.static);
         static = λ s. ap (slice_get (ids_of table)) t.number ∙ id_key table q.number n.id q.node (facts.static (sym t.static ∙ s));

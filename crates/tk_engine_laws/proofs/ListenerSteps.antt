@@ -100,10 +100,12 @@ not_both i (x ∷ (y ∷ [])) o s k = ⊎_elim
 not_both i (x ∷ (y ∷ (z ∷ zs))) o s k = o
 
 start_ran : (i : List SegmentView) → Only (starts i) (ran_of i)
-start_ran i l h = ap₂ (λ b c. b && c) (and_parts (is_of i l) (same_kind l.kind Started) h).0 (or_left (same_kind l.kind Started) _ (and_parts (is_of i l) (same_kind l.kind Started) h).1)
+start_ran i l h = ap₂ (λ b c. b && c) (and_parts (is_of i l) (same_kind l.kind Started) h).0
+    (or_left (same_kind l.kind Started) _ (and_parts (is_of i l) (same_kind l.kind Started) h).1)
 
 pub skip_ran : (i : List SegmentView) → Only (skips i) (ran_of i)
-skip_ran i l h = ap₂ (λ b c. b && c) (and_parts (is_of i l) (same_kind l.kind Skipped) h).0 (or_right (same_kind l.kind Started) _ (or_right (same_kind l.kind Finished) _ (and_parts (is_of i l) (same_kind l.kind Skipped) h).1))
+skip_ran i l h = ap₂ (λ b c. b && c) (and_parts (is_of i l) (same_kind l.kind Skipped) h).0
+    (or_right (same_kind l.kind Started) _ (or_right (same_kind l.kind Finished) _ (and_parts (is_of i l) (same_kind l.kind Skipped) h).1))
 
 started_any : (i : List SegmentView) → Only (starts i) (is_of i)
 started_any i l h = (and_parts (is_of i l) (same_kind l.kind Started) h).0

@@ -26,7 +26,8 @@ mix_one f w (x ∷ xs) h =
     let own : (x.worker == x.worker) ≡ true = grind (arith, tests) in
     let nothing : flat_map f (x.event ∷ of_worker x.worker xs) ≡ []
     = ap (λ b. flat_map f (events (cond b (x ∷ filter (λ e. e.worker == x.worker) xs) (filter (λ e. e.worker == x.worker) xs)))) (sym own) ∙ h x.worker n in
-    ap (λ l. l ++ flat_map f (events xs)) (nil_left (f x.event) _ nothing) ∙ (more ∙ ap (λ b. flat_map f (events (cond b (x ∷ filter (λ e. e.worker == w) xs) (filter (λ e. e.worker == w) xs)))) (sym e)))
+    ap (λ l. l ++ flat_map f (events xs)) (nil_left (f x.event) _ nothing)
+    ∙ (more ∙ ap (λ b. flat_map f (events (cond b (x ∷ filter (λ e. e.worker == w) xs) (filter (λ e. e.worker == w) xs)))) (sym e)))
     (cases_Bool (x.worker == w))
 
 -- a worker that is none of them has no event

@@ -49,7 +49,6 @@ module _ {A : Type 0} (q : A → Bool) where
       (cases_Bool (q x))
 
 module _ {A : Type 0} (e l : A → Bool) where
-
   and_true : {b c : Bool} → b ≡ true → c ≡ true → (b && c) ≡ true
   and_true h g = ap₂ (λ b c. b && c) h g
 
@@ -110,4 +109,5 @@ module _ {A : Type 0} (e l : A → Bool) where
 
   pub followed_end : (xs : List A) (y : A) → l y ≡ true → e y ≡ false → is_followed e l (xs ++ y ∷ []) ≡ true
   followed_end [] y h n = ap (λ b. (not b || false) && true) n
-  followed_end (x ∷ xs) y h n = and_true (ap (λ b. not (e x) || b) (any_end xs y h) ∙ or_right (not (e x)) true refl) (followed_end xs y h n)
+  followed_end (x ∷ xs) y h n =
+      and_true (ap (λ b. not (e x) || b) (any_end xs y h) ∙ or_right (not (e x)) true refl) (followed_end xs y h n)

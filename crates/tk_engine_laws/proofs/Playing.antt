@@ -151,7 +151,9 @@ mutual
         (
           under_below false item f,
           λ y. top_below false k (above ++ n.segment ∷ []) f
-              (spine_facts b n f (and_parts (not (is_some n.skip)) (cut.on_spine b n f) (and_parts n.is_static (not (is_some n.skip) && cut.on_spine b n f) y).1).1).1,
+              (spine_facts b n f
+              (and_parts (not (is_some n.skip)) (cut.on_spine b n f)
+              (and_parts n.is_static (not (is_some n.skip) && cut.on_spine b n f) y).1).1).1,
         ),
       )
 

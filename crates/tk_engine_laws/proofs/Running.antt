@@ -1,5 +1,6 @@
 -- The demo plan is a plan, and a record of it by two workers is a run.
-use Rattle.std.proofs.Common.{◌≡◌, ◌<◌, ℕ, zero, suc, ◌+◌, Bool, true, false, not, ◌&&◌, codes, ◌*◌, nat_lt, nat_le, ◌==◌, List, [], ◌∷◌, ◌++◌, flat_map, All, Some, None, slice_get, sum_by, refl, sym, ap, ◌∙◌, subst, arith, tests}
+use Rattle.std.proofs.Common.{◌≡◌, ◌<◌, ℕ, zero, suc, ◌+◌, Bool, true, false, not, ◌&&◌, codes, ◌*◌, nat_lt, nat_le, ◌==◌, List, [], ◌∷◌}
+use Rattle.std.proofs.Common.{◌++◌, flat_map, All, Some, None, slice_get, sum_by, refl, sym, ap, ◌∙◌, subst, arith, tests}
 use Rattle.std.specs.List.{list_any, list_all}
 use Rattle.std.proofs.lemmas.Bool.{and_parts, or_right, not-true}
 use Rattle.tk_ids.specs.IdText.{SegmentView}

@@ -1,5 +1,6 @@
 -- The events around the units: whose they are, and which.
-use Rattle.std.proofs.Common.{◌≡◌, ◌≢◌, ℕ, ◌+◌, Bool, cond, true, false, ◌||◌, ◌==◌, List, [], ◌∷◌, ◌++◌, All, length, flat_map, slice_index_or, refl, sym, ap, ◌∙◌, subst, eq-eqb}
+use Rattle.std.proofs.Common.{◌≡◌, ◌≢◌, ℕ, ◌+◌, Bool, cond, true, false, ◌||◌, ◌==◌, List, [], ◌∷◌, ◌++◌, All, length, flat_map}
+use Rattle.std.proofs.Common.{slice_index_or, refl, sym, ap, ◌∙◌, subst, eq-eqb}
 use Rattle.std.proofs.lemmas.Bool.{and_from, not_from_false, or_from, or_left, or_right}
 use Rattle.std.proofs.lemmas.List.{map-append}
 use Rattle.std.proofs.lemmas.List.Elements.{All-nil, All-cons, All-head, All-tail, All-append}
@@ -152,7 +153,8 @@ begins_each (spine_ends n k ∷ ps) = λ j d l i. begins_each ps j d l (i + 1)
 -- each node on the spine starts before the units
 pub starts_before : (nodes : List NumberedNode) (key : ℕ) → IsOnSpine nodes key → has_event Started key (entries_by 0 (before_of (forest nodes))) ≡ true
 starts_before nodes key on =
-    All_at (Begins (parts_below true (forest nodes))) (spine_of (forest nodes)) on.0 key (begins_each (parts_below true (forest nodes))) on.1 0
+    All_at (Begins (parts_below true (forest nodes))) (spine_of (forest nodes)) on.0 key
+    (begins_each (parts_below true (forest nodes))) on.1 0
 
 -- what publishes something of a node finishes none
 published_goes_on : {A : Type 0} (kind : Kind) (payload : A → Payload) → (kind_code kind == kind_code Finished) ≡ false → (key k i : ℕ) (xs : List A)

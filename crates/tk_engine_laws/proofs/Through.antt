@@ -25,7 +25,8 @@ use Rattle.tk_ids.specs.declared.descriptors.Descriptor.{Descriptor}
 use Rattle.tk_engine_laws.proofs.Cut.{chain_none, chain_none_below, cut, cut_below, shown-append, shown_none, shown_none_below}
 use Rattle.tk_engine_laws.proofs.Few.{few_drawn}
 use Rattle.tk_engine_laws.proofs.Keyed.{get_prefix, labels_played, labels_static, named, named_unit, static_after_below, static_before_below}
-use Rattle.tk_engine_laws.proofs.Lists.{IsLone, IsSeat, all_nil, at, copies, copies_by, drawn_is, lone, lone_is, one_after, one_before, seat}
+use Rattle.tk_engine_laws.proofs.Lists.{IsLone, IsSeat, all_nil, at, copies, copies_by, drawn_is, lone, lone_is, one_after, one_before}
+use Rattle.tk_engine_laws.proofs.Lists.{seat}
 use Rattle.tk_engine_laws.proofs.Mixed.{events-append, events_by, mix_one, no_events}
 use Rattle.tk_engine_laws.proofs.Model.{AllNil, AtMostOne, Each, Forest, IsChain, IsChainBelow, IsStatic, Models, Named, Part, Step, Tree, about, after_below, before_below, drawn_ids, first_or_nil, hits, id_emitted, ids_emitted, is_open, more, no_trees, opening, part_steps, parts, parts_below, plain, plan_labels, registered, script, shown, static_event, static_events, step_label, steps, steps_of, registered_under, times, times_in, event_of_step, tree, units}
 use Rattle.tk_engine_laws.proofs.Naming.{dynamic_kind, hits_above, hits_at, hits_below, registered_played, registrations_is, event_of_step-append, emitted_emitted}
@@ -46,7 +47,8 @@ shown_flat q h (x ∷ xs) = shown-append q (h x) (flat_map h xs) ∙ ap (λ l. s
 
 nothing_shown : (q : List SegmentView → Bool) (s a c : List Step) (b : List Part) → shown q s ≡ shown q a ++ (shown q (flat_map script b) ++ shown q c) → shown q s ≡ [] → AllNil (shows q) b
 nothing_shown q s a c b e n =
-    all_nil (shows q) b (sym (shown_flat q script b) ∙ nil_left (shown q (flat_map script b)) (shown q c) (nil_right (shown q a) _ (sym e ∙ n)))
+    all_nil (shows q) b
+    (sym (shown_flat q script b) ∙ nil_left (shown q (flat_map script b)) (shown q c) (nil_right (shown q a) _ (sym e ∙ n)))
 
 mutual
   one_part : (q : List SegmentView → Bool) (p : ℕ) (t : Tree) → IsChain q t → AtMostOne (shows q) (parts p t)
@@ -246,7 +248,8 @@ module _ (all : List NumberedNode) (table : List Descriptor) (f : Forest) (worke
       (λ did. emitted_by v key did.0 did.2 ∙ ap (map (id_at all)) (⊎_elim
       (λ l. hits_below key (65536 * (v + 1) + 0) (drawn_ids f did.0) l)
       (λ l. hits_above key (65536 * (v + 1) + 0) (drawn_ids f did.0) (above _ _ _ l (few_ids v did.0 did.1)))
-      (key_of_other i v j (length (drawn_ids f us)) (slice_get_within (drawn_ids f us) j x s) (few_ids i us e) (λ no. n (same ∙ ap (λ z. z + 1) no)))))
+      (key_of_other i v j (length (drawn_ids f us)) (slice_get_within (drawn_ids f us) j x s) (few_ids i us e)
+      (λ no. n (same ∙ ap (λ z. z + 1) no)))))
       (worker_did v)
 
   pub emitted_drawn : (i j : ℕ) (us : List ℕ) (x : ℕ) → slice_get run.shared.drawn i ≡ Some us → slice_get (drawn_ids f us) j ≡ Some x
@@ -259,7 +262,10 @@ module _ (all : List NumberedNode) (table : List Descriptor) (f : Forest) (worke
       (event_of_step-append key (events run.mid) (static_events (after_below 0 f)) ∙ (ap₂ (λ a b. a ++ b) (mix_one (registered_under key) (i + 1) run.mid other) (emitted_static all table key (after_below 0 f) (static_after_below all table 0 f plan.keyed)) ∙ append-nil _)))) in
       let own : event_of_step key (of_worker (i + 1) run.mid) ≡ map (id_at all) (hits key (65536 * (i + 1) + 0) (drawn_ids f us)) = ⊎_elim
       (λ none. let bad : Some us ≡ None = sym e ∙ none.0 in cc)
-      (λ did. let same : did.0 ≡ us = same_Some _ _ (sym did.1 ∙ e) in subst (λ z. event_of_step key (of_worker (i + 1) run.mid) ≡ map (id_at all) (hits key (65536 * (i + 1) + 0) (drawn_ids f z))) same (emitted_by i key did.0 did.2))
+      (λ did.
+      let same : did.0 ≡ us = same_Some _ _ (sym did.1 ∙ e) in
+      subst (λ z. event_of_step key (of_worker (i + 1) run.mid) ≡ map (id_at all) (hits key (65536 * (i + 1) + 0) (drawn_ids f z)))
+      same (emitted_by i key did.0 did.2))
       (worker_did i) in
       whole ∙ own
 

@@ -1,5 +1,6 @@
 -- Each key has its events in one turn, or before and after all turns.
-use Rattle.std.proofs.Common.{◌≡◌, ◌<◌, ◌≤◌, ◌==◌, ◌&&◌, not, ℕ, ◌⊎◌, inl, inr, ⊎_elim, Bool, true, false, cond, List, [], ◌∷◌, ◌++◌, length, map, filter, Some, None, slice_get, All, refl, sym, ap, ap₂, ◌∙◌, subst, append_assoc, arith, tests}
+use Rattle.std.proofs.Common.{◌≡◌, ◌<◌, ◌≤◌, ◌==◌, ◌&&◌, not, ℕ, ◌⊎◌, inl, inr, ⊎_elim, Bool, true, false, cond, List, [], ◌∷◌, ◌++◌}
+use Rattle.std.proofs.Common.{length, map, filter, Some, None, slice_get, All, refl, sym, ap, ap₂, ◌∙◌, subst, append_assoc, arith, tests}
 use Rattle.std.proofs.lemmas.List.Elements.{All-head, All-tail}
 use Rattle.tk_lemmas.proofs.Lists.{get_below}
 use Rattle.tk_ids.specs.IdText.{SegmentView}

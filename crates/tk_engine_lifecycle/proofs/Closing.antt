@@ -122,7 +122,9 @@ whole_alone f unit w l around low u key =
     (λ n.
     let parts = sym (hits-append key f.before f.after) ∙ n in
     let same : hits key (events (run_alone f w l).entries) ≡ hits key (events (entries_by w l))
-    = alone_hits f w l key ∙ ap₂ (λ a b. (a ++ hits key l) ++ b) (nil_left (hits key f.before) (hits key f.after) parts) (nil_right (hits key f.before) (hits key f.after) parts)
+    = alone_hits f w l key
+    ∙ ap₂ (λ a b. (a ++ hits key l) ++ b) (nil_left (hits key f.before) (hits key f.after) parts)
+    (nil_right (hits key f.before) (hits key f.after) parts)
     ∙ append-nil (hits key l) ∙ ap (hits key) (sym (events_by w l)) in
     subst IsWhole (sym (same_steps (run_alone f w l).entries (entries_by w l) key same)) (u.whole key (λ h. h)))
     (λ h.

@@ -102,9 +102,12 @@ same_before f entries c m x t key h =
     (λ o. own_in_start f entries c m t.t t.a key t.starts o)
     (λ b.
     let none = none_common f entries c key (hit_before f key b) in
-    let own : hits key t.t.list ≡ [] = nil_left (hits_of key t.t) _ (nil_right (flat_map (hits_of key) t.starts.prefix) _ (sym (split_none key t.starts.prefix t.t t.starts.suffix) ∙ ap (flat_map (hits_of key)) (sym t.starts.turn) ∙ none)) in
+    let own : hits key t.t.list ≡ []
+    = nil_left (hits_of key t.t) _ (nil_right (flat_map (hits_of key) t.starts.prefix) _
+    (sym (split_none key t.starts.prefix t.t t.starts.suffix) ∙ ap (flat_map (hits_of key)) (sym t.starts.turn) ∙ none)) in
     none_in_start f entries c m t.starts.rest key t.starts.is none
-    ∙ sym (nil_left (hits key t.a) (hits key (x.event ∷ t.b)) (sym (hits-append key t.a (x.event ∷ t.b)) ∙ ap (hits key) (sym t.list) ∙ own)))
+    ∙ sym (nil_left (hits key t.a) (hits key (x.event ∷ t.b))
+    (sym (hits-append key t.a (x.event ∷ t.b)) ∙ ap (hits key) (sym t.list) ∙ own)))
     h in
     ap (hits key) (start_events f m) ∙ hits-append key f.before (events m) ∙ ap (λ l. hits key f.before ++ l) there
     ∙ sym (hits-append key f.before t.a) ∙ ap (hits key) (sym (alone_start f t.t.worker t.a))
@@ -149,7 +152,8 @@ runs_hit f w key a r =
     let h = has_run (start_of f (entries_by w a)) key r in
     ⊎_elim
     (λ n. ⊎_elim
-    (λ m. absurd (no_split [] h.0 h.1 (sym (ap (hits key) (alone_start f w a) ∙ hits-append key f.before a ∙ ap₂ (λ x y. x ++ y) m n) ∙ h.2)))
+    (λ m. absurd (no_split [] h.0 h.1
+    (sym (ap (hits key) (alone_start f w a) ∙ hits-append key f.before a ∙ ap₂ (λ x y. x ++ y) m n) ∙ h.2)))
     (λ b. inr b)
     (hit_or_none key f.before))
     (λ o. inl o)

@@ -1,5 +1,6 @@
 -- What a key has among the entries before an event of a turn, it has before that event where the unit runs alone.
-use Rattle.std.proofs.Common.{◌≡◌, ◌≢◌, ◌==◌, ℕ, ⊎_elim, Bool, true, false, cond, List, [], ◌∷◌, ◌++◌, filter, flat_map, refl, sym, ap, ap₂, ◌∙◌, arith, tests}
+use Rattle.std.proofs.Common.{◌≡◌, ◌≢◌, ◌==◌, ℕ, ⊎_elim, Bool, true, false, cond, List, [], ◌∷◌, ◌++◌, filter, flat_map, refl, sym, ap, ap₂}
+use Rattle.std.proofs.Common.{◌∙◌, arith, tests}
 use Rattle.std.proofs.lemmas.Bool.{cases_Bool}
 use Rattle.std.proofs.lemmas.List.Elements.{filter-append}
 use Rattle.std.proofs.lemmas.Grind.{flat_map-append}
@@ -23,7 +24,8 @@ own_worker x = grind (arith, tests)
 rest_nil : (key v : ℕ) (x : Entry) (xs : List Entry) → hits key (of_worker v (x ∷ xs)) ≡ [] → hits key (of_worker v xs) ≡ []
 rest_nil key v x xs h =
     ⊎_elim
-    (λ e. nil_right (hits key (x.event ∷ [])) (hits key (of_worker v xs)) (sym (hits_one key x.event (of_worker v xs)) ∙ ap (hits key) (sym (own_first v x xs e)) ∙ h))
+    (λ e. nil_right (hits key (x.event ∷ [])) (hits key (of_worker v xs))
+    (sym (hits_one key x.event (of_worker v xs)) ∙ ap (hits key) (sym (own_first v x xs e)) ∙ h))
     (λ e. ap (hits key) (sym (other_first v x xs e)) ∙ h)
     (cases_Bool (x.worker == v))
 
@@ -37,7 +39,8 @@ one_worker key w (x ∷ xs) h =
     (λ e.
     let n : x.worker ≢ w = grind (arith, tests, e) in
     let its : hits key (x.event ∷ of_worker x.worker xs) ≡ [] = ap (hits key) (sym (own_first x.worker x xs (own_worker x))) ∙ h x.worker n in
-    let none : hits key (x.event ∷ []) ≡ [] = nil_left (hits key (x.event ∷ [])) (hits key (of_worker x.worker xs)) (sym (hits_one key x.event (of_worker x.worker xs)) ∙ its) in
+    let none : hits key (x.event ∷ []) ≡ []
+    = nil_left (hits key (x.event ∷ [])) (hits key (of_worker x.worker xs)) (sym (hits_one key x.event (of_worker x.worker xs)) ∙ its) in
     hits_one key x.event (events xs) ∙ ap₂ (λ a b. a ++ b) none more ∙ ap (hits key) (sym (other_first w x xs e)))
     (cases_Bool (x.worker == w))
 
@@ -50,7 +53,8 @@ none_kept test key [] h = refl
 none_kept test key (t ∷ ts) h =
     let more = none_kept test key ts (nil_right (hits_of key t) (flat_map (hits_of key) ts) h) in
     ⊎_elim
-    (λ e. ap (λ b. flat_map (hits_of key) (cond b (t ∷ filter test ts) (filter test ts))) e ∙ ap₂ (λ a b. a ++ b) (nil_left (hits_of key t) (flat_map (hits_of key) ts) h) more)
+    (λ e. ap (λ b. flat_map (hits_of key) (cond b (t ∷ filter test ts) (filter test ts))) e
+    ∙ ap₂ (λ a b. a ++ b) (nil_left (hits_of key t) (flat_map (hits_of key) ts) h) more)
     (λ e. ap (λ b. flat_map (hits_of key) (cond b (t ∷ filter test ts) (filter test ts))) e ∙ more)
     (cases_Bool (test t))
 

@@ -327,7 +327,8 @@ described_now f w l e d kind payload free = record {
   descriptor = d;
   described =
       ap (option_or (slice_get f.table e.key)) (desc_in-append (so_far f w l).entries (entry_by w e ∷ []) e.key)
-      ∙ sym (option_or-assoc (slice_get f.table e.key) (desc_in (so_far f w l).entries e.key) (option_or (registered e.key (entry_by w e)) None))
+      ∙ sym (option_or-assoc (slice_get f.table e.key) (desc_in (so_far f w l).entries e.key)
+      (option_or (registered e.key (entry_by w e)) None))
       ∙ or_none (desc (so_far f w l) e.key) (option_or (registered e.key (entry_by w e)) None) free
       ∙ ap (λ x. option_or x None) (its_own e.key w e d kind payload);
   id_is = refl;

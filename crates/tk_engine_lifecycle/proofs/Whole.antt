@@ -210,7 +210,9 @@ running_hit f p x q key is r =
     let parts : events (entries_by 0 f.before ++ p) ≡ f.before ++ events p = events-append (entries_by 0 f.before) p ∙ ap (λ l. l ++ events p) (events_by 0 f.before) in
     let whole : f.before ++ f.after ≡ (f.before ++ events p) ++ x.event ∷ events q = ap (λ l. f.before ++ l) (after_events f p x q is) ∙ sym (append_assoc f.before (events p) (x.event ∷ events q)) in
     ⊎_elim
-    (λ n. absurd (no_split [] h.0 h.1 (sym (ap (hits key) parts ∙ nil_left (hits key (f.before ++ events p)) (hits key (x.event ∷ events q)) (sym (hits-append key (f.before ++ events p) (x.event ∷ events q)) ∙ ap (hits key) (sym whole) ∙ n)) ∙ h.2)))
+    (λ n. absurd (no_split [] h.0 h.1
+    (sym (ap (hits key) parts ∙ nil_left (hits key (f.before ++ events p)) (hits key (x.event ∷ events q))
+    (sym (hits-append key (f.before ++ events p) (x.event ∷ events q)) ∙ ap (hits key) (sym whole) ∙ n)) ∙ h.2)))
     (λ o. o)
     (hit_or_none key (f.before ++ f.after))
 

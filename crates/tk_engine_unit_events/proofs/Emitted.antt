@@ -24,7 +24,8 @@ use Rattle.tk_engine_lifecycle.specs.UnderWay.{IsOneOf, IsUnderWay, MayBegin, Ma
 use Rattle.tk_engine_unit_events.specs.Emitting.{IsEmitting, Progress, since}
 use Rattle.tk_engine_lifecycle.proofs.ByKey.{desc_in-append, later_id, one_id, from_table}
 use Rattle.tk_engine_lifecycle.proofs.Going.{other_steps, so_far_more}
-use Rattle.tk_engine_lifecycle.proofs.Steps.{begins, begins_registered, dynamic_key_fresh, dynamic_no_step, finishes, its_own, law_closes, no_step_added, or_none, registers_below, reports, running_id, skips, starts}
+use Rattle.tk_engine_lifecycle.proofs.Steps.{begins, begins_registered, dynamic_key_fresh, dynamic_no_step, finishes, its_own, law_closes}
+use Rattle.tk_engine_lifecycle.proofs.Steps.{no_step_added, or_none, registers_below, reports, running_id, skips, starts}
 
 -- a unit that begins
 pub emitting_none : (f : Frame) (unit : ℕ) (start : SenderView) (none : List ℕ → Bool) (next : ℕ) → KeepsAround f → unit < f.units → start.table ≡ f.table
@@ -207,7 +208,9 @@ or_none_some None x e = cc
 or_none_some (Some y) x e = e
 
 desc_more : (table : List Descriptor) (es : List Entry) (x : Entry) (key : ℕ) → desc (record { table = table; entries = es ++ x ∷ [] }) key ≡ option_or (desc (record { table = table; entries = es }) key) (option_or (registered key x) None)
-desc_more table es x key = ap (option_or (slice_get table key)) (desc_in-append es (x ∷ []) key) ∙ sym (option_or-assoc (slice_get table key) (desc_in es key) (option_or (registered key x) None))
+desc_more table es x key =
+    ap (option_or (slice_get table key)) (desc_in-append es (x ∷ []) key)
+    ∙ sym (option_or-assoc (slice_get table key) (desc_in es key) (option_or (registered key x) None))
 
 some_is : {A : Type 0} {x y : A} → Some x ≡ Some y → x ≡ y
 some_is e = cc

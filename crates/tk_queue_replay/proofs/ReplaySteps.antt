@@ -1,5 +1,7 @@
 -- Each turn of a replay is a step of the core.
-use Rattle.std.proofs.Common.{◌≡◌, ◌≢◌, ◌<◌, ◌≤◌, ◌+◌, ◌-◌, ℕ, zero, suc, Bool, true, false, cond, List, [], ◌∷◌, ◌++◌, length, take, get_or, slice_get, slice_set, replicate, Option, Some, None, Ok, Err, refl, sym, ap, subst, ◌∙◌, ⊎_elim, append_assoc, append-nil, arith, get_or-set_same, get_or-set_other, true≢false}
+use Rattle.std.proofs.Common.{◌≡◌, ◌≢◌, ◌<◌, ◌≤◌, ◌+◌, ◌-◌, ℕ, zero, suc, Bool, true, false, cond, List, [], ◌∷◌, ◌++◌, length, take}
+use Rattle.std.proofs.Common.{get_or, slice_get, slice_set, replicate, Option, Some, None, Ok, Err, refl, sym, ap, subst, ◌∙◌, ⊎_elim}
+use Rattle.std.proofs.Common.{append_assoc, append-nil, arith, get_or-set_same, get_or-set_other, true≢false}
 use Rattle.std.specs.List.{AllByRecursion}
 use Rattle.std.proofs.lemmas.Option.{same_Some, none-some, slice_get_past, slice_get_within, get_or_from_slice_get}
 use Rattle.std.proofs.lemmas.List.{take_more, length-set, length-take-le, length-replicate}
@@ -19,7 +21,8 @@ use Rattle.tk_queue_replay.specs.declared.turns.Turn.{Turn}
 use Rattle.tk_queue_replay.specs.declared.turns.Turn.TheVariants.{Worker, Take}
 use Rattle.tk_queue_core.specs.CoreState.{has_ended, fresh}
 use Rattle.tk_queue_core.specs.Core.{Core, put, entry, script, emit, finish, take_first, entries}
-use Rattle.tk_queue_replay.specs.Replay.{Moment, Faulty, IsTurn, script_of, count_of, next, append_to, take_item, turn_step, after, plays, start}
+use Rattle.tk_queue_replay.specs.Replay.{Moment, Faulty, IsTurn, script_of, count_of, next, append_to, take_item, turn_step, after, plays}
+use Rattle.tk_queue_replay.specs.Replay.{start}
 use Rattle.tk_queue_replay.specs.Laws.{IsMomentOf, ReplaysCore, FaultyHasNoItem}
 use Rattle.tk_queue_replay.specs.TurnItems.{is_turn_of, item_after}
 use Rattle.tk_queue_replay.proofs.TurnItems.{Ordered, none_ordered, worker_ordered, take_ordered, scripted_event, scripted_mark, script_long}

@@ -1,4 +1,5 @@
-use Rattle.std.proofs.Common.{◌≡◌, ◌≤◌, ◌<◌, ◌++◌, ◌+◌, ℕ, List, length, Option, Some, None, Ok, Err, sym, ap, subst, refl, inl, inr, ◌∙◌, append-nil, arith}
+use Rattle.std.proofs.Common.{◌≡◌, ◌≤◌, ◌<◌, ◌++◌, ◌+◌, ℕ, List, length, Option, Some, None, Ok, Err, sym, ap, subst, refl, inl, inr, ◌∙◌}
+use Rattle.std.proofs.Common.{append-nil, arith}
 use Rattle.std.specs.Prelude.{IfSome, IsErrOf}
 use Rattle.std.specs.Io.KnownBytes.{Appends}
 use Rattle.std.proofs.lemmas.Result.{err_from_is_err_and}
@@ -113,7 +114,8 @@ returns-in_err-input g c =
       nothing = λ _. refl;
       prefix = inl refl;
       unread = λ _. refl;
-      last = λ e ready. absurd {A = IfSome _ Plays} (both_ways _ ready (c.in_err-input.ensures.device (ap (λ f. Err f) (load_device fault (same_fault _ _ e)))));
+      last = λ e ready. absurd {A = IfSome _ Plays}
+          (both_ways _ ready (c.in_err-input.ensures.device (ap (λ f. Err f) (load_device fault (same_fault _ _ e)))));
       device = λ e. inl (c.in_err-input.ensures.device (ap (λ f. Err f) (load_device fault (same_fault _ _ e))));
       stops = c.in_err-input.ensures.stops;
     })
