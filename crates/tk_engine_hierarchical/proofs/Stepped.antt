@@ -1,7 +1,7 @@
 -- Each node of a unit is a node of the plan, by its number.
 use Rattle.std.proofs.Common.{◌≡◌, ◌≤◌, ◌+◌, ℕ, zero, suc, Bool, true, false, cond, List, [], ◌∷◌, ◌++◌, length, take, drop, Some, slice_get, All, arith, length-append, sym, ap, ◌∙◌, subst}
 use Rattle.std.proofs.lemmas.List.Elements.{All-nil, All-cons, All-head, All-tail, All-append, All-drop, All-take, All-weaker}
-use Rattle.tk_lemmas.proofs.Lists.{All_at}
+use Rattle.tk_lemmas.proofs.Lists.{All_at, All_one as all_single}
 use Rattle.tk_ids.specs.declared.descriptors.Descriptor.{Descriptor}
 use Rattle.tk_events.specs.declared.events.Event.{Event}
 use Rattle.tk_plan_units.specs.declared.trees.nodes.Node.{Node}
@@ -11,7 +11,7 @@ use Rattle.tk_plan_units.specs.Numbers.{IsNumbered, in_order}
 use Rattle.tk_plan_units.specs.Planned.{Outline}
 use Rattle.tk_plan_units.specs.Trees.{Forest, IsForest, IsSplit, Tree, flat, flats, forest, more, no_trees, tree, tree_of}
 use Rattle.tk_plan_units.proofs.Ordering.{all_numbered}
-use Rattle.tk_plan_units.proofs.Parting.{all_back, all_prefix, all_single}
+use Rattle.tk_plan_units.proofs.Parting.{all_back, all_prefix}
 use Rattle.tk_engine_hierarchical.specs.StaticSteps.{FitsNode, FitsPlan}
 use Rattle.tk_engine_hierarchical.specs.steps.StaticSteps.{MayStepAs}
 use Rattle.tk_engine_unit_events.specs.declared.outcomes.Outcome.{Outcome}

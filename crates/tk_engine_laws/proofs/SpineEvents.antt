@@ -7,7 +7,7 @@ use Rattle.std.proofs.lemmas.List.Elements.{All-nil, All-cons, All-head, All-tai
 use Rattle.std.proofs.lemmas.List.Folds.{list_any-append}
 use Rattle.std.proofs.lemmas.Option.{slice_get-get_or}
 use Rattle.std.proofs.lemmas.Grind.{flat_map-append}
-use Rattle.tk_lemmas.proofs.Lists.{All_at}
+use Rattle.tk_lemmas.proofs.Lists.{All_at, All_one as all_single}
 use Rattle.tk_ids.specs.declared.descriptors.Descriptor.{Descriptor}
 use Rattle.tk_events.specs.declared.kinds.Kind.{Kind}
 use Rattle.tk_events.specs.declared.kinds.Kind.TheVariants.{Dynamic, Skipped, Started, Finished, Reporting, File}
@@ -26,7 +26,7 @@ use Rattle.tk_plan_units.specs.Cutting.{Part, spine_begins, whole_unit, spine_en
 use Rattle.tk_plan_units.specs.Numbers.{IsNumbered}
 use Rattle.tk_plan_units.specs.Planned.{IsPlanned}
 use Rattle.tk_plan_units.proofs.Cuts.{from_each-append}
-use Rattle.tk_plan_units.proofs.Parting.{all_prefix, all_back, all_single}
+use Rattle.tk_plan_units.proofs.Parting.{all_prefix, all_back}
 use Rattle.tk_plan_units.proofs.Sending.{before_static, after_static}
 use Rattle.tk_engine_laws.specs.Spines.{IsOnSpine, IsSpineEvent}
 

@@ -1,7 +1,7 @@
 -- What trees do, one tree after another.
-use Rattle.std.proofs.Common.{◌≡◌, ℕ, suc, ◌+◌, ◌-◌, ◌≤◌, List, ◌∷◌, ◌++◌, length, true, false, Bool, cond, is_some, Option, Some, None, refl, sym, ap, ap₂, ◌∙◌, arith, length-append, append_assoc, drop, take, get_or, ◌<◌, ◌==◌}
+use Rattle.std.proofs.Common.{◌≡◌, ℕ, suc, ◌+◌, ◌-◌, ◌≤◌, List, [], ◌∷◌, ◌++◌, length, true, false, Bool, cond, is_some, Option, Some, None, refl, sym, ap, ap₂, ◌∙◌, arith, length-append, append_assoc, drop, take, get_or, ◌<◌, ◌==◌}
 use Rattle.tk_plan_units.specs.Cutting.{is_leaf, all_concurrent}
-use Rattle.std.proofs.lemmas.List.{drop_more, take_all}
+use Rattle.std.proofs.lemmas.List.{drop_more, take_all, nil_from_length}
 use Rattle.tk_plan_units.proofs.Grows.{forest_nil, forest-flats, is_forest, parted}
 use Rattle.tk_plan_units.specs.declared.scripts.steps.Act.{Act}
 use Rattle.tk_plan_units.specs.declared.scripts.steps.Act.TheVariants.{Report, File, Start, Finish}
@@ -163,10 +163,6 @@ no_weight (p ∷ ps) e =
     let some = weight_some top in
     absurd (omega (arith, e))
 
-nothing : {A : Type 0} (xs : List A) → length xs ≡ 0 → xs ≡ []
-nothing [] e = refl
-nothing (x ∷ xs) e = absurd (omega (arith, e))
-
 none_of : {A : Type 0} (o : Option A) → is_some o ≡ false → o ≡ None
 none_of None e = refl
 none_of (Some x) e = cc
@@ -186,6 +182,6 @@ two_steps n k below i e =
     record {
       alone = no_weight below (omega (arith, two.1));
       runs = none_of n.skip two.0;
-      no_entries = nothing n.entries (omega (arith, two.1));
-      no_files = nothing n.files (omega (arith, two.1));
+      no_entries = nil_from_length n.entries (omega (arith, two.1));
+      no_files = nil_from_length n.files (omega (arith, two.1));
     }
