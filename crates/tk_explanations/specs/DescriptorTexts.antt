@@ -22,6 +22,4 @@ quoted_name (Some d) = quotation_mark ∷ field_text d.name ++ quotation_mark �
 -- the id of a descriptor, a blank, and the display name in double quotes
 abbrev pub descriptor_text : Option Descriptor → List ℕ
 descriptor_text None = []
-descriptor_text (Some d) =
-    field_text (id_text d.id) ++ (blank ∷ quotation_mark ∷ []) ++ field_text d.name
-    ++ (quotation_mark ∷ [])
+descriptor_text (Some d) = id_field (Some d) ++ blank ∷ quoted_name (Some d)

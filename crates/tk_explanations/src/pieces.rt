@@ -39,9 +39,8 @@ fn put_descriptor<T: Target>(piece: &mut Piece, target: &mut T, descriptor: &Des
         (descriptor_text (Some descriptor.now)) }
 {
     put_text(piece, target, descriptor.id.as_text().as_str());
-    piece.put(target, b" \"");
-    put_text(piece, target, descriptor.name.as_str());
-    piece.put_byte(target, b'"');
+    piece.put_byte(target, b' ');
+    put_quoted(piece, target, descriptor);
 }
 
 /// Adds the id and the display name of a key's descriptor.

@@ -1,8 +1,8 @@
 -- Executions by the positions of their starts, and those that conflict and overlap.
-use Rattle.std.proofs.Common.{◌≡◌, ◌≢◌, ℕ, zero, suc, ◌+◌, ◌<◌, ◌≤◌, ◌⊎◌, Bool, true, false, ◌&&◌, ◌||◌, List, [], ◌∷◌, length, get_or, set, replicate, Option, Some, None, refl, sym, ap, ◌∙◌, subst, arith, inl, inr, ⊎_elim}
+use Rattle.std.proofs.Common.{◌≡◌, ◌≢◌, ℕ, zero, suc, ◌<◌, ◌≤◌, ◌⊎◌, Bool, true, false, ◌&&◌, ◌||◌, List, [], ◌∷◌, length, get_or, set, Option, Some, refl, sym, ap, ◌∙◌, subst, arith, inl, inr, ⊎_elim}
 use Rattle.std.specs.Prelude.{nat_lt}
 use Rattle.std.specs.List.{Contains}
-use Rattle.std.proofs.lemmas.Bool.{cases_lt, cases_order, cases_eq, true≢false, ltb-true, lt-ltb, and_parts, and_from, or_cases, or_left, or_right, false_from_ne_true}
+use Rattle.std.proofs.lemmas.Bool.{cases_lt, cases_order, cases_eq, true≢false, ltb-true, lt-ltb, and_parts, and_from, or_left, or_right}
 use Rattle.std.proofs.lemmas.List.{get_or-set_same, get_or-set_other, get_or_past, length-set}
 use Rattle.std.proofs.lemmas.Option.{same_Some, none-some}
 use Rattle.tk_record_columns.specs.Selections.{Selected}
@@ -12,7 +12,6 @@ use Rattle.tk_query.specs.declared.answers.Exclusive.TheVariants.{Yes, No}
 use Rattle.tk_query.specs.declared.exclusion.Holders.{Holders}
 use Rattle.tk_query.specs.declared.execution.Ending.{Ending}
 use Rattle.tk_query.specs.declared.execution.Execution.{Execution}
-use Rattle.tk_query.specs.declared.execution_steps.Transition.{Transition}
 use Rattle.tk_query.specs.declared.execution_steps.Transition.TheVariants.{Starts, Ends}
 use Rattle.tk_query.specs.declared.execution_steps.ExecutionStep.{ExecutionStep}
 use Rattle.tk_query.specs.declared.pairing.Pairing.{Pairing}
@@ -21,7 +20,7 @@ use Rattle.tk_query.specs.Exclusive.{Collide, CollideAt, IsExclusive, conflict}
 use Rattle.tk_query.specs.ExecutionSteps.{step_at}
 use Rattle.tk_query.specs.Executions.{IsSpan, IsSkip, IsExecution}
 use Rattle.tk_query.specs.steps.Holders.{AreFinishes, IsAnswerOf, MeetsNone, Spans, TellFits}
-use Rattle.tk_query.specs.steps.Holders.{finish_of, holds_any, meet, reads, writes}
+use Rattle.tk_query.specs.steps.Holders.{finish_of, holds_any, meet, writes}
 use Rattle.tk_query.specs.Pairing.{HaveSlots, rest_of}
 use Rattle.tk_query.proofs.AnswerIsUnique.{head_or_rest}
 use Rattle.tk_query.proofs.AskedLemmas.{AreFlags, step_clear}
@@ -87,19 +86,11 @@ pub record AreSoFar (asked : Selected) (pairing : Pairing) (finishes : List ℕ)
   pub found : (x : Execution) → IsSpan (step_at asked) x → Contains (rest_of asked pairing) x ⊎ (get_or finishes x.first 0 ≡ x.last)
   pub only : (p : ℕ) → 0 < get_or finishes p 0 → Spans asked p (get_or finishes p 0)
 
-contains_none : (x : Execution) → Contains [] x → ⊥
-contains_none x h = let lt = h.1 in omega arith
-
 at_head : (x : Execution) (xs : List Execution) → Contains (x ∷ xs) x
 at_head x xs = (0, omega arith, refl)
 
 in_rest : (x : Execution) (xs : List Execution) (z : Execution) → Contains xs z → Contains (x ∷ xs) z
 in_rest x xs z has = let lt = has.1 in (suc has.0, omega arith, has.2)
-
-same_value : (n p value : ℕ) → get_or (replicate n value) p value ≡ value
-same_value zero p value = refl
-same_value (suc n) zero value = refl
-same_value (suc n) (suc p) value = same_value n p value
 
 module _ (asked : Selected) (old new : Pairing) (column : List ℕ) (so_far : AreSoFar asked old column) (y : Execution) (next : rest_of asked old ≡ y ∷ rest_of asked new) (slots : HaveSlots asked.recorded new.starts) where
   was : IsExecution (step_at asked) y
@@ -163,25 +154,6 @@ module _ (asked : Selected) (old new : Pairing) (column : List ℕ) (so_far : Ar
         subst (λ n. Spans asked p n) (sym here) (so_far.only p (subst (λ n. 0 < n) here positive)))
         (cases_eq p y.first);
   }
-
-pub none_yet : (asked : Selected) (pairing : Pairing) (column : List ℕ) (n : ℕ) → HaveSlots asked.recorded pairing.starts → ((x : Execution) → Contains (rest_of asked pairing) x → IsExecution (step_at asked) x) → ((x : Execution) → IsExecution (step_at asked) x → Contains (rest_of asked pairing) x)
-    → column ≡ replicate n 0 → length column ≡ length asked.recorded.entries → AreSoFar asked pairing column
-none_yet asked pairing column n slots to_come all is size = record {
-  slots = slots;
-  size = size;
-  to_come = to_come;
-  found = λ x span. inl (all x (inr span));
-  only = λ p positive. let zero_here : get_or column p 0 ≡ 0 = ap (λ l. get_or l p 0) is ∙ same_value n p 0 in absurd (omega arith);
-}
-
-pub all_found : (asked : Selected) (pairing : Pairing) (column : List ℕ) → AreSoFar asked pairing column → rest_of asked pairing ≡ [] → AreFinishes asked column
-all_found asked pairing column so_far none = record {
-  each = λ x span. ⊎_elim {C = get_or column x.first 0 ≡ x.last}
-      (λ (has : Contains (rest_of asked pairing) x). absurd (contains_none x (subst (λ list. Contains list x) none has)))
-      (λ (there : get_or column x.first 0 ≡ x.last). there)
-      (so_far.found x span);
-  only = so_far.only;
-}
 
 -- a value above 0 stands within the list
 within_list : (xs : List ℕ) (p : ℕ) → 0 < get_or xs p 0 → p < length xs

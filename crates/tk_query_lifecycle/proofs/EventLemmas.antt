@@ -51,9 +51,6 @@ first_of_runs r states ids (Some key) p h = (
 )
 first_of_runs r states ids None p h = λ key. phase_runs r.entries key (state_of states key).phase (p.states_are.phases key) ∙ h key
 
-pub sought_root : (r : Recorded) (id : List SegmentView) (parent : Option (List SegmentView)) → parent ≡ None → MatchOption parent (length id ≡ 1) (λ i. (1 < length id) × (i ≡ parent_of id)) → IsSought r id (Some Root)
-sought_root r id parent is h = subst (λ o. MatchOption o (length id ≡ 1) (λ i. (1 < length id) × (i ≡ parent_of id))) is h
-
 sought_key : (r : Recorded) (id above : List SegmentView) (parent : Option (List SegmentView)) (key : ℕ) → parent ≡ Some above → MatchOption parent (length id ≡ 1) (λ i. (1 < length id) × (i ≡ parent_of id)) → HasId r key above → IsSought r id (Some (Key key))
 sought_key r id above parent key is h found =
     let m = subst (λ o. MatchOption o (length id ≡ 1) (λ i. (1 < length id) × (i ≡ parent_of id))) is h in

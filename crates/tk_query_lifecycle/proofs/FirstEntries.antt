@@ -117,11 +117,3 @@ its_id r p e d is at described =
     let full = desc_first r (p + 1) e.event.key known.0 (ap (λ x. desc x e.event.key) (sym (first_more r p e at)) ∙ known.1) in
     let same : known.0 ≡ d = same_Some known.0 d (sym full ∙ described) in
     record { descriptor = known.0; described = known.1; id_is = ap (λ (x : Descriptor). x.id) same }
-
--- the key of an event is known
-pub not_unknown : (r : Recorded) (p : ℕ) (e : Entry) → IsRecord r → slice_get r.entries p ≡ Some e → desc r e.event.key ≡ None → ⊥
-not_unknown r p e is at unknown =
-    let after = with_entry (first_entries p r) e in
-    let known = some_of (desc after e.event.key) (known_here r p e is at) in
-    let full = desc_first r (p + 1) e.event.key known.0 (ap (λ x. desc x e.event.key) (sym (first_more r p e at)) ∙ known.1) in
-    none-some known.0 (sym unknown ∙ full)

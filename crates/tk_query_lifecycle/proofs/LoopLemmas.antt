@@ -9,11 +9,10 @@ use Rattle.tk_record_columns.specs.declared.records.EntryView.{EntryView}
 use Rattle.tk_record_columns.specs.Record.{IsViewOf}
 use Rattle.tk_record_columns.specs.Recorded.{Recorded}
 use Rattle.tk_record_columns.specs.Record.{entry_of_view}
-use Rattle.tk_query_lifecycle.specs.Lifecycle.{BreaksFirst, BreaksNone, NoneBreaks, IsInOrder, IsLifecycle, first_entries}
+use Rattle.tk_query_lifecycle.specs.Lifecycle.{BreaksNone, NoneBreaks, IsInOrder, IsLifecycle, first_entries}
 use Rattle.tk_query_lifecycle.specs.steps.Progress.{IsFirstOfNeverRun, IsFirstOfRuns, IsProgress}
 use Rattle.tk_query_lifecycle.specs.steps.Progress.{IsTaken, next_event}
-use Rattle.tk_query_lifecycle.specs.declared.lifecycle_rules.Lifecycle.TheVariants.{Kept, Broken, Unfinished, NeverRan}
-use Rattle.tk_query_lifecycle.specs.declared.lifecycle_rules.LifecycleRule.{LifecycleRule}
+use Rattle.tk_query_lifecycle.specs.declared.lifecycle_rules.Lifecycle.TheVariants.{Kept, Unfinished, NeverRan}
 use Rattle.tk_query_lifecycle.specs.declared.key_states.KeyState.{KeyState}
 use Rattle.tk_query_lifecycle.proofs.FirstEntries.{first_more}
 use Rattle.tk_query_lifecycle.proofs.ListLemmas.{there}
@@ -22,9 +21,6 @@ use Rattle.tk_query_lifecycle.proofs.ListLemmas.{there}
 pub record AreFollowed (r : Recorded) (n : ℕ) (states : List KeyState) (ids : List (List ℕ × ℕ)) : Type 0 where
   pub known : IsProgress (first_entries n r) states ids
   pub none : NoneBreaks r n
-
-pub followed_first : (r : Recorded) (states : List KeyState) (ids : List (List ℕ × ℕ)) → IsProgress (first_entries 0 r) states ids → AreFollowed r 0 states ids
-followed_first r states ids p = record { known = p; none = λ q e lt at. absurd (omega (arith, lt)) }
 
 view_is : (v : EntryView) (e : Entry) → IsViewOf v e → entry_of_view v ≡ e
 view_is v e h = shown v.worker e.worker v.kind e.event.kind v.key e.event.key v.stamp e.event.stamp v.payload.now e.event.payload h.worker h.kind h.key h.stamp h.payload
@@ -51,9 +47,6 @@ followed_more r p e old new ids noted h at t = record {
   where
     below_or_at : (a b : ℕ) → a < b + 1 → (a < b) ⊎ (a ≡ b)
     below_or_at a b lt = grind (arith, lt)
-
-pub broken_here : (r : Recorded) (p : ℕ) (e : Entry) (rule : LifecycleRule) (states : List KeyState) (ids : List (List ℕ × ℕ)) → AreFollowed r p states ids → slice_get r.entries p ≡ Some e → BreaksFirst (first_entries p r) e rule → IsLifecycle r (Broken p rule)
-broken_here r p e rule states ids h at b = record { event = e; stands = at; breaks = b; before = h.none }
 
 -- the first entries, where that is all of them
 all_first : (r : Recorded) (n : ℕ) → length r.entries ≤ n → first_entries n r ≡ r

@@ -1,5 +1,5 @@
 -- Which static keys never ran, by what is known at the end of a record.
-use Rattle.std.proofs.Common.{◌≡◌, ℕ, ◌+◌, ◌<◌, ◌≤◌, ◌⊎◌, ⊎_elim, Bool, true, false, ◌||◌, not, List, length, get_or, Option, Some, None, refl, sym, ap, ◌∙◌, subst, arith, eq-eqb, eqb-true}
+use Rattle.std.proofs.Common.{◌≡◌, ℕ, ◌<◌, ◌≤◌, ◌⊎◌, ⊎_elim, Bool, true, false, ◌||◌, not, List, length, get_or, Option, Some, None, refl, sym, ap, ◌∙◌, subst, arith, eq-eqb, eqb-true}
 use Rattle.std.specs.Prelude.{◌==◌, slice_get}
 use Rattle.std.proofs.lemmas.Bool.{true≢false, and_from, and_parts, or_cases}
 use Rattle.std.proofs.lemmas.Option.{none-some, same_Some, slice_get-get_or, slice_get_within}
@@ -116,23 +116,6 @@ module _ (r : Recorded) (states : List KeyState) (ids : List (List ℕ × ℕ)) 
 -- each key below the limit runs, or need not
 pub record EachRunsBelow (r : Recorded) (limit : ℕ) : Type 0 where
   pub below : (lower : ℕ) → lower < limit → ¬ NeverRuns r lower
-
-pub each_first : (r : Recorded) → EachRunsBelow r 0
-each_first r = record { below = λ lower lt. absurd (omega (arith, lt)) }
-
-pub each_more : (r : Recorded) (key : ℕ) (b : Bool) → EachRunsBelow r key → IsWhetherNeverRun r key b → b ≡ false → EachRunsBelow r (key + 1)
-each_more r key b each h is = record {
-  below = λ lower lt. ⊎_elim {C = ¬ NeverRuns r lower}
-      (λ (before : lower < key). each.below lower before)
-      (λ (here : lower ≡ key). subst (λ k. ¬ NeverRuns r k) (sym here) (subst (IsWhetherNeverRun r key) is h))
-      (below_or_at lower key lt);
-}
-  where
-    below_or_at : (a c : ℕ) → a < c + 1 → (a < c) ⊎ (a ≡ c)
-    below_or_at a c lt = grind (arith, lt)
-
-pub first_here : (r : Recorded) (key : ℕ) (b : Bool) → EachRunsBelow r key → IsWhetherNeverRun r key b → b ≡ true → IsFirstOfNeverRun r (Some key)
-first_here r key b each h is = record { never = subst (IsWhetherNeverRun r key) is h; first = each.below }
 
 pub each_runs : (r : Recorded) (key : ℕ) → EachRunsBelow r key → slice_get r.table key ≡ None → IsFirstOfNeverRun r None
 each_runs r key each past k h = ⊎_elim {C = ⊥}

@@ -1,13 +1,10 @@
 -- The states of keys as a list.
-use Rattle.std.proofs.Common.{◌≡◌, ℕ, ◌+◌, ◌<◌, ◌≤◌, ◌^◌, Bool, true, false, List, [], ◌∷◌, ◌++◌, length, get_or, set, Some, None, refl, ap, ◌∙◌, subst, arith, ⊎_elim, ◌⊎◌, inl, inr}
-use Rattle.std.specs.Prelude.{◌==◌, if◌then◌else◌}
+use Rattle.std.proofs.Common.{◌≡◌, ℕ, ◌+◌, ◌<◌, ◌≤◌, ◌^◌, Bool, true, false, List, [], length, get_or, Some, None, ap, ◌∙◌, subst, arith, ⊎_elim, ◌⊎◌, inl, inr}
 use Rattle.std.specs.List.{sum_by}
 use Rattle.std.proofs.lemmas.List.{get_or_default, get_or_past}
-use Rattle.std.proofs.lemmas.List.Sums.{sum_by_push, sum_by-set}
-use Rattle.tk_query_lifecycle.specs.steps.KeyStates.{idle, is_running, state_of, ArePut}
+use Rattle.tk_query_lifecycle.specs.steps.KeyStates.{idle, is_running, state_of}
 use Rattle.tk_query_lifecycle.specs.steps.KeyStates.{IsFirstRunning}
 use Rattle.tk_query_lifecycle.specs.declared.key_states.KeyState.{KeyState}
-use Rattle.tk_query_lifecycle.proofs.ListLemmas.{get_or_more, get_or_put}
 
 -- idle states were added at the end
 pub record AreFilled (old new : List KeyState) : Type 0 where
@@ -15,33 +12,6 @@ pub record AreFilled (old new : List KeyState) : Type 0 where
   pub sums : (f : KeyState → ℕ) → f idle ≡ 0 → sum_by f new ≡ sum_by f old
   pub short : length new ≤ 2 ^ 32
   pub grows : length old ≤ length new
-
-pub filled_first : (old : List KeyState) → length old ≤ 2 ^ 32 → AreFilled old old
-filled_first old short = record { at = λ k. refl; sums = λ f z. refl; short = short; grows = omega arith }
-
-pub filled_more : (old mid new : List KeyState) → AreFilled old mid → new ≡ mid ++ idle ∷ [] → length mid < 2 ^ 32 → AreFilled old new
-filled_more old mid new are is room = record {
-  at = λ k. ap (λ l. get_or l k idle) is ∙ get_or_more mid idle k ∙ are.at k;
-  sums = λ f z. let more = sum_by_push f mid idle in let before = are.sums f z in
-      ap (λ l. sum_by f l) is ∙ omega (arith, more, before, z);
-  short = let e = ap (λ (l : List KeyState). length l) is in let n = length_one_more mid in omega (arith, e, n, room);
-  grows = let e = ap (λ (l : List KeyState). length l) is in let n = length_one_more mid in let before = are.grows in omega (arith, e, n, before);
-}
-  where
-    length_one_more : (l : List KeyState) → length (l ++ idle ∷ []) ≡ length l + 1
-    length_one_more [] = refl
-    length_one_more (x ∷ l) = let e = length_one_more l in omega (arith, e)
-
-pub put_filled : (old mid new : List KeyState) (key : ℕ) (s : KeyState) → AreFilled old mid → key < length mid → new ≡ set mid key s → ArePut old new key s
-put_filled old mid new key s are within is = record {
-  at = λ k. ap (λ l. get_or l k idle) is ∙ get_or_put mid key k s idle within ∙ ap (λ x. if key == k then s else x) (are.at k);
-  sums = λ f z.
-      let put = sum_by-set f mid key s idle within in
-      let before = are.sums f z in
-      let at = ap f (are.at key) in
-      let new_is = ap (λ l. sum_by f l) is in
-      omega (arith, put, before, at, new_is);
-}
 
 -- no key below the limit runs
 pub record NoneRuns (states : List KeyState) (limit : ℕ) : Type 0 where

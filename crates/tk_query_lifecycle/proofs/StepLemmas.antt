@@ -90,14 +90,6 @@ steps_at es p e at step =
     ∙ ap (λ b. steps_of e.event.key (take p es) ++ (if b then e.event.kind ∷ steps_of e.event.key (drop (suc p) es) else steps_of e.event.key (drop (suc p) es))) (eq-eqb e.event.key e.event.key refl)
 
 -- nothing, a skip, a start, or a start and a finish
-abbrev pub IsSoFar : List Kind → Type 0
-IsSoFar [] = Unit {0}
-IsSoFar (Skipped ∷ []) = Unit {0}
-IsSoFar (Started ∷ []) = Unit {0}
-IsSoFar (Started ∷ Finished ∷ []) = Unit {0}
-IsSoFar _ = ⊥
-
--- the lists that are so far in order
 pub data SoFar (ks : List Kind) : Type 0 where
   nothing : ks ≡ [] → SoFar ks
   skip : ks ≡ Skipped ∷ [] → SoFar ks

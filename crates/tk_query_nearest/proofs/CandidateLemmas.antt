@@ -15,7 +15,7 @@ use Rattle.tk_query_nearest.specs.declared.candidates.Candidate.{Candidate}
 use Rattle.tk_query_nearest.specs.steps.Candidates.{is_nearer, inserted}
 use Rattle.tk_query_nearest.specs.Nearness.{IsAskedFrom, IsNearest, IsNearer, distance_at, distance_of}
 use Rattle.tk_query_nearest.proofs.ViewLemmas.{there, told}
-use Rattle.tk_query_nearest.proofs.RankLemmas.{Has, Each, each_all, each_has, has_contains, near, put, AreBest, IsPast, best_more, best_none, best_same, ranked_pairs}
+use Rattle.tk_query_nearest.proofs.RankLemmas.{Has, Each, each_all, each_has, has_contains, near, put, AreBest, IsPast, best_more, best_same, ranked_pairs}
 
 abbrev pub position_of : Candidate → ℕ
 position_of a = a.position
@@ -72,13 +72,6 @@ pub record AreNearest (asked : Selected) (first : ℕ) (c : Cond) (low : ℕ) (l
   pub on : first ≤ low
   pub measured : Measured (distance_at asked c) list
   pub best : AreBest (distance_at asked c) (IsSeen asked first low) 3 (positions list)
-
-pub nearest_none : (asked : Selected) (first : ℕ) (c : Cond) → AreNearest asked first c first []
-nearest_none asked first c = record {
-  on = omega arith;
-  measured = tt;
-  best = best_none (distance_at asked c) (IsSeen asked first first) 3 (λ x seen. let from = seen.asked_from.from in let below = seen.below in omega arith);
-}
 
 module _ (asked : Selected) (flags : List Bool) (are : AreFlags asked flags) (size : length flags ≡ length asked.recorded.entries) (first : ℕ) (c : Cond) (low : ℕ) (list : List Candidate) (so_far : AreNearest asked first c low list) where
   not_asked : (x : ℕ) → get_or flags x false ≡ false → IsAskedFrom asked first x → ⊥

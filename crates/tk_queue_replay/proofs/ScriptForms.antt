@@ -6,8 +6,9 @@ use Rattle.std.specs.Fmt.{decimal}
 use Rattle.std.specs.Str.Parse.{AllDigits}
 use Rattle.std.proofs.lemmas.Fmt.{decimal_is_IsNumeral}
 use Rattle.std.proofs.lemmas.Str.Parse.{digit_from_value}
-use Rattle.std.proofs.lemmas.Bool.{ltb-true, leb-true, lt-ltb, le-leb}
+use Rattle.std.proofs.lemmas.Bool.{ltb-true, leb-true, lt-ltb, le-leb, and_parts}
 use Rattle.std.proofs.lemmas.Option.{same_Some, none-some}
+use Rattle.tk_ids.proofs.ReadingLemmas.{cond_cases}
 use Rattle.tk_record_columns.specs.Mixing.{IsWorkerOf}
 use Rattle.tk_queue_core.specs.Limits.{most_workers}
 use Rattle.tk_queue_replay.specs.declared.turns.Turn.{Turn}
@@ -16,7 +17,7 @@ use Rattle.tk_queue_replay.specs.Replay.{IsTurn}
 use Rattle.tk_record.specs.steps.Form.{IsForm}
 use Rattle.tk_record.specs.Reading.{number_of}
 use Rattle.tk_record.specs.steps.Reading.{◌>>=◌, in_line}
-use Rattle.tk_record.proofs.Choices.{guarded, chosen, both, stepped, same_bytes}
+use Rattle.tk_record.proofs.Choices.{guarded, stepped, same_bytes}
 use Rattle.tk_record.proofs.NumberForms.{number_found, number_again}
 use Rattle.tk_record.proofs.Clean.{is_false}
 use Rattle.tk_record.proofs.TailForms.{IsField, word, decimal_field}
@@ -33,7 +34,7 @@ two a a2 b b2 p q = rw (p, q) refl
 within_is : (n k w : ℕ) → within n k ≡ Some w → IsWorkerOf n w × (k ≡ w)
 within_is n k w e =
     let g = guarded (nat_lt 0 k && nat_le k n) k w e in
-    let b = both (nat_lt 0 k) (nat_le k n) g.0 in
+    let b = and_parts (nat_lt 0 k) (nat_le k n) g.0 in
     (subst (IsWorkerOf n) g.1 (ltb-true 0 k b.0, leb-true k n b.1), g.1)
 
 is_within : (n w : ℕ) → IsWorkerOf n w → within n w ≡ Some w
@@ -54,7 +55,7 @@ unfolding workers_of
 workers_found [] n e = absurd (none-some n e)
 workers_found (l ∷ []) n e = absurd (none-some n e)
 workers_found (l ∷ c ∷ x ∷ more) n e = absurd (none-some n e)
-workers_found (l ∷ c ∷ []) n e = elim (chosen (bytes_eq l (codes "W")) (worker_of most_workers c) None (Some n) e) [
+workers_found (l ∷ c ∷ []) n e = elim (cond_cases (bytes_eq l (codes "W")) (worker_of most_workers c) None (Some n) e) [
   | inr y ↦ absurd (none-some n y.1)
   | inl x ↦ let f = worker_found most_workers c n x.1 in (f.0, two l (codes "W") c _ (same_bytes l (codes "W") x.0) f.1)
 ]
@@ -75,7 +76,7 @@ no_letter n lt = is_false (bytes_eq (decimal n) (codes "t")) (λ e.
     let r = digit_from_value 116 digits.0 in let hi = r.1 in absurd (omega arith))
 
 turn_found : (n : ℕ) (f : List ℕ) (t : Turn) → turn_of n f ≡ Some t → IsTurn n t × (f ≡ turn_field t)
-turn_found n f t e = elim (chosen (bytes_eq f (codes "t")) (Some Take) (worker_of n f >>= λ w. Some (Worker w)) (Some t) e) [
+turn_found n f t e = elim (cond_cases (bytes_eq f (codes "t")) (Some Take) (worker_of n f >>= λ w. Some (Worker w)) (Some t) e) [
   | inl x ↦ subst (λ (u : Turn). IsTurn n u × (f ≡ turn_field u)) (same_Some Take t x.1) (tt, same_bytes f (codes "t") x.0)
   | inr y ↦
       let b = stepped (worker_of n f) _ t y.1 in
@@ -117,7 +118,7 @@ from_are n (t ∷ ts) few is = (turn_is n t few is.0, from_are n ts few is.1)
 turns_found : (n : ℕ) (fields : List (List ℕ)) (ts : List Turn) → turns_of n fields ≡ Some ts → AreTurns n ts × (fields ≡ turns_fields ts)
 unfolding turns_of
 turns_found n [] ts e = absurd (none-some ts e)
-turns_found n (l ∷ rest) ts e = elim (chosen (bytes_eq l (codes "S")) (turns_from n rest) None (Some ts) e) [
+turns_found n (l ∷ rest) ts e = elim (cond_cases (bytes_eq l (codes "S")) (turns_from n rest) None (Some ts) e) [
   | inr y ↦ absurd (none-some ts y.1)
   | inl x ↦ let f = from_found n rest ts x.1 in (f.0, ap (λ (w : List ℕ). w ∷ rest) (same_bytes l (codes "S") x.0) ∙ ap (λ (r : List (List ℕ)). codes "S" ∷ r) f.1)
 ]

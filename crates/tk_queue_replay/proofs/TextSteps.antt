@@ -17,8 +17,8 @@ use Rattle.tk_record.specs.Versions.{HasLineIn}
 use Rattle.tk_record.specs.steps.Reading.{in_line, entry_of}
 use Rattle.tk_record.specs.Text.{with_line_feed, nodes_text, entries_text}
 use Rattle.tk_record.specs.NodeLines.{LacksFeed, LacksNodeStart, IsNodesPrefix, IsNodesFault}
-use Rattle.tk_record.specs.declared.node_lines.NodesFault.{NodesFault}
-use Rattle.tk_record.specs.declared.node_lines.NodesFault.TheVariants as listing
+use Rattle.tk_record.specs.declared.reading.node_lines.NodesFault.{NodesFault}
+use Rattle.tk_record.specs.declared.reading.node_lines.NodesFault.TheVariants as listing
 use Rattle.tk_record.proofs.Forms.{one_value}
 use Rattle.tk_record.proofs.RecordLines.{entry_line_form, entry_no_feed}
 use Rattle.tk_record.proofs.After.{same_line, regroup, feed_stands, no_entry_at_node, no_node_start, cells}

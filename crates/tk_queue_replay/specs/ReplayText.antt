@@ -34,8 +34,8 @@ use Rattle.tk_record.specs.declared.versions.Version.{Version}
 use Rattle.tk_record.specs.Versions.{HasLineIn, header_of}
 use Rattle.tk_record.specs.Spelling.{node_line, entry_line, IsDescriptor}
 use Rattle.tk_record.specs.Text.{with_line_feed, nodes_text, entries_text, AreNodes, text}
-use Rattle.tk_record.specs.declared.node_lines.NodesFault.{NodesFault}
-use Rattle.tk_record.specs.declared.node_lines.NodesFault.TheVariants as listing
+use Rattle.tk_record.specs.declared.reading.node_lines.NodesFault.{NodesFault}
+use Rattle.tk_record.specs.declared.reading.node_lines.NodesFault.TheVariants as listing
 use Rattle.tk_record.specs.declared.writing.WriteFault.{WriteFault}
 use Rattle.tk_record.specs.declared.writing.WriteFault.TheVariants as writing
 use Rattle.tk_streams.specs.Stream.{AppendsPrefix}
