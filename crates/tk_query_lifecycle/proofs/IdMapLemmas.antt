@@ -30,7 +30,7 @@ at_id [] key d at = absurd (none-some d at)
 at_id (x ∷ ds) zero d at = ap (λ (o : Descriptor). Some o.id) (same_Some x d at)
 at_id (x ∷ ds) (suc key) d at = at_id ds key d at
 
-static_desc : (r : Recorded) (key : ℕ) (d : Descriptor) → slice_get r.table key ≡ Some d → desc r key ≡ Some d
+pub static_desc : (r : Recorded) (key : ℕ) (d : Descriptor) → slice_get r.table key ≡ Some d → desc r key ≡ Some d
 static_desc r key d is = ap (λ o. option_or o (desc_in r.entries key)) is
 
 pub found_static : (r : Recorded) (ds : List Descriptor) (id : List SegmentView) (key : ℕ) → r.table ≡ ds → slice_get (ids_of ds) key ≡ Some id → HasId r key id
