@@ -1,5 +1,5 @@
 -- The same events and the same conditions have one explanation.
-use Rattle.std.proofs.Common.{◌≡◌, ℕ, suc, ◌+◌, Bool, List, [], ◌∷◌, ◌++◌, length, take, Some, None, Option, refl, sym, ap, ap₂, ◌∙◌, subst, arith}
+use Rattle.std.proofs.Common.{◌≡◌, ℕ, ◌+◌, Bool, List, [], ◌∷◌, ◌++◌, take, Some, None, Option, refl, sym, ap, ap₂, ◌∙◌, subst, arith}
 use Rattle.std.specs.Prelude.{codes}
 use Rattle.std.specs.List.{flat_map}
 use Rattle.std.proofs.lemmas.Bool.{true≢false}
@@ -19,9 +19,10 @@ use Rattle.tk_query.specs.declared.execution.Execution.{Execution}
 use Rattle.tk_query.specs.AnswerTexts.{exact_text, exact_yes, exclusive_text, exclusive_yes, in_order_text, in_order_yes, loose_text, loose_yes, position_text}
 use Rattle.tk_query.specs.Asked.{fits}
 use Rattle.tk_query.specs.ExecutionSteps.{step_at}
-use Rattle.tk_query.specs.InOrder.{HoldInTurn, IsLeastInTurn, IsNextFit}
+use Rattle.tk_query.specs.InOrder.{IsLeastInTurn, IsNextFit}
 use Rattle.tk_query.specs.Laws.{AreAlike}
 use Rattle.tk_query.proofs.AnswerIsUnique.{one_exact, one_exclusive, one_in_order, one_list, one_loose, same_number, same_positions}
+use Rattle.tk_query.proofs.AnswerIsUnique.{as_many}
 use Rattle.tk_query.proofs.ExclusionLemmas.{one_span}
 use Rattle.tk_query_nearest.specs.Nearness.{IsNearest}
 use Rattle.tk_query_nearest.proofs.NearestIsUnique.{one_nearest}
@@ -91,12 +92,6 @@ pub one_loosely : (asked : Selected) (cs : List Condition) → IsUnique (Explain
 one_loosely asked cs = one_text (IsLooseExplanation asked cs) asked.recorded (loose_rows_one asked cs)
 
 -- ---- in order
-
-as_many : {C : Type 0} (fits : C → ℕ → Bool) (from : ℕ) (cs : List C) (ps : List ℕ) → HoldInTurn fits from cs ps → length ps ≡ length cs
-as_many fits from [] [] h = refl
-as_many fits from [] (p ∷ ps) h = absurd h
-as_many fits from (c ∷ cs) [] h = absurd h
-as_many fits from (c ∷ cs) (p ∷ ps) h = ap suc (as_many fits (p + 1) cs ps h.2)
 
 one_in_turn : (asked : Selected) (cs : List Condition) (ps qs : List ℕ) → IsLeastInTurn (fits asked) cs ps → IsLeastInTurn (fits asked) cs qs → ps ≡ qs
 one_in_turn asked cs ps qs a b =

@@ -61,7 +61,7 @@ one_loose asked cs (loose.No i) (loose.No j) h k =
     ap (λ n. loose.No n) (same_number i j (λ lt. nowhere_not asked cs i h (k.before i lt)) (λ lt. nowhere_not asked cs j k (h.before j lt)))
 
 module _ {C : Type 0} (fits : C → ℕ → Bool) where
-  as_many : (from : ℕ) (cs : List C) (ps : List ℕ) → HoldInTurn fits from cs ps → length ps ≡ length cs
+  pub as_many : (from : ℕ) (cs : List C) (ps : List ℕ) → HoldInTurn fits from cs ps → length ps ≡ length cs
   as_many from [] [] h = refl
   as_many from [] (p ∷ ps) h = absurd h
   as_many from (c ∷ cs) [] h = absurd h
