@@ -1,12 +1,13 @@
 -- The events that a question counts.
-use Rattle.std.proofs.Common.{◌≡◌, ℕ, ◌+◌, ◌<◌, Bool, true, false, cond, ◌&&◌, List, [], ◌∷◌, ◌++◌, length, take, get_or, count_by, Result, Ok, Err, refl, sym, ap, ◌∙◌, arith}
-use Rattle.std.specs.Prelude.{filter, IfOk}
+use Rattle.std.proofs.Common.{◌≡◌, ℕ, ◌+◌, ◌<◌, Bool, true, false, cond, ◌&&◌, List, [], ◌∷◌, ◌++◌, length, take, get_or, count_by, refl, sym, ap, ◌∙◌, arith}
+use Rattle.std.specs.Prelude.{filter}
 use Rattle.std.proofs.lemmas.List.Sums.{sum_by-cons}
 use Rattle.tk_events.specs.declared.events.Entry.{Entry}
 use Rattle.std.specs.Prelude.{◌==◌}
 use Rattle.std.specs.List.{flat_map, list_all}
 use Rattle.std.proofs.lemmas.List.Elements.{filter_agree}
 use Rattle.std.proofs.lemmas.List.Folds.{list_all_more}
+use Rattle.tk_lemmas.proofs.Truth.{and-true}
 use Rattle.tk_record_columns.specs.declared.statistics.Statistics.{Statistics}
 use Rattle.tk_record_columns.specs.declared.statistics.Expected.{Expected}
 use Rattle.tk_record_columns.specs.declared.statistics.Mismatch.{Mismatch}
@@ -32,10 +33,6 @@ kept_count p n (e ∷ es) = by (p e) (kept_count p (n + 1) es) ∙ sym (sum_by-c
     by true rest = omega (arith, rest)
     by false rest = omega (arith, rest)
 
-pub if_ok_then : {X E : Type 0} (r : Result X E) (P Q : X → Type 0) → ((x : X) → P x → Q x) → IfOk r P → IfOk r Q
-if_ok_then (Ok x) P Q f h = f x h
-if_ok_then (Err e) P Q f h = tt
-
 -- the answer about statistics, from its parts
 pub stats_are : (e : Expected) (r : Recorded) (events : Selected) (s : Statistics) (ms : List Mismatch) (is_yes : Bool) (text : List ℕ) →
     events ≡ all_of r → s ≡ statistics_of (events_of events) → ms ≡ mismatches e (statistics_of (events_of events)) → is_yes ≡ (length ms == 0) →
@@ -48,10 +45,6 @@ stats_are e r events s ms is_yes text all s_is ms_is yes_is text_is =
     )
 
 -- ---- events that a selection picks and of which conditions hold
-
-and_true : (a : Bool) → a ≡ (a && true)
-and_true true = refl
-and_true false = refl
 
 and_both : (a b c : Bool) → (a && (b && c)) ≡ ((a && b) && c)
 and_both true b c = refl
@@ -72,7 +65,7 @@ pub where_none : (s : Selection) (r : Recorded) (all picked : Selected) → all 
 where_none s r all picked all_is is =
     is ∙ ap (λ (e : Selected). filtered_by (selects s e.recorded) e) all_is
     ∙ ap (λ (kept : List PositionedEntry). record { recorded = r; kept = kept })
-    (filter_agree (λ x. selects s r x.entry) (λ x. selects s r x.entry && true) (λ x. and_true (selects s r x.entry)) (positioned r.entries))
+    (filter_agree (λ x. selects s r x.entry) (λ x. selects s r x.entry && true) (λ x. sym (and-true (selects s r x.entry))) (positioned r.entries))
 
 -- one condition more
 pub where_more : (s : Selection) (cs : List Condition) (i : ℕ) (c : Condition) (r : Recorded) (before after : Selected) → i < length cs → c ≡ get_or cs i c → before ≡ events_where s (take i cs) r

@@ -1,8 +1,7 @@
 -- Words of questions: what one word more does.
-use Rattle.std.proofs.Common.{◌≡◌, ◌≢◌, ◌+◌, ◌<◌, ◌++◌, ◌∷◌, [], ℕ, zero, suc, List, length, map, take, get_or, Bool, true, false, Some, Ok, Err, Vec, Global, refl, sym, ap, subst, ◌∙◌, arith, inl, inr}
+use Rattle.std.proofs.Common.{◌≡◌, ◌≢◌, ◌+◌, ◌<◌, ◌++◌, ◌∷◌, [], ℕ, zero, suc, List, length, map, take, get_or, true, Some, Ok, Err, Vec, Global, refl, sym, ap, subst, ◌∙◌, arith, inl, inr}
 use Rattle.std.specs.Prelude.{not, ◌==◌}
 use Rattle.std.specs.List.{list_all, slice_get}
-use Rattle.std.proofs.lemmas.Bool.{eqb-false}
 use Rattle.std.proofs.lemmas.List.Folds.{list_all_at}
 use Rattle.tk_record_columns.specs.declared.statistics.Expected.{Expected}
 use Rattle.tk_record_columns.specs.declared.selections.Selection.{Selection}
@@ -125,9 +124,6 @@ of_nobody members none = cond_of-Any members ∙ ap (λ (ms : List Condition). A
 pub asks_one : {A : Type 0} (f : A → List ℕ) → (words more : List A) (w r : Condition) → BeginsWith f words w more → more ≡ [] → cond_of r ≡ Any Nothing → Asks (exclusive_word ∷ map f words) (questions.Exclusive w r)
 asks_one f words more w r b none nobody =
     (map f words, refl, inr (subst (λ (t : List (List ℕ)). AreConditions t (w ∷ [])) (sym (ap (map f) (b.cut ∙ ap (λ l. b.first ∷ l) none))) (b.read, tt), nobody))
-
-pub not_empty : {A : Type 0} (xs : List A) (b : Bool) → b ≡ (length xs == 0) → b ≡ false → 0 < length xs
-not_empty xs b is e = let some = eqb-false (length xs) 0 (sym is ∙ e) in omega arith
 
 pub third_condition : {A : Type 0} (f : A → List ℕ) → (words more rest : List A) (w r : Condition) → BeginsWith f words w more → BeginsWith f more r rest → 0 < length rest → IsBadWord (exclusive_word ∷ map f words) 2
 third_condition f words more [] w r b d some = absurd (omega arith)

@@ -1,8 +1,8 @@
 -- The same events and the same conditions have one explanation.
-use Rattle.std.proofs.Common.{◌≡◌, ℕ, suc, ◌+◌, ◌<◌, ◌≤◌, Bool, List, [], ◌∷◌, ◌++◌, length, take, Some, None, Option, refl, sym, ap, ap₂, ◌∙◌, subst, arith, ⊎_elim}
+use Rattle.std.proofs.Common.{◌≡◌, ℕ, ◌+◌, Bool, List, [], ◌∷◌, ◌++◌, take, Some, None, Option, refl, sym, ap, ap₂, ◌∙◌, subst, arith}
 use Rattle.std.specs.Prelude.{codes}
 use Rattle.std.specs.List.{flat_map}
-use Rattle.std.proofs.lemmas.Bool.{cases_lt, true≢false}
+use Rattle.std.proofs.lemmas.Bool.{true≢false}
 use Rattle.std.proofs.lemmas.Option.{same_Some}
 use Rattle.tk_record_columns.specs.Recorded.{Recorded}
 use Rattle.tk_record_columns.specs.Selections.{Selected}
@@ -19,9 +19,10 @@ use Rattle.tk_query.specs.declared.execution.Execution.{Execution}
 use Rattle.tk_query.specs.AnswerTexts.{exact_text, exact_yes, exclusive_text, exclusive_yes, in_order_text, in_order_yes, loose_text, loose_yes, position_text}
 use Rattle.tk_query.specs.Asked.{fits}
 use Rattle.tk_query.specs.ExecutionSteps.{step_at}
-use Rattle.tk_query.specs.InOrder.{HoldInTurn, IsLeastInTurn, IsNextFit, IsNotAfter}
+use Rattle.tk_query.specs.InOrder.{IsLeastInTurn, IsNextFit}
 use Rattle.tk_query.specs.Laws.{AreAlike}
-use Rattle.tk_query.proofs.AnswerIsUnique.{one_exact, one_exclusive, one_in_order, one_list, one_loose}
+use Rattle.tk_query.proofs.AnswerIsUnique.{one_exact, one_exclusive, one_in_order, one_list, one_loose, same_number, same_positions}
+use Rattle.tk_query.proofs.AnswerIsUnique.{as_many}
 use Rattle.tk_query.proofs.ExclusionLemmas.{one_span}
 use Rattle.tk_query_nearest.specs.Nearness.{IsNearest}
 use Rattle.tk_query_nearest.proofs.NearestIsUnique.{one_nearest}
@@ -54,9 +55,6 @@ pub one_exactly : (asked : Selected) (cs : List Condition) → IsUnique (Explain
 one_exactly asked cs = one_text (IsExactExplanation asked cs) asked.recorded (exact_rows_one asked cs)
 
 -- ---- loosely
-
-same_number : (j k : ℕ) → (j < k → ⊥) → (k < j → ⊥) → j ≡ k
-same_number j k f g = ⊎_elim {C = j ≡ k} (λ (lt : j < k). absurd (f lt)) (λ (le : k ≤ j). ⊎_elim {C = j ≡ k} (λ (lt : k < j). absurd (g lt)) (λ (ge : j ≤ k). omega arith) (cases_lt k j)) (cases_lt j k)
 
 one_fit : (asked : Selected) (c : Condition) (p q : ℕ) → IsNextFit (fits asked) c 0 p → IsNextFit (fits asked) c 0 q → p ≡ q
 one_fit asked c p q a b = same_number p q
@@ -94,23 +92,6 @@ pub one_loosely : (asked : Selected) (cs : List Condition) → IsUnique (Explain
 one_loosely asked cs = one_text (IsLooseExplanation asked cs) asked.recorded (loose_rows_one asked cs)
 
 -- ---- in order
-
-as_many : {C : Type 0} (fits : C → ℕ → Bool) (from : ℕ) (cs : List C) (ps : List ℕ) → HoldInTurn fits from cs ps → length ps ≡ length cs
-as_many fits from [] [] h = refl
-as_many fits from [] (p ∷ ps) h = absurd h
-as_many fits from (c ∷ cs) [] h = absurd h
-as_many fits from (c ∷ cs) (p ∷ ps) h = ap suc (as_many fits (p + 1) cs ps h.2)
-
-same_positions : (ps qs : List ℕ) → length ps ≡ length qs → IsNotAfter ps qs → IsNotAfter qs ps → ps ≡ qs
-same_positions [] [] e f g = refl
-same_positions [] (q ∷ qs) e f g = absurd (omega arith)
-same_positions (p ∷ ps) [] e f g = absurd (omega arith)
-same_positions (p ∷ ps) (q ∷ qs) e f g = ⊎_elim {C = p ∷ ps ≡ q ∷ qs}
-    (λ (lt : p < q). ⊎_elim {C = p ∷ ps ≡ q ∷ qs} (λ (gt : q < p). absurd (omega arith)) (λ (h : (q ≡ p) × IsNotAfter qs ps). let at = h.0 in absurd (omega arith)) g)
-    (λ (h : (p ≡ q) × IsNotAfter ps qs). ⊎_elim {C = p ∷ ps ≡ q ∷ qs}
-    (λ (gt : q < p). let at = h.0 in absurd (omega arith))
-    (λ (k : (q ≡ p) × IsNotAfter qs ps). ap₂ (λ (n : ℕ) (l : List ℕ). n ∷ l) h.0 (same_positions ps qs (omega arith) h.1 k.1)) g)
-    f
 
 one_in_turn : (asked : Selected) (cs : List Condition) (ps qs : List ℕ) → IsLeastInTurn (fits asked) cs ps → IsLeastInTurn (fits asked) cs qs → ps ≡ qs
 one_in_turn asked cs ps qs a b =

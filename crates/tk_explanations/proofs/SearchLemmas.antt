@@ -2,6 +2,8 @@
 use Rattle.std.proofs.Common.{◌≡◌, ◌+◌, ◌-◌, ◌≤◌, ℕ, zero, suc, Bool, true, false, cond, ◌||◌, List, [], ◌∷◌, take, refl, sym, ap, ◌∙◌, arith}
 use Rattle.std.specs.Prelude.{Option, Some, None}
 use Rattle.std.specs.Option.{option_or}
+use Rattle.tk_lemmas.proofs.Options.{option_or-none}
+use Rattle.tk_lemmas.proofs.Truth.{or-false}
 use Rattle.tk_events.specs.declared.kinds.Kind.{Kind}
 use Rattle.tk_events.specs.declared.events.Entry.{Entry}
 use Rattle.tk_query_lifecycle.specs.Lifecycle.{has_event, is_event}
@@ -72,10 +74,6 @@ pub record IsSearchedFor (passes : Entry → Bool) (before n : ℕ) (es left : L
   pub same : last_from passes 0 (take before es) ≡ option_or (last_from passes n (take (before - n) left)) found
   pub within : n ≤ before
 
-or_none : {X : Type 0} (o : Option X) → option_or o None ≡ o
-or_none None = refl
-or_none (Some x) = refl
-
 or_later : {X : Type 0} (o : Option X) (b : Bool) (x : X) (found : Option X) → option_or (option_or o (cond b (Some x) None)) found ≡ option_or o (cond b (Some x) found)
 or_later None true x found = refl
 or_later None false x found = refl
@@ -85,7 +83,7 @@ or_later (Some y) false x found = refl
 module _ (passes : Entry → Bool) where
   pub sought_none : (before : ℕ) (es left : List Entry) → left ≡ es → IsSearchedFor passes before 0 es left None
   sought_none before es left is = record {
-    same = ap (λ l. last_from passes 0 (take before l)) (sym is) ∙ ap (λ k. last_from passes 0 (take k left)) (sym (whole before)) ∙ sym (or_none (last_from passes 0 (take (before - 0) left)));
+    same = ap (λ l. last_from passes 0 (take before l)) (sym is) ∙ ap (λ k. last_from passes 0 (take k left)) (sym (whole before)) ∙ sym (option_or-none (last_from passes 0 (take (before - 0) left)));
     within = omega arith;
   }
 
@@ -124,10 +122,6 @@ pub record AreKeysOf (kind : Kind) (before n : ℕ) (es left : List Entry) (has 
   pub same : (key : ℕ) → has_event kind key (take before es) ≡ (has_event kind key (take (before - n) left) || has key)
   pub within : n ≤ before
 
-or_false : (b : Bool) → (b || false) ≡ b
-or_false true = refl
-or_false false = refl
-
 or_moved : (a b c : Bool) → ((a || b) || c) ≡ (b || (a || c))
 or_moved true true c = refl
 or_moved true false c = refl
@@ -138,7 +132,7 @@ module _ (kind : Kind) where
   pub keys_none : (before : ℕ) (es left : List Entry) (has : ℕ → Bool) → left ≡ es → ((key : ℕ) → has key ≡ false) → AreKeysOf kind before 0 es left has
   keys_none before es left has is none = record {
     same = λ key. ap (λ l. has_event kind key (take before l)) (sym is) ∙ ap (λ k. has_event kind key (take k left)) (sym (whole before))
-        ∙ sym (or_false (has_event kind key (take (before - 0) left))) ∙ ap (λ b. has_event kind key (take (before - 0) left) || b) (sym (none key));
+        ∙ sym (or-false (has_event kind key (take (before - 0) left))) ∙ ap (λ b. has_event kind key (take (before - 0) left) || b) (sym (none key));
     within = omega arith;
   }
 

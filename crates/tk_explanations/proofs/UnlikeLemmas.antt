@@ -1,5 +1,5 @@
 -- Conditions beside the events in their places.
-use Rattle.std.proofs.Common.{◌≡◌, ℕ, zero, suc, ◌+◌, ◌≤◌, Bool, true, false, List, [], ◌∷◌, length, drop, add-one, zero-add, Option, Some, MatchOption, refl, sym, ap, ◌∙◌, subst, arith}
+use Rattle.std.proofs.Common.{◌≡◌, ℕ, zero, suc, ◌+◌, ◌≤◌, Bool, true, false, List, [], ◌∷◌, length, drop, add-one, zero-add, Option, Some, MatchOption, sym, ap, ◌∙◌, subst, arith}
 use Rattle.std.specs.Prelude.{if◌then◌else◌}
 use Rattle.std.specs.List.{slice_get}
 use Rattle.std.proofs.lemmas.Option.{none-some, same_Some}
@@ -7,6 +7,7 @@ use Rattle.tk_lanes.specs.Flags.{IsNextSet, IsNoneSet}
 use Rattle.tk_events.specs.declared.events.Entry.{Entry}
 use Rattle.tk_record_columns.specs.Recorded.{Recorded}
 use Rattle.tk_record_columns.specs.Selections.{PositionedEntry, Selected, positioned, positioned_from}
+use Rattle.tk_record_columns.proofs.Picking.{length-positioned}
 use Rattle.tk_query_conditions.specs.declared.conditions.Condition.{Condition}
 use Rattle.tk_query.specs.Holds.{holds}
 use Rattle.tk_query.proofs.AskedLemmas.{AreFlags}
@@ -16,11 +17,6 @@ use Rattle.tk_explanations.specs.Matches.{unlike_rows}
 use Rattle.tk_explanations.specs.declared.rows.Note.TheVariants.{Nothing}
 use Rattle.tk_explanations.specs.declared.rows.Row.TheVariants as row
 use Rattle.tk_explanations.proofs.RowLemmas.{dropped_all, dropped_at}
-
-positioned_length : (n : ℕ) (es : List Entry) → length (positioned_from n es) ≡ length es
-unfolding positioned_from
-positioned_length n [] = refl
-positioned_length n (e ∷ es) = ap suc (positioned_length (n + 1) es)
 
 positioned_at : (n : ℕ) (es : List Entry) (i : ℕ) (x : PositionedEntry) → slice_get (positioned_from n es) i ≡ Some x → (x.position ≡ n + i) × (slice_get es i ≡ Some x.entry)
 unfolding positioned_from
@@ -50,7 +46,7 @@ passed_none asked flags cs are = ap (λ (l : List PositionedEntry). unlike_rows 
 
 module _ (asked : Selected) (flags : List Bool) (size : length flags ≡ length asked.recorded.entries) (cs : List Condition) (k low : ℕ) (passed : ArePassed asked flags cs k low) where
   long : length flags ≡ length (positioned asked.recorded.entries)
-  long = size ∙ sym (positioned_length 0 asked.recorded.entries)
+  long = size ∙ sym (length-positioned 0 asked.recorded.entries)
 
   none_further : IsNoneSet low flags → further asked flags low ≡ []
   none_further none = none_kept flags (positioned asked.recorded.entries) low long none

@@ -13,7 +13,7 @@ use Rattle.tk_query.specs.declared.answers.InOrder.TheVariants as in_order
 use Rattle.tk_query.specs.declared.answers.Exclusive.TheVariants as exclusive
 use Rattle.tk_query.specs.declared.execution.Execution.{Execution}
 use Rattle.tk_query.specs.Asked.{fits}
-use Rattle.tk_query.specs.Exclusive.{CollideAt, IsFirstCollision}
+use Rattle.tk_query.specs.Exclusive.{CollideAt}
 use Rattle.tk_query.specs.Holds.{holds}
 use Rattle.tk_query.specs.InOrder.{HoldInTurn, IsNotAfter, IsFirstStuck}
 use Rattle.tk_query.specs.Laws.{ExactIsUnique, LooseIsUnique, InOrderIsUnique, ListIsUnique, ExclusiveIsUnique}
@@ -25,7 +25,7 @@ within_list (y ∷ xs) zero x e = omega arith
 within_list (y ∷ xs) (suc k) x e = let lt = within_list xs k x e in omega arith
 
 -- of two numbers neither of which is less than the other
-same_number : (j k : ℕ) → (j < k → ⊥) → (k < j → ⊥) → j ≡ k
+pub same_number : (j k : ℕ) → (j < k → ⊥) → (k < j → ⊥) → j ≡ k
 same_number j k f g = ⊎_elim {C = j ≡ k} (λ (lt : j < k). absurd (f lt)) (λ (le : k ≤ j). ⊎_elim {C = j ≡ k} (λ (lt : k < j). absurd (g lt)) (λ (ge : j ≤ k). omega arith) (cases_lt k j)) (cases_lt j k)
 
 unlike_not : (r : Recorded) (cs : List Condition) (l : List Entry) (k : ℕ) → IsFirstUnlike r cs l k → HoldsAt r cs l k → ⊥
@@ -61,7 +61,7 @@ one_loose asked cs (loose.No i) (loose.No j) h k =
     ap (λ n. loose.No n) (same_number i j (λ lt. nowhere_not asked cs i h (k.before i lt)) (λ lt. nowhere_not asked cs j k (h.before j lt)))
 
 module _ {C : Type 0} (fits : C → ℕ → Bool) where
-  as_many : (from : ℕ) (cs : List C) (ps : List ℕ) → HoldInTurn fits from cs ps → length ps ≡ length cs
+  pub as_many : (from : ℕ) (cs : List C) (ps : List ℕ) → HoldInTurn fits from cs ps → length ps ≡ length cs
   as_many from [] [] h = refl
   as_many from [] (p ∷ ps) h = absurd h
   as_many from (c ∷ cs) [] h = absurd h
@@ -77,7 +77,7 @@ module _ {C : Type 0} (fits : C → ℕ → Bool) where
   stuck_not : (cs : List C) (ps : List ℕ) (k : ℕ) → IsFirstStuck fits cs k → HoldInTurn fits 0 cs ps → ⊥
   stuck_not cs ps k stuck h = stuck.stuck (take (k + 1) ps, hold_prefix 0 (k + 1) cs ps h)
 
-same_positions : (ps qs : List ℕ) → length ps ≡ length qs → IsNotAfter ps qs → IsNotAfter qs ps → ps ≡ qs
+pub same_positions : (ps qs : List ℕ) → length ps ≡ length qs → IsNotAfter ps qs → IsNotAfter qs ps → ps ≡ qs
 same_positions [] [] e f g = refl
 same_positions [] (q ∷ qs) e f g = absurd (omega arith)
 same_positions (p ∷ ps) [] e f g = absurd (omega arith)
@@ -109,10 +109,10 @@ later x xs order z has =
 order_rest : (x : Execution) (xs : List Execution) → AreOrdered (x ∷ xs) → AreOrdered xs
 order_rest x xs order i j d lt within = order (suc i) (suc j) d (omega arith) (omega arith)
 
-at_head : (x : Execution) (xs : List Execution) → Contains (x ∷ xs) x
+pub at_head : (x : Execution) (xs : List Execution) → Contains (x ∷ xs) x
 at_head x xs = (0, omega arith, refl)
 
-after_head : (x : Execution) (xs : List Execution) (z : Execution) → Contains xs z → Contains (x ∷ xs) z
+pub after_head : (x : Execution) (xs : List Execution) (z : Execution) → Contains xs z → Contains (x ∷ xs) z
 after_head x xs z has = let lt = has.1 in (suc has.0, omega arith, has.2)
 
 pub head_or_rest : (x : Execution) (xs : List Execution) (z : Execution) → Contains (x ∷ xs) z → (x ≡ z) ⊎ Contains xs z

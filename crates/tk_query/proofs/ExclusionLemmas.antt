@@ -22,7 +22,7 @@ use Rattle.tk_query.specs.Executions.{IsSpan, IsSkip, IsExecution}
 use Rattle.tk_query.specs.steps.Holders.{AreFinishes, IsAnswerOf, MeetsNone, Spans, TellFits}
 use Rattle.tk_query.specs.steps.Holders.{finish_of, holds_any, meet, writes}
 use Rattle.tk_query.specs.Pairing.{HaveSlots, rest_of}
-use Rattle.tk_query.proofs.AnswerIsUnique.{head_or_rest}
+use Rattle.tk_query.proofs.AnswerIsUnique.{head_or_rest, at_head, after_head}
 use Rattle.tk_query.proofs.AskedLemmas.{AreFlags, step_clear}
 
 same_fields : (x y : Execution) → x.key ≡ y.key → x.ending ≡ y.ending → x.first ≡ y.first → x.last ≡ y.last → x.start ≡ y.start → x.stop ≡ y.stop → x ≡ y
@@ -86,18 +86,12 @@ pub record AreSoFar (asked : Selected) (pairing : Pairing) (finishes : List ℕ)
   pub found : (x : Execution) → IsSpan (step_at asked) x → Contains (rest_of asked pairing) x ⊎ (get_or finishes x.first 0 ≡ x.last)
   pub only : (p : ℕ) → 0 < get_or finishes p 0 → Spans asked p (get_or finishes p 0)
 
-at_head : (x : Execution) (xs : List Execution) → Contains (x ∷ xs) x
-at_head x xs = (0, omega arith, refl)
-
-in_rest : (x : Execution) (xs : List Execution) (z : Execution) → Contains xs z → Contains (x ∷ xs) z
-in_rest x xs z has = let lt = has.1 in (suc has.0, omega arith, has.2)
-
 module _ (asked : Selected) (old new : Pairing) (column : List ℕ) (so_far : AreSoFar asked old column) (y : Execution) (next : rest_of asked old ≡ y ∷ rest_of asked new) (slots : HaveSlots asked.recorded new.starts) where
   was : IsExecution (step_at asked) y
   was = so_far.to_come y (subst (λ list. Contains list y) (sym next) (at_head y (rest_of asked new)))
 
   still : (x : Execution) → Contains (rest_of asked new) x → IsExecution (step_at asked) x
-  still x has = so_far.to_come x (subst (λ list. Contains list x) (sym next) (in_rest y (rest_of asked new) x has))
+  still x has = so_far.to_come x (subst (λ list. Contains list x) (sym next) (after_head y (rest_of asked new) x has))
 
   -- a skip has no finish of its own
   pub skip_taken : y.last ≤ y.first → AreSoFar asked new column

@@ -4,8 +4,9 @@ use Rattle.std.specs.Prelude.{codes}
 use Rattle.std.specs.List.{list_all, list_any}
 use Rattle.std.specs.Str.Iter.{HasSubslice}
 use Rattle.std.proofs.lemmas.List.{append_assoc, append-nil}
-use Rattle.std.proofs.lemmas.Bool.{and_parts, or_cases}
+use Rattle.std.proofs.lemmas.Bool.{and_parts, or_cases, or_left, or_right}
 use Rattle.std.proofs.lemmas.Slice.Eq.{bytes_eq-Decides}
+use Rattle.tk_lemmas.proofs.Truth.{and-true, or-false}
 use Rattle.tk_ids.specs.IdText.{SegmentView, IsEngine}
 use Rattle.tk_events.specs.declared.events.Entry.{Entry}
 use Rattle.tk_record_columns.specs.Recorded.{Recorded}
@@ -49,14 +50,6 @@ begun : (prefix rest : List ℕ) → begins_with prefix (prefix ++ rest) ≡ tru
 begun [] rest = refl
 begun (b ∷ prefix) rest = ap (λ t. t && begins_with prefix (prefix ++ rest)) (eq-eqb b b refl) ∙ begun prefix rest
 
-or_left : (a b : Bool) → a ≡ true → (a || b) ≡ true
-or_left true b e = refl
-or_left false b e = cc
-
-or_right : (a b : Bool) → b ≡ true → (a || b) ≡ true
-or_right true b e = refl
-or_right false b e = e
-
 within_begun : (part text : List ℕ) → begins_with part text ≡ true → has_within part text ≡ true
 within_begun part [] e = e
 within_begun part (b ∷ text) e = or_left (begins_with part (b ∷ text)) (has_within part text) e
@@ -95,20 +88,12 @@ or_assoc : (a b c : Bool) → ((a || b) || c) ≡ (a || (b || c))
 or_assoc true b c = refl
 or_assoc false b c = refl
 
-and_true : (a : Bool) → a ≡ (a && true)
-and_true true = refl
-and_true false = refl
-
-or_false : (a : Bool) → a ≡ (a || false)
-or_false true = refl
-or_false false = refl
-
 all_after : (r : Recorded) (e : Entry) (cs : Conds) (members : List Condition) → all_hold r (conds_from cs members) e ≡ (all_hold r cs e && list_all (λ m. holds r m e) members)
-all_after r e cs [] = and_true (all_hold r cs e)
+all_after r e cs [] = sym (and-true (all_hold r cs e))
 all_after r e cs (m ∷ members) = all_after r e (More cs (cond_of m)) members ∙ and_assoc (all_hold r cs e) (holds r m e) (list_all (λ n. holds r n e) members)
 
 any_after : (r : Recorded) (e : Entry) (cs : Conds) (members : List Condition) → any_holds r (conds_from cs members) e ≡ (any_holds r cs e || list_any (λ m. holds r m e) members)
-any_after r e cs [] = or_false (any_holds r cs e)
+any_after r e cs [] = sym (or-false (any_holds r cs e))
 any_after r e cs (m ∷ members) = any_after r e (More cs (cond_of m)) members ∙ or_assoc (any_holds r cs e) (holds r m e) (list_any (λ n. holds r n e) members)
 
 pub holds-All : (r : Recorded) (members : Vec Condition Global) (e : Entry) → holds r (real.All members) e ≡ list_all (λ m. holds r m e) members.items

@@ -1,13 +1,15 @@
 -- The masks of conditions.
-use Rattle.std.proofs.Common.{◌≡◌, ℕ, ◌+◌, ◌<◌, ◌≤◌, Bool, true, false, ◌&&◌, ◌||◌, List, [], ◌∷◌, ◌++◌, length, take, get_or, map, replicate, Result, Ok, Err, IfOk, refl, sym, ap, ◌∙◌}
+use Rattle.std.proofs.Common.{◌≡◌, ℕ, ◌+◌, ◌<◌, ◌≤◌, Bool, true, false, ◌&&◌, ◌||◌, List, [], ◌∷◌, ◌++◌, length, take, get_or, map, replicate, Result, IfOk, refl, sym, ap, ◌∙◌}
 use Rattle.std.specs.Prelude.{if◌then◌else◌, ◌==◌}
 use Rattle.std.specs.List.{list_all, list_any}
 use Rattle.std.specs.Simd.Lanes.{zip2}
 use Rattle.std.proofs.lemmas.Simd.{zip2-map}
 use Rattle.std.proofs.lemmas.List.{length-map, take_more, take_all, map-append}
 use Rattle.std.proofs.lemmas.List.Folds.{list_all-append, list_any-append}
+use Rattle.tk_lemmas.proofs.Truth.{and-true, or-false}
 use Rattle.tk_events.specs.declared.events.Entry.{Entry}
 use Rattle.tk_record_columns.specs.Recorded.{Recorded}
+use Rattle.tk_record_columns.proofs.Picking.{if_ok_same}
 use Rattle.tk_query_conditions.specs.declared.conditions.Condition.{Condition}
 use Rattle.tk_query.specs.Holds.{holds}
 use Rattle.tk_query.specs.declared.rules.Rule.{Rule}
@@ -21,14 +23,6 @@ replicated b (e ∷ es) = ap (λ l. b ∷ l) (replicated b es)
 pub mask_first : (b : Bool) (n : ℕ) (es : List Entry) (flags : List Bool) → flags ≡ replicate n b → n ≡ length es → flags ≡ map (λ _. b) es
 mask_first b n es flags e long = e ∙ ap (λ k. replicate k b) long ∙ replicated b es
 
-pub and_true : (a : Bool) → a ≡ (a && true)
-and_true true = refl
-and_true false = refl
-
-or_false : (a : Bool) → a ≡ (a || false)
-or_false true = refl
-or_false false = refl
-
 abbrev pub all_of_first : Recorded → List Condition → ℕ → Entry → Bool
 all_of_first r members i e = list_all (λ m. holds r m e) (take i members)
 
@@ -40,7 +34,7 @@ all_more r members i m flags more new lt is e f g =
     g ∙ ap (λ a. zip2 ◌&&◌ a more) e ∙ ap (zip2 ◌&&◌ (map (all_of_first r members i) r.entries)) f
     ∙ zip2-map ◌&&◌ (all_of_first r members i) (holds r m) r.entries
     ∙ map_same (λ x. all_of_first r members i x && holds r m x) (all_of_first r members (i + 1)) r.entries
-    (λ x. ap (λ b. all_of_first r members i x && b) (ap (λ n. holds r n x) is ∙ and_true (holds r (get_or members i m) x))
+    (λ x. ap (λ b. all_of_first r members i x && b) (ap (λ n. holds r n x) is ∙ sym (and-true (holds r (get_or members i m) x)))
     ∙ sym (list_all-append (λ n. holds r n x) (take i members) (get_or members i m ∷ [])) ∙ ap (list_all (λ n. holds r n x)) (sym (take_more members i m lt)))
 
 pub any_more : (r : Recorded) (members : List Condition) (i : ℕ) (m : Condition) (flags more new : List Bool) → i < length members → m ≡ get_or members i m → flags ≡ map (any_of_first r members i) r.entries → more ≡ map (holds r m) r.entries → new ≡ zip2 ◌||◌ flags more → new ≡ map (any_of_first r members (i + 1)) r.entries
@@ -48,7 +42,7 @@ any_more r members i m flags more new lt is e f g =
     g ∙ ap (λ a. zip2 ◌||◌ a more) e ∙ ap (zip2 ◌||◌ (map (any_of_first r members i) r.entries)) f
     ∙ zip2-map ◌||◌ (any_of_first r members i) (holds r m) r.entries
     ∙ map_same (λ x. any_of_first r members i x || holds r m x) (any_of_first r members (i + 1)) r.entries
-    (λ x. ap (λ b. any_of_first r members i x || b) (ap (λ n. holds r n x) is ∙ or_false (holds r (get_or members i m) x))
+    (λ x. ap (λ b. any_of_first r members i x || b) (ap (λ n. holds r n x) is ∙ sym (or-false (holds r (get_or members i m) x)))
     ∙ sym (list_any-append (λ n. holds r n x) (take i members) (get_or members i m ∷ [])) ∙ ap (list_any (λ n. holds r n x)) (sym (take_more members i m lt)))
 
 pub all_done : (r : Recorded) (members : List Condition) (i : ℕ) (flags : List Bool) → length members ≤ i → flags ≡ map (all_of_first r members i) r.entries → flags ≡ map (λ e. list_all (λ m. holds r m e) members) r.entries
@@ -57,17 +51,9 @@ all_done r members i flags le e = e ∙ ap (λ (ms : List Condition). map (λ x.
 pub any_done : (r : Recorded) (members : List Condition) (i : ℕ) (flags : List Bool) → length members ≤ i → flags ≡ map (any_of_first r members i) r.entries → flags ≡ map (λ e. list_any (λ m. holds r m e) members) r.entries
 any_done r members i flags le e = e ∙ ap (λ (ms : List Condition). map (λ x. list_any (λ m. holds r m x) ms) r.entries) (take_all i members le)
 
-pub if_ok_same : {X E : Type 0} (o : Result X E) (a b : X) → a ≡ b → IfOk o (λ x. x ≡ a) → IfOk o (λ x. x ≡ b)
-if_ok_same (Ok x) a b e h = h ∙ e
-if_ok_same (Err x) a b e h = h
-
 -- the mask of a rule is that of each equal one
 pub rule_mask_same : {E : Type 0} (r : Recorded) (rule d : Rule) (o : Result (List Bool) E) → rule ≡ d → IfOk o (λ flags. flags ≡ map (rule_holds d r) r.entries) → IfOk o (λ flags. flags ≡ map (rule_holds rule r) r.entries)
 rule_mask_same r rule d o e h = if_ok_same o (map (rule_holds d r) r.entries) (map (rule_holds rule r) r.entries) (ap (λ (x : Rule). map (rule_holds x r) r.entries) (sym e)) h
-
-pub if_ok_from : {X E : Type 0} (o : Result X E) (P Q : X → Type 0) → ((x : X) → P x → Q x) → IfOk o P → IfOk o Q
-if_ok_from (Ok x) P Q f h = f x h
-if_ok_from (Err x) P Q f h = h
 
 pub same_length : {A : Type 0} (f g : A → Bool) (xs : List A) (a b : List Bool) → a ≡ map f xs → b ≡ map g xs → length a ≡ length b
 same_length f g xs a b e h = ap length e ∙ length-map xs f ∙ sym (ap length h ∙ length-map xs g)

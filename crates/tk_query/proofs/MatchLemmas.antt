@@ -5,6 +5,7 @@ use Rattle.std.proofs.lemmas.List.{length-map}
 use Rattle.std.specs.Option.{is_some}
 use Rattle.std.specs.Simd.Lanes.{zip2}
 use Rattle.std.proofs.lemmas.Bool.{cases_lt, and_parts, true≢false}
+use Rattle.tk_lemmas.proofs.Truth.{and-true}
 use Rattle.tk_events.specs.declared.events.Entry.{Entry}
 use Rattle.tk_record_columns.specs.Recorded.{Recorded}
 use Rattle.tk_record_columns.specs.Selections.{PositionedEntry, Selected, passes, positioned_from, events_of}
@@ -13,12 +14,10 @@ use Rattle.tk_query.specs.Holds.{holds}
 use Rattle.tk_lanes.specs.Flags.{IsNextSet, IsNoneSet}
 use Rattle.tk_query.specs.Asked.{fits, IsFirstFit}
 use Rattle.tk_query.specs.steps.Asked.{AreLeft}
-use Rattle.tk_query.specs.InOrder.{HasNoFit, IsNextFit}
 use Rattle.tk_query.specs.steps.Rules.{HoldsWithin}
 use Rattle.tk_record_columns.specs.declared.selections.ColumnTest.{ColumnTest}
 use Rattle.tk_query.specs.Matches.{HoldsAt, IsFirstUnlike, IsFirstNowhere, HoldsSomewhere}
 use Rattle.tk_query.proofs.AskedLemmas.{AreFlags, asked_set, fits_clear, fits_set, map_get, next_is, none_first, none_left}
-use Rattle.tk_query.proofs.MaskLemmas.{and_true}
 
 pub get_some : {A : Type 0} (xs : List A) (k : ℕ) (d : A) → k < length xs → slice_get xs k ≡ Some (get_or xs k d)
 get_some [] k d lt = absurd (omega arith)
@@ -185,7 +184,7 @@ module _ (asked : Selected) (flags : List Bool) (are : AreFlags asked flags) (r 
   clear_there : (k : ℕ) → get_or both k false ≡ false → get_or flags k false ≡ true → (o : Option Entry) → slice_get r.entries k ≡ o → MatchOption o (false ≡ false) (λ e. false ≡ holds r c e)
   clear_there k clear set None stands = refl
   clear_there k clear set (Some e) stands =
-      sym clear ∙ both_at k ∙ ap (λ b. b && get_or flags k false) (map_get (holds r c) r.entries k e stands) ∙ ap (λ b. holds r c e && b) set ∙ sym (and_true (holds r c e))
+      sym clear ∙ both_at k ∙ ap (λ b. b && get_or flags k false) (map_get (holds r c) r.entries k e stands) ∙ ap (λ b. holds r c e && b) set ∙ and-true (holds r c e)
 
   clear_fits : (k : ℕ) (b : Bool) → get_or flags k false ≡ b → get_or both k false ≡ false → fits asked c k ≡ false
   clear_fits k true set clear = fits_set asked flags are r same c k false set (clear_there k clear set (slice_get r.entries k) refl)
@@ -213,7 +212,7 @@ module _ (asked : Selected) (flags : List Bool) (are : AreFlags asked flags) (r 
   outside k clear set None stands = refl
   outside k clear set (Some e) stands =
       let fails : passes column_test r e ≡ false =
-      and_true (passes column_test r e) ∙ ap (λ b. passes column_test r e && b) (sym set) ∙ ap (λ b. b && get_or flags k false) (sym (map_get (passes column_test r) r.entries k e stands)) ∙ sym (left_at k) ∙ clear in
+      sym (and-true (passes column_test r e)) ∙ ap (λ b. passes column_test r e && b) (sym set) ∙ ap (λ b. b && get_or flags k false) (sym (map_get (passes column_test r) r.entries k e stands)) ∙ sym (left_at k) ∙ clear in
       sym (within.within e fails)
 
   others_fail : (k : ℕ) (b : Bool) → get_or flags k false ≡ b → get_or both k false ≡ false → fits asked c k ≡ false

@@ -4,7 +4,7 @@ use Rattle.std.specs.Prelude.{codes, bytes_eq, count_by}
 use Rattle.std.specs.List.{starts_with}
 use Rattle.std.proofs.lemmas.Option.{same_Some, none-some}
 use Rattle.std.proofs.lemmas.Bool.{eqb-true, eqb-false, ne_eqb}
-use Rattle.std.proofs.lemmas.List.{append-nil, append_assoc, drop_more, drop_at, take_at, get_or_at, take-append-drop, length-append}
+use Rattle.std.proofs.lemmas.List.{append-nil, append_assoc, drop_more, take-append-drop}
 use Rattle.std.proofs.lemmas.List.Sums.{sum_by-cons}
 use Rattle.tk_events.specs.declared.kinds.Kind.{Kind}
 use Rattle.tk_query_conditions.specs.declared.conditions.Condition as real
@@ -28,9 +28,9 @@ use Rattle.tk_query_conditions.specs.steps.Reading.{after_word, bares, openers, 
 use Rattle.tk_query_conditions.specs.steps.Reading.{text_step, ends_at, next_text, last_text, step}
 use Rattle.tk_query_conditions.specs.steps.Reading.{start, ended}
 use Rattle.std.specs.Str.{IsUtf8}
-use Rattle.std.proofs.lemmas.Str.{IsUtf8-append, IsUtf8-take, IsUtf8-drop, IsUtf8-from_ascii, IsCharBoundary-before_ascii, IsCharBoundary-after_ascii}
-use Rattle.std.proofs.lemmas.Str.Ascii.{IsAscii-nil, IsAscii-cons}
 use Rattle.std.specs.declared.alloc.AllocError.{AllocError}
+use Rattle.tk_ids.proofs.ReadingLemmas.{utf8_before, utf8_after, utf8_swap}
+use Rattle.tk_lemmas.proofs.Lists.{nil_from_length}
 use Rattle.tk_query_conditions.specs.declared.readers.Reader.{Reader}
 use Rattle.tk_query_conditions.specs.declared.readers.Position.{Position}
 use Rattle.tk_query_conditions.specs.declared.readers.Position.TheVariants as positions
@@ -78,13 +78,9 @@ pub conds_some : (cs : Conds) (c : Cond) (rest : List Condition) → (ds : Conds
 conds_some cs c [] = (cs, c, refl)
 conds_some cs c (m ∷ rest) = conds_some (More cs c) (cond_of m) rest
 
-is_nil : {A : Type 0} (xs : List A) → length xs ≡ 0 → xs ≡ []
-is_nil [] e = refl
-is_nil (x ∷ xs) e = absurd (omega arith)
-
 -- a vector that is empty, and one that isn't
 pub no_items : (members : Vec Condition Global) (b : Bool) → b ≡ (vec_len members == 0) → b ≡ true → members.items ≡ []
-no_items members b is e = let zero_len : vec_len members ≡ 0 = eqb-true (vec_len members) 0 (sym is ∙ e) in is_nil members.items (omega (arith, members.ok.0))
+no_items members b is e = let zero_len : vec_len members ≡ 0 = eqb-true (vec_len members) 0 (sym is ∙ e) in nil_from_length members.items (omega (arith, members.ok.0))
 
 pub some_items : (members : Vec Condition Global) (b : Bool) → b ≡ (vec_len members == 0) → b ≡ false → 0 < length members.items
 some_items members b is e = let ne = eqb-false (vec_len members) 0 (sym is ∙ e) in omega (arith, members.ok.0)
@@ -207,7 +203,7 @@ word_goes stack word longer b begins not41 not44 not40 e is =
 
 -- nothing stands before the delimiter
 pub after_nothing : (stack : List OpenGroup) (word : List ℕ) (b : ℕ) (empty : Bool) → empty ≡ (length word == 0) → empty ≡ true → after_word stack word b ≡ close_empty stack b
-after_nothing stack word b empty is e = ap (λ w. after_word stack w b) (is_nil word (eqb-true (length word) 0 (sym is ∙ e)))
+after_nothing stack word b empty is e = ap (λ w. after_word stack w b) (nil_from_length word (eqb-true (length word) 0 (sym is ∙ e)))
 
 after_some : (stack : List OpenGroup) (word : List ℕ) (b : ℕ) → 0 < length word → after_word stack word b ≡ option_and_then (λ bare. close stack (Plain bare) b) (look bares word)
 after_some stack [] b lt = absurd (omega arith)
@@ -236,27 +232,6 @@ pub pairs_go : (stack : List OpenGroup) (pairs : Pairs) (key : Option (List ℕ)
 pairs_go stack pairs key partial b next comma bracket is = rw (comma, bracket) (ap (option_map (InPairs stack pairs key)) is)
 
 -- A text is read: it is UTF-8 with what follows it.
-
-utf8_before : (a rest : List ℕ) (b : ℕ) → IsUtf8 (a ++ b ∷ rest) → b < 128 → IsUtf8 a
-utf8_before a rest b u lt =
-    let within : length a < length (a ++ b ∷ rest) = simp length-append (omega arith) in
-    let ascii : get_or (a ++ b ∷ rest) (length a) 0 < 128 = rw (get_or_at a b rest 0 (length a) refl) lt in
-    subst IsUtf8 (take_at a (b ∷ rest) (length a) refl) (IsUtf8-take (a ++ b ∷ rest) (length a) u (IsCharBoundary-before_ascii _ _ within ascii))
-
-utf8_after : (a rest : List ℕ) (b : ℕ) → IsUtf8 (a ++ b ∷ rest) → b < 128 → IsUtf8 rest
-utf8_after a rest b u lt =
-    let within : length a < length (a ++ b ∷ rest) = simp length-append (omega arith) in
-    let ascii : get_or (a ++ b ∷ rest) (length a) 0 < 128 = rw (get_or_at a b rest 0 (length a) refl) lt in
-    let cut : drop (length a + 1) (a ++ b ∷ rest) ≡ rest =
-    ap (drop (length a + 1)) (sym (append_assoc a (b ∷ []) rest)) ∙ drop_at (a ++ b ∷ []) rest (length a + 1) (simp length-append) in
-    subst IsUtf8 cut (IsUtf8-drop (a ++ b ∷ rest) (length a + 1) u (IsCharBoundary-after_ascii _ _ u within ascii))
-
--- an ASCII byte in place of an escape
-utf8_swap : (a mid rest : List ℕ) (b c d : ℕ) → IsUtf8 ((a ++ b ∷ mid) ++ c ∷ rest) → b < 128 → c < 128 → d < 128 → IsUtf8 ((a ++ d ∷ []) ++ rest)
-utf8_swap a mid rest b c d u lb lc ld =
-    let prefix : IsUtf8 a = utf8_before a (mid ++ c ∷ rest) b (subst IsUtf8 (append_assoc a (b ∷ mid) (c ∷ rest)) u) lb in
-    let back : IsUtf8 rest = utf8_after (a ++ b ∷ mid) rest c u lc in
-    IsUtf8-append (a ++ d ∷ []) rest (IsUtf8-append a (d ∷ []) prefix (IsUtf8-from_ascii (d ∷ []) (IsAscii-cons d [] ld IsAscii-nil))) back
 
 special_ascii : (b c : ℕ) → special_of b ≡ Some c → (b < 128) × (c < 128)
 special_ascii b c e = ⊎_elim {C = (b < 128) × (c < 128)}

@@ -1,10 +1,10 @@
 -- What is written of a condition's text.
-use Rattle.std.proofs.Common.{◌≡◌, ◌≢◌, ℕ, zero, suc, ◌+◌, ◌/◌, ◌%◌, ◌<◌, ◌≤◌, nat_eq, List, [], ◌∷◌, ◌++◌, length, take, get_or, Bool, true, false, cond, Result, Ok, Err, is_ok, OnOk, Vec, Box, Global, Some, None, refl, sym, ap, ◌∙◌, arith, append_assoc}
+use Rattle.std.proofs.Common.{◌≡◌, ◌≢◌, ℕ, zero, suc, ◌+◌, ◌/◌, ◌%◌, ◌<◌, ◌≤◌, List, [], ◌∷◌, ◌++◌, length, take, get_or, Bool, true, false, cond, Result, Ok, Err, is_ok, OnOk, Vec, Box, Global, Some, None, refl, sym, ap, ◌∙◌, arith, append_assoc}
 use Rattle.std.specs.Prelude.{codes}
-use Rattle.std.proofs.lemmas.Bool.Decides.{nat_tests}
 use Rattle.std.proofs.lemmas.List.{take_more}
 use lib.Utf8.{encode, next}
 use lib.Dec.{ltb}
+use Rattle.std.proofs.lemmas.Bool.{ne_eqb}
 use Rattle.tk_query_conditions.specs.declared.conditions.Condition as real
 use Rattle.tk_query_conditions.specs.declared.conditions.Condition.{Condition, All', Any', Not', roll-Condition, roll-out-Condition}
 use Rattle.tk_query_conditions.specs.declared.conditions.Condition.TheVariants.{outs-All', outs-Any', outs-Not', rolls-All, rolls-Any, rolls-Not}
@@ -20,9 +20,6 @@ use Rattle.tk_query_conditions.proofs.ReaderLemmas.{pairs_push}
 
 -- Characters: no byte of one that stands as it is has an escape.
 
-not_equal : (x y : ℕ) → x ≢ y → nat_eq x y ≡ false
-not_equal x y h = grind (arith, nat_tests)
-
 record IsPlain (b : ℕ) : Type 0 where
   pub percent : b ≢ 37
   pub opening : b ≢ 40
@@ -30,7 +27,7 @@ record IsPlain (b : ℕ) : Type 0 where
   pub comma : b ≢ 44
 
 spelled_plain : (b : ℕ) (rest : List ℕ) → IsPlain b → spelled_by b ++ rest ≡ b ∷ rest
-spelled_plain b rest h = rw (not_equal b 37 h.percent, not_equal b 40 h.opening, not_equal b 41 h.closing, not_equal b 44 h.comma) refl
+spelled_plain b rest h = rw (ne_eqb b 37 h.percent, ne_eqb b 40 h.opening, ne_eqb b 41 h.closing, ne_eqb b 44 h.comma) refl
 
 spelled_above : (x y : ℕ) (rest : List ℕ) → 128 ≤ y → spelled_by (y + x) ++ rest ≡ (y + x) ∷ rest
 spelled_above x y rest le = spelled_plain (y + x) rest record { percent = λ e. omega arith; opening = λ e. omega arith; closing = λ e. omega arith; comma = λ e. omega arith }

@@ -9,6 +9,7 @@ use Rattle.tk_record_columns.specs.declared.records.EntryView.{EntryView}
 use Rattle.tk_record_columns.specs.Record.{IsViewOf}
 use Rattle.tk_record_columns.specs.Recorded.{Recorded}
 use Rattle.tk_record_columns.specs.Record.{entry_of_view}
+use Rattle.tk_record_columns.proofs.Viewing.{shown_entry}
 use Rattle.tk_query_lifecycle.specs.Lifecycle.{BreaksNone, NoneBreaks, IsInOrder, IsLifecycle, first_entries}
 use Rattle.tk_query_lifecycle.specs.steps.Progress.{IsFirstOfNeverRun, IsFirstOfRuns, IsProgress}
 use Rattle.tk_query_lifecycle.specs.steps.Progress.{IsTaken, next_event}
@@ -22,18 +23,11 @@ pub record AreFollowed (r : Recorded) (n : ℕ) (states : List KeyState) (ids : 
   pub known : IsProgress (first_entries n r) states ids
   pub none : NoneBreaks r n
 
-view_is : (v : EntryView) (e : Entry) → IsViewOf v e → entry_of_view v ≡ e
-view_is v e h = shown v.worker e.worker v.kind e.event.kind v.key e.event.key v.stamp e.event.stamp v.payload.now e.event.payload h.worker h.kind h.key h.stamp h.payload
-  where
-    shown : (a b : ℕ) (c d : _) (k l : ℕ) (s t : ℕ) (x y : _) → a ≡ b → c ≡ d → k ≡ l → s ≡ t → x ≡ y
-        → (let e : Entry = record { worker = a; event = record { kind = c; key = k; stamp = s; payload = x } } in e) ≡ record { worker = b; event = record { kind = d; key = l; stamp = t; payload = y } }
-    shown a b c d k l s t x y h i j m n = cc
-
 -- the view at a position shows the event there
 pub stands_at : (r : Recorded) (p : ℕ) (v : EntryView) → p < length r.entries → IfSome (slice_get r.entries p) (IsViewOf v) → slice_get r.entries p ≡ Some (entry_of_view v)
 stands_at r p v within h =
     let e = there r.entries p within in
-    e.1 ∙ ap (λ x. Some x) (sym (view_is v e.0 (subst (λ o. IfSome o (IsViewOf v)) e.1 h)))
+    e.1 ∙ ap (λ x. Some x) (sym (shown_entry v e.0 (subst (λ o. IfSome o (IsViewOf v)) e.1 h)))
 
 pub followed_more : (r : Recorded) (p : ℕ) (e : Entry) (old new : List KeyState) (ids noted : List (List ℕ × ℕ)) → AreFollowed r p old ids → slice_get r.entries p ≡ Some e → IsTaken (next_event (first_entries p r) e) new noted None → AreFollowed r (p + 1) new noted
 followed_more r p e old new ids noted h at t = record {

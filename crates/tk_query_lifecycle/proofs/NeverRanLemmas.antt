@@ -1,7 +1,7 @@
 -- Which static keys never ran, by what is known at the end of a record.
-use Rattle.std.proofs.Common.{◌≡◌, ℕ, ◌<◌, ◌≤◌, ◌⊎◌, ⊎_elim, Bool, true, false, ◌||◌, not, List, length, get_or, Option, Some, None, refl, sym, ap, ◌∙◌, subst, arith, eq-eqb, eqb-true}
+use Rattle.std.proofs.Common.{◌≡◌, ℕ, ◌<◌, ◌≤◌, ◌⊎◌, ⊎_elim, Bool, true, false, not, List, length, get_or, Option, Some, None, sym, ap, ◌∙◌, subst, arith, eq-eqb, eqb-true}
 use Rattle.std.specs.Prelude.{◌==◌, slice_get}
-use Rattle.std.proofs.lemmas.Bool.{true≢false, and_from, and_parts, or_cases}
+use Rattle.std.proofs.lemmas.Bool.{true≢false, and_from, and_parts, or_cases, or_parts}
 use Rattle.std.proofs.lemmas.Option.{none-some, same_Some, slice_get-get_or, slice_get_within}
 use Rattle.tk_ids.specs.IdText.{parent_of}
 use Rattle.tk_ids.specs.declared.descriptors.Descriptor.{Descriptor}
@@ -23,14 +23,10 @@ use Rattle.tk_query_lifecycle.specs.declared.key_states.Parent.{Parent}
 use Rattle.tk_query_lifecycle.specs.declared.key_states.Parent.TheVariants.{Unsought, Root, Key}
 use Rattle.tk_query_lifecycle.proofs.KeepLemmas.{any_at, any_from}
 
-neither : (a b : Bool) → (a || b) ≡ false → (a ≡ false) × (b ≡ false)
-neither false false h = (refl, refl)
-neither a b h = cc
-
 -- a key that wasn't started or skipped, by each event
 pub no_turn : (r : Recorded) (key : ℕ) → has_run key r.entries ≡ false → HasNoTurn r key
 no_turn r key none =
-    let n = neither (has_event Started key r.entries) (has_event Skipped key r.entries) none in record {
+    let n = or_parts (has_event Started key r.entries) (has_event Skipped key r.entries) none in record {
       unstarted = λ p e at own h. true≢false (sym (any_from (is_event Started key) r.entries p e at (and_from (of_kind Started e) (e.event.key == key) h (eq-eqb e.event.key key own))) ∙ n.0);
       unskipped = λ p e at own h. true≢false (sym (any_from (is_event Skipped key) r.entries p e at (and_from (of_kind Skipped e) (e.event.key == key) h (eq-eqb e.event.key key own))) ∙ n.1);
     }

@@ -2,6 +2,7 @@
 use Rattle.std.proofs.Common.{◌≡◌, ℕ, Bool, true, false, ◌&&◌, ◌||◌, not, List, [], ◌∷◌, ◌++◌, None, refl, sym, ap, ◌∙◌, subst, eq-eqb}
 use Rattle.std.specs.Prelude.{◌==◌}
 use Rattle.std.proofs.lemmas.List.Folds.{list_any-append}
+use Rattle.tk_lemmas.proofs.Truth.{or-false, and-true}
 use Rattle.tk_events.specs.declared.kinds.Kind.{Kind}
 use Rattle.tk_events.specs.declared.kinds.Kind.TheVariants.{Dynamic, Skipped, Started, Finished, Reporting, File}
 use Rattle.tk_events.specs.declared.events.Entry.{Entry}
@@ -15,33 +16,25 @@ use Rattle.tk_query_lifecycle.specs.declared.key_states.KeyState.{KeyState}
 use Rattle.tk_query_lifecycle.specs.declared.key_states.Phase.{Phase}
 use Rattle.tk_query_lifecycle.specs.declared.key_states.Phase.TheVariants.{Idle, Running, Ended}
 
-or_nothing : (b : Bool) → (b || false) ≡ b
-or_nothing true = refl
-or_nothing false = refl
-
 has_more : (kind : Kind) (key : ℕ) (es : List Entry) (e : Entry) → has_event kind key (es ++ e ∷ []) ≡ (has_event kind key es || is_event kind key e)
-has_more kind key es e = list_any-append (is_event kind key) es (e ∷ []) ∙ ap (λ b. has_event kind key es || b) (or_nothing (is_event kind key e))
+has_more kind key es e = list_any-append (is_event kind key) es (e ∷ []) ∙ ap (λ b. has_event kind key es || b) (or-false (is_event kind key e))
 
 and_nothing : (b : Bool) → (b && false) ≡ false
 and_nothing true = refl
 and_nothing false = refl
 
-and_all : (b : Bool) → (b && true) ≡ b
-and_all true = refl
-and_all false = refl
-
 -- an event of another key
 has_other : (kind : Kind) (key : ℕ) (es : List Entry) (e : Entry) → (e.event.key == key) ≡ false → has_event kind key (es ++ e ∷ []) ≡ has_event kind key es
 has_other kind key es e other =
     has_more kind key es e ∙ ap (λ b. has_event kind key es || ((kind_code e.event.kind == kind_code kind) && b)) other
-    ∙ ap (λ b. has_event kind key es || b) (and_nothing (kind_code e.event.kind == kind_code kind)) ∙ or_nothing (has_event kind key es)
+    ∙ ap (λ b. has_event kind key es || b) (and_nothing (kind_code e.event.kind == kind_code kind)) ∙ or-false (has_event kind key es)
 
 -- an event of the key
 has_same : (kind : Kind) (es : List Entry) (e : Entry) (is : Kind) → e.event.kind ≡ is → has_event kind e.event.key (es ++ e ∷ []) ≡ (has_event kind e.event.key es || (kind_code is == kind_code kind))
 has_same kind es e is at =
     has_more kind e.event.key es e
     ∙ ap (λ b. has_event kind e.event.key es || ((kind_code e.event.kind == kind_code kind) && b)) (eq-eqb e.event.key e.event.key refl)
-    ∙ ap (λ b. has_event kind e.event.key es || b) (and_all (kind_code e.event.kind == kind_code kind))
+    ∙ ap (λ b. has_event kind e.event.key es || b) (and-true (kind_code e.event.kind == kind_code kind))
     ∙ ap (λ k. has_event kind e.event.key es || (kind_code k == kind_code kind)) at
 
 -- the phase of a key that was started, skipped, finished
@@ -84,7 +77,7 @@ finished true true false e g = (refl, refl)
 finished s k f e g = cc
 
 same : (s k f : Bool) (phase : Phase) → IsPhaseOf s k f phase → IsPhaseOf (s || false) (k || false) (f || false) phase
-same s k f phase h = moved _ _ _ s k f phase (or_nothing s) (or_nothing k) (or_nothing f) h
+same s k f phase h = moved _ _ _ s k f phase (or-false s) (or-false k) (or-false f) h
 
 stepped : (kind : Kind) (s k f : Bool) (state : KeyState) (phase : Phase) → state.phase ≡ phase → refusal kind state ≡ None → IsPhaseOf s k f phase
     → IsPhaseOf (s || (kind_code kind == kind_code Started)) (k || (kind_code kind == kind_code Skipped)) (f || (kind_code kind == kind_code Finished)) (phase_after kind phase)
@@ -105,15 +98,15 @@ stepped File s k f state phase is none h = same s k f phase h
 pub success_other : (es : List Entry) (e : Entry) (key : ℕ) → (e.event.key == key) ≡ false → has_success key (es ++ e ∷ []) ≡ has_success key es
 success_other es e key other =
     list_any-append (is_success key) es (e ∷ [])
-    ∙ ap (λ b. has_success key es || b) (or_nothing (is_success key e) ∙ ap (λ b. of_status Successful e && b) other ∙ and_nothing (of_status Successful e))
-    ∙ or_nothing (has_success key es)
+    ∙ ap (λ b. has_success key es || b) (or-false (is_success key e) ∙ ap (λ b. of_status Successful e && b) other ∙ and_nothing (of_status Successful e))
+    ∙ or-false (has_success key es)
 
 -- a successful finish of the key, or another event of it
 pub success_same : (es : List Entry) (e : Entry) → has_success e.event.key (es ++ e ∷ []) ≡ (has_success e.event.key es || of_status Successful e)
 success_same es e =
     list_any-append (is_success e.event.key) es (e ∷ [])
     ∙ ap (λ b. has_success e.event.key es || b)
-    (or_nothing (is_success e.event.key e) ∙ ap (λ b. of_status Successful e && b) (eq-eqb e.event.key e.event.key refl) ∙ and_all (of_status Successful e))
+    (or-false (is_success e.event.key e) ∙ ap (λ b. of_status Successful e && b) (eq-eqb e.event.key e.event.key refl) ∙ and-true (of_status Successful e))
 
 pub phase_same : (es : List Entry) (e : Entry) (state : KeyState) → refusal e.event.kind state ≡ None → IsPhase es e.event.key state.phase → IsPhase (es ++ e ∷ []) e.event.key (phase_after e.event.kind state.phase)
 phase_same es e state none h =

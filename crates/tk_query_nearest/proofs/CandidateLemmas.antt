@@ -5,6 +5,7 @@ use Rattle.std.specs.List.{slice_get}
 use Rattle.std.proofs.lemmas.Bool.{cases_lt, true≢false}
 use Rattle.std.proofs.lemmas.List.{take-map}
 use Rattle.std.proofs.lemmas.Option.{none-some}
+use Rattle.tk_lemmas.proofs.Lists.{get_below}
 use Rattle.tk_lanes.specs.Flags.{IsNextSet, IsNoneSet}
 use Rattle.tk_record_columns.specs.Recorded.{Recorded}
 use Rattle.tk_record_columns.specs.Selections.{Selected}
@@ -14,7 +15,7 @@ use Rattle.tk_query.proofs.AskedLemmas.{AreFlags, asked_set, asked_clear}
 use Rattle.tk_query_nearest.specs.declared.candidates.Candidate.{Candidate}
 use Rattle.tk_query_nearest.specs.steps.Candidates.{is_nearer, inserted}
 use Rattle.tk_query_nearest.specs.Nearness.{IsAskedFrom, IsNearest, IsNearer, distance_at, distance_of}
-use Rattle.tk_query_nearest.proofs.ViewLemmas.{there, told}
+use Rattle.tk_query_nearest.proofs.ViewLemmas.{told}
 use Rattle.tk_query_nearest.proofs.RankLemmas.{Has, Each, each_all, each_has, has_contains, near, put, AreBest, IsPast, best_more, best_same, ranked_pairs}
 
 abbrev pub position_of : Candidate → ℕ
@@ -85,7 +86,7 @@ module _ (asked : Selected) (flags : List Bool) (are : AreFlags asked flags) (si
   module _ (at : ℕ) (next : IsNextSet low flags at) where
     asked_here : IsAskedFrom asked first at
     asked_here =
-        let entry = there asked.recorded.entries at (let within = set_within flags at next.set in omega arith) in
+        let entry = get_below asked.recorded.entries at (let within = set_within flags at next.set in omega arith) in
         let on = so_far.on in
         let from = next.from in
         record { from = omega arith; event = entry.0; event_is = asked_set asked flags are at next.set ∙ entry.1 }

@@ -21,6 +21,7 @@ use Rattle.std.proofs.lemmas.Map.Lookups.{exact_bytes, btree_set_from_contains}
 use Rattle.std.proofs.lemmas.List.{get_or-map, length-map}
 use Rattle.std.proofs.lemmas.List.Elements.{All-filter}
 use Rattle.std.proofs.lemmas.List.Sorted.{IsPermutation-map, All-permutation, list_any-IsPermutation}
+use Rattle.tk_lemmas.proofs.Truth.{or_twice, or_swap}
 use Rattle.tk_ids.specs.IdText.{id_text}
 use Rattle.tk_events.specs.Fields.{field_text, line_feed}
 use Rattle.tk_report_text.specs.Labels.{Label}
@@ -126,15 +127,6 @@ sorted_puts (l ∷ ls) ks h = sorted_puts ls (put_id ks l) (sorted_put (id_text 
 ids_rise : (ls : List Label) → IsStrictlySortedBy order (id_texts ls)
 unfolding IsStrictlySortedBy
 ids_rise ls = sorted_puts ls [] tt
-
-or_twice : (a h : Bool) → a || h ≡ a || (a || h)
-or_twice true h = refl
-or_twice false h = refl
-
-or_swap : (a b h : Bool) → a || (b || h) ≡ b || (a || h)
-or_swap true true h = refl
-or_swap true false h = refl
-or_swap false b h = refl
 
 or_assoc : (a b h : Bool) → (a || b) || h ≡ b || (a || h)
 or_assoc true true h = refl

@@ -1,5 +1,6 @@
 use Rattle.std.proofs.Common.{◌∙◌}
-use Rattle.testkit_questions.proofs.AnswerLemmas.{if_ok_then, stats_are}
+use Rattle.tk_record_columns.proofs.Picking.{if_ok_then}
+use Rattle.testkit_questions.proofs.AnswerLemmas.{stats_are}
 use Rattle.testkit_questions.proofs.answers.answer_stats.Goals as goal
 
 pub returns : goal.returns

@@ -1,7 +1,7 @@
 use Rattle.std.proofs.Common.{subst}
 use Rattle.tk_record_columns.specs.Selections.{Selected}
+use Rattle.tk_record_columns.proofs.Picking.{if_ok_then}
 use Rattle.tk_query.specs.Matches.{IsExact}
-use Rattle.testkit_questions.proofs.AnswerLemmas.{if_ok_then}
 use Rattle.testkit_questions.proofs.answers.match_events.Goals as goal
 
 pub returns-in_ok-match_exactly-in-Exactly : goal.returns-in_ok-match_exactly-in-Exactly

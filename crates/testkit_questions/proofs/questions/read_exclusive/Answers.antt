@@ -3,7 +3,8 @@ use Rattle.std.proofs.lemmas.List.{nil_from_length}
 use Rattle.std.proofs.lemmas.Option.{MatchOption-at_none}
 use Rattle.std.proofs.lemmas.Result.{err_from_is_err_and}
 use Rattle.tk_query_conditions.specs.declared.conditions.Condition as real
-use Rattle.testkit_questions.proofs.WordLemmas.{begins, of_nobody, not_empty, asks_one, third_condition, first_fault, second_fault}
+use Rattle.tk_query_conditions.proofs.ReaderLemmas.{not_empty}
+use Rattle.testkit_questions.proofs.WordLemmas.{begins, of_nobody, asks_one, third_condition, first_fault, second_fault}
 use Rattle.testkit_questions.proofs.questions.read_exclusive.Goals as goal
 
 pub returns-in_err-writers : goal.returns-in_err-writers

@@ -1,11 +1,12 @@
 use Rattle.std.proofs.Common.{true, false, not, map, sym, ap, ◌∙◌}
 use Rattle.std.specs.List.{list_all, list_any}
 use Rattle.std.proofs.lemmas.Result.{err_from_is_err_and}
+use Rattle.tk_record_columns.proofs.Picking.{if_ok_same}
 use Rattle.tk_query.specs.Holds.{holds}
 use Rattle.tk_query.specs.steps.Rules.{rule_holds}
 use Rattle.tk_query.proofs.AskedLemmas.{map_same}
 use Rattle.tk_query.proofs.HoldsLemmas.{holds-All, holds-Any}
-use Rattle.tk_query.proofs.MaskLemmas.{same_length, all_of_first, any_of_first, mask_first, all_more, any_more, all_done, any_done, if_ok_same, map-map}
+use Rattle.tk_query.proofs.MaskLemmas.{same_length, all_of_first, any_of_first, mask_first, all_more, any_more, all_done, any_done, map-map}
 use Rattle.tk_query.proofs.masks.+masks.Goals as goal
 
 pub all_mask-loop-member-init : goal.all_mask-loop-member-init

@@ -1,6 +1,7 @@
 use Rattle.std.proofs.Common.{false}
+use Rattle.tk_record_columns.proofs.Picking.{if_ok_then}
 use Rattle.tk_query.specs.declared.rules.Rule.TheVariants.{Column, Payload, Descriptor, Members}
-use Rattle.tk_query.proofs.MaskLemmas.{if_ok_from, mask_first, rule_mask_same}
+use Rattle.tk_query.proofs.MaskLemmas.{mask_first, rule_mask_same}
 use Rattle.tk_query.proofs.masks.rule_mask.Goals as goal
 
 pub returns-in-Column : goal.returns-in-Column
@@ -16,4 +17,4 @@ pub returns-in-Members : goal.returns-in-Members
 returns-in-Members c =
     let r = c.args.«record».now in
     rule_mask_same r c.args.rule Members c.none.result c.in-Members.is
-    (if_ok_from c.none.result _ _ (λ flags clear. mask_first false c.len.result r.entries flags clear c.len.ensures.value) c.none.ensures)
+    (if_ok_then c.none.result _ _ (λ flags clear. mask_first false c.len.result r.entries flags clear c.len.ensures.value) c.none.ensures)
