@@ -69,32 +69,7 @@ def changed_condition(numbers: Numbers) -> Start:
     return ["ask", "match", "loosely", "all()", text], short_record(numbers)
 
 
-PARTS = [
-    "all(",
-    "any(",
-    "not(",
-    "test",
-    "started",
-    "failed",
-    "failed(",
-    "id(",
-    "name(",
-    "entry(",
-    "kind(",
-    "start",
-    "skip",
-    ")",
-    ")",
-    ")",
-    ",",
-    ",",
-    "a",
-    "é",
-    "%28",
-    "%2",
-    "%",
-    "(",
-]
+PARTS = "all( any( not( test started failed failed( id( name( entry( kind( start skip ) ) ) , , a é %28 %2 % (".split()
 
 
 def loose_word(numbers: Numbers) -> str:
