@@ -3,7 +3,7 @@
 from tables.building import fault, no
 from tables.texts import EMPTY
 
-NOTS = "not(" * 32
+NOTS, ENDS = "not(" * 32, ")" * 32
 
 BAD_AT = """
 ^x ^Test ^(test) ^) ^, ^% ^é t^ tes^x tes^ test^( test^() test^) test^,test test^s test^é
@@ -27,7 +27,7 @@ not^ not(^ not(^) not(test^ not(test^,test) not(test)^) not(not(test)^ no^ne(tes
 file^ file(^ file(a^,b)
 """.split()
 BAD_AT += ["^ test", "test^ ", "all(test^ test)", "all(test,^ test)", "test^\n", NOTS + "^", NOTS + "^x"]
-BAD_AT += [NOTS + "test" + ")" * 31 + "^", NOTS + "test" + ")" * 32 + "^)", NOTS + "test" + ")" * 32 + "^not(", "all(not(^x)," + "not(" * 40]
+BAD_AT += [f"{NOTS}test{ENDS[1:]}^", f"{NOTS}test{ENDS}^)", f"{NOTS}test{ENDS}^not(", "all(not(^x)," + "not(" * 40]
 """Each has a `^` after its longest prefix that begins a condition."""
 
 DEEP = [
@@ -37,8 +37,8 @@ DEEP = [
     "all(" * 33 + ")" * 33,
     "any(" * 33 + ")" * 33,
     "all(any(not(" * 11,
-    "not(" * 32 + "all()" + ")" * 32,
-    "not(" * 32 + "any()" + ")" * 32,
+    f"{NOTS}all(){ENDS}",
+    f"{NOTS}any(){ENDS}",
     "all(" * 31 + "not(test),not(not(test))" + ")" * 31,
     "not(" * 1_000 + "test" + ")" * 1_000,
 ]
@@ -46,9 +46,9 @@ DEEP = [
 READ = [
     "all(" * 32 + ")" * 32,
     "any(" * 32 + ")" * 32,
-    "not(" * 32 + "id(x)" + ")" * 32,
-    "not(" * 32 + "entry(a,b)" + ")" * 32,
-    "not(" * 32 + "failed(not%28not%28)" + ")" * 32,
+    f"{NOTS}id(x){ENDS}",
+    f"{NOTS}entry(a,b){ENDS}",
+    f"{NOTS}failed(not%28not%28){ENDS}",
     "all(" + ",".join(["not(test)"] * 100) + ")",
     "all(" * 31 + ",".join(["not(test)"] * 3) + ")" * 31,
     "all(all(),any(),all(all(),any()))",
@@ -66,7 +66,7 @@ def bad_at(prefix: str, rest: str):
 
 CASES = (
     [bad_at(*text.split("^")) for text in BAD_AT]
-    + [fault(f"deep condition/{number}", ["ask", "match", "exactly", text], EMPTY, "condition 1 is too deep") for number, text in enumerate(DEEP)]
+    + [fault(f"deep condition/{number}", f"ask match exactly {text}", EMPTY, "condition 1 is too deep") for number, text in enumerate(DEEP)]
     + [no(f"condition that is read/{number}", ["ask", "match", "in-order", text], EMPTY, "no 0\n") for number, text in enumerate(READ)]
     + [
         fault("condition/the twelfth", "ask match in-order" + " test" * 11 + " tesx", EMPTY, "condition 12 is bad at 3"),
