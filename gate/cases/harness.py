@@ -5,6 +5,8 @@ standard error and as status. A `ThreadCount` also counts the threads of its run
 values without the program.
 """
 
+import contextlib
+import io
 import os
 import subprocess
 import tempfile
@@ -12,7 +14,7 @@ import threading
 import time
 from dataclasses import dataclass
 from enum import Enum
-from typing import Callable, List, Optional, Sequence, Tuple, Union
+from typing import BinaryIO, Callable, List, Optional, Sequence, Tuple, Union
 
 Bytes = Union[bytes, Callable[[], bytes]]
 """Bytes, or a function that makes them when they are needed (for large ones)."""
@@ -145,19 +147,11 @@ class Watcher:
     def __init__(self):
         self.most = 0
 
-    def watch(self, process: subprocess.Popen) -> threading.Thread:
-        """Starts to look."""
-        looking = threading.Thread(target=self.look, args=(process,))
-        looking.start()
-        return looking
-
     def look(self, process: subprocess.Popen) -> None:
-        try:
+        with contextlib.suppress(FileNotFoundError, ProcessLookupError):
             while process.returncode is None:
                 self.most = max(self.most, len(os.listdir(f"/proc/{process.pid}/task")))
                 time.sleep(0.001)
-        except (FileNotFoundError, ProcessLookupError):
-            pass
 
 
 Ended = Tuple[int, bytes, bytes]
@@ -166,20 +160,14 @@ Ended = Tuple[int, bytes, bytes]
 
 def start(case: Case, program: str, watcher: Optional[Watcher] = None) -> Ended:
     """Runs the program on a case. It is killed, and its status is -9, where the time limit passes."""
-    streams = Streams()
-    try:
-        process = subprocess.Popen(
-            command_of(case, program),
-            bufsize=0,
-            stdin=streams.input_of(case),
-            stdout=streams.output_of(case.standard_output),
-            stderr=streams.output_of(case.standard_error),
-        )
-    finally:
-        streams.close()
-    limit = threading.Timer(TIME_LIMIT, process.kill)
+    with contextlib.ExitStack() as opened:
+        outputs = {"stdout": output_of(case.standard_output, opened), "stderr": output_of(case.standard_error, opened)}
+        process = subprocess.Popen(command_of(case, program), bufsize=0, stdin=input_of(case, opened), **outputs)
+    limit = threading.Timer(SECONDS_WITH_OPEN_INPUT if case.standard_input == Input.OPEN else TIME_LIMIT, process.kill)
     limit.start()
-    looking = watcher.watch(process) if watcher else None
+    looking = threading.Thread(target=watcher.look, args=(process,)) if watcher else None
+    if looking:
+        looking.start()
     try:
         return end(case, process)
     finally:
@@ -196,110 +184,57 @@ def end(case: Case, process: subprocess.Popen) -> Ended:
     """Gives a process its input, and waits for its end."""
     first = b""
     if case.standard_output == Output.CUT_PIPE:
-        first = read_first(process.stdout)
-        process.stdout.close()
+        with io.BufferedReader(process.stdout) as pipe:
+            first = pipe.read(CUT)
         process.stdout = None
-    if case.standard_input == Input.OPEN:
-        return end_with_open_input(case, process)
-    if case.standard_input == Input.PIECES:
-        write_pieces(process.stdin, made(case.input))
-    data = made(case.input) if process.stdin and case.standard_input == Input.BYTES else None
-    output, error = process.communicate(data)
+    if case.standard_input in (Input.OPEN, Input.PIECES):
+        pipe, process.stdin = process.stdin, None
+        writing = threading.Thread(target=write_pieces, args=(pipe, made(case.input), case.standard_input))
+        writing.start()
+        output, error = process.communicate()
+        writing.join()
+        pipe.close()
+    else:
+        output, error = process.communicate(made(case.input) if process.stdin else None)
     return process.returncode, output or first, error or b""
 
 
-def end_with_open_input(case: Case, process: subprocess.Popen) -> Ended:
-    """Writes the input, and waits for the end of the process, which is killed after a while, before the pipe is closed."""
-    pipe, process.stdin = process.stdin, None
-    writing = threading.Thread(target=write_all, args=(pipe, made(case.input)))
-    writing.start()
-    try:
-        output, error = process.communicate(timeout=SECONDS_WITH_OPEN_INPUT)
-        writing.join()
+def write_pieces(pipe: BinaryIO, data: bytes, kind: Input) -> None:
+    """Writes bytes as long as they are read: one by one, and then closes the pipe; or many at once, and leaves it open."""
+    size = 1 if kind == Input.PIECES else 1 << 16
+    with contextlib.suppress(BrokenPipeError):
+        for at in range(0, len(data), size):
+            pipe.write(data[at : at + size])
+    if kind == Input.PIECES:
         pipe.close()
-    except subprocess.TimeoutExpired:
-        process.kill()
-        writing.join()
-        pipe.close()
-        output, error = process.communicate()
-    return process.returncode, output or b"", error or b""
 
 
-def write_all(pipe, data: bytes) -> None:
-    """Writes bytes as long as they are read."""
-    at = 0
-    try:
-        while at < len(data):
-            at += pipe.write(data[at:])
-    except BrokenPipeError:
-        pass
+def input_of(case: Case, opened: contextlib.ExitStack) -> Union[int, BinaryIO]:
+    """What is standard input; what is opened for it is closed when the program has it."""
+    if case.standard_input == Input.FILE or case.standard_output == Output.CUT_PIPE:
+        file = opened.enter_context(tempfile.TemporaryFile())
+        file.write(made(case.input))
+        file.seek(0)
+        return file
+    if case.standard_input in (Input.CLOSED, Input.FOLDER):
+        folder = os.open("/", os.O_RDONLY)
+        opened.callback(os.close, folder)
+        return folder
+    return subprocess.PIPE
 
 
-def read_first(pipe) -> bytes:
-    """The first bytes of an output that is cut."""
-    first = b""
-    while len(first) < CUT:
-        more = pipe.read(CUT - len(first))
-        if not more:
-            break
-        first += more
-    return first
-
-
-def write_pieces(pipe, data: bytes) -> None:
-    """Writes bytes one by one, as long as they are read."""
-    try:
-        for at in range(len(data)):
-            pipe.write(data[at : at + 1])
-    except BrokenPipeError:
-        pass
-
-
-class Streams:
-    """The file descriptors that were opened for one run."""
-
-    def __init__(self):
-        self.opened: List[int] = []
-
-    def keep(self, descriptor: int) -> int:
-        self.opened.append(descriptor)
-        return descriptor
-
-    def input_of(self, case: Case) -> int:
-        if case.standard_input == Input.FILE or case.standard_output == Output.CUT_PIPE:
-            return self.file_with(made(case.input))
-        if case.standard_input in (Input.CLOSED, Input.FOLDER):
-            return self.keep(os.open("/", os.O_RDONLY))
-        return subprocess.PIPE
-
-    def file_with(self, data: bytes) -> int:
-        with tempfile.TemporaryFile() as file:
-            file.write(data)
-            file.seek(0)
-            return self.keep(os.dup(file.fileno()))
-
-    def output_of(self, output: Output) -> int:
-        if output == Output.FULL:
-            return self.keep(os.open("/dev/full", os.O_WRONLY))
-        if output == Output.BROKEN_PIPE:
-            return self.keep(os.dup(BROKEN_PIPE))
-        return subprocess.PIPE
-
-    def close(self) -> None:
-        for descriptor in self.opened:
-            os.close(descriptor)
+def output_of(output: Output, opened: contextlib.ExitStack) -> Union[int, BinaryIO]:
+    """What is standard output, or standard error."""
+    if output == Output.FULL:
+        return opened.enter_context(open("/dev/full", "wb"))
+    return BROKEN_PIPE if output == Output.BROKEN_PIPE else subprocess.PIPE
 
 
 def command_of(case: Case, program: str) -> List[bytes]:
     """The command line, started by a shell that closes streams and limits memory where that is asked."""
     command = [program.encode()] + list(case.words)
-    closed = b""
-    if case.standard_input == Input.CLOSED:
-        closed += b" <&-"
-    if case.standard_output == Output.CLOSED:
-        closed += b" >&-"
-    if case.standard_error == Output.CLOSED:
-        closed += b" 2>&-"
+    closed = b" <&-" * (case.standard_input == Input.CLOSED)
+    closed += b" >&-" * (case.standard_output == Output.CLOSED) + b" 2>&-" * (case.standard_error == Output.CLOSED)
     limit = b"" if case.memory is None else f"ulimit -s {STACK}; ulimit -v {case.memory}; ".encode()
     return [b"sh", b"-c", limit + b'exec "$@"' + closed, b"sh"] + command if closed or limit else command
 
@@ -313,8 +248,5 @@ def difference(got: bytes, wanted: bytes) -> str:
     if len(got) + len(wanted) <= 2_000:
         return f"{got!r}, wanted {wanted!r}"
     at = len(os.path.commonprefix([got, wanted]))
-    start_at = max(0, at - 60)
-    return (
-        f"{len(got)} bytes, wanted {len(wanted)}; they part at byte {at}: "
-        f"{got[start_at : at + 60]!r}, wanted {wanted[start_at : at + 60]!r}"
-    )
+    parts = [text[max(0, at - 60) : at + 60] for text in (got, wanted)]
+    return f"{len(got)} bytes, wanted {len(wanted)}; they part at byte {at}: {parts[0]!r}, wanted {parts[1]!r}"

@@ -156,19 +156,29 @@ def one_lock() -> bytes:
     return plan_of_nodes(100, f',"mode":"concurrent","locks":[{{"key":"db"}}],"entries":[{entries}]')
 
 
+def events(*tails: str, keys: Sequence[int] = range(1, 65_001)) -> str:
+    """The events of keys, one after the other, each of which has all of these tails in turn."""
+    return "".join(f"E|1|{key}|0|{tail}\n" for key in keys for tail in tails)
+
+
+def record_of_tests(name: str, *parts: str) -> bytes:
+    """A record of an engine and of 65,000 tests below it, each with this name, and of these events."""
+    nodes = "".join(f"N|T|[engine:e]/[t:{number}]|{name}\n" for number in range(65_000))
+    return (RECORD.replace("|T|", "|C|") + nodes + "".join(parts)).encode()
+
+
+BEGIN, END = events("start", keys=[0]), events("finish|ok", keys=[0])
+"""The start and the finish of the engine."""
+
+
 def tests_of_an_engine() -> bytes:
-    """A record of an engine and of 65,000 tests below it, each with a long name, a start and a finish."""
-    nodes = "".join(f"N|T|[engine:e]/[t:{number}]|{'n' * 170}\n" for number in range(65_000))
-    events = "".join(f"E|1|{key}|0|start\nE|1|{key}|0|finish|ok\n" for key in range(1, 65_001))
-    return f"{RECORD.replace('|T|', '|C|')}{nodes}E|1|0|0|start\n{events}E|1|0|0|finish|ok\n".encode()
+    """Tests with a long name, one after the other within the engine."""
+    return record_of_tests("n" * 170, BEGIN, events("start", "finish|ok"), END)
 
 
 def tests_side_by_side() -> bytes:
-    """A record of 65,000 tests, which all start before the first finishes."""
-    nodes = "".join(f"N|T|[engine:e]/[t:{number}]|n\n" for number in range(65_000))
-    starts = "".join(f"E|1|{key}|0|start\n" for key in range(1, 65_001))
-    finishes = "".join(f"E|1|{key}|0|finish|ok\n" for key in range(1, 65_001))
-    return f"{RECORD.replace('|T|', '|C|')}{nodes}{starts}{finishes}".encode()
+    """Tests that all start before the first finishes."""
+    return record_of_tests("n", events("start"), events("finish|ok"))
 
 
 def registrations() -> bytes:
@@ -176,7 +186,7 @@ def registrations() -> bytes:
     entries = ("0|dynamic|T|[engine:e]/[t:{0}]|" + "n" * 160, "0|start", "0|finish|ok")
     lines = "".join(f"E|1|{{0}}|{entry}\n" for entry in entries)
     rounds = "".join(lines.format(key) for key in range(65_536, 65_536 + 60_000))
-    return f"{RECORD.replace('|T|', '|C|')}E|1|0|0|start\n{rounds}E|1|0|0|finish|ok\n".encode()
+    return f"{RECORD.replace('|T|', '|C|')}{BEGIN}{rounds}{END}".encode()
 
 
 def one_long_unit() -> bytes:
@@ -187,11 +197,8 @@ def one_long_unit() -> bytes:
 
 
 def a_test_still_runs() -> bytes:
-    """A record of an engine and of 65,000 tests that all start, of which all but the last finish before the engine does."""
-    nodes = "".join(f"N|T|[engine:e]/[t:{number}]|n\n" for number in range(65_000))
-    starts = "".join(f"E|1|{key}|0|start\n" for key in range(1, 65_001))
-    finishes = "".join(f"E|1|{key}|0|finish|ok\n" for key in range(1, 65_000))
-    return f"{RECORD.replace('|T|', '|C|')}{nodes}E|1|0|0|start\n{starts}{finishes}E|1|0|0|finish|ok\n".encode()
+    """Tests that all start, of which all but the last finish before the engine does."""
+    return record_of_tests("n", BEGIN, events("start"), events("finish|ok", keys=range(1, 65_000)), END)
 
 
 def fifty_skips() -> bytes:

@@ -1,13 +1,11 @@
 """Holds the checks of commands, names, quotes, figures and sizes against small trees that are right, or wrong in one way."""
 
-import os
-import tempfile
 import unittest
 from operator import itemgetter
 
 from commands import examples_of
 from documents import documents_of
-from fixtures import parameterized
+from fixtures import folder, parameterized, write
 from quotes import quotes_of
 from rules import Limits, rules_of
 from tree import Tree
@@ -129,20 +127,17 @@ class Rules(unittest.TestCase):
 
     def faults(self, files):
         """What is found wrong with a tree that differs from the right one in these files."""
-        with tempfile.TemporaryDirectory() as top:
-            for path, text in {**TREE, "program": PROGRAM, **files}.items():
-                if text is not None:
-                    os.makedirs(os.path.dirname(f"{top}/{path}"), exist_ok=True)
-                    with open(f"{top}/{path}", "w", encoding="utf-8") as file:
-                        file.write(text)
-            os.chmod(f"{top}/program", 0o755)
-            tree, documents = Tree(top), documents_of(top)
-            found = [fault for rule in rules_of(tree, documents, LIMITS).values() for fault in rule()]
-            for document in documents:
-                found += [f"{place}: {fault}" for place, fault in quotes_of(tree, document).items() if fault]
-                examples = [(it, it.fault(top, f"{top}/program")) for it in examples_of(document)]
-                found += [f"{it.place}: {it.command}: {fault}" for it, fault in examples if fault]
-            return found
+        top = folder(self)
+        for path, text in {**TREE, "program": PROGRAM, **files}.items():
+            if text is not None:
+                write(f"{top}/{path}", text, 0o755)
+        tree, documents = Tree(top), documents_of(top)
+        found = [fault for rule in rules_of(tree, documents, LIMITS).values() for fault in rule()]
+        for document in documents:
+            found += [f"{place}: {fault}" for place, fault in quotes_of(tree, document).items() if fault]
+            examples = [(it, it.fault(top, f"{top}/program")) for it in examples_of(document)]
+            found += [f"{it.place}: {it.command}: {fault}" for it, fault in examples if fault]
+        return found
 
     @parameterized(RIGHT, name=itemgetter(0))
     def test_right(self, row):

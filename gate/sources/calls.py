@@ -24,21 +24,16 @@ def calls_in(source: Source) -> Set[str]:
     return paths | names | set(re.findall(r"\.\w+\(", source.body)) | {f"{source.path} {it}" for it in paths if it.startswith("Self::")}
 
 
-def differences(found: Sequence[str], exceptions: Iterable[str], fault: str) -> List[str]:
-    """A fault for each of these that is no exception, and for each exception that is none of these."""
-    needless = [f"{name} is an exception that is not needed" for name in exceptions if name not in found]
-    return [f"{name} {fault}" for name in found if name not in exceptions] + needless
-
-
-def uncalled(sources: Sequence[Source], exceptions: Iterable[str]) -> List[str]:
+def uncalled(sources: Sequence[Source]) -> List[str]:
     """Public functions that nothing calls. (A law is a theorem: nobody has to call it.)"""
     libraries = [it for it in sources if not it.is_test and not it.path.endswith("/laws.rt")]
     called = set().union(*map(calls_in, sources))
-    found = [str(it) for source in libraries for it in source.functions() if not ways_to_call(it) & called]
-    return differences(found, exceptions, "is public, and no test and no other code calls it")
+    found = [it for source in libraries for it in source.functions() if not ways_to_call(it) & called]
+    return [f"{it} is public, and no test and no other code calls it" for it in found]
 
 
 def without_clause(sources: Sequence[Source], exceptions: Iterable[str]) -> List[str]:
-    """Public functions of libraries that have no clause, each with its file."""
+    """Public functions of libraries that have no clause, each with its file, and the exceptions that are none."""
     found = [f"{it.path} {it.name}" for source in sources if not source.is_test for it in source.functions() if not it.has_clause]
-    return differences(found, exceptions, "is public and has no clause: any body passes")
+    needless = [f"{name} is an exception that is not needed" for name in exceptions if name not in found]
+    return [f"{name} is public and has no clause: any body passes" for name in found if name not in exceptions] + needless

@@ -47,12 +47,10 @@ class Scope:
 
 @dataclass(frozen=True)
 class Definition:
-    """A definition, or a block of them: their names, the text without the comment above, and the lines with it, counted from 0."""
+    """A definition, or a block of them: their names, and the text without the comment above."""
 
     names: Sequence[str]
     text: str
-    first: int
-    end: int
 
 
 class Module:
@@ -69,13 +67,10 @@ class Module:
 
     def _definitions(self) -> Iterator[Definition]:
         starts = [at for at, line in enumerate(self.lines) if BEGINS.match(line)]
-        for start, limit in zip(starts, [*starts[1:], len(self.lines)]):
-            first, end = start, limit
-            while first and self.lines[first - 1].startswith(("--", "infix")):
-                first -= 1
+        for start, end in zip(starts, [*starts[1:], len(self.lines)]):
             while not self.lines[end - 1] or self.lines[end - 1].startswith(("--", "infix")):
                 end -= 1
-            yield Definition(names_of(self.lines[start:end]), "\n".join(self.lines[start:end]), first, end)
+            yield Definition(names_of(self.lines[start:end]), "\n".join(self.lines[start:end]))
 
 
 def names_of(lines: Sequence[str]) -> List[str]:

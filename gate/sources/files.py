@@ -36,9 +36,9 @@ def unsafe(sources: Sequence[Source]) -> List[str]:
     return [f"{place}: {found[0]}" for place, line in lines for found in [re.search(r"\bunsafe\b|\bextern\b", line)] if found]
 
 
-def long_lines(tree: Tree, sources: Sequence[Source], known: Sequence[str]) -> List[str]:
-    """Lines of clauses and definitions that are too long to read, save the known ones; a line of imports may be long."""
+def long_lines(tree: Tree, sources: Sequence[Source]) -> List[str]:
+    """Lines of clauses and definitions that are too long to read; a line of imports may be long."""
     lines = [(f"{it.path}:{at}", it.lines[at - 1]) for it in sources for at in sorted(it.clause_lines)]
     for path in [it for it in tree.files if re.fullmatch(r"crates/\w+/specs/.*\.antt", it)]:
         lines += [(f"{path}:{at}", line) for at, line in enumerate(tree.text(path).split("\n"), 1) if not line.startswith("use ")]
-    return [f"{place} has {len(line)} columns" for place, line in lines if len(line) > MOST_COLUMNS and place not in known]
+    return [f"{place} has {len(line)} columns" for place, line in lines if len(line) > MOST_COLUMNS]

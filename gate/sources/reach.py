@@ -1,23 +1,14 @@
-#!/usr/bin/env python3
 """Which definitions a reader of the public contracts has to believe: those that the contracts reach.
 
 A contract has clauses and ghost members. Those of a public function, trait or type count, those of an impl whose trait and types are public,
 and all of an example, which shows what authors write. They reach what they name; a definition reaches what its text names, and a type its
 `Model` and the types of its fields. What no contract reaches stands in `specs/steps/` of its crate, and nothing else does.
-
-`reach.py` prints, for each file, how many definitions and lines are to go to `specs/steps/`; `reach.py NAME ..` what reaches these.
 """
 
-import os
 import re
-import sys
 from collections import defaultdict
 from dataclasses import dataclass
 from typing import Dict, Iterator, List, Mapping, Optional, Sequence, Set
-
-if __name__ == "__main__":
-    sys.dont_write_bytecode = True
-    sys.path.append(os.path.join(os.path.dirname(os.path.realpath(__file__)), os.pardir))
 
 from definitions import Definition, Module, Scope, modules_of
 from facade import uses_of
@@ -138,50 +129,19 @@ class Reach:
             return self.meant(f"{self.modules[above].scope.modules[last]}.{name}")
         return self.meant(module) if above else set()
 
-    def is_reached(self, module: Module, definition: Definition) -> bool:
-        """Whether a contract reaches a definition of this file, or one of a block."""
-        return any(f"{module.name}.{name}" in self.reached for name in definition.names)
-
-    def misplaced(self, module: Module) -> List[Definition]:
-        """The definitions of a file that are to go to specs/steps, or, of a file there, those that are to go back."""
-        return [it for it in module.definitions if self.is_reached(module, it) == module.is_of_steps]
-
-    def way_to(self, name: str) -> List[str]:
-        """What reaches a definition, and what reaches that, up to a public item."""
-        return [name, *self.way_to(self.reached[name])] if self.reached.get(name) else [name]
+    def reaching(self, module: Module, definition: Definition) -> List[str]:
+        """What reaches a definition of this file, or one of a block; nothing where no contract does."""
+        return [self.reached[name] for name in (f"{module.name}.{it}" for it in definition.names) if name in self.reached]
 
 
-def reach_faults(tree: Tree, not_yet: Sequence[str]) -> List[str]:
-    """Definitions that stand in the wrong folder, save those of crates that are not yet in order, and such crates that are."""
-    reach, faults, found = Reach(tree), [], set()
-    for module in reach.modules.values():
-        for it in reach.misplaced(module):
-            found.add(module.crate)
-            what = "a public contract reaches it" if module.is_of_steps else "no public contract reaches it, and it isn't in specs/steps"
-            faults += [f"{module.path}: {it.names[0]}: {what}"] if module.is_of_steps or module.crate not in not_yet else []
-    return faults + [f"{crate} has its steps, and is an exception" for crate in not_yet if crate not in found]
-
-
-def lines_in(definitions: Sequence[Definition]) -> int:
-    return sum(it.end - it.first for it in definitions)
-
-
-def main() -> None:
-    reach = Reach(Tree(os.path.realpath(f"{__file__}/../../..")))
-    if sys.argv[1:]:
-        names = [it for it in reach.named if it.rpartition(".")[2] in sys.argv[1:]]
-        print("\n".join("\n  ".join(reach.way_to(it) if it in reach.reached else [it, "is not reached"]) for it in names))
-        return
-    total: Dict[str, List[int]] = defaultdict(lambda: [0, 0, 0, 0])
-    for module in reach.modules.values():
-        gone = reach.misplaced(module)
-        numbers = len(gone), len(module.definitions), lines_in(gone), lines_in(module.definitions)
-        for crate in (module.crate, "all crates"):
-            total[crate] = [old + new for old, new in zip(total[crate], numbers)]
-        if gone:
-            print("{}: {} of {} definitions, {} of {} lines{}".format(module.path, *numbers, ": the whole file" * (numbers[0] == numbers[1])))
-    print("\n".join("{}: {} of {} definitions, {} of {} lines".format(crate, *numbers) for crate, numbers in sorted(total.items())))
-
-
-if __name__ == "__main__":
-    main()
+def reach_faults(tree: Tree) -> List[str]:
+    """Definitions that stand in the wrong folder."""
+    reach = Reach(tree)
+    faults = []
+    for module, it in [(module, it) for module in reach.modules.values() for it in module.definitions]:
+        found = reach.reaching(module, it)
+        if module.is_of_steps and found:
+            faults.append(f"{module.path}: {it.names[0]}: a public contract reaches it, by {found[0]}")
+        elif not module.is_of_steps and not found:
+            faults.append(f"{module.path}: {it.names[0]}: no public contract reaches it, and it isn't in specs/steps")
+    return faults

@@ -20,16 +20,10 @@ class Limits:
     handles: str
     modules: Mapping[str, str]
     """The module of the facade for each library."""
-    uncalled: Sequence[str] = ()
-    """Public functions that nothing calls."""
     without_clause: Sequence[str] = ()
     """Public functions without a clause, by file and name."""
     fewest_edits: int = 0
     fewest_tests: int = 0
-    long_lines: Sequence[str] = ()
-    """Lines of clauses and definitions that are too long, by file and number."""
-    without_steps: Sequence[str] = ()
-    """Crates whose `specs/steps/` hasn't yet all that no public contract reaches."""
 
 
 Rule = Callable[[], List[str]]
@@ -41,7 +35,7 @@ def rules_of(tree: Tree, limits: Limits) -> Dict[str, Rule]:
     parts = [it for it in tree.crates if it.startswith("tk_") or it == "testkit_questions"]
     tests = [line for it in sources if it.is_test for line in it.code if line.strip() == "#[test]"]
     return {
-        "each public function is called": lambda: calls.uncalled(sources, limits.uncalled),
+        "each public function is called": lambda: calls.uncalled(sources),
         "each public function has a clause": lambda: calls.without_clause(sources, limits.without_clause),
         "each public name is given out in its module": lambda: facade_faults(limits.modules, sources, parts),
         "each fault of memory that is made has a reason": lambda: memory.unexplained(sources),
@@ -50,8 +44,8 @@ def rules_of(tree: Tree, limits: Limits) -> Dict[str, Rule]:
         "no fewer tests than there were": lambda: fewer("tests", len(tests), limits.fewest_tests),
         "each file is read": lambda: files.unread(tree),
         "no code is unsafe or foreign": lambda: files.unsafe(sources),
-        "lines of clauses and definitions can be read": lambda: files.long_lines(tree, sources, limits.long_lines),
-        "specs/steps has what no public contract reaches, and nothing else": lambda: reach_faults(tree, limits.without_steps),
+        "lines of clauses and definitions can be read": lambda: files.long_lines(tree, sources),
+        "specs/steps has what no public contract reaches, and nothing else": lambda: reach_faults(tree),
         "HANDLES is unchanged": lambda: [] if tree.text("HANDLES") == limits.handles else [f"HANDLES differs from {limits.handles!r}"],
     }
 

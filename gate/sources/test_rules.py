@@ -9,7 +9,7 @@ from tree import Tree
 
 LIMITS = Limits(
     "Handles allowed: Threads, Wait.\n", {"tk_low": "lower", "tk_high": "upper"},
-    ["Lane::spare"], ["crates/tk_low/src/lanes.rt spare"], 2, 2, without_steps=["tk_high"],
+    ["crates/tk_low/src/lanes.rt spare"], 2, 2,
 )
 
 LANES = """//! Lanes.
@@ -64,7 +64,7 @@ pub fn boxed(alloc: Global) -> Result<u32, LaneFault>
 """
 LOW, ROOT, UPPER, LOWER = "crates/tk_low/src/lanes.rt", *(f"crates/engine_testkit/src/{it}.rt" for it in ("lib", "upper", "lower"))
 HIGH, TESTS, EDIT = "crates/tk_high/src/lib.rt", "crates/test_low/src/lib.rt", "crates/tk_low/must-fail/count.edit"
-BOXES, HIGHS = "crates/tk_low/specs/steps/Boxes.antt", "crates/tk_high/specs/Highs.antt"
+BOXES = "crates/tk_low/specs/steps/Boxes.antt"
 TREE = {
     "HANDLES": LIMITS.handles,
     "crates.txt": "tk_low:\n# a comment\ntk_high: tk_low indexmap\nengine_testkit: tk_low tk_high\ntest_low tests_may=Wait: tk_low\n",
@@ -81,13 +81,11 @@ TREE = {
     "crates/tk_low/proofs/lanes/boxed/Answers.antt": "",
     EDIT: "file: src/lanes.rt\nold:         self.count\nnew:         self.count + 1\n",
     HIGH: "pub use tk_low::{Lane, LaneFault};\n\npub const TOP: u32 = 4;\n\npub fn high() -> u32\n    ensures { result ≡ 1 }\n{\n    1\n}\n",
-    "crates/tk_high/specs/Lib.antt": "pub mod Highs\n",
-    HIGHS: "abbrev pub highs : ℕ\n",
     "crates/tk_high/must-fail/high.edit": "file: src/lib.rt\nold: u32 = 4\nnew: u32 = 5\nold: u32 = 5;\nnew: u32 = 6;\n",
     ROOT: "pub mod lower;\npub mod upper;\n\npub use lower::Lane;\npub use upper::high;\n",
     UPPER: "pub use tk_high::TOP;\npub use tk_high::high;\n",
     LOWER: "pub use tk_high::{Lane, LaneFault as LaneFault};\npub use tk_low::{\n    boxed,\n};\n",
-    TESTS: "#[test]\nfn lanes() {\n    Lane::new(alloc);\n    assert!(lane.count() == boxed(alloc));\n}\n\n"
+    TESTS: "#[test]\nfn lanes() {\n    Lane::new(alloc).spare();\n    assert!(lane.count() == boxed(alloc));\n}\n\n"
     "mod more {\n    #[test]\n    fn highs() {\n        assert!(high() == 1);\n    }\n}\n",
 }
 
@@ -120,7 +118,7 @@ WRONG = [
     ("a method of another type", "Lane::count is public, and no test", changed(TESTS, "lane.count()", "Other::count(&lane)")),
     ("a function that use names", "high is public, and no test", changed(TESTS, "assert!(high() == 1);", "use tk_high::high;")),
     ("a function that a clause names", "high is public, and no test", changed(TESTS, "high() == 1", "1")),
-    ("an exception that is called", "Lane::spare is an exception that", changed(TESTS, "lane.count()", "lane.spare() + lane.count()")),
+    ("an exception that has a clause", "lanes.rt spare is an exception that", changed(LOW, "spare(&self) {", "spare(&self)\n        ensures { result ≡ 1 }\n    {")),
     ("what is required is no clause", "high is public and has no clause", changed(HIGH, "ensures", "requires")),
     ("a clause of the next function", "high is public and has no clause", changed(HIGH, f"32\n{CLAUSE}{{\n", f"32 {{ 1 }}\nfn low()\n{CLAUSE}{{\n")),
     ("a name that isn't given out", "tk_low::boxed is public, and not engine_testkit::lower alone but no module", changed(LOWER, "    boxed,\n", "")),
@@ -150,7 +148,7 @@ WRONG = [
     ("a long definition", "specs/Lanes.antt:1 has 101 columns", changed("crates/tk_low/specs/Lanes.antt", "x\n", "xx\n")),
     ("a definition that a private clause names", "Lanes.antt: lanes: no public contract", changed(LOW, "pub fn count", "fn count")),
     ("steps that a clause names", "Boxes.antt: boxes: a public contract", changed(LOW, "specs.Lanes.{lanes}", "specs.steps.Boxes.{boxes as lanes}")),
-    ("a crate with its steps that is an exception", "tk_high has its steps, and is an exception", {HIGHS: ""}),
+    ("a definition that another one alone names", "Lanes.antt: rows: no public contract", changed("crates/tk_low/specs/Lanes.antt", "ℕ\n", "ℕ\nabbrev pub rows : ℕ\nrows = lanes\n")),
     ("other handles", "HANDLES differs", changed("HANDLES", "Wait.", "Wait, Net.")),
 ]
 

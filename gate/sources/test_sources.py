@@ -24,8 +24,6 @@ LIMITS = Limits(
         *("crates/example_engine/src/by_hand/broken.rt new", "crates/example_engine/src/case_tests.rt case_engine"),
         "crates/example_engine/src/evens.rt even_numbers",
     ],
-    long_lines=[],
-    without_steps=[],
     fewest_edits=230,
     fewest_tests=161,
 )

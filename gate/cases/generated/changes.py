@@ -1,17 +1,19 @@
 """Texts of all kinds with a byte changed, dropped or doubled, and texts made of loose parts."""
 
-from typing import List, Union
+from typing import List, Sequence, Tuple
 
 import form
 from generated.conditions import condition_text
-from generated.numbers import Numbers, modelled
+from generated.numbers import Cases, Numbers, modelled, series
 from generated.plans import plan, plan_text
 from generated.recordings import NODES, record_text, short_record
 from generated.replays import replay_text
-from harness import Case, Check
-from tables.building import HEADER, REPLAY_HEADER
+from harness import Case
+from tables.building import HEADER, REPLAY_HEADER, Word
 from tables.questions import EVERY_KIND
 from tables.texts import DEMO_PLAN, SMALL_REPLAY, TWO_TESTS
+
+Start = Tuple[Sequence[Word], bytes]
 
 BYTES = b'|\\\n/[]:%.,()"{}- 0123456789tnpeEfNSWCTB\x00\xc3\xa9\xff'
 """What stands in place of a byte."""
@@ -33,95 +35,46 @@ def change(numbers: Numbers, text: bytes) -> bytes:
 def question(numbers: Numbers) -> List[str]:
     """Any question, so that each of them is asked of faulty records."""
     questions = [
-        ["ask", "stats"],
-        ["ask", "stats", "started=1", "failed=1"],
-        ["ask", "count", numbers.one_of(form.SELECTIONS)],
-        ["ask", "executions"],
-        ["ask", "lifecycle"],
-        ["ask", "report"],
-        ["ask", "exclusive", condition_text(numbers, 1), condition_text(numbers, 1)],
-        ["ask", "list", numbers.one_of(form.SELECTIONS), condition_text(numbers, 1)],
-        ["ask", "match", "loosely", condition_text(numbers, 2)],
-        ["ask", "match", "exactly", condition_text(numbers, 1)],
-        ["ask", "match", "in-order", condition_text(numbers, 1), condition_text(numbers, 1)],
+        ["stats"],
+        ["stats", "started=1", "failed=1"],
+        ["count", numbers.one_of(form.SELECTIONS)],
+        ["executions"],
+        ["lifecycle"],
+        ["report"],
+        ["exclusive", condition_text(numbers, 1), condition_text(numbers, 1)],
+        ["list", numbers.one_of(form.SELECTIONS), condition_text(numbers, 1)],
+        ["match", "loosely", condition_text(numbers, 2)],
+        ["match", "exactly", condition_text(numbers, 1)],
+        ["match", "in-order", condition_text(numbers, 1), condition_text(numbers, 1)],
     ]
-    return numbers.one_of(questions)
+    return ["ask", *numbers.one_of(questions)]
 
 
-def records() -> List[Case]:
-    numbers = Numbers(41)
-    made = []
-    for number in range(300):
-        text = numbers.one_of([TWO_TESTS.encode(), EVERY_KIND.encode(), record_text(numbers, 12)])
-        made.append(modelled(f"changed record/{number}", question(numbers), change(numbers, text)))
-    return made
+def changed_record(numbers: Numbers) -> Start:
+    text = numbers.one_of([TWO_TESTS.encode(), EVERY_KIND.encode(), record_text(numbers, 12)])
+    return question(numbers), change(numbers, text)
 
 
-def replays() -> List[Case]:
-    numbers = Numbers(42)
-    made = []
-    for number in range(250):
-        text = numbers.one_of([SMALL_REPLAY.encode(), replay_text(numbers), replay_text(numbers)])
-        made.append(modelled(f"changed replay/{number}", ["replay"], change(numbers, text)))
-    return made
+def changed_replay(numbers: Numbers) -> Start:
+    return ["replay"], change(numbers, numbers.one_of([SMALL_REPLAY.encode(), replay_text(numbers), replay_text(numbers)]))
 
 
-def plans() -> List[Case]:
-    numbers = Numbers(43)
-    made = []
-    for number in range(250):
-        text = numbers.one_of([DEMO_PLAN.encode(), plan_text(numbers, plan(numbers))])
-        made.append(modelled(f"changed plan/{number}", ["run", "--workers", "2"], change(numbers, text)))
-    return made
+def changed_plan(numbers: Numbers) -> Start:
+    return ["run", "--workers", "2"], change(numbers, numbers.one_of([DEMO_PLAN.encode(), plan_text(numbers, plan(numbers))]))
 
 
-def conditions() -> List[Case]:
-    """Changed conditions; a word can't have a byte 0."""
-    numbers = Numbers(44)
-    made = []
-    for number in range(250):
-        text = change(numbers, condition_text(numbers, 4).encode()).replace(b"\0", b"")
-        made.append(modelled(f"changed condition/{number}", ["ask", "match", "loosely", "all()", text], short_record(numbers)))
-    return made
+def changed_condition(numbers: Numbers) -> Start:
+    """A changed condition; a word can't have a byte 0."""
+    text = change(numbers, condition_text(numbers, 4).encode()).replace(b"\0", b"")
+    return ["ask", "match", "loosely", "all()", text], short_record(numbers)
 
 
-PARTS = [
-    "all(",
-    "any(",
-    "not(",
-    "test",
-    "started",
-    "failed",
-    "failed(",
-    "id(",
-    "name(",
-    "entry(",
-    "kind(",
-    "start",
-    "skip",
-    ")",
-    ")",
-    ")",
-    ",",
-    ",",
-    "a",
-    "é",
-    "%28",
-    "%2",
-    "%",
-    "(",
-]
+PARTS = "all( any( not( test started failed failed( id( name( entry( kind( start skip ) ) ) , , a é %28 %2 % (".split()
 
 
-def loose_conditions() -> List[Case]:
-    """Words made of parts of conditions."""
-    numbers = Numbers(45)
-    text = record_text(numbers, 6)
-    made = []
-    for number in range(250):
-        word = "".join(numbers.one_of(PARTS) for _ in range(1 + numbers.below(8)))
-        made.append(modelled(f"loose condition/{number}", ["ask", "match", "loosely", word], text))
-    return made
+def loose_word(numbers: Numbers) -> str:
+    """A word made of parts of conditions."""
+    return "".join(numbers.one_of(PARTS) for _ in range(1 + numbers.below(8)))
 
 
 FIELDS = [
@@ -133,16 +86,12 @@ FIELDS = [
 TAIL_FIELDS = ["start", "finish", "skip", "report", "dynamic", "ok", "fail", "abort", "a", "b", "", "T", "[d:1]", "\\p", "\\", "é"]
 
 
-def loose_lines() -> List[Case]:
+def loose_line(numbers: Numbers) -> Start:
     """A record with one line made of parts of lines."""
-    numbers = Numbers(46)
-    made = []
-    for number in range(250):
-        fields = [numbers.one_of(choice[: 1 + numbers.below(len(choice))]) for choice in FIELDS]
-        fields += [numbers.one_of(TAIL_FIELDS[: 5 + 11 * numbers.below(2)])] + numbers.some_of(TAIL_FIELDS, 3)
-        text = HEADER + "".join(line + "\n" for line in NODES) + "|".join(fields) + "\n"
-        made.append(modelled(f"loose line/{number}", ["ask", "stats"], text.encode()))
-    return made
+    fields = [numbers.one_of(choice[: 1 + numbers.below(len(choice))]) for choice in FIELDS]
+    fields += [numbers.one_of(TAIL_FIELDS[: 5 + 11 * numbers.below(2)])] + numbers.some_of(TAIL_FIELDS, 3)
+    text = HEADER + "".join(line + "\n" for line in NODES) + "|".join(fields) + "\n"
+    return ["ask", "stats"], text.encode()
 
 
 NODE_IDS = ["[a:1]", "[a:1]/[b:1]", "[a:1]/[b:2]", "[a:1]/[b:1]/[c:1]", "[b:1]", "[b:1]/[c:1]", "[a:1%2F]", "[a:1]/[b:]"]
@@ -164,17 +113,23 @@ def loose_tables() -> List[Case]:
     return made
 
 
-def loose_reports() -> List[Case]:
+def loose_report(numbers: Numbers) -> Start:
     """A record with a report of up to four pairs, whose keys mostly don't increase."""
-    numbers = Numbers(48)
-    made = []
-    for number in range(100):
-        pairs = "".join(f"|{key}|v" for key in numbers.some_of(REPORT_KEYS, 4))
-        worker, key = numbers.below(form.MAX_WORKERS + 3), numbers.below(3) // 2
-        text = f"{HEADER}{NODES[0]}\nE|{worker}|{key}|0|report{pairs}\n"
-        made.append(modelled(f"loose report/{number}", ["ask", "count", "reporting"], text.encode()))
-    return made
+    pairs = "".join(f"|{key}|v" for key in numbers.some_of(REPORT_KEYS, 4))
+    worker, key = numbers.below(form.MAX_WORKERS + 3), numbers.below(3) // 2
+    return ["ask", "count", "reporting"], f"{HEADER}{NODES[0]}\nE|{worker}|{key}|0|report{pairs}\n".encode()
 
 
-def cases() -> List[Union[Case, Check]]:
-    return [*records(), *replays(), *plans(), *conditions(), *loose_conditions(), *loose_lines(), *loose_tables(), *loose_reports()]
+def cases() -> Cases:
+    numbers = Numbers(45)
+    text = record_text(numbers, 6)
+    return [
+        *series("changed record", Numbers(41), 300, changed_record),
+        *series("changed replay", Numbers(42), 250, changed_replay),
+        *series("changed plan", Numbers(43), 250, changed_plan),
+        *series("changed condition", Numbers(44), 250, changed_condition),
+        *series("loose condition", numbers, 250, lambda numbers: (["ask", "match", "loosely", loose_word(numbers)], text)),
+        *series("loose line", Numbers(46), 250, loose_line),
+        *loose_tables(),
+        *series("loose report", Numbers(48), 100, loose_report),
+    ]

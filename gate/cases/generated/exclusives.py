@@ -1,13 +1,10 @@
 """Executions of writers and readers, of which some overlap."""
 
-from typing import List, Set, Tuple, Union
+from typing import List, Set, Tuple
 
 from generated.conditions import condition_text
-from generated.numbers import Numbers, each_is_met, modelled
-from harness import Case, Check
+from generated.numbers import Cases, Numbers, each_is_met, series
 from tables.building import HEADER
-
-Cases = List[Union[Case, Check]]
 
 NODES = ["N|C|[engine:e]|e"] + [f"N|T|[engine:e]/[t:{key}]|t{key}" for key in range(1, 5)]
 FINISHES = ["finish|ok", "finish|ok", "finish|fail|boom", "finish|abort"]
@@ -43,12 +40,12 @@ def word(numbers: Numbers) -> str:
     return condition_text(numbers, 2) if numbers.below(8) == 0 else numbers.one_of(CONDITIONS)
 
 
+def asked(numbers: Numbers, *question: str) -> Tuple[List[str], bytes]:
+    """A record, asked with one condition or two."""
+    return ["ask", *question, *(word(numbers) for _ in range(1 + numbers.below(2)))], text_of(numbers)
+
+
 def cases() -> Cases:
-    """Three thousand records, each asked with one condition or two."""
-    numbers = Numbers(57)
-    made: List[Case] = []
-    for number in range(3_000):
-        words = [word(numbers) for _ in range(1 + numbers.below(2))]
-        made.append(modelled(f"generated exclusive/{number}", ["ask", "exclusive", *words], text_of(numbers)))
+    made = series("generated exclusive", Numbers(57), 3_000, lambda numbers: asked(numbers, "exclusive"))
     met = [case.output.decode()[:-1] for case in made]
     return [*made, each_is_met("generated exclusive", met, ANSWERS, 5)]

@@ -1,18 +1,16 @@
 """Explanations of generated records: of matches, lifecycles, executions that overlap, lists and executions."""
 
-from typing import Callable, List, Sequence, Union
+from typing import Callable, List, Sequence, Tuple
 
 import form
 from generated import exclusives, lifecycles
 from generated.conditions import ATOMS, condition_text
-from generated.numbers import Numbers, each_is_met, modelled
+from generated.numbers import Cases, Numbers, each_is_met, modelled, series
 from generated.questions import conditions_in_turn, conditions_of_events, fitting
 from generated.recordings import record_text, short_record
-from harness import Case, Check
 from model.conditions import write_condition
 from model.records import Record, read_record
 
-Cases = List[Union[Case, Check]]
 Words = Callable[[Numbers, Record], List[str]]
 
 
@@ -61,12 +59,13 @@ def form_of(line: str) -> str:
 
 def matches(mode: str, seed: int, count: int, most: int, words_for: Words, wanted: Sequence[str]) -> Cases:
     """Matches of records of up to `most` events."""
-    numbers = Numbers(seed)
-    cases: Cases = []
-    for number in range(count):
+
+
+    def asked(numbers: Numbers) -> Tuple[List[str], bytes]:
         text = short_record(numbers) if numbers.below(2) else record_text(numbers, numbers.below(most))
-        words = words_for(numbers, read_record(text))
-        cases.append(modelled(f"generated explanation, {mode}/{number}", ["ask", "explain", mode, *words], text))
+        return ["ask", "explain", mode, *words_for(numbers, read_record(text))], text
+
+    cases = series(f"generated explanation, {mode}", Numbers(seed), count, asked)
     met = [form for case in cases for form in set(forms_of(case.output.decode()))]
     return cases + [each_is_met(f"generated explanation, {mode}", met, wanted, 10)]
 
@@ -107,26 +106,21 @@ SENTENCES = [
 """What sentences of the lifecycle have in them."""
 
 
+def broken(numbers: Numbers) -> Tuple[List[str], bytes]:
+    """A record that mostly breaks the lifecycle."""
+    lines = loose_lines(numbers) if numbers.below(3) == 0 else lifecycles.spoiled(numbers, lifecycles.kept_lines(numbers))
+    return ["ask", "explain", "lifecycle"], lifecycles.text_of(lines)
+
+
 def of_lifecycles() -> Cases:
-    """Records of which most break the lifecycle."""
-    numbers = Numbers(61)
-    cases: Cases = []
-    for number in range(700):
-        lines = loose_lines(numbers) if numbers.below(3) == 0 else lifecycles.spoiled(numbers, lifecycles.kept_lines(numbers))
-        cases.append(modelled(f"generated explanation, lifecycle/{number}", ["ask", "explain", "lifecycle"], lifecycles.text_of(lines)))
+    cases = series("generated explanation, lifecycle", Numbers(61), 700, broken)
     met = [part for case in cases for part in SENTENCES if part in case.output.decode()]
     return cases + [each_is_met("generated explanation, lifecycle", met, SENTENCES, 3)]
 
 
 def of_exclusives() -> Cases:
     """Executions of writers and readers, of which some overlap."""
-    numbers = Numbers(62)
-    cases: Cases = []
-    for number in range(300):
-        words = [exclusives.word(numbers) for _ in range(1 + numbers.below(2))]
-        cases.append(
-            modelled(f"generated explanation, exclusive/{number}", ["ask", "explain", "exclusive", *words], exclusives.text_of(numbers)),
-        )
+    cases = series("generated explanation, exclusive", Numbers(62), 300, lambda numbers: exclusives.asked(numbers, "explain", "exclusive"))
     met = [case.output.decode()[:2] for case in cases]
     return cases + [each_is_met("generated explanation, exclusive", met, ["ye", "no"], 30)]
 
@@ -144,19 +138,12 @@ def of_lists() -> Cases:
 
 
 def cases() -> Cases:
-    """Two thousand and two hundred explanations."""
-    return (
-        matches(
-            "in-order",
-            58,
-            300,
-            13,
-            in_turn,
-            ["yes", "condition", "event", "too early", "none left", *(f"no and {it} nearest" for it in range(4))],
-        )
-        + matches("exactly", 59, 300, 9, of_events, ["yes", "wrong-count", "condition", "event", "nearest", "none left", "no and 1 nearest"])
-        + matches("loosely", 60, 300, 60, of_some, ["yes", "condition", "event", "none left", *(f"no and {it} nearest" for it in range(4))])
-        + of_lifecycles()
-        + of_exclusives()
-        + of_lists()
-    )
+    some, shown = [f"no and {it} nearest" for it in range(4)], ["yes", "condition", "event", "none left"]
+    return [
+        *matches("in-order", 58, 300, 13, in_turn, [*shown, "too early", *some]),
+        *matches("exactly", 59, 300, 9, of_events, [*shown, "wrong-count", "nearest", some[1]]),
+        *matches("loosely", 60, 300, 60, of_some, [*shown, *some]),
+        *of_lifecycles(),
+        *of_exclusives(),
+        *of_lists(),
+    ]

@@ -1,14 +1,12 @@
 """Records that keep the lifecycle, whole or with a line dropped, doubled, swapped or given another key."""
 
 from dataclasses import dataclass, field
-from typing import Dict, List, Optional, Union
+from typing import Dict, List, Optional, Tuple
 
 import form
-from generated.numbers import Numbers, each_is_met, modelled
+from generated.numbers import Cases, Numbers, each_is_met, series
 from harness import Case, Check
 from tables.building import HEADER
-
-Cases = List[Union[Case, Check]]
 
 STATIC = [
     ("C", "[engine:e]"),
@@ -136,16 +134,14 @@ def kind_of(case: Case) -> str:
     return "refused" if not words else words[0] if words[0] == "yes" else words[1] if words[1] in ("end", "start") else words[2]
 
 
+def asked(numbers: Numbers) -> Tuple[List[str], bytes]:
+    """A record, of which two of five are whole."""
+    lines = kept_lines(numbers)
+    return ["ask", "lifecycle"], text_of(lines if numbers.below(5) < 2 else spoiled(numbers, lines))
+
+
 def cases() -> Cases:
-    """Two thousand records, of which two of five are whole."""
-    numbers = Numbers(51)
-    made: List[Case] = []
-    for number in range(2_000):
-        lines = kept_lines(numbers)
-        lines = lines if numbers.below(5) < 2 else spoiled(numbers, lines)
-        made.append(modelled(f"generated lifecycle/{number}", ["ask", "lifecycle"], text_of(lines)))
+    made = series("generated lifecycle", Numbers(51), 2_000, asked)
     met = [kind_of(case) for case in made]
-    return made + [
-        each_is_met("generated lifecycle", met, ANSWERS, 10),
-        Check("generated lifecycle/at least a third keeps it", met.count("yes") * 3 >= len(made), True),
-    ]
+    kept = Check("generated lifecycle/at least a third keeps it", met.count("yes") * 3 >= len(made), True)
+    return [*made, each_is_met("generated lifecycle", met, ANSWERS, 10), kept]

@@ -1,13 +1,14 @@
 """Numbers that follow from one another, and what each generator needs."""
 
 from collections import Counter
-from typing import List, Sequence, TypeVar
+from typing import Callable, List, Sequence, Tuple, TypeVar, Union
 
 from harness import Case, Check
 from model.program import outcome
 from tables.building import Word, as_words
 
 Item = TypeVar("Item")
+Cases = List[Union[Case, Check]]
 
 
 class Numbers:
@@ -33,6 +34,11 @@ def modelled(name: str, words: Sequence[Word], data: bytes) -> Case:
     """A start of the program of which has to come what the model says."""
     wanted = outcome(as_words(words), data)
     return Case(name, as_words(words), data, wanted.output, wanted.error, wanted.status)
+
+
+def series(name: str, numbers: Numbers, count: int, make: Callable[[Numbers], Tuple[Sequence[Word], bytes]]) -> List[Case]:
+    """Starts of the program with the words and the input that `make` draws."""
+    return [modelled(f"{name}/{number}", *make(numbers)) for number in range(count)]
 
 
 def each_is_met(name: str, met: Sequence[str], wanted: Sequence[str], least: int) -> Check:

@@ -2,11 +2,11 @@
 
 import copy
 import json
-from typing import Dict, List, Union
+from typing import Dict, List, Tuple
 
 import form
-from generated.numbers import Numbers, each_is_met, modelled
-from harness import Case, Check
+from generated.numbers import Cases, Numbers, each_is_met, modelled, series
+from harness import Case
 
 SEGMENTS = [["t", "1"], ["t", "2"], ["t", "10"], ["c", "a/b"], ["c", "%"], ["T", "|"], ["é", "x y"], ["t", "\n"], ["d", "[1]"]]
 TEXTS = ["", "off", "boom", "a|b", "back\\slash", "line\nfeed", "spät 🦀", "\t"]
@@ -113,7 +113,7 @@ def kind_of_outcome(case: Case) -> str:
     return "done" if case.status == 0 else " ".join(case.error.decode().split()[1:3])
 
 
-def runs() -> List[Union[Case, Check]]:
+def runs() -> Cases:
     """Plans, each run by one, two and as many workers as there may be."""
     numbers = Numbers(31)
     made: List[Case] = []
@@ -125,17 +125,14 @@ def runs() -> List[Union[Case, Check]]:
     return made + [each_is_met("generated plan", met, ["done", "entry key", "plan table"], 3)]
 
 
-def spoiled() -> List[Union[Case, Check]]:
-    """Plans with one value spoiled."""
-    numbers = Numbers(32)
-    made: List[Case] = []
-    for number in range(300):
-        value = plan(numbers)
-        spoil(numbers, value)
-        made.append(modelled(f"generated spoiled plan/{number}", ["run", "--workers=2"], plan_text(numbers, value)))
+def spoiled(numbers: Numbers) -> Tuple[List[str], bytes]:
+    """A plan with one value spoiled."""
+    value = plan(numbers)
+    spoil(numbers, value)
+    return ["run", "--workers=2"], plan_text(numbers, value)
+
+
+def cases() -> Cases:
+    made = series("generated spoiled plan", Numbers(32), 300, spoiled)
     met = [kind_of_outcome(case) for case in made]
-    return made + [each_is_met("generated spoiled plan", met, ["done", "plan member"], 20)]
-
-
-def cases() -> List[Union[Case, Check]]:
-    return runs() + spoiled()
+    return [*runs(), *made, each_is_met("generated spoiled plan", met, ["done", "plan member"], 20)]

@@ -1,17 +1,16 @@
 """Selections, statistics, conditions, matches, lists, executions and reports of generated records."""
 
-from typing import List, Union
+from itertools import product
+from typing import List, Tuple
 
 import form
 from generated.conditions import ATOMS, brackets_of, condition
-from generated.numbers import Numbers, each_is_met, modelled
+from generated.numbers import Cases, Numbers, each_is_met, modelled, series
 from generated.recordings import record_text, short_record
 from harness import Case, Check
 from model.conditions import Condition, write_condition
 from model.questions import holds_at
 from model.records import Record, read_record
-
-Cases = List[Union[Case, Check]]
 
 SIZES = [0, 1, 2, 63, 64, 65, 127, 128, 129, 255, 256, 257, 300]
 
@@ -28,18 +27,19 @@ def selections() -> Cases:
     return cases
 
 
-def expectations() -> Cases:
+def expected(numbers: Numbers) -> Tuple[List[str], bytes]:
     """Some expected numbers, of which about half are met."""
-    numbers = Numbers(11)
-    cases: Cases = []
-    for number in range(60):
-        text = record_text(numbers, numbers.below(40))
-        lines = modelled("", ["ask", "stats"], text).output.decode().split("\n")
-        words = {}
-        for line in numbers.some_of(lines[:-1], 5):
-            name, count = line.split(" ")
-            words[name] = f"{name}={int(count) + max(0, numbers.below(4) - 2)}"
-        cases.append(modelled(f"generated expectations/{number}", ["ask", "stats", *words.values()], text))
+    text = record_text(numbers, numbers.below(40))
+    lines = modelled("", ["ask", "stats"], text).output.decode().split("\n")
+    words = {}
+    for line in numbers.some_of(lines[:-1], 5):
+        name, count = line.split(" ")
+        words[name] = f"{name}={int(count) + max(0, numbers.below(4) - 2)}"
+    return ["ask", "stats", *words.values()], text
+
+
+def expectations() -> Cases:
+    cases = series("generated expectations", Numbers(11), 60, expected)
     return cases + [each_is_met("generated expectations", [str(case.status) for case in cases], ["0", "1"], 15)]
 
 
@@ -66,33 +66,19 @@ def atoms() -> Cases:
     return cases + [Check("generated atom/each holds somewhere", idle, [])]
 
 
-PLAIN = [
-    ("test",),
-    ("container",),
-    ("engine",),
-    ("name", "one"),
-    ("id", "[t:"),
-    ("started",),
-    ("kind", "report"),
-    ("skipped", "off"),
-    ("failed",),
-]
+PLAIN = [("name", "one"), ("id", "[t:"), ("kind", "report"), ("skipped", "off")]
+PLAIN += [(word,) for word in ("test", "container", "engine", "started", "failed")]
 
 
 def one_of_two() -> Cases:
     """For each two atoms the condition that one of them holds and not the other one."""
     text = record_text(Numbers(13), 130)
-    record = read_record(text)
-    return [
-        where_it_holds(
-            f"generated one of two/{write_condition(first)}, {write_condition(second)}",
-            ("any", (("all", (first, ("not", second))), ("all", (second, ("not", first))))),
-            text,
-            record,
-        )
-        for first in PLAIN
-        for second in PLAIN
-    ]
+    record, cases = read_record(text), []
+    for first, second in product(PLAIN, repeat=2):
+        name = f"generated one of two/{write_condition(first)}, {write_condition(second)}"
+        asked = ("any", (("all", (first, ("not", second))), ("all", (second, ("not", first)))))
+        cases.append(where_it_holds(name, asked, text, record))
+    return cases
 
 
 def deep_conditions() -> Cases:
@@ -132,25 +118,22 @@ def conditions_of_events(numbers: Numbers, record: Record) -> List[str]:
     return [fitting(numbers, record, position) for position in range(len(record.entries))]
 
 
-def matches(mode: str, seed: int, conditions_for, answers: List[str], least: int) -> Cases:
+def matches(mode: str, seed: int, conditions_for, answers: List[str]) -> Cases:
     """Three hundred matches of records of at most eight events."""
-    numbers = Numbers(seed)
-    cases: Cases = []
-    for number in range(300):
+
+    def asked(numbers: Numbers) -> Tuple[List[str], bytes]:
         text = short_record(numbers)
-        words = conditions_for(numbers, read_record(text))
-        cases.append(modelled(f"generated {mode}/{number}", ["ask", "match", mode, *words], text))
+        return ["ask", "match", mode, *conditions_for(numbers, read_record(text))], text
+
+    cases = series(f"generated {mode}", Numbers(seed), 300, asked)
     met = [kind_of_answer(case.output.decode()) for case in cases]
-    return cases + [each_is_met(f"generated {mode}", met, answers, least)]
+    return cases + [each_is_met(f"generated {mode}", met, answers, 4)]
 
 
 def kind_of_answer(output: str) -> str:
     """A no with its number, or a yes with how many positions it has."""
     parts = output.split()
     return f"yes of {len(parts) - 1}" if parts[0] == "yes" and len(parts) > 1 else output[:-1]
-
-
-IN_ORDER_ANSWERS = ["yes", "yes of 1", "yes of 2", "yes of 3", "yes of 4", "no 0", "no 1", "no 2", "no 3"]
 
 
 def lists() -> Cases:
@@ -184,16 +167,11 @@ def reports() -> Cases:
 
 
 def cases() -> Cases:
-    return (
-        selections()
-        + expectations()
-        + atoms()
-        + one_of_two()
-        + deep_conditions()
-        + matches("in-order", 5, conditions_in_turn, IN_ORDER_ANSWERS, 4)
-        + matches("exactly", 6, conditions_of_events, ["yes", "wrong-count", "no 0", "no 1", "no 2"], 4)
-        + matches("loosely", 9, conditions_of_events, ["yes", "no 0", "no 1", "no 2"], 4)
-        + lists()
-        + executions()
-        + reports()
-    )
+    in_order = ["yes", "yes of 1", "yes of 2", "yes of 3", "yes of 4", "no 0", "no 1", "no 2", "no 3"]
+    return [
+        *[case for some in (selections, expectations, atoms, one_of_two, deep_conditions) for case in some()],
+        *matches("in-order", 5, conditions_in_turn, in_order),
+        *matches("exactly", 6, conditions_of_events, ["yes", "wrong-count", "no 0", "no 1", "no 2"]),
+        *matches("loosely", 9, conditions_of_events, ["yes", "no 0", "no 1", "no 2"]),
+        *[case for some in (lists, executions, reports) for case in some()],
+    ]

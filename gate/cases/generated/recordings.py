@@ -13,32 +13,11 @@ NODES = [
     "N|B|[suite:s]/[engine:x]|two",
 ]
 
-TAILS = [
-    "start",
-    "start",
-    "start",
-    "start",
-    "finish|ok",
-    "finish|ok",
-    "finish|fail",
-    "finish|fail|",
-    "finish|fail|boom",
-    "finish|fail|booms",
-    "finish|abort",
-    "finish|abort|boom",
-    "finish|abort|a(b),%\\pc\\n",
-    "skip|off",
-    "skip|",
-    "skip|spät",
-    "report",
-    "report|k|v",
-    "report|k|w",
-    "report|k|v|l|w",
-    "report|k|v|l|w|m|",
-    "report|a(|b),%",
-    "file|out/log.txt",
-    "file|a(b),%",
-]
+TAILS = r"""
+start start start start finish|ok finish|ok finish|fail finish|fail| finish|fail|boom finish|fail|booms
+finish|abort finish|abort|boom finish|abort|a(b),%\pc\n skip|off skip| skip|spät
+report report|k|v report|k|w report|k|v|l|w report|k|v|l|w|m| report|a(|b),% file|out/log.txt file|a(b),%
+""".split()
 """What stands after the stamp of an event that isn't a registration."""
 
 PARENTS = ["[engine:e]", "[engine:e]/[class:A]/[t:m]", "[suite:s]/[engine:x]"]

@@ -1,11 +1,11 @@
 """Generated replay texts."""
 
-from typing import List, Union
+from typing import List
 
 import form
-from generated.numbers import Numbers, each_is_met, modelled
+from generated.numbers import Cases, Numbers, each_is_met, series
 from generated.recordings import NAMES, NODES, PARENTS, TAILS
-from harness import Case, Check
+from harness import Case
 from tables.building import REPLAY_HEADER
 
 
@@ -53,16 +53,12 @@ def replay_text(numbers: Numbers) -> bytes:
 
 def kind_of_outcome(case: Case) -> str:
     """Which fault it is, or how much was taken."""
-    words = case.error.decode().split(" ", 3)
     if case.status == 0:
         return "some" if b"\nE|" in case.output else "none"
-    return words[3].strip()
+    return case.error.decode().split(" ", 3)[3].strip()
 
 
-OUTCOMES = ["some", "none", "comes after the end mark", "has an unknown key", "is unlawful"]
-
-
-def cases() -> List[Union[Case, Check]]:
-    numbers = Numbers(21)
-    made: List[Case] = [modelled(f"generated replay/{number}", ["replay"], replay_text(numbers)) for number in range(300)]
-    return made + [each_is_met("generated replay", [kind_of_outcome(case) for case in made], OUTCOMES, 5)]
+def cases() -> Cases:
+    made = series("generated replay", Numbers(21), 300, lambda numbers: (["replay"], replay_text(numbers)))
+    outcomes = ["some", "none", "comes after the end mark", "has an unknown key", "is unlawful"]
+    return [*made, each_is_met("generated replay", [kind_of_outcome(case) for case in made], outcomes, 5)]

@@ -159,10 +159,6 @@ def check_result(value: object, path: str) -> Tuple[str, Optional[str]]:
     return status, message
 
 
-def check_files(value: object, path: str) -> List[str]:
-    return [check_full_text(item, item_path) for item, item_path in check_array(value, path)]
-
-
 def check_full_text(value: object, path: str) -> str:
     if check_text(value, path) == "":
         raise Wrong(path)
@@ -171,10 +167,9 @@ def check_full_text(value: object, path: str) -> str:
 
 def member_names(is_static: bool, version: int) -> List[str]:
     """The members of a node, in the order in which they are checked."""
-    files = ["files"] if version >= form.FILE_VERSION else []
-    names = ["type", "segment", "name", "mode", "isolated", "locks", "skip", "result", "entries"] + files
-    names += ["children", "dynamic"]
-    return names if is_static else [name for name in names if name not in ("mode", "isolated", "locks", "children")]
+    names = "type segment name mode isolated locks skip result entries files children dynamic".split()
+    unknown = ([] if is_static else ["mode", "isolated", "locks", "children"]) + (["files"] if version < form.FILE_VERSION else [])
+    return [name for name in names if name not in unknown]
 
 
 def check_node(value: object, path: str, is_static: bool, version: int) -> Node:
@@ -208,7 +203,7 @@ def check_member(node: Node, name: str, value: object, path: str) -> None:
     elif name == "entries":
         node.entries = [check_entry(item, item_path) for item, item_path in check_array(value, path)]
     elif name == "files":
-        node.files = check_files(value, path)
+        node.files = [check_full_text(item, item_path) for item, item_path in check_array(value, path)]
     else:
         check_array(value, path)
 

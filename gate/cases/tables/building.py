@@ -44,6 +44,18 @@ def fault(name: str, words: Union[str, Sequence[Word]], data: Text, line: str, s
     return Case(name, as_words(words), as_bytes(data), error=f"testkit: {line}\n".encode(), status=status)
 
 
+def faults(title: str, question: str, first: int, rows: Sequence[tuple], usual: str) -> List[Case]:
+    """What a question refuses, whose first word has the number `first`.
+
+    Each row has a name, what stands after the question, the line with `{0}`, `{1}`, .. for the numbers of its words, and the record, where
+    that is not the usual one.
+    """
+    return [
+        fault(title + name, f"ask {question}{more}", text[0] if text else usual, line.format(*range(first, first + 4)))
+        for name, more, line, *text in rows
+    ]
+
+
 def stats(**numbers: int) -> str:
     """The lines of the statistics; what isn't named is 0."""
     assert set(numbers) <= set(form.STATISTICS)

@@ -3,136 +3,32 @@
 from tables.building import fault, no
 from tables.texts import EMPTY
 
-BAD_AT = [
-    ("x", 0),
-    ("Test", 0),
-    (" test", 0),
-    ("(test)", 0),
-    (")", 0),
-    (",", 0),
-    ("%", 0),
-    ("é", 0),
-    ("t", 1),
-    ("tesx", 3),
-    ("tes", 3),
-    ("test ", 4),
-    ("test(", 4),
-    ("test()", 4),
-    ("test)", 4),
-    ("test,test", 4),
-    ("tests", 4),
-    ("testé", 4),
-    ("contain", 7),
-    ("containers", 9),
-    ("engin", 5),
-    ("engine(e)", 6),
-    ("e", 1),
-    ("en", 2),
-    ("ex", 1),
-    ("s", 1),
-    ("start", 5),
-    ("started(a)", 7),
-    ("succeeded(a)", 9),
-    ("success", 5),
-    ("skipped", 7),
-    ("skip", 4),
-    ("skipped(", 8),
-    ("skipped(off", 11),
-    ("skipped(off))", 12),
-    ("f", 1),
-    ("fail", 4),
-    ("failedx", 6),
-    ("failed(", 7),
-    ("failed(a", 8),
-    ("failed(a)b", 9),
-    ("failed(a,b)", 8),
-    ("failed(a(b)", 8),
-    ("failed(%)", 8),
-    ("failed(%2)", 9),
-    ("failed(%27)", 9),
-    ("failed(%2c)", 9),
-    ("failed(%2", 9),
-    ("failed(%", 8),
-    ("failed(a%41)", 9),
-    ("aborted(%30)", 9),
-    ("abort", 5),
-    ("ab", 2),
-    ("abx", 2),
-    ("id", 2),
-    ("id(", 3),
-    ("id(%41)", 4),
-    ("id(a,b)", 4),
-    ("id(é", 5),
-    ("id(é(", 5),
-    ("id(🦀%4)", 8),
-    ("name", 4),
-    ("nam(", 3),
-    ("name)", 4),
-    ("name(a))", 7),
-    ("kind", 4),
-    ("kind(", 5),
-    ("kind()", 5),
-    ("kind(st)", 7),
-    ("kind(start", 10),
-    ("kind(starts)", 10),
-    ("kind(started)", 10),
-    ("kind(skipped)", 9),
-    ("kind(Start)", 5),
-    ("kind(test)", 5),
-    ("kind(start,skip)", 10),
-    ("kind(%73tart)", 5),
-    ("entry", 5),
-    ("entry(", 6),
-    ("entry(a", 7),
-    ("entry(a)", 7),
-    ("entry(a,", 8),
-    ("entry(a,b", 9),
-    ("entry(a,b,", 10),
-    ("entry(a,b,)", 10),
-    ("entry(a,b,c)", 11),
-    ("entry(a,b(c)", 9),
-    ("entry(a(,b)", 7),
-    ("entry(a,b))", 10),
-    ("entry(a,%2B)", 10),
-    ("entry())", 7),
-    ("entry(,,)", 8),
-    ("all", 3),
-    ("all(", 4),
-    ("all(,)", 4),
-    ("all(test", 8),
-    ("all(test,", 9),
-    ("all(test,)", 9),
-    ("all(test,,test)", 9),
-    ("all(test))", 9),
-    ("all(test test)", 8),
-    ("all(test, test)", 9),
-    ("all(test;test)", 8),
-    ("all(tesx)", 7),
-    ("all(test,entry(a))", 16),
-    ("any", 3),
-    ("any(test", 8),
-    ("any()x", 5),
-    ("any(not())", 8),
-    ("not", 3),
-    ("not(", 4),
-    ("not()", 4),
-    ("not(test", 8),
-    ("not(test,test)", 8),
-    ("not(test))", 9),
-    ("not(not(test)", 13),
-    ("none(test)", 2),
-    ("test|test", 4),
-    ("test\n", 4),
-    ("not(" * 32, 128),
-    ("not(" * 32 + "x", 128),
-    ("not(" * 32 + "test" + ")" * 31, 163),
-    ("not(" * 32 + "test" + ")" * 33, 164),
-    ("not(" * 32 + "test" + ")" * 32 + "not(", 164),
-    ("all(not(x)," + "not(" * 40, 8),
-    ("file", 4),
-    ("file(", 5),
-    ("file(a,b)", 6),
-]
+NOTS, ENDS = "not(" * 32, ")" * 32
+
+BAD_AT = """
+^x ^Test ^(test) ^) ^, ^% ^é t^ tes^x tes^ test^( test^() test^) test^,test test^s test^é
+contain^ container^s engin^ engine^(e)
+e^ en^ e^x
+s^ start^ started^(a) succeeded^(a) succe^ss skipped^ skip^ skipped(^ skipped(off^ skipped(off)^)
+f^ fail^ failed^x failed(^ failed(a^ failed(a)^b failed(a^,b) failed(a^(b) failed(%^) failed(%2^) failed(%2^7) failed(%2^c)
+failed(%2^ failed(%^ failed(a%^41)
+aborted(%^30)
+abort^ ab^ ab^x
+id^ id(^ id(%^41) id(a^,b) id(é^ id(é^( id(🦀%^4)
+name^ nam^( name^) name(a)^)
+kind^ kind(^ kind(^) kind(st^) kind(start^ kind(start^s) kind(start^ed) kind(skip^ped) kind(^Start) kind(^test)
+kind(start^,skip) kind(^%73tart)
+entry^ entry(^ entry(a^ entry(a^) entry(a,^ entry(a,b^ entry(a,b,^ entry(a,b,^) entry(a,b,c^) entry(a,b^(c) entry(a^(,b)
+entry(a,b)^) entry(a,%2^B) entry()^) entry(,,^)
+all^ all(^ all(^,) all(test^ all(test,^ all(test,^) all(test,^,test) all(test)^) all(test^;test) all(tes^x)
+all(test,entry(a^))
+any^ any(test^ any()^x any(not(^))
+not^ not(^ not(^) not(test^ not(test^,test) not(test)^) not(not(test)^ no^ne(test) test^|test
+file^ file(^ file(a^,b)
+""".split()
+BAD_AT += ["^ test", "test^ ", "all(test^ test)", "all(test,^ test)", "test^\n", NOTS + "^", NOTS + "^x"]
+BAD_AT += [f"{NOTS}test{ENDS[1:]}^", f"{NOTS}test{ENDS}^)", f"{NOTS}test{ENDS}^not(", "all(not(^x)," + "not(" * 40]
+"""Each has a `^` after its longest prefix that begins a condition."""
 
 DEEP = [
     "not(" * 33 + "test" + ")" * 33,
@@ -141,8 +37,8 @@ DEEP = [
     "all(" * 33 + ")" * 33,
     "any(" * 33 + ")" * 33,
     "all(any(not(" * 11,
-    "not(" * 32 + "all()" + ")" * 32,
-    "not(" * 32 + "any()" + ")" * 32,
+    f"{NOTS}all(){ENDS}",
+    f"{NOTS}any(){ENDS}",
     "all(" * 31 + "not(test),not(not(test))" + ")" * 31,
     "not(" * 1_000 + "test" + ")" * 1_000,
 ]
@@ -150,9 +46,9 @@ DEEP = [
 READ = [
     "all(" * 32 + ")" * 32,
     "any(" * 32 + ")" * 32,
-    "not(" * 32 + "id(x)" + ")" * 32,
-    "not(" * 32 + "entry(a,b)" + ")" * 32,
-    "not(" * 32 + "failed(not%28not%28)" + ")" * 32,
+    f"{NOTS}id(x){ENDS}",
+    f"{NOTS}entry(a,b){ENDS}",
+    f"{NOTS}failed(not%28not%28){ENDS}",
     "all(" + ",".join(["not(test)"] * 100) + ")",
     "all(" * 31 + ",".join(["not(test)"] * 3) + ")" * 31,
     "all(all(),any(),all(all(),any()))",
@@ -161,20 +57,19 @@ READ = [
 ]
 """Conditions that are read; on an empty record none of them holds of an event."""
 
+
+
+def bad_at(prefix: str, rest: str):
+    text = prefix + rest
+    return fault(f"condition/{text!r}", ["ask", "match", "loosely", text], EMPTY, f"condition 1 is bad at {len(prefix.encode())}")
+
+
 CASES = (
-    [fault(f"condition/{text!r}", ["ask", "match", "loosely", text], EMPTY, f"condition 1 is bad at {at}") for text, at in BAD_AT]
-    + [
-        fault(f"deep condition/{number}", ["ask", "match", "exactly", text], EMPTY, "condition 1 is too deep")
-        for number, text in enumerate(DEEP)
-    ]
+    [bad_at(*text.split("^")) for text in BAD_AT]
+    + [fault(f"deep condition/{number}", f"ask match exactly {text}", EMPTY, "condition 1 is too deep") for number, text in enumerate(DEEP)]
     + [no(f"condition that is read/{number}", ["ask", "match", "in-order", text], EMPTY, "no 0\n") for number, text in enumerate(READ)]
     + [
-        fault("condition/the twelfth", ["ask", "match", "in-order"] + ["test"] * 11 + ["tesx"], EMPTY, "condition 12 is bad at 3"),
-        fault(
-            "deep condition/the twelfth",
-            ["ask", "match", "in-order"] + ["test"] * 11 + ["not(" * 33],
-            EMPTY,
-            "condition 12 is too deep",
-        ),
+        fault("condition/the twelfth", "ask match in-order" + " test" * 11 + " tesx", EMPTY, "condition 12 is bad at 3"),
+        fault("deep condition/the twelfth", "ask match in-order" + " test" * 11 + " not(" + "not(" * 32, EMPTY, "condition 12 is too deep"),
     ]
 )

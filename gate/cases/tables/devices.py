@@ -64,44 +64,40 @@ INPUTS = [
     for words in READING
 ]
 
+BAD_WORDS = [
+    ("walk", "bad command line"),
+    ("replay x", "bad command line"),
+    ("run --workers 256", "bad command line"),
+    ("run --workers=x", "bad command line"),
+    ("ask", "unknown question"),
+    ("ask how", "unknown question"),
+    ("ask stats x", "bad word 0"),
+    ("ask count", "bad word 0"),
+    ("ask match most", "bad word 0"),
+    ("ask match exactly tesx", "condition 1 is bad at 3"),
+    ("ask match exactly test tesx", "condition 2 is bad at 3"),
+    ("ask match exactly " + "not(" * 33, "condition 1 is too deep"),
+    ("ask match loosely " + "not(" * 33, "condition 1 is too deep"),
+    ("ask list", "bad word 0"),
+    ("ask list all tesx", "condition 1 is bad at 3"),
+    ("ask list tests test tesx", "condition 2 is bad at 3"),
+    ("ask exclusive", "bad word 0"),
+    ("ask executions x", "bad word 0"),
+    ("ask explain", "bad word 0"),
+    ("ask explain loosely tesx", "condition 1 is bad at 3"),
+    ("ask explain list all tesx", "condition 2 is bad at 3"),
+    ("ask explain list tests test tesx", "condition 3 is bad at 3"),
+    ("ask explain lifecycle x", "bad word 1"),
+]
+"""Words that are refused before any input is read."""
+
 BEFORE_THE_INPUT = [
-    Case(
-        f"input/{kind.name}, {words} comes first",
-        as_words(words),
-        b"",
-        error=f"testkit: {line}\n".encode(),
-        status=2,
-        standard_input=kind,
-    )
+    Case(name, as_words(words), b"", error=f"testkit: {line}\n".encode(), status=status, standard_input=kind)
     for kind in FAILING_INPUTS
-    for words, line in [
-        ("ask", "unknown question"),
-        ("ask how", "unknown question"),
-        ("ask stats x", "bad word 0"),
-        ("ask count", "bad word 0"),
-        ("ask match exactly tesx", "condition 1 is bad at 3"),
-        ("ask match exactly " + "not(" * 33, "condition 1 is too deep"),
-        ("ask list", "bad word 0"),
-        ("ask exclusive", "bad word 0"),
-        ("ask list all tesx", "condition 1 is bad at 3"),
-        ("ask executions x", "bad word 0"),
-        ("ask explain", "bad word 0"),
-        ("ask explain loosely tesx", "condition 1 is bad at 3"),
-        ("ask explain list all tesx", "condition 2 is bad at 3"),
-        ("ask explain lifecycle x", "bad word 1"),
-        ("run --workers 256", "bad command line"),
-        ("replay x", "bad command line"),
+    for name, words, line, status in [
+        *[(f"input/{kind.name}, {words} comes first", words, line, 2) for words, line in BAD_WORDS],
+        (f"input/{kind.name} comes before the number of workers", "run --workers 0", "device failed", 3),
     ]
-] + [
-    Case(
-        f"input/{kind.name} comes before the number of workers",
-        as_words("run --workers 0"),
-        b"",
-        error=DEVICE_FAILED,
-        status=3,
-        standard_input=kind,
-    )
-    for kind in FAILING_INPUTS
 ]
 
 OUTPUTS = [
@@ -156,15 +152,10 @@ def sixteen_mebibytes(before: bytes, after: bytes) -> Callable[[], bytes]:
     return lambda: before + b"x" * (form.MAX_TEXT - len(before) - len(after)) + after
 
 
+OUT_OF_MEMORY = dict(error=b"testkit: out of memory\n", status=3, memory=16_000)
+
 LITTLE_MEMORY = [
-    Case(
-        f"little memory/{words} of 16 MiB",
-        as_words(words),
-        sixteen_mebibytes(header, rest),
-        error=b"testkit: out of memory\n",
-        status=3,
-        memory=16_000,
-    )
+    Case(f"little memory/{words} of 16 MiB", as_words(words), sixteen_mebibytes(header, rest), **OUT_OF_MEMORY)
     for words, header, rest in [
         ("ask stats", as_bytes(record()) + b"N|T|[engine:e]|", b"\n"),
         ("replay", b"testkit-replay|1\nW|1\nN|T|[engine:e]|", b"\nS\n"),

@@ -2,7 +2,7 @@
 
 from typing import List
 
-from tables.building import Text, answer, fault, no, record
+from tables.building import Text, answer, faults, no, record
 from tables.texts import EMPTY, TWO_TESTS
 
 NODES = ["N|C|[engine:e]|e"] + [f"N|T|[engine:e]/[t:{key}]|t{key}" for key in (1, 2, 3)]
@@ -18,6 +18,9 @@ APART = events("1 start, 1 finish|ok, 2 start, 2 finish|ok")
 OVERLAPPING = events("1 start, 2 start, 1 finish|ok, 2 finish|ok")
 NESTED = events("1 start, 2 start, 3 start, 2 finish|ok, 1 finish|ok, 3 finish|ok")
 BELOW = events("0 start, 1 start, 1 finish|ok, 0 finish|ok")
+START_TWICE = events("1 start, 1 start, 2 start, 2 finish|ok, 1 finish|ok")
+RAN_BEFORE = events("3 start, 3 finish|ok, 1 start, 2 start, 2 finish|ok, 3 start, 3 finish|ok, 1 finish|ok")
+OUTLIVING = events("1 start, 2 start, 2 finish|ok, 3 start, 3 finish|fail, 1 finish|abort")
 
 YES = [
     ("no event", "test", events("")),
@@ -46,35 +49,30 @@ NO = [
     ("the first reader of two beside a writer", "name(t3) test", NESTED, "0 2"),
     ("the first pair of three", "test", NESTED, "0 1"),
     ("a container over its test", "all()", BELOW, "0 1"),
-    ("a second start", "test", events("1 start, 1 start, 2 start, 2 finish|ok, 1 finish|ok"), "1 2"),
+    ("a second start", "test", START_TWICE, "1 2"),
     (
         "the first position at which a pair overlaps, though an earlier start has a later pair",
-        "any(name(t1),name(t3)) name(t2)",
-        events("3 start, 3 finish|ok, 1 start, 2 start, 2 finish|ok, 3 start, 3 finish|ok, 1 finish|ok"),
-        "2 3",
+        *("any(name(t1),name(t3)) name(t2)", RAN_BEFORE, "2 3"),
     ),
-    (
-        "a writer that outlives one that starts after it",
-        "name(t3) test",
-        events("1 start, 2 start, 2 finish|ok, 3 start, 3 finish|fail, 1 finish|abort"),
-        "0 3",
-    ),
+    ("a writer that outlives one that starts after it", "name(t3) test", OUTLIVING, "0 3"),
     ("a test that failed", "test", events("1 start, 2 start, 1 finish|fail|boom, 2 finish|abort"), "0 1"),
 ]
 
-CASES: List = (
-    [answer(f"exclusive/{name}", f"ask exclusive {words}", text, "yes\n") for name, words, text in YES]
-    + [no(f"exclusive/{name}", f"ask exclusive {words}", text, f"no {pair}\n") for name, words, text, pair in NO]
-    + [
-        fault("exclusive/no condition", "ask exclusive", OVERLAPPING, "bad word 0"),
-        fault("exclusive/three conditions", "ask exclusive test test test", OVERLAPPING, "bad word 2"),
-        fault("exclusive/four conditions", "ask exclusive test test test test", OVERLAPPING, "bad word 2"),
-        fault("exclusive/a bad first condition", "ask exclusive tesx test", OVERLAPPING, "condition 0 is bad at 3"),
-        fault("exclusive/a bad second condition", "ask exclusive test tesx", OVERLAPPING, "condition 1 is bad at 3"),
-        fault("exclusive/a bad condition before a word too many", "ask exclusive test tesx test", OVERLAPPING, "condition 1 is bad at 3"),
-        fault("exclusive/an empty condition", ["ask", "exclusive", ""], OVERLAPPING, "condition 0 is bad at 0"),
-        fault("exclusive/a deep first condition", "ask exclusive " + "not(" * 33, OVERLAPPING, "condition 0 is too deep"),
-        fault("exclusive/a deep second condition", "ask exclusive test " + "not(" * 33, OVERLAPPING, "condition 1 is too deep"),
-        fault("exclusive/a record that is cut", "ask exclusive test", TWO_TESTS[:-3], "line 9 is bad"),
-    ]
-)
+FAULTS = [
+    ("no condition", "", "bad word {0}"),
+    ("three conditions", " test test test", "bad word {2}"),
+    ("four conditions", " test test test test", "bad word {2}"),
+    ("a bad first condition", " tesx test", "condition {0} is bad at 3"),
+    ("a bad second condition", " test tesx", "condition {1} is bad at 3"),
+    ("a bad condition before a word too many", " test tesx test", "condition {1} is bad at 3"),
+    ("an empty condition", " ", "condition {0} is bad at 0"),
+    ("a deep first condition", " " + "not(" * 33, "condition {0} is too deep"),
+    ("a deep second condition", " test " + "not(" * 33, "condition {1} is too deep"),
+    ("a record that is cut", " test", "line 9 is bad", TWO_TESTS[:-3]),
+]
+
+CASES: List = [
+    *[answer(f"exclusive/{name}", f"ask exclusive {words}", text, "yes\n") for name, words, text in YES],
+    *[no(f"exclusive/{name}", f"ask exclusive {words}", text, f"no {pair}\n") for name, words, text, pair in NO],
+    *faults("exclusive/", "exclusive", 0, FAULTS, OVERLAPPING),
+]

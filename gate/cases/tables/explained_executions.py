@@ -1,65 +1,34 @@
 """What `ask explain` answers of `exclusive`, `list` and `executions`, and how it writes ids, names and messages with escapes."""
 
+import re
 from typing import List
 
-from tables.building import answer, record
-from tables.exclusives import BELOW, NESTED, OVERLAPPING
-from tables.exclusives import events as tests_below
-from tables.explanation_rows import early, explained, lacks, listed
+from tables.building import record
+from tables.exclusives import BELOW, NESTED, OVERLAPPING, RAN_BEFORE, START_TWICE
+from tables.explanation_rows import early, explained, found, lacks, listed
 from tables.questions import EVERY_KIND, marks
 from tables.texts import EMPTY, ONE_START, TWO_TESTS
 
 
-def collision(name: str, words: str, text: str, pair: str, sentence: str, *positions: int):
-    return explained(f"exclusive, {name}", f"exclusive {words}", text, f"no {pair}", f"{sentence} overlap", *positions)
+def collision(name: str, words: str, text: str, first: str, second: str):
+    """Two executions overlap: of each the descriptor, and the positions of its start and its finish."""
+    positions = [int(part) for span in (first, second) for part in re.search(r"\((\d+) to (\d+)\)$", span).groups()]
+    rows = [f"no {positions[0]} {positions[2]}", f"{first} and {second} overlap", *sorted(positions)]
+    return explained(f"exclusive, {name}", f"exclusive {words}", text, *rows)
 
 
-def test_of(number: int) -> str:
-    return f'[engine:e]/[t:{number}] "t{number}"'
+def test_of(number: int, start: int, finish: int) -> str:
+    return f'[engine:e]/[t:{number}] "t{number}" ({start} to {finish})'
 
 
 EXCLUSIVE = [
     explained("exclusive, yes", "exclusive test", TWO_TESTS, "yes"),
     explained("exclusive, readers alone", "exclusive any() test", OVERLAPPING, "yes"),
-    collision(
-        "a writer and a reader",
-        "name(t2) name(t1)",
-        OVERLAPPING,
-        "0 1",
-        f"{test_of(1)} (0 to 2) and {test_of(2)} (1 to 3)",
-        0,
-        1,
-        2,
-        3,
-    ),
-    collision(
-        "the first pair of those that conflict",
-        "name(t3) test",
-        NESTED,
-        "0 2",
-        f"{test_of(1)} (0 to 4) and {test_of(3)} (2 to 5)",
-        0,
-        2,
-        4,
-        5,
-    ),
-    collision("a test within its container", "all()", BELOW, "0 1", f'[engine:e] "e" (0 to 3) and {test_of(1)} (1 to 2)', 0, 1, 2, 3),
-    collision(
-        "a second start",
-        "test",
-        tests_below("1 start, 1 start, 2 start, 2 finish|ok, 1 finish|ok"),
-        "1 2",
-        f"{test_of(1)} (1 to 4) and {test_of(2)} (2 to 3)",
-        *(1, 2, 3, 4),
-    ),
-    collision(
-        "one that ran before",
-        "any(name(t1),name(t3)) name(t2)",
-        tests_below("3 start, 3 finish|ok, 1 start, 2 start, 2 finish|ok, 3 start, 3 finish|ok, 1 finish|ok"),
-        "2 3",
-        f"{test_of(1)} (2 to 7) and {test_of(2)} (3 to 4)",
-        *(2, 3, 4, 7),
-    ),
+    collision("a writer and a reader", "name(t2) name(t1)", OVERLAPPING, test_of(1, 0, 2), test_of(2, 1, 3)),
+    collision("the first pair of those that conflict", "name(t3) test", NESTED, test_of(1, 0, 4), test_of(3, 2, 5)),
+    collision("a test within its container", "all()", BELOW, '[engine:e] "e" (0 to 3)', test_of(1, 1, 2)),
+    collision("a second start", "test", START_TWICE, test_of(1, 1, 4), test_of(2, 2, 3)),
+    collision("one that ran before", "any(name(t1),name(t3)) name(t2)", RAN_BEFORE, test_of(1, 2, 7), test_of(2, 3, 4)),
     collision(
         "a test with itself, as another descriptor of its id",
         "test",
@@ -72,9 +41,7 @@ EXCLUSIVE = [
             "E|2|131072|4|finish|ok",
             "E|1|65536|5|finish|ok",
         ),
-        "2 3",
-        '[engine:e]/[d:1] "one" (2 to 5) and [engine:e]/[d:1] "other" (3 to 4)',
-        *(2, 3, 4, 5),
+        *('[engine:e]/[d:1] "one" (2 to 5)', '[engine:e]/[d:1] "other" (3 to 4)'),
     ),
 ]
 
@@ -87,23 +54,14 @@ LISTS = [
     listed("of a registered test", "all id(d:1)", EVERY_KIND, 1, 7),
 ]
 
-TWO_OF_ONE_ID = marks("start", "finish|abort", "start", "finish|fail|boom")
+TWICE = marks("start", "finish|abort", "start", "finish|fail|boom")
+OF_EVERY_KIND = "1 aborted 2 6 [engine:e]/[t:1]", "65536 skipped 7 7 [engine:e]/[d:1]", "0 succeeded 0 11 [engine:e]"
 
 EXECUTIONS = [
-    answer("explain/executions, none", "ask explain executions", EMPTY, ""),
-    answer("explain/executions, one that never finishes", "ask explain executions", ONE_START, ""),
-    answer(
-        "explain/executions, one id twice",
-        "ask explain executions",
-        TWO_OF_ONE_ID,
-        "0 aborted 1 2 [engine:e]\n0 failed 3 4 [engine:e]\n",
-    ),
-    answer(
-        "explain/executions, of a registered test",
-        "ask explain executions",
-        EVERY_KIND,
-        "1 aborted 2 6 [engine:e]/[t:1]\n65536 skipped 7 7 [engine:e]/[d:1]\n0 succeeded 0 11 [engine:e]\n",
-    ),
+    explained("executions, none", "executions", EMPTY),
+    explained("executions, one that never finishes", "executions", ONE_START),
+    explained("executions, one id twice", "executions", TWICE, "0 aborted 1 2 [engine:e]", "0 failed 3 4 [engine:e]"),
+    explained("executions, of a registered test", "executions", EVERY_KIND, *OF_EVERY_KIND),
 ]
 
 ODD_ID, ODD_NAME = r"[engine:e\p%2F\\]", r'a\pb\nc\\ "d" ä(,)%'
@@ -126,44 +84,26 @@ ESCAPED = [
     explained(
         "escapes, of a condition as it is written",
         ["loosely", f"all(container,name({UNESCAPED_NAME}))", "failed(x|y\nz\\)"],
-        ESCAPES,
-        *("yes", f"0 all(container,name({UNESCAPED_NAME}))", 0, "1 failed(x|y\nz\\)", 2),
+        *(ESCAPES, "yes", *found(0, 2)),
     ),
     explained(
         "escapes, of a member that doesn't hold",
         ["exactly", "started", "started", "failed(x\\py)", "all(skipped(100%25),name(\n|%2C))", "succeeded"],
-        ESCAPES,
-        *("no 2", "2 failed(x\\py)", lacks(2, "failed(x\\py)")),
+        *(ESCAPES, "no 2", "#2", lacks(2, "failed(x\\py)")),
     ),
     explained(
         "escapes, of a field are none of a condition",
         ["loosely", "failed(x\\py\\nz\\\\)"],
-        ESCAPES,
-        "no 0",
-        "0 failed(x\\py\\nz\\\\)",
-        *(lacks(position, "failed(x\\py\\nz\\\\)") for position in (2, 4, 0)),
+        *(ESCAPES, "no 0", "#0", *(lacks(position, "failed(x\\py\\nz\\\\)") for position in (2, 4, 0))),
     ),
-    explained(
-        "escapes, of a letter of two bytes",
-        ["loosely", "name(ä)"],
-        ESCAPES,
-        "no 0",
-        "0 name(ä)",
-        *(lacks(position, "name(ä)") for position in (0, 3, 4)),
-    ),
+    explained("escapes, of a letter of two bytes", "loosely name(ä)", ESCAPES, "no 0", "#0", *(lacks(it, "name(ä)") for it in (0, 3, 4))),
     explained(
         "escapes, in-order and too early",
         ["in-order", "skipped(100%25)", "all(failed,id(\\))"],
-        ESCAPES,
-        *("no 1", "0 skipped(100%25)", 3, "1 all(failed,id(\\))", early(2, 3), lacks(4, "failed")),
+        *(ESCAPES, "no 1", *found(3), "#1", early(2, 3), lacks(4, "failed")),
     ),
     listed("escapes", "all", ESCAPES, 0, 1, 2, 3, 4),
-    answer(
-        "explain/escapes, executions",
-        "ask explain executions",
-        ESCAPES,
-        f"1 failed 1 2 {ODD_ID}/[t:\\n]\n0 skipped 3 3 {ODD_ID}\n",
-    ),
+    explained("escapes, executions", "executions", ESCAPES, f"1 failed 1 2 {ODD_ID}/[t:\\n]", f"0 skipped 3 3 {ODD_ID}"),
     explained("escapes, lifecycle", "lifecycle", ESCAPES, "no 3 ran-already", f"{ODD} was skipped at 3, but started at 0 already", 0, 3),
     explained(
         "escapes, exclusive",

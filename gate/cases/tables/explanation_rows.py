@@ -1,17 +1,22 @@
 """How the cases of `ask explain` are written: by the rows that stand below an answer."""
 
-from typing import Sequence, Tuple, Union
+from typing import List, Sequence, Tuple, Union
 
 from tables.building import answer, no
 
 Row = Union[str, int, Tuple[int, str]]
-"""A line of the output, or the row of the event at a position, with what is said of it."""
+"""A line of the output, `#N` for that of condition N, or the row of the event at a position, with what is said of it."""
 
 NONE_LEFT = "    no event is left"
 
 
 def lacks(position: int, members: str) -> Row:
     return position, f"   does not hold: {members}"
+
+
+def found(*positions: int) -> List[Row]:
+    """Each condition from the first one on, and the event that was found for it."""
+    return [row for number, position in enumerate(positions) for row in (f"#{number}", position)]
 
 
 def early(position: int, found: int) -> Row:
@@ -33,10 +38,10 @@ def event_of(text: str, position: int) -> str:
     return f"{line}   {descriptor_of(text, line.split('|')[2])}"
 
 
-def line_of(text: str, row: Row) -> str:
+def line_of(text: str, conditions: Sequence[str], row: Row) -> str:
     """A row as a line."""
     if isinstance(row, str):
-        return row
+        return f"{row[1:]} {conditions[int(row[1:])]}" if row.startswith("#") else row
     position, note = (row, "") if isinstance(row, int) else row
     return f"    {position}: {event_of(text, position)}{note}"
 
@@ -44,8 +49,8 @@ def line_of(text: str, row: Row) -> str:
 def explained(name: str, words: Union[str, Sequence[str]], text: str, *rows: Row):
     """The program explains its answer by these rows, of which the first is the answer."""
     asked = words.split(" ") if isinstance(words, str) else words
-    make = no if rows[0].startswith(("no ", "wrong-count")) else answer
-    return make(f"explain/{name}", ["ask", "explain", *asked], text, "".join(f"{line_of(text, row)}\n" for row in rows))
+    make = no if rows and rows[0].startswith(("no ", "wrong-count")) else answer
+    return make(f"explain/{name}", ["ask", "explain", *asked], text, "".join(f"{line_of(text, asked[1:], row)}\n" for row in rows))
 
 
 def listed(name: str, words: str, text: str, *positions: int):

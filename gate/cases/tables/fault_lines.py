@@ -1,25 +1,12 @@
 """Each fault line of the program is wanted by a case, with its status, and no case wants another line."""
 
 import importlib
+import pkgutil
 import re
 from typing import List, Tuple
 
+import tables
 from harness import Case, Check
-
-WITH_FAULTS = [
-    "command_lines",
-    "condition_faults",
-    "devices",
-    "large_plans",
-    "open_inputs",
-    "plan_json",
-    "plan_members",
-    "plan_rules",
-    "record_lines",
-    "replays",
-    "text_sizes",
-]
-"""The modules of this folder that have cases of faults, by name."""
 
 LINES = [
     ("bad command line", 2),
@@ -60,8 +47,10 @@ def pattern(line: str) -> "re.Pattern[bytes]":
 
 
 def cases_of_faults() -> List[Case]:
-    modules = [importlib.import_module(f"tables.{name}") for name in WITH_FAULTS]
-    return [case for module in modules for case in module.CASES if isinstance(case, Case) and case.error]
+    """The cases of the other modules that want a line of a fault."""
+    names = [f"tables.{it.name}" for it in pkgutil.iter_modules(tables.__path__)]
+    cases = [case for name in names if name != __name__ for case in getattr(importlib.import_module(name), "CASES", [])]
+    return [case for case in cases if isinstance(case, Case) and case.error]
 
 
 def wanted_by(line: str, status: int) -> bool:

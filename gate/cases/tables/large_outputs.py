@@ -2,7 +2,7 @@
 
 from harness import Case, Output
 from tables.building import as_words
-from tables.large_plans import CONCURRENT, nodes, plan, static_report
+from tables.large_plans import CONCURRENT, nodes, plan, report_of
 from tables.long_replays import long_replay, long_replay_record
 from tables.many_events import many_events, many_executions, many_explained_skips, many_skips
 
@@ -18,21 +18,13 @@ FULL_DEVICE = [
 ]
 
 CUT_PIPE = [
-    Case(
-        f"pipe that is cut/{name}",
-        as_words(words),
-        data,
-        output,
-        error=b"testkit: device failed\n",
-        status=3,
-        standard_output=Output.CUT_PIPE,
-    )
+    Case(f"pipe that is cut/{name}", as_words(words), data, output, b"testkit: device failed\n", 3, standard_output=Output.CUT_PIPE)
     for name, words, data, output in [
         ("a long list of skips", "ask list skipped", many_events, many_skips),
         ("a long list of executions", "ask executions", many_events, many_executions),
         ("a long explained list", "ask explain list skipped", many_events, many_explained_skips),
         ("a long replay", "replay", long_replay, long_replay_record),
-        ("a long report", "run --workers 2", lambda: plan(nodes("children", 20_000)), lambda: static_report(20_000)),
+        ("a long report", "run --workers 2", lambda: plan(nodes("children", 20_000)), lambda: report_of(20_000)),
     ]
 ]
 

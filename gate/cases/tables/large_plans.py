@@ -36,22 +36,11 @@ def report(statistics: str, *parts: str, root: str = BEGIN_AND_END) -> bytes:
     return (statistics + "[engine:e]\n" + root + "".join(parts)).encode()
 
 
-def static_report(count: int) -> bytes:
-    total = count + 1
-    return report(stats(started=total, finished=total, succeeded=total), sorted_lines("children", count, BEGIN_AND_END))
-
-
-def dynamic_report(count: int) -> bytes:
-    total = count + 1
-    numbers = stats(started=total, finished=total, succeeded=total, dynamic=count)
-    return report(numbers, sorted_lines("dynamic", count, REGISTERED))
-
-
-def both_report() -> bytes:
-    total = 1 + 65_535 + 65_536
-    numbers = stats(started=total, finished=total, succeeded=total, dynamic=65_536)
-    children = sorted_lines("children", 65_535, BEGIN_AND_END)
-    return report(numbers, children, sorted_lines("dynamic", 65_536, REGISTERED))
+def report_of(children: int, dynamic: int = 0) -> bytes:
+    """The report of a plan whose root has so many tests of each kind below it."""
+    total = 1 + children + dynamic
+    numbers = stats(started=total, finished=total, succeeded=total, dynamic=dynamic)
+    return report(numbers, sorted_lines("children", children, BEGIN_AND_END), sorted_lines("dynamic", dynamic, REGISTERED))
 
 
 def entries(count: int) -> str:
@@ -66,13 +55,16 @@ def entries_report(count: int) -> bytes:
 MOST = f"run --workers {form.MAX_WORKERS}"
 
 NODES = [
-    answer("65,536 nodes/one unit", "run --workers 2", lambda: plan(nodes("children", 65_535)), lambda: static_report(65_535)),
-    answer("65,536 nodes/65,535 units", MOST, lambda: plan(nodes("children", 65_535, CONCURRENT)), lambda: static_report(65_535)),
+    answer("65,536 nodes/one unit", "run --workers 2", lambda: plan(nodes("children", 65_535)), lambda: report_of(65_535)),
+    answer("65,536 nodes/65,535 units", MOST, lambda: plan(nodes("children", 65_535, CONCURRENT)), lambda: report_of(65_535)),
     fault("65,537 nodes/static", "run", lambda: plan(nodes("children", 65_536)), "plan table is refused"),
     fault("65,537 nodes/below a skipped node", "run", lambda: plan(',"skip":"off"' + nodes("children", 65_536)), "plan table is refused"),
-    answer("65,536 nodes/dynamic", MOST, lambda: plan(nodes("dynamic", 65_536)), lambda: dynamic_report(65_536)),
+    answer("65,536 nodes/dynamic", MOST, lambda: plan(nodes("dynamic", 65_536)), lambda: report_of(0, 65_536)),
     fault("65,537 nodes/dynamic", "run", lambda: plan(nodes("dynamic", 65_537)), "plan table is refused"),
-    answer("65,536 nodes/of both kinds", MOST, lambda: plan(nodes("children", 65_535) + nodes("dynamic", 65_536)), both_report),
+    answer(
+        "65,536 nodes/of both kinds",
+        *(MOST, lambda: plan(nodes("children", 65_535) + nodes("dynamic", 65_536)), lambda: report_of(65_535, 65_536)),
+    ),
     answer("2^20 events/entries", "run --workers 2", lambda: plan(entries(1_048_574)), lambda: entries_report(1_048_574)),
     answer(
         "2^20 events/of the spine",

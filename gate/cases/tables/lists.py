@@ -3,8 +3,8 @@
 from typing import List
 
 import form
-from tables.building import Text, answer, fault, record
-from tables.questions import EVERY_KIND, SIXTY_FIVE_STARTS
+from tables.building import answer, fault, faults, record
+from tables.questions import EVERY_KIND, SELECTED, SIXTY_FIVE_STARTS
 from tables.texts import BOTH_KINDS, EMPTY, ONE_START, REGISTERED_TEST, TWO_TESTS
 
 
@@ -19,23 +19,6 @@ def listed(name: str, words: str, text: str, *positions: int):
     return answer(f"list/{name}", f"ask list {words}", text, lines(text, *positions))
 
 
-TWO_TESTS_PICKS = dict(all=(0, 1, 2, 3, 4), tests=(1, 2, 3), containers=(0, 4), skipped=(3,), started=(0, 1), finished=(2, 4))
-TWO_TESTS_PICKS.update(succeeded=(4,), failed=(2,))
-
-EVERY_KIND_PICKS = dict(
-    all=tuple(range(12)),
-    tests=tuple(range(1, 11)),
-    containers=(0, 1, 7, 11),
-    skipped=(7,),
-    started=(0, 2),
-    finished=(6, 8, 9, 10, 11),
-    aborted=(6, 8),
-    succeeded=(11,),
-    failed=(9, 10),
-    reporting=(3, 4, 5),
-    dynamic=(1,),
-)
-
 ESCAPES = record("N|T|[engine:e]|e", "E|15|0|18446744073709551615|skip|a\\pb\\n\\\\", "E|0|0|0|file|out/ä.txt", "E|1|0|7|report||")
 VERSION_1 = "testkit-record|1\n" + TWO_TESTS.partition("\n")[2]
 
@@ -45,24 +28,20 @@ def many_lines(count: int, skip_at: int) -> str:
     return record("N|T|[engine:e]|e", *["E|1|0|0|start" if at != skip_at else "E|1|0|0|skip|off" for at in range(count)])
 
 
-SELECTIONS = (
-    [answer(f"list/empty record, {name}", f"ask list {name}", EMPTY, "") for name in form.SELECTIONS]
-    + [listed(f"two tests, {name}", name, TWO_TESTS, *TWO_TESTS_PICKS.get(name, ())) for name in form.SELECTIONS]
-    + [listed(f"every kind, {name}", name, EVERY_KIND, *EVERY_KIND_PICKS.get(name, ())) for name in form.SELECTIONS]
-    + [
-        listed("both kinds, tests", "tests", BOTH_KINDS, 0, 1),
-        listed("both kinds, containers", "containers", BOTH_KINDS, 0, 1),
-        listed("registered test, tests", "tests", REGISTERED_TEST, 0, 1),
-        listed("registered test, containers", "containers", REGISTERED_TEST),
-        listed("escapes, all", "all", ESCAPES, 0, 1, 2),
-        listed("escapes, files", "files", ESCAPES, 1),
-        answer("list/a record of version 1", "ask list failed", VERSION_1, "2 E|1|1|2|finish|fail|boom\n"),
-        listed("sixty-five starts", "started", SIXTY_FIVE_STARTS, *range(65)),
-        listed("a hundred events", "skipped", many_lines(100, 99), 99),
-        listed("a thousand events", "skipped", many_lines(1_000, 10), 10),
-        listed("ten thousand and one events", "skipped", many_lines(10_001, 10_000), 10_000),
-    ]
-)
+SELECTIONS = [
+    *[listed(f"{title}, {name}", name, text, *picks.get(name, ())) for title, text, picks in SELECTED for name in form.SELECTIONS],
+    listed("both kinds, tests", "tests", BOTH_KINDS, 0, 1),
+    listed("both kinds, containers", "containers", BOTH_KINDS, 0, 1),
+    listed("registered test, tests", "tests", REGISTERED_TEST, 0, 1),
+    listed("registered test, containers", "containers", REGISTERED_TEST),
+    listed("escapes, all", "all", ESCAPES, 0, 1, 2),
+    listed("escapes, files", "files", ESCAPES, 1),
+    answer("list/a record of version 1", "ask list failed", VERSION_1, "2 E|1|1|2|finish|fail|boom\n"),
+    listed("sixty-five starts", "started", SIXTY_FIVE_STARTS, *range(65)),
+    listed("a hundred events", "skipped", many_lines(100, 99), 99),
+    listed("a thousand events", "skipped", many_lines(1_000, 10), 10),
+    listed("ten thousand and one events", "skipped", many_lines(10_001, 10_000), 10_000),
+]
 
 CONDITIONS = [
     listed("one condition", "all started", TWO_TESTS, 0, 1),
@@ -86,29 +65,30 @@ CONDITIONS = [
 ]
 
 
-def refused(name: str, words: str, line: str, text: Text = TWO_TESTS):
-    return fault(f"list/{name}", f"ask list {words}" if words else "ask list", text, line)
-
-
 FAULTS = [
-    refused("no selection", "", "bad word 0"),
-    refused("a selection in capitals", "Tests", "bad word 0"),
-    fault("list/an empty selection", ["ask", "list", ""], TWO_TESTS, "bad word 0"),
-    refused("a mode in place of the selection", "loosely", "bad word 0"),
-    refused("a condition in place of the selection", "test", "bad word 0"),
-    refused("a bad selection before a bad condition", "x not(", "bad word 0"),
-    refused("a bad condition", "all not(", "condition 1 is bad at 4"),
-    refused("a bad condition after a good one", "all test not(", "condition 2 is bad at 4"),
-    refused("the first of two bad conditions", "all tests x", "condition 1 is bad at 4"),
-    refused("an expectation in place of a condition", "all all=5", "condition 1 is bad at 3"),
-    fault("list/an empty condition", ["ask", "list", "all", ""], TWO_TESTS, "condition 1 is bad at 0"),
-    refused("too many brackets", "all " + "not(" * 33 + "test" + ")" * 33, "condition 1 is too deep"),
-    refused("a bad condition before a bad record", "all x", "condition 1 is bad at 0", "x"),
-    refused("a record that is cut", "all", "line 9 is bad", TWO_TESTS[:-3]),
-    refused("a record that is cut, of which no event is listed", "files", "line 9 is bad", TWO_TESTS[:-3]),
-    refused("no header", "all", "no header", ""),
-    refused("an unknown key", "all", "line 3 has an unknown key", record("N|T|[engine:e]|e", "E|1|1|0|start")),
-    fault("list/a question with a letter more", "ask lists all", ONE_START, "unknown question"),
+    ("no selection", "", "bad word {0}"),
+    ("a selection in capitals", " Tests", "bad word {0}"),
+    ("an empty selection", " ", "bad word {0}"),
+    ("a mode in place of the selection", " loosely", "bad word {0}"),
+    ("a condition in place of the selection", " test", "bad word {0}"),
+    ("a bad selection before a bad condition", " x not(", "bad word {0}"),
+    ("a bad condition", " all not(", "condition {1} is bad at 4"),
+    ("a bad condition after a good one", " all test not(", "condition {2} is bad at 4"),
+    ("the first of two bad conditions", " all tests x", "condition {1} is bad at 4"),
+    ("an expectation in place of a condition", " all all=5", "condition {1} is bad at 3"),
+    ("an empty condition", " all ", "condition {1} is bad at 0"),
+    ("too many brackets", " all " + "not(" * 33 + "test" + ")" * 33, "condition {1} is too deep"),
+    ("too deep", " all " + "not(" * 33, "condition {1} is too deep"),
+    ("a bad condition before a bad record", " all x", "condition {1} is bad at 0", "x"),
+    ("a record that is cut", " all", "line 9 is bad", TWO_TESTS[:-3]),
+    ("a record that is cut, of which no event is listed", " files", "line 9 is bad", TWO_TESTS[:-3]),
+    ("no header", " all", "no header", ""),
+    ("an unknown key", " all", "line 3 has an unknown key", record("N|T|[engine:e]|e", "E|1|1|0|start")),
 ]
 
-CASES: List = SELECTIONS + CONDITIONS + FAULTS
+CASES: List = [
+    *SELECTIONS,
+    *CONDITIONS,
+    *faults("list/", "list", 0, FAULTS, TWO_TESTS),
+    fault("list/a question with a letter more", "ask lists all", ONE_START, "unknown question"),
+]

@@ -49,31 +49,18 @@ def many_explained_executions() -> bytes:
     return b"".join(line + b" [engine:e]/[t:" + line[:1] + b"]\n" for line in many_executions().split(b"\n")[:-1])
 
 
-MANY_NUMBERS = dict(
-    all=6 * ROUNDS,
-    tests=6 * ROUNDS,
-    skipped=ROUNDS,
-    started=2 * ROUNDS,
-    finished=2 * ROUNDS,
-    succeeded=ROUNDS,
-    failed=ROUNDS,
-    reporting=ROUNDS,
-)
+MANY_NUMBERS = dict(all=6 * ROUNDS, tests=6 * ROUNDS, started=2 * ROUNDS, finished=2 * ROUNDS)
+MANY_NUMBERS.update(skipped=ROUNDS, succeeded=ROUNDS, failed=ROUNDS, reporting=ROUNDS)
 MANY_STATS = stats(**{name: number for name, number in MANY_NUMBERS.items() if name in form.STATISTICS})
 
-TEN_CONDITIONS = [
-    "started",
-    "test",
-    "not(container)",
-    "entry(k,v)",
-    "all(test,succeeded)",
-    "any(aborted,failed(boom))",
-    "id([t:3])",
-    "name(t2)",
-    "kind(report)",
-    "not(any(started,engine,all(failed,aborted)))",
-]
+TEN_CONDITIONS = (
+    " started test not(container) entry(k,v) all(test,succeeded) any(aborted,failed(boom)) id([t:3]) name(t2) kind(report)"
+    " not(any(started,engine,all(failed,aborted)))"
+)
 """Conditions of which each holds of some of the 300,000 events."""
+
+HUNDRED = TEN_CONDITIONS * 10
+NINETY_NINE = HUNDRED.rpartition(" ")[0]
 
 
 def increasing(step: int, first: int) -> str:
@@ -84,30 +71,18 @@ MANY_EVENTS = [
     answer("300,000 events/stats", "ask stats", many_events, MANY_STATS),
     no(
         "300,000 events/stats with expectations",
-        "ask stats skipped=50000 started=99999",
-        many_events,
-        MANY_STATS + "mismatch started expected 99999 actual 100000\n",
+        *("ask stats skipped=50000 started=99999", many_events, MANY_STATS + "mismatch started expected 99999 actual 100000\n"),
     ),
     answer("300,000 events/executions", "ask executions", many_events, many_executions),
-    answer("300,000 events/list by 100 conditions", ["ask", "list", "skipped"] + ["not(started)"] * 100, many_events, many_skips),
-    no("300,000 events/exactly", ["ask", "match", "exactly"] + TEN_CONDITIONS * 10, many_events, "wrong-count\n"),
-    answer("300,000 events/loosely", ["ask", "match", "loosely"] + TEN_CONDITIONS * 10, many_events, "yes\n"),
-    no(
-        "300,000 events/loosely, the last fails",
-        ["ask", "match", "loosely"] + (TEN_CONDITIONS * 10)[:99] + ["aborted"],
-        many_events,
-        "no 99\n",
-    ),
-    no("300,000 events/loosely, all fail", ["ask", "match", "loosely"] + ["failed(x)"] * 100, many_events, "no 0\n"),
-    answer("300,000 events/in-order, one a round", ["ask", "match", "in-order"] + ["skipped(off)"] * 100, many_events, increasing(6, 5)),
-    answer("300,000 events/in-order, each event", ["ask", "match", "in-order"] + ["test"] * 100, many_events, increasing(1, 0)),
-    no(
-        "300,000 events/in-order, the last fails",
-        ["ask", "match", "in-order"] + ["skipped(off)"] * 99 + ["aborted"],
-        many_events,
-        "no 99\n",
-    ),
-    no("300,000 events/in-order, the first fails", ["ask", "match", "in-order"] + ["aborted"] * 100, many_events, "no 0\n"),
+    answer("300,000 events/list by 100 conditions", "ask list skipped" + " not(started)" * 100, many_events, many_skips),
+    no("300,000 events/exactly", "ask match exactly" + HUNDRED, many_events, "wrong-count\n"),
+    answer("300,000 events/loosely", "ask match loosely" + HUNDRED, many_events, "yes\n"),
+    no("300,000 events/loosely, the last fails", f"ask match loosely{NINETY_NINE} aborted", many_events, "no 99\n"),
+    no("300,000 events/loosely, all fail", "ask match loosely" + " failed(x)" * 100, many_events, "no 0\n"),
+    answer("300,000 events/in-order, one a round", "ask match in-order" + " skipped(off)" * 100, many_events, increasing(6, 5)),
+    answer("300,000 events/in-order, each event", "ask match in-order" + " test" * 100, many_events, increasing(1, 0)),
+    no("300,000 events/in-order, the last fails", "ask match in-order" + " skipped(off)" * 99 + " aborted", many_events, "no 99\n"),
+    no("300,000 events/in-order, the first fails", "ask match in-order" + " aborted" * 100, many_events, "no 0\n"),
 ] + [answer(f"300,000 events/count {name}", f"ask count {name}", many_events, f"{MANY_NUMBERS.get(name, 0)}\n") for name in form.SELECTIONS]
 
 
@@ -126,20 +101,18 @@ def finishes(lacking: str, *positions: int) -> List[str]:
 EXPLAINED = [
     answer(
         "300,000 events/explained list by 100 conditions",
-        ["ask", "explain", "list", "skipped"] + ["not(started)"] * 100,
-        many_events,
-        many_explained_skips,
+        *("ask explain list skipped" + " not(started)" * 100, many_events, many_explained_skips),
     ),
     answer("300,000 events/explained executions", "ask explain executions", many_events, many_explained_executions),
     no(
         "300,000 events/explained loosely, the last fails",
-        ["ask", "explain", "loosely"] + (TEN_CONDITIONS * 10)[:99] + ["aborted"],
+        f"ask explain loosely{NINETY_NINE} aborted",
         many_events,
         "".join(f"{line}\n" for line in ["no 99", "99 aborted", *finishes("aborted", 2, 4, 8)]),
     ),
     no(
         "300,000 events/explained in-order, the last fails",
-        ["ask", "explain", "in-order"] + ["skipped(off)"] * 99 + ["all(aborted,test)"],
+        "ask explain in-order" + " skipped(off)" * 99 + " all(aborted,test)",
         many_events,
         "no 99\n" + skips("99 all(aborted,test)", *finishes("aborted", 596, 598, 602)),
     ),
@@ -165,18 +138,11 @@ def hundred_events() -> bytes:
 
 
 HUNDRED_EVENTS = [
-    answer("100 events/exactly", ["ask", "match", "exactly"] + ["started", "succeeded"] * 50, hundred_events, "yes\n"),
-    no(
-        "100 events/exactly, the last fails",
-        ["ask", "match", "exactly"] + ["started", "succeeded"] * 49 + ["started"] * 2,
-        hundred_events,
-        "no 99\n",
-    ),
+    answer("100 events/exactly", "ask match exactly" + " started succeeded" * 50, hundred_events, "yes\n"),
+    no("100 events/exactly, the last fails", "ask match exactly" + " started succeeded" * 49 + " started" * 2, hundred_events, "no 99\n"),
     answer(
         "100 events/executions",
-        "ask executions",
-        hundred_events,
-        "".join(f"0 succeeded {stamp} {stamp + 1}\n" for stamp in range(0, 100, 2)),
+        *("ask executions", hundred_events, "".join(f"0 succeeded {stamp} {stamp + 1}\n" for stamp in range(0, 100, 2))),
     ),
 ]
 

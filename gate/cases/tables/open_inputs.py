@@ -3,6 +3,7 @@
 import form
 from harness import Case, Input
 from tables.building import as_words
+from tables.devices import BAD_WORDS
 from tables.texts import ONE_START, ONE_TEST_PLAN, SMALL_REPLAY
 
 
@@ -13,25 +14,7 @@ def refused(name: str, words: str, line: str, data=b"") -> Case:
 WORDS = [
     refused(f"{beginning}, {words}", words, line, text.encode())
     for beginning, text in [("nothing written", ""), ("a text written", ONE_START), ("half a line", ONE_TEST_PLAN[:40])]
-    for words, line in [
-        ("walk", "bad command line"),
-        ("replay x", "bad command line"),
-        ("run --workers 256", "bad command line"),
-        ("run --workers=x", "bad command line"),
-        ("ask", "unknown question"),
-        ("ask how", "unknown question"),
-        ("ask stats x", "bad word 0"),
-        ("ask count", "bad word 0"),
-        ("ask match most", "bad word 0"),
-        ("ask match exactly test tesx", "condition 2 is bad at 3"),
-        ("ask match loosely " + "not(" * 33, "condition 1 is too deep"),
-        ("ask list", "bad word 0"),
-        ("ask list tests test tesx", "condition 2 is bad at 3"),
-        ("ask executions x", "bad word 0"),
-        ("ask explain", "bad word 0"),
-        ("ask explain lifecycle x", "bad word 1"),
-        ("ask explain list tests test tesx", "condition 3 is bad at 3"),
-    ]
+    for words, line in BAD_WORDS
 ]
 """A fault of the words needs no input."""
 

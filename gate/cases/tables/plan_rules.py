@@ -24,6 +24,7 @@ RULES = [
         ("entry key twice apart", rooted(',"entries":[[],[["k","1"],["l","1"],["k","2"]]]')),
         ("empty entry key twice", rooted(',"entries":[[["",""],["",""]]]')),
         ("entry key twice of a skipped node", rooted(',"skip":"off","entries":[[["k","1"],["k","2"]]]')),
+        ("entry key twice before the id", plan_of('{"type":"test","segment":["",""],"name":"","entries":[[["k","1"],["k","2"]]]}')),
         ("entry key twice before the children", rooted(',"entries":[[["k","1"],["k","2"]]],"children":[3]')),
     ),
     *each_refused(
@@ -32,6 +33,7 @@ RULES = [
         ("empty value", plan_of('{"type":"test","segment":["x",""],"name":"e"}')),
         ("empty segment", plan_of('{"type":"test","segment":["",""],"name":"e"}')),
         ("empty tag of a child", rooted(',"children":[{"type":"test","segment":["","y"],"name":"m"}]')),
+        ("empty tag before too many resources", plan_of('{"type":"test","segment":["","x"],"name":"e"' + locks(range(16)) + "}")),
         ("empty value of a dynamic node", rooted(',"dynamic":[{"type":"test","segment":["x",""],"name":"m"}]')),
     ),
     *each_refused(
@@ -41,24 +43,10 @@ RULES = [
         ("a child and a dynamic node", rooted(',"children":[CHILD],"dynamic":[CHILD]')),
         ("a dynamic node and a child, as they are written", rooted(',"dynamic":[CHILD],"children":[CHILD]')),
         ("children twice below a skipped node", rooted(',"skip":"off","children":[CHILD,CHILD]')),
+        ("children twice with other types and names", rooted(',"children":[CHILD,{"type":"container","segment":["b","y"],"name":"n"}]')),
         ("twice before a later node", rooted(',"children":[CHILD,CHILD,3]')),
     ),
-    refused(
-        "entry key twice before the id",
-        plan_of('{"type":"test","segment":["",""],"name":"","entries":[[["k","1"],["k","2"]]]}'),
-        "entry key twice",
-    ),
     refused("member before entry key twice", rooted(',"entries":[[["k","1"],["k","2"]]],"dynamic":3'), "plan member /root/dynamic is bad"),
-    refused(
-        "empty tag before too many resources",
-        plan_of('{"type":"test","segment":["","x"],"name":"e"' + locks(range(16)) + "}"),
-        "plan id is bad",
-    ),
-    refused(
-        "children twice with other types and names",
-        rooted(',"children":[CHILD,{"type":"container","segment":["b","y"],"name":"n"}]'),
-        "plan table is refused",
-    ),
     refused("a node before twice", rooted(',"children":[CHILD,3,CHILD]'), "plan member /root/children/1 is bad"),
     refused(
         "member before twice",
@@ -68,11 +56,9 @@ RULES = [
 ]
 
 
-def child_with(members: str) -> str:
-    return CHILD[:-1] + members + "}"
-
-
 FIFTEEN = [f"k{number}" for number in range(15)]
+SIXTEENTH = CHILD[:-1] + locks(["x"]) + "}"
+"""A child with another lock key."""
 
 RESOURCES = [
     *each_refused(
@@ -82,38 +68,21 @@ RESOURCES = [
         ("Global is no global", rooted(locks(FIFTEEN + ["Global"]))),
         ("sixteen lock keys, one empty", rooted(locks(FIFTEEN + [""]))),
         ("too many resources before the children", rooted(locks(FIFTEEN + ["x"]) + ',"children":[3]')),
+        ("sixteenth lock key of a child", rooted(f'{locks(FIFTEEN)},"children":[{SIXTEENTH}]')),
+        ("sixteenth lock key below a skipped node", rooted(f',"skip":"off"{locks(FIFTEEN)},"children":[{SIXTEENTH}]')),
     ),
     answer("plan/fifteen lock keys", "run", rooted(locks(FIFTEEN)), ONE_START),
     answer("plan/fifteen lock keys and global", "run", rooted(locks(FIFTEEN + ["global"])), ONE_START),
     answer("plan/fifteen lock keys twice", "run", rooted(locks(FIFTEEN + FIFTEEN)), ONE_START),
     answer("plan/empty lock key", "run", rooted(locks(FIFTEEN[:14] + [""])), ONE_START),
-    refused(
-        "sixteenth lock key of a child",
-        rooted(locks(FIFTEEN) + ',"children":[' + child_with(locks(["x"])) + "]"),
-        "too many resources",
-    ),
-    refused(
-        "sixteenth lock key below a skipped node",
-        rooted(',"skip":"off"' + locks(FIFTEEN) + ',"children":[' + child_with(locks(["x"])) + "]"),
-        "too many resources",
-    ),
-    refused(
-        "twice before too many resources",
-        rooted(locks(FIFTEEN) + ',"children":[CHILD,' + child_with(locks(["x"])) + "]"),
-        "plan table is refused",
-    ),
+    refused("twice before too many resources", rooted(f'{locks(FIFTEEN)},"children":[CHILD,{SIXTEENTH}]'), "plan table is refused"),
 ]
 
 
-def chain(levels: int, innermost: str = "") -> str:
+def chain(levels: int, innermost: str = "", member: str = "children") -> str:
     """A chain of `levels` levels, with these members at the innermost node."""
     node = '{"type":"both","segment":["s","x"],"name":"n"'
-    return plan_of((node + ',"children":[') * (levels - 1) + node + innermost + "}" + "]}" * (levels - 1))
-
-
-def dynamic_chain(levels: int) -> str:
-    node = '{"type":"both","segment":["s","x"],"name":"n"'
-    return plan_of((node + ',"dynamic":[') * (levels - 1) + node + "}" + "]}" * (levels - 1))
+    return plan_of(f'{node},"{member}":[' * (levels - 1) + node + innermost + "}" + "]}" * (levels - 1))
 
 
 def chain_report(levels: int) -> str:
@@ -128,7 +97,7 @@ LEVELS = [
     refused("62 levels", chain(62), "plan too deep"),
     refused("70 levels", chain(70), "plan is not JSON"),
     refused("1,000 levels", chain(1_000), "plan is not JSON"),
-    refused("61 levels of dynamic nodes", dynamic_chain(61), "plan too deep"),
+    refused("61 levels of dynamic nodes", chain(61, member="dynamic"), "plan too deep"),
     refused("level 61 before its members", chain(60, ',"children":[3]'), "plan too deep"),
     refused("level 61 of a dynamic node", chain(60, ',"dynamic":[CHILD]'.replace("CHILD", CHILD)), "plan too deep"),
     refused("an earlier fault before level 61", chain(61).replace('"name":"n"', '"name":3', 1), "plan member /root/name is bad"),

@@ -53,37 +53,14 @@ HEADERS = [answer(f"header/version {version}", STATS, f"testkit-record|{version}
     fault("header/empty line after it", STATS, HEADER + "\n", "line 2 is bad"),
 ]
 
-NODE_LINES = [
-    second_line(line)
-    for line in [
-        "N",
-        "N|",
-        "N|T",
-        "N|T|[engine:e]",
-        "N|T|[engine:e]|e|",
-        "N|T|[engine:e]|e|f",
-        "N|t|[engine:e]|e",
-        "N||[engine:e]|e",
-        "N|TT|[engine:e]|e",
-        "N|D|[engine:e]|e",
-        "n|T|[engine:e]|e",
-        " N|T|[engine:e]|e",
-        "N|T |[engine:e]|e",
-        "N|T|[engine:e]|e\\",
-        "N|T|[engine:e]|\\e",
-        "N|T|[engine:e]|\\P",
-        "N|T|[engine:e]|\\r",
-        "N|T|\\[engine:e]|e",
-        "N|T|[engine:e]/[t:1]|e",
-        "M|T|[engine:e]|e",
-        "NN|T|[engine:e]|e",
-        "S",
-        "S|t",
-        "W|1",
-        "|",
-        "#",
-    ]
-] + [
+BAD_NODES = r"""
+N N| N|T N|T|[engine:e] N|T|[engine:e]|e| N|T|[engine:e]|e|f N|t|[engine:e]|e N||[engine:e]|e N|TT|[engine:e]|e
+N|D|[engine:e]|e n|T|[engine:e]|e N|T|[engine:e]|\e N|T|[engine:e]|\P N|T|[engine:e]|\r N|T|\[engine:e]|e N|T|[engine:e]/[t:1]|e
+M|T|[engine:e]|e NN|T|[engine:e]|e S S|t W|1 | #
+""".split()
+BAD_NODES += [" N|T|[engine:e]|e", "N|T |[engine:e]|e", "N|T|[engine:e]|e\\"]
+
+NODE_LINES = [second_line(line) for line in BAD_NODES] + [
     good_node(line)
     for line in [
         "N|T|[engine:e]|",
@@ -116,121 +93,35 @@ TABLES = [
     answer("table/parent with escapes", STATS, record("N|C|[a%2Fb:c]|x", "N|T|[a%2Fb:c]/[t:%25]|y", "E|1|1|0|start"), stats(started=1)),
 ]
 
-BAD_ENTRIES = [
-    third_line(line, "is bad")
-    for line in [
-        "",
-        " ",
-        "E",
-        "E|",
-        "E|1",
-        "E|1|0",
-        "E|1|0|0",
-        "E|1|0|0|",
-        "e|1|0|0|start",
-        "E|1|0|0|START",
-        "E|1|0|0|started",
-        "E|1|0|0|star",
-        "E|1|0|0|start|",
-        "E|1|0|0|start ",
-        "E|1|0|0|start\r",
-        "E|1|0|0| start",
-        "E|1|0|0|begin",
-        "E|01|0|0|start",
-        "E|1|00|0|start",
-        "E|1|0|00|start",
-        "E|1|0|007|start",
-        "E||0|0|start",
-        "E|1||0|start",
-        "E|1|0||start",
-        "E|+1|0|0|start",
-        "E|-1|0|0|start",
-        "E|1|-0|0|start",
-        "E|1|0|+0|start",
-        "E| 1|0|0|start",
-        "E|1 |0|0|start",
-        "E|1|0|1e0|start",
-        "E|1|0|1.0|start",
-        "E|1|0|1_0|start",
-        "E|a|0|0|start",
-        "E|1|0x0|0|start",
-        "E|١|0|0|start",
-        "E|256|0|0|start",
-        "E|1000|0|0|start",
-        "E|1|4294967296|0|start",
-        "E|1|0|18446744073709551616|start",
-        "E|1|0|99999999999999999999|start",
-        "E|1|0|100000000000000000000|start",
-        "E|1|0|0|finish",
-        "E|1|0|0|finish|",
-        "E|1|0|0|finish|good",
-        "E|1|0|0|finish|OK",
-        "E|1|0|0|finish|ok|",
-        "E|1|0|0|finish|ok|well",
-        "E|1|0|0|finish|failed",
-        "E|1|0|0|finish|fail|a|b",
-        "E|1|0|0|finish|abort|a|",
-        "E|1|0|0|finish|fail|\\",
-        "E|1|0|0|finish|fail|a\\b",
-        "E|1|0|0|skip",
-        "E|1|0|0|skip|off|on",
-        "E|1|0|0|skip|\\x",
-        "E|1|0|0|skipped|off",
-        "E|1|0|0|report|k",
-        "E|1|0|0|report|",
-        "E|1|0|0|report|k|v|l",
-        "E|1|0|0|report|k|\\",
-        "E|1|0|0|report|k\\|v",
-        "E|1|0|0|dynamic",
-        "E|1|65536|0|dynamic|T|[engine:e]/[d:1]",
-        "E|1|65536|0|dynamic|T|[engine:e]/[d:1]|one|",
-        "E|1|65536|0|dynamic|X|[engine:e]/[d:1]|one",
-        "E|1|65536|0|dynamic|t|[engine:e]/[d:1]|one",
-        "E|1|65536|0|dynamic|T||one",
-        "E|1|65536|0|dynamic|T|[engine]|one",
-        "E|1|65536|0|dynamic|T|[engine:e]/|one",
-        "E|1|65536|0|dynamic|T|[engine:e]/[d:1]|\\",
-        "E|9|7|0|finish|ok|a form that is bad comes before an unknown key",
-    ]
-]
+BAD_ENTRIES = r"""
+E E| E|1 E|1|0 E|1|0|0 E|1|0|0| e|1|0|0|start E|1|0|0|START E|1|0|0|started E|1|0|0|star E|1|0|0|start| E|1|0|0|begin
+E|01|0|0|start E|1|00|0|start E|1|0|00|start E|1|0|007|start E||0|0|start E|1||0|start E|1|0||start E|+1|0|0|start
+E|-1|0|0|start E|1|-0|0|start E|1|0|+0|start E|1|0|1e0|start E|1|0|1.0|start E|1|0|1_0|start E|a|0|0|start E|1|0x0|0|start
+E|١|0|0|start E|256|0|0|start E|1000|0|0|start E|1|4294967296|0|start E|1|0|18446744073709551616|start
+E|1|0|99999999999999999999|start E|1|0|100000000000000000000|start
+E|1|0|0|finish E|1|0|0|finish| E|1|0|0|finish|good E|1|0|0|finish|OK E|1|0|0|finish|ok| E|1|0|0|finish|ok|well
+E|1|0|0|finish|failed E|1|0|0|finish|fail|a|b E|1|0|0|finish|abort|a| E|1|0|0|finish|fail|a\b
+E|1|0|0|skip E|1|0|0|skip|off|on E|1|0|0|skip|\x E|1|0|0|skipped|off
+E|1|0|0|report|k E|1|0|0|report| E|1|0|0|report|k|v|l E|1|0|0|report|k\|v
+E|1|0|0|dynamic E|1|65536|0|dynamic|T|[engine:e]/[d:1] E|1|65536|0|dynamic|T|[engine:e]/[d:1]|one|
+E|1|65536|0|dynamic|X|[engine:e]/[d:1]|one E|1|65536|0|dynamic|t|[engine:e]/[d:1]|one E|1|65536|0|dynamic|T||one
+E|1|65536|0|dynamic|T|[engine]|one E|1|65536|0|dynamic|T|[engine:e]/|one
+""".split()
+BAD_ENTRIES += ["", " ", "E|1|0|0|start ", "E|1|0|0|start\r", "E|1|0|0| start", "E| 1|0|0|start", "E|1 |0|0|start"]
+BAD_ENTRIES += ["E|1|0|0|finish|fail|\\", "E|1|0|0|report|k|\\", "E|1|65536|0|dynamic|T|[engine:e]/[d:1]|\\"]
+BAD_ENTRIES += ["E|9|7|0|finish|ok|a form that is bad comes before an unknown key"]
 
-REFUSED_ENTRIES = [
-    third_line(line, "has an unknown key")
-    for line in [
-        "E|1|5|0|start",
-        "E|1|1|0|start",
-        "E|0|1|0|start",
-        "E|1|65536|0|start",
-        "E|1|4294967295|0|skip|off",
-        "E|1|0|0|dynamic|T|[engine:e]/[d:1]|one",
-        "E|1|1|0|dynamic|T|[engine:e]/[d:1]|one",
-        "E|1|65537|0|dynamic|T|[engine:e]/[d:1]|one",
-        "E|1|65535|0|dynamic|T|[engine:e]/[d:1]|one",
-        "E|2|65536|0|dynamic|T|[engine:e]/[d:1]|one",
-        "E|1|131072|0|dynamic|T|[engine:e]/[d:1]|one",
-        "E|0|0|0|dynamic|T|[engine:e]/[d:1]|one",
-        "E|0|65536|0|dynamic|T|[engine:e]/[d:1]|one",
-        f"E|{form.MAX_WORKERS + 1}|{65536 * (form.MAX_WORKERS + 1)}|0|dynamic|T|[engine:e]/[d:1]|one",
-        "E|17|1114112|0|dynamic|T|[engine:e]/[d:1]|one",
-        "E|255|5|0|start",
-        "E|1|5|0|report|b|1|a|2",
-    ]
-] + [
-    third_line(line, "is unlawful")
-    for line in [
-        f"E|{form.MAX_WORKERS + 1}|0|0|start",
-        "E|17|0|0|start",
-        "E|255|0|0|start",
-        "E|17|0|0|report|b|1|a|2",
-        "E|1|0|0|report|b|1|a|2",
-        "E|1|0|0|report|a|1|a|1",
-        "E|1|0|0|report|a|1|b|2|b|3",
-        "E|1|0|0|report|a|1||2",
-        "E|1|0|0|report|ab|1|a|2",
-        "E|1|0|0|report|a|1|B|2",
-        "E|1|0|0|report|é|1|z|2",
-    ]
-]
+UNKNOWN_KEYS = f"""
+E|1|5|0|start E|1|1|0|start E|0|1|0|start E|1|65536|0|start E|1|4294967295|0|skip|off E|255|5|0|start E|1|5|0|report|b|1|a|2
+{" ".join(f"E|{key}|0|dynamic|T|[engine:e]/[d:1]|one" for key in "1|0 1|1 1|65537 1|65535 2|65536 1|131072 0|0 0|65536 17|1114112".split())}
+E|{form.MAX_WORKERS + 1}|{65536 * (form.MAX_WORKERS + 1)}|0|dynamic|T|[engine:e]/[d:1]|one
+""".split()
+UNLAWFUL = f"""
+E|{form.MAX_WORKERS + 1}|0|0|start E|17|0|0|start E|255|0|0|start E|17|0|0|report|b|1|a|2 E|1|0|0|report|b|1|a|2
+E|1|0|0|report|a|1|a|1 E|1|0|0|report|a|1|b|2|b|3 E|1|0|0|report|a|1||2 E|1|0|0|report|ab|1|a|2 E|1|0|0|report|a|1|B|2
+E|1|0|0|report|é|1|z|2
+""".split()
+REFUSED_ENTRIES = [third_line(line, "has an unknown key") for line in UNKNOWN_KEYS] + [third_line(line, "is unlawful") for line in UNLAWFUL]
 
 GOOD_ENTRIES = [
     good_line("E|0|0|0|start", started=1),
@@ -330,16 +221,5 @@ FILES = [
     good_line("E|1|0|0|file|a\\pb", files=1),
 ]
 
-CASES = (
-    HEADERS
-    + NODE_LINES
-    + TABLES
-    + BAD_ENTRIES
-    + REFUSED_ENTRIES
-    + GOOD_ENTRIES
-    + REGISTRATIONS
-    + ENDS
-    + NO_TEXT
-    + QUESTIONS_ASKED
-    + FILES
-)
+CASES = HEADERS + NODE_LINES + TABLES + [third_line(line, "is bad") for line in BAD_ENTRIES]
+CASES += REFUSED_ENTRIES + GOOD_ENTRIES + REGISTRATIONS + ENDS + NO_TEXT + QUESTIONS_ASKED + FILES

@@ -45,35 +45,8 @@ SMALL = [
 
 STEPS = [
     refused(f"steps {steps!r}", [*SMALL_SCRIPT, steps], "line 7 is bad")
-    for steps in [
-        "S|3",
-        "S|0",
-        "S|01",
-        "S|+1",
-        "S|-1",
-        "S|",
-        "S||1",
-        "S|1|",
-        "S|1||t",
-        "S|T",
-        "S|tt",
-        "S|1t",
-        "S|t1",
-        "S| 1",
-        "S|1 ",
-        "S 1",
-        "S1",
-        "s|1",
-        "SS|1",
-        "S|1,2",
-        "S|9",
-        "S|256",
-        "S|257",
-        "S|18446744073709551617",
-        "S|x",
-        "S|1\r",
-        "S|١",
-    ]
+    for steps in "S|3 S|0 S|01 S|+1 S|-1 S| S||1 S|1| S|1||t S|T S|tt S|1t S|t1 S1 s|1 SS|1 S|1,2 S|9 S|256 S|257 S|x S|١".split()
+    + ["S|18446744073709551617", "S| 1", "S|1 ", "S 1", "S|1\r"]
 ]
 
 FORMS = [
@@ -125,24 +98,7 @@ WORKERS = [
     for workers in range(1, form.MAX_WORKERS + 1)
 ] + [
     refused(f"workers {line!r}", [line, "S"], "line 2 is bad")
-    for line in [
-        "W|0",
-        f"W|{form.MAX_WORKERS + 1}",
-        "W|255",
-        "W|256",
-        "W|257",
-        "W|01",
-        "W|",
-        "W",
-        "W|1|",
-        "W|1|2",
-        "W|a",
-        "W|+1",
-        "W| 1",
-        "W|1 ",
-        "w|1",
-        "W|1\r",
-    ]
+    for line in f"W|0 W|{form.MAX_WORKERS + 1} W|255 W|256 W|257 W|01 W| W W|1| W|1|2 W|a W|+1 w|1".split() + ["W| 1", "W|1 ", "W|1\r"]
 ]
 
 KEYS = [

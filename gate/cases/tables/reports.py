@@ -3,7 +3,7 @@
 from typing import List
 
 from tables.building import answer, fault, record, stats
-from tables.questions import EVERY_KIND
+from tables.questions import EVERY_KIND, EVERY_KIND_STATS, TWO_TESTS_STATS
 from tables.texts import EMPTY, TWO_TESTS
 
 CASES: List = [
@@ -11,7 +11,7 @@ CASES: List = [
         "report/two tests",
         "ask report",
         TWO_TESTS,
-        stats(skipped=1, started=2, finished=2, succeeded=1, failed=1)
+        TWO_TESTS_STATS
         + "[engine:e]\n  start\n  finish|ok\n[engine:e]/[t:1]\n  start\n  finish|fail|boom\n[engine:e]/[t:2]\n  skip|off\n",
     ),
     answer("report/empty record", "ask report", EMPTY, stats()),
@@ -21,7 +21,7 @@ CASES: List = [
         "report/every kind",
         "ask report",
         EVERY_KIND,
-        stats(skipped=1, started=2, finished=5, aborted=2, succeeded=1, failed=2, reporting=3, dynamic=1)
+        EVERY_KIND_STATS
         + "[engine:e]\n  start\n  finish|ok\n"
         + "[engine:e]/[d:1]\n  dynamic|B|[engine:e]/[d:1]|more\n  skip|\n"
         + "[engine:e]/[t:1]\n  start\n  report\n  report|k|v\n  report|k|v|l|w\n"
