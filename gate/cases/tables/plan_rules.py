@@ -42,6 +42,8 @@ RULES = [
         ("a dynamic node and a child, as they are written", rooted(',"dynamic":[CHILD],"children":[CHILD]')),
         ("children twice below a skipped node", rooted(',"skip":"off","children":[CHILD,CHILD]')),
         ("twice before a later node", rooted(',"children":[CHILD,CHILD,3]')),
+        ("children twice with long values", rooted(',"children":[CHILD,CHILD]').replace('"y"', f'"{"y" * 4_000}"')),
+        ("dynamic nodes twice with long tags", rooted(',"dynamic":[CHILD,CHILD]').replace('"b"', f'"{"b" * 4_000}"')),
     ),
     refused(
         "entry key twice before the id",
@@ -81,6 +83,7 @@ RESOURCES = [
         ("sixteen lock keys with global between", rooted(locks(FIFTEEN + ["global", "x"]))),
         ("Global is no global", rooted(locks(FIFTEEN + ["Global"]))),
         ("sixteen lock keys, one empty", rooted(locks(FIFTEEN + [""]))),
+        ("1,000 lock keys", rooted(locks(range(1_000)))),
         ("too many resources before the children", rooted(locks(FIFTEEN + ["x"]) + ',"children":[3]')),
     ),
     answer("plan/fifteen lock keys", "run", rooted(locks(FIFTEEN)), ONE_START),
@@ -166,6 +169,12 @@ LONG_IDS = [
         + f"[s:{'x' * 4_086}]\n  start\n  finish|ok\n[s:{'x' * 4_086}]/[c:y]\n  start\n  finish|ok\n",
     ),
     refused("child's id of 4,097 bytes", long_id("x", 4_087, LOWER), "plan id is bad"),
+    refused("id of 1,000,000 bytes", long_id("x", 999_996), "plan id is bad"),
+    refused(
+        "id of 4,097 bytes at level 60",
+        chain(59, ',"children":[{"type":"test","segment":["t","' + "y" * 3_739 + '"],"name":"m"}]'),
+        "plan id is bad",
+    ),
     refused("dynamic node's id of 4,097 bytes", long_id("x", 4_087, LOWER.replace("children", "dynamic")), "plan id is bad"),
     refused("child's id of 4,097 bytes below a skipped node", long_id("x", 4_087, ',"skip":"off"' + LOWER), "plan id is bad"),
 ]
