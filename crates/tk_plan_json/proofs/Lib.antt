@@ -1,6 +1,5 @@
 pub mod Groups
 pub mod Meeting
-pub mod Naming
 pub mod Verdicts
 pub mod CheckSteps
 pub mod Going
