@@ -4,6 +4,7 @@ use Rattle.std.specs.List.{list_any}
 use Rattle.std.specs.Option.{option_or}
 use Rattle.std.proofs.lemmas.Bool.{cases_Bool}
 use Rattle.std.proofs.lemmas.List.{length-map}
+use Rattle.std.proofs.lemmas.Option.{slice_get_within}
 use Rattle.tk_record_columns.specs.Recorded.{Recorded}
 use Rattle.tk_record_columns.specs.Entries.{described, desc_in, of_kind}
 use Rattle.tk_plan_units.specs.declared.trees.nodes.NumberedNode.{NumberedNode}
@@ -20,7 +21,6 @@ use Rattle.tk_engine_laws.proofs.Lists.{each_at}
 use Rattle.tk_engine_laws.proofs.Model.{Each, Forest, Models, id_emitted, event_of_step}
 use Rattle.tk_engine_laws.proofs.OneKey.{Comes, HasKey, all_keys, from_table, same_key, emitted_some}
 use Rattle.tk_engine_laws.proofs.Orders.{precedes_none}
-use Rattle.tk_engine_laws.proofs.Through.{below_length}
 use Rattle.tk_report_text.specs.Labels.{Label, events, id_in, label, labels, name, same_id, same_kind}
 use Rattle.tk_engine_laws.specs.Listening.{IsBelow, IsChild, IsOnce, ListensByKey, finishes, is_followed, is_of, is_ran, precedes, registers, skips, starts}
 use Rattle.tk_queue_session.specs.Emission.{is_dynamic}
@@ -188,7 +188,7 @@ module _ (all : List NumberedNode) (table : List Descriptor) (f : Forest) (worke
       let alike = agrees k o in
       let comes = subst (Comes all table f workers r plan run) o.key (each_at (HasKey all table (Comes all table f workers r plan run) (from_table all table f workers r plan run)) (events r.entries) o.position o.event (all_keys all table f workers r plan run) o.is_there) in
       let here : list_any (λ e. e.key == k && same_kind e.kind Dynamic) (events r.entries) ≡ true = ⊎_elim
-      (λ a. let b = below_length (ids_of table) k a.0 a.1 in let no : ⊥ = omega (arith, b, l, length-map table (λ (d : Descriptor). d.id)) in absurd no)
+      (λ a. let b = slice_get_within (ids_of table) k a.0 a.1 in let no : ⊥ = omega (arith, b, l, length-map table (λ (d : Descriptor). d.id)) in absurd no)
       (λ a. emitted_any k (events r.entries) (subst (λ j. 0 < length (event_of_step j (events r.entries))) (sym a.6) (emitted_some all table f workers r plan run a.0 a.2 a.1 a.3 a.4 a.5)))
       comes in
       let register : Each (λ e. (e.key == k && same_kind e.kind Dynamic) ≡ (same_id (names e.key) i && same_kind e.kind Dynamic)) (events r.entries)

@@ -3,6 +3,7 @@ use Rattle.std.proofs.Common.{◌≡◌, ◌<◌, ℕ, zero, suc, ◌+◌, Bool,
 use Rattle.std.proofs.Common.{◌++◌, flat_map, All, Some, None, slice_get, sum_by, refl, sym, ap, ◌∙◌, subst, arith, tests}
 use Rattle.std.specs.List.{list_any, list_all}
 use Rattle.std.proofs.lemmas.Bool.{and_parts, or_right, not-true}
+use Rattle.std.proofs.lemmas.Option.{same_Some}
 use Rattle.tk_ids.specs.IdText.{SegmentView}
 use Rattle.tk_ids.specs.declared.descriptors.DType.TheVariants.{Test}
 use Rattle.tk_events.specs.declared.events.Event.{Event}
@@ -25,7 +26,7 @@ use Rattle.tk_report_text.specs.Labels.{same_id}
 use Rattle.tk_report_text.specs.Reports.{report_of_record}
 use Rattle.tk_engine_laws.specs.Scripts.{played, may, IsRunOf}
 use Rattle.tk_report_text.proofs.Ids.{same_decides}
-use Rattle.tk_engine_laws.proofs.Grounds.{some_same, models, trees_of}
+use Rattle.tk_engine_laws.proofs.Grounds.{models, trees_of}
 use Rattle.tk_engine_laws.proofs.SameReports.{report_law}
 use Rattle.tk_engine_laws.proofs.Samples.{demo, demo_table, demo_counts, demo_lines, demo_report, line, pair}
 
@@ -49,7 +50,7 @@ differ (i ∷ is) = not (list_any (same_id i) is) && differ is
 
 any_at : (i : List SegmentView) (is : List (List SegmentView)) (k : ℕ) → slice_get is k ≡ Some i → list_any (same_id i) is ≡ true
 any_at i [] k e = cc
-any_at i (j ∷ is) zero e = rw ((same_decides i j).1 (sym (some_same e))) refl
+any_at i (j ∷ is) zero e = rw ((same_decides i j).1 (sym (same_Some _ _ e))) refl
 any_at i (j ∷ is) (suc k) e = let more = any_at i is k e in rw more (or_right (same_id i j) true refl)
 
 pub distinct : (is : List (List SegmentView)) → differ is ≡ true → AreDistinct is
@@ -160,8 +161,8 @@ unfolding forest grow
 second_worker = (unit 1 2 0, unit 3 2 0, refl, refl, (unit 3 2 0, [], refl, refl, refl))
 
 emitted : (i : ℕ) (us : List ℕ) → slice_get drawn i ≡ Some us → Emits (may demo demo_table) (i + 1) 0 us (of_worker (i + 1) mid)
-emitted zero us e = subst (λ l. Emits (may demo demo_table) 1 0 l (of_worker 1 mid)) (some_same e) first_worker
-emitted (suc zero) us e = subst (λ l. Emits (may demo demo_table) 2 0 l (of_worker 2 mid)) (some_same e) second_worker
+emitted zero us e = subst (λ l. Emits (may demo demo_table) 1 0 l (of_worker 1 mid)) (same_Some _ _ e) first_worker
+emitted (suc zero) us e = subst (λ l. Emits (may demo demo_table) 2 0 l (of_worker 2 mid)) (same_Some _ _ e) second_worker
 emitted (suc (suc i)) us e = cc
 
 pub demo_run : IsRunOf demo demo_table 2 demo_record

@@ -1,6 +1,7 @@
 -- Each static node stands on the spine or in a unit, and none does both.
 use Rattle.std.proofs.Common.{◌≡◌, ◌≤◌, ◌<◌, ℕ, zero, suc, ◌+◌, ◌⊎◌, Bool, true, false, cond, List, [], ◌∷◌, ◌++◌, length, flat_map, Some, slice_get, refl, sym, ap, ◌∙◌, subst, arith, inl, inr, ⊎_elim, length-append}
 use Rattle.std.proofs.lemmas.Bool.{cases_lt, and_parts as if_both}
+use Rattle.std.proofs.lemmas.Option.{same_Some}
 use Rattle.tk_ids.specs.declared.descriptors.Descriptor.{Descriptor}
 use Rattle.tk_plan_units.specs.declared.trees.nodes.Node.{Node}
 use Rattle.tk_plan_units.specs.declared.trees.nodes.NumberedNode.{NumberedNode}
@@ -12,7 +13,6 @@ use Rattle.tk_plan_units.proofs.Cuts.{spine_facts}
 use Rattle.tk_plan_units.proofs.Describing.{statics-append, statics_length}
 use Rattle.tk_plan_units.proofs.Founding.{rooted_static}
 use Rattle.tk_plan_units.proofs.Sending.{static_both, top_static}
-use Rattle.tk_engine_laws.proofs.Grounds.{some_same}
 use Rattle.tk_engine_laws.specs.Spines.{count_static, end_of, ArePlaced}
 
 -- ---- the numbers of some nodes
@@ -111,7 +111,7 @@ ordered (spine_ends n k ∷ ps) s e h = ordered ps s e h
 spine_range : (ps : List Part) (s e j k : ℕ) → Walks s ps e → slice_get (flat_map spine_numbers ps) j ≡ Some k → (s ≤ k) × (k < e)
 spine_range [] s e j k h g = cc
 spine_range (spine_begins n m ∷ ps) s e zero k h g =
-    let same : m ≡ k = some_same g in
+    let same : m ≡ k = same_Some _ _ g in
     let rest = ordered ps (s + 1) e h.1 in
     (omega (arith, same, h.0), omega (arith, same, h.0, rest))
 spine_range (spine_begins n m ∷ ps) s e (suc j) k h g = let rest = spine_range ps (s + 1) e j k h.1 g in (omega (arith, rest.0), rest.1)
@@ -123,7 +123,7 @@ piece_range : (ps : List Part) (i s e j : ℕ) (q : Piece) → Walks s ps e → 
 piece_range [] i s e j q h g = cc
 piece_range (spine_begins n m ∷ ps) i s e j q h g = let rest = piece_range ps (i + length (moves_of (spine_begins n m))) (s + 1) e j q h.1 g in (omega (arith, rest.0), rest.1)
 piece_range (whole_unit t ∷ ps) i s e zero q h g =
-    let same : t ≡ q.tree = ap (λ p. p.tree) (some_same g) in
+    let same : t ≡ q.tree = ap (λ p. p.tree) (same_Some _ _ g) in
     let rest = ordered ps (s + count_static (flat t)) e h.1 in
     subst (λ u. (s ≤ number_of u) × (end_of u ≤ e)) same (omega (arith, h.0), omega (arith, h.0, rest))
 piece_range (whole_unit t ∷ ps) i s e (suc j) q h g =
@@ -154,12 +154,12 @@ placed (spine_ends n m ∷ ps) i s e key h low high = placed ps (i + length (mov
 apart : (ps : List Part) (i s e j unit key : ℕ) → Walks s ps e → slice_get (flat_map spine_numbers ps) j ≡ Some key → InPiece (from_each piece i ps) unit key → ⊥
 apart [] i s e j unit key h g x = cc
 apart (spine_begins n m ∷ ps) i s e zero unit key h g x =
-    let same : m ≡ key = some_same g in
+    let same : m ≡ key = same_Some _ _ g in
     let range = piece_range ps (i + length (moves_of (spine_begins n m))) (s + 1) e unit x.0 h.1 x.1 in
     omega (arith, same, h.0, range.0, x.2)
 apart (spine_begins n m ∷ ps) i s e (suc j) unit key h g x = apart ps (i + length (moves_of (spine_begins n m))) (s + 1) e j unit key h.1 g x
 apart (whole_unit t ∷ ps) i s e j zero key h g x =
-    let same : t ≡ x.0.tree = ap (λ p. p.tree) (some_same x.1) in
+    let same : t ≡ x.0.tree = ap (λ p. p.tree) (same_Some _ _ x.1) in
     let range = spine_range ps (s + count_static (flat t)) e j key h.1 g in
     let before : key < end_of t = subst (λ u. key < end_of u) (sym same) x.3 in
     omega (arith, h.0, range.0, before)
