@@ -1,13 +1,12 @@
 -- What `UniqueId::read` answers where the machine stops.
 use Rattle.std.proofs.Common.{◌≡◌, ◌≢◌, ℕ, ◌<◌, ◌≤◌, List, [], ◌∷◌, length, take, get_or, None, refl, sym, ap, ◌∙◌, subst, arith, Result, Ok, Err}
-use Rattle.std.proofs.lemmas.List.{length-take-le, length-append}
+use Rattle.std.proofs.lemmas.List.{length-append}
 use Rattle.tk_ids.specs.declared.id_faults.IdFault.{IdFault}
 use Rattle.tk_ids.specs.declared.id_faults.IdFault.TheVariants.{Empty, BadSegment, BadEscape, TooLong, Memory}
 use Rattle.tk_ids.specs.Prefix.{IsLongestPrefix}
 use Rattle.tk_ids.specs.IdText.{SegmentView, IsId, IsIdText, id_text, FitsLimits, EndsInEscape}
 use Rattle.tk_ids.specs.Reading.{State, Closed, step}
 use Rattle.tk_ids.specs.Answer.{IsBadAt, IsReadAs}
-use Rattle.tk_ids.specs.steps.Answer.{IsFaultAfter}
 use Rattle.tk_ids.proofs.ReadingLemmas.{HasRead, stuck_longest, stuck_refutes, end_is, text_is_unique}
 
 pub bad_where_stuck : (text : List ℕ) (n : ℕ) (s : State) → HasRead text n s → n < length text → step s (get_or text n 0) ≡ None → IsBadAt text n
@@ -23,17 +22,6 @@ bad_at_end text n s h some le open_at =
       no_id = λ is. open_at is.0 (end_is text n s is.0 h le is.1 is.2);
       prefix = subst (IsLongestPrefix IsIdText text) all (stuck_longest text n s h (λ lt. absurd (omega arith)));
     }
-
-pub fault_is : (text prefix : List ℕ) (n : ℕ) (fault : IdFault) → IsBadAt text n → prefix ≡ take n text → IsFaultAfter prefix fault → IsReadAs text (Err fault)
-fault_is text prefix n (BadSegment at) bad is h =
-    let here : at ≡ n = h.0 ∙ ap length is ∙ length-take-le n text bad.prefix.within in
-    (subst (IsBadAt text) (sym here) bad, λ e. h.1 (subst EndsInEscape (ap (λ k. take k text) here ∙ sym is) e))
-fault_is text prefix n (BadEscape at) bad is h =
-    let here : at ≡ n = h.0 ∙ ap length is ∙ length-take-le n text bad.prefix.within in
-    (subst (IsBadAt text) (sym here) bad, subst EndsInEscape (is ∙ sym (ap (λ k. take k text) here)) h.1)
-fault_is text prefix n Empty bad is h = absurd h
-fault_is text prefix n TooLong bad is h = absurd h
-fault_is text prefix n Memory bad is h = absurd h
 
 pub id_text_some : (id : List SegmentView) → IsId id → 0 < length (id_text id)
 id_text_some [] ok = absurd (omega (arith, ok.0))

@@ -1,9 +1,9 @@
 -- The text of an id without its escapes.
-use Rattle.std.proofs.Common.{◌≡◌, ℕ, ◌+◌, ◌<◌, ◌≤◌, false, cond, eqb, List, [], ◌∷◌, ◌++◌, length, drop, get_or, Option, Some, None, refl, sym, ap, ◌∙◌, subst, arith}
+use Rattle.std.proofs.Common.{◌≡◌, ℕ, ◌+◌, ◌≤◌, false, cond, eqb, List, [], ◌∷◌, ◌++◌, length, drop, Option, Some, None, refl, sym, ap, ◌∙◌, subst, arith}
 use Rattle.std.specs.List.{AllByRecursion, list_any}
 use Rattle.std.specs.Str.{IsUtf8}
 use Rattle.std.proofs.lemmas.Bool.{cond_both, ne_eqb}
-use Rattle.std.proofs.lemmas.List.{append_assoc, append-nil, drop_more, drop_all}
+use Rattle.std.proofs.lemmas.List.{append_assoc, append-nil, drop_all}
 use Rattle.std.proofs.lemmas.Str.{IsUtf8-append, IsUtf8-nil}
 use Rattle.tk_ids.specs.declared.escapes.Escape.{Escape}
 use Rattle.tk_ids.specs.declared.escapes.Escape.TheVariants.{Plain, Percent, Digit}
@@ -84,11 +84,6 @@ unescaped_same (b ∷ text) none =
 -- what is written so far, and what is still to come
 abbrev pub IsWritten : List ℕ → ℕ → Escape → List ℕ → Type 0
 IsWritten text n escape plain = plain ++ unescaped escape (drop n text) ≡ unescaped Plain text
-
-pub written_more : (text : List ℕ) (n : ℕ) (escape next : Escape) (plain new : List ℕ) → n < length text → IsWritten text n escape plain
-    → ((rest : List ℕ) → plain ++ unescaped escape (get_or text n 0 ∷ rest) ≡ new ++ unescaped next rest) → IsWritten text (n + 1) next new
-written_more text n escape next plain new lt h goes =
-    sym (goes (drop (n + 1) text)) ∙ ap (λ l. plain ++ unescaped escape l) (sym (drop_more text n 0 lt)) ∙ h
 
 unescaped_nothing : (escape : Escape) → unescaped escape [] ≡ []
 unescaped_nothing Plain = refl

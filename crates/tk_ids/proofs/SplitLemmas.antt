@@ -56,13 +56,6 @@ no_stop : (stop : ℕ) (bytes : List ℕ) (s : StartsAs bytes) → IsStop stop �
 no_stop stop bytes s (inl e) is = s.not_colon (is ∙ e)
 no_stop stop bytes s (inr e) is = s.not_bracket (is ∙ e)
 
-pub measured_none : (text : List ℕ) (stop : ℕ) → IsMeasured text stop 0 0
-measured_none text stop = record {
-  few = omega arith;
-  within = omega arith;
-  part = λ part rest e. record { before = []; left = part; split = e; at_is = refl; escaped_is = omega arith; plain_is = omega arith };
-}
-
 -- the byte after what is read
 byte_at : (text before bytes rest : List ℕ) (at b : ℕ) → text ≡ before ++ (b ∷ rest) → length before ≡ at → get_or text at 0 ≡ b
 byte_at text before bytes rest at b e is = ap (λ l. get_or l at 0) e ∙ get_or_at before b rest 0 at is

@@ -54,9 +54,6 @@ pub record AreFound (list : List ℕ) (flags : List Bool) (from : ℕ) : Type 0 
   pub all : list ++ positions_from from (λ (b : Bool). b) (drop from flags) ≡ positions (λ (b : Bool). b) flags
   pub within : from ≤ length flags
 
-pub found_none : (flags : List Bool) → AreFound [] flags 0
-found_none flags = record { all = refl; within = omega arith }
-
 pub found_more : (list : List ℕ) (flags : List Bool) (from at : ℕ) → AreFound list flags from → IsNextSet from flags at → AreFound (list ++ at ∷ []) flags (at + 1)
 found_more list flags from at found next = record {
   all = append_assoc list (at ∷ []) (positions_from (at + 1) (λ (b : Bool). b) (drop (at + 1) flags)) ∙ ap (λ ps. list ++ ps) (sym (next_position flags from at next)) ∙ found.all;
@@ -95,6 +92,3 @@ counted_all p flags column n same past = ap (count_by p) (ap₂ items_where_true
 pub counted_few : (p : ℕ → Bool) (flags : List Bool) (column : List ℕ) → length column ≡ length flags → count_by p (items_where_true flags column) ≤ length flags
 counted_few p flags column same =
     omega (arith, count_by-le-length p (items_where_true flags column), length-items_where_true flags column (sym same), count_by-le-length (λ b. b) flags)
-
-pub few_in : (p : ℕ → Bool) (buffer : List ℕ) (kept : ℕ) → count_by p (take kept buffer) ≤ kept
-few_in p buffer kept = omega (arith, count_by-le-length p (take kept buffer), length-take kept buffer)

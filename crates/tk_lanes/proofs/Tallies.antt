@@ -75,27 +75,6 @@ pub record IsTallied (flags : List Bool) (column : List ℕ) (block codes : ℕ)
   pub done : (k : ℕ) → k < codes → get_or counts k 0 ≡ counted_to (λ x. eqb x k) flags column (64 * (block + 1))
   pub left : (k : ℕ) → codes ≤ k → k < 8 → get_or counts k 0 ≡ counted_to (λ x. eqb x k) flags column (64 * block)
 
-pub tallied_none : (flags : List Bool) (column : List ℕ) → IsTallied flags column 0 0 (0 ∷ 0 ∷ 0 ∷ 0 ∷ 0 ∷ 0 ∷ 0 ∷ 0 ∷ [])
-tallied_none flags column = record { long = refl; done = λ k lt. absurd (omega arith); left = none }
-  where
-    none : (k : ℕ) → 0 ≤ k → k < 8 → get_or (0 ∷ 0 ∷ 0 ∷ 0 ∷ 0 ∷ 0 ∷ 0 ∷ 0 ∷ []) k 0 ≡ zero
-    none zero le lt = refl
-    none (suc zero) le lt = refl
-    none (suc (suc zero)) le lt = refl
-    none (suc (suc (suc zero))) le lt = refl
-    none (suc (suc (suc (suc zero)))) le lt = refl
-    none (suc (suc (suc (suc (suc zero))))) le lt = refl
-    none (suc (suc (suc (suc (suc (suc zero)))))) le lt = refl
-    none (suc (suc (suc (suc (suc (suc (suc zero))))))) le lt = refl
-    none (suc (suc (suc (suc (suc (suc (suc (suc k)))))))) le lt = absurd (omega arith)
-
-pub tallied_next : (flags : List Bool) (column : List ℕ) (block codes : ℕ) (counts : List ℕ) → 8 ≤ codes → IsTallied flags column block codes counts → IsTallied flags column (block + 1) 0 counts
-tallied_next flags column block codes counts all tallied = record {
-  long = tallied.long;
-  done = λ k lt. absurd (omega arith);
-  left = λ k le lt. tallied.done k (omega arith);
-}
-
 -- one code more of a block
 pub tallied_more : (flags : List Bool) (column : List ℕ) (block code : ℕ) (counts : List ℕ) (more : ℕ) → length column ≡ length flags → code < 8
     → more ≡ count_by (λ x. eqb x code) (items_where_true (take 64 (drop (64 * block) flags)) (take 64 (drop (64 * block) column)))
