@@ -176,11 +176,6 @@ module _ (table : List Descriptor) (may_step : Event → Type 0) (first : ℕ) (
 
 -- ---- ids below one another
 
-pub parent_by_front : (a id : List SegmentView) → length id ≡ length a + 1 → take (length a) id ≡ a → a ≡ parent_of id
-parent_by_front a id one_more e =
-    let n : length a ≡ length id - 1 = omega (arith, one_more) in
-    sym (subst (λ m. take m id ≡ a) n e)
-
 id_of : (table : List Descriptor) (k : ℕ) (d : Descriptor) → slice_get table k ≡ Some d → slice_get (ids_of table) k ≡ Some d.id
 id_of [] k d e = cc
 id_of (x ∷ xs) zero d e = let same : x ≡ d = cc in ap (λ (y : Descriptor). Some y.id) same

@@ -313,10 +313,6 @@ may_start s unit key running d different is owner parent innermost = record {
   innermost = innermost;
 }
 
--- what holds of an id that was found
-pub found_id : {A : Type 0} (found : Option A) (id : A) (P : A → Type 0) → found ≡ Some id → IfSome found P → P id
-found_id found id P is h = subst (λ o. IfSome o P) is h
-
 -- a unit after the start of a static key
 pub started : (f : Frame) (unit : ℕ) (start old now : SenderView) (running pushed : List RunningId) (registered : List (List ℕ × ℕ)) (next after key : ℕ) (id : List SegmentView) (e : Event)
     → now ≡ sends old e → pushed ≡ record { key = key; id = id } ∷ running → after ≡ key + 1 → e.kind ≡ Started → e.key ≡ key
@@ -356,9 +352,6 @@ pub static_is : (f : Frame) (unit key : ℕ) (running : List ℕ) → MayStart f
 static_is f unit key running m =
     let is = described_here f.table key m.descriptor m.described in
     is ∙ ap (λ i. Some i) (sym (ap (λ o. unwrap_or o []) is))
-
-pub id_here : (s : ShapeView) (f : Frame) (key : ℕ) (id : List SegmentView) → frame s ≡ f → slice_get (ids_of s.plan.table) key ≡ Some id → slice_get (ids_of f.table) key ≡ Some id
-id_here s f key id a e = ap (λ (g : Frame). slice_get (ids_of g.table) key) (sym a) ∙ e
 
 -- ---- registrations
 

@@ -39,18 +39,6 @@ end_is top below is = ap (λ ns. top.number + length (if top.node.is_static then
 
 -- ---- numbers of a list
 
-pub set_here : (xs : List ℕ) (i x : ℕ) → i < length xs → slice_get (set xs i x) i ≡ Some x
-set_here [] i x h = absurd (omega (arith, h))
-set_here (y ∷ xs) zero x h = refl
-set_here (y ∷ xs) (suc i) x h = set_here xs i x (omega (arith, h))
-
-pub set_there : (xs : List ℕ) (i k x : ℕ) → (i ≡ k → ⊥) → slice_get (set xs i x) k ≡ slice_get xs k
-set_there [] i k x other = refl
-set_there (y ∷ xs) zero zero x other = absurd (other refl)
-set_there (y ∷ xs) zero (suc k) x other = refl
-set_there (y ∷ xs) (suc i) zero x other = refl
-set_there (y ∷ xs) (suc i) (suc k) x other = set_there xs i k x (λ e. other (ap suc e))
-
 some_same : {A : Type 0} {x y : A} → Some x ≡ Some y → x ≡ y
 some_same e = cc
 
@@ -74,30 +62,6 @@ pub record AreSet (old new : List ℕ) (first key unit : ℕ) : Type 0 where
   pub before : (k : ℕ) → k < first → slice_get new k ≡ slice_get old k
   pub after : (k : ℕ) → key ≤ k → slice_get new k ≡ slice_get old k
 
-pub none_set : (old : List ℕ) (first unit : ℕ) → AreSet old old first first unit
-none_set old first unit = record {
-  count = refl;
-  own = λ k low high. absurd (omega (arith, low, high));
-  before = λ k h. refl;
-  after = λ k h. refl;
-}
-
-length_set : (xs : List ℕ) (i x : ℕ) → length (set xs i x) ≡ length xs
-length_set [] i x = refl
-length_set (y ∷ xs) zero x = refl
-length_set (y ∷ xs) (suc i) x = ap suc (length_set xs i x)
-
-pub one_more_set : (old new : List ℕ) (first key unit : ℕ) → first ≤ key → key < length new → AreSet old new first key unit → AreSet old (set new key unit) first (key + 1) unit
-one_more_set old new first key unit from low are = record {
-  count = length_set new key unit ∙ are.count;
-  own = λ k a b. ⊎_elim
-      (λ less. set_there new key k unit (λ e. omega (arith, e, less)) ∙ are.own k a less)
-      (λ past. let same : key ≡ k = omega (arith, past, b) in subst (λ n. slice_get (set new key unit) n ≡ Some unit) same (set_here new key unit low))
-      (order k key);
-  before = λ k h. set_there new key k unit (λ e. omega (arith, e, from, h)) ∙ are.before k h;
-  after = λ k h. set_there new key k unit (λ e. omega (arith, e, h)) ∙ are.after k (omega (arith, h));
-}
-
 -- ---- the units of a plan
 
 abbrev pub count_units_of : Outline → ℕ
@@ -112,15 +76,6 @@ pub record OwnedSoFar (plan : Outline) (n : ℕ) (owners : List ℕ) : Type 0 wh
   pub count : length owners ≡ length plan.table
   pub owned : (key unit : ℕ) → slice_get owners key ≡ Some unit → unit < count_units_of plan → (unit < n) × IsOfUnit plan.nodes unit key
   pub known : (key unit : ℕ) → unit < n → IsOfUnit plan.nodes unit key → (owner : ℕ) × (slice_get owners key ≡ Some owner) × (owner < count_units_of plan)
-
-pub none_owned : (plan : Outline) (owners : List ℕ) (count : ℕ) → owners ≡ replicate count (count_units_of plan) → length owners ≡ length plan.table → OwnedSoFar plan 0 owners
-none_owned plan owners count is all = record {
-  count = all;
-  owned = λ key unit at low.
-      let same = replicate_at count (count_units_of plan) key unit (subst (λ l. slice_get l key ≡ Some unit) is at) in
-      absurd (omega (arith, same, low));
-  known = λ key unit low of. absurd (omega (arith, low));
-}
 
 -- where the keys of the next unit are set to its number, n + 1 units have theirs
 pub next_owned : (plan : Outline) (n : ℕ) (old new : List ℕ) (piece : Piece) (first end : ℕ) → OwnedSoFar plan n old → slice_get (pieces_of (forest plan.nodes)) n ≡ Some piece
