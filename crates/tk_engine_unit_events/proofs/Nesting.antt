@@ -99,7 +99,7 @@ within_all running id c next = All-weaker (λ a. IsBelow a.id id) (IsWithin id) 
 pub belongs_later : (r s : Recorded) → ((k : ℕ) (id : List SegmentView) → HasId r k id → HasId s k id) → (key : ℕ) (e : Event) → BelongsTo r key e → BelongsTo s key e
 belongs_later r s later key e b = record { id = b.id; its = later key b.id b.its; own = b.own; named = later e.key b.own b.named; within = b.within }
 
-one_of : (P : RunningId → Type 0) (running : List RunningId) (n : ℕ) → All P running → IsOneOf n (keys_of running) → (k : RunningId) × (k.key ≡ n) × P k
+pub one_of : (P : RunningId → Type 0) (running : List RunningId) (n : ℕ) → All P running → IsOneOf n (keys_of running) → (k : RunningId) × (k.key ≡ n) × P k
 one_of P [] n h o = absurd o
 one_of P (k ∷ ks) n h (inl same) = (k, sym same, All-head P k ks h)
 one_of P (k ∷ ks) n h (inr o) = one_of P ks n (All-tail P k ks h) o

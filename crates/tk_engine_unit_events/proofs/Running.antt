@@ -71,7 +71,7 @@ later_ids s e running h = All-weaker (λ k. HasId (record_of_sender s) k.key k.i
 pub innermost_is : (running rest : List RunningId) (first : RunningId) → running ≡ first ∷ rest → IsOneOf first.key (keys_of running)
 innermost_is running rest first is = subst (λ l. IsOneOf first.key (keys_of l)) (sym is) (inl refl)
 
-cancel : (a x y : List Event) → a ++ x ≡ a ++ y → x ≡ y
+pub cancel : (a x y : List Event) → a ++ x ≡ a ++ y → x ≡ y
 cancel [] x y e = e
 cancel (v ∷ a) x y e = let rest : a ++ x ≡ a ++ y = cc in cancel a x y rest
 
@@ -364,7 +364,7 @@ pub record HasRegistered (f : Frame) (unit : ℕ) (start now : SenderView) (runn
   pub there : HasId (so_far f start.worker registration.emitting.events) key id
   pub next_is : IsNext running id
 
-first_id : (s : SenderView) (first : RunningId) (rest running : List RunningId) → running ≡ first ∷ rest → HaveIds s running → HasId (record_of_sender s) first.key first.id
+pub first_id : (s : SenderView) (first : RunningId) (rest running : List RunningId) → running ≡ first ∷ rest → HaveIds s running → HasId (record_of_sender s) first.key first.id
 first_id s first rest running is h = All-head (λ k. HasId (record_of_sender s) k.key k.id) first rest (subst (HaveIds s) is h)
 
 or_true : (b : Bool) → (b || true) ≡ true
