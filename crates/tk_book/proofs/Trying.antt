@@ -6,10 +6,6 @@ use Rattle.std.proofs.lemmas.List.Elements.{All-append, All-cons, All-nil}
 use Rattle.tk_book.specs.declared.books.Busy.{Busy}
 use Rattle.tk_book.specs.Tries.{words_read, HasCause, WasBusy, WereBusy}
 
--- before the first try nothing was read
-pub none_busy : (words : List ℕ) (need : ℕ) → WereBusy words words need
-none_busy words need = ([], sym (append-nil words), All-nil (HasCause need))
-
 -- one refused try more
 pub busy_again : (old mid new : List ℕ) (need : ℕ) (busy : Busy) → WereBusy old mid need → WasBusy mid new need busy → WereBusy old new need
 busy_again old mid new need busy were was = let all = were.0 in (

@@ -17,11 +17,11 @@ use Rattle.tk_record_columns.specs.Entries.{desc, desc_in}
 use Rattle.tk_queue_session.specs.Emission.{registrations, is_dynamic, entries_by, entry_by}
 use Rattle.tk_queue_session.specs.Senders.{SenderView, record_of_sender}
 use Rattle.tk_queue_session.specs.Registering.{registration, child}
-use Rattle.tk_plan_units.specs.declared.nodes.Node.{Node}
-use Rattle.tk_plan_units.specs.declared.nodes.NumberedNode.{NumberedNode}
-use Rattle.tk_plan_units.specs.declared.steps.Act.{Act}
-use Rattle.tk_plan_units.specs.declared.steps.Act.TheVariants.{Register, Skip, Start, Report, File, Finish}
-use Rattle.tk_plan_units.specs.declared.steps.Step.{Step}
+use Rattle.tk_plan_units.specs.declared.trees.nodes.Node.{Node}
+use Rattle.tk_plan_units.specs.declared.trees.nodes.NumberedNode.{NumberedNode}
+use Rattle.tk_plan_units.specs.declared.scripts.steps.Act.{Act}
+use Rattle.tk_plan_units.specs.declared.scripts.steps.Act.TheVariants.{Register, Skip, Start, Report, File, Finish}
+use Rattle.tk_plan_units.specs.declared.scripts.steps.Step.{Step}
 use Rattle.tk_plan_units.specs.Trees.{forest}
 use Rattle.tk_plan_units.specs.Cutting.{script_of}
 use Rattle.tk_plan_units.specs.Numbers.{in_order, IsNumbered}

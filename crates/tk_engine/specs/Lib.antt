@@ -9,6 +9,5 @@ pub use Rattle.tk_engine_laws.specs.Scripts
 pub use Rattle.tk_engine_laws.specs.Listening
 pub use Rattle.tk_engine_laws.specs.Reports
 pub use Rattle.tk_engine_laws.specs.Laws
-pub mod Masks
 pub mod Plays
 pub mod steps

@@ -49,7 +49,7 @@ impl Engine for Scripted {
     ghost use Rattle.tk_plan_units.specs.Trees.{forest};
     ghost use Rattle.tk_plan_units.specs.Cutting.{before_of, after_of, units_of};
     ghost use Rattle.tk_engine_laws.specs.Scripts.{may as plays};
-    ghost use Rattle.tk_engine.specs.Masks.{need_of};
+    ghost use Rattle.tk_plan_units.specs.Masks.{need_of};
     ghost use Rattle.tk_engine.specs.Plays.{IsPlayFault};
 
     ghost table = { λ s. s.table };
@@ -83,10 +83,7 @@ impl Engine for Scripted {
     }
 
     fn need(&self, unit: u32) -> Need {
-        let need = self.plan.need(unit);
-        // What is read is not written.
-        let _masks = (need.reads(), need.writes());
-        need
+        self.plan.need(unit)
     }
 
     fn run<R: Wait, S: Sink>(

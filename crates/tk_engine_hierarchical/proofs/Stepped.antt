@@ -1,16 +1,17 @@
 -- Each node of a unit is a node of the plan, by its number.
 use Rattle.std.proofs.Common.{◌≡◌, ◌≤◌, ◌+◌, ℕ, zero, suc, Bool, true, false, cond, List, [], ◌∷◌, ◌++◌, length, take, drop, Some, slice_get, All, arith, length-append, sym, ap, ◌∙◌, subst}
 use Rattle.std.proofs.lemmas.List.Elements.{All-nil, All-cons, All-head, All-tail, All-append, All-drop, All-take, All-weaker}
+use Rattle.tk_lemmas.proofs.Lists.{All_one as all_single}
 use Rattle.tk_ids.specs.declared.descriptors.Descriptor.{Descriptor}
 use Rattle.tk_events.specs.declared.events.Event.{Event}
-use Rattle.tk_plan_units.specs.declared.nodes.Node.{Node}
-use Rattle.tk_plan_units.specs.declared.nodes.NumberedNode.{NumberedNode}
+use Rattle.tk_plan_units.specs.declared.trees.nodes.Node.{Node}
+use Rattle.tk_plan_units.specs.declared.trees.nodes.NumberedNode.{NumberedNode}
 use Rattle.tk_plan_units.specs.Cutting.{Part, Piece, from_each, moves_of, on_spine, parts, parts_below, piece, pieces_of, spine_begins, spine_ends, whole_unit}
 use Rattle.tk_plan_units.specs.Numbers.{IsNumbered, in_order}
 use Rattle.tk_plan_units.specs.Planned.{Outline}
 use Rattle.tk_plan_units.specs.Trees.{Forest, IsForest, IsSplit, Tree, flat, flats, forest, more, no_trees, tree, tree_of}
 use Rattle.tk_plan_units.proofs.Ordering.{all_numbered}
-use Rattle.tk_plan_units.proofs.Parting.{all_back, all_prefix, all_single}
+use Rattle.tk_plan_units.proofs.Parting.{all_back, all_prefix}
 use Rattle.tk_engine_execute.proofs.Positions.{all_at}
 use Rattle.tk_engine_hierarchical.specs.StaticSteps.{FitsNode, FitsPlan}
 use Rattle.tk_engine_hierarchical.specs.steps.StaticSteps.{MayStepAs}

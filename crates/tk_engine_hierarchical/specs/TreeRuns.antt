@@ -8,7 +8,7 @@ use Rattle.tk_events.specs.declared.kinds.Kind.TheVariants.{File, Finished, Repo
 use Rattle.tk_events.specs.declared.kinds.Kind.TheVariants.{Skipped, Started}
 use Rattle.tk_events.specs.declared.payloads.Payload.{Payload}
 use Rattle.tk_events.specs.declared.payloads.Payload.TheVariants as payloads
-use Rattle.tk_plan_units.specs.declared.nodes.Node.{Node}
+use Rattle.tk_plan_units.specs.declared.trees.nodes.Node.{Node}
 use Rattle.tk_plan_units.specs.Cutting.{Piece, pieces_of}
 use Rattle.tk_plan_units.specs.Planned.{Outline}
 use Rattle.tk_plan_units.specs.Trees.{Forest, Tree, forest, more, no_trees, tree}

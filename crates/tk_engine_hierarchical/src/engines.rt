@@ -49,7 +49,7 @@ impl<T> Hierarchical<T> {
 }
 
 impl<T: Tests + Sync> Engine for Hierarchical<T> {
-    ghost use Rattle.tk_engine.specs.Masks.{need_of};
+    ghost use Rattle.tk_plan_units.specs.Masks.{need_of};
     ghost use Rattle.tk_engine_hierarchical.specs.Laws.{may_of, test_rules};
     ghost use Rattle.tk_engine_unit_events.specs.Shapes.{frame};
 

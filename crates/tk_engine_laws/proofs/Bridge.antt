@@ -5,12 +5,12 @@ use Rattle.std.proofs.lemmas.List.{map-append, length-map}
 use Rattle.tk_plan_units.specs.Trees as plan
 use Rattle.tk_plan_units.specs.Script as done
 use Rattle.tk_plan_units.specs.Cutting as cut
-use Rattle.tk_plan_units.specs.declared.steps.Step.{Step as PlanStep}
+use Rattle.tk_plan_units.specs.declared.scripts.steps.Step.{Step as PlanStep}
 use Rattle.tk_plan_units.specs.StepEvents as telling
 use Rattle.tk_plan_units.proofs.Cuts.{from_each-append, spine_facts, parts-moves, parts_below-moves}
 use Rattle.tk_plan_units.proofs.StepEvents.{spine_events_are_steps}
-use Rattle.tk_plan_units.specs.declared.nodes.Node.{Node}
-use Rattle.tk_plan_units.specs.declared.steps.Act.TheVariants.{File, Finish, Register, Report, Skip, Start}
+use Rattle.tk_plan_units.specs.declared.trees.nodes.Node.{Node}
+use Rattle.tk_plan_units.specs.declared.scripts.steps.Act.TheVariants.{File, Finish, Register, Report, Skip, Start}
 use Rattle.tk_ids.specs.IdText.{SegmentView}
 use Rattle.tk_engine_laws.proofs.Model.{Forest, Item, Part, Publication, Step, Tree, act_of, after, after_below, before, before_below, entries_from, files_from, finish, is_open, more, no_trees, opening, parts, parts_below, performed, plain, publications, published, script, static_event, static_events, step, steps, steps_below, tree}
 

@@ -16,8 +16,8 @@ use Rattle.tk_record_columns.specs.Recorded.{Recorded}
 use Rattle.std.specs.Option.{option_or}
 use Rattle.tk_record_columns.specs.Entries.{desc_in, status_number}
 use Rattle.tk_query_lifecycle.specs.NeverRan.{EachChildRuns, NeverRuns}
-use Rattle.tk_plan_units.specs.declared.nodes.NumberedNode.{NumberedNode}
-use Rattle.tk_plan_units.specs.declared.steps.Act.TheVariants.{Register, Skip, Start}
+use Rattle.tk_plan_units.specs.declared.trees.nodes.NumberedNode.{NumberedNode}
+use Rattle.tk_plan_units.specs.declared.scripts.steps.Act.TheVariants.{Register, Skip, Start}
 use Rattle.tk_report_text.specs.Labels.{Label, events, id_in, label, labels, name, same_id, same_kind}
 use Rattle.tk_report_text.proofs.Ids.{same_decides}
 use Rattle.tk_engine_laws.specs.Listening.{IsOnce, finishes, is_of, is_ran, skips, starts}

@@ -4,7 +4,7 @@ use Rattle.std.proofs.lemmas.Bool.{cases_Bool}
 use Rattle.std.proofs.lemmas.List.{map-append}
 use Rattle.std.proofs.lemmas.List.Elements.{filter-append}
 use Rattle.std.proofs.lemmas.Grind.{flat_map-append}
-use Rattle.tk_plan_units.specs.declared.steps.Act.TheVariants.{Register, Skip, Start}
+use Rattle.tk_plan_units.specs.declared.scripts.steps.Act.TheVariants.{Register, Skip, Start}
 use Rattle.tk_ids.specs.IdText.{SegmentView}
 use Rattle.tk_engine_laws.proofs.Model.{Forest, HasNone, IsChain, IsChainBelow, Item, Part, Publication, Step, Tree, about, act_of, after, after_below, before, before_below, count, finish, is_open, more, no_trees, nodes, nodes_below, opening, parts, parts_below, performed, publications, published, script, shown, step, step_label, steps, steps_below, tree}
 

@@ -2,7 +2,7 @@
 use Rattle.std.proofs.Common.{◌≡◌, ◌≢◌, ◌≤◌, ℕ, zero, suc, ◌+◌, Bool, true, false, List, [], ◌∷◌, ◌++◌, map, length, flat_map, Option, Some, None, slice_get, refl, ap, ap₂, ◌∙◌, arith, tests, if◌then◌else◌, ⊎_elim, ◌==◌, length-append}
 use Rattle.std.proofs.lemmas.Bool.{cases_Bool}
 use Rattle.std.proofs.lemmas.Grind.{flat_map-append}
-use Rattle.tk_plan_units.specs.declared.steps.Act.TheVariants.{Register}
+use Rattle.tk_plan_units.specs.declared.scripts.steps.Act.TheVariants.{Register}
 use Rattle.tk_engine_laws.proofs.Cut.{count-append}
 use Rattle.tk_engine_laws.proofs.Model.{Forest, Item, Part, Publication, Step, Tree, a_file, an_entry, count, drawn_ids, finish, ids_emitted, is_open, more, no_trees, nodes, nodes_below, opening, parts, parts_below, performed, publications, published, script, step, steps, steps_below, steps_of, times, tree, units}
 use Rattle.tk_engine_laws.specs.Scripts.{is_registration}

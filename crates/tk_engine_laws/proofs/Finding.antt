@@ -2,13 +2,13 @@
 use Rattle.std.proofs.Common.{◌≡◌, ◌<◌, ℕ, zero, suc, ◌+◌, ◌*◌, Bool, true, false, ◌&&◌, ◌==◌, nat_lt, List, [], ◌∷◌, ◌++◌, map, length, Option, Some, None, slice_get, option_map, refl, sym, ap, ap₂, ◌∙◌, subst, arith, tests, append_assoc, append-nil, if◌then◌else◌, inl, inr}
 use Rattle.std.specs.Option.{option_or}
 use Rattle.std.proofs.lemmas.List.{map-append}
-use Rattle.tk_plan_units.specs.declared.steps.Step.{Step as PlanStep}
+use Rattle.tk_plan_units.specs.declared.scripts.steps.Step.{Step as PlanStep}
 use Rattle.tk_record_columns.specs.Entries.{desc, desc_in, described}
 use Rattle.tk_plan_units.specs.Cutting.{script_of}
 use Rattle.tk_plan_units.specs.Numbers.{IsNumbered}
 use Rattle.tk_plan_units.specs.Planned.{IsPlanned}
 use Rattle.tk_plan_units.specs.Trees.{forest}
-use Rattle.tk_plan_units.specs.declared.nodes.NumberedNode.{NumberedNode}
+use Rattle.tk_plan_units.specs.declared.trees.nodes.NumberedNode.{NumberedNode}
 use Rattle.tk_events.specs.declared.events.Entry.{Entry}
 use Rattle.tk_events.specs.declared.events.Event.{Event}
 use Rattle.tk_events.specs.declared.payloads.Payload.{Payload}

@@ -18,7 +18,7 @@ use Rattle.tk_query_lifecycle.specs.KeepsLifecycle.{is_step, steps_of, IsWhole, 
 use Rattle.tk_report_text.specs.Labels.{Label, events, id_in, label, labels, name, same_id, same_kind}
 use Rattle.tk_engine_laws.specs.Listening.{IsOnce, Listens, finishes, is_of, is_ran, registers, starts}
 use Rattle.tk_engine_laws.specs.Scripts.{IsRunOf}
-use Rattle.tk_plan_units.specs.declared.nodes.NumberedNode.{NumberedNode}
+use Rattle.tk_plan_units.specs.declared.trees.nodes.NumberedNode.{NumberedNode}
 use Rattle.tk_engine_laws.proofs.ByKey.{by_key, map_get}
 use Rattle.tk_report_text.proofs.Ids.{same_decides}
 use Rattle.tk_engine_laws.proofs.ListenerSteps.{listener_law, ran_of}

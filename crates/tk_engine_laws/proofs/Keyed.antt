@@ -3,9 +3,9 @@ use Rattle.std.proofs.Common.{◌≡◌, ℕ, zero, suc, ◌+◌, true, false, L
 use Rattle.std.proofs.lemmas.Bool.{cases_Bool}
 use Rattle.tk_plan_units.specs.Numbers.{in_order}
 use Rattle.tk_plan_units.specs.StepEvents.{kind_of, payload_of}
-use Rattle.tk_plan_units.specs.declared.nodes.NumberedNode.{NumberedNode}
-use Rattle.tk_plan_units.specs.declared.steps.Act.{Act}
-use Rattle.tk_plan_units.specs.declared.steps.Act.TheVariants.{File, Finish, Register, Report, Skip, Start}
+use Rattle.tk_plan_units.specs.declared.trees.nodes.NumberedNode.{NumberedNode}
+use Rattle.tk_plan_units.specs.declared.scripts.steps.Act.{Act}
+use Rattle.tk_plan_units.specs.declared.scripts.steps.Act.TheVariants.{File, Finish, Register, Report, Skip, Start}
 use Rattle.tk_ids.specs.IdText.{SegmentView}
 use Rattle.tk_ids.specs.Table.{ids_of}
 use Rattle.tk_ids.specs.declared.descriptors.Descriptor.{Descriptor}

@@ -1,16 +1,16 @@
 -- Plans as trees of nodes with their ids, and what is said of them.
 use Rattle.std.proofs.Common.{◌≡◌, ◌≤◌, ℕ, ◌+◌, ◌⊎◌, List, [], ◌∷◌, ◌++◌, length, Bool, true, false, not, ◌&&◌, ◌==◌, Option, Some, None, is_some, if◌then◌else◌, map, filter, flat_map, slice_get, nat_lt}
 use Rattle.tk_events.specs.declared.payloads.Payload.TheVariants.{Nothing, Reason, Outcome, Report as Reported, Described, Path}
-use Rattle.tk_plan_units.specs.declared.steps.Step.{Step as PlanStep}
+use Rattle.tk_plan_units.specs.declared.scripts.steps.Step.{Step as PlanStep}
 use Rattle.tk_plan_units.specs.Events.{event}
 use Rattle.tk_plan_units.specs.Cutting.{after_of, before_of, root_script, script_of, units_of}
 use Rattle.tk_plan_units.specs.Numbers.{in_order}
 use Rattle.tk_plan_units.specs.StepEvents.{kind_of, payload_of}
 use Rattle.tk_plan_units.specs.Trees.{forest}
-use Rattle.tk_plan_units.specs.declared.nodes.Node.{Node}
-use Rattle.tk_plan_units.specs.declared.nodes.NumberedNode.{NumberedNode}
-use Rattle.tk_plan_units.specs.declared.steps.Act.{Act}
-use Rattle.tk_plan_units.specs.declared.steps.Act.TheVariants.{File, Finish, Register, Report, Skip, Start}
+use Rattle.tk_plan_units.specs.declared.trees.nodes.Node.{Node}
+use Rattle.tk_plan_units.specs.declared.trees.nodes.NumberedNode.{NumberedNode}
+use Rattle.tk_plan_units.specs.declared.scripts.steps.Act.{Act}
+use Rattle.tk_plan_units.specs.declared.scripts.steps.Act.TheVariants.{File, Finish, Register, Report, Skip, Start}
 use Rattle.tk_events.specs.declared.events.Event.{Event}
 use Rattle.tk_events.specs.declared.payloads.Payload.{Payload}
 use Rattle.tk_ids.specs.IdText.{SegmentView}

@@ -8,7 +8,7 @@ use Rattle.tk_record_columns.specs.Entries.{desc_in}
 use Rattle.tk_record_columns.specs.Recorded.{Recorded}
 use Rattle.tk_plan_units.specs.Cutting.{root_script}
 use Rattle.tk_plan_units.specs.Trees.{forest}
-use Rattle.tk_plan_units.specs.declared.nodes.NumberedNode.{NumberedNode}
+use Rattle.tk_plan_units.specs.declared.trees.nodes.NumberedNode.{NumberedNode}
 use Rattle.tk_ids.specs.IdText.{SegmentView, id_text}
 use Rattle.tk_ids.specs.declared.descriptors.Descriptor.{Descriptor}
 use Rattle.tk_engine_laws.proofs.Cut.{count-append}

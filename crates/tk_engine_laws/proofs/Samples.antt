@@ -10,8 +10,8 @@ use Rattle.tk_events.specs.declared.statuses.Status.TheVariants.{Successful, Fai
 use Rattle.tk_record_columns.specs.Statistics.{statistics_of}
 use Rattle.tk_record.specs.Spelling.{joined}
 use Rattle.tk_record.specs.StatisticsText.{statistics_text}
-use Rattle.tk_plan_units.specs.declared.nodes.Node.{Node}
-use Rattle.tk_plan_units.specs.declared.nodes.NumberedNode.{NumberedNode}
+use Rattle.tk_plan_units.specs.declared.trees.nodes.Node.{Node}
+use Rattle.tk_plan_units.specs.declared.trees.nodes.NumberedNode.{NumberedNode}
 use Rattle.tk_plan_units.specs.Trees.{forest, grow}
 use Rattle.tk_plan_units.specs.Ids.{descriptors_below}
 use Rattle.tk_report_text.specs.Labels.{labels}

@@ -3,7 +3,7 @@ use Rattle.std.proofs.Common.{◌≡◌, ◌≢◌, ◌≤◌, ℕ, ◌+◌, ◌
 use Rattle.std.specs.List.{list_any}
 use Rattle.std.proofs.lemmas.Bool.{cases_Bool}
 use Rattle.std.proofs.lemmas.List.{map-append}
-use Rattle.tk_plan_units.specs.declared.steps.Act.TheVariants.{Finish, Register, Skip, Start}
+use Rattle.tk_plan_units.specs.declared.scripts.steps.Act.TheVariants.{Finish, Register, Skip, Start}
 use Rattle.tk_ids.specs.IdText.{SegmentView}
 use Rattle.tk_engine_laws.proofs.Cut.{count-append, shown-append, shown_none, shown_none_below}
 use Rattle.tk_report_text.proofs.Ids.{same_decides}

@@ -6,6 +6,7 @@ use Rattle.std.proofs.lemmas.List.Elements.{All-nil, All-cons, All-head, All-tai
 use Rattle.std.proofs.lemmas.List.Folds.{list_any-append}
 use Rattle.std.proofs.lemmas.Option.{slice_get-get_or, slice_get_within, get_or_from_slice_get}
 use Rattle.std.proofs.lemmas.Grind.{flat_map-append}
+use Rattle.tk_lemmas.proofs.Lists.{All_one as all_single}
 use Rattle.tk_ids.specs.declared.descriptors.Descriptor.{Descriptor}
 use Rattle.tk_events.specs.declared.kinds.Kind.{Kind}
 use Rattle.tk_events.specs.declared.kinds.Kind.TheVariants.{Dynamic, Skipped, Started, Finished, Reporting, File}
@@ -15,8 +16,8 @@ use Rattle.tk_events.specs.declared.events.Event.{Event}
 use Rattle.tk_events.specs.Event.{kind_code}
 use Rattle.tk_query_lifecycle.specs.Lifecycle.{has_event, is_event, runs}
 use Rattle.tk_queue_session.specs.Emission.{entries_by, entry_by}
-use Rattle.tk_plan_units.specs.declared.nodes.Node.{Node}
-use Rattle.tk_plan_units.specs.declared.nodes.NumberedNode.{NumberedNode}
+use Rattle.tk_plan_units.specs.declared.trees.nodes.Node.{Node}
+use Rattle.tk_plan_units.specs.declared.trees.nodes.NumberedNode.{NumberedNode}
 use Rattle.tk_plan_units.specs.Trees.{Tree, tree, Forest, no_trees, more, forest}
 use Rattle.tk_plan_units.specs.Script.{moves}
 use Rattle.tk_plan_units.specs.Events.{event, published, entry_event, file_event, opening_events, IsStatic}
@@ -24,7 +25,7 @@ use Rattle.tk_plan_units.specs.Cutting.{Part, spine_begins, whole_unit, spine_en
 use Rattle.tk_plan_units.specs.Numbers.{IsNumbered}
 use Rattle.tk_plan_units.specs.Planned.{IsPlanned}
 use Rattle.tk_plan_units.proofs.Cuts.{from_each-append}
-use Rattle.tk_plan_units.proofs.Parting.{all_prefix, all_back, all_single}
+use Rattle.tk_plan_units.proofs.Parting.{all_prefix, all_back}
 use Rattle.tk_plan_units.proofs.Sending.{before_static, after_static}
 use Rattle.tk_engine_laws.specs.Spines.{IsOnSpine, IsSpineEvent}
 

@@ -30,7 +30,7 @@ use Rattle.tk_queue_session.specs.Emission.{entry_by, entries_by, is_dynamic, re
 use Rattle.tk_engine_claim.specs.Claims.{Claims, IsStrictlyIncreasing, once_below, times}
 use Rattle.tk_engine_runs.specs.Run.{Emits}
 use Rattle.tk_engine_runs.proofs.Workers.{own_events}
-use Rattle.tk_plan_units.specs.declared.nodes.NumberedNode.{NumberedNode}
+use Rattle.tk_plan_units.specs.declared.trees.nodes.NumberedNode.{NumberedNode}
 use Rattle.tk_plan_units.specs.Trees.{forest}
 use Rattle.tk_plan_units.specs.Cutting.{after_of, before_of, script_of, units_of}
 use Rattle.tk_plan_units.specs.Numbers.{IsNumbered}

@@ -1,14 +1,14 @@
 -- Each static node stands on the spine or in a unit, and none does both.
 use Rattle.std.proofs.Common.{◌≡◌, ◌≤◌, ◌<◌, ℕ, zero, suc, ◌+◌, ◌⊎◌, Bool, true, false, cond, List, [], ◌∷◌, ◌++◌, length, flat_map, Some, slice_get, refl, sym, ap, ◌∙◌, subst, arith, inl, inr, ⊎_elim, length-append}
-use Rattle.std.proofs.lemmas.Bool.{cases_lt}
+use Rattle.std.proofs.lemmas.Bool.{cases_lt, and_parts as if_both}
 use Rattle.tk_ids.specs.declared.descriptors.Descriptor.{Descriptor}
-use Rattle.tk_plan_units.specs.declared.nodes.Node.{Node}
-use Rattle.tk_plan_units.specs.declared.nodes.NumberedNode.{NumberedNode}
+use Rattle.tk_plan_units.specs.declared.trees.nodes.Node.{Node}
+use Rattle.tk_plan_units.specs.declared.trees.nodes.NumberedNode.{NumberedNode}
 use Rattle.tk_plan_units.specs.Trees.{Tree, tree, Forest, no_trees, more, flat, flats, forest, number_of, IsForest}
 use Rattle.tk_plan_units.specs.Cutting.{Part, Piece, spine_begins, whole_unit, spine_ends, parts, parts_below, moves_of, from_each, piece, spine_numbers, all_static, on_spine}
 use Rattle.tk_plan_units.specs.Numbers.{IsNumbered, numbered_from, with_number, of_kind}
 use Rattle.tk_plan_units.specs.Planned.{IsPlanned}
-use Rattle.tk_plan_units.proofs.Cuts.{if_both, spine_facts}
+use Rattle.tk_plan_units.proofs.Cuts.{spine_facts}
 use Rattle.tk_plan_units.proofs.Describing.{statics-append, statics_length}
 use Rattle.tk_plan_units.proofs.Founding.{rooted_static}
 use Rattle.tk_engine_laws.proofs.Grounds.{some_same}

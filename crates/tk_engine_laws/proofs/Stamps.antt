@@ -1,6 +1,6 @@
 -- Stamps are positions.
 use Rattle.std.proofs.Common.{◌≡◌, ℕ, zero, suc, ◌+◌, List, [], ◌∷◌, Some, slice_get, ap, arith}
-use Rattle.tk_plan_units.specs.declared.steps.Step.{Step}
+use Rattle.tk_plan_units.specs.declared.scripts.steps.Step.{Step}
 use Rattle.tk_plan_units.specs.Script.{stamped}
 
 pub stamp_at : (p : ℕ) (ms : List _) (i : ℕ) (s : Step) → slice_get (stamped p ms) i ≡ Some s → s.stamp ≡ p + i

@@ -28,7 +28,7 @@ use Rattle.tk_query_lifecycle.proofs.StepLemmas.{has, has_run_steps, has_steps}
 use Rattle.tk_plan_units.specs.Ids.{descriptor, descriptor_in, descriptors, descriptors_below}
 use Rattle.tk_plan_units.specs.Planned.{IsPlanned}
 use Rattle.tk_plan_units.specs.Trees.{Forest, Tree, forest, more, no_trees, tree}
-use Rattle.tk_plan_units.specs.declared.nodes.NumberedNode.{NumberedNode}
+use Rattle.tk_plan_units.specs.declared.trees.nodes.NumberedNode.{NumberedNode}
 use Rattle.tk_engine_laws.proofs.Lists.{each-append, each_at}
 use Rattle.tk_engine_laws.proofs.Model.{Each}
 use Rattle.tk_engine_laws.proofs.Positions.{in_taken, of_map}

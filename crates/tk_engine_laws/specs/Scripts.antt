@@ -32,10 +32,10 @@ use Rattle.tk_events.specs.declared.events.Event.{Event}
 use Rattle.tk_events.specs.Registration.{registered_key}
 use Rattle.tk_record_columns.specs.Recorded.{Recorded}
 use Rattle.tk_record_columns.specs.Entries.{desc}
-use Rattle.tk_plan_units.specs.declared.nodes.Node.{Node}
-use Rattle.tk_plan_units.specs.declared.nodes.NumberedNode.{NumberedNode}
-use Rattle.tk_plan_units.specs.declared.steps.Act.{Act}
-use Rattle.tk_plan_units.specs.declared.steps.Act.TheVariants.{
+use Rattle.tk_plan_units.specs.declared.trees.nodes.Node.{Node}
+use Rattle.tk_plan_units.specs.declared.trees.nodes.NumberedNode.{NumberedNode}
+use Rattle.tk_plan_units.specs.declared.scripts.steps.Act.{Act}
+use Rattle.tk_plan_units.specs.declared.scripts.steps.Act.TheVariants.{
   Register,
   Skip,
   Start,
@@ -43,7 +43,7 @@ use Rattle.tk_plan_units.specs.declared.steps.Act.TheVariants.{
   File,
   Finish,
 }
-use Rattle.tk_plan_units.specs.declared.steps.Step.{Step}
+use Rattle.tk_plan_units.specs.declared.scripts.steps.Step.{Step}
 use Rattle.tk_plan_units.specs.Trees.{forest}
 use Rattle.tk_plan_units.specs.Cutting.{before_of, after_of, units_of, script_of, root_script}
 use Rattle.tk_plan_units.specs.Numbers.{in_order}

@@ -6,7 +6,7 @@ use Rattle.tk_events.specs.declared.events.Event.{Event}
 use Rattle.tk_query_lifecycle.specs.KeepsLifecycle.{KeepsLifecycle}
 use Rattle.tk_query_lifecycle.specs.Lifecycle.{runs}
 use Rattle.tk_queue_session.specs.Emission.{entries_by, is_plain}
-use Rattle.tk_plan_units.specs.declared.nodes.NumberedNode.{NumberedNode}
+use Rattle.tk_plan_units.specs.declared.trees.nodes.NumberedNode.{NumberedNode}
 use Rattle.tk_plan_units.specs.Trees.{Tree, flat, forest, number_of}
 use Rattle.tk_plan_units.specs.Cutting.{Piece, after_of, before_of, pieces_of, spine_of}
 use Rattle.tk_plan_units.specs.Numbers.{IsNumbered, of_kind}

@@ -5,7 +5,7 @@ use Rattle.tk_plan_units.specs.Cutting.{Piece, pieces_of, units_of}
 use Rattle.tk_plan_units.specs.Numbers.{of_kind}
 use Rattle.tk_plan_units.specs.Planned.{IsPlanned, Outline}
 use Rattle.tk_plan_units.specs.Trees.{IsForest, Tree, forest, number_of, tree_of}
-use Rattle.tk_plan_units.specs.declared.nodes.NumberedNode.{NumberedNode}
+use Rattle.tk_plan_units.specs.declared.trees.nodes.NumberedNode.{NumberedNode}
 use Rattle.tk_engine_execute.proofs.Positions.{replicate_at}
 use Rattle.tk_engine_laws.specs.Spines.{ArePlaced, IsOfUnit, count_static, end_of}
 use Rattle.tk_engine_unit_events.specs.Owners.{AreOwners}

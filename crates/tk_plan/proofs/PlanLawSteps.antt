@@ -1,5 +1,6 @@
 -- The laws of plans.
 use Rattle.std.proofs.Common.{◌≡◌, ◌≢◌, [], Option, Some, None, option_map, Result, Ok, Err, refl, sym, ap, ◌∙◌, subst}
+use Rattle.tk_lemmas.proofs.Options.{option_or_none_left, option_or_none_right}
 use Rattle.serde_json.specs.Data.{Data}
 use Rattle.tk_plan_units.specs.Trees.{Tree}
 use Rattle.tk_plan_units.specs.Ids.{ids, AreDistinct}
@@ -12,7 +13,6 @@ use Rattle.tk_plan_json.specs.NodeInputs.{node_inputs, grown}
 use Rattle.tk_plan_members.specs.declared.faults.PlanFault.{PlanFault}
 use Rattle.tk_plan_members.specs.declared.faults.PlanFault.TheVariants.{Json, Field, Id, Table, TooManyResources, EntryKeyTwice, TooManyEvents, Deep, Memory}
 use Rattle.tk_plan_json.proofs.Distinct.{apart_grown, distinct_in, are_distinct}
-use Rattle.tk_plan_members.proofs.ChecksInTurn.{none_first, none_second}
 
 no_fault_in : (o : Option PlanFault) (t u : Tree) → ok_unless o t ≡ Ok u → (o ≡ None) × (t ≡ u)
 no_fault_in None t u e = (refl, cc)
@@ -22,7 +22,7 @@ pub plan_ids : (v : Data) (t : Tree) → PlanOf v ≡ Ok t → AreDistinct (ids 
 plan_ids v t e =
     let s = root_of v in
     let k = no_fault_in (first_fault (top [] v) s (grown 60 s)) (grown 60 s) t e in
-    let fine : verdict [] (node_inputs 60 s) ≡ None = none_first _ _ (none_second (option_map Field (top [] v)) _ k.0) in
+    let fine : verdict [] (node_inputs 60 s) ≡ None = option_or_none_left _ _ (option_or_none_right (option_map Field (top [] v)) _ k.0) in
     subst (λ u. AreDistinct (ids [] u)) k.1 (are_distinct (ids [] (grown 60 s)) (distinct_in [] (grown 60 s) (apart_grown 60 [] s fine)))
 
 settled : (P : PlanFault → Type 0) (e : PlanFault) → IsFault P e → (e ≡ Memory → ⊥) → P e

@@ -3,6 +3,7 @@ use Rattle.std.proofs.Common.{◌≡◌, ℕ, zero, suc, ◌+◌, ◌-◌, ◌�
 use Rattle.std.proofs.lemmas.List.{map-append}
 use Rattle.std.proofs.Math.Seq.{take-append_seam}
 use Rattle.std.specs.List.{list_any}
+use Rattle.std.proofs.lemmas.Bool.{true≢false}
 use Rattle.serde_json.specs.Data.{Data}
 use Rattle.tk_ids.specs.IdText.{SegmentView, parent_of}
 use Rattle.tk_ids.specs.Table.{ids_of, HasId, HasParent}
@@ -12,7 +13,7 @@ use Rattle.tk_plan_units.specs.Ids.{ids, ids_below, descriptor, descriptors, des
 use Rattle.tk_plan_json.specs.Verdicts.{same_segment, verdict}
 use Rattle.tk_plan_json.specs.NodeInputs.{NodeInput, NodeArray, segment_in, below, node_inputs, node_inputs_in, children_of, children_in, dynamic_of, dynamic_in, grown, forest_of}
 use Rattle.tk_plan.specs.steps.Tables.{Follow}
-use Rattle.tk_plan_json.proofs.Distinct.{segment_at, IsApart, AreApart, apart_grown, Among, among_split, among_at, Begins, begins_below, begins_in, same_next, same_self, any_left, any_right, longer, true_false}
+use Rattle.tk_plan_json.proofs.Distinct.{segment_at, IsApart, AreApart, apart_grown, Among, among_split, among_at, Begins, begins_below, begins_in, same_next, same_self, any_left, any_right, longer}
 
 -- ---- a static node stands below a static one
 
@@ -150,7 +151,7 @@ node_follows true up table above s d ds e h r none after = (
       ])),
 )
 node_follows false up table above s d ds e h r none after =
-    after table (λ t. absurd (true_false (sym t))) (λ id t a b. absurd (none id a (begins_below above s t id b)))
+    after table (λ t. absurd (true≢false (sym t))) (λ id t a b. absurd (none id a (begins_below above s t id b)))
 
 mutual
   follows : (table : List Descriptor) (above : List SegmentView) (up : Bool) (t : Tree) → IsApart t → IsUnder up t → Ready table above up → ((id : List SegmentView) → Held table id → Begins above (segment_at t) id → ⊥)
@@ -164,7 +165,7 @@ mutual
   follow_below table above up earlier no_trees apart under r fresh = tt
   follow_below table above up earlier (more t f) apart under r fresh =
       follow_append table (descriptors above t) (descriptors_below above f)
-      (follows table above up t apart.1 under.0 r (λ id a b. true_false (sym (fresh id (segment_at t) a b) ∙ apart.0)))
+      (follows table above up t apart.1 under.0 r (λ id a b. true≢false (sym (fresh id (segment_at t) a b) ∙ apart.0)))
       (follow_below (table ++ descriptors above t) above up (earlier ++ segment_at t ∷ []) f apart.2 under.1 (ready_later table (descriptors above t) above up r)
       (λ id s a b. elim (held_split id table (descriptors above t) a) [
         | inl c ↦ any_left s earlier (segment_at t ∷ []) (fresh id s c b)

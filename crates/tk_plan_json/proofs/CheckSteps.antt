@@ -9,8 +9,8 @@ use Rattle.std.specs.List.{list_any, list_all, count_by}
 use Rattle.tk_ids.specs.IdText.{SegmentView}
 use Rattle.tk_ids.specs.declared.descriptors.Descriptor.{Descriptor}
 use Rattle.tk_ids.specs.declared.tables.TableFault.TheVariants.{Twice, Full}
-use Rattle.tk_plan_units.specs.declared.nodes.Lock.{Lock}
-use Rattle.tk_plan_units.specs.declared.nodes.Node.{Node}
+use Rattle.tk_plan_units.specs.declared.trees.nodes.Lock.{Lock}
+use Rattle.tk_plan_units.specs.declared.trees.nodes.Node.{Node}
 use Rattle.tk_plan_units.specs.Ids.{descriptor, descriptor_in}
 use Rattle.tk_plan_units.specs.Keys.{note_key, note_locks, lock_keys}
 use Rattle.tk_plan_units.specs.Planned.{is_lawful_node}

@@ -3,22 +3,23 @@ use Rattle.std.proofs.Common.{◌≡◌, ℕ, zero, suc, ◌+◌, ◌⊎◌, inl
 use Rattle.std.specs.List.{list_any, count_by}
 use Rattle.std.specs.Str.{bytes_eq}
 use Rattle.std.specs.Cmp.Lexicographic.{bytes_decides}
+use Rattle.std.proofs.lemmas.Bool.{true≢false}
+use Rattle.tk_lemmas.proofs.Options.{option_or_none_left, option_or_none_right}
 use Rattle.serde_json.specs.Data.{Data}
 use Rattle.tk_ids.specs.IdText.{SegmentView}
 use Rattle.tk_ids.specs.declared.tables.TableFault.TheVariants.{Twice, Full}
-use Rattle.tk_plan_units.specs.declared.nodes.Node.{Node}
+use Rattle.tk_plan_units.specs.declared.trees.nodes.Node.{Node}
 use Rattle.tk_plan_units.specs.Trees.{Tree, tree, Forest, no_trees, more}
 use Rattle.tk_plan_units.specs.Ids.{ids, ids_below, AreDistinct}
 use Rattle.tk_plan_members.specs.Checks.{first}
 use Rattle.tk_plan_json.specs.NodeInputs.{NodeInput, NodeArray, repeats_key, segment_in, segment_of, node_of, below, node_inputs, node_inputs_in, children_in, dynamic_in, children_of, dynamic_of, grown, forest_of}
 use Rattle.tk_plan_json.specs.Verdicts.{checks, verdict, same_segment, node_check, id_fault, is_kind, when}
 use Rattle.tk_ids.specs.declared.tables.TheConstants.{MAX_DESCRIPTORS}
-use Rattle.tk_plan_units.specs.declared.needs.TheConstants.{MAX_KEYS}
+use Rattle.tk_plan_units.specs.declared.units.needs.TheConstants.{MAX_KEYS}
 use Rattle.tk_plan_json.specs.declared.limits.TheConstants.{MAX_LEVELS}
 use Rattle.tk_plan_units.specs.Keys.{lock_keys}
 use Rattle.tk_plan_members.specs.declared.faults.PlanFault.{PlanFault}
 use Rattle.tk_plan_members.specs.declared.faults.PlanFault.TheVariants.{Field, Id, Table, TooManyResources, EntryKeyTwice, Deep}
-use Rattle.tk_plan_members.proofs.ChecksInTurn.{none_first, none_second}
 use Rattle.tk_plan_json.proofs.Verdicts.{verdict-append, verdict-cons}
 
 -- ---- trees whose siblings have different segments
@@ -89,27 +90,27 @@ new_here before s e =
 
 check_none : (n : ℕ) (before : List Node) (s : NodeInput) → verdict before (node_inputs n s) ≡ None → first (checks before s) ≡ None
 unfolding node_inputs
-check_none zero before s e = none_first _ _ (sym (verdict-cons before s []) ∙ e)
-check_none (suc n) before s e = none_first _ _ (sym (verdict-cons before s (flat_map (node_inputs n) (below s))) ∙ e)
+check_none zero before s e = option_or_none_left _ _ (sym (verdict-cons before s []) ∙ e)
+check_none (suc n) before s e = option_or_none_left _ _ (sym (verdict-cons before s (flat_map (node_inputs n) (below s))) ∙ e)
 
 apart_all : (n : ℕ) → ((before : List Node) (s : NodeInput) → verdict before (node_inputs n s) ≡ None → IsApart (grown n s)) → (before : List Node) (earlier : List SegmentView) (xs : List NodeInput) → IsRun earlier xs
     → verdict before (flat_map (node_inputs n) xs) ≡ None → AreApart earlier (forest_of (map (grown n) xs))
 apart_all n each before earlier [] r e = tt
 apart_all n each before earlier (x ∷ xs) r e =
     let both = sym (verdict-append before (node_inputs n x) (flat_map (node_inputs n) xs)) ∙ e in
-    let mine : verdict before (node_inputs n x) ≡ None = none_first _ _ both in
+    let mine : verdict before (node_inputs n x) ≡ None = option_or_none_left _ _ both in
     let segment = segment_grown n x in (
       ap₂ (λ s l. list_any (same_segment s) l) segment (sym r.0) ∙ new_here before x (check_none n before x mine),
       each before x mine,
       subst (λ s. AreApart (earlier ++ s ∷ []) (forest_of (map (grown n) xs))) (sym segment)
-          (apart_all n each (before ++ map node_of (node_inputs n x)) (earlier ++ segment_of x ∷ []) xs r.1 (none_second _ _ both)),
+          (apart_all n each (before ++ map node_of (node_inputs n x)) (earlier ++ segment_of x ∷ []) xs r.1 (option_or_none_right _ _ both)),
     )
 
 pub apart_grown : (n : ℕ) (before : List Node) (s : NodeInput) → verdict before (node_inputs n s) ≡ None → IsApart (grown n s)
 unfolding grown node_inputs
 apart_grown zero before s e = tt
 apart_grown (suc n) before s e =
-    apart_all n (apart_grown n) (before ++ node_of s ∷ []) [] (below s) (run_below s) (none_second _ _ (sym (verdict-cons before s (flat_map (node_inputs n) (below s))) ∙ e))
+    apart_all n (apart_grown n) (before ++ node_of s ∷ []) [] (below s) (run_below s) (option_or_none_right _ _ (sym (verdict-cons before s (flat_map (node_inputs n) (below s))) ∙ e))
 
 -- ---- ids
 
@@ -201,14 +202,11 @@ mutual
   begins_some above id (more t f) a =
       elim (among_split id (ids above t) (ids_below above f) a) [ inl b ↦ record { segment = segment_at t; begins = begins_in above id t b } | inr b ↦ begins_some above id f b ]
 
-pub true_false : true ≡ false → ⊥
-true_false e = cc
-
 not_there : (t : Tree) (earlier : List SegmentView) (s : SegmentView) → list_any (same_segment (segment_at t)) earlier ≡ false → list_any (same_segment s) earlier ≡ true → (above id : List SegmentView) → Begins above s id
     → Begins above (segment_at t) id → ⊥
 not_there t earlier s h e above id b own =
     let same : s ≡ segment_at t = same_next above b.rest own.rest s (segment_at t) (sym b.is ∙ own.is) in
-    true_false (sym (subst (λ x. list_any (same_segment x) earlier ≡ true) same e) ∙ h)
+    true≢false (sym (subst (λ x. list_any (same_segment x) earlier ≡ true) same e) ∙ h)
 
 -- no id in the trees begins with an earlier segment
 apart_from : (above id : List SegmentView) (earlier : List SegmentView) (f : Forest) (s : SegmentView) → AreApart earlier f → Among id (ids_below above f) → Begins above s id → list_any (same_segment s) earlier ≡ true → ⊥

@@ -1,7 +1,7 @@
 -- Reading one node after another.
 use Rattle.std.proofs.Common.{◌≡◌, ℕ, zero, suc, ◌+◌, ◌-◌, get_or, length, Bool, true, false, ◌==◌, ◌&&◌, List, [], ◌∷◌, ◌++◌, map, flat_map, codes, Option, Some, None, refl, sym, ap, ap₂, ◌∙◌, arith, append_assoc, append-nil}
 use Rattle.std.proofs.lemmas.Bool.Decides.{nat_tests}
-use Rattle.std.proofs.lemmas.List.{map-append}
+use Rattle.std.proofs.lemmas.List.{map-append, nil_from_length}
 use Rattle.std.proofs.Common.{length-append}
 use Rattle.std.proofs.Math.ListN.{set}
 use Rattle.std.proofs.Math.Seq.{set-append_seam}
@@ -9,12 +9,13 @@ use Rattle.serde_json.specs.Data.{Data}
 use Rattle.serde_json.specs.View.{view}
 use Rattle.serde_json.specs.declared.value.Value.{Value}
 use Rattle.std.proofs.lemmas.Grind.{flat_map-append}
+use Rattle.std.specs.Option.{option_or}
 use Rattle.tk_ids.specs.IdText.{SegmentView}
-use Rattle.tk_plan_units.specs.declared.nodes.Node.{Node}
-use Rattle.tk_plan_units.specs.declared.nodes.NumberedNode.{NumberedNode}
+use Rattle.tk_plan_units.specs.declared.trees.nodes.Node.{Node}
+use Rattle.tk_plan_units.specs.declared.trees.nodes.NumberedNode.{NumberedNode}
 use Rattle.tk_plan_units.specs.Trees.{flat, contents}
 use Rattle.tk_plan_units.specs.Ids.{descriptor_in, descriptors}
-use Rattle.tk_plan_members.specs.Checks.{first, or_else, member_at}
+use Rattle.tk_plan_members.specs.Checks.{first, member_at}
 use Rattle.tk_plan_members.specs.declared.faults.PlanFault.{PlanFault}
 use Rattle.tk_plan_json.specs.declared.read_nodes.ReadNodes.{ReadNodes}
 use Rattle.tk_plan_json.specs.NodeInputs.{NodeInput, NodeArray, node_input, segment_in, id_of, node_of, below, node_inputs, node_inputs_in, children_of, dynamic_of, children_in, dynamic_in, grown}
@@ -43,10 +44,10 @@ pub met_end : (earlier met : List SegmentView) (all left : List Data) → left �
 met_end earlier met all left none m = sym (m.segments ∙ ap (λ l. met ++ map segment_in l) none ∙ append-nil met)
 
 pub after_none : (before : List Node) (xs ys : List NodeInput) → verdict before xs ≡ None → verdict before (xs ++ ys) ≡ verdict (before ++ map node_of xs) ys
-after_none before xs ys e = verdict-append before xs ys ∙ ap (λ o. or_else o (verdict (before ++ map node_of xs) ys)) e
+after_none before xs ys e = verdict-append before xs ys ∙ ap (λ o. option_or o (verdict (before ++ map node_of xs) ys)) e
 
 pub after_some : (before : List Node) (xs ys : List NodeInput) (f : PlanFault) → verdict before xs ≡ Some f → verdict before (xs ++ ys) ≡ Some f
-after_some before xs ys f e = verdict-append before xs ys ∙ ap (λ o. or_else o (verdict (before ++ map node_of xs) ys)) e
+after_some before xs ys f e = verdict-append before xs ys ∙ ap (λ o. option_or o (verdict (before ++ map node_of xs) ys)) e
 
 contents_after : (old new : List NumberedNode) (k : ℕ) (x : NodeInput) → new ≡ old ++ flat (grown k x) → contents new ≡ contents old ++ map node_of (node_inputs k x)
 contents_after old new k x e = ap contents e ∙ map-append _ old (flat (grown k x)) ∙ ap (λ l. contents old ++ l) (nodes-grown k x)
@@ -127,8 +128,8 @@ span_written two x at len old rest node len_is x_is two_is at_is =
 
 pub check_fault : (m : ℕ) (before : List Node) (s : NodeInput) (f : PlanFault) → first (checks before s) ≡ Some f → verdict before (node_inputs m s) ≡ Some f
 unfolding node_inputs
-check_fault zero before s f e = verdict-cons before s [] ∙ ap (λ o. or_else o (verdict (before ++ node_of s ∷ []) [])) e
-check_fault (suc m) before s f e = verdict-cons before s (flat_map (node_inputs m) (below s)) ∙ ap (λ o. or_else o (verdict (before ++ node_of s ∷ []) (flat_map (node_inputs m) (below s)))) e
+check_fault zero before s f e = verdict-cons before s [] ∙ ap (λ o. option_or o (verdict (before ++ node_of s ∷ []) [])) e
+check_fault (suc m) before s f e = verdict-cons before s (flat_map (node_inputs m) (below s)) ∙ ap (λ o. option_or o (verdict (before ++ node_of s ∷ []) (flat_map (node_inputs m) (below s)))) e
 
 -- the array that a node with this id has in the member of this name
 abbrev array_with : NodeInput → List SegmentView → List ℕ → Bool → NodeArray
@@ -182,7 +183,7 @@ module _ (k m : ℕ) (levels : m ≡ suc k) (old pushed : ReadNodes) (s : NodeIn
   below_verdict =
       ap (λ n. verdict (contents old.nodes.items) (node_inputs n s)) levels
       ∙ verdict-cons (contents old.nodes.items) s (flat_map (node_inputs k) (below s))
-      ∙ ap (λ o. or_else o (verdict (contents old.nodes.items ++ node_of s ∷ []) (flat_map (node_inputs k) (below s)))) fine
+      ∙ ap (λ o. option_or o (verdict (contents old.nodes.items ++ node_of s ∷ []) (flat_map (node_inputs k) (below s)))) fine
       ∙ ap (λ b. verdict b (flat_map (node_inputs k) (below s))) (sym (ap contents started.nodes ∙ map-append _ old.nodes.items (record { node = node_of s; number = 0; span = 1 } ∷ [])))
 
   grown_here : flat (grown m s) ≡ record { node = node_of s; number = 0; span = suc (length (flat_map flat (map (grown k) (below s)))) } ∷ flat_map flat (map (grown k) (below s))
@@ -224,10 +225,6 @@ module _ (k m : ℕ) (levels : m ≡ suc k) (old pushed : ReadNodes) (s : NodeIn
         noted = noted_same read new (ap contents written ∙ contents_same before rest whole_node open_node refl ∙ sym (ap contents whole)) spanned.keys spanned.descriptors spanned.dynamics a.noted;
       }
 
-pub no_values : {A : Type 0} (vs : List A) → length vs ≡ 0 → vs ≡ []
-no_values [] e = refl
-no_values (v ∷ vs) e = absurd (omega (arith, e))
-
 -- nothing stands below a node whose arrays are empty
 pub leaf_below : (s : NodeInput) → (length (children_of s.is_static s.value) == 0 && length (dynamic_of s.value) == 0) ≡ true → below s ≡ []
 leaf_below s leaf =
@@ -235,4 +232,4 @@ leaf_below s leaf =
     let ds = dynamic_of s.value in
     let no_children : length cs ≡ 0 = grind (arith, nat_tests) in
     let no_dynamic : length ds ≡ 0 = grind (arith, nat_tests) in
-    ap₂ (λ a b. children_in s a ++ dynamic_in s a b) (no_values cs no_children) (no_values ds no_dynamic)
+    ap₂ (λ a b. children_in s a ++ dynamic_in s a b) (nil_from_length cs no_children) (nil_from_length ds no_dynamic)

@@ -1,29 +1,15 @@
 -- A segment, and the id that ends in it.
-use Rattle.std.proofs.Common.{◌≡◌, ℕ, ◌<◌, ◌≤◌, nat_eq, nat_le, inl, inr, List, [], ◌∷◌, ◌++◌, length, Bool, true, false, not, cond, ◌||◌, ◌&&◌, Some, None, option_map, Err, refl, ap, ◌∙◌, arith}
+use Rattle.std.proofs.Common.{◌≡◌, ℕ, ◌<◌, ◌≤◌, nat_eq, nat_le, List, [], ◌∷◌, ◌++◌, length, Bool, true, false, not, ◌&&◌, None, option_map, Err, refl, ap, arith}
 use Rattle.std.proofs.lemmas.Bool.{le-leb}
 use Rattle.std.proofs.lemmas.Bool.Decides.{nat_tests}
 use Rattle.tk_ids.specs.IdText.{SegmentView, FitsLimits}
-use Rattle.tk_ids.specs.Answer.{IsSegmentOf, IsMadeOf}
+use Rattle.tk_ids.specs.Answer.{IsMadeOf}
 use Rattle.tk_ids.specs.declared.id_faults.IdFault.{IdFault}
 use Rattle.tk_ids.specs.declared.id_faults.IdFault.TheVariants.{Empty, BadSegment, BadEscape, TooLong, Memory}
 use Rattle.tk_plan_json.specs.Verdicts.{is_empty, fits, id_fault, when}
 use Rattle.tk_plan_members.specs.Refusals.{Faults}
 use Rattle.tk_plan_json.specs.steps.CodeValues.{as_plan_fault}
 use Rattle.tk_plan_members.specs.declared.faults.PlanFault.TheVariants.{Id}
-
-or_true : (b : Bool) → b || true ≡ true
-or_true true = refl
-or_true false = refl
-
-pub segment_refused : (above : List SegmentView) (tag value : List ℕ) (f : IdFault) → IsSegmentOf tag value (Err f)
-    → Faults (option_map Id (id_fault above (record { tag = tag; value = value }))) (as_plan_fault f)
-segment_refused above tag value Empty (inl e) = ap (λ t. option_map Id (id_fault above (record { tag = t; value = value }))) e
-segment_refused above tag value Empty (inr e) =
-    ap (λ v. option_map Id (id_fault above (record { tag = tag; value = v }))) e ∙ ap (λ b. option_map Id (cond b (Some Empty) (when (not (fits (above ++ record { tag = tag; value = [] } ∷ []))) TooLong))) (or_true (is_empty tag))
-segment_refused above tag value (BadSegment at) h = absurd h
-segment_refused above tag value (BadEscape at) h = absurd h
-segment_refused above tag value TooLong h = absurd h
-segment_refused above tag value Memory h = tt
 
 not_zero : (n : ℕ) → 0 < n → nat_eq n 0 ≡ false
 not_zero n h = grind (arith, nat_tests)

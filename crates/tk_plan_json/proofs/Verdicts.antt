@@ -1,21 +1,19 @@
 -- Verdicts of some nodes after others.
-use Rattle.std.proofs.Common.{◌≡◌, ℕ, zero, suc, List, [], ◌∷◌, ◌++◌, map, flat_map, Option, Some, None, refl, sym, ap, ap₂, ◌∙◌, append_assoc, append-nil}
+use Rattle.std.proofs.Common.{◌≡◌, ℕ, zero, suc, List, [], ◌∷◌, ◌++◌, map, flat_map, Option, refl, sym, ap, ap₂, ◌∙◌, append_assoc, append-nil}
 use Rattle.std.proofs.lemmas.List.{map-append}
+use Rattle.std.specs.Option.{option_or}
+use Rattle.tk_lemmas.proofs.Options.{option_or-assoc}
 use Rattle.tk_ids.specs.IdText.{SegmentView}
-use Rattle.tk_plan_units.specs.declared.nodes.Node.{Node}
+use Rattle.tk_plan_units.specs.declared.trees.nodes.Node.{Node}
 use Rattle.tk_plan_units.specs.Trees.{Tree, flat, flats, contents}
 use Rattle.tk_plan_units.specs.Ids.{descriptors, descriptors_below}
-use Rattle.tk_plan_members.specs.Checks.{first, or_else}
+use Rattle.tk_plan_members.specs.Checks.{first}
 use Rattle.tk_plan_json.specs.NodeInputs.{NodeInput, node_of, below, node_inputs, forest_of, grown}
 use Rattle.tk_plan_json.specs.Verdicts.{checks, joined, verdict}
 
-or_else_assoc : {A : Type 0} (a b c : Option A) → or_else (or_else a b) c ≡ or_else a (or_else b c)
-or_else_assoc None b c = refl
-or_else_assoc (Some x) b c = refl
-
-first-append : {A : Type 0} (xs ys : List (Option A)) → first (xs ++ ys) ≡ or_else (first xs) (first ys)
+first-append : {A : Type 0} (xs ys : List (Option A)) → first (xs ++ ys) ≡ option_or (first xs) (first ys)
 first-append [] ys = refl
-first-append (x ∷ xs) ys = ap (or_else x) (first-append xs ys) ∙ sym (or_else_assoc x (first xs) (first ys))
+first-append (x ∷ xs) ys = ap (option_or x) (first-append xs ys) ∙ sym (option_or-assoc x (first xs) (first ys))
 
 joined-append : (before : List Node) (xs ys : List NodeInput) → joined before (xs ++ ys) ≡ joined before xs ++ joined (before ++ map node_of xs) ys
 unfolding joined
@@ -24,11 +22,11 @@ joined-append before (x ∷ xs) ys =
     ap (λ l. checks before x ++ l) (joined-append (before ++ node_of x ∷ []) xs ys ∙ ap (λ b. joined (before ++ node_of x ∷ []) xs ++ joined b ys) (append_assoc before (node_of x ∷ []) (map node_of xs)))
     ∙ sym (append_assoc (checks before x) _ _)
 
-pub verdict-append : (before : List Node) (xs ys : List NodeInput) → verdict before (xs ++ ys) ≡ or_else (verdict before xs) (verdict (before ++ map node_of xs) ys)
+pub verdict-append : (before : List Node) (xs ys : List NodeInput) → verdict before (xs ++ ys) ≡ option_or (verdict before xs) (verdict (before ++ map node_of xs) ys)
 verdict-append before xs ys = ap first (joined-append before xs ys) ∙ first-append (joined before xs) _
 
 -- the first node, and those after it
-pub verdict-cons : (before : List Node) (x : NodeInput) (ys : List NodeInput) → verdict before (x ∷ ys) ≡ or_else (first (checks before x)) (verdict (before ++ node_of x ∷ []) ys)
+pub verdict-cons : (before : List Node) (x : NodeInput) (ys : List NodeInput) → verdict before (x ∷ ys) ≡ option_or (first (checks before x)) (verdict (before ++ node_of x ∷ []) ys)
 unfolding joined
 verdict-cons before x ys = first-append (checks before x) _
 

@@ -9,8 +9,8 @@ use Rattle.tk_ids.specs.declared.id_faults.IdFault.{IdFault}
 use Rattle.tk_ids.specs.declared.id_faults.IdFault.TheVariants.{Empty, TooLong}
 use Rattle.tk_ids.specs.declared.tables.TheConstants.{MAX_DESCRIPTORS}
 use Rattle.tk_ids.specs.declared.tables.TableFault.TheVariants.{Twice, Full}
-use Rattle.tk_plan_units.specs.declared.nodes.Node.{Node}
-use Rattle.tk_plan_units.specs.declared.needs.TheConstants.{MAX_KEYS}
+use Rattle.tk_plan_units.specs.declared.trees.nodes.Node.{Node}
+use Rattle.tk_plan_units.specs.declared.units.needs.TheConstants.{MAX_KEYS}
 use Rattle.tk_plan_units.specs.Keys.{lock_keys}
 use Rattle.tk_plan_members.specs.Checks.{first}
 use Rattle.tk_plan_members.specs.Rows.{static_node, dynamic_node}

@@ -1,4 +1,3 @@
-pub mod ChecksInTurn
 pub mod Escapes
 pub mod Items
 pub mod Taking

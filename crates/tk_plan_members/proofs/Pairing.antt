@@ -1,5 +1,5 @@
 -- An entry's pairs, put one after another into a map, and a node's entries.
-use Rattle.std.proofs.Common.{◌≡◌, ℕ, ◌+◌, List, [], ◌∷◌, ◌++◌, map, Bool, true, false, cond, ◌||◌, ◌&&◌, Option, Some, None, is_some, Result, Ok, Err, length, get_or, refl, sym, ap, ap₂, ◌∙◌, append_assoc, append-nil, arith}
+use Rattle.std.proofs.Common.{◌≡◌, ℕ, ◌+◌, List, [], ◌∷◌, ◌++◌, map, Bool, true, false, cond, ◌||◌, ◌&&◌, Option, Some, None, is_some, refl, sym, ap, ap₂, ◌∙◌, append_assoc, append-nil}
 use Rattle.std.specs.List.{list_any, list_all}
 use Rattle.std.specs.List.Sorted.{IsStrictlySortedBy}
 use Rattle.std.specs.Str.{bytes_eq}
@@ -10,6 +10,8 @@ use Rattle.std.specs.Cmp.Lexicographic.{slice_cmp, texts_ties}
 use Rattle.std.specs.Map.{keys_of}
 use Rattle.std.specs.BTreeMap.{insert_entry}
 use Rattle.std.proofs.lemmas.Map.Lookups.{exact_bytes}
+use Rattle.std.specs.Option.{option_or}
+use Rattle.tk_lemmas.proofs.Truth.{or-false, or_twice, or_swap}
 use Rattle.serde_json.specs.Data.{Data}
 use Rattle.serde_json.specs.Find.{as_array}
 use Rattle.serde_json.specs.View.{view, items_view}
@@ -17,13 +19,9 @@ use Rattle.serde_json.specs.declared.value.Value.{Value}
 use Rattle.tk_plan_members.specs.Contents.{listed}
 use Rattle.tk_plan_members.proofs.Items.{listed_items, array_items}
 use Rattle.tk_events.specs.Event.{is_strictly_increasing, is_before}
-use Rattle.tk_plan_members.specs.Checks.{text, pair_of, array_of, items_wrong, or_else, item_at}
+use Rattle.tk_plan_members.specs.Checks.{text, pair_of, array_of, items_wrong, item_at}
 use Rattle.tk_plan_members.specs.Rows.{entry}
-use Rattle.tk_plan_members.specs.steps.MemberValues.{has_key, IsOnlyPair, IsReport}
-use Rattle.tk_plan_members.specs.Answers.{Reads}
-use Rattle.tk_plan_members.specs.declared.faults.PlanFault.{PlanFault}
-use Rattle.tk_plan_members.specs.declared.member_values.Report.{Report}
-use Rattle.tk_plan_members.proofs.Passing.{refuses_whole}
+use Rattle.tk_plan_members.specs.steps.MemberValues.{has_key}
 use Rattle.tk_plan_members.specs.Contents.{json_pair, json_entry, put_all, repeats, repeats_after}
 
 abbrev pub Texts : Type 0
@@ -36,23 +34,9 @@ some_cond : {A : Type 0} (b : Bool) (v : A) (o : Option A) → is_some (cond b (
 some_cond true v o = refl
 some_cond false v o = refl
 
-or_twice : (a h : Bool) → a || h ≡ a || (a || h)
-or_twice true h = refl
-or_twice false h = refl
-
-or_swap : (a b h : Bool) → a || (b || h) ≡ b || (a || h)
-or_swap true true h = refl
-or_swap true false h = refl
-or_swap false true h = refl
-or_swap false false h = refl
-
 or_assoc : (a b h : Bool) → (a || b) || h ≡ a || (b || h)
 or_assoc true b h = refl
 or_assoc false b h = refl
-
-or_false : (b : Bool) → b || false ≡ b
-or_false true = refl
-or_false false = refl
 
 has_first : (k : List ℕ) (e : Texts) (es : List Texts) → has_key k (e ∷ es) ≡ bytes_eq k e.0 || has_key k es
 has_first k e es = some_cond (is_eq (slice_cmp nat_cmp k e.0)) e.1 _ ∙ ap (λ b. b || has_key k es) (same_key k e.0)
@@ -100,7 +84,7 @@ goes_start at d vs items put e is none =
 
 module _ (at : List ℕ) (d : Data) (i : ℕ) (put : List Texts) (b : Bool) (left : List Data) (g : GoesOn at d i put b left) where
   pub goes_fault : (x : Data) (rest : List Data) (p : List ℕ) → left ≡ x ∷ rest → pair_of text (item_at at i) x ≡ Some p → entry at d ≡ Some p
-  goes_fault x rest p split w = g.wrong ∙ ap (items_wrong (pair_of text) at i) split ∙ ap (λ o. or_else o (items_wrong (pair_of text) at (i + 1) rest)) w
+  goes_fault x rest p split w = g.wrong ∙ ap (items_wrong (pair_of text) at i) split ∙ ap (λ o. option_or o (items_wrong (pair_of text) at (i + 1) rest)) w
 
   pub goes_next : (x : Data) (rest : List Data) (k v : List ℕ) (new : List Texts) (c : Bool) → left ≡ x ∷ rest → pair_of text (item_at at i) x ≡ None
       → k ≡ (json_pair (Some x)).0 → v ≡ (json_pair (Some x)).1 → new ≡ insert_entry (slice_cmp nat_cmp) put k v → c ≡ b || has_key k put
@@ -111,7 +95,7 @@ module _ (at : List ℕ) (d : Data) (i : ℕ) (put : List Texts) (b : Bool) (lef
       let put_is : new ≡ insert_entry (slice_cmp nat_cmp) put xk xv = is ∙ ap₂ (insert_entry (slice_cmp nat_cmp) put) ek ev in
       let seen : c ≡ b || list_any (bytes_eq xk) g.earlier = twice ∙ ap (λ y. b || has_key y put) ek ∙ ap (λ h. b || h) (g.keys xk) in
       record {
-        wrong = g.wrong ∙ ap (items_wrong (pair_of text) at i) split ∙ ap (λ o. or_else o (items_wrong (pair_of text) at (i + 1) rest)) w;
+        wrong = g.wrong ∙ ap (items_wrong (pair_of text) at i) split ∙ ap (λ o. option_or o (items_wrong (pair_of text) at (i + 1) rest)) w;
         pairs = g.pairs ∙ ap (λ l. put_all put (pairs_in l)) split ∙ ap (λ p. put_all p (pairs_in rest)) (sym put_is);
         earlier = g.earlier ++ xk ∷ [];
         keys = λ y. ap (has_key y) put_is ∙ put_has y xk xv put ∙ ap (λ h. bytes_eq y xk || h) (g.keys y) ∙ sym (any_append y xk g.earlier);
@@ -120,7 +104,7 @@ module _ (at : List ℕ) (d : Data) (i : ℕ) (put : List Texts) (b : Bool) (lef
       }
 
   pub goes_end : left ≡ [] → (entry at d ≡ None) × (json_entry d ≡ put) × (repeats d ≡ b)
-  goes_end none = (g.wrong ∙ ap (items_wrong (pair_of text) at i) none, g.pairs ∙ ap (λ l. put_all put (pairs_in l)) none, g.twice ∙ ap (λ l. b || repeats_after g.earlier (pairs_in l)) none ∙ or_false b)
+  goes_end none = (g.wrong ∙ ap (items_wrong (pair_of text) at i) none, g.pairs ∙ ap (λ l. put_all put (pairs_in l)) none, g.twice ∙ ap (λ l. b || repeats_after g.earlier (pairs_in l)) none ∙ or-false b)
 
 increasing_next : (p q : Texts) (b : Bool) → slice_cmp nat_cmp p.0 q.0 ≡ Less → b ≡ true → is_before p.0 q.0 && b ≡ true
 increasing_next p q b h e = rw (h, e) refl
@@ -131,30 +115,6 @@ unfolding IsStrictlySortedBy
 map_is_increasing [] h = refl
 map_is_increasing (p ∷ []) h = refl
 map_is_increasing (p ∷ q ∷ es) h = increasing_next p q (is_strictly_increasing (q ∷ es)) h.0.0 (map_is_increasing (q ∷ es) h.1)
-
--- an entry of one pair
-pub read_alone : (at : List ℕ) (d : Data) (vs : List Value) (v : Value) (r : Result Report PlanFault) → Some (items_view vs) ≡ as_array d → length vs ≡ 1 → v ≡ get_or vs 0 v
-    → Reads (pair_of text (item_at at 0) (view v)) (IsOnlyPair (view v)) r → Reads (entry at d) (IsReport d) r
-read_alone at d [] v r is one first h = absurd (omega arith)
-read_alone at d (x ∷ y ∷ vs) v r is one first h = absurd (omega arith)
-read_alone at d (x ∷ []) v r is one first h = by r h
-  where
-    wrong : entry at d ≡ or_else (pair_of text (item_at at 0) (view v)) None
-    wrong = array_items (pair_of text) at d (x ∷ []) is ∙ ap (λ u. or_else (pair_of text (item_at at 0) (view u)) None) (sym first)
-
-    all : listed (Some d) ≡ view v ∷ []
-    all = listed_items d (x ∷ []) is ∙ ap (λ u. view u ∷ []) (sym first)
-
-    by : (r : Result Report PlanFault) → Reads (pair_of text (item_at at 0) (view v)) (IsOnlyPair (view v)) r → Reads (entry at d) (IsReport d) r
-    by (Ok e) g = (
-      wrong ∙ ap (λ o. or_else o None) g.0,
-      record {
-        pairs = g.1.pairs ∙ sym (ap (λ ds. put_all [] (pairs_in ds)) all);
-        increasing = ap is_strictly_increasing g.1.pairs;
-        repeats = g.1.repeats ∙ sym (ap (λ ds. repeats_after [] (pairs_in ds)) all);
-      },
-    )
-    by (Err e) g = refuses_whole _ _ e (λ p w. wrong ∙ ap (λ o. or_else o None) w) g
 
 -- ---- all the entries of a node
 
@@ -185,16 +145,16 @@ report_start at d vs items es e is none =
 
 module _ (at : List ℕ) (d : Data) (i : ℕ) (es : List (List Texts)) (b : Bool) (left : List Data) (g : Reported at d i es b left) where
   pub report_fault : (x : Data) (rest : List Data) (p : List ℕ) → left ≡ x ∷ rest → entry (item_at at i) x ≡ Some p → array_of entry at d ≡ Some p
-  report_fault x rest p split w = g.wrong ∙ ap (items_wrong entry at i) split ∙ ap (λ o. or_else o (items_wrong entry at (i + 1) rest)) w
+  report_fault x rest p split w = g.wrong ∙ ap (items_wrong entry at i) split ∙ ap (λ o. option_or o (items_wrong entry at (i + 1) rest)) w
 
   pub report_next : (x : Data) (rest : List Data) (e : List Texts) (new : List (List Texts)) (c : Bool) → left ≡ x ∷ rest → entry (item_at at i) x ≡ None
       → e ≡ json_entry x → is_strictly_increasing e ≡ true → new ≡ es ++ e ∷ [] → c ≡ b || repeats x → Reported at d (i + 1) new c rest
   report_next x rest e new c split w is rises pushed twice = record {
-    wrong = g.wrong ∙ ap (items_wrong entry at i) split ∙ ap (λ o. or_else o (items_wrong entry at (i + 1) rest)) w;
+    wrong = g.wrong ∙ ap (items_wrong entry at i) split ∙ ap (λ o. option_or o (items_wrong entry at (i + 1) rest)) w;
     entries = g.entries ∙ ap (λ l. es ++ map json_entry l) split ∙ sym (append_assoc es (json_entry x ∷ []) (map json_entry rest)) ∙ ap (λ l. l ++ map json_entry rest) (ap (λ y. es ++ y ∷ []) (sym is) ∙ sym pushed);
     increasing = ap (list_all is_strictly_increasing) pushed ∙ all_append es e g.increasing rises;
     twice = g.twice ∙ ap (λ l. b || list_any repeats l) split ∙ sym (or_assoc b (repeats x) (list_any repeats rest)) ∙ ap (λ h. h || list_any repeats rest) (sym twice);
   }
 
   pub report_end : left ≡ [] → (array_of entry at d ≡ None) × (es ≡ map json_entry (listed (Some d))) × (b ≡ list_any repeats (listed (Some d)))
-  report_end none = (g.wrong ∙ ap (items_wrong entry at i) none, sym (g.entries ∙ ap (λ l. es ++ map json_entry l) none ∙ append-nil es), sym (g.twice ∙ ap (λ l. b || list_any repeats l) none ∙ or_false b))
+  report_end none = (g.wrong ∙ ap (items_wrong entry at i) none, sym (g.entries ∙ ap (λ l. es ++ map json_entry l) none ∙ append-nil es), sym (g.twice ∙ ap (λ l. b || list_any repeats l) none ∙ or-false b))

@@ -4,6 +4,7 @@ use Rattle.std.specs.Prelude.{Some, None, if◌then◌else◌, map, flat_map}
 use Rattle.std.specs.List.{list_any}
 use Rattle.std.specs.Str.{bytes_eq}
 use Rattle.std.specs.Fmt.{decimal}
+use Rattle.std.specs.Option.{option_or}
 use Rattle.serde_json.specs.Data.{Data, boolean, string, array, object, Items, no_items, item}
 use Rattle.serde_json.specs.Data.{Members, no_members, member}
 use Rattle.serde_json.specs.Find.{get}
@@ -27,15 +28,10 @@ item_at at i = at ++ slash ∷ decimal i
 abbrev pub Check : Type 0
 Check = List ℕ → Data → Option (List ℕ)
 
--- the first of two, where it is there
-abbrev pub or_else : {A : Type 0} → Option A → Option A → Option A
-or_else (Some x) later = Some x
-or_else None later = later
-
 -- the first that is there
 abbrev pub first : {A : Type 0} → List (Option A) → Option A
 first [] = None
-first (x ∷ rest) = or_else x (first rest)
+first (x ∷ rest) = option_or x (first rest)
 
 -- ---- values
 
@@ -66,7 +62,7 @@ list_of (item d ds) = d ∷ list_of ds
 -- the first of the items that is wrong, counted from i on
 abbrev pub items_wrong : Check → List ℕ → ℕ → List Data → Option (List ℕ)
 items_wrong check at i [] = None
-items_wrong check at i (d ∷ ds) = or_else (check (item_at at i) d) (items_wrong check at (i + 1) ds)
+items_wrong check at i (d ∷ ds) = option_or (check (item_at at i) d) (items_wrong check at (i + 1) ds)
 
 -- each item by the check
 abbrev pub array_of : Check → Check

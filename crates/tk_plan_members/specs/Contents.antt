@@ -13,7 +13,7 @@ use Rattle.tk_ids.specs.declared.descriptors.DType.{DType}
 use Rattle.tk_ids.specs.declared.descriptors.DType.TheVariants.{Container, Test, Both}
 use Rattle.tk_events.specs.declared.statuses.Status.{Status}
 use Rattle.tk_events.specs.declared.statuses.Status.TheVariants.{Successful, Aborted, Failed}
-use Rattle.tk_plan_units.specs.declared.nodes.Lock.{Lock}
+use Rattle.tk_plan_units.specs.declared.trees.nodes.Lock.{Lock}
 use Rattle.tk_plan_members.specs.Checks.{list_of}
 
 -- a text that has to be there

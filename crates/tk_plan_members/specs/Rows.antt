@@ -2,10 +2,11 @@
 use Rattle.std.specs.Prelude.{◌==◌, List, [], ◌∷◌, ◌++◌, length, Bool, true, false, codes, Option}
 use Rattle.std.specs.Prelude.{Some, None, is_some, ◌&&◌, if◌then◌else◌}
 use Rattle.std.specs.Str.{bytes_eq}
+use Rattle.std.specs.Option.{option_or}
 use Rattle.serde_json.specs.Data.{Data, string}
 use Rattle.serde_json.specs.Find.{get}
 use Rattle.tk_plan_members.specs.Checks.{Check, Row, must, may, text, truth, one_of, any_array}
-use Rattle.tk_plan_members.specs.Checks.{array_of, pair_of, object_of, or_else, member_at}
+use Rattle.tk_plan_members.specs.Checks.{array_of, pair_of, object_of, member_at}
 
 abbrev pub dtype_row : Row
 dtype_row = must (codes "type") (one_of (codes "container" ∷ codes "test" ∷ codes "both" ∷ []))
@@ -55,7 +56,7 @@ message_wrong at d =
 
 -- a result has a status, and maybe a message where it is not a success
 abbrev pub result : Check
-result at d = or_else (object_of (status_row ∷ message_row ∷ []) at d) (message_wrong at d)
+result at d = option_or (object_of (status_row ∷ message_row ∷ []) at d) (message_wrong at d)
 
 abbrev pub result_row : Row
 result_row = may (codes "result") result

@@ -3,10 +3,10 @@ use Rattle.std.proofs.Common.{◌≡◌, ℕ, zero, suc, ◌+◌, ◌-◌, ◌�
 use Rattle.std.proofs.lemmas.List.{map-append, drop-drop, drop_at}
 use Rattle.std.proofs.lemmas.Grind.{flat_map-append}
 use Rattle.tk_limits.specs.declared.limits.TheConstants.{MAX_EVENTS}
-use Rattle.tk_plan_units.specs.declared.nodes.Node.{Node}
-use Rattle.tk_plan_units.specs.declared.nodes.NumberedNode.{NumberedNode}
-use Rattle.tk_plan_units.specs.declared.steps.Act.TheVariants.{Finish, Register, Skip}
-use Rattle.tk_plan_units.specs.declared.cuttings.Cutting.{Cutting}
+use Rattle.tk_plan_units.specs.declared.trees.nodes.Node.{Node}
+use Rattle.tk_plan_units.specs.declared.trees.nodes.NumberedNode.{NumberedNode}
+use Rattle.tk_plan_units.specs.declared.scripts.steps.Act.TheVariants.{Finish, Register, Skip}
+use Rattle.tk_plan_units.specs.declared.units.cuttings.Cutting.{Cutting}
 use Rattle.tk_plan_units.specs.Trees.{Tree, tree, Forest, no_trees, more, forest, IsForest, IsSplit, first_tree, contents}
 use Rattle.tk_plan_units.specs.Script.{move, opening, moves, moves_below}
 use Rattle.tk_plan_units.specs.Weights.{publications, weight, weights}
@@ -17,10 +17,12 @@ use Rattle.tk_plan_units.specs.CuttingSteps.{end_events_of_spine, begin_events_a
 use Rattle.tk_plan_units.specs.steps.CuttingSteps.{AddsParts, keyed}
 use Rattle.tk_plan_units.specs.Events.{opening_events, finish_event}
 use Rattle.tk_plan_units.specs.LockNeeds.{IsNeed}
-use Rattle.tk_plan_units.specs.declared.cuttings.PlanUnit.{PlanUnit}
-use Rattle.tk_plan_units.specs.declared.cuttings.SpineStamp.{SpineStamp}
+use Rattle.tk_plan_units.specs.declared.units.cuttings.PlanUnit.{PlanUnit}
+use Rattle.tk_plan_units.specs.declared.units.cuttings.SpineStamp.{SpineStamp}
 use Rattle.std.proofs.lemmas.List.Elements.{All-append}
 use Rattle.std.proofs.Math.Seq.{take-append_seam}
+use Rattle.std.proofs.lemmas.Bool.{and_parts, not-true}
+use Rattle.tk_lemmas.proofs.Lists.{All_one}
 use Rattle.tk_plan_units.proofs.Grows.{forest_nil}
 use Rattle.tk_plan_units.proofs.Moving.{moves-length, length-opening}
 
@@ -72,28 +74,20 @@ adds-none all keys old = record {
 
 -- ---- a node of the spine
 
-pub if_both : (a b : Bool) → (a && b) ≡ true → (a ≡ true) × (b ≡ true)
-if_both true b e = (refl, e)
-if_both false b e = absurd (grind arith)
-
-is_false : (b : Bool) → not b ≡ true → b ≡ false
-is_false true e = absurd (grind arith)
-is_false false e = refl
-
 concurrent_static : (f : Forest) → all_concurrent f ≡ true → all_static f ≡ true
 concurrent_static no_trees e = refl
 concurrent_static (more (tree n k g) f) e =
-    let both = if_both (n.is_static && n.is_concurrent) (all_concurrent f) e in
-    ap₂ (λ a b. a && b) (if_both n.is_static n.is_concurrent both.0).0 (concurrent_static f both.1)
+    let both = and_parts (n.is_static && n.is_concurrent) (all_concurrent f) e in
+    ap₂ (λ a b. a && b) (and_parts n.is_static n.is_concurrent both.0).0 (concurrent_static f both.1)
 
 pub spine_facts : (b : Bool) (n : Node) (f : Forest) → on_spine b n f ≡ true → (is_some n.skip ≡ false) × (all_static f ≡ true)
 spine_facts b n f e =
-    let free = (if_both _ (is_free n f) e).1 in
-    let one = (if_both (not (is_leaf f)) _ free).1 in
-    let two = if_both (not (is_some n.skip)) _ one in
-    let three = (if_both (length n.locks == 0) _ two.1).1 in
-    let four = (if_both (not n.is_isolated) _ three).1 in
-    (is_false _ two.0, concurrent_static f four)
+    let free = (and_parts _ (is_free n f) e).1 in
+    let one = (and_parts (not (is_leaf f)) _ free).1 in
+    let two = and_parts (not (is_some n.skip)) _ one in
+    let three = (and_parts (length n.locks == 0) _ two.1).1 in
+    let four = (and_parts (not n.is_isolated) _ three).1 in
+    (not-true _ two.0, concurrent_static f four)
 
 pub spine_weight : (b : Bool) (n : Node) (k : ℕ) (f : Forest) → on_spine b n f ≡ true → weight (tree n k f) ≡ 2 + publications n + weights f
 spine_weight b n k f e = ap (λ s. cond s 1 (2 + publications n + weights f)) (spine_facts b n f e).0
@@ -140,7 +134,7 @@ goes_end keys is_root position at nodes (p ∷ ps) old now g h = absurd (omega a
 pub static_tree : (p : NumberedNode) (after below others : List NumberedNode) → IsSplit p after below others → all_static (forest (p ∷ after)) ≡ true
     → (weights (forest (p ∷ after)) ≡ weight (tree p.node p.number (forest below)) + weights (forest others)) × (all_static (forest others) ≡ true)
 static_tree p after below others s e =
-    let both = if_both p.node.is_static (all_static (forest others)) (sym (ap all_static s.trees) ∙ e) in
+    let both = and_parts p.node.is_static (all_static (forest others)) (sym (ap all_static s.trees) ∙ e) in
     (ap weights s.trees ∙ ap (λ b. cond b 0 1 + weight (tree p.node p.number (forest below)) + weights (forest others)) both.0 ∙ omega arith, both.1)
 
 pub goes_next : (keys : List (List ℕ)) (is_root : Bool) (position at : ℕ) (nodes after below others : List NumberedNode) (p : NumberedNode) (old now new : Cutting)
@@ -171,12 +165,8 @@ goes_next keys is_root position at nodes after below others p old now new g s fi
 opening_moves : (n : Node) (k : ℕ) → length (opening n k ++ []) ≡ 1 + publications n
 opening_moves n k = ap length (append-nil (opening n k)) ∙ length-opening n k
 
-all_one : {A : Type 0} (P : A → Type 0) (x : A) → P x → All P (x ∷ [])
-all_one P x h zero d l = h
-all_one P x h (suc k) d l = absurd (omega arith)
-
 all_pushed : {A : Type 0} (P : A → Type 0) (xs ys : List A) (x : A) → ys ≡ xs ++ x ∷ [] → P x → All P xs → All P ys
-all_pushed P xs ys x e h all = subst (All P) (sym e) (All-append P xs (x ∷ []) all (all_one P x h))
+all_pushed P xs ys x e h all = subst (All P) (sym e) (All-append P xs (x ∷ []) all (All_one P x h))
 
 pub begin_adds : (all rest : List NumberedNode) (keys : List (List ℕ)) (old new : Cutting) (p : NumberedNode) (s : SpineStamp)
     → drop s.position all ≡ p ∷ rest → s.stamp ≡ old.event_count → old.event_count + (1 + publications p.node) ≤ MAX_EVENTS
@@ -242,7 +232,7 @@ add_adds all keys old new p below rest u at span trees need same limit spine sta
       spine = spine ∙ sym (append-nil _);
       unit_keys = unit_keys;
       units = ap (pieces_of_units all) units ∙ flat_map-append _ old.units.items (u ∷ []) ∙ ap (λ l. pieces_of_units all old.units.items ++ l) (append-nil _ ∙ there);
-      fits = λ h. subst (All (Fits all keys)) (sym units) (All-append (Fits all keys) old.units.items (u ∷ []) h (all_one (Fits all keys) u fit));
+      fits = λ h. subst (All (Fits all keys)) (sym units) (All-append (Fits all keys) old.units.items (u ∷ []) h (All_one (Fits all keys) u fit));
       begin_events_of_spine = ap (begin_events_of_spine all) starts ∙ sym (append-nil _);
       starts = λ h. subst (All (HasStampAt all)) (sym starts) h;
       end_events_of_spine = ap (end_events_of_spine all) finishes ∙ sym (append-nil _);
@@ -277,10 +267,10 @@ found_get all keys (u ∷ us) h (suc i) d l =
 -- ---- the parts make up the root's script
 
 static_below : (k : ℕ) (t : Tree) (f : Forest) → all_static (more t f) ≡ true → moves_below k (more t f) ≡ moves t ++ moves_below k f
-static_below k (tree n j g) f e = ap (λ b. cond b [] (move j (Register k) ∷ []) ++ (moves (tree n j g) ++ moves_below k f)) (if_both n.is_static (all_static f) e).0
+static_below k (tree n j g) f e = ap (λ b. cond b [] (move j (Register k) ∷ []) ++ (moves (tree n j g) ++ moves_below k f)) (and_parts n.is_static (all_static f) e).0
 
 rest_static : (t : Tree) (f : Forest) → all_static (more t f) ≡ true → all_static f ≡ true
-rest_static (tree n j g) f e = (if_both n.is_static (all_static f) e).1
+rest_static (tree n j g) f e = (and_parts n.is_static (all_static f) e).1
 
 moves_by : (b : Bool) (n : Node) (k : ℕ) (f : Forest) (s : Bool) → on_spine b n f ≡ s → (all_static f ≡ true → flat_map moves_of (parts_below false f) ≡ moves_below k f)
     → flat_map moves_of (cond s (spine_begins n k ∷ (parts_below false f ++ spine_ends n k ∷ [])) (whole_unit (tree n k f) ∷ [])) ≡ moves (tree n k f)

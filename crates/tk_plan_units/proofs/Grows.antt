@@ -1,7 +1,7 @@
 -- Nodes in preorder, taken apart.
 use Rattle.std.proofs.Common.{◌≡◌, ℕ, zero, suc, ◌-◌, ◌≤◌, List, [], ◌∷◌, ◌++◌, length, take, drop, refl, sym, ap, ap₂, ◌∙◌, arith, length-append}
 use Rattle.std.proofs.Math.Seq.{take-append_seam, drop-append_seam}
-use Rattle.tk_plan_units.specs.declared.nodes.NumberedNode.{NumberedNode}
+use Rattle.tk_plan_units.specs.declared.trees.nodes.NumberedNode.{NumberedNode}
 use Rattle.tk_plan_units.specs.Trees.{tree, Forest, no_trees, more, flats, grow, forest, IsForest, IsSplit}
 
 pub grow-flats : (f : Forest) (n : ℕ) → length (flats f) ≤ n → grow n (flats f) ≡ f

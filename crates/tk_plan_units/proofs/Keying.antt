@@ -1,10 +1,12 @@
 -- What the table says of the nodes, by their numbers.
 use Rattle.std.proofs.Common.{◌≡◌, ℕ, zero, suc, ◌+◌, ◌<◌, List, [], ◌∷◌, ◌++◌, Bool, cond, true, false, Option, Some, None, map, length, slice_get, refl, sym, ap, ap₂, ◌∙◌, subst, arith, length-append, append_assoc}
-use Rattle.std.proofs.lemmas.Option.{slice_get_within}
+use Rattle.std.proofs.lemmas.Option.{slice_get_within, same_Some}
+use Rattle.std.proofs.lemmas.Bool.{both_ways}
+use Rattle.tk_lemmas.proofs.Lists.{get_at_seam}
 use Rattle.tk_ids.specs.IdText.{SegmentView}
 use Rattle.tk_ids.specs.declared.descriptors.Descriptor.{Descriptor}
 use Rattle.tk_ids.specs.Table.{ids_of}
-use Rattle.tk_plan_units.specs.declared.nodes.NumberedNode.{NumberedNode}
+use Rattle.tk_plan_units.specs.declared.trees.nodes.NumberedNode.{NumberedNode}
 use Rattle.tk_plan_units.specs.Trees.{Tree, tree, Forest, no_trees, more, flat, flats, forest, IsForest}
 use Rattle.tk_plan_units.specs.Numbers.{of_kind, with_number, numbered_from, IsNumbered}
 use Rattle.tk_plan_units.specs.Ids.{ids, ids_below, descriptor, descriptor_in, descriptors, descriptors_below}
@@ -54,19 +56,6 @@ the : {A : Type 0} → Option A → A → A
 the None d = d
 the (Some x) d = x
 
-pub some_is : {A : Type 0} (x y : A) → Some x ≡ Some y → x ≡ y
-unfolding the
-some_is x y e = ap (λ o. the o x) e
-
-not_both : (b : Bool) → b ≡ true → b ≡ false → ⊥
-not_both true e f = grind arith
-not_both false e f = grind arith
-
-seam_get : {A : Type 0} (xs ys : List A) (x : A) (k : ℕ) → k ≡ length xs → slice_get (xs ++ x ∷ ys) k ≡ Some x
-seam_get [] ys x k e = ap (slice_get (x ∷ ys)) e
-seam_get (z ∷ xs) ys x zero e = absurd (omega (arith, e))
-seam_get (z ∷ xs) ys x (suc k) e = seam_get xs ys x k (omega (arith, e))
-
 static_by : (b : Bool) (q : NumberedNode) (ps : List NumberedNode) (j : List SegmentView) (is : List (List SegmentView)) (prefix : List Descriptor) (s d i : ℕ) (p : NumberedNode) (id : List SegmentView)
     → q.node.is_static ≡ b → s ≡ length prefix
     → ((prefix : List Descriptor) (s d k : ℕ) → s ≡ length prefix → slice_get (numbered_from s d ps) k ≡ Some p → slice_get is k ≡ Some id
@@ -75,14 +64,14 @@ static_by : (b : Bool) (q : NumberedNode) (ps : List NumberedNode) (j : List Seg
     → slice_get (j ∷ is) i ≡ Some id → p.node.is_static ≡ true
     → slice_get (prefix ++ (cond b (descriptor j q.node ∷ []) [] ++ statics_of ps is)) p.number ≡ Some (descriptor id p.node)
 static_by true q ps j is prefix s d zero p id f es next e g h =
-    let same = some_is (with_number s q) p e in
-    seam_get prefix (statics_of ps is) (descriptor j q.node) p.number (sym (ap (λ w. w.number) same) ∙ es)
-    ∙ ap₂ (λ x n. Some (descriptor x n)) (some_is j id g) (ap (λ w. w.node) same)
+    let same = same_Some (with_number s q) p e in
+    get_at_seam prefix (statics_of ps is) (descriptor j q.node) p.number (sym (ap (λ w. w.number) same) ∙ es)
+    ∙ ap₂ (λ x n. Some (descriptor x n)) (same_Some j id g) (ap (λ w. w.node) same)
 static_by true q ps j is prefix s d (suc i) p id f es next e g h =
     ap (λ l. slice_get l p.number) (sym (append_assoc prefix (descriptor j q.node ∷ []) (statics_of ps is)))
     ∙ next (prefix ++ descriptor j q.node ∷ []) (s + 1) d i (omega (arith, es, length-append prefix (descriptor j q.node ∷ []))) e g
 static_by false q ps j is prefix s d zero p id f es next e g h =
-    absurd (not_both p.node.is_static h (ap (λ w. w.node.is_static) (sym (some_is (with_number d q) p e)) ∙ f))
+    absurd (both_ways p.node.is_static (ap (λ w. w.node.is_static) (sym (same_Some (with_number d q) p e)) ∙ f) h)
 static_by false q ps j is prefix s d (suc i) p id f es next e g h = next prefix s (d + 1) i es e g
 
 static_at : (ps : List NumberedNode) (is : List (List SegmentView)) (prefix : List Descriptor) (s d i : ℕ) (p : NumberedNode) (id : List SegmentView) → s ≡ length prefix
@@ -131,7 +120,7 @@ keyed nodes table plan numbers i p id e g =
       dynamic = λ h has.
           let s = source nodes all has.0 id (ap (λ l. slice_get (ids_of l) has.0) (sym is) ∙ has.1) in
           let same = plan.distinct s.at i id s.has_id g in
-          not_both p.node.is_static (ap (λ q. q.node.is_static) (some_is p s.top (sym e ∙ ap (slice_get nodes) (sym same) ∙ s.is_there)) ∙ s.is_static) h;
+          both_ways p.node.is_static h (ap (λ q. q.node.is_static) (same_Some p s.top (sym e ∙ ap (slice_get nodes) (sym same) ∙ s.is_there)) ∙ s.is_static);
     }
 
 -- a static node's number is below the table's length

@@ -1,24 +1,20 @@
 -- Each step of a script is one that its node may make.
-use Rattle.std.proofs.Common.{◌≡◌, ℕ, zero, suc, ◌+◌, ◌<◌, List, [], ◌∷◌, ◌++◌, Bool, cond, true, false, is_some, Some, All, length, drop, slice_get, refl, ap, subst, arith, length-append}
+use Rattle.std.proofs.Common.{◌≡◌, ℕ, zero, suc, ◌+◌, ◌<◌, List, [], ◌∷◌, ◌++◌, Bool, cond, true, false, is_some, Some, All, length, drop, slice_get, refl, subst, arith, length-append}
 use Rattle.std.proofs.lemmas.Option.{slice_get_within}
 use Rattle.std.proofs.lemmas.List.Elements.{All-nil, All-cons, All-head, All-tail, All-append, All-drop}
-use Rattle.tk_plan_units.specs.declared.nodes.Node.{Node}
-use Rattle.tk_plan_units.specs.declared.nodes.NumberedNode.{NumberedNode}
-use Rattle.tk_plan_units.specs.declared.steps.Act.{Act}
-use Rattle.tk_plan_units.specs.declared.steps.Act.TheVariants.{Register, Skip, Start, Report, File, Finish}
-use Rattle.tk_plan_units.specs.declared.steps.Move.{Move}
-use Rattle.tk_plan_units.specs.declared.steps.Step.{Step}
+use Rattle.tk_lemmas.proofs.Lists.{All_one}
+use Rattle.tk_plan_units.specs.declared.trees.nodes.Node.{Node}
+use Rattle.tk_plan_units.specs.declared.trees.nodes.NumberedNode.{NumberedNode}
+use Rattle.tk_plan_units.specs.declared.scripts.steps.Act.{Act}
+use Rattle.tk_plan_units.specs.declared.scripts.steps.Act.TheVariants.{Register, Skip, Start, Report, File, Finish}
+use Rattle.tk_plan_units.specs.declared.scripts.steps.Move.{Move}
+use Rattle.tk_plan_units.specs.declared.scripts.steps.Step.{Step}
 use Rattle.tk_plan_units.specs.Trees.{Tree, tree, Forest, no_trees, more, flat, flats, forest, IsForest}
 use Rattle.tk_plan_units.specs.Script.{move, each_act, opening, registration, moves, moves_below, stamped}
 use Rattle.tk_plan_units.specs.Numbers.{of_kind, in_order, IsNumbered}
 use Rattle.tk_plan_units.specs.Known.{Does, IsKnown}
 use Rattle.tk_plan_units.proofs.Ordering.{order_length, all_numbered}
-use Rattle.tk_plan_units.proofs.Parting.{all_prefix, all_back, all_single}
-
-pub seam_some : {A : Type 0} (xs ys : List A) (x : A) (k : ℕ) → k ≡ length xs → slice_get (xs ++ x ∷ ys) k ≡ Some x
-seam_some [] ys x k e = ap (slice_get (x ∷ ys)) e
-seam_some (z ∷ xs) ys x zero e = absurd (omega (arith, e))
-seam_some (z ∷ xs) ys x (suc k) e = seam_some xs ys x k (omega (arith, e))
+use Rattle.tk_plan_units.proofs.Parting.{all_prefix, all_back}
 
 item_there : {A : Type 0} (xs : List A) (j : ℕ) → j < length xs → is_some (slice_get xs j) ≡ true
 item_there [] j h = absurd (omega (arith, h))
@@ -54,14 +50,14 @@ module _ (nodes : List NumberedNode) where
   registration_by : (b : Bool) (parent k : ℕ) (n : Node) → n.is_static ≡ b → parent < length nodes → slice_get (in_order nodes) k ≡ Some n
       → All KnownMove (cond b [] (move k (Register parent) ∷ []))
   registration_by true parent k n f h e = All-nil KnownMove
-  registration_by false parent k n f h e = all_single KnownMove _ (record { node = n; is = e; within = order_within nodes k n e; does = (f, h) })
+  registration_by false parent k n f h e = All_one KnownMove _ (record { node = n; is = e; within = order_within nodes k n e; does = (f, h) })
 
   tree_by : (b : Bool) (k : ℕ) (n : Node) (f : Forest) → is_some n.skip ≡ b → slice_get (in_order nodes) k ≡ Some n → (k < length nodes → All KnownMove (moves_below k f))
       → All KnownMove (cond b (move k Skip ∷ []) (opening n k ++ (moves_below k f ++ move k Finish ∷ [])))
-  tree_by true k n f s e below = all_single KnownMove _ (record { node = n; is = e; within = order_within nodes k n e; does = s })
+  tree_by true k n f s e below = All_one KnownMove _ (record { node = n; is = e; within = order_within nodes k n e; does = s })
   tree_by false k n f s e below =
       All-append KnownMove (opening n k) _ (opening_known k n e)
-      (All-append KnownMove (moves_below k f) _ (below (order_within nodes k n e)) (all_single KnownMove _ (record { node = n; is = e; within = order_within nodes k n e; does = tt })))
+      (All-append KnownMove (moves_below k f) _ (below (order_within nodes k n e)) (All_one KnownMove _ (record { node = n; is = e; within = order_within nodes k n e; does = tt })))
 
   first_found : (t : Tree) (ps : List NumberedNode) → All Found (flat t ++ ps) → (parent : ℕ) → parent < length nodes → All KnownMove (registration parent t)
   first_found (tree n k f) ps h parent l = registration_by n.is_static parent k n refl l (All-head Found _ (flats f ++ ps) h)

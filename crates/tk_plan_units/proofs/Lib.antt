@@ -1,6 +1,7 @@
 pub mod Grows
 pub mod Moving
 pub mod Marking
+pub mod Masks
 pub mod Cuts
 pub mod Standing
 pub mod Planning

@@ -9,18 +9,9 @@ use Rattle.std.proofs.lemmas.Nat.Bits.{bit_at_or, bit_at-zero, bit_at-pow_same, 
 use Rattle.tk_book.specs.NeedView.{NeedView}
 use Rattle.tk_book.specs.Needs.{Access, nothing, reads, writes, access_of, access, weight, word_of}
 use Rattle.tk_book.proofs.Packing.{packed-same}
-use Rattle.tk_plan_units.specs.declared.nodes.NumberedNode.{NumberedNode}
+use Rattle.tk_plan_units.specs.declared.trees.nodes.NumberedNode.{NumberedNode}
 use Rattle.tk_plan_units.specs.Planned.{IsNeedOf, need_word, unit_asks}
 use Rattle.tk_plan_units.specs.LockNeeds.{over, at_resource}
-
-pub over-assoc : (a b c : Access) → over (over a b) c ≡ over a (over b c)
-over-assoc nothing b c = refl
-over-assoc reads nothing c = refl
-over-assoc reads reads nothing = refl
-over-assoc reads reads reads = refl
-over-assoc reads reads writes = refl
-over-assoc reads writes c = refl
-over-assoc writes b c = refl
 
 pub over-nothing : (a : Access) → over a nothing ≡ a
 over-nothing nothing = refl
@@ -41,12 +32,6 @@ write_marked zero zero = refl
 write_marked (suc r) zero = refl
 write_marked zero (suc w) = ap (access_of 0) (larger w)
 write_marked (suc r) (suc w) = ap (access_of (suc r)) (larger w)
-
-at-same : (k : ℕ) (a : Access) → at_resource (Some k) a k ≡ a
-at-same k a = grind arith
-
-at-other : (k r : ℕ) (a : Access) → r ≢ k → at_resource (Some k) a r ≡ nothing
-at-other k r a h = grind arith
 
 bit_same : (m k : ℕ) → bit_at (bit_or m (2 ^ k)) k ≡ max (bit_at m k) 1
 bit_same m k = bit_at_or m (2 ^ k) k ∙ ap (λ b. max (bit_at m k) b) (bit_at-pow_same k)
@@ -80,10 +65,6 @@ marks_read rs ws k h r = ap (λ b. access_of (bit_at (bit_or rs b) r) (bit_at ws
 pub marks_write : (rs ws k : ℕ) → k < 16 → (r : ℕ)
     → access_of (bit_at rs r) (bit_at (bit_or ws (1 * 2 ^ k % 65536)) r) ≡ over (access_of (bit_at rs r) (bit_at ws r)) (at_resource (Some k) writes r)
 marks_write rs ws k h r = ap (λ b. access_of (bit_at rs r) (bit_at (bit_or ws b) r)) (one_bit k h) ∙ write_by rs ws k r (eqb k r) refl
-
--- one more thing that is asked
-pub asked_next : (a b x y w : Access) → over b (over x y) ≡ w → a ≡ over b x → over a y ≡ w
-asked_next a b x y w e f = ap (λ v. over v y) f ∙ over-assoc b x y ∙ e
 
 pub none_marked : (r : ℕ) (a : Access) → over (access_of (bit_at 0 r) (bit_at 0 r)) a ≡ a
 none_marked r a = ap₂ (λ x y. over (access_of x y) a) (bit_at-zero r) (bit_at-zero r)

@@ -1,13 +1,13 @@
 -- What trees do, one tree after another.
-use Rattle.std.proofs.Common.{◌≡◌, ℕ, suc, ◌+◌, ◌-◌, ◌≤◌, List, [], ◌∷◌, ◌++◌, length, true, false, Bool, cond, is_some, Option, Some, None, refl, sym, ap, ap₂, ◌∙◌, arith, length-append, append_assoc, drop, take, get_or, ◌<◌, ◌==◌, ◌&&◌}
+use Rattle.std.proofs.Common.{◌≡◌, ℕ, suc, ◌+◌, ◌-◌, ◌≤◌, List, [], ◌∷◌, ◌++◌, length, true, false, Bool, cond, is_some, Option, Some, None, refl, sym, ap, ap₂, ◌∙◌, arith, length-append, append_assoc, drop, take, get_or, ◌<◌, ◌==◌}
 use Rattle.tk_plan_units.specs.Cutting.{is_leaf, all_concurrent}
-use Rattle.std.proofs.lemmas.List.{drop_more, drop_all, take_all}
+use Rattle.std.proofs.lemmas.List.{drop_more, take_all, nil_from_length}
 use Rattle.tk_plan_units.proofs.Grows.{forest_nil, forest-flats, is_forest, parted}
-use Rattle.tk_plan_units.specs.declared.steps.Act.{Act}
-use Rattle.tk_plan_units.specs.declared.steps.Act.TheVariants.{Report, File, Start, Finish}
-use Rattle.tk_plan_units.specs.declared.nodes.Node.{Node}
-use Rattle.tk_plan_units.specs.declared.nodes.NumberedNode.{NumberedNode}
-use Rattle.tk_plan_units.specs.declared.steps.Move.{Move}
+use Rattle.tk_plan_units.specs.declared.scripts.steps.Act.{Act}
+use Rattle.tk_plan_units.specs.declared.scripts.steps.Act.TheVariants.{Report, File, Start, Finish}
+use Rattle.tk_plan_units.specs.declared.trees.nodes.Node.{Node}
+use Rattle.tk_plan_units.specs.declared.trees.nodes.NumberedNode.{NumberedNode}
+use Rattle.tk_plan_units.specs.declared.scripts.steps.Move.{Move}
 use Rattle.tk_plan_units.specs.Trees.{Tree, tree, Forest, no_trees, more, flat, flats, grow, forest, IsForest, IsSplit}
 use Rattle.tk_plan_units.specs.Script.{each_act, move, opening, registration, moves, moves_below}
 use Rattle.tk_plan_units.specs.Script.{stamped}
@@ -59,18 +59,10 @@ pub concurrent_end : (ps : List NumberedNode) → length ps < 1 → all_concurre
 concurrent_end [] h = ap all_concurrent forest_nil
 concurrent_end (p ∷ ps) h = absurd (omega arith)
 
-pub concurrent_next : (p : NumberedNode) (after below others : List NumberedNode) → IsSplit p after below others
-    → all_concurrent (forest (p ∷ after)) ≡ ((p.node.is_static && p.node.is_concurrent) && all_concurrent (forest others))
-concurrent_next p after below others s = ap all_concurrent s.trees
-
 pub pushed : (olds news xs ys : List Move) (m : Move) → news ≡ olds ++ m ∷ [] → ys ≡ m ∷ xs → olds ++ ys ≡ news ++ xs
 pushed olds news xs ys m e f = ap (λ l. olds ++ l) f ∙ sym (append_assoc olds (m ∷ []) xs) ∙ ap (λ l. l ++ xs) (sym e)
 
 -- ---- one more tree
-
-pub below_next : (parent : ℕ) (p : NumberedNode) (after below others : List NumberedNode) → IsSplit p after below others
-    → moves_below parent (forest (p ∷ after)) ≡ registration parent (tree p.node p.number (forest below)) ++ (moves (tree p.node p.number (forest below)) ++ moves_below parent (forest others))
-below_next parent p after below others s = ap (moves_below parent) s.trees
 
 pub below_end : (parent : ℕ) (ps : List NumberedNode) → length ps < 1 → moves_below parent (forest ps) ≡ []
 below_end parent [] h = ap (moves_below parent) forest_nil
@@ -78,18 +70,6 @@ below_end parent (p ∷ ps) h = absurd (omega arith)
 
 pub acts_next : {X : Type 0} (act : ℕ → Act) (k i : ℕ) (xs : List (List X)) → i < length xs → each_act act k i (drop i xs) ≡ record { node = k; act = act i } ∷ each_act act k (i + 1) (drop (i + 1) xs)
 acts_next act k i xs h = ap (each_act act k i) (drop_more xs i [] h)
-
-pub acts_end : {X : Type 0} (act : ℕ → Act) (k i : ℕ) (xs : List (List X)) → length xs ≤ i → each_act act k i (drop i xs) ≡ []
-acts_end act k i xs h = ap (each_act act k i) (drop_all i xs h)
-
-pub stamped_next : (n i : ℕ) (ms : List Move) (m : Move) → i < length ms → m ≡ get_or ms i m
-    → stamped (n + i) (drop i ms) ≡ record { node = m.node; stamp = n + i; act = m.act } ∷ stamped (n + (i + 1)) (drop (i + 1) ms)
-stamped_next n i ms m h e =
-    ap (stamped (n + i)) (drop_more ms i m h ∙ ap (λ y. y ∷ drop (i + 1) ms) (sym e))
-    ∙ ap (λ j. record { node = m.node; stamp = n + i; act = m.act } ∷ stamped j (drop (i + 1) ms)) (omega arith)
-
-pub stamped_end : (n i : ℕ) (ms : List Move) → length ms ≤ i → stamped (n + i) (drop i ms) ≡ []
-stamped_end n i ms h = ap (stamped (n + i)) (drop_all i ms h)
 
 pub weights_end : (ps : List NumberedNode) → length ps < 1 → weights (forest ps) ≡ 0
 weights_end [] h = ap weights forest_nil
@@ -163,9 +143,6 @@ pub tree_within : (p : NumberedNode) (after below others : List NumberedNode) �
     → weight (tree p.node p.number (forest below)) + weights (forest others) ≤ weights (forest (p ∷ after))
 tree_within p after below others s = omega (arith, ap weights s.trees)
 
-pub open_is : (n : Node) (k : ℕ) (f : Forest) → is_some n.skip ≡ false → weight (tree n k f) ≡ 2 + publications n + weights f
-open_is n k f e = ap (λ b. cond b 1 (2 + publications n + weights f)) e
-
 -- a node that starts and finishes gives no other move
 pub short_moves : (n : Node) (k : ℕ) (below : List NumberedNode) → IsShort n below → moves (tree n k (forest below)) ≡ move k Start ∷ move k Finish ∷ []
 unfolding forest grow
@@ -186,10 +163,6 @@ no_weight (p ∷ ps) e =
     let some = weight_some top in
     absurd (omega (arith, e))
 
-nothing : {A : Type 0} (xs : List A) → length xs ≡ 0 → xs ≡ []
-nothing [] e = refl
-nothing (x ∷ xs) e = absurd (omega (arith, e))
-
 none_of : {A : Type 0} (o : Option A) → is_some o ≡ false → o ≡ None
 none_of None e = refl
 none_of (Some x) e = cc
@@ -209,6 +182,6 @@ two_steps n k below i e =
     record {
       alone = no_weight below (omega (arith, two.1));
       runs = none_of n.skip two.0;
-      no_entries = nothing n.entries (omega (arith, two.1));
-      no_files = nothing n.files (omega (arith, two.1));
+      no_entries = nil_from_length n.entries (omega (arith, two.1));
+      no_files = nil_from_length n.files (omega (arith, two.1));
     }

@@ -1,8 +1,9 @@
 -- The nodes at the places of their numbers.
 use Rattle.std.proofs.Common.{◌≡◌, ℕ, zero, suc, ◌+◌, ◌<◌, List, [], ◌∷◌, ◌++◌, Bool, cond, true, false, length, drop, map, get_or, All, Some, slice_get, slice_index_or, refl, sym, ap, ap₂, ◌∙◌, subst, arith, length-append, append_assoc}
 use Rattle.std.proofs.lemmas.List.{drop_more}
-use Rattle.tk_plan_units.specs.declared.nodes.NumberedNode.{NumberedNode}
-use Rattle.tk_plan_units.specs.declared.nodes.Node.{Node}
+use Rattle.tk_lemmas.proofs.Lists.{get_at_seam}
+use Rattle.tk_plan_units.specs.declared.trees.nodes.NumberedNode.{NumberedNode}
+use Rattle.tk_plan_units.specs.declared.trees.nodes.Node.{Node}
 use Rattle.tk_plan_units.specs.Numbers.{IsNumbered, numbered_from, with_number, of_kind, in_order, top_node, at_positions, ArePositionsByNumber}
 
 -- the numbers that nodes take
@@ -71,11 +72,6 @@ placed_all nodes one two none some all f g e a b w = record {
 
 -- ---- a node's number is its place in that order
 
-seam_get : (xs ys : List Node) (n : Node) (k : ℕ) → k ≡ length xs → slice_get (xs ++ n ∷ ys) k ≡ Some n
-seam_get [] ys n k e = ap (slice_get (n ∷ ys)) e
-seam_get (x ∷ xs) ys n zero e = absurd (omega (arith, e))
-seam_get (x ∷ xs) ys n (suc k) e = seam_get xs ys n k (omega (arith, e))
-
 numbered_at : (b : Bool) (ps : List NumberedNode) (p : NumberedNode) (xs ys all : List Node) (s d k : ℕ) (q : NumberedNode)
     → p.node.is_static ≡ b
     → s ≡ length xs → d ≡ length (xs ++ of_kind true (p ∷ ps)) + length ys
@@ -87,7 +83,7 @@ numbered_at true ps p xs ys all s d zero q f es ed ea more l =
     let top : of_kind true (p ∷ ps) ≡ p.node ∷ of_kind true ps = ap (λ b. cond b (p.node ∷ of_kind true ps) (of_kind true ps)) f in
     ap (λ b. slice_get all (get_or (cond b (s ∷ numbers (s + 1) d ps) (d ∷ numbers s (d + 1) ps)) 0 0)) f
     ∙ ap (λ a. slice_get a s) (ea ∙ ap (λ t. (xs ++ t) ++ (ys ++ of_kind false (p ∷ ps))) top ∙ append_assoc xs (p.node ∷ of_kind true ps) _)
-    ∙ seam_get xs _ p.node s es
+    ∙ get_at_seam xs _ p.node s es
 numbered_at true ps p xs ys all s d (suc k) q f es ed ea more l =
     let top : of_kind true (p ∷ ps) ≡ p.node ∷ of_kind true ps = ap (λ b. cond b (p.node ∷ of_kind true ps) (of_kind true ps)) f in
     let bottom : of_kind false (p ∷ ps) ≡ of_kind false ps = ap (λ b. cond b (of_kind false ps) (p.node ∷ of_kind false ps)) f in
@@ -99,7 +95,7 @@ numbered_at false ps p xs ys all s d zero q f es ed ea more l =
     let prefix : List Node = xs ++ of_kind true (p ∷ ps) in
     ap (λ b. slice_get all (get_or (cond b (s ∷ numbers (s + 1) d ps) (d ∷ numbers s (d + 1) ps)) 0 0)) f
     ∙ ap (λ a. slice_get a d) (ea ∙ ap (λ t. prefix ++ (ys ++ t)) bottom ∙ sym (append_assoc prefix ys (p.node ∷ of_kind false ps)))
-    ∙ seam_get (prefix ++ ys) (of_kind false ps) p.node d (ed ∙ sym (length-append prefix ys))
+    ∙ get_at_seam (prefix ++ ys) (of_kind false ps) p.node d (ed ∙ sym (length-append prefix ys))
 numbered_at false ps p xs ys all s d (suc k) q f es ed ea more l =
     let top : of_kind true (p ∷ ps) ≡ of_kind true ps = ap (λ b. cond b (p.node ∷ of_kind true ps) (of_kind true ps)) f in
     let bottom : of_kind false (p ∷ ps) ≡ p.node ∷ of_kind false ps = ap (λ b. cond b (of_kind false ps) (p.node ∷ of_kind false ps)) f in

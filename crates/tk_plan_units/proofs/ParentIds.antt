@@ -2,11 +2,12 @@
 use Rattle.std.proofs.Common.{◌≡◌, ℕ, zero, suc, ◌+◌, ◌≤◌, ◌<◌, ◌⊎◌, inl, inr, List, [], ◌∷◌, ◌++◌, Bool, cond, true, false, Some, length, take, slice_get, refl, sym, ap, ap₂, ◌∙◌, subst, arith, length-append, append_assoc, append-nil}
 use Rattle.std.proofs.Math.Seq.{take-append_seam}
 use Rattle.std.proofs.lemmas.Option.{slice_get_within}
+use Rattle.tk_lemmas.proofs.Lists.{get_at_seam}
 use Rattle.tk_ids.specs.IdText.{SegmentView, parent_of}
 use Rattle.tk_ids.specs.declared.descriptors.Descriptor.{Descriptor}
 use Rattle.tk_ids.specs.Table.{ids_of}
-use Rattle.tk_plan_units.specs.declared.nodes.Node.{Node}
-use Rattle.tk_plan_units.specs.declared.nodes.NumberedNode.{NumberedNode}
+use Rattle.tk_plan_units.specs.declared.trees.nodes.Node.{Node}
+use Rattle.tk_plan_units.specs.declared.trees.nodes.NumberedNode.{NumberedNode}
 use Rattle.tk_plan_units.specs.Trees.{Tree, tree, Forest, no_trees, more, flat, flats, forest, IsForest}
 use Rattle.tk_plan_units.specs.Numbers.{of_kind, with_number, numbered_from, IsNumbered}
 use Rattle.tk_plan_units.specs.Ids.{descriptor, descriptors, descriptors_below}
@@ -15,7 +16,6 @@ use Rattle.tk_plan_units.specs.Planned.{IsPlanned, is_rooted}
 use Rattle.tk_plan_units.proofs.Describing.{descriptors-length, statics-append, statics_length}
 use Rattle.tk_plan_units.proofs.Keying.{some_is}
 use Rattle.tk_plan_units.proofs.Grows.{forest_nil}
-use Rattle.tk_plan_units.proofs.Knowing.{seam_some}
 
 -- ---- numbers in preorder
 
@@ -102,7 +102,7 @@ module _ (table : List Descriptor) where
   id_at : (pre post : List Descriptor) (d : Descriptor) (s : ℕ) → table ≡ pre ++ d ∷ post → s ≡ length pre → slice_get (ids_of table) s ≡ Some d.id
   id_at pre post d s e h =
       ap (λ l. slice_get (ids_of l) s) e ∙ ap (λ l. slice_get l s) (ids-append pre (d ∷ post))
-      ∙ seam_some (ids_of pre) (ids_of post) d.id s (h ∙ sym (ids-length pre))
+      ∙ get_at_seam (ids_of pre) (ids_of post) d.id s (h ∙ sym (ids-length pre))
 
   node_by : (b : Bool) (above : List SegmentView) (a s k : ℕ) (n : Node) (f : Forest) (pre post : List Descriptor)
       → ((id : List SegmentView) (s : ℕ) (pre : List Descriptor) → table ≡ pre ++ (descriptors_below id f ++ post) → s ≡ length pre → Placed (length table) s (flats f) → IsAbove k id → Related s (parents_below k f))

@@ -9,6 +9,3 @@ all_prefix P (x ∷ xs) ys h = All-cons P x xs (All-head P x (xs ++ ys) h) (all_
 pub all_back : {A : Type 0} (P : A → Type 0) (xs ys : List A) → All P (xs ++ ys) → All P ys
 all_back P [] ys h = h
 all_back P (x ∷ xs) ys h = all_back P xs ys (All-tail P x (xs ++ ys) h)
-
-pub all_single : {A : Type 0} (P : A → Type 0) (x : A) → P x → All P (x ∷ [])
-all_single P x h = All-cons P x [] h (All-nil P)

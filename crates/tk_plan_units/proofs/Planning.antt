@@ -1,11 +1,11 @@
 -- What was cut of the root is what a plan keeps.
 use Rattle.std.proofs.Common.{◌≡◌, ℕ, zero, suc, ◌+◌, ◌≤◌, ◌<◌, List, [], ◌∷◌, ◌++◌, length, drop, map, flat_map, All, true, refl, sym, ap, ap₂, ◌∙◌, subst, arith, append-nil, append_assoc, Option, None}
 use Rattle.tk_limits.specs.declared.limits.TheConstants.{MAX_EVENTS}
-use Rattle.tk_plan_units.specs.declared.steps.Move.{Move}
-use Rattle.tk_plan_units.specs.declared.steps.Step.{Step}
-use Rattle.tk_plan_units.specs.declared.nodes.NumberedNode.{NumberedNode}
-use Rattle.tk_plan_units.specs.declared.cuttings.Cutting.{Cutting}
-use Rattle.tk_plan_units.specs.declared.cuttings.PlanUnit.{PlanUnit}
+use Rattle.tk_plan_units.specs.declared.scripts.steps.Move.{Move}
+use Rattle.tk_plan_units.specs.declared.scripts.steps.Step.{Step}
+use Rattle.tk_plan_units.specs.declared.trees.nodes.NumberedNode.{NumberedNode}
+use Rattle.tk_plan_units.specs.declared.units.cuttings.Cutting.{Cutting}
+use Rattle.tk_plan_units.specs.declared.units.cuttings.PlanUnit.{PlanUnit}
 use Rattle.tk_plan_units.specs.Trees.{forest, IsForest, contents, number_of, tree}
 use Rattle.tk_plan_units.specs.steps.Trees.{HasTreeAt}
 use Rattle.tk_plan_units.specs.Weights.{weight, weights}

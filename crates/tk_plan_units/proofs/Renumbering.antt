@@ -4,7 +4,7 @@ use Rattle.std.proofs.lemmas.List.{drop-map, take-map, length-map}
 use Rattle.std.specs.List.{list_all}
 use Rattle.tk_ids.specs.IdText.{SegmentView}
 use Rattle.tk_ids.specs.declared.descriptors.Descriptor.{Descriptor}
-use Rattle.tk_plan_units.specs.declared.nodes.NumberedNode.{NumberedNode}
+use Rattle.tk_plan_units.specs.declared.trees.nodes.NumberedNode.{NumberedNode}
 use Rattle.tk_plan_units.specs.Trees.{Tree, tree, Forest, no_trees, more, grow, forest, contents}
 use Rattle.tk_plan_units.specs.Weights.{publications, weight, weights}
 use Rattle.tk_plan_units.specs.Numbers.{with_number, numbered_from, numbered, of_kind, IsNumbered}

@@ -3,6 +3,8 @@ use Rattle.std.proofs.Common.{◌≡◌, ◌≢◌, ℕ, zero, suc, ◌+◌, ◌
 use Rattle.std.specs.List.{list_all}
 use Rattle.std.proofs.lemmas.Option.{slice_get-get_or}
 use Rattle.std.proofs.lemmas.List.Elements.{All-nil, All-cons, All-head, All-tail, All-append}
+use Rattle.std.proofs.lemmas.Bool.{and_parts}
+use Rattle.tk_lemmas.proofs.Lists.{All_one}
 use Rattle.tk_limits.specs.declared.limits.TheConstants.{MAX_EVENTS}
 use Rattle.tk_ids.specs.declared.tables.TheConstants.{MAX_DESCRIPTORS}
 use Rattle.tk_ids.specs.declared.descriptors.Descriptor.{Descriptor}
@@ -11,8 +13,8 @@ use Rattle.tk_events.specs.declared.kinds.Kind.TheVariants.{Dynamic, Finished, R
 use Rattle.tk_events.specs.declared.payloads.Payload.{Payload}
 use Rattle.tk_events.specs.declared.payloads.Payload.TheVariants.{Outcome, Report, Path}
 use Rattle.tk_events.specs.Event.{is_lawful}
-use Rattle.tk_plan_units.specs.declared.nodes.Node.{Node}
-use Rattle.tk_plan_units.specs.declared.nodes.NumberedNode.{NumberedNode}
+use Rattle.tk_plan_units.specs.declared.trees.nodes.Node.{Node}
+use Rattle.tk_plan_units.specs.declared.trees.nodes.NumberedNode.{NumberedNode}
 use Rattle.tk_plan_units.specs.Trees.{Tree, tree, Forest, no_trees, more, flat, flats, forest, IsForest, contents}
 use Rattle.tk_plan_units.specs.Script.{moves, opening}
 use Rattle.tk_plan_units.specs.Events.{event, published, entry_event, file_event, opening_events, finish_event, IsStatic, AreStatic}
@@ -21,18 +23,18 @@ use Rattle.tk_plan_units.specs.Numbers.{IsNumbered, of_kind}
 use Rattle.tk_plan_units.specs.Ids.{ids_below}
 use Rattle.tk_plan_units.specs.Planned.{IsPlanned, is_lawful_node}
 use Rattle.tk_plan_units.proofs.Moving.{length-opening}
-use Rattle.tk_plan_units.proofs.Cuts.{if_both, spine_facts, parts_below-moves, from_each-append}
+use Rattle.tk_plan_units.proofs.Cuts.{spine_facts, parts_below-moves, from_each-append}
 use Rattle.tk_plan_units.proofs.Keying.{key_within, ids_below-length}
 use Rattle.tk_plan_units.proofs.Founding.{rooted_static}
 use Rattle.tk_plan_units.proofs.Describing.{statics-append, statics_length}
 use Rattle.tk_plan_units.proofs.Planning.{counted}
-use Rattle.tk_plan_units.proofs.Parting.{all_prefix, all_back, all_single}
+use Rattle.tk_plan_units.proofs.Parting.{all_prefix, all_back}
 
 abbrev top_static : Tree → Bool
 top_static (tree n k f) = n.is_static
 
-static_both : (t : Tree) (f : Forest) → all_static (more t f) ≡ true → (top_static t ≡ true) × (all_static f ≡ true)
-static_both (tree n k g) f e = if_both n.is_static (all_static f) e
+pub static_both : (t : Tree) (f : Forest) → all_static (more t f) ≡ true → (top_static t ≡ true) × (all_static f ≡ true)
+static_both (tree n k g) f e = and_parts n.is_static (all_static f) e
 
 module _ (table : List Descriptor) where
   -- a node that may stand on the spine under that number
@@ -51,8 +53,8 @@ module _ (table : List Descriptor) where
 
   part_by : (b : Bool) (n : Node) (k : ℕ) (f : Forest) → Fit n k → (b ≡ true → All FitPart (parts_below false f))
       → All FitPart (cond b (spine_begins n k ∷ (parts_below false f ++ spine_ends n k ∷ [])) (whole_unit (tree n k f) ∷ []))
-  part_by true n k f fit below = All-cons FitPart (spine_begins n k) _ fit (All-append FitPart (parts_below false f) (spine_ends n k ∷ []) (below refl) (all_single FitPart (spine_ends n k) fit))
-  part_by false n k f fit below = all_single FitPart (whole_unit (tree n k f)) tt
+  part_by true n k f fit below = All-cons FitPart (spine_begins n k) _ fit (All-append FitPart (parts_below false f) (spine_ends n k ∷ []) (below refl) (All_one FitPart (spine_ends n k) fit))
+  part_by false n k f fit below = All_one FitPart (whole_unit (tree n k f)) tt
 
   mutual
     parts_fit : (b : Bool) (t : Tree) → top_static t ≡ true → All FitPlaced (flat t) → All FitPart (parts b t)
@@ -73,13 +75,13 @@ module _ (table : List Descriptor) where
       → All (IsStatic table) (published (λ j y. event kind k j (payload y)) i xs)
   published_static kind payload other k i [] l h = All-nil (IsStatic table)
   published_static kind payload other k i (x ∷ xs) l h =
-      let both = if_both (is_lawful kind (payload x)) _ h in
+      let both = and_parts (is_lawful kind (payload x)) _ h in
       All-cons (IsStatic table) _ (published (λ j y. event kind k j (payload y)) (i + 1) xs) (record { known = l; lawful = both.0; registers_none = other }) (published_static kind payload other k (i + 1) xs l both.1)
 
   begun_static : (k i : ℕ) (n : Node) → Fit n k → All (IsStatic table) (opening_events k i n)
   begun_static k i n fit =
-      let own = if_both (is_lawful Finished (Outcome n.status n.message)) _ fit.0 in
-      let both = if_both (list_all (λ e. is_lawful Reporting (Report e)) n.entries) _ own.1 in
+      let own = and_parts (is_lawful Finished (Outcome n.status n.message)) _ fit.0 in
+      let both = and_parts (list_all (λ e. is_lawful Reporting (Report e)) n.entries) _ own.1 in
       All-cons (IsStatic table) _ _ (record { known = fit.1; lawful = refl; registers_none = λ same. cc })
       (All-append (IsStatic table) (published (entry_event k) (i + 1) n.entries) (published (file_event k) (i + 1 + length n.entries) n.files)
       (published_static Reporting Report (λ same. cc) k (i + 1) n.entries fit.1 both.0)
@@ -87,7 +89,7 @@ module _ (table : List Descriptor) where
 
   ended_static : (k i : ℕ) (n : Node) → Fit n k → All (IsStatic table) (finish_event k i n ∷ [])
   ended_static k i n fit =
-      all_single (IsStatic table) _ (record { known = fit.1; lawful = (if_both (is_lawful Finished (Outcome n.status n.message)) _ fit.0).0; registers_none = λ same. cc })
+      All_one (IsStatic table) _ (record { known = fit.1; lawful = (and_parts (is_lawful Finished (Outcome n.status n.message)) _ fit.0).0; registers_none = λ same. cc })
 
   heads_static : (i : ℕ) (ps : List Part) → All FitPart ps → All (IsStatic table) (from_each begin_events i ps)
   heads_static i [] h = All-nil (IsStatic table)
@@ -128,8 +130,8 @@ tails_few i (spine_ends n k ∷ ps) = omega (arith, tails_few (i + 1) ps)
 
 lawful_at : (ps : List NumberedNode) (k : ℕ) (d : NumberedNode) → list_all is_lawful_node (contents ps) ≡ true → k < length ps → is_lawful_node (slice_index_or ps k d).node ≡ true
 lawful_at [] k d h l = absurd (omega arith)
-lawful_at (p ∷ ps) zero d h l = (if_both (is_lawful_node p.node) _ h).0
-lawful_at (p ∷ ps) (suc k) d h l = lawful_at ps k d (if_both (is_lawful_node p.node) _ h).1 (omega (arith, l))
+lawful_at (p ∷ ps) zero d h l = (and_parts (is_lawful_node p.node) _ h).0
+lawful_at (p ∷ ps) (suc k) d h l = lawful_at ps k d (and_parts (is_lawful_node p.node) _ h).1 (omega (arith, l))
 
 nodes_fit : (nodes : List NumberedNode) (table : List Descriptor) → IsPlanned nodes table → IsNumbered nodes → All (FitPlaced table) nodes
 unfolding IsForest

@@ -3,8 +3,8 @@ use Rattle.std.proofs.Common.{◌≡◌, ℕ, ◌+◌, ◌≤◌, ◌<◌, List,
 use Rattle.std.proofs.lemmas.List.{drop_more, drop_all, get_or-drop}
 use Rattle.tk_limits.specs.declared.limits.TheConstants.{MAX_EVENTS}
 use Rattle.tk_events.specs.declared.events.Event.{Event}
-use Rattle.tk_plan_units.specs.declared.nodes.NumberedNode.{NumberedNode}
-use Rattle.tk_plan_units.specs.declared.cuttings.SpineStamp.{SpineStamp}
+use Rattle.tk_plan_units.specs.declared.trees.nodes.NumberedNode.{NumberedNode}
+use Rattle.tk_plan_units.specs.declared.units.cuttings.SpineStamp.{SpineStamp}
 use Rattle.tk_plan_units.specs.Events.{opening_events, finish_event}
 use Rattle.tk_plan_units.specs.Weights.{publications}
 use Rattle.tk_plan_units.specs.CuttingSteps.{HasStampAt, HasNode, begin_events_of_spine, end_events_of_spine, begin_events_at, end_events_at}

@@ -1,19 +1,19 @@
 -- The spine's events are its steps.
 use Rattle.std.proofs.Common.{◌≡◌, ℕ, ◌+◌, List, [], ◌∷◌, ◌++◌, unwrap_or, map, flat_map, length, slice_get, true, Bool, Some, refl, sym, ap, ap₂, ◌∙◌, arith, length-append, append_assoc}
 use Rattle.std.proofs.lemmas.List.{map-append}
+use Rattle.tk_lemmas.proofs.Lists.{get_at_seam}
 use Rattle.tk_events.specs.declared.kinds.Kind.{Kind}
 use Rattle.tk_events.specs.declared.kinds.Kind.TheVariants as kinds
 use Rattle.tk_events.specs.declared.payloads.Payload.{Payload}
 use Rattle.tk_events.specs.declared.payloads.Payload.TheVariants as payloads
-use Rattle.tk_plan_units.specs.declared.nodes.Node.{Node}
-use Rattle.tk_plan_units.specs.declared.steps.Act.{Act}
-use Rattle.tk_plan_units.specs.declared.steps.Act.TheVariants.{Report, File, Finish}
+use Rattle.tk_plan_units.specs.declared.trees.nodes.Node.{Node}
+use Rattle.tk_plan_units.specs.declared.scripts.steps.Act.{Act}
+use Rattle.tk_plan_units.specs.declared.scripts.steps.Act.TheVariants.{Report, File, Finish}
 use Rattle.tk_plan_units.specs.Trees.{Forest}
 use Rattle.tk_plan_units.specs.Script.{move, each_act, opening, stamped}
 use Rattle.tk_plan_units.specs.Events.{event, published, entry_event, file_event, opening_events, finish_event}
 use Rattle.tk_plan_units.specs.StepEvents.{kind_of, payload_of, event_of_step}
 use Rattle.tk_plan_units.specs.Cutting.{Part, parts_below, moves_of, from_each, all_static, root_script}
-use Rattle.tk_plan_units.proofs.Knowing.{seam_some}
 use Rattle.tk_plan_units.proofs.Moving.{length-acts}
 use Rattle.tk_plan_units.proofs.Planning.{stamped-append}
 use Rattle.tk_plan_units.proofs.Cuts.{parts_below-moves}
@@ -26,7 +26,7 @@ acts_emitted : {A : Type 0} (kind : Kind) (payload : A → Payload) (act : ℕ �
 acts_emitted kind payload act k n is all says prefix [] i j f g = refl
 acts_emitted kind payload act k n is all says prefix (x ∷ xs) i j f g =
     ap₂ (λ e l. e ∷ l)
-    (ap₂ (λ d p. event d k i p) (sym (is j)) (sym (says j x (ap (λ l. slice_get l j) f ∙ seam_some prefix xs x j g))))
+    (ap₂ (λ d p. event d k i p) (sym (is j)) (sym (says j x (ap (λ l. slice_get l j) f ∙ get_at_seam prefix xs x j g))))
     (acts_emitted kind payload act k n is all says (prefix ++ x ∷ []) xs (i + 1) (j + 1) (f ∙ sym (append_assoc prefix (x ∷ []) xs)) (omega (arith, g, length-append prefix (x ∷ []))))
 
 entries_emitted : (n : Node) (k i : ℕ) → published (entry_event k) i n.entries ≡ map (event_of_step n) (stamped i (each_act Report k 0 n.entries))

@@ -1,9 +1,9 @@
 -- What the script of a unit is, by the unit's tree.
 use Rattle.std.proofs.Common.{◌≡◌, ℕ, zero, suc, ◌+◌, ◌≤◌, ◌<◌, List, [], ◌∷◌, length, All, Some, slice_get, get_or, ap, sym, ◌∙◌, subst, refl, arith}
 use Rattle.tk_limits.specs.declared.limits.TheConstants.{MAX_EVENTS}
-use Rattle.tk_plan_units.specs.declared.nodes.NumberedNode.{NumberedNode}
-use Rattle.tk_plan_units.specs.declared.cuttings.Cutting.{Cutting}
-use Rattle.tk_plan_units.specs.declared.cuttings.PlanUnit.{PlanUnit}
+use Rattle.tk_plan_units.specs.declared.trees.nodes.NumberedNode.{NumberedNode}
+use Rattle.tk_plan_units.specs.declared.units.cuttings.Cutting.{Cutting}
+use Rattle.tk_plan_units.specs.declared.units.cuttings.PlanUnit.{PlanUnit}
 use Rattle.tk_plan_units.specs.Trees.{Tree, forest}
 use Rattle.tk_plan_units.specs.Weights.{weight}
 use Rattle.tk_plan_units.specs.Script.{moves, stamped}

@@ -2,8 +2,8 @@
 use Rattle.std.specs.Prelude.{◌≡◌, ◌≤◌, ℕ, List, All, true}
 use Rattle.tk_limits.specs.declared.limits.TheConstants.{MAX_EVENTS}
 use Rattle.tk_ids.specs.declared.descriptors.Descriptor.{Descriptor}
-use Rattle.tk_plan_units.specs.declared.nodes.NumberedNode.{NumberedNode}
-use Rattle.tk_plan_units.specs.declared.cuttings.Cutting.{Cutting}
+use Rattle.tk_plan_units.specs.declared.trees.nodes.NumberedNode.{NumberedNode}
+use Rattle.tk_plan_units.specs.declared.units.cuttings.Cutting.{Cutting}
 use Rattle.tk_plan_units.specs.Trees.{IsForest, forest, contents}
 use Rattle.tk_plan_units.specs.Weights.{weights}
 use Rattle.tk_plan_units.specs.Cutting.{all_static, spine_of, units_of, pieces_of, before_of}

@@ -2,12 +2,12 @@
 use Rattle.std.specs.Prelude.{ℕ, ◌+◌, ◌&&◌, ◌||◌, ◌==◌, List, [], ◌∷◌, ◌++◌, length, slice_get}
 use Rattle.std.specs.Prelude.{Option, Some, None, map, flat_map, Bool, true, false, not, is_some}
 use Rattle.std.specs.Prelude.{if◌then◌else◌}
-use Rattle.tk_plan_units.specs.declared.nodes.Node.{Node}
+use Rattle.tk_plan_units.specs.declared.trees.nodes.Node.{Node}
 use Rattle.tk_ids.specs.DTypes.{is_container}
 use Rattle.tk_events.specs.declared.events.Event.{Event}
-use Rattle.tk_plan_units.specs.declared.steps.Act.TheVariants.{Finish}
-use Rattle.tk_plan_units.specs.declared.steps.Move.{Move}
-use Rattle.tk_plan_units.specs.declared.steps.Step.{Step}
+use Rattle.tk_plan_units.specs.declared.scripts.steps.Act.TheVariants.{Finish}
+use Rattle.tk_plan_units.specs.declared.scripts.steps.Move.{Move}
+use Rattle.tk_plan_units.specs.declared.scripts.steps.Step.{Step}
 use Rattle.tk_plan_units.specs.Trees.{Tree, tree, Forest, no_trees, more, number_of}
 use Rattle.tk_plan_units.specs.Script.{move, moves, moves_below, opening, stamped}
 use Rattle.tk_plan_units.specs.Events.{opening_events, finish_event}

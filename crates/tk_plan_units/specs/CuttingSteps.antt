@@ -3,9 +3,9 @@ use Rattle.std.specs.Prelude.{◌≡◌, ◌≤◌, ℕ, suc, ◌+◌, List, [],
 use Rattle.std.specs.Prelude.{flat_map}
 use Rattle.tk_limits.specs.declared.limits.TheConstants.{MAX_EVENTS}
 use Rattle.tk_events.specs.declared.events.Event.{Event}
-use Rattle.tk_plan_units.specs.declared.nodes.NumberedNode.{NumberedNode}
-use Rattle.tk_plan_units.specs.declared.cuttings.PlanUnit.{PlanUnit}
-use Rattle.tk_plan_units.specs.declared.cuttings.SpineStamp.{SpineStamp}
+use Rattle.tk_plan_units.specs.declared.trees.nodes.NumberedNode.{NumberedNode}
+use Rattle.tk_plan_units.specs.declared.units.cuttings.PlanUnit.{PlanUnit}
+use Rattle.tk_plan_units.specs.declared.units.cuttings.SpineStamp.{SpineStamp}
 use Rattle.tk_plan_units.specs.Trees.{IsForest, forest, tree, first_tree, contents}
 use Rattle.tk_plan_units.specs.Events.{opening_events, finish_event}
 use Rattle.tk_plan_units.specs.Cutting.{Piece}

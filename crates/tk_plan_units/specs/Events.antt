@@ -9,7 +9,7 @@ use Rattle.tk_events.specs.declared.payloads.Payload.{Payload}
 use Rattle.tk_events.specs.declared.payloads.Payload.TheVariants.{Nothing, Outcome, Report, Path}
 use Rattle.tk_events.specs.declared.events.Event.{Event}
 use Rattle.tk_events.specs.Event.{is_lawful}
-use Rattle.tk_plan_units.specs.declared.nodes.Node.{Node}
+use Rattle.tk_plan_units.specs.declared.trees.nodes.Node.{Node}
 
 abbrev pub event : Kind → ℕ → ℕ → Payload → Event
 event kind key stamp payload = record { kind = kind; key = key; stamp = stamp; payload = payload }

@@ -2,8 +2,8 @@
 use Rattle.std.specs.Prelude.{ℕ, ◌||◌, ◌++◌, List, [], ◌∷◌, if◌then◌else◌, codes, flat_map}
 use Rattle.std.specs.List.{list_any}
 use Rattle.std.specs.Str.{bytes_eq}
-use Rattle.tk_plan_units.specs.declared.nodes.Lock.{Lock}
-use Rattle.tk_plan_units.specs.declared.nodes.Node.{Node}
+use Rattle.tk_plan_units.specs.declared.trees.nodes.Lock.{Lock}
+use Rattle.tk_plan_units.specs.declared.trees.nodes.Node.{Node}
 
 -- the keys with one more, unless it is there or is `global`, which has a resource of its own
 abbrev pub note_key : List (List ℕ) → List ℕ → List (List ℕ)

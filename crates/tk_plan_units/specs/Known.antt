@@ -1,10 +1,10 @@
 -- What a step requires of its node.
 use Rattle.std.specs.Prelude.{◌≡◌, ℕ, ◌<◌, List, Some, IsSome, false, length, slice_get}
-use Rattle.tk_plan_units.specs.declared.nodes.Node.{Node}
-use Rattle.tk_plan_units.specs.declared.nodes.NumberedNode.{NumberedNode}
-use Rattle.tk_plan_units.specs.declared.steps.Act.{Act}
-use Rattle.tk_plan_units.specs.declared.steps.Act.TheVariants.{Register, Skip, Start, Report, File}
-use Rattle.tk_plan_units.specs.declared.steps.Act.TheVariants.{Finish}
+use Rattle.tk_plan_units.specs.declared.trees.nodes.Node.{Node}
+use Rattle.tk_plan_units.specs.declared.trees.nodes.NumberedNode.{NumberedNode}
+use Rattle.tk_plan_units.specs.declared.scripts.steps.Act.{Act}
+use Rattle.tk_plan_units.specs.declared.scripts.steps.Act.TheVariants.{Register, Skip, Start, Report, File}
+use Rattle.tk_plan_units.specs.declared.scripts.steps.Act.TheVariants.{Finish}
 use Rattle.tk_plan_units.specs.Numbers.{in_order}
 
 -- Only a dynamic node is registered, below a node that there is; what is skipped has a reason; a

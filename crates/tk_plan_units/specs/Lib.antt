@@ -17,6 +17,7 @@ pub mod Known
 pub mod Ids
 pub mod Parents
 pub mod Planned
+pub mod Masks
 pub mod CutPlans
 pub mod Laws
 pub mod steps

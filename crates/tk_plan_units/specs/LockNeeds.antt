@@ -4,8 +4,8 @@ use Rattle.std.specs.Prelude.{Some, None, if◌then◌else◌, codes, option_map
 use Rattle.std.specs.Str.{bytes_eq}
 use Rattle.tk_book.specs.Needs.{Access, nothing, reads, writes, access}
 use Rattle.tk_book.specs.NeedView.{NeedView}
-use Rattle.tk_plan_units.specs.declared.nodes.Lock.{Lock}
-use Rattle.tk_plan_units.specs.declared.nodes.Node.{Node}
+use Rattle.tk_plan_units.specs.declared.trees.nodes.Lock.{Lock}
+use Rattle.tk_plan_units.specs.declared.trees.nodes.Node.{Node}
 
 -- where a key stands in the list; `global` isn't there, and is resource 0 before all others
 abbrev pub key_index : List (List ℕ) → List ℕ → Option ℕ

@@ -1,8 +1,8 @@
 -- The numbers of a plan's nodes: the static ones in preorder, then the dynamic ones.
 use Rattle.std.specs.Prelude.{◌≡◌, ℕ, ◌+◌, List, [], ◌∷◌, ◌++◌, Bool, true, false, if◌then◌else◌}
 use Rattle.std.specs.Prelude.{flat_map, drop, All, Option, Some, None, slice_get, length, ◌<◌}
-use Rattle.tk_plan_units.specs.declared.nodes.Node.{Node}
-use Rattle.tk_plan_units.specs.declared.nodes.NumberedNode.{NumberedNode}
+use Rattle.tk_plan_units.specs.declared.trees.nodes.Node.{Node}
+use Rattle.tk_plan_units.specs.declared.trees.nodes.NumberedNode.{NumberedNode}
 
 -- the static nodes in preorder, or the others
 abbrev pub of_kind : Bool → List NumberedNode → List Node

@@ -4,7 +4,7 @@ use Rattle.std.specs.Prelude.{false, slice_get, length, ◌++◌}
 use Rattle.std.specs.List.{list_all}
 use Rattle.tk_limits.specs.declared.limits.TheConstants.{MAX_EVENTS}
 use Rattle.tk_ids.specs.declared.tables.TheConstants.{MAX_DESCRIPTORS}
-use Rattle.tk_plan_units.specs.declared.needs.TheConstants.{MAX_KEYS}
+use Rattle.tk_plan_units.specs.declared.units.needs.TheConstants.{MAX_KEYS}
 use Rattle.tk_ids.specs.declared.descriptors.Descriptor.{Descriptor}
 use Rattle.tk_events.specs.declared.kinds.Kind.TheVariants.{Finished, Reporting, File}
 use Rattle.tk_events.specs.declared.payloads.Payload.TheVariants.{Outcome, Report, Path}
@@ -12,8 +12,8 @@ use Rattle.tk_events.specs.Event.{is_lawful}
 use Rattle.tk_book.specs.NeedView.{NeedView}
 use Rattle.tk_book.specs.Words.{packed}
 use Rattle.tk_book.specs.Needs.{Access, nothing, access, weight}
-use Rattle.tk_plan_units.specs.declared.nodes.Node.{Node}
-use Rattle.tk_plan_units.specs.declared.nodes.NumberedNode.{NumberedNode}
+use Rattle.tk_plan_units.specs.declared.trees.nodes.Node.{Node}
+use Rattle.tk_plan_units.specs.declared.trees.nodes.NumberedNode.{NumberedNode}
 use Rattle.tk_plan_units.specs.Trees.{Forest, no_trees, more, tree, IsForest, forest, contents}
 use Rattle.tk_plan_units.specs.Trees.{flat}
 use Rattle.tk_plan_units.specs.Script.{moves_below}

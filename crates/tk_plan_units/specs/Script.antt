@@ -1,11 +1,11 @@
 -- What a tree does.
 use Rattle.std.specs.Prelude.{ℕ, ◌+◌, List, [], ◌∷◌, ◌++◌, is_some, if◌then◌else◌}
-use Rattle.tk_plan_units.specs.declared.nodes.Node.{Node}
-use Rattle.tk_plan_units.specs.declared.steps.Act.{Act}
-use Rattle.tk_plan_units.specs.declared.steps.Act.TheVariants.{Register, Skip, Start, Report, File}
-use Rattle.tk_plan_units.specs.declared.steps.Act.TheVariants.{Finish}
-use Rattle.tk_plan_units.specs.declared.steps.Move.{Move}
-use Rattle.tk_plan_units.specs.declared.steps.Step.{Step}
+use Rattle.tk_plan_units.specs.declared.trees.nodes.Node.{Node}
+use Rattle.tk_plan_units.specs.declared.scripts.steps.Act.{Act}
+use Rattle.tk_plan_units.specs.declared.scripts.steps.Act.TheVariants.{Register, Skip, Start, Report, File}
+use Rattle.tk_plan_units.specs.declared.scripts.steps.Act.TheVariants.{Finish}
+use Rattle.tk_plan_units.specs.declared.scripts.steps.Move.{Move}
+use Rattle.tk_plan_units.specs.declared.scripts.steps.Step.{Step}
 use Rattle.tk_plan_units.specs.Trees.{Tree, tree, Forest, no_trees, more}
 
 abbrev pub move : ℕ → Act → Move

@@ -5,11 +5,11 @@ use Rattle.tk_events.specs.declared.kinds.Kind.TheVariants as kinds
 use Rattle.tk_events.specs.declared.payloads.Payload.{Payload}
 use Rattle.tk_events.specs.declared.payloads.Payload.TheVariants as payloads
 use Rattle.tk_events.specs.declared.events.Event.{Event}
-use Rattle.tk_plan_units.specs.declared.nodes.Node.{Node}
-use Rattle.tk_plan_units.specs.declared.steps.Act.{Act}
-use Rattle.tk_plan_units.specs.declared.steps.Act.TheVariants.{Register, Skip, Start, Report, File}
-use Rattle.tk_plan_units.specs.declared.steps.Act.TheVariants.{Finish}
-use Rattle.tk_plan_units.specs.declared.steps.Step.{Step}
+use Rattle.tk_plan_units.specs.declared.trees.nodes.Node.{Node}
+use Rattle.tk_plan_units.specs.declared.scripts.steps.Act.{Act}
+use Rattle.tk_plan_units.specs.declared.scripts.steps.Act.TheVariants.{Register, Skip, Start, Report, File}
+use Rattle.tk_plan_units.specs.declared.scripts.steps.Act.TheVariants.{Finish}
+use Rattle.tk_plan_units.specs.declared.scripts.steps.Step.{Step}
 use Rattle.tk_plan_units.specs.Events.{event}
 
 -- the kind of what a node does

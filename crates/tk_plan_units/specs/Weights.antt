@@ -1,6 +1,6 @@
 -- How many moves a tree makes.
 use Rattle.std.specs.Prelude.{ℕ, ◌+◌, length, is_some, if◌then◌else◌}
-use Rattle.tk_plan_units.specs.declared.nodes.Node.{Node}
+use Rattle.tk_plan_units.specs.declared.trees.nodes.Node.{Node}
 use Rattle.tk_plan_units.specs.Trees.{Tree, tree, Forest, no_trees, more}
 
 -- how many moves register the top node: one where it is dynamic, and else none

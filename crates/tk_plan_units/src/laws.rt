@@ -1,6 +1,6 @@
 //! Laws of plans, which hold of the definitions alone.
 ghost use Rattle.std.specs.Prelude.{◌≡◌};
-ghost use Rattle.tk_plan_units.specs.declared.needs.TheConstants.{MAX_KEYS};
+ghost use Rattle.tk_plan_units.specs.declared.units.needs.TheConstants.{MAX_KEYS};
 ghost use Rattle.tk_plan_units.specs.Laws.{LosesNothing, KeepsStamps, SpineEventsAreSteps, FindsNodes, HasKeys};
 
 /// Cutting loses nothing and adds nothing: the parts into which a tree is cut, one after another,

@@ -3,15 +3,15 @@ ghost use Rattle.std.specs.Prelude.{◌≡◌, ◌≢◌, ◌≤◌, ◌<◌, �
 ghost use Rattle.std.specs.Arc.{arc_value};
 ghost use Rattle.tk_ids.specs.declared.tables.TheConstants.{MAX_DESCRIPTORS};
 
-use crate::cuttings::{Cutting, cut};
-use crate::events::{payload, push_finish_event, push_opening_events};
-use crate::nodes::{Node, NumberedNode};
-use crate::numbering::set_numbers;
-use crate::orders::positions_of;
-use crate::parents::push_parents;
-use crate::scripts::{is_short, push_tree, stamp_all};
-use crate::steps::{Act, Step};
-use crate::unit_trees::{UnitTree, tree_at};
+use crate::units::cuttings::{Cutting, cut};
+use crate::scripts::events::{payload, push_finish_event, push_opening_events};
+use crate::trees::nodes::{Node, NumberedNode};
+use crate::trees::numbering::set_numbers;
+use crate::trees::positions::positions_of;
+use crate::trees::parents::push_parents;
+use crate::scripts::moves::{is_short, push_tree, stamp_all};
+use crate::scripts::steps::{Act, Step};
+use crate::units::unit_trees::{UnitTree, tree_at};
 use std::alloc::{AllocError, Global};
 use std::marker::Model;
 use std::sync::Arc;
@@ -52,6 +52,7 @@ impl Plan {
     ghost use Rattle.tk_plan_units.specs.Known.{IsKnown};
     ghost use Rattle.tk_plan_units.specs.StepEvents.{payload_of};
     ghost use Rattle.tk_plan_units.specs.Planned.{IsPlanned, IsNeedOf, need_word, IsWithin};
+    ghost use Rattle.tk_plan_units.specs.Masks.{need_of};
     ghost use Rattle.tk_plan_units.specs.Numbers.{in_order, entry_of, path_of, numbered, IsNumbered};
 
     /// Makes the plan of nodes in preorder, and sets their numbers.
@@ -129,8 +130,12 @@ impl Plan {
         requires { unit < length (units_of (forest self.now.nodes)) }
         ensures need { IsNeedOf self.now.nodes unit result }
         ensures word { word_of result ≡ need_word self.now.nodes unit }
+        ensures value { result ≡ need_of self.now.nodes unit }
     {
-        self.cutting.units[unit as usize].need
+        let need = self.cutting.units[unit as usize].need;
+        // For the proof: what is read is not written.
+        let _masks = (need.reads(), need.writes());
+        need
     }
 
     /// The nodes of a unit, and how many events of the root's script come before it.

@@ -19,14 +19,14 @@ use Rattle.tk_events.specs.declared.events.Event.{Event}
 use Rattle.tk_events.specs.Registration.{registered_key}
 use Rattle.tk_queue_session.specs.Senders.{SenderView, sends}
 use Rattle.tk_queue_session.specs.Registering.{IsRegisteredAs}
-use Rattle.tk_plan_units.specs.declared.nodes.Node.{Node}
+use Rattle.tk_plan_units.specs.declared.trees.nodes.Node.{Node}
 use Rattle.tk_plan_units.specs.Numbers.{in_order}
 use Rattle.tk_plan_units.specs.Events.{event}
 use Rattle.tk_plan_units.specs.StepEvents.{kind_of, payload_of}
 use Rattle.tk_record_columns.specs.Entries.{desc}
 use Rattle.tk_queue_session.specs.Emission.{entries_by, registrations}
-use Rattle.tk_plan_units.specs.declared.nodes.NumberedNode.{NumberedNode}
-use Rattle.tk_plan_units.specs.declared.steps.Step.{Step}
+use Rattle.tk_plan_units.specs.declared.trees.nodes.NumberedNode.{NumberedNode}
+use Rattle.tk_plan_units.specs.declared.scripts.steps.Step.{Step}
 use Rattle.tk_engine_laws.specs.Scripts.{played, known_in}
 use Rattle.tk_engine.specs.steps.Keys.{key_in}
 

@@ -1,8 +1,8 @@
 -- What private clauses and proofs alone name of CuttingSteps.
 use Rattle.std.specs.Prelude.{◌≡◌, ℕ, ◌+◌, List, ◌++◌, length, drop, map}
 use Rattle.std.specs.Prelude.{flat_map, All}
-use Rattle.tk_plan_units.specs.declared.nodes.NumberedNode.{NumberedNode}
-use Rattle.tk_plan_units.specs.declared.cuttings.Cutting.{Cutting}
+use Rattle.tk_plan_units.specs.declared.trees.nodes.NumberedNode.{NumberedNode}
+use Rattle.tk_plan_units.specs.declared.units.cuttings.Cutting.{Cutting}
 use Rattle.tk_plan_units.specs.Trees.{number_of}
 use Rattle.tk_plan_units.specs.Cutting.{Part, spine_numbers, piece, from_each, begin_events}
 use Rattle.tk_plan_units.specs.Cutting.{end_events, moves_of}

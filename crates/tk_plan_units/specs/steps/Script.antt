@@ -1,7 +1,7 @@
 -- What private clauses and proofs alone name of Script.
 use Rattle.std.specs.Prelude.{◌≡◌, List, [], None}
-use Rattle.tk_plan_units.specs.declared.nodes.Node.{Node}
-use Rattle.tk_plan_units.specs.declared.nodes.NumberedNode.{NumberedNode}
+use Rattle.tk_plan_units.specs.declared.trees.nodes.Node.{Node}
+use Rattle.tk_plan_units.specs.declared.trees.nodes.NumberedNode.{NumberedNode}
 
 -- a node that starts, finishes and does nothing else
 pub record IsShort (n : Node) (below : List NumberedNode) : Type 0 where

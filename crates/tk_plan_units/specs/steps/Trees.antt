@@ -1,6 +1,6 @@
 -- What private clauses and proofs alone name of Trees.
 use Rattle.std.specs.Prelude.{◌≡◌, ℕ, suc, List, ◌∷◌, ◌++◌, length, drop}
-use Rattle.tk_plan_units.specs.declared.nodes.NumberedNode.{NumberedNode}
+use Rattle.tk_plan_units.specs.declared.trees.nodes.NumberedNode.{NumberedNode}
 
 -- a tree stands at the position
 pub record HasTreeAt (all : List NumberedNode) (at : ℕ) : Type 0 where

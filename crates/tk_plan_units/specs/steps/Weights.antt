@@ -1,6 +1,6 @@
 -- What private clauses and proofs alone name of Weights.
 use Rattle.std.specs.Prelude.{ℕ, ◌+◌, is_some, if◌then◌else◌}
-use Rattle.tk_plan_units.specs.declared.nodes.Node.{Node}
+use Rattle.tk_plan_units.specs.declared.trees.nodes.Node.{Node}
 use Rattle.tk_plan_units.specs.Weights.{publications}
 
 -- how many moves a node makes by itself, its registration among them

@@ -1,6 +1,6 @@
 use Rattle.std.proofs.Common.{◌≡◌, ◌<◌, ◌⊎◌, length, take, drop, get_or, suc, sym, ap, ◌∙◌, subst}
 use Rattle.std.specs.Prelude.{IsSome, Some}
-use Rattle.tk_plan_units.specs.declared.steps.Act.TheVariants.{Register}
+use Rattle.tk_plan_units.specs.declared.scripts.steps.Act.TheVariants.{Register}
 use Rattle.tk_engine.specs.steps.Keys.{kept, key_found}
 use Rattle.tk_engine.specs.steps.Plays.{IsPlayed, begun}
 use Rattle.tk_engine.proofs.Stepping.{emitted_found, emitted_plays, emitted_same, registered_found, registered_plays, plain_act, cut_at, take_more}

@@ -1,8 +1,8 @@
 use Rattle.std.proofs.lemmas.Result.{err_from_is_err_and}
+use Rattle.std.proofs.lemmas.Bool.{and_from}
 use Rattle.tk_plan_json.specs.steps.CodeValues.{seen}
 use Rattle.tk_plan_json.specs.NodeInputs as spec
 use Rattle.tk_plan_json.proofs.CheckSteps.{faults_also, faults_from_path, deep_fault, field_fault}
-use Rattle.tk_plan_members.proofs.ChecksInTurn.{both}
 use Rattle.tk_plan_json.proofs.node_checks.check_node.Goals as goal
 
 pub returns-then-node_input-gt-MAX_LEVELS : goal.returns-then-node_input-gt-MAX_LEVELS
@@ -42,7 +42,7 @@ returns c =
         };
         id = n.1.id;
         leaf = f.1.leaf;
-        lawful = both _ _ f.1.content.result.lawful (both _ _ f.1.content.reports.increasing f.1.content.files.lawful);
+        lawful = and_from _ _ f.1.content.result.lawful (and_from _ _ f.1.content.reports.increasing f.1.content.files.lawful);
         level = c.if-node_input-gt-MAX_LEVELS.false;
         entered = n.1.entered;
       },

@@ -1,19 +1,20 @@
 use Rattle.std.proofs.Common.{◌≡◌, ◌++◌, ◌-◌, ◌+◌, map, ℕ, suc, List, [], ◌∷◌, length, refl, sym, ap, ◌∙◌, subst, arith, rules, append-nil}
 use Rattle.std.proofs.lemmas.Bool.Decides.{nat_tests}
 use Rattle.std.proofs.lemmas.Result.{err_from_is_err_and}
+use Rattle.std.proofs.lemmas.List.{nil_from_length}
 use Rattle.serde_json.specs.View.{view}
 use Rattle.serde_json.specs.declared.value.Value.{Value}
-use Rattle.tk_plan_units.specs.declared.nodes.NumberedNode.{NumberedNode}
+use Rattle.tk_plan_units.specs.declared.trees.nodes.NumberedNode.{NumberedNode}
 use Rattle.tk_plan_units.specs.Trees.{contents}
 use Rattle.tk_plan_members.specs.Checks.{item_at, first}
 use Rattle.tk_plan_json.specs.Verdicts.{checks}
 use Rattle.tk_plan_json.specs.Progress.{IsNoted}
 use Rattle.tk_plan_json.specs.steps.Progress.{HasBelow}
 use Rattle.tk_plan_json.specs.NodeInputs as spec
-use Rattle.tk_plan_json.specs.NodeInputs.{node_inputs, node_input, node_inputs_in, segment_in, segment_of, id_of, node_of, grown, below}
+use Rattle.tk_plan_json.specs.NodeInputs.{node_input, node_inputs_in, segment_in, id_of, below}
 use Rattle.tk_plan_json.specs.steps.CodeValues.{node_at, array_at}
 use Rattle.tk_plan_json.proofs.CheckSteps.{faults_also, meets_also}
-use Rattle.tk_plan_json.proofs.Going.{Goes, met_next, met_end, goes_next, goes_fault, goes_end, goes_nowhere, node_input_next, check_fault, parts_of, first_fault, second_verdict, both_added, below_verdict, leaf_verdict, leaf_added, node_added, no_values}
+use Rattle.tk_plan_json.proofs.Going.{Goes, met_next, met_end, goes_next, goes_fault, goes_end, goes_nowhere, node_input_next, check_fault, parts_of, first_fault, second_verdict, both_added, below_verdict, leaf_verdict, leaf_added, node_added}
 use Rattle.tk_plan_json.proofs.node_reading.+reading.Goals as goal
 
 pub read_all-returns-in_err-read_node : goal.read_all-returns-in_err-read_node
@@ -51,7 +52,7 @@ read_all-loop-index-preserved t c =
 pub read_all-returns : goal.read_all-returns
 read_all-returns t c =
     let left = c.loop-index.index-iterator.iter.rest in
-    let none : left.items ≡ [] = no_values _ (omega (arith, left.ok.0, c.in-None.ensures.steps.0.0)) in
+    let none : left.items ≡ [] = nil_from_length _ (omega (arith, left.ok.0, c.in-None.ensures.steps.0.0)) in
     let array = array_at c.args.parent c.args.member c.args.id.now in
     let all = node_inputs_in array 0 c.args.siblings.now (map view c.args.values.items) in
     let over = subst (λ vs. Goes (60 - c.args.parent.level) c.args.id.now c.args.read.now c.loop-index.read all (node_inputs_in array c.loop-index.index-iterator.count c.loop-index.siblings (map view vs))) none c.loop-index.invariant.0 in
@@ -68,7 +69,7 @@ read_node-returns-in_err-id t c =
 pub read_all-returns-then-is_empty : goal.read_all-returns-then-is_empty
 read_all-returns-then-is_empty t c =
     let count : length c.args.values.items ≡ 0 = grind (arith, nat_tests) in
-    let none : c.args.values.items ≡ [] = no_values _ count in
+    let none : c.args.values.items ≡ [] = nil_from_length _ count in
     let noted : IsNoted c.args.read.now = search rules in
     let nowhere = goes_nowhere (60 - c.args.parent.level) c.args.id.now c.args.read.now (array_at c.args.parent c.args.member c.args.id.now) c.args.siblings.now _ (ap (map view) none) noted in
     (nowhere.0, (nowhere.1, sym (ap (λ l. c.args.siblings.now ++ map segment_in (map view l)) none ∙ append-nil c.args.siblings.now)))

@@ -1,6 +1,6 @@
 use Rattle.std.proofs.Common.{◌≤◌, ap, sym, ◌∙◌, subst, arith, length}
 use Rattle.std.specs.Arc.{arc_value}
-use Rattle.tk_plan_units.specs.declared.needs.TheConstants.{MAX_KEYS}
+use Rattle.tk_plan_units.specs.declared.units.needs.TheConstants.{MAX_KEYS}
 use Rattle.tk_plan_units.specs.Keys.{lock_keys}
 use Rattle.tk_plan_units.specs.CutPlans.{IsPlan, IsCut}
 use Rattle.tk_plan_units.specs.Numbers.{ArePositionsByNumber}

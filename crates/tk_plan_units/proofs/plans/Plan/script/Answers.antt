@@ -1,5 +1,5 @@
 use Rattle.std.proofs.Common.{◌≡◌, ◌++◌, Result, Ok, Err, List, Vec, Global, All, IfOk, length, sym, ap, ◌∙◌, subst, arith}
-use Rattle.tk_plan_units.specs.declared.steps.Step.{Step}
+use Rattle.tk_plan_units.specs.declared.scripts.steps.Step.{Step}
 use Rattle.tk_plan_units.specs.Trees.{tree_of}
 use Rattle.tk_plan_units.specs.Script.{moves, stamped}
 use Rattle.tk_plan_units.specs.Cutting.{root_script}
