@@ -30,6 +30,8 @@ class Limits:
     """Lines of clauses and definitions that are too long, by file and number."""
     without_steps: Sequence[str] = ()
     """Crates whose `specs/steps/` hasn't yet all that no public contract reaches."""
+    internal: Sequence[str] = ()
+    """Libraries whose names authors of engines don't name."""
 
 
 Rule = Callable[[], List[str]]
@@ -38,7 +40,7 @@ Rule = Callable[[], List[str]]
 def rules_of(tree: Tree, limits: Limits) -> Dict[str, Rule]:
     """The rules by their names: each is a function that answers what breaks it."""
     sources = sources_of(tree)
-    parts = [it for it in tree.crates if it.startswith("tk_") or it == "testkit_questions"]
+    parts = [it for it in tree.crates if (it.startswith("tk_") or it == "testkit_questions") and it not in limits.internal]
     tests = [line for it in sources if it.is_test for line in it.code if line.strip() == "#[test]"]
     return {
         "each public function is called": lambda: calls.uncalled(sources, limits.uncalled),
