@@ -106,6 +106,3 @@ started_child old new sink registered running rest first ask key stamp was view 
   stamp = kept;
   own_stamp = own;
 }
-
-pub tails_same : {A : Type 0} {x y : A} {xs ys : List A} → x ∷ xs ≡ y ∷ ys → xs ≡ ys
-tails_same e = cc

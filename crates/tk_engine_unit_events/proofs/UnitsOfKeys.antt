@@ -1,5 +1,7 @@
 -- The units of static keys.
 use Rattle.std.proofs.Common.{◌≡◌, ◌<◌, ◌≤◌, ◌+◌, ◌-◌, ◌^◌, ℕ, zero, suc, ◌⊎◌, inl, inr, ⊎_elim, true, false, if◌then◌else◌, List, [], ◌∷◌, ◌++◌, length, take, get_or, set, replicate, min, Some, slice_get, refl, sym, ap, ◌∙◌, subst, arith}
+use Rattle.std.proofs.lemmas.Bool.{cases_lt}
+use Rattle.std.proofs.lemmas.Option.{same_Some, slice_get_within}
 use Rattle.std.proofs.lemmas.List.{length-map, take_more}
 use Rattle.tk_plan_units.specs.Cutting.{Piece, pieces_of, units_of}
 use Rattle.tk_plan_units.specs.Numbers.{of_kind}
@@ -37,22 +39,6 @@ pub end_is : (top : NumberedNode) (below : List NumberedNode) → IsForest below
 unfolding IsForest
 end_is top below is = ap (λ ns. top.number + length (if top.node.is_static then top.node ∷ of_kind true ns else of_kind true ns)) (sym is)
 
--- ---- numbers of a list
-
-some_same : {A : Type 0} {x y : A} → Some x ≡ Some y → x ≡ y
-some_same e = cc
-
-within : {A : Type 0} (xs : List A) (i : ℕ) (x : A) → slice_get xs i ≡ Some x → i < length xs
-within [] i x h = cc
-within (y ∷ xs) zero x h = omega arith
-within (y ∷ xs) (suc i) x h = let low = within xs i x h in omega (arith, low)
-
-pub order : (a b : ℕ) → (a < b) ⊎ (b ≤ a)
-order zero zero = inr (omega arith)
-order zero (suc b) = inl (omega arith)
-order (suc a) zero = inr (omega arith)
-order (suc a) (suc b) = ⊎_elim (λ l. inl (omega (arith, l))) (λ r. inr (omega (arith, r))) (order a b)
-
 -- ---- a loop that sets a range
 
 -- the numbers from `first` on and below `key` are set, and the others are as they were
@@ -69,7 +55,7 @@ count_units_of plan = length (units_of (forest plan.nodes))
 
 pub unit_below : (plan : Outline) (unit : ℕ) (piece : Piece) → slice_get (pieces_of (forest plan.nodes)) unit ≡ Some piece → unit < count_units_of plan
 unit_below plan unit piece its =
-    subst (λ n. unit < n) (sym (length-map (pieces_of (forest plan.nodes)) (λ (u : Piece). number_of u.tree))) (within (pieces_of (forest plan.nodes)) unit piece its)
+    subst (λ n. unit < n) (sym (length-map (pieces_of (forest plan.nodes)) (λ (u : Piece). number_of u.tree))) (slice_get_within (pieces_of (forest plan.nodes)) unit piece its)
 
 -- the numbers of the first n units' keys are theirs, and any other is the number of the units
 pub record OwnedSoFar (plan : Outline) (n : ℕ) (owners : List ℕ) : Type 0 where
@@ -90,7 +76,7 @@ next_owned plan n old new piece first end are its at_first at_end set = record {
       (λ less. kept (set.before key less))
       (λ from. ⊎_elim
       (λ below.
-      let same : n ≡ unit = some_same (sym (set.own key from below) ∙ at) in (
+      let same : n ≡ unit = same_Some _ _ (sym (set.own key from below) ∙ at) in (
         omega (arith, same),
         subst (λ u. IsOfUnit plan.nodes u key) same (record {
           piece = piece;
@@ -100,8 +86,8 @@ next_owned plan n old new piece first end are its at_first at_end set = record {
         }),
       ))
       (λ past. kept (set.after key past))
-      (order key end))
-      (order key first);
+      (cases_lt key end))
+      (cases_lt key first);
   known = λ key unit low of.
       let top = unit_below plan n piece its in
       ⊎_elim
@@ -110,17 +96,17 @@ next_owned plan n old new piece first end are its at_first at_end set = record {
       let kept : slice_get new key ≡ slice_get old key → (owner : ℕ) × (slice_get new key ≡ Some owner) × (owner < count_units_of plan) = λ same. (o.0, same ∙ o.1, o.2) in
       ⊎_elim
       (λ less. kept (set.before key less))
-      (λ from. ⊎_elim (λ below. (n, set.own key from below, top)) (λ past. kept (set.after key past)) (order key end))
-      (order key first))
+      (λ from. ⊎_elim (λ below. (n, set.own key from below, top)) (λ past. kept (set.after key past)) (cases_lt key end))
+      (cases_lt key first))
       (λ last.
       let same : unit ≡ n = omega (arith, low, last) in
-      let own : of.piece ≡ piece = some_same (sym of.its ∙ ap (slice_get (pieces_of (forest plan.nodes))) same ∙ its) in
+      let own : of.piece ≡ piece = same_Some _ _ (sym of.its ∙ ap (slice_get (pieces_of (forest plan.nodes))) same ∙ its) in
       let above = subst (λ (q : Piece). number_of q.tree ≤ key) own of.from_first in
       let from : first ≤ key = omega (arith, above, at_first) in
       let under = subst (λ (q : Piece). key < end_of q.tree) own of.before_end in
       let below : key < end = omega (arith, under, at_end) in
       (n, set.own key from below, top))
-      (order unit n);
+      (cases_lt unit n);
 }
 
 -- with all units the numbers are as they have to be
@@ -128,11 +114,11 @@ pub all_owned : (plan : Outline) (owners : List ℕ) → ArePlaced plan.nodes pl
 all_owned plan owners places are = record {
   owned = λ key unit at low. (are.owned key unit at low).1;
   others = λ key unit at high.
-      let low : key < length plan.table = subst (λ n. key < n) are.count (within owners key unit at) in
+      let low : key < length plan.table = subst (λ n. key < n) are.count (slice_get_within owners key unit at) in
       ⊎_elim (λ spine. spine)
       (λ of.
       let o = are.known key of.0 (unit_below plan of.0 of.1.piece of.1.its) of.1 in
-      let same : o.0 ≡ unit = some_same (sym o.1 ∙ at) in
+      let same : o.0 ≡ unit = same_Some _ _ (sym o.1 ∙ at) in
       let small = o.2 in
       absurd (omega (arith, same, small, high)))
       (places.placed key low);

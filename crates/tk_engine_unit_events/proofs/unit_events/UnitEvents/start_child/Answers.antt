@@ -1,4 +1,5 @@
 use Rattle.std.proofs.Common.{List, ap, refl, sym, subst, ◌∙◌}
+use Rattle.tk_engine_lifecycle.proofs.Splits.{tail_is}
 use Rattle.tk_engine_unit_events.specs.Events.{IsRunning}
 use Rattle.tk_engine_unit_events.specs.UnitSteps.{Grew, UnitView}
 use Rattle.tk_engine_unit_events.specs.Running.{keys_of, with_id, with_ids}
@@ -6,7 +7,7 @@ use Rattle.tk_engine_unit_events.specs.declared.running_keys.RunningKey.{Running
 use Rattle.tk_engine_unit_events.specs.Standing.{AreNoted}
 use Rattle.tk_engine_unit_events.specs.Units.{HasPlayed}
 use Rattle.tk_engine_unit_events.proofs.Played.{played_dynamic, played_registration}
-use Rattle.tk_engine_unit_events.proofs.UnitSteps.{err_of, extends_child, extends_more, grew_registered, grew_same, started_child, tails_same}
+use Rattle.tk_engine_unit_events.proofs.UnitSteps.{err_of, extends_child, extends_more, grew_registered, grew_same, started_child}
 use Rattle.tk_engine_unit_events.proofs.Running.{child_off, popped, ran_child, ran_noted, ran_registered, registered_below}
 use Rattle.tk_engine_execute.specs.Engines.{Extends}
 use Rattle.tk_engine_unit_events.proofs.Taken.{is_noted, is_taken, noted_after, noted_registration, noted_same}
@@ -123,7 +124,7 @@ pub returns-in-Err-clause-err : goal.returns-in-Err-clause-err
 returns-in-Err-clause-err g c =
     let sink = ap (λ (v : UnitView). v.sink) c.self.view_is in
     let runs = ap (λ (v : UnitView). v.running) c.self.view_is in
-    let left = tails_same (sym (popped c.push.new.self c.pop-started.new.self c.self.inside.progress.running _ c.pop-started.result c.in_ok-push.ensures.ok c.pop-started.ensures.some c.pop-started.ensures.none) ∙ c.in_ok-push.ensures.ok) in
+    let left = tail_is (sym (popped c.push.new.self c.pop-started.new.self c.self.inside.progress.running _ c.pop-started.result c.in_ok-push.ensures.ok c.pop-started.ensures.some c.pop-started.ensures.none) ∙ c.in_ok-push.ensures.ok) in
     let grew = grew_registered _ _ _ _ _ c.in_ok-key.key (sym sink) c.in_ok-key.ensures.registration c.in-Err.ensures.err
     (ap (λ (l : List RunningKey). keys_of (with_ids g.K.UnitRun.unit.frame.table l)) left ∙ runs) (ap (λ (v : UnitView). v.stamp) c.self.view_is) (ap (λ (v : UnitView). v.own_stamp) c.self.view_is) in
     elim c.match-started.branch [
