@@ -70,7 +70,7 @@ impl<T: Tests + Sync> Engine for Hierarchical<T> {
     }
 
     fn units(&self) -> u32 {
-        self.shape.plan().units().len() as u32
+        self.shape.count_units()
     }
 
     fn before(&self, alloc: Global) -> Result<Vec<Event>, AllocError> {

@@ -16,7 +16,7 @@ use std::alloc::{AllocError, Global};
 use std::marker::Model;
 use std::sync::Arc;
 use tk_engine_laws::laws::spine;
-use tk_ids::Table;
+use tk_ids::{MAX_DESCRIPTORS, Table};
 use tk_plan_units::{NumberedNode, Plan, UnitTree};
 
 /// A plan, with the unit and the parent of each static key.
@@ -124,13 +124,21 @@ impl Shape {
         self.plan.table()
     }
 
+    /// Counts the units.
+    pub fn count_units(&self) -> u32
+        ensures count { result ≡ count_units self.now }
+        ensures few { result ≤ MAX_DESCRIPTORS }
+    {
+        self.plan.units().len() as u32
+    }
+
     /// The unit to which a static key belongs, or the number of the units.
     pub(crate) fn owner(&self, key: u32) -> u32
         ensures { result ≡ get_or self.now.owners key (count_units self.now) }
     {
         match self.owners.get(key as usize) {
             Some(unit) => *unit,
-            None => self.plan.units().len() as u32,
+            None => self.count_units(),
         }
     }
 
@@ -167,7 +175,7 @@ impl Shape {
         // For the proof: each key on the spine does.
         spine();
         match self.owners.get(key as usize) {
-            Some(unit) => self.plan.units().len() as u32 <= *unit,
+            Some(unit) => self.count_units() <= *unit,
             None => false,
         }
     }
