@@ -8,7 +8,7 @@ ghost use Rattle.tk_engine_execute.specs.Engines.{Extends, IsSameSender};
 ghost use Rattle.tk_engine_execute.specs.declared.engines.UnitFault.TheVariants.{Own};
 ghost use Rattle.tk_engine_unit_events.specs.Endings.{payload_of};
 ghost use Rattle.tk_engine_hierarchical.specs.Reporting.{EndsChild, HasBegunDynamic, HasLeftDynamic, HasRunDynamic};
-ghost use Rattle.tk_engine_unit_events.specs.Taken.{IsFaultOfTaken, IsTaken};
+ghost use Rattle.tk_engine_unit_events.specs.Taken.{IsFaultOfTaken, IsRefusedAsTaken, IsTaken};
 ghost use Rattle.tk_engine_unit_events.specs.UnitSteps.{Grew, HasFinished, HasSkipped, IsInnermost, Published, child, child_request, event};
 
 use crate::tests::{Body, payload_of};
@@ -88,7 +88,7 @@ impl<'a, S: Sink, K: UnitRun> Reporter<'a, S, K> {
         ensures taken { IfErr result (λ why. IsTaken K.unit self.old.events child.now.segment
             → IsFaultOfTaken why × (self.new.events ≡ self.old.events)) }
         ensures twice { IfErr result (λ why. why ≡ Own TWICE
-            → (IsTaken K.unit self.old.events child.now.segment × (self.new.events ≡ self.old.events))
+            → IsRefusedAsTaken K.unit self.old.events self.new.events child.now.segment
             ⊎ HasBegunDynamic self.old.events self.new.events child.now) }
     {
         let stamp = self.events.stamp();
@@ -180,7 +180,7 @@ impl<'a, S: Sink, K: UnitRun> Reporter<'a, S, K> {
         ensures taken { IfErr result (λ why. IsTaken K.unit self.old.events segment.now
             → IsFaultOfTaken why × (self.new.events ≡ self.old.events)) }
         ensures twice { IfErr result (λ why. why ≡ Own TWICE
-            → (IsTaken K.unit self.old.events segment.now × (self.new.events ≡ self.old.events))
+            → IsRefusedAsTaken K.unit self.old.events self.new.events segment.now
             ⊎ HasBegunDynamic self.old.events self.new.events (child Test segment.now name.now)) }
         // Whatever the body does.
         ensures same { IsSameSender K.unit.start self.new.events.sink }
@@ -222,8 +222,9 @@ impl<'a, S: Sink, K: UnitRun> Reporter<'a, S, K> {
         ensures taken { IfErr result (λ why. IsTaken K.unit self.old.events segment.now
             → IsFaultOfTaken why × (self.new.events ≡ self.old.events)) }
         ensures twice { IfErr result (λ why. why ≡ Own TWICE
-            → (IsTaken K.unit self.old.events segment.now × (self.new.events ≡ self.old.events))
-            ⊎ HasBegunDynamic self.old.events self.new.events (child Container segment.now name.now)) }
+            → IsRefusedAsTaken K.unit self.old.events self.new.events segment.now
+            ⊎ HasBegunDynamic self.old.events self.new.events
+            (child Container segment.now name.now)) }
         // Whatever the body does.
         ensures same { IsSameSender K.unit.start self.new.events.sink }
         ensures some { Extends K.unit.start self.new.events.sink }
@@ -259,8 +260,7 @@ impl<'a, S: Sink, K: UnitRun> Reporter<'a, S, K> {
         ensures taken { IfErr result (λ why. IsTaken K.unit self.old.events segment.now
             → IsFaultOfTaken why × (self.new.events ≡ self.old.events)) }
         ensures twice { IfErr result (λ why. why ≡ Own TWICE
-            → IsTaken K.unit self.old.events segment.now
-            × (self.new.events ≡ self.old.events)) }
+            → IsRefusedAsTaken K.unit self.old.events self.new.events segment.now) }
     {
         let child = Child {
             segment,

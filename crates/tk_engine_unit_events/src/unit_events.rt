@@ -9,7 +9,7 @@ ghost use Rattle.tk_engine_unit_events.specs.Endings.{IsStaticTest};
 ghost use Rattle.tk_engine_unit_events.specs.UnitSteps.{Grew, HasFinished, HasSkipped, HasStarted, IsInnermost, KeepsOuter, Published, child_request, event, publishes, after_event, after_start, begun};
 ghost use Rattle.tk_engine_unit_events.specs.Shapes.{count_units, frame, keys_in};
 ghost use Rattle.tk_engine_unit_events.specs.Standing.{IsComplete, StandsAt};
-ghost use Rattle.tk_engine_unit_events.specs.Taken.{IsFaultOfTaken, IsTaken};
+ghost use Rattle.tk_engine_unit_events.specs.Taken.{IsFaultOfTaken, IsRefusedAsTaken, IsTaken};
 ghost use Rattle.tk_engine_unit_events.specs.steps.Standing.{unit_view};
 ghost use Rattle.tk_engine_unit_events.specs.declared.running_keys.RunningKey.{RunningKey};
 
@@ -464,7 +464,7 @@ impl<'a, S: Sink, K: UnitRun> UnitEvents<'a, S, K> {
         ensures taken { IfErr result (λ why. IsTaken K.unit self.old child.now.segment
             → IsFaultOfTaken why × (self.new ≡ self.old)) }
         ensures twice { IfErr result (λ why. why ≡ Own TWICE
-            → IsTaken K.unit self.old child.now.segment × (self.new ≡ self.old)) }
+            → IsRefusedAsTaken K.unit self.old self.new child.now.segment) }
     {
         let innermost = innermost(&self.progress.running)?;
         let (key, id) = self.lease.register_child(
@@ -513,7 +513,7 @@ impl<'a, S: Sink, K: UnitRun> UnitEvents<'a, S, K> {
         ensures taken { IfErr result (λ why. IsTaken K.unit self.old child.now.segment
             → IsFaultOfTaken why × (self.new ≡ self.old)) }
         ensures twice { IfErr result (λ why. why ≡ Own TWICE
-            → IsTaken K.unit self.old child.now.segment × (self.new ≡ self.old)) }
+            → IsRefusedAsTaken K.unit self.old self.new child.now.segment) }
     {
         let innermost = innermost(&self.progress.running)?;
         let (key, _id) = self.lease.register_child(
