@@ -62,7 +62,8 @@ list_of (item d ds) = d ∷ list_of ds
 -- the first of the items that is wrong, counted from i on
 abbrev pub items_wrong : Check → List ℕ → ℕ → List Data → Option (List ℕ)
 items_wrong check at i [] = None
-items_wrong check at i (d ∷ ds) = option_or (check (item_at at i) d) (items_wrong check at (i + 1) ds)
+items_wrong check at i (d ∷ ds) =
+    option_or (check (item_at at i) d) (items_wrong check at (i + 1) ds)
 
 -- each item by the check
 abbrev pub array_of : Check → Check

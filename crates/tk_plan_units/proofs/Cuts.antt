@@ -19,10 +19,9 @@ use Rattle.tk_plan_units.specs.Events.{opening_events, finish_event}
 use Rattle.tk_plan_units.specs.LockNeeds.{IsNeed}
 use Rattle.tk_plan_units.specs.declared.units.cuttings.PlanUnit.{PlanUnit}
 use Rattle.tk_plan_units.specs.declared.units.cuttings.SpineStamp.{SpineStamp}
-use Rattle.std.proofs.lemmas.List.Elements.{All-append}
+use Rattle.std.proofs.lemmas.List.Elements.{All-push}
 use Rattle.std.proofs.Math.Seq.{take-append_seam}
 use Rattle.std.proofs.lemmas.Bool.{and_parts, not-true}
-use Rattle.tk_lemmas.proofs.Lists.{All_one}
 use Rattle.tk_plan_units.proofs.Grows.{forest_nil}
 use Rattle.tk_plan_units.proofs.Moving.{moves-length, length-opening}
 
@@ -166,7 +165,7 @@ opening_moves : (n : Node) (k : ℕ) → length (opening n k ++ []) ≡ 1 + publ
 opening_moves n k = ap length (append-nil (opening n k)) ∙ length-opening n k
 
 all_pushed : {A : Type 0} (P : A → Type 0) (xs ys : List A) (x : A) → ys ≡ xs ++ x ∷ [] → P x → All P xs → All P ys
-all_pushed P xs ys x e h all = subst (All P) (sym e) (All-append P xs (x ∷ []) all (All_one P x h))
+all_pushed P xs ys x e h all = subst (All P) (sym e) (All-push P xs x all h)
 
 pub begin_adds : (all rest : List NumberedNode) (keys : List (List ℕ)) (old new : Cutting) (p : NumberedNode) (s : SpineStamp)
     → drop s.position all ≡ p ∷ rest → s.stamp ≡ old.event_count → old.event_count + (1 + publications p.node) ≤ MAX_EVENTS
@@ -232,7 +231,7 @@ add_adds all keys old new p below rest u at span trees need same limit spine sta
       spine = spine ∙ sym (append-nil _);
       unit_keys = unit_keys;
       units = ap (pieces_of_units all) units ∙ flat_map-append _ old.units.items (u ∷ []) ∙ ap (λ l. pieces_of_units all old.units.items ++ l) (append-nil _ ∙ there);
-      fits = λ h. subst (All (Fits all keys)) (sym units) (All-append (Fits all keys) old.units.items (u ∷ []) h (All_one (Fits all keys) u fit));
+      fits = λ h. subst (All (Fits all keys)) (sym units) (All-push (Fits all keys) old.units.items u h fit);
       begin_events_of_spine = ap (begin_events_of_spine all) starts ∙ sym (append-nil _);
       starts = λ h. subst (All (HasStampAt all)) (sym starts) h;
       end_events_of_spine = ap (end_events_of_spine all) finishes ∙ sym (append-nil _);

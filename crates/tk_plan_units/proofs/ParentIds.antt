@@ -1,7 +1,7 @@
 -- The parents of static nodes have their ids in the table.
 use Rattle.std.proofs.Common.{◌≡◌, ℕ, zero, suc, ◌+◌, ◌≤◌, ◌<◌, ◌⊎◌, inl, inr, List, [], ◌∷◌, ◌++◌, Bool, cond, true, false, Some, length, take, slice_get, refl, sym, ap, ap₂, ◌∙◌, subst, arith, length-append, append_assoc, append-nil}
 use Rattle.std.proofs.Math.Seq.{take-append_seam}
-use Rattle.std.proofs.lemmas.Option.{slice_get_within}
+use Rattle.std.proofs.lemmas.Option.{slice_get_within, same_Some}
 use Rattle.tk_lemmas.proofs.Lists.{get_at_seam}
 use Rattle.tk_ids.specs.IdText.{SegmentView, parent_of}
 use Rattle.tk_ids.specs.declared.descriptors.Descriptor.{Descriptor}
@@ -14,7 +14,6 @@ use Rattle.tk_plan_units.specs.Ids.{descriptor, descriptors, descriptors_below}
 use Rattle.tk_plan_units.specs.Parents.{parents, parents_below, HasParentAt, AreParents}
 use Rattle.tk_plan_units.specs.Planned.{IsPlanned, is_rooted}
 use Rattle.tk_plan_units.proofs.Describing.{descriptors-length, statics-append, statics_length}
-use Rattle.tk_plan_units.proofs.Keying.{some_is}
 use Rattle.tk_plan_units.proofs.Grows.{forest_nil}
 
 -- ---- numbers in preorder
@@ -111,7 +110,7 @@ module _ (table : List Descriptor) where
       → IsAbove a above → Related s (cond b (a ∷ []) [] ++ parents_below k f)
   node_by true above a s k n f pre post next e h placed up zero b g l =
       let id = above ++ n.segment ∷ [] in
-      let same : a ≡ b = some_is a b g in
+      let same : a ≡ b = same_Some a b g in
       let its = id_at pre (descriptors_below id f ++ post) (descriptor id n) s e h in
       let over = up (omega (arith, same, l)) in
       record {

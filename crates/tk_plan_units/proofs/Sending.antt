@@ -30,7 +30,7 @@ use Rattle.tk_plan_units.proofs.Describing.{statics-append, statics_length}
 use Rattle.tk_plan_units.proofs.Planning.{counted}
 use Rattle.tk_plan_units.proofs.Parting.{all_prefix, all_back}
 
-abbrev top_static : Tree → Bool
+abbrev pub top_static : Tree → Bool
 top_static (tree n k f) = n.is_static
 
 pub static_both : (t : Tree) (f : Forest) → all_static (more t f) ≡ true → (top_static t ≡ true) × (all_static f ≡ true)

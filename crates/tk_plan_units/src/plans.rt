@@ -3,14 +3,14 @@ ghost use Rattle.std.specs.Prelude.{◌≡◌, ◌≢◌, ◌≤◌, ◌<◌, �
 ghost use Rattle.std.specs.Arc.{arc_value};
 ghost use Rattle.tk_ids.specs.declared.tables.TheConstants.{MAX_DESCRIPTORS};
 
-use crate::units::cuttings::{Cutting, cut};
 use crate::scripts::events::{payload, push_finish_event, push_opening_events};
-use crate::trees::nodes::{Node, NumberedNode};
-use crate::trees::numbering::set_numbers;
-use crate::trees::positions::positions_of;
-use crate::trees::parents::push_parents;
 use crate::scripts::moves::{is_short, push_tree, stamp_all};
 use crate::scripts::steps::{Act, Step};
+use crate::trees::nodes::{Node, NumberedNode};
+use crate::trees::numbering::set_numbers;
+use crate::trees::parents::push_parents;
+use crate::trees::positions::positions_of;
+use crate::units::cuttings::{Cutting, cut};
 use crate::units::unit_trees::{UnitTree, tree_at};
 use std::alloc::{AllocError, Global};
 use std::marker::Model;

@@ -7,8 +7,8 @@ ghost use Rattle.tk_plan_units.specs.Weights.{publications};
 ghost use Rattle.tk_plan_units.specs.declared.trees.nodes.NumberedNode.{NumberedNode};
 ghost use Rattle.tk_limits.specs.declared.limits.TheConstants.{MAX_EVENTS};
 
-use crate::trees::nodes::{Node, NumberedNode};
 use crate::scripts::steps::Act;
+use crate::trees::nodes::{Node, NumberedNode};
 use std::alloc::{AllocError, Global};
 use tk_events::{Event, Kind, Payload, try_clone_message};
 

@@ -7,8 +7,8 @@ ghost use Rattle.tk_plan_units.specs.steps.Script.{IsShort};
 ghost use Rattle.tk_plan_units.specs.Weights.{publications, weight, weights};
 ghost use Rattle.tk_limits.specs.declared.limits.TheConstants.{MAX_EVENTS};
 
-use crate::trees::nodes::{Node, NumberedNode};
 use crate::scripts::steps::{Act, Move, Step};
+use crate::trees::nodes::{Node, NumberedNode};
 use std::alloc::{AllocError, Global};
 
 fn push_opening(node: &Node, number: u32, moves: &mut Vec<Move>) -> Result<(), AllocError>

@@ -11,8 +11,8 @@ ghost use Rattle.tk_limits.specs.declared.limits.TheConstants.{MAX_EVENTS};
 ghost use Rattle.tk_plan_units.specs.declared.units.needs.TheConstants.{MAX_KEYS};
 
 use crate::scripts::counts::{count_publications, count_tree};
-use crate::units::needs::need_of;
 use crate::trees::nodes::NumberedNode;
+use crate::units::needs::need_of;
 use crate::units::spines::is_on_spine;
 use std::alloc::{AllocError, Global};
 use tk_book::Need;
