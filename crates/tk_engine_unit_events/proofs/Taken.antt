@@ -1,5 +1,5 @@
 -- Which children a unit may not register.
-use Rattle.std.proofs.Common.{◌≡◌, ◌⊎◌, inl, inr, ⊎_elim, ◌||◌, ℕ, zero, suc, Bool, true, false, List, [], ◌∷◌, ◌++◌, Some, slice_get, refl, sym, ap, ◌∙◌, subst, append_assoc}
+use Rattle.std.proofs.Common.{◌≡◌, ◌<◌, ◌⊎◌, inl, inr, ⊎_elim, ◌||◌, ℕ, zero, suc, Bool, true, false, List, [], ◌∷◌, ◌++◌, Some, slice_get, refl, sym, ap, ◌∙◌, subst, append_assoc, arith}
 use Rattle.std.specs.Prelude.{Err, IfSome, Ok, Option, None, bytes_eq, is_some}
 use Rattle.std.proofs.lemmas.Bool.{or_cases}
 use Rattle.std.proofs.lemmas.Slice.Eq.{bytes_eq-Decides}
@@ -78,6 +78,21 @@ noted_registration unit old now running registered noted next key id ask r h is 
 
 -- ---- a child that is asked for
 
+-- a child whose id is new isn't noted
+pub not_noted : (table : List Descriptor) (registered : List (List ℕ × ℕ)) (above id : List SegmentView) (segment : SegmentView) → id ≡ above ++ segment ∷ []
+    → ¬ TableHasId table id → is_registered registered (id_text id) ≡ false → ¬ IsNotedChild table registered above segment
+not_noted table registered above id segment made static fresh n =
+    ⊎_elim
+    (λ a. static (subst (TableHasId table) (sym made) a))
+    (λ b. let bad : true ≡ false = sym (subst (λ i. is_registered registered (id_text i) ≡ true) (sym made) b) ∙ fresh in cc)
+    n.noted
+
+-- nor is one below an id that isn't there
+pub none_noted : (table : List Descriptor) (registered : List (List ℕ × ℕ)) (above : List SegmentView) (segment : SegmentView) → above ≡ [] → ¬ IsNotedChild table registered above segment
+none_noted table registered above segment none n =
+    let bad : IsId [] = subst IsId none n.is_id in
+    let less : 0 < 0 = bad.0 in absurd (omega (arith, less))
+
 static_at : (table : List Descriptor) (key : ℕ) (id : List SegmentView) → slice_get (ids_of table) key ≡ Some id → (d : Descriptor) × (slice_get table key ≡ Some d) × (d.id ≡ id)
 static_at [] key id e = cc
 static_at (d ∷ ds) zero id e = let same : d.id ≡ id = cc in (d, refl, same)
@@ -136,11 +151,7 @@ module _ (s : ShapeView) (unit : BegunUnit) (sink : SenderView) (u : UnitView) (
 
   -- a child whose id is new isn't taken
   pub not_taken : (id : List SegmentView) → id ≡ (with_id s.plan.table first).id ++ segment ∷ [] → ¬ TableHasId s.plan.table id → is_registered registered (id_text id) ≡ false → ¬ IsTaken unit u segment
-  not_taken id made static fresh t =
-      ⊎_elim
-      (λ a. static (subst (TableHasId s.plan.table) (sym made) a))
-      (λ b. let bad : true ≡ false = sym (subst (λ i. is_registered registered (id_text i) ≡ true) (sym made) b) ∙ fresh in cc)
-      (is_noted t).noted
+  not_taken id made static fresh t = not_noted s.plan.table registered (with_id s.plan.table first).id id segment made static fresh (is_noted t)
 
 -- ---- an id that is made
 
