@@ -1,6 +1,6 @@
 -- The keys that run around one that goes on running.
-use Rattle.std.proofs.Common.{◌≡◌, ◌≢◌, ◌<◌, ◌+◌, ◌==◌, ◌&&◌, ℕ, suc, ◌⊎◌, inl, inr, ⊎_elim, Bool, true, false, if◌then◌else◌, List, [], ◌∷◌, ◌++◌, length, All, refl, sym, ap, ap₂, ◌∙◌, subst, append_assoc, append-nil, arith, tests}
-use Rattle.std.proofs.lemmas.Bool.{cases_eq}
+use Rattle.std.proofs.Common.{◌≡◌, ◌≢◌, ◌<◌, ◌+◌, ◌==◌, ◌&&◌, ℕ, ◌⊎◌, inl, inr, ⊎_elim, Bool, true, false, if◌then◌else◌, List, [], ◌∷◌, ◌++◌, length, All, refl, sym, ap, ap₂, ◌∙◌, subst, append_assoc, append-nil, arith, tests}
+use Rattle.std.proofs.lemmas.Bool.{and_parts, and_right, cases_eq}
 use Rattle.std.proofs.lemmas.List.{length-append, map-append}
 use Rattle.std.proofs.lemmas.List.Elements.{All-append, All-cons, All-head, All-nil, All-tail, All-weaker}
 use Rattle.tk_ids.specs.IdText.{IsBelow, SegmentView}
@@ -27,11 +27,13 @@ use Rattle.tk_engine_unit_events.proofs.Running.{cancel}
 
 -- ---- ids
 
-no_longer : (n m k : ℕ) → n ≡ m → m ≡ n + suc k → ⊥
-no_longer n m k a b = absurd (omega (arith, a, b))
+some_long : (s : SegmentView) (more : List SegmentView) → 0 < length (s ∷ more)
+some_long s more = omega arith
 
 not_below : (id : List SegmentView) → IsBelow id id → ⊥
-not_below id b = no_longer (length id) (length id) (length b.1) refl (ap length b.2 ∙ length-append id (b.0 ∷ b.1))
+not_below id b =
+    let longer : length id ≡ length id + length (b.0 ∷ b.1) = ap length b.2 ∙ length-append id (b.0 ∷ b.1) in
+    absurd (omega (arith, longer, some_long b.0 b.1))
 
 -- ---- steps
 
@@ -47,8 +49,8 @@ no_steps : (key w : ℕ) (l : List Event) → All (λ e. e.key ≢ key) l → st
 no_steps key w [] h = refl
 no_steps key w (e ∷ l) h =
     let differ = All-head (λ (x : Event). x.key ≢ key) e l h in
-    let miss : (is_step e.kind && (e.key == key)) ≡ false = grind (arith, tests, differ) in
-    ap (λ b. if b then e.kind ∷ steps_of key (entries_by w l) else steps_of key (entries_by w l)) miss ∙ no_steps key w l (All-tail (λ (x : Event). x.key ≢ key) e l h)
+    let other : (e.key == key) ≡ false = grind (arith, tests, differ) in
+    ap (λ b. if b then e.kind ∷ steps_of key (entries_by w l) else steps_of key (entries_by w l)) (and_right (is_step e.kind) (e.key == key) other) ∙ no_steps key w l (All-tail (λ (x : Event). x.key ≢ key) e l h)
 
 -- where a key has no step, none of the events finishes it
 lacks_finish : (key w : ℕ) (l : List Event) → steps_of key (entries_by w l) ≡ [] → LacksFinish key l
@@ -78,16 +80,19 @@ record StartsLast (key w : ℕ) (l : List Event) : Type 0 where
   its : start.key ≡ key
   none : steps_of key (entries_by w after) ≡ []
 
+start_at : (key w : ℕ) (e : Event) (l : List Event) (b : Bool) → (is_step e.kind && (e.key == key)) ≡ b → (steps_of key (entries_by w l) ≡ Started ∷ [] → StartsLast key w l)
+    → (if b then e.kind ∷ steps_of key (entries_by w l) else steps_of key (entries_by w l)) ≡ Started ∷ [] → StartsLast key w (e ∷ l)
+start_at key w e l true here rest h =
+    let its = (and_parts (is_step e.kind) (e.key == key) here).1 in
+    let same : e.key ≡ key = grind (arith, tests, its) in
+    record { before = []; start = e; after = l; is = refl; kind = head_is h; its = same; none = tail_is h }
+start_at key w e l false here rest h =
+    let s = rest h in
+    record { before = e ∷ s.before; start = s.start; after = s.after; is = ap (λ x. e ∷ x) s.is; kind = s.kind; its = s.its; none = s.none }
+
 start_of : (key w : ℕ) (l : List Event) → steps_of key (entries_by w l) ≡ Started ∷ [] → StartsLast key w l
 start_of key w [] h = cc
-start_of key w (e ∷ l) h = at_event (is_step e.kind && (e.key == key)) refl h where
-  at_event : (b : Bool) → (is_step e.kind && (e.key == key)) ≡ b → (if b then e.kind ∷ steps_of key (entries_by w l) else steps_of key (entries_by w l)) ≡ Started ∷ [] → StartsLast key w (e ∷ l)
-  at_event true here h =
-      let same : e.key ≡ key = grind (arith, tests, here) in
-      record { before = []; start = e; after = l; is = refl; kind = head_is h; its = same; none = tail_is h }
-  at_event false here h =
-      let s = start_of key w l h in
-      record { before = e ∷ s.before; start = s.start; after = s.after; is = ap (λ x. e ∷ x) s.is; kind = s.kind; its = s.its; none = s.none }
+start_of key w (e ∷ l) h = start_at key w e l (is_step e.kind && (e.key == key)) refl (λ k. start_of key w l k) h
 
 -- ---- chains of running keys
 

@@ -164,7 +164,7 @@ table_id [] k id e = cc
 table_id (d ∷ ds) zero id e = (d, refl, same_Some _ _ e)
 table_id (d ∷ ds) (suc k) id e = table_id ds k id e
 
-static_id : (r : Recorded) (k : ℕ) (id : List SegmentView) → slice_get (ids_of r.table) k ≡ Some id → HasId r k id
+pub static_id : (r : Recorded) (k : ℕ) (id : List SegmentView) → slice_get (ids_of r.table) k ≡ Some id → HasId r k id
 static_id r k id e = let d = table_id r.table k id e in record { descriptor = d.0; described = from_table r k d.0 d.1; id_is = d.2 }
 
 -- a static id whose parent's id the innermost running key has stands below that key

@@ -1,7 +1,9 @@
 -- Which children a unit may not register.
-use Rattle.std.proofs.Common.{◌≡◌, ◌⊎◌, inl, inr, ⊎_elim, ◌||◌, ℕ, zero, suc, Bool, true, false, List, [], ◌∷◌, ◌++◌, Some, slice_get, refl, sym, ap, ◌∙◌, subst, append_assoc}
-use Rattle.std.specs.Prelude.{Err, IfSome, Ok, Option, None, bytes_eq, is_some}
+use Rattle.std.proofs.Common.{◌≡◌, ◌<◌, ◌⊎◌, inl, inr, ⊎_elim, ◌||◌, ℕ, zero, suc, Bool, true, false, List, [], ◌∷◌, ◌++◌, Some, slice_get, refl, sym, ap, ◌∙◌, subst, append_assoc, arith}
+use Rattle.std.specs.Prelude.{Err, IfSome, Ok, Option, None, bytes_eq, is_some, unwrap_or}
 use Rattle.std.proofs.lemmas.Bool.{or_cases}
+use Rattle.std.specs.Option.{option_map}
+use Rattle.std.proofs.lemmas.Option.{slice_get-map}
 use Rattle.std.proofs.lemmas.Slice.Eq.{bytes_eq-Decides}
 use Rattle.tk_ids.proofs.ReadingLemmas.{text_is_unique}
 use Rattle.tk_ids.specs.Answer.{IsMadeOf}
@@ -19,19 +21,19 @@ use Rattle.tk_engine_execute.specs.declared.engines.TheConstants.{TWICE}
 use Rattle.tk_engine_execute.specs.declared.engines.UnitFault.TheVariants.{Memory, Own}
 use Rattle.tk_engine_lifecycle.specs.Units.{Frame}
 use Rattle.tk_engine_lifecycle.specs.UnderWay.{so_far}
-use Rattle.tk_engine_lifecycle.proofs.ByKey.{from_table, one_id}
+use Rattle.tk_engine_lifecycle.proofs.ByKey.{one_id}
 use Rattle.tk_engine_lifecycle.proofs.Going.{kept_id}
 use Rattle.tk_engine_lifecycle.proofs.Splits.{head_is}
 use Rattle.tk_engine_unit_events.specs.Events.{IsRunning}
 use Rattle.tk_engine_unit_events.specs.RegisteredIds.{is_registered}
-use Rattle.tk_engine_unit_events.specs.Running.{keys_of, with_id, with_ids}
+use Rattle.tk_engine_unit_events.specs.Running.{id_at, keys_of, with_id, with_ids}
 use Rattle.tk_engine_unit_events.specs.Shapes.{ShapeView, frame}
 use Rattle.tk_engine_unit_events.specs.Standing.{AreNoted, BegunUnit, IsKnown, IsNotedText}
 use Rattle.tk_engine_unit_events.specs.Taken.{IsTaken}
 use Rattle.tk_engine_unit_events.specs.UnitSteps.{UnitView}
 use Rattle.tk_engine_unit_events.specs.steps.Taken.{IsNotedChild}
 use Rattle.tk_engine_unit_events.specs.declared.running_keys.RunningKey.{RunningKey}
-use Rattle.tk_engine_unit_events.proofs.Running.{HasRegistered, cancel, first_id}
+use Rattle.tk_engine_unit_events.proofs.Running.{HasRegistered, cancel, first_id, static_id}
 
 -- ---- the ids that are noted
 
@@ -78,10 +80,20 @@ noted_registration unit old now running registered noted next key id ask r h is 
 
 -- ---- a child that is asked for
 
-static_at : (table : List Descriptor) (key : ℕ) (id : List SegmentView) → slice_get (ids_of table) key ≡ Some id → (d : Descriptor) × (slice_get table key ≡ Some d) × (d.id ≡ id)
-static_at [] key id e = cc
-static_at (d ∷ ds) zero id e = let same : d.id ≡ id = cc in (d, refl, same)
-static_at (d ∷ ds) (suc key) id e = static_at ds key id e
+-- a child whose id is new isn't noted
+pub not_noted : (table : List Descriptor) (registered : List (List ℕ × ℕ)) (above id : List SegmentView) (segment : SegmentView) → id ≡ above ++ segment ∷ []
+    → ¬ TableHasId table id → is_registered registered (id_text id) ≡ false → ¬ IsNotedChild table registered above segment
+not_noted table registered above id segment made static fresh n =
+    ⊎_elim
+    (λ a. static (subst (TableHasId table) (sym made) a))
+    (λ b. let bad : true ≡ false = sym (subst (λ i. is_registered registered (id_text i) ≡ true) (sym made) b) ∙ fresh in cc)
+    n.noted
+
+-- nor is one below an id that isn't there
+pub none_noted : (table : List Descriptor) (registered : List (List ℕ × ℕ)) (above : List SegmentView) (segment : SegmentView) → above ≡ [] → ¬ IsNotedChild table registered above segment
+none_noted table registered above segment none n =
+    let bad : IsId [] = subst IsId none n.is_id in
+    let less : 0 < 0 = bad.0 in absurd (omega (arith, less))
 
 module _ (s : ShapeView) (unit : BegunUnit) (sink : SenderView) (u : UnitView) (running outer : List RunningKey) (first : RunningKey) (registered : List (List ℕ × ℕ)) (next : ℕ)
     (segment : SegmentView) (same : frame s ≡ unit.frame) (r : IsRunning unit.frame unit.keys.unit unit.start sink (with_ids unit.frame.table running) registered next)
@@ -93,9 +105,7 @@ module _ (s : ShapeView) (unit : BegunUnit) (sink : SenderView) (u : UnitView) (
   keys_are = runs ∙ ap (λ l. keys_of (with_ids unit.frame.table l)) is
 
   known_static : (id : List SegmentView) → TableHasId unit.frame.table id → IsKnown unit sink id
-  known_static id t =
-      let d = static_at unit.frame.table t.0 id t.1 in
-      (r.emitting.events, r.emitting.sent, t.0, record { descriptor = d.0; described = from_table (so_far unit.frame unit.start.worker r.emitting.events) t.0 d.0 d.1; id_is = d.2 })
+  known_static id t = (r.emitting.events, r.emitting.sent, t.0, static_id (so_far unit.frame unit.start.worker r.emitting.events) t.0 id t.1)
 
   known_noted : (id : List SegmentView) → IsId id → IsNotedText unit sink (id_text id) → IsKnown unit sink id
   known_noted id is_id n = subst (IsKnown unit sink) (text_is_unique n.id id n.is_id is_id n.its) n.known
@@ -136,13 +146,13 @@ module _ (s : ShapeView) (unit : BegunUnit) (sink : SenderView) (u : UnitView) (
 
   -- a child whose id is new isn't taken
   pub not_taken : (id : List SegmentView) → id ≡ (with_id s.plan.table first).id ++ segment ∷ [] → ¬ TableHasId s.plan.table id → is_registered registered (id_text id) ≡ false → ¬ IsTaken unit u segment
-  not_taken id made static fresh t =
-      ⊎_elim
-      (λ a. static (subst (TableHasId s.plan.table) (sym made) a))
-      (λ b. let bad : true ≡ false = sym (subst (λ i. is_registered registered (id_text i) ≡ true) (sym made) b) ∙ fresh in cc)
-      (is_noted t).noted
+  not_taken id made static fresh t = not_noted s.plan.table registered (with_id s.plan.table first).id id segment made static fresh (is_noted t)
 
 -- ---- an id that is made
+
+-- a key without a descriptor has no id in the table
+pub no_id : (table : List Descriptor) (key : ℕ) → slice_get table key ≡ None → id_at table key ≡ []
+no_id table key none = ap (λ o. unwrap_or o []) (slice_get-map (λ (d : Descriptor). d.id) table key ∙ ap (option_map (λ (d : Descriptor). d.id)) none)
 
 pub made_not_twice : (fault : IdFault) → fault_of_id fault ≡ Own TWICE → ⊥
 made_not_twice ids.Empty e = cc
