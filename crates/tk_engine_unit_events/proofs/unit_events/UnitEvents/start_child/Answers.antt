@@ -9,6 +9,7 @@ use Rattle.tk_engine_unit_events.proofs.Played.{played_dynamic, played_registrat
 use Rattle.tk_engine_unit_events.proofs.UnitSteps.{err_of, extends_child, extends_more, grew_registered, grew_same, same_view, started_child, tails_same}
 use Rattle.tk_engine_unit_events.proofs.Running.{child_off, popped, ran_child, ran_noted, ran_registered, registered_below}
 use Rattle.tk_engine_execute.specs.Engines.{Extends}
+use Rattle.std.proofs.lemmas.Result.{err_from_is_err_and}
 use Rattle.tk_engine_unit_events.proofs.Taken.{is_noted, is_taken, not_taken, noted_after, noted_registration, noted_same}
 use Rattle.tk_engine_unit_events.proofs.unit_events.UnitEvents.start_child.Goals as goal
 use Rattle.tk_engine_unit_events.proofs.unit_events.UnitEvents.start_child.Goals.{in-Some+in-Some-started-2, in-Some+in-None-1, in-None-1}
