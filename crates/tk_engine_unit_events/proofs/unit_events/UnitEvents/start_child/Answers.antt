@@ -6,7 +6,7 @@ use Rattle.tk_engine_unit_events.specs.declared.running_keys.RunningKey.{Running
 use Rattle.tk_engine_unit_events.specs.Standing.{AreNoted}
 use Rattle.tk_engine_unit_events.specs.Units.{HasPlayed}
 use Rattle.tk_engine_unit_events.proofs.Played.{played_dynamic, played_registration}
-use Rattle.tk_engine_unit_events.proofs.UnitSteps.{err_of, extends_child, extends_more, grew_registered, grew_same, if_err, same_view, started_child, tails_same}
+use Rattle.tk_engine_unit_events.proofs.UnitSteps.{err_of, extends_child, extends_more, grew_registered, grew_same, same_view, started_child, tails_same}
 use Rattle.tk_engine_unit_events.proofs.Running.{child_off, popped, ran_child, ran_noted, ran_registered, registered_below}
 use Rattle.tk_engine_execute.specs.Engines.{Extends}
 use Rattle.std.proofs.lemmas.Result.{err_from_is_err_and}
@@ -140,7 +140,9 @@ returns-in-Ok-clause-free g c = λ t.
     _ c.in_ok-key.ensures.id c.in_ok-key.ensures.not_static c.in_ok-key.ensures.not_registered t
 
 pub returns-in_err-push-clause-taken : goal.returns-in_err-push-clause-taken
-returns-in_err-push-clause-taken g c = if_err _ _ (λ why t. absurd (
+returns-in_err-push-clause-taken g c =
+    let p = err_from_is_err_and c.from_residual-in_err-push.result c.from_residual-in_err-push.ensures.1 in
+    rw (p.1, p.2) (λ t. absurd (
     not_taken c.self.inside.shape.now g.K.UnitRun.unit _ c.args.self.now c.self.inside.progress.running _ c.in_ok-innermost.innermost.now c.self.inside.progress.registered c.self.inside.progress.next c.args.child.now.segment
     c.self.invariant.1 c.self.invariant.2.running c.in_ok-innermost.ensures.top.1 (sym (ap (λ (v : UnitView). v.sink) c.self.view_is)) (sym (ap (λ (v : UnitView). v.running) c.self.view_is))
     _ c.in_ok-key.ensures.id c.in_ok-key.ensures.not_static c.in_ok-key.ensures.not_registered t))
