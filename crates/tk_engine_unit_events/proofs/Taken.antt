@@ -1,24 +1,16 @@
 -- Which children a unit may not register.
-use Rattle.std.proofs.Common.{◌≡◌, ◌<◌, ◌⊎◌, inl, inr, ⊎_elim, ◌||◌, ℕ, zero, suc, Bool, true, false, List, [], ◌∷◌, ◌++◌, Some, slice_get, refl, sym, ap, ◌∙◌, subst, append_assoc, arith}
-use Rattle.std.specs.Prelude.{Err, IfSome, Ok, Option, None, bytes_eq, is_some, unwrap_or}
+use Rattle.std.proofs.Common.{◌≡◌, ⊎_elim, ◌||◌, ℕ, true, false, List, [], ◌∷◌, ◌++◌, sym, ap, ◌∙◌, subst, append_assoc}
+use Rattle.std.specs.Prelude.{Ok, bytes_eq}
 use Rattle.std.proofs.lemmas.Bool.{or_cases}
-use Rattle.std.specs.Option.{option_map}
-use Rattle.std.proofs.lemmas.Option.{slice_get-map}
 use Rattle.std.proofs.lemmas.Slice.Eq.{bytes_eq-Decides}
 use Rattle.tk_ids.proofs.ReadingLemmas.{text_is_unique}
-use Rattle.tk_ids.specs.Answer.{IsMadeOf}
-use Rattle.tk_ids.specs.declared.id_faults.IdFault.{IdFault}
-use Rattle.tk_ids.specs.declared.id_faults.IdFault.TheVariants as ids
 use Rattle.tk_ids.specs.IdText.{FitsLimits, IsId, SegmentView, id_text}
-use Rattle.tk_ids.specs.Table.{HasId as TableHasId, ids_of}
+use Rattle.tk_ids.specs.Table.{HasId as TableHasId}
 use Rattle.tk_ids.specs.declared.descriptors.Descriptor.{Descriptor}
 use Rattle.tk_events.specs.declared.events.Event.{Event}
 use Rattle.tk_queue_session.specs.Registering.{IsRegisteredAs, RegisterRequest, child_of, registration}
 use Rattle.tk_queue_session.specs.Senders.{SenderView, record_of_sender, sends}
 use Rattle.tk_query_lifecycle.specs.Lifecycle.{HasId}
-use Rattle.tk_engine_execute.specs.Engines.{fault_of_id}
-use Rattle.tk_engine_execute.specs.declared.engines.TheConstants.{TWICE}
-use Rattle.tk_engine_execute.specs.declared.engines.UnitFault.TheVariants.{Memory, Own}
 use Rattle.tk_engine_lifecycle.specs.Units.{Frame}
 use Rattle.tk_engine_lifecycle.specs.UnderWay.{so_far}
 use Rattle.tk_engine_lifecycle.proofs.ByKey.{one_id}
@@ -26,7 +18,7 @@ use Rattle.tk_engine_lifecycle.proofs.Going.{kept_id}
 use Rattle.tk_engine_lifecycle.proofs.Splits.{head_is}
 use Rattle.tk_engine_unit_events.specs.Events.{IsRunning}
 use Rattle.tk_engine_unit_events.specs.RegisteredIds.{is_registered}
-use Rattle.tk_engine_unit_events.specs.Running.{id_at, keys_of, with_id, with_ids}
+use Rattle.tk_engine_unit_events.specs.Running.{keys_of, with_id, with_ids}
 use Rattle.tk_engine_unit_events.specs.Shapes.{ShapeView, frame}
 use Rattle.tk_engine_unit_events.specs.Standing.{AreNoted, BegunUnit, IsKnown, IsNotedText}
 use Rattle.tk_engine_unit_events.specs.Taken.{IsTaken}
@@ -89,12 +81,6 @@ not_noted table registered above id segment made static fresh n =
     (λ b. let bad : true ≡ false = sym (subst (λ i. is_registered registered (id_text i) ≡ true) (sym made) b) ∙ fresh in cc)
     n.noted
 
--- nor is one below an id that isn't there
-pub none_noted : (table : List Descriptor) (registered : List (List ℕ × ℕ)) (above : List SegmentView) (segment : SegmentView) → above ≡ [] → ¬ IsNotedChild table registered above segment
-none_noted table registered above segment none n =
-    let bad : IsId [] = subst IsId none n.is_id in
-    let less : 0 < 0 = bad.0 in absurd (omega (arith, less))
-
 module _ (s : ShapeView) (unit : BegunUnit) (sink : SenderView) (u : UnitView) (running outer : List RunningKey) (first : RunningKey) (registered : List (List ℕ × ℕ)) (next : ℕ)
     (segment : SegmentView) (same : frame s ≡ unit.frame) (r : IsRunning unit.frame unit.keys.unit unit.start sink (with_ids unit.frame.table running) registered next)
     (is : running ≡ first ∷ outer) (now : u.sink ≡ sink) (runs : u.running ≡ keys_of (with_ids unit.frame.table running)) where
@@ -147,37 +133,3 @@ module _ (s : ShapeView) (unit : BegunUnit) (sink : SenderView) (u : UnitView) (
   -- a child whose id is new isn't taken
   pub not_taken : (id : List SegmentView) → id ≡ (with_id s.plan.table first).id ++ segment ∷ [] → ¬ TableHasId s.plan.table id → is_registered registered (id_text id) ≡ false → ¬ IsTaken unit u segment
   not_taken id made static fresh t = not_noted s.plan.table registered (with_id s.plan.table first).id id segment made static fresh (is_noted t)
-
--- ---- an id that is made
-
--- a key without a descriptor has no id in the table
-pub no_id : (table : List Descriptor) (key : ℕ) → slice_get table key ≡ None → id_at table key ≡ []
-no_id table key none = ap (λ o. unwrap_or o []) (slice_get-map (λ (d : Descriptor). d.id) table key ∙ ap (option_map (λ (d : Descriptor). d.id)) none)
-
-pub made_not_twice : (fault : IdFault) → fault_of_id fault ≡ Own TWICE → ⊥
-made_not_twice ids.Empty e = cc
-made_not_twice (ids.BadSegment n) e = cc
-made_not_twice (ids.BadEscape n) e = cc
-made_not_twice ids.TooLong e = cc
-made_not_twice ids.Memory e = cc
-
-pub made_memory : (segments : List SegmentView) (fault : IdFault) → IsMadeOf segments (Err fault) → FitsLimits segments → fault_of_id fault ≡ Memory
-made_memory segments ids.Empty made fits = absurd made
-made_memory segments (ids.BadSegment n) made fits = absurd made
-made_memory segments (ids.BadEscape n) made fits = absurd made
-made_memory segments ids.TooLong made fits = absurd (made fits)
-made_memory segments ids.Memory made fits = refl
-
--- a child whose id was found
-pub noted_child : (table : List Descriptor) (registered : List (List ℕ × ℕ)) (above id : List SegmentView) (segment : SegmentView) (found : Option ℕ) (here : Bool)
-    → id ≡ above ++ segment ∷ [] → IsId above → IsId id → FitsLimits id → IfSome found (λ key. slice_get (ids_of table) key ≡ Some id)
-    → here ≡ is_registered registered (id_text id) → (is_some found || here) ≡ true → IsNotedChild table registered above segment
-noted_child table registered above id segment found here made is_above is_id fits at noted either = record {
-  is_id = is_above;
-  child_is_id = subst IsId made is_id;
-  fits = subst FitsLimits made fits;
-  noted = subst (λ i. TableHasId table i ⊎ (is_registered registered (id_text i) ≡ true)) made (in_either found at either);
-} where
-  in_either : (found : Option ℕ) → IfSome found (λ key. slice_get (ids_of table) key ≡ Some id) → (is_some found || here) ≡ true → TableHasId table id ⊎ (is_registered registered (id_text id) ≡ true)
-  in_either (Some key) at either = inl (key, at)
-  in_either None at either = inr (sym noted ∙ either)

@@ -86,7 +86,8 @@ pub(crate) fn new_child(
     };
     let id = above.append(alloc, segment)?;
     // For the proof: what every id is.
-    let _texts = (above.as_text(), id.as_text());
+    let _above_text = above.as_text();
+    let _text = id.as_text();
     if shape.table().find(&id).is_some() || registered.has(&id) {
         return Err(UnitFault::Own(TWICE));
     }

@@ -1,4 +1,7 @@
+use Rattle.std.proofs.Common.{ap, subst, sym}
 use Rattle.tk_ids.specs.IdText.{id_text}
+use Rattle.tk_engine_unit_events.specs.UnitSteps.{ChildView}
+use Rattle.tk_engine_unit_events.specs.steps.Taken.{IsNotedChild}
 use Rattle.tk_engine_unit_events.proofs.Running.{noted_more, unnoted, unnoted_more}
 use Rattle.tk_engine_unit_events.proofs.Taken.{not_noted}
 use Rattle.tk_engine_unit_events.proofs.leases.Lease.register_child.Goals as goal
@@ -17,4 +20,5 @@ returns-in-Err-clause-refused g c =
 
 pub returns-in-Err-clause-taken : goal.returns-in-Err-clause-taken
 returns-in-Err-clause-taken g c = λ n.
-    absurd (not_noted _ _ _ c.in_ok-id.id _ c.in_ok-id.ensures.id c.in_ok-id.ensures.not_static c.in_ok-id.ensures.not_registered n)
+    absurd (not_noted _ _ _ c.in_ok-id.id _ c.in_ok-id.ensures.id c.in_ok-id.ensures.not_static c.in_ok-id.ensures.not_registered
+    (subst (IsNotedChild _ _ _) (sym (ap (λ (v : ChildView). v.segment) c.child.view_is)) n))

@@ -1,6 +1,6 @@
 use Rattle.std.proofs.Common.{ap, refl, sym, subst, ◌∙◌}
 use Rattle.tk_engine_unit_events.specs.UnitSteps.{UnitView}
-use Rattle.tk_engine_unit_events.proofs.UnitSteps.{err_of, extends_child, extends_more, grew_registered, grew_same, same_view, skipped_child, on_err, on_ok}
+use Rattle.tk_engine_unit_events.proofs.UnitSteps.{err_of, extends_child, extends_more, grew_registered, grew_same, if_err, same_view, skipped_child, on_err, on_ok}
 use Rattle.tk_engine_unit_events.specs.Events.{IsRunning}
 use Rattle.tk_engine_unit_events.specs.Running.{with_id, with_ids}
 use Rattle.tk_engine_unit_events.specs.Standing.{AreNoted}
@@ -8,6 +8,7 @@ use Rattle.tk_engine_unit_events.specs.Units.{HasPlayed}
 use Rattle.tk_engine_unit_events.proofs.Played.{played_dynamic, played_registration}
 use Rattle.tk_engine_unit_events.proofs.Running.{after_emit, ran_child_skip, ran_noted, ran_registered, registered_below}
 use Rattle.tk_engine_execute.specs.Engines.{Extends}
+use Rattle.std.proofs.lemmas.Result.{err_from_is_err_and}
 use Rattle.tk_engine_unit_events.proofs.Taken.{is_noted, is_taken, not_taken, noted_after, noted_registration, noted_same}
 use Rattle.tk_engine_unit_events.proofs.unit_events.UnitEvents.skip_child.Goals as goal
 
@@ -69,15 +70,21 @@ returns-clause-err g c =
     let runs = ap (λ (v : UnitView). v.running) c.self.view_is in
     on_err c.emit.result c.emit.ensures.err (λ e. grew_registered _ _ _ _ _ c.in_ok-key.key (sym sink) c.in_ok-key.ensures.registration e runs (ap (λ (v : UnitView). v.stamp) c.self.view_is) (ap (λ (v : UnitView). v.own_stamp) c.self.view_is))
 
-pub returns-in_ok-emit-clause-free : goal.returns-in_ok-emit-clause-free
-returns-in_ok-emit-clause-free g c = λ t.
+pub returns-clause-free : goal.returns-clause-free
+returns-clause-free g c = on_ok c.emit.result c.emit.ensures.ok (λ e t.
     not_taken c.self.inside.shape.now g.K.UnitRun.unit _ c.args.self.now c.self.inside.progress.running _ c.in_ok-innermost.innermost.now c.self.inside.progress.registered c.self.inside.progress.next c.args.child.now.segment
     c.self.invariant.1 c.self.invariant.2.running c.in_ok-innermost.ensures.top.1 (sym (ap (λ (v : UnitView). v.sink) c.self.view_is)) (sym (ap (λ (v : UnitView). v.running) c.self.view_is))
-    _ c.in_ok-key.ensures.id c.in_ok-key.ensures.not_static c.in_ok-key.ensures.not_registered t
+    _ c.in_ok-key.ensures.id c.in_ok-key.ensures.not_static c.in_ok-key.ensures.not_registered t)
+
+pub returns-clause-taken : goal.returns-clause-taken
+returns-clause-taken g c = if_err _ c.emit.result (λ why t. absurd (
+    not_taken c.self.inside.shape.now g.K.UnitRun.unit _ c.args.self.now c.self.inside.progress.running _ c.in_ok-innermost.innermost.now c.self.inside.progress.registered c.self.inside.progress.next c.args.child.now.segment
+    c.self.invariant.1 c.self.invariant.2.running c.in_ok-innermost.ensures.top.1 (sym (ap (λ (v : UnitView). v.sink) c.self.view_is)) (sym (ap (λ (v : UnitView). v.running) c.self.view_is))
+    _ c.in_ok-key.ensures.id c.in_ok-key.ensures.not_static c.in_ok-key.ensures.not_registered t))
 
 pub returns-in_err-key-clause-taken : goal.returns-in_err-key-clause-taken
 returns-in_err-key-clause-taken g c =
-    let p = err_from_is_err_and c.from_residual.result c.from_residual.ensures.1 in
+    let p = err_from_is_err_and c.from_residual-in_err-key.result c.from_residual-in_err-key.ensures.1 in
     rw (p.1, p.2) (λ t. (
       c.in_err-key.ensures.taken
           (is_noted c.self.inside.shape.now g.K.UnitRun.unit _ c.args.self.now c.self.inside.progress.running _ c.in_ok-innermost.innermost.now c.self.inside.progress.registered c.self.inside.progress.next c.args.child.now.segment
@@ -88,7 +95,7 @@ returns-in_err-key-clause-taken g c =
 
 pub returns-in_err-key-clause-twice : goal.returns-in_err-key-clause-twice
 returns-in_err-key-clause-twice g c =
-    let p = err_from_is_err_and c.from_residual.result c.from_residual.ensures.1 in
+    let p = err_from_is_err_and c.from_residual-in_err-key.result c.from_residual-in_err-key.ensures.1 in
     rw (p.1, p.2) (λ e. (
       is_taken c.self.inside.shape.now g.K.UnitRun.unit _ c.args.self.now c.self.inside.progress.running _ c.in_ok-innermost.innermost.now c.self.inside.progress.registered c.self.inside.progress.next c.args.child.now.segment
     c.self.invariant.1 c.self.invariant.2.running c.in_ok-innermost.ensures.top.1 (sym (ap (λ (v : UnitView). v.sink) c.self.view_is)) (sym (ap (λ (v : UnitView). v.running) c.self.view_is))

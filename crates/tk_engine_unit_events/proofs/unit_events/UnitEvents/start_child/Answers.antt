@@ -10,6 +10,7 @@ use Rattle.tk_engine_unit_events.proofs.Played.{played_dynamic, played_registrat
 use Rattle.tk_engine_unit_events.proofs.UnitSteps.{err_of, extends_child, extends_more, grew_registered, grew_same, same_view, started_child}
 use Rattle.tk_engine_unit_events.proofs.Running.{child_off, popped, ran_child, ran_noted, ran_registered, registered_below}
 use Rattle.tk_engine_execute.specs.Engines.{Extends}
+use Rattle.std.proofs.lemmas.Result.{err_from_is_err_and}
 use Rattle.tk_engine_unit_events.proofs.Taken.{is_noted, is_taken, not_taken, noted_after, noted_registration, noted_same}
 use Rattle.tk_engine_unit_events.proofs.unit_events.UnitEvents.start_child.Goals as goal
 use Rattle.tk_engine_unit_events.proofs.unit_events.UnitEvents.start_child.Goals.{in-Some+in-Some-started-2, in-Some+in-None-1, in-None-1}
@@ -139,9 +140,23 @@ returns-in-Ok-clause-free g c = λ t.
     c.self.invariant.1 c.self.invariant.2.running c.in_ok-innermost.ensures.top.1 (sym (ap (λ (v : UnitView). v.sink) c.self.view_is)) (sym (ap (λ (v : UnitView). v.running) c.self.view_is))
     _ c.in_ok-key.ensures.id c.in_ok-key.ensures.not_static c.in_ok-key.ensures.not_registered t
 
+pub returns-in_err-push-clause-taken : goal.returns-in_err-push-clause-taken
+returns-in_err-push-clause-taken g c =
+    let p = err_from_is_err_and c.from_residual-in_err-push.result c.from_residual-in_err-push.ensures.1 in
+    rw (p.1, p.2) (λ t. absurd (
+    not_taken c.self.inside.shape.now g.K.UnitRun.unit _ c.args.self.now c.self.inside.progress.running _ c.in_ok-innermost.innermost.now c.self.inside.progress.registered c.self.inside.progress.next c.args.child.now.segment
+    c.self.invariant.1 c.self.invariant.2.running c.in_ok-innermost.ensures.top.1 (sym (ap (λ (v : UnitView). v.sink) c.self.view_is)) (sym (ap (λ (v : UnitView). v.running) c.self.view_is))
+    _ c.in_ok-key.ensures.id c.in_ok-key.ensures.not_static c.in_ok-key.ensures.not_registered t))
+
+pub returns-in-Err-clause-taken : goal.returns-in-Err-clause-taken
+returns-in-Err-clause-taken g c = λ t. absurd (
+    not_taken c.self.inside.shape.now g.K.UnitRun.unit _ c.args.self.now c.self.inside.progress.running _ c.in_ok-innermost.innermost.now c.self.inside.progress.registered c.self.inside.progress.next c.args.child.now.segment
+    c.self.invariant.1 c.self.invariant.2.running c.in_ok-innermost.ensures.top.1 (sym (ap (λ (v : UnitView). v.sink) c.self.view_is)) (sym (ap (λ (v : UnitView). v.running) c.self.view_is))
+    _ c.in_ok-key.ensures.id c.in_ok-key.ensures.not_static c.in_ok-key.ensures.not_registered t)
+
 pub returns-in_err-key-clause-taken : goal.returns-in_err-key-clause-taken
 returns-in_err-key-clause-taken g c =
-    let p = err_from_is_err_and c.from_residual.result c.from_residual.ensures.1 in
+    let p = err_from_is_err_and c.from_residual-in_err-key.result c.from_residual-in_err-key.ensures.1 in
     rw (p.1, p.2) (λ t. (
       c.in_err-key.ensures.taken
           (is_noted c.self.inside.shape.now g.K.UnitRun.unit _ c.args.self.now c.self.inside.progress.running _ c.in_ok-innermost.innermost.now c.self.inside.progress.registered c.self.inside.progress.next c.args.child.now.segment
@@ -152,7 +167,7 @@ returns-in_err-key-clause-taken g c =
 
 pub returns-in_err-key-clause-twice : goal.returns-in_err-key-clause-twice
 returns-in_err-key-clause-twice g c =
-    let p = err_from_is_err_and c.from_residual.result c.from_residual.ensures.1 in
+    let p = err_from_is_err_and c.from_residual-in_err-key.result c.from_residual-in_err-key.ensures.1 in
     rw (p.1, p.2) (λ e. (
       is_taken c.self.inside.shape.now g.K.UnitRun.unit _ c.args.self.now c.self.inside.progress.running _ c.in_ok-innermost.innermost.now c.self.inside.progress.registered c.self.inside.progress.next c.args.child.now.segment
     c.self.invariant.1 c.self.invariant.2.running c.in_ok-innermost.ensures.top.1 (sym (ap (λ (v : UnitView). v.sink) c.self.view_is)) (sym (ap (λ (v : UnitView). v.running) c.self.view_is))
