@@ -59,16 +59,16 @@ lacks_finish key w (e ∷ l) h =
     All-cons (λ (x : Event). x.kind ≡ Finished → x.key ≢ key) e l
     (λ kind same. some_step (is_step e.kind && (e.key == key)) e.kind (steps_of key (entries_by w l)) (finishes e.kind kind (e.key == key) (let t : (e.key == key) ≡ true = grind (arith, tests, same) in t)) h)
     (lacks_finish key w l (rest_none (is_step e.kind && (e.key == key)) e.kind (steps_of key (entries_by w l)) h)) where
-  some_step : (b : Bool) (k : Kind) (ks : List Kind) → b ≡ true → (if b then k ∷ ks else ks) ≡ [] → ⊥
-  some_step true k ks t h = cc
-  some_step false k ks t h = cc
+      some_step : (b : Bool) (k : Kind) (ks : List Kind) → b ≡ true → (if b then k ∷ ks else ks) ≡ [] → ⊥
+      some_step true k ks t h = cc
+      some_step false k ks t h = cc
 
-  rest_none : (b : Bool) (k : Kind) (ks : List Kind) → (if b then k ∷ ks else ks) ≡ [] → ks ≡ []
-  rest_none true k ks h = cc
-  rest_none false k ks h = h
+      rest_none : (b : Bool) (k : Kind) (ks : List Kind) → (if b then k ∷ ks else ks) ≡ [] → ks ≡ []
+      rest_none true k ks h = cc
+      rest_none false k ks h = h
 
-  finishes : (k : Kind) → k ≡ Finished → (b : Bool) → b ≡ true → (is_step k && b) ≡ true
-  finishes k e b t = ap₂ (λ x y. is_step x && y) e t
+      finishes : (k : Kind) → k ≡ Finished → (b : Bool) → b ≡ true → (is_step k && b) ≡ true
+      finishes k e b t = ap₂ (λ x y. is_step x && y) e t
 
 -- the events before the start of a key, and after it, where it has no other step
 record StartsLast (key w : ℕ) (l : List Event) : Type 0 where

@@ -88,7 +88,7 @@ returns-in_err-key-clause-taken g c =
     rw (p.1, p.2) (λ t. (
       c.in_err-key.ensures.taken
           (is_noted c.self.inside.shape.now g.K.UnitRun.unit _ c.args.self.now c.self.inside.progress.running _ c.in_ok-innermost.innermost.now c.self.inside.progress.registered c.self.inside.progress.next c.args.child.now.segment
-    c.self.invariant.1 c.self.invariant.2.running c.in_ok-innermost.ensures.top.1 (sym (ap (λ (v : UnitView). v.sink) c.self.view_is)) (sym (ap (λ (v : UnitView). v.running) c.self.view_is))
+          c.self.invariant.1 c.self.invariant.2.running c.in_ok-innermost.ensures.top.1 (sym (ap (λ (v : UnitView). v.sink) c.self.view_is)) (sym (ap (λ (v : UnitView). v.running) c.self.view_is))
           t),
       same_view _ _ (c.in_err-key.ensures.err ∙ ap (λ (v : UnitView). v.sink) c.self.view_is) (ap (λ (v : UnitView). v.running) c.self.view_is) (ap (λ (v : UnitView). v.stamp) c.self.view_is) (ap (λ (v : UnitView). v.own_stamp) c.self.view_is),
     ))
@@ -98,7 +98,7 @@ returns-in_err-key-clause-twice g c =
     let p = err_from_is_err_and c.from_residual-in_err-key.result c.from_residual-in_err-key.ensures.1 in
     rw (p.1, p.2) (λ e. (
       is_taken c.self.inside.shape.now g.K.UnitRun.unit _ c.args.self.now c.self.inside.progress.running _ c.in_ok-innermost.innermost.now c.self.inside.progress.registered c.self.inside.progress.next c.args.child.now.segment
-    c.self.invariant.1 c.self.invariant.2.running c.in_ok-innermost.ensures.top.1 (sym (ap (λ (v : UnitView). v.sink) c.self.view_is)) (sym (ap (λ (v : UnitView). v.running) c.self.view_is))
+          c.self.invariant.1 c.self.invariant.2.running c.in_ok-innermost.ensures.top.1 (sym (ap (λ (v : UnitView). v.sink) c.self.view_is)) (sym (ap (λ (v : UnitView). v.running) c.self.view_is))
           c.self.invariant.2.noted (c.in_err-key.ensures.twice e),
       same_view _ _ (c.in_err-key.ensures.err ∙ ap (λ (v : UnitView). v.sink) c.self.view_is) (ap (λ (v : UnitView). v.running) c.self.view_is) (ap (λ (v : UnitView). v.stamp) c.self.view_is) (ap (λ (v : UnitView). v.own_stamp) c.self.view_is),
     ))
