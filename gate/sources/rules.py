@@ -24,6 +24,8 @@ class Limits:
     """Public functions without a clause, by file and name."""
     fewest_edits: int = 0
     fewest_tests: int = 0
+    internal: Sequence[str] = ()
+    """Libraries whose names authors of engines don't name."""
 
 
 Rule = Callable[[], List[str]]
@@ -32,7 +34,7 @@ Rule = Callable[[], List[str]]
 def rules_of(tree: Tree, limits: Limits) -> Dict[str, Rule]:
     """The rules by their names: each is a function that answers what breaks it."""
     sources = sources_of(tree)
-    parts = [it for it in tree.crates if it.startswith("tk_") or it == "testkit_questions"]
+    parts = [it for it in tree.crates if (it.startswith("tk_") or it == "testkit_questions") and it not in limits.internal]
     tests = [line for it in sources if it.is_test for line in it.code if line.strip() == "#[test]"]
     return {
         "each public function is called": lambda: calls.uncalled(sources),

@@ -8,7 +8,7 @@ from rules import Limits, rules_of
 from tree import Tree
 
 HOMES = {
-    "engine": "tk_limits tk_waiting tk_book tk_engine_runs tk_engine_execute tk_engine_events tk_engine_unit_events tk_engine_hierarchical",
+    "engine": "tk_limits tk_waiting tk_book tk_engine_runs tk_engine_execute tk_engine_events tk_engine_hierarchical",
     "record": "tk_lanes tk_streams tk_ids tk_events tk_record_columns tk_record",
     "questions": "tk_query_conditions tk_query_lifecycle tk_query tk_query_nearest tk_explanations testkit_questions",
     "plans": "tk_plan_units tk_plan_nodes tk_plan_members tk_plan_json tk_plan tk_engine tk_report_text tk_report",
@@ -19,6 +19,7 @@ HOMES = {
 LIMITS = Limits(
     handles="Handles allowed: Threads, Wait.\n",
     modules={library: module for module, them in HOMES.items() for library in them.split()},
+    internal=["tk_engine_unit_events"],
     # (an author needs no clause to make an engine of tests)
     without_clause=[
         *("crates/example_engine/src/by_hand/broken.rt new", "crates/example_engine/src/case_tests.rt case_engine"),

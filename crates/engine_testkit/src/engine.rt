@@ -9,9 +9,8 @@ pub use tk_engine_execute::{
     execute,
 };
 pub use tk_engine_hierarchical::{
-    Body, Hierarchical, OUT_OF_ORDER, Reporter, TWICE, Tests, run_tests,
+    Body, Hierarchical, OUT_OF_ORDER, Outcome, Reporter, TWICE, Tests, UnitRun, run_tests,
 };
-pub use tk_engine_unit_events::{Child, Lease, Outcome, Shape, UnitBody, UnitEvents, UnitRun};
 pub use tk_events::MAX_WORKERS;
 pub use tk_queue::MAX_EVENTS;
 pub use tk_waiting::{MAX_SHORT_DELAYS, RetryDelay};

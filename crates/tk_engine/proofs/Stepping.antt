@@ -6,6 +6,8 @@ use Rattle.std.proofs.Common.{⊎_elim}
 use Rattle.std.proofs.lemmas.Bool.{cases_lt}
 use Rattle.std.proofs.lemmas.List.Sums.{sum_by-cons}
 use Rattle.std.proofs.lemmas.List.{map-append}
+use Rattle.std.proofs.lemmas.Option.{same_Some}
+use Rattle.tk_lemmas.proofs.Options.{option_or-assoc, option_or_none_left, option_or_none_right}
 use Rattle.tk_ids.specs.IdText.{SegmentView}
 use Rattle.tk_ids.specs.declared.descriptors.Descriptor.{Descriptor}
 use Rattle.tk_events.specs.declared.kinds.Kind.TheVariants.{Dynamic}
@@ -96,32 +98,17 @@ has_key nodes table known k (Report i) e h = h
 has_key nodes table known k (File i) e h = h
 has_key nodes table known k Finish e h = h
 
-some_same : {A : Type 0} {x y : A} → Some x ≡ Some y → x ≡ y
-some_same e = cc
-
-option_left : {A : Type 0} (a b : Option A) → option_or a b ≡ None → a ≡ None
-option_left None b e = refl
-option_left (Some x) b e = cc
-
-option_right : {A : Type 0} (a b : Option A) → option_or a b ≡ None → b ≡ None
-option_right None b e = e
-option_right (Some x) b e = cc
-
-or_assoc : {A : Type 0} (a b c : Option A) → option_or (option_or a b) c ≡ option_or a (option_or b c)
-or_assoc None b c = refl
-or_assoc (Some x) b c = refl
-
 desc_in-append : (xs ys : List Entry) (k : ℕ) → desc_in (xs ++ ys) k ≡ option_or (desc_in xs k) (desc_in ys k)
 desc_in-append [] ys k = refl
-desc_in-append (x ∷ xs) ys k = ap (option_or _) (desc_in-append xs ys k) ∙ sym (or_assoc _ (desc_in xs k) (desc_in ys k))
+desc_in-append (x ∷ xs) ys k = ap (option_or _) (desc_in-append xs ys k) ∙ sym (option_or-assoc _ (desc_in xs k) (desc_in ys k))
 
 -- what has no descriptor after some events had none before
 unused_before : (table : List Descriptor) (w : ℕ) (sent more : List Event) (key : ℕ) → desc (record { table = table; entries = entries_by w (sent ++ more) }) key ≡ None → desc (record { table = table; entries = entries_by w sent }) key ≡ None
 unused_before table w sent more key e =
     let split : desc_in (entries_by w (sent ++ more)) key ≡ option_or (desc_in (entries_by w sent) key) (desc_in (entries_by w more) key) =
     ap (λ es. desc_in es key) (map-append (entry_by w) sent more) ∙ desc_in-append (entries_by w sent) (entries_by w more) key in
-    let table_none = option_left (slice_get table key) (desc_in (entries_by w (sent ++ more)) key) e in
-    let sent_none = option_left (desc_in (entries_by w sent) key) (desc_in (entries_by w more) key) (sym split ∙ option_right (slice_get table key) (desc_in (entries_by w (sent ++ more)) key) e) in
+    let table_none = option_or_none_left (slice_get table key) (desc_in (entries_by w (sent ++ more)) key) e in
+    let sent_none = option_or_none_left (desc_in (entries_by w sent) key) (desc_in (entries_by w more) key) (sym split ∙ option_or_none_right (slice_get table key) (desc_in (entries_by w (sent ++ more)) key) e) in
     ap₂ option_or table_none sent_none
 
 module _ (nodes : List NumberedNode) (table : List Descriptor) (planned : IsPlanned nodes table) (numbers : IsNumbered nodes) (plays : ScriptsArePlayable) (finds : NodesAreFound)
@@ -145,7 +132,7 @@ module _ (nodes : List NumberedNode) (table : List Descriptor) (planned : IsPlan
       → IsPlayed (begun nodes table old.worker sent) (prefix ++ s ∷ []) new.sent keys
   emitted_plays s key whole plain found t =
       let there = has_key nodes table known s.node s.act plain (here s whole) in
-      let its : key ≡ key_of (length table) base known s.node = some_same (sym found ∙ has_its_key nodes table base known keys was.keys_are s.node there) in
+      let its : key ≡ key_of (length table) base known s.node = same_Some _ _ (sym found ∙ has_its_key nodes table base known keys was.keys_are s.node there) in
       let key_is : key ≡ key_for (length table) base known s = its ∙ sym (ap (λ b. if b then base + length known else key_of (length table) base known s.node) plain) in
       let says : payload_of t.node s.act ≡ payload_of_node (slice_get (in_order nodes) s.node) (id_at nodes s.node) s.act =
       sym (ap (λ (b : Bool). if b then Described (descriptor (id_at nodes s.node) t.node) else payload_of t.node s.act) plain) ∙ sym (ap (λ o. payload_of_node o (id_at nodes s.node) s.act) t.is) in
@@ -169,15 +156,15 @@ module _ (nodes : List NumberedNode) (table : List Descriptor) (planned : IsPlan
         → ((node : ℕ) → later node ≡ noted keys number key node) → IsPlayed (begun nodes table old.worker sent) (prefix ++ step ∷ []) new.sent later
     step_registers above key later over found r notes =
         let can = here step whole in
-        let above_is : above ≡ key_of (length table) base known parent = some_same (sym found ∙ has_its_key nodes table base known keys was.keys_are parent can.0) in
+        let above_is : above ≡ key_of (length table) base known parent = same_Some _ _ (sym found ∙ has_its_key nodes table base known keys was.keys_are parent can.0) in
         let l = played nodes (length table) base [] prefix in
         let same_record : record_of_sender old ≡ record { table = table; entries = entries_by old.worker (sent ++ l) } = ap₂ (λ t es. record { table = t; entries = entries_by old.worker es }) over was.emitted in
         let upper = r.registered.0 in
-        let upper_id : upper.id ≡ id_at nodes parent = some_same (
+        let upper_id : upper.id ≡ id_at nodes parent = same_Some _ _ (
         ap (option_map (λ d. d.id)) (sym r.registered.1) ∙ ap₂ (λ y k. option_map (λ d. d.id) (desc y k)) same_record above_is
         ∙ finds nodes table unit old.worker parent sent prefix (step ∷ back) planned numbers was.unused whole can.0) in
         let child_is = can.1 in
-        let same_node : child_is.0 ≡ r.node = some_same (sym child_is.1 ∙ r.is) in
+        let same_node : child_is.0 ≡ r.node = same_Some _ _ (sym child_is.1 ∙ r.is) in
         let id_is : upper.id ++ r.node.segment ∷ [] ≡ id_at nodes number = sym (child_is.2 ∙ ap₂ (λ (i : List SegmentView) (n : Node). i ++ n.segment ∷ []) (sym upper_id) same_node) in
         let count = counted nodes table base [] prefix in
         let split = registrations-append sent l in

@@ -29,12 +29,9 @@ use Rattle.tk_engine_unit_events.specs.Shapes.{HavePlaces, IsInUnit, ShapeView, 
 use Rattle.tk_engine_hierarchical.specs.StaticSteps.{FitsPlan}
 use Rattle.tk_engine_unit_events.specs.Units.{StepsAs}
 use Rattle.tk_engine_unit_events.specs.declared.outcomes.Outcome.{Outcome}
-use Rattle.tk_engine_unit_events.proofs.Played.{any-append, any_kept, covered_by, or_cases, or_left, or_right}
-
-get_below : {A : Type 0} (xs : List A) (i : ℕ) → i < length xs → (x : A) × (slice_get xs i ≡ Some x)
-get_below [] i h = absurd (omega (arith, h))
-get_below (x ∷ xs) zero h = (x, refl)
-get_below (x ∷ xs) (suc i) h = get_below xs i (omega (arith, h))
+use Rattle.tk_engine_unit_events.proofs.Played.{any-append, any_kept, covered_by}
+use Rattle.tk_lemmas.proofs.Lists.{get_below}
+use Rattle.std.proofs.lemmas.Bool.{and_parts, or_cases, or_left, or_right}
 
 -- ---- the events of the workers
 
@@ -264,18 +261,13 @@ kept_kind : (kind k : Kind) (b : Bool) (ks : List Kind) → has_kind kind ks ≡
 kept_kind kind k true ks h = or_right (kind_code k == kind_code kind) (has_kind kind ks) h
 kept_kind kind k false ks h = h
 
-both_true : (a b : Bool) → (a && b) ≡ true → (a ≡ true) × (b ≡ true)
-both_true true true e = (refl, refl)
-both_true true false e = cc
-both_true false b e = cc
-
 is_step_code : (kind k : Kind) → kind_code k ≡ kind_code kind → is_step kind ≡ true → is_step k ≡ true
 is_step_code kind k e h = ap (λ n. (n == kind_code Started) || ((n == kind_code Skipped) || (n == kind_code Finished))) e ∙ h
 
 first_kind : (kind : Kind) (key : ℕ) (x : Entry) (ks : List Kind) → is_step kind ≡ true → is_event kind key x ≡ true
     → has_kind kind (if is_step x.event.kind && (x.event.key == key) then x.event.kind ∷ ks else ks) ≡ true
 first_kind kind key x ks step h =
-    let both = both_true (kind_code x.event.kind == kind_code kind) (x.event.key == key) h in
+    let both = and_parts (kind_code x.event.kind == kind_code kind) (x.event.key == key) h in
     let code : kind_code x.event.kind ≡ kind_code kind = grind (arith, tests, both.0) in
     ap₂ (λ a b. has_kind kind (if a && b then x.event.kind ∷ ks else ks)) (is_step_code kind x.event.kind code step) both.1
     ∙ or_left (kind_code x.event.kind == kind_code kind) (has_kind kind ks) both.0

@@ -31,25 +31,6 @@ use Rattle.tk_engine_hierarchical.proofs.Nested.{of_worker_mid}
 use Rattle.tk_engine_hierarchical.proofs.Recorded.{run_more, unit_ran}
 use Rattle.tk_engine_unit_events.proofs.UnitSteps.{on_ok}
 
--- ---- loops
-
-none_some : {A : Type 0} {x : A} → None ≡ Some x → ⊥
-none_some e = cc
-
-same_head : {A : Type 0} {x y : A} → Some x ≡ Some y → x ≡ y
-same_head e = cc
-
--- what is done of the rest of a list, after one thing more
-pub each_next : {A : Type 0} (after_one : A → PlanState → PlanState) (xs : List A) (i : ℕ) (x : A) (p : PlanState) → slice_get xs i ≡ Some x
-    → after_each after_one (drop i xs) p ≡ after_each after_one (drop (i + 1) xs) (after_one x p)
-each_next after_one [] i x p h = absurd (none_some h)
-each_next after_one (y ∷ ys) zero x p h = ap (λ z. after_each after_one ys (after_one z p)) (same_head h)
-each_next after_one (y ∷ ys) (suc i) x p h =
-    let next : i + 1 ≡ suc i = omega arith in
-    let there : suc i + 1 ≡ suc (suc i) = omega arith in
-    each_next after_one ys i x p h ∙ ap (λ n. after_each after_one (drop n ys) (after_one x p)) next
-    ∙ ap (λ n. after_each after_one (drop n (y ∷ ys)) (after_one x p)) (sym there)
-
 -- ---- a node
 
 if_none : {X A B : Type 0} (o : Option X) → IfNone o A → (A → B) → IfNone o B

@@ -42,6 +42,11 @@ pub record HasBegunChild (old new : UnitView) (ask : RegisterRequest) : Type 0 w
   pub start : HasStarted old started ask (event Started key ask.stamp Nothing)
   pub later : Extends started.sink new.sink
 
+-- a child was registered below the innermost running key and started, and then the sink took what
+-- its body emitted
+abbrev pub HasBegunDynamic : UnitView → UnitView → ChildView → Type 0
+HasBegunDynamic old new c = (above : ℕ) × HasBegunChild old new (child_request c above old.stamp)
+
 -- what was asked for wasn't started, or it was, and its body or its finish was refused
 abbrev pub HasBrokenOff : UnitView → UnitView → RegisterRequest → Type 0
 HasBrokenOff old new ask = Grew old new ⊎ HasBegunChild old new ask

@@ -10,7 +10,7 @@ use std::alloc::{AllocError, Global};
 use std::marker::Brand;
 use std::sync::{Arc, Wait};
 use tk_book::{BookSeat, Need};
-use tk_engine::{Engine, Sink, UnitFault};
+use tk_engine_execute::{Engine, Sink, UnitFault};
 use tk_engine_unit_events::{Lease, Shape};
 use tk_events::Event;
 use tk_ids::Table;
@@ -70,19 +70,19 @@ impl<T: Tests + Sync> Engine for Hierarchical<T> {
     }
 
     fn units(&self) -> u32 {
-        self.shape.scripted().units()
+        self.shape.count_units()
     }
 
     fn before(&self, alloc: Global) -> Result<Vec<Event>, AllocError> {
-        self.shape.scripted().before(alloc)
+        self.shape.plan().before(alloc)
     }
 
     fn after(&self, alloc: Global) -> Result<Vec<Event>, AllocError> {
-        self.shape.scripted().after(alloc)
+        self.shape.plan().after(alloc)
     }
 
     fn need(&self, unit: u32) -> Need {
-        self.shape.scripted().need(unit)
+        self.shape.plan().need(unit)
     }
 
     fn run<R: Wait, S: Sink>(
@@ -98,7 +98,7 @@ impl<T: Tests + Sync> Engine for Hierarchical<T> {
         let _lease = run_unit::<R, S, Brand, T>(
             rt,
             alloc,
-            self.shape.scripted().plan(),
+            self.shape.plan(),
             &self.tests,
             &self.shape,
             unit,

@@ -1,7 +1,6 @@
 //! The engine of a plan whose tests have bodies in Rust.
 #![tactic(auto)]
 
-pub mod child_laws;
 mod engines;
 mod hierarchical;
 pub mod laws;

@@ -1,18 +1,20 @@
 //! What a test publishes while it runs.
-ghost use Rattle.std.specs.Prelude.{◌≡◌, ◌≤◌, ℕ, IfOk, OnErr, OnOk, Some, length};
+ghost use Rattle.std.specs.Prelude.{◌≡◌, ◌⊎◌, ◌≤◌, ℕ, IfErr, IfOk, OnErr, OnOk, Some, length};
 ghost use Rattle.tk_ids.specs.declared.descriptors.Descriptor.{Descriptor as DescriptorView};
 ghost use Rattle.tk_ids.specs.declared.descriptors.DType.TheVariants.{Container, Test};
 ghost use Rattle.tk_events.specs.declared.kinds.Kind.TheVariants as kinds;
 ghost use Rattle.tk_events.specs.declared.payloads.Payload.TheVariants as payloads;
 ghost use Rattle.tk_engine_execute.specs.Engines.{Extends, IsSameSender};
+ghost use Rattle.tk_engine_execute.specs.declared.engines.UnitFault.TheVariants.{Own};
 ghost use Rattle.tk_engine_unit_events.specs.Endings.{payload_of};
-ghost use Rattle.tk_engine_hierarchical.specs.Reporting.{EndsChild, HasLeftDynamic, HasRunDynamic};
+ghost use Rattle.tk_engine_hierarchical.specs.Reporting.{EndsChild, HasBegunDynamic, HasLeftDynamic, HasRunDynamic};
+ghost use Rattle.tk_engine_unit_events.specs.Taken.{IsFaultOfTaken, IsRefusedAsTaken, IsTaken};
 ghost use Rattle.tk_engine_unit_events.specs.UnitSteps.{Grew, HasFinished, HasSkipped, IsInnermost, Published, child, child_request, event};
 
 use crate::tests::{Body, payload_of};
 use std::alloc::Global;
 use std::sync::Wait;
-use tk_engine_execute::{Sink, UnitFault};
+use tk_engine_execute::{Sink, TWICE, UnitFault};
 use tk_engine_unit_events::{Child, Outcome, UnitBody, UnitEvents, UnitRun};
 use tk_events::{Kind, Pairs, Payload};
 use tk_ids::{DType, Descriptor, Segment, Text};
@@ -81,6 +83,13 @@ impl<'a, S: Sink, K: UnitRun> Reporter<'a, S, K> {
             self.old.events self.new.events child.now) }
         ensures err { OnErr result
             (HasLeftDynamic self.old.events self.new.events child.now) }
+        ensures running { OnOk result (self.new.events.running ≡ self.old.events.running) }
+        ensures free { OnOk result (¬ IsTaken K.unit self.old.events child.now.segment) }
+        ensures taken { IfErr result (λ why. IsTaken K.unit self.old.events child.now.segment
+            → IsFaultOfTaken why × (self.new.events ≡ self.old.events)) }
+        ensures twice { IfErr result (λ why. why ≡ Own TWICE
+            → IsRefusedAsTaken K.unit self.old.events self.new.events child.now.segment
+            ⊎ HasBegunDynamic self.old.events self.new.events child.now) }
     {
         let stamp = self.events.stamp();
         let key = self.events.start_child(rt, alloc, child, stamp, stamp)?;
@@ -150,7 +159,8 @@ impl<'a, S: Sink, K: UnitRun> Reporter<'a, S, K> {
     /// JUnit: `dynamicTestRegistered` and what follows it.
     ///
     /// # Errors
-    /// `Own(TWICE)` where a descriptor has the id already; the faults of the sink and of the body.
+    /// `Own(TWICE)` where a static descriptor has the id already, or one that the unit registered,
+    /// and then nothing is emitted; the faults of the sink and of the body.
     pub fn dynamic_test<R: Wait, B: Body>(
         &mut self,
         rt: &R,
@@ -165,6 +175,13 @@ impl<'a, S: Sink, K: UnitRun> Reporter<'a, S, K> {
             self.old.events self.new.events (child Test segment.now name.now)) }
         ensures err { OnErr result (HasLeftDynamic
             self.old.events self.new.events (child Test segment.now name.now)) }
+        ensures running { OnOk result (self.new.events.running ≡ self.old.events.running) }
+        ensures free { OnOk result (¬ IsTaken K.unit self.old.events segment.now) }
+        ensures taken { IfErr result (λ why. IsTaken K.unit self.old.events segment.now
+            → IsFaultOfTaken why × (self.new.events ≡ self.old.events)) }
+        ensures twice { IfErr result (λ why. why ≡ Own TWICE
+            → IsRefusedAsTaken K.unit self.old.events self.new.events segment.now
+            ⊎ HasBegunDynamic self.old.events self.new.events (child Test segment.now name.now)) }
         // Whatever the body does.
         ensures same { IsSameSender K.unit.start self.new.events.sink }
         ensures some { Extends K.unit.start self.new.events.sink }
@@ -200,6 +217,14 @@ impl<'a, S: Sink, K: UnitRun> Reporter<'a, S, K> {
             self.old.events self.new.events (child Container segment.now name.now)) }
         ensures err { OnErr result (HasLeftDynamic
             self.old.events self.new.events (child Container segment.now name.now)) }
+        ensures running { OnOk result (self.new.events.running ≡ self.old.events.running) }
+        ensures free { OnOk result (¬ IsTaken K.unit self.old.events segment.now) }
+        ensures taken { IfErr result (λ why. IsTaken K.unit self.old.events segment.now
+            → IsFaultOfTaken why × (self.new.events ≡ self.old.events)) }
+        ensures twice { IfErr result (λ why. why ≡ Own TWICE
+            → IsRefusedAsTaken K.unit self.old.events self.new.events segment.now
+            ⊎ HasBegunDynamic self.old.events self.new.events
+            (child Container segment.now name.now)) }
         // Whatever the body does.
         ensures same { IsSameSender K.unit.start self.new.events.sink }
         ensures some { Extends K.unit.start self.new.events.sink }
@@ -231,6 +256,11 @@ impl<'a, S: Sink, K: UnitRun> Reporter<'a, S, K> {
             (child_request (child Test segment.now name.now) above self.old.events.stamp)
             (event kinds.Skipped key self.old.events.stamp (payloads.Reason reason))) }
         ensures err { OnErr result (Grew self.old.events self.new.events) }
+        ensures free { OnOk result (¬ IsTaken K.unit self.old.events segment.now) }
+        ensures taken { IfErr result (λ why. IsTaken K.unit self.old.events segment.now
+            → IsFaultOfTaken why × (self.new.events ≡ self.old.events)) }
+        ensures twice { IfErr result (λ why. why ≡ Own TWICE
+            → IsRefusedAsTaken K.unit self.old.events self.new.events segment.now) }
     {
         let child = Child {
             segment,

@@ -10,14 +10,13 @@ ghost use Rattle.tk_engine_hierarchical.specs.Laws.{UnitsNest, UnitsRanTrees, te
 ghost use Rattle.tk_engine_hierarchical.specs.Runs.{IsRunBy};
 ghost use Rattle.tk_engine_unit_events.specs.Shapes.{count_units};
 
-use crate::child_laws::children_run;
 use crate::engines::Hierarchical;
-use crate::laws::{lifecycle, nesting, outcomes, steps, trees, turns};
+use crate::laws::{children_run, lifecycle, nesting, outcomes, steps, trees, turns};
 use crate::tests::Tests;
 use std::alloc::Global;
 use std::sync::Wait;
 use std::thread::Threads;
-use tk_engine::{Results, RunFault, execute};
+use tk_engine_execute::{Results, RunFault, execute};
 use tk_events::MAX_WORKERS;
 use tk_queue_session::MAX_CAPACITY;
 

@@ -1,8 +1,9 @@
 -- One event more of a unit of a hierarchical engine.
 use Rattle.std.proofs.Common.{◌≡◌, ◌≢◌, ◌<◌, ◌≤◌, ◌+◌, ◌==◌, ◌&&◌, ℕ, zero, suc, ◌⊎◌, inl, inr, ⊎_elim, Bool, true, false, if◌then◌else◌, List, [], ◌∷◌, ◌++◌, length, Option, Some, None, slice_get, refl, sym, ap, ◌∙◌, subst, append_assoc, append-nil, arith, tests}
 use Rattle.std.specs.Option.{option_or}
+use Rattle.std.proofs.lemmas.Bool.{both_ways}
 use Rattle.std.proofs.lemmas.List.{map-append}
-use Rattle.tk_lemmas.proofs.Options.{option_or-assoc}
+use Rattle.std.proofs.lemmas.Option.{same_Some}
 use Rattle.tk_ids.specs.IdText.{SegmentView, id_text}
 use Rattle.tk_ids.specs.declared.descriptors.Descriptor.{Descriptor}
 use Rattle.tk_events.specs.declared.events.Event.{Event}
@@ -22,6 +23,8 @@ use Rattle.tk_engine_lifecycle.specs.Units.{Frame, KeepsAlone, KeepsAround}
 use Rattle.tk_engine_lifecycle.proofs.States.{state}
 use Rattle.tk_engine_lifecycle.specs.UnderWay.{IsOneOf, IsUnderWay, MayBegin, MayBeRegistered, so_far}
 use Rattle.tk_engine_unit_events.specs.Emitting.{IsEmitting, Progress, since}
+use Rattle.tk_lemmas.proofs.Lists.{get_below}
+use Rattle.tk_lemmas.proofs.Options.{option_or-none, option_or-assoc, option_or_cases}
 use Rattle.tk_engine_lifecycle.proofs.ByKey.{desc_in-append, later_id, one_id, from_table}
 use Rattle.tk_engine_lifecycle.proofs.Going.{other_steps, so_far_more}
 use Rattle.tk_engine_lifecycle.proofs.Steps.{begins, begins_registered, dynamic_key_fresh, dynamic_no_step, finishes, its_own, law_closes}
@@ -48,10 +51,6 @@ emitting_none f unit start none next around low table ids known = record {
 not_registered : (key w : ℕ) (e : Event) → (kind_code e.kind == kind_code Dynamic) ≡ false → registered key (entry_by w e) ≡ None
 not_registered key w e plain = ap (λ b. if b && (e.key == key) then described e.payload else None) plain
 
-or_none_right : {A : Type 0} (a : Option A) → option_or a None ≡ a
-or_none_right None = refl
-or_none_right (Some x) = refl
-
 -- no key has another id after it
 same_desc_more : (f : Frame) (w : ℕ) (l : List Event) (e : Event) (key : ℕ) → (kind_code e.kind == kind_code Dynamic) ≡ false
     → desc (with_entry (so_far f w l) (entry_by w e)) key ≡ desc (so_far f w l) key
@@ -59,7 +58,7 @@ same_desc_more f w l e key plain =
     ap (option_or (slice_get f.table key))
     (desc_in-append (so_far f w l).entries (entry_by w e ∷ []) key
     ∙ ap (λ o. option_or (desc_in (so_far f w l).entries key) (option_or o None)) (not_registered key w e plain)
-    ∙ or_none_right (desc_in (so_far f w l).entries key))
+    ∙ option_or-none (desc_in (so_far f w l).entries key))
 
 earlier_id : (f : Frame) (w : ℕ) (l : List Event) (e : Event) (key : ℕ) (id : List SegmentView) → (kind_code e.kind == kind_code Dynamic) ≡ false
     → HasId (so_far f w (l ++ e ∷ [])) key id → HasId (so_far f w l) key id
@@ -123,17 +122,13 @@ emitted_skip f unit start now p e i kind low static b =
     (skips f unit start.worker i.events p.running e i.going.around i.going.is_unit i.going.under_way kind (i.fresh e.key low static) b)
     (λ key a c. other_steps key start.worker i.events e (differs e.key key (e.key + 1) (omega arith) a) ∙ i.fresh key (omega (arith, low, a)) c)
 
-not_both : (b : Bool) → b ≡ true → b ≡ false → ⊥
-not_both true a c = cc
-not_both false a c = cc
-
 -- a running key reports an entry or publishes a file
 pub emitted_report : (f : Frame) (unit : ℕ) (start now : SenderView) (p : Progress) (e : Event) (i : IsEmitting f unit (since start now) p)
     → is_step e.kind ≡ false → (kind_code e.kind == kind_code Dynamic) ≡ false → IsOneOf e.key p.running
     → IsEmitting f unit (since start (sends now e)) p
 emitted_report f unit start now p e i none plain o =
     emitted_plain f unit start now p e p.running p.next i plain
-    (reports f unit start.worker i.events p.running e i.going.around i.going.is_unit i.going.under_way none (λ d. not_both (kind_code e.kind == kind_code Dynamic) (ap (λ k. kind_code k == kind_code Dynamic) d) plain) o)
+    (reports f unit start.worker i.events p.running e i.going.around i.going.is_unit i.going.under_way none (λ d. both_ways (kind_code e.kind == kind_code Dynamic) plain (ap (λ k. kind_code k == kind_code Dynamic) d)) o)
     (λ key a c. no_step_added key start.worker i.events e none ∙ i.fresh key a c)
 
 nothing_started : [] ≡ Started ∷ [] → ⊥
@@ -189,7 +184,7 @@ may_register f unit start now p i e d r =
     let same : its.0 ≡ r.id = one_id (record_of_sender now) r.above its.0 r.id (i.known r.above its.0 its.1) r.above_is in
     record {
       free = free_there f unit start now p i e.key r.free;
-      new = λ other h. ⊎_elim (λ a. r.not_static a) (λ b. not_both (p.registered (id_text d.id)) b r.not_registered) (i.ids other d.id h);
+      new = λ other h. ⊎_elim (λ a. r.not_static a) (λ b. both_ways (p.registered (id_text d.id)) r.not_registered b) (i.ids other d.id h);
       belongs = r.owner ∙ ap f.owner (sym same) ∙ its.2;
       above = r.above;
       runs = r.runs;
@@ -198,10 +193,6 @@ may_register f unit start now p i e d r =
       segment = r.segment;
       child = r.child;
     }
-
-some_of : {A : Type 0} (a b : Option A) (x : A) → option_or a b ≡ Some x → (a ≡ Some x) ⊎ ((a ≡ None) × (b ≡ Some x))
-some_of None b x e = inr (refl, e)
-some_of (Some y) b x e = inl e
 
 or_none_some : {A : Type 0} (a : Option A) (x : A) → option_or a None ≡ Some x → a ≡ Some x
 or_none_some None x e = cc
@@ -212,15 +203,12 @@ desc_more table es x key =
     ap (option_or (slice_get table key)) (desc_in-append es (x ∷ []) key)
     ∙ sym (option_or-assoc (slice_get table key) (desc_in es key) (option_or (registered key x) None))
 
-some_is : {A : Type 0} {x y : A} → Some x ≡ Some y → x ≡ y
-some_is e = cc
-
 registers_only : (key w : ℕ) (e : Event) (d x : Descriptor) (dynamic here : Bool) → (kind_code e.kind == kind_code Dynamic) ≡ dynamic → (e.key == key) ≡ here → e.payload ≡ Described d
     → (if dynamic && here then described e.payload else None) ≡ Some x → (e.key ≡ key) × (d ≡ x)
 registers_only key w e d x true true a b payload h =
     let same : e.key ≡ key = grind (arith, tests, b) in
     let some : Some d ≡ Some x = sym (ap described payload) ∙ h in
-    (same, some_is some)
+    (same, same_Some _ _ some)
 registers_only key w e d x true false a b payload h = cc
 registers_only key w e d x false here a b payload h = cc
 
@@ -234,7 +222,7 @@ id_after table es w e d key id payload h =
     (λ b.
     let it = registers_only key w e d h.descriptor (kind_code e.kind == kind_code Dynamic) (e.key == key) refl refl payload (or_none_some (registered key (entry_by w e)) h.descriptor b.1) in
     inr (it.0, ap (λ (x : Descriptor). x.id) it.1 ∙ h.id_is))
-    (some_of (desc (record { table = table; entries = es }) key) (option_or (registered key (entry_by w e)) None) h.descriptor (sym (desc_more table es (entry_by w e) key) ∙ h.described))
+    (option_or_cases (desc (record { table = table; entries = es }) key) (option_or (registered key (entry_by w e)) None) h.descriptor (sym (desc_more table es (entry_by w e) key) ∙ h.described))
 
 -- the sink describes what was registered
 pub sender_now : (now : SenderView) (e : Event) (d : Descriptor) → e.kind ≡ Dynamic → e.payload ≡ Described d → desc (record_of_sender now) e.key ≡ None → HasId (record_of_sender (sends now e)) e.key d.id
@@ -246,17 +234,12 @@ sender_now now e d kind payload free = subst (λ r. HasId r e.key d.id) (sym (se
   id_is = refl;
 })
 
-static_some : {A : Type 0} (xs : List A) (k : ℕ) → k < length xs → (x : A) × (slice_get xs k ≡ Some x)
-static_some [] k h = absurd (omega (arith, h))
-static_some (x ∷ xs) zero h = (x, refl)
-static_some (x ∷ xs) (suc k) h = static_some xs k (omega (arith, h))
-
 below_or_not : (n k : ℕ) → (n ≤ k) ⊎ (k < n)
 below_or_not n k = grind (arith, tests)
 
 free_is_dynamic : (r : Recorded) (key : ℕ) → desc r key ≡ None → length r.table ≤ key
 free_is_dynamic r key free =
-    ⊎_elim (λ h. h) (λ h. let s = static_some r.table key h in absurd (none_is_some (desc r key) s.0 free (from_table r key s.0 s.1))) (below_or_not (length r.table) key)
+    ⊎_elim (λ h. h) (λ h. let s = get_below r.table key h in absurd (none_is_some (desc r key) s.0 free (from_table r key s.0 s.1))) (below_or_not (length r.table) key)
 
 -- what a unit is after a registration, and what it may do with the key
 pub record Registered (f : Frame) (unit : ℕ) (start now : SenderView) (p : Progress) (key : ℕ) : Type 0 where

@@ -8,6 +8,7 @@ use Rattle.tk_events.specs.declared.kinds.Kind.TheVariants.{Finished, Started}
 use Rattle.tk_record_columns.specs.Recorded.{Recorded}
 use Rattle.tk_query_lifecycle.specs.Lifecycle.{HasId}
 use Rattle.tk_engine_lifecycle.specs.UnderWay.{IsOneOf}
+use Rattle.tk_lemmas.proofs.Lists.{no_split}
 use Rattle.tk_engine_lifecycle.proofs.Splits.{InFirst, InSecond, head_is, in_parts, tail_is}
 use Rattle.tk_engine_lifecycle.proofs.Apart.{all_at}
 use Rattle.tk_ids.specs.IdText.{IsBelow}
@@ -39,10 +40,6 @@ all_front P (x ∷ a) b h = All-cons P x a (All-head P x (a ++ b) h) (all_front 
 pub all_both : {A : Type 0} (P Q : A → Type 0) (xs : List A) → All P xs → All Q xs → All (λ x. P x × Q x) xs
 all_both P Q [] p q = All-nil (λ x. P x × Q x)
 all_both P Q (x ∷ xs) p q = All-cons (λ y. P y × Q y) x xs (All-head P x xs p, All-head Q x xs q) (all_both P Q xs (All-tail P x xs p) (All-tail Q x xs q))
-
-no_split : (a : List Event) (e : Event) (b : List Event) → [] ≡ a ++ e ∷ b → ⊥
-no_split [] e b h = cc
-no_split (x ∷ a) e b h = cc
 
 -- the one element of a list
 only_one : (e : Event) (s : List Event) (x : Event) (after : List Event) → e ∷ [] ≡ s ++ x ∷ after → e ≡ x
@@ -100,7 +97,7 @@ within_all running id c next = All-weaker (λ a. IsBelow a.id id) (IsWithin id) 
 pub belongs_later : (r s : Recorded) → ((k : ℕ) (id : List SegmentView) → HasId r k id → HasId s k id) → (key : ℕ) (e : Event) → BelongsTo r key e → BelongsTo s key e
 belongs_later r s later key e b = record { id = b.id; its = later key b.id b.its; own = b.own; named = later e.key b.own b.named; within = b.within }
 
-one_of : (P : RunningId → Type 0) (running : List RunningId) (n : ℕ) → All P running → IsOneOf n (keys_of running) → (k : RunningId) × (k.key ≡ n) × P k
+pub one_of : (P : RunningId → Type 0) (running : List RunningId) (n : ℕ) → All P running → IsOneOf n (keys_of running) → (k : RunningId) × (k.key ≡ n) × P k
 one_of P [] n h o = absurd o
 one_of P (k ∷ ks) n h (inl same) = (k, sym same, All-head P k ks h)
 one_of P (k ∷ ks) n h (inr o) = one_of P ks n (All-tail P k ks h) o

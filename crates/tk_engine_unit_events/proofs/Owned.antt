@@ -2,15 +2,13 @@
 use Rattle.std.proofs.Common.{◌≡◌, ◌&&◌, ℕ, zero, suc, Bool, true, false, if◌then◌else◌, List, [], ◌∷◌, ◌++◌, length, length-append, Some, None, slice_get, get_or, refl, ap, ap₂, ◌∙◌, subst, arith}
 use Rattle.std.specs.Prelude.{bytes_eq}
 use Rattle.std.specs.Option.{option_map}
+use Rattle.std.proofs.lemmas.Option.{same_Some}
 use Rattle.std.proofs.lemmas.Slice.Eq.{bytes_eq-Decides}
 use Rattle.tk_ids.specs.IdText.{SegmentView, parent_of}
 use Rattle.tk_ids.specs.declared.descriptors.Descriptor.{Descriptor}
 use Rattle.tk_ids.specs.Table.{AreDifferent, HasId as TableHasId, ids_of}
 use Rattle.tk_engine_unit_events.specs.Owners.{key_of, same_id, owner_at, owner_of, owner_within}
 use Rattle.tk_engine_lifecycle.proofs.Steps.{parent_is}
-
-some_same : {A : Type 0} {x y : A} → Some x ≡ Some y → x ≡ y
-some_same e = cc
 
 both_true : (a b c : Bool) → a ≡ true → b ≡ true → c ≡ true → (a && b && c) ≡ true
 both_true true true true p q r = refl
@@ -51,7 +49,7 @@ suc_same j k e = omega (arith, e)
 pub key_found : (table : List Descriptor) (k : ℕ) (id : List SegmentView) → ((j : ℕ) → slice_get (ids_of table) j ≡ Some id → j ≡ k) → slice_get (ids_of table) k ≡ Some id → key_of table id ≡ Some k
 key_found [] k id only at = cc
 key_found (d ∷ ds) zero id only at =
-    let same : d.id ≡ id = some_same at in
+    let same : d.id ≡ id = same_Some _ _ at in
     ap (λ b. if b then Some 0 else option_map suc (key_of ds id)) (subst (λ x. same_id d.id x ≡ true) same (same_itself d.id))
 key_found (d ∷ ds) (suc k) id only at =
     found_step (same_id d.id id) d ds k id refl

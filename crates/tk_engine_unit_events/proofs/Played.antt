@@ -2,6 +2,7 @@
 use Rattle.std.proofs.Common.{◌≡◌, ◌<◌, ◌≤◌, ◌+◌, ◌-◌, ◌==◌, ◌&&◌, ◌||◌, ℕ, zero, suc, ◌⊎◌, inl, inr, ⊎_elim, Bool, true, false, List, [], ◌∷◌, ◌++◌, length, take, Some, slice_get, All, refl, sym, ap, ap₂, ◌∙◌, subst, append_assoc, append-nil, arith, tests}
 use Rattle.std.specs.List.{list_any}
 use Rattle.std.specs.Prelude.{Ok}
+use Rattle.std.proofs.lemmas.Bool.{or_cases, or_left, or_right}
 use Rattle.std.proofs.lemmas.List.{map-append}
 use Rattle.std.proofs.lemmas.List.Elements.{All-nil, All-cons, All-append}
 use Rattle.tk_ids.specs.IdText.{SegmentView, parent_of}
@@ -29,18 +30,6 @@ or_assoc false b c = refl
 pub any-append : {A : Type 0} (p : A → Bool) (xs ys : List A) → list_any p (xs ++ ys) ≡ (list_any p xs || list_any p ys)
 any-append p [] ys = refl
 any-append p (x ∷ xs) ys = ap (λ b. p x || b) (any-append p xs ys) ∙ or_assoc (p x) (list_any p xs) (list_any p ys)
-
-pub or_left : (a b : Bool) → a ≡ true → (a || b) ≡ true
-or_left true b e = refl
-or_left false b e = cc
-
-pub or_right : (a b : Bool) → b ≡ true → (a || b) ≡ true
-or_right true b e = refl
-or_right false b e = e
-
-pub or_cases : (a b : Bool) → (a || b) ≡ true → (a ≡ true) ⊎ (b ≡ true)
-or_cases true b e = inl refl
-or_cases false b e = inr e
 
 -- ---- events that are kept
 
@@ -175,11 +164,6 @@ module _ (table : List Descriptor) (may_step : Event → Type 0) (first : ℕ) (
       subst (λ s. HasPlayed table may_step first next start s) (sym a.5) (played_plain old next (registration old ask.stamp (child_of ask a.0)) Dynamic refl refl d)
 
 -- ---- ids below one another
-
-pub parent_by_front : (a id : List SegmentView) → length id ≡ length a + 1 → take (length a) id ≡ a → a ≡ parent_of id
-parent_by_front a id one_more e =
-    let n : length a ≡ length id - 1 = omega (arith, one_more) in
-    sym (subst (λ m. take m id ≡ a) n e)
 
 id_of : (table : List Descriptor) (k : ℕ) (d : Descriptor) → slice_get table k ≡ Some d → slice_get (ids_of table) k ≡ Some d.id
 id_of [] k d e = cc

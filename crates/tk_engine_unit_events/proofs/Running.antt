@@ -1,6 +1,8 @@
 -- A unit of a hierarchical engine after each thing that it may do.
 use Rattle.std.proofs.Common.{◌≡◌, ◌<◌, ◌≤◌, ◌+◌, ◌==◌, ◌&&◌, ◌||◌, ℕ, zero, suc, inl, ⊎_elim, Bool, true, false, List, [], ◌∷◌, ◌++◌, length, Option, Some, None, slice_get, refl, sym, ap, ◌∙◌, subst, append_assoc, append-nil, arith}
 use Rattle.std.specs.Prelude.{All, Result, Ok, Err, OnOk, OnErr, IfSome, IfNone, bytes_eq, get_or, is_some, not, unwrap_or}
+use Rattle.std.proofs.lemmas.Bool.{or_left, or_right}
+use Rattle.std.proofs.lemmas.Option.{same_Some}
 use Rattle.std.proofs.lemmas.List.Elements.{All-cons, All-nil, All-head, All-tail, All-weaker}
 use Rattle.std.proofs.lemmas.Slice.Eq.{bytes_eq-Decides}
 use Rattle.tk_ids.specs.IdText.{SegmentView, id_text, parent_of}
@@ -23,6 +25,7 @@ use Rattle.tk_engine_lifecycle.specs.UnderWay.{IsOneOf, MayBegin, so_far}
 use Rattle.tk_engine_lifecycle.proofs.ByKey.{events_by, from_table, later_id, one_id, registration_of, table_or_entry}
 use Rattle.tk_engine_lifecycle.proofs.Apart.{plain}
 use Rattle.tk_engine_lifecycle.proofs.Going.{kept_id}
+use Rattle.tk_engine_lifecycle.proofs.Splits.{tail_is}
 use Rattle.tk_engine_execute.specs.Engines.{Extends, IsSameSender}
 use Rattle.tk_engine_unit_events.specs.Emitting.{IsEmitting, Progress, since}
 use Rattle.tk_engine_unit_events.specs.Covered.{AreCovered}
@@ -37,6 +40,7 @@ use Rattle.tk_engine_unit_events.specs.Running.{RunningId, id_at, keys_of, with_
 use Rattle.tk_plan_units.specs.Parents.{HasParentAt}
 use Rattle.tk_engine_unit_events.specs.Shapes.{ShapeView, frame}
 use Rattle.tk_engine_unit_events.proofs.Nesting.{Adds, IsNext, IsWithin, below_parent, each_finishes, nest_later, nesting_finish, nesting_none, nesting_plain, nesting_start, within_all, within_first}
+use Rattle.tk_engine_unit_events.proofs.Played.{published_is_no_step}
 use Rattle.tk_engine_unit_events.proofs.Owned.{owner_child, owner_static}
 use Rattle.tk_engine_unit_events.proofs.Emitted.{Registered, Registering, emitted_finish, emitted_all, emitted_registration, emitted_report, emitted_skip, emitted_start, emitting_later, emitting_none, emitting_noted, registered_skip, registered_start, sender_later, sender_now}
 
@@ -46,14 +50,6 @@ pub after_emit : {F : Type 0} (old now new : SenderView) (r : Result (Unit {0}) 
 after_emit old now new (Ok _) P ok err before after = subst P (sym ok) after
 after_emit old now new (Err _) P ok err before after = subst P (sym err) before
 
-no_step : (k : Kind) → publishes k ≡ true → is_step k ≡ false
-no_step Reporting e = refl
-no_step File e = refl
-no_step Dynamic e = cc
-no_step Skipped e = cc
-no_step Started e = cc
-no_step Finished e = cc
-
 plain_kind : (k : Kind) → publishes k ≡ true → (kind_code k == kind_code Dynamic) ≡ false
 plain_kind Reporting e = refl
 plain_kind File e = refl
@@ -62,16 +58,13 @@ plain_kind Skipped e = cc
 plain_kind Started e = cc
 plain_kind Finished e = cc
 
-some_same : {A : Type 0} {x y : A} → Some x ≡ Some y → x ≡ y
-some_same e = cc
-
 later_ids : (s : SenderView) (e : Event) (running : List RunningId) → HaveIds s running → HaveIds (sends s e) running
 later_ids s e running h = All-weaker (λ k. HasId (record_of_sender s) k.key k.id) (λ k. HasId (record_of_sender (sends s e)) k.key k.id) (λ k i. sender_later s e k.key k.id i) running h
 
 pub innermost_is : (running rest : List RunningId) (first : RunningId) → running ≡ first ∷ rest → IsOneOf first.key (keys_of running)
 innermost_is running rest first is = subst (λ l. IsOneOf first.key (keys_of l)) (sym is) (inl refl)
 
-cancel : (a x y : List Event) → a ++ x ≡ a ++ y → x ≡ y
+pub cancel : (a x y : List Event) → a ++ x ≡ a ++ y → x ≡ y
 cancel [] x y e = e
 cancel (v ∷ a) x y e = let rest : a ++ x ≡ a ++ y = cc in cancel a x y rest
 
@@ -134,7 +127,7 @@ ran_published f unit start now running registered next first e r is kind key =
     let i = r.emitting in
     let l = i.events in
     let w = start.worker in
-    let j = emitted_report f unit start now (progress running registered next) e i (no_step e.kind kind) (plain_kind e.kind kind)
+    let j = emitted_report f unit start now (progress running registered next) e i (published_is_no_step e.kind kind) (plain_kind e.kind kind)
     (subst (λ k. IsOneOf k (keys_of running)) (sym key) (innermost_is running is.0 first is.1)) in
     let n : Nests f w (first ∷ is.0) l = subst (λ m. Nests f w m l) is.1 r.nesting in
     let more : Nests f w (first ∷ is.0) (l ++ e ∷ [])
@@ -168,10 +161,10 @@ ran_finish f unit start now running rest registered next first e r is kind key =
 
 table_id : (table : List Descriptor) (k : ℕ) (id : List SegmentView) → slice_get (ids_of table) k ≡ Some id → (d : Descriptor) × (slice_get table k ≡ Some d) × (d.id ≡ id)
 table_id [] k id e = cc
-table_id (d ∷ ds) zero id e = (d, refl, some_same e)
+table_id (d ∷ ds) zero id e = (d, refl, same_Some _ _ e)
 table_id (d ∷ ds) (suc k) id e = table_id ds k id e
 
-static_id : (r : Recorded) (k : ℕ) (id : List SegmentView) → slice_get (ids_of r.table) k ≡ Some id → HasId r k id
+pub static_id : (r : Recorded) (k : ℕ) (id : List SegmentView) → slice_get (ids_of r.table) k ≡ Some id → HasId r k id
 static_id r k id e = let d = table_id r.table k id e in record { descriptor = d.0; described = from_table r k d.0 d.1; id_is = d.2 }
 
 -- a static id whose parent's id the innermost running key has stands below that key
@@ -188,7 +181,7 @@ described_id r k d e = record { descriptor = d; described = from_table r k d e; 
 
 pub described_here : (table : List Descriptor) (k : ℕ) (d : Descriptor) → slice_get table k ≡ Some d → slice_get (ids_of table) k ≡ Some d.id
 described_here [] k d e = cc
-described_here (x ∷ xs) zero d e = ap (λ (y : Descriptor). Some y.id) (some_same e)
+described_here (x ∷ xs) zero d e = ap (λ (y : Descriptor). Some y.id) (same_Some _ _ e)
 described_here (x ∷ xs) (suc k) d e = described_here xs k d e
 
 -- a static key that may start may have its first event
@@ -227,7 +220,7 @@ ran_start f unit start now running registered next key id e r m low at kind same
     (emitted_start f unit start now (progress running registered next) e i kind (subst (λ k. next ≤ k) (sym same) low) (subst (λ k. k < length f.table) (sym same) static)
     (subst (MayBegin (state f unit start.worker i.events (keys_of running))) (sym same) b)) in
     let its : HasId (so_far f w l) key id = static_id (so_far f w l) key id at in
-    let own : m.descriptor.id ≡ id = some_same (sym (described_here f.table key m.descriptor m.described) ∙ at) in
+    let own : m.descriptor.id ≡ id = same_Some _ _ (sym (described_here f.table key m.descriptor m.described) ∙ at) in
     let next_is : IsNext running id = next_static f w l running id r.nesting.ids (subst (HasInnermostParent f (keys_of running)) own m.innermost) in
     record {
       emitting = j;
@@ -280,7 +273,7 @@ popped old new rest first (Some k) is some none =
 pub parent_above : (table : List Descriptor) (key above : ℕ) (id : List SegmentView) → slice_get (ids_of table) key ≡ Some id → HasParentAt table key above
     → (1 < length id) × (slice_get (ids_of table) above ≡ Some (parent_of id))
 parent_above table key above id is p =
-    let same : p.id ≡ id = some_same (sym p.its ∙ is) in
+    let same : p.id ≡ id = same_Some _ _ (sym p.its ∙ is) in
     (subst (λ i. 1 < length i) same p.long, subst (λ i. slice_get (ids_of table) above ≡ Some (parent_of i)) same p.parent)
 
 -- the innermost key that runs is that of an id's parent
@@ -312,10 +305,6 @@ may_start s unit key running d different is owner parent innermost = record {
   parent = parent;
   innermost = innermost;
 }
-
--- what holds of an id that was found
-pub found_id : {A : Type 0} (found : Option A) (id : A) (P : A → Type 0) → found ≡ Some id → IfSome found P → P id
-found_id found id P is h = subst (λ o. IfSome o P) is h
 
 -- a unit after the start of a static key
 pub started : (f : Frame) (unit : ℕ) (start old now : SenderView) (running pushed : List RunningId) (registered : List (List ℕ × ℕ)) (next after key : ℕ) (id : List SegmentView) (e : Event)
@@ -357,9 +346,6 @@ static_is f unit key running m =
     let is = described_here f.table key m.descriptor m.described in
     is ∙ ap (λ i. Some i) (sym (ap (λ o. unwrap_or o []) is))
 
-pub id_here : (s : ShapeView) (f : Frame) (key : ℕ) (id : List SegmentView) → frame s ≡ f → slice_get (ids_of s.plan.table) key ≡ Some id → slice_get (ids_of f.table) key ≡ Some id
-id_here s f key id a e = ap (λ (g : Frame). slice_get (ids_of g.table) key) (sym a) ∙ e
-
 -- ---- registrations
 
 -- a unit after it registered a descriptor below the innermost running key
@@ -371,16 +357,12 @@ pub record HasRegistered (f : Frame) (unit : ℕ) (start now : SenderView) (runn
   pub there : HasId (so_far f start.worker registration.emitting.events) key id
   pub next_is : IsNext running id
 
-first_id : (s : SenderView) (first : RunningId) (rest running : List RunningId) → running ≡ first ∷ rest → HaveIds s running → HasId (record_of_sender s) first.key first.id
+pub first_id : (s : SenderView) (first : RunningId) (rest running : List RunningId) → running ≡ first ∷ rest → HaveIds s running → HasId (record_of_sender s) first.key first.id
 first_id s first rest running is h = All-head (λ k. HasId (record_of_sender s) k.key k.id) first rest (subst (HaveIds s) is h)
-
-or_true : (b : Bool) → (b || true) ≡ true
-or_true true = refl
-or_true false = refl
 
 pub noted_more : (registered noted : List (List ℕ × ℕ)) (own : List ℕ) → ((text : List ℕ) → is_registered noted text ≡ (bytes_eq text own || is_registered registered text))
     → (text : List ℕ) → is_registered registered text ≡ true → is_registered noted text ≡ true
-noted_more registered noted own all text h = all text ∙ ap (λ b. bytes_eq text own || b) h ∙ or_true (bytes_eq text own)
+noted_more registered noted own all text h = all text ∙ ap (λ b. bytes_eq text own || b) h ∙ or_right (bytes_eq text own) true refl
 
 -- an id that was noted and taken off again
 unnoted_by : (here old added removed : Bool) → (here ≡ true → old ≡ false) → added ≡ (here || old) → removed ≡ (not here && added) → removed ≡ old
@@ -399,13 +381,9 @@ pub unnoted_more : (registered left : List (List ℕ × ℕ)) → ((text : List 
     → (text : List ℕ) → is_registered registered text ≡ true → is_registered left text ≡ true
 unnoted_more registered left same text h = same text ∙ h
 
-true_or : (a b : Bool) → a ≡ true → (a || b) ≡ true
-true_or true b e = refl
-true_or false b e = cc
-
 noted_own : (registered noted : List (List ℕ × ℕ)) (own : List ℕ) → ((text : List ℕ) → is_registered noted text ≡ (bytes_eq text own || is_registered registered text))
     → is_registered noted own ≡ true
-noted_own registered noted own all = all own ∙ true_or (bytes_eq own own) (is_registered registered own) ((bytes_eq-Decides own own).1 refl)
+noted_own registered noted own all = all own ∙ or_left (bytes_eq own own) (is_registered registered own) ((bytes_eq-Decides own own).1 refl)
 
 -- the ids were noted, and nothing was emitted
 pub ran_noted : (f : Frame) (unit : ℕ) (start now : SenderView) (running : List RunningId) (registered noted : List (List ℕ × ℕ)) (next : ℕ)
@@ -544,9 +522,6 @@ registered_below s f unit start old now running rest registered noted next key f
     registered_child s f unit start old now (with_ids f.table running) (with_ids f.table rest) registered noted next key (with_id f.table first) id ask same r (ap (with_ids f.table) is) a parent
     (subst (λ (g : Frame). id ≡ (with_id g.table first).id ++ ask.segment ∷ []) same made) static fresh all
 
-rest_same : {x y : RunningKey} {xs ys : List RunningKey} → x ∷ xs ≡ y ∷ ys → xs ≡ ys
-rest_same e = cc
-
 -- a unit whose child was registered, and which took the child off again that didn't start
 pub child_off : (f : Frame) (unit : ℕ) (start old now : SenderView) (running pushed left : List RunningKey) (first : RunningKey) (registered : List (List ℕ × ℕ)) (next key : ℕ) (id : List SegmentView) (r : Option RunningKey)
     → now ≡ old → pushed ≡ first ∷ running
@@ -554,7 +529,7 @@ pub child_off : (f : Frame) (unit : ℕ) (start old now : SenderView) (running p
     → HasRegistered f unit start old (with_ids f.table running) registered next key id → IsRunning f unit start now (with_ids f.table left) registered next
 child_off f unit start old now running pushed left first registered next key id r sent push some none h =
     let off = popped pushed left running first r push some none in
-    let same : left ≡ running = rest_same (sym off ∙ push) in
+    let same : left ≡ running = tail_is (sym off ∙ push) in
     subst (λ s. IsRunning f unit start s (with_ids f.table left) registered next) (sym sent)
     (subst (λ (l : List RunningKey). IsRunning f unit start old (with_ids f.table l) registered next) (sym same) (ran_registered f unit start old (with_ids f.table running) registered next key id h))
 

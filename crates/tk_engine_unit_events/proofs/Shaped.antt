@@ -1,5 +1,6 @@
 -- The events around the units, and the keys of units.
 use Rattle.std.proofs.Common.{◌≡◌, ◌<◌, ◌≤◌, ℕ, zero, suc, ◌⊎◌, inl, inr, ⊎_elim, refl, List, [], ◌∷◌, ◌++◌, length, get_or, Option, Some, slice_get, sym, ap, ap₂, ◌∙◌, subst, append-nil, arith}
+use Rattle.std.proofs.lemmas.Bool.{cases_lt}
 use Rattle.std.proofs.lemmas.List.Elements.{All-weaker}
 use Rattle.tk_ids.specs.IdText.{SegmentView}
 use Rattle.tk_ids.specs.Table.{AreDifferent}
@@ -17,14 +18,10 @@ use Rattle.tk_engine_lifecycle.specs.Units.{KeepsAround, UnitsKeepLifecycle, run
 use Rattle.tk_engine_unit_events.specs.Owners.{AreOwners}
 use Rattle.tk_engine_unit_events.specs.Shapes.{HavePlaces, IsInUnit, ShapeView, count_units, frame, end_in, first_in, keys_in, may_emit}
 use Rattle.tk_engine_unit_events.specs.Units.{UnitKeys}
+use Rattle.tk_lemmas.proofs.Lists.{get_below}
 use Rattle.tk_engine_unit_events.proofs.Owned.{owner_static}
-use Rattle.tk_engine_unit_events.proofs.UnitsOfKeys.{order, unit_below}
+use Rattle.tk_engine_unit_events.proofs.UnitsOfKeys.{unit_below}
 use Rattle.tk_engine_unit_events.proofs.Running.{described_here, described_id}
-
-get_below : {A : Type 0} (xs : List A) (i : ℕ) → i < length xs → (x : A) × (slice_get xs i ≡ Some x)
-get_below [] i h = absurd (omega (arith, h))
-get_below (x ∷ xs) zero h = (x, refl)
-get_below (x ∷ xs) (suc i) h = get_below xs i (omega (arith, h))
 
 -- a number of a list, or else the one past its end
 either : (xs : List ℕ) (i none : ℕ) → ((x : ℕ) × (slice_get xs i ≡ Some x) × (get_or xs i none ≡ x)) ⊎ (get_or xs i none ≡ none)
@@ -40,7 +37,7 @@ common_owner s key owners places spine = ⊎_elim
     ⊎_elim
     (λ low. absurd (places.apart f.0 key spine (owners.owned key f.0 f.1 low)))
     (λ high. subst (λ n. count_units s ≤ n) (sym f.2) high)
-    (order f.0 (count_units s)))
+    (cases_lt f.0 (count_units s)))
     (λ none. subst (λ n. count_units s ≤ n) (sym none) (omega arith))
     (either s.owners key (count_units s))
 

@@ -1,6 +1,6 @@
 -- What the steps of a unit promise.
 use Rattle.std.proofs.Common.{◌≡◌, ℕ, List, [], ◌∷◌, ◌++◌, sym, ap, ◌∙◌, subst, append_assoc, append-nil}
-use Rattle.std.specs.Prelude.{Result, Ok, Err, OnOk, OnErr}
+use Rattle.std.specs.Prelude.{Result, Ok, Err, IfErr, OnOk, OnErr}
 use Rattle.tk_events.specs.declared.events.Event.{Event}
 use Rattle.tk_events.specs.declared.kinds.Kind.{Kind}
 use Rattle.tk_events.specs.declared.kinds.Kind.TheVariants.{Skipped, Started}
@@ -40,6 +40,11 @@ extends_extends a b c x y = (x.0 ++ y.0, y.1 ∙ ap (λ l. l ++ y.0) x.1 ∙ app
 
 pub extends_child : (a : List Event) (b c : SenderView) (ask : RegisterRequest) (key : ℕ) → IsRegisteredAs b c ask (Ok key) → IsLonger a b.sent → IsLonger a c.sent
 extends_child a b c ask key r x = subst (λ (s : SenderView). IsLonger a s.sent) (sym r.5) (extends_more a b.sent (registration b ask.stamp (child_of ask r.0)) x)
+
+-- what holds whatever the fault is
+pub if_err : {R F : Type 0} (P : F → Type 0) (r : Result R F) → ((why : F) → P why) → IfErr r P
+if_err P (Ok _) f = tt
+if_err P (Err why) f = f why
 
 -- what holds holds at `Err`
 pub err_of : {R F A : Type 0} (r : Result R F) → A → OnErr r A
@@ -105,7 +110,14 @@ started_child old new sink registered running rest first ask key stamp was view 
   running = more ∙ ap (λ l. key ∷ l) (sym view);
   stamp = kept;
   own_stamp = own;
+<<<<<<< HEAD
+}
+=======
 }
 
 pub tails_same : {A : Type 0} {x y : A} {xs ys : List A} → x ∷ xs ≡ y ∷ ys → xs ≡ ys
 tails_same e = cc
+
+pub same_view : (old new : UnitView) → new.sink ≡ old.sink → new.running ≡ old.running → new.stamp ≡ old.stamp → new.own_stamp ≡ old.own_stamp → new ≡ old
+same_view old new sink running stamp own = λ i. record { sink = sink i; running = running i; stamp = stamp i; own_stamp = own i }
+>>>>>>> wip

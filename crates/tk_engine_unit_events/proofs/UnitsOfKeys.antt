@@ -1,5 +1,7 @@
 -- The units of static keys.
 use Rattle.std.proofs.Common.{◌≡◌, ◌<◌, ◌≤◌, ◌+◌, ◌-◌, ◌^◌, ℕ, zero, suc, ◌⊎◌, inl, inr, ⊎_elim, true, false, if◌then◌else◌, List, [], ◌∷◌, ◌++◌, length, take, get_or, set, replicate, min, Some, slice_get, refl, sym, ap, ◌∙◌, subst, arith}
+use Rattle.std.proofs.lemmas.Bool.{cases_lt}
+use Rattle.std.proofs.lemmas.Option.{same_Some, slice_get_within}
 use Rattle.std.proofs.lemmas.List.{length-map, take_more}
 use Rattle.tk_plan_units.specs.Cutting.{Piece, pieces_of, units_of}
 use Rattle.tk_plan_units.specs.Numbers.{of_kind}
@@ -37,34 +39,6 @@ pub end_is : (top : NumberedNode) (below : List NumberedNode) → IsForest below
 unfolding IsForest
 end_is top below is = ap (λ ns. top.number + length (if top.node.is_static then top.node ∷ of_kind true ns else of_kind true ns)) (sym is)
 
--- ---- numbers of a list
-
-pub set_here : (xs : List ℕ) (i x : ℕ) → i < length xs → slice_get (set xs i x) i ≡ Some x
-set_here [] i x h = absurd (omega (arith, h))
-set_here (y ∷ xs) zero x h = refl
-set_here (y ∷ xs) (suc i) x h = set_here xs i x (omega (arith, h))
-
-pub set_there : (xs : List ℕ) (i k x : ℕ) → (i ≡ k → ⊥) → slice_get (set xs i x) k ≡ slice_get xs k
-set_there [] i k x other = refl
-set_there (y ∷ xs) zero zero x other = absurd (other refl)
-set_there (y ∷ xs) zero (suc k) x other = refl
-set_there (y ∷ xs) (suc i) zero x other = refl
-set_there (y ∷ xs) (suc i) (suc k) x other = set_there xs i k x (λ e. other (ap suc e))
-
-some_same : {A : Type 0} {x y : A} → Some x ≡ Some y → x ≡ y
-some_same e = cc
-
-within : {A : Type 0} (xs : List A) (i : ℕ) (x : A) → slice_get xs i ≡ Some x → i < length xs
-within [] i x h = cc
-within (y ∷ xs) zero x h = omega arith
-within (y ∷ xs) (suc i) x h = let low = within xs i x h in omega (arith, low)
-
-pub order : (a b : ℕ) → (a < b) ⊎ (b ≤ a)
-order zero zero = inr (omega arith)
-order zero (suc b) = inl (omega arith)
-order (suc a) zero = inr (omega arith)
-order (suc a) (suc b) = ⊎_elim (λ l. inl (omega (arith, l))) (λ r. inr (omega (arith, r))) (order a b)
-
 -- ---- a loop that sets a range
 
 -- the numbers from `first` on and below `key` are set, and the others are as they were
@@ -74,30 +48,6 @@ pub record AreSet (old new : List ℕ) (first key unit : ℕ) : Type 0 where
   pub before : (k : ℕ) → k < first → slice_get new k ≡ slice_get old k
   pub after : (k : ℕ) → key ≤ k → slice_get new k ≡ slice_get old k
 
-pub none_set : (old : List ℕ) (first unit : ℕ) → AreSet old old first first unit
-none_set old first unit = record {
-  count = refl;
-  own = λ k low high. absurd (omega (arith, low, high));
-  before = λ k h. refl;
-  after = λ k h. refl;
-}
-
-length_set : (xs : List ℕ) (i x : ℕ) → length (set xs i x) ≡ length xs
-length_set [] i x = refl
-length_set (y ∷ xs) zero x = refl
-length_set (y ∷ xs) (suc i) x = ap suc (length_set xs i x)
-
-pub one_more_set : (old new : List ℕ) (first key unit : ℕ) → first ≤ key → key < length new → AreSet old new first key unit → AreSet old (set new key unit) first (key + 1) unit
-one_more_set old new first key unit from low are = record {
-  count = length_set new key unit ∙ are.count;
-  own = λ k a b. ⊎_elim
-      (λ less. set_there new key k unit (λ e. omega (arith, e, less)) ∙ are.own k a less)
-      (λ past. let same : key ≡ k = omega (arith, past, b) in subst (λ n. slice_get (set new key unit) n ≡ Some unit) same (set_here new key unit low))
-      (order k key);
-  before = λ k h. set_there new key k unit (λ e. omega (arith, e, from, h)) ∙ are.before k h;
-  after = λ k h. set_there new key k unit (λ e. omega (arith, e, h)) ∙ are.after k (omega (arith, h));
-}
-
 -- ---- the units of a plan
 
 abbrev pub count_units_of : Outline → ℕ
@@ -105,22 +55,13 @@ count_units_of plan = length (units_of (forest plan.nodes))
 
 pub unit_below : (plan : Outline) (unit : ℕ) (piece : Piece) → slice_get (pieces_of (forest plan.nodes)) unit ≡ Some piece → unit < count_units_of plan
 unit_below plan unit piece its =
-    subst (λ n. unit < n) (sym (length-map (pieces_of (forest plan.nodes)) (λ (u : Piece). number_of u.tree))) (within (pieces_of (forest plan.nodes)) unit piece its)
+    subst (λ n. unit < n) (sym (length-map (pieces_of (forest plan.nodes)) (λ (u : Piece). number_of u.tree))) (slice_get_within (pieces_of (forest plan.nodes)) unit piece its)
 
 -- the numbers of the first n units' keys are theirs, and any other is the number of the units
 pub record OwnedSoFar (plan : Outline) (n : ℕ) (owners : List ℕ) : Type 0 where
   pub count : length owners ≡ length plan.table
   pub owned : (key unit : ℕ) → slice_get owners key ≡ Some unit → unit < count_units_of plan → (unit < n) × IsOfUnit plan.nodes unit key
   pub known : (key unit : ℕ) → unit < n → IsOfUnit plan.nodes unit key → (owner : ℕ) × (slice_get owners key ≡ Some owner) × (owner < count_units_of plan)
-
-pub none_owned : (plan : Outline) (owners : List ℕ) (count : ℕ) → owners ≡ replicate count (count_units_of plan) → length owners ≡ length plan.table → OwnedSoFar plan 0 owners
-none_owned plan owners count is all = record {
-  count = all;
-  owned = λ key unit at low.
-      let same = replicate_at count (count_units_of plan) key unit (subst (λ l. slice_get l key ≡ Some unit) is at) in
-      absurd (omega (arith, same, low));
-  known = λ key unit low of. absurd (omega (arith, low));
-}
 
 -- where the keys of the next unit are set to its number, n + 1 units have theirs
 pub next_owned : (plan : Outline) (n : ℕ) (old new : List ℕ) (piece : Piece) (first end : ℕ) → OwnedSoFar plan n old → slice_get (pieces_of (forest plan.nodes)) n ≡ Some piece
@@ -135,7 +76,7 @@ next_owned plan n old new piece first end are its at_first at_end set = record {
       (λ less. kept (set.before key less))
       (λ from. ⊎_elim
       (λ below.
-      let same : n ≡ unit = some_same (sym (set.own key from below) ∙ at) in (
+      let same : n ≡ unit = same_Some _ _ (sym (set.own key from below) ∙ at) in (
         omega (arith, same),
         subst (λ u. IsOfUnit plan.nodes u key) same (record {
           piece = piece;
@@ -145,8 +86,8 @@ next_owned plan n old new piece first end are its at_first at_end set = record {
         }),
       ))
       (λ past. kept (set.after key past))
-      (order key end))
-      (order key first);
+      (cases_lt key end))
+      (cases_lt key first);
   known = λ key unit low of.
       let top = unit_below plan n piece its in
       ⊎_elim
@@ -155,17 +96,17 @@ next_owned plan n old new piece first end are its at_first at_end set = record {
       let kept : slice_get new key ≡ slice_get old key → (owner : ℕ) × (slice_get new key ≡ Some owner) × (owner < count_units_of plan) = λ same. (o.0, same ∙ o.1, o.2) in
       ⊎_elim
       (λ less. kept (set.before key less))
-      (λ from. ⊎_elim (λ below. (n, set.own key from below, top)) (λ past. kept (set.after key past)) (order key end))
-      (order key first))
+      (λ from. ⊎_elim (λ below. (n, set.own key from below, top)) (λ past. kept (set.after key past)) (cases_lt key end))
+      (cases_lt key first))
       (λ last.
       let same : unit ≡ n = omega (arith, low, last) in
-      let own : of.piece ≡ piece = some_same (sym of.its ∙ ap (slice_get (pieces_of (forest plan.nodes))) same ∙ its) in
+      let own : of.piece ≡ piece = same_Some _ _ (sym of.its ∙ ap (slice_get (pieces_of (forest plan.nodes))) same ∙ its) in
       let above = subst (λ (q : Piece). number_of q.tree ≤ key) own of.from_first in
       let from : first ≤ key = omega (arith, above, at_first) in
       let under = subst (λ (q : Piece). key < end_of q.tree) own of.before_end in
       let below : key < end = omega (arith, under, at_end) in
       (n, set.own key from below, top))
-      (order unit n);
+      (cases_lt unit n);
 }
 
 -- with all units the numbers are as they have to be
@@ -173,11 +114,11 @@ pub all_owned : (plan : Outline) (owners : List ℕ) → ArePlaced plan.nodes pl
 all_owned plan owners places are = record {
   owned = λ key unit at low. (are.owned key unit at low).1;
   others = λ key unit at high.
-      let low : key < length plan.table = subst (λ n. key < n) are.count (within owners key unit at) in
+      let low : key < length plan.table = subst (λ n. key < n) are.count (slice_get_within owners key unit at) in
       ⊎_elim (λ spine. spine)
       (λ of.
       let o = are.known key of.0 (unit_below plan of.0 of.1.piece of.1.its) of.1 in
-      let same : o.0 ≡ unit = some_same (sym o.1 ∙ at) in
+      let same : o.0 ≡ unit = same_Some _ _ (sym o.1 ∙ at) in
       let small = o.2 in
       absurd (omega (arith, same, small, high)))
       (places.placed key low);

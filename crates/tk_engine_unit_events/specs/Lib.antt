@@ -10,4 +10,5 @@ pub mod Nesting
 pub mod Units
 pub mod UnitSteps
 pub mod Standing
+pub mod Taken
 pub mod steps

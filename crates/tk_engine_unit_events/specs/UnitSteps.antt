@@ -104,6 +104,12 @@ pub record Grew (old new : UnitView) : Type 0 where
   pub stamp : new.stamp ≡ old.stamp
   pub own_stamp : new.own_stamp ≡ old.own_stamp
 
+-- a key that is the innermost running one before and after has the same keys around it
+abbrev pub KeepsOuter : UnitView → UnitView → Type 0
+KeepsOuter old new =
+    (key : ℕ) (before after : List ℕ)
+    → old.running ≡ key ∷ before → new.running ≡ key ∷ after → after ≡ before
+
 -- the sink took this event, and nothing else happened
 abbrev pub after_event : UnitView → Event → UnitView
 after_event u e = record u { sink = sends u.sink e }

@@ -1,16 +1,19 @@
 //! A sink that is lent to a unit.
-ghost use Rattle.std.specs.Prelude.{◌≡◌, ◌++◌, ◌∷◌, ◌||◌, ℕ, List, [], Ok, IfOk, OnOk, OnErr, bytes_eq, false, true};
-ghost use Rattle.tk_ids.specs.IdText.{id_text};
+ghost use Rattle.std.specs.Prelude.{◌≡◌, ◌++◌, ◌∷◌, ◌||◌, ℕ, List, [], Ok, IfErr, IfOk, OnOk, OnErr, bytes_eq, false, true};
+ghost use Rattle.tk_ids.specs.IdText.{IsId, id_text};
 ghost use Rattle.tk_ids.specs.Table.{HasId as TableHasId};
 ghost use Rattle.tk_queue_session.specs.Senders.{SenderView, sends};
 ghost use Rattle.tk_queue_session.specs.Registering.{IsRegisteredAs};
 ghost use Rattle.tk_engine_execute.specs.Engines.{Extends};
+ghost use Rattle.tk_engine_execute.specs.declared.engines.UnitFault.TheVariants.{Own};
 ghost use Rattle.tk_engine_unit_events.specs.RegisteredIds.{is_registered};
 ghost use Rattle.tk_engine_unit_events.specs.UnitSteps.{child_request};
 ghost use Rattle.tk_engine_unit_events.specs.Running.{with_id};
 ghost use Rattle.tk_engine_unit_events.specs.Shapes.{frame};
 ghost use Rattle.tk_engine_unit_events.specs.Standing.{StandsAt};
 ghost use Rattle.tk_engine_unit_events.specs.steps.Standing.{unit_view};
+ghost use Rattle.tk_engine_unit_events.specs.Taken.{IsFaultOfTaken};
+ghost use Rattle.tk_engine_unit_events.specs.steps.Taken.{IsNotedChild};
 
 use crate::registered_ids::RegisteredIds;
 use crate::running_keys::RunningKey;
@@ -23,7 +26,7 @@ use std::alloc::Global;
 use std::marker::Brand;
 use std::mem;
 use std::sync::Wait;
-use tk_engine_execute::{Sink, UnitFault};
+use tk_engine_execute::{Sink, TWICE, UnitFault};
 use tk_events::Event;
 use tk_ids::UniqueId;
 
@@ -39,6 +42,7 @@ impl<'a, S: Sink> Lease<'a, S> {
         ensures ok { OnOk result
             (S.view self.new.sink.now ≡ sends (S.view self.old.sink.now) event) }
         ensures err { OnErr result (S.view self.new.sink.now ≡ S.view self.old.sink.now) }
+        ensures not_twice { IfErr result (λ why. ¬ (why ≡ Own TWICE)) }
         ensures same { self.new.sink.ghost_name ≡ self.old.sink.ghost_name }
     {
         self.sink.emit(rt, event)?;
@@ -57,6 +61,7 @@ impl<'a, S: Sink> Lease<'a, S> {
             IsRegisteredAs (S.view self.old.sink.now) (S.view self.new.sink.now)
             (child_request child.now parent stamp) (Ok key)) }
         ensures err { OnErr result (S.view self.new.sink.now ≡ S.view self.old.sink.now) }
+        ensures not_twice { IfErr result (λ why. ¬ (why ≡ Own TWICE)) }
         ensures same { self.new.sink.ghost_name ≡ self.old.sink.ghost_name }
     {
         let child_key = self
@@ -83,6 +88,7 @@ impl<'a, S: Sink> Lease<'a, S> {
             (child_request child.now above.now.key stamp) (Ok new.0)) }
         ensures id { IfOk result (λ new. new.1
             ≡ (with_id shape.now.plan.table above.now).id ++ child.now.segment ∷ []) }
+        ensures is_id { IfOk result (λ new. IsId new.1) }
         ensures not_static { IfOk result (λ new. ¬ TableHasId shape.now.plan.table new.1) }
         ensures not_registered { IfOk result (λ new.
             is_registered registered.old (id_text new.1) ≡ false) }
@@ -93,6 +99,11 @@ impl<'a, S: Sink> Lease<'a, S> {
         ensures err { OnErr result (S.view self.new.sink.now ≡ S.view self.old.sink.now) }
         ensures refused { OnErr result ((text : List ℕ) → is_registered registered.new text
             ≡ is_registered registered.old text) }
+        ensures twice { IfErr result (λ why. why ≡ Own TWICE
+            → IsNotedChild shape.now.plan.table registered.old
+            (with_id shape.now.plan.table above.now).id child.now.segment) }
+        ensures taken { IfErr result (λ why. IsNotedChild shape.now.plan.table registered.old
+            (with_id shape.now.plan.table above.now).id child.now.segment → IsFaultOfTaken why) }
         ensures same { self.new.sink.ghost_name ≡ self.old.sink.ghost_name }
     {
         let id = new_child(alloc, shape, registered, above, child.segment)?;

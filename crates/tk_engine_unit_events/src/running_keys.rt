@@ -1,5 +1,5 @@
 //! The keys of a unit that run.
-ghost use Rattle.std.specs.Prelude.{◌≡◌, IfSome};
+ghost use Rattle.std.specs.Prelude.{◌≡◌, [], IfNone, IfSome};
 ghost use Rattle.tk_engine_unit_events.specs.Running.{with_id};
 
 use crate::shapes::Shape;
@@ -14,7 +14,8 @@ pub(crate) struct RunningKey {
 
 /// The id of the descriptor of a running key.
 pub(crate) fn running_id<'s>(shape: &'s Shape, running: &'s RunningKey) -> Option<&'s UniqueId>
-    ensures { IfSome result (λ id. id.now ≡ (with_id shape.now.plan.table running.now).id) }
+    ensures some { IfSome result (λ id. id.now ≡ (with_id shape.now.plan.table running.now).id) }
+    ensures none { IfNone result ((with_id shape.now.plan.table running.now).id ≡ []) }
 {
     match &running.dynamic_id {
         Some(id) => Some(id),

@@ -15,15 +15,14 @@ ghost use Rattle.tk_engine_unit_events.specs.Shapes.{HavePlaces, count_units, fr
 use std::alloc::{AllocError, Global};
 use std::marker::Model;
 use std::sync::Arc;
-use tk_engine::{Engine, Scripted};
 use tk_engine_laws::laws::spine;
-use tk_ids::Table;
+use tk_ids::{MAX_DESCRIPTORS, Table};
 use tk_plan_units::{NumberedNode, Plan, UnitTree};
 
 /// A plan, with the unit and the parent of each static key.
 #[derive(Drop)]
 pub struct Shape {
-    scripted: Scripted,
+    plan: Plan,
     /// The number of the units stands for a key on the spine.
     owners: Vec<u32>,
     parents: Vec<u32>,
@@ -36,10 +35,10 @@ impl Model for Shape {
 
     ghost Value = { ShapeView };
 
-    ghost view = { λ s. record { plan = s.scripted; owners = s.owners.items } };
+    ghost view = { λ s. record { plan = s.plan; owners = s.owners.items } };
 
-    ghost invariant = { λ s. AreOwners s.scripted s.owners.items
-        × AreParents s.scripted.table s.parents.items };
+    ghost invariant = { λ s. AreOwners s.plan s.owners.items
+        × AreParents s.plan.table s.parents.items };
 }
 
 // The key that follows the one of a node: the next one where the node is static.
@@ -105,24 +104,32 @@ impl Shape {
         let owners = owners_of(alloc, &plan)?;
         let parents = plan.parents(alloc)?;
         Ok(Shape {
-            scripted: Scripted::new(plan),
+            plan,
             owners,
             parents,
         })
     }
 
-    /// The engine that plays the plan's scripts.
-    pub fn scripted(&self) -> &Scripted
+    /// The plan.
+    pub fn plan(&self) -> &Plan
         ensures { result.now ≡ self.now.plan }
     {
-        &self.scripted
+        &self.plan
     }
 
     /// The table of the static descriptors.
     pub fn table(&self) -> &Arc<Table>
         ensures { arc_value result.now ≡ self.now.plan.table }
     {
-        self.scripted.table()
+        self.plan.table()
+    }
+
+    /// Counts the units.
+    pub fn count_units(&self) -> u32
+        ensures count { result ≡ count_units self.now }
+        ensures few { result ≤ MAX_DESCRIPTORS }
+    {
+        self.plan.units().len() as u32
     }
 
     /// The unit to which a static key belongs, or the number of the units.
@@ -131,7 +138,7 @@ impl Shape {
     {
         match self.owners.get(key as usize) {
             Some(unit) => *unit,
-            None => self.scripted.units(),
+            None => self.count_units(),
         }
     }
 
@@ -156,9 +163,8 @@ impl Shape {
     {
         // For the proof: the keys of units end where the table does, or before.
         spine();
-        let plan = self.scripted.plan();
-        let _table = plan.table();
-        let tree = plan.unit_tree(unit);
+        let _table = self.plan.table();
+        let tree = self.plan.unit_tree(unit);
         (tree.top.number, end_of_keys(tree))
     }
 
@@ -169,7 +175,7 @@ impl Shape {
         // For the proof: each key on the spine does.
         spine();
         match self.owners.get(key as usize) {
-            Some(unit) => self.scripted.units() <= *unit,
+            Some(unit) => self.count_units() <= *unit,
             None => false,
         }
     }
@@ -182,6 +188,6 @@ impl Shape {
         ensures planned { IsPlanned self.now.plan.nodes self.now.plan.table }
     {
         spine();
-        self.scripted.plan().table().shows_different_ids();
+        self.plan.table().shows_different_ids();
     }
 }

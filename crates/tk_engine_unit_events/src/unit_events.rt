@@ -1,13 +1,15 @@
 //! What a unit emits.
-ghost use Rattle.std.specs.Prelude.{◌≡◌, ◌<◌, ◌≤◌, ◌∷◌, ℕ, IfOk, IsTrue, List, None, OnErr, OnOk, Some, false, length, true};
+ghost use Rattle.std.specs.Prelude.{◌≡◌, ◌<◌, ◌≤◌, ◌∷◌, [], ℕ, IfErr, IfOk, IsTrue, List, None, OnErr, OnOk, Some, false, length, true};
 ghost use Rattle.tk_ids.specs.declared.descriptors.Descriptor.{Descriptor as DescriptorView};
 ghost use Rattle.tk_engine_execute.specs.Engines.{Extends, IsSameSender};
+ghost use Rattle.tk_engine_execute.specs.declared.engines.UnitFault.TheVariants.{Own};
 ghost use Rattle.tk_events.specs.declared.kinds.Kind.TheVariants.{Finished, Skipped, Started};
 ghost use Rattle.tk_events.specs.declared.payloads.Payload.TheVariants.{Nothing};
 ghost use Rattle.tk_engine_unit_events.specs.Endings.{IsStaticTest};
-ghost use Rattle.tk_engine_unit_events.specs.UnitSteps.{Grew, HasFinished, HasSkipped, HasStarted, IsInnermost, Published, child_request, event, publishes, after_event, after_start, begun};
+ghost use Rattle.tk_engine_unit_events.specs.UnitSteps.{Grew, HasFinished, HasSkipped, HasStarted, IsInnermost, KeepsOuter, Published, child_request, event, publishes, after_event, after_start, begun};
 ghost use Rattle.tk_engine_unit_events.specs.Shapes.{count_units, frame, keys_in};
 ghost use Rattle.tk_engine_unit_events.specs.Standing.{IsComplete, StandsAt};
+ghost use Rattle.tk_engine_unit_events.specs.Taken.{IsFaultOfTaken, IsRefusedAsTaken, IsTaken};
 ghost use Rattle.tk_engine_unit_events.specs.steps.Standing.{unit_view};
 ghost use Rattle.tk_engine_unit_events.specs.declared.running_keys.RunningKey.{RunningKey};
 
@@ -24,7 +26,7 @@ use std::alloc::Global;
 use std::marker::{Model, PhantomData};
 use std::mem;
 use std::sync::Wait;
-use tk_engine_execute::{OUT_OF_ORDER, Sink, UnitFault};
+use tk_engine_execute::{OUT_OF_ORDER, Sink, TWICE, UnitFault};
 use tk_events::{Event, Kind, Payload};
 use tk_ids::{DType, Descriptor, Segment};
 
@@ -82,7 +84,9 @@ pub(crate) struct BodyRun {
 
 // The innermost running key.
 fn innermost(running: &Stack<RunningKey>) -> Result<&RunningKey, UnitFault>
-    ensures { IfOk result (λ top. (outer : List RunningKey) × (running.now ≡ top.now ∷ outer)) }
+    ensures top { IfOk result (λ top. (outer : List RunningKey) × (running.now ≡ top.now ∷ outer)) }
+    ensures none { OnErr result (running.now ≡ []) }
+    ensures not_twice { IfErr result (λ why. ¬ (why ≡ Own TWICE)) }
 {
     match running.top() {
         Some(top) => Ok(top),
@@ -204,6 +208,7 @@ impl<'a, S: Sink, K: UnitRun> UnitEvents<'a, S, K> {
         ensures may { IfOk result (λ outcome. B.may_end body.now outcome) }
         ensures ran { IfOk result (λ outcome. B.may_run body.now self.old self.new outcome) }
         ensures more { Extends self.old.sink self.new.sink }
+        ensures outer { KeepsOuter self.old self.new }
     {
         let mut run = BodyRun {
             progress: mem::replace(&mut self.progress, UnitProgress::nothing(alloc)),
@@ -455,6 +460,11 @@ impl<'a, S: Sink, K: UnitRun> UnitEvents<'a, S, K> {
         ensures started { IfOk result (λ key. (above : ℕ) × HasStarted self.old self.new
             (child_request child.now above registered) (event Started key stamp Nothing)) }
         ensures err { OnErr result (Grew self.old self.new) }
+        ensures free { OnOk result (¬ IsTaken K.unit self.old child.now.segment) }
+        ensures taken { IfErr result (λ why. IsTaken K.unit self.old child.now.segment
+            → IsFaultOfTaken why × (self.new ≡ self.old)) }
+        ensures twice { IfErr result (λ why. why ≡ Own TWICE
+            → IsRefusedAsTaken K.unit self.old self.new child.now.segment) }
     {
         let innermost = innermost(&self.progress.running)?;
         let (key, id) = self.lease.register_child(
@@ -499,6 +509,11 @@ impl<'a, S: Sink, K: UnitRun> UnitEvents<'a, S, K> {
         ensures ok { OnOk result ((above : ℕ) × (key : ℕ) × HasSkipped self.old self.new
             (child_request child.now above registered) (event Skipped key stamp reason)) }
         ensures err { OnErr result (Grew self.old self.new) }
+        ensures free { OnOk result (¬ IsTaken K.unit self.old child.now.segment) }
+        ensures taken { IfErr result (λ why. IsTaken K.unit self.old child.now.segment
+            → IsFaultOfTaken why × (self.new ≡ self.old)) }
+        ensures twice { IfErr result (λ why. why ≡ Own TWICE
+            → IsRefusedAsTaken K.unit self.old self.new child.now.segment) }
     {
         let innermost = innermost(&self.progress.running)?;
         let (key, _id) = self.lease.register_child(

@@ -1,12 +1,15 @@
 //! What a unit may start or skip, by ids.
-ghost use Rattle.std.specs.Prelude.{◌≡◌, ◌<◌, ◌≤◌, ◌++◌, ◌∷◌, ℕ, [], IfOk, IfSome, IsTrue, Some, false, length, slice_get};
-ghost use Rattle.tk_ids.specs.IdText.{id_text};
+ghost use Rattle.std.specs.Prelude.{◌≡◌, ◌<◌, ◌≤◌, ◌++◌, ◌∷◌, ℕ, [], IfErr, IfOk, IfSome, IsTrue, Some, false, length, slice_get};
+ghost use Rattle.tk_ids.specs.IdText.{IsId, id_text};
 ghost use Rattle.tk_ids.specs.Table.{HasId as TableHasId, ids_of};
+ghost use Rattle.tk_engine_execute.specs.declared.engines.UnitFault.TheVariants.{Own};
 ghost use Rattle.tk_engine_unit_events.specs.Covered.{IsKeyBelow};
 ghost use Rattle.tk_engine_unit_events.specs.steps.Events.{HasInnermostParent, HasParentAmong, MayStart};
 ghost use Rattle.tk_engine_unit_events.specs.RegisteredIds.{is_registered};
 ghost use Rattle.tk_engine_unit_events.specs.Running.{keys_of, with_id, with_ids};
 ghost use Rattle.tk_engine_unit_events.specs.Shapes.{frame};
+ghost use Rattle.tk_engine_unit_events.specs.Taken.{IsFaultOfTaken};
+ghost use Rattle.tk_engine_unit_events.specs.steps.Taken.{IsNotedChild};
 
 use crate::registered_ids::RegisteredIds;
 use crate::running_keys::{RunningKey, running_id};
@@ -68,14 +71,23 @@ pub(crate) fn new_child(
 ) -> Result<UniqueId, UnitFault>
     ensures id { IfOk result (λ id.
         id ≡ (with_id shape.now.plan.table parent.now).id ++ segment.now ∷ []) }
+    ensures is_id { IfOk result (λ id. IsId id) }
     ensures not_static { IfOk result (λ id. ¬ TableHasId shape.now.plan.table id) }
     ensures not_registered { IfOk result (λ id.
         is_registered registered.now (id_text id) ≡ false) }
+    ensures twice { IfErr result (λ why. why ≡ Own TWICE
+        → IsNotedChild shape.now.plan.table registered.now
+        (with_id shape.now.plan.table parent.now).id segment.now) }
+    ensures taken { IfErr result (λ why. IsNotedChild shape.now.plan.table registered.now
+        (with_id shape.now.plan.table parent.now).id segment.now → IsFaultOfTaken why) }
 {
     let Some(above) = running_id(shape, parent) else {
         return Err(UnitFault::Own(OUT_OF_ORDER));
     };
     let id = above.append(alloc, segment)?;
+    // For the proof: what every id is.
+    let _above_text = above.as_text();
+    let _text = id.as_text();
     if shape.table().find(&id).is_some() || registered.has(&id) {
         return Err(UnitFault::Own(TWICE));
     }

@@ -36,3 +36,8 @@ returns-clause-err g c =
     finish_broken c.finish.result _ _ _ _
     (λ above n. child_request c.args.child.now above n)
     s.0 c.in_ok-key.key _ _ c.stamp-stamp.ensures s.1 c.in_ok-outcome.ensures.more c.finish.ensures.err
+
+pub returns-clause-running : goal.returns-clause-running
+returns-clause-running g c =
+    on_ok c.finish.result c.finish.ensures.ok
+    (λ f. c.in_ok-outcome.ensures.outer c.in_ok-key.key _ _ c.in_ok-key.ensures.started.1.running f.running)

@@ -7,8 +7,8 @@ use Rattle.tk_engine_unit_events.specs.Shapes.{ShapeView}
 use Rattle.tk_engine_unit_events.proofs.Shaped.{have_places, keeps_around}
 use Rattle.tk_engine_unit_events.proofs.shapes.Shape.shows_shape.Goals as goal
 
-same : (c : goal.After-shows_different_ids) → c.plan.result.now ≡ c.args.self.now.plan
-same c = c.plan.ensures ∙ ap (λ (s : ShapeView). s.plan) c.self.view_is
+same : (c : goal.After-shows_different_ids) → c.self.inside.plan ≡ c.args.self.now.plan
+same c = ap (λ (s : ShapeView). s.plan) c.self.view_is
 
 planned : (c : goal.After-shows_different_ids) → IsPlanned c.args.self.now.plan.nodes c.args.self.now.plan.table
 planned c = subst (λ (o : Outline). IsPlanned o.nodes o.table) (same c) c.table.ensures.planned

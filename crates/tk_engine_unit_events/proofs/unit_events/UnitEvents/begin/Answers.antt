@@ -4,6 +4,7 @@ use Rattle.tk_engine_unit_events.specs.Units.{UnitKeys}
 use Rattle.tk_engine_unit_events.proofs.Played.{played_none}
 use Rattle.tk_engine_unit_events.proofs.Running.{began}
 use Rattle.tk_engine_unit_events.proofs.UnitSteps.{extends_same}
+use Rattle.tk_engine_unit_events.proofs.Taken.{noted_none}
 use Rattle.tk_engine_unit_events.proofs.unit_events.UnitEvents.begin.Goals as goal
 
 pub invariant_of-result : goal.invariant_of-result
@@ -18,6 +19,7 @@ invariant_of-result g c =
         running = began c.args.shape.now g.K.UnitRun.unit.frame c.args.unit g.K.UnitRun.unit.keys.unit g.K.UnitRun.unit.start _ (with_ids g.K.UnitRun.unit.frame.table c.new.result) c.new-2.result c.keys_of-next.result.0 c.requires.frame unit c.requires.start (ap (with_ids g.K.UnitRun.unit.frame.table) c.new.ensures)
             c.shows_shape.ensures.around c.requires.is_unit c.requires.table;
         played = played_none g.K.UnitRun.unit.frame.table g.K.UnitRun.unit.may_step g.K.UnitRun.unit.keys.first g.K.UnitRun.unit.start _ c.keys_of-next.result.0 c.requires.start (ap (λ (k : UnitKeys). k.first) keys);
+        noted = noted_none g.K.UnitRun.unit _ _ c.new-2.ensures;
       },
       extends_same _ _ (c.requires.start ∙ sym c.requires.since),
     )

@@ -7,6 +7,7 @@ use Rattle.tk_engine_unit_events.proofs.Played.{played_skip}
 use Rattle.tk_engine_unit_events.proofs.Running.{described_here, may_here, skipped}
 use Rattle.tk_engine_execute.specs.Engines.{Extends}
 use Rattle.tk_engine_unit_events.proofs.UnitSteps.{extends_more}
+use Rattle.tk_engine_unit_events.proofs.Taken.{noted_after}
 use Rattle.tk_engine_unit_events.proofs.unit_events.UnitEvents.skip.Goals as goal
 
 pub invariant_of-self-2 : goal.invariant_of-self-2
@@ -29,6 +30,7 @@ invariant_of-self-2 g c =
         played = played_skip t g.K.UnitRun.unit.may_step g.K.UnitRun.unit.keys.first g.K.UnitRun.unit.start _ _ p.next c.end_below-next.result c.args.key d.id _ c.in_ok-emit.ensures.ok c.if-key-self.false refl refl
             (described_here t c.args.key d is)
             (λ other a b. subst (λ (l : List Descriptor). IsKeyBelow l d.id other) (c.deref-2.ensures ∙ c.table-2.ensures ∙ table) (c.end_below-next.ensures.below other a b)) c.requires i.2.played;
+        noted = noted_after g.K.UnitRun.unit _ _ p.registered _ c.in_ok-emit.ensures.ok i.2.noted;
       },
       subst (λ s. Extends g.K.UnitRun.since s) (sym c.in_ok-emit.ensures.ok) (extends_more _ _ _ i.3),
     )

@@ -4,6 +4,7 @@ use Rattle.tk_engine_unit_events.proofs.Played.{played_start}
 use Rattle.tk_engine_unit_events.proofs.Running.{may_here, started, static_is}
 use Rattle.tk_engine_execute.specs.Engines.{Extends}
 use Rattle.tk_engine_unit_events.proofs.UnitSteps.{extends_more}
+use Rattle.tk_engine_unit_events.proofs.Taken.{noted_after}
 use Rattle.tk_engine_unit_events.proofs.unit_events.UnitEvents.start.Goals as goal
 
 pub invariant_of-self-in-Ok : goal.invariant_of-self-in-Ok
@@ -23,6 +24,7 @@ invariant_of-self-in-Ok g c =
             may (omega (arith, c.if-key-self.false))
             (static_is f g.K.UnitRun.unit.keys.unit c.args.key (keys_of (with_ids t p.running)) may);
         played = played_start t g.K.UnitRun.unit.may_step g.K.UnitRun.unit.keys.first g.K.UnitRun.unit.start _ _ p.next c.in-Some.next c.args.key _ c.in-Ok.ensures.ok c.in-Some.ensures.1 c.if-key-self.false refl refl c.requires i.2.played;
+        noted = noted_after g.K.UnitRun.unit _ _ p.registered _ c.in-Ok.ensures.ok i.2.noted;
       },
       subst (λ s. Extends g.K.UnitRun.since s) (sym c.in-Ok.ensures.ok) (extends_more _ _ _ i.3),
     )

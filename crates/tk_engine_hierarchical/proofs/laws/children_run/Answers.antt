@@ -8,7 +8,7 @@ use Rattle.tk_query_lifecycle.specs.NeverRan.{EachChildRuns}
 use Rattle.tk_query_lifecycle.specs.declared.lifecycle_rules.Lifecycle.TheVariants.{Kept}
 use Rattle.tk_engine_laws.proofs.Turns.{long_ids}
 use Rattle.tk_engine_hierarchical.proofs.ChildrenRun.{children_run}
-use Rattle.tk_engine_hierarchical.proofs.child_laws.children_run.Goals as goal
+use Rattle.tk_engine_hierarchical.proofs.laws.children_run.Goals as goal
 
 pub returns : goal.returns
 returns g c =
