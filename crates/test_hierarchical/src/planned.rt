@@ -1,5 +1,5 @@
 //! What a plan says of an engine's nodes, beside what its tests do: the record is that of the same plan
-//! scripted.
+//! scripted, and so is the report, whatever the number of workers.
 use std::alloc::{AllocError, Global};
 use std::sync::Wait;
 use std::thread::Threads;
@@ -8,6 +8,8 @@ use tk_engine::{Results, Scripted, Sink, UnitFault, execute};
 use tk_engine_hierarchical::{Hierarchical, Outcome, Reporter, Tests, UnitRun};
 use tk_events::Status;
 use tk_plan::{ExecutionMode, Plan, PlanNode, build_plan};
+use tk_report_text::write_report_of;
+use tk_streams::ByteTarget;
 
 // Tests that succeed and publish nothing.
 #[derive(Drop)]
@@ -130,4 +132,81 @@ fn what_the_plan_says_of_bodies(rt: HostRuntime) {
 #[test]
 fn the_same_plan_scripted(rt: HostRuntime) {
     assert!(rt; runs_script(&rt, rt.alloc()) == Some(true));
+}
+
+// The report of each run of the plan.
+fn report() -> &'static [u8] {
+    b"skipped 1
+started 4
+finished 4
+aborted 1
+succeeded 2
+failed 1
+reporting 3
+dynamic 2
+files 3
+[engine:p]
+  start
+  finish|ok
+[engine:p]/[c:1]
+  start
+  report|k|v
+  file|out
+  finish|abort|stop
+[engine:p]/[c:1]/[d:3]
+  dynamic|T|[engine:p]/[c:1]/[d:3]|three
+  start
+  report|k|v
+  file|out
+  finish|fail|boom
+[engine:p]/[c:1]/[d:4]
+  dynamic|T|[engine:p]/[c:1]/[d:4]|four
+  skip|off
+[engine:p]/[c:1]/[t:2]
+  start
+  report|k|v
+  file|out
+  finish|ok
+"
+}
+
+fn is_reported(alloc: Global, results: &Results) -> bool {
+    let mut target = ByteTarget::new(alloc);
+    write_report_of(alloc, results.recorded(), &mut target).is_ok() && target.bytes() == report()
+}
+
+fn reports_bodies<R: Threads + Wait + Sync>(rt: &R, alloc: Global, workers: usize) -> Option<bool> {
+    let engine = Hierarchical::new(alloc, plan(alloc)?, Silent).ok()?;
+    let ran = execute(rt, alloc, &engine, workers, 4);
+    let found = match &ran {
+        Ok(results) => is_reported(alloc, results),
+        Err(_) => false,
+    };
+    drop(ran);
+    Some(found)
+}
+
+fn reports_script<R: Threads + Wait + Sync>(rt: &R, alloc: Global, workers: usize) -> Option<bool> {
+    let engine = Scripted::new(plan(alloc)?);
+    let ran = execute(rt, alloc, &engine, workers, 4);
+    let found = match &ran {
+        Ok(results) => is_reported(alloc, results),
+        Err(_) => false,
+    };
+    drop(ran);
+    Some(found)
+}
+
+#[test]
+fn the_same_report_by_any_number_of_workers(rt: HostRuntime) {
+    for workers in [1, 4, 15] {
+        assert!(rt;
+            reports_bodies(&rt, rt.alloc(), workers) == Some(true),
+            "{workers}"
+        );
+        assert!(rt;
+            reports_script(&rt, rt.alloc(), workers) == Some(true),
+            "{workers}"
+        );
+    }
 }
