@@ -9,9 +9,9 @@ use tk_engine_hierarchical::{Hierarchical, Outcome, Reporter, Tests, UnitRun};
 use tk_events::Status;
 use tk_plan::{ExecutionMode, Plan, PlanNode, build_plan};
 
-// Tests that succeed and publish nothing.
+/// Tests that succeed and publish nothing.
 #[derive(Drop)]
-struct Silent;
+pub(crate) struct Silent;
 
 impl Tests for Silent {
     ghost use Rattle.std.specs.Prelude.{◌≡◌};
