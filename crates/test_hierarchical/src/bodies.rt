@@ -48,6 +48,20 @@ impl Body for Group {
     }
 }
 
+// A body that can't go on.
+struct Faulting;
+
+impl Body for Faulting {
+    fn run<R: Wait, S: Sink, K: UnitRun>(
+        &self,
+        _rt: &R,
+        _alloc: Global,
+        _reporter: &mut Reporter<'_, S, K>,
+    ) -> Result<Outcome, UnitFault> {
+        Err(UnitFault::Own(9))
+    }
+}
+
 fn segment(alloc: Global, value: &str) -> Result<Segment, UnitFault> {
     match Segment::new(alloc, "d", value) {
         Ok(segment) => Ok(segment),
@@ -62,6 +76,7 @@ enum Then {
     RegistersTwice,
     RegistersStatic,
     Faults,
+    FaultsBelow,
 }
 
 // The tests of the plan: the first has a dynamic container, which sets a stamp, the second a dynamic
@@ -122,6 +137,11 @@ impl Tests for Sample {
                 Ok(Outcome::Successful)
             }
             Then::Faults => Err(UnitFault::Own(7)),
+            Then::FaultsBelow => {
+                let two = segment(alloc, "y")?;
+                reporter.dynamic_test(rt, alloc, &two, "y", &Faulting)?;
+                Ok(Outcome::Successful)
+            }
         }
     }
 }
@@ -229,7 +249,8 @@ fn each_event_of_a_run(rt: HostRuntime) {
     assert!(rt; has_record(&rt, rt.alloc()) == Some(true));
 }
 
-fn seen(alloc: Global, results: &Results) -> Option<(Lifecycle, Statistics)> {
+/// The lifecycle and the statistics of a run.
+pub(crate) fn seen(alloc: Global, results: &Results) -> Option<(Lifecycle, Statistics)> {
     let lifecycle = results.lifecycle(alloc).ok()?;
     let events = results.all_events(alloc).ok()?;
     Some((lifecycle, events.statistics()))
@@ -291,6 +312,8 @@ fn faults_of_a_unit(rt: HostRuntime) {
     assert!(rt; beside_static == Some((2, TWICE)));
     let own = own_fault(&rt, rt.alloc(), Then::Faults);
     assert!(rt; own == Some((1, 7)));
+    let below = own_fault(&rt, rt.alloc(), Then::FaultsBelow);
+    assert!(rt; below == Some((1, 9)));
 }
 
 #[test]

@@ -6,6 +6,8 @@ mod bodies;
 #[cfg(test)]
 mod descriptors;
 #[cfg(test)]
+mod large_units;
+#[cfg(test)]
 mod limits;
 #[cfg(test)]
 mod planned;

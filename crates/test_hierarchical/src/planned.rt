@@ -11,9 +11,9 @@ use tk_plan::{ExecutionMode, Plan, PlanNode, build_plan};
 use tk_report_text::write_report_of;
 use tk_streams::ByteTarget;
 
-// Tests that succeed and publish nothing.
+/// Tests that succeed and publish nothing.
 #[derive(Drop)]
-struct Silent;
+pub(crate) struct Silent;
 
 impl Tests for Silent {
     ghost use Rattle.std.specs.Prelude.{◌≡◌};

@@ -1,0 +1,66 @@
+//! Units with as many levels as a plan may have.
+use crate::bodies::seen;
+use crate::planned::Silent;
+use std::alloc::{AllocError, Global};
+use std::sync::Wait;
+use std::thread::Threads;
+use tk_engine::execute;
+use tk_engine_hierarchical::Hierarchical;
+use tk_plan::{PlanNode, build_plan};
+use tk_query::Lifecycle;
+use tk_record_columns::Statistics;
+
+// The statistics of a run of the plan of this root by one worker, where it keeps the lifecycle.
+fn statistics<R: Threads + Wait + Sync>(
+    rt: &R,
+    alloc: Global,
+    root: &PlanNode<'_>,
+) -> Option<Statistics> {
+    let plan = build_plan(alloc, root).ok()?;
+    let engine = Hierarchical::new(alloc, plan, Silent).ok()?;
+    let ran = execute(rt, alloc, &engine, 1, 64);
+    let found = match &ran {
+        Ok(results) => seen(alloc, results),
+        Err(_) => None,
+    };
+    drop(ran);
+    match found? {
+        (Lifecycle::Kept, statistics) => Some(statistics),
+        _ => None,
+    }
+}
+
+// The statistics of a run in which this many start and succeed.
+fn succeeding(count: u64) -> Statistics {
+    Statistics {
+        skipped: 0,
+        started: count,
+        finished: count,
+        aborted: 0,
+        succeeded: count,
+        failed: 0,
+        reporting: 0,
+        dynamic: 0,
+        files: 0,
+    }
+}
+
+// A test at the bottom of a chain of nodes of one thread, `levels` levels in all.
+fn chain(alloc: Global, levels: u32) -> Result<PlanNode<'static>, AllocError> {
+    let mut node = PlanNode::test(alloc, ("t", "t"), "t");
+    for _ in 1..levels {
+        node = PlanNode::container(alloc, ("c", "c"), "c").child(node)?;
+    }
+    Ok(node)
+}
+
+// Whether a unit of 60 levels runs.
+fn runs_levels<R: Threads + Wait + Sync>(rt: &R, alloc: Global) -> Option<bool> {
+    let root = chain(alloc, 60).ok()?;
+    Some(statistics(rt, alloc, &root)? == succeeding(60))
+}
+
+#[test]
+fn sixty_levels(rt: HostRuntime) {
+    assert!(rt; runs_levels(&rt, rt.alloc()) == Some(true));
+}
