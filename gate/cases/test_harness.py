@@ -15,7 +15,7 @@ wait) exec cat ;;
 refuse) trap '' PIPE; echo "testkit: bad word 0" >&2; exit 2 ;;
 first) head -c 1 ;;
 limits) ulimit -v; ulimit -s ;;
-threads) exec {sys.executable} -S -c "import threading, time; [threading.Thread(target=time.sleep, args=(1,)).start() for _ in range($2)]" ;;
+threads) exec {sys.executable} -S -c "import threading as t, time; [t.Thread(target=time.sleep, args=(1,)).start() for _ in range($2)]" ;;
 *) printf '<%s>' "$@" ;;
 esac
 """
