@@ -61,6 +61,7 @@ RUNS = [
     Runs("a module with a status", ONE + "import atexit\natexit.register(os._exit, 3)\n", "1 passed, 1 failed", says="with status 3"),
     Runs("a class that can't be prepared", ONE + "    def setUpClass(): 1 // 0\n", "0 passed, 1 failed"),
     Runs("a failure that is expected", "    @unittest.expectedFailure\n    def test_one(self): 1 // 0\n", "0 passed, 1 failed"),
+    Runs("a success where a failure is expected", "    @unittest.expectedFailure\n    def test_one(self): pass\n", "0 passed, 1 failed"),
     Runs("a skip in place of cases", ONE + SKIPPED.format("no javac"), "1 passed, 0 failed", "a/test_a 9\n", says="\n1 skipped\n"),
     Runs("a skip for another reason", ONE + SKIPPED.format("it fails"), "1 passed, 1 failed", says="isn't known: it fails"),
     Runs("a command that is missing", ONE + "    @needs('nosuch')\n    def test_two(self): 1 // 0\n", "1 passed, 0 failed", says="a/test_a: 1 skipped: no nosuch\n"),

@@ -80,15 +80,11 @@ NODES = [
     fault("2^20 events and one/before the workers", "run --workers 0", lambda: plan(entries(1_048_575)), "too many events"),
     answer(
         "2^20 events and one/of a skipped node",
-        "run",
-        lambda: plan(',"skip":"off"' + entries(1_048_575)),
-        stats(skipped=1) + "[engine:e]\n  skip|off\n",
+        *("run", lambda: plan(',"skip":"off"' + entries(1_048_575)), stats(skipped=1) + "[engine:e]\n  skip|off\n"),
     ),
     fault(
         "2^20 events and one/of a child",
-        "run",
-        lambda: plan(',"children":[' + node("test", "t", "1", entries(1_048_573)) + "]"),
-        "too many events",
+        *("run", lambda: plan(',"children":[' + node("test", "t", "1", entries(1_048_573)) + "]"), "too many events"),
     ),
 ]
 
@@ -133,15 +129,11 @@ PLANS = [
     ),
     answer(
         "1,000 nodes with 40 entries/concurrent",
-        MOST,
-        lambda: plan(nodes("children", 1_000, CONCURRENT, FORTY_ENTRIES)),
-        thousand_report,
+        *(MOST, lambda: plan(nodes("children", 1_000, CONCURRENT, FORTY_ENTRIES)), thousand_report),
     ),
     answer(
         "1,000 nodes with 40 entries/one unit",
-        "run --workers 2",
-        lambda: plan(nodes("children", 1_000, "", FORTY_ENTRIES)),
-        thousand_report,
+        *("run --workers 2", lambda: plan(nodes("children", 1_000, "", FORTY_ENTRIES)), thousand_report),
     ),
     answer("spine nodes with entries/60 levels", MOST, lambda: spine_plan(60), lambda: spine_report(60)),
     answer("spine nodes with entries/2 levels", "run", lambda: spine_plan(2), lambda: spine_report(2)),

@@ -26,15 +26,11 @@ DESCRIPTORS = [
     fault("65,537 descriptors/registered", "ask stats", lambda: registrations(65_537), "line 65538 has an unknown key"),
     answer(
         "65,536 descriptors/the last of each kind",
-        "ask match in-order container test",
-        lambda: most_of_both_kinds() + b"E|2|131071|0|start\n",
-        "yes 0 1\n",
+        *("ask match in-order container test", lambda: most_of_both_kinds() + b"E|2|131071|0|start\n", "yes 0 1\n"),
     ),
     answer(
         "65,536 descriptors/another worker's first",
-        "ask count dynamic",
-        lambda: registrations(65_536) + b"E|2|131072|0|dynamic|T|[d:x]|n\n",
-        "65537\n",
+        *("ask count dynamic", lambda: registrations(65_536) + b"E|2|131072|0|dynamic|T|[d:x]|n\n", "65537\n"),
     ),
 ]
 

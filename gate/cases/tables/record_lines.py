@@ -148,39 +148,17 @@ GOOD_ENTRIES = [
     good_line(f"E|{form.MAX_WORKERS}|{65536 * form.MAX_WORKERS}|0|dynamic|T|[engine:e]/[d:1]|one", dynamic=1),
 ]
 
+FIRST, SECOND, OTHER = (f"E|{key}|0|dynamic|T|[engine:e]/[d:1]|one" for key in ("1|65536", "1|65537", "2|131072"))
+LAST = f"E|{form.MAX_WORKERS}|{65536 * form.MAX_WORKERS}|0|dynamic|T|[engine:e]/[d:1]|one"
+TWO = record(NODE, FIRST, SECOND, OTHER, "E|3|65537|0|start", "E|0|131072|0|skip|off")
+FALLING = record(NODE, FIRST, "E|1|65536|1|start", "E|1|0|2|report|b|1|a|2")
+
 REGISTRATIONS = [
-    answer(
-        "registrations/two of one worker",
-        STATS,
-        record(
-            NODE,
-            "E|1|65536|0|dynamic|T|[engine:e]/[d:1]|one",
-            "E|1|65537|0|dynamic|T|[engine:e]/[d:1]|one",
-            "E|2|131072|0|dynamic|T|[engine:e]/[d:1]|one",
-            "E|3|65537|0|start",
-            "E|0|131072|0|skip|off",
-        ),
-        stats(dynamic=3, started=1, skipped=1),
-    ),
-    fault("registrations/key twice", STATS, record(NODE, *["E|1|65536|0|dynamic|T|[engine:e]/[d:1]|one"] * 2), "line 4 has an unknown key"),
-    fault(
-        "registrations/before it",
-        STATS,
-        record(NODE, "E|1|65536|0|start", "E|1|65536|0|dynamic|T|[engine:e]/[d:1]|one"),
-        "line 3 has an unknown key",
-    ),
-    fault(
-        "registrations/keys that don't increase after one",
-        STATS,
-        record("N|C|[engine:e]|e", "E|1|65536|0|dynamic|T|[engine:e]/[d:1]|one", "E|1|65536|1|start", "E|1|0|2|report|b|1|a|2"),
-        "line 5 is unlawful",
-    ),
-    answer(
-        "registrations/by the last worker",
-        "ask count dynamic",
-        record("N|C|[engine:e]|e", f"E|{form.MAX_WORKERS}|{65536 * form.MAX_WORKERS}|0|dynamic|T|[engine:e]/[d:1]|one"),
-        "1\n",
-    ),
+    answer("registrations/two of one worker", STATS, TWO, stats(dynamic=3, started=1, skipped=1)),
+    fault("registrations/key twice", STATS, record(NODE, FIRST, FIRST), "line 4 has an unknown key"),
+    fault("registrations/before it", STATS, record(NODE, "E|1|65536|0|start", FIRST), "line 3 has an unknown key"),
+    fault("registrations/keys that don't increase after one", STATS, FALLING, "line 5 is unlawful"),
+    answer("registrations/by the last worker", "ask count dynamic", record(NODE, LAST), "1\n"),
 ]
 
 ENDS = [

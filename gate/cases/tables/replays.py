@@ -101,36 +101,30 @@ WORKERS = [
     for line in f"W|0 W|{form.MAX_WORKERS + 1} W|255 W|256 W|257 W|01 W| W W|1| W|1|2 W|a W|+1 w|1".split() + ["W| 1", "W|1 ", "W|1\r"]
 ]
 
+UNKNOWN, UNLAWFUL = "E|1|5|0|start", "E|1|0|0|report|b|1|a|2"
+FIRST, START_OF_IT = "E|1|65536|0|dynamic|T|[engine:e]/[d:1]|one", "E|2|65536|1|start"
+SECOND, OTHER = "E|1|65537|0|dynamic|T|[engine:e]/[d:2]|two", "E|1|131072|0|dynamic|T|[engine:e]/[d:1]|one"
+
+
+def taken(name: str, lines, *entries: str):
+    """The replay of these lines takes these entries, below the lines of nodes."""
+    nodes = [line for line in lines if line.startswith("N|")]
+    return answer(f"replay/{name}", "replay", replay(*lines), record(*nodes, *entries))
+
+
 KEYS = [
-    refused("unknown key", ["W|1", "E|1|5|0|start", "S|1|t"], "step 1 has an unknown key"),
-    answer("replay/unknown key that isn't taken", "replay", replay("W|1", "E|1|5|0|start", "S|1|1"), record()),
-    answer("replay/unknown key that isn't emitted", "replay", replay("W|1", "E|1|5|0|start", "S|t|t"), record()),
-    refused("unlawful", ["W|1", NODE, "E|1|0|0|report|b|1|a|2", "S|t|1|t"], "step 2 is unlawful"),
-    answer("replay/unlawful that isn't taken", "replay", replay("W|1", NODE, "E|1|0|0|report|b|1|a|2", "S|t|1"), record(NODE)),
-    refused("unknown key before unlawful", ["W|1", "E|1|0|0|report|b|1|a|2", "S|1|t"], "step 1 has an unknown key"),
-    refused("first of two faulty steps, the take", ["W|1", "E|1|5|0|start", "S|1|t|1|1"], "step 1 has an unknown key"),
-    refused("first of two faulty steps, the end", ["W|1", "E|1|5|0|start", "S|1|1|1|t"], "step 2 comes after the end mark"),
-    answer(
-        "replay/registration",
-        "replay",
-        replay("W|2", NODE, "E|1|65536|0|dynamic|T|[engine:e]/[d:1]|one", "E|2|65536|1|start", "S|1|2|t|t"),
-        record(NODE, "E|1|65536|0|dynamic|T|[engine:e]/[d:1]|one", "E|2|65536|1|start"),
-    ),
-    refused(
-        "registration that is taken too late",
-        ["W|2", NODE, "E|1|65536|0|dynamic|T|[engine:e]/[d:1]|one", "E|2|65536|1|start", "S|2|1|t|t"],
-        "step 2 has an unknown key",
-    ),
-    refused(
-        "registration of another worker's key",
-        ["W|2", NODE, "E|1|131072|0|dynamic|T|[engine:e]/[d:1]|one", "S|1|t"],
-        "step 1 has an unknown key",
-    ),
-    refused(
-        "registrations in the wrong order",
-        ["W|1", NODE, "E|1|65537|0|dynamic|T|[engine:e]/[d:1]|one", "E|1|65536|0|dynamic|T|[engine:e]/[d:2]|two", "S|1|1|t|t"],
-        "step 2 has an unknown key",
-    ),
+    refused("unknown key", ["W|1", UNKNOWN, "S|1|t"], "step 1 has an unknown key"),
+    taken("unknown key that isn't taken", ["W|1", UNKNOWN, "S|1|1"]),
+    taken("unknown key that isn't emitted", ["W|1", UNKNOWN, "S|t|t"]),
+    refused("unlawful", ["W|1", NODE, UNLAWFUL, "S|t|1|t"], "step 2 is unlawful"),
+    taken("unlawful that isn't taken", ["W|1", NODE, UNLAWFUL, "S|t|1"]),
+    refused("unknown key before unlawful", ["W|1", UNLAWFUL, "S|1|t"], "step 1 has an unknown key"),
+    refused("first of two faulty steps, the take", ["W|1", UNKNOWN, "S|1|t|1|1"], "step 1 has an unknown key"),
+    refused("first of two faulty steps, the end", ["W|1", UNKNOWN, "S|1|1|1|t"], "step 2 comes after the end mark"),
+    taken("registration", ["W|2", NODE, FIRST, START_OF_IT, "S|1|2|t|t"], FIRST, START_OF_IT),
+    refused("registration that is taken too late", ["W|2", NODE, FIRST, START_OF_IT, "S|2|1|t|t"], "step 2 has an unknown key"),
+    refused("registration of another worker's key", ["W|2", NODE, OTHER, "S|1|t"], "step 1 has an unknown key"),
+    refused("registrations in the wrong order", ["W|1", NODE, SECOND, FIRST, "S|1|1|t|t"], "step 2 has an unknown key"),
 ]
 
 EVERY_TAIL = [
@@ -157,43 +151,32 @@ EVERY_TAIL = [
 
 NODES = ["N|C|[engine:e]|e", "N|B|[engine:e]/[c:%5B%5D]|\\p\\\\\\n", "N|T|[engine:e]/[c:%5B%5D]/[t:\\p]|", "N|C|[other:x]|spät"]
 
+STARTS = [f"E|1|0|{stamp}|start" for stamp in range(50)]
+ALL_WORKERS = range(1, form.MAX_WORKERS + 1)
+OF_ALL_WORKERS = [f"E|{worker}|0|{worker}|start" for worker in ALL_WORKERS]
+IN_TURN = "S" + "".join(f"|{worker}" for worker in reversed(ALL_WORKERS)) + "|t" * form.MAX_WORKERS
+
 LONGER = [
-    answer("replay/every tail", "replay", replay("W|1", *NODES, *EVERY_TAIL, "S" + "|1|t" * len(EVERY_TAIL)), record(*NODES, *EVERY_TAIL)),
+    taken("every tail", ["W|1", *NODES, *EVERY_TAIL, "S" + "|1|t" * len(EVERY_TAIL)], *EVERY_TAIL),
     answer(
         "replay/every tail of version 1",
         "replay",
         "\n".join(["testkit-replay|1", "W|1", *NODES, *EVERY_TAIL[:-1], "S" + "|1|t" * len(EVERY_TAIL), ""]),
         record(*NODES, *EVERY_TAIL[:-1]),
     ),
-    answer(
-        "replay/every tail after the last was emitted",
-        "replay",
-        replay("W|1", *NODES, *EVERY_TAIL, "S" + "|1" * (len(EVERY_TAIL) + 1) + "|t" * 100),
-        record(*NODES, *EVERY_TAIL),
+    taken(
+        "every tail after the last was emitted",
+        ["W|1", *NODES, *EVERY_TAIL, "S" + "|1" * (len(EVERY_TAIL) + 1) + "|t" * 100],
+        *EVERY_TAIL,
     ),
-    answer("replay/nodes alone", "replay", replay(f"W|{form.MAX_WORKERS}", *NODES, "S"), record(*NODES)),
-    answer(
-        "replay/a hundred steps",
-        "replay",
-        replay("W|1", NODE, *[f"E|1|0|{stamp}|start" for stamp in range(50)], "S" + "|1|t" * 50),
-        record(NODE, *[f"E|1|0|{stamp}|start" for stamp in range(50)]),
-    ),
+    taken("nodes alone", [f"W|{form.MAX_WORKERS}", *NODES, "S"]),
+    taken("a hundred steps", ["W|1", NODE, *STARTS, "S" + "|1|t" * 50], *STARTS),
     refused(
         "a hundred steps and one too many",
-        ["W|1", NODE, *[f"E|1|0|{stamp}|start" for stamp in range(50)], "S" + "|1|t" * 50 + "|1|1"],
+        ["W|1", NODE, *STARTS, "S" + "|1|t" * 50 + "|1|1"],
         "step 101 comes after the end mark",
     ),
-    answer(
-        "replay/all workers in turn",
-        "replay",
-        replay(
-            f"W|{form.MAX_WORKERS}",
-            NODE,
-            *[f"E|{worker}|0|{worker}|start" for worker in range(1, form.MAX_WORKERS + 1)],
-            "S" + "".join(f"|{worker}" for worker in range(form.MAX_WORKERS, 0, -1)) + "|t" * form.MAX_WORKERS,
-        ),
-        record(NODE, *[f"E|{worker}|0|{worker}|start" for worker in range(form.MAX_WORKERS, 0, -1)]),
-    ),
+    taken("all workers in turn", [f"W|{form.MAX_WORKERS}", NODE, *OF_ALL_WORKERS, IN_TURN], *reversed(OF_ALL_WORKERS)),
 ]
 
 FILES = [

@@ -1,0 +1,75 @@
+"""How a case is run, with a script in place of the program: what is right passes, and of what differs it is said what."""
+
+import sys
+import unittest
+from unittest import mock
+
+import harness
+from fixtures import folder, parameterized, write
+from harness import Case, Check, Input, Output, ThreadCount
+
+PROGRAM = f"""#!/bin/sh
+case $1 in
+copy) cat 2>/dev/null || {{ echo "testkit: device failed" >&2; exit 3; }} ;;
+wait) exec cat ;;
+refuse) trap '' PIPE; echo "testkit: bad word 0" >&2; exit 2 ;;
+first) head -c 1 ;;
+limits) ulimit -v; ulimit -s ;;
+threads) exec {sys.executable} -S -c "import threading as t, time; [t.Thread(target=time.sleep, args=(1,)).start() for _ in range($2)]" ;;
+*) printf '<%s>' "$@" ;;
+esac
+"""
+LARGE = b"x" * 3_000_000
+
+
+def failing(name, words=b"copy", data=b"a", **how):
+    return Case(name, [words], data, error=b"testkit: device failed\n", status=3, **how)
+
+
+def refused(name, data=b"", **how):
+    return Case(name, [b"refuse"], data, error=b"testkit: bad word 0\n", status=2, **how)
+
+
+RIGHT = [
+    Case("words", [b"a b", b"", b"\xff"], b"", b"<a b><><\xff>"),
+    Case("a large input", [b"copy"], lambda: LARGE, lambda: LARGE),
+    Case("a file", [b"copy"], b"ab", b"ab", standard_input=Input.FILE),
+    Case("pieces", [b"copy"], b"ab" * 200, b"ab" * 200, standard_input=Input.PIECES),
+    Case("an input that stays open", [b"first"], b"ab", b"a", standard_input=Input.OPEN),
+    refused("an input that stays open and isn't read", LARGE, standard_input=Input.OPEN),
+    *[failing(f"input {kind.name}", standard_input=kind) for kind in (Input.CLOSED, Input.FOLDER)],
+    *[failing(f"output {kind.name}", standard_output=kind) for kind in (Output.CLOSED, Output.FULL, Output.BROKEN_PIPE)],
+    *[Case(f"error {kind.name}", [b"refuse"], b"", status=2, standard_error=kind) for kind in (Output.FULL, Output.BROKEN_PIPE)],
+    failing("a pipe that is cut", data=LARGE, output=LARGE, standard_output=Output.CUT_PIPE),
+    Case("limits", [b"limits"], b"", b"100000\n8192\n", memory=100_000),
+    ThreadCount(Case("threads", [b"threads", b"2"], b""), 3),
+    Check("a value", 1, 1),
+]
+WRONG = [
+    (Case("another status", [b"refuse"], b"", error=b"testkit: bad word 0\n"), "status 2, wanted 0"),
+    (Case("another output", [b"copy"], b"ab", b"ac"), "output b'ab', wanted b'ac'"),
+    (Case("another large output", [b"copy"], LARGE, LARGE[:-1] + b"y"), "they part at byte 2999999"),
+    (Case("another error", [b"refuse"], b"", status=2), "error b'testkit: bad word 0\\n', wanted b''"),
+    (failing("another beginning", data=LARGE, output=b"y", standard_output=Output.CUT_PIPE), "output "),
+    (failing("no failing input"), "status 0"),
+    (Case("an input whose end is waited for", [b"wait"], b"a", b"a", standard_input=Input.OPEN), "status -9"),
+    (ThreadCount(Case("too many threads", [b"threads", b"2"], b""), 2), "3 threads, wanted 2"),
+    (ThreadCount(Case("too few threads", [b"refuse"], b"", error=b"testkit: bad word 0\n", status=2), 3), "threads, wanted 3"),
+    (Check("another value", 1, 2), "1, wanted 2"),
+]
+
+
+class OfCases(unittest.TestCase):
+    def fault(self, case):
+        path = f"{folder(self)}/program"
+        write(path, PROGRAM, 0o755)
+        with mock.patch.object(harness, "SECONDS_WITH_OPEN_INPUT", 3):
+            return case.run(path)
+
+    @parameterized(RIGHT)
+    def test_right(self, case):
+        self.assertIsNone(self.fault(case))
+
+    @parameterized(WRONG, name=lambda row: row[0].name)
+    def test_wrong(self, row):
+        self.assertIn(row[1], self.fault(row[0]) or "nothing")
