@@ -4,3 +4,4 @@ pub mod Reported
 pub mod Stepped
 pub mod TreeRuns
 pub mod ChildrenRun
+pub mod NodeSteps
