@@ -110,14 +110,7 @@ started_child old new sink registered running rest first ask key stamp was view 
   running = more ∙ ap (λ l. key ∷ l) (sym view);
   stamp = kept;
   own_stamp = own;
-<<<<<<< HEAD
 }
-=======
-}
-
-pub tails_same : {A : Type 0} {x y : A} {xs ys : List A} → x ∷ xs ≡ y ∷ ys → xs ≡ ys
-tails_same e = cc
 
 pub same_view : (old new : UnitView) → new.sink ≡ old.sink → new.running ≡ old.running → new.stamp ≡ old.stamp → new.own_stamp ≡ old.own_stamp → new ≡ old
 same_view old new sink running stamp own = λ i. record { sink = sink i; running = running i; stamp = stamp i; own_stamp = own i }
->>>>>>> wip
