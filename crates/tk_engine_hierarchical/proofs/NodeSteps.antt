@@ -33,9 +33,9 @@ module _ (is_static : Bool) (n : Node) (number : ℕ) (old first second : PlanSt
       (λ key s.
       subst (λ b. StartsNode b n number key old (plan_state after next)) (sym dynamic) (
         subst (λ u. (above : ℕ) × HasStarted u after (child_request (child_of_node n) above old.next) (event Started key (stamp_after old.next) payloads.Nothing)) stood
-        (subst (λ d. (above : ℕ) × HasStarted before after (child_request d above old.next) (event Started key (stamp_after old.next) payloads.Nothing)) its
-        (subst (λ m. (above : ℕ) × HasStarted before after (child_request c above m) (event Started key (stamp_after old.next) payloads.Nothing)) registered
-        (subst (λ m. (above : ℕ) × HasStarted before after (child_request c above given) (event Started key m payloads.Nothing)) stamp_is s))),
+            (subst (λ d. (above : ℕ) × HasStarted before after (child_request d above old.next) (event Started key (stamp_after old.next) payloads.Nothing)) its
+            (subst (λ m. (above : ℕ) × HasStarted before after (child_request c above m) (event Started key (stamp_after old.next) payloads.Nothing)) registered
+            (subst (λ m. (above : ℕ) × HasStarted before after (child_request c above given) (event Started key m payloads.Nothing)) stamp_is s))),
         next_is,
       ))
 
@@ -47,9 +47,9 @@ module _ (is_static : Bool) (n : Node) (number : ℕ) (old first second : PlanSt
       (λ s.
       subst (λ b. SkipsNode b n number reason old (plan_state after next)) (sym dynamic) (
         subst (λ u. (above : ℕ) × (key : ℕ) × HasSkipped u after (child_request (child_of_node n) above old.next) (event Skipped key (stamp_after old.next) (payloads.Reason reason))) unit_is
-        (subst (λ d. (above : ℕ) × (key : ℕ) × HasSkipped events after (child_request d above old.next) (event Skipped key (stamp_after old.next) (payloads.Reason reason))) its
-        (subst (λ m. (above : ℕ) × (key : ℕ) × HasSkipped events after (child_request c above m) (event Skipped key (stamp_after old.next) (payloads.Reason reason))) registered
-        (subst (λ m. (above : ℕ) × (key : ℕ) × HasSkipped events after (child_request c above given) (event Skipped key m (payloads.Reason reason))) stamp_is
-        (subst (λ t. (above : ℕ) × (key : ℕ) × HasSkipped events after (child_request c above given) (event Skipped key stamp (payloads.Reason t))) same s)))),
+            (subst (λ d. (above : ℕ) × (key : ℕ) × HasSkipped events after (child_request d above old.next) (event Skipped key (stamp_after old.next) (payloads.Reason reason))) its
+            (subst (λ m. (above : ℕ) × (key : ℕ) × HasSkipped events after (child_request c above m) (event Skipped key (stamp_after old.next) (payloads.Reason reason))) registered
+            (subst (λ m. (above : ℕ) × (key : ℕ) × HasSkipped events after (child_request c above given) (event Skipped key m (payloads.Reason reason))) stamp_is
+            (subst (λ t. (above : ℕ) × (key : ℕ) × HasSkipped events after (child_request c above given) (event Skipped key stamp (payloads.Reason t))) same s)))),
         next_is,
       ))
