@@ -1,5 +1,6 @@
 -- What a unit does, step by step.
-use Rattle.std.specs.Prelude.{◌≡◌, ℕ, Bool, true, false, List, [], ◌∷◌, Ok, None, Option, Some, slice_get}
+use Rattle.std.specs.Prelude.{◌≡◌, ℕ, Bool, true, false, List, [], ◌∷◌}
+use Rattle.std.specs.Prelude.{Ok, None, Option, Some, slice_get}
 use Rattle.tk_ids.specs.IdText.{SegmentView}
 use Rattle.tk_ids.specs.declared.descriptors.DType.{DType}
 use Rattle.tk_ids.specs.declared.descriptors.Descriptor.{Descriptor}

@@ -3,7 +3,8 @@ use Rattle.std.specs.Prelude.{◌≡◌, ℕ, ◌<◌, List, Some, IsSome, false
 use Rattle.tk_plan_units.specs.declared.trees.nodes.Node.{Node}
 use Rattle.tk_plan_units.specs.declared.trees.nodes.NumberedNode.{NumberedNode}
 use Rattle.tk_plan_units.specs.declared.scripts.steps.Act.{Act}
-use Rattle.tk_plan_units.specs.declared.scripts.steps.Act.TheVariants.{Register, Skip, Start, Report, File}
+use Rattle.tk_plan_units.specs.declared.scripts.steps.Act.TheVariants.{Register, Skip, Start}
+use Rattle.tk_plan_units.specs.declared.scripts.steps.Act.TheVariants.{Report, File}
 use Rattle.tk_plan_units.specs.declared.scripts.steps.Act.TheVariants.{Finish}
 use Rattle.tk_plan_units.specs.Numbers.{in_order}
 

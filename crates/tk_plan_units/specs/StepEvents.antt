@@ -7,7 +7,8 @@ use Rattle.tk_events.specs.declared.payloads.Payload.TheVariants as payloads
 use Rattle.tk_events.specs.declared.events.Event.{Event}
 use Rattle.tk_plan_units.specs.declared.trees.nodes.Node.{Node}
 use Rattle.tk_plan_units.specs.declared.scripts.steps.Act.{Act}
-use Rattle.tk_plan_units.specs.declared.scripts.steps.Act.TheVariants.{Register, Skip, Start, Report, File}
+use Rattle.tk_plan_units.specs.declared.scripts.steps.Act.TheVariants.{Register, Skip, Start}
+use Rattle.tk_plan_units.specs.declared.scripts.steps.Act.TheVariants.{Report, File}
 use Rattle.tk_plan_units.specs.declared.scripts.steps.Act.TheVariants.{Finish}
 use Rattle.tk_plan_units.specs.declared.scripts.steps.Step.{Step}
 use Rattle.tk_plan_units.specs.Events.{event}
