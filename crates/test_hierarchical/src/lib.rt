@@ -6,6 +6,8 @@ mod bodies;
 #[cfg(test)]
 mod descriptors;
 #[cfg(test)]
+mod dropped_faults;
+#[cfg(test)]
 mod large_units;
 #[cfg(test)]
 mod limits;

@@ -1,17 +1,19 @@
 -- What a reporter's calls promise.
-use Rattle.std.proofs.Common.{◌≡◌, ◌≤◌, inl, inr, ℕ, sym, ap, ◌∙◌, subst}
-use Rattle.std.specs.Prelude.{Result, OnErr}
+use Rattle.std.proofs.Common.{◌≡◌, ◌≤◌, inr, ℕ, sym, ap, ◌∙◌, subst}
+use Rattle.std.specs.Prelude.{Result, Ok, Err, IfErr, OnErr, OnOk, Option}
 use Rattle.tk_events.specs.declared.kinds.Kind.TheVariants.{Finished, Skipped, Started}
 use Rattle.tk_events.specs.declared.payloads.Payload.{Payload}
 use Rattle.tk_events.specs.declared.payloads.Payload.TheVariants.{Nothing}
 use Rattle.tk_queue_session.specs.Registering.{RegisterRequest}
 use Rattle.tk_queue_session.specs.Senders.{sends}
 use Rattle.tk_engine_execute.specs.Engines.{Extends}
+use Rattle.tk_engine_execute.specs.declared.engines.UnitFault.{UnitFault}
 use Rattle.tk_engine_unit_events.specs.Endings.{payload_of}
-use Rattle.tk_engine_unit_events.specs.UnitSteps.{BodyRuns, Grew, HasFinished, HasSkipped, HasStarted, UnitView, event}
-use Rattle.tk_engine_hierarchical.specs.Reporting.{EndsChild, HasBegunChild, HasBrokenOff, HasRunChild}
+use Rattle.tk_engine_unit_events.specs.UnitSteps.{BodyRuns, ChildView, HasFinished, HasSkipped, HasStarted, UnitView, child_request, event}
+use Rattle.tk_engine_hierarchical.specs.Causes.{first_cause}
+use Rattle.tk_engine_hierarchical.specs.Reporting.{EndsChild, HasBegunChild, HasBegunDynamic, HasFailedDynamic, HasRunChild}
 use Rattle.tk_engine_unit_events.specs.declared.outcomes.Outcome.{Outcome}
-use Rattle.tk_engine_unit_events.proofs.UnitSteps.{err_of, on_err}
+use Rattle.tk_engine_unit_events.proofs.UnitSteps.{on_ok}
 
 pub skipped_at : (old new : UnitView) (ask : ℕ → RegisterRequest) (given stamp : ℕ) (reason : Payload) → given ≡ stamp
     → (key : ℕ) × HasSkipped old new (ask given) (event Skipped key given reason) → (key : ℕ) × HasSkipped old new (ask stamp) (event Skipped key stamp reason)
@@ -28,28 +30,29 @@ pub has_begun_child : (old started new : UnitView) (ask : ℕ → RegisterReques
 has_begun_child old started new ask key given stamp same s x =
     record { key = key; started = started; start = subst (λ n. HasStarted old started (ask n) (event Started key (ask n).stamp Nothing)) same s; later = x }
 
--- what was asked for wasn't started
-pub not_begun : {F : Type 0} (r : Result (Unit {0}) F) (old new : UnitView) (ask : ℕ → RegisterRequest) → Grew old new
-    → OnErr r ((above : ℕ) × HasBrokenOff old new (ask above))
-not_begun r old new ask grew = let broken : (above : ℕ) × HasBrokenOff old new (ask above) = (0, inl grew) in err_of r broken
+-- where a result is an error, what holds of it and what holds of each error hold together
+pub both_err : {R F A : Type 0} (P Q : F → Type 0) (r : Result R F) → OnErr r A → IfErr r P → ((why : F) → A → P why → Q why)
+    → IfErr r Q
+both_err P Q (Ok _) a p f = tt
+both_err P Q (Err why) a p f = f why a p
 
--- its body had a fault
-pub body_broken : {F : Type 0} (r : Result (Unit {0}) F) (old started new : UnitView) (ask : ℕ → ℕ → RegisterRequest) (above key given stamp : ℕ) → given ≡ stamp
-    → HasStarted old started (ask above given) (event Started key (ask above given).stamp Nothing) → Extends started.sink new.sink
-    → OnErr r ((a : ℕ) × HasBrokenOff old new (ask a stamp))
-body_broken r old started new ask above key given stamp same s x =
-    let broken : (a : ℕ) × HasBrokenOff old new (ask a stamp) = (above, inr (has_begun_child old started new (ask above) key given stamp same s x)) in err_of r broken
+-- a child began, and its fault is kept
+pub failed_begun : (old started new : UnitView) (c : ChildView) (kept now : Option UnitFault) (why : UnitFault) (above key given : ℕ)
+    → given ≡ old.stamp → HasStarted old started (child_request c above given) (event Started key given Nothing)
+    → Extends started.sink new.sink → now ≡ first_cause kept why → HasFailedDynamic old new c kept now why
+failed_begun old started new c kept now why above key given same s x cause =
+    let begun : HasBegunDynamic old new c = (above, has_begun_child old started new (child_request c above) key given old.stamp same s x) in
+    inr (begun, cause)
 
--- its finish was refused
-pub finish_broken : {F : Type 0} (r : Result (Unit {0}) F) (old started before new : UnitView) (ask : ℕ → ℕ → RegisterRequest) (above key given stamp : ℕ) → given ≡ stamp
-    → HasStarted old started (ask above given) (event Started key (ask above given).stamp Nothing) → Extends started.sink before.sink → OnErr r (new ≡ before)
-    → OnErr r ((a : ℕ) × HasBrokenOff old new (ask a stamp))
-finish_broken r old started before new ask above key given stamp same s x refused =
-    on_err r refused
-    (λ e.
-    let broken : (a : ℕ) × HasBrokenOff old new (ask a stamp)
-    = (above, inr (has_begun_child old started new (ask above) key given stamp same s (subst (λ (v : UnitView). Extends started.sink v.sink) (sym e) x))) in
-    broken)
+-- what was noted of a finish changes nothing
+pub finish_noted : {F : Type 0} (r noted : Result (Unit {0}) F) (old before new after : UnitView) (key : ℕ) (payload : Payload)
+    → noted ≡ r → before ≡ old → after ≡ new → OnOk r (HasFinished before new (event Finished key before.stamp payload))
+    → OnOk noted (HasFinished old after (event Finished key old.stamp payload))
+finish_noted r noted old before new after key payload same first last finished =
+    subst (λ x. OnOk x (HasFinished old after (event Finished key old.stamp payload))) (sym same)
+    (on_ok r finished
+    (λ f. subst (λ (w : UnitView). HasFinished old w (event Finished key old.stamp payload)) (sym last)
+    (subst (λ (v : UnitView). HasFinished v new (event Finished key v.stamp payload)) first f)))
 
 pub finished_as : (old new : UnitView) (key given stamp : ℕ) (payload outcome : Payload) → given ≡ stamp → payload ≡ outcome
     → HasFinished old new (event Finished key given payload) → HasFinished old new (event Finished key stamp outcome)

@@ -1,3 +1,4 @@
+pub mod Causes
 pub mod StaticSteps
 pub mod Reporting
 pub mod TreeRuns

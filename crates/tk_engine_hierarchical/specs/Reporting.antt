@@ -1,10 +1,11 @@
 -- What a reporter emits.
-use Rattle.std.specs.Prelude.{◌≡◌, ◌⊎◌, ℕ, ◌≤◌}
+use Rattle.std.specs.Prelude.{◌≡◌, ◌⊎◌, ℕ, ◌≤◌, Option}
 use Rattle.tk_events.specs.declared.kinds.Kind.TheVariants.{Finished, Started}
 use Rattle.tk_events.specs.declared.payloads.Payload.TheVariants.{Nothing}
 use Rattle.tk_queue_session.specs.Registering.{RegisterRequest}
 use Rattle.tk_queue_session.specs.Senders.{SenderView, sends}
 use Rattle.tk_engine_execute.specs.Engines.{Extends}
+use Rattle.tk_engine_execute.specs.declared.engines.UnitFault.{UnitFault}
 use Rattle.tk_engine_unit_events.specs.Endings.{payload_of}
 use Rattle.tk_engine_unit_events.specs.UnitSteps.{
   BodyRuns,
@@ -15,6 +16,7 @@ use Rattle.tk_engine_unit_events.specs.UnitSteps.{
 }
 use Rattle.tk_engine_unit_events.specs.UnitSteps.{UnitView, child_request, event}
 use Rattle.tk_engine_unit_events.specs.declared.outcomes.Outcome.{Outcome}
+use Rattle.tk_engine_hierarchical.specs.Causes.{first_cause}
 
 -- what was asked for was registered below the innermost running key and started; then its body ran
 -- once, and its finish with the body's outcome is the last event
@@ -47,13 +49,13 @@ pub record HasBegunChild (old new : UnitView) (ask : RegisterRequest) : Type 0 w
 abbrev pub HasBegunDynamic : UnitView → UnitView → ChildView → Type 0
 HasBegunDynamic old new c = (above : ℕ) × HasBegunChild old new (child_request c above old.stamp)
 
--- what was asked for wasn't started, or it was, and its body or its finish was refused
-abbrev pub HasBrokenOff : UnitView → UnitView → RegisterRequest → Type 0
-HasBrokenOff old new ask = Grew old new ⊎ HasBegunChild old new ask
-
--- a child wasn't started, or it was, and its body or its finish was refused
-abbrev pub HasLeftDynamic : UnitView → UnitView → ChildView → Type 0
-HasLeftDynamic old new c = (above : ℕ) × HasBrokenOff old new (child_request c above old.stamp)
+-- A child wasn't started, and no other fault is kept; or it was started, its body or its finish was
+-- refused, and the cause of the first such fault is kept.
+abbrev pub HasFailedDynamic :
+    UnitView → UnitView → ChildView → Option UnitFault → Option UnitFault → UnitFault → Type 0
+HasFailedDynamic old new c kept now why =
+    (Grew old new × (now ≡ kept))
+    ⊎ (HasBegunDynamic old new c × (now ≡ first_cause kept why))
 
 -- The last that the sink took is the finish of a dynamic descriptor, whose key is past those of the
 -- static ones, with an outcome that its body may have.

@@ -13,7 +13,6 @@ ghost use Rattle.tk_engine_hierarchical.specs.steps.StaticSteps.{MayRun};
 ghost use Rattle.tk_engine_hierarchical.specs.TreeRuns.{RunsForest, RunsNode, RunsTree, RunsUnitTree};
 
 use crate::planned_units::PlannedUnit;
-use crate::reporters::Reporter;
 use crate::tests::Tests;
 use std::alloc::Global;
 use std::sync::Wait;
@@ -142,14 +141,11 @@ pub(crate) fn run_unit<'a, R: Wait, S: Sink, K: UnitRun, T: Tests>(
     let _table = plan.table();
     let tree = plan.unit_tree(unit);
     let mut planned: PlannedUnit<'a, S, K> = PlannedUnit {
-        reporter: Reporter {
-            events: UnitEvents::begin(alloc, lease, shape, unit),
-        },
+        events: UnitEvents::begin(alloc, lease, shape, unit),
         next: tree.first,
     };
     let played = run_tree(rt, alloc, tests, tree.top, tree.below, &mut planned);
-    let PlannedUnit { reporter, .. } = planned;
-    let Reporter { events } = reporter;
+    let PlannedUnit { events, .. } = planned;
     let (lease, is_complete) = events.end();
     *ran = ending(played, is_complete);
     lease

@@ -1,6 +1,7 @@
 //! The engine of a plan whose tests have bodies in Rust.
 #![tactic(auto)]
 
+mod causes;
 mod engines;
 mod hierarchical;
 pub mod laws;

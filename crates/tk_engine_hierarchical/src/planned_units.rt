@@ -46,9 +46,10 @@ impl<'t, T: Tests> UnitBody for TestBody<'t, T> {
         events: UnitEvents<'a, S, K>,
         ended: &mut Result<Outcome, UnitFault>,
     ) -> UnitEvents<'a, S, K> {
-        let mut reporter = Reporter { events };
-        *ended = self.tests.run(rt, alloc, self.key, &mut reporter);
-        let Reporter { events } = reporter;
+        let mut reporter = Reporter::new(events);
+        let answer = self.tests.run(rt, alloc, self.key, &mut reporter);
+        let (events, how) = reporter.end(answer);
+        *ended = how;
         events
     }
 }
@@ -68,7 +69,7 @@ fn child_of(node: &Node) -> Child<'_>
 /// its next event: the event's position in the root's script.
 #[derive(Drop)]
 pub(crate) struct PlannedUnit<'a, S: Sink, K: UnitRun> {
-    pub(crate) reporter: Reporter<'a, S, K>,
+    pub(crate) events: UnitEvents<'a, S, K>,
     pub(crate) next: u64,
 }
 
@@ -77,7 +78,7 @@ impl<'a, S: Sink, K: UnitRun> Model for PlannedUnit<'a, S, K> {
 
     ghost Value = { PlanState };
 
-    ghost view = { λ u. plan_state u.reporter.events u.next };
+    ghost view = { λ u. plan_state u.events u.next };
 }
 
 impl<'a, S: Sink, K: UnitRun> PlannedUnit<'a, S, K> {
@@ -109,16 +110,15 @@ impl<'a, S: Sink, K: UnitRun> PlannedUnit<'a, S, K> {
         if numbered_node.node.is_static {
             let key = numbered_node.number;
             let stamp = self.take_stamp();
-            self.reporter.events.set_planned_stamp(stamp);
-            self.reporter.events.start(rt, key, stamp)?;
+            self.events.set_planned_stamp(stamp);
+            self.events.start(rt, key, stamp)?;
             return Ok(key);
         }
         let registered = self.take_stamp();
         let stamp = self.take_stamp();
-        self.reporter.events.set_planned_stamp(stamp);
+        self.events.set_planned_stamp(stamp);
         let child = child_of(&numbered_node.node);
-        self.reporter
-            .events
+        self.events
             .start_child(rt, alloc, &child, registered, stamp)
     }
 
@@ -139,12 +139,11 @@ impl<'a, S: Sink, K: UnitRun> PlannedUnit<'a, S, K> {
         let stamp = self.take_stamp();
         if numbered_node.node.is_static {
             let key = numbered_node.number;
-            return self.reporter.events.skip(rt, key, stamp, reason);
+            return self.events.skip(rt, key, stamp, reason);
         }
         let child = child_of(&numbered_node.node);
         let skipped = self.take_stamp();
-        self.reporter
-            .events
+        self.events
             .skip_child(rt, alloc, &child, stamp, skipped, reason)
     }
 
@@ -164,10 +163,10 @@ impl<'a, S: Sink, K: UnitRun> PlannedUnit<'a, S, K> {
         ensures next { self.new.next ≡ self.old.next }
     {
         let body = TestBody { tests, key };
-        let outcome = self.reporter.events.run_body(rt, alloc, &body)?;
+        let outcome = self.events.run_body(rt, alloc, &body)?;
         Ok(TestEnd {
             outcome,
-            stamp: self.reporter.events.own_stamp(),
+            stamp: self.events.own_stamp(),
         })
     }
 
@@ -188,7 +187,7 @@ impl<'a, S: Sink, K: UnitRun> PlannedUnit<'a, S, K> {
             self.old.unit self.new.unit ended) }
         ensures next { self.new.next ≡ self.old.next }
     {
-        if !self.reporter.events.is_static_test(key) {
+        if !self.events.is_static_test(key) {
             return Ok(None);
         }
         let ended = self.run_test(rt, alloc, tests, key)?;
@@ -209,8 +208,7 @@ impl<'a, S: Sink, K: UnitRun> PlannedUnit<'a, S, K> {
         for pairs in entries {
             let pairs = Payload::Report(pairs.try_clone(alloc)?);
             let stamp = self.take_stamp();
-            self.reporter
-                .events
+            self.events
                 .publish_planned(rt, key, Kind::Reporting, stamp, pairs)?;
         }
         Ok(())
@@ -224,8 +222,7 @@ impl<'a, S: Sink, K: UnitRun> PlannedUnit<'a, S, K> {
         for path in files {
             let path = Payload::Path(path.try_clone()?);
             let stamp = self.take_stamp();
-            self.reporter
-                .events
+            self.events
                 .publish_planned(rt, key, Kind::File, stamp, path)?;
         }
         Ok(())
@@ -261,7 +258,7 @@ impl<'a, S: Sink, K: UnitRun> PlannedUnit<'a, S, K> {
     {
         let stamp = test.stamp.unwrap_or(planned);
         let outcome = payload_of(test.outcome);
-        self.reporter.events.finish(rt, key, stamp, outcome)
+        self.events.finish(rt, key, stamp, outcome)
     }
 
     // Finishes a node that has no body with the outcome that the plan has for it.
@@ -279,7 +276,7 @@ impl<'a, S: Sink, K: UnitRun> PlannedUnit<'a, S, K> {
         ensures next { self.new.next ≡ self.old.next }
     {
         let outcome = Payload::Outcome(node.status, try_clone_message(&node.message)?);
-        self.reporter.events.finish(rt, key, stamp, outcome)
+        self.events.finish(rt, key, stamp, outcome)
     }
 
     /// Finishes a node as its body ended, where it ran one, and else as the plan says.

@@ -1,5 +1,5 @@
 //! What a test publishes while it runs.
-ghost use Rattle.std.specs.Prelude.{◌≡◌, ◌⊎◌, ◌≤◌, ℕ, IfErr, IfOk, OnErr, OnOk, Some, length};
+ghost use Rattle.std.specs.Prelude.{◌≡◌, ◌⊎◌, ◌≤◌, ℕ, IfErr, IfOk, None, Ok, OnErr, OnOk, Some, length};
 ghost use Rattle.tk_ids.specs.declared.descriptors.Descriptor.{Descriptor as DescriptorView};
 ghost use Rattle.tk_ids.specs.declared.descriptors.DType.TheVariants.{Container, Test};
 ghost use Rattle.tk_events.specs.declared.kinds.Kind.TheVariants as kinds;
@@ -7,10 +7,12 @@ ghost use Rattle.tk_events.specs.declared.payloads.Payload.TheVariants as payloa
 ghost use Rattle.tk_engine_execute.specs.Engines.{Extends, IsSameSender};
 ghost use Rattle.tk_engine_execute.specs.declared.engines.UnitFault.TheVariants.{Own};
 ghost use Rattle.tk_engine_unit_events.specs.Endings.{payload_of};
-ghost use Rattle.tk_engine_hierarchical.specs.Reporting.{EndsChild, HasBegunDynamic, HasLeftDynamic, HasRunDynamic};
+ghost use Rattle.tk_engine_hierarchical.specs.Causes.{first_cause};
+ghost use Rattle.tk_engine_hierarchical.specs.Reporting.{EndsChild, HasBegunDynamic, HasFailedDynamic, HasRunDynamic};
 ghost use Rattle.tk_engine_unit_events.specs.Taken.{IsFaultOfTaken, IsRefusedAsTaken, IsTaken};
 ghost use Rattle.tk_engine_unit_events.specs.UnitSteps.{Grew, HasFinished, HasSkipped, IsInnermost, Published, child, child_request, event};
 
+use crate::causes::{cause_of, ending};
 use crate::tests::{Body, payload_of};
 use std::alloc::Global;
 use std::sync::Wait;
@@ -22,9 +24,12 @@ use tk_ids::{DType, Descriptor, Segment, Text};
 /// Publishes what belongs to the test or container that runs.
 ///
 /// It emits each event at once, only for what runs, and finishes what it starts if no call fails.
+/// Where a child that had begun failed, and the body goes on and answers an outcome, the body fails
+/// with the cause of the first such fault: what began can't be taken back.
 #[derive(Drop)]
 pub struct Reporter<'a, S: Sink, K: UnitRun> {
     pub(crate) events: UnitEvents<'a, S, K>,
+    pub(crate) child_fault: Option<UnitFault>,
 }
 
 // A body that publishes through a reporter.
@@ -45,14 +50,66 @@ impl<'b, B: Body> UnitBody for ReportingBody<'b, B> {
         events: UnitEvents<'a, S, K>,
         ended: &mut Result<Outcome, UnitFault>,
     ) -> UnitEvents<'a, S, K> {
-        let mut reporter = Reporter { events };
-        *ended = self.body.run(rt, alloc, &mut reporter);
-        let Reporter { events } = reporter;
+        let mut reporter = Reporter::new(events);
+        let answer = self.body.run(rt, alloc, &mut reporter);
+        let (events, how) = reporter.end(answer);
+        *ended = how;
         events
     }
 }
 
 impl<'a, S: Sink, K: UnitRun> Reporter<'a, S, K> {
+    /// Publishes into these events.
+    pub(crate) fn new(events: UnitEvents<'a, S, K>) -> Reporter<'a, S, K>
+        ensures events { result.events ≡ events.entry }
+        ensures unbroken { result.child_fault ≡ None }
+    {
+        Reporter {
+            events,
+            child_fault: None,
+        }
+    }
+
+    /// Gives the events back, and says how the body ends that answered this.
+    pub(crate) fn end(
+        self,
+        answer: Result<Outcome, UnitFault>,
+    ) -> (UnitEvents<'a, S, K>, Result<Outcome, UnitFault>)
+        ensures events { result.0 ≡ self.entry.events }
+        ensures ok { IfOk result.1 (λ outcome. answer ≡ Ok outcome) }
+        ensures unbroken { OnOk result.1 (self.entry.child_fault ≡ None) }
+    {
+        let Reporter {
+            events,
+            child_fault,
+        } = self;
+        (events, ending(answer, child_fault))
+    }
+
+    // Keeps the cause of the first fault.
+    fn keep(&mut self, fault: &UnitFault)
+        ensures events { self.new.events ≡ self.old.events }
+        ensures cause { self.new.child_fault ≡ first_cause self.old.child_fault fault.now }
+    {
+        if self.child_fault.is_none() {
+            self.child_fault = Some(cause_of(fault));
+        }
+    }
+
+    // Keeps the cause of the fault of a child that had begun, where there is one.
+    fn note<T>(&mut self, ended: Result<T, UnitFault>) -> Result<T, UnitFault>
+        ensures same { result ≡ ended }
+        ensures events { self.new.events ≡ self.old.events }
+        ensures ok { OnOk result (self.new.child_fault ≡ self.old.child_fault) }
+        ensures err { IfErr result (λ why.
+            self.new.child_fault ≡ first_cause self.old.child_fault why) }
+    {
+        if let Err(fault) = &ended {
+            self.keep(fault);
+        }
+        ended
+    }
+
     /// Finishes a dynamic key, which has to be the innermost running one.
     pub(crate) fn finish<R: Wait>(
         &mut self,
@@ -64,6 +121,7 @@ impl<'a, S: Sink, K: UnitRun> Reporter<'a, S, K> {
         ensures ok { OnOk result (HasFinished self.old.events self.new.events
             (event kinds.Finished key self.old.events.stamp (payload_of outcome))) }
         ensures err { OnErr result (self.new.events ≡ self.old.events) }
+        ensures kept { self.new.child_fault ≡ self.old.child_fault }
     {
         let stamp = self.events.stamp();
         self.events.finish(rt, key, stamp, payload_of(outcome))
@@ -81,8 +139,9 @@ impl<'a, S: Sink, K: UnitRun> Reporter<'a, S, K> {
             (EndsChild (length K.unit.frame.table) (B.may_end body.now) self.new.events) }
         ensures child { OnOk result (HasRunDynamic (B.may_run body.now)
             self.old.events self.new.events child.now) }
-        ensures err { OnErr result
-            (HasLeftDynamic self.old.events self.new.events child.now) }
+        ensures err { IfErr result (HasFailedDynamic self.old.events self.new.events child.now
+            self.old.child_fault self.new.child_fault) }
+        ensures kept { OnOk result (self.new.child_fault ≡ self.old.child_fault) }
         ensures running { OnOk result (self.new.events.running ≡ self.old.events.running) }
         ensures free { OnOk result (¬ IsTaken K.unit self.old.events child.now.segment) }
         ensures taken { IfErr result (λ why. IsTaken K.unit self.old.events child.now.segment
@@ -94,8 +153,10 @@ impl<'a, S: Sink, K: UnitRun> Reporter<'a, S, K> {
         let stamp = self.events.stamp();
         let key = self.events.start_child(rt, alloc, child, stamp, stamp)?;
         let body = ReportingBody { body };
-        let outcome = self.events.run_body(rt, alloc, &body)?;
-        self.finish(rt, key, outcome)
+        let ended = self.events.run_body(rt, alloc, &body);
+        let outcome = self.note(ended)?;
+        let finished = self.finish(rt, key, outcome);
+        self.note(finished)
     }
 
     /// The static descriptor that runs: in [`Tests::run`](crate::Tests::run) that of the test, with
@@ -117,8 +178,9 @@ impl<'a, S: Sink, K: UnitRun> Reporter<'a, S, K> {
     ///
     /// Until then what is published has the stamp that the plan has for the test's start.
     pub fn set_stamp(&mut self, stamp: u64)
-        ensures { self.new.events
+        ensures stamp { self.new.events
             ≡ record self.old.events { stamp = stamp; own_stamp = Some stamp } }
+        ensures kept { self.new.child_fault ≡ self.old.child_fault }
     {
         self.events.set_stamp(stamp);
     }
@@ -133,6 +195,7 @@ impl<'a, S: Sink, K: UnitRun> Reporter<'a, S, K> {
         ensures ok { OnOk result ((key : ℕ) × Published self.old.events self.new.events
             (event kinds.Reporting key self.old.events.stamp (payloads.Report pairs))) }
         ensures err { OnErr result (self.new.events ≡ self.old.events) }
+        ensures kept { self.new.child_fault ≡ self.old.child_fault }
     {
         let stamp = self.events.stamp();
         self.events
@@ -147,6 +210,7 @@ impl<'a, S: Sink, K: UnitRun> Reporter<'a, S, K> {
         ensures ok { OnOk result ((key : ℕ) × Published self.old.events self.new.events
             (event kinds.File key self.old.events.stamp (payloads.Path path))) }
         ensures err { OnErr result (self.new.events ≡ self.old.events) }
+        ensures kept { self.new.child_fault ≡ self.old.child_fault }
     {
         let stamp = self.events.stamp();
         self.events
@@ -160,7 +224,8 @@ impl<'a, S: Sink, K: UnitRun> Reporter<'a, S, K> {
     ///
     /// # Errors
     /// `Own(TWICE)` where a static descriptor has the id already, or one that the unit registered,
-    /// and then nothing is emitted; the faults of the sink and of the body.
+    /// and then nothing is emitted; the faults of the sink and of the body, which end
+    /// the unit, once the child has begun, also where the caller drops them.
     pub fn dynamic_test<R: Wait, B: Body>(
         &mut self,
         rt: &R,
@@ -173,8 +238,9 @@ impl<'a, S: Sink, K: UnitRun> Reporter<'a, S, K> {
             (EndsChild (length K.unit.frame.table) (B.may_end body.now) self.new.events) }
         ensures child { OnOk result (HasRunDynamic (B.may_run body.now)
             self.old.events self.new.events (child Test segment.now name.now)) }
-        ensures err { OnErr result (HasLeftDynamic
-            self.old.events self.new.events (child Test segment.now name.now)) }
+        ensures err { IfErr result (HasFailedDynamic self.old.events self.new.events
+            (child Test segment.now name.now) self.old.child_fault self.new.child_fault) }
+        ensures kept { OnOk result (self.new.child_fault ≡ self.old.child_fault) }
         ensures running { OnOk result (self.new.events.running ≡ self.old.events.running) }
         ensures free { OnOk result (¬ IsTaken K.unit self.old.events segment.now) }
         ensures taken { IfErr result (λ why. IsTaken K.unit self.old.events segment.now
@@ -215,8 +281,9 @@ impl<'a, S: Sink, K: UnitRun> Reporter<'a, S, K> {
             (EndsChild (length K.unit.frame.table) (B.may_end body.now) self.new.events) }
         ensures child { OnOk result (HasRunDynamic (B.may_run body.now)
             self.old.events self.new.events (child Container segment.now name.now)) }
-        ensures err { OnErr result (HasLeftDynamic
-            self.old.events self.new.events (child Container segment.now name.now)) }
+        ensures err { IfErr result (HasFailedDynamic self.old.events self.new.events
+            (child Container segment.now name.now) self.old.child_fault self.new.child_fault) }
+        ensures kept { OnOk result (self.new.child_fault ≡ self.old.child_fault) }
         ensures running { OnOk result (self.new.events.running ≡ self.old.events.running) }
         ensures free { OnOk result (¬ IsTaken K.unit self.old.events segment.now) }
         ensures taken { IfErr result (λ why. IsTaken K.unit self.old.events segment.now
@@ -261,6 +328,7 @@ impl<'a, S: Sink, K: UnitRun> Reporter<'a, S, K> {
             → IsFaultOfTaken why × (self.new.events ≡ self.old.events)) }
         ensures twice { IfErr result (λ why. why ≡ Own TWICE
             → IsRefusedAsTaken K.unit self.old.events self.new.events segment.now) }
+        ensures kept { self.new.child_fault ≡ self.old.child_fault }
     {
         let child = Child {
             segment,
