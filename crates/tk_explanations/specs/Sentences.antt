@@ -36,21 +36,21 @@ use Rattle.tk_explanations.specs.declared.sentences.Sentence.TheVariants.{
 }
 
 -- what an event of the kind did, said of its descriptor
-abbrev pub deed : Kind → List ℕ
-deed Dynamic = codes "was registered"
-deed Skipped = codes "was skipped"
-deed Started = codes "started"
-deed Finished = codes "finished"
-deed Reporting = codes "published entries"
-deed File = codes "published a file"
+abbrev pub phrase : Kind → List ℕ
+phrase Dynamic = codes "was registered"
+phrase Skipped = codes "was skipped"
+phrase Started = codes "started"
+phrase Finished = codes "finished"
+phrase Reporting = codes "published entries"
+phrase File = codes "published a file"
 
 -- what an event did, and its position
-abbrev pub deed_at : EventAt → List ℕ
-deed_at x = deed x.kind ++ codes " at " ++ decimal x.position
+abbrev pub phrase_at : EventAt → List ℕ
+phrase_at x = phrase x.kind ++ codes " at " ++ decimal x.position
 
 -- the descriptor of an event, what it did, and the position
-abbrev pub deed_text : Recorded → EventAt → List ℕ
-deed_text r x = descriptor_text (desc r x.key) ++ codes " " ++ deed_at x
+abbrev pub event_phrase : Recorded → EventAt → List ℕ
+event_phrase r x = descriptor_text (desc r x.key) ++ codes " " ++ phrase_at x
 
 -- why an event breaks a rule
 abbrev pub cause_text : Recorded → Cause → List ℕ
@@ -61,10 +61,10 @@ cause_text r (RegisteredId x) =
     ++ quoted_name (desc r x.key)
 cause_text r (UnknownParent id) =
     codes "no descriptor before has the id of its parent, " ++ field_text id
-cause_text r (ParentStep x) = codes "its parent " ++ deed_text r x
+cause_text r (ParentStep x) = codes "its parent " ++ event_phrase r x
 cause_text r (ParentIdle key) =
     codes "its parent " ++ descriptor_text (desc r key) ++ codes " had not started"
-cause_text r (OwnStep x) = deed_at x ++ codes " already"
+cause_text r (OwnStep x) = phrase_at x ++ codes " already"
 cause_text r Idle = codes "had not started"
 cause_text r (ChildRan x) =
     codes "its child " ++ descriptor_text (desc r x.key) ++ codes ", which started at "
@@ -86,7 +86,7 @@ success_text r (Some x) =
     descriptor_text (desc r x.key) ++ codes " succeeded at " ++ decimal x.position
 
 abbrev pub sentence_text : Recorded → Sentence → List ℕ
-sentence_text r (Breaks x cause) = deed_text r x ++ codes ", but " ++ cause_text r cause
+sentence_text r (Breaks x cause) = event_phrase r x ++ codes ", but " ++ cause_text r cause
 sentence_text r (NeverFinished key start) = unfinished_text r key start
 sentence_text r (NeverRan key finish) =
     descriptor_text (desc r key) ++ codes " neither started nor was skipped, but its parent "

@@ -5,7 +5,7 @@ ghost use Rattle.tk_streams.specs.Pieces.{Adds, outgoing};
 ghost use Rattle.tk_record_columns.specs.Entries.{desc};
 ghost use Rattle.tk_query_lifecycle.specs.LifecycleTexts.{rule_text};
 ghost use Rattle.tk_explanations.specs.Rows.{descriptor_text};
-ghost use Rattle.tk_explanations.specs.Sentences.{cause_text, deed, deed_at, deed_text, sentence_text, success_text, unfinished_text};
+ghost use Rattle.tk_explanations.specs.Sentences.{cause_text, event_phrase, phrase, phrase_at, sentence_text, success_text, unfinished_text};
 
 use crate::pieces::{put_descriptor_of, put_name, put_number};
 use crate::sentences::{Cause, EventAt, Sentence};
@@ -16,8 +16,8 @@ use tk_record::{Record, Target, put_text};
 use tk_streams::Piece;
 
 // What an event of the kind did, said of its descriptor.
-fn deed_of(kind: Kind) -> &'static str
-    ensures { result.now ≡ deed kind }
+fn phrase_of(kind: Kind) -> &'static str
+    ensures { result.now ≡ phrase kind }
 {
     match kind {
         Kind::Dynamic => "was registered",
@@ -29,12 +29,12 @@ fn deed_of(kind: Kind) -> &'static str
     }
 }
 
-fn put_deed_at<T: Target>(piece: &mut Piece, target: &mut T, event: EventAt)
+fn put_phrase_at<T: Target>(piece: &mut Piece, target: &mut T, event: EventAt)
     ensures { Adds (outgoing (T.contents target.old) (T.broken target.old) piece.old)
         (outgoing (T.contents target.new) (T.broken target.new) piece.new)
-        (deed_at event) }
+        (phrase_at event) }
 {
-    piece.put(target, deed_of(event.kind).as_bytes());
+    piece.put(target, phrase_of(event.kind).as_bytes());
     piece.put(target, b" at ");
     put_number(piece, target, event.position as u64);
 }
@@ -49,14 +49,14 @@ fn put_subject<T: Target>(piece: &mut Piece, target: &mut T, record: &Record, ke
     piece.put(target, text.as_bytes());
 }
 
-fn put_deed<T: Target>(piece: &mut Piece, target: &mut T, record: &Record, event: EventAt)
+fn put_event_phrase<T: Target>(piece: &mut Piece, target: &mut T, record: &Record, event: EventAt)
     ensures { Adds (outgoing (T.contents target.old) (T.broken target.old) piece.old)
         (outgoing (T.contents target.new) (T.broken target.new) piece.new)
-        (deed_text «record».now event) }
+        (event_phrase «record».now event) }
 {
     put_descriptor_of(piece, target, record, event.key);
     piece.put(target, b" ");
-    put_deed_at(piece, target, event);
+    put_phrase_at(piece, target, event);
 }
 
 fn put_static_id<T: Target>(piece: &mut Piece, target: &mut T, record: &Record, key: u32)
@@ -94,7 +94,7 @@ fn put_parent_step<T: Target>(piece: &mut Piece, target: &mut T, record: &Record
         (cause_text «record».now (Cause.ParentStep event)) }
 {
     piece.put(target, b"its parent ");
-    put_deed(piece, target, record, event);
+    put_event_phrase(piece, target, record, event);
 }
 
 fn put_parent_idle<T: Target>(piece: &mut Piece, target: &mut T, record: &Record, key: u32)
@@ -112,7 +112,7 @@ fn put_own_step<T: Target>(piece: &mut Piece, target: &mut T, record: &Record, e
         (outgoing (T.contents target.new) (T.broken target.new) piece.new)
         (cause_text «record».now (Cause.OwnStep event)) }
 {
-    put_deed_at(piece, target, event);
+    put_phrase_at(piece, target, event);
     piece.put(target, b" already");
 }
 
@@ -180,7 +180,7 @@ fn put_breaks<T: Target>(
         (outgoing (T.contents target.new) (T.broken target.new) piece.new)
         (sentence_text «record».now (Sentence.Breaks event cause.now)) }
 {
-    put_deed(piece, target, record, event);
+    put_event_phrase(piece, target, record, event);
     piece.put(target, b", but ");
     put_cause(piece, target, record, cause);
 }
