@@ -5,6 +5,7 @@ use Rattle.tk_record_columns.specs.Recorded.{Recorded}
 use Rattle.tk_record_columns.specs.Selections.{Selected, all_of}
 use Rattle.tk_query_conditions.specs.declared.conditions.Condition.{Condition}
 use Rattle.tk_explanations.specs.Collisions.{ExplainsExclusive}
+use Rattle.tk_explanations.specs.Laws.{IsUnique}
 use Rattle.tk_explanations.specs.Lifecycles.{ExplainsLifecycle}
 use Rattle.tk_explanations.specs.Lists.{ExplainsExecutions, ExplainsList}
 use Rattle.tk_explanations.specs.Matches.{ExplainsExactly, ExplainsInOrder, ExplainsLoosely}
@@ -21,10 +22,6 @@ use Rattle.testkit_questions.proofs.LikeExplanations.{exactly_too, holders_too, 
 use Rattle.testkit_questions.proofs.OneReading.{AreAlike, AreSame}
 use Rattle.testkit_questions.proofs.OneReply.{one_reply, same_events}
 use Rattle.testkit_questions.proofs.OneRequest.{AreSameRequests}
-
--- the answer and the text are determined
-abbrev pub IsUnique : (Bool → List ℕ → Type 0) → Type 0
-IsUnique Explains = (a b : Bool) (s t : List ℕ) → Explains a s → Explains b t → (a ≡ b) × (s ≡ t)
 
 -- each explanation is determined by what it is of
 pub record AreUnique : Type 0 where

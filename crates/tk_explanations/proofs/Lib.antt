@@ -7,4 +7,3 @@ mod FirstFits
 mod Stuck
 pub mod OneExplanation
 mod SearchLemmas
-mod LifecycleIsUnique

@@ -6,6 +6,9 @@ use Rattle.std.proofs.lemmas.Bool.{true≢false}
 use Rattle.std.proofs.lemmas.Option.{same_Some}
 use Rattle.tk_record_columns.specs.Recorded.{Recorded}
 use Rattle.tk_record_columns.specs.Selections.{Selected}
+use Rattle.tk_query_lifecycle.specs.LifecycleTexts.{lifecycle_text}
+use Rattle.tk_query_lifecycle.specs.declared.lifecycle_rules.Lifecycle.{Lifecycle}
+use Rattle.tk_query_lifecycle.proofs.LifecycleIsUnique.{lifecycle_is_unique}
 use Rattle.tk_query_conditions.specs.CondOf.{cond_of}
 use Rattle.tk_query_conditions.specs.declared.conditions.Condition.{Condition}
 use Rattle.tk_query.specs.declared.answers.Exact.{Exact}
@@ -28,6 +31,7 @@ use Rattle.tk_query_nearest.specs.Nearness.{IsNearest}
 use Rattle.tk_query_nearest.proofs.NearestIsUnique.{one_nearest}
 use Rattle.tk_explanations.specs.Collisions.{AreCollisionRows, ExplainsExclusive, IsExclusiveExplanation, StartsAt, overlap_rows}
 use Rattle.tk_explanations.specs.Laws.{IsUnique}
+use Rattle.tk_explanations.specs.Lifecycles.{ExplainsLifecycle, IsLifecycleExplanation, is_kept, lifecycle_rows}
 use Rattle.tk_explanations.specs.Lists.{ExplainsExecutions, ExplainsList, listed_execution}
 use Rattle.tk_explanations.specs.MatchRows.{condition_row, found_rows, near_rows}
 use Rattle.tk_explanations.specs.Matches.{AreFirstFits, AreInOrderRows, AreLooseRows, AreStuckRows, ExplainsExactly, ExplainsInOrder, ExplainsLoosely, IsExactExplanation, IsInOrderExplanation, IsLastFit, IsLooseExplanation, after, early_rows, exact_rows, last_of}
@@ -160,3 +164,13 @@ exclusive_rows_one asked writers readers a b xs ys x y =
 
 pub one_exclusion : (asked : Selected) (writers readers : Condition) → IsUnique (ExplainsExclusive asked writers readers)
 one_exclusion asked writers readers = one_text (IsExclusiveExplanation asked writers readers) asked.recorded (exclusive_rows_one asked writers readers)
+
+-- ---- lifecycles
+
+lifecycle_rows_one : (r : Recorded) → AreOne (IsLifecycleExplanation r)
+lifecycle_rows_one r a b xs ys x y =
+    let same = lifecycle_is_unique r x.0 y.0 x.1 y.1 in
+    (x.2 ∙ ap is_kept same ∙ sym y.2, x.3 ∙ ap (λ (l : Lifecycle). Line (lifecycle_text l) ∷ lifecycle_rows r l) same ∙ sym y.3)
+
+pub one_lifecycle : (r : Recorded) → IsUnique (ExplainsLifecycle r)
+one_lifecycle r = one_text (IsLifecycleExplanation r) r (lifecycle_rows_one r)

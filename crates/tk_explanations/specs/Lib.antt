@@ -11,5 +11,4 @@ pub mod Laws
 pub mod EventSearches
 pub mod Causes
 pub mod Lifecycles
-pub mod LifecycleLaw
 pub mod steps

@@ -1,9 +1,11 @@
 //! What the definitions of the explanations imply.
 ghost use Rattle.std.specs.Prelude.{List};
+ghost use Rattle.tk_record_columns.specs.Recorded.{Recorded};
 ghost use Rattle.tk_record_columns.specs.Selections.{Selected};
 ghost use Rattle.tk_query_conditions.specs.declared.conditions.Condition.{Condition};
 ghost use Rattle.tk_explanations.specs.Collisions.{ExplainsExclusive};
 ghost use Rattle.tk_explanations.specs.Laws.{IsUnique};
+ghost use Rattle.tk_explanations.specs.Lifecycles.{ExplainsLifecycle};
 ghost use Rattle.tk_explanations.specs.Lists.{ExplainsExecutions, ExplainsList};
 ghost use Rattle.tk_explanations.specs.Matches.{ExplainsExactly, ExplainsInOrder, ExplainsLoosely};
 
@@ -36,4 +38,9 @@ pub fn executions_is_unique()
 pub fn exclusive_is_unique()
     ensures { (asked : Selected) (writers readers : Condition)
         → IsUnique (ExplainsExclusive asked writers readers) }
+{}
+
+/// A record has one explanation of its lifecycle.
+pub fn lifecycle_is_unique()
+    ensures { (r : Recorded) → IsUnique (ExplainsLifecycle r) }
 {}

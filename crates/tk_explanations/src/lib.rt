@@ -9,7 +9,6 @@ mod explanations;
 mod faults;
 mod in_order;
 pub mod laws;
-pub mod lifecycle_laws;
 mod lifecycles;
 mod listed_events;
 mod listed_executions;
