@@ -1,7 +1,9 @@
 //! Engines of two lists of steps, one for unit 0 and one for each other unit.
-ghost use Rattle.std.specs.Prelude.{◌≡◌, ◌<◌, ◌≤◌, [], if◌then◌else◌, nat_eq};
+ghost use Rattle.std.specs.Prelude.{◌≡◌, ◌<◌, ◌≤◌, [], if◌then◌else◌, length, nat_eq, replicate};
 ghost use Rattle.std.specs.Arc.{arc_value};
 ghost use Rattle.tk_engine_execute.specs.Grown.{Grew};
+ghost use Rattle.tk_events.specs.declared.kinds.Kind.TheVariants.{Started};
+ghost use Rattle.tk_events.specs.declared.payloads.Payload.TheVariants.{Nothing};
 
 use std::alloc::{AllocError, Global};
 use std::sync::atomic::{AtomicU64, Ordering};
@@ -39,9 +41,11 @@ pub enum UnitStep {
 }
 
 /// The units of an engine: how many there are, and what they do. Unit 0 does the first list of steps
-/// under the first need, and each other unit the second list under the second need.
+/// under the first need, and each other unit the second list under the second need. Before all units
+/// there are starts of the root.
 #[derive(Clone, Copy)]
 pub struct Units<'a> {
+    pub starts_before: u32,
     pub count: u32,
     pub need: Need,
     pub need_of_others: Need,
@@ -53,6 +57,7 @@ impl<'a> Units<'a> {
     /// Units that run side by side. Unit 0 does the first steps, each other unit the second.
     pub fn beside(count: u32, first: &'a [UnitStep], others: &'a [UnitStep]) -> Units<'a> {
         Units {
+            starts_before: 0,
             count,
             need: Need::of(1, 0),
             need_of_others: Need::of(1, 0),
@@ -117,6 +122,7 @@ impl AskedCounter {
 pub struct StepEngine<'a> {
     table: Arc<Table>,
     segment: Segment,
+    starts_before: u32,
     units: u32,
     need: Need,
     need_of_others: Need,
@@ -127,6 +133,8 @@ pub struct StepEngine<'a> {
     before: AskedCounter,
     after: AskedCounter,
     ghost few: { units ≤ 65536 },
+    ghost few_before: { starts_before ≤ 1048576 },
+    ghost rooted: { 0 < length (arc_value table) },
 }
 
 // A root, with key 0, and two tests below it.
@@ -143,16 +151,21 @@ fn two_tests(alloc: Global) -> Option<Arc<Table>> {
     Arc::new(alloc, table).ok()
 }
 
-/// Makes an engine of at most 65,536 units; none where there are more, or memory was refused.
+/// Makes an engine of at most 65,536 units and 1,048,576 starts before them; none where there are more, or memory was
+/// refused.
 pub fn engine<'a>(alloc: Global, units: &Units<'a>) -> Option<StepEngine<'a>> {
-    if units.count > 65_536 {
+    if units.count > 65_536 || units.starts_before > 1_048_576 {
         return None;
     }
     let segment = Segment::new(alloc, "d", "1").ok()?;
     let table = two_tests(alloc)?;
+    if table.len() == 0 {
+        return None;
+    }
     Some(StepEngine {
         table,
         segment,
+        starts_before: units.starts_before,
         units: units.count,
         need: units.need,
         need_of_others: units.need_of_others,
@@ -303,7 +316,13 @@ impl Engine for StepEngine<'_> {
 
     ghost units = { λ e. e.units };
 
-    ghost before = { λ e. [] };
+    ghost before = { λ e.
+        replicate e.starts_before (record {
+          kind = Started;
+          key = 0;
+          stamp = 0;
+          payload = Nothing;
+        }) };
 
     ghost after = { λ e. [] };
 
@@ -319,9 +338,19 @@ impl Engine for StepEngine<'_> {
         self.units
     }
 
+    #[tactic(auto, using(crate::proofs::Starts::starts_are_of_worker_zero))]
     fn before(&self, alloc: Global) -> Result<Vec<Event>, AllocError> {
         self.before.note(self.ended.load(Ordering::SeqCst));
-        Ok(Vec::new(alloc))
+        let mut events = Vec::new(alloc);
+        for _ in 0..self.starts_before {
+            events.push(Event {
+                kind: Kind::Started,
+                key: 0,
+                stamp: 0,
+                payload: Payload::Nothing,
+            })?;
+        }
+        Ok(events)
     }
 
     fn after(&self, alloc: Global) -> Result<Vec<Event>, AllocError> {

@@ -98,6 +98,7 @@ fn answer_of_two<R: Threads + Wait + Sync>(
         UnitStep::FinishOf(2),
     ];
     let units = Units {
+        starts_before: 0,
         count: 2,
         need,
         need_of_others: need,

@@ -184,6 +184,7 @@ fn one_shared_book(rt: HostRuntime) {
     let first = [UnitStep::Start(7), UnitStep::Alone(2), UnitStep::Start(7)];
     let other = [UnitStep::Start(8), UnitStep::Alone(2), UnitStep::Start(8)];
     let units = Units {
+        starts_before: 0,
         count: 2,
         need: Need::of(0, 1),
         need_of_others: Need::of(0, 1),
@@ -252,27 +253,20 @@ fn as_many_units_as_may_be(rt: HostRuntime) {
     );
 }
 
-// A run of two units, each by a worker of its own, with this number of steps each: two, and then starts.
-fn run_of_many<R: Threads + Wait + Sync>(rt: &R, alloc: Global, count: usize) -> Option<Ran> {
-    let mut steps = Vec::new(alloc);
-    steps.push(UnitStep::Begin).ok()?;
-    steps.push(UnitStep::Await(2, 1)).ok()?;
-    steps.resize(count, UnitStep::Start(0)).ok()?;
-    Some(run(rt, alloc, &Units::alike(2, steps.as_slice()), 2, 1024))
-}
-
-/// More than 2^20 entries are recorded.
+/// As many events come before the units as a worker may emit, and a unit emits one more.
 #[test]
 fn many_events(rt: HostRuntime) {
-    let ran = run_of_many(&rt, rt.alloc(), 600_002);
+    let units = Units {
+        starts_before: 1_048_576,
+        ..Units::alike(1, &[UnitStep::Start(0)])
+    };
+    let ran = run(&rt, rt.alloc(), &units, 1, 64);
     assert!(rt;
         matches!(
-            ran,
-            Some(Ran {
-                answer: Ok(Recorded {
-                    entries: 1_200_000,
-                    ..
-                }),
+            ran.answer,
+            Ok(Recorded {
+                entries: 1_048_577,
+                emitted: 1,
                 ..
             })
         )
@@ -284,6 +278,7 @@ fn many_events(rt: HostRuntime) {
 fn writers_of_different_resources(rt: HostRuntime) {
     let steps = [UnitStep::Begin, UnitStep::Await(2, 1)];
     let units = Units {
+        starts_before: 0,
         count: 2,
         need: Need::of(1, 2),
         need_of_others: Need::of(1, 4),
