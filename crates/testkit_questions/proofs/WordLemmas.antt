@@ -9,15 +9,14 @@ use Rattle.tk_record_columns.specs.declared.selections.Selection.TheVariants.{Al
 use Rattle.tk_record_columns.specs.Selections.{selection_name}
 use Rattle.tk_query_conditions.specs.declared.conditions.Condition as real
 use Rattle.tk_query_conditions.specs.declared.conditions.Condition.{Condition}
-use Rattle.tk_query_conditions.specs.declared.faults.CondFault.{CondFault}
-use Rattle.tk_query_conditions.specs.declared.faults.CondFault.TheVariants as condition_faults
 use Rattle.tk_query_conditions.specs.Answer.{IsReadAs}
-use Rattle.testkit_questions.specs.declared.faults.AskFault.{AskFault}
-use Rattle.testkit_questions.specs.declared.faults.AskFault.TheVariants as faults
+use Rattle.testkit_questions.specs.declared.conditions.ConditionsFault.{ConditionsFault}
+use Rattle.testkit_questions.specs.declared.conditions.ConditionsFault.TheVariants as several
+use Rattle.testkit_questions.specs.Conditions.{IsConditionsFault, ask_fault_of_conditions}
 use Rattle.testkit_questions.specs.Questions.{Asks, Expecting, IsAskedAs, IsNextExpected}
-use Rattle.testkit_questions.specs.Questions.{AreConditions, IsConditionFault, IsBadWord, count}
+use Rattle.testkit_questions.specs.Questions.{AreConditions, IsBadWord, count}
 use Rattle.testkit_questions.specs.Questions.{exclusive_word, overview_name}
-use Rattle.testkit_questions.specs.steps.Questions.{IsWordFault}
+use Rattle.testkit_questions.specs.steps.Conditions.{IsTextFault}
 use Rattle.testkit_questions.specs.declared.questions.Question.TheVariants as questions
 use Rattle.tk_query_conditions.specs.Cond.{Any, Nothing}
 use Rattle.tk_query_conditions.specs.CondOf.{cond_of}
@@ -78,23 +77,13 @@ pub conditions_more : (texts : List (List ℕ)) (i : ℕ) (text : List ℕ) (cs 
 conditions_more texts i text cs c e before more =
     subst (λ (t : List (List ℕ)). AreConditions t (cs ++ c ∷ [])) (sym e) (conditions_snoc (take i texts) cs text c before more)
 
--- a text that is no condition
-bad_condition : {A : Type 0} (f : A → List ℕ) → (words : List A) (i : ℕ) (word : A) (text : List ℕ) (cs : List Condition) (fault : CondFault) (number : ℕ) →
-    i < length words → word ≡ get_or words i word → text ≡ f word → AreConditions (take i (map f words)) cs → (number ≡ i + 1) × IsReadAs text (Err fault) × (fault ≢ condition_faults.Memory) →
-    IsConditionFault (map f words) (faults.Condition number fault)
-bad_condition f words i word text cs fault number lt e same before bad =
-    (i, bad.0, record { conditions = cs; before = before; text = f word; at = text_at f words i word lt e; bad = subst (λ (t : List ℕ). IsReadAs t (Err fault)) same bad.1; read = bad.2 })
-
--- where the words before it are conditions, a word's fault is that of all words
-pub bad_word : {A : Type 0} (f : A → List ℕ) → (words : List A) (i : ℕ) (word : A) (text : List ℕ) (cs : List Condition) (fault : AskFault) →
-    i < length words → word ≡ get_or words i word → text ≡ f word → AreConditions (take i (map f words)) cs → IsWordFault (i + 1) text fault →
-    IsConditionFault (map f words) fault
-bad_word f words i word text cs (faults.Condition number fault) lt e same before bad = bad_condition f words i word text cs fault number lt e same before bad
-bad_word f words i word text cs faults.Memory lt e same before bad = tt
-bad_word f words i word text cs faults.Question lt e same before bad = absurd bad
-bad_word f words i word text cs (faults.Word k) lt e same before bad = absurd bad
-bad_word f words i word text cs (faults.Read fault) lt e same before bad = absurd bad
-bad_word f words i word text cs faults.Device lt e same before bad = absurd bad
+-- where the texts before it are conditions, a text's fault is that of all texts
+pub bad_text : {A : Type 0} (f : A → List ℕ) → (words : List A) (i : ℕ) (word : A) (text : List ℕ) (cs : List Condition) (fault : ConditionsFault) →
+    i < length words → word ≡ get_or words i word → text ≡ f word → AreConditions (take i (map f words)) cs → IsTextFault i text fault → IsConditionsFault (map f words) fault
+bad_text f words i word text cs (several.Condition number fault) lt e is before bad =
+    subst (λ (n : ℕ). IsConditionsFault (map f words) (several.Condition n fault)) (sym bad.0)
+    (record { conditions = cs; before = before; text = text; at = text_at f words i word lt e ∙ ap (λ t. Some t) (sym is); bad = bad.1; read = bad.2 })
+bad_text f words i word text cs several.Memory lt e is before bad = tt
 
 -- a word after the selection
 pub one_too_many : {A : Type 0} (f : A → List ℕ) → (words : List A) (word : A) (s : Selection) (more : List A) → words ≡ word ∷ more → f word ≡ selection_name s → 0 < length more → IsBadWord (count ∷ map f words) 1
@@ -140,8 +129,8 @@ third_condition f words more (x ∷ rest) w r b d some =
       ),
     ))))))
 
-pub first_fault : {A : Type 0} (f : A → List ℕ) → (words more : List A) (first : A) (text : List ℕ) (fault : AskFault) → words ≡ first ∷ more → text ≡ f first → IsWordFault 0 text fault → IsAskedAs (exclusive_word ∷ map f words) (Err fault)
-first_fault f words more first text (faults.Condition number fault) cut is bad =
+pub first_fault : {A : Type 0} (f : A → List ℕ) → (words more : List A) (first : A) (text : List ℕ) (fault : ConditionsFault) → words ≡ first ∷ more → text ≡ f first → IsTextFault 0 text fault → IsAskedAs (exclusive_word ∷ map f words) (Err (ask_fault_of_conditions fault))
+first_fault f words more first text (several.Condition number fault) cut is bad =
     let at : number ≡ 0 = bad.0 in
     inr (inr (
       map f words,
@@ -156,14 +145,10 @@ first_fault f words more first text (faults.Condition number fault) cut is bad =
         read = bad.2;
       },
     ))
-first_fault f words more first text faults.Memory cut is bad = tt
-first_fault f words more first text faults.Question cut is bad = absurd bad
-first_fault f words more first text (faults.Word k) cut is bad = absurd bad
-first_fault f words more first text (faults.Read fault) cut is bad = absurd bad
-first_fault f words more first text faults.Device cut is bad = absurd bad
+first_fault f words more first text several.Memory cut is bad = tt
 
-pub second_fault : {A : Type 0} (f : A → List ℕ) → (words more rest : List A) (second : A) (text : List ℕ) (w : Condition) (fault : AskFault) → BeginsWith f words w more → more ≡ second ∷ rest → text ≡ f second → IsWordFault 1 text fault → IsAskedAs (exclusive_word ∷ map f words) (Err fault)
-second_fault f words more rest second text w (faults.Condition number fault) b cut is bad =
+pub second_fault : {A : Type 0} (f : A → List ℕ) → (words more rest : List A) (second : A) (text : List ℕ) (w : Condition) (fault : ConditionsFault) → BeginsWith f words w more → more ≡ second ∷ rest → text ≡ f second → IsTextFault 1 text fault → IsAskedAs (exclusive_word ∷ map f words) (Err (ask_fault_of_conditions fault))
+second_fault f words more rest second text w (several.Condition number fault) b cut is bad =
     let at : number ≡ 1 = bad.0 in
     let all : map f words ≡ f b.first ∷ f second ∷ map f rest = ap (map f) (b.cut ∙ ap (λ l. b.first ∷ l) cut) in
     inr (inr (
@@ -179,8 +164,4 @@ second_fault f words more rest second text w (faults.Condition number fault) b c
         read = bad.2;
       },
     ))
-second_fault f words more rest second text w faults.Memory b cut is bad = tt
-second_fault f words more rest second text w faults.Question b cut is bad = absurd bad
-second_fault f words more rest second text w (faults.Word k) b cut is bad = absurd bad
-second_fault f words more rest second text w (faults.Read fault) b cut is bad = absurd bad
-second_fault f words more rest second text w faults.Device b cut is bad = absurd bad
+second_fault f words more rest second text w several.Memory b cut is bad = tt

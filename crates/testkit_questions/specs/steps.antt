@@ -1,4 +1,3 @@
-pub mod Questions
 pub mod Requests
 pub mod Replies
 pub mod Asked

@@ -1,14 +1,15 @@
 //! Conditions of texts, as tests of an engine write them.
-ghost use Rattle.std.specs.Prelude.{◌≡◌, Ok, Some, IfErr, IfOk};
+ghost use Rattle.std.specs.Prelude.{◌≡◌, map, Ok, Some, IfErr, IfOk};
 ghost use Rattle.tk_query_conditions.specs.Answer.{IsReadAs};
 ghost use Rattle.testkit_questions.specs.Questions.{AreConditions};
-ghost use Rattle.testkit_questions.specs.Conditions.{IsConditionsFault, texts_of};
+ghost use Rattle.testkit_questions.specs.Conditions.{IsConditionsFault};
 ghost use Rattle.testkit_questions.specs.steps.Conditions.{IsTextFault};
 ghost use Rattle.testkit_questions.specs.FaultTexts.{conditions_fault_text};
 ghost use Rattle.testkit_questions.specs.declared.conditions.ConditionsFault.TheVariants.{Memory as MemoryFault};
 
 use crate::fault_texts::write_condition_fault;
 use std::alloc::{AllocFailed, Global};
+use std::convert::AsStr;
 use std::error::Error;
 use std::fmt;
 use tk_query::{CondFault, Condition, read_condition};
@@ -43,8 +44,12 @@ impl fmt::Display for ConditionsFault {
 
 impl Error for ConditionsFault {}
 
-// Reads the condition that the text of this number spells.
-fn read_text(alloc: Global, number: usize, text: &str) -> Result<Condition, ConditionsFault>
+/// Reads the condition that the text of this number spells.
+pub(crate) fn read_text(
+    alloc: Global,
+    number: usize,
+    text: &str,
+) -> Result<Condition, ConditionsFault>
     ensures ok { IfOk result (λ condition. IsReadAs text.now (Ok condition)) }
     ensures err { IfErr result (IsTextFault number text.now) }
 {
@@ -60,13 +65,16 @@ fn read_text(alloc: Global, number: usize, text: &str) -> Result<Condition, Cond
 /// # Errors
 /// `Condition` for the first text that is no condition, and `Memory` where a request for memory is
 /// refused.
-pub fn read_conditions(alloc: Global, texts: &[&str]) -> Result<Vec<Condition>, ConditionsFault>
-    ensures ok { IfOk result (λ conditions. AreConditions (texts_of texts.now) conditions.items) }
-    ensures err { IfErr result (IsConditionsFault (texts_of texts.now)) }
+pub fn read_conditions<T: AsStr>(
+    alloc: Global,
+    texts: &[T],
+) -> Result<Vec<Condition>, ConditionsFault>
+    ensures ok { IfOk result (λ conditions. AreConditions (map T.text texts.now) conditions.items) }
+    ensures err { IfErr result (IsConditionsFault (map T.text texts.now)) }
 {
     let mut conditions = Vec::new(alloc);
     for (number, text) in texts.iter().enumerate() {
-        let condition = read_text(alloc, number, text)?;
+        let condition = read_text(alloc, number, text.as_str())?;
         conditions.push(condition)?;
     }
     Ok(conditions)

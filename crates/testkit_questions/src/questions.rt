@@ -1,14 +1,13 @@
 //! What can be asked of a record, and how words ask it.
-ghost use Rattle.std.specs.Prelude.{◌≡◌, ◌∷◌, map, string_bytes, IfOk, IfErr, Ok};
-ghost use Rattle.tk_query_conditions.specs.Answer.{IsReadAs};
+ghost use Rattle.std.specs.Prelude.{◌≡◌, ◌∷◌, map, string_bytes, IfOk, IfErr};
 ghost use Rattle.testkit_questions.specs.Questions.{IsAskedAs, IsMode, IsOverview, AreConditions, IsConditionFault, count, exclusive_word, list_word, match_word, overview_name};
-ghost use Rattle.testkit_questions.specs.steps.Questions.{IsWordFault};
 ghost use Rattle.testkit_questions.specs.Explainables.{asking, question_of};
 
+use crate::conditions::{ConditionsFault, read_conditions, read_text};
 use crate::expectations::read_expectations;
 use crate::faults::AskFault;
-use std::alloc::{AllocError, Global};
-use tk_query::{CondFault, Condition, read_condition};
+use std::alloc::Global;
+use tk_query::Condition;
 use tk_record::{Expected, Selection};
 
 /// How conditions are matched with events.
@@ -110,31 +109,17 @@ impl Overview {
     }
 }
 
-// Reads the condition that a word spells. The number is the word's, counted from 0 after the
-// question.
-fn read_numbered_condition(alloc: Global, number: usize, word: &str) -> Result<Condition, AskFault>
-    ensures ok { IfOk result (λ condition. IsReadAs word.now (Ok condition)) }
-    ensures err { IfErr result (IsWordFault number word.now) }
-{
-    match read_condition(alloc, word) {
-        Ok(condition) => Ok(condition),
-        Err(CondFault::Memory) => Err(AskFault::Memory),
-        Err(fault) => Err(AskFault::Condition(number, fault)),
-    }
-}
-
 // Reads the conditions that the words spell, which follow the name of a mode or a selection.
-fn read_conditions(alloc: Global, words: &[String]) -> Result<Vec<Condition>, AskFault>
+fn read_later_conditions(alloc: Global, words: &[String]) -> Result<Vec<Condition>, AskFault>
     ensures ok { IfOk result (λ conditions.
         AreConditions (map string_bytes words.now) conditions.items) }
     ensures err { IfErr result (λ fault. IsConditionFault (map string_bytes words.now) fault) }
 {
-    let mut conditions = Vec::new(alloc);
-    for (at, word) in words.iter().enumerate() {
-        let condition = read_numbered_condition(alloc, at + 1, word.as_str())?;
-        conditions.push(condition).map_err(AllocError::from)?;
+    match read_conditions(alloc, words) {
+        Ok(conditions) => Ok(conditions),
+        Err(ConditionsFault::Condition(at, fault)) => Err(AskFault::Condition(at + 1, fault)),
+        Err(ConditionsFault::Memory) => Err(AskFault::Memory),
     }
-    Ok(conditions)
 }
 
 pub(crate) fn read_match(alloc: Global, words: &[String]) -> Result<Explainable, AskFault>
@@ -146,7 +131,7 @@ pub(crate) fn read_match(alloc: Global, words: &[String]) -> Result<Explainable,
     let Some(mode) = Mode::read(mode.as_str()) else {
         return Err(AskFault::Word(0));
     };
-    let conditions = read_conditions(alloc, texts)?;
+    let conditions = read_later_conditions(alloc, texts)?;
     Ok(Explainable::Match(mode, conditions))
 }
 
@@ -159,7 +144,7 @@ pub(crate) fn read_list(alloc: Global, words: &[String]) -> Result<Explainable, 
     let Some(selection) = Selection::read(selection.as_str()) else {
         return Err(AskFault::Word(0));
     };
-    let conditions = read_conditions(alloc, texts)?;
+    let conditions = read_later_conditions(alloc, texts)?;
     Ok(Explainable::List(selection, conditions))
 }
 
@@ -186,12 +171,12 @@ pub(crate) fn read_exclusive(alloc: Global, words: &[String]) -> Result<Explaina
     let Some((writers, more)) = words.split_first() else {
         return Err(AskFault::Word(0));
     };
-    let writers = read_numbered_condition(alloc, 0, writers.as_str())?;
+    let writers = read_text(alloc, 0, writers.as_str())?;
     let Some((readers, more)) = more.split_first() else {
         let nobody = Condition::Any(Vec::new(alloc));
         return Ok(Explainable::Exclusive(writers, nobody));
     };
-    let readers = read_numbered_condition(alloc, 1, readers.as_str())?;
+    let readers = read_text(alloc, 1, readers.as_str())?;
     if more.is_empty() {
         Ok(Explainable::Exclusive(writers, readers))
     } else {
