@@ -258,6 +258,9 @@ COMMANDS = [
     Command("run", LONG_PLAN, {**OF_A_RUN, "thread": 1}, KEPT_LONG, frozenset(range(4))),
 ]
 
+SIXTEEN_LOCKS = DEMO_PLAN.replace('[{"key":"db"}]', "[" + ",".join(f'{{"key":"{key}{LONGER}"}}' for key in range(16)) + "]")
+"""The demo plan with a lock too many."""
+
 FAULTS = [
     ("ask", TWO_TESTS),
     ("ask count x", TWO_TESTS),
@@ -266,8 +269,10 @@ FAULTS = [
     ("replay", b""),
     ("run", b"{"),
     ("run --workers 0", DEMO_PLAN),
+    ("run --workers 1", SIXTEEN_LOCKS),
     ("walk", b""),
 ]
+"""Words and an input that are refused: nothing is kept then either, as the lock keys of a plan that has too many."""
 
 
 def sweeps_of_program() -> List[Sweep]:

@@ -94,8 +94,16 @@ def chain_report(levels: int) -> str:
     return stats(started=levels, finished=levels, succeeded=levels) + lines
 
 
+def dynamic_chain_report(levels: int) -> str:
+    """The report of a chain of which the root alone is static."""
+    ids = ["/".join(["[s:x]"] * level) for level in range(1, levels + 1)]
+    lines = "".join(f"{id_text}\n  dynamic|B|{id_text}|n\n  start\n  finish|ok\n" for id_text in ids[1:])
+    return stats(started=levels, finished=levels, succeeded=levels, dynamic=levels - 1) + f"{ids[0]}\n  start\n  finish|ok\n" + lines
+
+
 LEVELS = [
     answer("plan/60 levels", "run --workers 3", chain(60), chain_report(60)),
+    answer("plan/60 levels of dynamic nodes", "run --workers 3", chain(60, member="dynamic"), dynamic_chain_report(60)),
     refused("61 levels", chain(61), "plan too deep"),
     refused("62 levels", chain(62), "plan too deep"),
     refused("70 levels", chain(70), "plan is not JSON"),
@@ -138,6 +146,14 @@ LONG_IDS = [
         + f"[s:{'x' * 4_086}]\n  start\n  finish|ok\n[s:{'x' * 4_086}]/[c:y]\n  start\n  finish|ok\n",
     ),
     refused("child's id of 4,097 bytes", long_id("x", 4_087, LOWER), "plan id is bad"),
+    answer(
+        "plan/dynamic node's id of 4,096 bytes",
+        "run",
+        long_id("x", 4_086, LOWER.replace("children", "dynamic")),
+        stats(started=2, finished=2, succeeded=2, dynamic=1)
+        + f"[s:{'x' * 4_086}]\n  start\n  finish|ok\n"
+        + f"[s:{'x' * 4_086}]/[c:y]\n  dynamic|T|[s:{'x' * 4_086}]/[c:y]|m\n  start\n  finish|ok\n",
+    ),
     refused("id of 1,000,000 bytes", long_id("x", 999_996), "plan id is bad"),
     refused(
         "id of 4,097 bytes at level 60",
