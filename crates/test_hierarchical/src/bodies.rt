@@ -159,11 +159,13 @@ fn third(alloc: Global) -> Result<PlanNode<'static>, AllocError> {
     ))
 }
 
-// A container that is skipped.
+// A container that is skipped, with a test and a container of a test below it.
 fn fifth(alloc: Global) -> Result<PlanNode<'static>, AllocError> {
+    let seven = PlanNode::container(alloc, ("c", "7"), "seven");
     PlanNode::container(alloc, ("c", "5"), "five")
         .skip("later")
-        .child(PlanNode::test(alloc, ("t", "6"), "six"))
+        .child(PlanNode::test(alloc, ("t", "6"), "six"))?
+        .child(seven.child(PlanNode::test(alloc, ("t", "8"), "eight"))?)
 }
 
 // A root with two tests and these; all four may run beside one another.
@@ -199,6 +201,8 @@ N|B|[engine:e]/[c:3]|three
 N|T|[engine:e]/[c:3]/[t:4]|four
 N|C|[engine:e]/[c:5]|five
 N|T|[engine:e]/[c:5]/[t:6]|six
+N|C|[engine:e]/[c:5]/[c:7]|seven
+N|T|[engine:e]/[c:5]/[c:7]/[t:8]|eight
 E|0|0|0|start
 E|1|1|1|start
 E|1|1|1|report|k|v

@@ -1,4 +1,4 @@
-//! Units with as many levels as a plan may have.
+//! Units with as many levels as a plan may have, and with many nodes.
 use crate::bodies::seen;
 use crate::planned::Silent;
 use std::alloc::{AllocError, Global};
@@ -63,4 +63,34 @@ fn runs_levels<R: Threads + Wait + Sync>(rt: &R, alloc: Global) -> Option<bool> 
 #[test]
 fn sixty_levels(rt: HostRuntime) {
     assert!(rt; runs_levels(&rt, rt.alloc()) == Some(true));
+}
+
+fn numbers(alloc: Global, count: u32) -> Result<Vec<String>, AllocError> {
+    let mut texts = Vec::new(alloc);
+    for number in 0..count {
+        texts.push(format!(in alloc; "{number}")?)?;
+    }
+    Ok(texts)
+}
+
+// A root with a container for each of these values, which has a test below it, and another test.
+fn wide(alloc: Global, values: &[String]) -> Result<PlanNode<'_>, AllocError> {
+    let mut root = PlanNode::container(alloc, ("engine", "e"), "e");
+    for value in values {
+        let container = PlanNode::container(alloc, ("c", value.as_str()), "c");
+        root = root.child(container.child(PlanNode::test(alloc, ("t", "t"), "t"))?)?;
+    }
+    root.child(PlanNode::test(alloc, ("t", "t"), "t"))
+}
+
+// Whether a unit of 2,002 static nodes runs.
+fn runs_nodes<R: Threads + Wait + Sync>(rt: &R, alloc: Global) -> Option<bool> {
+    let values = numbers(alloc, 1_000).ok()?;
+    let root = wide(alloc, values.as_slice()).ok()?;
+    Some(statistics(rt, alloc, &root)? == succeeding(2_002))
+}
+
+#[test]
+fn many_nodes(rt: HostRuntime) {
+    assert!(rt; runs_nodes(&rt, rt.alloc()) == Some(true));
 }

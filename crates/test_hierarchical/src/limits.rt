@@ -1,4 +1,4 @@
-//! As much as a body may register and emit, and one more.
+//! As much as a body may register and emit, and one more; and what is unlawful.
 use std::alloc::{AllocError, Global};
 use std::sync::Wait;
 use std::thread::Threads;
@@ -20,6 +20,8 @@ enum Amount {
     Registrations(u32),
     /// Publishes this many entries.
     Entries(u32),
+    /// Publishes an entry whose keys don't increase, or a file without a path.
+    Unlawful(bool),
 }
 
 // A body that does nothing.
@@ -99,6 +101,17 @@ fn report_all<R: Wait, S: Sink, K: UnitRun>(
     Ok(())
 }
 
+fn report_falling<R: Wait, S: Sink, K: UnitRun>(
+    rt: &R,
+    alloc: Global,
+    reporter: &mut Reporter<'_, S, K>,
+) -> Result<(), UnitFault> {
+    let mut pairs = Pairs::new(alloc);
+    pairs.push(Text::copy(alloc, "b")?, Text::copy(alloc, "v")?)?;
+    pairs.push(Text::copy(alloc, "a")?, Text::copy(alloc, "v")?)?;
+    reporter.report(rt, pairs)
+}
+
 impl Tests for Amount {
     fn run<R: Wait, S: Sink, K: UnitRun>(
         &self,
@@ -120,14 +133,18 @@ impl Tests for Amount {
             }
             Amount::Registrations(count) => skip_all(rt, alloc, *count, reporter)?,
             Amount::Entries(count) => report_all(rt, alloc, *count, reporter)?,
+            Amount::Unlawful(false) => report_falling(rt, alloc, reporter)?,
+            Amount::Unlawful(true) => reporter.publish_file(rt, Text::copy(alloc, "")?)?,
         }
         Ok(Outcome::Successful)
     }
 }
 
-// A test that is a unit of its own, at the bottom of a chain of nodes, `levels` levels in all.
+// A test with an entry that is a unit of its own, at the bottom of a chain of nodes, `levels` levels in
+// all.
 fn plan(alloc: Global, levels: u32) -> Option<Plan> {
-    let mut node = PlanNode::test(alloc, ("t", "t"), "t").mode(ExecutionMode::Concurrent);
+    let test = PlanNode::test(alloc, ("t", "t"), "t").mode(ExecutionMode::Concurrent);
+    let mut node = test.entry(Vec::new(alloc)).ok()?;
     for _ in 1..levels {
         let above = PlanNode::container(alloc, ("c", "c"), "c").mode(ExecutionMode::Concurrent);
         node = above.child(node).ok()?;
@@ -142,6 +159,7 @@ enum Ending {
     LongId,
     Registrations,
     Events,
+    Unlawful,
     Other,
 }
 
@@ -150,6 +168,7 @@ fn ending_of(fault: &UnitFault) -> Ending {
         UnitFault::Sink(SinkFault::Register(RegisterFault::Id(IdFault::TooLong))) => Ending::LongId,
         UnitFault::Sink(SinkFault::Register(RegisterFault::Limit)) => Ending::Registrations,
         UnitFault::Sink(SinkFault::Send(SendFault::Limit(_))) => Ending::Events,
+        UnitFault::Sink(SinkFault::Send(SendFault::Unlawful(_))) => Ending::Unlawful,
         _ => Ending::Other,
     }
 }
@@ -193,10 +212,25 @@ fn registrations(rt: HostRuntime) {
     assert!(rt; run(&rt, alloc, 2, Amount::Registrations(65_537)) == Some(Ending::Registrations));
 }
 
-// A worker emits at most 2^20 events, two of which are the start and the finish of the test.
+// A worker emits at most 2^20 events, three of which are the start of the test, the plan's entry and
+// the finish.
 #[test]
 fn events(rt: HostRuntime) {
     let alloc = rt.alloc();
-    assert!(rt; run(&rt, alloc, 2, Amount::Entries(1_048_574)) == Some(Ending::Done));
-    assert!(rt; run(&rt, alloc, 2, Amount::Entries(1_048_575)) == Some(Ending::Events));
+    assert!(rt; run(&rt, alloc, 2, Amount::Entries(1_048_573)) == Some(Ending::Done));
+    assert!(rt; run(&rt, alloc, 2, Amount::Entries(1_048_574)) == Some(Ending::Events));
+}
+
+// The start and the body's entries leave no room.
+#[test]
+fn the_entry_of_the_plan_is_one_too_many(rt: HostRuntime) {
+    assert!(rt; run(&rt, rt.alloc(), 2, Amount::Entries(1_048_575)) == Some(Ending::Events));
+}
+
+#[test]
+fn unlawful(rt: HostRuntime) {
+    for is_file in [false, true] {
+        let ending = run(&rt, rt.alloc(), 2, Amount::Unlawful(is_file));
+        assert!(rt; ending == Some(Ending::Unlawful), "{is_file}");
+    }
 }

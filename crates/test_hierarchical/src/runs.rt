@@ -2,9 +2,11 @@
 use crate::bodies::{is_recorded, sample_engine};
 use std::alloc::Global;
 use std::sync::Wait;
+use std::sync::atomic::{AtomicU64, Ordering};
 use std::thread::Threads;
-use tk_engine::RunFault;
-use tk_engine_hierarchical::run_tests;
+use tk_engine::{RunFault, Sink, UnitFault};
+use tk_engine_hierarchical::{Hierarchical, Outcome, Reporter, Tests, UnitRun, run_tests};
+use tk_plan::{PlanNode, build_plan};
 
 // Whether a run by one worker has the record of the sample.
 fn has_record<R: Threads + Wait + Sync>(rt: &R, alloc: Global) -> Option<bool> {
@@ -38,4 +40,64 @@ fn are_refused<R: Threads + Wait + Sync>(rt: &R, alloc: Global) -> Option<bool> 
 #[test]
 fn numbers_beyond_the_limits(rt: HostRuntime) {
     assert!(rt; are_refused(&rt, rt.alloc()) == Some(true));
+}
+
+// A test that counts how often it runs, and fails with 7 where it is to.
+#[derive(Drop)]
+struct Counted<'c> {
+    runs: &'c AtomicU64,
+    fails: bool,
+}
+
+impl Tests for Counted<'_> {
+    fn run<R: Wait, S: Sink, K: UnitRun>(
+        &self,
+        _rt: &R,
+        _alloc: Global,
+        _key: u32,
+        _reporter: &mut Reporter<'_, S, K>,
+    ) -> Result<Outcome, UnitFault> {
+        self.runs.fetch_add(1, Ordering::SeqCst);
+        if self.fails {
+            Err(UnitFault::Own(7))
+        } else {
+            Ok(Outcome::Successful)
+        }
+    }
+}
+
+// How a run of one test ended.
+#[derive(Clone, Copy, PartialEq, Eq)]
+enum Ending {
+    Done,
+    Own(u32, u32),
+    Other,
+}
+
+fn ending<R: Threads + Wait + Sync>(
+    rt: &R,
+    alloc: Global,
+    runs: &AtomicU64,
+    fails: bool,
+) -> Option<Ending> {
+    let plan = build_plan(alloc, &PlanNode::test(alloc, ("t", "t"), "t")).ok()?;
+    let engine = Hierarchical::new(alloc, plan, Counted { runs, fails }).ok()?;
+    let ran = run_tests(rt, alloc, &engine, 1, 4);
+    let found = match &ran {
+        Ok(_) => Ending::Done,
+        Err(RunFault::Engine(unit, UnitFault::Own(number))) => Ending::Own(*unit, *number),
+        Err(_) => Ending::Other,
+    };
+    drop(ran);
+    Some(found)
+}
+
+// The clauses speak of the record alone: a body that ran once more would not show there.
+#[test]
+fn each_body_runs_once(rt: HostRuntime) {
+    let runs = AtomicU64::new(0);
+    assert!(rt; ending(&rt, rt.alloc(), &runs, false) == Some(Ending::Done));
+    assert!(rt; runs.load(Ordering::SeqCst) == 1);
+    assert!(rt; ending(&rt, rt.alloc(), &runs, true) == Some(Ending::Own(0, 7)));
+    assert!(rt; runs.load(Ordering::SeqCst) == 2);
 }
