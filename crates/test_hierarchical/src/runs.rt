@@ -74,7 +74,7 @@ enum Ending {
     Other,
 }
 
-fn ending<R: Threads + Wait + Sync>(
+fn how_it_ends<R: Threads + Wait + Sync>(
     rt: &R,
     alloc: Global,
     runs: &AtomicU64,
@@ -96,8 +96,8 @@ fn ending<R: Threads + Wait + Sync>(
 #[test]
 fn each_body_runs_once(rt: HostRuntime) {
     let runs = AtomicU64::new(0);
-    assert!(rt; ending(&rt, rt.alloc(), &runs, false) == Some(Ending::Done));
+    assert!(rt; how_it_ends(&rt, rt.alloc(), &runs, false) == Some(Ending::Done));
     assert!(rt; runs.load(Ordering::SeqCst) == 1);
-    assert!(rt; ending(&rt, rt.alloc(), &runs, true) == Some(Ending::Own(0, 7)));
+    assert!(rt; how_it_ends(&rt, rt.alloc(), &runs, true) == Some(Ending::Own(0, 7)));
     assert!(rt; runs.load(Ordering::SeqCst) == 2);
 }
