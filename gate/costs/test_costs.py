@@ -98,20 +98,15 @@ def plan(root: str) -> bytes:
     return f'{{"version":2,"root":{root}}}'.encode()
 
 
-def plan_of_nodes(count: int, members: str) -> bytes:
+def plan_of_nodes(count: int, members: str, below: str = "children") -> bytes:
     """A plan with this number of tests below its root."""
-    return plan(node(',"children":[' + ",".join(node(members, str(number), "test") for number in range(count)) + "]"))
+    return plan(node(f',"{below}":[' + ",".join(node(members, str(number), "test") for number in range(count)) + "]"))
 
 
 def plan_of_containers() -> bytes:
     """A plan of 20,000 containers below its root, each with a test below it, and all with long names."""
     below = (node(f',"children":[{node("", "t", "test")}]', str(number)) for number in range(20_000))
     return plan(node(',"children":[' + ",".join(below) + "]")).replace(b'"name":"n"', b'"name":"%s"' % (b"n" * 100))
-
-
-def plan_of_dynamic_nodes(count: int) -> bytes:
-    """A plan with this number of dynamic tests below its root."""
-    return plan(node(',"dynamic":[' + ",".join(node("", str(number), "test") for number in range(count)) + "]"))
 
 
 def plan_of_entries(last: str = "") -> bytes:
@@ -297,13 +292,13 @@ ROWS = [
     row("plan/a long text with escapes", "run", lambda: plan_of_a_text("\\n" * 8_000_000), Costs(1.5, 47_900, 190, 299, 3), "skipped 0\n"),
     row("plan/nodes", "run", lambda: plan_of_nodes(65_000, ""), Costs(1.5, 102_600, 819_400, 72, 56), "skipped 0\n"),
     row("plan/containers with long names", "run", plan_of_containers, Costs(1.6, 80_600, 798_400, 125, 40), "skipped 0\n"),
-    row("plan/dynamic nodes", "run", lambda: plan_of_dynamic_nodes(65_000), Costs(1.8, 102_600, 1_092_600, 72, 103), "skipped 0\n"),
+    row("plan/dynamic nodes", "run", lambda: plan_of_nodes(65_000, "", "dynamic"), Costs(1.8, 102_600, 1_092_600, 72, 103), "skipped 0\n"),
     row("plan/units", "run", lambda: plan_of_nodes(65_000, ',"mode":"concurrent"'), Costs(1.8, 111_200, 955_900, 96, 56), "skipped 0\n"),
     row("plan/one long unit of 15", "run --workers 15", one_long_unit, Costs(3, 212_300, 1_200_600, 57, 4), "skipped 0\nstarted 16\n"),
     row("small/record", "ask stats", one_event, Costs(0.4, 10, 60, 6, 2), "skipped 0\n"),
     row("small/replay", "replay", small_replay, Costs(0.4, 20, 100, 6, 2), "testkit-record|2\n"),
     row("small/plan", "run", lambda: plan_of_nodes(2, ""), Costs(0.4, 20, 190, 6, 2), "skipped 0\n", least_memory=15),
-    row("small/plan with a dynamic node", "run", lambda: plan_of_dynamic_nodes(1), Costs(0.4, 21, 180, 6, 2), "skipped 0\n", least_memory=15),
+    row("small/plan with a dynamic node", "run", lambda: plan_of_nodes(1, "", "dynamic"), Costs(0.4, 21, 180, 6, 2), "skipped 0\n", least_memory=15),
     row("waiting/1 worker", "run", one_lock, Costs(1.2, 80_000, 1_210_000, 49, 60, 20), "skipped 0\n", is_alone=True),
     row("waiting/4 workers for one lock", "run --workers 4", one_lock, Costs(1.1, 80_000, 1_210_000, 49, 60, 20), "skipped 0\n", is_alone=True),
     row("waiting/15 workers for one lock", "run --workers 15", one_lock, Costs(1.3, 80_000, 1_210_000, 49, 60, 20), "skipped 0\n", is_alone=True),

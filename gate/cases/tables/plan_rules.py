@@ -88,22 +88,17 @@ def chain(levels: int, innermost: str = "", member: str = "children") -> str:
     return plan_of(f'{node},"{member}":[' * (levels - 1) + node + innermost + "}" + "]}" * (levels - 1))
 
 
-def chain_report(levels: int) -> str:
+def chain_report(levels: int, is_dynamic: bool = False) -> str:
+    """The report of a chain, of which the root alone is static where it is dynamic."""
     ids = ["/".join(["[s:x]"] * level) for level in range(1, levels + 1)]
-    lines = "".join(f"{id_text}\n  start\n  finish|ok\n" for id_text in ids)
-    return stats(started=levels, finished=levels, succeeded=levels) + lines
-
-
-def dynamic_chain_report(levels: int) -> str:
-    """The report of a chain of which the root alone is static."""
-    ids = ["/".join(["[s:x]"] * level) for level in range(1, levels + 1)]
-    lines = "".join(f"{id_text}\n  dynamic|B|{id_text}|n\n  start\n  finish|ok\n" for id_text in ids[1:])
-    return stats(started=levels, finished=levels, succeeded=levels, dynamic=levels - 1) + f"{ids[0]}\n  start\n  finish|ok\n" + lines
+    registered = ["", *(f"  dynamic|B|{it}|n\n" * is_dynamic for it in ids[1:])]
+    lines = "".join(f"{it}\n{line}  start\n  finish|ok\n" for it, line in zip(ids, registered))
+    return stats(started=levels, finished=levels, succeeded=levels, dynamic=is_dynamic * (levels - 1)) + lines
 
 
 LEVELS = [
     answer("plan/60 levels", "run --workers 3", chain(60), chain_report(60)),
-    answer("plan/60 levels of dynamic nodes", "run --workers 3", chain(60, member="dynamic"), dynamic_chain_report(60)),
+    answer("plan/60 levels of dynamic nodes", "run --workers 3", chain(60, member="dynamic"), chain_report(60, is_dynamic=True)),
     refused("61 levels", chain(61), "plan too deep"),
     refused("62 levels", chain(62), "plan too deep"),
     refused("70 levels", chain(70), "plan is not JSON"),
