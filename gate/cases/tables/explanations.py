@@ -127,10 +127,7 @@ def near(name: str, condition: str, *rows: Row, text: str = ENDS):
 
 
 LOOSELY = [
-    explained(
-        *("loosely, the first event of each", "loosely succeeded test skipped(off) started test", TWO_TESTS, "yes"),
-        *found(4, 1, 3, 0, 1),
-    ),
+    explained("loosely, the first event of each", "loosely succeeded test skipped(off) started test", TWO_TESTS, "yes", *found(4, 1, 3, 0, 1)),
     explained("loosely, no condition", "loosely", TWO_TESTS, "yes"),
     explained("loosely, nothing of nothing", "loosely", EMPTY, "yes"),
     explained("loosely, no event", "loosely all()", EMPTY, "no 0", "#0", NONE_LEFT),

@@ -127,14 +127,8 @@ PLANS = [
         lambda: plan(nodes("dynamic", 1)).replace(b'"0"],"name":"n"', f'"0"],"name":"{LONG_NAME}"'.encode()),
         lambda: report(stats(started=2, finished=2, succeeded=2, dynamic=1), sorted_lines("dynamic", 1, NAMED)),
     ),
-    answer(
-        "1,000 nodes with 40 entries/concurrent",
-        *(MOST, lambda: plan(nodes("children", 1_000, CONCURRENT, FORTY_ENTRIES)), thousand_report),
-    ),
-    answer(
-        "1,000 nodes with 40 entries/one unit",
-        *("run --workers 2", lambda: plan(nodes("children", 1_000, "", FORTY_ENTRIES)), thousand_report),
-    ),
+    answer("1,000 nodes with 40 entries/concurrent", MOST, lambda: plan(nodes("children", 1_000, CONCURRENT, FORTY_ENTRIES)), thousand_report),
+    answer("1,000 nodes with 40 entries/one unit", "run --workers 2", lambda: plan(nodes("children", 1_000, "", FORTY_ENTRIES)), thousand_report),
     answer("spine nodes with entries/60 levels", MOST, lambda: spine_plan(60), lambda: spine_report(60)),
     answer("spine nodes with entries/2 levels", "run", lambda: spine_plan(2), lambda: spine_report(2)),
 ]

@@ -140,10 +140,7 @@ def hundred_events() -> bytes:
 HUNDRED_EVENTS = [
     answer("100 events/exactly", "ask match exactly" + " started succeeded" * 50, hundred_events, "yes\n"),
     no("100 events/exactly, the last fails", "ask match exactly" + " started succeeded" * 49 + " started" * 2, hundred_events, "no 99\n"),
-    answer(
-        "100 events/executions",
-        *("ask executions", hundred_events, "".join(f"0 succeeded {stamp} {stamp + 1}\n" for stamp in range(0, 100, 2))),
-    ),
+    answer("100 events/executions", "ask executions", hundred_events, "".join(f"0 succeeded {stamp} {stamp + 1}\n" for stamp in range(0, 100, 2))),
 ]
 
 CASES = MANY_EVENTS + EXPLAINED + HUNDRED_EVENTS

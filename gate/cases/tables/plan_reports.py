@@ -101,10 +101,7 @@ MEMBERS = [
     ),
     *reports(
         "other members do nothing",
-        root(
-            ',"mode":"concurrent","isolated":true'
-            ',"locks":[{"key":"a"},{"key":"a","mode":"read"},{"key":"global","mode":"read_write"}]'
-        ),
+        root(',"mode":"concurrent","isolated":true,"locks":[{"key":"a"},{"key":"a","mode":"read"},{"key":"global","mode":"read_write"}]'),
         *passed("[engine:e]"),
     ),
     *reports("id with escapes", plan(node("test", "a/b", "c:[d]|%+é")), *passed("[a%2Fb:c%3A%5Bd%5D\\p%25%2Bé]")),

@@ -98,10 +98,7 @@ MATCHES = [
     no("match/exactly, no condition", "ask match exactly", ONE_START, "wrong-count\n"),
     answer("match/exactly, nothing of nothing", "ask match exactly", EMPTY, "yes\n"),
     no("match/exactly, nothing and one condition", "ask match exactly started", EMPTY, "wrong-count\n"),
-    answer(
-        "match/exactly, two tests",
-        *("ask match exactly engine started failed(boom) skipped(off) all(container,succeeded)", TWO_TESTS, "yes\n"),
-    ),
+    answer("match/exactly, two tests", "ask match exactly engine started failed(boom) skipped(off) all(container,succeeded)", TWO_TESTS, "yes\n"),
     no("match/exactly, the least that fails", "ask match exactly engine started failed(bang) skipped(off) failed", TWO_TESTS, "no 2\n"),
     no("match/exactly, the last fails", "ask match exactly engine started failed skipped(off) failed", TWO_TESTS, "no 4\n"),
     no("match/exactly, one too few", "ask match exactly all() all() all() all()", TWO_TESTS, "wrong-count\n"),

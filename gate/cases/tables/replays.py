@@ -164,18 +164,10 @@ LONGER = [
         "\n".join(["testkit-replay|1", "W|1", *NODES, *EVERY_TAIL[:-1], "S" + "|1|t" * len(EVERY_TAIL), ""]),
         record(*NODES, *EVERY_TAIL[:-1]),
     ),
-    taken(
-        "every tail after the last was emitted",
-        ["W|1", *NODES, *EVERY_TAIL, "S" + "|1" * (len(EVERY_TAIL) + 1) + "|t" * 100],
-        *EVERY_TAIL,
-    ),
+    taken("every tail after the last was emitted", ["W|1", *NODES, *EVERY_TAIL, "S" + "|1" * (len(EVERY_TAIL) + 1) + "|t" * 100], *EVERY_TAIL),
     taken("nodes alone", [f"W|{form.MAX_WORKERS}", *NODES, "S"]),
     taken("a hundred steps", ["W|1", NODE, *STARTS, "S" + "|1|t" * 50], *STARTS),
-    refused(
-        "a hundred steps and one too many",
-        ["W|1", NODE, *STARTS, "S" + "|1|t" * 50 + "|1|1"],
-        "step 101 comes after the end mark",
-    ),
+    refused("a hundred steps and one too many", ["W|1", NODE, *STARTS, "S" + "|1|t" * 50 + "|1|1"], "step 101 comes after the end mark"),
     taken("all workers in turn", [f"W|{form.MAX_WORKERS}", NODE, *OF_ALL_WORKERS, IN_TURN], *reversed(OF_ALL_WORKERS)),
 ]
 
