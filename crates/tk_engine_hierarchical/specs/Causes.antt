@@ -4,7 +4,8 @@ use Rattle.tk_events.specs.declared.events.Event.{Event}
 use Rattle.tk_events.specs.declared.payloads.Payload.TheVariants.{Nothing}
 use Rattle.tk_queue_session.specs.declared.sender_faults.SendFault.{SendFault}
 use Rattle.tk_queue_session.specs.declared.sender_faults.SendFault.TheVariants.{Full, Limit}
-use Rattle.tk_queue_session.specs.declared.sender_faults.SendFault.TheVariants.{Unlawful, UnknownNode}
+use Rattle.tk_queue_session.specs.declared.sender_faults.SendFault.TheVariants.{Unlawful}
+use Rattle.tk_queue_session.specs.declared.sender_faults.SendFault.TheVariants.{UnknownNode}
 use Rattle.tk_engine_execute.specs.declared.engines.UnitFault.{UnitFault}
 use Rattle.tk_engine_execute.specs.declared.engines.UnitFault.TheVariants.{Memory, Own, Sink}
 use Rattle.tk_engine_execute.specs.declared.sinks.SinkFault.TheVariants.{Register, Send}

@@ -1,10 +1,11 @@
 //! What a test publishes while it runs.
-ghost use Rattle.std.specs.Prelude.{◌≡◌, ◌⊎◌, ◌≤◌, ℕ, IfErr, IfOk, None, Ok, OnErr, OnOk, Some, length};
+ghost use Rattle.std.specs.Prelude.{◌≡◌, ◌⊎◌, ◌≤◌, ℕ, Err, IfErr, IfOk, None, Ok, OnErr, OnOk, Some, length};
 ghost use Rattle.tk_ids.specs.declared.descriptors.Descriptor.{Descriptor as DescriptorView};
 ghost use Rattle.tk_ids.specs.declared.descriptors.DType.TheVariants.{Container, Test};
 ghost use Rattle.tk_events.specs.declared.kinds.Kind.TheVariants as kinds;
 ghost use Rattle.tk_events.specs.declared.payloads.Payload.TheVariants as payloads;
 ghost use Rattle.tk_engine_execute.specs.Engines.{Extends, IsSameSender};
+ghost use Rattle.tk_engine_execute.specs.declared.engines.UnitFault.{UnitFault};
 ghost use Rattle.tk_engine_execute.specs.declared.engines.UnitFault.TheVariants.{Own};
 ghost use Rattle.tk_engine_unit_events.specs.Endings.{payload_of};
 ghost use Rattle.tk_engine_hierarchical.specs.Causes.{first_cause};
@@ -78,6 +79,10 @@ impl<'a, S: Sink, K: UnitRun> Reporter<'a, S, K> {
         ensures events { result.0 ≡ self.entry.events }
         ensures ok { IfOk result.1 (λ outcome. answer ≡ Ok outcome) }
         ensures unbroken { OnOk result.1 (self.entry.child_fault ≡ None) }
+        ensures none { self.entry.child_fault ≡ None → result.1 ≡ answer }
+        ensures fault { (why : UnitFault) → answer ≡ Err why → result.1 ≡ Err why }
+        ensures dropped { (why : UnitFault)
+            → OnOk answer (self.entry.child_fault ≡ Some why → result.1 ≡ Err why) }
     {
         let Reporter {
             events,
