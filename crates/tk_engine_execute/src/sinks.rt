@@ -49,7 +49,8 @@ pub trait Sink {
     fn emit<R: Wait>(&mut self, rt: &R, event: Event) -> Result<(), SinkFault>
         ensures ok { OnOk result ((refusal_of (view self.old) event ≡ None)
             × (view self.new ≡ sends (view self.old) event)) }
-        ensures err { OnErr result (view self.new ≡ view self.old) };
+        ensures err { OnErr result (view self.new ≡ view self.old) }
+        ensures cause { IfErr result (IsSendCause (view self.old) event) };
 
     /// Registers a dynamic descriptor below its parent, emits its registration with this stamp, and
     /// returns its key.
@@ -78,18 +79,22 @@ pub trait Sink {
               dtype = dtype;
               stamp = stamp;
             }) (Ok key)) }
-        ensures err { OnErr result (view self.new ≡ view self.old) };
+        ensures err { OnErr result (view self.new ≡ view self.old) }
+        ensures cause { IfErr result
+            (IsRegisterCause (view self.old) (view self.new)
+            (record {
+              parent = parent;
+              segment = segment.now;
+              name = name.now;
+              dtype = dtype;
+              stamp = stamp;
+            })) };
 }
 
 impl Sink for Sender {
     ghost view = { λ s. s };
 
-    fn emit<R: Wait>(&mut self, rt: &R, event: Event) -> Result<(), SinkFault>
-        ensures ok { OnOk result ((refusal_of self.old event ≡ None)
-            × (self.new ≡ sends self.old event)) }
-        ensures err { OnErr result (self.new ≡ self.old) }
-        ensures cause { IfErr result (IsSendCause self.old event) }
-    {
+    fn emit<R: Wait>(&mut self, rt: &R, event: Event) -> Result<(), SinkFault> {
         self.send(rt, event).map_err(SinkFault::Send)
     }
 
@@ -101,27 +106,7 @@ impl Sink for Sender {
         name: &str,
         dtype: DType,
         stamp: u64,
-    ) -> Result<u32, SinkFault>
-        ensures ok { IfOk result (λ key.
-            IsRegisteredAs self.old self.new
-            (record {
-              parent = parent;
-              segment = segment.now;
-              name = name.now;
-              dtype = dtype;
-              stamp = stamp;
-            }) (Ok key)) }
-        ensures err { OnErr result (self.new ≡ self.old) }
-        ensures cause { IfErr result
-            (IsRegisterCause self.old self.new
-            (record {
-              parent = parent;
-              segment = segment.now;
-              name = name.now;
-              dtype = dtype;
-              stamp = stamp;
-            })) }
-    {
+    ) -> Result<u32, SinkFault> {
         Sender::register(self, rt, parent, segment, name, dtype, stamp).map_err(SinkFault::Register)
     }
 }

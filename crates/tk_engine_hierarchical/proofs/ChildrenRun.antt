@@ -1,5 +1,6 @@
 -- Where each static key has its turn, no static child of what succeeds is left out.
-use Rattle.std.proofs.Common.{◌≡◌, ℕ, ◌<◌, ◌⊎◌, inl, inr, List, [], ◌∷◌, length, Some, slice_get, refl}
+use Rattle.std.proofs.Common.{◌≡◌, ℕ, ◌<◌, ◌⊎◌, inl, inr, List, [], ◌∷◌, length, Some, slice_get}
+use Rattle.std.proofs.Common.{refl}
 use Rattle.tk_ids.specs.IdText.{SegmentView}
 use Rattle.tk_ids.specs.Table.{AreDifferent, ids_of}
 use Rattle.tk_events.specs.declared.kinds.Kind.TheVariants.{Finished, Skipped, Started}
@@ -13,8 +14,19 @@ use Rattle.tk_engine_hierarchical.specs.Laws.{HasTurn, HaveTurns}
 turned : (r : Recorded) (key : ℕ) → HasTurn r key → IsTurned r key
 turned r key (inl steps) = inl (ran_by_steps r key (Started ∷ Finished ∷ []) steps refl)
 turned r key (inr (inl steps)) = inl (ran_by_steps r key (Skipped ∷ []) steps refl)
-turned r key (inr (inr u)) = inr (record { above = u.above; skipped = u.skipped; id = u.id; its = u.its; own = u.below.0; own_is = u.below.1; below = u.below.2 })
+turned r key (inr (inr u)) = inr
+    (record {
+      above = u.above;
+      skipped = u.skipped;
+      id = u.id;
+      its = u.its;
+      own = u.below.0;
+      own_is = u.below.1;
+      below = u.below.2;
+    })
 
 pub children_run : (r : Recorded) → IsRecord r → KeepsLifecycle r → AreDifferent r.table
-    → ((key : ℕ) (id : List SegmentView) → slice_get (ids_of r.table) key ≡ Some id → 0 < length id) → HaveTurns r → EachChildRuns r
-children_run r is keeps different some turns = turned_children_run r is keeps different some (λ key within. turned r key (turns key within))
+    → ((key : ℕ) (id : List SegmentView) → slice_get (ids_of r.table) key ≡ Some id → 0 < length id)
+    → HaveTurns r → EachChildRuns r
+children_run r is keeps different some turns = turned_children_run r is keeps different some
+    (λ key within. turned r key (turns key within))

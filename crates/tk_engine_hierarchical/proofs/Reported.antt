@@ -9,63 +9,109 @@ use Rattle.tk_queue_session.specs.Senders.{sends}
 use Rattle.tk_engine_execute.specs.Engines.{Extends}
 use Rattle.tk_engine_execute.specs.declared.engines.UnitFault.{UnitFault}
 use Rattle.tk_engine_unit_events.specs.Endings.{payload_of}
-use Rattle.tk_engine_unit_events.specs.UnitSteps.{BodyRuns, ChildView, HasFinished, HasSkipped, HasStarted, UnitView, child_request, event}
+use Rattle.tk_engine_unit_events.specs.UnitSteps.{BodyRuns, ChildView, HasFinished, HasSkipped}
+use Rattle.tk_engine_unit_events.specs.UnitSteps.{HasStarted, UnitView, child_request, event}
 use Rattle.tk_engine_hierarchical.specs.Causes.{first_cause}
-use Rattle.tk_engine_hierarchical.specs.Reporting.{EndsChild, HasBegunChild, HasBegunDynamic, HasFailedDynamic, HasRunChild}
+use Rattle.tk_engine_hierarchical.specs.Reporting.{EndsChild, HasBegunChild, HasBegunDynamic}
+use Rattle.tk_engine_hierarchical.specs.Reporting.{HasFailedDynamic, HasRunChild}
 use Rattle.tk_engine_unit_events.specs.declared.outcomes.Outcome.{Outcome}
 use Rattle.tk_engine_unit_events.proofs.UnitSteps.{on_ok}
 
-pub skipped_at : (old new : UnitView) (ask : ℕ → RegisterRequest) (given stamp : ℕ) (reason : Payload) → given ≡ stamp
-    → (key : ℕ) × HasSkipped old new (ask given) (event Skipped key given reason) → (key : ℕ) × HasSkipped old new (ask stamp) (event Skipped key stamp reason)
-skipped_at old new ask given stamp reason same s = subst (λ n. (key : ℕ) × HasSkipped old new (ask n) (event Skipped key n reason)) same s
+pub skipped_at : (old new : UnitView) (ask : ℕ → RegisterRequest) (given stamp : ℕ)
+    (reason : Payload) → given ≡ stamp
+    → (key : ℕ) × HasSkipped old new (ask given) (event Skipped key given reason) → (key : ℕ)
+    × HasSkipped old new (ask stamp) (event Skipped key stamp reason)
+skipped_at old new ask given stamp reason same s = subst
+    (λ n. (key : ℕ) × HasSkipped old new (ask n) (event Skipped key n reason)) same s
 
-pub has_run_child : (may_run : BodyRuns) (old started before new : UnitView) (ask : ℕ → RegisterRequest) (key given stamp : ℕ) (outcome : Outcome) → given ≡ stamp
-    → HasStarted old started (ask given) (event Started key (ask given).stamp Nothing) → Extends started.sink before.sink → may_run started before outcome
-    → HasFinished before new (event Finished key before.stamp (payload_of outcome)) → HasRunChild may_run old new (ask stamp)
+pub has_run_child : (may_run : BodyRuns) (old started before new : UnitView)
+    (ask : ℕ → RegisterRequest) (key given stamp : ℕ) (outcome : Outcome) → given ≡ stamp
+    → HasStarted old started (ask given) (event Started key (ask given).stamp Nothing)
+    → Extends started.sink before.sink → may_run started before outcome
+    → HasFinished before new (event Finished key before.stamp (payload_of outcome))
+    → HasRunChild may_run old new (ask stamp)
 has_run_child may_run old started before new ask key given stamp outcome same s x r f =
-    record { key = key; started = started; start = subst (λ n. HasStarted old started (ask n) (event Started key (ask n).stamp Nothing)) same s; before = before; later = x; outcome = outcome; ran = r; finish = f }
+    record {
+      key = key;
+      started = started;
+      start = subst (λ n. HasStarted old started (ask n)
+          (event Started key (ask n).stamp Nothing)) same s;
+      before = before;
+      later = x;
+      outcome = outcome;
+      ran = r;
+      finish = f;
+    }
 
-pub has_begun_child : (old started new : UnitView) (ask : ℕ → RegisterRequest) (key given stamp : ℕ) → given ≡ stamp
-    → HasStarted old started (ask given) (event Started key (ask given).stamp Nothing) → Extends started.sink new.sink → HasBegunChild old new (ask stamp)
+pub has_begun_child : (old started new : UnitView) (ask : ℕ → RegisterRequest) (key given stamp : ℕ)
+    → given ≡ stamp
+    → HasStarted old started (ask given) (event Started key (ask given).stamp Nothing)
+    → Extends started.sink new.sink → HasBegunChild old new (ask stamp)
 has_begun_child old started new ask key given stamp same s x =
-    record { key = key; started = started; start = subst (λ n. HasStarted old started (ask n) (event Started key (ask n).stamp Nothing)) same s; later = x }
+    record {
+      key = key;
+      started = started;
+      start = subst (λ n. HasStarted old started (ask n)
+          (event Started key (ask n).stamp Nothing)) same s;
+      later = x;
+    }
 
 -- where a result is an error, what holds of it and what holds of each error hold together
-pub both_err : {R F A : Type 0} (P Q : F → Type 0) (r : Result R F) → OnErr r A → IfErr r P → ((why : F) → A → P why → Q why)
+pub both_err : {R F A : Type 0} (P Q : F → Type 0) (r : Result R F) → OnErr r A → IfErr r P
+    → ((why : F) → A → P why → Q why)
     → IfErr r Q
 both_err P Q (Ok _) a p f = tt
 both_err P Q (Err why) a p f = f why a p
 
+-- a child began
+pub begun : (old started new : UnitView) (c : ChildView) (above key given : ℕ)
+    → given ≡ old.stamp → HasStarted old started (child_request c above given)
+    (event Started key given Nothing)
+    → Extends started.sink new.sink → HasBegunDynamic old new c
+begun old started new c above key given same s x =
+    (above, has_begun_child old started new (child_request c above) key given old.stamp same s x)
+
 -- a child began, and its fault is kept
-pub failed_begun : (old started new : UnitView) (c : ChildView) (kept now : Option UnitFault) (why : UnitFault) (above key given : ℕ)
-    → given ≡ old.stamp → HasStarted old started (child_request c above given) (event Started key given Nothing)
-    → Extends started.sink new.sink → now ≡ first_cause kept why → HasFailedDynamic old new c kept now why
+pub failed_begun : (old started new : UnitView) (c : ChildView) (kept now : Option UnitFault)
+    (why : UnitFault) (above key given : ℕ)
+    → given ≡ old.stamp → HasStarted old started (child_request c above given)
+    (event Started key given Nothing)
+    → Extends started.sink new.sink → now ≡ first_cause kept why
+    → HasFailedDynamic old new c kept now why
 failed_begun old started new c kept now why above key given same s x cause =
-    let begun : HasBegunDynamic old new c = (above, has_begun_child old started new (child_request c above) key given old.stamp same s x) in
-    inr (begun, cause)
+    inr (begun old started new c above key given same s x, cause)
 
 -- what was noted of a finish changes nothing
-pub finish_noted : {F : Type 0} (r noted : Result (Unit {0}) F) (old before new after : UnitView) (key : ℕ) (payload : Payload)
-    → noted ≡ r → before ≡ old → after ≡ new → OnOk r (HasFinished before new (event Finished key before.stamp payload))
+pub finish_noted : {F : Type 0} (r noted : Result (Unit {0}) F) (old before new after : UnitView)
+    (key : ℕ) (payload : Payload)
+    → noted ≡ r → before ≡ old → after ≡ new
+    → OnOk r (HasFinished before new (event Finished key before.stamp payload))
     → OnOk noted (HasFinished old after (event Finished key old.stamp payload))
 finish_noted r noted old before new after key payload same first last finished =
     subst (λ x. OnOk x (HasFinished old after (event Finished key old.stamp payload))) (sym same)
     (on_ok r finished
-    (λ f. subst (λ (w : UnitView). HasFinished old w (event Finished key old.stamp payload)) (sym last)
+    (λ f. subst (λ (w : UnitView). HasFinished old w (event Finished key old.stamp payload))
+    (sym last)
     (subst (λ (v : UnitView). HasFinished v new (event Finished key v.stamp payload)) first f)))
 
-pub finished_as : (old new : UnitView) (key given stamp : ℕ) (payload outcome : Payload) → given ≡ stamp → payload ≡ outcome
-    → HasFinished old new (event Finished key given payload) → HasFinished old new (event Finished key stamp outcome)
+pub finished_as : (old new : UnitView) (key given stamp : ℕ) (payload outcome : Payload)
+    → given ≡ stamp → payload ≡ outcome
+    → HasFinished old new (event Finished key given payload)
+    → HasFinished old new (event Finished key stamp outcome)
 finished_as old new key given stamp payload outcome a b f =
-    subst (λ n. HasFinished old new (event Finished key n outcome)) a (subst (λ p. HasFinished old new (event Finished key given p)) b f)
+    subst (λ n. HasFinished old new (event Finished key n outcome)) a
+    (subst (λ p. HasFinished old new (event Finished key given p)) b f)
 
-pub ends_child : (statics : ℕ) (may_end : Outcome → Type 0) (old new : UnitView) (key : ℕ) (outcome : Outcome) → statics ≤ key → may_end outcome
-    → HasFinished old new (event Finished key old.stamp (payload_of outcome)) → EndsChild statics may_end new
+pub ends_child : (statics : ℕ) (may_end : Outcome → Type 0) (old new : UnitView) (key : ℕ)
+    (outcome : Outcome) → statics ≤ key → may_end outcome
+    → HasFinished old new (event Finished key old.stamp (payload_of outcome))
+    → EndsChild statics may_end new
 ends_child statics may_end old new key outcome dynamic its f = record {
   key = key;
   dynamic = dynamic;
   before = old.sink;
   outcome = outcome;
   its = its;
-  took = f.took ∙ ap (λ n. sends old.sink (event Finished key n (payload_of outcome))) (sym f.stamp);
+  took = f.took ∙ ap (λ n. sends old.sink (event Finished key n (payload_of outcome)))
+      (sym f.stamp);
 }

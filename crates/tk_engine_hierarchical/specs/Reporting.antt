@@ -15,6 +15,7 @@ use Rattle.tk_engine_unit_events.specs.UnitSteps.{
   HasStarted,
 }
 use Rattle.tk_engine_unit_events.specs.UnitSteps.{UnitView, child_request, event}
+use Rattle.tk_engine_unit_events.specs.Refusals.{ChildStart, child_start}
 use Rattle.tk_engine_unit_events.specs.declared.outcomes.Outcome.{Outcome}
 use Rattle.tk_engine_hierarchical.specs.Causes.{first_cause}
 
@@ -48,6 +49,10 @@ pub record HasBegunChild (old new : UnitView) (ask : RegisterRequest) : Type 0 w
 -- its body emitted
 abbrev pub HasBegunDynamic : UnitView → UnitView → ChildView → Type 0
 HasBegunDynamic old new c = (above : ℕ) × HasBegunChild old new (child_request c above old.stamp)
+
+-- what is asked for, to start a child at this stamp
+abbrev pub dynamic_start : ChildView → ℕ → ChildStart
+dynamic_start c stamp = child_start c stamp (λ key. event Started key stamp Nothing)
 
 -- A child wasn't started, and no other fault is kept; or it was started, its body or its finish was
 -- refused, and the cause of the first such fault is kept.

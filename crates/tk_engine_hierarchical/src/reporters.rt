@@ -6,18 +6,18 @@ ghost use Rattle.tk_events.specs.declared.kinds.Kind.TheVariants as kinds;
 ghost use Rattle.tk_events.specs.declared.payloads.Payload.TheVariants as payloads;
 ghost use Rattle.tk_engine_execute.specs.Engines.{Extends, IsSameSender};
 ghost use Rattle.tk_engine_execute.specs.declared.engines.UnitFault.{UnitFault};
-ghost use Rattle.tk_engine_execute.specs.declared.engines.UnitFault.TheVariants.{Own};
 ghost use Rattle.tk_engine_unit_events.specs.Endings.{payload_of};
 ghost use Rattle.tk_engine_hierarchical.specs.Causes.{first_cause};
-ghost use Rattle.tk_engine_hierarchical.specs.Reporting.{EndsChild, HasBegunDynamic, HasFailedDynamic, HasRunDynamic};
-ghost use Rattle.tk_engine_unit_events.specs.Taken.{IsFaultOfTaken, IsRefusedAsTaken, IsTaken};
+ghost use Rattle.tk_engine_hierarchical.specs.Reporting.{EndsChild, HasBegunDynamic, HasFailedDynamic, HasRunDynamic, dynamic_start};
+ghost use Rattle.tk_engine_unit_events.specs.Refusals.{IsChildCause, IsPublishCause, child_start};
+ghost use Rattle.tk_engine_unit_events.specs.Taken.{IsFaultOfTaken, IsTaken};
 ghost use Rattle.tk_engine_unit_events.specs.UnitSteps.{Grew, HasFinished, HasSkipped, IsInnermost, Published, child, child_request, event};
 
 use crate::causes::{cause_of, ending};
 use crate::tests::{Body, payload_of};
 use std::alloc::Global;
 use std::sync::Wait;
-use tk_engine_execute::{Sink, TWICE, UnitFault};
+use tk_engine_execute::{Sink, UnitFault};
 use tk_engine_unit_events::{Child, Outcome, UnitBody, UnitEvents, UnitRun};
 use tk_events::{Kind, Pairs, Payload};
 use tk_ids::{DType, Descriptor, Segment, Text};
@@ -151,8 +151,9 @@ impl<'a, S: Sink, K: UnitRun> Reporter<'a, S, K> {
         ensures free { OnOk result (¬ IsTaken K.unit self.old.events child.now.segment) }
         ensures taken { IfErr result (λ why. IsTaken K.unit self.old.events child.now.segment
             → IsFaultOfTaken why × (self.new.events ≡ self.old.events)) }
-        ensures twice { IfErr result (λ why. why ≡ Own TWICE
-            → IsRefusedAsTaken K.unit self.old.events self.new.events child.now.segment
+        ensures cause { IfErr result (λ why.
+            IsChildCause K.unit self.old.events
+            (dynamic_start child.now self.old.events.stamp) why
             ⊎ HasBegunDynamic self.old.events self.new.events child.now) }
     {
         let stamp = self.events.stamp();
@@ -200,6 +201,8 @@ impl<'a, S: Sink, K: UnitRun> Reporter<'a, S, K> {
         ensures ok { OnOk result ((key : ℕ) × Published self.old.events self.new.events
             (event kinds.Reporting key self.old.events.stamp (payloads.Report pairs))) }
         ensures err { OnErr result (self.new.events ≡ self.old.events) }
+        ensures cause { IfErr result (IsPublishCause self.old.events
+            (λ key. event kinds.Reporting key self.old.events.stamp (payloads.Report pairs))) }
         ensures kept { self.new.child_fault ≡ self.old.child_fault }
     {
         let stamp = self.events.stamp();
@@ -215,6 +218,8 @@ impl<'a, S: Sink, K: UnitRun> Reporter<'a, S, K> {
         ensures ok { OnOk result ((key : ℕ) × Published self.old.events self.new.events
             (event kinds.File key self.old.events.stamp (payloads.Path path))) }
         ensures err { OnErr result (self.new.events ≡ self.old.events) }
+        ensures cause { IfErr result (IsPublishCause self.old.events
+            (λ key. event kinds.File key self.old.events.stamp (payloads.Path path))) }
         ensures kept { self.new.child_fault ≡ self.old.child_fault }
     {
         let stamp = self.events.stamp();
@@ -250,9 +255,11 @@ impl<'a, S: Sink, K: UnitRun> Reporter<'a, S, K> {
         ensures free { OnOk result (¬ IsTaken K.unit self.old.events segment.now) }
         ensures taken { IfErr result (λ why. IsTaken K.unit self.old.events segment.now
             → IsFaultOfTaken why × (self.new.events ≡ self.old.events)) }
-        ensures twice { IfErr result (λ why. why ≡ Own TWICE
-            → IsRefusedAsTaken K.unit self.old.events self.new.events segment.now
-            ⊎ HasBegunDynamic self.old.events self.new.events (child Test segment.now name.now)) }
+        ensures cause { IfErr result (λ why.
+            IsChildCause K.unit self.old.events
+            (dynamic_start (child Test segment.now name.now) self.old.events.stamp) why
+            ⊎ HasBegunDynamic self.old.events self.new.events
+            (child Test segment.now name.now)) }
         // Whatever the body does.
         ensures same { IsSameSender K.unit.start self.new.events.sink }
         ensures some { Extends K.unit.start self.new.events.sink }
@@ -293,8 +300,9 @@ impl<'a, S: Sink, K: UnitRun> Reporter<'a, S, K> {
         ensures free { OnOk result (¬ IsTaken K.unit self.old.events segment.now) }
         ensures taken { IfErr result (λ why. IsTaken K.unit self.old.events segment.now
             → IsFaultOfTaken why × (self.new.events ≡ self.old.events)) }
-        ensures twice { IfErr result (λ why. why ≡ Own TWICE
-            → IsRefusedAsTaken K.unit self.old.events self.new.events segment.now
+        ensures cause { IfErr result (λ why.
+            IsChildCause K.unit self.old.events
+            (dynamic_start (child Container segment.now name.now) self.old.events.stamp) why
             ⊎ HasBegunDynamic self.old.events self.new.events
             (child Container segment.now name.now)) }
         // Whatever the body does.
@@ -331,8 +339,9 @@ impl<'a, S: Sink, K: UnitRun> Reporter<'a, S, K> {
         ensures free { OnOk result (¬ IsTaken K.unit self.old.events segment.now) }
         ensures taken { IfErr result (λ why. IsTaken K.unit self.old.events segment.now
             → IsFaultOfTaken why × (self.new.events ≡ self.old.events)) }
-        ensures twice { IfErr result (λ why. why ≡ Own TWICE
-            → IsRefusedAsTaken K.unit self.old.events self.new.events segment.now) }
+        ensures cause { IfErr result (IsChildCause K.unit self.old.events
+            (child_start (child Test segment.now name.now) self.old.events.stamp
+            (λ key. event kinds.Skipped key self.old.events.stamp (payloads.Reason reason)))) }
         ensures kept { self.new.child_fault ≡ self.old.child_fault }
     {
         let child = Child {

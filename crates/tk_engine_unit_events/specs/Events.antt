@@ -15,7 +15,7 @@ use Rattle.tk_engine_unit_events.specs.Running.{RunningId, keys_of}
 use Rattle.tk_engine_unit_events.specs.Units.{RunsUnit, UnitKeys}
 
 -- where a unit stands whose keys run, innermost first, and that has registered these ids
-abbrev pub progress : List RunningId → List (List ℕ × ℕ) → ℕ → Progress
+abbrev pub progress : List RunningId → List (List ℕ) → ℕ → Progress
 progress running registered next = record {
   running = keys_of running;
   registered = is_registered registered;
@@ -45,7 +45,7 @@ pub record IsNesting (r : Recorded) (events : List Event) (running : List Runnin
 
 -- what the sink took since the unit began is that of a unit under way
 pub record IsRunning (f : Frame) (unit : ℕ) (start now : SenderView) (running : List RunningId)
-    (registered : List (List ℕ × ℕ)) (next : ℕ) : Type 0 where
+    (registered : List (List ℕ)) (next : ℕ) : Type 0 where
   pub emitting : IsEmitting f unit (since start now) (progress running registered next)
   pub ids : HaveIds now running
   pub nesting : IsNesting (so_far f start.worker emitting.events) emitting.events running

@@ -3,6 +3,7 @@ pub mod Owners
 pub mod RegisteredIds
 pub mod Shapes
 pub mod Running
+pub mod Stacks
 pub mod Events
 pub mod Endings
 pub mod Covered
@@ -11,4 +12,5 @@ pub mod Units
 pub mod UnitSteps
 pub mod Standing
 pub mod Taken
+pub mod Refusals
 pub mod steps

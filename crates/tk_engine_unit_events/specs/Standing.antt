@@ -38,7 +38,7 @@ pub record IsNotedText (unit : BegunUnit) (now : SenderView) (text : List ℕ) :
   pub known : IsKnown unit now id
 
 -- each text that is noted is that of an id that is known
-abbrev pub AreNoted : BegunUnit → SenderView → List (List ℕ × ℕ) → Type 0
+abbrev pub AreNoted : BegunUnit → SenderView → List (List ℕ) → Type 0
 AreNoted unit now registered =
     (text : List ℕ) → is_registered registered text ≡ true → IsNotedText unit now text
 
@@ -49,9 +49,9 @@ pub record StandsAt (unit : BegunUnit) (now : SenderView) (progress : UnitProgre
   pub number : progress.unit ≡ unit.keys.unit
   pub end : progress.end ≡ unit.keys.end
   pub running : IsRunning unit.frame unit.keys.unit unit.start now
-      (with_ids unit.frame.table progress.running) progress.registered progress.next
+      (with_ids unit.frame.table progress.running.elements) progress.registered.keys progress.next
   pub played : HasPlayed unit.frame.table unit.may_step unit.keys.first progress.next unit.start now
-  pub noted : AreNoted unit now progress.registered
+  pub noted : AreNoted unit now progress.registered.keys
 
 -- a sink without a session, for the default of a ghost member
 abbrev pub no_sink : SenderView

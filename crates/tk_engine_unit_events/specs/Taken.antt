@@ -25,7 +25,3 @@ pub record IsTaken (unit : BegunUnit) (u : UnitView) (segment : SegmentView) : T
 -- a fault with which such a child is refused: of its own, or a request for memory was refused
 abbrev pub IsFaultOfTaken : UnitFault → Type 0
 IsFaultOfTaken why = (why ≡ Own TWICE) ⊎ (why ≡ Memory)
-
--- such a child was asked for, and nothing was emitted
-abbrev pub IsRefusedAsTaken : BegunUnit → UnitView → UnitView → SegmentView → Type 0
-IsRefusedAsTaken unit old new segment = IsTaken unit old segment × (new ≡ old)

@@ -5,7 +5,6 @@ ghost use Rattle.tk_ids.specs.Table.{HasId as TableHasId};
 ghost use Rattle.tk_queue_session.specs.Senders.{SenderView, sends};
 ghost use Rattle.tk_queue_session.specs.Registering.{IsRegisteredAs};
 ghost use Rattle.tk_engine_execute.specs.Engines.{Extends};
-ghost use Rattle.tk_engine_execute.specs.declared.engines.UnitFault.TheVariants.{Own};
 ghost use Rattle.tk_engine_unit_events.specs.RegisteredIds.{is_registered};
 ghost use Rattle.tk_engine_unit_events.specs.UnitSteps.{child_request};
 ghost use Rattle.tk_engine_unit_events.specs.Running.{with_id};
@@ -13,22 +12,23 @@ ghost use Rattle.tk_engine_unit_events.specs.Shapes.{frame};
 ghost use Rattle.tk_engine_unit_events.specs.Standing.{StandsAt};
 ghost use Rattle.tk_engine_unit_events.specs.steps.Standing.{unit_view};
 ghost use Rattle.tk_engine_unit_events.specs.Taken.{IsFaultOfTaken};
-ghost use Rattle.tk_engine_unit_events.specs.steps.Taken.{IsNotedChild};
+ghost use Rattle.tk_engine_unit_events.specs.Refusals.{IsEmitCause};
+ghost use Rattle.tk_engine_unit_events.specs.steps.Taken.{IsNotedChild, IsOwnCause, IsRegistrationCause, IsSinkCause};
 
-use crate::registered_ids::RegisteredIds;
 use crate::running_keys::RunningKey;
 use crate::shapes::Shape;
 use crate::unit_bodies::UnitBody;
 use crate::unit_events::{BodyRun, Child, UnitEvents, UnitProgress};
 use crate::unit_ids::new_child;
 use crate::unit_runs::UnitRun;
+use indexmap::IndexSet;
 use std::alloc::Global;
 use std::marker::Brand;
 use std::mem;
 use std::sync::Wait;
-use tk_engine_execute::{Sink, TWICE, UnitFault};
+use tk_engine_execute::{Sink, UnitFault};
 use tk_events::Event;
-use tk_ids::UniqueId;
+use tk_ids::{IdText, UniqueId};
 
 /// A sink that is lent to a unit: it stays the same sink as long as the unit runs.
 #[derive(Drop)]
@@ -42,11 +42,10 @@ impl<'a, S: Sink> Lease<'a, S> {
         ensures ok { OnOk result
             (S.view self.new.sink.now ≡ sends (S.view self.old.sink.now) event) }
         ensures err { OnErr result (S.view self.new.sink.now ≡ S.view self.old.sink.now) }
-        ensures not_twice { IfErr result (λ why. ¬ (why ≡ Own TWICE)) }
+        ensures cause { IfErr result (IsEmitCause (S.view self.old.sink.now) event) }
         ensures same { self.new.sink.ghost_name ≡ self.old.sink.ghost_name }
     {
-        self.sink.emit(rt, event)?;
-        Ok(())
+        self.sink.emit(rt, event).map_err(UnitFault::Sink)
     }
 
     /// Registers a child of a key, and returns its key.
@@ -61,13 +60,13 @@ impl<'a, S: Sink> Lease<'a, S> {
             IsRegisteredAs (S.view self.old.sink.now) (S.view self.new.sink.now)
             (child_request child.now parent stamp) (Ok key)) }
         ensures err { OnErr result (S.view self.new.sink.now ≡ S.view self.old.sink.now) }
-        ensures not_twice { IfErr result (λ why. ¬ (why ≡ Own TWICE)) }
+        ensures cause { IfErr result (IsRegistrationCause (S.view self.old.sink.now)
+            (child_request child.now parent stamp)) }
         ensures same { self.new.sink.ghost_name ≡ self.old.sink.ghost_name }
     {
-        let child_key = self
-            .sink
-            .register(rt, parent, child.segment, child.name, child.dtype, stamp)?;
-        Ok(child_key)
+        self.sink
+            .register(rt, parent, child.segment, child.name, child.dtype, stamp)
+            .map_err(UnitFault::Sink)
     }
 
     /// Registers a child of a running key, and notes its id. Returns its key and its id.
@@ -78,7 +77,7 @@ impl<'a, S: Sink> Lease<'a, S> {
         rt: &R,
         alloc: Global,
         shape: &Shape,
-        registered: &mut RegisteredIds,
+        registered: &mut IndexSet<IdText>,
         above: &RunningKey,
         child: &Child<'_>,
         stamp: u64,
@@ -91,30 +90,29 @@ impl<'a, S: Sink> Lease<'a, S> {
         ensures is_id { IfOk result (λ new. IsId new.1) }
         ensures not_static { IfOk result (λ new. ¬ TableHasId shape.now.plan.table new.1) }
         ensures not_registered { IfOk result (λ new.
-            is_registered registered.old (id_text new.1) ≡ false) }
-        ensures noted { IfOk result (λ new. (text : List ℕ) → is_registered registered.new text
-            ≡ (bytes_eq text (id_text new.1) || is_registered registered.old text)) }
-        ensures kept { (text : List ℕ) → is_registered registered.old text ≡ true
-            → is_registered registered.new text ≡ true }
+            is_registered registered.old.keys (id_text new.1) ≡ false) }
+        ensures noted { IfOk result (λ new. (text : List ℕ) → is_registered registered.new.keys text
+            ≡ (bytes_eq text (id_text new.1) || is_registered registered.old.keys text)) }
         ensures err { OnErr result (S.view self.new.sink.now ≡ S.view self.old.sink.now) }
-        ensures refused { OnErr result ((text : List ℕ) → is_registered registered.new text
-            ≡ is_registered registered.old text) }
-        ensures twice { IfErr result (λ why. why ≡ Own TWICE
-            → IsNotedChild shape.now.plan.table registered.old
-            (with_id shape.now.plan.table above.now).id child.now.segment) }
-        ensures taken { IfErr result (λ why. IsNotedChild shape.now.plan.table registered.old
+        ensures refused { OnErr result (registered.new.keys ≡ registered.old.keys) }
+        ensures taken { IfErr result (λ why. IsNotedChild shape.now.plan.table registered.old.keys
             (with_id shape.now.plan.table above.now).id child.now.segment → IsFaultOfTaken why) }
+        ensures own { IfErr result (IsOwnCause
+            (IsNotedChild shape.now.plan.table registered.old.keys
+            (with_id shape.now.plan.table above.now).id child.now.segment)
+            (with_id shape.now.plan.table above.now).id) }
+        ensures sink { IfErr result (IsSinkCause (S.view self.old.sink.now)
+            (child_request child.now above.now.key stamp)
+            (with_id shape.now.plan.table above.now).id) }
         ensures same { self.new.sink.ghost_name ≡ self.old.sink.ghost_name }
     {
         let id = new_child(alloc, shape, registered, above, child.segment)?;
-        registered.add(&id)?;
-        match self.register(rt, above.key, child, stamp) {
-            Ok(key) => Ok((key, id)),
-            Err(fault) => {
-                registered.remove(&id);
-                Err(fault)
-            }
-        }
+        let text = id.shared_text()?;
+        registered.reserve(1)?;
+        let key = self.register(rt, above.key, child, stamp)?;
+        // There is room for it.
+        let _noted = registered.insert(text);
+        Ok((key, id))
     }
 
     /// Runs a body, which emits into this sink. Leaves in `run` where the unit stands then, and how

@@ -3,7 +3,6 @@
 
 mod leases;
 mod outcomes;
-mod registered_ids;
 mod running_keys;
 mod shapes;
 mod stacks;

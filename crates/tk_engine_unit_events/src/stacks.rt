@@ -1,72 +1,68 @@
 //! A list that grows and shrinks at one end.
-ghost use Rattle.std.specs.Prelude.{◌≡◌, ◌∷◌, [], List, OnOk, OnErr, IfSome, IfNone};
+ghost use Rattle.std.specs.Prelude.{◌≡◌, ◌<◌, ◌∷◌, [], List, OnOk, IfSome, IfNone};
 
 use std::alloc::{AllocError, Global};
 use std::marker::Model;
 
-/// A list of which the element added last is taken off first. Contracts see that element first.
-///
-/// The last element may stand apart from the others, so that one element alone takes no allocation.
+/// A list of which the element added last is taken off first. Contracts see that element first, and
+/// for how many elements more there is room.
 #[derive(Drop)]
 pub(crate) struct Stack<T> {
-    apart: Option<T>,
-    others: Vec<T>,
+    elements: Vec<T>,
 }
 
 impl<T> Model for Stack<T> {
-    ghost use Rattle.std.specs.Prelude.{◌++◌, List, option_to_list, reverse};
+    ghost use Rattle.std.specs.Prelude.{◌-◌, reverse, vec_capacity, vec_len};
+    ghost use Rattle.tk_engine_unit_events.specs.Stacks.{StackView};
 
-    ghost Value = { List T };
+    ghost Value = { StackView T };
 
-    ghost view = { λ s. option_to_list s.apart ++ reverse s.others.items };
+    ghost view = { λ s. record {
+      elements = reverse s.elements.items;
+      room = vec_capacity s.elements - vec_len s.elements;
+    } };
 }
 
 impl<T: Drop> Stack<T> {
     /// No element.
     pub(crate) fn new(alloc: Global) -> Stack<T>
-        ensures { result ≡ [] }
+        ensures { result.elements ≡ [] }
     {
         Stack {
-            apart: None,
-            others: Vec::new(alloc),
+            elements: Vec::new(alloc),
         }
     }
 
-    /// Adds an element, which is on top then.
-    pub(crate) fn push(&mut self, element: T) -> Result<(), AllocError>
-        ensures ok { OnOk result (self.new ≡ element ∷ self.old) }
-        ensures err { OnErr result (self.new ≡ self.old) }
+    /// Makes room for one element more.
+    pub(crate) fn reserve(&mut self) -> Result<(), AllocError>
+        ensures room { OnOk result (0 < self.new.room) }
+        ensures same { self.new.elements ≡ self.old.elements }
     {
-        if self.apart.is_none() {
-            self.apart = Some(element);
-            return Ok(());
-        }
-        self.others.reserve(1)?;
-        if let Some(below) = self.apart.replace(element) {
-            self.others.push_reserved(below);
-        }
-        Ok(())
+        self.elements.reserve(1)
+    }
+
+    /// Adds an element, for which there is room, and which is on top then.
+    pub(crate) fn push_reserved(&mut self, element: T)
+        requires { 0 < self.old.room }
+        ensures { self.new.elements ≡ element ∷ self.old.elements }
+    {
+        self.elements.push_reserved(element);
     }
 
     /// The element on top.
     pub(crate) fn top(&self) -> Option<&T>
-        ensures some { IfSome result (λ top. (rest : List T) × (self.now ≡ top.now ∷ rest)) }
-        ensures none { IfNone result (self.now ≡ []) }
+        ensures some { IfSome result (λ top. (rest : List T) × (self.now.elements ≡ top.now ∷ rest)) }
+        ensures none { IfNone result (self.now.elements ≡ []) }
     {
-        match &self.apart {
-            Some(top) => Some(top),
-            None => self.others.as_slice().last(),
-        }
+        self.elements.as_slice().last()
     }
 
     /// Takes the element on top off.
     pub(crate) fn pop(&mut self) -> Option<T>
-        ensures some { IfSome result (λ top. self.old ≡ top ∷ self.new) }
-        ensures none { IfNone result ((self.old ≡ []) × (self.new ≡ [])) }
+        ensures some { IfSome result (λ top. self.old.elements ≡ top ∷ self.new.elements) }
+        ensures none { IfNone result
+            ((self.old.elements ≡ []) × (self.new.elements ≡ [])) }
     {
-        match self.apart.take() {
-            Some(top) => Some(top),
-            None => self.others.pop(),
-        }
+        self.elements.pop()
     }
 }

@@ -9,26 +9,27 @@ ghost use Rattle.tk_engine_unit_events.specs.Endings.{IsStaticTest};
 ghost use Rattle.tk_engine_unit_events.specs.UnitSteps.{Grew, HasFinished, HasSkipped, HasStarted, IsInnermost, KeepsOuter, Published, child_request, event, publishes, after_event, after_start, begun};
 ghost use Rattle.tk_engine_unit_events.specs.Shapes.{count_units, frame, keys_in};
 ghost use Rattle.tk_engine_unit_events.specs.Standing.{IsComplete, StandsAt};
-ghost use Rattle.tk_engine_unit_events.specs.Taken.{IsFaultOfTaken, IsRefusedAsTaken, IsTaken};
+ghost use Rattle.tk_engine_unit_events.specs.Refusals.{IsChildCause, IsFinishCause, IsPublishCause, child_start};
+ghost use Rattle.tk_engine_unit_events.specs.Taken.{IsFaultOfTaken, IsTaken};
 ghost use Rattle.tk_engine_unit_events.specs.steps.Standing.{unit_view};
 ghost use Rattle.tk_engine_unit_events.specs.declared.running_keys.RunningKey.{RunningKey};
 
 use crate::leases::Lease;
 use crate::outcomes::Outcome;
-use crate::registered_ids::RegisteredIds;
 use crate::running_keys::RunningKey;
 use crate::shapes::Shape;
 use crate::stacks::Stack;
 use crate::unit_bodies::UnitBody;
 use crate::unit_ids::{end_below, may_start};
 use crate::unit_runs::UnitRun;
+use indexmap::IndexSet;
 use std::alloc::Global;
 use std::marker::{Model, PhantomData};
 use std::mem;
 use std::sync::Wait;
-use tk_engine_execute::{OUT_OF_ORDER, Sink, TWICE, UnitFault};
+use tk_engine_execute::{OUT_OF_ORDER, Sink, UnitFault};
 use tk_events::{Event, Kind, Payload};
-use tk_ids::{DType, Descriptor, Segment};
+use tk_ids::{DType, Descriptor, IdText, Segment};
 
 /// What is registered below a running key.
 #[derive(Drop)]
@@ -54,7 +55,7 @@ pub(crate) struct UnitProgress {
     pub(crate) unit: u32,
     pub(crate) end: u32,
     pub(crate) running: Stack<RunningKey>,
-    pub(crate) registered: RegisteredIds,
+    pub(crate) registered: IndexSet<IdText>,
     pub(crate) next: u32,
     pub(crate) stamp: u64,
     pub(crate) own_stamp: Option<u64>,
@@ -67,7 +68,7 @@ impl UnitProgress {
             unit: 0,
             end: 0,
             running: Stack::new(alloc),
-            registered: RegisteredIds::new(alloc),
+            registered: IndexSet::new(alloc),
             next: 0,
             stamp: 0,
             own_stamp: None,
@@ -84,9 +85,9 @@ pub(crate) struct BodyRun {
 
 // The innermost running key.
 fn innermost(running: &Stack<RunningKey>) -> Result<&RunningKey, UnitFault>
-    ensures top { IfOk result (λ top. (outer : List RunningKey) × (running.now ≡ top.now ∷ outer)) }
-    ensures none { OnErr result (running.now ≡ []) }
-    ensures not_twice { IfErr result (λ why. ¬ (why ≡ Own TWICE)) }
+    ensures top { IfOk result (λ top. (outer : List RunningKey) × (running.now.elements ≡ top.now ∷ outer)) }
+    ensures none { OnErr result (running.now.elements ≡ []) }
+    ensures order { IfErr result (λ why. why ≡ Own OUT_OF_ORDER) }
 {
     match running.top() {
         Some(top) => Ok(top),
@@ -115,7 +116,7 @@ impl<'a, S: Sink, K: UnitRun> Model for UnitEvents<'a, S, K> {
 
     ghost view = { λ e. record {
       sink = S.view e.lease.sink.now;
-      running = keys_of (with_ids K.unit.frame.table e.progress.running);
+      running = keys_of (with_ids K.unit.frame.table e.progress.running.elements);
       stamp = e.progress.stamp;
       own_stamp = e.progress.own_stamp;
     } };
@@ -149,7 +150,7 @@ impl<'a, S: Sink, K: UnitRun> UnitEvents<'a, S, K> {
             unit,
             end,
             running: Stack::new(alloc),
-            registered: RegisteredIds::new(alloc),
+            registered: IndexSet::new(alloc),
             next,
             stamp: 0,
             own_stamp: None,
@@ -319,26 +320,20 @@ impl<'a, S: Sink, K: UnitRun> UnitEvents<'a, S, K> {
         if !may_start(self.shape, self.progress.unit, &self.progress.running, key) {
             return Err(UnitFault::Own(OUT_OF_ORDER));
         }
-        self.progress.running.push(RunningKey {
-            key,
-            dynamic_id: None,
-        })?;
+        self.progress.running.reserve()?;
         let event = Event {
             kind: Kind::Started,
             key,
             stamp,
             payload: Payload::Nothing,
         };
-        match self.lease.emit(rt, event) {
-            Ok(()) => {
-                self.progress.next = next;
-                Ok(())
-            }
-            Err(fault) => {
-                let _started = self.progress.running.pop();
-                Err(fault)
-            }
-        }
+        self.lease.emit(rt, event)?;
+        self.progress.running.push_reserved(RunningKey {
+            key,
+            dynamic_id: None,
+        });
+        self.progress.next = next;
+        Ok(())
     }
 
     /// Skips the next static descriptor, below the innermost running key, and all below it.
@@ -387,6 +382,8 @@ impl<'a, S: Sink, K: UnitRun> UnitEvents<'a, S, K> {
         ensures ok { OnOk result ((key : ℕ)
             × Published self.old self.new (event kind key stamp payload)) }
         ensures err { OnErr result (self.new ≡ self.old) }
+        ensures cause { IfErr result
+            (IsPublishCause self.old (λ key. event kind key stamp payload)) }
     {
         let innermost = innermost(&self.progress.running)?;
         let event = Event {
@@ -430,6 +427,8 @@ impl<'a, S: Sink, K: UnitRun> UnitEvents<'a, S, K> {
         ensures ok { OnOk result
             (HasFinished self.old self.new (event Finished key stamp outcome)) }
         ensures err { OnErr result (self.new ≡ self.old) }
+        ensures cause { IfErr result
+            (IsFinishCause self.old (event Finished key stamp outcome)) }
     {
         let innermost = innermost(&self.progress.running)?;
         if innermost.key != key {
@@ -463,9 +462,10 @@ impl<'a, S: Sink, K: UnitRun> UnitEvents<'a, S, K> {
         ensures free { OnOk result (¬ IsTaken K.unit self.old child.now.segment) }
         ensures taken { IfErr result (λ why. IsTaken K.unit self.old child.now.segment
             → IsFaultOfTaken why × (self.new ≡ self.old)) }
-        ensures twice { IfErr result (λ why. why ≡ Own TWICE
-            → IsRefusedAsTaken K.unit self.old self.new child.now.segment) }
+        ensures cause { IfErr result (IsChildCause K.unit self.old (child_start child.now registered
+            (λ key. event Started key stamp Nothing))) }
     {
+        self.progress.running.reserve()?;
         let innermost = innermost(&self.progress.running)?;
         let (key, id) = self.lease.register_child(
             rt,
@@ -476,23 +476,18 @@ impl<'a, S: Sink, K: UnitRun> UnitEvents<'a, S, K> {
             child,
             registered,
         )?;
-        self.progress.running.push(RunningKey {
-            key,
-            dynamic_id: Some(id),
-        })?;
         let event = Event {
             kind: Kind::Started,
             key,
             stamp,
             payload: Payload::Nothing,
         };
-        match self.lease.emit(rt, event) {
-            Ok(()) => Ok(key),
-            Err(fault) => {
-                let _started = self.progress.running.pop();
-                Err(fault)
-            }
-        }
+        self.lease.emit(rt, event)?;
+        self.progress.running.push_reserved(RunningKey {
+            key,
+            dynamic_id: Some(id),
+        });
+        Ok(key)
     }
 
     /// Registers a descriptor below the innermost running key at the stamp `registered`, and skips
@@ -512,8 +507,8 @@ impl<'a, S: Sink, K: UnitRun> UnitEvents<'a, S, K> {
         ensures free { OnOk result (¬ IsTaken K.unit self.old child.now.segment) }
         ensures taken { IfErr result (λ why. IsTaken K.unit self.old child.now.segment
             → IsFaultOfTaken why × (self.new ≡ self.old)) }
-        ensures twice { IfErr result (λ why. why ≡ Own TWICE
-            → IsRefusedAsTaken K.unit self.old self.new child.now.segment) }
+        ensures cause { IfErr result (IsChildCause K.unit self.old (child_start child.now registered
+            (λ key. event Skipped key stamp reason))) }
     {
         let innermost = innermost(&self.progress.running)?;
         let (key, _id) = self.lease.register_child(

@@ -10,7 +10,7 @@ use Rattle.tk_engine_unit_events.specs.declared.unit_events.UnitProgress.{UnitPr
 abbrev pub unit_view : List Descriptor → SenderView → UnitProgress → UnitView
 unit_view table sink progress = record {
   sink = sink;
-  running = keys_of (with_ids table progress.running);
+  running = keys_of (with_ids table progress.running.elements);
   stamp = progress.stamp;
   own_stamp = progress.own_stamp;
 }

@@ -3,13 +3,46 @@ use Rattle.std.specs.Prelude.{◌≡◌, ◌⊎◌, ℕ, true, List, [], ◌∷�
 use Rattle.tk_ids.specs.IdText.{FitsLimits, IsId, SegmentView, id_text}
 use Rattle.tk_ids.specs.Table.{HasId as TableHasId}
 use Rattle.tk_ids.specs.declared.descriptors.Descriptor.{Descriptor}
+use Rattle.tk_ids.specs.declared.id_faults.IdFault.TheVariants.{TooLong}
+use Rattle.tk_queue_session.specs.Registering.{RegisterRequest}
+use Rattle.tk_queue_session.specs.Senders.{SenderView}
+use Rattle.tk_queue_session.specs.declared.sender_faults.RegisterFault.TheVariants.{Id}
+use Rattle.tk_engine_execute.specs.Sinks.{IsRegisterCause}
+use Rattle.tk_engine_execute.specs.declared.engines.TheConstants.{OUT_OF_ORDER, TWICE}
+use Rattle.tk_engine_execute.specs.declared.engines.UnitFault.{UnitFault}
+use Rattle.tk_engine_execute.specs.declared.engines.UnitFault.TheVariants.{Memory, Own, Sink}
+use Rattle.tk_engine_execute.specs.declared.sinks.SinkFault.{SinkFault}
+use Rattle.tk_engine_execute.specs.declared.sinks.SinkFault.TheVariants.{Register}
 use Rattle.tk_engine_unit_events.specs.RegisteredIds.{is_registered}
 
 -- a child with this segment has the id of a static descriptor, or its id is one of those noted
-pub record IsNotedChild (table : List Descriptor) (registered : List (List ℕ × ℕ))
+pub record IsNotedChild (table : List Descriptor) (registered : List (List ℕ))
     (above : List SegmentView) (segment : SegmentView) : Type 0 where
   pub is_id : IsId above
   pub child_is_id : IsId (above ++ segment ∷ [])
   pub fits : FitsLimits (above ++ segment ∷ [])
   pub noted : TableHasId table (above ++ segment ∷ [])
       ⊎ (is_registered registered (id_text (above ++ segment ∷ [])) ≡ true)
+
+-- the sink refused the registration
+abbrev pub IsRegistrationCause : SenderView → RegisterRequest → UnitFault → Type 0
+IsRegistrationCause s ask (Sink why) = IsRegisterCause s s ask why
+IsRegistrationCause s ask Memory = ⊥
+IsRegistrationCause s ask (Own number) = ⊥
+
+-- a fault of the unit's own: the child is noted, or the key above it has no id
+abbrev pub IsOwnCause : Type 0 → List SegmentView → UnitFault → Type 0
+IsOwnCause noted above why =
+    (number : ℕ) → why ≡ Own number
+    → (noted × (number ≡ TWICE)) ⊎ ((above ≡ []) × (number ≡ OUT_OF_ORDER))
+
+-- a fault because the child's id is too long
+abbrev pub IsLongCause : List SegmentView → SegmentView → SinkFault → Type 0
+IsLongCause above segment fault =
+    (¬ FitsLimits (above ++ segment ∷ [])) × (fault ≡ Register (Id TooLong))
+
+-- a fault of the sink's, or because the child's id is too long
+abbrev pub IsSinkCause : SenderView → RegisterRequest → List SegmentView → UnitFault → Type 0
+IsSinkCause s ask above why =
+    (fault : SinkFault) → why ≡ Sink fault
+    → IsLongCause above ask.segment fault ⊎ IsRegisterCause s s ask fault

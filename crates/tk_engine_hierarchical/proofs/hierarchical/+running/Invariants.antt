@@ -15,9 +15,12 @@ decreases-run_tree g l = 3 * length l.below.now + 2
 
 abbrev pub invariant-run_all-loop-rest : goal.invariant-run_all-loop-rest
 invariant-run_all-loop-rest g l = IsForest l.rest × (length l.rest ≤ length l.nodes)
-    × All (MayStepAs g.K.UnitRun.unit.frame.table (g.T.Tests.may_end l.tests) g.K.UnitRun.unit.may_step) l.rest
-    × ((new : PlanState) → RunsForest g.K.UnitRun.unit.frame.table (g.T.Tests.may_run l.tests) (forest l.rest) l.unit new
-    → RunsForest g.K.UnitRun.unit.frame.table (g.T.Tests.may_run l.tests) (forest l.nodes) l.fn.unit new)
+    × All (MayStepAs g.K.UnitRun.unit.frame.table
+    (g.T.Tests.may_end l.tests) g.K.UnitRun.unit.may_step) l.rest
+    × ((new : PlanState) → RunsForest g.K.UnitRun.unit.frame.table (g.T.Tests.may_run l.tests)
+    (forest l.rest) l.unit new
+    → RunsForest g.K.UnitRun.unit.frame.table (g.T.Tests.may_run l.tests)
+    (forest l.nodes) l.fn.unit new)
 
 abbrev pub decreases-run_all-loop-rest : goal.decreases-run_all-loop-rest
 decreases-run_all-loop-rest g l = length l.rest

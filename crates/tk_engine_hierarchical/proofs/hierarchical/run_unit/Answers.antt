@@ -8,17 +8,31 @@ use Rattle.tk_engine_hierarchical.proofs.hierarchical.run_unit.Goals as goal
 pub run_tree-played-requires-clause-may : goal.run_tree-played-requires-clause-may
 run_tree-played-requires-clause-may g c =
     let tree = c.unit_tree-tree.result in
-    let found = unit_found c.args.plan.now.nodes c.args.unit tree.first tree.top.now tree.below.now c.table-table.ensures.planned.trees c.table-table.ensures.numbered c.unit_tree-tree.ensures.below c.unit_tree-tree.ensures.piece in
-    found_fits c.args.plan.now g.K.UnitRun.unit.frame.table (g.T.Tests.may_end c.args.tests.now) g.K.UnitRun.unit.may_step c.requires.plan_table c.requires.may tree.top.now found.0
+    let found = unit_found c.args.plan.now.nodes c.args.unit tree.first tree.top.now tree.below.now
+    c.table-table.ensures.planned.trees c.table-table.ensures.numbered
+    c.unit_tree-tree.ensures.below c.unit_tree-tree.ensures.piece in
+    found_fits c.args.plan.now g.K.UnitRun.unit.frame.table
+    (g.T.Tests.may_end c.args.tests.now) g.K.UnitRun.unit.may_step c.requires.plan_table
+    c.requires.may tree.top.now found.0
 
 pub run_tree-played-requires-clause-may_below : goal.run_tree-played-requires-clause-may_below
 run_tree-played-requires-clause-may_below g c =
     let tree = c.unit_tree-tree.result in
-    let found = unit_found c.args.plan.now.nodes c.args.unit tree.first tree.top.now tree.below.now c.table-table.ensures.planned.trees c.table-table.ensures.numbered c.unit_tree-tree.ensures.below c.unit_tree-tree.ensures.piece in
-    all_found_fit c.args.plan.now g.K.UnitRun.unit.frame.table (g.T.Tests.may_end c.args.tests.now) g.K.UnitRun.unit.may_step c.requires.plan_table c.requires.may tree.below.now found.1
+    let found = unit_found c.args.plan.now.nodes c.args.unit tree.first tree.top.now tree.below.now
+    c.table-table.ensures.planned.trees c.table-table.ensures.numbered
+    c.unit_tree-tree.ensures.below c.unit_tree-tree.ensures.piece in
+    all_found_fit c.args.plan.now g.K.UnitRun.unit.frame.table
+    (g.T.Tests.may_end c.args.tests.now) g.K.UnitRun.unit.may_step c.requires.plan_table
+    c.requires.may tree.below.now found.1
 
 pub returns-clause-tree : goal.returns-clause-tree
 returns-clause-tree g c =
     let tree = c.unit_tree-tree.result in
-    tree_ran c.run_tree-played.result c.ending.result c.args.plan.now g.K.UnitRun.unit.frame.table (g.T.Tests.may_run c.args.tests.now) c.args.unit (record { tree = tree_of tree.top.now tree.below.now; first = tree.first }) g.K.UnitRun.unit.start _
-    c.begin.result c.run_tree-played.new.unit c.requires.plan_table c.unit_tree-tree.ensures.piece c.begin.ensures (c.end-lease.ensures.sink ∙ ap (λ (p : PlanState). p.unit.sink) c.planned.view_is) c.run_tree-played.ensures c.ending.ensures.fault
+    tree_ran c.run_tree-played.result c.ending.result c.args.plan.now g.K.UnitRun.unit.frame.table
+    (g.T.Tests.may_run c.args.tests.now) c.args.unit
+    (record { tree = tree_of tree.top.now tree.below.now; first = tree.first })
+    g.K.UnitRun.unit.start _
+    c.begin.result c.run_tree-played.new.unit c.requires.plan_table c.unit_tree-tree.ensures.piece
+    c.begin.ensures (c.end-lease.ensures.sink
+    ∙ ap (λ (p : PlanState). p.unit.sink) c.planned.view_is) c.run_tree-played.ensures
+    c.ending.ensures.fault

@@ -15,13 +15,20 @@ returns g c =
     let s = c.args.engine.now.shape in
     let r = c.args.results.now.recorded in
     let is : IsRecord r = subst IsRecord c.recorded.ensures c.shows_record.ensures in
-    let different : AreDifferent r.table = subst AreDifferent (c.table.ensures ∙ ap (λ (x : Recorded). x.table) c.recorded-2.ensures) c.shows_different_ids.ensures in
+    let different : AreDifferent r.table = subst AreDifferent
+    (c.table.ensures ∙ ap (λ (x : Recorded). x.table) c.recorded-2.ensures)
+    c.shows_different_ids.ensures in
     let children : EachChildRuns r = children_run r is c.lifecycle.ensures different
-    (λ key id its. long_ids s.plan.nodes s.plan.table c.shows_shape.ensures.planned key id (subst (λ t. slice_get (ids_of t) key ≡ Some id) c.requires.1.over its))
+    (λ key id its. long_ids s.plan.nodes s.plan.table c.shows_shape.ensures.planned key id
+    (subst (λ t. slice_get (ids_of t) key ≡ Some id) c.requires.1.over its))
     c.turns.ensures in
     record {
       children = children;
       kept = λ answer.
-          let kept = (c.kept_by_its_events.ensures.kept r different).1 (c.lifecycle.ensures, children) in
-          (λ is. c.lifecycle_is_unique.ensures.one r answer Kept is kept, λ same. subst (IsLifecycle r) (sym same) kept);
+          let kept = (c.kept_by_its_events.ensures.kept r different).1
+          (c.lifecycle.ensures, children) in (
+            λ is. c.lifecycle_is_unique.ensures.one r answer Kept is kept,
+            λ same. subst
+                (IsLifecycle r) (sym same) kept,
+          );
     }

@@ -10,8 +10,10 @@ use Rattle.tk_engine_hierarchical.proofs.laws.nesting.Goals as goal
 pub returns : goal.returns
 returns g c =
     let s = c.args.engine.now.shape in
-    let rules = test_rules (g.T.Tests.may_end c.args.engine.now.tests) (g.T.Tests.may_run c.args.engine.now.tests) in
+    let rules = test_rules (g.T.Tests.may_end c.args.engine.now.tests)
+    (g.T.Tests.may_run c.args.engine.now.tests) in
     let may_step = FitsPlan s.plan rules.may_end in
     let r = c.args.results.now.recorded in
-    units_nest s may_step c.requires.0 r (kept_units s may_step c.shows_shape.ensures.around) (run_by_shape s rules c.requires.0 r c.requires.1)
+    units_nest s may_step c.requires.0 r (kept_units s may_step c.shows_shape.ensures.around)
+    (run_by_shape s rules c.requires.0 r c.requires.1)
     (subst IsRecord c.recorded.ensures c.shows_record.ensures)

@@ -3,4 +3,6 @@ use Rattle.tk_engine_hierarchical.proofs.laws.outcomes.Goals as goal
 
 pub returns : goal.returns
 returns g c =
-    has_outcomes c.args.engine.now.shape.plan (g.T.Tests.may_end c.args.engine.now.tests) c.args.results.now.recorded c.requires.1.over c.steps.ensures
+    has_outcomes c.args.engine.now.shape.plan
+    (g.T.Tests.may_end c.args.engine.now.tests) c.args.results.now.recorded c.requires.1.over
+    c.steps.ensures

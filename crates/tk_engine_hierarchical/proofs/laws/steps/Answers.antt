@@ -8,6 +8,8 @@ use Rattle.tk_engine_hierarchical.proofs.laws.steps.Goals as goal
 pub returns : goal.returns
 returns g c =
     let s = c.args.engine.now.shape in
-    let rules = test_rules (g.T.Tests.may_end c.args.engine.now.tests) (g.T.Tests.may_run c.args.engine.now.tests) in
+    let rules = test_rules (g.T.Tests.may_end c.args.engine.now.tests)
+    (g.T.Tests.may_run c.args.engine.now.tests) in
     let r = c.args.results.now.recorded in
-    has_steps s (FitsPlan s.plan rules.may_end) (frame s).before (frame s).after (frame s).units c.requires.0 r (run_by_shape s rules c.requires.0 r c.requires.1)
+    has_steps s (FitsPlan s.plan rules.may_end) (frame s).before (frame s).after
+    (frame s).units c.requires.0 r (run_by_shape s rules c.requires.0 r c.requires.1)

@@ -8,7 +8,10 @@ use Rattle.tk_engine_hierarchical.proofs.laws.turns.Goals as goal
 pub returns : goal.returns
 returns g c =
     let s = c.args.engine.now.shape in
-    let rules = test_rules (g.T.Tests.may_end c.args.engine.now.tests) (g.T.Tests.may_run c.args.engine.now.tests) in
+    let rules = test_rules (g.T.Tests.may_end c.args.engine.now.tests)
+    (g.T.Tests.may_run c.args.engine.now.tests) in
     let r = c.args.results.now.recorded in
-    have_turns s (FitsPlan s.plan rules.may_end) (frame s).after c.requires.0 r c.shows_shape.ensures.places (run_by_shape s rules c.requires.0 r c.requires.1)
+    have_turns s (FitsPlan s.plan rules.may_end)
+    (frame s).after c.requires.0 r c.shows_shape.ensures.places
+    (run_by_shape s rules c.requires.0 r c.requires.1)
     c.lifecycle.ensures

@@ -5,5 +5,8 @@ use Rattle.tk_engine_hierarchical.proofs.engines.HierarchicalEngine.run.Goals as
 
 pub returns-clause-ok : goal.returns-clause-ok
 returns-clause-ok g c =
-    ran_unit c.run_unit-lease.new.ran c.plan.result.now c.args.self.now.shape (test_rules (g.T.Tests.may_end c.args.self.now.tests) (g.T.Tests.may_run c.args.self.now.tests)) c.args.unit (g.S.Sink.view c.args.sink.now) (g.S.Sink.view c.sink-1.given.0)
+    ran_unit c.run_unit-lease.new.ran c.plan.result.now c.args.self.now.shape
+    (test_rules (g.T.Tests.may_end c.args.self.now.tests)
+    (g.T.Tests.may_run c.args.self.now.tests)) c.args.unit (g.S.Sink.view c.args.sink.now)
+    (g.S.Sink.view c.sink-1.given.0)
     c.plan.ensures c.requires.table (search rules) (search rules)

@@ -7,4 +7,5 @@ pub finish-requires : goal.finish-requires
 finish-requires g c = λ low. absurd (omega (arith, low, c.requires))
 
 pub returns-clause-ok : goal.returns-clause-ok
-returns-clause-ok g c = on_ok c.finish.result c.finish.ensures.ok (λ f. finished_as _ _ c.args.key _ _ _ _ c.stamp-stamp.ensures c.payload_of.ensures f)
+returns-clause-ok g c = on_ok c.finish.result c.finish.ensures.ok
+    (λ f. finished_as _ _ c.args.key _ _ _ _ c.stamp-stamp.ensures c.payload_of.ensures f)

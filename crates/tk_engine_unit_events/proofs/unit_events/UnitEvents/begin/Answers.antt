@@ -16,10 +16,16 @@ invariant_of-result g c =
       record {
         number = unit;
         end = ap (λ (k : UnitKeys). k.end) keys;
-        running = began c.args.shape.now g.K.UnitRun.unit.frame c.args.unit g.K.UnitRun.unit.keys.unit g.K.UnitRun.unit.start _ (with_ids g.K.UnitRun.unit.frame.table c.new.result) c.new-2.result c.keys_of-next.result.0 c.requires.frame unit c.requires.start (ap (with_ids g.K.UnitRun.unit.frame.table) c.new.ensures)
+        running = began c.args.shape.now g.K.UnitRun.unit.frame c.args.unit
+            g.K.UnitRun.unit.keys.unit g.K.UnitRun.unit.start _
+            (with_ids g.K.UnitRun.unit.frame.table c.new.result.elements) c.new-2.result.keys
+            c.keys_of-next.result.0 c.requires.frame unit c.requires.start
+            (ap (with_ids g.K.UnitRun.unit.frame.table) c.new.ensures)
             c.shows_shape.ensures.around c.requires.is_unit c.requires.table;
-        played = played_none g.K.UnitRun.unit.frame.table g.K.UnitRun.unit.may_step g.K.UnitRun.unit.keys.first g.K.UnitRun.unit.start _ c.keys_of-next.result.0 c.requires.start (ap (λ (k : UnitKeys). k.first) keys);
-        noted = noted_none g.K.UnitRun.unit _ _ c.new-2.ensures;
+        played = played_none g.K.UnitRun.unit.frame.table g.K.UnitRun.unit.may_step
+            g.K.UnitRun.unit.keys.first g.K.UnitRun.unit.start _ c.keys_of-next.result.0
+            c.requires.start (ap (λ (k : UnitKeys). k.first) keys);
+        noted = noted_none g.K.UnitRun.unit _ _ c.new-2.ensures.empty;
       },
       extends_same _ _ (c.requires.start ∙ sym c.requires.since),
     )

@@ -10,9 +10,15 @@ returns-clause-run g c = λ done.
     elim c.if-rests.branch [
       | then-rests w ↦
           (let over = sym w.result-is ∙ done in
-          let past : c.self.inside.progress.end ≤ c.self.inside.progress.next = grind (arith, tests, over) in
-          ran_all g.K.UnitRun.unit.frame g.K.UnitRun.unit.may_step g.K.UnitRun.unit.keys g.K.UnitRun.unit.start _ (with_ids t c.self.inside.progress.running) c.self.inside.progress.registered c.self.inside.progress.next c.self.invariant.2.running c.self.invariant.2.played
-          (ap (with_ids t) (at_none c.top.result c.is_none-rests.result _ c.is_none-rests.ensures c.top.ensures.none w.if-rests.true))
+          let past : c.self.inside.progress.end ≤ c.self.inside.progress.next = grind
+          (arith, tests, over) in
+          ran_all g.K.UnitRun.unit.frame g.K.UnitRun.unit.may_step g.K.UnitRun.unit.keys
+          g.K.UnitRun.unit.start _ (with_ids t c.self.inside.progress.running.elements)
+          c.self.inside.progress.registered.keys c.self.inside.progress.next
+          c.self.invariant.2.running c.self.invariant.2.played
+          (ap (with_ids t) (at_none c.top.result c.is_none-rests.result _ c.is_none-rests.ensures
+          c.top.ensures.none w.if-rests.true))
           (subst (λ n. n ≤ c.self.inside.progress.next) c.self.invariant.2.end past))
-      | else-rests w ↦ (let bad : false ≡ true = sym w.if-rests.false ∙ sym w.result-is ∙ done in cc)
+      | else-rests w ↦ (let bad : false ≡ true = sym w.if-rests.false ∙ sym w.result-is ∙ done in
+          cc)
     ]

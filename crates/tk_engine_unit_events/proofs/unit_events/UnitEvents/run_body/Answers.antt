@@ -15,8 +15,12 @@ invariant_of-self g c =
     )
 
 pub returns-clause-more : goal.returns-clause-more
-returns-clause-more g c = subst (λ (v : UnitView). Extends v.sink (g.S.Sink.view c.run_body.new.self.sink.now)) c.self.view_is c.run_body.ensures.since
+returns-clause-more g c = subst
+    (λ (v : UnitView). Extends v.sink (g.S.Sink.view c.run_body.new.self.sink.now)) c.self.view_is
+    c.run_body.ensures.since
 
 pub returns-clause-outer : goal.returns-clause-outer
 returns-clause-outer g c = λ key before after e h.
-    keeps_outer g.K.UnitRun.unit _ _ _ _ key before after c.self.invariant.2 c.run_body.ensures.stands c.run_body.ensures.since (ap (λ (v : UnitView). v.running) c.self.view_is ∙ e) h
+    keeps_outer g.K.UnitRun.unit _ _ _ _ key before after c.self.invariant.2
+    c.run_body.ensures.stands c.run_body.ensures.since
+    (ap (λ (v : UnitView). v.running) c.self.view_is ∙ e) h
