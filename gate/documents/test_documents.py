@@ -16,7 +16,7 @@ LIMITS = Limits(
         "README.md",
         *(f"docs/{it}.md" for it in "ARCHITECTURE DECISIONS ENGINES FORMATS JUNIT PROVED SPEED TESTING".split()),
     ),
-    most_words=19_540,
+    most_words=15_000,
     most_readme_bytes=14_336,
     most_crate_lines=80,
     fewest_crate_readmes=35,

@@ -51,7 +51,8 @@ impl<T: Drop> Stack<T> {
 
     /// The element on top.
     pub(crate) fn top(&self) -> Option<&T>
-        ensures some { IfSome result (λ top. (rest : List T) × (self.now.elements ≡ top.now ∷ rest)) }
+        ensures some { IfSome result (λ top. (rest : List T)
+            × (self.now.elements ≡ top.now ∷ rest)) }
         ensures none { IfNone result (self.now.elements ≡ []) }
     {
         self.elements.as_slice().last()

@@ -85,7 +85,8 @@ pub(crate) struct BodyRun {
 
 // The innermost running key.
 fn innermost(running: &Stack<RunningKey>) -> Result<&RunningKey, UnitFault>
-    ensures top { IfOk result (λ top. (outer : List RunningKey) × (running.now.elements ≡ top.now ∷ outer)) }
+    ensures top { IfOk result (λ top. (outer : List RunningKey)
+        × (running.now.elements ≡ top.now ∷ outer)) }
     ensures none { OnErr result (running.now.elements ≡ []) }
     ensures order { IfErr result (λ why. why ≡ Own OUT_OF_ORDER) }
 {
