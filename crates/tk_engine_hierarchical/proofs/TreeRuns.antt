@@ -1,6 +1,6 @@
 -- How a unit runs its tree, step by step.
-use Rattle.std.proofs.Common.{◌≡◌, ◌+◌, ◌<◌, ◌≤◌, ℕ, zero, suc, List, [], ◌∷◌, take, drop, get_or}
-use Rattle.std.proofs.Common.{length, Option, None, Some, slice_get, refl, sym, ap, ap₂, ◌∙◌, subst}
+use Rattle.std.proofs.Common.{◌≡◌, ◌+◌, ◌<◌, ◌≤◌, ℕ, List, [], ◌∷◌, take, drop, get_or}
+use Rattle.std.proofs.Common.{length, Option, None, Some, slice_get, refl, sym, ap₂, ◌∙◌, subst}
 use Rattle.std.proofs.Common.{arith}
 use Rattle.std.specs.Prelude.{IfNone, OnOk, Result, Ok, Err}
 use Rattle.std.proofs.lemmas.List.{take_all}
@@ -28,7 +28,7 @@ use Rattle.tk_engine_hierarchical.specs.steps.StaticSteps.{MayStepAs}
 use Rattle.tk_engine_unit_events.specs.Units.{RunsUnit}
 use Rattle.tk_engine_hierarchical.specs.TreeRuns.{FinishesNode, PlanState, RunsBody, RunsForest}
 use Rattle.tk_engine_hierarchical.specs.TreeRuns.{RunsNode, RunsTree, RunsUnitTree, StartsNode}
-use Rattle.tk_engine_hierarchical.specs.TreeRuns.{TestRuns, after_each, after_publishing}
+use Rattle.tk_engine_hierarchical.specs.TreeRuns.{TestRuns, after_publishing}
 use Rattle.tk_engine_hierarchical.specs.TreeRuns.{plan_state}
 use Rattle.tk_engine_hierarchical.specs.declared.planned_units.TestEnd.{TestEnd}
 use Rattle.tk_engine_unit_events.specs.declared.outcomes.Outcome.{Outcome}

@@ -1,3 +1,4 @@
+mod Children
 pub mod Emitted
 pub mod Nesting
 mod Outer

@@ -17,8 +17,8 @@ use Rattle.tk_engine_unit_events.specs.Units.{HasPlayed}
 use Rattle.tk_engine_unit_events.specs.declared.running_keys.RunningKey.{RunningKey}
 use Rattle.tk_engine_unit_events.specs.declared.unit_events.UnitProgress.{UnitProgress}
 use Rattle.tk_engine_unit_events.proofs.Played.{played_dynamic, played_registration}
-use Rattle.tk_engine_unit_events.proofs.Running.{HasRegistered, ran_child, ran_child_skip}
-use Rattle.tk_engine_unit_events.proofs.Running.{ran_registered, registered_below}
+use Rattle.tk_engine_unit_events.proofs.Children.{HasRegistered, ran_child, ran_child_skip}
+use Rattle.tk_engine_unit_events.proofs.Children.{ran_registered, registered_below}
 use Rattle.tk_engine_unit_events.proofs.Taken.{noted_after, noted_registration}
 
 -- where the unit stood, what it asked for, and what came of it

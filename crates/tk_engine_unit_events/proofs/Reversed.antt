@@ -1,6 +1,6 @@
 -- The last element of a list is the first one of the list reversed.
 use Rattle.std.proofs.Common.{◌≡◌, ◌-◌, ◌+◌, ℕ, zero, suc, List, [], ◌∷◌, ◌++◌, Option, None, Some}
-use Rattle.std.proofs.Common.{Bor, length, reverse, slice_get, sym, ap, ◌∙◌, subst, arith}
+use Rattle.std.proofs.Common.{Bor, length, reverse, slice_get, sym, ap, ◌∙◌, arith}
 use Rattle.std.specs.Prelude.{IfSome, option_copied}
 use Rattle.std.proofs.lemmas.List.{reverse-append}
 use Rattle.std.proofs.lemmas.Option.{same_Some}

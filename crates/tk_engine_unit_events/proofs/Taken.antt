@@ -36,7 +36,8 @@ use Rattle.tk_engine_unit_events.specs.Refusals.{IsEmitCause, IsInnermostKey}
 use Rattle.tk_engine_unit_events.specs.UnitSteps.{UnitView, child_request}
 use Rattle.tk_engine_unit_events.specs.steps.Taken.{IsNotedChild, IsOwnCause, IsSinkCause}
 use Rattle.tk_engine_unit_events.specs.declared.running_keys.RunningKey.{RunningKey}
-use Rattle.tk_engine_unit_events.proofs.Running.{HasRegistered, cancel, first_id, static_id}
+use Rattle.tk_engine_unit_events.proofs.Children.{HasRegistered, first_id}
+use Rattle.tk_engine_unit_events.proofs.Running.{cancel, static_id}
 
 -- ---- the ids that are noted
 

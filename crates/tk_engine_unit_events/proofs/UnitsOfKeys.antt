@@ -1,7 +1,7 @@
 -- The units of static keys.
-use Rattle.std.proofs.Common.{◌≡◌, ◌<◌, ◌≤◌, ◌+◌, ◌-◌, ◌^◌, ℕ, zero, suc, ◌⊎◌, inl, inr, ⊎_elim}
+use Rattle.std.proofs.Common.{◌≡◌, ◌<◌, ◌≤◌, ◌+◌, ◌-◌, ◌^◌, ℕ, ⊎_elim}
 use Rattle.std.proofs.Common.{true, false, if◌then◌else◌, List, [], ◌∷◌, ◌++◌, length, take, get_or}
-use Rattle.std.proofs.Common.{set, replicate, min, Some, slice_get, refl, sym, ap, ◌∙◌, subst}
+use Rattle.std.proofs.Common.{set, min, Some, slice_get, sym, ap, ◌∙◌, subst}
 use Rattle.std.proofs.Common.{arith}
 use Rattle.std.proofs.lemmas.Bool.{cases_lt}
 use Rattle.std.proofs.lemmas.Option.{same_Some, slice_get_within}
@@ -11,7 +11,6 @@ use Rattle.tk_plan_units.specs.Numbers.{of_kind}
 use Rattle.tk_plan_units.specs.Planned.{IsPlanned, Outline}
 use Rattle.tk_plan_units.specs.Trees.{IsForest, Tree, forest, number_of, tree_of}
 use Rattle.tk_plan_units.specs.declared.trees.nodes.NumberedNode.{NumberedNode}
-use Rattle.tk_engine_execute.proofs.Positions.{replicate_at}
 use Rattle.tk_engine_laws.specs.Spines.{ArePlaced, IsOfUnit, count_static, end_of}
 use Rattle.tk_engine_unit_events.specs.Owners.{AreOwners}
 

@@ -1,5 +1,5 @@
 use Rattle.std.proofs.Common.{sym}
-use Rattle.tk_engine_unit_events.proofs.Played.{keys_below_more, none_below, not_below}
+use Rattle.tk_engine_unit_events.proofs.Played.{keys_below_more}
 use Rattle.tk_engine_unit_events.proofs.unit_ids.end_below.Goals as goal
 
 pub loop-other-preserved : goal.loop-other-preserved

@@ -1,4 +1,4 @@
-use Rattle.std.proofs.Common.{◌∙◌, ap, reverse, subst, sym}
+use Rattle.std.proofs.Common.{◌∙◌, ap, reverse}
 use Rattle.tk_engine_unit_events.specs.Stacks.{StackView}
 use Rattle.tk_engine_unit_events.proofs.Reversed.{last_on_top}
 use Rattle.tk_engine_unit_events.proofs.stacks.Stack.top.Goals as goal

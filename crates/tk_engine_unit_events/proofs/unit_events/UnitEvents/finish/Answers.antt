@@ -1,4 +1,4 @@
-use Rattle.std.proofs.Common.{List, ◌≡◌, ap, inl, inr, refl, sym, subst, ◌∙◌}
+use Rattle.std.proofs.Common.{List, ap, inr, refl, sym, subst, ◌∙◌}
 use Rattle.tk_engine_unit_events.specs.Events.{IsRunning}
 use Rattle.std.proofs.lemmas.Result.{err_from_is_err_and}
 use Rattle.tk_events.specs.declared.kinds.Kind.TheVariants.{Finished}

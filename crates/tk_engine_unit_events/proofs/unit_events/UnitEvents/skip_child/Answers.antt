@@ -1,8 +1,8 @@
-use Rattle.std.proofs.Common.{List, ap, inl, inr, refl, sym, subst, ◌∙◌}
+use Rattle.std.proofs.Common.{List, ap, refl, sym, subst, ◌∙◌}
 use Rattle.std.proofs.lemmas.Result.{err_from_is_err_and}
 use Rattle.tk_events.specs.declared.kinds.Kind.TheVariants.{Skipped}
 use Rattle.tk_engine_execute.specs.Engines.{Extends}
-use Rattle.tk_engine_unit_events.specs.Refusals.{IsChildCause, child_start}
+use Rattle.tk_engine_unit_events.specs.Refusals.{child_start}
 use Rattle.tk_engine_unit_events.specs.Running.{keys_of, with_id, with_ids}
 use Rattle.tk_engine_unit_events.specs.Standing.{StandsAt}
 use Rattle.tk_engine_unit_events.specs.UnitSteps.{UnitView, event}

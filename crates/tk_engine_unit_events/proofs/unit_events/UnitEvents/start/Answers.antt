@@ -3,7 +3,7 @@ use Rattle.tk_engine_unit_events.specs.Running.{keys_of, id_at, with_ids}
 use Rattle.tk_engine_unit_events.proofs.Played.{played_start}
 use Rattle.tk_engine_unit_events.proofs.Running.{may_here, started, static_is}
 use Rattle.tk_engine_execute.specs.Engines.{Extends}
-use Rattle.tk_engine_unit_events.proofs.UnitSteps.{extends_more, stands_same}
+use Rattle.tk_engine_unit_events.proofs.UnitSteps.{extends_more}
 use Rattle.tk_engine_unit_events.proofs.Taken.{noted_after}
 use Rattle.tk_engine_unit_events.proofs.unit_events.UnitEvents.start.Goals as goal
 
