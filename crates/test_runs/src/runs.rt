@@ -67,24 +67,79 @@ impl Recorded {
     }
 }
 
-// Whether a run recorded these stamps first; 0 stands where there is no entry.
-fn begins_with(ran: &Ran, stamps: [u64; 4]) -> bool {
-    match &ran.answer {
-        Ok(recorded) => {
+// A test asks a run once, so that no test has to drop a fault.
+impl Ran {
+    // What it recorded, where it didn't fail.
+    fn recorded(self) -> Option<Recorded> {
+        match self.answer {
+            Ok(recorded) => Some(recorded),
+            Err(_) => None,
+        }
+    }
+
+    // How many entries it recorded, and how many events the workers emitted.
+    fn counts(self) -> Option<(usize, u64)> {
+        match self.answer {
+            Ok(recorded) => Some((recorded.entries, recorded.emitted)),
+            Err(_) => None,
+        }
+    }
+
+    // The unit that failed with a fault of the engine's own, and that fault.
+    fn own_fault(self) -> Option<(u32, u32)> {
+        match self.answer {
+            Err(RunFault::Engine(unit, UnitFault::Own(number))) => Some((unit, number)),
+            _ => None,
+        }
+    }
+
+    // Whether it failed with the fault that has this text.
+    fn has_failed(self, alloc: Global, text: &str) -> bool {
+        match self.answer {
+            Ok(_) => false,
+            Err(fault) => match format!(in alloc; "{fault}") {
+                Ok(said) => said.as_str() == text,
+                Err(_) => false,
+            },
+        }
+    }
+
+    // Whether memory or a thread was refused.
+    fn is_refused(&self) -> bool {
+        matches!(self.answer, Err(RunFault::Memory | RunFault::Threads))
+    }
+
+    // Whether it ran both units of 1,000 starts, or was refused a thread, or memory before or after
+    // it ran them.
+    fn is_of_starts(self) -> bool {
+        let is_whole = self.seen.begun == 3;
+        match self.answer {
+            Ok(recorded) => is_whole && recorded.entries == 2_000,
+            Err(RunFault::Threads) => is_whole,
+            Err(RunFault::Memory) => is_whole || self.seen.begun == 0,
+            Err(_) => false,
+        }
+    }
+}
+
+// Whether these stamps were recorded first; 0 stands where there is no entry.
+fn begins_with(recorded: &Option<Recorded>, stamps: [u64; 4]) -> bool {
+    match recorded {
+        Some(recorded) => {
             recorded.stamps[0] == stamps[0]
                 && recorded.stamps[1] == stamps[1]
                 && recorded.stamps[2] == stamps[2]
                 && recorded.stamps[3] == stamps[3]
         }
-        Err(_) => false,
+        None => false,
     }
 }
 
-// How many events worker 1 emitted, or 0 where there is no record.
-fn emitted_by_one(ran: &Ran) -> u64 {
-    match &ran.answer {
-        Ok(recorded) => recorded.emitted_by_one,
-        Err(_) => 0,
+// How many entries were recorded, and how many events worker 1 and all workers emitted.
+fn shares(recorded: &Option<Recorded>) -> (usize, u64, u64) {
+    match recorded {
+        Some(it) => (it.entries, it.emitted_by_one, it.emitted),
+        None => (0, 0, 0),
     }
 }
 
@@ -118,40 +173,21 @@ fn one_to_fifteen_workers_run_all_units(rt: HostRuntime) {
     let steps = [UnitStep::Start(0), UnitStep::Start(1)];
     for workers in 1..=15usize {
         let ran = run(&rt, rt.alloc(), &Units::alike(300, &steps), workers, 3);
-        assert!(rt;
-            matches!(
-                ran.answer,
-                Ok(Recorded {
-                    entries: 600,
-                    emitted: 600,
-                    ..
-                })
-            ),
-            "{workers}"
-        );
+        assert!(rt; matches!(ran.counts(), Some((600, 600))), "{workers}");
     }
 }
 
 #[test]
 fn no_unit_is_a_run(rt: HostRuntime) {
     let ran = run(&rt, rt.alloc(), &Units::alike(0, &[]), 15, 1);
-    assert!(rt;
-        matches!(
-            ran.answer,
-            Ok(Recorded {
-                entries: 0,
-                emitted: 0,
-                ..
-            })
-        )
-    );
+    assert!(rt; matches!(ran.counts(), Some((0, 0))));
 }
 
 #[test]
 fn side_by_side(rt: HostRuntime) {
     let units = Units::beside(2, &[UnitStep::Await(1, 1)], &[UnitStep::Begin]);
     let ran = run(&rt, rt.alloc(), &units, 2, 64);
-    assert!(rt; matches!(ran.answer, Ok(_)));
+    assert!(rt; ran.counts().is_some());
 }
 
 #[test]
@@ -164,19 +200,9 @@ fn events_as_they_are_emitted(rt: HostRuntime) {
     ];
     let other = [UnitStep::Await(1, 3), UnitStep::Start(2), UnitStep::Begin];
     let units = Units::beside(2, &first, &other);
-    let ran = run(&rt, rt.alloc(), &units, 2, 64);
-    assert!(rt; begins_with(&ran, [1, 2, 3, 0]));
-    assert!(rt;
-        matches!(
-            ran.answer,
-            Ok(Recorded {
-                entries: 3,
-                emitted: 3,
-                ..
-            })
-        )
-    );
-    assert!(rt; emitted_by_one(&ran) == 1 || emitted_by_one(&ran) == 2);
+    let recorded = run(&rt, rt.alloc(), &units, 2, 64).recorded();
+    assert!(rt; begins_with(&recorded, [1, 2, 3, 0]));
+    assert!(rt; matches!(shares(&recorded), (3, 1 | 2, 3)));
 }
 
 #[test]
@@ -191,8 +217,8 @@ fn one_shared_book(rt: HostRuntime) {
         first: &first,
         others: &other,
     };
-    let ran = run(&rt, rt.alloc(), &units, 2, 64);
-    assert!(rt; begins_with(&ran, [7, 7, 8, 8]) || begins_with(&ran, [8, 8, 7, 7]));
+    let recorded = run(&rt, rt.alloc(), &units, 2, 64).recorded();
+    assert!(rt; begins_with(&recorded, [7, 7, 8, 8]) || begins_with(&recorded, [8, 8, 7, 7]));
 }
 
 #[test]
@@ -200,23 +226,25 @@ fn workers_and_capacity(rt: HostRuntime) {
     let units = Units::alike(1, &[UnitStep::Start(0)]);
     for workers in [0, 16] {
         let ran = run(&rt, rt.alloc(), &units, workers, 1);
-        assert!(rt; matches!(ran.answer, Err(RunFault::Workers)), "{workers}");
+        let has_failed = ran.has_failed(rt.alloc(), "workers must be 1 to 15");
+        assert!(rt; has_failed, "{workers}");
     }
     for capacity in [0, 1025] {
         let ran = run(&rt, rt.alloc(), &units, 1, capacity);
-        assert!(rt; matches!(ran.answer, Err(RunFault::Capacity)), "{capacity}");
+        let has_failed = ran.has_failed(rt.alloc(), "capacity must be 1 to 1024");
+        assert!(rt; has_failed, "{capacity}");
     }
     let ran = run(&rt, rt.alloc(), &units, 15, 1024);
-    assert!(rt; matches!(ran.answer, Ok(Recorded { entries: 1, .. })));
+    assert!(rt; matches!(ran.counts(), Some((1, _))));
 }
 
 #[test]
 fn a_failure_names_its_unit(rt: HostRuntime) {
     let fails = [UnitStep::Start(1), UnitStep::Fail(3)];
     let ran = run(&rt, rt.alloc(), &Units::alike(2, &fails), 1, 64);
-    assert!(rt; matches!(ran.answer, Err(RunFault::Engine(0, UnitFault::Own(3)))));
+    assert!(rt; matches!(ran.own_fault(), Some((0, 3))));
     let ran = run(&rt, rt.alloc(), &Units::beside(3, &[], &fails), 1, 64);
-    assert!(rt; matches!(ran.answer, Err(RunFault::Engine(1, UnitFault::Own(3)))));
+    assert!(rt; matches!(ran.own_fault(), Some((1, 3))));
 }
 
 /// The fault of a unit is handed on as it is, with the unit's number.
@@ -224,33 +252,20 @@ fn a_failure_names_its_unit(rt: HostRuntime) {
 fn a_failure_is_handed_on(rt: HostRuntime) {
     let own = Units::alike(1, &[UnitStep::Fail(u32::MAX)]);
     let ran = run(&rt, rt.alloc(), &own, 1, 64);
-    assert!(rt;
-        matches!(
-            ran.answer,
-            Err(RunFault::Engine(0, UnitFault::Own(u32::MAX)))
-        )
-    );
+    assert!(rt; matches!(ran.own_fault(), Some((0, u32::MAX))));
     let memory = Units::beside(2, &[], &[UnitStep::FailForMemory]);
     let ran = run(&rt, rt.alloc(), &memory, 1, 64);
-    assert!(rt; matches!(ran.answer, Err(RunFault::Engine(1, UnitFault::Memory))));
+    assert!(rt; ran.has_failed(rt.alloc(), "unit 1 failed: out of memory"));
     let sink = Units::beside(2, &[], &[UnitStep::StartOf(9)]);
     let ran = run(&rt, rt.alloc(), &sink, 15, 64);
-    assert!(rt; matches!(ran.answer, Err(RunFault::Engine(1, UnitFault::Sink(_)))));
+    assert!(rt; ran.has_failed(rt.alloc(), "unit 1 failed: unknown key 9"));
 }
 
 #[test]
 fn as_many_units_as_may_be(rt: HostRuntime) {
     let units = Units::alike(65_536, &[UnitStep::Start(0)]);
     let ran = run(&rt, rt.alloc(), &units, 2, 1024);
-    assert!(rt;
-        matches!(
-            ran.answer,
-            Ok(Recorded {
-                entries: 65_536,
-                ..
-            })
-        )
-    );
+    assert!(rt; matches!(ran.counts(), Some((65_536, 65_536))));
 }
 
 /// As many events come before the units as a worker may emit, and a unit emits one more.
@@ -261,16 +276,7 @@ fn many_events(rt: HostRuntime) {
         ..Units::alike(1, &[UnitStep::Start(0)])
     };
     let ran = run(&rt, rt.alloc(), &units, 1, 64);
-    assert!(rt;
-        matches!(
-            ran.answer,
-            Ok(Recorded {
-                entries: 1_048_577,
-                emitted: 1,
-                ..
-            })
-        )
-    );
+    assert!(rt; matches!(ran.counts(), Some((1_048_577, 1))));
 }
 
 /// Two units that write different resources, each of which waits until the other one has begun.
@@ -286,7 +292,7 @@ fn writers_of_different_resources(rt: HostRuntime) {
         others: &steps,
     };
     let ran = run(&rt, rt.alloc(), &units, 2, 64);
-    assert!(rt; matches!(ran.answer, Ok(_)));
+    assert!(rt; ran.counts().is_some());
 }
 
 /// Each of 60 units waits until every worker has one.
@@ -296,8 +302,8 @@ fn each_unit_is_run_once(rt: HostRuntime) {
         let steps = [UnitStep::Begin, UnitStep::Await(workers, 1)];
         let units = Units::alike(60, &steps);
         let ran = run(&rt, rt.alloc(), &units, workers as usize, 64);
-        assert!(rt; matches!(ran.answer, Ok(_)), "{workers}");
-        assert!(rt; ran.seen.begun == ALL_OF_60, "{workers}");
+        let begun = ran.seen.begun;
+        assert!(rt; ran.counts().is_some() && begun == ALL_OF_60, "{workers}");
     }
 }
 
@@ -334,15 +340,12 @@ fn all_workers_fail(rt: HostRuntime) {
         ];
         let units = Units::alike(60, &steps);
         let ran = run(&rt, rt.alloc(), &units, workers as usize, 64);
-        assert!(rt;
-            matches!(
-                ran.answer,
-                Err(RunFault::Engine(unit, UnitFault::Own(fault)))
-                    if fault == unit.wrapping_add(1_000)
-            ),
-            "{workers}"
-        );
-        assert!(rt; ran.seen.begun.count_ones() == workers, "{workers}");
+        let begun = ran.seen.begun.count_ones();
+        let is_right = match ran.own_fault() {
+            Some((unit, fault)) => fault == unit.wrapping_add(1_000),
+            None => false,
+        };
+        assert!(rt; is_right && begun == workers, "{workers}");
     }
 }
 
@@ -360,18 +363,12 @@ fn run_of_starts<R: Threads + Wait + Sync>(rt: &R, alloc: Global, last: UnitStep
 #[test]
 fn a_refused_run(rt: HostRuntime) {
     let first = run_of_starts(&rt, rt.alloc(), UnitStep::End);
-    let Seen { begun, ended, .. } = first.seen;
-    assert_eq!(rt; begun, ended);
-    let is_whole = begun == 3;
-    match first.answer {
-        Ok(Recorded { entries, .. }) => assert!(rt; is_whole && entries == 2_000),
-        Err(RunFault::Threads) => assert!(rt; is_whole),
-        Err(RunFault::Memory) => assert!(rt; is_whole || begun == 0),
-        _ => assert!(rt; false, "a unit failed"),
-    }
-    if first.answer.is_err() {
+    let is_refused = first.is_refused();
+    assert_eq!(rt; first.seen.begun, first.seen.ended);
+    assert!(rt; first.is_of_starts());
+    if is_refused {
         let again = run_of_starts(&rt, rt.alloc(), UnitStep::End);
-        assert!(rt; matches!(again.answer, Ok(Recorded { entries: 2_000, .. })));
+        assert!(rt; matches!(again.counts(), Some((2_000, _))));
     }
 }
 
@@ -380,9 +377,9 @@ fn a_refused_run(rt: HostRuntime) {
 #[test]
 fn a_refused_run_that_fails(rt: HostRuntime) {
     let mut ran = run_of_starts(&rt, rt.alloc(), UnitStep::Fail(5));
-    if matches!(ran.answer, Err(RunFault::Memory | RunFault::Threads)) {
+    if ran.is_refused() {
         assert_eq!(rt; ran.seen.begun, 0);
         ran = run_of_starts(&rt, rt.alloc(), UnitStep::Fail(5));
     }
-    assert!(rt; matches!(ran.answer, Err(RunFault::Engine(_, UnitFault::Own(5)))));
+    assert!(rt; matches!(ran.own_fault(), Some((_, 5))));
 }
