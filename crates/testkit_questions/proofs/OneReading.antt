@@ -244,8 +244,8 @@ data OfConditions {A : Type 0} (name : A → List ℕ) (question : OfNamed A) (r
 data OfExclusive (rest : List (List ℕ)) (x : Result Question AskFault) : Type 0 where
   exclusive_good : (w r : Condition) → x ≡ Ok (questions.Exclusive w r) → AreHolders rest w r → OfExclusive rest x
   exclusive_none : x ≡ Err (faults.Word 0) → rest ≡ [] → OfExclusive rest x
-  exclusive_more : (cs : List Condition) → x ≡ Err (faults.Word 2) → AreConditions (take 2 rest) cs → 2 < length rest → OfExclusive rest x
-  exclusive_fault : (i : ℕ) (f : CondFault) → x ≡ Err (faults.Condition i f) → i < 2 → IsBadCondition rest i f → OfExclusive rest x
+  exclusive_more : x ≡ Err (faults.Word 2) → 2 < length rest → OfExclusive rest x
+  exclusive_fault : (i : ℕ) (f : CondFault) → x ≡ Err (faults.Condition i f) → length rest ≤ 2 → IsBadCondition rest i f → OfExclusive rest x
 
 data OfOverview (o : Overview) (rest : List (List ℕ)) (x : Result Question AskFault) : Type 0 where
   overview_good : x ≡ Ok (questions.Overview o) → rest ≡ [] → OfOverview o rest x
@@ -339,17 +339,6 @@ good_holders : (rest : List (List ℕ)) (w r : Condition) (i : ℕ) (f : CondFau
 good_holders rest w r i f (inl h) bad = good_not_faulty rest rest (w ∷ r ∷ []) i f refl h bad
 good_holders rest w r i f (inr h) bad = good_not_faulty rest rest (w ∷ []) i f refl h.0 bad
 
-early_text : (n i : ℕ) (texts : List (List ℕ)) → i < n → slice_get (take n texts) i ≡ slice_get texts i
-early_text zero i texts lt = absurd (omega arith)
-early_text (suc n) i [] lt = refl
-early_text (suc n) zero (t ∷ texts) lt = refl
-early_text (suc n) (suc i) (t ∷ texts) lt = early_text n i texts (omega arith)
-
-first_good : (rest : List (List ℕ)) (cs : List Condition) (i : ℕ) (f : CondFault) → AreConditions (take 2 rest) cs → i < 2 → IsBadCondition rest i f → ⊥
-first_good rest cs i f good lt bad =
-    let c = condition_at (take 2 rest) cs i bad.text good (early_text 2 i rest lt ∙ bad.at) in
-    not_faulty bad.text c.0 f c.1 bad.bad bad.read
-
 no_texts : (rest : List (List ℕ)) → rest ≡ [] → 0 < length rest → ⊥
 no_texts rest none some = let long = ap length none in omega arith
 
@@ -359,19 +348,19 @@ no_text rest i f none bad = none-some bad.text (ap (λ (t : List (List ℕ)). sl
 one_exclusive : (rest : List (List ℕ)) (a b : Result Question AskFault) → OfExclusive rest a → OfExclusive rest b → SameReading a b
 one_exclusive rest a b (exclusive_good w r p h) (exclusive_good v s q k) = alike a b (Ok (questions.Exclusive w r)) (Ok (questions.Exclusive v s)) p q (holders_same rest w r v s h k)
 one_exclusive rest a b (exclusive_good w r p h) (exclusive_none q k) = absurd (no_texts rest k (few_holders rest w r h).0)
-one_exclusive rest a b (exclusive_good w r p h) (exclusive_more cs q k many) = let few = (few_holders rest w r h).1 in absurd (omega arith)
+one_exclusive rest a b (exclusive_good w r p h) (exclusive_more q many) = let few = (few_holders rest w r h).1 in absurd (omega arith)
 one_exclusive rest a b (exclusive_good w r p h) (exclusive_fault j g q lt bad) = absurd (good_holders rest w r j g h bad)
 one_exclusive rest a b (exclusive_none p h) (exclusive_good v s q k) = absurd (no_texts rest h (few_holders rest v s k).0)
 one_exclusive rest a b (exclusive_none p h) (exclusive_none q k) = alike a b (Err (faults.Word 0)) (Err (faults.Word 0)) p q refl
-one_exclusive rest a b (exclusive_none p h) (exclusive_more cs q k many) = absurd (no_texts rest h (omega arith))
+one_exclusive rest a b (exclusive_none p h) (exclusive_more q many) = absurd (no_texts rest h (omega arith))
 one_exclusive rest a b (exclusive_none p h) (exclusive_fault j g q lt bad) = absurd (no_text rest j g h bad)
-one_exclusive rest a b (exclusive_more cs p h many) (exclusive_good v s q k) = let few = (few_holders rest v s k).1 in absurd (omega arith)
-one_exclusive rest a b (exclusive_more cs p h many) (exclusive_none q k) = absurd (no_texts rest k (omega arith))
-one_exclusive rest a b (exclusive_more cs p h many) (exclusive_more ds q k more) = alike a b (Err (faults.Word 2)) (Err (faults.Word 2)) p q refl
-one_exclusive rest a b (exclusive_more cs p h many) (exclusive_fault j g q lt bad) = absurd (first_good rest cs j g h lt bad)
+one_exclusive rest a b (exclusive_more p many) (exclusive_good v s q k) = let few = (few_holders rest v s k).1 in absurd (omega arith)
+one_exclusive rest a b (exclusive_more p many) (exclusive_none q k) = absurd (no_texts rest k (omega arith))
+one_exclusive rest a b (exclusive_more p many) (exclusive_more q more) = alike a b (Err (faults.Word 2)) (Err (faults.Word 2)) p q refl
+one_exclusive rest a b (exclusive_more p many) (exclusive_fault j g q few bad) = absurd (omega arith)
 one_exclusive rest a b (exclusive_fault i f p lt bad) (exclusive_good v s q k) = absurd (good_holders rest v s i f k bad)
 one_exclusive rest a b (exclusive_fault i f p lt bad) (exclusive_none q k) = absurd (no_text rest i f k bad)
-one_exclusive rest a b (exclusive_fault i f p lt bad) (exclusive_more ds q k many) = absurd (first_good rest ds i f k lt bad)
+one_exclusive rest a b (exclusive_fault i f p few bad) (exclusive_more q many) = absurd (omega arith)
 one_exclusive rest a b (exclusive_fault i f p lt bad) (exclusive_fault j g q less worse) =
     let both = both_faulty rest i j bad.conditions worse.conditions bad.text worse.text f g bad.before worse.before bad.at worse.at bad.bad worse.bad bad.read worse.read in
     alike a b (Err (faults.Condition i f)) (Err (faults.Condition j g)) p q (condition_fault_same i j f g both.0 both.1)
@@ -402,7 +391,7 @@ word_reading words i (inr (inr (inl h))) = of_count (selection_name h.0 ∷ h.1 
 word_reading words i (inr (inr (inr (inl h)))) = of_match h.0 h.1 (conditions_none (word_error i 0 h.2) h.3)
 word_reading words i (inr (inr (inr (inr (inl h))))) = of_list h.0 h.1 (conditions_none (word_error i 0 h.2) h.3)
 word_reading words i (inr (inr (inr (inr (inr (inr (rest, is, inl h))))))) = of_exclusive rest is (exclusive_none (word_error i 0 h.1) h.0)
-word_reading words i (inr (inr (inr (inr (inr (inr (rest, is, inr h))))))) = of_exclusive rest is (exclusive_more h.0 (word_error i 2 h.3) h.1 h.2)
+word_reading words i (inr (inr (inr (inr (inr (inr (rest, is, inr h))))))) = of_exclusive rest is (exclusive_more (word_error i 2 h.1) h.0)
 word_reading words i (inr (inr (inr (inr (inr (inl h)))))) = of_overview h.0 (h.1 ∷ h.2) h.3 (overview_more h.1 h.2 (word_error i 0 h.4) refl)
 
 condition_reading : (words : List (List ℕ)) (i : ℕ) (f : CondFault) → IsAskedAs words (Err (faults.Condition i f)) → Reading words (Err (faults.Condition i f))

@@ -1,7 +1,8 @@
 -- Words of questions: what one word more does.
-use Rattle.std.proofs.Common.{◌≡◌, ◌≢◌, ◌+◌, ◌<◌, ◌++◌, ◌∷◌, [], ℕ, zero, suc, List, length, map, take, get_or, true, Some, Ok, Err, Vec, Global, refl, sym, ap, subst, ◌∙◌, arith, inl, inr}
+use Rattle.std.proofs.Common.{◌≡◌, ◌≢◌, ◌+◌, ◌<◌, ◌≤◌, ◌++◌, ◌∷◌, [], ℕ, zero, suc, List, length, map, take, get_or, true, Some, Ok, Err, Vec, Global, refl, sym, ap, subst, ◌∙◌, arith, inl, inr}
 use Rattle.std.specs.Prelude.{not, ◌==◌}
 use Rattle.std.specs.List.{list_all, slice_get}
+use Rattle.std.proofs.lemmas.List.{length-map}
 use Rattle.std.proofs.lemmas.List.Folds.{list_all_at}
 use Rattle.tk_record_columns.specs.declared.statistics.Expected.{Expected}
 use Rattle.tk_record_columns.specs.declared.selections.Selection.{Selection}
@@ -114,24 +115,23 @@ pub asks_one : {A : Type 0} (f : A → List ℕ) → (words more : List A) (w r 
 asks_one f words more w r b none nobody =
     (map f words, refl, inr (subst (λ (t : List (List ℕ)). AreConditions t (w ∷ [])) (sym (ap (map f) (b.cut ∙ ap (λ l. b.first ∷ l) none))) (b.read, tt), nobody))
 
-pub third_condition : {A : Type 0} (f : A → List ℕ) → (words more rest : List A) (w r : Condition) → BeginsWith f words w more → BeginsWith f more r rest → 0 < length rest → IsBadWord (exclusive_word ∷ map f words) 2
-third_condition f words more [] w r b d some = absurd (omega arith)
-third_condition f words more (x ∷ rest) w r b d some =
-    let all : map f words ≡ f b.first ∷ f d.first ∷ f x ∷ map f rest = ap (map f) (b.cut ∙ ap (λ l. b.first ∷ l) d.cut) in
-    inr (inr (inr (inr (inr (inr (
-      map f words,
-      refl,
-      inr (
-        w ∷ r ∷ [],
-        subst (λ (t : List (List ℕ)). AreConditions (take 2 t) (w ∷ r ∷ [])) (sym all) (b.read, (d.read, tt)),
-        subst (λ (t : List (List ℕ)). 2 < length t) (sym all) (omega arith),
-        refl,
-      ),
-    ))))))
+-- the words end after the second condition, since there are two at most
+pub asks_both : {A : Type 0} (f : A → List ℕ) → (words more rest : List A) (w r : Condition) → length words ≤ 2 → BeginsWith f words w more → BeginsWith f more r rest → Asks (exclusive_word ∷ map f words) (questions.Exclusive w r)
+asks_both f words more [] w r few b d =
+    let all : map f words ≡ f b.first ∷ f d.first ∷ [] = ap (map f) (b.cut ∙ ap (λ l. b.first ∷ l) d.cut) in
+    (map f words, refl, inl (subst (λ (t : List (List ℕ)). AreConditions t (w ∷ r ∷ [])) (sym all) (b.read, (d.read, tt))))
+asks_both f words more (x ∷ rest) w r few b d =
+    let many = ap length (b.cut ∙ ap (λ l. b.first ∷ l) d.cut) in absurd (omega arith)
 
-pub first_fault : {A : Type 0} (f : A → List ℕ) → (words more : List A) (first : A) (text : List ℕ) (fault : ConditionsFault) → words ≡ first ∷ more → text ≡ f first → IsTextFault 0 text fault → IsAskedAs (exclusive_word ∷ map f words) (Err (ask_fault_of_conditions fault))
-first_fault f words more first text (several.Condition number fault) cut is bad =
+pub third_word : {A : Type 0} (f : A → List ℕ) → (words : List A) → 2 < length words → IsBadWord (exclusive_word ∷ map f words) 2
+third_word f words many =
+    let as_many = length-map words f in
+    inr (inr (inr (inr (inr (inr (map f words, refl, inr (omega arith, refl)))))))
+
+pub first_fault : {A : Type 0} (f : A → List ℕ) → (words more : List A) (first : A) (text : List ℕ) (fault : ConditionsFault) → length words ≤ 2 → words ≡ first ∷ more → text ≡ f first → IsTextFault 0 text fault → IsAskedAs (exclusive_word ∷ map f words) (Err (ask_fault_of_conditions fault))
+first_fault f words more first text (several.Condition number fault) few cut is bad =
     let at : number ≡ 0 = bad.0 in
+    let as_many = length-map words f in
     inr (inr (
       map f words,
       refl,
@@ -145,11 +145,12 @@ first_fault f words more first text (several.Condition number fault) cut is bad 
         read = bad.2;
       },
     ))
-first_fault f words more first text several.Memory cut is bad = tt
+first_fault f words more first text several.Memory few cut is bad = tt
 
-pub second_fault : {A : Type 0} (f : A → List ℕ) → (words more rest : List A) (second : A) (text : List ℕ) (w : Condition) (fault : ConditionsFault) → BeginsWith f words w more → more ≡ second ∷ rest → text ≡ f second → IsTextFault 1 text fault → IsAskedAs (exclusive_word ∷ map f words) (Err (ask_fault_of_conditions fault))
-second_fault f words more rest second text w (several.Condition number fault) b cut is bad =
+pub second_fault : {A : Type 0} (f : A → List ℕ) → (words more rest : List A) (second : A) (text : List ℕ) (w : Condition) (fault : ConditionsFault) → length words ≤ 2 → BeginsWith f words w more → more ≡ second ∷ rest → text ≡ f second → IsTextFault 1 text fault → IsAskedAs (exclusive_word ∷ map f words) (Err (ask_fault_of_conditions fault))
+second_fault f words more rest second text w (several.Condition number fault) few b cut is bad =
     let at : number ≡ 1 = bad.0 in
+    let as_many = length-map words f in
     let all : map f words ≡ f b.first ∷ f second ∷ map f rest = ap (map f) (b.cut ∙ ap (λ l. b.first ∷ l) cut) in
     inr (inr (
       map f words,
@@ -164,4 +165,4 @@ second_fault f words more rest second text w (several.Condition number fault) b 
         read = bad.2;
       },
     ))
-second_fault f words more rest second text w several.Memory b cut is bad = tt
+second_fault f words more rest second text w several.Memory few b cut is bad = tt

@@ -5,6 +5,7 @@ use Rattle.std.specs.Prelude.{
   ℕ,
   ◌+◌,
   ◌<◌,
+  ◌≤◌,
   ◌^◌,
   ◌⊎◌,
   List,
@@ -131,12 +132,9 @@ AreHolders texts writers readers =
     AreConditions texts (writers ∷ readers ∷ [])
     ⊎ (AreConditions texts (writers ∷ []) × (cond_of readers ≡ Any Nothing))
 
--- there is no text, or the first of the texts after two conditions
+-- there is no text, or the first of the texts after two
 abbrev pub IsBadHolder : List (List ℕ) → ℕ → Type 0
-IsBadHolder texts i =
-    ((texts ≡ []) × (i ≡ 0))
-    ⊎ ((conditions : List Condition) × AreConditions (take 2 texts) conditions
-    × (2 < length texts) × (i ≡ 2))
+IsBadHolder texts i = ((texts ≡ []) × (i ≡ 0)) ⊎ ((2 < length texts) × (i ≡ 2))
 
 -- there is no first word, or it is none of the names
 abbrev pub IsNoName : {A : Type 0} → (A → List ℕ) → List (List ℕ) → Type 0
@@ -213,7 +211,8 @@ abbrev pub HasConditionFault : List ℕ → List ℕ → List (List ℕ) → Ask
 HasConditionFault question word words fault =
     (texts : List (List ℕ)) × (words ≡ question ∷ word ∷ texts) × IsConditionFault texts fault
 
--- what the words are read as: the question, or the first fault
+-- what the words are read as: the question, or the fault, which is of a bad word before it is of a
+-- condition
 abbrev pub IsAskedAs : List (List ℕ) → Result Question AskFault → Type 0
 IsAskedAs words (Ok question) = Asks words question
 IsAskedAs words (Err faults.Question) = IsNoQuestion words
@@ -223,7 +222,7 @@ IsAskedAs words (Err (faults.Condition i fault)) =
     (faults.Condition i fault))
     ⊎ ((selection : Selection) × HasConditionFault list_word (selection_name selection) words
     (faults.Condition i fault))
-    ⊎ ((rest : List (List ℕ)) × (words ≡ exclusive_word ∷ rest) × (i < 2)
+    ⊎ ((rest : List (List ℕ)) × (words ≡ exclusive_word ∷ rest) × (length rest ≤ 2)
     × IsBadCondition rest i fault)
 IsAskedAs words (Err faults.Memory) = Unit {0}
 IsAskedAs words (Err _) = ⊥

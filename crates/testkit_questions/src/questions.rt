@@ -168,20 +168,19 @@ fn read_count(words: &[String]) -> Result<Question, AskFault>
 pub(crate) fn read_exclusive(alloc: Global, words: &[String]) -> Result<Explainable, AskFault>
     ensures { IsAskedAs (exclusive_word ∷ map string_bytes words.now) (asking result) }
 {
+    if words.len() > 2 {
+        return Err(AskFault::Word(2));
+    }
     let Some((writers, more)) = words.split_first() else {
         return Err(AskFault::Word(0));
     };
     let writers = read_text(alloc, 0, writers.as_str())?;
-    let Some((readers, more)) = more.split_first() else {
+    let Some((readers, _)) = more.split_first() else {
         let nobody = Condition::Any(Vec::new(alloc));
         return Ok(Explainable::Exclusive(writers, nobody));
     };
     let readers = read_text(alloc, 1, readers.as_str())?;
-    if more.is_empty() {
-        Ok(Explainable::Exclusive(writers, readers))
-    } else {
-        Err(AskFault::Word(2))
-    }
+    Ok(Explainable::Exclusive(writers, readers))
 }
 
 // Reads the words after the name of an overview, of which there are none.
@@ -198,7 +197,8 @@ fn read_overview(overview: Overview, words: &[String]) -> Result<Question, AskFa
 /// Reads the question that the words ask, the first of which names it.
 ///
 /// # Errors
-/// `Question`, `Word`, `Condition` or `Memory`, for the first word that is bad.
+/// `Question`; `Word` of the first bad word; `Condition` of the first condition that is bad, where
+/// no word is; or `Memory`.
 pub fn read_question(alloc: Global, words: &[String]) -> Result<Question, AskFault>
     ensures { IsAskedAs (map string_bytes words.now) result }
 {

@@ -107,7 +107,7 @@ fn read_explanation(alloc: Global, words: &[String]) -> Result<Request, AskFault
 /// explanation of its answer.
 ///
 /// # Errors
-/// `Question`, `Word`, `Condition` or `Memory`, for the first word that is bad.
+/// As [`read_question`].
 pub fn read_request(alloc: Global, words: &[String]) -> Result<Request, AskFault>
     ensures { IsRequestedAs (map string_bytes words.now) result }
 {

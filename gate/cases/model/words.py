@@ -103,9 +103,9 @@ def read_exclusive(words: List[str], first: int, answer: Callable[[Record, Condi
     """One condition or two, of which the first has the number `first`."""
     if not words:
         raise Refused(f"bad word {first}")
-    conditions = read_conditions(words[:2], first)
     if len(words) > 2:
         raise Refused(f"bad word {first + 2}")
+    conditions = read_conditions(words, first)
     nobody: Condition = ("any", ())
     return lambda record: answer(record, conditions[0], (conditions + [nobody])[1])
 

@@ -64,7 +64,7 @@ FAULTS = [
     ("four conditions", " test test test test", "bad word {2}"),
     ("a bad first condition", " tesx test", "condition {0} is bad at 3"),
     ("a bad second condition", " test tesx", "condition {1} is bad at 3"),
-    ("a bad condition before a word too many", " test tesx test", "condition {1} is bad at 3"),
+    ("a word too many, after a bad condition", " test tesx test", "bad word {2}"),
     ("an empty condition", " ", "condition {0} is bad at 0"),
     ("a deep first condition", " " + "not(" * 33, "condition {0} is too deep"),
     ("a deep second condition", " test " + "not(" * 33, "condition {1} is too deep"),
