@@ -1,16 +1,18 @@
 //! An engine whose tests have bodies: what it records, and what it refuses.
+use crate::calls::{
+    engine_of, fault_of, publish_file, report, results_of, run_container, run_test, skip_test,
+};
 use std::alloc::{AllocError, Global};
 use std::sync::Wait;
 use std::sync::atomic::{AtomicU64, Ordering};
 use std::thread::Threads;
 use test_support::is_written_as;
-use tk_engine::{Results, RunFault, Sink, UnitFault, execute};
+use tk_engine::{Results, RunFault, Sink, UnitFault};
 use tk_engine_hierarchical::{
     Body, Hierarchical, OUT_OF_ORDER, Outcome, Reporter, TWICE, Tests, UnitRun,
 };
-use tk_events::Pairs;
 use tk_ids::{Segment, Text};
-use tk_plan::{ExecutionMode, LockMode, Plan, PlanNode, build_plan};
+use tk_plan::{ExecutionMode, LockMode, PlanNode};
 use tk_query::Lifecycle;
 use tk_record_columns::Statistics;
 
@@ -24,7 +26,7 @@ impl Body for Failing {
         alloc: Global,
         reporter: &mut Reporter<'_, S, K>,
     ) -> Result<Outcome, UnitFault> {
-        reporter.publish_file(rt, Text::copy(alloc, "out.txt")?)?;
+        publish_file(rt, alloc, "out.txt", reporter)?;
         Ok(Outcome::Failed(Some(Text::copy(alloc, "boom")?)))
     }
 }
@@ -39,8 +41,8 @@ impl Body for Group {
         alloc: Global,
         reporter: &mut Reporter<'_, S, K>,
     ) -> Result<Outcome, UnitFault> {
-        let first = segment(alloc, "1")?;
-        let second = segment(alloc, "2")?;
+        let first = Segment::new(alloc, "d", "1")?;
+        let second = Segment::new(alloc, "d", "2")?;
         reporter.dynamic_test(rt, alloc, &first, "one", &Failing)?;
         reporter.set_stamp(500_000);
         reporter.skip_test(rt, alloc, &second, "two", Text::copy(alloc, "off")?)?;
@@ -59,13 +61,6 @@ impl Body for Faulting {
         _reporter: &mut Reporter<'_, S, K>,
     ) -> Result<Outcome, UnitFault> {
         Err(UnitFault::Own(9))
-    }
-}
-
-fn segment(alloc: Global, value: &str) -> Result<Segment, UnitFault> {
-    match Segment::new(alloc, "d", value) {
-        Ok(segment) => Ok(segment),
-        Err(_) => Err(UnitFault::Memory),
     }
 }
 
@@ -91,11 +86,8 @@ fn first_test<R: Wait, S: Sink, K: UnitRun>(
     alloc: Global,
     reporter: &mut Reporter<'_, S, K>,
 ) -> Result<Outcome, UnitFault> {
-    let mut pairs = Pairs::new(alloc);
-    pairs.push(Text::copy(alloc, "k")?, Text::copy(alloc, "v")?)?;
-    reporter.report(rt, pairs)?;
-    let group = segment(alloc, "g")?;
-    reporter.dynamic_container(rt, alloc, &group, "group", &Group)?;
+    report(rt, alloc, &[("k", "v")], reporter)?;
+    run_container(rt, alloc, ("d", "g"), "group", &Group, reporter)?;
     Ok(Outcome::Successful)
 }
 
@@ -107,8 +99,7 @@ fn third_test<R: Wait, S: Sink, K: UnitRun>(
     reporter: &mut Reporter<'_, S, K>,
 ) -> Result<Outcome, UnitFault> {
     if matches!(then, Then::RegistersStatic) {
-        let four = Segment::new(alloc, "t", "4")?;
-        reporter.dynamic_test(rt, alloc, &four, "y", &Failing)?;
+        run_test(rt, alloc, ("t", "4"), "y", &Failing, reporter)?;
     }
     Ok(Outcome::Successful)
 }
@@ -128,18 +119,16 @@ impl Tests for Sample {
             return third_test(rt, alloc, self.then, reporter);
         }
         reporter.set_stamp(1_000_000);
-        let one = segment(alloc, "x")?;
-        reporter.dynamic_test(rt, alloc, &one, "x", &Failing)?;
+        run_test(rt, alloc, ("d", "x"), "x", &Failing, reporter)?;
         match self.then {
             Then::Aborts | Then::RegistersStatic => Ok(Outcome::Aborted(None)),
             Then::RegistersTwice => {
-                reporter.skip_test(rt, alloc, &one, "y", Text::copy(alloc, "off")?)?;
+                skip_test(rt, alloc, ("d", "x"), "y", reporter)?;
                 Ok(Outcome::Successful)
             }
             Then::Faults => Err(UnitFault::Own(7)),
             Then::FaultsBelow => {
-                let two = segment(alloc, "y")?;
-                reporter.dynamic_test(rt, alloc, &two, "y", &Faulting)?;
+                run_test(rt, alloc, ("d", "y"), "y", &Faulting, reporter)?;
                 Ok(Outcome::Successful)
             }
         }
@@ -177,12 +166,8 @@ fn root(alloc: Global) -> Result<PlanNode<'static>, AllocError> {
         .child(concurrent(fifth(alloc)?))
 }
 
-fn plan(alloc: Global) -> Option<Plan> {
-    build_plan(alloc, &root(alloc).ok()?).ok()
-}
-
 fn engine(alloc: Global, then: Then) -> Option<Hierarchical<Sample>> {
-    Hierarchical::new(alloc, plan(alloc)?, Sample { then }).ok()
+    engine_of(alloc, &root(alloc).ok()?, Sample { then })
 }
 
 /// The engine of the sample, whose second test aborts.
@@ -238,14 +223,8 @@ pub(crate) fn is_recorded(alloc: Global, results: &Results) -> bool {
 
 // Whether a run by one worker has that record.
 fn has_record<R: Threads + Wait + Sync>(rt: &R, alloc: Global) -> Option<bool> {
-    let engine = sample_engine(alloc)?;
-    let ran = execute(rt, alloc, &engine, 1, 4);
-    let found = match &ran {
-        Ok(results) => is_recorded(alloc, results),
-        Err(_) => false,
-    };
-    drop(ran);
-    Some(found)
+    let results = results_of(rt, alloc, &sample_engine(alloc)?, 1)?;
+    Some(is_recorded(alloc, &results))
 }
 
 #[test]
@@ -266,14 +245,8 @@ fn run<R: Threads + Wait + Sync>(
     alloc: Global,
     workers: usize,
 ) -> Option<(Lifecycle, Statistics)> {
-    let engine = sample_engine(alloc)?;
-    let ran = execute(rt, alloc, &engine, workers, 4);
-    let found = match &ran {
-        Ok(results) => seen(alloc, results),
-        Err(_) => None,
-    };
-    drop(ran);
-    found
+    let results = results_of(rt, alloc, &sample_engine(alloc)?, workers)?;
+    seen(alloc, &results)
 }
 
 #[test]
@@ -297,14 +270,10 @@ fn bodies_run_and_keep_the_lifecycle(rt: HostRuntime) {
 
 // Which unit fails, and with which number.
 fn own_fault<R: Threads + Wait + Sync>(rt: &R, alloc: Global, then: Then) -> Option<(u32, u32)> {
-    let engine = engine(alloc, then)?;
-    let ran = execute(rt, alloc, &engine, 1, 4);
-    let found = match &ran {
-        Err(RunFault::Engine(unit, UnitFault::Own(number))) => Some((*unit, *number)),
+    match fault_of(rt, alloc, &engine(alloc, then)?)? {
+        RunFault::Engine(unit, UnitFault::Own(number)) => Some((unit, number)),
         _ => None,
-    };
-    drop(ran);
-    found
+    }
 }
 
 #[test]
@@ -367,19 +336,13 @@ fn writers(alloc: Global) -> Option<Hierarchical<Alone>> {
     let tests = Alone {
         inside: AtomicU64::new(0),
     };
-    Hierarchical::new(alloc, build_plan(alloc, &root).ok()?, tests).ok()
+    engine_of(alloc, &root, tests)
 }
 
 // How many tests ran alone that write one resource, by four workers.
 fn count_alone<R: Threads + Wait + Sync>(rt: &R, alloc: Global) -> Option<u64> {
-    let engine = writers(alloc)?;
-    let ran = execute(rt, alloc, &engine, 4, 4);
-    let found = match &ran {
-        Ok(results) => seen(alloc, results),
-        Err(_) => None,
-    };
-    drop(ran);
-    Some(found?.1.succeeded)
+    let results = results_of(rt, alloc, &writers(alloc)?, 4)?;
+    Some(seen(alloc, &results)?.1.succeeded)
 }
 
 #[test]

@@ -1,12 +1,13 @@
 //! What a test learns of itself, and outcomes as bodies.
+use crate::calls::{engine_of, results_of, run_test};
 use std::alloc::Global;
 use std::sync::Wait;
 use std::thread::Threads;
 use test_support::is_written_as;
-use tk_engine::{Sink, UnitFault, execute};
+use tk_engine::{Sink, UnitFault};
 use tk_engine_hierarchical::{Body, Hierarchical, Outcome, Reporter, Tests, UnitRun};
-use tk_ids::{Segment, Text};
-use tk_plan::{ExecutionMode, PlanNode, build_plan};
+use tk_ids::Text;
+use tk_plan::{ExecutionMode, PlanNode};
 
 // A body that succeeds where no static descriptor runs.
 struct Nameless;
@@ -38,11 +39,9 @@ impl Tests for Named {
         reporter: &mut Reporter<'_, S, K>,
     ) -> Result<Outcome, UnitFault> {
         let name = reporter.descriptor()?.name.try_clone()?;
-        let first = Segment::new(alloc, "d", "1")?;
-        reporter.dynamic_test(rt, alloc, &first, "nameless", &Nameless)?;
-        let second = Segment::new(alloc, "d", "2")?;
+        run_test(rt, alloc, ("d", "1"), "nameless", &Nameless, reporter)?;
         let gone = Outcome::Aborted(Some(Text::copy(alloc, "gone")?));
-        reporter.dynamic_test(rt, alloc, &second, "aborted", &gone)?;
+        run_test(rt, alloc, ("d", "2"), "aborted", &gone, reporter)?;
         Ok(Outcome::Failed(Some(name)))
     }
 }
@@ -68,13 +67,12 @@ E|0|0|3|finish|ok
 fn engine(alloc: Global) -> Option<Hierarchical<Named>> {
     let root = PlanNode::container(alloc, ("engine", "e"), "e");
     let one = PlanNode::test(alloc, ("t", "1"), "one").mode(ExecutionMode::Concurrent);
-    let plan = build_plan(alloc, &root.child(one).ok()?).ok()?;
-    Hierarchical::new(alloc, plan, Named).ok()
+    engine_of(alloc, &root.child(one).ok()?, Named)
 }
 
 // Whether a run by one worker has that record.
 fn has_record<R: Threads + Wait + Sync>(rt: &R, alloc: Global) -> Option<bool> {
-    let results = execute(rt, alloc, &engine(alloc)?, 1, 4).ok()?;
+    let results = results_of(rt, alloc, &engine(alloc)?, 1)?;
     Some(is_written_as(alloc, results.recorded(), record()))
 }
 

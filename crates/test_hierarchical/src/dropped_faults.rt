@@ -1,12 +1,11 @@
 //! Bodies that drop the fault of a dynamic test, and go on.
+use crate::calls::{engine_of, fault_of, report, run_container, run_test};
 use std::alloc::Global;
 use std::sync::Wait;
 use std::thread::Threads;
-use tk_engine::{Sink, UnitFault, execute};
-use tk_engine_hierarchical::{Body, Hierarchical, Outcome, Reporter, Tests, UnitRun};
-use tk_events::Pairs;
-use tk_ids::{Segment, Text};
-use tk_plan::{PlanNode, build_plan};
+use tk_engine::{Sink, UnitFault};
+use tk_engine_hierarchical::{Body, Outcome, Reporter, Tests, UnitRun};
+use tk_plan::PlanNode;
 
 // The body of a dynamic test, which fails.
 #[derive(Clone, Copy)]
@@ -14,17 +13,6 @@ enum Failing {
     Own,
     /// Publishes an entry whose keys don't increase.
     Unlawful,
-}
-
-fn publish_unlawful<R: Wait, S: Sink, K: UnitRun>(
-    rt: &R,
-    alloc: Global,
-    reporter: &mut Reporter<'_, S, K>,
-) -> Result<(), UnitFault> {
-    let mut pairs = Pairs::new(alloc);
-    pairs.push(Text::copy(alloc, "k")?, Text::copy(alloc, "v")?)?;
-    pairs.push(Text::copy(alloc, "k")?, Text::copy(alloc, "w")?)?;
-    reporter.report(rt, pairs)
 }
 
 impl Body for Failing {
@@ -37,7 +25,7 @@ impl Body for Failing {
         match self {
             Failing::Own => Err(UnitFault::Own(9)),
             Failing::Unlawful => {
-                publish_unlawful(rt, alloc, reporter)?;
+                report(rt, alloc, &[("k", "v"), ("k", "w")], reporter)?;
                 Ok(Outcome::Successful)
             }
         }
@@ -55,8 +43,7 @@ impl Body for Dropping {
         alloc: Global,
         reporter: &mut Reporter<'_, S, K>,
     ) -> Result<Outcome, UnitFault> {
-        let segment = Segment::new(alloc, "d", "1")?;
-        let _dropped = reporter.dynamic_test(rt, alloc, &segment, "d", &self.0);
+        let _dropped = run_test(rt, alloc, ("d", "1"), "d", &self.0, reporter);
         Ok(Outcome::Successful)
     }
 }
@@ -79,9 +66,8 @@ fn register_twice<R: Wait, S: Sink, K: UnitRun>(
     alloc: Global,
     reporter: &mut Reporter<'_, S, K>,
 ) -> Result<Outcome, UnitFault> {
-    let segment = Segment::new(alloc, "d", "1")?;
-    reporter.dynamic_test(rt, alloc, &segment, "d", &Outcome::Successful)?;
-    let _dropped = reporter.dynamic_test(rt, alloc, &segment, "d", &Outcome::Successful);
+    run_test(rt, alloc, ("d", "1"), "d", &Outcome::Successful, reporter)?;
+    let _dropped = run_test(rt, alloc, ("d", "1"), "d", &Outcome::Successful, reporter);
     Ok(Outcome::Successful)
 }
 
@@ -96,9 +82,14 @@ impl Tests for Doing {
         match *self {
             Doing::Drops(failing) => Dropping(failing).run(rt, alloc, reporter),
             Doing::DropsBelow(failing) => {
-                let segment = Segment::new(alloc, "d", "c")?;
-                let body = Dropping(failing);
-                let _dropped = reporter.dynamic_container(rt, alloc, &segment, "c", &body);
+                let _dropped = run_container(
+                    rt,
+                    alloc,
+                    ("d", "c"),
+                    "c",
+                    &Dropping(failing),
+                    reporter,
+                );
                 Ok(Outcome::Successful)
             }
             Doing::DropsAndFails(failing) => {
@@ -112,11 +103,10 @@ impl Tests for Doing {
 
 // What is printed of the fault with which a run ends, or of none.
 fn printed<R: Threads + Wait + Sync>(rt: &R, alloc: Global, doing: Doing) -> Option<String> {
-    let plan = build_plan(alloc, &PlanNode::test(alloc, ("t", "t"), "t")).ok()?;
-    let engine = Hierarchical::new(alloc, plan, doing).ok()?;
-    match execute(rt, alloc, &engine, 1, 4) {
-        Ok(_) => format!(in alloc; "done").ok(),
-        Err(fault) => format!(in alloc; "{fault}").ok(),
+    let engine = engine_of(alloc, &PlanNode::test(alloc, ("t", "t"), "t"), doing)?;
+    match fault_of(rt, alloc, &engine) {
+        None => format!(in alloc; "done").ok(),
+        Some(fault) => format!(in alloc; "{fault}").ok(),
     }
 }
 

@@ -1,12 +1,11 @@
 //! Units with as many levels as a plan may have, and with many nodes.
 use crate::bodies::seen;
+use crate::calls::{engine_of, results_of};
 use crate::planned::Silent;
 use std::alloc::{AllocError, Global};
 use std::sync::Wait;
 use std::thread::Threads;
-use tk_engine::execute;
-use tk_engine_hierarchical::Hierarchical;
-use tk_plan::{PlanNode, build_plan};
+use tk_plan::PlanNode;
 use tk_query::Lifecycle;
 use tk_record_columns::Statistics;
 
@@ -16,15 +15,8 @@ fn statistics<R: Threads + Wait + Sync>(
     alloc: Global,
     root: &PlanNode<'_>,
 ) -> Option<Statistics> {
-    let plan = build_plan(alloc, root).ok()?;
-    let engine = Hierarchical::new(alloc, plan, Silent).ok()?;
-    let ran = execute(rt, alloc, &engine, 1, 64);
-    let found = match &ran {
-        Ok(results) => seen(alloc, results),
-        Err(_) => None,
-    };
-    drop(ran);
-    match found? {
+    let results = results_of(rt, alloc, &engine_of(alloc, root, Silent)?, 1)?;
+    match seen(alloc, &results)? {
         (Lifecycle::Kept, statistics) => Some(statistics),
         _ => None,
     }

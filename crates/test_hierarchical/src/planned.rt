@@ -1,13 +1,14 @@
 //! What a plan says of an engine's nodes, beside what its tests do: the record is that of the same plan
 //! scripted, and so is the report, whatever the number of workers.
+use crate::calls::{engine_of, results_of};
 use std::alloc::{AllocError, Global};
 use std::sync::Wait;
 use std::thread::Threads;
-use test_support::is_written_as;
-use tk_engine::{Results, Scripted, Sink, UnitFault, execute};
-use tk_engine_hierarchical::{Hierarchical, Outcome, Reporter, Tests, UnitRun};
+use test_support::{is_written_as, record_of};
+use tk_engine::{Results, Scripted, Sink, UnitFault};
+use tk_engine_hierarchical::{Outcome, Reporter, Tests, UnitRun};
 use tk_events::Status;
-use tk_plan::{ExecutionMode, Plan, PlanNode, build_plan};
+use tk_plan::{ExecutionMode, PlanNode, build_plan};
 use tk_report_text::write_report_of;
 use tk_streams::ByteTarget;
 
@@ -68,8 +69,16 @@ fn root(alloc: Global) -> Result<PlanNode<'static>, AllocError> {
     PlanNode::container(alloc, ("engine", "p"), "p").child(container(alloc)?)
 }
 
-fn plan(alloc: Global) -> Option<Plan> {
-    build_plan(alloc, &root(alloc).ok()?).ok()
+// The results of a run of the plan whose tests have bodies.
+fn of_bodies<R: Threads + Wait + Sync>(rt: &R, alloc: Global, workers: usize) -> Option<Results> {
+    let engine = engine_of(alloc, &root(alloc).ok()?, Silent)?;
+    results_of(rt, alloc, &engine, workers)
+}
+
+// The results of a run of the plan's scripts.
+fn of_scripts<R: Threads + Wait + Sync>(rt: &R, alloc: Global, workers: usize) -> Option<Results> {
+    let plan = build_plan(alloc, &root(alloc).ok()?).ok()?;
+    results_of(rt, alloc, &Scripted::new(plan), workers)
 }
 
 // The record of a run by one worker. Each stamp is a position in the root's script.
@@ -98,40 +107,25 @@ E|0|0|16|finish|ok
 "
 }
 
-fn is_recorded(alloc: Global, results: &Results) -> bool {
-    is_written_as(alloc, results.recorded(), record())
-}
-
-fn runs_bodies<R: Threads + Wait + Sync>(rt: &R, alloc: Global) -> Option<bool> {
-    let engine = Hierarchical::new(alloc, plan(alloc)?, Silent).ok()?;
-    let ran = execute(rt, alloc, &engine, 1, 4);
-    let found = match &ran {
-        Ok(results) => is_recorded(alloc, results),
-        Err(_) => false,
-    };
-    drop(ran);
-    Some(found)
-}
-
-fn runs_script<R: Threads + Wait + Sync>(rt: &R, alloc: Global) -> Option<bool> {
-    let engine = Scripted::new(plan(alloc)?);
-    let ran = execute(rt, alloc, &engine, 1, 4);
-    let found = match &ran {
-        Ok(results) => is_recorded(alloc, results),
-        Err(_) => false,
-    };
-    drop(ran);
-    Some(found)
+fn has_record(alloc: Global, results: Option<Results>) -> bool {
+    match &results {
+        Some(results) => is_written_as(alloc, results.recorded(), record()),
+        None => false,
+    }
 }
 
 #[test]
-fn what_the_plan_says_of_bodies(rt: HostRuntime) {
-    assert!(rt; runs_bodies(&rt, rt.alloc()) == Some(true));
+fn the_same_record_of_bodies_and_of_scripts(rt: HostRuntime) {
+    let alloc = rt.alloc();
+    assert!(rt; has_record(alloc, of_bodies(&rt, alloc, 1)));
+    assert!(rt; has_record(alloc, of_scripts(&rt, alloc, 1)));
 }
 
+// The record of a run has a text, and is read from it.
 #[test]
-fn the_same_plan_scripted(rt: HostRuntime) {
-    assert!(rt; runs_script(&rt, rt.alloc()) == Some(true));
+fn the_record_of_a_run_is_read_again(rt: HostRuntime) {
+    let read = record_of(rt.alloc(), record());
+    assert!(rt; matches!(&read, Some(read) if is_written_as(rt.alloc(), read, record())));
 }
 
 // The report of each run of the plan.
@@ -170,42 +164,27 @@ files 3
 "
 }
 
-fn is_reported(alloc: Global, results: &Results) -> bool {
+fn has_report(alloc: Global, results: Option<Results>) -> bool {
     let mut target = ByteTarget::new(alloc);
-    write_report_of(alloc, results.recorded(), &mut target).is_ok() && target.bytes() == report()
-}
-
-fn reports_bodies<R: Threads + Wait + Sync>(rt: &R, alloc: Global, workers: usize) -> Option<bool> {
-    let engine = Hierarchical::new(alloc, plan(alloc)?, Silent).ok()?;
-    let ran = execute(rt, alloc, &engine, workers, 4);
-    let found = match &ran {
-        Ok(results) => is_reported(alloc, results),
-        Err(_) => false,
-    };
-    drop(ran);
-    Some(found)
-}
-
-fn reports_script<R: Threads + Wait + Sync>(rt: &R, alloc: Global, workers: usize) -> Option<bool> {
-    let engine = Scripted::new(plan(alloc)?);
-    let ran = execute(rt, alloc, &engine, workers, 4);
-    let found = match &ran {
-        Ok(results) => is_reported(alloc, results),
-        Err(_) => false,
-    };
-    drop(ran);
-    Some(found)
+    match &results {
+        Some(results) => {
+            write_report_of(alloc, results.recorded(), &mut target).is_ok()
+                && target.bytes() == report()
+        }
+        None => false,
+    }
 }
 
 #[test]
 fn the_same_report_by_any_number_of_workers(rt: HostRuntime) {
+    let alloc = rt.alloc();
     for workers in [1, 4, 15] {
         assert!(rt;
-            reports_bodies(&rt, rt.alloc(), workers) == Some(true),
+            has_report(alloc, of_bodies(&rt, alloc, workers)),
             "{workers}"
         );
         assert!(rt;
-            reports_script(&rt, rt.alloc(), workers) == Some(true),
+            has_report(alloc, of_scripts(&rt, alloc, workers)),
             "{workers}"
         );
     }

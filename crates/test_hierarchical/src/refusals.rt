@@ -1,13 +1,13 @@
 //! Runs of bodies, with ample memory and with any one request for memory refused. What is refused
 //! is asked once more, and then it has to succeed.
 use crate::bodies::{is_recorded, sample_engine};
+use crate::calls::skip_test;
 use std::alloc::Global;
 use std::sync::Wait;
 use std::thread::Threads;
 use test_support::{Ending, is_done, refused_if};
 use tk_engine::{RunFault, Sink, SinkFault, UnitFault, execute};
 use tk_engine_hierarchical::{Hierarchical, Outcome, Reporter, Tests, UnitRun};
-use tk_ids::{Segment, Text};
 use tk_plan::{PlanNode, build_plan};
 use tk_queue::RegisterFault;
 
@@ -59,14 +59,8 @@ impl Tests for Insisting {
         _key: u32,
         reporter: &mut Reporter<'_, S, K>,
     ) -> Result<Outcome, UnitFault> {
-        let segment = Segment::new(alloc, "d", "1")?;
-        let reason = Text::copy(alloc, "off")?;
-        let again = Text::copy(alloc, "off")?;
-        if reporter
-            .skip_test(rt, alloc, &segment, "d", reason)
-            .is_err()
-        {
-            reporter.skip_test(rt, alloc, &segment, "d", again)?;
+        if skip_test(rt, alloc, ("d", "1"), "d", reporter).is_err() {
+            skip_test(rt, alloc, ("d", "1"), "d", reporter)?;
         }
         Ok(Outcome::Successful)
     }

@@ -1,23 +1,18 @@
 //! The run of an engine of tests, whose contract says what holds of its record.
 use crate::bodies::{is_recorded, sample_engine};
+use crate::calls::engine_of;
 use std::alloc::Global;
 use std::sync::Wait;
 use std::sync::atomic::{AtomicU64, Ordering};
 use std::thread::Threads;
 use tk_engine::{RunFault, Sink, UnitFault};
-use tk_engine_hierarchical::{Hierarchical, Outcome, Reporter, Tests, UnitRun, run_tests};
-use tk_plan::{PlanNode, build_plan};
+use tk_engine_hierarchical::{Outcome, Reporter, Tests, UnitRun, run_tests};
+use tk_plan::PlanNode;
 
 // Whether a run by one worker has the record of the sample.
 fn has_record<R: Threads + Wait + Sync>(rt: &R, alloc: Global) -> Option<bool> {
-    let engine = sample_engine(alloc)?;
-    let ran = run_tests(rt, alloc, &engine, 1, 4);
-    let found = match &ran {
-        Ok(results) => is_recorded(alloc, results),
-        Err(_) => false,
-    };
-    drop(ran);
-    Some(found)
+    let results = run_tests(rt, alloc, &sample_engine(alloc)?, 1, 4).ok()?;
+    Some(is_recorded(alloc, &results))
 }
 
 #[test]
@@ -80,8 +75,8 @@ fn how_it_ends<R: Threads + Wait + Sync>(
     runs: &AtomicU64,
     fails: bool,
 ) -> Option<Ending> {
-    let plan = build_plan(alloc, &PlanNode::test(alloc, ("t", "t"), "t")).ok()?;
-    let engine = Hierarchical::new(alloc, plan, Counted { runs, fails }).ok()?;
+    let root = PlanNode::test(alloc, ("t", "t"), "t");
+    let engine = engine_of(alloc, &root, Counted { runs, fails })?;
     let ran = run_tests(rt, alloc, &engine, 1, 4);
     let found = match &ran {
         Ok(_) => Ending::Done,
