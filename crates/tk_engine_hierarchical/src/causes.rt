@@ -8,7 +8,7 @@ use tk_engine_unit_events::Outcome;
 use tk_events::{Event, Payload};
 use tk_queue_session::SendFault;
 
-/// The cause of a fault: the fault itself, but of an event that the sink refused without its payload.
+/// The cause of a fault: the fault itself; where it has the refused event, without the payload.
 pub(crate) fn cause_of(fault: &UnitFault) -> UnitFault
     ensures { result ≡ cause_of fault.now }
 {
@@ -46,7 +46,7 @@ fn without_payload(event: &Event) -> Event
     }
 }
 
-/// How a body ends that answers this, where a child that had begun left a fault.
+/// How a body ends that answers this: with the fault of a child, where it dropped one.
 pub(crate) fn ending(
     answer: Result<Outcome, UnitFault>,
     child_fault: Option<UnitFault>,

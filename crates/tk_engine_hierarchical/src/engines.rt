@@ -98,7 +98,6 @@ impl<T: Tests + Sync> Engine for Hierarchical<T> {
         let _lease = run_unit::<R, S, Brand, T>(
             rt,
             alloc,
-            self.shape.plan(),
             &self.tests,
             &self.shape,
             unit,

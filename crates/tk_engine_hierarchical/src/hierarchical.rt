@@ -93,7 +93,7 @@ fn run_tree<R: Wait, S: Sink, K: UnitRun, T: Tests>(
 }
 
 // Answers the fault at which the unit stopped, or `OUT_OF_ORDER` where it isn't complete.
-fn ending(played: Result<(), UnitFault>, is_complete: bool) -> Result<(), UnitFault>
+fn unit_result(played: Result<(), UnitFault>, is_complete: bool) -> Result<(), UnitFault>
     ensures complete { OnOk result (IsTrue is_complete) }
     ensures fault { (why : UnitFault) → played ≡ Err why → result ≡ Err why }
     ensures own { (why : UnitFault) → result ≡ Err why
@@ -112,31 +112,30 @@ fn ending(played: Result<(), UnitFault>, is_complete: bool) -> Result<(), UnitFa
 pub(crate) fn run_unit<'a, R: Wait, S: Sink, K: UnitRun, T: Tests>(
     rt: &R,
     alloc: Global,
-    plan: &Plan,
     tests: &T,
     shape: &'a Shape,
     unit: u32,
     lease: Lease<'a, S>,
     ran: &mut Result<(), UnitFault>,
 ) -> Lease<'a, S>
-    requires script { unit < length (units_of (forest plan.now.nodes)) }
+    requires script { unit < length (units_of (forest shape.now.plan.nodes)) }
     requires name { lease.sink.ghost_name ≡ K.name }
     requires start { S.view lease.sink.now ≡ K.unit.start }
     requires since { K.since ≡ K.unit.start }
     requires frame { frame shape.now ≡ K.unit.frame }
     requires keys { keys_in shape.now unit ≡ K.unit.keys }
-    requires may { (e : Event) → FitsPlan plan.now (T.may_end tests.now) e → K.unit.may_step e }
+    requires may { (e : Event) → FitsPlan shape.now.plan (T.may_end tests.now) e → K.unit.may_step e }
     requires is_unit { unit < count_units shape.now }
     requires table { K.unit.start.table ≡ K.unit.frame.table }
-    requires plan_table { plan.now.table ≡ K.unit.frame.table }
     ensures name { result.sink.ghost_name ≡ K.name }
     ensures same { IsSameSender K.unit.start (S.view result.sink.now) }
     ensures some { Extends K.unit.start (S.view result.sink.now) }
     ensures run { OnOk ran.new
         (IsComplete K.unit (S.view result.sink.now)) }
     ensures tree { OnOk ran.new
-        (RunsUnitTree plan.now (T.may_run tests.now) unit K.unit.start (S.view result.sink.now)) }
+        (RunsUnitTree shape.now.plan (T.may_run tests.now) unit K.unit.start (S.view result.sink.now)) }
 {
+    let plan = shape.plan();
     // For the proof: what every plan is.
     let _table = plan.table();
     let tree = plan.unit_tree(unit);
@@ -147,6 +146,6 @@ pub(crate) fn run_unit<'a, R: Wait, S: Sink, K: UnitRun, T: Tests>(
     let played = run_tree(rt, alloc, tests, tree.top, tree.below, &mut planned);
     let PlannedUnit { events, .. } = planned;
     let (lease, is_complete) = events.end();
-    *ran = ending(played, is_complete);
+    *ran = unit_result(played, is_complete);
     lease
 }

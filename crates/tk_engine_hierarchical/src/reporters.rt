@@ -25,8 +25,8 @@ use tk_ids::{DType, Descriptor, Segment, Text};
 /// Publishes what belongs to the test or container that runs.
 ///
 /// It emits each event at once, only for what runs, and finishes what it starts if no call fails.
-/// Where a child that had begun failed, and the body goes on and answers an outcome, the body fails
-/// with the cause of the first such fault: what began can't be taken back.
+/// Where a child that had begun left a fault, and the body drops it and answers an outcome, the unit
+/// still stops, with the cause of the first such fault: what began can't be taken back.
 #[derive(Drop)]
 pub struct Reporter<'a, S: Sink, K: UnitRun> {
     pub(crate) events: UnitEvents<'a, S, K>,
@@ -233,9 +233,13 @@ impl<'a, S: Sink, K: UnitRun> Reporter<'a, S, K> {
     /// JUnit: `dynamicTestRegistered` and what follows it.
     ///
     /// # Errors
-    /// `Own(TWICE)` where a static descriptor has the id already, or one that the unit registered,
-    /// and then nothing is emitted; the faults of the sink and of the body, which end
-    /// the unit, once the child has begun, also where the caller drops them.
+    /// - `Own(TWICE)` where a static descriptor has the id, or one that the unit registered.
+    ///   Nothing is emitted then.
+    /// - `Own(OUT_OF_ORDER)` where no key runs; `Memory`; `Sink` where the id is too long, or the
+    ///   sink refuses.
+    /// - The fault of the body.
+    ///
+    /// Once the child has begun, a fault ends the unit, also where the caller drops it.
     pub fn dynamic_test<R: Wait, B: Body>(
         &mut self,
         rt: &R,

@@ -28,9 +28,9 @@ pub trait Tests {
     /// The keys of a plan's static nodes are their numbers in preorder. `execute` calls this from
     /// the thread of the worker that drew the test's unit, right after the test's start. The test's
     /// finish has the outcome. What the test publishes goes through `reporter`.
-    /// It is called once for each node that is a test, where the plan skips neither the node nor
-    /// one above it. A test on the spine, whose children are units of their own, has no body: it
-    /// finishes as the plan says.
+    /// It is called once for each static node that is a test, where the plan skips neither the node
+    /// nor one above it. The plan's dynamic nodes, and a test on the spine, whose children are units
+    /// of their own, have no body: they finish as the plan says.
     ///
     /// # Errors
     /// What `reporter` answered, or `Own(n)` where the engine can't go on. A test that fails is no

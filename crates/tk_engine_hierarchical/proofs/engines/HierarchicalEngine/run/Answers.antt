@@ -1,12 +1,12 @@
-use Rattle.std.proofs.Common.{rules}
+use Rattle.std.proofs.Common.{refl, rules}
 use Rattle.tk_engine_hierarchical.specs.Laws.{test_rules}
 use Rattle.tk_engine_hierarchical.proofs.TreeRuns.{ran_unit}
 use Rattle.tk_engine_hierarchical.proofs.engines.HierarchicalEngine.run.Goals as goal
 
 pub returns-clause-ok : goal.returns-clause-ok
 returns-clause-ok g c =
-    ran_unit c.run_unit-lease.new.ran c.plan.result.now c.args.self.now.shape
+    ran_unit c.run_unit-lease.new.ran c.args.self.now.shape.plan c.args.self.now.shape
     (test_rules (g.T.Tests.may_end c.args.self.now.tests)
     (g.T.Tests.may_run c.args.self.now.tests)) c.args.unit (g.S.Sink.view c.args.sink.now)
     (g.S.Sink.view c.sink-1.given.0)
-    c.plan.ensures c.requires.table (search rules) (search rules)
+    refl c.requires.table (search rules) (search rules)

@@ -7,8 +7,8 @@ ghosts-run_unit g a = record {
   unit = record {
     frame = frame a.shape.now;
     keys = keys_in a.shape.now a.unit;
-    may_step = λ e. FitsPlan a.plan.now (λ key outcome. g.T.Tests.may_end a.tests.now key outcome)
-        e;
+    may_step = λ e. FitsPlan a.shape.now.plan
+        (λ key outcome. g.T.Tests.may_end a.tests.now key outcome) e;
     start = g.S.Sink.view a.lease.sink.now;
   };
   since = g.S.Sink.view a.lease.sink.now;
