@@ -12,6 +12,7 @@ pub use Rattle.tk_queue_session.specs.Tokens
 pub use Rattle.tk_queue_session.specs.Receivers
 pub use Rattle.tk_queue_session.specs.Closing
 pub use Rattle.tk_queue_session.specs.Emission
+pub use Rattle.tk_report_text.specs.Labels
 pub use Rattle.tk_engine_execute.specs.Run
 pub use Rattle.tk_engine_execute.specs.Engines
 pub use Rattle.tk_engine_execute.specs.Grown

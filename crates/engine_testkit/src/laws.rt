@@ -1,4 +1,6 @@
-//! Laws of runs: of an engine of tests, of one by hand, and of what `lifecycle` answers.
+//! Laws of runs: of a plan's engine, of an engine of tests, of one by hand, and of what
+//! `lifecycle` answers.
+pub use tk_engine::laws::listener;
 pub use tk_engine_execute::laws::each_worker_has_its_list;
 pub use tk_engine_hierarchical::laws::{lifecycle, nesting, outcomes, steps, trees, turns};
 pub use tk_engine_lifecycle::laws::{runs_keep_lifecycle, unit_events};
