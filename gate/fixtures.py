@@ -1,6 +1,6 @@
 """What the modules of the gate share: the proved program, commands, a folder, and tables.
 
-A module `gate/SUBJECT/test_NAME.py` has classes of `unittest.TestCase`. `gate/run` runs it, and counts its cases: each row of a test with
+A module `test_NAME.py` has classes of `unittest.TestCase`. `gate/run` runs it, and counts its cases: each row of a test with
 `@parameterized`, each `subTest`, and each test that has neither.
 """
 
@@ -22,6 +22,9 @@ TOP = os.path.dirname(os.path.dirname(os.path.realpath(__file__)))
 
 PROGRAM = os.environ.get("TESTKIT_PROGRAM") or f"{TOP}/crates/testkit/out/testkit"
 """The proved program, or the one that `gate/run --program` names."""
+
+TEST_CRATES = ["test_runs", "test_questions", "test_records", "test_sessions", "test_plans", "test_hierarchical", "test_example_engine"]
+"""The crates with tests; those that take longest come first."""
 
 SECONDS = 300
 """How many seconds a command may take: far more than any needs."""

@@ -2,11 +2,10 @@
 
 `ROWS` is the table: for each command line and input the seconds of processor time, the most memory at one time, the requests for memory,
 the reads and the writes that it may take. `count.c` is put before the C library, and counts all but the seconds. These counts are the same
-on each machine, so a limit is a fifth above what was counted, or one; that of the requests of a plan of many nodes is a twentieth above,
-since it has to show one request more for each node, of containers of nine a fiftieth: each may not ask for more room twice. The least
-memory of a small plan shows how many places its queue has. The seconds were measured on one machine: a limit is four times what they were,
-twice for a machine half as fast, and twice for what the program may need more. Where a run waits, its seconds by the clock have a limit
-too.
+on each machine, so a limit is a fifth above what was counted, or one. Two limits are tighter: of the requests of many nodes a twentieth, so
+that one more for each node is met; of containers of nine a fiftieth, so that room asked for twice is met. The least memory of a small plan
+shows how many places its queue has. The seconds were measured on one machine: a limit is four times what they were, twice for a machine
+half as fast, and twice for what the program may need more. Where a run waits, its seconds by the clock have a limit too.
 
 `BESIDE` has questions of which one may take at most some times as long as the other, whatever the machine.
 """
@@ -110,7 +109,7 @@ def plan_of_containers() -> bytes:
     return plan(node(',"children":[' + ",".join(below) + "]")).replace(b'"name":"n"', b'"name":"%s"' % (b"n" * 100))
 
 
-def plan_of_full_containers() -> bytes:
+def plan_of_containers_of_nine() -> bytes:
     """A plan of 5,000 containers below its root, each with nine tests below it, for which room is asked at once."""
     tests = ",".join(node("", str(number), "test") for number in range(9))
     return plan(node(',"children":[' + ",".join(node(f',"children":[{tests}]', str(number)) for number in range(5_000)) + "]"))
@@ -299,7 +298,7 @@ ROWS = [
     row("plan/a long text with escapes", "run", lambda: plan_of_a_text("\\n" * 8_000_000), Costs(1.5, 47_900, 190, 299, 3), "skipped 0\n"),
     row("plan/nodes", "run", lambda: plan_of_nodes(65_000, ""), Costs(1.5, 102_600, 819_400, 72, 56), "skipped 0\n"),
     row("plan/containers with long names", "run", plan_of_containers, Costs(1.6, 80_600, 798_400, 125, 40), "skipped 0\n"),
-    row("plan/containers of nine", "run", plan_of_full_containers, Costs(1.6, 79_600, 673_500, 52, 51), "skipped 0\n"),
+    row("plan/containers of nine", "run", plan_of_containers_of_nine, Costs(1.6, 79_600, 673_500, 52, 51), "skipped 0\n"),
     row("plan/dynamic nodes", "run", lambda: plan_of_nodes(65_000, "", "dynamic"), Costs(1.8, 102_600, 1_092_600, 72, 103), "skipped 0\n"),
     row("plan/units", "run", lambda: plan_of_nodes(65_000, ',"mode":"concurrent"'), Costs(1.8, 111_200, 955_900, 96, 56), "skipped 0\n"),
     row("plan/one long unit of 15", "run --workers 15", one_long_unit, Costs(3, 212_300, 1_200_600, 57, 4), "skipped 0\nstarted 16\n"),

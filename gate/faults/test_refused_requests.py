@@ -18,7 +18,7 @@ import unittest
 from dataclasses import dataclass, replace
 from typing import Callable, Dict, FrozenSet, List, Optional, Sequence, Set, Tuple
 
-from fixtures import PROGRAM, TOP, WithProgram, parameterized
+from fixtures import PROGRAM, TEST_CRATES, TOP, WithProgram, parameterized
 
 sys.path.append(f"{TOP}/gate/cases")
 
@@ -44,8 +44,6 @@ MOST_REQUESTS = 5_000
 
 ROUNDS = 4
 """How many rounds a sweep has at most: a unit makes few requests, and the schedule may put others before them each time."""
-
-TEST_CRATES = ("test_records", "test_questions", "test_sessions", "test_plans", "test_runs", "test_hierarchical", "test_example_engine")
 
 OUT_OF_MEMORY = re.compile(rb"testkit: out of memory\n")
 NO_THREAD = re.compile(rb"testkit: no thread\n")
