@@ -11,7 +11,7 @@ use tk_engine::{Results, RunFault, Sink, UnitFault};
 use tk_engine_hierarchical::{
     Body, Hierarchical, OUT_OF_ORDER, Outcome, Reporter, TWICE, Tests, UnitRun,
 };
-use tk_ids::{Segment, Text};
+use tk_ids::Text;
 use tk_plan::{ExecutionMode, LockMode, PlanNode};
 use tk_query::Lifecycle;
 use tk_record_columns::Statistics;
@@ -41,11 +41,9 @@ impl Body for Group {
         alloc: Global,
         reporter: &mut Reporter<'_, S, K>,
     ) -> Result<Outcome, UnitFault> {
-        let first = Segment::new(alloc, "d", "1")?;
-        let second = Segment::new(alloc, "d", "2")?;
-        reporter.dynamic_test(rt, alloc, &first, "one", &Failing)?;
+        run_test(rt, alloc, ("d", "1"), "one", &Failing, reporter)?;
         reporter.set_stamp(500_000);
-        reporter.skip_test(rt, alloc, &second, "two", Text::copy(alloc, "off")?)?;
+        skip_test(rt, alloc, ("d", "2"), "two", reporter)?;
         Ok(Outcome::Successful)
     }
 }
@@ -223,7 +221,7 @@ pub(crate) fn is_recorded(alloc: Global, results: &Results) -> bool {
 
 // Whether a run by one worker has that record.
 fn has_record<R: Threads + Wait + Sync>(rt: &R, alloc: Global) -> Option<bool> {
-    let results = results_of(rt, alloc, &sample_engine(alloc)?, 1)?;
+    let results = results_of(rt, alloc, sample_engine(alloc)?, 1)?;
     Some(is_recorded(alloc, &results))
 }
 
@@ -245,7 +243,7 @@ fn run<R: Threads + Wait + Sync>(
     alloc: Global,
     workers: usize,
 ) -> Option<(Lifecycle, Statistics)> {
-    let results = results_of(rt, alloc, &sample_engine(alloc)?, workers)?;
+    let results = results_of(rt, alloc, sample_engine(alloc)?, workers)?;
     seen(alloc, &results)
 }
 
@@ -270,10 +268,13 @@ fn bodies_run_and_keep_the_lifecycle(rt: HostRuntime) {
 
 // Which unit fails, and with which number.
 fn own_fault<R: Threads + Wait + Sync>(rt: &R, alloc: Global, then: Then) -> Option<(u32, u32)> {
-    match fault_of(rt, alloc, &engine(alloc, then)?)? {
-        RunFault::Engine(unit, UnitFault::Own(number)) => Some((unit, number)),
+    let fault = fault_of(rt, alloc, engine(alloc, then)?);
+    let found = match &fault {
+        Some(RunFault::Engine(unit, UnitFault::Own(number))) => Some((*unit, *number)),
         _ => None,
-    }
+    };
+    drop(fault);
+    found
 }
 
 #[test]
@@ -341,7 +342,7 @@ fn writers(alloc: Global) -> Option<Hierarchical<Alone>> {
 
 // How many tests ran alone that write one resource, by four workers.
 fn count_alone<R: Threads + Wait + Sync>(rt: &R, alloc: Global) -> Option<u64> {
-    let results = results_of(rt, alloc, &writers(alloc)?, 4)?;
+    let results = results_of(rt, alloc, writers(alloc)?, 4)?;
     Some(seen(alloc, &results)?.1.succeeded)
 }
 

@@ -19,22 +19,22 @@ pub(crate) fn engine_of<T: Tests + Drop>(
 }
 
 /// The results of a run by some workers; none where it failed.
-pub(crate) fn results_of<R: Threads + Wait + Sync, E: Engine>(
+pub(crate) fn results_of<R: Threads + Wait + Sync, E: Engine + Drop>(
     rt: &R,
     alloc: Global,
-    engine: &E,
+    engine: E,
     workers: usize,
 ) -> Option<Results> {
-    execute(rt, alloc, engine, workers, 4).ok()
+    execute(rt, alloc, &engine, workers, 4).ok()
 }
 
 /// The fault with which a run by one worker ended; none where it didn't fail.
-pub(crate) fn fault_of<R: Threads + Wait + Sync, E: Engine>(
+pub(crate) fn fault_of<R: Threads + Wait + Sync, E: Engine + Drop>(
     rt: &R,
     alloc: Global,
-    engine: &E,
+    engine: E,
 ) -> Option<RunFault> {
-    execute(rt, alloc, engine, 1, 64).err()
+    execute(rt, alloc, &engine, 1, 64).err()
 }
 
 /// Publishes an entry of these pairs.

@@ -19,10 +19,10 @@ impl Body for Nameless {
         _alloc: Global,
         reporter: &mut Reporter<'_, S, K>,
     ) -> Result<Outcome, UnitFault> {
-        match reporter.descriptor() {
-            Ok(_) => Ok(Outcome::Failed(None)),
-            Err(_) => Ok(Outcome::Successful),
+        if reporter.descriptor().is_ok() {
+            return Ok(Outcome::Failed(None));
         }
+        Ok(Outcome::Successful)
     }
 }
 
@@ -72,7 +72,7 @@ fn engine(alloc: Global) -> Option<Hierarchical<Named>> {
 
 // Whether a run by one worker has that record.
 fn has_record<R: Threads + Wait + Sync>(rt: &R, alloc: Global) -> Option<bool> {
-    let results = results_of(rt, alloc, &engine(alloc)?, 1)?;
+    let results = results_of(rt, alloc, engine(alloc)?, 1)?;
     Some(is_written_as(alloc, results.recorded(), record()))
 }
 

@@ -7,15 +7,17 @@ use tk_engine::{Sink, UnitFault};
 use tk_engine_hierarchical::{Body, Outcome, Reporter, Tests, UnitRun};
 use tk_plan::PlanNode;
 
-// The body of a dynamic test, which fails.
+// The body of a dynamic test.
 #[derive(Clone, Copy)]
-enum Failing {
-    Own,
+enum Below {
+    Succeeds,
+    /// Fails with 9.
+    Fails,
     /// Publishes an entry whose keys don't increase.
-    Unlawful,
+    PublishesUnlawful,
 }
 
-impl Body for Failing {
+impl Body for Below {
     fn run<R: Wait, S: Sink, K: UnitRun>(
         &self,
         rt: &R,
@@ -23,8 +25,9 @@ impl Body for Failing {
         reporter: &mut Reporter<'_, S, K>,
     ) -> Result<Outcome, UnitFault> {
         match self {
-            Failing::Own => Err(UnitFault::Own(9)),
-            Failing::Unlawful => {
+            Below::Succeeds => Ok(Outcome::Successful),
+            Below::Fails => Err(UnitFault::Own(9)),
+            Below::PublishesUnlawful => {
                 report(rt, alloc, &[("k", "v"), ("k", "w")], reporter)?;
                 Ok(Outcome::Successful)
             }
@@ -34,7 +37,7 @@ impl Body for Failing {
 
 // A body that runs a dynamic test, and drops its fault.
 #[derive(Drop)]
-struct Dropping(Failing);
+struct Dropping(Below);
 
 impl Body for Dropping {
     fn run<R: Wait, S: Sink, K: UnitRun>(
@@ -43,7 +46,7 @@ impl Body for Dropping {
         alloc: Global,
         reporter: &mut Reporter<'_, S, K>,
     ) -> Result<Outcome, UnitFault> {
-        let _dropped = run_test(rt, alloc, ("d", "1"), "d", &self.0, reporter);
+        drop(run_test(rt, alloc, ("d", "1"), "d", &self.0, reporter));
         Ok(Outcome::Successful)
     }
 }
@@ -52,11 +55,11 @@ impl Body for Dropping {
 #[derive(Clone, Copy)]
 enum Doing {
     /// Drops the fault.
-    Drops(Failing),
+    Drops(Below),
     /// A dynamic container drops the fault of its test, and the test that of the container.
-    DropsBelow(Failing),
+    DropsBelow(Below),
     /// Drops the fault, and answers another one.
-    DropsAndFails(Failing),
+    DropsAndFails(Below),
     /// Drops the fault of a dynamic test whose id is taken.
     DropsTwice,
 }
@@ -66,8 +69,8 @@ fn register_twice<R: Wait, S: Sink, K: UnitRun>(
     alloc: Global,
     reporter: &mut Reporter<'_, S, K>,
 ) -> Result<Outcome, UnitFault> {
-    run_test(rt, alloc, ("d", "1"), "d", &Outcome::Successful, reporter)?;
-    let _dropped = run_test(rt, alloc, ("d", "1"), "d", &Outcome::Successful, reporter);
+    run_test(rt, alloc, ("d", "1"), "d", &Below::Succeeds, reporter)?;
+    drop(run_test(rt, alloc, ("d", "1"), "d", &Below::Succeeds, reporter));
     Ok(Outcome::Successful)
 }
 
@@ -80,20 +83,14 @@ impl Tests for Doing {
         reporter: &mut Reporter<'_, S, K>,
     ) -> Result<Outcome, UnitFault> {
         match *self {
-            Doing::Drops(failing) => Dropping(failing).run(rt, alloc, reporter),
-            Doing::DropsBelow(failing) => {
-                let _dropped = run_container(
-                    rt,
-                    alloc,
-                    ("d", "c"),
-                    "c",
-                    &Dropping(failing),
-                    reporter,
-                );
+            Doing::Drops(below) => Dropping(below).run(rt, alloc, reporter),
+            Doing::DropsBelow(below) => {
+                let body = Dropping(below);
+                drop(run_container(rt, alloc, ("d", "c"), "c", &body, reporter));
                 Ok(Outcome::Successful)
             }
-            Doing::DropsAndFails(failing) => {
-                let _outcome = Dropping(failing).run(rt, alloc, reporter)?;
+            Doing::DropsAndFails(below) => {
+                let _outcome = Dropping(below).run(rt, alloc, reporter)?;
                 Err(UnitFault::Own(7))
             }
             Doing::DropsTwice => register_twice(rt, alloc, reporter),
@@ -104,7 +101,7 @@ impl Tests for Doing {
 // What is printed of the fault with which a run ends, or of none.
 fn printed<R: Threads + Wait + Sync>(rt: &R, alloc: Global, doing: Doing) -> Option<String> {
     let engine = engine_of(alloc, &PlanNode::test(alloc, ("t", "t"), "t"), doing)?;
-    match fault_of(rt, alloc, &engine) {
+    match fault_of(rt, alloc, engine) {
         None => format!(in alloc; "done").ok(),
         Some(fault) => format!(in alloc; "{fault}").ok(),
     }
@@ -123,22 +120,29 @@ fn is_printed<R: Threads + Wait + Sync>(
 fn a_unit_ends_with_the_dropped_fault(rt: HostRuntime) {
     let alloc = rt.alloc();
     let own = "unit 0 failed: engine fault 9";
-    assert!(rt; is_printed(&rt, alloc, Doing::Drops(Failing::Own), own));
-    assert!(rt; is_printed(&rt, alloc, Doing::DropsBelow(Failing::Own), own));
+    assert!(rt; is_printed(&rt, alloc, Doing::Drops(Below::Fails), own));
+    assert!(rt; is_printed(&rt, alloc, Doing::DropsBelow(Below::Fails), own));
 }
 
 #[test]
 fn a_unit_ends_with_the_dropped_fault_of_the_sink(rt: HostRuntime) {
     let alloc = rt.alloc();
     let unlawful = "unit 0 failed: event is unlawful";
-    assert!(rt; is_printed(&rt, alloc, Doing::Drops(Failing::Unlawful), unlawful));
-    assert!(rt; is_printed(&rt, alloc, Doing::DropsBelow(Failing::Unlawful), unlawful));
+    assert!(rt; is_printed(&rt, alloc, Doing::Drops(Below::PublishesUnlawful), unlawful));
+    assert!(rt;
+        is_printed(
+            &rt,
+            alloc,
+            Doing::DropsBelow(Below::PublishesUnlawful),
+            unlawful
+        )
+    );
 }
 
 #[test]
 fn a_later_fault_is_handed_on(rt: HostRuntime) {
     let later = "unit 0 failed: engine fault 7";
-    assert!(rt; is_printed(&rt, rt.alloc(), Doing::DropsAndFails(Failing::Own), later));
+    assert!(rt; is_printed(&rt, rt.alloc(), Doing::DropsAndFails(Below::Fails), later));
 }
 
 // It had not begun.

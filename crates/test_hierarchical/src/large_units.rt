@@ -15,7 +15,7 @@ fn statistics<R: Threads + Wait + Sync>(
     alloc: Global,
     root: &PlanNode<'_>,
 ) -> Option<Statistics> {
-    let results = results_of(rt, alloc, &engine_of(alloc, root, Silent)?, 1)?;
+    let results = results_of(rt, alloc, engine_of(alloc, root, Silent)?, 1)?;
     match seen(alloc, &results)? {
         (Lifecycle::Kept, statistics) => Some(statistics),
         _ => None,

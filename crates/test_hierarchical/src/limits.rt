@@ -147,11 +147,14 @@ fn run<R: Threads + Wait + Sync>(
     doing: Doing,
 ) -> Option<Ending> {
     let engine = engine_of(alloc, &root(alloc, levels).ok()?, doing)?;
-    Some(match fault_of(rt, alloc, &engine) {
+    let fault = fault_of(rt, alloc, engine);
+    let ending = match &fault {
         None => Ending::Done,
-        Some(RunFault::Engine(0, fault)) => ending_of(&fault),
+        Some(RunFault::Engine(0, fault)) => ending_of(fault),
         Some(_) => Ending::Other,
-    })
+    };
+    drop(fault);
+    Some(ending)
 }
 
 // An id has at most 4,096 bytes: `[c:c]/[t:t]`, `/[d:`, the letters and `]`.

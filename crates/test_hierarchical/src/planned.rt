@@ -72,13 +72,13 @@ fn root(alloc: Global) -> Result<PlanNode<'static>, AllocError> {
 // The results of a run of the plan whose tests have bodies.
 fn of_bodies<R: Threads + Wait + Sync>(rt: &R, alloc: Global, workers: usize) -> Option<Results> {
     let engine = engine_of(alloc, &root(alloc).ok()?, Silent)?;
-    results_of(rt, alloc, &engine, workers)
+    results_of(rt, alloc, engine, workers)
 }
 
 // The results of a run of the plan's scripts.
 fn of_scripts<R: Threads + Wait + Sync>(rt: &R, alloc: Global, workers: usize) -> Option<Results> {
     let plan = build_plan(alloc, &root(alloc).ok()?).ok()?;
-    results_of(rt, alloc, &Scripted::new(plan), workers)
+    results_of(rt, alloc, Scripted::new(plan), workers)
 }
 
 // The record of a run by one worker. Each stamp is a position in the root's script.
