@@ -2,12 +2,13 @@
 
 `ROWS` is the table: for each command line and input the seconds of processor time, the most memory at one time, the requests for memory,
 the reads and the writes that it may take. `count.c` is put before the C library, and counts all but the seconds. These counts are the same
-on each machine, so a limit is a fifth above what was counted, or one. Two limits are tighter: of the requests of many nodes a twentieth, so
-that one more for each node is met; of containers of nine a fiftieth, so that room asked for twice is met. The least memory of a small plan
+on each machine, so a limit is a fifth above what was counted, or one. The requests of some plans may be a fiftieth to a twentieth above
+alone, so that one more for each node, message or registration is met, or room that is asked for twice. The least memory of a small plan
 shows how many places its queue has. The seconds were measured on one machine: a limit is four times what they were, twice for a machine
 half as fast, and twice for what the program may need more. Where a run waits, its seconds by the clock have a limit too.
 
-`BESIDE` has questions of which one may take at most some times as long as the other, whatever the machine.
+`OF_BODIES` has the same of tests of engines whose tests have bodies, which the program doesn't run. `BESIDE` has questions of which one may
+take at most some times as long as the other, whatever the machine.
 """
 
 import contextlib
@@ -101,6 +102,11 @@ def plan(root: str) -> bytes:
 def plan_of_nodes(count: int, members: str, below: str = "children") -> bytes:
     """A plan with this number of tests below its root."""
     return plan(node(f',"{below}":[' + ",".join(node(members, str(number), "test") for number in range(count)) + "]"))
+
+
+def plan_of_messages() -> bytes:
+    """A plan of 50,000 tests below its root, each of which fails with a message that has memory of its own."""
+    return plan_of_nodes(50_000, f',"result":{{"status":"failed","message":"{"m" * 100}"}}')
 
 
 def plan_of_containers() -> bytes:
@@ -297,6 +303,7 @@ ROWS = [
     row("plan/a long text", "run", lambda: plan_of_a_text("x" * 16_000_000), Costs(0.6, 57_200, 170, 299, 3), "skipped 0\n"),
     row("plan/a long text with escapes", "run", lambda: plan_of_a_text("\\n" * 8_000_000), Costs(1.5, 47_900, 190, 299, 3), "skipped 0\n"),
     row("plan/nodes", "run", lambda: plan_of_nodes(65_000, ""), Costs(1.5, 102_600, 819_400, 72, 56), "skipped 0\n"),
+    row("plan/messages", "run", plan_of_messages, Costs(2, 163_600, 1_275_400, 183, 137), "skipped 0\n"),
     row("plan/containers with long names", "run", plan_of_containers, Costs(1.6, 80_600, 798_400, 125, 40), "skipped 0\n"),
     row("plan/containers of nine", "run", plan_of_containers_of_nine, Costs(1.6, 79_600, 673_500, 52, 51), "skipped 0\n"),
     row("plan/dynamic nodes", "run", lambda: plan_of_nodes(65_000, "", "dynamic"), Costs(1.8, 102_600, 1_092_600, 72, 103), "skipped 0\n"),
@@ -310,6 +317,22 @@ ROWS = [
     row("waiting/4 workers for one lock", "run --workers 4", one_lock, Costs(1.1, 80_000, 1_210_000, 49, 60, 20), "skipped 0\n", is_alone=True),
     row("waiting/15 workers for one lock", "run --workers 15", one_lock, Costs(1.3, 80_000, 1_210_000, 49, 60, 20), "skipped 0\n", is_alone=True),
     row("waiting/a worker that begins late", "run", lambda: plan_of_nodes(2, ""), Costs(0.5, 20, 190, 6, 2, 6), "skipped 0\n", late=2_000),
+]
+
+
+BODIES = f"{TOP}/crates/test_hierarchical/out/test_hierarchical_tests"
+"""The built tests of these engines."""
+
+
+def of_bodies(name: str, test: str, limit: Costs) -> Row:
+    """A row of one of these tests."""
+    return Row(f"bodies/{name}", [test], lambda: b"", limit, "\ntest result: ok\n")
+
+
+OF_BODIES = [
+    of_bodies("2,002 nodes", "large_units::many_nodes", Costs(0.4, 6_600, 54_300, 0, 2)),
+    of_bodies("65,536 registrations", "limits::registrations", Costs(1.6, 38_700, 688_800, 0, 2)),
+    of_bodies("1,048,573 entries", "limits::events", Costs(4.8, 118_100, 620, 0, 2)),
 ]
 
 
@@ -398,13 +421,25 @@ class WithCounts(WithLibrary):
     SOURCE = f"{TOP}/gate/costs/count.c"
 
 
-class OfTheProgram(WithProgram, WithCounts):
-    @parameterized(ROWS)
-    def test_costs(self, row):
-        came = costs_of(row, PROGRAM, self.library, folder(self))
+    def check(self, row: Row, program: str) -> None:
+        came = costs_of(row, program, self.library, folder(self))
         if fixtures.CHOSEN:
             print(f"{row.name}: {came[0]}")
         self.assertEqual([], faults_of(row, *came))
+
+
+class OfBodies(WithCounts):
+    @parameterized(OF_BODIES)
+    def test_costs(self, row):
+        if not os.access(BODIES, os.X_OK):
+            self.skipTest(f"not built: {os.path.relpath(BODIES, TOP)}")
+        self.check(row, BODIES)
+
+
+class OfTheProgram(WithProgram, WithCounts):
+    @parameterized(ROWS)
+    def test_costs(self, row):
+        self.check(row, PROGRAM)
 
     @parameterized(BESIDE)
     def test_beside(self, pair):

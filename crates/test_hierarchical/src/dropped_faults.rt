@@ -101,10 +101,13 @@ impl Tests for Doing {
 // What is printed of the fault with which a run ends, or of none.
 fn printed<R: Threads + Wait + Sync>(rt: &R, alloc: Global, doing: Doing) -> Option<String> {
     let engine = engine_of(alloc, &PlanNode::test(alloc, ("t", "t"), "t"), doing)?;
-    match fault_of(rt, alloc, engine) {
-        None => format!(in alloc; "done").ok(),
-        Some(fault) => format!(in alloc; "{fault}").ok(),
-    }
+    let fault = fault_of(rt, alloc, engine);
+    let text = match &fault {
+        None => format!(in alloc; "done"),
+        Some(fault) => format!(in alloc; "{fault}"),
+    };
+    drop(fault);
+    text.ok()
 }
 
 fn is_printed<R: Threads + Wait + Sync>(

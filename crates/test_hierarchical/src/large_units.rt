@@ -16,7 +16,9 @@ fn statistics<R: Threads + Wait + Sync>(
     root: &PlanNode<'_>,
 ) -> Option<Statistics> {
     let results = results_of(rt, alloc, engine_of(alloc, root, Silent)?, 1)?;
-    match seen(alloc, &results)? {
+    let found = seen(alloc, &results);
+    drop(results);
+    match found? {
         (Lifecycle::Kept, statistics) => Some(statistics),
         _ => None,
     }

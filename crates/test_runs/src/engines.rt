@@ -137,16 +137,25 @@ pub struct StepEngine<'a> {
     ghost rooted: { 0 < length (arc_value table) },
 }
 
+// Adds a descriptor, whose name is its segment's value, and returns its key.
+fn add(
+    alloc: Global,
+    table: &mut Table,
+    parent: Option<u32>,
+    segment: (&str, &str),
+    dtype: DType,
+) -> Option<u32> {
+    let (tag, value) = segment;
+    let segment = Segment::new(alloc, tag, value).ok()?;
+    table.add(alloc, parent, &segment, value, dtype).ok()
+}
+
 // A root, with key 0, and two tests below it.
 fn two_tests(alloc: Global) -> Option<Arc<Table>> {
     let mut table = Table::new(alloc);
-    let engine = Segment::new(alloc, "engine", "e").ok()?;
-    let root = table.add(alloc, None, &engine, "e", DType::Container).ok()?;
-    for name in ["1", "2"] {
-        let segment = Segment::new(alloc, "t", name).ok()?;
-        let _key = table
-            .add(alloc, Some(root), &segment, name, DType::Test)
-            .ok()?;
+    let root = add(alloc, &mut table, None, ("engine", "e"), DType::Container)?;
+    for value in ["1", "2"] {
+        let _key = add(alloc, &mut table, Some(root), ("t", value), DType::Test)?;
     }
     Arc::new(alloc, table).ok()
 }

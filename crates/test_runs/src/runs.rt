@@ -71,37 +71,48 @@ impl Recorded {
 impl Ran {
     // What it recorded, where it didn't fail.
     fn recorded(self) -> Option<Recorded> {
-        match self.answer {
-            Ok(recorded) => Some(recorded),
+        let recorded = match &self.answer {
+            Ok(recorded) => Some(*recorded),
             Err(_) => None,
-        }
+        };
+        drop(self);
+        recorded
     }
 
     // How many entries it recorded, and how many events the workers emitted.
     fn counts(self) -> Option<(usize, u64)> {
-        match self.answer {
-            Ok(recorded) => Some((recorded.entries, recorded.emitted)),
-            Err(_) => None,
-        }
+        let recorded = self.recorded()?;
+        Some((recorded.entries, recorded.emitted))
     }
 
     // The unit that failed with a fault of the engine's own, and that fault.
     fn own_fault(self) -> Option<(u32, u32)> {
-        match self.answer {
-            Err(RunFault::Engine(unit, UnitFault::Own(number))) => Some((unit, number)),
+        let fault = match &self.answer {
+            Err(RunFault::Engine(unit, UnitFault::Own(number))) => Some((*unit, *number)),
             _ => None,
-        }
+        };
+        drop(self);
+        fault
     }
 
     // Whether it failed with the fault that has this text.
     fn has_failed(self, alloc: Global, text: &str) -> bool {
-        match self.answer {
+        let has_failed = match &self.answer {
             Ok(_) => false,
             Err(fault) => match format!(in alloc; "{fault}") {
                 Ok(said) => said.as_str() == text,
                 Err(_) => false,
             },
-        }
+        };
+        drop(self);
+        has_failed
+    }
+
+    // What the engine saw of it.
+    fn seen(self) -> Seen {
+        let seen = self.seen;
+        drop(self);
+        seen
     }
 
     // Whether memory or a thread was refused.
@@ -113,12 +124,14 @@ impl Ran {
     // it ran them.
     fn is_of_starts(self) -> bool {
         let is_whole = self.seen.begun == 3;
-        match self.answer {
+        let is_right = match &self.answer {
             Ok(recorded) => is_whole && recorded.entries == 2_000,
             Err(RunFault::Threads) => is_whole,
             Err(RunFault::Memory) => is_whole || self.seen.begun == 0,
             Err(_) => false,
-        }
+        };
+        drop(self);
+        is_right
     }
 }
 
@@ -318,10 +331,10 @@ fn before_and_after_are_asked_once(rt: HostRuntime) {
     };
     for workers in [1usize, 2, 15] {
         let units = Units::alike(60, &[UnitStep::Begin, UnitStep::End]);
-        let seen = run(&rt, rt.alloc(), &units, workers, 64).seen;
+        let seen = run(&rt, rt.alloc(), &units, workers, 64).seen();
         assert!(rt; seen.before == before && seen.after == after, "{workers}");
         let failing = Units::alike(60, &[UnitStep::Begin, UnitStep::End, UnitStep::Fail(1)]);
-        let seen = run(&rt, rt.alloc(), &failing, workers, 64).seen;
+        let seen = run(&rt, rt.alloc(), &failing, workers, 64).seen();
         assert!(rt;
             seen.before == before && seen.after == NOT_ASKED,
             "{workers}"
