@@ -124,7 +124,8 @@ pub(crate) fn run_unit<'a, R: Wait, S: Sink, K: UnitRun, T: Tests>(
     requires since { K.since ≡ K.unit.start }
     requires frame { frame shape.now ≡ K.unit.frame }
     requires keys { keys_in shape.now unit ≡ K.unit.keys }
-    requires may { (e : Event) → FitsPlan shape.now.plan (T.may_end tests.now) e → K.unit.may_step e }
+    requires may { (e : Event) → FitsPlan shape.now.plan (T.may_end tests.now) e
+        → K.unit.may_step e }
     requires is_unit { unit < count_units shape.now }
     requires table { K.unit.start.table ≡ K.unit.frame.table }
     ensures name { result.sink.ghost_name ≡ K.name }
@@ -132,8 +133,8 @@ pub(crate) fn run_unit<'a, R: Wait, S: Sink, K: UnitRun, T: Tests>(
     ensures some { Extends K.unit.start (S.view result.sink.now) }
     ensures run { OnOk ran.new
         (IsComplete K.unit (S.view result.sink.now)) }
-    ensures tree { OnOk ran.new
-        (RunsUnitTree shape.now.plan (T.may_run tests.now) unit K.unit.start (S.view result.sink.now)) }
+    ensures tree { OnOk ran.new (RunsUnitTree shape.now.plan (T.may_run tests.now) unit
+        K.unit.start (S.view result.sink.now)) }
 {
     let plan = shape.plan();
     // For the proof: what every plan is.
