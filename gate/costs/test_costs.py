@@ -3,9 +3,9 @@
 `ROWS` is the table: for each command line and input the seconds of processor time, the most memory at one time, the requests for memory,
 the reads and the writes that it may take. `count.c` is put before the C library, and counts all but the seconds. These counts are the same
 on each machine, so a limit is a fifth above what was counted, or one. The requests of some plans may be a fiftieth to a twentieth above
-alone, so that one more for each node, message or registration is met, or room that is asked for twice. The least memory of a small plan
-shows how many places its queue has. The seconds were measured on one machine: a limit is four times what they were, twice for a machine
-half as fast, and twice for what the program may need more. Where a run waits, its seconds by the clock have a limit too.
+alone, so that one more for each node, message or registration is met. The least memory of a small plan shows how many places its queue has.
+The seconds were measured on one machine: a limit is four times what they were, twice for a machine half as fast, and twice for what the
+program may need more. Where a run waits, its seconds by the clock have a limit too.
 
 `OF_BODIES` has the same of tests of engines whose tests have bodies, which the program doesn't run. `BESIDE` has questions of which one may
 take at most some times as long as the other, whatever the machine.
@@ -113,12 +113,6 @@ def plan_of_containers() -> bytes:
     """A plan of 20,000 containers below its root, each with a test below it, and all with long names."""
     below = (node(f',"children":[{node("", "t", "test")}]', str(number)) for number in range(20_000))
     return plan(node(',"children":[' + ",".join(below) + "]")).replace(b'"name":"n"', b'"name":"%s"' % (b"n" * 100))
-
-
-def plan_of_containers_of_nine() -> bytes:
-    """A plan of 5,000 containers below its root, each with nine tests below it, for which room is asked at once."""
-    tests = ",".join(node("", str(number), "test") for number in range(9))
-    return plan(node(',"children":[' + ",".join(node(f',"children":[{tests}]', str(number)) for number in range(5_000)) + "]"))
 
 
 def plan_of_entries(last: str = "") -> bytes:
@@ -305,7 +299,6 @@ ROWS = [
     row("plan/nodes", "run", lambda: plan_of_nodes(65_000, ""), Costs(1.5, 102_600, 819_400, 72, 56), "skipped 0\n"),
     row("plan/messages", "run", plan_of_messages, Costs(2, 163_600, 1_275_400, 183, 137), "skipped 0\n"),
     row("plan/containers with long names", "run", plan_of_containers, Costs(1.6, 80_600, 798_400, 125, 40), "skipped 0\n"),
-    row("plan/containers of nine", "run", plan_of_containers_of_nine, Costs(1.6, 79_600, 673_500, 52, 51), "skipped 0\n"),
     row("plan/dynamic nodes", "run", lambda: plan_of_nodes(65_000, "", "dynamic"), Costs(1.8, 102_600, 1_092_600, 72, 103), "skipped 0\n"),
     row("plan/units", "run", lambda: plan_of_nodes(65_000, ',"mode":"concurrent"'), Costs(1.8, 111_200, 955_900, 96, 56), "skipped 0\n"),
     row("plan/one long unit of 15", "run --workers 15", one_long_unit, Costs(3, 212_300, 1_200_600, 57, 4), "skipped 0\nstarted 16\n"),
