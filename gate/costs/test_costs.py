@@ -104,9 +104,8 @@ def plan_of_nodes(count: int, members: str, below: str = "children") -> bytes:
     return plan(node(f',"{below}":[' + ",".join(node(members, str(number), "test") for number in range(count)) + "]"))
 
 
-def plan_of_messages() -> bytes:
-    """A plan of 50,000 tests below its root, each of which fails with a message that has memory of its own."""
-    return plan_of_nodes(50_000, f',"result":{{"status":"failed","message":"{"m" * 100}"}}')
+FAILS = f',"result":{{"status":"failed","message":"{"m" * 100}"}}'
+"""The result of a node that fails with a message that has memory of its own."""
 
 
 def plan_of_containers() -> bytes:
@@ -122,11 +121,6 @@ def plan_of_entries(last: str = "") -> bytes:
     return plan(node(f',"entries":[{entries}]{last}'))
 
 
-def bad_plan() -> bytes:
-    """Such a plan, whose last member is bad."""
-    return plan_of_entries(',"files":[""]')
-
-
 def plan_of_a_text(value: str) -> bytes:
     """A plan of one node with one entry of this value."""
     return plan(node(f',"entries":[[["k","{value}"]]]'))
@@ -139,21 +133,6 @@ def pairs() -> bytes:
 
 def one_event() -> bytes:
     return (RECORD + "E|1|0|7|start\n").encode()
-
-
-def descriptors() -> bytes:
-    """A record of 65,000 tests, each with a long name, and no event."""
-    return (RECORD + "".join(f"N|T|[engine:e]/[t:{number}]|{'n' * 200}\n" for number in range(65_000))).encode()
-
-
-def registered() -> bytes:
-    """A record of 65,000 registrations, each of a long name."""
-    lines = (f"E|1|{65_536 + number}|0|dynamic|T|[engine:e]/[t:{number}]|{'n' * 180}\n" for number in range(65_000))
-    return (RECORD + "".join(lines)).encode()
-
-
-def small_replay() -> bytes:
-    return b"testkit-replay|2\nW|1\nN|T|[engine:e]|e\nE|1|0|7|start\nS|1|1|t|t\n"
 
 
 def waiting_replay() -> bytes:
@@ -279,9 +258,9 @@ ROWS = [
     row("explained/lifecycle, a child that runs", "ask explain lifecycle", a_test_still_runs, Costs(1.5, 40_000, 480_000, 285, 2), "no 130000 child-running\n"),
     row("record/many conditions", "ask match loosely" + 10_000 * " started", one_event, Costs(0.4, 4_400, 25_000, 6, 2), "yes\n"),
     row("record/a long condition", f"ask match loosely any({'started,' * 12_000}started)", one_event, Costs(0.4, 930, 15_000, 6, 2), "yes\n"),
-    row("record/descriptors", "ask count tests", descriptors, Costs(1, 25_800, 313_000, 273, 2), "0\n"),
+    row("record/descriptors", "ask count tests", lambda: record_of_tests("n" * 200), Costs(1, 27_700, 234_100, 270, 2), "0\n"),
     row("record/long ids", "ask count all", long_ids, Costs(1.6, 19_700, 19_300, 297, 2), "0\n"),
-    row("record/registrations", "ask count dynamic", registered, Costs(1, 25_000, 313_000, 272, 2), "65000\n"),
+    row("record/registrations", "ask count dynamic", registrations, Costs(1, 28_800, 216_200, 272, 2), "60000\n"),
     row("record/reasons", "ask count skipped", repeated(RECORD, "E|1|0|7|skip|a reason of some length\n"), Costs(1.1, 55_000, 550_000, 312, 2), "4"),
     row("long line/reason", "ask count skipped", repeated(RECORD + "E|1|0|7|skip|", "x", "\n"), Costs(0.8, 40_000, 70, 312, 2), "1\n"),
     row("long line/escapes", "ask count skipped", repeated(RECORD + "E|1|0|7|skip|", "\\p", "\n"), Costs(0.9, 30_000, 90, 312, 2), "1\n"),
@@ -293,17 +272,17 @@ ROWS = [
     row("record/16 MiB too many", "ask count all", lambda: EVENTS() + b"\n" * SIZE, Costs(0.6, 25_000, 200, 312, 0), "testkit: input too large\n"),
     row("replay/waiting", "replay", waiting_replay, Costs(0.6, 84_000, 330, 87, 69), "testkit-record|2\n"),
     row("plan/entries", "run", plan_of_entries, Costs(3.9, 370_000, 3_700_000, 278, 3), "skipped 0\n"),
-    row("plan/entries and a fault", "run", bad_plan, Costs(2.8, 370_000, 3_700_000, 278, 0), "testkit: plan member /root/files/0 is bad\n"),
+    row("plan/entries and a fault", "run", lambda: plan_of_entries(',"files":[""]'), Costs(2.8, 370_000, 3_700_000, 278, 0), "testkit: plan member /root/files/0 is bad\n"),
     row("plan/a long text", "run", lambda: plan_of_a_text("x" * 16_000_000), Costs(0.6, 57_200, 170, 299, 3), "skipped 0\n"),
     row("plan/a long text with escapes", "run", lambda: plan_of_a_text("\\n" * 8_000_000), Costs(1.5, 47_900, 190, 299, 3), "skipped 0\n"),
     row("plan/nodes", "run", lambda: plan_of_nodes(65_000, ""), Costs(1.5, 102_600, 819_400, 72, 56), "skipped 0\n"),
-    row("plan/messages", "run", plan_of_messages, Costs(2, 163_600, 1_275_400, 183, 137), "skipped 0\n"),
+    row("plan/messages", "run", lambda: plan_of_nodes(50_000, FAILS), Costs(2, 163_600, 1_275_400, 183, 137), "skipped 0\n"),
     row("plan/containers with long names", "run", plan_of_containers, Costs(1.6, 80_600, 798_400, 125, 40), "skipped 0\n"),
     row("plan/dynamic nodes", "run", lambda: plan_of_nodes(65_000, "", "dynamic"), Costs(1.8, 102_600, 1_092_600, 72, 103), "skipped 0\n"),
     row("plan/units", "run", lambda: plan_of_nodes(65_000, ',"mode":"concurrent"'), Costs(1.8, 111_200, 955_900, 96, 56), "skipped 0\n"),
     row("plan/one long unit of 15", "run --workers 15", one_long_unit, Costs(3, 212_300, 1_200_600, 57, 4), "skipped 0\nstarted 16\n"),
     row("small/record", "ask stats", one_event, Costs(0.4, 10, 60, 6, 2), "skipped 0\n"),
-    row("small/replay", "replay", small_replay, Costs(0.4, 20, 100, 6, 2), "testkit-record|2\n"),
+    row("small/replay", "replay", lambda: b"testkit-replay|2\nW|1\nN|T|[engine:e]|e\nE|1|0|7|start\nS|1|1|t|t\n", Costs(0.4, 20, 100, 6, 2), "testkit-record|2\n"),
     row("small/plan", "run", lambda: plan_of_nodes(2, ""), Costs(0.4, 20, 190, 6, 2), "skipped 0\n", least_memory=15),
     row("small/plan with a dynamic node", "run", lambda: plan_of_nodes(1, "", "dynamic"), Costs(0.4, 21, 180, 6, 2), "skipped 0\n", least_memory=15),
     row("waiting/1 worker", "run", one_lock, Costs(1.2, 80_000, 1_210_000, 49, 60, 20), "skipped 0\n", is_alone=True),
@@ -316,16 +295,13 @@ ROWS = [
 BODIES = f"{TOP}/crates/test_hierarchical/out/test_hierarchical_tests"
 """The built tests of these engines."""
 
-
-def of_bodies(name: str, test: str, limit: Costs) -> Row:
-    """A row of one of these tests."""
-    return Row(f"bodies/{name}", [test], lambda: b"", limit, "\ntest result: ok\n")
-
-
 OF_BODIES = [
-    of_bodies("2,002 nodes", "large_units::many_nodes", Costs(0.4, 6_600, 54_300, 0, 2)),
-    of_bodies("65,536 registrations", "limits::registrations", Costs(1.6, 38_700, 688_800, 0, 2)),
-    of_bodies("1,048,573 entries", "limits::events", Costs(4.8, 118_100, 620, 0, 2)),
+    Row(f"bodies/{test}", [test], lambda: b"", limit, "\ntest result: ok\n")
+    for test, limit in [
+        ("large_units::many_nodes", Costs(0.4, 6_600, 54_300, 0, 2)),
+        ("limits::registrations", Costs(1.6, 38_700, 688_800, 0, 2)),
+        ("limits::events", Costs(4.8, 118_100, 620, 0, 2)),
+    ]
 ]
 
 
